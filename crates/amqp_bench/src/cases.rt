@@ -1,0 +1,107 @@
+//! The values that are written.
+ghost use Rattle.std.specs.Prelude.{◌≤◌};
+
+use amqp_encoder::{Encoder, Measurement};
+use amqp_wire::Error;
+use std::alloc::Global;
+
+#[derive(Clone, Copy)]
+pub enum Case {
+    Uints,
+    Strings,
+    Map,
+    Binary,
+}
+
+/// What a case writes.
+#[derive(Drop)]
+pub struct Content {
+    numbers: Vec<u32>,
+    texts: Vec<String>,
+    bytes: Vec<u8>,
+}
+
+impl Case {
+    pub fn name(self) -> &'static str {
+        match self {
+            Case::Uints => "a list of 10,000 uints",
+            Case::Strings => "a list of 1,000 short strings",
+            Case::Map => "a map of 1,000 entries",
+            Case::Binary => "a binary of 1 MiB",
+        }
+    }
+
+    /// How many values are counted: items, entries, or the one.
+    pub fn values(self) -> u32
+        ensures { result ≤ 10000 }
+    {
+        match self {
+            Case::Uints => 10_000,
+            Case::Strings | Case::Map => 1000,
+            Case::Binary => 1,
+        }
+    }
+
+    pub fn content(self, alloc: Global) -> Result<Content, Error> {
+        let mut content = Content {
+            numbers: Vec::new(alloc),
+            texts: Vec::new(alloc),
+            bytes: Vec::new(alloc),
+        };
+        let mut number = 1u32;
+        for _ in 0..self.values() {
+            content.numbers.push(number % 1000)?;
+            content
+                .texts
+                .push(format!(in alloc; "text {}", number % 1000)?)?;
+            number = number.wrapping_mul(1_664_525).wrapping_add(1_013_904_223);
+        }
+        content.bytes.resize(1_048_576, 0x61)?;
+        Ok(content)
+    }
+
+    /// The canonical text: measured, and filled into one buffer.
+    pub fn write(self, content: &Content, alloc: Global) -> Result<Vec<u8>, Error> {
+        let mut encoder = Encoder::measuring(alloc);
+        self.serialize(content, &mut encoder)?;
+        let Measurement { len, sizes } = encoder.into_measurement()?;
+        let buffer = Vec::with_capacity(alloc, len)?;
+        let mut encoder = Encoder::filling(alloc, sizes, buffer, len);
+        self.serialize(content, &mut encoder)?;
+        Ok(encoder.into_buffer())
+    }
+
+    fn serialize(self, content: &Content, encoder: &mut Encoder) -> Result<(), Error> {
+        match self {
+            Case::Uints => write_uints(&content.numbers, encoder),
+            Case::Strings => write_strings(&content.texts, encoder),
+            Case::Map => write_map(content, encoder),
+            Case::Binary => encoder.write_binary(&content.bytes),
+        }
+    }
+}
+
+fn write_uints(numbers: &[u32], encoder: &mut Encoder) -> Result<(), Error> {
+    encoder.begin_list()?;
+    for number in numbers {
+        encoder.write_uint(*number)?;
+    }
+    encoder.end_list()
+}
+
+fn write_strings(texts: &[String], encoder: &mut Encoder) -> Result<(), Error> {
+    encoder.begin_list()?;
+    for text in texts {
+        encoder.write_string(text.as_str())?;
+    }
+    encoder.end_list()
+}
+
+fn write_map(content: &Content, encoder: &mut Encoder) -> Result<(), Error> {
+    encoder.begin_map()?;
+    for (text, number) in content.texts.iter().zip(&content.numbers) {
+        encoder.write_string(text.as_str())?;
+        encoder.write_uint(*number)?;
+    }
+    encoder.end_map()
+}

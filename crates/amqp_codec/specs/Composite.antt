@@ -1,0 +1,234 @@
+-- The type of a composite: a described list whose items fit its table (Part 1, sections 1.4 and 1.5).
+use Rattle.std.proofs.Common.{◌≡◌, inl, inr, ℕ, ◌+◌, ◌<◌, ◌≤◌, true, false, List, [], ◌∷◌, ◌++◌, None, length, length-append, refl, sym, ap, ◌∙◌, subst, arith, suc, cond, eqb, ltb}
+use Rattle.amqp_model.specs.Term.{Refusal, too_large, non_ascii, duplicate_key, depth, zero_width_items, empty_multiple, mixed_array, lazy_in_array, custom, list, map, array, Descriptor, name, code, ulong, symbol, Term, Terms, leaf, holder, described, kept, barred, none, more, count}
+use Rattle.amqp_model.specs.Constructors.{format}
+use Rattle.amqp_model.specs.Spelling.{enc, data_of, ContainerData, Names, items_of as ItemsStand}
+use Rattle.amqp_model.specs.Standing.{Standing, whole, part}
+use Rattle.amqp_model.specs.Text.{Plain, text, texts, form, shortest, wide, with_size, spell}
+use Rattle.amqp_model.specs.Measures.{nest, nodes}
+use Rattle.amqp_model.specs.Ranges.{Everywhere, EverywhereIn, IsValue, IsNoArray, IsBytes}
+use Rattle.amqp_model.specs.Refusals.{Somewhere, SomewhereIn, IsRefused}
+use Rattle.amqp_model.specs.Kept.{Reads}
+use Rattle.amqp_model.specs.Items.{is_null, items_of}
+use Rattle.amqp_model.specs.FieldType.{Norm, normal}
+use Rattle.amqp_model.specs.Fields.{Fits, AreValues, IsNormal, Same}
+use Rattle.amqp_model.specs.Composite.{MeansComposite, Describes, canonical_term}
+use Rattle.amqp_model.specs.Composite as model
+use Rattle.amqp_model.specs.CompositeLaws as laws
+use Rattle.amqp_model.proofs.Barred.{unrefused_free}
+use Rattle.amqp_model.proofs.Least.{bytes_left, bytes_right, container_least, descriptor_least}
+use Rattle.amqp_model.proofs.Shortest.{format_least}
+use Rattle.amqp_model.proofs.Lengths.{joined_length}
+use Rattle.std.proofs.lemmas.Bool.{cond_both}
+use Rattle.amqp_model.proofs.Bytes.{length-bytes}
+use Rattle.std.specs.Int.{bytes_high_first, w8, to_be_bytes}
+use Rattle.std.proofs.lemmas.Bool.{ltb-false, ltb-true}
+use Rattle.amqp_codec.specs.Tidy.{tidy}
+use Rattle.amqp_codec.specs.TermType.{TermType, Spells, IsUnrefused, IsLeaf, IsPlain}
+use Rattle.amqp_codec.specs.Plain.{reads_itself, plain_reads}
+use Rattle.amqp_codec.specs.Fields.{Fields, slots, items, count_of, are_least, take_memory, items_plain, items_valued, items_nested, items_counted, items_writable, items_fewest, items_least}
+
+-- The table of a composite: the code and the name that describe it, and its fields.
+pub record Table (V : Type 0) : Type 1 where
+  pub code : ℕ
+  pub name : List ℕ
+  pub fields : Fields V
+  -- how a value is normalised, field by field
+  pub norm : Norm V
+  pub norm_is : (v : V) → IsNormal (slots fields) v (normal norm v)
+  -- the code takes two bytes at most
+  pub is_small : ltb code 256 ≡ true
+
+-- as the model's table
+abbrev pub table_of : {V : Type 0} → Table V → model.Table V
+table_of c = record { code = c.code; name = c.name; fields = slots c.fields; norm = c.norm; norm_is = c.norm_is }
+
+-- what holds of each described list that fits, holds of all that is meant
+pub by_cases : {V : Type 0} (c : model.Table V) (P : Term → Type 0) (t : Term) (v : V) → ((d : Descriptor) (ts : Terms) → Describes c d → Fits c.fields (items_of ts) v → P (described d (holder list ts))) → MeansComposite c t v → P t
+by_cases c P (described d (holder list ts)) v f m = f d ts m.0 m.1
+by_cases c P (described d (holder map ts)) v f m = absurd m.1
+by_cases c P (described d (holder array ts)) v f m = absurd m.1
+by_cases c P (described d (leaf p)) v f m = absurd m.1
+by_cases c P (described d (described e t)) v f m = absurd m.1
+by_cases c P (described d (kept b)) v f m = absurd m.1
+by_cases c P (described d (barred r)) v f m = absurd m.1
+by_cases c P (leaf p) v f m = absurd m
+by_cases c P (holder k ts) v f m = absurd m
+by_cases c P (kept b) v f m = absurd m
+by_cases c P (barred r) v f m = absurd m
+
+list_flaw : (ts : Terms) (r : Refusal) → IsRefused r (holder list ts) → r ≡ too_large
+list_flaw ts r (inl e) = absurd (cc)
+list_flaw ts too_large (inr h) = refl
+list_flaw ts non_ascii (inr h) = absurd h
+list_flaw ts duplicate_key (inr h) = absurd h
+list_flaw ts depth (inr h) = absurd h
+list_flaw ts zero_width_items (inr h) = absurd h
+list_flaw ts empty_multiple (inr h) = absurd h
+list_flaw ts mixed_array (inr h) = absurd h
+list_flaw ts lazy_in_array (inr h) = absurd h
+list_flaw ts (custom n) (inr h) = absurd h
+
+described_flaw : (n : ℕ) (t : Term) (r : Refusal) → IsRefused r (described (code n) t) → r ≡ too_large
+described_flaw n t r (inl e) = absurd (cc)
+described_flaw n t too_large (inr h) = refl
+described_flaw n t non_ascii (inr h) = absurd h
+described_flaw n t duplicate_key (inr h) = absurd h
+described_flaw n t depth (inr h) = absurd h
+described_flaw n t zero_width_items (inr h) = absurd h
+described_flaw n t empty_multiple (inr h) = absurd h
+described_flaw n t mixed_array (inr h) = absurd h
+described_flaw n t lazy_in_array (inr h) = absurd h
+described_flaw n t (custom m) (inr h) = absurd h
+
+abbrev ItemsAreLarge : Terms → Type 0
+ItemsAreLarge us = (r : Refusal) → SomewhereIn (IsRefused r) us → r ≡ too_large
+
+term_flaw : (n : ℕ) (us : Terms) → ItemsAreLarge us → (r : Refusal) → Somewhere (IsRefused r) (described (code n) (holder list us)) → r ≡ too_large
+term_flaw n us h r (inl i) = described_flaw n (holder list us) r i
+term_flaw n us h r (inr (inl i)) = list_flaw us r i
+term_flaw n us h r (inr (inr i)) = h r i
+
+-- the items of a list stand in its data
+list_items : (ts : Terms) (c : ℕ) (b : List ℕ) → ContainerData (format c) list (count ts) (ItemsStand ts) b → (content : List ℕ) × ItemsStand ts content
+list_items ts c b h = content_of_data (format c) h
+  where
+    content_of_data : (F : _) → ContainerData F list (count ts) (ItemsStand ts) b → (content : List ℕ) × ItemsStand ts content
+    content_of_data (Rattle.amqp_model.specs.Constructors.compound k w) (is, size, content, s, i, fits, room, e) = (content, i)
+    content_of_data (Rattle.amqp_model.specs.Constructors.fixed w f) h = absurd h
+    content_of_data (Rattle.amqp_model.specs.Constructors.variable w f) h = absurd h
+    content_of_data Rattle.amqp_model.specs.Constructors.unknown h = absurd h
+
+data_items : (d : Descriptor) (ts : Terms) (ds : List Descriptor) (c : ℕ) (b : List ℕ) → data_of (described d (holder list ts)) ds c b → (content : List ℕ) × ItemsStand ts content
+data_items d ts [] c b h = absurd h
+data_items d ts (e ∷ []) c b h = list_items ts c b h.1
+data_items d ts (e ∷ f ∷ ds) c b h = absurd h.1
+
+standing_items : (s : Standing) (d : Descriptor) (ts : Terms) → Spells s (described d (holder list ts)) → (content : List ℕ) × ItemsStand ts content
+unfolding enc
+standing_items (whole b) d ts (ds, c, few, (h, x, e, k, s)) = data_items d ts ds c x s
+standing_items (part ds c b) d ts h = data_items d ts ds c b h
+
+-- a code below 256 takes two bytes at most, and a name at least two
+code_length : (n : ℕ) → n < 256 → length (spell (shortest (ulong n))) ≤ 2
+code_length n h = cond_both (eqb n 0) (0x44, []) (cond (ltb n 256) (0x53, to_be_bytes w8 n) (wide (ulong n))) (λ x. length (spell x) ≤ 2) (λ _. omega arith)
+    (λ _. cond_both (ltb n 256) (0x53, to_be_bytes w8 n) (wide (ulong n)) (λ x. length (spell x) ≤ 2) (λ _. omega arith) (λ e. absurd (let l = ltb-false n 256 e in omega arith)))
+
+sized : (w : ℕ) (s : List ℕ) → length (with_size w s) ≡ w + length s
+sized w s = length-append (bytes_high_first w (length s)) s ∙ ap (λ k. k + length s) (length-bytes w (length s))
+
+name_length : (s : List ℕ) → 2 ≤ length (spell (shortest (symbol s)))
+name_length s = cond_both (ltb (length s) 256) (0xa3, with_size 1 s) (wide (symbol s)) (λ x. 2 ≤ length (spell x)) (λ _. omega (arith, sized 1 s)) (λ _. omega (arith, sized 4 s))
+
+module _ {V : Type 0} (c : Table V) where
+  descriptor_short : (d : Descriptor) (first : List ℕ) → Describes (table_of c) d → Names d first → IsBytes first → length (spell (shortest (ulong c.code))) ≤ length first
+  descriptor_short (code n) first e names bytes = subst (λ m. length (spell (shortest (ulong m))) ≤ length first) e (descriptor_least (code n) (code n) first refl names bytes)
+  descriptor_short (name s) first e names bytes = omega (arith, code_length c.code (ltb-true c.code 256 c.is_small), name_length s, descriptor_least (name s) (name s) first refl names bytes)
+
+  list_short : (us ts : Terms) (f : ℕ) (x : List ℕ) → count us ≤ count ts → IsBytes x → ((content : List ℕ) → IsBytes content → ItemsStand ts content → length (texts us Plain) ≤ length content) → ContainerData (format f) list (count ts) (ItemsStand ts) x → length (text (holder list us) Plain) ≤ 1 + length x
+  unfolding text
+  list_short none ts f x l bytes inner h = omega arith
+  list_short (more u us) ts f x l bytes inner h =
+      container_least (format f) list (count ts) (suc (count us)) (ItemsStand ts) (texts (more u us) Plain) x (format_least f) l (inl (omega (arith, l))) h bytes inner
+
+  pub composite_least : are_least c.fields ≡ true → (b : List ℕ) (d : Descriptor) (ts : Terms) (v : V) → IsBytes b → EverywhereIn IsNoArray (items c.fields v) → Describes (table_of c) d → Fits (slots c.fields) (items_of ts) v → enc b (described d (holder list ts)) → length (text (canonical_term (table_of c) v) Plain) ≤ length b
+  unfolding enc text
+  composite_least l b d ts v bytes n e h ([], f, few, (g, x, eq, k, s)) = absurd s
+  composite_least l b d ts v bytes n e h (d' ∷ e' ∷ ds, f, few, (g, x, eq, k, s)) = absurd s.1
+  composite_least l b d ts v bytes n e h (d' ∷ [], f, few, (g, x, eq, (first, second, eq', names, k), s)) =
+      let all : IsBytes (g ++ x) = subst IsBytes eq bytes in
+      let front : IsBytes (0 ∷ (first ++ second)) = subst IsBytes eq' (bytes_left g x all) in
+      let canonical = spell (shortest (ulong c.code)) in
+      let own = text (holder list (items c.fields v)) Plain in
+      omega (
+        arith,
+        joined_length b g x eq,
+        ap length eq',
+        length-append first second,
+        ap length k.0,
+        length-append canonical own,
+        descriptor_short d first e (subst (λ z. Names z first) (sym s.0) names) (bytes_left first second front.1),
+        list_short (items c.fields v) ts f x (items_fewest c.fields ts v h) (bytes_right g x all) (λ content y i. items_least c.fields ts content v l y n i h) s.1,
+      )
+
+  pub composite_plain : (v : V) → IsPlain (canonical_term (table_of c) v)
+  composite_plain v = items_plain c.fields v
+
+  pub composite_canon_means : (t : Term) (v : V) → AreValues (slots c.fields) v → IsUnrefused (canonical_term (table_of c) v) → Reads (canonical_term (table_of c) v) t → MeansComposite (table_of c) t (normal c.norm v)
+  composite_canon_means t v i f r =
+      subst (λ x. MeansComposite (table_of c) x (normal c.norm v)) (sym (plain_reads (canonical_term (table_of c) v) t (composite_plain v) r))
+      (laws.composite_canon_means (table_of c) v i (unrefused_free (canonical_term (table_of c) v) f))
+
+  pub composite_valued : (v : V) → AreValues (slots c.fields) v → Everywhere IsValue (canonical_term (table_of c) v)
+  composite_valued v i = ((let s = ltb-true c.code 256 c.is_small in omega arith), (tt, items_valued c.fields v i))
+
+  pub composite_writable : (s : Standing) (t : Term) (v : V) → Spells s t → MeansComposite (table_of c) t v → (r : Refusal) → Somewhere (IsRefused r) (canonical_term (table_of c) v) → r ≡ too_large
+  composite_writable s t v h m =
+      by_cases (table_of c) (λ t. Spells s t → (r : Refusal) → Somewhere (IsRefused r) (canonical_term (table_of c) v) → r ≡ too_large) t v
+      (λ d ts e f k. (let i = standing_items s d ts k in term_flaw c.code (items c.fields v) (items_writable c.fields ts i.0 v i.1 f))) m h
+
+  pub composite_null : (t : Term) (v : V) → MeansComposite (table_of c) t v → false ≡ is_null t
+  composite_null t v = by_cases (table_of c) (λ t. false ≡ is_null t) t v (λ d ts e f. refl)
+
+  pub composite_formless : (t : Term) (v : V) → MeansComposite (table_of c) t v → form t ≡ None → form (canonical_term (table_of c) v) ≡ None
+  composite_formless t v = by_cases (table_of c) (λ t. form t ≡ None → form (canonical_term (table_of c) v) ≡ None) t v (λ d ts e f k. cc)
+
+  pub composite_nested : (t u : Term) (v : V) → MeansComposite (table_of c) t v → Reads (canonical_term (table_of c) v) u → nest u ≤ nest t
+  composite_nested t u v m r =
+      subst (λ x. nest x ≤ nest t) (sym (plain_reads (canonical_term (table_of c) v) u (composite_plain v) r))
+      (by_cases (table_of c) (λ t. nest (canonical_term (table_of c) v) ≤ nest t) t v (λ d ts e f. omega (arith, items_nested c.fields ts v f)) m)
+
+  pub composite_leaf_alike : (t u : Term) (v : V) → MeansComposite (table_of c) t v → IsLeaf t → IsLeaf u
+  composite_leaf_alike t u v = by_cases (table_of c) (λ t. IsLeaf t → IsLeaf u) t v (λ d ts e f h. absurd h)
+
+  pub composite_counted : (t : Term) (v : V) → MeansComposite (table_of c) t v → suc (count_of c.fields v) ≤ nodes t
+  composite_counted t v = by_cases (table_of c) (λ t. suc (count_of c.fields v) ≤ nodes t) t v (λ d ts e f. omega (arith, items_counted c.fields ts v f))
+
+  pub composite_least_of : are_least c.fields ≡ true → (b : List ℕ) (t : Term) (v : V) → IsBytes b → Everywhere IsNoArray (canonical_term (table_of c) v) → enc b t → MeansComposite (table_of c) t v → length (text (canonical_term (table_of c) v) Plain) ≤ length b
+  composite_least_of l b t v i n e m =
+      by_cases (table_of c) (λ t. enc b t → length (text (canonical_term (table_of c) v) Plain) ≤ length b) t v (λ d ts k f h. composite_least l b d ts v i n.1.1 k f h) m e
+
+-- The type of a composite by its table.
+abbrev pub composite : {V : Type 0} → Table V → TermType V
+composite c =
+    let m = (laws.composite (table_of c)).meaning in
+    record {
+      is_value = AreValues (slots c.fields);
+      means = λ s. MeansComposite (table_of c);
+      canon = canonical_term (table_of c);
+      norm = c.norm;
+      same = Same (slots c.fields);
+      count = λ v. suc (count_of c.fields v);
+      solid = true;
+      blind = true;
+      takes_memory = take_memory c.fields;
+      is_least = are_least c.fields;
+      same_refl = m.same_refl;
+      same_sym = m.same_sym;
+      same_trans = m.same_trans;
+      same_value = m.same_value;
+      same_means = λ s. m.same_means;
+      same_canon = m.same_canon;
+      one = λ s. m.one;
+      reads = λ v i f. (canonical_term (table_of c) v, reads_itself (canonical_term (table_of c) v) (composite_plain c v));
+      canon_means = λ s t v i f k. composite_canon_means c t v i f;
+      blind_means = λ _ s. m.canon_means;
+      norm_canon = λ v. ap tidy (m.norm_canon v);
+      norm_norm = m.norm_norm;
+      valued = composite_valued c;
+      value = λ s. m.value;
+      own = λ s. m.own;
+      free = λ s. m.free;
+      writable = composite_writable c;
+      bare_data = λ ds f b t v h k. k;
+      null_alike = λ s. composite_null c;
+      is_solid = λ _ v. refl;
+      formed = λ s z t u v w h k e. refl;
+      formless = λ s. composite_formless c;
+      nested = λ s. composite_nested c;
+      leaf_alike = λ s t u v h r. composite_leaf_alike c t u v h;
+      counted = λ s. composite_counted c;
+      least = composite_least_of c;
+      is_blind = λ _ s z t v h. h;
+      is_plain = λ _. composite_plain c;
+    }

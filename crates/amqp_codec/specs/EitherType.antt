@@ -1,0 +1,233 @@
+-- A value of one type or of another, whose terms have other forms.
+use Rattle.std.proofs.Common.{◌≡◌, ◌⊎◌, inl, inr, ℕ, ◌≤◌, true, false, ◌||◌, List, None, length, refl, sym}
+use Rattle.amqp_model.specs.Term.{Refusal, too_large, Term, Descriptor}
+use Rattle.amqp_model.specs.Spelling.{enc}
+use Rattle.amqp_model.specs.Standing.{Standing, whole, part}
+use Rattle.amqp_model.specs.Text.{Plain, text, form}
+use Rattle.amqp_model.specs.Measures.{nest, nodes}
+use Rattle.amqp_model.specs.Ranges.{Everywhere, IsValue, IsNoArray, IsBytes}
+use Rattle.amqp_model.specs.Refusals.{Somewhere, IsRefused, core}
+use Rattle.amqp_model.specs.Kept.{Reads}
+use Rattle.amqp_model.specs.Items.{is_null, IsFree}
+use Rattle.amqp_model.specs.FieldType.{Norm, normal, plain, by_norm}
+use Rattle.amqp_codec.specs.Tidy.{tidy}
+use Rattle.amqp_codec.specs.TermType.{TermType, Spells, StandsCanonically, IsUnrefused, IsLeaf, IsKept, IsPlain}
+use Rattle.amqp_codec.specs.Fields.{both, both_first, both_second}
+
+-- what the one or the other says of a value
+abbrev pub either : {A B C : Type 0} → (A → C) → (B → C) → A ⊎ B → C
+either f g (inl a) = f a
+either f g (inr b) = g b
+
+abbrev pub IsEither : {A B : Type 0} → (A → Type 0) → (B → Type 0) → A ⊎ B → Type 0
+IsEither P Q (inl a) = P a
+IsEither P Q (inr b) = Q b
+
+abbrev pub SameEither : {A B : Type 0} → (A → A → Type 0) → (B → B → Type 0) → A ⊎ B → A ⊎ B → Type 0
+SameEither P Q (inl a) (inl c) = P a c
+SameEither P Q (inr b) (inr d) = Q b d
+SameEither P Q (inl a) (inr d) = ⊥
+SameEither P Q (inr b) (inl c) = ⊥
+
+abbrev pub each_normal : {A B : Type 0} → Norm A → Norm B → A ⊎ B → A ⊎ B
+each_normal m n (inl a) = inl (normal m a)
+each_normal m n (inr b) = inr (normal n b)
+
+abbrev pub norm_either : {A B : Type 0} → Norm A → Norm B → Norm (A ⊎ B)
+norm_either plain plain = plain
+norm_either m n = by_norm (each_normal m n)
+
+either_normal : {A B : Type 0} (m : Norm A) (n : Norm B) (v : A ⊎ B) → normal (norm_either m n) v ≡ each_normal m n v
+either_normal plain plain (inl a) = refl
+either_normal plain plain (inr b) = refl
+either_normal plain (by_norm g) v = refl
+either_normal (by_norm f) plain v = refl
+either_normal (by_norm f) (by_norm g) v = refl
+
+module _ {A B : Type 0} (u : TermType A) (w : TermType B) where
+  -- no term of the one has the form of a term of the other
+  abbrev pub FormsApart : Type 0
+  FormsApart = (s z : Standing) (t r : Term) (a : A) (b : B) → u.means s t a → w.means z r b → form t ≡ form r → ⊥
+
+  abbrev pub MeansEither : Standing → Term → A ⊎ B → Type 0
+  MeansEither s t = IsEither (u.means s t) (w.means s t)
+
+  abbrev pub either_canon : A ⊎ B → Term
+  either_canon = either u.canon w.canon
+
+  abbrev pub either_norm : Norm (A ⊎ B)
+  either_norm = norm_either u.norm w.norm
+
+  abbrev pub either_same : A ⊎ B → A ⊎ B → Type 0
+  either_same = SameEither u.same w.same
+
+  pub either_refl : (v : A ⊎ B) → either_same v v
+  either_refl (inl a) = u.same_refl a
+  either_refl (inr b) = w.same_refl b
+
+  pub either_sym : (v x : A ⊎ B) → either_same v x → either_same x v
+  either_sym (inl a) (inl c) h = u.same_sym a c h
+  either_sym (inr b) (inr d) h = w.same_sym b d h
+  either_sym (inl a) (inr d) h = h
+  either_sym (inr b) (inl c) h = h
+
+  pub either_trans : (v x y : A ⊎ B) → either_same v x → either_same x y → either_same v y
+  either_trans (inl a) (inl c) (inl e) h k = u.same_trans a c e h k
+  either_trans (inr b) (inr d) (inr f) h k = w.same_trans b d f h k
+  either_trans (inl a) (inr d) y h k = absurd h
+  either_trans (inr b) (inl c) y h k = absurd h
+  either_trans (inl a) (inl c) (inr f) h k = k
+  either_trans (inr b) (inr d) (inl e) h k = k
+
+  pub either_same_value : (v x : A ⊎ B) → either_same v x → IsEither u.is_value w.is_value v → IsEither u.is_value w.is_value x
+  either_same_value (inl a) (inl c) h = u.same_value a c h
+  either_same_value (inr b) (inr d) h = w.same_value b d h
+  either_same_value (inl a) (inr d) h = absurd h
+  either_same_value (inr b) (inl c) h = absurd h
+
+  pub either_same_means : (s : Standing) (t : Term) (v x : A ⊎ B) → either_same v x → MeansEither s t v → MeansEither s t x
+  either_same_means s t (inl a) (inl c) h = u.same_means s t a c h
+  either_same_means s t (inr b) (inr d) h = w.same_means s t b d h
+  either_same_means s t (inl a) (inr d) h = absurd h
+  either_same_means s t (inr b) (inl c) h = absurd h
+
+  pub either_same_canon : (v x : A ⊎ B) → either_same v x → either_canon v ≡ either_canon x
+  either_same_canon (inl a) (inl c) h = u.same_canon a c h
+  either_same_canon (inr b) (inr d) h = w.same_canon b d h
+  either_same_canon (inl a) (inr d) h = absurd h
+  either_same_canon (inr b) (inl c) h = absurd h
+
+  pub either_one : FormsApart → (s : Standing) (t : Term) (v x : A ⊎ B) → MeansEither s t v → MeansEither s t x → either_same v x
+  either_one apart s t (inl a) (inl c) h k = u.one s t a c h k
+  either_one apart s t (inr b) (inr d) h k = w.one s t b d h k
+  either_one apart s t (inl a) (inr d) h k = apart s s t t a d h k refl
+  either_one apart s t (inr b) (inl c) h k = apart s s t t c b k h refl
+
+  pub either_reads : (v : A ⊎ B) → IsEither u.is_value w.is_value v → IsFree (either_canon v) → (t : Term) × Reads (either_canon v) t
+  either_reads (inl a) = u.reads a
+  either_reads (inr b) = w.reads b
+
+  pub either_canon_means : (s : Standing) (t : Term) (v : A ⊎ B) → IsEither u.is_value w.is_value v → IsUnrefused (either_canon v) → StandsCanonically s (either_canon v) → Reads (either_canon v) t → MeansEither s t (normal either_norm v)
+  either_canon_means s t (inl a) i f c r = rw (either_normal u.norm w.norm (inl a)) (u.canon_means s t a i f c r)
+  either_canon_means s t (inr b) i f c r = rw (either_normal u.norm w.norm (inr b)) (w.canon_means s t b i f c r)
+
+  pub either_blind_means : both u.blind w.blind ≡ true → (s : Standing) (v : A ⊎ B) → IsEither u.is_value w.is_value v → IsFree (either_canon v) → MeansEither s (either_canon v) (normal either_norm v)
+  either_blind_means l s (inl a) i f = rw (either_normal u.norm w.norm (inl a)) (u.blind_means (both_first u.blind w.blind l) s a i f)
+  either_blind_means l s (inr b) i f = rw (either_normal u.norm w.norm (inr b)) (w.blind_means (both_second u.blind w.blind l) s b i f)
+
+  pub either_norm_canon : (v : A ⊎ B) → tidy (either_canon (normal either_norm v)) ≡ tidy (either_canon v)
+  either_norm_canon (inl a) = rw (either_normal u.norm w.norm (inl a)) (u.norm_canon a)
+  either_norm_canon (inr b) = rw (either_normal u.norm w.norm (inr b)) (w.norm_canon b)
+
+  pub either_norm_norm : (v : A ⊎ B) → either_same (normal either_norm (normal either_norm v)) (normal either_norm v)
+  either_norm_norm (inl a) = rw (either_normal u.norm w.norm (inl a), either_normal u.norm w.norm (inl (normal u.norm a))) (u.norm_norm a)
+  either_norm_norm (inr b) = rw (either_normal u.norm w.norm (inr b), either_normal u.norm w.norm (inr (normal w.norm b))) (w.norm_norm b)
+
+  pub either_valued : (v : A ⊎ B) → IsEither u.is_value w.is_value v → Everywhere IsValue (either_canon v)
+  either_valued (inl a) = u.valued a
+  either_valued (inr b) = w.valued b
+
+  pub either_value : (s : Standing) (t : Term) (v : A ⊎ B) → MeansEither s t v → IsEither u.is_value w.is_value v
+  either_value s t (inl a) = u.value s t a
+  either_value s t (inr b) = w.value s t b
+
+  pub either_own : (s : Standing) (t : Term) (v : A ⊎ B) → MeansEither s t v → either_same (normal either_norm v) v
+  either_own s t (inl a) m = rw (either_normal u.norm w.norm (inl a)) (u.own s t a m)
+  either_own s t (inr b) m = rw (either_normal u.norm w.norm (inr b)) (w.own s t b m)
+
+  pub either_free : (s : Standing) (t : Term) (v : A ⊎ B) → MeansEither s t v → IsFree (either_canon v)
+  either_free s t (inl a) = u.free s t a
+  either_free s t (inr b) = w.free s t b
+
+  pub either_writable : (s : Standing) (t : Term) (v : A ⊎ B) → Spells s t → MeansEither s t v → (r : Refusal) → Somewhere (IsRefused r) (either_canon v) → r ≡ too_large
+  either_writable s t (inl a) = u.writable s t a
+  either_writable s t (inr b) = w.writable s t b
+
+  pub either_bare_data : (ds : List Descriptor) (c : ℕ) (b : List ℕ) (t : Term) (v : A ⊎ B) → MeansEither (part ds c b) t v → IsKept (core (either_canon v)) → ⊥
+  either_bare_data ds c b t (inl a) = u.bare_data ds c b t a
+  either_bare_data ds c b t (inr x) = w.bare_data ds c b t x
+
+  pub either_null_alike : (s : Standing) (t : Term) (v : A ⊎ B) → MeansEither s t v → is_null (either_canon v) ≡ is_null t
+  either_null_alike s t (inl a) = u.null_alike s t a
+  either_null_alike s t (inr b) = w.null_alike s t b
+
+  pub either_is_solid : both u.solid w.solid ≡ true → (v : A ⊎ B) → is_null (either_canon v) ≡ false
+  either_is_solid l (inl a) = u.is_solid (both_first u.solid w.solid l) a
+  either_is_solid l (inr b) = w.is_solid (both_second u.solid w.solid l) b
+
+  pub either_formed : FormsApart → (s z : Standing) (t r : Term) (v x : A ⊎ B) → MeansEither s t v → MeansEither z r x → form t ≡ form r → form (either_canon v) ≡ form (either_canon x)
+  either_formed apart s z t r (inl a) (inl c) h k e = u.formed s z t r a c h k e
+  either_formed apart s z t r (inr b) (inr d) h k e = w.formed s z t r b d h k e
+  either_formed apart s z t r (inl a) (inr d) h k e = absurd (apart s z t r a d h k e)
+  either_formed apart s z t r (inr b) (inl c) h k e = absurd (apart z s r t c b k h (sym e))
+
+  pub either_formless : (s : Standing) (t : Term) (v : A ⊎ B) → MeansEither s t v → form t ≡ None → form (either_canon v) ≡ None
+  either_formless s t (inl a) = u.formless s t a
+  either_formless s t (inr b) = w.formless s t b
+
+  pub either_nested : (s : Standing) (t r : Term) (v : A ⊎ B) → MeansEither s t v → Reads (either_canon v) r → nest r ≤ nest t
+  either_nested s t r (inl a) = u.nested s t r a
+  either_nested s t r (inr b) = w.nested s t r b
+
+  pub either_leaf_alike : (s : Standing) (t r : Term) (v : A ⊎ B) → MeansEither s t v → Reads (either_canon v) r → IsLeaf t → IsLeaf r
+  either_leaf_alike s t r (inl a) = u.leaf_alike s t r a
+  either_leaf_alike s t r (inr b) = w.leaf_alike s t r b
+
+  pub either_counted : (s : Standing) (t : Term) (v : A ⊎ B) → MeansEither s t v → either u.count w.count v ≤ nodes t
+  either_counted s t (inl a) = u.counted s t a
+  either_counted s t (inr b) = w.counted s t b
+
+  pub either_least : both u.is_least w.is_least ≡ true → (b : List ℕ) (t : Term) (v : A ⊎ B) → IsBytes b → Everywhere IsNoArray (either_canon v) → enc b t → MeansEither (whole b) t v → length (text (either_canon v) Plain) ≤ length b
+  either_least l b t (inl a) = u.least (both_first u.is_least w.is_least l) b t a
+  either_least l b t (inr x) = w.least (both_second u.is_least w.is_least l) b t x
+
+  pub either_is_blind : both u.blind w.blind ≡ true → (s z : Standing) (t : Term) (v : A ⊎ B) → MeansEither s t v → MeansEither z t v
+  either_is_blind l s z t (inl a) = u.is_blind (both_first u.blind w.blind l) s z t a
+  either_is_blind l s z t (inr b) = w.is_blind (both_second u.blind w.blind l) s z t b
+
+  pub either_is_plain : both u.blind w.blind ≡ true → (v : A ⊎ B) → IsPlain (either_canon v)
+  either_is_plain l (inl a) = u.is_plain (both_first u.blind w.blind l) a
+  either_is_plain l (inr b) = w.is_plain (both_second u.blind w.blind l) b
+
+-- A sum of two types.
+abbrev pub either_of : {A B : Type 0} (u : TermType A) (w : TermType B) → FormsApart u w → TermType (A ⊎ B)
+either_of u w apart = record {
+  is_value = IsEither u.is_value w.is_value;
+  means = MeansEither u w;
+  canon = either_canon u w;
+  norm = either_norm u w;
+  same = either_same u w;
+  count = either u.count w.count;
+  solid = both u.solid w.solid;
+  blind = both u.blind w.blind;
+  takes_memory = u.takes_memory || w.takes_memory;
+  is_least = both u.is_least w.is_least;
+  same_refl = either_refl u w;
+  same_sym = either_sym u w;
+  same_trans = either_trans u w;
+  same_value = either_same_value u w;
+  same_means = either_same_means u w;
+  same_canon = either_same_canon u w;
+  one = either_one u w apart;
+  reads = either_reads u w;
+  canon_means = either_canon_means u w;
+  blind_means = either_blind_means u w;
+  norm_canon = either_norm_canon u w;
+  norm_norm = either_norm_norm u w;
+  valued = either_valued u w;
+  value = either_value u w;
+  own = either_own u w;
+  free = either_free u w;
+  writable = either_writable u w;
+  bare_data = either_bare_data u w;
+  null_alike = either_null_alike u w;
+  is_solid = either_is_solid u w;
+  formed = either_formed u w apart;
+  formless = either_formless u w;
+  nested = either_nested u w;
+  leaf_alike = either_leaf_alike u w;
+  counted = either_counted u w;
+  least = either_least u w;
+  is_blind = either_is_blind u w;
+  is_plain = either_is_plain u w;
+}

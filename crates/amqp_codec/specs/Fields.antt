@@ -1,0 +1,145 @@
+-- Tables of fields, and the laws of their items, once for all tables.
+use Rattle.std.proofs.Common.{◌≡◌, inl, inr, ℕ, ◌+◌, ◌≤◌, Bool, true, false, ◌||◌, cond, List, [], ◌∷◌, ◌++◌, length, length-append, refl, ap, ◌∙◌, subst, arith, max, suc}
+use Rattle.amqp_model.specs.Term.{Refusal, too_large, null, Term, Terms, leaf, count}
+use Rattle.amqp_model.specs.Term as term
+use Rattle.amqp_model.specs.Spelling.{enc, items_of as ItemsStand}
+use Rattle.amqp_model.specs.Text.{Plain, text, texts}
+use Rattle.amqp_model.specs.Measures.{nest, nests, all_nodes}
+use Rattle.amqp_model.specs.Ranges.{EverywhereIn, IsValue, IsNoArray, IsBytes}
+use Rattle.amqp_model.specs.Refusals.{Somewhere, SomewhereIn, IsRefused}
+use Rattle.amqp_model.specs.Items.{terms_of, items_of, is_left_out, before_nulls}
+use Rattle.amqp_model.specs.ItemLaws.{clash}
+use Rattle.amqp_model.specs.Fields.{Fits, canonical_items, AreValues}
+use Rattle.amqp_model.specs.Fields as table
+use Rattle.amqp_model.proofs.Least.{bytes_left, bytes_right}
+use Rattle.amqp_model.proofs.ItemCounts.{canonical_fewest}
+use Rattle.amqp_codec.specs.TermType.{ArePlain}
+use Rattle.amqp_codec.specs.Slots.{Field}
+
+-- The fields of V in their order: for each, how it is got from the value, and its kind and type.
+pub data Fields (V : Type 0) : Type 1 where
+  none : Fields V
+  field : {T : Type 0} → (V → T) → Field T → Fields V → Fields V
+
+-- as the model's table
+abbrev pub slots : {V : Type 0} → Fields V → table.Fields V
+slots none = table.none
+slots (field get f fs) = table.field get f.slot (slots fs)
+
+-- the canonical items, as the terms of a list
+abbrev pub items : {V : Type 0} → Fields V → V → Terms
+items fs v = terms_of (canonical_items (slots fs) v)
+
+abbrev pub count_of : {V : Type 0} → Fields V → V → ℕ
+count_of none v = 0
+count_of (field get f fs) v = f.laws.count (get v) + count_of fs v
+
+abbrev pub both : Bool → Bool → Bool
+both true b = b
+both false b = false
+
+abbrev pub are_least : {V : Type 0} → Fields V → Bool
+are_least none = true
+are_least (field get f fs) = both f.laws.is_least (are_least fs)
+
+abbrev pub take_memory : {V : Type 0} → Fields V → Bool
+take_memory none = false
+take_memory (field get f fs) = f.takes_memory || take_memory fs
+
+pub both_first : (a b : Bool) → both a b ≡ true → a ≡ true
+both_first true b h = refl
+both_first false b h = h
+
+pub both_second : (a b : Bool) → both a b ≡ true → b ≡ true
+both_second true b h = h
+both_second false b h = absurd (clash h refl)
+
+-- what holds with an item and without it holds where it may be left out
+left_out : (E : Terms → Type 0) (t : Term) (b : Bool) → E term.none → E (term.more t term.none) → E (terms_of (cond b [] (t ∷ [])))
+left_out E t true e h = e
+left_out E t false e h = h
+
+before_each : (E : Terms → Type 0) (t : Term) (us : List Term) → E term.none → E (term.more t (terms_of us)) → E (terms_of (before_nulls t us))
+before_each E t [] e h = left_out E t (is_left_out t) e h
+before_each E t (u ∷ us) e h = h
+
+pub items_plain : {V : Type 0} (fs : Fields V) (v : V) → ArePlain (items fs v)
+unfolding canonical_items
+items_plain none v = tt
+items_plain (field get f fs) v = before_each ArePlain (f.slot.meaning.canon (get v)) (canonical_items (slots fs) v) tt (f.laws.is_plain (get v), items_plain fs v)
+
+pub items_valued : {V : Type 0} (fs : Fields V) (v : V) → AreValues (slots fs) v → EverywhereIn IsValue (items fs v)
+unfolding canonical_items
+items_valued none v i = tt
+items_valued (field get f fs) v i = before_each (EverywhereIn IsValue) (f.slot.meaning.canon (get v)) (canonical_items (slots fs) v) tt (f.laws.valued (get v) i.0, items_valued fs v i.1)
+
+pub items_nested : {V : Type 0} (fs : Fields V) (ts : Terms) (v : V) → Fits (slots fs) (items_of ts) v → nests (items fs v) ≤ nests ts
+unfolding Fits canonical_items
+items_nested none ts v h = omega arith
+items_nested (field get f fs) term.none v h =
+    before_each (λ us. nests us ≤ 0) (f.slot.meaning.canon (get v)) (canonical_items (slots fs) v) (omega arith) (omega (arith, f.laws.nested (leaf null) (get v) h.0, items_nested fs term.none v h.1))
+items_nested (field get f fs) (term.more t ts) v h =
+    before_each (λ us. nests us ≤ max (nest t) (nests ts)) (f.slot.meaning.canon (get v)) (canonical_items (slots fs) v) (omega arith) (omega (arith, f.laws.nested t (get v) h.0, items_nested fs ts v h.1))
+
+pub items_counted : {V : Type 0} (fs : Fields V) (ts : Terms) (v : V) → Fits (slots fs) (items_of ts) v → count_of fs v ≤ all_nodes ts
+unfolding Fits
+items_counted none ts v h = omega arith
+items_counted (field get f fs) term.none v h = omega (arith, f.laws.missing (get v) h.0, items_counted fs term.none v h.1)
+items_counted (field get f fs) (term.more t ts) v h = omega (arith, f.laws.counted t (get v) h.0, items_counted fs ts v h.1)
+
+pub null_spelled : enc (0x40 ∷ []) (leaf null)
+unfolding enc
+null_spelled = ([], 0x40, omega arith, (0x40 ∷ [], [], refl, (refl, tt), (refl, refl, tt)))
+
+abbrev OnlyLarge : Terms → Type 0
+OnlyLarge us = (r : Refusal) → SomewhereIn (IsRefused r) us → r ≡ too_large
+
+one_more : (t : Term) (us : Terms) → ((r : Refusal) → Somewhere (IsRefused r) t → r ≡ too_large) → OnlyLarge us → OnlyLarge (term.more t us)
+one_more t us h k r i = elim i [ inl j ↦ h r j | inr j ↦ k r j ]
+
+pub items_writable : {V : Type 0} (fs : Fields V) (ts : Terms) (b : List ℕ) (v : V) → ItemsStand ts b → Fits (slots fs) (items_of ts) v → (r : Refusal) → SomewhereIn (IsRefused r) (items fs v) → r ≡ too_large
+unfolding Fits canonical_items enc
+items_writable none ts b v s h = λ r i. absurd i
+items_writable (field get f fs) term.none b v s h =
+    before_each OnlyLarge (f.slot.meaning.canon (get v)) (canonical_items (slots fs) v) (λ r i. absurd i)
+    (one_more (f.slot.meaning.canon (get v)) (items fs v) (f.laws.writable (0x40 ∷ []) (leaf null) (get v) null_spelled h.0) (items_writable fs term.none b v s h.1))
+items_writable (field get f fs) (term.more t ts) b v (first, second, e, s, rest) h =
+    before_each OnlyLarge (f.slot.meaning.canon (get v)) (canonical_items (slots fs) v) (λ r i. absurd i)
+    (one_more (f.slot.meaning.canon (get v)) (items fs v) (f.laws.writable first t (get v) s h.0) (items_writable fs ts second v rest h.1))
+
+count_terms : (ts : List Term) → count (terms_of ts) ≡ length ts
+count_terms [] = refl
+count_terms (t ∷ ts) = ap suc (count_terms ts)
+
+length_items : (ts : Terms) → length (items_of ts) ≡ count ts
+length_items term.none = refl
+length_items (term.more t ts) = ap suc (length_items ts)
+
+-- there are no more canonical items than items
+pub items_fewest : {V : Type 0} (fs : Fields V) (ts : Terms) (v : V) → Fits (slots fs) (items_of ts) v → count (items fs v) ≤ count ts
+items_fewest fs ts v h = omega (arith, count_terms (canonical_items (slots fs) v), length_items ts, canonical_fewest (slots fs) (items_of ts) v h)
+
+none_left : (us : List Term) → length us ≤ 0 → length (texts (terms_of us) Plain) ≤ 0
+unfolding texts
+none_left [] h = omega arith
+none_left (u ∷ us) h = absurd (omega arith)
+
+-- their text is no longer than the items' bytes
+pub items_least : {V : Type 0} (fs : Fields V) (ts : Terms) (b : List ℕ) (v : V) → are_least fs ≡ true → IsBytes b → EverywhereIn IsNoArray (items fs v) → ItemsStand ts b → Fits (slots fs) (items_of ts) v → length (texts (items fs v) Plain) ≤ length b
+unfolding Fits canonical_items enc texts
+items_least none ts b v l i n s h = omega arith
+items_least (field get f fs) term.none b v l i n s h =
+    omega (arith, none_left (canonical_items (slots (field get f fs)) v) (canonical_fewest (slots (field get f fs)) [] v h))
+items_least (field get f fs) (term.more t ts) b v l i n (first, second, e, s, rest) h =
+    let bytes : IsBytes (first ++ second) = subst IsBytes e i in
+    let long : length b ≡ length first + length second = ap length e ∙ length-append first second in
+    let canon = f.slot.meaning.canon (get v) in
+    before_each (λ us. EverywhereIn IsNoArray us → length (texts us Plain) ≤ length b) canon (canonical_items (slots fs) v) (λ _. omega arith)
+    (λ k. omega (
+      arith,
+      long,
+      length-append (text canon Plain) (texts (items fs v) Plain),
+      f.laws.least (both_first f.laws.is_least (are_least fs) l) first t (get v) (bytes_left first second bytes) k.0 s h.0,
+      items_least fs ts second v (both_second f.laws.is_least (are_least fs) l) (bytes_right first second bytes) k.1 rest h.1,
+    ))
+    n

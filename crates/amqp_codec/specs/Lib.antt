@@ -1,0 +1,16 @@
+pub mod Tidy
+pub mod TermType
+pub mod Leaves
+pub mod Nulls
+pub mod PrimitiveTypes
+pub mod OptionType
+pub mod Wrappers
+pub mod Plain
+pub mod FieldTypes
+pub mod Slots
+pub mod Fields
+pub mod Composite
+pub mod EitherType
+pub mod TidyText
+pub mod Spelled
+pub mod Apart

@@ -1,0 +1,60 @@
+-- Terms in which no bytes are kept read as themselves.
+use Rattle.std.proofs.Common.{◌≡◌, refl, ap, ap₂, sym}
+use Rattle.amqp_model.specs.Term.{Term, Terms, leaf, holder, described, kept, barred, none, more}
+use Rattle.amqp_model.specs.Kept.{Reads, ReadsEach}
+use Rattle.amqp_codec.specs.Tidy.{tidy, tidy_all}
+use Rattle.amqp_codec.specs.TermType.{IsPlain, ArePlain}
+
+mutual
+  pub reads_itself : (u : Term) → IsPlain u → Reads u u
+  reads_itself (leaf p) h = refl
+  reads_itself (holder k us) h = (refl, read_themselves us h)
+  reads_itself (described d u) h = (refl, reads_itself u h)
+  reads_itself (kept b) h = absurd h
+  reads_itself (barred r) h = refl
+
+  read_themselves : (us : Terms) → ArePlain us → ReadsEach us us
+  read_themselves none h = tt
+  read_themselves (more u us) h = (reads_itself u h.0, read_themselves us h.1)
+
+mutual
+  pub plain_reads : (u t : Term) → IsPlain u → Reads u t → t ≡ u
+  plain_reads (leaf p) (leaf q) h r = ap leaf (sym r)
+  plain_reads (holder k us) (holder l ts) h r = ap₂ holder (sym r.0) (plain_read us ts h r.1)
+  plain_reads (described d u) (described e t) h r = ap₂ described (sym r.0) (plain_reads u t h r.1)
+  plain_reads (kept b) t h r = absurd h
+  plain_reads (barred q) (barred s) h r = ap barred (sym r)
+  plain_reads (leaf p) (holder l ts) h r = absurd r
+  plain_reads (leaf p) (described e t) h r = absurd r
+  plain_reads (leaf p) (kept b) h r = absurd r
+  plain_reads (leaf p) (barred s) h r = absurd r
+  plain_reads (holder k us) (leaf q) h r = absurd r
+  plain_reads (holder k us) (described e t) h r = absurd r
+  plain_reads (holder k us) (kept b) h r = absurd r
+  plain_reads (holder k us) (barred s) h r = absurd r
+  plain_reads (described d u) (leaf q) h r = absurd r
+  plain_reads (described d u) (holder l ts) h r = absurd r
+  plain_reads (described d u) (kept b) h r = absurd r
+  plain_reads (described d u) (barred s) h r = absurd r
+  plain_reads (barred q) (leaf p) h r = absurd r
+  plain_reads (barred q) (holder l ts) h r = absurd r
+  plain_reads (barred q) (described e t) h r = absurd r
+  plain_reads (barred q) (kept b) h r = absurd r
+
+  plain_read : (us ts : Terms) → ArePlain us → ReadsEach us ts → ts ≡ us
+  plain_read none none h r = refl
+  plain_read none (more t ts) h r = absurd r
+  plain_read (more u us) none h r = absurd r
+  plain_read (more u us) (more t ts) h r = ap₂ more (plain_reads u t h.0 r.0) (plain_read us ts h.1 r.1)
+
+mutual
+  pub plain_tidy : (u : Term) → IsPlain u → tidy u ≡ u
+  plain_tidy (leaf p) h = refl
+  plain_tidy (holder k us) h = ap (holder k) (plain_tidy_all us h)
+  plain_tidy (described d u) h = ap (described d) (plain_tidy u h)
+  plain_tidy (kept b) h = absurd h
+  plain_tidy (barred r) h = refl
+
+  plain_tidy_all : (us : Terms) → ArePlain us → tidy_all us ≡ us
+  plain_tidy_all none h = refl
+  plain_tidy_all (more u us) h = ap₂ more (plain_tidy u h.0) (plain_tidy_all us h.1)

@@ -1,0 +1,46 @@
+//! The laws of every type of terms, over the bytes that spell its values.
+ghost use Rattle.std.specs.Prelude.{◌≡◌, ◌≤◌, ℕ, true, List, ◌++◌, length};
+ghost use Rattle.amqp_model.specs.Term.{Refusal, too_large};
+ghost use Rattle.amqp_model.specs.Ranges.{Everywhere, IsNoArray, IsBytes};
+ghost use Rattle.amqp_model.specs.Refusals.{Refuses};
+ghost use Rattle.amqp_model.specs.FieldType.{normal};
+ghost use Rattle.amqp_codec.specs.Spelled.{IsSpelled, IsWritable, written};
+
+use crate::DeserializeTerm;
+
+/// No input has two fronts that spell values, and no front spells two values.
+pub fn one_value<T: DeserializeTerm>()
+    ensures value { (b c x y : List ℕ) (v w : T) → IsSpelled T.term b v → IsSpelled T.term c w → b ++ x ≡ c ++ y → T.term.same v w }
+    ensures front { (b c x y : List ℕ) (v w : T) → IsSpelled T.term b v → IsSpelled T.term c w → b ++ x ≡ c ++ y → b ≡ c }
+{}
+
+/// What was read can be written, but where its size passes 32 bits.
+pub fn what_is_read_is_writable<T: DeserializeTerm>()
+    ensures { (b : List ℕ) (v : T) (r : Refusal) → IsSpelled T.term b v → Refuses r (T.term.canon v) → r ≡ too_large }
+{}
+
+/// The canonical text of a value that can be written is read as the value, normalised; what was read is its own
+/// normal value.
+pub fn canonical_text_is_read_again<T: DeserializeTerm>()
+    ensures again { (v : T) → T.term.is_value v → IsWritable T.term v → IsSpelled T.term (written T.term v) (normal T.term.norm v) }
+    ensures own { (b : List ℕ) (v : T) → IsSpelled T.term b v → T.term.same (normal T.term.norm v) v }
+    ensures values { (b : List ℕ) (v : T) → IsSpelled T.term b v → T.term.is_value v }
+{}
+
+/// All spellings of a value have one canonical text, different values have different ones, and what a canonical
+/// text is read as is written as that text again.
+pub fn one_text_for_one_value<T: DeserializeTerm>()
+    ensures same { (v w : T) → T.term.same v w → written T.term v ≡ written T.term w }
+    ensures apart { (b c : List ℕ) (v w : T) → IsSpelled T.term b v → IsSpelled T.term c w → IsWritable T.term v → IsWritable T.term w → written T.term v ≡ written T.term w → T.term.same v w }
+    ensures unchanged { (v w : T) → T.term.is_value v → IsWritable T.term v → IsSpelled T.term (written T.term v) w → written T.term w ≡ written T.term v }
+{}
+
+/// No spelling of a value of a least type is shorter than its canonical text, where its term holds no array.
+pub fn canonical_text_is_least<T: DeserializeTerm>()
+    ensures { T.term.is_least ≡ true → (b : List ℕ) (v : T) → IsBytes b → Everywhere IsNoArray (T.term.canon v) → IsSpelled T.term b v → length (written T.term v) ≤ length b }
+{}
+
+/// A value has no more values in it than the bytes that spell it.
+pub fn count_is_bounded<T: DeserializeTerm>()
+    ensures { (b : List ℕ) (v : T) → IsSpelled T.term b v → T.term.count v ≤ length b }
+{}

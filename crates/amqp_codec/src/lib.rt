@@ -1,0 +1,15 @@
+//! Reading and writing of whole values: the traits of a type, the kernel of all composites, and the calls.
+#![tactic(auto)]
+
+mod calls;
+mod containers;
+pub mod kernel;
+pub mod laws;
+mod primitives;
+mod traits;
+
+pub use amqp_decoder::Decoder;
+pub use amqp_encoder::Encoder;
+pub use amqp_wire::{ByteSource, Descriptor, Error, ReadSource, Symbol};
+pub use calls::{canonical_text, from_slice, from_slice_counted, to_vec};
+pub use traits::{Canonical, Deserialize, DeserializeTerm, Serialize, SerializeTerm};

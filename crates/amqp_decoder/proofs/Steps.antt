@@ -1,0 +1,139 @@
+-- How the steps of a call follow one another.
+use Rattle.std.proofs.Common.{◌≡◌, ◌≤◌, ◌<◌, ℕ, ◌+◌, ◌-◌, ◌⊎◌, inl, inr, Option, Some, None, List, [], ◌∷◌, ◌++◌, length, drop, get_or, unwrap_or, refl, sym, ap, ◌∙◌, subst, arith, suc, zero}
+use Rattle.std.proofs.lemmas.List.{length-append}
+use Rattle.amqp_model.specs.Term.{Descriptor}
+use Rattle.amqp_wire.specs.declared.error.Error.{Error}
+use Rattle.amqp_wire.specs.declared.error.Error.TheVariants.{Cut, Missing}
+use Rattle.amqp_decoder.specs.State.{Open, State, Has, lower, moved, on, past, announced, bytes_left}
+use Rattle.amqp_decoder.specs.Steps.{Excused, Pulled, Missed, Took, Lacks, cut_open, cut_inside, too_long, Short, asked_in, SizeError, cut, wrong, SizeRefused}
+use Rattle.amqp_decoder.specs.Reading.{Refused, IsLeft, IsFirst, IsFirstShared, Begun, BeginFault, missing, no_code}
+
+-- the open container's bytes are lowered by n
+abbrev pub lowered : ℕ → State → State
+lowered n st = record st { top = record st.top { left = lower st.top.left n } }
+
+size_lacks : (own n l : ℕ) (st : State) (e : Error) → st.top.left ≡ Some l → l < n → SizeError own st e → Lacks n st e
+size_lacks own n l st e h less (cut short is) = cut_inside h (inl less) (subst (λ o. length st.rest < asked_in o own (announced st)) h short) is
+size_lacks own n l st e h less (wrong there is) = too_long h less (subst (λ o. asked_in o own (announced st) ≤ length st.rest) h there) is
+
+-- a size was refused in a container that has no room
+pub short_of_size : (own n l : ℕ) (st : State) (e : Error) (new : State) → st.top.left ≡ Some l → l < n → SizeRefused own st e new → Short n st e new
+short_of_size own n l st e new h less r = record {
+  kept = r.kept;
+  why = elim r.why [ inl x ↦ inl x | inr x ↦ inr (size_lacks own n l st e h less x) ];
+}
+
+missed_lacks : (n : ℕ) (st : State) (o : Option ℕ) (e : Error) → st.top.left ≡ o → Has o n → e ≡ Cut → length st.rest < n → Lacks n st e
+missed_lacks n st None e h room is short = cut_open h short is
+missed_lacks n st (Some l) e h room is short = cut_inside h (inr short) (omega (arith, ap (λ o. unwrap_or o 0) h)) is
+
+-- too few bytes stood behind those that the container has room for
+pub short_of_missed : (n k : ℕ) (st : State) (m : State) (e : Error) (new : State) → k ≡ n → Has st.top.left n → m ≡ lowered n st → Missed k m e new → Short n st e new
+short_of_missed n k st m e new same room is r = record {
+  kept = r.kept;
+  why = elim r.why [
+    | inl x ↦ inl x
+    | inr (x, y) ↦ inr (missed_lacks n st st.top.left e refl room x (subst (λ (z : State). length z.rest < n) is (omega (arith, same, y))))
+  ];
+}
+
+pub took_pulled : (n : ℕ) (st : State) (m : State) (s : List ℕ) (new : State) → length s ≡ n → Has st.top.left n → m ≡ lowered n st → Pulled m s new → Took st s new
+took_pulled n st m s new l room is p =
+    let room_ : Has st.top.left (length s) = subst (Has st.top.left) (sym l) room in
+    let is_ : m ≡ lowered (length s) st = is ∙ ap (λ k. lowered k st) (sym l) in
+    let q : Pulled (lowered (length s) st) s new = subst (λ z. Pulled z s new) is_ p in
+    record { room = room_; rest = q.rest; moved = q.moved }
+
+pub one_byte : (s : List ℕ) → length s ≡ 1 → s ≡ get_or s 0 0 ∷ []
+one_byte [] h = absurd (omega arith)
+one_byte (x ∷ []) h = refl
+one_byte (x ∷ y ∷ r) h = absurd (omega arith)
+
+has_less : (o : Option ℕ) (m n : ℕ) → m ≤ n → Has o n → Has o m
+has_less None m n h k = tt
+has_less (Some l) m n h k = omega arith
+
+-- bytes that stand there can be taken
+pub not_lacking : (n : ℕ) (st : State) (e : Error) (s x : List ℕ) → Lacks n st e → n ≤ length s → Has st.top.left (length s) → st.rest ≡ s ++ x → ⊥
+not_lacking n st e s x (cut_open h short is) few room r = omega (arith, ap length r, length-append s x)
+not_lacking n st e s x (cut_inside {l} h why short is) few room r =
+    let fits : length s ≤ l = subst (λ o. Has o (length s)) h room in
+    elim why [ inl y ↦ omega arith | inr y ↦ omega (arith, ap length r, length-append s x) ]
+not_lacking n st e s x (too_long {l} h less there is) few room r =
+    let fits : length s ≤ l = subst (λ o. Has o (length s)) h room in omega arith
+
+-- a value begins, by its first byte or by a shared constructor
+pub begun_own : (st : State) (c : ℕ) (m : State) → st.error ≡ None → Has st.top.items 1 → st.top.shared ≡ None → Took st (c ∷ []) m → Begun st c (record m { top = record m.top { items = lower m.top.items 1 } })
+begun_own st c m going item none t = record {
+  going = going;
+  item = item;
+  own = c ∷ [];
+  first = subst (λ o. IsFirst o c (c ∷ [])) (sym none) refl;
+  room = t.room;
+  rest = t.rest;
+  moved = ap (λ (x : State). record x { top = record x.top { items = lower x.top.items 1 } }) t.moved;
+}
+
+first_shared : (o : Option (List Descriptor × ℕ)) (c : ℕ) → IsFirstShared o c → IsFirst o c []
+first_shared None c h = absurd h
+first_shared (Some ([], k)) c h = (refl, h)
+first_shared (Some (d ∷ ds, k)) c h = (refl, h)
+
+has_none : (o : Option ℕ) → Has o 0
+has_none None = tt
+has_none (Some l) = omega arith
+
+lower_none : (o : Option ℕ) → lower o 0 ≡ o
+lower_none None = refl
+lower_none (Some l) = ap Some (omega arith)
+
+past_none : (st : State) → record st { top = record st.top { items = lower st.top.items 1 } } ≡ past 0 st
+past_none st =
+    let a : st.ahead ≡ st.ahead - 0 = omega arith in
+    ap (λ x. record st { ahead = x; top = record st.top { items = lower st.top.items 1 } }) a
+    ∙ ap (λ x. record st { ahead = st.ahead - 0; top = record st.top { items = lower st.top.items 1; left = x } }) (sym (lower_none st.top.left))
+
+pub begun_shared : (st : State) (c : ℕ) → st.error ≡ None → Has st.top.items 1 → IsFirstShared st.top.shared c → Begun st c (record st { top = record st.top { items = lower st.top.items 1 } })
+begun_shared st c going item h = record {
+  going = going;
+  item = item;
+  own = [];
+  first = first_shared st.top.shared c h;
+  room = has_none st.top.left;
+  rest = refl;
+  moved = past_none st;
+}
+
+pub has_item : (o : Option ℕ) → (o ≡ Some 0 → ⊥) → Has o 1
+has_item None h = tt
+has_item (Some zero) h = absurd (h refl)
+has_item (Some (suc n)) h = omega arith
+
+pub not_begun_done : (st : State) (c : ℕ) (b : State) → st.top.items ≡ Some 0 → Begun st c b → ⊥
+not_begun_done st c b e h = let x : 1 ≤ 0 = subst (λ o. Has o 1) e h.item in omega arith
+
+pub not_begun_lacking : (st : State) (e : Error) (c : ℕ) (b : State) → st.top.shared ≡ None → Lacks 1 st e → Begun st c b → ⊥
+not_begun_lacking st e c b none l h =
+    let own : h.own ≡ c ∷ [] = subst (λ o. IsFirst o c h.own) none h.first in
+    not_lacking 1 st e h.own (drop (length h.own) st.rest) l (omega (arith, ap length own)) h.room h.rest
+
+-- no value is left
+pub begin_done : (st : State) (e : Error) (new : State) → Refused IsLeft (λ st e. (st.top.items ≡ Some 0) × (e ≡ Missing)) st e new → Refused Begun BeginFault st e new
+begin_done st e new r = record {
+  kept = r.kept;
+  again = r.again;
+  named = λ g. elim (r.named g) [ inl x ↦ inl x | inr (x, y) ↦ inr (missing x y) ];
+  none = elim r.none [
+    | inl x ↦ inl x
+    | inr f ↦ inr (λ v b h. f tt st (record { going = h.going; item = h.item; kept = refl }))
+  ];
+}
+
+-- its first byte can't be taken
+pub begin_short : (st : State) (e : Error) (new : State) → st.error ≡ None → st.top.shared ≡ None → Short 1 st e new → Refused Begun BeginFault st e new
+begin_short st e new going none r = record {
+  kept = r.kept;
+  again = λ d x. absurd (cc);
+  named = λ g. elim r.why [ inl x ↦ inl x | inr x ↦ inr (no_code none x) ];
+  none = elim r.why [ inl x ↦ inl x | inr x ↦ inr (λ v b h. not_begun_lacking st e v b none x h) ];
+}

@@ -1,0 +1,8 @@
+use Rattle.std.proofs.Common.{rules, arith, ◌≡◌, ◌≤◌, ◌<◌, ◌+◌, ℕ, Some, None, length, take, unwrap_or, refl, ap, sym, subst, ◌∙◌}
+use Rattle.std.proofs.lemmas.Result.{err_from_is_err_and}
+use Rattle.amqp_decoder.specs.State.{State}
+use Rattle.amqp_decoder.proofs.Steps.{short_of_size}
+use Rattle.amqp_decoder.proofs.decoder.Decoder.lower.Goals as goal
+
+pub returns-then-count-left-clause-err : goal.returns-then-count-left-clause-err
+returns-then-count-left-clause-err g c = λ told. short_of_size _ _ _ _ _ _ (sym c.left.ensures ∙ c.in-Some.is) c.if-count-left.true (c.refuse_size.ensures told)

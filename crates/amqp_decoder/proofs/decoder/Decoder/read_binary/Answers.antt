@@ -1,0 +1,11 @@
+use Rattle.std.proofs.Common.{rules, ◌≡◌, Some, refl, ap, sym, ◌∙◌, subst, string_bytes}
+use Rattle.std.proofs.lemmas.Result.{err_from_is_err_and}
+use Rattle.amqp_model.specs.Term.{binary, string, symbol}
+use Rattle.amqp_wire.specs.declared.symbol.Symbol.{Symbol}
+use Rattle.amqp_decoder.specs.State.{State}
+use Rattle.std.proofs.Common.{Vec, Global, ℕ}
+use Rattle.amqp_decoder.proofs.SizedTexts.{text_reads}
+use Rattle.amqp_decoder.proofs.decoder.Decoder.read_binary.Goals as goal
+
+pub returns : goal.returns
+returns g c = λ told. text_reads (λ (v : Vec ℕ Global). v.items) 16 0xa0 0xb0 binary _ _ c.content.result (record { short_code = refl; long_code = refl; kind = λ s. refl; codes = refl }) (λ s. tt) (c.content.ensures.ok told) (c.content.ensures.err told)

@@ -1,0 +1,28 @@
+use Rattle.std.proofs.Common.{rules, arith, ◌≡◌, ℕ, Bool, true, false, Some, None, [], ◌∷◌, refl, ap, sym, ◌∙◌}
+use Rattle.std.proofs.lemmas.Result.{err_from_is_err_and}
+use Rattle.std.proofs.lemmas.Int.{to_z-of_z}
+use Rattle.std.specs.Int.{w8, w16, w32, w64}
+use Rattle.amqp_model.specs.Term.{Primitive, boolean, uint, int, long, char}
+use Rattle.amqp_model.specs.Constructors.{format}
+use Rattle.amqp_model.specs.Spelling.{PrimitiveData}
+use Rattle.amqp_decoder.specs.State.{State}
+use Rattle.amqp_decoder.proofs.Leaves.{refused_first, short_refused, other_refused, data_value, code_value, not_two, not_three, not_char, bad_refused, fixed_refused, fixed_value}
+use Rattle.amqp_decoder.proofs.decoder.Decoder.read_char.Goals as goal
+
+pub returns-in_err-fixed : goal.returns-in_err-fixed
+returns-in_err-fixed g c = λ told.
+    let p = err_from_is_err_and c.from_residual.result c.from_residual.ensures.1 in
+    rw (p.1, p.2) (fixed_refused char 13 0x73 4 _ _ _ (λ v. refl) refl refl (λ m l. l) (c.in_err-fixed.ensures.err told))
+
+pub returns-in-Some : goal.returns-in-Some
+returns-in-Some g c = λ told.
+    let f = c.in_ok-fixed.ensures.ok told in
+    let v = c.in-Some.ensures.value in
+    fixed_value char 0x73 4 _ _ _ _ (f.width, ap (λ n. Some (char n)) (sym (v.1 ∙ c.from_be_bytes-number.ensures)), rw v.1 v.0) f
+
+pub returns-in-None : goal.returns-in-None
+returns-in-None g c = λ told.
+    let f = c.in_ok-fixed.ensures.ok told in
+    bad_refused char 13 0x73 _ _ c.in_ok-fixed.field-0 _ _ _ (λ v. refl) refl f.begun f.took f.width
+    (λ p d. not_char _ p (rw c.from_be_bytes-number.ensures at c.in-None.ensures.value) d.1 d.2)
+    c.refuse.ensures.answer (ap (λ (x : State). x.error) c.refuse.ensures.kept ∙ ap Some (sym c.refuse.ensures.answer))

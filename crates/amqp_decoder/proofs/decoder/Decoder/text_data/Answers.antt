@@ -1,0 +1,11 @@
+use Rattle.std.proofs.Common.{rules, arith, ◌≡◌, ◌≤◌, ◌<◌, ◌+◌, ◌-◌, ℕ, Bool, true, false, Some, None, [], ◌∷◌, length, take, refl, ap, sym, ◌∙◌, subst}
+use Rattle.std.proofs.lemmas.Result.{err_from_is_err_and}
+use Rattle.amqp_model.specs.Term.{Primitive, ulong}
+use Rattle.amqp_decoder.specs.State.{State}
+use Rattle.amqp_decoder.proofs.SizedTexts.{sized_cut}
+use Rattle.amqp_decoder.proofs.decoder.Decoder.text_data.Goals as goal
+
+pub returns-in_err-keep-clause-err : goal.returns-in_err-keep-clause-err
+returns-in_err-keep-clause-err g c = λ told.
+    let p = err_from_is_err_and c.from_residual-in_err-keep.result c.from_residual-in_err-keep.ensures.1 in
+    rw (p.1, p.2) (sized_cut _ _ _ _ _ _ (c.in_ok-len.ensures.ok told) (c.in_err-keep.ensures.err told))

@@ -1,0 +1,100 @@
+-- What a decoder has before it.
+use Rattle.std.specs.Prelude.{◌≡◌, ℕ, zero, suc, ◌+◌, ◌-◌, ◌≤◌, ◌<◌, Bool, cond, eqb, List, [], ◌∷◌, ◌++◌, length, take, drop, map, get_or, Option, Some, None, unwrap_or, string_bytes}
+use Rattle.amqp_model.specs.Term.{Descriptor, name, code}
+use Rattle.amqp_wire.specs.declared.error.Error.{Error}
+use Rattle.amqp_wire.specs.declared.descriptor.Descriptor.{Descriptor as DescriptorValue}
+use Rattle.amqp_wire.specs.declared.descriptor.Descriptor.TheVariants.{Name, Code}
+use Rattle.amqp_decoder.specs.declared.frame.Frame.{Frame}
+use Rattle.amqp_decoder.specs.declared.frame.Place.{Place}
+use Rattle.amqp_decoder.specs.declared.frame.Place.TheVariants.{Top}
+
+-- An open container: where its values stand, and how many items and how many bytes are left of it, without what
+-- stands in the containers that are open in it (at the top level neither is bounded). The items of an array share a
+-- constructor (Part 1, section 1.2.4): the descriptors that are still to be begun, and the code.
+pub record Open : Type 0 where
+  pub place : Place
+  pub items : Option ℕ
+  pub left : Option ℕ
+  pub shared : Option (List Descriptor × ℕ)
+
+-- rest: the bytes to the end of the input
+-- ahead: how many of them were looked at, and are out of the source
+-- source: the borrow that the source is
+-- top: the open container that values are read from
+-- saved: the containers around it, the nearest first, as they will be once the inner one is closed
+-- nesting: how many containers and described values may be nested
+-- error: what was refused
+-- failed: the source has failed
+pub record State : Type 0 where
+  pub rest : List ℕ
+  pub ahead : ℕ
+  pub source : ℕ
+  pub top : Open
+  pub saved : List Open
+  pub nesting : ℕ
+  pub error : Option Error
+  pub failed : Bool
+
+-- The top level, where nothing is bounded.
+abbrev pub top_level : Open
+top_level = record { place = Top; items = None; left = None; shared = None }
+
+abbrev pub descriptor_of : DescriptorValue → Descriptor
+descriptor_of (Name s) = name (string_bytes s.0)
+descriptor_of (Code n) = code n
+
+abbrev pub items_of : Place → ℕ → Option ℕ
+items_of Top n = None
+items_of p n = Some n
+
+abbrev pub DescriptorValues : Type 0
+DescriptorValues = List DescriptorValue
+
+-- The constructor of this code behind the descriptors from first to last.
+abbrev pub shared_of : List DescriptorValue → ℕ → ℕ → ℕ → Option (List Descriptor × ℕ)
+shared_of ds c first last = cond (eqb c 0) None (Some (map descriptor_of (take (last - first) (drop first ds)), c))
+
+abbrev pub open_of : List DescriptorValue → Frame → Open
+open_of ds f = record { place = f.place; items = items_of f.place f.items; left = f.left; shared = shared_of ds f.code f.first f.last }
+
+-- What stands in the row behind the frames that are in use.
+abbrev pub unused : Frame
+unused = record { items = 0; left = None; place = Top; code = 0; first = 0; last = 0 }
+
+-- The first n frames of the row, the last of them first.
+abbrev pub stack : List DescriptorValue → ℕ → List Frame → List Open
+stack ds zero fs = []
+stack ds (suc n) fs = open_of ds (get_or fs n unused) ∷ stack ds n fs
+
+-- The bytes of a buffer that were looked at and aren't taken.
+abbrev pub pending : ℕ → ℕ → List ℕ → List ℕ
+pending start end_ looked = take (end_ - start) (drop start looked)
+
+-- A bound that may be absent has room for n.
+abbrev pub Has : Option ℕ → ℕ → Type 0
+Has None n = Unit {0}
+Has (Some l) n = n ≤ l
+
+abbrev pub lower : Option ℕ → ℕ → Option ℕ
+lower None n = None
+lower (Some l) n = Some (l - n)
+
+-- The bytes that all open containers announce and that are not yet taken.
+abbrev pub bytes_left : List Open → ℕ
+bytes_left [] = 0
+bytes_left (f ∷ fs) = unwrap_or f.left 0 + bytes_left fs
+
+abbrev pub announced : State → ℕ
+announced st = bytes_left (st.top ∷ st.saved)
+
+-- n bytes are taken.
+abbrev pub moved : ℕ → State → State
+moved n st = record st { rest = drop n st.rest; ahead = st.ahead - n }
+
+-- n bytes of the open container are taken.
+abbrev pub on : ℕ → State → State
+on n st = record st { rest = drop n st.rest; ahead = st.ahead - n; top = record st.top { left = lower st.top.left n } }
+
+-- A value of n bytes is taken.
+abbrev pub past : ℕ → State → State
+past n st = record st { rest = drop n st.rest; ahead = st.ahead - n; top = record st.top { items = lower st.top.items 1; left = lower st.top.left n } }

@@ -1,0 +1,60 @@
+-- What the steps of a call promise.
+use Rattle.std.specs.Prelude.{◌≡◌, ℕ, ◌+◌, ◌<◌, ◌≤◌, ◌⊎◌, Bool, true, List, [], ◌∷◌, ◌++◌, length, take, drop, Option, Some, None}
+use Rattle.amqp_wire.specs.declared.error.Error.{Error}
+use Rattle.amqp_wire.specs.declared.error.Error.TheVariants.{Memory, Read, Cut, Size}
+use Rattle.amqp_decoder.specs.State.{State, Has, on, moved, announced}
+
+abbrev pub IsRead : Error → Type 0
+IsRead (Read k) = Unit {0}
+IsRead _ = ⊥
+
+-- A growth was refused, or the source has failed.
+abbrev pub Excused : Error → State → Type 0
+Excused e st = (e ≡ Memory) ⊎ (IsRead e × (st.failed ≡ true))
+
+-- These bytes stood next, and were taken, whatever container is open.
+pub record Pulled (st : State) (s : List ℕ) (st' : State) : Type 0 where
+  pub rest : st.rest ≡ s ++ drop (length s) st.rest
+  pub moved : st' ≡ moved (length s) st
+
+-- Fewer than n bytes stood there.
+pub record Missed (n : ℕ) (st : State) (e : Error) (st' : State) : Type 0 where
+  pub kept : st'.error ≡ Some e
+  pub why : Excused e st' ⊎ ((e ≡ Cut) × (length st.rest < n))
+
+-- These bytes of a value stood next, and were taken.
+pub record Took (st : State) (s : List ℕ) (st' : State) : Type 0 where
+  pub room : Has st.top.left (length s)
+  pub rest : st.rest ≡ s ++ drop (length s) st.rest
+  pub moved : st' ≡ on (length s) st
+
+-- Why n bytes of a value can't be taken: the input ends, where nothing is bounded in them, and otherwise in what the
+-- open containers announce; or that is there, and the innermost container ends.
+pub data Lacks (n : ℕ) (st : State) (e : Error) : Type 0 where
+  cut_open : st.top.left ≡ None → length st.rest < n → e ≡ Cut → Lacks n st e
+  cut_inside : {l : ℕ} → st.top.left ≡ Some l → (l < n) ⊎ (length st.rest < n) → length st.rest < announced st → e ≡ Cut → Lacks n st e
+  too_long : {l : ℕ} → st.top.left ≡ Some l → l < n → announced st ≤ length st.rest → e ≡ Size → Lacks n st e
+
+-- n bytes of a value could not be taken.
+pub record Short (n : ℕ) (st : State) (e : Error) (st' : State) : Type 0 where
+  pub kept : st'.error ≡ Some e
+  pub why : Excused e st' ⊎ Lacks n st e
+
+-- How much has to be there before a size is refused: what the open containers announce, and where nothing is bounded
+-- what the value itself still does.
+abbrev pub asked_in : Option ℕ → ℕ → ℕ → ℕ
+asked_in None own all = own
+asked_in (Some l) own all = all
+
+abbrev pub asked : ℕ → State → ℕ
+asked own st = asked_in st.top.left own (announced st)
+
+-- The error for a wrong size.
+pub data SizeError (own : ℕ) (st : State) (e : Error) : Type 0 where
+  cut : length st.rest < asked own st → e ≡ Cut → SizeError own st e
+  wrong : asked own st ≤ length st.rest → e ≡ Size → SizeError own st e
+
+-- A size was refused.
+pub record SizeRefused (own : ℕ) (st : State) (e : Error) (st' : State) : Type 0 where
+  pub kept : st'.error ≡ Some e
+  pub why : Excused e st' ⊎ SizeError own st e

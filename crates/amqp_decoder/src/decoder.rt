@@ -1,0 +1,531 @@
+//! The state of a decoder, and how it takes bytes.
+ghost use Rattle.std.specs.Prelude.{◌≤◌, ◌≡◌, ◌<◌, ◌-◌, ◌++◌, ℕ, List, [], ◌∷◌, length, take, drop, min, Option, Some, None, IfOk, IfErr, MatchOption, MatchResult, cond, ◌^◌, ◌↔◌, IsTrue};
+ghost use Rattle.std.specs.Int.{bytes_high_first};
+ghost use Rattle.amqp_wire.specs.Codes.{refusal_of};
+ghost use Rattle.amqp_wire.specs.Sources.{known, Tells};
+ghost use Rattle.amqp_decoder.specs.Containers.{AtEnd, EndFault};
+ghost use Rattle.amqp_decoder.specs.State.{Open, State, top_level, moved, on, past, announced, Has, lower};
+ghost use Rattle.amqp_decoder.specs.Reading.{Reads, Begun, BeginFault, IsLeft, IsFirstShared};
+ghost use Rattle.amqp_decoder.specs.Steps.{Excused, Pulled, Missed, Took, Short, SizeRefused};
+
+use crate::frame::{Frame, Place, ROW};
+use amqp_lengths::NESTING;
+use amqp_wire::{ByteSource, Descriptor, Error, fill, format_code};
+use std::alloc::Global;
+use std::marker::Model;
+
+/// The most bytes that are looked at before they are taken.
+pub(crate) const LOOK: usize = 64;
+
+/// The most bytes of skipped content that are pulled at once.
+const SKIP: usize = 256;
+
+/// A cursor over the terms of a source. Once it has refused, it answers the same error to every call.
+#[derive(Drop)]
+pub struct Decoder<R: ByteSource> {
+    source: R,
+    top: Frame,
+    error: Option<Error>,
+    start: usize,
+    end: usize,
+    depth: usize,
+    descriptors: Vec<Descriptor>,
+    looked: [u8; LOOK],
+    frames: [Frame; ROW],
+}
+
+impl<R: ByteSource> Model for Decoder<R> {
+    ghost use Rattle.std.specs.Prelude.{◌≤◌, ◌++◌, ◌-◌, vec_len};
+    ghost use Rattle.amqp_wire.specs.Sources.{known};
+    ghost use Rattle.amqp_decoder.specs.State.{State, stack, open_of, pending};
+
+    ghost Value = { State };
+
+    ghost view = { λ d. record { rest = pending d.start d.end d.looked ++ known (R.remaining d.source); ahead = d.end - d.start; source = R.name d.source; top = open_of d.descriptors.items d.top; saved = stack d.descriptors.items d.depth d.frames; nesting = 128; error = d.error; failed = R.broken d.source } };
+
+    ghost invariant = { λ d. (d.start ≤ d.end) × (d.end ≤ 64) × (d.depth ≤ 129) × (vec_len d.descriptors ≤ 128) };
+}
+
+impl<R: ByteSource> Decoder<R> {
+    /// A decoder of the source's bytes, at the top level.
+    pub fn new(source: R, alloc: Global) -> Self
+        ensures { result ≡ record { rest = known (R.remaining source); ahead = 0; source = R.name source; top = top_level; saved = []; nesting = 128; error = None; failed = R.broken source } }
+    {
+        Decoder {
+            source,
+            top: Frame::TOP,
+            error: None,
+            start: 0,
+            end: 0,
+            depth: 0,
+            descriptors: Vec::new(alloc),
+            looked: [0; LOOK],
+            frames: [Frame::TOP; ROW],
+        }
+    }
+
+    /// The source; bytes that were looked at are out of it.
+    pub fn into_source(self) -> R
+        ensures named { R.name result ≡ self.source }
+        ensures rest { known (R.remaining result) ≡ drop self.ahead self.rest }
+    {
+        let Decoder { source, .. } = self;
+        source
+    }
+
+    /// Keeps the error, which every later call answers.
+    pub fn refuse(&mut self, error: Error) -> Error
+        ensures answer { result ≡ error }
+        ensures kept { self.new ≡ record self.old { error = Some error } }
+    {
+        self.error = Some(error);
+        error
+    }
+
+    /// The error of a decoder that has refused.
+    #[inline]
+    pub fn check(&self) -> Result<(), Error>
+        ensures { MatchResult result (λ _. self.now.error ≡ None) (λ e. self.now.error ≡ Some e) }
+    {
+        match self.error {
+            Some(error) => Err(error),
+            None => Ok(()),
+        }
+    }
+
+    // Moves bytes that were looked at to the front of the buffer, and answers how many.
+    fn take_looked(&mut self, buffer: &mut [u8]) -> usize
+        ensures count { result ≡ min (length buffer.old) self.old.ahead }
+        ensures bytes { self.old.rest ≡ take result buffer.new ++ drop result self.old.rest }
+        ensures new { self.new ≡ moved result self.old }
+    {
+        let count = buffer.len().min(self.end - self.start);
+        let end = self.start + count;
+        buffer[..count].copy_from_slice(&self.looked[self.start..end]);
+        self.start = end;
+        count
+    }
+
+    // Fills the buffer from the source, as far as that goes.
+    #[inline]
+    fn fill(&mut self, buffer: &mut [u8]) -> Result<usize, Error>
+        ensures fits { IfOk result (λ n. n ≤ length buffer.old) }
+        ensures bytes { Tells R.remaining → self.old.ahead ≡ 0 → IfOk result (λ n. self.old.rest ≡ take n buffer.new ++ drop n self.old.rest) }
+        ensures all { Tells R.remaining → self.old.ahead ≡ 0 → IfOk result (λ n. n < length buffer.old → length self.old.rest ≡ n) }
+        ensures new { Tells R.remaining → self.old.ahead ≡ 0 → IfOk result (λ n. self.new ≡ moved n self.old) }
+        ensures err { IfErr result (λ e. (self.new.error ≡ Some e) × Excused e self.new) }
+    {
+        match fill(&mut self.source, buffer) {
+            Ok(count) => Ok(count),
+            Err(kind) => Err(self.refuse(Error::Read(kind))),
+        }
+    }
+
+    // Fills the whole buffer with the next bytes.
+    #[inline]
+    pub(crate) fn pull_all(&mut self, buffer: &mut [u8]) -> Result<(), Error>
+        ensures ok { Tells R.remaining → IfOk result (λ _. Pulled self.old buffer.new self.new) }
+        ensures err { Tells R.remaining → IfErr result (λ e. Missed (length buffer.old) self.old e self.new) }
+    {
+        let mut done = 0;
+        if self.start < self.end {
+            done = self.take_looked(buffer);
+        }
+        if done < buffer.len() && self.fill(&mut buffer[done..])? < buffer.len() - done {
+            return Err(self.refuse(Error::Cut));
+        }
+        Ok(())
+    }
+
+    // The bytes of the outermost container that are left.
+    fn announced(&self) -> u64
+        ensures { result ≡ announced self.now }
+    {
+        let mut sum = u64::from(self.top.left.unwrap_or(0));
+        for frame in &self.frames[..self.depth] {
+            sum += u64::from(frame.left.unwrap_or(0));
+        }
+        sum
+    }
+
+    // Takes and drops so many bytes.
+    fn skip(&mut self, count: u64) -> Result<(), Error>
+        ensures ok { Tells R.remaining → IfOk result (λ _. count ≤ length self.old.rest) }
+        ensures new { Tells R.remaining → IfOk result (λ _. self.new ≡ moved count self.old) }
+        ensures err { Tells R.remaining → IfErr result (λ e. Missed count self.old e self.new) }
+    {
+        let mut buffer = [0; SKIP];
+        let mut left = count;
+        while left > 0 {
+            let n = left.min(SKIP as u64);
+            self.pull_all(&mut buffer[..n as usize])?;
+            left -= n;
+        }
+        Ok(())
+    }
+
+    // How many bytes are left in the open container.
+    #[inline]
+    pub(crate) fn left(&self) -> Option<u32>
+        ensures { result ≡ self.now.top.left }
+    {
+        self.top.left
+    }
+
+    // So many bytes are left in the open container.
+    #[inline]
+    fn set_left(&mut self, left: Option<u32>)
+        ensures { self.new ≡ record self.old { top = record self.old.top { left = left } } }
+    {
+        self.top.left = left;
+    }
+
+    // A size is wrong: all that the outermost size announces has to be there, else the input is cut. Outside
+    // of a container it is the value's own size, of which `own` bytes are left.
+    #[cold]
+    pub(crate) fn refuse_size(&mut self, own: u32) -> Error
+        ensures { Tells R.remaining → SizeRefused own self.old result self.new }
+    {
+        let count = match self.left() {
+            Some(_) => self.announced(),
+            None => u64::from(own),
+        };
+        match self.skip(count) {
+            Ok(()) => self.refuse(Error::Size),
+            Err(error) => error,
+        }
+    }
+
+    // A code that is none of the kind that is read.
+    #[cold]
+    pub(crate) fn refuse_code(&mut self, code: u8) -> Error
+        ensures answer { result ≡ refusal_of code }
+        ensures kept { self.new ≡ record self.old { error = Some result } }
+    {
+        self.refuse(format_code::refusal(code))
+    }
+
+    // So many bytes of the open container are taken.
+    #[inline]
+    pub(crate) fn lower(&mut self, count: u32) -> Result<(), Error>
+        ensures room { IfOk result (λ _. Has self.old.top.left count) }
+        ensures new { IfOk result (λ _. self.new ≡ record self.old { top = record self.old.top { left = lower self.old.top.left count } }) }
+        ensures err { Tells R.remaining → IfErr result (λ e. Short count self.old e self.new) }
+    {
+        let Some(left) = self.left() else {
+            return Ok(());
+        };
+        if count > left {
+            return Err(self.refuse_size(count));
+        }
+        self.set_left(Some(left - count));
+        Ok(())
+    }
+
+    // The next bytes of a value.
+    #[inline]
+    pub(crate) fn take<const N: usize>(&mut self) -> Result<[u8; N], Error>
+        requires { N < 256 }
+        ensures ok { Tells R.remaining → IfOk result (λ bytes. Took self.old bytes self.new) }
+        ensures err { Tells R.remaining → IfErr result (λ e. Short N self.old e self.new) }
+    {
+        let mut bytes = [0; N];
+        self.lower(N as u32)?;
+        self.pull_all(&mut bytes)?;
+        Ok(bytes)
+    }
+
+    // The next byte of a value.
+    #[inline]
+    pub(crate) fn byte(&mut self) -> Result<u8, Error>
+        ensures ok { Tells R.remaining → IfOk result (λ b. Took self.old (b ∷ []) self.new) }
+        ensures err { Tells R.remaining → IfErr result (λ e. Short 1 self.old e self.new) }
+    {
+        let byte = self.take::<1>()?;
+        Ok(byte[0])
+    }
+
+    // A number of one byte, or of four.
+    #[inline]
+    pub(crate) fn number(&mut self, wide: bool) -> Result<u32, Error>
+        ensures ok { Tells R.remaining → IfOk result (λ n. Took self.old (bytes_high_first (cond wide 4 1) n) self.new) }
+        ensures err { Tells R.remaining → IfErr result (λ e. Short (cond wide 4 1) self.old e self.new) }
+        ensures fits { IfOk result (λ n. n < 256 ^ cond wide 4 1) }
+    {
+        if wide {
+            Ok(u32::from_be_bytes(self.take()?))
+        } else {
+            Ok(u32::from(self.byte()?))
+        }
+    }
+
+    // No item is left in the open container.
+    #[inline]
+    pub(crate) fn is_done(&self) -> bool
+        ensures { IsTrue result ↔ (self.now.top.items ≡ Some 0) }
+    {
+        self.top.is_done()
+    }
+
+    // A value is left.
+    #[inline]
+    pub(crate) fn check_item(&mut self) -> Result<(), Error>
+        ensures { Reads IsLeft (λ st e. (st.top.items ≡ Some 0) × (e ≡ Error.Missing)) self.old result self.new }
+    {
+        self.check()?;
+        if self.is_done() {
+            return Err(self.refuse(Error::Missing));
+        }
+        Ok(())
+    }
+
+    // The first code of the constructor that the items share.
+    #[inline]
+    fn shared_code(&self) -> Option<u8>
+        ensures { MatchOption result (self.now.top.shared ≡ None) (λ c. IsFirstShared self.now.top.shared c) }
+    {
+        let Frame {
+            code,
+            first,
+            last,
+            ..
+        } = self.top;
+        if code == 0 {
+            None
+        } else if first < last && usize::from(first) < self.descriptors.len() {
+            Some(format_code::DESCRIBED)
+        } else {
+            Some(code)
+        }
+    }
+
+    // An item of the open container is taken.
+    #[inline]
+    fn take_item(&mut self)
+        ensures { self.new ≡ record self.old { top = record self.old.top { items = lower self.old.top.items 1 } } }
+    {
+        self.top.items = self.top.items.saturating_sub(1);
+    }
+
+    // The next value's first code, which is taken.
+    #[inline]
+    pub(crate) fn begin(&mut self) -> Result<u8, Error>
+        ensures { Tells R.remaining → Reads Begun BeginFault self.old result self.new }
+    {
+        self.check_item()?;
+        if let Some(code) = self.shared_code() {
+            self.take_item();
+            return Ok(code);
+        }
+        let code = self.byte()?;
+        self.take_item();
+        Ok(code)
+    }
+
+    // Moves the bytes that are looked at to the front of their buffer.
+    fn settle(&mut self) {
+        self.looked.copy_within(self.start..self.end, 0);
+        self.end -= self.start;
+        self.start = 0;
+    }
+
+    // Looks at the next so many bytes, or at all where there are fewer, and answers how many are looked at.
+    pub(crate) fn look(&mut self, count: usize) -> Result<usize, Error>
+        requires { count ≤ 64 }
+        ensures { IfOk result (λ n. n ≤ 64) }
+    {
+        if self.start > 0 {
+            self.settle();
+        }
+        if self.end >= count {
+            return Ok(self.end);
+        }
+        match fill(&mut self.source, &mut self.looked[self.end..count]) {
+            Ok(n) => {
+                self.end += n;
+                Ok(self.end)
+            }
+            Err(kind) => Err(self.refuse(Error::Read(kind))),
+        }
+    }
+
+    // The byte that is looked at, so many behind the next one.
+    pub(crate) fn looked_byte(&self, index: usize) -> u8 {
+        if index < self.end - self.start {
+            self.looked[self.start + index]
+        } else {
+            0
+        }
+    }
+
+    // The bytes that are looked at.
+    pub(crate) fn looked(&self) -> &[u8] {
+        &self.looked[self.start..self.end]
+    }
+
+    /// The first code of the next value's constructor, 0 for a described value; `Missing` where no value is left.
+    /// Nothing is taken.
+    #[inline]
+    pub fn peek_code(&mut self) -> Result<u8, Error> {
+        self.check_item()?;
+        if let Some(code) = self.shared_code() {
+            return Ok(code);
+        }
+        if self.top.left == Some(0) {
+            return Err(self.refuse_size(1));
+        }
+        if self.start == self.end && self.look(1)? == 0 {
+            return Err(self.refuse(Error::Cut));
+        }
+        Ok(self.looked_byte(0))
+    }
+
+    // The items of the open container share a constructor.
+    #[inline]
+    pub(crate) fn is_shared(&self) -> bool {
+        self.top.code != 0
+    }
+
+    // The open container.
+    #[inline]
+    pub(crate) fn top(&self) -> Frame {
+        self.top
+    }
+
+    /// How many containers and described values are open.
+    #[inline]
+    pub(crate) fn depth(&self) -> usize
+        ensures { result ≡ length self.now.saved }
+    {
+        self.depth
+    }
+
+    // Opens a container; `left` is what the open one keeps of its bytes.
+    #[inline]
+    pub(crate) fn enter(&mut self, left: Option<u32>, inner: Frame) -> Result<(), Error> {
+        if self.depth >= ROW {
+            return Err(self.refuse(Error::Depth));
+        }
+        self.top.left = left;
+        self.frames[self.depth] = self.top;
+        self.depth += 1;
+        self.top = inner;
+        Ok(())
+    }
+
+    // Opens a container that counts in nesting.
+    #[inline]
+    pub(crate) fn enter_counted(&mut self, left: Option<u32>, inner: Frame) -> Result<(), Error> {
+        if self.depth >= NESTING {
+            return Err(self.refuse(Error::Depth));
+        }
+        self.enter(left, inner)
+    }
+
+    // The open container is of this kind.
+    #[inline]
+    fn is_in(&self, place: Place) -> bool
+        ensures { IsTrue result ↔ (self.now.top.place ≡ place) }
+    {
+        self.top.place == place
+    }
+
+    // The open container is of this kind, and no item of it is left.
+    #[inline]
+    pub(crate) fn check_end(&mut self, place: Place) -> Result<(), Error>
+        ensures { Reads (λ st _ st'. AtEnd place st st') (EndFault place) self.old result self.new }
+    {
+        self.check()?;
+        if !self.is_in(place) {
+            return Err(self.refuse(Error::InvalidValue));
+        }
+        if self.depth() == 0 {
+            return Err(self.refuse(Error::InvalidValue));
+        }
+        if !self.is_done() {
+            return Err(self.refuse(Error::Surplus));
+        }
+        Ok(())
+    }
+
+    // No byte of the open container is left.
+    #[inline]
+    pub(crate) fn check_bytes(&mut self) -> Result<(), Error>
+        ensures ok { IfOk result (λ _. (self.old.top.left ≡ Some 0) × (self.new ≡ self.old)) }
+        ensures err { Tells R.remaining → IfErr result (λ e. (self.old.top.left ≡ Some 0 → ⊥) × SizeRefused 0 self.old e self.new) }
+    {
+        if self.left() != Some(0) {
+            return Err(self.refuse_size(0));
+        }
+        Ok(())
+    }
+
+    // Leaves the open container.
+    #[inline]
+    pub(crate) fn leave(&mut self)
+        ensures { (outer : Open) (others : List Open) → self.old.saved ≡ outer ∷ others → self.new ≡ record self.old { top = outer; saved = others } }
+    {
+        if self.depth > 0 {
+            self.depth -= 1;
+            self.top = self.frames[self.depth];
+        }
+    }
+
+    // Leaves a described value, whose bytes are those of what it stands in.
+    #[inline]
+    pub(crate) fn leave_described(&mut self)
+        ensures { (outer : Open) (others : List Open) → self.old.saved ≡ outer ∷ others → self.new ≡ record self.old { top = record outer { left = self.old.top.left }; saved = others } }
+    {
+        let left = self.left();
+        self.leave();
+        self.set_left(left);
+    }
+
+    // The place in the row of descriptors of the next item's descriptor.
+    pub(crate) fn shared_descriptor(&self) -> Option<&Descriptor> {
+        if self.top.code != 0 && self.top.first < self.top.last {
+            self.descriptors.get(usize::from(self.top.first))
+        } else {
+            None
+        }
+    }
+
+    // How many descriptors the shared constructors of the open arrays have.
+    pub(crate) fn descriptor_count(&self) -> usize
+        ensures { result ≤ 128 }
+    {
+        self.descriptors.len()
+    }
+
+    // Keeps a descriptor of an array's shared constructor.
+    pub(crate) fn keep_descriptor(&mut self, descriptor: Descriptor) -> Result<(), Error> {
+        if self.descriptors.len() >= NESTING {
+            drop(descriptor);
+            return Err(self.refuse(Error::Depth));
+        }
+        match self.descriptors.push(descriptor) {
+            Ok(()) => Ok(()),
+            Err(_) => Err(self.refuse(Error::Memory)),
+        }
+    }
+
+    // Drops the descriptors of the arrays that are open, but for the first ones.
+    pub(crate) fn drop_descriptors(&mut self, count: usize) {
+        self.descriptors.truncate(count);
+    }
+
+    // The items of the open array share this code behind the descriptors.
+    pub(crate) fn share(&mut self, code: u8, first: u8, last: u8) {
+        self.top.code = code;
+        self.top.first = first;
+        self.top.last = last;
+    }
+}
+
+impl Decoder<&[u8]> {
+    /// How many bytes of the input are left.
+    pub fn unread(&self) -> usize {
+        let source: &[u8] = self.source;
+        source.len().saturating_add(self.end - self.start)
+    }
+}

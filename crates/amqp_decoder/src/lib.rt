@@ -1,0 +1,16 @@
+//! The decoder: a cursor over the bytes of terms, with a typed call for each kind of value.
+#![tactic(auto)]
+
+mod arrays;
+mod containers;
+mod decoder;
+mod described;
+mod frame;
+mod names;
+mod primitives;
+mod sections;
+mod terms;
+mod texts;
+
+pub use amqp_lengths::term_len;
+pub use decoder::Decoder;

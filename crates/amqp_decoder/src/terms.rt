@@ -1,0 +1,128 @@
+//! The bytes of whole terms (Part 1, section 1.2).
+use crate::Decoder;
+use amqp_lengths::{NESTING, len_of_term};
+use amqp_wire::format_code::unknown;
+use amqp_wire::{ByteSource, Error, format_code};
+use std::alloc::Global;
+
+/// What a code announces: data of a known width, or a size of one byte or of four and as many bytes.
+enum Data {
+    Fixed(u32),
+    Sized { wide: bool, is_list: bool },
+}
+
+fn data_of(code: u8) -> Data {
+    match code {
+        0x00..=0x4f => Data::Fixed(0),
+        0x50..=0x5f => Data::Fixed(1),
+        0x60..=0x6f => Data::Fixed(2),
+        0x70..=0x7f => Data::Fixed(4),
+        0x80..=0x8f => Data::Fixed(8),
+        0x90..=0x9f => Data::Fixed(16),
+        _ => Data::Sized {
+            wide: code / 16 % 2 == 1,
+            is_list: code == format_code::LIST_8 || code == format_code::LIST_32,
+        },
+    }
+}
+
+impl<R: ByteSource> Decoder<R> {
+    // Adds a byte that was taken.
+    fn keep_byte(&mut self, byte: u8, bytes: &mut Vec<u8>) -> Result<(), Error> {
+        match bytes.push(byte) {
+            Ok(()) => Ok(()),
+            Err(_) => Err(self.refuse(Error::Memory)),
+        }
+    }
+
+    // Adds the next so many bytes of the open container.
+    fn keep_next(&mut self, len: u32, bytes: &mut Vec<u8>) -> Result<(), Error> {
+        self.lower(len)?;
+        self.keep(len, bytes)
+    }
+
+    // Adds a number of one byte or of four, and answers it.
+    fn keep_number(&mut self, wide: bool, bytes: &mut Vec<u8>) -> Result<u32, Error> {
+        let number = self.number(wide)?;
+        let digits = number.to_be_bytes();
+        let digits = if wide { &digits[..] } else { &digits[3..] };
+        match bytes.extend_from_slice(digits) {
+            Ok(()) => Ok(number),
+            Err(_) => Err(self.refuse(Error::Memory)),
+        }
+    }
+
+    // Adds the data under a known code.
+    fn keep_data(&mut self, code: u8, bytes: &mut Vec<u8>) -> Result<(), Error> {
+        match data_of(code) {
+            Data::Fixed(width) => self.keep_next(width, bytes),
+            Data::Sized { wide, is_list } => {
+                let size = self.keep_number(wide, bytes)?;
+                if size == 0 && is_list {
+                    self.keep_number(wide, bytes)?;
+                    return Ok(());
+                }
+                self.keep_next(size, bytes)
+            }
+        }
+    }
+
+    // Adds a descriptor.
+    fn keep_descriptor_bytes(&mut self, bytes: &mut Vec<u8>) -> Result<(), Error> {
+        let code = self.byte()?;
+        match code {
+            format_code::ULONG_0
+            | format_code::SMALL_ULONG
+            | format_code::ULONG
+            | format_code::SYMBOL_8
+            | format_code::SYMBOL_32 => {
+                self.keep_byte(code, bytes)?;
+                self.keep_data(code, bytes)
+            }
+            _ => Err(self.refuse(unknown(code).unwrap_or(Error::BadDescriptor))),
+        }
+    }
+
+    // Adds the constructor that begins with this code, and answers its last code.
+    fn keep_constructor(&mut self, first: u8, bytes: &mut Vec<u8>) -> Result<u8, Error> {
+        let mut code = first;
+        let mut count = 0;
+        self.keep_byte(code, bytes)?;
+        while code == format_code::DESCRIBED {
+            if count == NESTING {
+                return Err(self.refuse(Error::Depth));
+            }
+            self.keep_descriptor_bytes(bytes)?;
+            code = self.byte()?;
+            self.keep_byte(code, bytes)?;
+            count += 1;
+        }
+        match unknown(code) {
+            None => Ok(code),
+            Some(error) => Err(self.refuse(error)),
+        }
+    }
+
+    // Adds the bytes of the next term.
+    fn keep_term(&mut self, bytes: &mut Vec<u8>) -> Result<(), Error> {
+        let first = self.begin()?;
+        let code = self.keep_constructor(first, bytes)?;
+        self.keep_data(code, bytes)?;
+        match len_of_term(bytes.as_slice(), NESTING.saturating_sub(self.depth())) {
+            Ok(_) => Ok(()),
+            Err(error) => Err(self.refuse(error)),
+        }
+    }
+
+    /// The bytes of the next term, of any kind; `LazyInArray` where it is the item of an array, whose constructor is
+    /// none of its own.
+    pub fn read_term(&mut self, alloc: Global) -> Result<Vec<u8>, Error> {
+        self.check_item()?;
+        if self.is_shared() {
+            return Err(self.refuse(Error::LazyInArray));
+        }
+        let mut bytes = Vec::new(alloc);
+        self.keep_term(&mut bytes)?;
+        Ok(bytes)
+    }
+}

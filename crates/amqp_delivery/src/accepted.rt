@@ -1,0 +1,80 @@
+//! The accepted outcome (Part 3, section 3.4.2).
+use amqp_codec::kernel::{Composite, Table, read_composite, write_composite};
+use amqp_codec::{
+    ByteSource, Canonical, Decoder, Deserialize, DeserializeTerm, Encoder, Error, Serialize,
+    SerializeTerm,
+};
+use std::alloc::Global;
+
+/// The delivery was processed successfully.
+#[derive(Clone, Debug, PartialEq, Eq, Drop)]
+pub struct Accepted {}
+
+impl Accepted {
+    /// The code and the name of its descriptor.
+    pub const DESCRIPTOR: (u64, &'static str) = (0x24, "amqp:accepted:list");
+}
+
+impl Composite for Accepted {
+    ghost use Rattle.amqp_delivery.specs.Tables.{accepted};
+
+    ghost table = { accepted };
+
+    fn table() -> Table {
+        Table {
+            descriptor: Accepted::DESCRIPTOR,
+            fields: &[],
+        }
+    }
+
+    fn blank(_alloc: Global) -> Accepted {
+        Accepted {}
+    }
+
+    fn fill_field<R: ByteSource>(
+        &mut self,
+        _index: usize,
+        decoder: &mut Decoder<R>,
+        _alloc: Global,
+    ) -> Result<(), Error> {
+        Err(decoder.refuse(Error::Surplus))
+    }
+
+    fn is_null_field(&self, _index: usize) -> bool {
+        true
+    }
+
+    fn write_field(&self, _index: usize, encoder: &mut Encoder) -> Result<(), Error> {
+        encoder.check()
+    }
+}
+
+impl Serialize for Accepted {
+    fn serialize(&self, encoder: &mut Encoder) -> Result<(), Error> {
+        write_composite(self, encoder)
+    }
+}
+
+impl Deserialize for Accepted {
+    fn deserialize<R: ByteSource>(
+        decoder: &mut Decoder<R>,
+        alloc: Global,
+    ) -> Result<Accepted, Error> {
+        read_composite(decoder, alloc)
+    }
+}
+
+impl Canonical for Accepted {}
+
+impl SerializeTerm for Accepted {
+    fn is_null(&self) -> bool {
+        false
+    }
+}
+
+impl DeserializeTerm for Accepted {
+    ghost use Rattle.amqp_codec.specs.Composite.{composite};
+    ghost use Rattle.amqp_delivery.specs.Tables.{accepted};
+
+    ghost term = { composite accepted };
+}

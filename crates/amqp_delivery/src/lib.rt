@@ -1,0 +1,10 @@
+//! Delivery states (Part 3, section 3.4).
+#![tactic(auto)]
+
+mod accepted;
+mod received;
+mod state;
+
+pub use accepted::Accepted;
+pub use received::Received;
+pub use state::DeliveryState;

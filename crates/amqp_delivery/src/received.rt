@@ -1,0 +1,97 @@
+//! The received state (Part 3, section 3.4.1).
+use amqp_codec::kernel::{Composite, FieldKind, Table, read_composite, write_composite};
+use amqp_codec::{
+    ByteSource, Canonical, Decoder, Deserialize, DeserializeTerm, Encoder, Error, Serialize,
+    SerializeTerm,
+};
+use std::alloc::Global;
+
+/// How far a message was received: the section and the byte in it with which the sender may go on.
+#[derive(Clone, Debug, PartialEq, Eq, PartialOrd, Ord, Drop)]
+pub struct Received {
+    /// The number of the section, from 0 on.
+    pub section_number: u32,
+    /// The first byte of the section's payload that was not received.
+    pub section_offset: u64,
+}
+
+impl Received {
+    /// The code and the name of its descriptor.
+    pub const DESCRIPTOR: (u64, &'static str) = (0x23, "amqp:received:list");
+}
+
+impl Composite for Received {
+    ghost use Rattle.amqp_delivery.specs.Tables.{received};
+
+    ghost table = { received };
+
+    fn table() -> Table {
+        Table {
+            descriptor: Received::DESCRIPTOR,
+            fields: &[FieldKind::Mandatory, FieldKind::Mandatory],
+        }
+    }
+
+    fn blank(_alloc: Global) -> Received {
+        Received {
+            section_number: 0,
+            section_offset: 0,
+        }
+    }
+
+    fn fill_field<R: ByteSource>(
+        &mut self,
+        index: usize,
+        decoder: &mut Decoder<R>,
+        alloc: Global,
+    ) -> Result<(), Error> {
+        match index {
+            0 => self.section_number = u32::deserialize(decoder, alloc)?,
+            1 => self.section_offset = u64::deserialize(decoder, alloc)?,
+            _ => return Err(decoder.refuse(Error::Surplus)),
+        }
+        Ok(())
+    }
+
+    fn is_null_field(&self, index: usize) -> bool {
+        index > 1
+    }
+
+    fn write_field(&self, index: usize, encoder: &mut Encoder) -> Result<(), Error> {
+        match index {
+            0 => self.section_number.serialize(encoder),
+            1 => self.section_offset.serialize(encoder),
+            _ => encoder.check(),
+        }
+    }
+}
+
+impl Serialize for Received {
+    fn serialize(&self, encoder: &mut Encoder) -> Result<(), Error> {
+        write_composite(self, encoder)
+    }
+}
+
+impl Deserialize for Received {
+    fn deserialize<R: ByteSource>(
+        decoder: &mut Decoder<R>,
+        alloc: Global,
+    ) -> Result<Received, Error> {
+        read_composite(decoder, alloc)
+    }
+}
+
+impl Canonical for Received {}
+
+impl SerializeTerm for Received {
+    fn is_null(&self) -> bool {
+        false
+    }
+}
+
+impl DeserializeTerm for Received {
+    ghost use Rattle.amqp_codec.specs.Composite.{composite};
+    ghost use Rattle.amqp_delivery.specs.Tables.{received};
+
+    ghost term = { composite received };
+}

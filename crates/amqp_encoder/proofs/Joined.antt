@@ -1,0 +1,80 @@
+-- Calls in a row.
+use Rattle.std.proofs.Common.{append_assoc, ℕ, ◌≡◌, List, [], ◌∷◌, ◌++◌, refl, sym, ◌∙◌, ap, inl, inr, ◌⊎◌}
+use Rattle.std.specs.Prelude.{Result, Ok, Err}
+use Rattle.std.proofs.lemmas.List.{append-nil}
+use Rattle.amqp_wire.specs.declared.error.Error.{Error}
+use Rattle.amqp_wire.specs.declared.error.Error.TheVariants.{Memory}
+use Rattle.amqp_encoder.specs.Tokens.{Token}
+use Rattle.amqp_encoder.specs.Writes.{step, steps, outcome, Runs, Writes, Follows, bytes_of, RanOut, IsGoing}
+use Rattle.amqp_encoder.specs.declared.encoder.Encoder.{Encoder}
+use Rattle.amqp_encoder.specs.declared.encoder.Pass.{Pass}
+use Rattle.amqp_encoder.specs.declared.encoder.Pass.TheVariants.{Measuring, Filling, Stopped}
+
+pub steps-append : (s : Pass) (xs ys : List Token) → steps s (xs ++ ys) ≡ steps (steps s xs) ys
+unfolding steps
+steps-append s [] ys = refl
+steps-append s (x ∷ xs) ys = steps-append (step s x) xs ys
+
+-- an encoder that has refused stays so
+pub steps_stopped : (e : Error) (ts : List Token) → steps (Stopped e) ts ≡ Stopped e
+unfolding steps
+steps_stopped e [] = refl
+steps_stopped e (t ∷ ts) = steps_stopped e ts
+
+-- it went on before
+going_before : (s : Pass) (ts : List Token) → IsGoing (steps s ts) → IsGoing s
+going_before (Measuring m) ts h = refl
+going_before (Filling f) ts h = refl
+going_before (Stopped e) ts h = ap outcome (sym (steps_stopped e ts)) ∙ h
+
+stopped_of : (s : Pass) (e : Error) → Err e ≡ outcome s → s ≡ Stopped e
+stopped_of (Measuring m) e h = cc
+stopped_of (Filling f) e h = cc
+stopped_of (Stopped d) e h = let i : d ≡ e = cc in ap Stopped i
+
+nothing_runs : (s : Pass) → (r : Result (Unit {0}) Error) → r ≡ outcome s → Runs s [] r s
+unfolding steps
+nothing_runs s r h = record { answer = h; state = inl refl }
+
+joined_state : (a b c : Pass) (xs ys : List Token) → IsGoing b → (b ≡ steps a xs) ⊎ RanOut a b → (c ≡ steps b ys) ⊎ RanOut b c → (c ≡ steps a (xs ++ ys)) ⊎ RanOut a c
+joined_state a b c xs ys g (inl h) (inl k) = inl (rw (steps-append, ← h) k)
+joined_state a b c xs ys g (inl h) (inr k) = inr (going_before a xs (rw h at k.0), k.1)
+joined_state a b c xs ys g (inr h) k = let e : Err Memory ≡ Ok tt = sym (ap outcome h.1) ∙ g in cc
+
+join_runs : (a : Pass) (xs : List Token) (r : Result (Unit {0}) Error) (b : Pass) (ys : List Token) (s : Result (Unit {0}) Error) (c : Pass) →
+    r ≡ Ok tt → Runs a xs r b → Runs b ys s c → Runs a (xs ++ ys) s c
+join_runs a xs r b ys s c ok h k = record {
+  answer = k.answer;
+  state = joined_state a b c xs ys (sym h.answer ∙ ok) h.state k.state;
+}
+
+cut_state : (a b : Pass) (e : Error) (xs ys : List Token) → b ≡ Stopped e → (b ≡ steps a xs) ⊎ RanOut a b → (b ≡ steps a (xs ++ ys)) ⊎ RanOut a b
+cut_state a b e xs ys i (inl h) = inl (rw (steps-append, ← h, i) (sym (steps_stopped e ys)))
+cut_state a b e xs ys i (inr h) = inr h
+
+cut_runs : (a : Pass) (xs : List Token) (r : Result (Unit {0}) Error) (b : Pass) (ys : List Token) (s : Result (Unit {0}) Error) (e y : Error) →
+    r ≡ Err e → s ≡ Err y → y ≡ e → Runs a xs r b → Runs a (xs ++ ys) s b
+cut_runs a xs r b ys s e y i j k h = record {
+  answer = j ∙ (ap Err k ∙ (sym i ∙ h.answer));
+  state = cut_state a b e xs ys (stopped_of b e (sym i ∙ h.answer)) h.state;
+}
+
+stays : (a : List ℕ) → Follows a a
+stays a = ([], sym (append-nil a))
+
+on : (a b c : List ℕ) → Follows a b → Follows b c → Follows a c
+on a b c h k = (h.0 ++ k.0, rw (k.1, h.1) (append_assoc a h.0 k.0))
+
+-- no call
+pub nothing : (s : Encoder) → (r : Result (Unit {0}) Error) → r ≡ outcome s.pass → Writes s [] r s
+nothing s r h = record { runs = nothing_runs s.pass r h; kept = stays (bytes_of s) }
+
+-- one after another
+pub join : (a : Encoder) (xs : List Token) (r : Result (Unit {0}) Error) (b : Encoder) (ys : List Token) (s : Result (Unit {0}) Error) (c : Encoder) →
+    r ≡ Ok tt → Writes a xs r b → Writes b ys s c → Writes a (xs ++ ys) s c
+join a xs r b ys s c ok h k = record { runs = join_runs a.pass xs r b.pass ys s c.pass ok h.runs k.runs; kept = on (bytes_of a) (bytes_of b) (bytes_of c) h.kept k.kept }
+
+-- after a refusal nothing more is written
+pub cut : (a : Encoder) (xs : List Token) (r : Result (Unit {0}) Error) (b : Encoder) (ys : List Token) (s : Result (Unit {0}) Error) (e y : Error) →
+    r ≡ Err e → s ≡ Err y → y ≡ e → Writes a xs r b → Writes a (xs ++ ys) s b
+cut a xs r b ys s e y i j k h = record { runs = cut_runs a.pass xs r b.pass ys s e y i j k h.runs; kept = h.kept }

@@ -1,0 +1,13 @@
+pub mod Constructors
+pub mod Described
+pub mod Filled
+pub mod Joined
+pub mod Lifted
+pub mod Measured
+pub mod MeasuredTerms
+pub mod Measuring
+pub mod Openings
+pub mod Rows
+pub mod Settled
+pub mod Spelled
+pub mod Texts

@@ -1,0 +1,156 @@
+-- Whole passes over terms in a row.
+use Rattle.std.proofs.Common.{◌≡◌, ℕ, ◌+◌, ◌<◌, ◌≤◌, List, [], ◌∷◌, ◌++◌, length, map, refl, ◌∙◌, ap, inl, inr, ◌⊎◌, arith, zero-add}
+use Rattle.std.specs.Prelude.{Result, MatchResult, Some}
+use Rattle.std.proofs.lemmas.List.{append-nil}
+use Rattle.amqp_model.specs.Term.{list, map as map_, array, Term, Terms, leaf, holder, described, kept, barred, none, more, count}
+use Rattle.amqp_model.specs.Items.{terms_of}
+use Rattle.amqp_model.specs.Text.{Plain, all_sizes}
+use Rattle.amqp_model.specs.Refusals.{Somewhere, SomewhereIn, IsRefused}
+use Rattle.amqp_wire.specs.Refusals.{error_of}
+use Rattle.amqp_wire.specs.declared.error.Error.{Error}
+use Rattle.amqp_wire.specs.declared.error.Error.TheVariants.{Memory}
+use Rattle.amqp_encoder.specs.declared.size.Size.{Size}
+use Rattle.amqp_encoder.specs.declared.encoder.Encoder.{Encoder}
+use Rattle.amqp_encoder.specs.declared.encoder.Pass.{Pass}
+use Rattle.amqp_encoder.specs.declared.encoder.Pass.TheVariants.{Measuring, Filling, Stopped}
+use Rattle.amqp_encoder.specs.Tokens.{tokens, all_tokens}
+use Rattle.amqp_encoder.specs.State.{at_start, to_fill}
+use Rattle.amqp_encoder.specs.Sound.{levels, all_levels}
+use Rattle.amqp_encoder.specs.Reasons.{HasReason, nest_by, nests_by, array_nest_by, RowRefused}
+use Rattle.amqp_encoder.specs.Writes.{steps, outcome, Runs, Writes, bytes_in, Found}
+use Rattle.amqp_encoder.specs.Passes.{row_text, row_tokens, AreValues, AreRefused, as_size, IsMeasured, BeginsMeasuring, BeginsFilling}
+use Rattle.amqp_encoder.proofs.Filled.{fill_terms, filled, last}
+use Rattle.amqp_encoder.proofs.Measured.{AcceptedAll, RefusedAll, some_inside, some_past, all_too_long, all_too_many, some_null, some_kept, some_other}
+use Rattle.amqp_encoder.proofs.Lifted.{alls_at, any_past}
+use Rattle.amqp_encoder.proofs.Measuring.{fr, mk, Goes, goes, stops, codes_after, all_descs}
+use Rattle.amqp_encoder.proofs.MeasuredTerms.{measure_terms}
+
+row_calls : (deep : List ℕ → ℕ) (ts : List Term) → row_tokens deep ts ≡ all_tokens deep (terms_of ts)
+row_calls deep [] = refl
+row_calls deep (t ∷ ts) = ap (λ r. tokens deep t ++ r) (row_calls deep ts)
+
+steps_none : (s : Pass) → steps s [] ≡ s
+unfolding steps
+steps_none s = refl
+
+-- what holds somewhere for one reason holds for another
+mutual
+  somewhere_as : (P Q : Term → Type 0) → ((t : Term) → P t → Q t) → (t : Term) → Somewhere P t → Somewhere Q t
+  somewhere_as P Q h (leaf p) s = h (leaf p) s
+  somewhere_as P Q h (holder k ts) (inl s) = inl (h (holder k ts) s)
+  somewhere_as P Q h (holder k ts) (inr s) = inr (somewhere_in_as P Q h ts s)
+  somewhere_as P Q h (described d t) (inl s) = inl (h (described d t) s)
+  somewhere_as P Q h (described d t) (inr s) = inr (somewhere_as P Q h t s)
+  somewhere_as P Q h (kept b) s = h (kept b) s
+  somewhere_as P Q h (barred r) s = h (barred r) s
+
+  somewhere_in_as : (P Q : Term → Type 0) → ((t : Term) → P t → Q t) → (ts : Terms) → SomewhereIn P ts → SomewhereIn Q ts
+  somewhere_in_as P Q h none s = s
+  somewhere_in_as P Q h (more t ts) (inl s) = inl (somewhere_as P Q h t s)
+  somewhere_in_as P Q h (more t ts) (inr s) = inr (somewhere_in_as P Q h ts s)
+
+module _ (deep : List ℕ → ℕ) where
+  mutual
+    levels_le : (t : Term) → levels t ≤ nest_by deep t + 1
+    levels_le (leaf p) = omega arith
+    levels_le (holder list ts) = omega (arith, all_levels_le ts)
+    levels_le (holder map_ ts) = omega (arith, all_levels_le ts)
+    levels_le (holder array ts) = omega (arith, array_levels_le ts)
+    levels_le (described d t) = omega (arith, levels_le t)
+    levels_le (kept b) = omega arith
+    levels_le (barred r) = omega arith
+
+    all_levels_le : (ts : Terms) → all_levels ts ≤ nests_by deep ts + 1
+    all_levels_le none = omega arith
+    all_levels_le (more t ts) = omega (arith, levels_le t, all_levels_le ts)
+
+    array_levels_le : (ts : Terms) → all_levels ts ≤ array_nest_by deep ts
+    array_levels_le none = omega arith
+    array_levels_le (more (leaf p) ts) = omega (arith, array_levels_le ts)
+    array_levels_le (more (kept b) ts) = omega (arith, array_levels_le ts)
+    array_levels_le (more (barred r) ts) = omega (arith, array_levels_le ts)
+    array_levels_le (more (holder k us) ts) = omega (arith, levels_le (holder k us), all_levels_le ts)
+    array_levels_le (more (described d t) ts) = omega (arith, levels_le (described d t), all_levels_le ts)
+
+  row_refused : (ts : Terms) (e : Error) → RefusedAll deep ts Plain 0 0 0 0 0 [] e → RowRefused deep ts e
+  row_refused ts e (some_inside r) = inl r
+  row_refused ts e (some_past i h) = inr (inl (i, let f : 128 < 0 + nests_by deep ts = any_past deep Plain 0 ts h in omega arith))
+  row_refused ts e (all_too_long i h) = inr (inr (i, inl (omega arith)))
+  row_refused ts e (all_too_many i h) = inr (inr (i, inr (omega arith)))
+  row_refused ts e (some_null i a t j h) = absurd a
+  row_refused ts e (some_kept i a t b j h) = absurd a
+  row_refused ts e (some_other i h) = absurd h
+
+  row_nested : (ts : Terms) → AcceptedAll deep ts Plain 0 0 0 0 0 [] → nests_by deep ts ≤ 128
+  row_nested ts a = let f : 0 + nests_by deep ts ≤ 128 = alls_at deep 0 ts (omega arith) a.all_within in omega arith
+
+  row_unrefused : (ts : Terms) → AcceptedAll deep ts Plain 0 0 0 0 0 [] → (e : Error) → RowRefused deep ts e → ⊥
+  row_unrefused ts a e (inl r) = a.all_clean e r
+  row_unrefused ts a e (inr (inl r)) = omega (arith, row_nested ts a, r.1)
+  row_unrefused ts a e (inr (inr (i, inl r))) = let f = a.all_long in omega arith
+  row_unrefused ts a e (inr (inr (i, inr r))) = let f = a.all_many in omega arith
+
+  measured_is : (ts : List Term) → AcceptedAll deep (terms_of ts) Plain 0 0 0 0 0 [] → IsMeasured deep ts (length (row_text ts)) (map as_size (all_sizes (terms_of ts)))
+  measured_is ts a = record {
+    exact = refl;
+    kept = refl;
+    fits = a.all_sound;
+    levels = omega (arith, row_nested (terms_of ts) a, all_levels_le (terms_of ts));
+    nested = row_nested (terms_of ts) a;
+    free = (λ r s. a.all_clean (error_of r) (somewhere_in_as (IsRefused r) (HasReason (error_of r)) (λ t h. inl (r, refl, h)) (terms_of ts) s));
+    unrefused = row_unrefused (terms_of ts) a;
+  }
+
+  abbrev row_end : List Term → Pass
+  row_end ts = Measuring (mk (fr (Some list) (last (terms_of ts) Plain) (codes_after deep (terms_of ts) Plain 0) (0 + length (row_text ts)) (0 + count (terms_of ts)) 0 0) [] (map as_size (all_sizes (terms_of ts))) (all_descs deep (terms_of ts) Plain []))
+
+  measured_row : (ts : List Term) → AreValues ts → Goes (Measuring at_start) (row_tokens deep ts) (row_end ts) [] (AcceptedAll deep (terms_of ts) Plain 0 0 0 0 0 []) (RefusedAll deep (terms_of ts) Plain 0 0 0 0 0 [])
+  measured_row ts v = rw (row_calls deep ts, ← append-nil (all_tokens deep (terms_of ts))) (measure_terms deep (terms_of ts) list Plain 0 0 0 0 0 [] [] [] [] tt (omega arith) (omega arith) v)
+
+  -- what a measuring pass found: the terms' length and sizes, or why they are refused
+  abbrev pub HasFound : List Term → Pass → Result (Unit {0}) Error → Type 0
+  HasFound ts new r = MatchResult r (λ _. Found new (length (row_text ts)) (map as_size (all_sizes (terms_of ts))) × IsMeasured deep ts (length (row_text ts)) (map as_size (all_sizes (terms_of ts)))) (λ e. (e ≡ Memory) ⊎ AreRefused deep ts e)
+
+  found_goes : (ts : List Term) (new : Pass) (r : Result (Unit {0}) Error) → AcceptedAll deep (terms_of ts) Plain 0 0 0 0 0 [] → new ≡ row_end ts → r ≡ outcome new → HasFound ts new r
+  found_goes ts new r a i h = rw (h, i) ((refl, zero-add (length (row_text ts)), refl), measured_is ts a)
+
+  found_stops : (ts : List Term) (new : Pass) (r : Result (Unit {0}) Error) (e : Error) → AreRefused deep ts e → new ≡ Stopped e → r ≡ outcome new → HasFound ts new r
+  found_stops ts new r e w i h = rw (h, i) (inr w)
+
+  found_out : (ts : List Term) (new : Pass) (r : Result (Unit {0}) Error) → new ≡ Stopped Memory → r ≡ outcome new → HasFound ts new r
+  found_out ts new r i h = rw (h, i) (inl refl)
+
+  found : (ts : List Term) (r : Result (Unit {0}) Error) (new : Pass) → AreValues ts → Runs (Measuring at_start) (row_tokens deep ts) r new → HasFound ts new r
+  found ts r new v w =
+      elim w.state [
+        | inr o ↦ found_out ts new r o.1 w.answer
+        | inl q ↦ elim (measured_row ts v) [
+          | goes a e ↦ found_goes ts new r a (q ∙ (e ∙ steps_none (row_end ts))) w.answer
+          | stops x y e ↦ found_stops ts new r x (row_refused (terms_of ts) x y) (q ∙ e) w.answer
+        ]
+      ]
+
+  pub measured : (ts : List Term) (old : Encoder) (r : Result (Unit {0}) Error) (new : Encoder) → AreValues ts → BeginsMeasuring old → Writes old (row_tokens deep ts) r new → HasFound ts new.pass r
+  measured ts old r new v i w = found ts r new.pass v (rw i at w.runs)
+
+  filled_row : (ts : List Term) (out : List ℕ) (limit len : ℕ) (sizes : List Size) → IsMeasured deep ts len sizes → length out + len ≤ limit →
+      steps (Filling (to_fill sizes out limit)) (row_tokens deep ts) ≡ Filling (filled (last (terms_of ts) Plain) [] [] (out ++ row_text ts) limit)
+  filled_row ts out limit len sizes m h =
+      rw (m.kept, row_calls deep ts, ← append-nil (all_tokens deep (terms_of ts)), ← append-nil (map as_size (all_sizes (terms_of ts))))
+      (fill_terms deep (terms_of ts) Plain [] [] out limit [] m.fits (omega (arith, m.levels)) (omega (arith, m.exact)) ∙ steps_none _)
+
+  -- what a filling pass wrote
+  abbrev pub HasFilled : List ℕ → Pass → List ℕ → Result (Unit {0}) Error → Type 0
+  HasFilled bytes new saved r = MatchResult r (λ _. bytes_in new saved ≡ bytes) (λ e. e ≡ Memory)
+
+  wrote : (ts : List Term) (out saved : List ℕ) (limit len : ℕ) (sizes : List Size) (r : Result (Unit {0}) Error) (new : Pass) → IsMeasured deep ts len sizes → length out + len ≤ limit →
+      Runs (Filling (to_fill sizes out limit)) (row_tokens deep ts) r new → HasFilled (out ++ row_text ts) new saved r
+  wrote ts out saved limit len sizes r new m h w =
+      elim w.state [
+        | inr o ↦ rw (w.answer, o.1) refl
+        | inl q ↦ rw (w.answer, q, filled_row ts out limit len sizes m h) refl
+      ]
+
+  pub written : (ts : List Term) (len : ℕ) (sizes : List Size) (out : List ℕ) (limit : ℕ) (old : Encoder) (r : Result (Unit {0}) Error) (new : Encoder) → IsMeasured deep ts len sizes → length out + len ≤ limit → BeginsFilling old sizes out limit →
+      Writes old (row_tokens deep ts) r new → HasFilled (out ++ row_text ts) new.pass new.kept.items r
+  written ts len sizes out limit old r new m h i w = wrote ts out new.kept.items limit len sizes r new.pass m h (rw i at w.runs)

@@ -1,0 +1,6 @@
+use Rattle.std.proofs.Common.{refl, rules}
+use Rattle.amqp_model.specs.Term.{ushort}
+use Rattle.amqp_encoder.proofs.encoder.Encoder.write_ushort.Goals as goal
+
+pub returns : goal.returns
+returns c = c.put.ensures (ushort c.args.value) (record { plain = search rules; in_array = search rules; measured = (λ m. refl); filled = (λ f. refl) })

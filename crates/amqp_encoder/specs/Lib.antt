@@ -1,0 +1,12 @@
+pub mod Values
+pub mod Opening
+pub mod Tokens
+pub mod State
+pub mod Measuring
+pub mod Filling
+pub mod Gives
+pub mod Spelled
+pub mod Writes
+pub mod Passes
+pub mod Sound
+pub mod Reasons

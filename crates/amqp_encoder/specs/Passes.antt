@@ -1,0 +1,60 @@
+-- Whole passes over some terms in a row, as the sections of a message are.
+use Rattle.std.specs.Prelude.{◌≡◌, ◌≤◌, ℕ, List, length, map, flat_map, Result}
+use Rattle.amqp_model.specs.Term.{Refusal, Term}
+use Rattle.amqp_model.specs.Items.{terms_of}
+use Rattle.amqp_model.specs.Text.{Plain, texts, all_sizes}
+use Rattle.amqp_model.specs.Ranges.{EverywhereIn, IsValue}
+use Rattle.amqp_model.specs.Refusals.{SomewhereIn, IsRefused}
+use Rattle.amqp_wire.specs.declared.error.Error.{Error}
+use Rattle.amqp_encoder.specs.declared.size.Size.{Size}
+use Rattle.amqp_encoder.specs.declared.encoder.Encoder.{Encoder}
+use Rattle.amqp_encoder.specs.declared.encoder.Pass.TheVariants.{Measuring, Filling}
+use Rattle.amqp_encoder.specs.Tokens.{Token, tokens}
+use Rattle.amqp_encoder.specs.State.{at_start, to_fill}
+use Rattle.amqp_encoder.specs.Sound.{AllSound, all_levels}
+use Rattle.amqp_encoder.specs.Reasons.{nests_by, RowRefused}
+use Rattle.amqp_encoder.specs.Writes.{outcome, Found}
+
+-- the bytes of the terms, one after another
+abbrev pub row_text : List Term → List ℕ
+row_text ts = texts (terms_of ts) Plain
+
+-- the calls that write them, where kept bytes nest so deep
+abbrev pub row_tokens : (List ℕ → ℕ) → List Term → List Token
+row_tokens deep ts = flat_map (tokens deep) ts
+
+-- the numbers and texts in them are of their types, and their maps have a value for each key
+abbrev pub AreValues : List Term → Type 0
+AreValues ts = EverywhereIn IsValue (terms_of ts)
+
+-- why they aren't written
+abbrev pub AreRefused : (List ℕ → ℕ) → List Term → Error → Type 0
+AreRefused deep ts e = RowRefused deep (terms_of ts) e
+
+-- the bytes and the number of the items of a container
+abbrev pub as_size : ℕ × ℕ → Size
+as_size s = record { content = s.0; count = s.1 }
+
+-- The terms take so many bytes, and these sizes, and nothing refuses them.
+pub record IsMeasured (deep : List ℕ → ℕ) (ts : List Term) (len : ℕ) (sizes : List Size) : Type 0 where
+  pub exact : len ≡ length (row_text ts)
+  pub kept : sizes ≡ map as_size (all_sizes (terms_of ts))
+  pub fits : AllSound (terms_of ts) Plain
+  pub levels : all_levels (terms_of ts) ≤ 129
+  pub nested : nests_by deep (terms_of ts) ≤ 128
+  pub free : (r : Refusal) → SomewhereIn (IsRefused r) (terms_of ts) → ⊥
+  pub unrefused : (e : Error) → AreRefused deep ts e → ⊥
+
+-- what an encoder answers from here on
+abbrev pub answer_of : Encoder → Result (Unit {0}) Error
+answer_of e = outcome e.pass
+
+abbrev pub BeginsMeasuring : Encoder → Type 0
+BeginsMeasuring e = e.pass ≡ Measuring at_start
+
+abbrev pub BeginsFilling : Encoder → List Size → List ℕ → ℕ → Type 0
+BeginsFilling e sizes out limit = e.pass ≡ Filling (to_fill sizes out limit)
+
+-- nothing is open, and this is the length, and these are the sizes
+abbrev pub Finds : Encoder → ℕ → List Size → Type 0
+Finds e len sizes = Found e.pass len sizes

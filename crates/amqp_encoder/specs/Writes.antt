@@ -1,0 +1,88 @@
+-- What the calls of an encoder do, in a row.
+use Rattle.std.specs.Prelude.{◌≡◌, ℕ, List, [], ◌∷◌, ◌++◌, Result, Ok, Err, ◌⊎◌}
+use Rattle.amqp_wire.specs.declared.error.Error.{Error}
+use Rattle.amqp_wire.specs.declared.error.Error.TheVariants.{Memory}
+use Rattle.amqp_encoder.specs.Tokens.{Token, put, keep, begin, end, begin_described, end_described, refuse}
+use Rattle.amqp_encoder.specs.State.{Measured, Filled}
+use Rattle.amqp_encoder.specs.Measuring.{measure_put, measure_keep, measure_begin, measure_end, measure_begin_described, measure_end_described}
+use Rattle.std.specs.Prelude.{length}
+use Rattle.amqp_encoder.specs.Filling.{fill_put, fill_keep, fill_begin, fill_begin_described, fill_end}
+use Rattle.amqp_encoder.specs.declared.size.Size.{Size}
+use Rattle.amqp_encoder.specs.declared.encoder.Encoder.{Encoder}
+use Rattle.amqp_encoder.specs.declared.encoder.Pass.{Pass}
+use Rattle.amqp_encoder.specs.declared.encoder.Pass.TheVariants.{Measuring, Filling, Stopped}
+
+abbrev pub measure : Token → Measured → Result Measured Error
+measure (put p) m = measure_put p m
+measure (keep b nesting) m = measure_keep (length b) nesting m
+measure (begin k) m = measure_begin k m
+measure (end k) m = measure_end k m
+measure (begin_described d) m = measure_begin_described d m
+measure end_described m = measure_end_described m
+measure (refuse e) m = Err e
+
+abbrev pub fill : Token → Filled → Result Filled Error
+fill (put p) f = fill_put p f
+fill (keep b nesting) f = fill_keep b f
+fill (begin k) f = fill_begin k f
+fill (end k) f = fill_end f
+fill (begin_described d) f = fill_begin_described d f
+fill end_described f = fill_end f
+fill (refuse e) f = Err e
+
+abbrev pub measuring : Result Measured Error → Pass
+measuring (Ok m) = Measuring m
+measuring (Err e) = Stopped e
+
+abbrev pub filling : Result Filled Error → Pass
+filling (Ok f) = Filling f
+filling (Err e) = Stopped e
+
+abbrev pub step : Pass → Token → Pass
+step (Measuring m) t = measuring (measure t m)
+step (Filling f) t = filling (fill t f)
+step (Stopped e) t = Stopped e
+
+unfoldable pub steps : Pass → List Token → Pass
+steps s [] = s
+steps s (t ∷ ts) = steps (step s t) ts
+
+-- what a call answers that leaves this state
+abbrev pub outcome : Pass → Result (Unit {0}) Error
+outcome (Measuring m) = Ok tt
+outcome (Filling f) = Ok tt
+outcome (Stopped e) = Err e
+
+abbrev pub IsGoing : Pass → Type 0
+IsGoing s = outcome s ≡ Ok tt
+
+abbrev pub RanOut : Pass → Pass → Type 0
+RanOut old new = IsGoing old × (new ≡ Stopped Memory)
+
+-- The calls were made in this order, up to a refusal; or memory ran out.
+pub record Runs (old : Pass) (ts : List Token) (result : Result (Unit {0}) Error) (new : Pass) : Type 0 where
+  pub answer : result ≡ outcome new
+  pub state : (new ≡ steps old ts) ⊎ RanOut old new
+
+-- the buffer's bytes: those that a filling pass has written behind what was there
+abbrev pub bytes_in : Pass → List ℕ → List ℕ
+bytes_in (Measuring m) kept = kept
+bytes_in (Filling f) kept = f.out
+bytes_in (Stopped e) kept = kept
+
+abbrev pub bytes_of : Encoder → List ℕ
+bytes_of e = bytes_in e.pass e.kept.items
+
+abbrev pub Follows : List ℕ → List ℕ → Type 0
+Follows a b = (rest : List ℕ) × (b ≡ a ++ rest)
+
+-- the same of an encoder, whose buffer keeps what it has
+pub record Writes (old : Encoder) (ts : List Token) (result : Result (Unit {0}) Error) (new : Encoder) : Type 0 where
+  pub runs : Runs old.pass ts result new.pass
+  pub kept : Follows (bytes_of old) (bytes_of new)
+
+-- What a measuring pass found: nothing is open, and this is the length, and these are the sizes.
+abbrev pub Found : Pass → ℕ → List Size → Type 0
+Found (Measuring m) len sizes = (m.outer ≡ []) × (m.frame.content ≡ len) × (m.sizes ≡ sizes)
+Found (Filling f) len sizes = ⊥
+Found (Stopped e) len sizes = ⊥

@@ -1,0 +1,341 @@
+//! What values are written to.
+ghost use Rattle.std.specs.Prelude.{◌≡◌, ◌≤◌, ◌⊎◌, ℕ, [], ◌∷◌, length, Some, None, OnOk, IfErr, MatchResult, List, Err};
+ghost use Rattle.std.specs.Vec.{vec_capacity};
+ghost use Rattle.amqp_model.specs.Term.{Primitive, null, symbol, list, map, array};
+ghost use Rattle.amqp_wire.specs.declared.error.Error.TheVariants.{InvalidValue};
+ghost use Rattle.amqp_encoder.specs.declared.encoder.Pass.TheVariants.{Stopped};
+ghost use Rattle.amqp_encoder.specs.Values.{container_of, descriptor_of};
+ghost use Rattle.amqp_encoder.specs.Spelled.{IsFixed, IsVariable};
+ghost use Rattle.amqp_encoder.specs.Tokens.{put, keep, begin, end, begin_described, end_described, refuse};
+ghost use Rattle.amqp_encoder.specs.Writes.{Writes, bytes_of};
+ghost use Rattle.amqp_encoder.specs.Passes.{BeginsMeasuring, BeginsFilling, Finds, answer_of};
+
+use crate::Size;
+use crate::fill::Fill;
+use crate::kinds::{Container, Shortest};
+use crate::measure::Measure;
+use amqp_wire::{Descriptor, Error, format_code};
+use std::alloc::Global;
+
+/// What a measuring pass found: the length of the text, and the sizes of its containers in the order in
+/// which they begin.
+#[derive(Drop)]
+pub struct Measurement {
+    pub len: usize,
+    pub sizes: Vec<Size>,
+}
+
+#[derive(Drop)]
+pub(crate) enum Pass {
+    Measuring(Measure),
+    Filling(Fill),
+    Stopped(Error),
+}
+
+/// Measures what is written to it, or fills a buffer with its canonical text (Part 1, section 1.6). Once it
+/// has refused, it answers the same error to every call.
+#[derive(Drop)]
+pub struct Encoder {
+    pass: Pass,
+    // The buffer, once a filling pass has been refused.
+    kept: Vec<u8>,
+}
+
+impl Encoder {
+    /// An encoder that measures, and makes every refusal.
+    pub fn measuring(alloc: Global) -> Encoder
+        ensures { BeginsMeasuring result }
+    {
+        Encoder {
+            pass: Pass::Measuring(Measure::new(alloc)),
+            kept: Vec::new(alloc),
+        }
+    }
+
+    /// An encoder that fills the room of a buffer, up to `limit` bytes in all.
+    pub fn filling(alloc: Global, sizes: Vec<Size>, buffer: Vec<u8>, limit: usize) -> Encoder
+        requires { limit ≤ vec_capacity buffer }
+        ensures { BeginsFilling result sizes.items buffer.items limit }
+    {
+        Encoder {
+            pass: Pass::Filling(Fill::new(sizes, buffer, limit)),
+            kept: Vec::new(alloc),
+        }
+    }
+
+    /// What was measured. An error is the encoder's refusal, or `InvalidValue` where a container is still
+    /// open or the encoder doesn't measure.
+    pub fn into_measurement(self) -> Result<Measurement, Error>
+        ensures { MatchResult result (λ m. Finds self m.len m.sizes.items) (λ e. (answer_of self ≡ Err e) ⊎ ((e ≡ InvalidValue) × ((len : ℕ) (sizes : List Size) → Finds self len sizes → ⊥))) }
+    {
+        let Encoder { pass, kept: _ } = self;
+        match pass {
+            Pass::Measuring(measure) => {
+                let (len, sizes) = measure.finish()?;
+                Ok(Measurement { len, sizes })
+            }
+            Pass::Filling(_) => Err(Error::InvalidValue),
+            Pass::Stopped(error) => Err(error),
+        }
+    }
+
+    /// The buffer, also after a refusal.
+    pub fn into_buffer(self) -> Vec<u8>
+        ensures { result.items ≡ bytes_of self }
+    {
+        let Encoder { pass, kept } = self;
+        match pass {
+            Pass::Filling(fill) => fill.into_buffer(),
+            Pass::Measuring(_) | Pass::Stopped(_) => kept,
+        }
+    }
+
+    /// The error of an encoder that has refused.
+    pub fn check(&self) -> Result<(), Error>
+        ensures { result ≡ answer_of self.now }
+    {
+        match &self.pass {
+            Pass::Measuring(_) | Pass::Filling(_) => Ok(()),
+            Pass::Stopped(error) => Err(*error),
+        }
+    }
+
+    // An error is the answer from here on.
+    #[inline(always)]
+    fn settle(&mut self, outcome: Result<(), Error>) -> Result<(), Error>
+        ensures same { result ≡ outcome }
+        ensures going { OnOk outcome (self.new ≡ self.old) }
+        ensures stopped { IfErr outcome (λ e. self.new.pass ≡ Stopped e) }
+        ensures bytes { bytes_of self.new ≡ bytes_of self.old }
+    {
+        if let Err(error) = outcome {
+            self.stop(error);
+        }
+        outcome
+    }
+
+    fn stop(&mut self, error: Error)
+        ensures stopped { self.new.pass ≡ Stopped error }
+        ensures bytes { bytes_of self.new ≡ bytes_of self.old }
+    {
+        match std::mem::replace(&mut self.pass, Pass::Stopped(error)) {
+            Pass::Filling(fill) => self.kept = fill.into_buffer(),
+            Pass::Measuring(_) | Pass::Stopped(_) => {}
+        }
+    }
+
+    /// Refuses the value for a reason of its type's own, or for want of memory of its own.
+    pub fn refuse(&mut self, error: Error) -> Result<(), Error>
+        ensures { Writes self.old (refuse error ∷ []) result self.new }
+    {
+        match &self.pass {
+            Pass::Measuring(_) => self.settle(Err(error)),
+            Pass::Filling(_) => self.settle(Err(error)),
+            Pass::Stopped(error) => Err(*error),
+        }
+    }
+
+    /// A primitive of fixed width, with its code and its data as the first item of an array.
+    #[inline(always)]
+    pub(crate) fn put<const N: usize>(
+        &mut self,
+        shortest: Shortest,
+        wide: [u8; N],
+    ) -> Result<(), Error>
+        requires { 1 ≤ N }
+        ensures { (p : Primitive) → IsFixed p shortest wide.entry → Writes self.old (put p ∷ []) result self.new }
+    {
+        match &mut self.pass {
+            Pass::Measuring(measure) => {
+                let outcome = measure.put(shortest, &wide);
+                self.settle(outcome)
+            }
+            Pass::Filling(fill) => {
+                let outcome = fill.put(shortest, &wide);
+                self.settle(outcome)
+            }
+            Pass::Stopped(error) => Err(*error),
+        }
+    }
+
+    /// A binary or a string, with its codes.
+    pub(crate) fn put_bytes(&mut self, short: u8, wide: u8, bytes: &[u8]) -> Result<(), Error>
+        ensures { (p : Primitive) → IsVariable p short wide bytes.now → Writes self.old (put p ∷ []) result self.new }
+    {
+        match &mut self.pass {
+            Pass::Measuring(measure) => {
+                let outcome = measure.put_bytes(wide, bytes.len());
+                self.settle(outcome)
+            }
+            Pass::Filling(fill) => {
+                let outcome = fill.put_bytes(short, wide, bytes);
+                self.settle(outcome)
+            }
+            Pass::Stopped(error) => Err(*error),
+        }
+    }
+
+    /// A symbol (Part 1, section 1.6.21); `NonAscii` where the text isn't ASCII.
+    pub fn write_symbol(&mut self, text: &str) -> Result<(), Error>
+        ensures { Writes self.old (put (symbol text.now) ∷ []) result self.new }
+    {
+        match &mut self.pass {
+            Pass::Measuring(measure) => {
+                let outcome = measure.put_symbol(format_code::SYMBOL_32, text);
+                self.settle(outcome)
+            }
+            Pass::Filling(fill) => {
+                let outcome = fill.put_bytes(
+                    format_code::SYMBOL_8,
+                    format_code::SYMBOL_32,
+                    text.as_bytes(),
+                );
+                self.settle(outcome)
+            }
+            Pass::Stopped(error) => Err(*error),
+        }
+    }
+
+    /// Null (Part 1, section 1.6.1); `ZeroWidthItems` as the item of an array.
+    pub fn write_null(&mut self) -> Result<(), Error>
+        ensures { Writes self.old (put null ∷ []) result self.new }
+    {
+        match &mut self.pass {
+            Pass::Measuring(measure) => {
+                let outcome = measure.put_null();
+                self.settle(outcome)
+            }
+            Pass::Filling(fill) => {
+                let outcome = fill.put_null();
+                self.settle(outcome)
+            }
+            Pass::Stopped(error) => Err(*error),
+        }
+    }
+
+    /// The bytes of one term, as they are; the caller owes that they are one term, and that it nests so
+    /// deep. `LazyInArray` as the item of an array, under descriptors too.
+    pub fn write_term(&mut self, bytes: &[u8], nesting: usize) -> Result<(), Error>
+        ensures { Writes self.old (keep bytes.now nesting ∷ []) result self.new }
+    {
+        match &mut self.pass {
+            Pass::Measuring(measure) => {
+                let outcome = measure.keep(bytes.len(), nesting);
+                self.settle(outcome)
+            }
+            Pass::Filling(fill) => {
+                let outcome = fill.keep(bytes);
+                self.settle(outcome)
+            }
+            Pass::Stopped(error) => Err(*error),
+        }
+    }
+
+    fn begin(&mut self, container: Container) -> Result<(), Error>
+        ensures { Writes self.old (begin (container_of container) ∷ []) result self.new }
+    {
+        match &mut self.pass {
+            Pass::Measuring(measure) => {
+                let outcome = measure.begin(container);
+                self.settle(outcome)
+            }
+            Pass::Filling(fill) => {
+                let outcome = fill.begin(container);
+                self.settle(outcome)
+            }
+            Pass::Stopped(error) => Err(*error),
+        }
+    }
+
+    fn end(&mut self, container: Container) -> Result<(), Error>
+        ensures { Writes self.old (end (container_of container) ∷ []) result self.new }
+    {
+        match &mut self.pass {
+            Pass::Measuring(measure) => {
+                let outcome = measure.end(container);
+                self.settle(outcome)
+            }
+            Pass::Filling(fill) => {
+                let outcome = fill.end();
+                self.settle(outcome)
+            }
+            Pass::Stopped(error) => Err(*error),
+        }
+    }
+
+    /// Begins a list (Part 1, section 1.6.22); `Depth` past 128 nested values.
+    pub fn begin_list(&mut self) -> Result<(), Error>
+        ensures { Writes self.old (begin list ∷ []) result self.new }
+    {
+        self.begin(Container::List)
+    }
+
+    /// Ends the list that is open; `InvalidValue` where none is.
+    pub fn end_list(&mut self) -> Result<(), Error>
+        ensures { Writes self.old (end list ∷ []) result self.new }
+    {
+        self.end(Container::List)
+    }
+
+    /// Begins a map, whose keys and values follow in turn (Part 1, section 1.6.23).
+    pub fn begin_map(&mut self) -> Result<(), Error>
+        ensures { Writes self.old (begin map ∷ []) result self.new }
+    {
+        self.begin(Container::Map)
+    }
+
+    /// Ends the map that is open; `OddCount` where a key has no value.
+    pub fn end_map(&mut self) -> Result<(), Error>
+        ensures { Writes self.old (end map ∷ []) result self.new }
+    {
+        self.end(Container::Map)
+    }
+
+    /// Begins an array (Part 1, section 1.6.24). Its items need one constructor, else `MixedArray`.
+    pub fn begin_array(&mut self) -> Result<(), Error>
+        ensures { Writes self.old (begin array ∷ []) result self.new }
+    {
+        self.begin(Container::Array)
+    }
+
+    /// Ends the array that is open; `InvalidValue` where none is.
+    pub fn end_array(&mut self) -> Result<(), Error>
+        ensures { Writes self.old (end array ∷ []) result self.new }
+    {
+        self.end(Container::Array)
+    }
+
+    /// Begins a described value (Part 1, section 1.2), of which one value is to follow.
+    pub fn begin_described(&mut self, descriptor: &Descriptor) -> Result<(), Error>
+        ensures { Writes self.old (begin_described (descriptor_of descriptor.now) ∷ []) result self.new }
+    {
+        match &mut self.pass {
+            Pass::Measuring(measure) => {
+                let outcome = measure.begin_described(descriptor);
+                self.settle(outcome)
+            }
+            Pass::Filling(fill) => {
+                let outcome = fill.begin_described(descriptor);
+                self.settle(outcome)
+            }
+            Pass::Stopped(error) => Err(*error),
+        }
+    }
+
+    /// Ends the described value that is open; `InvalidValue` where it doesn't hold exactly one value.
+    pub fn end_described(&mut self) -> Result<(), Error>
+        ensures { Writes self.old (end_described ∷ []) result self.new }
+    {
+        match &mut self.pass {
+            Pass::Measuring(measure) => {
+                let outcome = measure.end_described();
+                self.settle(outcome)
+            }
+            Pass::Filling(fill) => {
+                let outcome = fill.end();
+                self.settle(outcome)
+            }
+            Pass::Stopped(error) => Err(*error),
+        }
+    }
+}

@@ -1,0 +1,324 @@
+//! The filling pass: it writes into a room that was measured before, and never grows.
+ghost use Rattle.std.specs.Prelude.{◌≡◌, ◌≤◌, ◌<◌, ◌++◌, [], ◌∷◌, ◌^◌, ℕ, List, length, take, drop};
+ghost use Rattle.std.specs.Vec.{vec_capacity};
+ghost use Rattle.amqp_model.specs.Term.{array};
+ghost use Rattle.amqp_model.specs.Text.{Plain, head, first_place};
+ghost use Rattle.amqp_encoder.specs.Opening.{opening};
+ghost use Rattle.amqp_encoder.specs.Values.{place_of, container_of, descriptor_of, shortest_text};
+ghost use Rattle.amqp_encoder.specs.State.{to_fill};
+ghost use Rattle.amqp_encoder.specs.Filling.{emit, fill_value, fill_null_at, fill_keep, fill_open, fill_begin, fill_begin_described, fill_end};
+ghost use Rattle.amqp_encoder.specs.Gives.{Does, fixed_text, fill_bytes};
+
+use crate::Size;
+use crate::descriptors::{head_of, text_of};
+use crate::frame::is_filled_up;
+use crate::kinds::{Container, Place, Shortest};
+use crate::size::{MAX_CONTENT, ROW};
+use amqp_wire::{Descriptor, Error, format_code};
+use std::marker::Model;
+
+#[derive(Drop)]
+pub(crate) struct Fill {
+    place: Place,
+    places: [Place; ROW],
+    depth: usize,
+    sizes: Vec<Size>,
+    next: usize,
+    limit: usize,
+    out: Vec<u8>,
+}
+
+impl Model for Fill {
+    ghost use Rattle.std.specs.Prelude.{map, reverse, take, drop, ◌≤◌};
+    ghost use Rattle.std.specs.Vec.{vec_capacity};
+    ghost use Rattle.amqp_encoder.specs.Values.{place_of};
+    ghost use Rattle.amqp_encoder.specs.State.{Filled};
+
+    ghost Value = { Filled };
+
+    ghost view = { λ f. record { place = place_of f.place; outer = map place_of (reverse (take f.depth f.places)); sizes = drop f.next f.sizes.items; out = f.out.items; limit = f.limit } };
+
+    ghost invariant = { λ f. (f.limit ≤ vec_capacity f.out) × (f.depth ≤ 129) };
+}
+
+impl Fill {
+    pub(crate) fn new(sizes: Vec<Size>, out: Vec<u8>, limit: usize) -> Fill
+        requires { limit ≤ vec_capacity out }
+        ensures { result ≡ to_fill sizes.items out.items limit }
+    {
+        Fill {
+            place: Place::Plain,
+            places: [Place::Plain; ROW],
+            depth: 0,
+            sizes,
+            next: 0,
+            limit,
+            out,
+        }
+    }
+
+    pub(crate) fn into_buffer(self) -> Vec<u8>
+        ensures { result.items ≡ self.out }
+    {
+        let Fill {
+            place: _,
+            places: _,
+            depth: _,
+            sizes: _,
+            next: _,
+            limit: _,
+            out,
+        } = self;
+        out
+    }
+
+    /// Writes these bytes and those, if there is room for both.
+    #[inline(always)]
+    fn emit(&mut self, head: &[u8], body: &[u8]) -> Result<(), Error>
+        ensures does { Does (emit (head.now ++ body.now) self.old) result self.new }
+        ensures kept { take (length self.old.out) self.new.out ≡ self.old.out }
+    {
+        if self.out.len() > self.limit {
+            return Err(Error::InvalidValue);
+        }
+        let room = self.limit - self.out.len();
+        if head.len() > room || body.len() > room - head.len() {
+            return Err(Error::InvalidValue);
+        }
+        if self.out.extend_from_slice(head).is_err() {
+            unreachable!();
+        }
+        if !body.is_empty() && self.out.extend_from_slice(body).is_err() {
+            unreachable!();
+        }
+        Ok(())
+    }
+
+    #[inline(always)]
+    fn emit_byte(&mut self, byte: u8) -> Result<(), Error>
+        ensures does { Does (emit (byte ∷ []) self.old) result self.new }
+        ensures kept { take (length self.old.out) self.new.out ≡ self.old.out }
+    {
+        if self.out.len() >= self.limit {
+            return Err(Error::InvalidValue);
+        }
+        self.out.push_reserved(byte);
+        Ok(())
+    }
+
+    #[inline(always)]
+    fn emit_two(&mut self, first: u8, second: u8) -> Result<(), Error>
+        ensures does { Does (emit (first ∷ second ∷ []) self.old) result self.new }
+        ensures kept { take (length self.old.out) self.new.out ≡ self.old.out }
+    {
+        if self.out.len() >= self.limit || self.limit - self.out.len() < 2 {
+            return Err(Error::InvalidValue);
+        }
+        self.out.push_reserved(first);
+        self.out.push_reserved(second);
+        Ok(())
+    }
+
+    /// Writes a value that is the next one in its place.
+    #[inline(always)]
+    fn emit_value(&mut self, head: &[u8], body: &[u8]) -> Result<(), Error>
+        ensures does { Does (fill_value (head.now ++ body.now) self.old) result self.new }
+        ensures kept { take (length self.old.out) self.new.out ≡ self.old.out }
+    {
+        self.emit(head, body)?;
+        self.place = self.place.next();
+        Ok(())
+    }
+
+    /// A primitive, with its code and its data as the first item of an array.
+    #[inline(always)]
+    pub(crate) fn put(&mut self, shortest: Shortest, wide: &[u8]) -> Result<(), Error>
+        requires { 1 ≤ length wide.now }
+        ensures does { Does (fill_value (fixed_text self.old.place shortest wide.now) self.old) result self.new }
+        ensures kept { take (length self.old.out) self.new.out ≡ self.old.out }
+    {
+        match self.place {
+            Place::Plain => match shortest {
+                Shortest::Code(code) => self.emit_byte(code),
+                Shortest::Byte(code, byte) => self.emit_two(code, byte),
+                Shortest::Wide => self.emit(wide, &[]),
+            },
+            Place::First => self.emit_value(wide, &[]),
+            Place::Later => self.emit_value(&wide[1..], &[]),
+        }
+    }
+
+    /// A binary, a string or a symbol, with its codes.
+    pub(crate) fn put_bytes(&mut self, short: u8, wide: u8, bytes: &[u8]) -> Result<(), Error>
+        ensures does { Does (fill_bytes short wide bytes.now self.old) result self.new }
+        ensures kept { take (length self.old.out) self.new.out ≡ self.old.out }
+    {
+        if bytes.len() > 0xffff_ffff {
+            return Err(Error::TooLarge);
+        }
+        let [a, b, c, d] = (bytes.len() as u32).to_be_bytes();
+        match self.place {
+            Place::Plain => {
+                if bytes.len() < 256 {
+                    self.emit(&[short, bytes.len() as u8], bytes)
+                } else {
+                    self.emit(&[wide, a, b, c, d], bytes)
+                }
+            }
+            Place::First => self.emit_value(&[wide, a, b, c, d], bytes),
+            Place::Later => self.emit_value(&[a, b, c, d], bytes),
+        }
+    }
+
+    pub(crate) fn put_null(&mut self) -> Result<(), Error>
+        ensures does { Does (fill_null_at self.old.place self.old) result self.new }
+        ensures kept { take (length self.old.out) self.new.out ≡ self.old.out }
+    {
+        match self.place {
+            Place::Plain => self.emit(&[format_code::NULL], &[]),
+            Place::First | Place::Later => Err(Error::ZeroWidthItems),
+        }
+    }
+
+    pub(crate) fn keep(&mut self, bytes: &[u8]) -> Result<(), Error>
+        ensures does { Does (fill_keep bytes.now self.old) result self.new }
+        ensures kept { take (length self.old.out) self.new.out ≡ self.old.out }
+    {
+        match self.place {
+            Place::Plain => self.emit(bytes, &[]),
+            Place::First | Place::Later => Err(Error::LazyInArray),
+        }
+    }
+
+    /// Writes what stands before the values of a container, the first of which stands so.
+    fn open(&mut self, head: &[u8], body: &[u8], place: Place) -> Result<(), Error>
+        ensures does { Does (fill_open (head.now ++ body.now) (place_of place) self.old) result self.new }
+        ensures kept { take (length self.old.out) self.new.out ≡ self.old.out }
+    {
+        if self.depth >= ROW {
+            return Err(Error::Depth);
+        }
+        self.places[self.depth] = self.place;
+        self.depth += 1;
+        self.emit(head, body)?;
+        self.place = place;
+        Ok(())
+    }
+
+    pub(crate) fn begin(&mut self, container: Container) -> Result<(), Error>
+        ensures does { Does (fill_begin (container_of container) self.old) result self.new }
+        ensures kept { take (length self.old.out) self.new.out ≡ self.old.out }
+    {
+        if self.next >= self.sizes.len() {
+            return Err(Error::InvalidValue);
+        }
+        let size = self.sizes[self.next];
+        if size.content > MAX_CONTENT {
+            return Err(Error::TooLarge);
+        }
+        self.next += 1;
+        self.open_container(container, size)
+    }
+
+    fn open_container(&mut self, container: Container, size: Size) -> Result<(), Error>
+        requires { size.content < 0xffff_fffc }
+        ensures does { Does (fill_open (opening self.old.place (container_of container) size.count size.content) (first_place (container_of container)) self.old) result self.new }
+        ensures kept { take (length self.old.out) self.new.out ≡ self.old.out }
+    {
+        let first = container.first_place();
+        if is_filled_up(container, size) {
+            return self.open_empty_array(first);
+        }
+        match self.place {
+            Place::Plain => self.open_plain(container, size),
+            Place::First => {
+                let [a, b, c, d] = (4 + size.content).to_be_bytes();
+                let [e, f, g, h] = size.count.to_be_bytes();
+                self.open(&[container.wide_code(), a, b, c, d, e, f, g, h], &[], first)
+            }
+            Place::Later => {
+                let [a, b, c, d] = (4 + size.content).to_be_bytes();
+                let [e, f, g, h] = size.count.to_be_bytes();
+                self.open(&[a, b, c, d, e, f, g, h], &[], first)
+            }
+        }
+    }
+
+    fn open_plain(&mut self, container: Container, size: Size) -> Result<(), Error>
+        requires fits { size.content < 0xffff_fffc }
+        ensures does { Does (fill_open (head Plain (container_of container) size.count size.content) (first_place (container_of container)) self.old) result self.new }
+        ensures kept { take (length self.old.out) self.new.out ≡ self.old.out }
+    {
+        let first = container.first_place();
+        if container.is_list() && size.count == 0 {
+            return self.open(&[format_code::LIST_0], &[], first);
+        }
+        if size.content < 255 && size.count < 256 {
+            let short = container.short_code();
+            return self.open(
+                &[short, size.content as u8 + 1, size.count as u8],
+                &[],
+                first,
+            );
+        }
+        let [a, b, c, d] = (4 + size.content).to_be_bytes();
+        let [e, f, g, h] = size.count.to_be_bytes();
+        self.open(&[container.wide_code(), a, b, c, d, e, f, g, h], &[], first)
+    }
+
+    /// An array without items holds the constructor of null.
+    fn open_empty_array(&mut self, first: Place) -> Result<(), Error>
+        ensures does { Does (fill_open (opening self.old.place array 0 0) (place_of first) self.old) result self.new }
+        ensures kept { take (length self.old.out) self.new.out ≡ self.old.out }
+    {
+        match self.place {
+            Place::Plain => self.open(&[format_code::ARRAY_8, 2, 0, format_code::NULL], &[], first),
+            Place::First => self.open(
+                &[
+                    format_code::ARRAY_32,
+                    0,
+                    0,
+                    0,
+                    5,
+                    0,
+                    0,
+                    0,
+                    0,
+                    format_code::NULL,
+                ],
+                &[],
+                first,
+            ),
+            Place::Later => self.open(&[0, 0, 0, 5, 0, 0, 0, 0, format_code::NULL], &[], first),
+        }
+    }
+
+    pub(crate) fn begin_described(&mut self, descriptor: &Descriptor) -> Result<(), Error>
+        ensures does { Does (fill_begin_described (descriptor_of descriptor.now) self.old) result self.new }
+        ensures kept { take (length self.old.out) self.new.out ≡ self.old.out }
+    {
+        match self.place {
+            Place::Plain | Place::First => {
+                let text = text_of(descriptor);
+                if text.len() > 0xffff_ffff {
+                    return Err(Error::TooLarge);
+                }
+                self.open(head_of(descriptor).as_slice(), text, self.place)
+            }
+            Place::Later => self.open(&[], &[], Place::Later),
+        }
+    }
+
+    /// Ends a container or a described value.
+    pub(crate) fn end(&mut self) -> Result<(), Error>
+        ensures does { Does (fill_end self.old) result self.new }
+        ensures kept { take (length self.old.out) self.new.out ≡ self.old.out }
+    {
+        if self.depth == 0 {
+            return Err(Error::InvalidValue);
+        }
+        self.depth -= 1;
+        self.place = self.places[self.depth].next();
+        Ok(())
+    }
+}

@@ -1,0 +1,197 @@
+//! Where a value stands, and the kinds of value that hold others (Part 1, sections 1.2 and 1.6).
+ghost use Rattle.std.specs.Prelude.{◌≡◌, ◌≤◌, ℕ, List, length, Some};
+ghost use Rattle.amqp_model.specs.Term.{list, uint, ulong, int, long};
+ghost use Rattle.amqp_model.specs.Text.{next, wide, shortest, spell, short_code, wide_code, first_place};
+ghost use Rattle.amqp_encoder.specs.Values.{place_of, container_of, kind_of, shortest_text};
+ghost use Rattle.amqp_encoder.specs.Measuring.{around, is_none, is_odd_map, holds};
+
+use amqp_wire::format_code;
+
+/// Where a value stands: by itself, or as the first item of an array, which brings the constructor of
+/// all, or as a later one, which is data alone (Part 1, section 1.2.4).
+#[derive(Clone, Copy)]
+pub(crate) enum Place {
+    Plain,
+    First,
+    Later,
+}
+
+impl Place {
+    /// Where the value after this one stands.
+    pub(crate) fn next(self) -> Place
+        ensures { place_of result ≡ next (place_of self) }
+    {
+        match self {
+            Place::Plain => Place::Plain,
+            Place::First | Place::Later => Place::Later,
+        }
+    }
+}
+
+/// Part 1, sections 1.6.22 to 1.6.24.
+#[derive(Clone, Copy)]
+pub(crate) enum Container {
+    List,
+    Map,
+    Array,
+}
+
+impl Container {
+    pub(crate) fn is_list(self) -> bool
+        ensures { result ≡ holds (Some list) (container_of self) }
+    {
+        match self {
+            Container::List => true,
+            Container::Map | Container::Array => false,
+        }
+    }
+
+    /// The code with one byte for the size.
+    pub(crate) fn short_code(self) -> u8
+        ensures { result ≡ short_code (container_of self) }
+    {
+        match self {
+            Container::List => format_code::LIST_8,
+            Container::Map => format_code::MAP_8,
+            Container::Array => format_code::ARRAY_8,
+        }
+    }
+
+    /// The code with four bytes for the size.
+    pub(crate) fn wide_code(self) -> u8
+        ensures { result ≡ wide_code (container_of self) }
+    {
+        match self {
+            Container::List => format_code::LIST_32,
+            Container::Map => format_code::MAP_32,
+            Container::Array => format_code::ARRAY_32,
+        }
+    }
+
+    /// Where its first item stands.
+    pub(crate) fn first_place(self) -> Place
+        ensures { place_of result ≡ first_place (container_of self) }
+    {
+        match self {
+            Container::List | Container::Map => Place::Plain,
+            Container::Array => Place::First,
+        }
+    }
+
+    /// A map has a value for each key (Part 1, section 1.6.23).
+    pub(crate) fn is_odd(self, count: usize) -> bool
+        ensures { result ≡ is_odd_map (container_of self) count }
+    {
+        match self {
+            Container::Map => count % 2 != 0,
+            Container::List | Container::Array => false,
+        }
+    }
+
+    /// How many containers may be open around it. An array counts in nesting once an item does, so it may
+    /// stand one deeper.
+    pub(crate) fn around(self) -> usize
+        ensures same { result ≡ around (container_of self) }
+        ensures within { result ≤ 128 }
+    {
+        match self {
+            Container::List | Container::Map => 127,
+            Container::Array => 128,
+        }
+    }
+}
+
+/// What is open.
+#[derive(Clone, Copy)]
+pub(crate) enum Kind {
+    Holder(Container),
+    Described,
+}
+
+impl Kind {
+    pub(crate) fn is_described(self) -> bool
+        ensures { result ≡ is_none (kind_of self) }
+    {
+        match self {
+            Kind::Holder(_) => false,
+            Kind::Described => true,
+        }
+    }
+
+    pub(crate) fn is_holder(self, container: Container) -> bool
+        ensures { result ≡ holds (kind_of self) (container_of container) }
+    {
+        match (self, container) {
+            (Kind::Holder(Container::List), Container::List) => true,
+            (Kind::Holder(Container::Map), Container::Map) => true,
+            (Kind::Holder(Container::Array), Container::Array) => true,
+            _ => false,
+        }
+    }
+}
+
+/// How a primitive is written where it stands by itself: a code alone, a code and a byte, or as it is
+/// written in an array.
+#[derive(Clone, Copy)]
+pub(crate) enum Shortest {
+    Code(u8),
+    Byte(u8, u8),
+    Wide,
+}
+
+impl Shortest {
+    pub(crate) fn of_uint(value: u32) -> Shortest
+        ensures { shortest_text result (spell (wide (uint value))) ≡ spell (shortest (uint value)) }
+    {
+        if value == 0 {
+            return Shortest::Code(format_code::UINT_0);
+        }
+        if value < 256 {
+            return Shortest::Byte(format_code::SMALL_UINT, value as u8);
+        }
+        Shortest::Wide
+    }
+
+    pub(crate) fn of_ulong(value: u64) -> Shortest
+        ensures { shortest_text result (spell (wide (ulong value))) ≡ spell (shortest (ulong value)) }
+    {
+        if value == 0 {
+            return Shortest::Code(format_code::ULONG_0);
+        }
+        if value < 256 {
+            return Shortest::Byte(format_code::SMALL_ULONG, value as u8);
+        }
+        Shortest::Wide
+    }
+
+    pub(crate) fn of_int(value: i32) -> Shortest
+        ensures { shortest_text result (spell (wide (int value))) ≡ spell (shortest (int value)) }
+    {
+        if -128 <= value && value < 128 {
+            let [byte] = (value as i8).to_be_bytes();
+            return Shortest::Byte(format_code::SMALL_INT, byte);
+        }
+        Shortest::Wide
+    }
+
+    pub(crate) fn of_long(value: i64) -> Shortest
+        ensures { shortest_text result (spell (wide (long value))) ≡ spell (shortest (long value)) }
+    {
+        if -128 <= value && value < 128 {
+            let [byte] = (value as i8).to_be_bytes();
+            return Shortest::Byte(format_code::SMALL_LONG, byte);
+        }
+        Shortest::Wide
+    }
+
+    /// How many bytes it takes, where it takes so many in an array.
+    pub(crate) fn len(self, wide: usize) -> usize
+        ensures { (bytes : List ℕ) → length bytes ≡ wide → length (shortest_text self bytes) ≡ result }
+    {
+        match self {
+            Shortest::Code(_) => 1,
+            Shortest::Byte(_, _) => 2,
+            Shortest::Wide => wide,
+        }
+    }
+}

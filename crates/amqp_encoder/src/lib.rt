@@ -1,0 +1,15 @@
+//! The encoder: it measures what is written to it, or fills a buffer with its canonical text.
+#![tactic(auto)]
+
+mod descriptors;
+mod encoder;
+mod fill;
+mod frame;
+mod kinds;
+pub mod laws;
+mod measure;
+mod primitives;
+mod size;
+
+pub use encoder::{Encoder, Measurement};
+pub use size::Size;

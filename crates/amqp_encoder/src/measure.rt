@@ -1,0 +1,322 @@
+//! The measuring pass: every refusal, and the size of every container.
+ghost use Rattle.std.specs.Prelude.{◌≡◌, nat_eq, ◌≤◌, ◌<◌, ◌∷◌, [], ◌+◌, ◌++◌, ◌^◌, ℕ, List, length, slice_index, set, take, drop, MatchResult, IfOk, OnErr, IfErr, Result, Ok, Err};
+ghost use Rattle.std.specs.Cmp.Lexicographic.{pointwise};
+ghost use Rattle.std.specs.Bool.{OnTrue, OnFalse};
+ghost use Rattle.amqp_wire.specs.declared.error.Error.TheVariants.{InvalidValue};
+ghost use Rattle.amqp_encoder.specs.Values.{place_of, container_of, descriptor_of};
+ghost use Rattle.amqp_encoder.specs.State.{at_start, seen};
+ghost use Rattle.amqp_encoder.specs.Opening.{opening};
+ghost use Rattle.amqp_encoder.specs.Measuring.{enter, leave, measure_value, measure_null_at, measure_keep, measure_begin, measure_end, measure_begin_described, measure_end_described, form_after};
+ghost use Rattle.amqp_encoder.specs.Gives.{Gives, Does, fixed_text, variable_length, measure_bytes, measure_symbol, Closes};
+
+use crate::Size;
+use crate::descriptors::{check_symbol, head_of, len_of, text_of};
+use crate::frame::{Frame, opening_len};
+use crate::kinds::{Container, Place, Shortest};
+use crate::size::{NESTING, ROW};
+use amqp_wire::{Descriptor, Error};
+use std::alloc::Global;
+use std::marker::Model;
+
+#[derive(Drop)]
+pub(crate) struct Measure {
+    top: Frame,
+    frames: [Frame; ROW],
+    depth: usize,
+    sizes: Vec<Size>,
+    /// The descriptors of the items of the arrays that are open, in canonical form, outermost array first.
+    descriptors: Vec<u8>,
+}
+
+impl Model for Measure {
+    ghost use Rattle.std.specs.Prelude.{◌≡◌, map, reverse, take, length, ◌≤◌};
+    ghost use Rattle.amqp_encoder.specs.State.{Measured, seen};
+
+    ghost Value = { Measured };
+
+    ghost view = { λ m. record { frame = seen m.top; outer = map seen (reverse (take m.depth m.frames)); sizes = m.sizes.items; descriptors = m.descriptors.items } };
+
+    ghost invariant = { λ m. (m.depth ≤ 129) × (length m.frames ≡ 129) };
+}
+
+impl Measure {
+    pub(crate) fn new(alloc: Global) -> Measure
+        ensures { result ≡ at_start }
+    {
+        let top = Frame::outermost();
+        Measure {
+            top,
+            frames: [top; ROW],
+            depth: 0,
+            sizes: Vec::new(alloc),
+            descriptors: Vec::new(alloc),
+        }
+    }
+
+    /// The length of all that was written, and the sizes of its containers in the order in which they
+    /// begin; refused where one is still open.
+    pub(crate) fn finish(self) -> Result<(usize, Vec<Size>), Error>
+        ensures { MatchResult result (λ r. (self.outer ≡ []) × (r.0 ≡ self.frame.content) × (r.1.items ≡ self.sizes)) (λ e. (e ≡ InvalidValue) × (1 ≤ length self.outer)) }
+    {
+        if self.is_open() {
+            return Err(Error::InvalidValue);
+        }
+        let Measure {
+            top,
+            frames: _,
+            depth: _,
+            sizes,
+            descriptors: _,
+        } = self;
+        Ok((top.content, sizes))
+    }
+
+    fn is_open(&self) -> bool
+        ensures open { OnTrue result (1 ≤ length self.now.outer) }
+        ensures closed { OnFalse result (self.now.outer ≡ []) }
+    {
+        self.depth != 0
+    }
+
+    /// A value whose constructor ends in this code begins. The items of an array share one constructor.
+    fn enter(&mut self, code: u8) -> Result<(), Error>
+        ensures does { Does (enter code self.old) result self.new }
+        ensures within { self.new.outer ≡ self.old.outer }
+    {
+        if self.top.is_full() {
+            return Err(Error::InvalidValue);
+        }
+        match self.top.place {
+            Place::Plain => {}
+            Place::First => self.top.code = code,
+            Place::Later => {
+                if self.top.code != code || self.top.form != self.descriptors.len() {
+                    return Err(Error::MixedArray);
+                }
+            }
+        }
+        Ok(())
+    }
+
+    /// A value of so many bytes ends.
+    fn leave(&mut self, len: usize) -> Result<(), Error>
+        ensures { Does (leave len self.old) result self.new }
+    {
+        let Some(content) = self.top.content.checked_add(len) else {
+            return Err(Error::TooLarge);
+        };
+        let Some(count) = self.top.count.checked_add(1) else {
+            return Err(Error::TooLarge);
+        };
+        self.top.content = content;
+        self.top.count = count;
+        self.top.place = self.top.place.next();
+        Ok(())
+    }
+
+    /// A primitive, with its code and its data as the first item of an array.
+    #[inline(always)]
+    pub(crate) fn put(&mut self, shortest: Shortest, wide: &[u8]) -> Result<(), Error>
+        requires { 1 ≤ length wide.now }
+        ensures { Does (measure_value (slice_index wide.now 0) (length (fixed_text self.old.frame.place shortest wide.now)) self.old) result self.new }
+    {
+        let len = match self.top.place {
+            Place::Plain => shortest.len(wide.len()),
+            Place::First => wide.len(),
+            Place::Later => wide.len() - 1,
+        };
+        self.enter(wide[0])?;
+        self.leave(len)
+    }
+
+    /// A binary or a string, with the code that it has in an array.
+    pub(crate) fn put_bytes(&mut self, code: u8, len: usize) -> Result<(), Error>
+        ensures { Does (measure_bytes code len self.old) result self.new }
+    {
+        if len > 0xffff_ffff {
+            return Err(Error::TooLarge);
+        }
+        self.put_variable(code, len)
+    }
+
+    fn put_variable(&mut self, code: u8, len: usize) -> Result<(), Error>
+        requires { len < 2 ^ 32 }
+        ensures { Does (measure_value code (variable_length self.old.frame.place len) self.old) result self.new }
+    {
+        let head = match self.top.place {
+            Place::Plain if len < 256 => 2,
+            Place::Plain | Place::First => 5,
+            Place::Later => 4,
+        };
+        self.enter(code)?;
+        self.leave(head + len)
+    }
+
+    pub(crate) fn put_symbol(&mut self, code: u8, text: &str) -> Result<(), Error>
+        ensures { Does (measure_symbol code text.now self.old) result self.new }
+    {
+        check_symbol(text)?;
+        self.put_variable(code, text.len())
+    }
+
+    /// Null has no data, so it is no item of an array (Part 1, section 1.2.4).
+    pub(crate) fn put_null(&mut self) -> Result<(), Error>
+        ensures { Does (measure_null_at self.old.frame.place self.old) result self.new }
+    {
+        match self.top.place {
+            Place::Plain => {
+                self.enter(0x40)?;
+                self.leave(1)
+            }
+            Place::First | Place::Later => Err(Error::ZeroWidthItems),
+        }
+    }
+
+    /// The bytes of a term, which nests so deep. They bring a constructor of their own.
+    pub(crate) fn keep(&mut self, len: usize, nesting: usize) -> Result<(), Error>
+        ensures { Does (measure_keep len nesting self.old) result self.new }
+    {
+        match self.top.place {
+            Place::Plain => {
+                if nesting > NESTING || self.depth > NESTING - nesting {
+                    return Err(Error::Depth);
+                }
+                self.enter(0)?;
+                self.leave(len)
+            }
+            Place::First | Place::Later => Err(Error::LazyInArray),
+        }
+    }
+
+    fn open(&mut self, frame: Frame)
+        requires { length self.old.outer < 129 }
+        ensures { self.new ≡ record { frame = seen frame; outer = self.old.frame ∷ self.old.outer; sizes = self.old.sizes; descriptors = self.old.descriptors } }
+    {
+        self.frames[self.depth] = self.top;
+        self.depth += 1;
+        self.top = frame;
+    }
+
+    /// Leaves the open container for the one around it.
+    fn close(&mut self) -> Result<Frame, Error>
+        ensures { Closes self.old self.old.outer result self.new }
+    {
+        if self.depth == 0 {
+            return Err(Error::InvalidValue);
+        }
+        let inner = self.top;
+        self.depth -= 1;
+        self.top = self.frames[self.depth];
+        Ok(inner)
+    }
+
+    pub(crate) fn begin(&mut self, container: Container) -> Result<(), Error>
+        ensures { Gives (measure_begin (container_of container) self.old) result self.new }
+    {
+        if self.depth > container.around() {
+            return Err(Error::Depth);
+        }
+        self.enter(container.wide_code())?;
+        let index = self.sizes.len();
+        self.sizes.push(Size {
+            content: 0,
+            count: 0,
+        })?;
+        let form = self.descriptors.len();
+        self.open(Frame::of_holder(container, index, form));
+        Ok(())
+    }
+
+    pub(crate) fn end(&mut self, container: Container) -> Result<(), Error>
+        ensures { Does (measure_end (container_of container) self.old) result self.new }
+    {
+        let inner = self.close()?;
+        if !inner.kind.is_holder(container) || inner.index >= self.sizes.len() {
+            return Err(Error::InvalidValue);
+        }
+        if container.is_odd(inner.count) {
+            return Err(Error::OddCount);
+        }
+        let size = inner.size()?;
+        self.leave_container(container, inner, size)
+    }
+
+    /// Keeps the size of a container that was open, which is the next value.
+    fn leave_container(
+        &mut self,
+        container: Container,
+        inner: Frame,
+        size: Size,
+    ) -> Result<(), Error>
+        requires known { inner.index < length self.old.sizes }
+        requires fits { inner.content < 2 ^ 32 }
+        ensures { Does (leave (length (opening self.old.frame.place (container_of container) size.count size.content) + inner.content) (record { frame = self.old.frame; outer = self.old.outer; sizes = set self.old.sizes inner.index size; descriptors = take inner.form self.old.descriptors })) result self.new }
+    {
+        self.sizes[inner.index] = size;
+        self.descriptors.truncate(inner.form);
+        self.leave(opening_len(self.top.place, container, size) + inner.content)
+    }
+
+    pub(crate) fn begin_described(&mut self, descriptor: &Descriptor) -> Result<(), Error>
+        ensures { Gives (measure_begin_described (descriptor_of descriptor.now) self.old) result self.new }
+    {
+        if self.depth >= NESTING {
+            return Err(Error::Depth);
+        }
+        if self.top.is_full() {
+            return Err(Error::InvalidValue);
+        }
+        let len = len_of(descriptor)?;
+        match self.top.place {
+            Place::Plain => self.open(self.top.of_described(len, 0)),
+            Place::First => {
+                self.descriptors
+                    .extend_from_slice(head_of(descriptor).as_slice())?;
+                self.descriptors.extend_from_slice(text_of(descriptor))?;
+                let form = self.descriptors.len();
+                self.open(self.top.of_described(len, form));
+            }
+            Place::Later => {
+                let form = self.form_after(head_of(descriptor).as_slice(), text_of(descriptor))?;
+                self.open(self.top.of_described(0, form));
+            }
+        }
+        Ok(())
+    }
+
+    /// Where the constructor goes on behind these bytes, which it must have.
+    #[tactic(auto, using(std::proofs::lemmas::List::take_rest, std::proofs::lemmas::List::drop_min))]
+    fn form_after(&self, head: &[u8], text: &[u8]) -> Result<usize, Error>
+        ensures { result ≡ form_after (head.now ++ text.now) self.now }
+    {
+        let kept = self.descriptors.as_slice();
+        let start = self.top.form;
+        if !goes_on(&kept[start.min(kept.len())..], head, text) {
+            return Err(Error::MixedArray);
+        }
+        Ok(start + head.len() + text.len())
+    }
+
+    pub(crate) fn end_described(&mut self) -> Result<(), Error>
+        ensures { Does (measure_end_described self.old) result self.new }
+    {
+        let inner = self.close()?;
+        if !inner.kind.is_described() || inner.count != 1 {
+            return Err(Error::InvalidValue);
+        }
+        self.top.code = inner.code;
+        self.leave(inner.content)
+    }
+}
+
+/// Whether bytes begin with these and those.
+#[tactic(auto, using(crate::proofs::Texts::goes_on_true, crate::proofs::Texts::goes_on_first, crate::proofs::Texts::goes_on_second))]
+fn goes_on(bytes: &[u8], head: &[u8], text: &[u8]) -> bool
+    ensures value { result ≡ pointwise nat_eq (take (length (head.now ++ text.now)) bytes.now) (head.now ++ text.now) }
+    ensures within { OnTrue result (length head.now + length text.now ≤ length bytes.now) }
+{
+    match bytes.strip_prefix(head) {
+        Some(rest) => rest.strip_prefix(text).is_some(),
+        None => false,
+    }
+}

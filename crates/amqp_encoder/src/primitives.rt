@@ -1,0 +1,168 @@
+//! The primitive kinds (Part 1, sections 1.6.2 to 1.6.21).
+ghost use Rattle.std.specs.Prelude.{◌≡◌, [], ◌∷◌};
+ghost use Rattle.amqp_model.specs.Term.{boolean, ubyte, ushort, uint, ulong, byte, short, int, long, char, timestamp, decimal32, decimal64, decimal128, uuid, binary, string};
+ghost use Rattle.amqp_encoder.specs.Tokens.{put};
+ghost use Rattle.amqp_encoder.specs.Writes.{Writes};
+
+use crate::Encoder;
+use crate::kinds::Shortest;
+use amqp_wire::{Error, format_code};
+
+impl Encoder {
+    /// A boolean (Part 1, section 1.6.2).
+    pub fn write_bool(&mut self, value: bool) -> Result<(), Error>
+        ensures { Writes self.old (put (boolean value) ∷ []) result self.new }
+    {
+        if value {
+            self.put(
+                Shortest::Code(format_code::BOOLEAN_TRUE),
+                [format_code::BOOLEAN, 1],
+            )
+        } else {
+            self.put(
+                Shortest::Code(format_code::BOOLEAN_FALSE),
+                [format_code::BOOLEAN, 0],
+            )
+        }
+    }
+
+    /// An unsigned integer of 8 bits (Part 1, section 1.6.3).
+    pub fn write_ubyte(&mut self, value: u8) -> Result<(), Error>
+        ensures { Writes self.old (put (ubyte value) ∷ []) result self.new }
+    {
+        self.put(Shortest::Wide, [format_code::UBYTE, value])
+    }
+
+    /// An unsigned integer of 16 bits (Part 1, section 1.6.4).
+    pub fn write_ushort(&mut self, value: u16) -> Result<(), Error>
+        ensures { Writes self.old (put (ushort value) ∷ []) result self.new }
+    {
+        let [a, b] = value.to_be_bytes();
+        self.put(Shortest::Wide, [format_code::USHORT, a, b])
+    }
+
+    /// An unsigned integer of 32 bits (Part 1, section 1.6.5).
+    pub fn write_uint(&mut self, value: u32) -> Result<(), Error>
+        ensures { Writes self.old (put (uint value) ∷ []) result self.new }
+    {
+        let [a, b, c, d] = value.to_be_bytes();
+        let shortest = Shortest::of_uint(value);
+        self.put(shortest, [format_code::UINT, a, b, c, d])
+    }
+
+    /// An unsigned integer of 64 bits (Part 1, section 1.6.6).
+    pub fn write_ulong(&mut self, value: u64) -> Result<(), Error>
+        ensures { Writes self.old (put (ulong value) ∷ []) result self.new }
+    {
+        let [a, b, c, d, e, f, g, h] = value.to_be_bytes();
+        let shortest = Shortest::of_ulong(value);
+        self.put(shortest, [format_code::ULONG, a, b, c, d, e, f, g, h])
+    }
+
+    /// A signed integer of 8 bits (Part 1, section 1.6.7).
+    pub fn write_byte(&mut self, value: i8) -> Result<(), Error>
+        ensures { Writes self.old (put (byte value) ∷ []) result self.new }
+    {
+        let [a] = value.to_be_bytes();
+        self.put(Shortest::Wide, [format_code::BYTE, a])
+    }
+
+    /// A signed integer of 16 bits (Part 1, section 1.6.8).
+    pub fn write_short(&mut self, value: i16) -> Result<(), Error>
+        ensures { Writes self.old (put (short value) ∷ []) result self.new }
+    {
+        let [a, b] = value.to_be_bytes();
+        self.put(Shortest::Wide, [format_code::SHORT, a, b])
+    }
+
+    /// A signed integer of 32 bits (Part 1, section 1.6.9).
+    pub fn write_int(&mut self, value: i32) -> Result<(), Error>
+        ensures { Writes self.old (put (int value) ∷ []) result self.new }
+    {
+        let [a, b, c, d] = value.to_be_bytes();
+        let shortest = Shortest::of_int(value);
+        self.put(shortest, [format_code::INT, a, b, c, d])
+    }
+
+    /// A signed integer of 64 bits (Part 1, section 1.6.10).
+    pub fn write_long(&mut self, value: i64) -> Result<(), Error>
+        ensures { Writes self.old (put (long value) ∷ []) result self.new }
+    {
+        let [a, b, c, d, e, f, g, h] = value.to_be_bytes();
+        let shortest = Shortest::of_long(value);
+        self.put(shortest, [format_code::LONG, a, b, c, d, e, f, g, h])
+    }
+
+    /// A decimal number of 32 bits, as its bytes (Part 1, section 1.6.13).
+    pub fn write_dec32(&mut self, value: [u8; 4]) -> Result<(), Error>
+        ensures { Writes self.old (put (decimal32 value) ∷ []) result self.new }
+    {
+        let mut wide = [format_code::DECIMAL_32; 5];
+        wide[1..].copy_from_slice(&value);
+        self.put(Shortest::Wide, wide)
+    }
+
+    /// A decimal number of 64 bits, as its bytes (Part 1, section 1.6.14).
+    pub fn write_dec64(&mut self, value: [u8; 8]) -> Result<(), Error>
+        ensures { Writes self.old (put (decimal64 value) ∷ []) result self.new }
+    {
+        let mut wide = [format_code::DECIMAL_64; 9];
+        wide[1..].copy_from_slice(&value);
+        self.put(Shortest::Wide, wide)
+    }
+
+    /// A decimal number of 128 bits, as its bytes (Part 1, section 1.6.15).
+    pub fn write_dec128(&mut self, value: [u8; 16]) -> Result<(), Error>
+        ensures { Writes self.old (put (decimal128 value) ∷ []) result self.new }
+    {
+        let mut wide = [format_code::DECIMAL_128; 17];
+        wide[1..].copy_from_slice(&value);
+        self.put(Shortest::Wide, wide)
+    }
+
+    /// A Unicode character (Part 1, section 1.6.16).
+    pub fn write_char(&mut self, value: char) -> Result<(), Error>
+        ensures { Writes self.old (put (char value) ∷ []) result self.new }
+    {
+        let [a, b, c, d] = (value as u32).to_be_bytes();
+        self.put(Shortest::Wide, [format_code::CHAR, a, b, c, d])
+    }
+
+    /// A point in time, in milliseconds since 1970 (Part 1, section 1.6.17).
+    pub fn write_timestamp(&mut self, value: i64) -> Result<(), Error>
+        ensures { Writes self.old (put (timestamp value) ∷ []) result self.new }
+    {
+        let [a, b, c, d, e, f, g, h] = value.to_be_bytes();
+        self.put(
+            Shortest::Wide,
+            [format_code::TIMESTAMP, a, b, c, d, e, f, g, h],
+        )
+    }
+
+    /// A universally unique identifier, as its bytes (Part 1, section 1.6.18).
+    pub fn write_uuid(&mut self, value: [u8; 16]) -> Result<(), Error>
+        ensures { Writes self.old (put (uuid value) ∷ []) result self.new }
+    {
+        let mut wide = [format_code::UUID; 17];
+        wide[1..].copy_from_slice(&value);
+        self.put(Shortest::Wide, wide)
+    }
+
+    /// Bytes (Part 1, section 1.6.19).
+    pub fn write_binary(&mut self, value: &[u8]) -> Result<(), Error>
+        ensures { Writes self.old (put (binary value.now) ∷ []) result self.new }
+    {
+        self.put_bytes(format_code::BINARY_8, format_code::BINARY_32, value)
+    }
+
+    /// A text (Part 1, section 1.6.20).
+    pub fn write_string(&mut self, value: &str) -> Result<(), Error>
+        ensures { Writes self.old (put (string value.now) ∷ []) result self.new }
+    {
+        self.put_bytes(
+            format_code::STRING_8,
+            format_code::STRING_32,
+            value.as_bytes(),
+        )
+    }
+}

@@ -1,0 +1,17 @@
+//! What is kept of a container between the two passes.
+
+/// The bytes that the items of a list, map or array take, and how many items there are.
+#[derive(Clone, Copy, Debug, PartialEq, Eq)]
+pub struct Size {
+    pub content: u32,
+    pub count: u32,
+}
+
+/// The most content of a container: its size counts four bytes for the count too.
+pub(crate) const MAX_CONTENT: u32 = 0xffff_fffb;
+
+/// So many nested values count at most.
+pub(crate) const NESTING: usize = 128;
+
+/// Those, and an array of primitives in them.
+pub(crate) const ROW: usize = 129;

@@ -1,0 +1,6 @@
+//! How long the terms are that bytes begin with: a reading of slices that takes no memory.
+#![tactic(auto)]
+
+mod lengths;
+
+pub use lengths::{NESTING, len_of_term, term_len};

@@ -1,0 +1,97 @@
+-- How the answers grow, line by line.
+use Rattle.std.proofs.Common.{◌≡◌, ℕ, ◌+◌, ◌-◌, Bool, true, false, ◌&&◌, List, [], ◌++◌, length, take, drop, Option, Some, None, refl, sym, ap, ◌∙◌, subst, arith, append_assoc, append-nil, MatchOption, IfSome}
+use Rattle.std.proofs.lemmas.List.{take_all, length-drop}
+use Rattle.std.proofs.Math.Seq.{take-add}
+use Rattle.std.specs.Io.KnownBytes.{Appends, Keeps}
+use Rattle.amqp_lines.specs.Lines.{TakesLine}
+use Rattle.amqp_lines.specs.Answers.{IsAnswer, AreAnswers, done, next, rewritten, refused, other, printed_of, is_good, AnswersLine}
+use Rattle.amqp_lines.specs.declared.answer.Answer.{Answer}
+use Rattle.amqp_lines.specs.declared.answer.Answer.TheVariants.{Rewritten, Refused, NoRequest}
+
+pub appends_none : (a : Option (List ℕ)) → Appends a a []
+appends_none None = tt
+appends_none (Some x) = sym (append-nil x)
+
+pub appends_more : (a b c : Option (List ℕ)) (x y : List ℕ) → Appends a b x → Appends b c y → Appends a c (x ++ y)
+appends_more None b c x y h k = tt
+appends_more (Some p) None c x y h k = absurd h
+appends_more (Some p) (Some q) None x y h k = absurd k
+appends_more (Some p) (Some q) (Some r) x y h k = k ∙ ap (λ l. l ++ y) h ∙ append_assoc p x y
+
+pub appends_kept : (a b c : Option (List ℕ)) (x : List ℕ) → Appends a b x → Keeps b c → Appends a c x
+appends_kept None b c x h k = tt
+appends_kept (Some p) None c x h k = absurd h
+appends_kept (Some p) (Some q) None x h k = absurd k
+appends_kept (Some p) (Some q) (Some r) x h k = k ∙ h
+
+-- a further piece of the bytes
+pub piece_more : (a b c : Option (List ℕ)) (bytes : List ℕ) (m n : ℕ) → Appends a b (take m bytes) → Appends b c (take n (take (length bytes - m) (drop m bytes))) → Appends a c (take (m + n) bytes)
+piece_more a b c bytes m n h k =
+    subst (Appends a c) (sym (take-add m n bytes))
+    (appends_more a b c (take m bytes) (take n (drop m bytes)) h (subst (λ l. Appends b c (take n l)) (take_all (length bytes - m) (drop m bytes) (omega (arith, length-drop m bytes))) k))
+
+pub is_answer : (line : List ℕ) (answer : Answer) → AnswersLine line answer → IsAnswer line (printed_of answer) (is_good answer)
+is_answer line (Rewritten text left) (named, input, asks, l) = rewritten named input text.items left asks l
+is_answer line (Refused e) (named, input, asks) = refused named input e asks
+is_answer line NoRequest h = other h
+
+and_assoc : (a b c : Bool) → ((a && b) && c) ≡ (a && (b && c))
+and_assoc true b c = refl
+and_assoc false b c = refl
+
+and_true : (a : Bool) → (a && true) ≡ a
+and_true true = refl
+and_true false = refl
+
+-- The output answers the lines up to here: with the answers to the rest it answers all.
+pub record Progress (input now before after : Option (List ℕ)) (all : Bool) : Type 0 where
+  pub output : List ℕ
+  pub appended : Appends before after output
+  pub answered : IfSome input (λ xs. MatchOption now ⊥ (λ rest. (o : List ℕ) (a : Bool) → AreAnswers rest o a → AreAnswers xs (output ++ o) (all && a)))
+
+begun_at : (input now : Option (List ℕ)) → Keeps input now → IfSome input (λ xs. MatchOption now ⊥ (λ rest. (o : List ℕ) (a : Bool) → AreAnswers rest o a → AreAnswers xs ([] ++ o) (true && a)))
+begun_at None now k = tt
+begun_at (Some xs) None k = k
+begun_at (Some xs) (Some rest) k = λ o a h. subst (λ z. AreAnswers z o a) k h
+
+pub begun : (input now before : Option (List ℕ)) → Keeps input now → Progress input now before before true
+begun input now before k = record { output = []; appended = appends_none before; answered = begun_at input now k }
+
+further : (input now new : Option (List ℕ)) (line output text : List ℕ) (all good : Bool) → IsAnswer line text good
+    → IfSome now (λ xs. MatchOption new ⊥ (λ rest. TakesLine xs line rest))
+    → IfSome input (λ xs. MatchOption now ⊥ (λ rest. (o : List ℕ) (a : Bool) → AreAnswers rest o a → AreAnswers xs (output ++ o) (all && a)))
+    → IfSome input (λ xs. MatchOption new ⊥ (λ rest. (o : List ℕ) (a : Bool) → AreAnswers rest o a → AreAnswers xs ((output ++ text) ++ o) ((all && good) && a)))
+further None now new line output text all good i t h = tt
+further (Some xs) None new line output text all good i t h = absurd h
+further (Some xs) (Some r) None line output text all good i t h = t
+further (Some xs) (Some r) (Some rest) line output text all good i t h =
+    λ o a k. rw (append_assoc output text o, and_assoc all good a) (h (text ++ o) (good && a) (next t i k))
+
+-- one more line is answered
+pub one_more : {V : Type 0} (items : V → List ℕ) (input now new before middle after : Option (List ℕ)) (o : Option V) (line : V) (all good : Bool) → o ≡ Some line → Progress input now before middle all
+    → IfSome now (λ xs. MatchOption new ⊥ (λ rest. MatchOption o (xs ≡ []) (λ l. TakesLine xs (items l) rest)))
+    → (text : List ℕ) × IsAnswer (items line) text good × Appends middle after text → Progress input new before after (all && good)
+one_more items input now new before middle after o line all good e p t (text, i, k) = record {
+  output = p.output ++ text;
+  appended = appends_more before middle after p.output text p.appended k;
+  answered = further input now new (items line) p.output text all good i (subst (λ z. IfSome now (λ xs. MatchOption new ⊥ (λ rest. MatchOption z (xs ≡ []) (λ l. TakesLine xs (items l) rest)))) e t) p.answered;
+}
+
+all_done : (input now new : Option (List ℕ)) (output : List ℕ) (all : Bool) → IfSome now (λ xs. MatchOption new ⊥ (λ rest. xs ≡ []))
+    → IfSome input (λ xs. MatchOption now ⊥ (λ rest. (o : List ℕ) (a : Bool) → AreAnswers rest o a → AreAnswers xs (output ++ o) (all && a)))
+    → IfSome input (λ xs. AreAnswers xs output all)
+all_done None now new output all e h = tt
+all_done (Some xs) None new output all e h = absurd h
+all_done (Some xs) (Some r) None output all e h = absurd e
+all_done (Some xs) (Some r) (Some rest) output all e h = rw (sym (append-nil output), sym (and_true all)) (h [] true (subst (λ z. AreAnswers z [] true) (sym e) done))
+
+told : (input : Option (List ℕ)) (before after : Option (List ℕ)) (output : List ℕ) (all : Bool) → IfSome input (λ xs. AreAnswers xs output all) → Appends before after output → IfSome input (λ xs. (o : List ℕ) × AreAnswers xs o all × Appends before after o)
+told None before after output all h k = tt
+told (Some xs) before after output all h k = (output, h, k)
+
+-- no line is left
+pub ended : {V : Type 0} (items : V → List ℕ) (input now new before middle after : Option (List ℕ)) (o : Option V) (all : Bool) → o ≡ None → Progress input now before middle all
+    → IfSome now (λ xs. MatchOption new ⊥ (λ rest. MatchOption o (xs ≡ []) (λ l. TakesLine xs (items l) rest)))
+    → Keeps middle after → IfSome input (λ xs. (out : List ℕ) × AreAnswers xs out all × Appends before after out)
+ended items input now new before middle after o all e p t k =
+    told input before after p.output all (all_done input now new p.output all (subst (λ z. IfSome now (λ xs. MatchOption new ⊥ (λ rest. MatchOption z (xs ≡ []) (λ l. TakesLine xs (items l) rest)))) e t) p.answered) (appends_kept before middle after p.output p.appended k)

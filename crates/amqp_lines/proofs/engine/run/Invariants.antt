@@ -1,0 +1,5 @@
+use Rattle.amqp_lines.proofs.Progress.{Progress}
+use Rattle.amqp_lines.proofs.engine.run.Given as goal
+
+abbrev pub invariant-loop : goal.invariant-loop
+invariant-loop g l = Progress (g.R.Read.remaining l.fn.reader) l.lines (g.W.Write.contents l.fn.writer) (g.W.Write.contents l.writer) l.all_ok

@@ -1,0 +1,6 @@
+use Rattle.std.proofs.Common.{rules, sym}
+use Rattle.std.proofs.lemmas.Slice.Eq.{text_from_reads}
+use Rattle.amqp_lines.proofs.request.TypeName.from_bytes.Goals as goal
+
+pub returns-in-100 : goal.returns-in-100
+returns-in-100 c = sym (text_from_reads _ _ (search rules) (search rules))

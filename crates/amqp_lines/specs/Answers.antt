@@ -1,0 +1,69 @@
+-- What a line asks for, and what it is answered.
+use Rattle.std.specs.Prelude.{◌≡◌, ◌⊎◌, ℕ, ◌≤◌, Bool, true, false, ◌&&◌, List, [], ◌∷◌, ◌++◌, length, codes, Ok}
+use Rattle.std.specs.Fmt.{decimal}
+use Rattle.hex.specs.Hex.{decode_of, encode_lower}
+use Rattle.amqp_wire.specs.declared.error.Error.{Error}
+use Rattle.amqp_wire.specs.Error.{number_of, name_of}
+use Rattle.amqp_lines.specs.Lines.{TakesLine}
+use Rattle.amqp_lines.specs.declared.answer.Answer.{Answer}
+use Rattle.amqp_lines.specs.declared.answer.Answer.TheVariants.{Rewritten, Refused, NoRequest}
+use Rattle.amqp_lines.specs.declared.request.TypeName.{TypeName}
+use Rattle.amqp_lines.specs.declared.request.TypeName.TheVariants.{Accepted, DeliveryState, Received}
+
+-- The name of a type in a line.
+abbrev pub type_name : TypeName → List ℕ
+type_name Accepted = codes "accepted"
+type_name DeliveryState = codes "delivery-state"
+type_name Received = codes "received"
+
+-- The digits stand for the bytes: an even, positive number of them, or `-` for none.
+abbrev pub StandsFor : List ℕ → List ℕ → Type 0
+StandsFor digits input = ((digits ≡ codes "-") × (input ≡ [])) ⊎ ((digits ≡ [] → ⊥) × (decode_of digits ≡ Ok input))
+
+-- The line asks for the canonical text of the type's value that the bytes begin with.
+abbrev pub Asks : List ℕ → TypeName → List ℕ → Type 0
+Asks line named input = (digits : List ℕ) × (line ≡ type_name named ++ (32 ∷ digits)) × StandsFor digits input
+
+-- The hexadecimal digits of bytes, and `-` for none.
+abbrev pub digits_of : List ℕ → List ℕ
+digits_of [] = codes "-"
+digits_of (b ∷ bs) = encode_lower (b ∷ bs)
+
+-- The answers, as they are printed.
+abbrev pub ok_line : List ℕ → ℕ → List ℕ
+ok_line text left = codes "ok " ++ (digits_of text ++ (32 ∷ (decimal left ++ (10 ∷ []))))
+
+abbrev pub no_line : Error → List ℕ
+no_line e = codes "no " ++ (decimal (number_of e) ++ (32 ∷ (name_of e ++ (10 ∷ []))))
+
+abbrev pub other_line : List ℕ
+other_line = codes "no 0 Line\n"
+
+-- The line is answered so, and this says whether that is `ok`. (Which text, how many bytes are left and which error are
+-- those of the call that rewrites the bytes.)
+pub data IsAnswer (line : List ℕ) : List ℕ → Bool → Type 0 where
+  rewritten : (named : TypeName) (input : List ℕ) (text : List ℕ) (left : ℕ) → Asks line named input → left ≤ length input → IsAnswer line (ok_line text left) true
+  refused : (named : TypeName) (input : List ℕ) (e : Error) → Asks line named input → IsAnswer line (no_line e) false
+  other : ((named : TypeName) (input : List ℕ) → Asks line named input → ⊥) → IsAnswer line other_line false
+
+-- Line by line the input is answered by the output, and this says whether all answers are `ok`.
+pub data AreAnswers : List ℕ → List ℕ → Bool → Type 0 where
+  done : AreAnswers [] [] true
+  next : {input line rest text output : List ℕ} {good all : Bool} → TakesLine input line rest → IsAnswer line text good → AreAnswers rest output all → AreAnswers input (text ++ output) (good && all)
+
+-- What one answer is made of.
+abbrev pub printed_of : Answer → List ℕ
+printed_of (Rewritten text left) = ok_line text.items left
+printed_of (Refused e) = no_line e
+printed_of NoRequest = other_line
+
+abbrev pub is_good : Answer → Bool
+is_good (Rewritten text left) = true
+is_good (Refused e) = false
+is_good NoRequest = false
+
+-- It answers the line.
+abbrev pub AnswersLine : List ℕ → Answer → Type 0
+AnswersLine line (Rewritten text left) = (named : TypeName) × (input : List ℕ) × Asks line named input × (left ≤ length input)
+AnswersLine line (Refused e) = (named : TypeName) × (input : List ℕ) × Asks line named input
+AnswersLine line NoRequest = (named : TypeName) (input : List ℕ) → Asks line named input → ⊥

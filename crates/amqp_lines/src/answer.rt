@@ -1,0 +1,70 @@
+//! The answer to one line.
+ghost use Rattle.std.specs.Prelude.{◌≡◌, IfOk, IfErr, string_bytes};
+ghost use Rattle.amqp_wire.specs.declared.error.Error.TheVariants.{Memory};
+ghost use Rattle.amqp_lines.specs.Answers.{printed_of, is_good, AnswersLine};
+
+use crate::request::Request;
+use fe2o3_amqp_types::codec::Error;
+use std::alloc::Global;
+
+/// What a line is answered.
+#[derive(Drop)]
+pub(crate) enum Answer {
+    /// The canonical text, and how many bytes of the line's were left.
+    Rewritten { text: Vec<u8>, left: usize },
+    /// Why there is no canonical text.
+    Refused(Error),
+    /// The line has another form.
+    NoRequest,
+}
+
+impl Answer {
+    /// The answer to a line. The only error is want of memory for the line's bytes.
+    pub(crate) fn to_line(line: &[u8], alloc: Global) -> Result<Answer, Error>
+        ensures answers { IfOk result (λ answer. AnswersLine line.now answer) }
+        ensures err { IfErr result (λ e. e ≡ Memory) }
+    {
+        let Some(request) = Request::from_line(line, alloc)? else {
+            return Ok(Answer::NoRequest);
+        };
+        let input = request.input.as_slice();
+        match request.type_name.canonical_text(input, alloc) {
+            Ok((text, len)) => Ok(Answer::Rewritten {
+                text,
+                left: input.len().saturating_sub(len),
+            }),
+            Err(error) => Ok(Answer::Refused(error)),
+        }
+    }
+
+    pub(crate) fn is_ok(&self) -> bool
+        ensures { result ≡ is_good self.now }
+    {
+        match self {
+            Answer::Rewritten { .. } => true,
+            Answer::Refused(_) | Answer::NoRequest => false,
+        }
+    }
+
+    /// The answer as a line, with its line feed. The only error is want of memory.
+    pub(crate) fn printed(&self, alloc: Global) -> Result<String, Error>
+        ensures printed { IfOk result (λ text. string_bytes text ≡ printed_of self.now) }
+        ensures err { IfErr result (λ e. e ≡ Memory) }
+    {
+        match self {
+            Answer::Rewritten { text, left } if text.is_empty() => {
+                Ok(format!(in alloc; "ok - {left}\n")?)
+            }
+            Answer::Rewritten { text, left } => {
+                let digits = hex::encode(alloc, text)?;
+                Ok(format!(in alloc; "ok {digits} {left}\n")?)
+            }
+            Answer::Refused(error) => {
+                let number = error.number();
+                let name = error.name();
+                Ok(format!(in alloc; "no {number} {name}\n")?)
+            }
+            Answer::NoRequest => Ok(String::from_str(alloc, "no 0 Line\n")?),
+        }
+    }
+}

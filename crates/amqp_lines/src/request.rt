@@ -1,0 +1,88 @@
+//! One line that asks for the canonical text of a value.
+ghost use Rattle.std.specs.Prelude.{◌≡◌, ◌≤◌, ℕ, List, length, IfOk, IfErr, MatchOption};
+ghost use Rattle.amqp_wire.specs.declared.error.Error.TheVariants.{Memory};
+ghost use Rattle.amqp_lines.specs.Answers.{type_name, StandsFor, Asks};
+ghost use Rattle.amqp_lines.specs.declared.request.TypeName.{TypeName};
+
+use fe2o3_amqp_types::codec::{Error, canonical_text};
+use fe2o3_amqp_types::messaging::{Accepted, DeliveryState, Received};
+use memchr::memchr;
+use std::alloc::Global;
+
+/// A type by its name in a line.
+#[derive(Clone, Copy, Debug, PartialEq, Eq)]
+pub(crate) enum TypeName {
+    Accepted,
+    DeliveryState,
+    Received,
+}
+
+impl TypeName {
+    fn from_bytes(name: &[u8]) -> Option<TypeName>
+        ensures { MatchOption result ((named : TypeName) → type_name named ≡ name.now → ⊥) (λ named. type_name named ≡ name.now) }
+    {
+        match name {
+            b"accepted" => Some(TypeName::Accepted),
+            b"delivery-state" => Some(TypeName::DeliveryState),
+            b"received" => Some(TypeName::Received),
+            _ => None,
+        }
+    }
+
+    /// The canonical text of the type's value that the input begins with, and how many bytes that value takes.
+    pub(crate) fn canonical_text(
+        self,
+        input: &[u8],
+        alloc: Global,
+    ) -> Result<(Vec<u8>, usize), Error> {
+        match self {
+            TypeName::Accepted => canonical_text::<Accepted>(input, alloc),
+            TypeName::DeliveryState => canonical_text::<DeliveryState>(input, alloc),
+            TypeName::Received => canonical_text::<Received>(input, alloc),
+        }
+    }
+}
+
+/// A line `<type> <hex>`: the type, and the bytes.
+#[derive(Drop)]
+pub(crate) struct Request {
+    pub type_name: TypeName,
+    pub input: Vec<u8>,
+}
+
+impl Request {
+    /// What a line asks for, or `None` where it has another form. The only error is want of memory.
+    pub(crate) fn from_line(line: &[u8], alloc: Global) -> Result<Option<Request>, Error>
+        ensures asked { IfOk result (λ o. MatchOption o ((named : TypeName) (input : List ℕ) → Asks line.now named input → ⊥) (λ request. Asks line.now request.type_name request.input.items)) }
+        ensures err { IfErr result (λ e. e ≡ Memory) }
+    {
+        let Some(space) = memchr(b' ', line) else {
+            return Ok(None);
+        };
+        let Some(type_name) = TypeName::from_bytes(&line[..space]) else {
+            return Ok(None);
+        };
+        let Some(input) = from_digits(&line[space + 1..], alloc)? else {
+            return Ok(None);
+        };
+        Ok(Some(Request { type_name, input }))
+    }
+}
+
+// The bytes of an even, positive number of hexadecimal digits, or none for `-`.
+fn from_digits(digits: &[u8], alloc: Global) -> Result<Option<Vec<u8>>, Error>
+    ensures stands { IfOk result (λ o. MatchOption o ((input : List ℕ) → StandsFor digits.now input → ⊥) (λ input. StandsFor digits.now input.items)) }
+    ensures err { IfErr result (λ e. e ≡ Memory) }
+{
+    if digits == b"-".as_slice() {
+        return Ok(Some(Vec::new(alloc)));
+    }
+    if digits.is_empty() {
+        return Ok(None);
+    }
+    match hex::decode(alloc, digits) {
+        Ok(bytes) => Ok(Some(bytes)),
+        Err(hex::FromHexError::OutOfMemory) => Err(Error::Memory),
+        Err(_) => Ok(None),
+    }
+}

@@ -1,0 +1,16 @@
+pub mod Bytes
+pub mod Same
+pub mod Unique
+pub mod Lengths
+pub mod Count
+pub mod Shortest
+pub mod Least
+pub mod Primitives
+pub mod Forms
+pub mod Written
+pub mod Unrefused
+pub mod Rows
+pub mod Placed
+pub mod ItemCounts
+pub mod OneItem
+pub mod Barred

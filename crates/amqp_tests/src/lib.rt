@@ -1,0 +1,13 @@
+//! Tests that cross crates: worked rows, and the program's engine over readers and writers.
+#![tactic(auto)]
+
+#[cfg(test)]
+mod delivery;
+#[cfg(test)]
+mod lines;
+#[cfg(test)]
+mod reading;
+#[cfg(test)]
+mod wire;
+#[cfg(test)]
+mod writing;

@@ -1,0 +1,130 @@
+//! The engine of the program, over text in memory and over readers and writers that fail.
+use amqp_lines::run;
+use fe2o3_amqp_types::codec::Error;
+use std::io;
+use std::io::{ErrorKind, Read, Write};
+use std::test::Fail;
+
+#[test]
+fn lines_are_answered_in_order(rt: HostRuntime) -> Result<(), Fail> {
+    let input =
+        "accepted 005324c00000\nreceived 005323c005025209530dff\ndelivery-state 005323c005025209530d";
+    let mut output = Vec::new(rt.alloc());
+    let all_ok = run(input.as_bytes(), &mut output, rt.alloc())?;
+    assert!(rt; all_ok);
+    let want = "ok 00532445 0\nok 005323c005025209530d 1\nok 005323c005025209530d 0\n";
+    assert_eq!(rt; output.as_slice(), want.as_bytes());
+    Ok(())
+}
+
+#[test]
+fn lines_of_another_form(rt: HostRuntime) -> Result<(), Fail> {
+    for input in [
+        "bogus 00",
+        "accepted 0",
+        "accepted",
+        "\n",
+        "accepted zz\n",
+        "accepted ",
+        "accepted  00532445",
+        "accepted 00532445 ",
+        " accepted 00532445",
+        "accepted 00532445\r\n",
+        "Accepted 00532445",
+        "accepted --",
+    ] {
+        let mut output = Vec::new(rt.alloc());
+        let all_ok = run(input.as_bytes(), &mut output, rt.alloc())?;
+        assert!(rt; !all_ok, "of {input}");
+        assert_eq!(rt; output.as_slice(), b"no 0 Line\n".as_slice(), "of {input}");
+    }
+    Ok(())
+}
+
+#[test]
+fn refusals_and_digits(rt: HostRuntime) -> Result<(), Fail> {
+    for (input, want) in [
+        ("", ""),
+        ("accepted -\n", "no 1 Cut\n"),
+        ("accepted 005324C00000\n", "ok 00532445 0\n"),
+        ("accepted 005324c0020140", "no 7 Surplus\n"),
+        (
+            "accepted 00532400532445\n\n",
+            "no 27 WrongType\nno 0 Line\n",
+        ),
+        (
+            "delivery-state 00532545\naccepted 00532445",
+            "no 9 WrongDescriptor\nok 00532445 0\n",
+        ),
+    ] {
+        let mut output = Vec::new(rt.alloc());
+        run(input.as_bytes(), &mut output, rt.alloc())?;
+        assert_eq!(rt; output.as_slice(), want.as_bytes(), "of {input}");
+    }
+    Ok(())
+}
+
+// Gives one byte a call, and fails once none is left.
+#[derive(Drop)]
+struct OneByOne<'a> {
+    bytes: &'a [u8],
+}
+
+impl Read for OneByOne<'_> {
+    fn read(&mut self, buffer: &mut [u8]) -> io::Result<usize> {
+        let Some((first, rest)) = self.bytes.split_first() else {
+            return Err(io::Error::from(ErrorKind::Interrupted));
+        };
+        if buffer.is_empty() {
+            return Ok(0);
+        }
+        buffer[0] = *first;
+        self.bytes = rest;
+        Ok(1)
+    }
+}
+
+// Takes so many bytes, and then fails.
+#[derive(Drop)]
+struct Narrow {
+    room: usize,
+}
+
+impl Write for Narrow {
+    fn write(&mut self, bytes: &[u8]) -> io::Result<usize> {
+        if self.room == 0 {
+            return Err(io::Error::from(ErrorKind::Interrupted));
+        }
+        let n = bytes.len().min(self.room).min(3);
+        self.room -= n;
+        Ok(n)
+    }
+
+    fn flush(&mut self) -> io::Result<()> {
+        Ok(())
+    }
+}
+
+#[test]
+fn failing_ends(rt: HostRuntime) -> Result<(), Fail> {
+    let reader = OneByOne {
+        bytes: b"accepted 00532445\nacc",
+    };
+    let mut output = Vec::new(rt.alloc());
+    let answer = run(reader, &mut output, rt.alloc());
+    assert_eq!(rt; answer, Err(Error::Read(ErrorKind::Interrupted)));
+    assert_eq!(rt; output.as_slice(), b"ok 00532445 0\n".as_slice());
+    let answer = run(
+        b"accepted 00532445".as_slice(),
+        &mut Narrow { room: 13 },
+        rt.alloc(),
+    );
+    assert_eq!(rt; answer, Err(Error::Read(ErrorKind::Interrupted)));
+    let answer = run(
+        b"accepted 00532445".as_slice(),
+        &mut Narrow { room: 14 },
+        rt.alloc(),
+    );
+    assert_eq!(rt; answer, Ok(true));
+    Ok(())
+}

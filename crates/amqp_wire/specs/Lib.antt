@@ -1,0 +1,4 @@
+pub mod Codes
+pub mod Error
+pub mod Refusals
+pub mod Sources

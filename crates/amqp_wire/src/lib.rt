@@ -1,0 +1,16 @@
+//! What every layer of the AMQP 1.0 codec speaks of: its errors, the sources of bytes, symbols,
+//! descriptors and the format codes of constructors.
+#![tactic(auto)]
+
+pub mod descriptor;
+pub mod error;
+pub mod format_code;
+pub mod read_source;
+pub mod source;
+pub mod symbol;
+
+pub use descriptor::Descriptor;
+pub use error::Error;
+pub use read_source::ReadSource;
+pub use source::{ByteSource, fill};
+pub use symbol::Symbol;

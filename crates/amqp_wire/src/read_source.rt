@@ -1,0 +1,52 @@
+//! A source over any reader.
+ghost use Rattle.std.specs.Prelude.{◌≡◌, None, is_some};
+
+use crate::ByteSource;
+use std::io::{ErrorKind, Read};
+
+/// Any reader as a source. Each pull reads once: no kind of failure is tried again, and from the first one
+/// on every pull fails as it did.
+#[derive(Drop)]
+pub struct ReadSource<R: Read> {
+    pub reader: R,
+    pub failure: Option<ErrorKind>,
+}
+
+impl<R: Read> ReadSource<R> {
+    /// A source of the bytes that the reader gives from here on.
+    pub fn new(reader: R) -> Self
+        ensures reader { result.reader ≡ reader }
+        ensures whole { result.failure ≡ None }
+    {
+        ReadSource {
+            reader,
+            failure: None,
+        }
+    }
+}
+
+impl<R: Read> ByteSource for ReadSource<R> {
+    ghost remaining = { λ s. R.remaining s.reader };
+
+    ghost broken = { λ s. is_some s.failure };
+
+    ghost name = { λ _. 0 };
+
+    fn pull(&mut self, buffer: &mut [u8]) -> Result<usize, ErrorKind> {
+        if let Some(kind) = self.failure {
+            return Err(kind);
+        }
+        match self.reader.read(buffer) {
+            Ok(n) => Ok(n),
+            Err(error) => {
+                let kind = error.kind();
+                self.failure = Some(kind);
+                Err(kind)
+            }
+        }
+    }
+
+    fn failed(&self) -> bool {
+        self.failure.is_some()
+    }
+}

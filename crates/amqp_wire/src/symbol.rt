@@ -1,0 +1,31 @@
+//! Symbols: ASCII texts from a constrained domain (Part 1, section 1.6.21).
+ghost use Rattle.std.specs.Prelude.{◌≡◌, string_bytes};
+
+/// A symbol. What is not ASCII is refused in writing, by `Error::NonAscii`.
+#[derive(Clone, Debug, PartialEq, Eq, PartialOrd, Ord, Hash, Drop)]
+pub struct Symbol(pub String);
+
+impl Symbol {
+    /// The text.
+    pub fn as_str(&self) -> &str
+        ensures { result.now ≡ string_bytes self.now.0 }
+    {
+        self.0.as_str()
+    }
+
+    /// The text, owned.
+    pub fn into_inner(self) -> String
+        ensures { result ≡ self.0 }
+    {
+        let Symbol(text) = self;
+        text
+    }
+}
+
+impl From<String> for Symbol {
+    ghost from_gives = { λ text symbol. symbol.0 ≡ text };
+
+    fn from(text: String) -> Symbol {
+        Symbol(text)
+    }
+}
