@@ -98,13 +98,13 @@ fn read_items<R: ByteSource>(
 }
 
 fn read_nested<R: ByteSource>(decoder: &mut Decoder<R>, alloc: Global) -> Result<u64, Error> {
-    let mut depth = 0;
+    let mut depth: u64 = 0;
     for _ in 0..200 {
         if decoder.peek_code()? != 0 {
             break;
         }
         decoder.begin_one_of(&[(0, "nothing")])?;
-        depth += 1;
+        depth = depth.saturating_add(1);
     }
     match decoder.peek_code()? {
         0x45 => {
@@ -350,7 +350,7 @@ fn lengths(rt: HostRuntime) -> Result<(), Fail> {
 fn read_shared(input: &[u8], alloc: Global) -> Result<u64, Error> {
     let mut decoder = Decoder::new(input, alloc);
     let count = decoder.begin_array(alloc)?;
-    let mut sum = 0;
+    let mut sum: u64 = 0;
     for index in 0..count {
         if decoder.peek_code()? != 0 {
             return Err(Error::InvalidValue);
@@ -360,7 +360,7 @@ fn read_shared(input: &[u8], alloc: Global) -> Result<u64, Error> {
         } else {
             decoder.begin_one_of(&[(0x24, "b")])?;
         }
-        sum += 1000 + u64::from(decoder.read_ubyte()?);
+        sum = sum.saturating_add(1000 + u64::from(decoder.read_ubyte()?));
         decoder.end_described()?;
     }
     decoder.end_array()?;
