@@ -6,7 +6,7 @@ use amqp_wire::Error;
 use std::alloc::Global;
 
 #[derive(Clone, Copy)]
-pub enum Case {
+pub(crate) enum Case {
     Uints,
     Strings,
     Map,
@@ -15,14 +15,14 @@ pub enum Case {
 
 /// What a case writes.
 #[derive(Drop)]
-pub struct Content {
+pub(crate) struct Content {
     numbers: Vec<u32>,
     texts: Vec<String>,
     bytes: Vec<u8>,
 }
 
 impl Case {
-    pub fn name(self) -> &'static str {
+    pub(crate) fn name(self) -> &'static str {
         match self {
             Case::Uints => "a list of 10,000 uints",
             Case::Strings => "a list of 1,000 short strings",
@@ -32,7 +32,7 @@ impl Case {
     }
 
     /// How many values are counted: items, entries, or the one.
-    pub fn values(self) -> u32
+    pub(crate) fn values(self) -> u32
         ensures { result ≤ 10000 }
     {
         match self {
@@ -42,7 +42,7 @@ impl Case {
         }
     }
 
-    pub fn content(self, alloc: Global) -> Result<Content, Error> {
+    pub(crate) fn content(self, alloc: Global) -> Result<Content, Error> {
         let mut content = Content {
             numbers: Vec::new(alloc),
             texts: Vec::new(alloc),
@@ -61,7 +61,7 @@ impl Case {
     }
 
     /// The canonical text: measured, and filled into one buffer.
-    pub fn write(self, content: &Content, alloc: Global) -> Result<Vec<u8>, Error> {
+    pub(crate) fn write(self, content: &Content, alloc: Global) -> Result<Vec<u8>, Error> {
         let mut encoder = Encoder::measuring(alloc);
         self.serialize(content, &mut encoder)?;
         let Measurement { len, sizes } = encoder.into_measurement()?;

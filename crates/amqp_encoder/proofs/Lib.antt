@@ -1,5 +1,6 @@
 pub mod Constructors
 pub mod Described
+pub mod Exactly
 pub mod Filled
 pub mod Joined
 pub mod Lifted
@@ -7,7 +8,9 @@ pub mod Measured
 pub mod MeasuredTerms
 pub mod Measuring
 pub mod Openings
+pub mod Refused
 pub mod Rows
 pub mod Settled
 pub mod Spelled
+pub mod TakenBytes
 pub mod Texts

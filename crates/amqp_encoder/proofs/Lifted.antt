@@ -239,7 +239,7 @@ module _ (deep : List ℕ → ℕ) where
       → ((e : Error) → SomewhereIn (HasReason e) ts → ⊥) → (e : Error) → Somewhere (HasReason e) (holder k ts) → ⊥
   holder_clean k ts s cd D o z f a h e (inl (inl (r, i, inl q))) = cc
   holder_clean k ts s cd D o z f a h e (inl (inl (r, i, inr w))) = holder_flawless k ts s cd D f a z r w
-  holder_clean k ts s cd D o z f a h e (inl (inr (inl c))) = let x : 2 ^ 32 ≤ count ts = c.1 in omega (arith, z.1)
+  holder_clean k ts s cd D o z f a h e (inl (inr (inl c))) = let x : 2 ^ 32 ≤ count ts = c.1.0 in omega (arith, z.1)
   holder_clean k ts s cd D o z f a h e (inl (inr (inr c))) = even_map k ts o c.1
   holder_clean k ts s cd D o z f a h e (inr w) = h e w
 
@@ -274,7 +274,7 @@ module _ (deep : List ℕ → ℕ) where
   long_content array none h = absurd (omega arith)
   long_content array (more t ts) h = h
 
-  pub refused_size : (k : Container) (ts : Terms) (e : Error) → e ≡ TooLarge → (2 ^ 32 ≤ 4 + length (texts ts (first_place k))) ⊎ (2 ^ 32 ≤ count ts) → Somewhere (HasReason e) (holder k ts)
+  pub refused_size : (k : Container) (ts : Terms) (e : Error) → e ≡ TooLarge → (2 ^ 32 ≤ 4 + length (texts ts (first_place k))) ⊎ ((2 ^ 32 ≤ count ts) × IsItem (kept []) ts) → Somewhere (HasReason e) (holder k ts)
   refused_size k ts e i (inl h) = inl (inl (too_large, i, inr (long_content k ts h)))
   refused_size k ts e i (inr h) = inl (inr (inl (i, h)))
 
@@ -287,7 +287,8 @@ module _ (deep : List ℕ → ℕ) where
   refused_holder k ts p c n d s cd D e (some_inside r) = inside (inr r)
   refused_holder k ts p c n d s cd D e (some_past i h) = past i (holder_past k d ts h)
   refused_holder k ts p c n d s cd D e (all_too_long i h) = inside (refused_size k ts e i (inl (omega arith)))
-  refused_holder k ts p c n d s cd D e (all_too_many i h) = inside (refused_size k ts e i (inr (omega arith)))
+  refused_holder k ts p c n d s cd D e (all_too_many i h (inl m)) = inside (refused_size k ts e i (inl (omega arith)))
+  refused_holder k ts p c n d s cd D e (all_too_many i h (inr m)) = inside (refused_size k ts e i (inr (omega arith, m)))
   refused_holder list ts p c n d s cd D e (some_null i a t j h) = absurd a
   refused_holder map ts p c n d s cd D e (some_null i a t j h) = absurd a
   refused_holder array ts p c n d s cd D e (some_null i a t j h) = inside (inl (inl (zero_width_items, i, inr (t, j, h))))

@@ -65,6 +65,10 @@ abbrev pub Chain : Term → Type 0
 Chain (described d t) = IsInRange (descriptor_value d) × IsWritten (descriptor_value d) × Chain t
 Chain _ = Unit {0}
 
+-- it takes bytes, unless it is kept and has none
+abbrev pub TakesBytes : Term → Place → Type 0
+TakesBytes t p = (1 ≤ length (text t p)) ⊎ (kept [] ≡ t)
+
 module _ (deep : List ℕ → ℕ) where
   abbrev pub IsWithin : ℕ → Term → Type 0
   IsWithin d (holder k ts) = d + nest_by deep (holder k ts) ≤ 128
@@ -143,7 +147,7 @@ module _ (deep : List ℕ → ℕ) where
     some_inside : SomewhereIn (HasReason e) ts → RefusedAll ts p c n d s cd D e
     some_past : e ≡ Depth → AnyPast p d ts → RefusedAll ts p c n d s cd D e
     all_too_long : e ≡ TooLarge → MAX < c + length (texts ts p) → RefusedAll ts p c n d s cd D e
-    all_too_many : e ≡ TooLarge → MAX < n + count ts → RefusedAll ts p c n d s cd D e
+    all_too_many : e ≡ TooLarge → MAX < n + count ts → (MAX ≤ n + length (texts ts p)) ⊎ IsItem (kept []) ts → RefusedAll ts p c n d s cd D e
     some_null : e ≡ ZeroWidthItems → InArray p → (t : Term) → IsItem t ts → core t ≡ leaf null → RefusedAll ts p c n d s cd D e
     some_kept : e ≡ LazyInArray → InArray p → (t : Term) (b : List ℕ) → IsItem t ts → core t ≡ kept b → RefusedAll ts p c n d s cd D e
     some_other : e ≡ MixedArray → MixedAt p s D cd ts → RefusedAll ts p c n d s cd D e
@@ -195,18 +199,25 @@ module _ (deep : List ℕ → ℕ) where
   refused_here t ts p c n d s cd D e (inside r) = some_inside (inl r)
   refused_here t ts p c n d s cd D e (past i h) = some_past i (inl h)
   refused_here t ts p c n d s cd D e (too_long i h) = all_too_long i (omega (arith, length-append (text t p) (texts ts (next p))))
-  refused_here t ts p c n d s cd D e (too_many i h) = all_too_many i (omega arith)
+  refused_here t ts p c n d s cd D e (too_many i h) = all_too_many i (omega arith) (inl (omega arith))
   refused_here t ts p c n d s cd D e (null_item i a h) = some_null i a t (inl refl) h
   refused_here t ts p c n d s cd D e (kept_item i a b h) = some_kept i a t b (inl refl) h
   refused_here t ts p c n d s cd D e (other i h) = some_other i (mixed_here p t ts s cd D h)
 
-  pub refused_later : (t : Term) (ts : Terms) (p : Place) (c n d s cd : ℕ) (D : List ℕ) (e : Error) → Fit p s D → AcceptedAt t p c n d s cd D
+  many_later : (t : Term) (ts : Terms) (p : Place) (n : ℕ) → TakesBytes t p → (MAX ≤ (n + 1) + length (texts ts (next p))) ⊎ IsItem (kept []) ts
+      → (MAX ≤ n + length (texts (more t ts) p)) ⊎ IsItem (kept []) (more t ts)
+  unfolding text
+  many_later t ts p n (inl w) (inl m) = inl (omega (arith, length-append (text t p) (texts ts (next p))))
+  many_later t ts p n (inl w) (inr m) = inr (inr m)
+  many_later t ts p n (inr w) m = inr (inl w)
+
+  pub refused_later : (t : Term) (ts : Terms) (p : Place) (c n d s cd : ℕ) (D : List ℕ) (e : Error) → Fit p s D → TakesBytes t p → AcceptedAt t p c n d s cd D
       → RefusedAll ts (next p) (c + length (text t p)) (n + 1) d s (code_after p cd (core_code t)) (descs_after p D (descs t)) e → RefusedAll (more t ts) p c n d s cd D e
   unfolding text
-  refused_later t ts p c n d s cd D e f a (some_inside r) = some_inside (inr r)
-  refused_later t ts p c n d s cd D e f a (some_past i h) = some_past i (inr h)
-  refused_later t ts p c n d s cd D e f a (all_too_long i h) = all_too_long i (omega (arith, length-append (text t p) (texts ts (next p))))
-  refused_later t ts p c n d s cd D e f a (all_too_many i h) = all_too_many i (omega arith)
-  refused_later t ts p c n d s cd D e f a (some_null i j u k h) = some_null i (in_array_back p j) u (inr k) h
-  refused_later t ts p c n d s cd D e f a (some_kept i j u b k h) = some_kept i (in_array_back p j) u b (inr k) h
-  refused_later t ts p c n d s cd D e f a (some_other i h) = some_other i (mixed_on p t ts s cd D f a.formed h)
+  refused_later t ts p c n d s cd D e f w a (some_inside r) = some_inside (inr r)
+  refused_later t ts p c n d s cd D e f w a (some_past i h) = some_past i (inr h)
+  refused_later t ts p c n d s cd D e f w a (all_too_long i h) = all_too_long i (omega (arith, length-append (text t p) (texts ts (next p))))
+  refused_later t ts p c n d s cd D e f w a (all_too_many i h m) = all_too_many i (omega arith) (many_later t ts p n w m)
+  refused_later t ts p c n d s cd D e f w a (some_null i j u k h) = some_null i (in_array_back p j) u (inr k) h
+  refused_later t ts p c n d s cd D e f w a (some_kept i j u b k h) = some_kept i (in_array_back p j) u b (inr k) h
+  refused_later t ts p c n d s cd D e f w a (some_other i h) = some_other i (mixed_on p t ts s cd D f a.formed h)

@@ -26,6 +26,7 @@ use Rattle.amqp_encoder.specs.Passes.{as_size}
 use Rattle.amqp_encoder.proofs.Filled.{last}
 use Rattle.amqp_encoder.proofs.Measured.{descs, core_code, code_after, descs_after, Fit, Same, Other, AcceptedAt, RefusedAt, inside, past, too_long, too_many, null_item, kept_item, other, Uniform, AcceptedAll, RefusedAll, accepted_more, refused_here, refused_later}
 use Rattle.amqp_encoder.proofs.Lifted.{Tested, form_in, descs_in, GoesOn, accepted_described, refused_described, accepted_holder, refused_holder, refused_size}
+use Rattle.amqp_encoder.proofs.TakenBytes.{takes_bytes, unfit}
 use Rattle.amqp_encoder.proofs.Measuring.{fr, mk, goes, stops, first_step, stop_step, lt_cases, bool_cases, leave_case, enter_case, no_descs, tested, foreign, overlong, check_of, kept_clean, is_one, TermGoes, TermsGo, leaf_goes, codes_after, all_descs}
 
 -- kept bytes
@@ -199,19 +200,19 @@ module _ (deep : List ℕ → ℕ) where
 
   -- once its values are there
   holder_ends : (k : Container) (ts : Terms) (kd : Option Container) (p : Place) (cd c n i s : ℕ) (outer : List Open) (sizes : List Size) (D : List ℕ) (others : List Token) →
-      length outer ≤ around k → Same p s D cd [] (wide_code k) → AcceptedAll deep ts (first_place k) 0 0 (length outer + 1) (length D) 0 D →
+      length outer ≤ around k → EverywhereIn IsValue ts → Same p s D cd [] (wide_code k) → AcceptedAll deep ts (first_place k) 0 0 (length outer + 1) (length D) 0 D →
       steps (Measuring (mk (fr kd p cd c n i s) outer sizes D)) (tokens deep (holder k ts) ++ others)
       ≡ steps (Measuring (mk (fr (Some k) (last ts (first_place k)) (codes_after deep ts (first_place k) 0) (length (texts ts (first_place k))) (count ts) (length sizes) (length D)) (fr kd p (code_after p cd (wide_code k)) c n i s ∷ outer) ((sizes ++ no_size ∷ []) ++ map as_size (all_sizes ts)) (all_descs deep ts (first_place k) D))) (end k ∷ others) →
       TermGoes deep (holder k ts) kd p cd c n i s outer sizes D others
   unfolding text sizes_of
-  holder_ends k ts kd p cd c n i s outer sizes D others low same_ a first =
+  holder_ends k ts kd p cd c n i s outer sizes D others low v same_ a first =
       let m = length (texts ts (first_place k)) in
       let l = ap length (opened_text p k ts (first_place k)) ∙ length-append (opening p k (count ts) m) (texts ts (first_place k)) in
       elim (bool_cases (is_odd_map k (count ts))) [
         | inl o ↦ stops OddCount (inside (inl (inr (inr (refl, odd_of k ts o)))))
             (first ∙ stop_step _ OddCount (end k) others (odd_case k kd p (last ts (first_place k)) (code_after p cd (wide_code k)) (codes_after deep ts (first_place k) 0) c n m s (length D) (count ts) outer sizes (map as_size (all_sizes ts)) (all_descs deep ts (first_place k) D) i o))
         | inr o ↦ elim (size_case (Some k) (last ts (first_place k)) (codes_after deep ts (first_place k) 0) m (count ts) (length sizes) (length D)) [
-          | unsized z w ↦ stops TooLarge (inside (refused_size deep k ts TooLarge refl w))
+          | unsized z w ↦ stops TooLarge (inside (refused_size deep k ts TooLarge refl (unfit k ts v a.all_sound w)))
               (first ∙ stop_step _ TooLarge (end k) others (unsized_case k kd p (last ts (first_place k)) (code_after p cd (wide_code k)) (codes_after deep ts (first_place k) 0) c n m s (length D) (count ts) outer sizes (map as_size (all_sizes ts)) (all_descs deep ts (first_place k) D) i o z))
           | sized_ z w ↦
               let e = end_case k kd p (last ts (first_place k)) (code_after p cd (wide_code k)) (codes_after deep ts (first_place k) 0) c n m s (length D) (count ts) outer sizes (map as_size (all_sizes ts)) D (all_descs deep ts (first_place k) D) i o z (trimmed k ts deep D) in
@@ -224,28 +225,28 @@ module _ (deep : List ℕ → ℕ) where
       ]
 
   holder_goes : (k : Container) (ts : Terms) (kd : Option Container) (p : Place) (cd c n i s : ℕ) (outer : List Open) (sizes : List Size) (D : List ℕ) (others : List Token) →
-      length outer ≤ around k → Same p s D cd [] (wide_code k) →
+      length outer ≤ around k → EverywhereIn IsValue ts → Same p s D cd [] (wide_code k) →
       steps (Measuring (mk (fr kd p cd c n i s) outer sizes D)) (tokens deep (holder k ts) ++ others)
       ≡ steps (Measuring (mk (fr (Some k) (first_place k) 0 0 0 (length sizes) (length D)) (fr kd p (code_after p cd (wide_code k)) c n i s ∷ outer) (sizes ++ no_size ∷ []) D)) (all_tokens deep ts ++ end k ∷ others) →
       TermsGo deep ts (Some k) (first_place k) 0 0 0 (length sizes) (length D) (fr kd p (code_after p cd (wide_code k)) c n i s ∷ outer) (sizes ++ no_size ∷ []) D (end k ∷ others) →
       TermGoes deep (holder k ts) kd p cd c n i s outer sizes D others
-  holder_goes k ts kd p cd c n i s outer sizes D others low same_ first (stops e w q) =
+  holder_goes k ts kd p cd c n i s outer sizes D others low v same_ first (stops e w q) =
       stops e (refused_holder deep k ts p c n (length outer) s cd D e (subst (λ z. RefusedAll deep ts (first_place k) 0 0 z (length D) 0 D e) (is_one (length outer)) w)) (first ∙ q)
-  holder_goes k ts kd p cd c n i s outer sizes D others low same_ first (goes a q) =
-      holder_ends k ts kd p cd c n i s outer sizes D others low same_
+  holder_goes k ts kd p cd c n i s outer sizes D others low v same_ first (goes a q) =
+      holder_ends k ts kd p cd c n i s outer sizes D others low v same_
       (subst (λ z. AcceptedAll deep ts (first_place k) 0 0 z (length D) 0 D) (is_one (length outer)) a)
       (first ∙ (rw (zero-add, zero-add) at q))
 
-  terms_goes : (t : Term) (ts : Terms) (k : Option Container) (p : Place) (cd c n i s : ℕ) (outer : List Open) (sizes : List Size) (D : List ℕ) (others : List Token) → Fit p s D →
+  terms_goes : (t : Term) (ts : Terms) (k : Option Container) (p : Place) (cd c n i s : ℕ) (outer : List Open) (sizes : List Size) (D : List ℕ) (others : List Token) → Fit p s D → Everywhere IsValue t →
       TermGoes deep t k p cd c n i s outer sizes D (all_tokens deep ts ++ others) →
       (AcceptedAt deep t p c n (length outer) s cd D → TermsGo deep ts k (next p) (code_after p cd (core_code t)) (c + length (text t p)) (n + 1) i s outer (sizes ++ map as_size (sizes_of t)) (descs_after p D (descs t)) others) →
       TermsGo deep (more t ts) k p cd c n i s outer sizes D others
   unfolding text sizes_of
-  terms_goes t ts k p cd c n i s outer sizes D others f (stops e w q) g =
+  terms_goes t ts k p cd c n i s outer sizes D others f v (stops e w q) g =
       stops e (refused_here deep t ts p c n (length outer) s cd D e w) (rw (append_assoc (tokens deep t) (all_tokens deep ts) others) q)
-  terms_goes t ts k p cd c n i s outer sizes D others f (goes a q) g =
+  terms_goes t ts k p cd c n i s outer sizes D others f v (goes a q) g =
       elim (g a) [
-        | stops e w r ↦ stops e (refused_later deep t ts p c n (length outer) s cd D e f a w) (rw (append_assoc (tokens deep t) (all_tokens deep ts) others) (q ∙ r))
+        | stops e w r ↦ stops e (refused_later deep t ts p c n (length outer) s cd D e f (takes_bytes t p v a.sound) a w) (rw (append_assoc (tokens deep t) (all_tokens deep ts) others) (q ∙ r))
         | goes b r ↦
             let x : c + length (text t p ++ texts ts (next p)) ≡ (c + length (text t p)) + length (texts ts (next p)) = omega (arith, length-append (text t p) (texts ts (next p))) in
             let y : n + suc (count ts) ≡ (n + 1) + count ts = omega arith in
@@ -296,7 +297,7 @@ module _ (deep : List ℕ → ℕ) where
           | inl a ↦ stops Depth (past refl (deep_holder deep h (length outer) ts a.1)) (stop_step _ Depth (begin h) _ (rw (a.0) refl))
           | inr a ↦ elim (enter_case (wide_code h) k p cd c n i s outer sizes D r f) [
             | inr b ↦ stops MixedArray (other refl b.1) (stop_step _ MixedArray (begin h) _ (rw (a.0) (ap (λ r. r >>= λ n. Ok (opened h n)) (b.0))))
-            | inl b ↦ holder_goes h ts k p cd c n i s outer sizes D others a.1 b.1
+            | inl b ↦ holder_goes h ts k p cd c n i s outer sizes D others a.1 v.1 b.1
                 (first_step _ _ (begin h) ((all_tokens deep ts ++ end h ∷ []) ++ others) (rw (a.0) (ap (λ r. r >>= λ n. Ok (opened h n)) (b.0))) ∙ ap (steps _) (append_assoc (all_tokens deep ts) (end h ∷ []) others))
                 (measure_terms ts h (first_place h) 0 0 0 (length sizes) (length D) (fr k p (code_after p cd (wide_code h)) c n i s ∷ outer) (sizes ++ no_size ∷ []) D (end h ∷ others) (fits_itself h ts p D) (omega arith) (omega arith) v.1)
           ]
@@ -308,6 +309,6 @@ module _ (deep : List ℕ → ℕ) where
         rw (append-nil, add-zero, add-zero)
         (goes (record { all_sound = tt; all_clean = (λ e h. h); all_within = tt; all_long = omega arith; all_many = omega arith; all_formed = (λ o. tt); uniform = uniform_none p s D cd }) refl)
     measure_terms (more t ts) k p cd c n i s outer sizes D others f l m v =
-        terms_goes t ts (Some k) p cd c n i s outer sizes D others f
+        terms_goes t ts (Some k) p cd c n i s outer sizes D others f v.0
         (measure_term t (Some k) p cd c n i s outer sizes D (all_tokens deep ts ++ others) refl f v.0)
         (λ a. measure_terms ts k (next p) (code_after p cd (core_code t)) (c + length (text t p)) (n + 1) i s outer (sizes ++ map as_size (sizes_of t)) (descs_after p D (descs t)) others (fit_on p s D (descs t) f) a.long a.many v.1)

@@ -35,7 +35,7 @@ steps_none s = refl
 
 -- what holds somewhere for one reason holds for another
 mutual
-  somewhere_as : (P Q : Term → Type 0) → ((t : Term) → P t → Q t) → (t : Term) → Somewhere P t → Somewhere Q t
+  pub somewhere_as : (P Q : Term → Type 0) → ((t : Term) → P t → Q t) → (t : Term) → Somewhere P t → Somewhere Q t
   somewhere_as P Q h (leaf p) s = h (leaf p) s
   somewhere_as P Q h (holder k ts) (inl s) = inl (h (holder k ts) s)
   somewhere_as P Q h (holder k ts) (inr s) = inr (somewhere_in_as P Q h ts s)
@@ -44,7 +44,7 @@ mutual
   somewhere_as P Q h (kept b) s = h (kept b) s
   somewhere_as P Q h (barred r) s = h (barred r) s
 
-  somewhere_in_as : (P Q : Term → Type 0) → ((t : Term) → P t → Q t) → (ts : Terms) → SomewhereIn P ts → SomewhereIn Q ts
+  pub somewhere_in_as : (P Q : Term → Type 0) → ((t : Term) → P t → Q t) → (ts : Terms) → SomewhereIn P ts → SomewhereIn Q ts
   somewhere_in_as P Q h none s = s
   somewhere_in_as P Q h (more t ts) (inl s) = inl (somewhere_as P Q h t s)
   somewhere_in_as P Q h (more t ts) (inr s) = inr (somewhere_in_as P Q h ts s)
@@ -76,7 +76,7 @@ module _ (deep : List ℕ → ℕ) where
   row_refused ts e (some_inside r) = inl r
   row_refused ts e (some_past i h) = inr (inl (i, let f : 128 < 0 + nests_by deep ts = any_past deep Plain 0 ts h in omega arith))
   row_refused ts e (all_too_long i h) = inr (inr (i, inl (omega arith)))
-  row_refused ts e (all_too_many i h) = inr (inr (i, inr (omega arith)))
+  row_refused ts e (all_too_many i h m) = inr (inr (i, inr (omega arith)))
   row_refused ts e (some_null i a t j h) = absurd a
   row_refused ts e (some_kept i a t b j h) = absurd a
   row_refused ts e (some_other i h) = absurd h

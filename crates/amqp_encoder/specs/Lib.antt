@@ -10,3 +10,4 @@ pub mod Writes
 pub mod Passes
 pub mod Sound
 pub mod Reasons
+pub mod Refused

@@ -1,16 +1,17 @@
 -- Why an encoder doesn't measure a term.
-use Rattle.std.specs.Prelude.{◌≡◌, ◌⊎◌, ℕ, suc, ◌%◌, ◌^◌, ◌<◌, ◌≤◌, max, List, length}
+use Rattle.std.specs.Prelude.{◌≡◌, ◌⊎◌, ℕ, suc, ◌%◌, ◌^◌, ◌<◌, ◌≤◌, max, List, [], length}
 use Rattle.amqp_model.specs.Term.{Refusal, list, map, array, Term, Terms, leaf, holder, described, kept, barred, none, more, count}
 use Rattle.amqp_model.specs.Text.{Plain, texts}
-use Rattle.amqp_model.specs.Refusals.{SomewhereIn, IsRefused}
+use Rattle.amqp_model.specs.Refusals.{SomewhereIn, IsItem, IsRefused}
 use Rattle.amqp_wire.specs.Refusals.{error_of}
 use Rattle.amqp_wire.specs.declared.error.Error.{Error}
 use Rattle.amqp_wire.specs.declared.error.Error.TheVariants.{OddCount, Depth, TooLarge}
 use Rattle.amqp_encoder.specs.Measuring.{MAX}
 
--- Part 1, section 1.2.3: a count that doesn't fit in four bytes.
+-- Part 1, section 1.2.3: a count that doesn't fit in four bytes. An item that is no bytes is among them, since else
+-- the size doesn't fit either; bytes that spell a term are no such item.
 abbrev pub IsCrowded : Term → Type 0
-IsCrowded (holder k ts) = 2 ^ 32 ≤ count ts
+IsCrowded (holder k ts) = (2 ^ 32 ≤ count ts) × IsItem (kept []) ts
 IsCrowded _ = ⊥
 
 -- Part 1, section 1.6.23: a map with a key that has no value.

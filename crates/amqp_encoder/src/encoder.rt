@@ -1,5 +1,5 @@
 //! What values are written to.
-ghost use Rattle.std.specs.Prelude.{◌≡◌, ◌≤◌, ◌⊎◌, ℕ, [], ◌∷◌, length, Some, None, OnOk, IfErr, MatchResult, List, Err};
+ghost use Rattle.std.specs.Prelude.{◌≡◌, ◌≤◌, ◌⊎◌, ℕ, [], ◌∷◌, length, Some, None, OnOk, IfErr, MatchResult, List, Ok, Err};
 ghost use Rattle.std.specs.Vec.{vec_capacity};
 ghost use Rattle.amqp_model.specs.Term.{Primitive, null, symbol, list, map, array};
 ghost use Rattle.amqp_wire.specs.declared.error.Error.TheVariants.{InvalidValue};
@@ -63,10 +63,10 @@ impl Encoder {
         }
     }
 
-    /// What was measured. An error is the encoder's refusal, or `InvalidValue` where a container is still
-    /// open or the encoder doesn't measure.
+    /// What was measured. An error is the encoder's refusal, or `InvalidValue` where it has refused nothing but a
+    /// container is still open or it doesn't measure.
     pub fn into_measurement(self) -> Result<Measurement, Error>
-        ensures { MatchResult result (λ m. Finds self m.len m.sizes.items) (λ e. (answer_of self ≡ Err e) ⊎ ((e ≡ InvalidValue) × ((len : ℕ) (sizes : List Size) → Finds self len sizes → ⊥))) }
+        ensures { MatchResult result (λ m. Finds self m.len m.sizes.items) (λ e. (answer_of self ≡ Err e) ⊎ ((e ≡ InvalidValue) × ((len : ℕ) (sizes : List Size) → Finds self len sizes → ⊥) × (answer_of self ≡ Ok tt))) }
     {
         let Encoder { pass, kept: _ } = self;
         match pass {
@@ -108,13 +108,16 @@ impl Encoder {
         ensures stopped { IfErr outcome (λ e. self.new.pass ≡ Stopped e) }
         ensures bytes { bytes_of self.new ≡ bytes_of self.old }
     {
-        if let Err(error) = outcome {
-            self.stop(error);
+        match outcome {
+            Ok(()) => Ok(()),
+            Err(error) => self.stop(error),
         }
-        outcome
     }
 
-    fn stop(&mut self, error: Error)
+    #[cold]
+    #[inline(never)]
+    fn stop(&mut self, error: Error) -> Result<(), Error>
+        ensures same { result ≡ Err error }
         ensures stopped { self.new.pass ≡ Stopped error }
         ensures bytes { bytes_of self.new ≡ bytes_of self.old }
     {
@@ -122,6 +125,7 @@ impl Encoder {
             Pass::Filling(fill) => self.kept = fill.into_buffer(),
             Pass::Measuring(_) | Pass::Stopped(_) => {}
         }
+        Err(error)
     }
 
     /// Refuses the value for a reason of its type's own, or for want of memory of its own.
@@ -151,7 +155,7 @@ impl Encoder {
                 self.settle(outcome)
             }
             Pass::Filling(fill) => {
-                let outcome = fill.put(shortest, &wide);
+                let outcome = fill.put(shortest, wide);
                 self.settle(outcome)
             }
             Pass::Stopped(error) => Err(*error),

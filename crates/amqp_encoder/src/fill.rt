@@ -1,11 +1,12 @@
 //! The filling pass: it writes into a room that was measured before, and never grows.
-ghost use Rattle.std.specs.Prelude.{◌≡◌, ◌≤◌, ◌<◌, ◌++◌, [], ◌∷◌, ◌^◌, ℕ, List, length, take, drop};
-ghost use Rattle.std.specs.Vec.{vec_capacity};
+ghost use Rattle.std.specs.Prelude.{◌≡◌, ◌≤◌, ◌<◌, ◌+◌, ◌++◌, [], ◌∷◌, ◌^◌, ℕ, List, length, take, drop};
+ghost use Rattle.std.specs.Vec.{vec_capacity, vec_len};
 ghost use Rattle.amqp_model.specs.Term.{array};
 ghost use Rattle.amqp_model.specs.Text.{Plain, head, first_place};
 ghost use Rattle.amqp_encoder.specs.Opening.{opening};
 ghost use Rattle.amqp_encoder.specs.Values.{place_of, container_of, descriptor_of, shortest_text};
 ghost use Rattle.amqp_encoder.specs.State.{to_fill};
+ghost use Rattle.amqp_encoder.specs.declared.kinds.Shortest.TheVariants.{Wide};
 ghost use Rattle.amqp_encoder.specs.Filling.{emit, fill_value, fill_null_at, fill_keep, fill_open, fill_begin, fill_begin_described, fill_end};
 ghost use Rattle.amqp_encoder.specs.Gives.{Does, fixed_text, fill_bytes};
 
@@ -119,6 +120,19 @@ impl Fill {
         Ok(())
     }
 
+    /// Writes a few bytes, which is faster one by one than by a call that copies them.
+    #[inline(always)]
+    fn emit_each(&mut self, bytes: &[u8]) -> Result<(), Error>
+        ensures does { Does (emit bytes.now self.old) result self.new }
+        ensures kept { take (length self.old.out) self.new.out ≡ self.old.out }
+    {
+        if self.out.len() > self.limit || self.limit - self.out.len() < bytes.len() {
+            return Err(Error::InvalidValue);
+        }
+        push_each(&mut self.out, bytes);
+        Ok(())
+    }
+
     /// Writes a value that is the next one in its place.
     #[inline(always)]
     fn emit_value(&mut self, head: &[u8], body: &[u8]) -> Result<(), Error>
@@ -132,19 +146,36 @@ impl Fill {
 
     /// A primitive, with its code and its data as the first item of an array.
     #[inline(always)]
-    pub(crate) fn put(&mut self, shortest: Shortest, wide: &[u8]) -> Result<(), Error>
-        requires { 1 ≤ length wide.now }
-        ensures does { Does (fill_value (fixed_text self.old.place shortest wide.now) self.old) result self.new }
+    pub(crate) fn put<const N: usize>(
+        &mut self,
+        shortest: Shortest,
+        wide: [u8; N],
+    ) -> Result<(), Error>
+        requires { 1 ≤ N }
+        ensures does { Does (fill_value (fixed_text self.old.place shortest wide.entry) self.old) result self.new }
         ensures kept { take (length self.old.out) self.new.out ≡ self.old.out }
     {
         match self.place {
             Place::Plain => match shortest {
                 Shortest::Code(code) => self.emit_byte(code),
                 Shortest::Byte(code, byte) => self.emit_two(code, byte),
-                Shortest::Wide => self.emit(wide, &[]),
+                Shortest::Wide => self.emit_each(&wide),
             },
-            Place::First => self.emit_value(wide, &[]),
-            Place::Later => self.emit_value(&wide[1..], &[]),
+            Place::First | Place::Later => self.put_in_array(wide),
+        }
+    }
+
+    // It stands apart, so that what `put` inlines stays small.
+    #[inline(never)]
+    fn put_in_array<const N: usize>(&mut self, wide: [u8; N]) -> Result<(), Error>
+        requires { 1 ≤ N }
+        ensures does { Does (fill_value (fixed_text self.old.place Wide wide.entry) self.old) result self.new }
+        ensures kept { take (length self.old.out) self.new.out ≡ self.old.out }
+    {
+        let bytes = &wide[..];
+        match self.place {
+            Place::Plain | Place::First => self.emit_value(bytes, &[]),
+            Place::Later => self.emit_value(&bytes[1..], &[]),
         }
     }
 
@@ -320,5 +351,17 @@ impl Fill {
         self.depth -= 1;
         self.place = self.places[self.depth].next();
         Ok(())
+    }
+}
+
+// Bytes for which there is room.
+#[inline(always)]
+fn push_each(out: &mut Vec<u8>, bytes: &[u8])
+    requires { vec_len out.old + length bytes.now ≤ vec_capacity out.old }
+    ensures items { out.new.items ≡ out.old.items ++ bytes.now }
+    ensures capacity { vec_capacity out.new ≡ vec_capacity out.old }
+{
+    for byte in bytes {
+        out.push_reserved(*byte);
     }
 }

@@ -143,25 +143,25 @@ impl Shortest {
     pub(crate) fn of_uint(value: u32) -> Shortest
         ensures { shortest_text result (spell (wide (uint value))) ≡ spell (shortest (uint value)) }
     {
-        if value == 0 {
-            return Shortest::Code(format_code::UINT_0);
+        if value >= 256 {
+            Shortest::Wide
+        } else if value == 0 {
+            Shortest::Code(format_code::UINT_0)
+        } else {
+            Shortest::Byte(format_code::SMALL_UINT, value as u8)
         }
-        if value < 256 {
-            return Shortest::Byte(format_code::SMALL_UINT, value as u8);
-        }
-        Shortest::Wide
     }
 
     pub(crate) fn of_ulong(value: u64) -> Shortest
         ensures { shortest_text result (spell (wide (ulong value))) ≡ spell (shortest (ulong value)) }
     {
-        if value == 0 {
-            return Shortest::Code(format_code::ULONG_0);
+        if value >= 256 {
+            Shortest::Wide
+        } else if value == 0 {
+            Shortest::Code(format_code::ULONG_0)
+        } else {
+            Shortest::Byte(format_code::SMALL_ULONG, value as u8)
         }
-        if value < 256 {
-            return Shortest::Byte(format_code::SMALL_ULONG, value as u8);
-        }
-        Shortest::Wide
     }
 
     pub(crate) fn of_int(value: i32) -> Shortest

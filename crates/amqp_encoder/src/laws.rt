@@ -1,13 +1,18 @@
 //! The laws of the two passes over some terms in a row. The functions do nothing; their contracts are proved.
-ghost use Rattle.std.specs.Prelude.{◌≡◌, ◌≤◌, ◌⊎◌, ◌+◌, ◌++◌, ℕ, List, length, map, Result, Ok, Err};
-ghost use Rattle.amqp_model.specs.Term.{Term};
+ghost use Rattle.std.specs.Prelude.{◌≡◌, ◌≤◌, ◌⊎◌, ◌+◌, ◌++◌, ℕ, List, [], ◌∷◌, length, map, Any, Result, Ok, Err};
+ghost use Rattle.amqp_model.specs.Term.{Refusal, Term, depth};
 ghost use Rattle.amqp_model.specs.Items.{terms_of};
-ghost use Rattle.amqp_model.specs.Text.{all_sizes};
+ghost use Rattle.amqp_model.specs.Text.{Plain, text, all_sizes};
+ghost use Rattle.amqp_model.specs.Kept.{Reads};
+ghost use Rattle.amqp_model.specs.Refusals.{Refuses};
+ghost use Rattle.amqp_wire.specs.Refusals.{error_of};
 ghost use Rattle.amqp_wire.specs.declared.error.Error.{Error};
-ghost use Rattle.amqp_wire.specs.declared.error.Error.TheVariants.{Memory};
+ghost use Rattle.amqp_wire.specs.declared.error.Error.TheVariants.{Memory, LazyInArray};
 ghost use Rattle.amqp_encoder.specs.declared.encoder.Encoder.{Encoder};
 ghost use Rattle.amqp_encoder.specs.declared.size.Size.{Size};
-ghost use Rattle.amqp_encoder.specs.Tokens.{Token};
+ghost use Rattle.amqp_encoder.specs.Tokens.{Token, tokens};
+ghost use Rattle.amqp_encoder.specs.Measuring.{MAX};
+ghost use Rattle.amqp_encoder.specs.Refused.{AllRead, HasCause, IsNesting, KnowDepths, TermHasCause};
 ghost use Rattle.amqp_encoder.specs.Writes.{Writes, bytes_of};
 ghost use Rattle.amqp_encoder.specs.Passes.{AreRefused, AreValues, BeginsFilling, BeginsMeasuring, Finds, IsMeasured, as_size, row_text, row_tokens};
 
@@ -27,6 +32,43 @@ pub fn filling()
         → BeginsFilling old sizes out limit → Writes old (row_tokens deep ts) (Ok tt) new → bytes_of new ≡ out ++ row_text ts }
     ensures refused { (deep : List ℕ → ℕ) (ts : List Term) (len : ℕ) (sizes : List Size) (out : List ℕ) (limit : ℕ) (old new : Encoder) (e : Error) → IsMeasured deep ts len sizes → length out + len ≤ limit
         → BeginsFilling old sizes out limit → Writes old (row_tokens deep ts) (Err e) new → e ≡ Memory }
+{}
+
+/// Each reason for which the model refuses one of the terms is a reason for the encoder, by its error, where it is told how
+/// deep the bytes nest that are kept in the terms. A term that nests too deep in bytes that are kept in an array is refused
+/// for those bytes.
+pub fn refusals_are_complete()
+    ensures nesting { (deep : List ℕ → ℕ) (us : List Term) → IsNesting deep → KnowDepths deep us }
+    ensures complete { (deep : List ℕ → ℕ) (us : List Term) (r : Refusal) → KnowDepths deep us → Any (Refuses r) us → AreRefused deep us (error_of r) ⊎ ((r ≡ depth) × AreRefused deep us LazyInArray) }
+    ensures of_one { (deep : List ℕ → ℕ) (u : Term) (r : Refusal) → KnowDepths deep (u ∷ []) → Refuses r u → AreRefused deep (u ∷ []) (error_of r) ⊎ ((r ≡ depth) × AreRefused deep (u ∷ []) LazyInArray) }
+{}
+
+/// Each error of the encoder names a reason for which the model refuses one of the terms, but for more bytes or terms than
+/// the machine counts. A count that doesn't fit in four bytes is of items whose size doesn't fit either.
+pub fn refusals_are_sound()
+    ensures sound { (deep : List ℕ → ℕ) (us ts : List Term) (e : Error) → KnowDepths deep us → AreValues us → AllRead us ts → AreRefused deep us e → HasCause us e }
+    ensures of_one { (deep : List ℕ → ℕ) (u t : Term) (e : Error) → KnowDepths deep (u ∷ []) → AreValues (u ∷ []) → Reads u t → AreRefused deep (u ∷ []) e → TermHasCause u e }
+{}
+
+/// An encoder that measures answers Ok exactly where the model refuses nothing and the machine counts the bytes; else it
+/// answers the named reason. It may run out of memory in either case.
+pub fn accepted_exactly()
+    ensures accepted { (deep : List ℕ → ℕ) (u : Term) (old new : Encoder) → KnowDepths deep (u ∷ []) → AreValues (u ∷ []) → BeginsMeasuring old → Writes old (tokens deep u) (Ok tt) new
+        → ((r : Refusal) → Refuses r u → ⊥) × (length (text u Plain) ≤ MAX) }
+    ensures refused { (deep : List ℕ → ℕ) (u t : Term) (old new : Encoder) (e : Error) → KnowDepths deep (u ∷ []) → AreValues (u ∷ []) → Reads u t → BeginsMeasuring old → Writes old (tokens deep u) (Err e) new
+        → (e ≡ Memory) ⊎ TermHasCause u e }
+    ensures exactly { (deep : List ℕ → ℕ) (u t : Term) (old new : Encoder) (answer : Result (Unit {0}) Error) → KnowDepths deep (u ∷ []) → AreValues (u ∷ []) → Reads u t → BeginsMeasuring old → Writes old (tokens deep u) answer new
+        → ((r : Refusal) → Refuses r u → ⊥) → length (text u Plain) ≤ MAX → (answer ≡ Ok tt) ⊎ (answer ≡ Err Memory) }
+{}
+
+/// The same of terms in a row.
+pub fn rows_accepted_exactly()
+    ensures accepted { (deep : List ℕ → ℕ) (us : List Term) (old new : Encoder) → KnowDepths deep us → AreValues us → BeginsMeasuring old → Writes old (row_tokens deep us) (Ok tt) new
+        → ((e : Error) → HasCause us e → ⊥) }
+    ensures refused { (deep : List ℕ → ℕ) (us ts : List Term) (old new : Encoder) (e : Error) → KnowDepths deep us → AreValues us → AllRead us ts → BeginsMeasuring old → Writes old (row_tokens deep us) (Err e) new
+        → (e ≡ Memory) ⊎ HasCause us e }
+    ensures exactly { (deep : List ℕ → ℕ) (us ts : List Term) (old new : Encoder) (answer : Result (Unit {0}) Error) → KnowDepths deep us → AreValues us → AllRead us ts → BeginsMeasuring old → Writes old (row_tokens deep us) answer new
+        → ((e : Error) → HasCause us e → ⊥) → (answer ≡ Ok tt) ⊎ (answer ≡ Err Memory) }
 {}
 
 /// Calls one after another are calls in a row; after a refusal the further calls change nothing.

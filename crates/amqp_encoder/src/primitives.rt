@@ -10,6 +10,7 @@ use amqp_wire::{Error, format_code};
 
 impl Encoder {
     /// A boolean (Part 1, section 1.6.2).
+    #[inline(always)]
     pub fn write_bool(&mut self, value: bool) -> Result<(), Error>
         ensures { Writes self.old (put (boolean value) ∷ []) result self.new }
     {
@@ -27,6 +28,7 @@ impl Encoder {
     }
 
     /// An unsigned integer of 8 bits (Part 1, section 1.6.3).
+    #[inline(always)]
     pub fn write_ubyte(&mut self, value: u8) -> Result<(), Error>
         ensures { Writes self.old (put (ubyte value) ∷ []) result self.new }
     {
@@ -34,6 +36,7 @@ impl Encoder {
     }
 
     /// An unsigned integer of 16 bits (Part 1, section 1.6.4).
+    #[inline(always)]
     pub fn write_ushort(&mut self, value: u16) -> Result<(), Error>
         ensures { Writes self.old (put (ushort value) ∷ []) result self.new }
     {
@@ -42,6 +45,7 @@ impl Encoder {
     }
 
     /// An unsigned integer of 32 bits (Part 1, section 1.6.5).
+    #[inline(always)]
     pub fn write_uint(&mut self, value: u32) -> Result<(), Error>
         ensures { Writes self.old (put (uint value) ∷ []) result self.new }
     {
@@ -51,6 +55,7 @@ impl Encoder {
     }
 
     /// An unsigned integer of 64 bits (Part 1, section 1.6.6).
+    #[inline(always)]
     pub fn write_ulong(&mut self, value: u64) -> Result<(), Error>
         ensures { Writes self.old (put (ulong value) ∷ []) result self.new }
     {
@@ -60,6 +65,7 @@ impl Encoder {
     }
 
     /// A signed integer of 8 bits (Part 1, section 1.6.7).
+    #[inline(always)]
     pub fn write_byte(&mut self, value: i8) -> Result<(), Error>
         ensures { Writes self.old (put (byte value) ∷ []) result self.new }
     {
@@ -68,6 +74,7 @@ impl Encoder {
     }
 
     /// A signed integer of 16 bits (Part 1, section 1.6.8).
+    #[inline(always)]
     pub fn write_short(&mut self, value: i16) -> Result<(), Error>
         ensures { Writes self.old (put (short value) ∷ []) result self.new }
     {
@@ -76,6 +83,7 @@ impl Encoder {
     }
 
     /// A signed integer of 32 bits (Part 1, section 1.6.9).
+    #[inline(always)]
     pub fn write_int(&mut self, value: i32) -> Result<(), Error>
         ensures { Writes self.old (put (int value) ∷ []) result self.new }
     {
@@ -85,6 +93,7 @@ impl Encoder {
     }
 
     /// A signed integer of 64 bits (Part 1, section 1.6.10).
+    #[inline(always)]
     pub fn write_long(&mut self, value: i64) -> Result<(), Error>
         ensures { Writes self.old (put (long value) ∷ []) result self.new }
     {
@@ -121,6 +130,7 @@ impl Encoder {
     }
 
     /// A Unicode character (Part 1, section 1.6.16).
+    #[inline(always)]
     pub fn write_char(&mut self, value: char) -> Result<(), Error>
         ensures { Writes self.old (put (char value) ∷ []) result self.new }
     {
@@ -129,6 +139,7 @@ impl Encoder {
     }
 
     /// A point in time, in milliseconds since 1970 (Part 1, section 1.6.17).
+    #[inline(always)]
     pub fn write_timestamp(&mut self, value: i64) -> Result<(), Error>
         ensures { Writes self.old (put (timestamp value) ∷ []) result self.new }
     {

@@ -1,0 +1,7 @@
+use Rattle.std.proofs.Common.{◌≡◌, ◌++◌, take}
+use Rattle.std.specs.Vec.{vec_capacity}
+use Rattle.amqp_encoder.proofs.fill.push_each.Given as goal
+
+abbrev pub invariant-loop-byte : goal.invariant-loop-byte
+invariant-loop-byte l =
+    (l.out.items ≡ l.initial.out.items ++ take l.byte-index l.bytes) × (vec_capacity l.out ≡ vec_capacity l.initial.out)
