@@ -34,14 +34,14 @@ pub lower-lower : (o : Option ℕ) (m n : ℕ) → lower (lower o m) n ≡ lower
 lower-lower None m n = refl
 lower-lower (Some l) m n = ap Some (omega arith)
 
-minus-minus : (a m n : ℕ) → a - m - n ≡ a - (m + n)
+pub minus-minus : (a m n : ℕ) → a - m - n ≡ a - (m + n)
 minus-minus a m n = omega arith
 
 pub on-past : (m n : ℕ) (st : State) → on n (past m st) ≡ past (m + n) st
 on-past m n st = rw (minus-minus st.ahead m n, drop-drop n m st.rest, lower-lower st.top.left m n) refl
 
 -- the bytes of data follow those of the code
-after_code : (own b r : List ℕ) → r ≡ own ++ drop (length own) r → drop (length own) r ≡ b ++ drop (length b) (drop (length own) r) → r ≡ (own ++ b) ++ drop (length b) (drop (length own) r)
+pub after_code : (own b r : List ℕ) → r ≡ own ++ drop (length own) r → drop (length own) r ≡ b ++ drop (length b) (drop (length own) r) → r ≡ (own ++ b) ++ drop (length b) (drop (length own) r)
 after_code own b r e f = e ∙ ap (λ x. own ++ x) f ∙ sym (append_assoc own b (drop (length b) (drop (length own) r)))
 
 leaf_spelled : (o : Option (List Descriptor × ℕ)) (c : ℕ) (own b : List ℕ) (p : Primitive) → IsFirst o c own → PrimitiveData (format c) p b → SpellsAs (standing o (own ++ b)) (leaf p)
@@ -149,7 +149,7 @@ sized_not_lacking w m m' m1 e b s n fits fits' is t u l =
     let room : Has (lower m.top.left (length head)) (length s) = has_rest m.top.left (length head) (length s) (subst (Has m.top.left) lens t.room) in
     not_lacking n (on (length head) m) e s after (subst (λ (z : State). Lacks n z e) u.moved l) (omega (arith, same.0)) room same.1
 
-data_not_lacking : (F : Format) (p : Primitive) (m m' : State) (e : Error) (b : List ℕ) → PrimitiveData F p b → Took m b m' → LacksData F m e → ⊥
+pub data_not_lacking : (F : Format) (p : Primitive) (m m' : State) (e : Error) (b : List ℕ) → PrimitiveData F p b → Took m b m' → LacksData F m e → ⊥
 data_not_lacking (fixed w f) p m m' e b d t l = not_lacking w m e b (drop (length b) m.rest) l (omega (arith, d.0)) t.room t.rest
 data_not_lacking (variable w f) p m m' e b (s, fits, is, v, valid) t (inl l) =
     not_lacking w m e b (drop (length b) m.rest) l (omega (arith, ap length is, length-append (bytes_high_first w (length s)) s, length-bytes w (length s))) t.room t.rest
@@ -164,7 +164,7 @@ data_whole (compound k w) p b d = absurd d
 data_whole unknown p b d = absurd d
 
 -- one front of the input is as long as a format announces
-whole_same : (F : Format) (b b' x y : List ℕ) → IsWhole F b → IsWhole F b' → b ++ x ≡ b' ++ y → b ≡ b'
+pub whole_same : (F : Format) (b b' x y : List ℕ) → IsWhole F b → IsWhole F b' → b ++ x ≡ b' ++ y → b ≡ b'
 whole_same (fixed w f) b b' x y h h' e = front b b' x y (h ∙ sym h') e
 whole_same (variable w f) b b' x y (s, fits, is) (s', fits', is') e =
     let wide : bytes_high_first w (length s) ++ (s ++ x) ≡ bytes_high_first w (length s') ++ (s' ++ y) =
@@ -213,6 +213,10 @@ refused_first make k st e new is r = record {
 pub err_map : {A E : Type 0} (r : Result A E) (P Q : E → Type 0) → ((e : E) → P e → Q e) → IfErr r P → IfErr r Q
 err_map (Ok v) P Q f h = tt
 err_map (Err e) P Q f h = f e h
+
+pub ok_map : {A E : Type 0} (r : Result A E) (P Q : A → Type 0) → ((v : A) → P v → Q v) → IfOk r P → IfOk r Q
+ok_map (Ok v) P Q f h = f v h
+ok_map (Err e) P Q f h = tt
 
 -- why the data of a value of one constructor isn't read
 pub fixed_unbegun : (code n : ℕ) (st : State) (e : Error) (new : State) → Refused Begun BeginFault st e new → Failed (FixedFault code n) st e new

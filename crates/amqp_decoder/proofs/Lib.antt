@@ -1,6 +1,16 @@
+pub mod Holders
 pub mod KindsOfCodes
 pub mod Leaves
 pub mod Looks
+pub mod OneReading
+pub mod Opening
+pub mod Peeks
 pub mod Rows
+pub mod SectionLooks
 pub mod SizedTexts
 pub mod Steps
+pub mod Descriptors
+pub mod Fronts
+pub mod Constructed
+pub mod OpenedArrays
+pub mod KeptBytes

@@ -1,8 +1,11 @@
 -- Bytes that were looked at, and those of the source behind them.
-use Rattle.std.proofs.Common.{◌≡◌, ◌≤◌, ◌<◌, ℕ, ◌+◌, ◌-◌, List, [], ◌++◌, length, take, drop, min, Bool, refl, sym, ap, ◌∙◌, subst, arith, append_assoc, length-append, drop-drop}
-use Rattle.std.proofs.lemmas.List.{drop_at, take_at, length-take-le, length-drop}
-use Rattle.std.proofs.Math.Seq.{take-add}
-use Rattle.amqp_decoder.specs.State.{State, moved, pending}
+use Rattle.std.proofs.Common.{◌≡◌, ◌≤◌, ◌<◌, ℕ, ◌+◌, ◌-◌, List, [], ◌++◌, length, take, drop, min, max, ◌⊎◌, inl, inr, Bool, refl, sym, ap, ◌∙◌, subst, arith, append_assoc, length-append, drop-drop}
+use Rattle.std.proofs.lemmas.List.{drop_at, take_at, length-take-le, length-drop, take-append-le}
+use Rattle.std.proofs.lemmas.List.Edits.{take-paste}
+use Rattle.std.specs.List.{copy_within}
+use Rattle.std.proofs.Math.Nat.{eq-or-lt_of_le}
+use Rattle.std.proofs.Math.Seq.{take-add, take-append-add}
+use Rattle.amqp_decoder.specs.State.{State, looked, moved, pending}
 
 -- what stands in front of a list
 pub front_is : (s r x : List ℕ) (n : ℕ) → length s ≡ n → r ≡ s ++ x → r ≡ s ++ drop n r
@@ -57,3 +60,41 @@ moved_is st r a s f n hr ha hs hf =
     ∙ ap (λ x. record st { rest = drop n st.rest; ahead = x; source = s; failed = f }) ha
     ∙ ap (λ x. record st { rest = drop n st.rest; ahead = st.ahead - n; source = x; failed = f }) hs
     ∙ ap (λ x. record st { rest = drop n st.rest; ahead = st.ahead - n; failed = x }) hf
+
+-- what was looked at is at the front of its buffer, and more behind it
+kept_front : (start end_ : ℕ) (l moved_ : List ℕ) → start ≤ end_ → end_ ≤ length l → moved_ ≡ copy_within l start end_ 0 → take (end_ - start) moved_ ≡ pending start end_ l
+kept_front start end_ l moved_ h w e =
+    let k = end_ - start in
+    let at : 0 + k ≡ k = omega arith in
+    ap (take k) e ∙ ap (λ n. take n (copy_within l start end_ 0)) (sym at)
+    ∙ take-paste l 0 (drop start l) k (omega arith) (omega (arith, length-drop start l))
+
+pub looked_more : (start end_ a n : ℕ) (l moved_ b tail K L : List ℕ) → a ≡ end_ - start → start ≤ end_ → end_ ≤ length l → moved_ ≡ copy_within l start end_ 0 → length moved_ ≡ length l → n ≤ length b → K ≡ take n b ++ L
+    → pending 0 (a + n) (take a moved_ ++ (b ++ tail)) ++ L ≡ pending start end_ l ++ K
+looked_more start end_ a n l moved_ b tail K L is h w e same few f =
+    let front = take a moved_ in
+    let long : length front ≡ a = length-take-le a moved_ (omega (arith, same, is)) in
+    let whole : a + n - 0 ≡ length front + n = omega (arith, long) in
+    let all : take (a + n - 0) (front ++ (b ++ tail)) ≡ front ++ take n b =
+    ap (λ k. take k (front ++ (b ++ tail))) whole ∙ take-append-add front (b ++ tail) n ∙ ap (λ x. front ++ x) (take-append-le n b tail few) in
+    ap (λ x. x ++ L) (all ∙ ap (λ x. x ++ take n b) (ap (λ k. take k moved_) is ∙ kept_front start end_ l moved_ h w e)) ∙ append_assoc (pending start end_ l) (take n b) L ∙ ap (λ x. pending start end_ l ++ x) (sym f)
+
+-- how many bytes are looked at then
+pub looked_count : (start end_ a n count : ℕ) (l b K L : List ℕ) → a ≡ end_ - start → end_ ≤ length l → a < count → length b ≡ count - a → n ≤ length b → K ≡ take n b ++ L → (n < length b → L ≡ [])
+    → a + n - 0 ≡ max (end_ - start) (min count (length (pending start end_ l ++ K)))
+looked_count start end_ a n count l b K L is w less room few f all =
+    let p : length (pending start end_ l) ≡ end_ - start = length-take-le (end_ - start) (drop start l) (omega (arith, length-drop start l)) in
+    let k : length K ≡ n + length L = ap length f ∙ length-append (take n b) L ∙ ap (λ m. m + length L) (length-take-le n b few) in
+    let none : (n < length b) → length L ≡ 0 = λ h. ap length (all h) in
+    elim (eq-or-lt_of_le few) [
+      | inl h ↦ omega (arith, length-append (pending start end_ l) K, p, k, is)
+      | inr h ↦ omega (arith, length-append (pending start end_ l) K, p, k, none h, is)
+    ]
+
+-- a state after a look, by its parts
+pub looked_is : (st : State) (r : List ℕ) (a s : ℕ) (f : Bool) (n : ℕ) → r ≡ st.rest → a ≡ max st.ahead n → s ≡ st.source → f ≡ st.failed → record st { rest = r; ahead = a; source = s; failed = f } ≡ looked n st
+looked_is st r a s f n hr ha hs hf =
+    ap (λ x. record st { rest = x; ahead = a; source = s; failed = f }) hr
+    ∙ ap (λ x. record st { ahead = x; source = s; failed = f }) ha
+    ∙ ap (λ x. record st { ahead = max st.ahead n; source = x; failed = f }) hs
+    ∙ ap (λ x. record st { ahead = max st.ahead n; failed = x }) hf

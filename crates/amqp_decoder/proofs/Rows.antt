@@ -1,12 +1,18 @@
 -- The row of frames.
-use Rattle.std.proofs.Common.{◌≡◌, ◌≤◌, ◌<◌, ℕ, zero, suc, ◌+◌, List, length, take, get_or, set, ◌≢◌, [], ◌∷◌, unwrap_or, Bool, true, false, ltb, refl, ap, sym, ◌∙◌, arith, add-one}
-use Rattle.std.proofs.lemmas.List.{get_or-set_same, get_or-set_other, take_all}
-use Rattle.std.proofs.lemmas.Bool.{ltb-true, ltb-false}
+use Rattle.std.proofs.Common.{◌≡◌, ◌≤◌, ◌<◌, ℕ, zero, suc, ◌+◌, ◌-◌, ◌++◌, Option, IfSome, IsSome, MatchOption, option_map, List, length, take, drop, map, eqb, cond, Some, None, ap₂, subst, get_or, set, ◌≢◌, [], ◌∷◌, unwrap_or, Bool, true, false, ltb, refl, ap, sym, ◌∙◌, arith, add-one}
+use Rattle.std.proofs.lemmas.List.{get_or-set_same, get_or-set_other, take_all, drop-take, drop-drop, drop_at, take_at, take-take, length-take-le}
+use Rattle.std.proofs.lemmas.Bool.{ltb-true, ltb-false, ne_eqb, eq-eqb}
+use Rattle.std.proofs.Math.Seq.{drop-cons, take-nil}
 use Rattle.std.proofs.Math.ListN.{get_or-eq_default}
 use Rattle.std.proofs.lemmas.List.Sums.{sum_by_more}
 use Rattle.std.specs.List.{sum_by}
+use Rattle.std.specs.Borrow.{Bor}
+use Rattle.std.specs.Option.{option_and}
+use Rattle.amqp_wire.specs.declared.error.Error.{Error}
 use Rattle.amqp_decoder.specs.declared.frame.Frame.{Frame}
-use Rattle.amqp_decoder.specs.State.{DescriptorValues, Open, open_of, stack, unused, bytes_left}
+use Rattle.amqp_decoder.specs.State.{DescriptorValues, Open, open_of, items_of, shared_of, descriptor_of, State, stack, unused, bytes_left, Nested}
+use Rattle.amqp_decoder.specs.Described.{IsMark, IsUnmarked, behind}
+use Rattle.amqp_wire.specs.declared.descriptor.Descriptor.{Descriptor as DescriptorValue}
 
 abbrev left_of : Frame → ℕ
 left_of f = unwrap_or f.left 0
@@ -42,3 +48,110 @@ stack-push ds d fs f h = rw (add-one, get_or-set_same fs d f unused h, stack-set
 pub split_saved : (l : List Open) → (length l ≡ 0 → ⊥) → (outer : Open) × (others : List Open) × (l ≡ outer ∷ others)
 split_saved [] h = absurd (h refl)
 split_saved (f ∷ fs) h = (f, fs, refl)
+
+nested_set : (d i : ℕ) (fs : List Frame) (f : Frame) (m : ℕ) → d ≤ i → Nested d fs m → Nested d (set fs i f) m
+nested_set zero i fs f m h n = tt
+nested_set (suc d) i fs f m h n =
+    let ne : ◌≢◌ d i = omega arith in
+    rw (get_or-set_other fs i d f unused ne) (n.0, nested_set d i fs f (get_or fs d unused).last (omega arith) n.1)
+
+pub nested_push : (d : ℕ) (fs : List Frame) (f : Frame) (m : ℕ) → d < length fs → Nested d fs f.last → f.last ≤ m → Nested (d + 1) (set fs d f) m
+nested_push d fs f m h n few = rw (add-one, get_or-set_same fs d f unused h) (few, nested_set d d fs f f.last (omega arith) n)
+
+front_kept : (k n : ℕ) (ds es : DescriptorValues) → k ≤ n → take n ds ≡ take n es → take k ds ≡ take k es
+front_kept k n ds es h e = sym (take-take k n ds h) ∙ ap (take k) e ∙ take-take k n es h
+
+part_kept : (ds es : DescriptorValues) (n first k last : ℕ) → k ≡ last - first → last ≤ n → take n ds ≡ take n es → take k (drop first ds) ≡ take k (drop first es)
+part_kept ds es n first zero last is few e = refl
+part_kept ds es n first (suc k) last is few e =
+    let within : first + suc k ≤ n = omega arith in
+    sym (drop-take first (suc k) ds) ∙ ap (drop first) (front_kept (first + suc k) n ds es within e) ∙ drop-take first (suc k) es
+
+-- descriptors behind those of a frame don't count in it
+pub open_kept : (ds es : DescriptorValues) (n : ℕ) (f : Frame) → f.last ≤ n → take n ds ≡ take n es → open_of ds f ≡ open_of es f
+open_kept ds es n f few e =
+    ap (λ part. record { place = f.place; items = items_of f.place f.items; left = f.left; shared = cond (eqb f.code 0) None (Some (map descriptor_of part, f.code)) })
+    (part_kept ds es n f.first (f.last - f.first) f.last refl few e)
+
+pub stack_kept : (ds es : DescriptorValues) (n d : ℕ) (fs : List Frame) (m : ℕ) → Nested d fs m → m ≤ n → take n ds ≡ take n es → stack ds d fs ≡ stack es d fs
+stack_kept ds es n zero fs m h few e = refl
+stack_kept ds es n (suc d) fs m h few e =
+    ap₂ (λ o l. o ∷ l) (open_kept ds es n (get_or fs d unused) (omega (arith, h.0)) e) (stack_kept ds es n d fs (get_or fs d unused).last h.1 (omega (arith, h.0)) e)
+
+-- the first descriptor of those that are left
+part_first : (ds : DescriptorValues) (first last : ℕ) (d : DescriptorValue) → first < last → last ≤ length ds → take (last - first) (drop first ds) ≡ get_or ds first d ∷ take (last - suc first) (drop (suc first) ds)
+part_first ds first last d h few =
+    let more : last - first ≡ suc (last - suc first) = omega arith in
+    ap₂ (λ k l. take k l) more (drop-cons ds first d (omega arith))
+
+some_shared : (ds : DescriptorValues) (c first last : ℕ) (l : DescriptorValues) → (c ≡ 0 → ⊥) → take (last - first) (drop first ds) ≡ l → shared_of ds c first last ≡ Some (map descriptor_of l, c)
+some_shared ds c first last l some is =
+    ap (λ b. cond b None (Some (map descriptor_of (take (last - first) (drop first ds)), c))) (ne_eqb c 0 some) ∙ ap (λ part. Some (map descriptor_of part, c)) is
+
+pub first_mark : (ds : DescriptorValues) (c first last : ℕ) (d e : DescriptorValue) → (c ≡ 0 → ⊥) → first < last → last ≤ length ds → d ≡ get_or ds first e → IsMark (shared_of ds c first last) (descriptor_of d)
+first_mark ds c first last d e some h few is =
+    subst (λ o. IsMark o (descriptor_of d)) (sym (some_shared ds c first last _ some (part_first ds first last e h few))) (ap descriptor_of is)
+
+pub found_mark : (r : Option (Bor DescriptorValue)) (l ds : DescriptorValues) (i c first last : ℕ) → l ≡ ds → i ≡ first → (c ≡ 0 → ⊥) → first < last → last ≤ length ds → IfSome r (λ x. x.now ≡ get_or l i x.now) → (i < length l → IsSome r)
+    → MatchOption r (IsUnmarked (shared_of ds c first last)) (λ x. IsMark (shared_of ds c first last) (descriptor_of x.now))
+found_mark None l ds i c first last e is some h few at_ there = let x = there (omega (arith, ap length e)) in absurd (cc)
+found_mark (Some x) l ds i c first last e is some h few at_ there = first_mark ds c first last x.now x.now some h few (at_ ∙ ap (λ k. get_or k i x.now) e ∙ ap (λ k. get_or ds k x.now) is)
+
+pub no_code_unmarked : (ds : DescriptorValues) (c first last : ℕ) → c ≡ 0 → IsUnmarked (shared_of ds c first last)
+no_code_unmarked ds c first last h =
+    subst IsUnmarked (ap (λ b. cond b None (Some (map descriptor_of (take (last - first) (drop first ds)), c))) (sym (eq-eqb c 0 h))) tt
+
+pub none_unmarked : (ds : DescriptorValues) (c first last : ℕ) → (c ≡ 0 → ⊥) → last ≤ first → IsUnmarked (shared_of ds c first last)
+none_unmarked ds c first last some h =
+    let none : last - first ≡ 0 = omega arith in
+    subst IsUnmarked (sym (some_shared ds c first last [] some (ap (λ k. take k (drop first ds)) none))) some
+
+drop_map : (l : DescriptorValues) → drop 1 (map descriptor_of l) ≡ map descriptor_of (drop 1 l)
+drop_map [] = refl
+drop_map (d ∷ ds) = refl
+
+behind_shared : (b : Bool) (l : DescriptorValues) (c : ℕ) → behind (cond b None (Some (map descriptor_of l, c))) ≡ cond b None (Some (map descriptor_of (drop 1 l), c))
+behind_shared true l c = refl
+behind_shared false l c = ap (λ ds. Some (ds, c)) (drop_map l)
+
+drop_take : (k : ℕ) (l : DescriptorValues) → drop 1 (take (suc k) l) ≡ take k (drop 1 l)
+drop_take k [] = sym (take-nil k)
+drop_take k (d ∷ ds) = refl
+
+part_behind : (ds : DescriptorValues) (first k next last : ℕ) → k ≡ last - first → first ≤ next → (first < last → next ≡ first + 1) → take (last - next) (drop next ds) ≡ drop 1 (take k (drop first ds))
+part_behind ds first zero next last is h one =
+    let none : last - next ≡ 0 = omega arith in
+    ap (λ n. take n (drop next ds)) none
+part_behind ds first (suc k) next last is h one =
+    let by : next ≡ first + 1 = one (omega arith) in
+    let few : last - next ≡ k = omega arith in
+    ap₂ (λ n i. take n (drop i ds)) few by ∙ ap (take k) (sym (drop-drop 1 first ds)) ∙ sym (drop_take k (drop first ds))
+
+-- the rest of a constructor
+pub shared_behind : (ds : DescriptorValues) (c first next last : ℕ) → first ≤ next → (first < last → next ≡ first + 1) → shared_of ds c next last ≡ behind (shared_of ds c first last)
+shared_behind ds c first next last h one =
+    ap (λ part. cond (eqb c 0) None (Some (map descriptor_of part, c))) (part_behind ds first (last - first) next last refl h one)
+    ∙ sym (behind_shared (eqb c 0) (take (last - first) (drop first ds)) c)
+
+-- what is added stands behind what was there
+pub part_added : (ds es : DescriptorValues) (first last : ℕ) → length ds ≡ first → last ≡ first + length es → take (last - first) (drop first (ds ++ es)) ≡ es
+part_added ds es first last h is =
+    let long : last - first ≡ length es = omega arith in
+    ap₂ (λ k l. take k l) long (drop_at ds es first h) ∙ take_all (length es) es (omega arith)
+
+pub added_front : (ds es l : DescriptorValues) (n : ℕ) → n ≤ length ds → l ≡ take n ds ++ es → take n l ≡ take n ds
+added_front ds es l n h is = ap (take n) is ∙ take_at (take n ds) es n (length-take-le n ds h)
+
+pub added_shared : (ds es l : DescriptorValues) (n c last : ℕ) → (c ≡ 0 → ⊥) → n ≤ length ds → l ≡ take n ds ++ es → last ≡ n + length es → shared_of l c n last ≡ Some (map descriptor_of es, c)
+added_shared ds es l n c last some h is end_ = some_shared l c n last es some (ap (λ x. take (last - n) (drop n x)) is ∙ part_added (take n ds) es n last (length-take-le n ds h) end_)
+
+abbrev state_of : List ℕ → ℕ → ℕ → ℕ → Option Error → Bool → Open → List Open → State
+state_of r a s n e f t ts = record { rest = r; ahead = a; source = s; top = t; saved = ts; nesting = n; error = e; failed = f }
+
+-- two states that differ in their containers alone
+pub same_view : (r : List ℕ) (a s n : ℕ) (e : Option Error) (f : Bool) (t u : Open) (ts us : List Open) → t ≡ u → ts ≡ us → state_of r a s n e f t ts ≡ state_of r a s n e f u us
+same_view r a s n e f t u ts us h k = ap₂ (state_of r a s n e f) h k
+
+pub and_none : (o : Option ℕ) → option_and {U = ℕ} o (Some 0) ≡ option_map (λ l. 0) o
+and_none None = refl
+and_none (Some l) = refl

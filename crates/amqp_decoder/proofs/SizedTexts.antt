@@ -96,7 +96,7 @@ text_value contents k narrow wide make st v new t valid x = elim x.sized [
   | inr (is, s) ↦ data_value (λ v. make (contents v)) x.code st x.mid _ v new x.begun (subst (λ c. PrimitiveData (format c) (make (contents v)) (bytes_high_first 4 (length (contents v)) ++ contents v)) (sym is) (subst (λ F. PrimitiveData F (make (contents v)) (bytes_high_first 4 (length (contents v)) ++ contents v)) (sym t.long_code) (contents v, s.fits, refl, refl, valid))) s.took
 ]
 
-no_text_value : (w : ℕ) (make : List ℕ → Primitive) (s : List ℕ) (p : Primitive) → length s < 256 ^ w → (IsValid (make s) → ⊥) → PrimitiveData (variable w (λ b. Some (make b))) p (bytes_high_first w (length s) ++ s) → ⊥
+pub no_text_value : (w : ℕ) (make : List ℕ → Primitive) (s : List ℕ) (p : Primitive) → length s < 256 ^ w → (IsValid (make s) → ⊥) → PrimitiveData (variable w (λ b. Some (make b))) p (bytes_high_first w (length s) ++ s) → ⊥
 no_text_value w make s p few none (s', fits, is, v, valid) =
     let sizes = field w (length s) (length s') s s' few fits is in
     let same : make s ≡ p = ap make sizes.1 ∙ ap (λ o. unwrap_or o p) v in

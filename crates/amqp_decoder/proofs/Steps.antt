@@ -23,7 +23,7 @@ short_of_size own n l st e new h less r = record {
   why = elim r.why [ inl x ↦ inl x | inr x ↦ inr (size_lacks own n l st e h less x) ];
 }
 
-missed_lacks : (n : ℕ) (st : State) (o : Option ℕ) (e : Error) → st.top.left ≡ o → Has o n → e ≡ Cut → length st.rest < n → Lacks n st e
+pub missed_lacks : (n : ℕ) (st : State) (o : Option ℕ) (e : Error) → st.top.left ≡ o → Has o n → e ≡ Cut → length st.rest < n → Lacks n st e
 missed_lacks n st None e h room is short = cut_open h short is
 missed_lacks n st (Some l) e h room is short = cut_inside h (inr short) (omega (arith, ap (λ o. unwrap_or o 0) h)) is
 

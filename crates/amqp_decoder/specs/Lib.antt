@@ -4,3 +4,8 @@ pub mod Reading
 pub mod Kinds
 pub mod Primitives
 pub mod Containers
+pub mod Described
+pub mod Items
+pub mod Arrays
+pub mod Terms
+pub mod Sections

@@ -3,7 +3,7 @@ use Rattle.std.specs.Prelude.{◌≡◌, ℕ, ◌<◌, ◌≤◌, ◌⊎◌, Lis
 use Rattle.amqp_model.specs.Term.{Descriptor}
 use Rattle.amqp_wire.specs.declared.error.Error.{Error}
 use Rattle.amqp_wire.specs.declared.error.Error.TheVariants.{Missing}
-use Rattle.amqp_decoder.specs.State.{State, Has, past}
+use Rattle.amqp_decoder.specs.State.{State, Has, looked, past}
 use Rattle.amqp_decoder.specs.Steps.{Excused, Lacks}
 
 -- Nothing that could be read stands there, and the error, which names a fault that does, is kept for each later call.
@@ -49,3 +49,14 @@ pub record Begun (st : State) (c : ℕ) (st' : State) : Type 0 where
 pub data BeginFault (st : State) (e : Error) : Type 0 where
   missing : st.top.items ≡ Some 0 → e ≡ Missing → BeginFault st e
   no_code : st.top.shared ≡ None → Lacks 1 st e → BeginFault st e
+
+-- The next value's first code was looked at, where no constructor is shared.
+abbrev pub looked_under : Option (List Descriptor × ℕ) → State → State
+looked_under None st = looked 1 st
+looked_under (Some c) st = st
+
+-- The next value begins by this code, and nothing is taken.
+pub record Peeked (st : State) (c : ℕ) (st' : State) : Type 0 where
+  pub after : State
+  pub begun : Begun st c after
+  pub kept : st' ≡ looked_under st.top.shared st

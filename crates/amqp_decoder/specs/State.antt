@@ -1,5 +1,5 @@
 -- What a decoder has before it.
-use Rattle.std.specs.Prelude.{◌≡◌, ℕ, zero, suc, ◌+◌, ◌-◌, ◌≤◌, ◌<◌, Bool, cond, eqb, List, [], ◌∷◌, ◌++◌, length, take, drop, map, get_or, Option, Some, None, unwrap_or, string_bytes}
+use Rattle.std.specs.Prelude.{◌≡◌, ℕ, zero, suc, ◌+◌, ◌-◌, ◌≤◌, ◌<◌, Bool, cond, eqb, List, [], ◌∷◌, ◌++◌, length, take, drop, map, get_or, max, Option, Some, None, unwrap_or, string_bytes}
 use Rattle.amqp_model.specs.Term.{Descriptor, name, code}
 use Rattle.amqp_wire.specs.declared.error.Error.{Error}
 use Rattle.amqp_wire.specs.declared.descriptor.Descriptor.{Descriptor as DescriptorValue}
@@ -66,6 +66,15 @@ abbrev pub stack : List DescriptorValue → ℕ → List Frame → List Open
 stack ds zero fs = []
 stack ds (suc n) fs = open_of ds (get_or fs n unused) ∷ stack ds n fs
 
+-- A container whose items share nothing.
+abbrev pub unshared : Frame → Open
+unshared f = record { place = f.place; items = items_of f.place f.items; left = f.left; shared = None }
+
+-- Each of the first n frames has its descriptors among those of the next one, and the last of them among the first m.
+abbrev pub Nested : ℕ → List Frame → ℕ → Type 0
+Nested zero fs m = Unit {0}
+Nested (suc n) fs m = ((get_or fs n unused).last ≤ m) × Nested n fs (get_or fs n unused).last
+
 -- The bytes of a buffer that were looked at and aren't taken.
 abbrev pub pending : ℕ → ℕ → List ℕ → List ℕ
 pending start end_ looked = take (end_ - start) (drop start looked)
@@ -87,6 +96,10 @@ bytes_left (f ∷ fs) = unwrap_or f.left 0 + bytes_left fs
 abbrev pub announced : State → ℕ
 announced st = bytes_left (st.top ∷ st.saved)
 
+-- The next n bytes were looked at: none of them is taken.
+abbrev pub looked : ℕ → State → State
+looked n st = record st { ahead = max st.ahead n }
+
 -- n bytes are taken.
 abbrev pub moved : ℕ → State → State
 moved n st = record st { rest = drop n st.rest; ahead = st.ahead - n }
@@ -98,3 +111,7 @@ on n st = record st { rest = drop n st.rest; ahead = st.ahead - n; top = record 
 -- A value of n bytes is taken.
 abbrev pub past : ℕ → State → State
 past n st = record st { rest = drop n st.rest; ahead = st.ahead - n; top = record st.top { items = lower st.top.items 1; left = lower st.top.left n } }
+
+-- A container of n items in so many bytes is entered, and they are taken off the one around it.
+abbrev pub inside : Place → ℕ → ℕ → State → State
+inside place n content st = record st { top = record { place = place; items = items_of place n; left = Some content; shared = None }; saved = (record st.top { left = lower st.top.left content }) ∷ st.saved }

@@ -54,7 +54,17 @@ pub data SizeError (own : ℕ) (st : State) (e : Error) : Type 0 where
   cut : length st.rest < asked own st → e ≡ Cut → SizeError own st e
   wrong : asked own st ≤ length st.rest → e ≡ Size → SizeError own st e
 
+-- The open container has no room for n bytes.
+pub record NoRoom (n : ℕ) (st : State) (e : Error) : Type 0 where
+  pub less : Has st.top.left n → ⊥
+  pub why : SizeError n st e
+
 -- A size was refused.
 pub record SizeRefused (own : ℕ) (st : State) (e : Error) (st' : State) : Type 0 where
   pub kept : st'.error ≡ Some e
   pub why : Excused e st' ⊎ SizeError own st e
+
+-- The error is kept, and names a fault, unless it says of memory or of the source.
+pub record Stopped (fault : Error → Type 0) (e : Error) (st' : State) : Type 0 where
+  pub kept : st'.error ≡ Some e
+  pub why : Excused e st' ⊎ fault e

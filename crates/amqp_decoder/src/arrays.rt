@@ -1,64 +1,116 @@
 //! Arrays, whose items share a constructor (Part 1, sections 1.2.4 and 1.6.24).
+ghost use Rattle.std.specs.Prelude.{◌≡◌, ◌<◌, ◌≤◌, ◌+◌, ◌++◌, ◌∷◌, [], ◌⊎◌, ◌↔◌, IsTrue, cond, length, map, Some, None, OnOk, IfOk, IfErr, vec_len};
+ghost use Rattle.amqp_model.specs.Constructors.{format};
+ghost use Rattle.amqp_model.specs.Spelling.{IsKnown, HasWidthZero};
+ghost use Rattle.amqp_wire.specs.Codes.{refusal_of};
+ghost use Rattle.amqp_wire.specs.Sources.{Tells};
+ghost use Rattle.amqp_wire.specs.declared.descriptor.Descriptor.{Descriptor as DescriptorValue};
+ghost use Rattle.amqp_wire.specs.declared.error.Error.TheVariants.{Depth};
+ghost use Rattle.amqp_decoder.specs.declared.frame.Place.TheVariants.{InArray};
+ghost use Rattle.amqp_decoder.specs.State.{State, Has, descriptor_of, inside};
+ghost use Rattle.amqp_decoder.specs.Steps.{NoRoom, Stopped};
+ghost use Rattle.amqp_decoder.specs.Reading.{Reads};
+ghost use Rattle.amqp_decoder.specs.Containers.{Closes, CloseFault};
+ghost use Rattle.amqp_decoder.specs.Described.{TookDescriptor, DescriptorFault};
+ghost use Rattle.amqp_decoder.specs.Arrays.{TookConstructor, ConstructorFault, IsFlat, Shares, SharesFault, EntersArray, EnterArrayFault, OpensArray, ArrayFault, if_unknown};
+
 use crate::Decoder;
 use crate::frame::{Frame, Place};
 use amqp_lengths::NESTING;
-use amqp_wire::format_code::{has_width_zero, is_compound, unknown};
-use amqp_wire::{ByteSource, Error, format_code};
+use amqp_wire::{ByteSource, Descriptor, Error, format_code};
 use std::alloc::Global;
 
-impl<R: ByteSource> Decoder<R> {
-    // The descriptors of the constructor that stands here are kept, where it has items, and its code is answered.
-    fn descriptors(&mut self, is_empty: bool, alloc: Global) -> Result<(u8, bool), Error> {
-        let mut count = 0;
-        while count <= NESTING {
-            let code = self.byte()?;
-            if code != format_code::DESCRIBED {
-                return Ok((code, count > 0));
-            }
-            if count == NESTING {
-                return Err(self.refuse(Error::Depth));
-            }
-            let descriptor = self.descriptor(alloc)?;
-            if is_empty {
-                drop(descriptor);
-            } else {
-                self.keep_descriptor(descriptor)?;
-            }
-            count += 1;
-        }
-        Err(self.refuse(Error::Depth))
+// The items of this constructor hold no others.
+fn is_flat(descriptors: &[Descriptor], code: u8) -> bool
+    ensures { IsKnown (format code) → IsTrue result ↔ IsFlat (map descriptor_of descriptors.now) (format code) }
+{
+    if !descriptors.is_empty() {
+        return false;
     }
+    if code == format_code::LIST_0 {
+        return false;
+    }
+    code < format_code::LIST_8
+}
 
-    // The constructor that the items of the open array share.
-    fn constructor(&mut self, alloc: Global) -> Result<(), Error> {
-        let first = self.descriptor_count();
-        let is_empty = self.is_done();
-        let (code, is_described) = self.descriptors(is_empty, alloc)?;
-        if let Some(error) = unknown(code) {
-            return Err(self.refuse(error));
-        }
-        if is_empty {
-            return Ok(());
-        }
-        if has_width_zero(code) {
-            return Err(self.refuse(Error::ZeroWidthItems));
-        }
-        if (is_described || is_compound(code)) && self.depth() > NESTING {
+// The values of this code have no data.
+fn has_no_data(code: u8) -> bool
+    ensures { IsKnown (format code) → IsTrue result ↔ HasWidthZero (format code) }
+{
+    if code < format_code::NULL {
+        return false;
+    }
+    code <= format_code::LIST_0
+}
+
+impl<R: ByteSource> Decoder<R> {
+    // Adds the descriptor that stands next.
+    fn keep_descriptor(
+        &mut self,
+        descriptors: &mut Vec<Descriptor>,
+        alloc: Global,
+    ) -> Result<(), Error>
+        ensures few { OnOk result ((vec_len descriptors.old < 128) × (vec_len descriptors.new ≡ vec_len descriptors.old + 1)) }
+        ensures ok { Tells R.remaining → self.old.top.shared ≡ None → IfOk result (λ _. (d : DescriptorValue) × TookDescriptor self.old (descriptor_of d) self.new × (descriptors.new.items ≡ descriptors.old.items ++ (d ∷ []))) }
+        ensures err { Tells R.remaining → self.old.top.shared ≡ None → IfErr result (λ e. Stopped (λ e. ((e ≡ Depth) × (128 ≤ length descriptors.old.items)) ⊎ DescriptorFault self.old e) e self.new) }
+    {
+        if descriptors.len() >= NESTING {
             return Err(self.refuse(Error::Depth));
         }
-        let last = self.descriptor_count();
-        self.share(code, first as u8, last as u8);
-        Ok(())
+        match descriptors.push(self.descriptor(alloc)?) {
+            Ok(()) => Ok(()),
+            Err(_) => Err(self.refuse(Error::Memory)),
+        }
     }
 
-    /// Begins an array (Part 1, section 1.6.24), and answers how many items it holds. The constructor that they share
-    /// stands for each of them in turn.
-    pub fn begin_array(&mut self, alloc: Global) -> Result<u32, Error> {
-        let (count, content) = match self.begin()? {
-            format_code::ARRAY_8 => self.header(false, false)?,
-            format_code::ARRAY_32 => self.header(true, false)?,
-            code => return Err(self.refuse_code(code)),
-        };
+    // A code that ends a constructor is known.
+    fn check_known(&mut self, code: u8) -> Result<(), Error>
+        ensures ok { IfOk result (λ _. (if_unknown (refusal_of code) ≡ None) × (self.new ≡ self.old)) }
+        ensures err { IfErr result (λ e. (if_unknown (refusal_of code) ≡ Some e) × (self.new.error ≡ Some e)) }
+    {
+        match format_code::refusal(code) {
+            Error::WrongType(_) => Ok(()),
+            error => Err(self.refuse(error)),
+        }
+    }
+
+    // The constructor that stands next: its descriptors, and its code.
+    fn constructor(&mut self, alloc: Global) -> Result<(Vec<Descriptor>, u8), Error>
+        ensures code { IfOk result (λ found. 0 < found.1) }
+        ensures ok { Tells R.remaining → self.old.top.shared ≡ None → IfOk result (λ found. TookConstructor self.old (map descriptor_of found.0.items) found.1 self.new) }
+        ensures err { Tells R.remaining → self.old.top.shared ≡ None → IfErr result (λ e. Stopped (ConstructorFault self.old) e self.new) }
+    {
+        let mut descriptors = Vec::new(alloc);
+        let mut code = self.byte()?;
+        while code == format_code::DESCRIBED {
+            self.keep_descriptor(&mut descriptors, alloc)?;
+            code = self.byte()?;
+        }
+        self.check_known(code)?;
+        Ok((descriptors, code))
+    }
+
+    // The items of the open array share the constructor that stands next.
+    fn take_constructor(&mut self, alloc: Global) -> Result<(), Error>
+        ensures ok { Tells R.remaining → self.old.top.shared ≡ None → IfOk result (λ _. Shares self.old self.new) }
+        ensures err { Tells R.remaining → self.old.top.shared ≡ None → IfErr result (λ e. Stopped (SharesFault self.old) e self.new) }
+    {
+        let (descriptors, code) = self.constructor(alloc)?;
+        if self.is_done() {
+            return Ok(());
+        }
+        if has_no_data(code) {
+            return Err(self.refuse(Error::ZeroWidthItems));
+        }
+        self.check_items(is_flat(&descriptors, code))?;
+        self.share(descriptors, code)
+    }
+
+    // Opens an array of so many items in so many bytes.
+    fn open_items(&mut self, count: u32, content: u32) -> Result<(), Error>
+        ensures ok { IfOk result (λ _. Has self.old.top.left content × (length self.old.saved ≤ self.old.nesting) × (self.new ≡ inside InArray count content self.old)) }
+        ensures err { Tells R.remaining → IfErr result (λ e. Stopped (λ e. NoRoom content self.old e ⊎ ((self.old.nesting < length self.old.saved) × (e ≡ Depth))) e self.new) }
+    {
         self.lower(content)?;
         let inner = Frame {
             items: count,
@@ -66,27 +118,45 @@ impl<R: ByteSource> Decoder<R> {
             place: Place::InArray,
             ..Frame::TOP
         };
-        self.enter(self.top().left, inner)?;
-        if count > 0 || content > 0 {
-            self.constructor(alloc)?;
+        self.enter(self.left(), inner)
+    }
+
+    // Opens an array whose code was taken.
+    fn open_array(&mut self, wide: bool, alloc: Global) -> Result<u32, Error>
+        ensures ok { Tells R.remaining → IfOk result (λ n. EntersArray (cond wide 4 1) self.old n self.new) }
+        ensures err { Tells R.remaining → IfErr result (λ e. Stopped (EnterArrayFault (cond wide 4 1) self.old) e self.new) }
+    {
+        let (count, content) = self.header(wide, false)?;
+        self.open_items(count, content)?;
+        if count.max(content) == 0 {
+            return Ok(count);
         }
+        self.take_constructor(alloc)?;
         Ok(count)
     }
 
+    /// Begins an array (Part 1, section 1.6.24), and answers how many items it holds. The constructor that they share
+    /// stands for each of them in turn; `ZeroWidthItems` where its code has no data, `BadDescriptor` and `NonAscii`
+    /// as of `begin_described`, `Depth` past 128 descriptors or 128 nested values, and `Memory` also where the open
+    /// arrays together share more than 255 descriptors.
+    pub fn begin_array(&mut self, alloc: Global) -> Result<u32, Error>
+        ensures { Tells R.remaining → Reads OpensArray ArrayFault self.old result self.new }
+    {
+        match self.begin()? {
+            format_code::ARRAY_8 => self.open_array(false, alloc),
+            format_code::ARRAY_32 => self.open_array(true, alloc),
+            code => Err(self.refuse_code(code)),
+        }
+    }
+
     /// Ends the array that is open: `Surplus` where items are left, `InvalidValue` where none is open.
-    pub fn end_array(&mut self) -> Result<(), Error> {
+    pub fn end_array(&mut self) -> Result<(), Error>
+        ensures { Tells R.remaining → Reads (λ st _ st'. Closes InArray st st') (CloseFault InArray) self.old result self.new }
+    {
         self.check_end(Place::InArray)?;
         self.check_bytes()?;
-        let Frame {
-            code,
-            first,
-            last,
-            ..
-        } = self.top();
         self.leave();
-        if code != 0 && first < last {
-            self.drop_descriptors(usize::from(first));
-        }
+        self.drop_descriptors();
         Ok(())
     }
 }

@@ -1,21 +1,44 @@
 //! Lists and maps (Part 1, sections 1.6.22 and 1.6.23).
+ghost use Rattle.std.specs.Prelude.{◌≡◌, ◌<◌, ◌↔◌, IsTrue, cond, length, IfOk, IfErr};
+ghost use Rattle.amqp_model.specs.Term.{list, map};
 ghost use Rattle.amqp_wire.specs.Sources.{Tells};
+ghost use Rattle.amqp_decoder.specs.State.{Has, inside};
+ghost use Rattle.amqp_decoder.specs.Steps.{Stopped};
 ghost use Rattle.amqp_decoder.specs.declared.frame.Place.TheVariants.{InList, InMap};
 ghost use Rattle.amqp_decoder.specs.Reading.{Reads};
-ghost use Rattle.amqp_decoder.specs.Containers.{Closes, CloseFault};
+ghost use Rattle.amqp_decoder.specs.Containers.{Closes, CloseFault, IsPossible, Header, HeaderFault, Unopened, Entered, EnterFault, Opens, OpenFault};
 
 use crate::Decoder;
 use crate::frame::{Frame, Place};
 use amqp_wire::{ByteSource, Error, format_code};
 
+// How many bytes a size or a count has.
+#[inline]
+fn width(wide: bool) -> u32
+    ensures { result ≡ cond wide 4 1 }
+{
+    if wide { 4 } else { 1 }
+}
+
+// A size that can be right: it counts the count, or it is the 0 of a list without items.
+#[inline]
+fn is_possible(size: u32, width: u32, is_list: bool) -> bool
+    ensures { IsTrue result ↔ IsPossible is_list width size }
+{
+    size >= width || (is_list && size == 0)
+}
+
 impl<R: ByteSource> Decoder<R> {
     // The count of a container, and how many bytes stand behind it. A size counts the count too; the size 0 is that
     // of a list without items.
     #[inline]
-    pub(crate) fn header(&mut self, wide: bool, is_list: bool) -> Result<(u32, u32), Error> {
-        let width = if wide { 4 } else { 1 };
+    pub(crate) fn header(&mut self, wide: bool, is_list: bool) -> Result<(u32, u32), Error>
+        ensures ok { Tells R.remaining → IfOk result (λ h. Header is_list (cond wide 4 1) self.old h.0 h.1 self.new) }
+        ensures err { Tells R.remaining → IfErr result (λ e. Stopped (HeaderFault is_list (cond wide 4 1) self.old) e self.new) }
+    {
+        let width = width(wide);
         let size = self.number(wide)?;
-        if size < width && (size > 0 || !is_list) {
+        if !is_possible(size, width, is_list) {
             return Err(self.refuse_size(size));
         }
         let count = self.number(wide)?;
@@ -30,7 +53,10 @@ impl<R: ByteSource> Decoder<R> {
 
     // Opens a list or a map of so many items in so many bytes.
     #[inline]
-    fn open(&mut self, place: Place, count: u32, content: u32) -> Result<(), Error> {
+    fn open(&mut self, place: Place, count: u32, content: u32) -> Result<u32, Error>
+        ensures ok { IfOk result (λ n. (n ≡ count) × Has self.old.top.left content × (length self.old.saved < self.old.nesting) × (self.new ≡ inside place count content self.old)) }
+        ensures err { Tells R.remaining → IfErr result (λ e. Stopped (Unopened content self.old) e self.new) }
+    {
         self.lower(content)?;
         let inner = Frame {
             items: count,
@@ -38,37 +64,58 @@ impl<R: ByteSource> Decoder<R> {
             place,
             ..Frame::TOP
         };
-        self.enter_counted(self.top().left, inner)
+        self.enter_counted(self.left(), inner)?;
+        Ok(count)
+    }
+
+    // Opens a list whose code was taken.
+    #[inline]
+    fn open_list(&mut self, wide: bool) -> Result<u32, Error>
+        ensures ok { Tells R.remaining → IfOk result (λ n. Entered list (cond wide 4 1) self.old n self.new) }
+        ensures err { Tells R.remaining → IfErr result (λ e. Stopped (EnterFault list (cond wide 4 1) self.old) e self.new) }
+    {
+        let (count, content) = self.header(wide, true)?;
+        self.open(Place::InList, count, content)
+    }
+
+    // Opens a map whose code was taken.
+    #[inline]
+    fn open_map(&mut self, wide: bool) -> Result<u32, Error>
+        ensures ok { Tells R.remaining → IfOk result (λ n. Entered map (cond wide 4 1) self.old n self.new) }
+        ensures err { Tells R.remaining → IfErr result (λ e. Stopped (EnterFault map (cond wide 4 1) self.old) e self.new) }
+    {
+        let (count, content) = self.header(wide, false)?;
+        if count % 2 == 1 {
+            return Err(self.refuse(Error::OddCount));
+        }
+        self.open(Place::InMap, count, content)
     }
 
     /// Begins a list (Part 1, section 1.6.22), and answers how many values it holds; `Depth` past 128 nested
     /// values.
     #[inline]
-    pub fn begin_list(&mut self) -> Result<u32, Error> {
-        let (count, content) = match self.begin()? {
-            format_code::LIST_0 => (0, 0),
-            format_code::LIST_8 => self.header(false, true)?,
-            format_code::LIST_32 => self.header(true, true)?,
-            code => return Err(self.refuse_code(code)),
-        };
-        self.open(Place::InList, count, content)?;
-        Ok(count)
+    pub fn begin_list(&mut self) -> Result<u32, Error>
+        ensures { Tells R.remaining → Reads (Opens list) (OpenFault list) self.old result self.new }
+    {
+        match self.begin()? {
+            format_code::LIST_0 => self.open(Place::InList, 0, 0),
+            format_code::LIST_8 => self.open_list(false),
+            format_code::LIST_32 => self.open_list(true),
+            code => Err(self.refuse_code(code)),
+        }
     }
 
     /// Begins a map (Part 1, section 1.6.23), and answers how many values it holds, keys and what they lead to;
     /// `OddCount` where the number is odd.
     #[inline]
-    pub fn begin_map(&mut self) -> Result<u32, Error> {
-        let (count, content) = match self.begin()? {
-            format_code::MAP_8 => self.header(false, false)?,
-            format_code::MAP_32 => self.header(true, false)?,
-            code => return Err(self.refuse_code(code)),
-        };
-        if count % 2 == 1 {
-            return Err(self.refuse(Error::OddCount));
+    pub fn begin_map(&mut self) -> Result<u32, Error>
+        ensures { Tells R.remaining → Reads (Opens map) (OpenFault map) self.old result self.new }
+    {
+        match self.begin()? {
+            format_code::MAP_8 => self.open_map(false),
+            format_code::MAP_32 => self.open_map(true),
+            code => Err(self.refuse_code(code)),
         }
-        self.open(Place::InMap, count, content)?;
-        Ok(count)
     }
 
     // Ends the list or map that is open.

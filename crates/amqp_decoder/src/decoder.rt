@@ -1,12 +1,14 @@
 //! The state of a decoder, and how it takes bytes.
-ghost use Rattle.std.specs.Prelude.{◌≤◌, ◌≡◌, ◌<◌, ◌-◌, ◌++◌, ℕ, List, [], ◌∷◌, length, take, drop, min, Option, Some, None, IfOk, IfErr, MatchOption, MatchResult, cond, ◌^◌, ◌↔◌, IsTrue};
+ghost use Rattle.std.specs.Prelude.{◌≤◌, ◌≡◌, ◌<◌, ◌-◌, ◌++◌, ℕ, List, [], ◌∷◌, length, take, drop, map, min, max, slice_index, false, Option, Some, None, IfOk, IfErr, MatchOption, MatchResult, cond, ◌^◌, ◌↔◌, ◌⊎◌, true, false, IsTrue};
 ghost use Rattle.std.specs.Int.{bytes_high_first};
 ghost use Rattle.amqp_wire.specs.Codes.{refusal_of};
 ghost use Rattle.amqp_wire.specs.Sources.{known, Tells};
 ghost use Rattle.amqp_decoder.specs.Containers.{AtEnd, EndFault};
-ghost use Rattle.amqp_decoder.specs.State.{Open, State, top_level, moved, on, past, announced, Has, lower};
-ghost use Rattle.amqp_decoder.specs.Reading.{Reads, Begun, BeginFault, IsLeft, IsFirstShared};
-ghost use Rattle.amqp_decoder.specs.Steps.{Excused, Pulled, Missed, Took, Short, SizeRefused};
+ghost use Rattle.amqp_wire.specs.declared.error.Error.TheVariants.{Depth, Memory};
+ghost use Rattle.amqp_decoder.specs.Described.{IsUnmarked, IsMark, entered};
+ghost use Rattle.amqp_decoder.specs.State.{Open, State, top_level, looked, moved, on, past, announced, Has, lower, unshared, descriptor_of};
+ghost use Rattle.amqp_decoder.specs.Reading.{Reads, Begun, BeginFault, Peeked, IsLeft, IsFirstShared};
+ghost use Rattle.amqp_decoder.specs.Steps.{Excused, Pulled, Missed, Took, Short, SizeRefused, NoRoom, Stopped};
 
 use crate::frame::{Frame, Place, ROW};
 use amqp_lengths::NESTING;
@@ -16,6 +18,9 @@ use std::marker::Model;
 
 /// The most bytes that are looked at before they are taken.
 pub(crate) const LOOK: usize = 64;
+
+/// The most descriptors of the constructors of open arrays.
+const MOST_DESCRIPTORS: usize = 255;
 
 /// The most bytes of skipped content that are pulled at once.
 const SKIP: usize = 256;
@@ -37,13 +42,13 @@ pub struct Decoder<R: ByteSource> {
 impl<R: ByteSource> Model for Decoder<R> {
     ghost use Rattle.std.specs.Prelude.{◌≤◌, ◌++◌, ◌-◌, vec_len};
     ghost use Rattle.amqp_wire.specs.Sources.{known};
-    ghost use Rattle.amqp_decoder.specs.State.{State, stack, open_of, pending};
+    ghost use Rattle.amqp_decoder.specs.State.{State, stack, open_of, pending, Nested};
 
     ghost Value = { State };
 
     ghost view = { λ d. record { rest = pending d.start d.end d.looked ++ known (R.remaining d.source); ahead = d.end - d.start; source = R.name d.source; top = open_of d.descriptors.items d.top; saved = stack d.descriptors.items d.depth d.frames; nesting = 128; error = d.error; failed = R.broken d.source } };
 
-    ghost invariant = { λ d. (d.start ≤ d.end) × (d.end ≤ 64) × (d.depth ≤ 129) × (vec_len d.descriptors ≤ 128) };
+    ghost invariant = { λ d. (d.start ≤ d.end) × (d.end ≤ 64) × (d.depth ≤ 129) × Nested d.depth d.frames d.top.last × (d.top.last ≤ vec_len d.descriptors) };
 }
 
 impl<R: ByteSource> Decoder<R> {
@@ -211,6 +216,7 @@ impl<R: ByteSource> Decoder<R> {
         ensures room { IfOk result (λ _. Has self.old.top.left count) }
         ensures new { IfOk result (λ _. self.new ≡ record self.old { top = record self.old.top { left = lower self.old.top.left count } }) }
         ensures err { Tells R.remaining → IfErr result (λ e. Short count self.old e self.new) }
+        ensures full { Tells R.remaining → IfErr result (λ e. Stopped (NoRoom count self.old) e self.new) }
     {
         let Some(left) = self.left() else {
             return Ok(());
@@ -322,25 +328,32 @@ impl<R: ByteSource> Decoder<R> {
         Ok(code)
     }
 
-    // Moves the bytes that are looked at to the front of their buffer.
-    fn settle(&mut self) {
-        self.looked.copy_within(self.start..self.end, 0);
-        self.end -= self.start;
-        self.start = 0;
+    // How many bytes are looked at.
+    #[inline]
+    fn ahead(&self) -> usize
+        ensures few { result ≤ 64 }
+        ensures count { result ≡ self.now.ahead }
+        ensures there { result ≤ length self.now.rest }
+    {
+        self.looked().len()
     }
 
     // Looks at the next so many bytes, or at all where there are fewer, and answers how many are looked at.
     pub(crate) fn look(&mut self, count: usize) -> Result<usize, Error>
         requires { count ≤ 64 }
-        ensures { IfOk result (λ n. n ≤ 64) }
+        ensures few { IfOk result (λ n. n ≤ 64) }
+        ensures count { Tells R.remaining → IfOk result (λ n. n ≡ max self.old.ahead (min count (length self.old.rest))) }
+        ensures new { Tells R.remaining → IfOk result (λ _. self.new ≡ looked (min count (length self.old.rest)) self.old) }
+        ensures err { IfErr result (λ e. (self.new.error ≡ Some e) × Excused e self.new) }
     {
-        if self.start > 0 {
-            self.settle();
+        let ahead = self.ahead();
+        if ahead >= count {
+            return Ok(ahead);
         }
-        if self.end >= count {
-            return Ok(self.end);
-        }
-        match fill(&mut self.source, &mut self.looked[self.end..count]) {
+        self.looked.copy_within(self.start..self.end, 0);
+        self.start = 0;
+        self.end = ahead;
+        match fill(&mut self.source, &mut self.looked[ahead..count]) {
             Ok(n) => {
                 self.end += n;
                 Ok(self.end)
@@ -349,32 +362,61 @@ impl<R: ByteSource> Decoder<R> {
         }
     }
 
+    // Looks at the next byte, if there is one.
+    #[inline]
+    pub(crate) fn look_next(&mut self) -> Result<bool, Error>
+        ensures found { Tells R.remaining → IfOk result (λ b. IsTrue b ↔ (0 < length self.old.rest)) }
+        ensures new { Tells R.remaining → IfOk result (λ b. self.new ≡ looked (min 1 (length self.old.rest)) self.old) }
+        ensures err { IfErr result (λ e. (self.new.error ≡ Some e) × Excused e self.new) }
+    {
+        if self.ahead() > 0 {
+            return Ok(true);
+        }
+        Ok(self.look(1)? > 0)
+    }
+
     // The byte that is looked at, so many behind the next one.
-    pub(crate) fn looked_byte(&self, index: usize) -> u8 {
-        if index < self.end - self.start {
-            self.looked[self.start + index]
-        } else {
-            0
+    pub(crate) fn looked_byte(&self, index: usize) -> u8
+        ensures { index < self.now.ahead → result ≡ slice_index self.now.rest index }
+    {
+        match self.looked().get(index) {
+            Some(byte) => *byte,
+            None => 0,
         }
     }
 
+    // The bytes that are looked at, and the source behind them.
+    fn parts(&self) -> (&[u8], &R)
+        ensures few { length result.0.now ≤ 64 }
+        ensures bytes { self.now.rest ≡ result.0.now ++ known (R.remaining result.1.now) }
+        ensures failed { self.now.failed ≡ R.broken result.1.now }
+    {
+        (&self.looked[self.start..self.end], &self.source)
+    }
+
     // The bytes that are looked at.
-    pub(crate) fn looked(&self) -> &[u8] {
+    pub(crate) fn looked(&self) -> &[u8]
+        ensures few { length result.now ≤ 64 }
+        ensures count { length result.now ≡ self.now.ahead }
+        ensures bytes { result.now ≡ take self.now.ahead self.now.rest }
+    {
         &self.looked[self.start..self.end]
     }
 
     /// The first code of the next value's constructor, 0 for a described value; `Missing` where no value is left.
     /// Nothing is taken.
     #[inline]
-    pub fn peek_code(&mut self) -> Result<u8, Error> {
+    pub fn peek_code(&mut self) -> Result<u8, Error>
+        ensures { Tells R.remaining → Reads Peeked BeginFault self.old result self.new }
+    {
         self.check_item()?;
         if let Some(code) = self.shared_code() {
             return Ok(code);
         }
-        if self.top.left == Some(0) {
+        if self.left() == Some(0) {
             return Err(self.refuse_size(1));
         }
-        if self.start == self.end && self.look(1)? == 0 {
+        if !self.look_next()? {
             return Err(self.refuse(Error::Cut));
         }
         Ok(self.looked_byte(0))
@@ -382,7 +424,9 @@ impl<R: ByteSource> Decoder<R> {
 
     // The items of the open container share a constructor.
     #[inline]
-    pub(crate) fn is_shared(&self) -> bool {
+    pub(crate) fn is_shared(&self) -> bool
+        ensures { result ≡ false → self.now.top.shared ≡ None }
+    {
         self.top.code != 0
     }
 
@@ -400,31 +444,97 @@ impl<R: ByteSource> Decoder<R> {
         self.depth
     }
 
-    // Opens a container; `left` is what the open one keeps of its bytes.
+    // Opens a container whose items share nothing; `left` is what the open one keeps of its bytes.
     #[inline]
-    pub(crate) fn enter(&mut self, left: Option<u32>, inner: Frame) -> Result<(), Error> {
+    pub(crate) fn enter(&mut self, left: Option<u32>, inner: Frame) -> Result<(), Error>
+        ensures limit { self.old.nesting ≡ 128 }
+        ensures ok { IfOk result (λ _. (length self.old.saved < 129) × (self.new ≡ record self.old { top = unshared inner; saved = (record self.old.top { left = left }) ∷ self.old.saved })) }
+        ensures err { IfErr result (λ e. (e ≡ Depth) × (129 ≤ length self.old.saved) × (self.new ≡ record self.old { error = Some Depth })) }
+    {
         if self.depth >= ROW {
             return Err(self.refuse(Error::Depth));
         }
-        self.top.left = left;
-        self.frames[self.depth] = self.top;
+        let last = self.top.last;
+        self.frames[self.depth] = Frame { left, ..self.top };
         self.depth += 1;
-        self.top = inner;
+        self.top = Frame {
+            code: 0,
+            first: last,
+            last,
+            ..inner
+        };
         Ok(())
     }
 
     // Opens a container that counts in nesting.
     #[inline]
-    pub(crate) fn enter_counted(&mut self, left: Option<u32>, inner: Frame) -> Result<(), Error> {
+    pub(crate) fn enter_counted(&mut self, left: Option<u32>, inner: Frame) -> Result<(), Error>
+        ensures limit { self.old.nesting ≡ 128 }
+        ensures ok { IfOk result (λ _. (length self.old.saved < 128) × (self.new ≡ record self.old { top = unshared inner; saved = (record self.old.top { left = left }) ∷ self.old.saved })) }
+        ensures err { IfErr result (λ e. (e ≡ Depth) × (128 ≤ length self.old.saved) × (self.new ≡ record self.old { error = Some Depth })) }
+    {
         if self.depth >= NESTING {
             return Err(self.refuse(Error::Depth));
         }
         self.enter(left, inner)
     }
 
+    // One more described value may be open.
+    #[inline]
+    pub(crate) fn check_nesting(&mut self) -> Result<(), Error>
+        ensures ok { IfOk result (λ _. (length self.old.saved < self.old.nesting) × (self.new ≡ self.old)) }
+        ensures err { IfErr result (λ e. (e ≡ Depth) × (self.old.nesting ≤ length self.old.saved) × (self.new ≡ record self.old { error = Some Depth })) }
+    {
+        if self.depth >= NESTING {
+            return Err(self.refuse(Error::Depth));
+        }
+        Ok(())
+    }
+
+    // An array's items that hold others, or are described, count in nesting.
+    #[inline]
+    pub(crate) fn check_items(&mut self, is_flat: bool) -> Result<(), Error>
+        ensures ok { IfOk result (λ _. ((is_flat ≡ true) ⊎ (length self.old.saved ≤ self.old.nesting)) × (self.new ≡ self.old)) }
+        ensures err { IfErr result (λ e. (is_flat ≡ false) × (e ≡ Depth) × (self.old.nesting < length self.old.saved) × (self.new ≡ record self.old { error = Some Depth })) }
+    {
+        if is_flat {
+            return Ok(());
+        }
+        if self.depth > NESTING {
+            return Err(self.refuse(Error::Depth));
+        }
+        Ok(())
+    }
+
+    // Opens what a descriptor describes, which has the bytes of what it stands in, and the rest of a constructor
+    // that is shared.
+    #[inline]
+    pub(crate) fn enter_described(&mut self) -> Result<(), Error>
+        ensures ok { IfOk result (λ _. (length self.old.saved < self.old.nesting) × (self.new ≡ entered self.old)) }
+        ensures err { IfErr result (λ e. (e ≡ Depth) × (self.old.nesting ≤ length self.old.saved) × (self.new ≡ record self.old { error = Some Depth })) }
+        ensures nesting { self.old.nesting ≡ 128 }
+    {
+        if self.depth < NESTING {
+            let outer = self.top;
+            self.frames[self.depth] = Frame {
+                left: outer.left.and(Some(0)),
+                ..outer
+            };
+            self.depth += 1;
+            self.top = Frame {
+                items: 1,
+                place: Place::InDescribed,
+                first: outer.first.saturating_add(1),
+                ..outer
+            };
+            return Ok(());
+        }
+        Err(self.refuse(Error::Depth))
+    }
+
     // The open container is of this kind.
     #[inline]
-    fn is_in(&self, place: Place) -> bool
+    pub(crate) fn is_in(&self, place: Place) -> bool
         ensures { IsTrue result ↔ (self.now.top.place ≡ place) }
     {
         self.top.place == place
@@ -481,8 +591,10 @@ impl<R: ByteSource> Decoder<R> {
         self.set_left(left);
     }
 
-    // The place in the row of descriptors of the next item's descriptor.
-    pub(crate) fn shared_descriptor(&self) -> Option<&Descriptor> {
+    // The descriptor that the next value shares.
+    pub(crate) fn shared_descriptor(&self) -> Option<&Descriptor>
+        ensures { MatchOption result (IsUnmarked self.now.top.shared) (λ d. IsMark self.now.top.shared (descriptor_of d.now)) }
+    {
         if self.top.code != 0 && self.top.first < self.top.last {
             self.descriptors.get(usize::from(self.top.first))
         } else {
@@ -490,42 +602,42 @@ impl<R: ByteSource> Decoder<R> {
         }
     }
 
-    // How many descriptors the shared constructors of the open arrays have.
-    pub(crate) fn descriptor_count(&self) -> usize
-        ensures { result ≤ 128 }
+    // The items of the open array share these descriptors and this code.
+    pub(crate) fn share(&mut self, mut descriptors: Vec<Descriptor>, code: u8) -> Result<(), Error>
+        requires { 0 < code }
+        ensures ok { IfOk result (λ _. self.new ≡ record self.old { top = record self.old.top { shared = Some (map descriptor_of descriptors.items, code) } }) }
+        ensures err { IfErr result (λ e. (e ≡ Memory) × (self.new.error ≡ Some Memory)) }
     {
-        self.descriptors.len()
-    }
-
-    // Keeps a descriptor of an array's shared constructor.
-    pub(crate) fn keep_descriptor(&mut self, descriptor: Descriptor) -> Result<(), Error> {
-        if self.descriptors.len() >= NESTING {
-            drop(descriptor);
-            return Err(self.refuse(Error::Depth));
+        let first = self.top.last;
+        let count = descriptors.len();
+        self.descriptors.truncate(usize::from(first));
+        if count > MOST_DESCRIPTORS - usize::from(first)
+            || self.descriptors.append(&mut descriptors).is_err()
+        {
+            return Err(self.refuse(Error::Memory));
         }
-        match self.descriptors.push(descriptor) {
-            Ok(()) => Ok(()),
-            Err(_) => Err(self.refuse(Error::Memory)),
-        }
-    }
-
-    // Drops the descriptors of the arrays that are open, but for the first ones.
-    pub(crate) fn drop_descriptors(&mut self, count: usize) {
-        self.descriptors.truncate(count);
-    }
-
-    // The items of the open array share this code behind the descriptors.
-    pub(crate) fn share(&mut self, code: u8, first: u8, last: u8) {
         self.top.code = code;
         self.top.first = first;
-        self.top.last = last;
+        self.top.last = first + count as u8;
+        Ok(())
+    }
+
+    // Drops the descriptors of arrays that have ended.
+    pub(crate) fn drop_descriptors(&mut self)
+        ensures { self.new ≡ self.old }
+    {
+        self.descriptors.truncate(usize::from(self.top.last));
     }
 }
 
 impl Decoder<&[u8]> {
     /// How many bytes of the input are left.
-    pub fn unread(&self) -> usize {
-        let source: &[u8] = self.source;
-        source.len().saturating_add(self.end - self.start)
+    pub fn unread(&self) -> usize
+        ensures count { result ≡ length self.now.rest }
+        ensures whole { self.now.failed ≡ false }
+    {
+        let (looked, source) = self.parts();
+        let source: &[u8] = *source;
+        source.len().saturating_add(looked.len())
     }
 }

@@ -2,12 +2,19 @@
 ghost use Rattle.amqp_decoder.specs.declared.frame.Place.TheVariants.{InDescribed};
 ghost use Rattle.amqp_decoder.specs.Reading.{Reads};
 ghost use Rattle.amqp_decoder.specs.Containers.{ClosesDescribed, EndFault};
+ghost use Rattle.std.specs.Prelude.{◌≡◌, ◌≤◌, ◌<◌, length, take, option_map, Some, None, IfOk, IfErr, MatchOption, IsAscii};
+ghost use Rattle.amqp_wire.specs.declared.error.Error.TheVariants.{Memory};
+ghost use Rattle.amqp_model.specs.Term.{name as of_name};
+ghost use Rattle.amqp_wire.specs.Sources.{Tells};
+ghost use Rattle.amqp_wire.specs.Codes.{refusal_of};
+ghost use Rattle.amqp_decoder.specs.State.{moved, descriptor_of};
+ghost use Rattle.amqp_decoder.specs.Reading.{Begun};
+ghost use Rattle.amqp_decoder.specs.Primitives.{Failed};
+ghost use Rattle.amqp_decoder.specs.Described.{IsUnmarked, IsMark, TookDescriptor, OpensDescribed, OpenFault, other_kind, symbol_code, place_of as place_in, IsDescribable, DescribedFault, DescriptorMissed, TookPlace, NameMissed, OpensOneOf, OneOfFault};
 
 use crate::Decoder;
-use crate::frame::{Frame, Place};
-use crate::names::{Members, longer_front, place_of, place_of_code, place_of_name};
-use amqp_lengths::NESTING;
-use amqp_wire::format_code::unknown;
+use crate::frame::Place;
+use crate::names::{Members, next_front, place_of, place_of_code, place_of_name};
 use amqp_wire::{ByteSource, Descriptor, Error, format_code};
 use std::alloc::{AllocError, Global};
 
@@ -15,7 +22,9 @@ use std::alloc::{AllocError, Global};
 const PIECE: usize = 256;
 
 // A copy of a descriptor.
-fn copy_of(descriptor: Option<&Descriptor>) -> Result<Option<Descriptor>, AllocError> {
+fn copy_of(descriptor: Option<&Descriptor>) -> Result<Option<Descriptor>, AllocError>
+    ensures { IfOk result (λ copy. option_map descriptor_of copy ≡ option_map (λ d. descriptor_of d.now) descriptor.entry) }
+{
     match descriptor {
         Some(descriptor) => Ok(Some(descriptor.clone()?)),
         None => Ok(None),
@@ -25,68 +34,86 @@ fn copy_of(descriptor: Option<&Descriptor>) -> Result<Option<Descriptor>, AllocE
 impl<R: ByteSource> Decoder<R> {
     // Takes the code of a described value.
     #[inline]
-    fn begin_descriptor(&mut self) -> Result<(), Error> {
+    fn begin_descriptor(&mut self) -> Result<(), Error>
+        ensures ok { Tells R.remaining → IfOk result (λ _. Begun self.old 0 self.new) }
+        ensures err { Tells R.remaining → IfErr result (λ e. Failed DescribedFault self.old e self.new) }
+    {
         let code = self.begin()?;
         if code != format_code::DESCRIBED {
             return Err(self.refuse_code(code));
         }
-        if self.depth() >= NESTING {
-            return Err(self.refuse(Error::Depth));
-        }
-        Ok(())
+        self.check_nesting()
     }
 
     // Neither a ulong nor a symbol.
     #[cold]
-    fn refuse_descriptor(&mut self, code: u8) -> Error {
-        self.refuse(unknown(code).unwrap_or(Error::BadDescriptor))
+    fn refuse_descriptor(&mut self, code: u8) -> Error
+        ensures answer { result ≡ other_kind (refusal_of code) }
+        ensures kept { self.new ≡ record self.old { error = Some result } }
+    {
+        match format_code::refusal(code) {
+            Error::WrongType(_) => self.refuse(Error::BadDescriptor),
+            error => self.refuse(error),
+        }
+    }
+
+    // Whether the size of a symbol under this code has four bytes.
+    #[inline]
+    fn is_wide_symbol(&mut self, code: u8) -> Result<bool, Error>
+        ensures ok { IfOk result (λ wide. (code ≡ symbol_code wide) × (self.new ≡ self.old)) }
+        ensures err { IfErr result (λ e. (code ≡ 0xa3 → ⊥) × (code ≡ 0xb3 → ⊥) × (e ≡ other_kind (refusal_of code)) × (self.new.error ≡ Some e)) }
+    {
+        match code {
+            format_code::SYMBOL_8 => Ok(false),
+            format_code::SYMBOL_32 => Ok(true),
+            _ => Err(self.refuse_descriptor(code)),
+        }
     }
 
     // A descriptor.
-    pub(crate) fn descriptor(&mut self, alloc: Global) -> Result<Descriptor, Error> {
+    pub(crate) fn descriptor(&mut self, alloc: Global) -> Result<Descriptor, Error>
+        ensures ok { Tells R.remaining → self.old.top.shared ≡ None → IfOk result (λ d. TookDescriptor self.old (descriptor_of d) self.new) }
+        ensures err { Tells R.remaining → self.old.top.shared ≡ None → IfErr result (λ e. DescriptorMissed self.old e self.new) }
+    {
         let code = self.byte()?;
         if let Some(value) = self.ulong_data(code)? {
             return Ok(Descriptor::Code(value));
         }
-        if code != format_code::SYMBOL_8 && code != format_code::SYMBOL_32 {
-            return Err(self.refuse_descriptor(code));
-        }
-        let text = self.text_data(code == format_code::SYMBOL_32, alloc)?;
+        let wide = self.is_wide_symbol(code)?;
+        let text = self.text_data(wide, alloc)?;
         Ok(Descriptor::Name(self.ascii(text)?))
     }
 
-    // Opens a described value, whose one value has the bytes of what it stands in, and the rest of a constructor that
-    // is shared.
-    #[inline]
-    fn enter_described(&mut self) -> Result<(), Error> {
-        let outer = self.top();
-        let inner = Frame {
-            items: 1,
-            left: outer.left,
-            place: Place::InDescribed,
-            code: outer.code,
-            first: outer.first.saturating_add(1),
-            last: outer.last,
-        };
-        self.enter_counted(outer.left.map(|_| 0), inner)
-    }
-
     // A copy of the descriptor that is shared.
-    fn clone_descriptor(&mut self) -> Result<Option<Descriptor>, Error> {
+    fn clone_descriptor(&mut self) -> Result<Option<Descriptor>, Error>
+        ensures ok { IfOk result (λ copy. MatchOption copy (IsUnmarked self.old.top.shared) (λ d. IsMark self.old.top.shared (descriptor_of d)) × (self.new ≡ self.old)) }
+        ensures err { IfErr result (λ e. (e ≡ Memory) × (self.new.error ≡ Some e)) }
+    {
         match copy_of(self.shared_descriptor()) {
             Ok(descriptor) => Ok(descriptor),
             Err(_) => Err(self.refuse(Error::Memory)),
         }
     }
 
+    // The descriptor that stands next, or is shared.
+    fn next_descriptor(&mut self, alloc: Global) -> Result<Descriptor, Error>
+        ensures ok { Tells R.remaining → IsDescribable self.old.top.shared → IfOk result (λ d. TookDescriptor self.old (descriptor_of d) self.new) }
+        ensures err { Tells R.remaining → IsDescribable self.old.top.shared → IfErr result (λ e. DescriptorMissed self.old e self.new) }
+    {
+        match self.clone_descriptor()? {
+            Some(descriptor) => Ok(descriptor),
+            None => self.descriptor(alloc),
+        }
+    }
+
     /// Begins a described value (Part 1, section 1.2), and answers its descriptor; `BadDescriptor` where
-    /// that is neither a symbol nor a ulong.
-    pub fn begin_described(&mut self, alloc: Global) -> Result<Descriptor, Error> {
+    /// that is neither a symbol nor a ulong, `NonAscii` where it is a symbol with a byte above 0x7f, and `Depth` past
+    /// 128 nested values.
+    pub fn begin_described(&mut self, alloc: Global) -> Result<Descriptor, Error>
+        ensures { Tells R.remaining → Reads (λ st d st'. OpensDescribed st (descriptor_of d) st') OpenFault self.old result self.new }
+    {
         self.begin_descriptor()?;
-        let descriptor = match self.clone_descriptor()? {
-            Some(descriptor) => descriptor,
-            None => self.descriptor(alloc)?,
-        };
+        let descriptor = self.next_descriptor(alloc)?;
         match self.enter_described() {
             Ok(()) => Ok(descriptor),
             Err(error) => Err(error),
@@ -94,7 +121,10 @@ impl<R: ByteSource> Decoder<R> {
     }
 
     // The place of the member whose name the next so many bytes are.
-    fn place_of_text(&mut self, members: Members<'_>, len: u32) -> Result<Option<usize>, Error> {
+    fn place_of_text(&mut self, members: Members<'_>, len: u32) -> Result<Option<usize>, Error>
+        ensures ok { Tells R.remaining → IfOk result (λ place. (len ≤ length self.old.rest) × IsAscii (take len self.old.rest) × (place ≡ place_in members.now (of_name (take len self.old.rest))) × (self.new ≡ moved len self.old)) }
+        ensures err { Tells R.remaining → IfErr result (λ e. NameMissed len self.old e self.new) }
+    {
         let mut buffer = [0; PIECE];
         let mut known: Option<&[u8]> = Some(&[]);
         let mut is_ascii = true;
@@ -103,11 +133,8 @@ impl<R: ByteSource> Decoder<R> {
             let n = left.min(PIECE);
             let piece = &mut buffer[..n];
             self.pull_all(piece)?;
-            is_ascii = is_ascii && piece.is_ascii();
-            known = match known {
-                Some(front) => longer_front(members, front, piece, len as usize),
-                None => None,
-            };
+            is_ascii &= piece.is_ascii();
+            known = next_front(members, known, piece, len as usize);
             left -= n;
         }
         if !is_ascii {
@@ -120,7 +147,10 @@ impl<R: ByteSource> Decoder<R> {
     }
 
     // The place of the member whose descriptor stands next.
-    fn place_of_next(&mut self, members: Members<'_>) -> Result<Option<usize>, Error> {
+    fn place_of_next(&mut self, members: Members<'_>) -> Result<Option<usize>, Error>
+        ensures ok { Tells R.remaining → IsDescribable self.old.top.shared → IfOk result (λ place. TookPlace members.now self.old place self.new) }
+        ensures err { Tells R.remaining → IsDescribable self.old.top.shared → IfErr result (λ e. DescriptorMissed self.old e self.new) }
+    {
         if let Some(descriptor) = self.shared_descriptor() {
             return Ok(place_of(members, descriptor));
         }
@@ -128,16 +158,17 @@ impl<R: ByteSource> Decoder<R> {
         if let Some(value) = self.ulong_data(code)? {
             return Ok(place_of_code(members, value));
         }
-        if code != format_code::SYMBOL_8 && code != format_code::SYMBOL_32 {
-            return Err(self.refuse_descriptor(code));
-        }
-        let len = self.text_len(code == format_code::SYMBOL_32)?;
+        let wide = self.is_wide_symbol(code)?;
+        let len = self.text_len(wide)?;
         self.place_of_text(members, len)
     }
 
     /// Begins a described value, and answers the place of the pair whose code or name its descriptor is;
-    /// `WrongDescriptor` where it is none of them. Takes no memory.
-    pub fn begin_one_of(&mut self, members: &[(u64, &str)]) -> Result<usize, Error> {
+    /// `WrongDescriptor` where it is none of them, and otherwise as `begin_described`. Takes no memory.
+    pub fn begin_one_of(&mut self, members: &[(u64, &str)]) -> Result<usize, Error>
+        ensures opened { Tells R.remaining → Reads (OpensOneOf members.now) (OneOfFault members.now) self.old result self.new }
+        ensures nesting { Tells R.remaining → IfOk result (λ _. self.old.nesting ≡ 128) }
+    {
         self.begin_descriptor()?;
         let Some(place) = self.place_of_next(members)? else {
             return Err(self.refuse(Error::WrongDescriptor));

@@ -6,6 +6,7 @@ mod containers;
 mod decoder;
 mod described;
 mod frame;
+pub mod laws;
 mod names;
 mod primitives;
 mod sections;

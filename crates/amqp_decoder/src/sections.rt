@@ -1,4 +1,10 @@
 //! What stands at the top level: the end of the input, or the next section of a message (Part 3, section 3.2).
+ghost use Rattle.std.specs.Prelude.{◌≡◌, Some, IfOk, IfErr, IfSome};
+ghost use Rattle.amqp_wire.specs.Sources.{Tells};
+ghost use Rattle.amqp_decoder.specs.Steps.{Excused};
+ghost use Rattle.amqp_decoder.specs.Reading.{Reads};
+ghost use Rattle.amqp_decoder.specs.Sections.{IsTop, NotTop, Ends, LooksOn, IsSection, PeeksSection};
+
 use crate::Decoder;
 use crate::decoder::LOOK;
 use crate::frame::Place;
@@ -19,7 +25,9 @@ const SECTIONS: Members<'static> = &[
 ];
 
 /// The code of the section at a place.
-fn section_at(place: Option<usize>) -> Option<u8> {
+fn section_at(place: Option<usize>) -> Option<u8>
+    ensures { IfSome result IsSection }
+{
     match place {
         Some(place) if place < 9 => Some(0x70 + place as u8),
         _ => None,
@@ -27,7 +35,9 @@ fn section_at(place: Option<usize>) -> Option<u8> {
 }
 
 /// The section whose descriptor these bytes are.
-fn section_of(descriptor: &[u8]) -> Option<u8> {
+fn section_of(descriptor: &[u8]) -> Option<u8>
+    ensures { IfSome result IsSection }
+{
     match descriptor {
         [format_code::SMALL_ULONG, code] => section_at(place_of_code(SECTIONS, u64::from(*code))),
         [format_code::ULONG, a, b, c, d, e, f, g, h] => {
@@ -44,45 +54,74 @@ fn section_of(descriptor: &[u8]) -> Option<u8> {
 
 impl<R: ByteSource> Decoder<R> {
     // Nothing is open.
-    fn check_top(&mut self) -> Result<(), Error> {
+    fn check_top(&mut self) -> Result<(), Error>
+        ensures { Reads IsTop NotTop self.old result self.new }
+    {
         self.check()?;
-        if self.top().place != Place::Top || self.depth() > 0 {
+        if !self.is_in(Place::Top) || self.depth() > 0 {
             return Err(self.refuse(Error::InvalidValue));
         }
         Ok(())
     }
 
     /// Whether the input ends here, at the top level. Nothing is taken; `InvalidValue` in a container.
-    pub fn at_end(&mut self) -> Result<bool, Error> {
+    pub fn at_end(&mut self) -> Result<bool, Error>
+        ensures { Tells R.remaining → Reads Ends NotTop self.old result self.new }
+    {
         self.check_top()?;
-        Ok(self.looked().is_empty() && self.look(1)? == 0)
+        Ok(!self.look_next()?)
+    }
+
+    // How many bytes a described value's code and its descriptor take, which is a symbol with a size of four bytes.
+    fn long_name_len(&mut self) -> Result<Option<usize>, Error>
+        ensures ok { Tells R.remaining → IfOk result (λ _. LooksOn self.old self.new) }
+        ensures err { IfErr result (λ e. (self.new.error ≡ Some e) × Excused e self.new) }
+    {
+        if self.look(6)? < 6 {
+            return Ok(None);
+        }
+        let len = [
+            self.looked_byte(2),
+            self.looked_byte(3),
+            self.looked_byte(4),
+            self.looked_byte(5),
+        ];
+        Ok(Some((u32::from_be_bytes(len) as usize).saturating_add(6)))
     }
 
     // How many bytes a described value's code and its descriptor take, of the kinds that name sections.
-    fn descriptor_len(&mut self) -> Result<Option<usize>, Error> {
-        if self.look(3)? < 3 || self.looked_byte(0) != format_code::DESCRIBED {
+    fn descriptor_len(&mut self) -> Result<Option<usize>, Error>
+        ensures ok { Tells R.remaining → IfOk result (λ _. LooksOn self.old self.new) }
+        ensures err { IfErr result (λ e. (self.new.error ≡ Some e) × Excused e self.new) }
+    {
+        if self.look(3)? < 3 {
+            return Ok(None);
+        }
+        if self.looked_byte(0) != format_code::DESCRIBED {
             return Ok(None);
         }
         match self.looked_byte(1) {
             format_code::SMALL_ULONG => Ok(Some(3)),
             format_code::ULONG => Ok(Some(10)),
             format_code::SYMBOL_8 => Ok(Some(3 + usize::from(self.looked_byte(2)))),
-            format_code::SYMBOL_32 if self.look(6)? >= 6 => {
-                let len = [2, 3, 4, 5].map(|i| self.looked_byte(i));
-                Ok(Some((u32::from_be_bytes(len) as usize).saturating_add(6)))
-            }
+            format_code::SYMBOL_32 => self.long_name_len(),
             _ => Ok(None),
         }
     }
 
     /// The code of the section whose whole descriptor stands next at the top level, if one does. Nothing is taken, and
     /// at most 64 bytes are looked at; `InvalidValue` in a container.
-    pub fn peek_section(&mut self) -> Result<Option<u8>, Error> {
+    pub fn peek_section(&mut self) -> Result<Option<u8>, Error>
+        ensures { Tells R.remaining → Reads PeeksSection NotTop self.old result self.new }
+    {
         self.check_top()?;
         let Some(len) = self.descriptor_len()? else {
             return Ok(None);
         };
-        if len > LOOK || self.look(len)? < len {
+        if len > LOOK {
+            return Ok(None);
+        }
+        if self.look(len)? < len {
             return Ok(None);
         }
         match self.looked().get(1..len) {

@@ -1,4 +1,8 @@
 //! The bytes of whole terms (Part 1, section 1.2).
+ghost use Rattle.std.specs.Prelude.{◌≡◌, ◌++◌, ◌∷◌, [], cond, None, IfOk};
+ghost use Rattle.amqp_wire.specs.Sources.{Tells};
+ghost use Rattle.amqp_decoder.specs.Terms.{Keeps, KeepsBehind, TakesBytes};
+
 use crate::Decoder;
 use amqp_lengths::{NESTING, len_of_term};
 use amqp_wire::format_code::unknown;
@@ -26,9 +30,18 @@ fn data_of(code: u8) -> Data {
     }
 }
 
+// How many of the four bytes of a number don't stand in front of its data.
+fn unused_digits(wide: bool) -> usize
+    ensures { result ≡ cond wide 0 3 }
+{
+    if wide { 0 } else { 3 }
+}
+
 impl<R: ByteSource> Decoder<R> {
     // Adds a byte that was taken.
-    fn keep_byte(&mut self, byte: u8, bytes: &mut Vec<u8>) -> Result<(), Error> {
+    fn keep_byte(&mut self, byte: u8, bytes: &mut Vec<u8>) -> Result<(), Error>
+        ensures { IfOk result (λ _. (bytes.new.items ≡ bytes.old.items ++ (byte ∷ [])) × (self.new ≡ self.old)) }
+    {
         match bytes.push(byte) {
             Ok(()) => Ok(()),
             Err(_) => Err(self.refuse(Error::Memory)),
@@ -36,39 +49,46 @@ impl<R: ByteSource> Decoder<R> {
     }
 
     // Adds the next so many bytes of the open container.
-    fn keep_next(&mut self, len: u32, bytes: &mut Vec<u8>) -> Result<(), Error> {
+    fn keep_next(&mut self, len: u32, bytes: &mut Vec<u8>) -> Result<(), Error>
+        ensures { Tells R.remaining → IfOk result (λ _. Keeps bytes.old.items self.old bytes.new.items self.new) }
+    {
         self.lower(len)?;
         self.keep(len, bytes)
     }
 
     // Adds a number of one byte or of four, and answers it.
-    fn keep_number(&mut self, wide: bool, bytes: &mut Vec<u8>) -> Result<u32, Error> {
+    fn keep_number(&mut self, wide: bool, bytes: &mut Vec<u8>) -> Result<u32, Error>
+        ensures { Tells R.remaining → IfOk result (λ _. Keeps bytes.old.items self.old bytes.new.items self.new) }
+    {
         let number = self.number(wide)?;
         let digits = number.to_be_bytes();
-        let digits = if wide { &digits[..] } else { &digits[3..] };
-        match bytes.extend_from_slice(digits) {
+        match bytes.extend_from_slice(&digits[unused_digits(wide)..]) {
             Ok(()) => Ok(number),
             Err(_) => Err(self.refuse(Error::Memory)),
         }
     }
 
     // Adds the data under a known code.
-    fn keep_data(&mut self, code: u8, bytes: &mut Vec<u8>) -> Result<(), Error> {
+    fn keep_data(&mut self, code: u8, bytes: &mut Vec<u8>) -> Result<(), Error>
+        ensures { Tells R.remaining → IfOk result (λ _. Keeps bytes.old.items self.old bytes.new.items self.new) }
+    {
         match data_of(code) {
             Data::Fixed(width) => self.keep_next(width, bytes),
             Data::Sized { wide, is_list } => {
                 let size = self.keep_number(wide, bytes)?;
-                if size == 0 && is_list {
-                    self.keep_number(wide, bytes)?;
-                    return Ok(());
+                if size > 0 || !is_list {
+                    return self.keep_next(size, bytes);
                 }
-                self.keep_next(size, bytes)
+                self.keep_number(wide, bytes)?;
+                Ok(())
             }
         }
     }
 
     // Adds a descriptor.
-    fn keep_descriptor_bytes(&mut self, bytes: &mut Vec<u8>) -> Result<(), Error> {
+    fn keep_descriptor_bytes(&mut self, bytes: &mut Vec<u8>) -> Result<(), Error>
+        ensures { Tells R.remaining → IfOk result (λ _. Keeps bytes.old.items self.old bytes.new.items self.new) }
+    {
         let code = self.byte()?;
         match code {
             format_code::ULONG_0
@@ -84,7 +104,9 @@ impl<R: ByteSource> Decoder<R> {
     }
 
     // Adds the constructor that begins with this code, and answers its last code.
-    fn keep_constructor(&mut self, first: u8, bytes: &mut Vec<u8>) -> Result<u8, Error> {
+    fn keep_constructor(&mut self, first: u8, bytes: &mut Vec<u8>) -> Result<u8, Error>
+        ensures { Tells R.remaining → IfOk result (λ _. KeepsBehind first bytes.old.items self.old bytes.new.items self.new) }
+    {
         let mut code = first;
         let mut count = 0;
         self.keep_byte(code, bytes)?;
@@ -104,7 +126,9 @@ impl<R: ByteSource> Decoder<R> {
     }
 
     // Adds the bytes of the next term.
-    fn keep_term(&mut self, bytes: &mut Vec<u8>) -> Result<(), Error> {
+    fn keep_term(&mut self, bytes: &mut Vec<u8>) -> Result<(), Error>
+        ensures { Tells R.remaining → self.old.top.shared ≡ None → bytes.old.items ≡ [] → IfOk result (λ _. TakesBytes self.old bytes.new.items self.new) }
+    {
         let first = self.begin()?;
         let code = self.keep_constructor(first, bytes)?;
         self.keep_data(code, bytes)?;
@@ -116,7 +140,9 @@ impl<R: ByteSource> Decoder<R> {
 
     /// The bytes of the next term, of any kind; `LazyInArray` where it is the item of an array, whose constructor is
     /// none of its own.
-    pub fn read_term(&mut self, alloc: Global) -> Result<Vec<u8>, Error> {
+    pub fn read_term(&mut self, alloc: Global) -> Result<Vec<u8>, Error>
+        ensures { Tells R.remaining → IfOk result (λ bytes. TakesBytes self.old bytes.items self.new) }
+    {
         self.check_item()?;
         if self.is_shared() {
             return Err(self.refuse(Error::LazyInArray));

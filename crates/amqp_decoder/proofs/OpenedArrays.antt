@@ -1,0 +1,133 @@
+-- How an array is begun: a code, a size, a count, and the constructor that its items share.
+use Rattle.std.proofs.Common.{◌≡◌, ◌≤◌, ◌<◌, ℕ, ◌⊎◌, inl, inr, Bool, true, false, ◌↔◌, IsTrue, cond, Option, Some, None, Result, Ok, Err, IfOk, IfErr, List, length, max, refl, sym, ap, ◌∙◌, subst, arith}
+use Rattle.amqp_model.specs.Term.{Descriptor, array}
+use Rattle.amqp_model.specs.Constructors.{compound, format}
+use Rattle.amqp_model.specs.Spelling.{IsKnown, HasWidthZero}
+use Rattle.amqp_wire.specs.declared.error.Error.{Error}
+use Rattle.amqp_wire.specs.declared.error.Error.TheVariants.{Depth, Memory, ZeroWidthItems}
+use Rattle.amqp_wire.specs.Codes.{refusal_of}
+use Rattle.amqp_decoder.specs.declared.frame.Place.TheVariants.{InArray}
+use Rattle.amqp_decoder.specs.State.{State, Has, inside}
+use Rattle.amqp_decoder.specs.Steps.{Excused, NoRoom, Stopped}
+use Rattle.amqp_decoder.specs.Reading.{Refused, Reads, Begun, BeginFault}
+use Rattle.amqp_decoder.specs.Containers.{Header, HeaderFault}
+use Rattle.amqp_decoder.specs.Arrays.{TookConstructor, ConstructorFault, IsFlat, Shares, no_items, shared_by, SharesFault, no_constructor, zero_width, too_nested, Starts, EntersArray, EnterArrayFault, no_header, no_room, too_deep, no_start, OpensArray, ArrayFault, not_begun, wrong_code, no_data}
+use Rattle.amqp_decoder.proofs.Leaves.{begun_same, fault_not_begun}
+use Rattle.amqp_decoder.proofs.Opening.{header_same, header_not_faulty, one_width}
+use Rattle.amqp_decoder.proofs.Constructed.{code_known, constructor_not, one_constructor}
+
+known : (st : State) (ds : List Descriptor) (c : ℕ) (m : State) → TookConstructor st ds c m → IsKnown (format c)
+known st ds c m t = code_known ds c t.own t.spelled
+
+items_left : (st : State) (ds : List Descriptor) (c : ℕ) (m : State) → TookConstructor st ds c m → (m.top.items ≡ Some 0 → ⊥) → st.top.items ≡ Some 0 → ⊥
+items_left st ds c m t some none = some (ap (λ (z : State). z.top.items) t.took.moved ∙ none)
+
+pub shares_none : (st : State) (ds : List Descriptor) (c : ℕ) (m : State) → m.top.items ≡ Some 0 → TookConstructor st ds c m → Shares st m
+shares_none st ds c m none t = no_items ds c (sym (ap (λ (z : State). z.top.items) t.took.moved) ∙ none) t
+
+fits_behind : (st : State) (ds : List Descriptor) (c : ℕ) (m : State) (flat : Bool) → TookConstructor st ds c m → (IsKnown (format c) → IsTrue flat ↔ IsFlat ds (format c)) → (flat ≡ true) ⊎ (length m.saved ≤ m.nesting) → IsFlat ds (format c) ⊎ (length st.saved ≤ st.nesting)
+fits_behind st ds c m flat t is (inl x) = inl ((is (known st ds c m t)).0 x)
+fits_behind st ds c m flat t is (inr x) = inr (subst (λ (z : State). length z.saved ≤ z.nesting) t.took.moved x)
+
+pub shares_all : (st : State) (ds : List Descriptor) (c : ℕ) (m m' : State) (new : State) (zero flat : Bool) → (m.top.items ≡ Some 0 → ⊥) → TookConstructor st ds c m → zero ≡ false → (IsKnown (format c) → IsTrue zero ↔ HasWidthZero (format c)) → (IsKnown (format c) → IsTrue flat ↔ IsFlat ds (format c))
+    → ((flat ≡ true) ⊎ (length m.saved ≤ m.nesting)) × (m' ≡ m) → new ≡ record m' { top = record m'.top { shared = Some (ds, c) } } → Shares st new
+shares_all st ds c m m' new zero flat some t wide zero_is flat_is (fits, same) is =
+    shared_by ds c m (items_left st ds c m t some) t (λ z. let x = (zero_is (known st ds c m t)).1 z in absurd (cc)) (fits_behind st ds c m flat t flat_is fits)
+    (is ∙ ap (λ (z : State). record z { top = record z.top { shared = Some (ds, c) } }) same)
+
+pub stopped_unconstructed : (st : State) (e : Error) (new : State) → Stopped (ConstructorFault st) e new → Stopped (SharesFault st) e new
+stopped_unconstructed st e new s = record { kept = s.kept; why = elim s.why [ inl x ↦ inl x | inr x ↦ inr (no_constructor x) ] }
+
+pub stopped_zero : (st : State) (ds : List Descriptor) (c : ℕ) (m : State) (zero : Bool) (e : Error) (new : State) → (m.top.items ≡ Some 0 → ⊥) → TookConstructor st ds c m → zero ≡ true → (IsKnown (format c) → IsTrue zero ↔ HasWidthZero (format c)) → e ≡ ZeroWidthItems → new.error ≡ Some e → Stopped (SharesFault st) e new
+stopped_zero st ds c m zero e new some t wide zero_is is kept = record { kept = kept; why = inr (zero_width ds c m (items_left st ds c m t some) t ((zero_is (known st ds c m t)).0 wide) is) }
+
+pub stopped_nested : (st : State) (ds : List Descriptor) (c : ℕ) (m : State) (flat : Bool) (e : Error) (new : State) → (m.top.items ≡ Some 0 → ⊥) → TookConstructor st ds c m → (IsKnown (format c) → IsTrue flat ↔ IsFlat ds (format c))
+    → (flat ≡ false) × (e ≡ Depth) × (m.nesting < length m.saved) × (new ≡ record m { error = Some Depth }) → Stopped (SharesFault st) e new
+stopped_nested st ds c m flat e new some t flat_is (not_flat, is, deep, kept) = record {
+  kept = ap (λ (z : State). z.error) kept ∙ ap Some (sym is);
+  why = inr (too_nested ds c m (items_left st ds c m t some) t (λ f. let x = (flat_is (known st ds c m t)).1 f in absurd (cc)) (subst (λ (z : State). z.nesting < length z.saved) t.took.moved deep) is);
+}
+
+pub stopped_memory : (st : State) (e : Error) (new : State) → (e ≡ Memory) × (new.error ≡ Some Memory) → Stopped (SharesFault st) e new
+stopped_memory st e new (is, kept) = record { kept = kept ∙ ap Some (sym is); why = inl (inl is) }
+
+shares_not : (st : State) (e : Error) (st' : State) → SharesFault st e → Shares st st' → ⊥
+shares_not st e st' (no_constructor f) (no_items ds c none t) = constructor_not st e ds c st' f t
+shares_not st e st' (no_constructor f) (shared_by ds c m some t wide fits is) = constructor_not st e ds c m f t
+shares_not st e st' (zero_width ds c m some t z is) (no_items es k none u) = some none
+shares_not st e st' (zero_width ds c m some t z is) (shared_by es k m' more u wide fits same) = wide (subst (λ n. HasWidthZero (format n)) (one_constructor st ds es c k m m' t u).1 z)
+shares_not st e st' (too_nested ds c m some t uneven deep is) (no_items es k none u) = some none
+shares_not st e st' (too_nested ds c m some t uneven deep is) (shared_by es k m' more u wide (inl flat) same) =
+    let s = one_constructor st ds es c k m m' t u in uneven (subst (λ n. IsFlat ds (format n)) (sym s.1) (subst (λ l. IsFlat l (format k)) (sym s.0) flat))
+shares_not st e st' (too_nested ds c m some t uneven deep is) (shared_by es k m' more u wide (inr few) same) = omega arith
+
+starts_not : (n k : ℕ) (st : State) (e : Error) (st' : State) → 0 < max n k → SharesFault st e → Starts n k st st' → ⊥
+starts_not n k st e st' some f (inl x) = omega (arith, x.0)
+starts_not n k st e st' some f (inr x) = shares_not st e st' f x.1
+
+enters_not : (w : ℕ) (st : State) (n : ℕ) (st' : State) (e : Error) → EnterArrayFault w st e → EntersArray w st n st' → ⊥
+enters_not w st n st' e (no_header f) d = header_not_faulty false w st n d.content d.mid e f d.header
+enters_not w st n st' e (no_room i k m h full) d =
+    let s = header_same false w st n d.content i k d.mid m d.header h in
+    full.less (subst (Has m.top.left) s.1 (subst (λ (z : State). Has z.top.left d.content) s.2 d.room))
+enters_not w st n st' e (too_deep i k m h deep is) d = let few = d.few in omega (arith, deep, few)
+enters_not w st n st' e (no_start i k m h some f) d =
+    let s = header_same false w st n d.content i k d.mid m d.header h in
+    starts_not i k (inside InArray i k m) e st' some f
+    (subst (λ z. Starts i k (inside InArray i k z) st') s.2 (subst (λ z. Starts i z (inside InArray i z d.mid) st') s.1 (subst (λ z. Starts z d.content (inside InArray z d.content d.mid) st') s.0 d.starts)))
+
+arrays_not : (st : State) (n : ℕ) (st' : State) (e : Error) → ArrayFault st e → OpensArray st n st' → ⊥
+arrays_not st n st' e (not_begun f) o = fault_not_begun st e o.code o.mid f o.begun
+arrays_not st n st' e (wrong_code c m g never is) o = let s = begun_same st c o.code m o.mid g o.begun in never o.width (ap format s.0 ∙ o.announced)
+arrays_not st n st' e (no_data c w m g f fault) o =
+    let s = begun_same st c o.code m o.mid g o.begun in
+    let same : w ≡ o.width = one_width (format o.code) array w o.width (ap format (sym s.0) ∙ f) o.announced in
+    enters_not o.width o.mid n st' e (subst (λ z. EnterArrayFault o.width z e) s.1 (subst (λ z. EnterArrayFault z m e) same fault)) o.data_
+
+array_refused : (st : State) (e : Error) (new : State) → st.error ≡ None → new.error ≡ Some e → Excused e new ⊎ ArrayFault st e → Refused OpensArray ArrayFault st e new
+array_refused st e new going kept why = record {
+  kept = kept;
+  again = λ d x. absurd (cc);
+  named = λ g. why;
+  none = elim why [ inl x ↦ inl x | inr x ↦ inr (λ n b o. arrays_not st n b e x o) ];
+}
+
+pub array_unbegun : (st : State) (e : Error) (new : State) → Refused Begun BeginFault st e new → Refused OpensArray ArrayFault st e new
+array_unbegun st e new r = record {
+  kept = r.kept;
+  again = r.again;
+  named = λ g. elim (r.named g) [ inl x ↦ inl x | inr x ↦ inr (not_begun x) ];
+  none = elim r.none [ inl x ↦ inl x | inr f ↦ inr (λ n b o. f o.code o.mid o.begun) ];
+}
+
+pub array_other : (st : State) (c : ℕ) (m : State) (e : Error) (new : State) → Begun st c m → ((w : ℕ) → format c ≡ compound array w → ⊥) → e ≡ refusal_of c → new.error ≡ Some e → Refused OpensArray ArrayFault st e new
+array_other st c m e new g never is kept = array_refused st e new g.going kept (inr (wrong_code c m g never is))
+
+pub reads_array : (c w : ℕ) (st m new : State) (r : Result ℕ Error) → Begun st c m → format c ≡ compound array w → IfOk r (λ n. EntersArray w m n new) → IfErr r (λ e. Stopped (EnterArrayFault w m) e new) → Reads OpensArray ArrayFault st r new
+reads_array c w st m new (Ok n) g f d h = record { code = c; width = w; mid = m; begun = g; announced = f; data_ = d }
+reads_array c w st m new (Err e) g f d h = array_refused st e new g.going h.kept (elim h.why [ inl x ↦ inl x | inr x ↦ inr (no_data c w m g f x) ])
+
+-- the steps behind the code
+pub stopped_header : (w : ℕ) (st : State) (e : Error) (new : State) → Stopped (HeaderFault false w st) e new → Stopped (EnterArrayFault w st) e new
+stopped_header w st e new s = record { kept = s.kept; why = elim s.why [ inl x ↦ inl x | inr x ↦ inr (no_header x) ] }
+
+pub stopped_open : (w n k : ℕ) (st m : State) (e : Error) (new : State) → Header false w st n k m → Stopped (λ e. NoRoom k m e ⊎ ((m.nesting < length m.saved) × (e ≡ Depth))) e new → Stopped (EnterArrayFault w st) e new
+stopped_open w n k st m e new h s = record {
+  kept = s.kept;
+  why = elim s.why [
+    | inl x ↦ inl x
+    | inr x ↦ elim x [ inl y ↦ inr (no_room n k m h y) | inr y ↦ inr (too_deep n k m h (subst (λ (z : State). z.nesting < length z.saved) h.took.moved y.0) y.1) ]
+  ];
+}
+
+pub stopped_start : (w n k : ℕ) (st m m' : State) (e : Error) (new : State) → Header false w st n k m → 0 < max n k → m' ≡ inside InArray n k m → Stopped (SharesFault m') e new → Stopped (EnterArrayFault w st) e new
+stopped_start w n k st m m' e new h some is s = record { kept = s.kept; why = elim s.why [ inl x ↦ inl x | inr x ↦ inr (no_start n k m h some (subst (λ z. SharesFault z e) is x)) ] }
+
+entered_few : (w n k : ℕ) (st m : State) → Header false w st n k m → length m.saved ≤ m.nesting → length st.saved ≤ st.nesting
+entered_few w n k st m h few = subst (λ (z : State). length z.saved ≤ z.nesting) h.took.moved few
+
+pub enters_none : (w n k : ℕ) (st m m' : State) → Header false w st n k m → Has m.top.left k × (length m.saved ≤ m.nesting) × (m' ≡ inside InArray n k m) → max n k ≡ 0 → EntersArray w st n m'
+enters_none w n k st m m' h (room, few, is) none = record { content = k; mid = m; header = h; room = room; few = entered_few w n k st m h few; starts = inl (none, is) }
+
+pub enters_all : (w n k : ℕ) (st m m' : State) (new : State) → Header false w st n k m → Has m.top.left k × (length m.saved ≤ m.nesting) × (m' ≡ inside InArray n k m) → 0 < max n k → Shares m' new → EntersArray w st n new
+enters_all w n k st m m' new h (room, few, is) some s = record { content = k; mid = m; header = h; room = room; few = entered_few w n k st m h few; starts = inr (some, subst (λ z. Shares z new) is s) }

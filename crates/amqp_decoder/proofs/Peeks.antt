@@ -1,0 +1,116 @@
+-- What a look at the next value's first code finds.
+use Rattle.std.proofs.Common.{◌≡◌, ◌≤◌, ◌<◌, ℕ, suc, ◌+◌, ◌-◌, ◌⊎◌, inl, inr, Bool, false, IsTrue, Option, Some, None, List, [], ◌∷◌, ◌++◌, length, drop, get_or, length-append, ◌↔◌, min, max, refl, sym, ap, ◌∙◌, subst, arith}
+use Rattle.amqp_model.specs.Term.{Descriptor, Term}
+use Rattle.amqp_model.specs.Spelling.{Constructor, enc}
+use Rattle.amqp_model.specs.Standing.{Standing}
+use Rattle.amqp_wire.specs.declared.error.Error.{Error}
+use Rattle.amqp_wire.specs.declared.error.Error.TheVariants.{Cut}
+use Rattle.amqp_decoder.specs.State.{State, Has, lower, looked, moved, on, past}
+use Rattle.amqp_decoder.specs.Steps.{Took, Short, SizeRefused}
+use Rattle.amqp_decoder.specs.Reading.{Refused, IsFirst, IsFirstShared, Begun, BeginFault, Peeked, looked_under}
+use Rattle.amqp_decoder.specs.Primitives.{standing, SpellsAs, Stands, Value}
+use Rattle.amqp_decoder.proofs.Steps.{begun_own, begun_shared, begin_short, short_of_size, missed_lacks, has_item}
+
+under_shared : (o : Option (List Descriptor × ℕ)) (c : ℕ) (st : State) → IsFirstShared o c → st ≡ looked_under o st
+under_shared None c st h = absurd h
+under_shared (Some s) c st h = refl
+
+-- a constructor is shared
+pub peeked_shared : (st : State) (c : ℕ) → st.error ≡ None → Has st.top.items 1 → IsFirstShared st.top.shared c → Peeked st c st
+peeked_shared st c going item h = record { after = _; begun = begun_shared st c going item h; kept = under_shared st.top.shared c st h }
+
+front_one : (r : List ℕ) → 0 < length r → r ≡ get_or r 0 0 ∷ drop 1 r
+front_one [] h = absurd (omega arith)
+front_one (x ∷ r) h = refl
+
+-- a byte stands there, and is looked at
+pub peeked_own : (st : State) (c : ℕ) (new : State) → st.error ≡ None → Has st.top.items 1 → st.top.shared ≡ None → Has st.top.left 1 → 0 < length st.rest → new ≡ looked (min 1 (length st.rest)) st → (0 < new.ahead → c ≡ get_or new.rest 0 0) → Peeked st c new
+peeked_own st c new going item none room some is byte =
+    let one : min 1 (length st.rest) ≡ 1 = omega (arith, some) in
+    let now : new ≡ looked 1 st = is ∙ ap (λ n. looked n st) one in
+    let ahead : 0 < new.ahead = omega (arith, ap (λ (x : State). x.ahead) now) in
+    let c_is : c ≡ get_or st.rest 0 0 = byte ahead ∙ ap (λ (x : State). get_or x.rest 0 0) now in
+    let took : Took st (c ∷ []) (on 1 st) = record { room = room; rest = front_one st.rest some ∙ ap (λ x. x ∷ drop 1 st.rest) (sym c_is); moved = refl } in
+    record { after = _; begun = begun_own st c (on 1 st) going item none took; kept = now ∙ ap (λ o. looked_under o st) (sym none) }
+
+pub peek_refused : (st : State) (e : Error) (new : State) → Refused Begun BeginFault st e new → Refused Peeked BeginFault st e new
+peek_refused st e new r = record {
+  kept = r.kept;
+  again = r.again;
+  named = r.named;
+  none = elim r.none [ inl x ↦ inl x | inr f ↦ inr (λ c b h. f c h.after h.begun) ];
+}
+
+-- the container has no byte left
+pub peek_size : (st : State) (e : Error) (new : State) → st.error ≡ None → st.top.shared ≡ None → st.top.left ≡ Some 0 → SizeRefused 1 st e new → Refused Peeked BeginFault st e new
+peek_size st e new going none left r = peek_refused st e new (begin_short st e new going none (short_of_size 1 1 0 st e new left (omega arith) r))
+
+pub none_there : (b : Bool) (r : List ℕ) → b ≡ false → (0 < length r → IsTrue b) → length r < 1
+none_there b [] e f = omega arith
+none_there b (x ∷ r) e f = let h : IsTrue b = f (omega arith) in absurd (cc)
+
+-- the input ends
+pub peek_cut : (st : State) (e : Error) (new : State) → st.error ≡ None → st.top.shared ≡ None → (st.top.left ≡ Some 0 → ⊥) → length st.rest < 1 → e ≡ Cut → new.error ≡ Some e → Refused Peeked BeginFault st e new
+peek_cut st e new going none left short is kept =
+    peek_refused st e new (begin_short st e new going none (record { kept = kept; why = inr (missed_lacks 1 st st.top.left e refl (has_item st.top.left left) is short) }))
+
+max-minus : (a n k : ℕ) → n ≤ k → max a n - k ≡ a - k
+max-minus a n k h = omega (arith, h)
+
+-- what is taken after a look is what is taken without it
+pub moved-looked : (n k : ℕ) (st : State) → n ≤ k → moved k (looked n st) ≡ moved k st
+moved-looked n k st h = ap (λ a. record st { rest = drop k st.rest; ahead = a }) (max-minus st.ahead n k h)
+
+pub on-looked : (n k : ℕ) (st : State) → n ≤ k → on k (looked n st) ≡ on k st
+on-looked n k st h = ap (λ a. record (on k st) { ahead = a }) (max-minus st.ahead n k h)
+
+pub past-looked : (n k : ℕ) (st : State) → n ≤ k → past k (looked n st) ≡ past k st
+past-looked n k st h = ap (λ a. record (past k st) { ahead = a }) (max-minus st.ahead n k h)
+
+pub took-looked : (n : ℕ) (st after : State) (s : List ℕ) → n ≤ length s → Took (looked n st) s after ↔ Took st s after
+took-looked n st after s h = (
+  λ t. record { room = t.room; rest = t.rest; moved = t.moved ∙ on-looked n (length s) st h },
+  λ t. record { room = t.room; rest = t.rest; moved = t.moved ∙ sym (on-looked n (length s) st h) },
+)
+
+pub stands-looked : (n : ℕ) (st : State) (s : List ℕ) (t : Term) → Stands (looked n st) s t ↔ Stands st s t
+stands-looked n st s t = (
+  λ k. record { going = k.going; item = k.item; room = k.room; after = k.after; rest = k.rest; spelled = k.spelled; nested = k.nested },
+  λ k. record { going = k.going; item = k.item; room = k.room; after = k.after; rest = k.rest; spelled = k.spelled; nested = k.nested },
+)
+
+constructor_some : (ds : List Descriptor) (c : ℕ) (b : List ℕ) → Constructor ds c b → 1 ≤ length b
+constructor_some [] c b h = omega (arith, ap length h.0)
+constructor_some (d ∷ ds) c b (x, y, e, _, _) = omega (arith, ap length e)
+
+enc_some : (b : List ℕ) (t : Term) → enc b t → 1 ≤ length b
+unfolding enc
+enc_some b t (ds, c, few, (x, y, e, h, k)) = omega (arith, ap length e, length-append x y, constructor_some ds c x h)
+
+-- a term that shares no constructor has a byte
+pub stands_some : (st : State) (s : List ℕ) (t : Term) → st.top.shared ≡ None → Stands st s t → 1 ≤ length s
+stands_some st s t none k = enc_some s t (subst (λ o. SpellsAs (standing o s) t) none k.spelled)
+
+first_some : (o : Option (List Descriptor × ℕ)) (c : ℕ) (own : List ℕ) → o ≡ None → IsFirst o c own → 1 ≤ length own
+first_some o c own none h = let e : own ≡ c ∷ [] = subst (λ x. IsFirst x c own) none h in omega (arith, ap length e)
+
+begun_after : (st after : State) (d : ℕ) (o : Option (List Descriptor × ℕ)) → st.top.shared ≡ o → Begun (looked_under o st) d after ↔ Begun st d after
+begun_after st after d None e = (
+  λ g. record { going = g.going; item = g.item; own = g.own; first = g.first; room = g.room; rest = g.rest; moved = g.moved ∙ past-looked 1 (length g.own) st (first_some st.top.shared d g.own e g.first) },
+  λ g. record { going = g.going; item = g.item; own = g.own; first = g.first; room = g.room; rest = g.rest; moved = g.moved ∙ sym (past-looked 1 (length g.own) st (first_some st.top.shared d g.own e g.first)) },
+)
+begun_after st after d (Some s) e = (λ g. g, λ g. g)
+
+pub begun-peeked : (st seen after : State) (c d : ℕ) → Peeked st c seen → Begun seen d after ↔ Begun st d after
+begun-peeked st seen after c d p = subst (λ (x : State). Begun x d after ↔ Begun st d after) (sym p.kept) (begun_after st after d st.top.shared refl)
+
+value_after : {A : Type 0} (means : Standing → Term → A → Type 0) (st after : State) (v : A) (o : Option (List Descriptor × ℕ)) → st.top.shared ≡ o → Value means (looked_under o st) v after ↔ Value means st v after
+value_after means st after v None e = (
+  λ x. let k = (stands-looked 1 st x.bytes x.term).0 x.stands in record { bytes = x.bytes; term = x.term; stands = k; moved = x.moved ∙ past-looked 1 (length x.bytes) st (stands_some st x.bytes x.term e k); meant = x.meant },
+  λ x. record { bytes = x.bytes; term = x.term; stands = (stands-looked 1 st x.bytes x.term).1 x.stands; moved = x.moved ∙ sym (past-looked 1 (length x.bytes) st (stands_some st x.bytes x.term e x.stands)); meant = x.meant },
+)
+value_after means st after v (Some s) e = (λ x. x, λ x. x)
+
+-- a value that is read after a look is the value that is read without it
+pub value-peeked : {A : Type 0} (means : Standing → Term → A → Type 0) (st seen after : State) (c : ℕ) (v : A) → Peeked st c seen → Value means seen v after ↔ Value means st v after
+value-peeked means st seen after c v p = subst (λ (x : State). Value means x v after ↔ Value means st v after) (sym p.kept) (value_after means st after v st.top.shared refl)

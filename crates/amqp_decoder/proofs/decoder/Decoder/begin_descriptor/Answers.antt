@@ -1,0 +1,21 @@
+use Rattle.std.proofs.Common.{rules, ap, inr}
+use Rattle.std.proofs.lemmas.Result.{err_from_is_err_and}
+use Rattle.amqp_decoder.specs.State.{State}
+use Rattle.amqp_decoder.specs.Described.{DescribedFault, other_code}
+use Rattle.amqp_decoder.proofs.Leaves.{err_map}
+use Rattle.amqp_decoder.proofs.Descriptors.{unbegun, begun_fails, deep_fails}
+use Rattle.amqp_decoder.proofs.decoder.Decoder.begin_descriptor.Goals as goal
+
+pub returns-in_err-code-clause-err : goal.returns-in_err-code-clause-err
+returns-in_err-code-clause-err g c = λ told.
+    let p = err_from_is_err_and c.from_residual.result c.from_residual.ensures.1 in
+    rw (p.1, p.2) (unbegun _ _ _ (c.in_err-code.ensures told))
+
+pub returns-then-code-ne-DESCRIBED-clause-err : goal.returns-then-code-ne-DESCRIBED-clause-err
+returns-then-code-ne-DESCRIBED-clause-err g c = λ told.
+    let h = c.in_ok-code.ensures told in
+    begun_fails DescribedFault _ _ _ c.refuse_code.result _ h (ap (λ (x : State). x.error) c.refuse_code.ensures.kept) (inr (other_code h (search rules) c.refuse_code.ensures.answer))
+
+pub returns-clause-err : goal.returns-clause-err
+returns-clause-err g c = λ told.
+    err_map _ _ _ (λ e s. deep_fails _ _ e _ (rw c.if-code-ne-DESCRIBED.false at (c.in_ok-code.ensures told)) s.0 s.1 s.2) c.check_nesting.ensures.err

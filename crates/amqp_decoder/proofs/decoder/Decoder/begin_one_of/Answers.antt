@@ -1,0 +1,42 @@
+use Rattle.std.proofs.Common.{Some, ap, sym, ◌∙◌}
+use Rattle.std.proofs.lemmas.Result.{err_from_is_err_and}
+use Rattle.amqp_decoder.specs.State.{State}
+use Rattle.amqp_decoder.proofs.Descriptors.{begun_describable, one_unbegun, one_missed, one_other, one_deep, one_entered}
+use Rattle.amqp_decoder.proofs.decoder.Decoder.begin_one_of.Goals as goal
+
+pub returns-in_err-begin_descriptor-clause-opened : goal.returns-in_err-begin_descriptor-clause-opened
+returns-in_err-begin_descriptor-clause-opened g c = λ told.
+    let p = err_from_is_err_and c.from_residual.result c.from_residual.ensures.1 in
+    rw (p.1, p.2) (one_unbegun _ _ _ _ (c.in_err-begin_descriptor.ensures.err told))
+
+pub returns-in_err-place-clause-opened : goal.returns-in_err-place-clause-opened
+returns-in_err-place-clause-opened g c = λ told.
+    let p = err_from_is_err_and c.from_residual-in_err-place.result c.from_residual-in_err-place.ensures.1 in
+    let begun = c.in_ok-begin_descriptor.ensures.ok told in
+    rw (p.1, p.2) (one_missed _ _ _ _ _ begun (c.in_err-place.ensures.err told (begun_describable _ _ begun)))
+
+pub returns-in_default-clause-opened : goal.returns-in_default-clause-opened
+returns-in_default-clause-opened g c = λ told.
+    let begun = c.in_ok-begin_descriptor.ensures.ok told in
+    let took = rw c.in_default.is at (c.in_ok-place.ensures.ok told (begun_describable _ _ begun)) in
+    one_other _ _ _ _ _ _ begun took c.refuse.ensures.answer (ap (λ (x : State). x.error) c.refuse.ensures.kept ∙ ap Some (sym c.refuse.ensures.answer))
+
+pub returns-in_err-enter_described-clause-opened : goal.returns-in_err-enter_described-clause-opened
+returns-in_err-enter_described-clause-opened g c = λ told.
+    let p = err_from_is_err_and c.from_residual-in_err-enter_described.result c.from_residual-in_err-enter_described.ensures.1 in
+    let begun = c.in_ok-begin_descriptor.ensures.ok told in
+    let took = c.in_ok-place.ensures.ok told (begun_describable _ _ begun) in
+    let deep = c.in_err-enter_described.ensures.err in
+    rw (p.1, p.2) (one_deep _ _ _ _ _ _ _ begun took deep.0 deep.1 deep.2)
+
+pub returns-clause-opened : goal.returns-clause-opened
+returns-clause-opened g c = λ told.
+    let begun = c.in_ok-begin_descriptor.ensures.ok told in
+    let took = c.in_ok-place.ensures.ok told (begun_describable _ _ begun) in
+    one_entered _ _ _ _ _ _ begun (rw c.in-Some.is at took) c.in_ok-enter_described.ensures.ok
+
+pub returns-clause-nesting : goal.returns-clause-nesting
+returns-clause-nesting g c = λ told.
+    let begun = c.in_ok-begin_descriptor.ensures.ok told in
+    let took = c.in_ok-place.ensures.ok told (begun_describable _ _ begun) in
+    sym (ap (λ (x : State). x.nesting) begun.moved) ∙ sym (ap (λ (x : State). x.nesting) took.took.took.moved) ∙ c.in_ok-enter_described.ensures.nesting

@@ -1,0 +1,26 @@
+use Rattle.std.proofs.Common.{arith, ◌≤◌, ◌<◌, length, refl}
+use Rattle.amqp_decoder.proofs.Rows.{length-stack, stack-push, nested_push, shared_behind, and_none}
+use Rattle.amqp_decoder.proofs.decoder.Decoder.enter_described.Goals as goal
+
+pub invariant_of-self : goal.invariant_of-self
+invariant_of-self g c =
+    let few : c.self.inside.depth < length c.self.inside.frames = omega arith in
+    (c.self.invariant.0, c.self.invariant.1, omega arith, nested_push _ _ _ _ few c.self.invariant.3 (omega arith), c.self.invariant.4)
+
+pub returns-clause-err : goal.returns-clause-err
+returns-clause-err g c =
+    let deep : c.args.self.now.nesting ≤ length c.args.self.now.saved = rw (← c.self.view_is, length-stack) (omega arith) in
+    (c.refuse.ensures.answer, deep, c.refuse.ensures.kept)
+
+pub returns-then-self-lt-NESTING-clause-ok : goal.returns-then-self-lt-NESTING-clause-ok
+returns-then-self-lt-NESTING-clause-ok g c =
+    let few : c.self.inside.depth < length c.self.inside.frames = omega arith in
+    let pushed = stack-push c.self.inside.descriptors.items c.self.inside.depth c.self.inside.frames (record c.self.inside.top { left = c.and.result }) few in
+    let rest = shared_behind c.self.inside.descriptors.items c.self.inside.top.code c.self.inside.top.first c.saturating_add.result c.self.inside.top.last (omega (arith, c.saturating_add.ensures)) (λ h. omega (arith, c.saturating_add.ensures)) in
+    rw (← c.self.view_is, length-stack, pushed, rest, c.and.ensures, and_none) (omega arith, refl)
+
+pub returns-clause-nesting : goal.returns-clause-nesting
+returns-clause-nesting g c = rw (← c.self.view_is) refl
+
+pub returns-then-self-lt-NESTING-clause-nesting : goal.returns-then-self-lt-NESTING-clause-nesting
+returns-then-self-lt-NESTING-clause-nesting g c = rw (← c.self.view_is) refl

@@ -1,0 +1,6 @@
+use Rattle.amqp_decoder.proofs.Leaves.{ok_map}
+use Rattle.amqp_decoder.proofs.KeptBytes.{keeps_next, takes_bytes}
+use Rattle.amqp_decoder.proofs.decoder.Decoder.keep_next.Goals as goal
+
+pub returns : goal.returns
+returns g c = λ told. ok_map _ _ _ (λ x h. keeps_next _ _ _ _ _ _ c.in_ok-lower.ensures.room c.in_ok-lower.ensures.new h) (c.keep.ensures.ok told)

@@ -1,0 +1,32 @@
+use Rattle.std.proofs.Common.{rules, ◌≡◌, Some, map, refl, ap, sym, ◌∙◌}
+use Rattle.std.proofs.lemmas.Result.{err_from_is_err_and}
+use Rattle.amqp_decoder.specs.State.{State, descriptor_of}
+use Rattle.amqp_decoder.proofs.Leaves.{ok_map, err_map}
+use Rattle.amqp_decoder.proofs.OpenedArrays.{shares_none, shares_all, stopped_unconstructed, stopped_zero, stopped_nested, stopped_memory}
+use Rattle.amqp_decoder.proofs.decoder.Decoder.take_constructor.Goals as goal
+
+pub returns-in_err-descriptors-clause-err : goal.returns-in_err-descriptors-clause-err
+returns-in_err-descriptors-clause-err g c = λ told none.
+    let p = err_from_is_err_and c.from_residual.result c.from_residual.ensures.1 in
+    rw (p.1, p.2) (stopped_unconstructed _ _ _ (c.in_err-descriptors.ensures.err told none))
+
+pub returns-then-is_done-clause-ok : goal.returns-then-is_done-clause-ok
+returns-then-is_done-clause-ok g c = λ told none. shares_none _ _ _ _ (c.is_done.ensures.0 c.if-is_done.true) (c.in_ok-descriptors.ensures.ok told none)
+
+pub returns-then-has_no_data-clause-err : goal.returns-then-has_no_data-clause-err
+returns-then-has_no_data-clause-err g c = λ told none.
+    let left : c.constructor.new.self.top.items ≡ Some 0 → ⊥ = λ z. let x = c.is_done.ensures.1 z in let y = c.if-is_done.false in absurd (cc) in
+    stopped_zero _ _ _ _ _ _ _ left (c.in_ok-descriptors.ensures.ok told none) c.if-has_no_data.true c.has_no_data.ensures c.refuse.ensures.answer
+    (ap (λ (x : State). x.error) c.refuse.ensures.kept ∙ ap Some (sym c.refuse.ensures.answer))
+
+pub returns-in_err-check_items-clause-err : goal.returns-in_err-check_items-clause-err
+returns-in_err-check_items-clause-err g c = λ told none.
+    let p = err_from_is_err_and c.from_residual-in_err-check_items.result c.from_residual-in_err-check_items.ensures.1 in
+    let left : c.constructor.new.self.top.items ≡ Some 0 → ⊥ = λ z. let x = c.is_done.ensures.1 z in let y = c.if-is_done.false in absurd (cc) in
+    rw (p.1, p.2) (stopped_nested _ _ _ _ c.is_flat.result _ _ left (c.in_ok-descriptors.ensures.ok told none) (rw c.deref.ensures.value at c.is_flat.ensures) c.in_err-check_items.ensures.err)
+
+pub returns-clause-ok : goal.returns-clause-ok
+returns-clause-ok g c = λ told none.
+    let left : c.constructor.new.self.top.items ≡ Some 0 → ⊥ = λ z. let x = c.is_done.ensures.1 z in let y = c.if-is_done.false in absurd (cc) in
+    let took = c.in_ok-descriptors.ensures.ok told none in
+    ok_map _ _ _ (λ x h. shares_all _ _ _ _ _ _ c.has_no_data.result c.is_flat.result left took c.if-has_no_data.false c.has_no_data.ensures (rw c.deref.ensures.value at c.is_flat.ensures) c.in_ok-check_items.ensures.ok h) c.share.ensures.ok

@@ -1,0 +1,27 @@
+-- What is read one after another, and in a container.
+use Rattle.std.specs.Prelude.{◌≡◌, ℕ, List, [], ◌∷◌, ◌++◌, length}
+use Rattle.amqp_model.specs.Term.{Container, Term}
+use Rattle.amqp_decoder.specs.State.{State, past}
+use Rattle.amqp_decoder.specs.Primitives.{Stands}
+use Rattle.amqp_decoder.specs.Containers.{place_of, Opens, Closes}
+
+-- The term stood next, and was taken.
+pub record Next (st : State) (t : Term) (st' : State) : Type 0 where
+  pub bytes : List ℕ
+  pub stands : Stands st bytes t
+  pub moved : st' ≡ past (length bytes) st
+
+-- The terms stood next, one after another, as these bytes, and were taken.
+abbrev pub Row : State → List Term → List ℕ → State → Type 0
+Row st [] b st' = (b ≡ []) × (st' ≡ st)
+Row st (t ∷ ts) b st' = (first others : List ℕ) × (b ≡ first ++ others) × Stands st first t × Row (past (length first) st) ts others st'
+
+-- A container of this kind was opened, these terms were taken in it, and it was closed.
+pub record Contains (kind : Container) (st : State) (ts : List Term) (st' : State) : Type 0 where
+  pub count : ℕ
+  pub mid : State
+  pub opened : Opens kind st count mid
+  pub bytes : List ℕ
+  pub last : State
+  pub items : Row mid ts bytes last
+  pub closed : Closes (place_of kind) last st'

@@ -1,0 +1,41 @@
+-- What stands at the top level (Part 3, section 3.2).
+use Rattle.std.specs.Prelude.{◌≡◌, ◌≤◌, ◌↔◌, ℕ, Bool, IsTrue, List, [], length, min, Option, None, IfSome}
+use Rattle.amqp_wire.specs.declared.error.Error.{Error}
+use Rattle.amqp_wire.specs.declared.error.Error.TheVariants.{InvalidValue}
+use Rattle.amqp_decoder.specs.declared.frame.Place.TheVariants.{Top}
+use Rattle.amqp_decoder.specs.State.{State, looked}
+
+-- Nothing is open.
+pub record IsTop (st : State) (v : Unit {0}) (st' : State) : Type 0 where
+  pub going : st.error ≡ None
+  pub place : st.top.place ≡ Top
+  pub saved : st.saved ≡ []
+  pub kept : st' ≡ st
+
+-- A container is open.
+abbrev pub NotTop : State → Error → Type 0
+NotTop st e = (st.top.place ≡ Top → st.saved ≡ [] → ⊥) × (e ≡ InvalidValue)
+
+-- Nothing is open, and it is known whether the input ends here; at most a byte was looked at.
+pub record Ends (st : State) (b : Bool) (st' : State) : Type 0 where
+  pub going : st.error ≡ None
+  pub place : st.top.place ≡ Top
+  pub saved : st.saved ≡ []
+  pub answer : IsTrue b ↔ (st.rest ≡ [])
+  pub kept : st' ≡ looked (min 1 (length st.rest)) st
+
+-- Some of the next bytes were looked at, at most 64.
+abbrev pub LooksOn : State → State → Type 0
+LooksOn st st' = (n : ℕ) × (n ≤ 64) × (n ≤ length st.rest) × (st' ≡ looked n st)
+
+-- The code of a section's descriptor.
+abbrev pub IsSection : ℕ → Type 0
+IsSection c = (0x70 ≤ c) × (c ≤ 0x78)
+
+-- Nothing is open; the answer is the code of a section, or none, and at most some bytes were looked at.
+pub record PeeksSection (st : State) (section : Option ℕ) (st' : State) : Type 0 where
+  pub going : st.error ≡ None
+  pub place : st.top.place ≡ Top
+  pub saved : st.saved ≡ []
+  pub code : IfSome section IsSection
+  pub kept : LooksOn st st'
