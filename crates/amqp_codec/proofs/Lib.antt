@@ -1,1 +1,10 @@
+pub mod Depths
+pub mod Joining
+pub mod Passes
+pub mod Reasons
 pub mod TermLaws
+pub mod Trimming
+pub mod PrimitiveReads
+pub mod Options
+pub mod FieldSteps
+pub mod Spelling

@@ -1,5 +1,5 @@
 -- The type of a composite: a described list whose items fit its table (Part 1, sections 1.4 and 1.5).
-use Rattle.std.proofs.Common.{◌≡◌, inl, inr, ℕ, ◌+◌, ◌<◌, ◌≤◌, true, false, List, [], ◌∷◌, ◌++◌, None, length, length-append, refl, sym, ap, ◌∙◌, subst, arith, suc, cond, eqb, ltb}
+use Rattle.std.proofs.Common.{◌≡◌, inl, inr, ℕ, ◌+◌, ◌<◌, ◌≤◌, true, false, List, [], ◌∷◌, ◌++◌, None, Some, get_or, length, length-append, refl, sym, ap, ◌∙◌, subst, arith, suc, cond, eqb, ltb}
 use Rattle.amqp_model.specs.Term.{Refusal, too_large, non_ascii, duplicate_key, depth, zero_width_items, empty_multiple, mixed_array, lazy_in_array, custom, list, map, array, Descriptor, name, code, ulong, symbol, Term, Terms, leaf, holder, described, kept, barred, none, more, count}
 use Rattle.amqp_model.specs.Constructors.{format}
 use Rattle.amqp_model.specs.Spelling.{enc, data_of, ContainerData, Names, items_of as ItemsStand}
@@ -9,10 +9,10 @@ use Rattle.amqp_model.specs.Measures.{nest, nodes}
 use Rattle.amqp_model.specs.Ranges.{Everywhere, EverywhereIn, IsValue, IsNoArray, IsBytes}
 use Rattle.amqp_model.specs.Refusals.{Somewhere, SomewhereIn, IsRefused}
 use Rattle.amqp_model.specs.Kept.{Reads}
-use Rattle.amqp_model.specs.Items.{is_null, items_of}
+use Rattle.amqp_model.specs.Items.{is_null, items_of, terms_of}
 use Rattle.amqp_model.specs.FieldType.{Norm, normal}
 use Rattle.amqp_model.specs.Fields.{Fits, AreValues, IsNormal, Same}
-use Rattle.amqp_model.specs.Composite.{MeansComposite, Describes, canonical_term}
+use Rattle.amqp_model.specs.Composite.{MeansComposite, Describes, ListFits, canonical_term}
 use Rattle.amqp_model.specs.Composite as model
 use Rattle.amqp_model.specs.CompositeLaws as laws
 use Rattle.amqp_model.proofs.Barred.{unrefused_free}
@@ -26,6 +26,14 @@ use Rattle.std.proofs.lemmas.Bool.{ltb-false, ltb-true}
 use Rattle.amqp_codec.specs.Tidy.{tidy}
 use Rattle.amqp_codec.specs.TermType.{TermType, Spells, IsUnrefused, IsLeaf, IsPlain}
 use Rattle.amqp_codec.specs.Plain.{reads_itself, plain_reads}
+use Rattle.std.proofs.lemmas.Bool.{eqb-true, eq-eqb}
+use Rattle.std.proofs.lemmas.List.Quantifiers.{position-Some}
+use Rattle.std.proofs.lemmas.Slice.Eq.{bytes_eq-Decides}
+use Rattle.amqp_decoder.specs.State.{State, past}
+use Rattle.amqp_decoder.specs.Primitives.{Stands}
+use Rattle.amqp_codec.specs.Lists.{list_term, term_list}
+use Rattle.amqp_codec.specs.FieldReading.{FieldsRead, FieldsFault}
+use Rattle.amqp_codec.specs.Members.{Members, MemberFault, TermRead, TermMeant, IsSum, is_named, name_place}
 use Rattle.amqp_codec.specs.Fields.{Fields, slots, items, count_of, are_least, take_memory, items_plain, items_valued, items_nested, items_counted, items_writable, items_fewest, items_least}
 
 -- The table of a composite: the code and the name that describe it, and its fields.
@@ -188,6 +196,72 @@ module _ {V : Type 0} (c : Table V) where
   composite_least_of l b t v i n e m =
       by_cases (table_of c) (λ t. enc b t → length (text (canonical_term (table_of c) v) Plain) ≤ length b) t v (λ d ts k f h. composite_least l b d ts v i n.1.1 k f h) m e
 
+-- The one member that a composite is.
+abbrev pub composite_members : {V : Type 0} → Table V → Members V
+composite_members c = record { names = (c.code, c.name) ∷ []; reads = λ i. FieldsRead c.fields; fault = λ i. FieldsFault c.fields }
+
+pub named_describes : {V : Type 0} (c : Table V) (d : Descriptor) → is_named d (c.code, c.name) ≡ true → Describes (table_of c) d
+named_describes c (code n) h = sym (eqb-true c.code n h)
+named_describes c (name s) h = sym ((bytes_eq-Decides c.name s).0 h)
+
+describes_named : {V : Type 0} (c : Table V) (d : Descriptor) → Describes (table_of c) d → is_named d (c.code, c.name) ≡ true
+describes_named c (code n) h = eq-eqb c.code n (sym h)
+describes_named c (name s) h = (bytes_eq-Decides c.name s).1 (sym h)
+
+pub only_place : (d : Descriptor) (m : ℕ × List ℕ) (i : ℕ) → name_place (m ∷ []) d ≡ Some i → is_named d m ≡ true
+only_place d m i h =
+    let p = position-Some (is_named d) (m ∷ []) i m h in
+    let z : i ≡ 0 = omega (arith, p.0) in
+    subst (λ k. is_named d (get_or (m ∷ []) k m) ≡ true) z p.1
+
+first_place : (d : Descriptor) (m : ℕ × List ℕ) → is_named d m ≡ true → name_place (m ∷ []) d ≡ Some 0
+first_place d m h = rw h refl
+
+pub items_terms : (ts : List Term) → items_of (terms_of ts) ≡ ts
+items_terms [] = refl
+items_terms (t ∷ ts) = ap (λ us. t ∷ us) (items_terms ts)
+
+-- The fields that were read are one list.
+pub record FieldsTerm {V : Type 0} (c : Table V) (inner : State) (v : V) (last : State) : Type 0 where
+  pub bytes : List ℕ
+  pub term : Term
+  pub stands : Stands inner bytes term
+  pub moved : last ≡ past (length bytes) inner
+  pub going : last.error ≡ None
+  pub fits : ListFits (table_of c) term v
+
+pub fields_term : {V : Type 0} (c : Table V) (inner : State) (v : V) (last : State) → FieldsRead c.fields inner v last → FieldsTerm c inner v last
+fields_term c inner v last h =
+    let l = list_term inner h.terms last h.stand in
+    record {
+      bytes = l.0;
+      term = holder list (terms_of h.terms);
+      stands = l.1;
+      moved = l.2;
+      going = ap (λ (x : State). x.error) l.2 ∙ l.1.going;
+      fits = subst (λ ts. Fits (slots c.fields) ts v) (sym (items_terms h.terms)) h.fits;
+    }
+
+pub composite_is_sum : {V : Type 0} (c : Table V) → IsSum (composite_members c) (λ s. MeansComposite (table_of c))
+composite_is_sum {V} c = record { to_term = to; from_term = from }
+  where
+    to : (i : ℕ) (inner : State) (v : V) (last : State) → FieldsRead c.fields inner v last → TermRead (composite_members c) (λ s. MeansComposite (table_of c)) i inner v last
+    to i inner v last h =
+        let l = fields_term c inner v last h in
+        record { bytes = l.bytes; term = l.term; stands = l.stands; moved = l.moved; going = l.going; meant = λ d s at. (named_describes c d (only_place d (c.code, c.name) i at), l.fits) }
+
+    from : (s : Standing) (t : Term) (v : V) → MeansComposite (table_of c) t v → TermMeant (composite_members c) t v
+    from s t v m = by_cases (table_of c) (λ t. TermMeant (composite_members c) t v) t v
+        (λ d ts e f. record {
+          descriptor = d;
+          described_ = holder list ts;
+          place = 0;
+          is = refl;
+          named = first_place d (c.code, c.name) (describes_named c d e);
+          read = λ inner z k. record { terms = items_of ts; stand = term_list inner z ts k; fits = f };
+        })
+        m
+
 -- The type of a composite by its table.
 abbrev pub composite : {V : Type 0} → Table V → TermType V
 composite c =
@@ -195,6 +269,7 @@ composite c =
     record {
       is_value = AreValues (slots c.fields);
       means = λ s. MeansComposite (table_of c);
+      fault = MemberFault (composite_members c);
       canon = canonical_term (table_of c);
       norm = c.norm;
       same = Same (slots c.fields);

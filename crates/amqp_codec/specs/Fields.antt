@@ -1,5 +1,5 @@
 -- Tables of fields, and the laws of their items, once for all tables.
-use Rattle.std.proofs.Common.{◌≡◌, inl, inr, ℕ, ◌+◌, ◌≤◌, Bool, true, false, ◌||◌, cond, List, [], ◌∷◌, ◌++◌, length, length-append, refl, ap, ◌∙◌, subst, arith, max, suc}
+use Rattle.std.proofs.Common.{◌≡◌, inl, inr, ℕ, zero, ◌+◌, ◌≤◌, Bool, true, false, ◌||◌, cond, List, [], ◌∷◌, ◌++◌, length, length-append, refl, ap, ◌∙◌, subst, arith, max, suc}
 use Rattle.amqp_model.specs.Term.{Refusal, too_large, null, Term, Terms, leaf, count}
 use Rattle.amqp_model.specs.Term as term
 use Rattle.amqp_model.specs.Spelling.{enc, items_of as ItemsStand}
@@ -25,6 +25,12 @@ pub data Fields (V : Type 0) : Type 1 where
 abbrev pub slots : {V : Type 0} → Fields V → table.Fields V
 slots none = table.none
 slots (field get f fs) = table.field get f.slot (slots fs)
+
+-- the canonical term of the field of a number, null past the last
+abbrev pub canon_at : {V : Type 0} → Fields V → ℕ → V → Term
+canon_at none i v = leaf null
+canon_at (field get f fs) zero v = f.slot.meaning.canon (get v)
+canon_at (field get f fs) (suc i) v = canon_at fs i v
 
 -- the canonical items, as the terms of a list
 abbrev pub items : {V : Type 0} → Fields V → V → Terms

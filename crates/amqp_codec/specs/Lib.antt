@@ -14,3 +14,13 @@ pub mod EitherType
 pub mod TidyText
 pub mod Spelled
 pub mod Apart
+pub mod Written
+pub mod Ties
+pub mod Reading
+pub mod Refused
+pub mod FieldReading
+pub mod Peeks
+pub mod Lists
+pub mod Descriptions
+pub mod Members
+pub mod Rewritten

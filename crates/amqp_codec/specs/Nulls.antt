@@ -7,7 +7,7 @@ use Rattle.amqp_model.specs.Items.{is_null, is_null_primitive}
 use Rattle.amqp_model.specs.ItemLaws.{clash}
 use Rattle.amqp_codec.specs.Tidy.{tidy, tidy_kept}
 
-null_primitive : (p : Primitive) → is_null_primitive p ≡ true → p ≡ null
+pub null_primitive : (p : Primitive) → is_null_primitive p ≡ true → p ≡ null
 null_primitive null h = refl
 null_primitive p h = cc
 

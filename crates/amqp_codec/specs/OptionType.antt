@@ -1,5 +1,5 @@
 -- An optional value: null is none.
-use Rattle.std.proofs.Common.{◌≡◌, ℕ, ◌≤◌, Bool, true, false, List, Option, Some, None, IfSome, length, refl, sym, ap, ◌∙◌, subst, arith}
+use Rattle.std.proofs.Common.{◌≡◌, ◌⊎◌, ℕ, ◌≤◌, Bool, true, false, List, Option, Some, None, IfSome, length, refl, sym, ap, ◌∙◌, subst, arith}
 use Rattle.amqp_model.specs.Term.{null, Refusal, too_large, Term, leaf, Descriptor}
 use Rattle.amqp_model.specs.Spelling.{enc}
 use Rattle.amqp_model.specs.Standing.{Standing, whole, part}
@@ -14,6 +14,9 @@ use Rattle.amqp_model.specs.FieldType.{Norm, normal, plain, by_norm}
 use Rattle.amqp_model.specs.Kinds.{option_canon, SameOption}
 use Rattle.amqp_model.specs.OptionLaws.{option_refl, option_sym, option_trans, same_is_value, option_same_canon}
 use Rattle.amqp_model.proofs.Lengths.{spelling_length}
+use Rattle.amqp_wire.specs.declared.error.Error.{Error}
+use Rattle.amqp_decoder.specs.State.{State}
+use Rattle.amqp_decoder.specs.Reading.{BeginFault, Peeked}
 use Rattle.amqp_codec.specs.Tidy.{tidy}
 use Rattle.amqp_codec.specs.TermType.{TermType, Spells, StandsCanonically, IsUnrefused, IsLeaf, IsKept, IsPlain}
 use Rattle.amqp_codec.specs.Leaves.{reads_leaf, null_writable}
@@ -23,6 +26,10 @@ use Rattle.amqp_codec.specs.Nulls.{tidy_null, null_tidy, null_form, null_nodes}
 abbrev pub MeansOption : {T : Type 0} → (Standing → Term → T → Type 0) → Standing → Term → Option T → Type 0
 MeansOption means s t None = is_null t ≡ true
 MeansOption means s t (Some v) = (is_null t ≡ false) × means s t v
+
+-- No value begins, or what begins there has the fault.
+abbrev pub OptionFault : (State → Error → Type 0) → State → Error → Type 0
+OptionFault fault st e = BeginFault st e ⊎ ((c : ℕ) × (mid : State) × Peeked st c mid × fault mid e)
 
 abbrev pub keep : {T : Type 0} → Bool → T → Option T
 keep true v = None
@@ -176,6 +183,7 @@ abbrev pub option_of : {T : Type 0} → TermType T → TermType (Option T)
 option_of u = record {
   is_value = λ v. IfSome v u.is_value;
   means = MeansOption u.means;
+  fault = OptionFault u.fault;
   canon = option_canon u.canon;
   norm = norm_option u.norm u.solid u.canon;
   same = SameOption u.same;

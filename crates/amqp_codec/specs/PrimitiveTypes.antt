@@ -10,6 +10,7 @@ use Rattle.amqp_model.specs.Items.{is_null, is_null_primitive}
 use Rattle.amqp_model.specs.FieldType.{plain}
 use Rattle.amqp_model.specs.Text.{form}
 use Rattle.amqp_model.proofs.Least.{text_is_least}
+use Rattle.amqp_decoder.specs.Primitives.{PrimitiveFault}
 use Rattle.amqp_codec.specs.TermType.{TermType, IsLeaf}
 use Rattle.amqp_codec.specs.Leaves.{leaf_injective, reads_leaf, leaf_writable}
 
@@ -34,10 +35,12 @@ module _ {A : Type 0} (make : A → Primitive) (range : A → Type 0) (laws : Is
   pub primitive_least : (b : List ℕ) (t : Term) (v : A) → IsBytes b → enc b t → t ≡ leaf (make v) → length (text (leaf (make v)) Plain) ≤ length b
   primitive_least b t v i e h = text_is_least b (leaf (make v)) tt i (subst (enc b) h e)
 
-  abbrev pub primitive_type : Bool → TermType A
-  primitive_type takes_memory = record {
+  -- k: the place of the kind among those of Part 1, section 1.6
+  abbrev pub primitive_type : ℕ → Bool → TermType A
+  primitive_type k takes_memory = record {
     is_value = range;
     means = λ s. MeansPrimitive make range;
+    fault = PrimitiveFault k;
     canon = λ v. leaf (make v);
     norm = plain;
     same = λ v w. v ≡ w;
@@ -100,16 +103,16 @@ symbol_kind = record { injective = λ v w e. cc; in_range = λ v i. i; not_null 
 
 -- Part 1, section 1.6.2
 abbrev pub boolean_type : TermType Bool
-boolean_type = primitive_type boolean (λ _. Unit {0}) boolean_kind false
+boolean_type = primitive_type boolean (λ _. Unit {0}) boolean_kind 1 false
 
 -- Part 1, section 1.6.5
 abbrev pub uint_type : TermType ℕ
-uint_type = primitive_type uint (λ n. n < 2 ^ 32) uint_kind false
+uint_type = primitive_type uint (λ n. n < 2 ^ 32) uint_kind 4 false
 
 -- Part 1, section 1.6.6
 abbrev pub ulong_type : TermType ℕ
-ulong_type = primitive_type ulong (λ n. n < 2 ^ 64) ulong_kind false
+ulong_type = primitive_type ulong (λ n. n < 2 ^ 64) ulong_kind 5 false
 
 -- Part 1, section 1.6.21: the bytes of a symbol. One that isn't ASCII is a value that can't be written.
 abbrev pub symbol_bytes_type : TermType (List ℕ)
-symbol_bytes_type = primitive_type symbol (λ _. Unit {0}) symbol_kind true
+symbol_bytes_type = primitive_type symbol (λ _. Unit {0}) symbol_kind 18 true

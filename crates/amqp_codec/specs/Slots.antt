@@ -3,6 +3,8 @@ use Rattle.std.proofs.Common.{◌≡◌, inl, inr, ℕ, ◌≤◌, Bool, true, f
 use Rattle.amqp_model.specs.Term.{Refusal, too_large, null, Term, leaf}
 use Rattle.amqp_model.specs.Spelling.{enc}
 use Rattle.amqp_model.specs.Text.{Plain, text}
+use Rattle.amqp_model.specs.Standing.{Standing}
+use Rattle.amqp_model.specs.Items.{is_null}
 use Rattle.amqp_model.specs.Measures.{nest, nodes}
 use Rattle.amqp_model.specs.Ranges.{Everywhere, IsValue, IsNoArray, IsBytes}
 use Rattle.amqp_model.specs.Refusals.{Somewhere, IsRefused}
@@ -14,17 +16,32 @@ use Rattle.amqp_model.specs.Slot as slot
 use Rattle.amqp_model.specs.OptionLaws.{option_meaning}
 use Rattle.amqp_model.specs.DefaultLaws.{default_meaning}
 use Rattle.amqp_model.proofs.Lengths.{spelling_length}
+use Rattle.amqp_wire.specs.declared.error.Error.{Error}
+use Rattle.amqp_decoder.specs.State.{State}
 use Rattle.amqp_codec.specs.TermType.{TermType, IsPlain}
 use Rattle.amqp_codec.specs.Leaves.{null_writable}
-use Rattle.amqp_codec.specs.FieldTypes.{FieldLaws, field_type, type_laws}
+use Rattle.amqp_codec.specs.FieldTypes.{anywhere, FieldLaws, field_type, type_laws}
 
 pub record Field (T : Type 0) : Type 1 where
   pub slot : Slot T
   pub laws : FieldLaws slot.meaning
   pub takes_memory : Bool
+  -- what a term that isn't null means, standing so, and the faults in reading it
+  pub reads : Standing → Term → T → Type 0
+  pub fault : State → Error → Type 0
+  pub fits : (s : Standing) (t : Term) (v : T) → reads s t v → slot.meaning.means t v
+  pub is_read : (s : Standing) (t : Term) (v : T) → is_null t ≡ false → slot.meaning.means t v → reads s t v
 
 abbrev pub mandatory : {T : Type 0} (u : TermType T) → u.solid ≡ true → u.blind ≡ true → Field T
-mandatory u solid blind = record { slot = slot.mandatory (field_type u solid blind); laws = type_laws u solid blind; takes_memory = u.takes_memory }
+mandatory u solid blind = record {
+  slot = slot.mandatory (field_type u solid blind);
+  laws = type_laws u solid blind;
+  takes_memory = u.takes_memory;
+  reads = u.means;
+  fault = u.fault;
+  fits = λ s t v m. u.is_blind blind s anywhere t v m;
+  is_read = λ s t v n m. u.is_blind blind anywhere s t v m;
+}
 
 null_least : (b : List ℕ) (t : Term) → enc b t → length (text (leaf null) Plain) ≤ length b
 unfolding text
@@ -76,10 +93,31 @@ module _ {T : Type 0} (m : Meaning T) (never_null : NeverNull m) (l : FieldLaws 
     least = some_least;
   }
 
+-- a value is there, and holds
+abbrev pub MeansSome : {T : Type 0} → (T → Type 0) → Option T → Type 0
+MeansSome P None = ⊥
+MeansSome P (Some v) = P v
+
+pub some_fits : {T : Type 0} (u : TermType T) (solid : u.solid ≡ true) (blind : u.blind ≡ true) (s : Standing) (t : Term) (v : Option T) → MeansSome (u.means s t) v → OptionMeans (u.means anywhere) t v
+some_fits u solid blind s t None m = absurd m
+some_fits u solid blind s t (Some v) m = u.is_blind blind s anywhere t v m
+
+pub some_read : {T : Type 0} (u : TermType T) (solid : u.solid ≡ true) (blind : u.blind ≡ true) (s : Standing) (t : Term) (v : Option T) → is_null t ≡ false → OptionMeans (u.means anywhere) t v → MeansSome (u.means s t) v
+some_read u solid blind s t None n m = clash m n
+some_read u solid blind s t (Some v) n m = u.is_blind blind anywhere s t v m
+
 abbrev pub optional : {T : Type 0} (u : TermType T) → u.solid ≡ true → u.blind ≡ true → Field (Option T)
 optional u solid blind =
     let f = field_type u solid blind in
-    record { slot = slot.optional f; laws = option_laws f.meaning f.never_null (type_laws u solid blind); takes_memory = u.takes_memory }
+    record {
+      slot = slot.optional f;
+      laws = option_laws f.meaning f.never_null (type_laws u solid blind);
+      takes_memory = u.takes_memory;
+      reads = λ s t. MeansSome (u.means s t);
+      fault = u.fault;
+      fits = some_fits u solid blind;
+      is_read = some_read u solid blind;
+    }
 
 module _ {T : Type 0} (m : Meaning T) (never_null : NeverNull m) (l : FieldLaws m) (d : DefaultValue m) where
   abbrev pub other_count : T → ℕ
@@ -130,7 +168,20 @@ module _ {T : Type 0} (m : Meaning T) (never_null : NeverNull m) (l : FieldLaws 
     least = other_least;
   }
 
+pub other_read : {T : Type 0} (u : TermType T) (solid : u.solid ≡ true) (blind : u.blind ≡ true) (d : DefaultValue (field_type u solid blind).meaning) (s : Standing) (t : Term) (v : T)
+    → is_null t ≡ false → DefaultMeans (field_type u solid blind).meaning d t v → u.means s t v
+other_read u solid blind d s t v n (inl m) = u.is_blind blind anywhere s t v m
+other_read u solid blind d s t v n (inr m) = absurd (clash m.0 n)
+
 abbrev pub default : {T : Type 0} (u : TermType T) (solid : u.solid ≡ true) (blind : u.blind ≡ true) → DefaultValue (field_type u solid blind).meaning → Field T
 default u solid blind d =
     let f = field_type u solid blind in
-    record { slot = slot.default f d; laws = default_laws f.meaning f.never_null (type_laws u solid blind) d; takes_memory = u.takes_memory }
+    record {
+      slot = slot.default f d;
+      laws = default_laws f.meaning f.never_null (type_laws u solid blind) d;
+      takes_memory = u.takes_memory;
+      reads = u.means;
+      fault = u.fault;
+      fits = λ s t v m. inl (u.is_blind blind s anywhere t v m);
+      is_read = other_read u solid blind d;
+    }

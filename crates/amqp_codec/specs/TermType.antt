@@ -10,6 +10,8 @@ use Rattle.amqp_model.specs.Refusals.{Somewhere, IsRefused, Refuses, core}
 use Rattle.amqp_model.specs.Kept.{Reads}
 use Rattle.amqp_model.specs.Items.{is_null, IsFree}
 use Rattle.amqp_model.specs.FieldType.{Norm, normal}
+use Rattle.amqp_wire.specs.declared.error.Error.{Error}
+use Rattle.amqp_decoder.specs.State.{State}
 use Rattle.amqp_codec.specs.Tidy.{tidy}
 
 abbrev pub IsUnrefused : Term → Type 0
@@ -51,6 +53,8 @@ pub record TermType (T : Type 0) : Type 1 where
   pub is_value : T → Type 0
   -- the term, standing so, means the value
   pub means : Standing → Term → T → Type 0
+  -- the error names a fault of what stands before a decoder
+  pub fault : State → Error → Type 0
   -- the canonical term, in which a refusal stands if the value has none
   pub canon : T → Term
   pub norm : Norm T

@@ -1,5 +1,6 @@
 -- Types that are read and written as another: boxes, newtypes, texts by their bytes.
 use Rattle.std.proofs.Common.{◌≡◌, true, refl, ap, ◌∙◌, subst, sym}
+use Rattle.std.specs.Prelude.{string_bytes}
 use Rattle.std.specs.declared.boxed.Box.{Box}
 use Rattle.amqp_model.specs.Term.{Term}
 use Rattle.amqp_model.specs.Standing.{Standing}
@@ -7,7 +8,9 @@ use Rattle.amqp_model.specs.Kept.{Reads}
 use Rattle.amqp_model.specs.Items.{IsFree}
 use Rattle.amqp_model.specs.FieldType.{Norm, normal, plain, by_norm}
 use Rattle.amqp_codec.specs.Tidy.{tidy}
+use Rattle.amqp_wire.specs.declared.symbol.Symbol.{Symbol}
 use Rattle.amqp_codec.specs.TermType.{TermType, IsUnrefused, StandsCanonically}
+use Rattle.amqp_codec.specs.PrimitiveTypes.{symbol_bytes_type}
 
 module _ {V T : Type 0} (u : TermType T) (to : V → T) (n : Norm V) (is : (v : V) → to (normal n v) ≡ normal u.norm (to v)) where
   pub via_canon_means : (s : Standing) (t : Term) (v : V) → u.is_value (to v) → IsUnrefused (u.canon (to v)) → StandsCanonically s (u.canon (to v)) → Reads (u.canon (to v)) t → u.means s t (to (normal n v))
@@ -27,6 +30,7 @@ abbrev pub via : {V T : Type 0} (u : TermType T) (to : V → T) (n : Norm V) →
 via u to n is = record {
   is_value = λ v. u.is_value (to v);
   means = λ s t v. u.means s t (to v);
+  fault = u.fault;
   canon = λ v. u.canon (to v);
   norm = n;
   same = λ v w. u.same (to v) (to w);
@@ -76,3 +80,7 @@ box_normal (by_norm f) b = refl
 -- A box is as its value.
 abbrev pub boxed : {T Z : Type 0} → TermType T → TermType (Box T Z)
 boxed u = record (via u (λ b. b.value) (norm_box u.norm) (box_normal u.norm)) { takes_memory = true }
+
+-- Part 1, section 1.6.21
+abbrev pub symbol_type : TermType Symbol
+symbol_type = via symbol_bytes_type (λ v. string_bytes v.0) plain (λ v. refl)

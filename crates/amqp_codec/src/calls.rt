@@ -1,4 +1,11 @@
 //! Whole values from bytes and to bytes.
+ghost use Rattle.std.specs.Prelude.{◌≡◌, ◌≤◌, ◌⊎◌, ◌++◌, ℕ, length, IfOk, IfErr, OnOk, OnErr};
+ghost use Rattle.amqp_wire.specs.declared.error.Error.TheVariants.{Memory};
+ghost use Rattle.amqp_encoder.specs.Passes.{row_text};
+ghost use Rattle.amqp_codec.specs.Reading.{IsRead, Unreadable};
+ghost use Rattle.amqp_codec.specs.Rewritten.{IsRewritten, Unwritten};
+ghost use Rattle.amqp_codec.specs.Written.{AreMeasured, AreUnwritable, AreWritable};
+
 use crate::{Canonical, Deserialize, Serialize};
 use amqp_decoder::Decoder;
 use amqp_encoder::{Encoder, Measurement};
@@ -6,23 +13,38 @@ use amqp_wire::Error;
 use std::alloc::Global;
 
 /// The value that the input begins with. What follows it is left.
-pub fn from_slice<T: Deserialize>(input: &[u8], alloc: Global) -> Result<T, Error> {
+pub fn from_slice<T: Deserialize>(input: &[u8], alloc: Global) -> Result<T, Error>
+    ensures found { IfOk result (λ v. (n : ℕ) × IsRead T.reading input.now v n) }
+    ensures one { IfOk result (λ v. (w : _) (m : ℕ) → IsRead T.reading input.now w m → T.reading.same v w) }
+    ensures refused { IfErr result (λ e. (e ≡ Memory) ⊎ Unreadable T.reading input.now e) }
+{
     let (value, _) = from_slice_counted(input, alloc)?;
     Ok(value)
 }
 
 /// The value that the input begins with, and how many bytes it takes.
-pub fn from_slice_counted<T: Deserialize>(
-    input: &[u8],
-    alloc: Global,
-) -> Result<(T, usize), Error> {
+pub fn from_slice_counted<T: Deserialize>(input: &[u8], alloc: Global) -> Result<(T, usize), Error>
+    ensures found { IfOk result (λ r. IsRead T.reading input.now r.0 r.1) }
+    ensures one { IfOk result (λ r. (w : _) (m : ℕ) → IsRead T.reading input.now w m → T.reading.same r.0 w × (r.1 ≡ m)) }
+    ensures bounded { IfOk result (λ r. T.reading.count r.0 ≤ r.1) }
+    ensures refused { IfErr result (λ e. (e ≡ Memory) ⊎ Unreadable T.reading input.now e) }
+{
     let mut decoder = Decoder::new(input, alloc);
-    let value = T::deserialize(&mut decoder, alloc)?;
-    Ok((value, input.len().saturating_sub(decoder.unread())))
+    let read = T::deserialize(&mut decoder, alloc);
+    let left = decoder.unread();
+    let value = read?;
+    Ok((value, input.len().saturating_sub(left)))
 }
 
-/// The canonical text of the value. It is measured first, so that its bytes are reserved once and exactly.
-pub fn to_vec<T: Serialize>(value: &T, alloc: Global) -> Result<Vec<u8>, Error> {
+/// The canonical text of the value: that of each of its canonical terms, one after another (Part 1, section 1.6).
+/// It is measured first, so that its bytes are reserved once and exactly. An error is a reason why the terms
+/// can't be written, or `Memory`.
+pub fn to_vec<T: Serialize>(value: &T, alloc: Global) -> Result<Vec<u8>, Error>
+    ensures is_value { T.is_value value.now }
+    ensures text { IfOk result (λ text. text.items ≡ row_text (T.canons value.now)) }
+    ensures writable { OnOk result (AreWritable (T.canons value.now)) }
+    ensures refused { IfErr result (λ e. (e ≡ Memory) ⊎ AreUnwritable (T.canons value.now) e) }
+{
     let Measurement { len, sizes } = measure(value, alloc)?;
     let buffer = Vec::with_capacity(alloc, len)?;
     let mut encoder = Encoder::filling(alloc, sizes, buffer, len);
@@ -30,18 +52,64 @@ pub fn to_vec<T: Serialize>(value: &T, alloc: Global) -> Result<Vec<u8>, Error> 
     Ok(encoder.into_buffer())
 }
 
-/// The canonical text of the value that the input begins with, and how many bytes that value takes there.
-pub fn canonical_text<T: Canonical>(
-    input: &[u8],
+/// The length in bytes of the value's canonical text, refused as `to_vec` is.
+pub fn encoded_len<T: Serialize>(value: &T, alloc: Global) -> Result<usize, Error>
+    ensures is_value { T.is_value value.now }
+    ensures len { IfOk result (λ len. len ≡ length (row_text (T.canons value.now))) }
+    ensures writable { OnOk result (AreWritable (T.canons value.now)) }
+    ensures refused { IfErr result (λ e. (e ≡ Memory) ⊎ AreUnwritable (T.canons value.now) e) }
+{
+    let measurement = measure(value, alloc)?;
+    Ok(measurement.len)
+}
+
+/// Appends the value's canonical text to the buffer, and answers its length in bytes. The room is reserved once
+/// and exactly. It is refused as `to_vec` is, and then leaves the buffer's content as it was.
+pub fn append_to_vec<T: Serialize>(
+    value: &T,
+    buffer: &mut Vec<u8>,
     alloc: Global,
-) -> Result<(Vec<u8>, usize), Error> {
+) -> Result<usize, Error>
+    ensures is_value { T.is_value value.now }
+    ensures text { OnOk result (buffer.new.items ≡ buffer.old.items ++ row_text (T.canons value.now)) }
+    ensures len { IfOk result (λ len. len ≡ length (row_text (T.canons value.now))) }
+    ensures writable { OnOk result (AreWritable (T.canons value.now)) }
+    ensures refused { IfErr result (λ e. (e ≡ Memory) ⊎ AreUnwritable (T.canons value.now) e) }
+    ensures kept { OnErr result (buffer.new.items ≡ buffer.old.items) }
+{
+    let Measurement { len, sizes } = measure(value, alloc)?;
+    let before = buffer.len();
+    buffer.reserve_exact(len)?;
+    let room = std::mem::replace(buffer, Vec::new(alloc));
+    let mut encoder = Encoder::filling(alloc, sizes, room, before + len);
+    let outcome = value.serialize(&mut encoder);
+    *buffer = encoder.into_buffer();
+    match outcome {
+        Ok(()) => Ok(len),
+        Err(error) => {
+            buffer.truncate(before);
+            Err(error)
+        }
+    }
+}
+
+/// The canonical text of the value that the input begins with, and how many bytes that value takes there.
+pub fn canonical_text<T: Canonical>(input: &[u8], alloc: Global) -> Result<(Vec<u8>, usize), Error>
+    ensures text { IfOk result (λ r. IsRewritten T.reading T.canons input.now r.0.items r.1) }
+    ensures refused { IfErr result (λ e. (e ≡ Memory) ⊎ (Unreadable T.reading input.now e ⊎ Unwritten T.reading T.canons input.now e)) }
+{
     let (value, len) = from_slice_counted::<T>(input, alloc)?;
     let text = to_vec(&value, alloc)?;
     Ok((text, len))
 }
 
 // The length and the sizes of the canonical text, or why there is none.
-fn measure<T: Serialize>(value: &T, alloc: Global) -> Result<Measurement, Error> {
+fn measure<T: Serialize>(value: &T, alloc: Global) -> Result<Measurement, Error>
+    ensures is_value { T.is_value value.now }
+    ensures measured { IfOk result (λ m. AreMeasured (T.canons value.now) m.len m.sizes.items) }
+    ensures refused { IfErr result (λ e. (e ≡ Memory) ⊎ AreUnwritable (T.canons value.now) e) }
+{
+    value.in_type();
     let mut encoder = Encoder::measuring(alloc);
     value.serialize(&mut encoder)?;
     encoder.into_measurement()

@@ -1,6 +1,10 @@
 //! Optional values, boxes, and references, which are written only.
+ghost use Rattle.std.specs.Prelude.{IfSome};
+ghost use Rattle.amqp_model.specs.Kinds.{option_canon};
 ghost use Rattle.amqp_codec.specs.OptionType.{option_of};
+ghost use Rattle.amqp_codec.specs.Reading.{reading_of, reads_terms};
 ghost use Rattle.amqp_codec.specs.Wrappers.{boxed};
+ghost use Rattle.amqp_codec.specs.Ties.{option_canons, option_is_term, option_proper, option_tied, box_tied};
 
 use crate::{Canonical, Deserialize, DeserializeTerm, Serialize, SerializeTerm};
 use amqp_decoder::Decoder;
@@ -9,6 +13,10 @@ use amqp_wire::{ByteSource, Error, format_code};
 use std::alloc::Global;
 
 impl<T: SerializeTerm> Serialize for Option<T> {
+    ghost canons = { option_canons T.canons };
+
+    ghost is_value = { λ v. IfSome v T.is_value };
+
     fn serialize(&self, encoder: &mut Encoder) -> Result<(), Error> {
         match self {
             Some(value) => value.serialize(encoder),
@@ -22,9 +30,13 @@ impl<T: SerializeTerm> Serialize for Option<T> {
             None => {}
         }
     }
+
+    ghost proper = { option_proper T.canons T.is_value T.proper };
 }
 
 impl<T: DeserializeTerm> Deserialize for Option<T> {
+    ghost reading = { reading_of (option_of T.term) };
+
     fn deserialize<R: ByteSource>(
         decoder: &mut Decoder<R>,
         alloc: Global,
@@ -40,19 +52,31 @@ impl<T: DeserializeTerm> Deserialize for Option<T> {
 impl<T: DeserializeTerm> Canonical for Option<T> {}
 
 impl<T: SerializeTerm> SerializeTerm for Option<T> {
+    ghost canon = { option_canon T.canon };
+
     fn is_null(&self) -> bool {
         match self {
             Some(value) => value.is_null(),
             None => true,
         }
     }
+
+    ghost is_term = { option_is_term T.canons T.canon T.is_term };
 }
 
 impl<T: DeserializeTerm> DeserializeTerm for Option<T> {
     ghost term = { option_of T.term };
+
+    ghost tied = { option_tied T.tied };
+
+    ghost reads_terms = { reads_terms (option_of T.term) };
 }
 
 impl<T: Serialize> Serialize for Box<T> {
+    ghost canons = { λ v. T.canons v.value };
+
+    ghost is_value = { λ v. T.is_value v.value };
+
     fn serialize(&self, encoder: &mut Encoder) -> Result<(), Error> {
         (**self).serialize(encoder)
     }
@@ -60,9 +84,13 @@ impl<T: Serialize> Serialize for Box<T> {
     fn in_type(&self) {
         (**self).in_type()
     }
+
+    ghost proper = { λ v. T.proper v.value };
 }
 
-impl<T: Deserialize> Deserialize for Box<T> {
+impl<T: DeserializeTerm> Deserialize for Box<T> {
+    ghost reading = { reading_of (boxed T.term) };
+
     fn deserialize<R: ByteSource>(
         decoder: &mut Decoder<R>,
         alloc: Global,
@@ -75,19 +103,31 @@ impl<T: Deserialize> Deserialize for Box<T> {
     }
 }
 
-impl<T: Canonical> Canonical for Box<T> {}
+impl<T: DeserializeTerm> Canonical for Box<T> {}
 
 impl<T: SerializeTerm> SerializeTerm for Box<T> {
+    ghost canon = { λ v. T.canon v.value };
+
     fn is_null(&self) -> bool {
         (**self).is_null()
     }
+
+    ghost is_term = { λ v. T.is_term v.value };
 }
 
 impl<T: DeserializeTerm> DeserializeTerm for Box<T> {
     ghost term = { boxed T.term };
+
+    ghost tied = { box_tied T.tied };
+
+    ghost reads_terms = { reads_terms (boxed T.term) };
 }
 
 impl<T: Serialize> Serialize for &T {
+    ghost canons = { λ v. T.canons v.now };
+
+    ghost is_value = { λ v. T.is_value v.now };
+
     fn serialize(&self, encoder: &mut Encoder) -> Result<(), Error> {
         Serialize::serialize(*self, encoder)
     }
@@ -95,10 +135,16 @@ impl<T: Serialize> Serialize for &T {
     fn in_type(&self) {
         Serialize::in_type(*self)
     }
+
+    ghost proper = { λ v. T.proper v.now };
 }
 
 impl<T: SerializeTerm> SerializeTerm for &T {
+    ghost canon = { λ v. T.canon v.now };
+
     fn is_null(&self) -> bool {
         SerializeTerm::is_null(*self)
     }
+
+    ghost is_term = { λ v. T.is_term v.now };
 }

@@ -4,9 +4,29 @@ ghost use Rattle.amqp_model.specs.Term.{Refusal, too_large};
 ghost use Rattle.amqp_model.specs.Ranges.{Everywhere, IsNoArray, IsBytes};
 ghost use Rattle.amqp_model.specs.Refusals.{Refuses};
 ghost use Rattle.amqp_model.specs.FieldType.{normal};
-ghost use Rattle.amqp_codec.specs.Spelled.{IsSpelled, IsWritable, written};
+ghost use Rattle.amqp_wire.specs.declared.error.Error.{Error};
+ghost use Rattle.amqp_encoder.specs.Passes.{row_text};
+ghost use Rattle.amqp_codec.specs.Spelled.{IsSpelled, IsWritable, IsRefusal, written};
+ghost use Rattle.amqp_codec.specs.Written.{AreWritable, AreUnwritable};
+ghost use Rattle.std.specs.Prelude.{take};
+ghost use Rattle.amqp_codec.specs.Reading.{IsRead};
 
 use crate::DeserializeTerm;
+
+/// What is read from the front of an input is what that front spells, whatever stands behind it.
+pub fn reading_is_spelling<T: DeserializeTerm>()
+    ensures spelled { (input : List ℕ) (v : T) (n : ℕ) → IsRead T.reading input v n → (n ≤ length input) × IsSpelled T.term (take n input) v }
+    ensures read { (b more : List ℕ) (v : T) → IsSpelled T.term b v → IsRead T.reading (b ++ more) v (length b) }
+{}
+
+/// What `to_vec`, `encoded_len` and `append_to_vec` say of a value's canonical terms, they say of the canonical term
+/// and text that the laws below speak of.
+pub fn one_term_is_written<T: DeserializeTerm>()
+    ensures is_value { (v : T) → T.is_value v → T.term.is_value v }
+    ensures text { (v : T) → row_text (T.canons v) ≡ written T.term v }
+    ensures writable { (v : T) → AreWritable (T.canons v) → IsWritable T.term v }
+    ensures refused { (v : T) (e : Error) → T.is_value v → AreUnwritable (T.canons v) e → IsRefusal (T.term.canon v) e }
+{}
 
 /// No input has two fronts that spell values, and no front spells two values.
 pub fn one_value<T: DeserializeTerm>()

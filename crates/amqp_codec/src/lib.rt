@@ -11,5 +11,7 @@ mod traits;
 pub use amqp_decoder::Decoder;
 pub use amqp_encoder::Encoder;
 pub use amqp_wire::{ByteSource, Descriptor, Error, ReadSource, Symbol};
-pub use calls::{canonical_text, from_slice, from_slice_counted, to_vec};
+pub use calls::{
+    append_to_vec, canonical_text, encoded_len, from_slice, from_slice_counted, to_vec,
+};
 pub use traits::{Canonical, Deserialize, DeserializeTerm, Serialize, SerializeTerm};

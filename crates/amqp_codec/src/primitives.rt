@@ -1,4 +1,10 @@
 //! The primitive types of std, and symbols (Part 1, section 1.6).
+ghost use Rattle.std.specs.Prelude.{[], ◌∷◌, refl};
+ghost use Rattle.amqp_codec.specs.PrimitiveTypes.{boolean_type, uint_type, ulong_type};
+ghost use Rattle.amqp_codec.specs.Wrappers.{symbol_type};
+ghost use Rattle.amqp_codec.specs.Ties.{tied, proper};
+ghost use Rattle.amqp_codec.specs.Reading.{reading_of, reads_terms};
+
 use crate::{Canonical, Deserialize, DeserializeTerm, Serialize, SerializeTerm};
 use amqp_decoder::Decoder;
 use amqp_encoder::Encoder;
@@ -6,12 +12,22 @@ use amqp_wire::{ByteSource, Error, Symbol};
 use std::alloc::Global;
 
 impl Serialize for bool {
+    ghost canons = { λ v. boolean_type.canon v ∷ [] };
+
+    ghost is_value = { boolean_type.is_value };
+
     fn serialize(&self, encoder: &mut Encoder) -> Result<(), Error> {
         encoder.write_bool(*self)
     }
+
+    fn in_type(&self) {}
+
+    ghost proper = { proper boolean_type refl };
 }
 
 impl Deserialize for bool {
+    ghost reading = { reading_of boolean_type };
+
     fn deserialize<R: ByteSource>(decoder: &mut Decoder<R>, _alloc: Global) -> Result<bool, Error> {
         decoder.read_bool()
     }
@@ -20,24 +36,42 @@ impl Deserialize for bool {
 impl Canonical for bool {}
 
 impl SerializeTerm for bool {
+    ghost canon = { boolean_type.canon };
+
     fn is_null(&self) -> bool {
         false
     }
+
+    ghost is_term = { λ v. refl };
 }
 
 impl DeserializeTerm for bool {
-    ghost use Rattle.amqp_codec.specs.PrimitiveTypes.{boolean_type};
-
     ghost term = { boolean_type };
+
+    ghost tied = { tied boolean_type };
+
+    ghost reads_terms = { reads_terms boolean_type };
 }
 
 impl Serialize for u32 {
+    ghost canons = { λ v. uint_type.canon v ∷ [] };
+
+    ghost is_value = { uint_type.is_value };
+
     fn serialize(&self, encoder: &mut Encoder) -> Result<(), Error> {
         encoder.write_uint(*self)
     }
+
+    fn in_type(&self) {
+        let _value = *self;
+    }
+
+    ghost proper = { proper uint_type refl };
 }
 
 impl Deserialize for u32 {
+    ghost reading = { reading_of uint_type };
+
     fn deserialize<R: ByteSource>(decoder: &mut Decoder<R>, _alloc: Global) -> Result<u32, Error> {
         decoder.read_uint()
     }
@@ -46,24 +80,42 @@ impl Deserialize for u32 {
 impl Canonical for u32 {}
 
 impl SerializeTerm for u32 {
+    ghost canon = { uint_type.canon };
+
     fn is_null(&self) -> bool {
         false
     }
+
+    ghost is_term = { λ v. refl };
 }
 
 impl DeserializeTerm for u32 {
-    ghost use Rattle.amqp_codec.specs.PrimitiveTypes.{uint_type};
-
     ghost term = { uint_type };
+
+    ghost tied = { tied uint_type };
+
+    ghost reads_terms = { reads_terms uint_type };
 }
 
 impl Serialize for u64 {
+    ghost canons = { λ v. ulong_type.canon v ∷ [] };
+
+    ghost is_value = { ulong_type.is_value };
+
     fn serialize(&self, encoder: &mut Encoder) -> Result<(), Error> {
         encoder.write_ulong(*self)
     }
+
+    fn in_type(&self) {
+        let _value = *self;
+    }
+
+    ghost proper = { proper ulong_type refl };
 }
 
 impl Deserialize for u64 {
+    ghost reading = { reading_of ulong_type };
+
     fn deserialize<R: ByteSource>(decoder: &mut Decoder<R>, _alloc: Global) -> Result<u64, Error> {
         decoder.read_ulong()
     }
@@ -72,24 +124,40 @@ impl Deserialize for u64 {
 impl Canonical for u64 {}
 
 impl SerializeTerm for u64 {
+    ghost canon = { ulong_type.canon };
+
     fn is_null(&self) -> bool {
         false
     }
+
+    ghost is_term = { λ v. refl };
 }
 
 impl DeserializeTerm for u64 {
-    ghost use Rattle.amqp_codec.specs.PrimitiveTypes.{ulong_type};
-
     ghost term = { ulong_type };
+
+    ghost tied = { tied ulong_type };
+
+    ghost reads_terms = { reads_terms ulong_type };
 }
 
 impl Serialize for Symbol {
+    ghost canons = { λ v. symbol_type.canon v ∷ [] };
+
+    ghost is_value = { symbol_type.is_value };
+
     fn serialize(&self, encoder: &mut Encoder) -> Result<(), Error> {
         encoder.write_symbol(self.as_str())
     }
+
+    fn in_type(&self) {}
+
+    ghost proper = { proper symbol_type refl };
 }
 
 impl Deserialize for Symbol {
+    ghost reading = { reading_of symbol_type };
+
     fn deserialize<R: ByteSource>(
         decoder: &mut Decoder<R>,
         alloc: Global,
@@ -101,16 +169,19 @@ impl Deserialize for Symbol {
 impl Canonical for Symbol {}
 
 impl SerializeTerm for Symbol {
+    ghost canon = { symbol_type.canon };
+
     fn is_null(&self) -> bool {
         false
     }
+
+    ghost is_term = { λ v. refl };
 }
 
 impl DeserializeTerm for Symbol {
-    ghost use Rattle.std.specs.Prelude.{refl, string_bytes};
-    ghost use Rattle.amqp_model.specs.FieldType.{plain};
-    ghost use Rattle.amqp_codec.specs.PrimitiveTypes.{symbol_bytes_type};
-    ghost use Rattle.amqp_codec.specs.Wrappers.{via};
+    ghost term = { symbol_type };
 
-    ghost term = { via symbol_bytes_type (λ symbol. string_bytes symbol.0) plain (λ symbol. refl) };
+    ghost tied = { tied symbol_type };
+
+    ghost reads_terms = { reads_terms symbol_type };
 }

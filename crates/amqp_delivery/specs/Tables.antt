@@ -1,12 +1,20 @@
 -- The tables of the delivery states (Part 3, section 3.4).
-use Rattle.std.specs.Prelude.{◌⊎◌, codes, refl}
-use Rattle.std.proofs.Common.{inl, inr}
+use Rattle.std.proofs.Common.{◌≡◌, ◌⊎◌, ◌<◌, inl, inr, codes, ℕ, zero, suc, true, List, [], ◌∷◌, Some, get_or, refl, sym, subst, arith}
+use Rattle.std.proofs.lemmas.List.Quantifiers.{position-Some}
+use Rattle.amqp_model.specs.Term.{Descriptor, name, code, Term}
+use Rattle.amqp_model.specs.Standing.{Standing}
+use Rattle.amqp_model.specs.Composite.{Describes}
+use Rattle.amqp_wire.specs.declared.error.Error.{Error}
+use Rattle.amqp_decoder.specs.State.{State}
 use Rattle.amqp_model.specs.FieldType.{plain}
 use Rattle.amqp_codec.specs.TermType.{TermType}
 use Rattle.amqp_codec.specs.PrimitiveTypes.{uint_type, ulong_type}
 use Rattle.amqp_codec.specs.Slots.{mandatory}
 use Rattle.amqp_codec.specs.Fields.{none, field}
-use Rattle.amqp_codec.specs.Composite.{Table, composite}
+use Rattle.amqp_codec.specs.FieldReading.{FieldsRead, FieldsFault}
+use Rattle.amqp_codec.specs.Refused.{NoneStands}
+use Rattle.amqp_codec.specs.Members.{Members, MemberFault, TermRead, TermMeant, IsSum, is_named, name_place}
+use Rattle.amqp_codec.specs.Composite.{Table, table_of, composite, composite_is_sum, fields_term, named_describes, only_place}
 use Rattle.amqp_codec.specs.EitherType.{either_of}
 use Rattle.amqp_codec.specs.Wrappers.{via}
 use Rattle.amqp_codec.specs.Apart.{composites_apart}
@@ -42,6 +50,70 @@ abbrev pub member : DeliveryState → Received ⊎ Accepted
 member (state.Received v) = inl v
 member (state.Accepted v) = inr v
 
+abbrev pub either : TermType (Received ⊎ Accepted)
+either = either_of (composite received) (composite accepted) (composites_apart received accepted refl)
+
+-- What stands behind the descriptor of each state is the list of its fields.
+abbrev pub StateRead : ℕ → State → DeliveryState → State → Type 0
+StateRead zero st (state.Received v) b = FieldsRead received.fields st v b
+StateRead zero st (state.Accepted v) b = ⊥
+StateRead (suc i) st (state.Received v) b = ⊥
+StateRead (suc i) st (state.Accepted v) b = FieldsRead accepted.fields st v b
+
+abbrev pub StateFault : ℕ → State → Error → Type 0
+StateFault zero st e = FieldsFault received.fields st e
+StateFault (suc i) st e = FieldsFault accepted.fields st e
+
+abbrev pub state_members : Members DeliveryState
+state_members = record { names = (received.code, received.name) ∷ (accepted.code, accepted.name) ∷ []; reads = StateRead; fault = StateFault }
+
 -- Part 3, section 3.4: a state is the member whose descriptor stands there
 abbrev pub delivery_state : TermType DeliveryState
-delivery_state = via (either_of (composite received) (composite accepted) (composites_apart received accepted refl)) member plain (λ v. refl)
+delivery_state = record (via either member plain (λ v. refl)) { fault = MemberFault state_members }
+
+first_or_second : (d : Descriptor) (i : ℕ) → name_place state_members.names d ≡ Some i → ((i ≡ 0) × (is_named d (received.code, received.name) ≡ true)) ⊎ ((i ≡ 1) × (is_named d (accepted.code, accepted.name) ≡ true))
+first_or_second d i h =
+    let p = position-Some (is_named d) state_members.names i (received.code, received.name) h in
+    by_place i p.0 p.1
+  where
+    by_place : (i : ℕ) → i < 2 → is_named d (get_or state_members.names i (received.code, received.name)) ≡ true → ((i ≡ 0) × (is_named d (received.code, received.name) ≡ true)) ⊎ ((i ≡ 1) × (is_named d (accepted.code, accepted.name) ≡ true))
+    by_place zero l e = inl (refl, e)
+    by_place (suc zero) l e = inr (refl, e)
+    by_place (suc (suc i)) l e = absurd (omega arith)
+
+received_place : (d : Descriptor) → Describes (table_of received) d → name_place state_members.names d ≡ Some 0
+received_place (code n) e = subst (λ k. name_place state_members.names (code k) ≡ Some 0) (sym e) refl
+received_place (name s) e = subst (λ k. name_place state_members.names (name k) ≡ Some 0) (sym e) refl
+
+accepted_place : (d : Descriptor) → Describes (table_of accepted) d → name_place state_members.names d ≡ Some 1
+accepted_place (code n) e = subst (λ k. name_place state_members.names (code k) ≡ Some 1) (sym e) refl
+accepted_place (name s) e = subst (λ k. name_place state_members.names (name k) ≡ Some 1) (sym e) refl
+
+to_term : (i : ℕ) (inner : State) (v : DeliveryState) (last : State) → StateRead i inner v last → TermRead state_members delivery_state.means i inner v last
+to_term zero inner (state.Received v) last h =
+    let l = fields_term received inner v last h in
+    record { bytes = l.bytes; term = l.term; stands = l.stands; moved = l.moved; going = l.going; meant = λ d s at. elim (first_or_second d 0 at) [ inl x ↦ (named_describes received d x.1, l.fits) | inr x ↦ absurd (cc) ] }
+to_term zero inner (state.Accepted v) last h = absurd h
+to_term (suc i) inner (state.Received v) last h = absurd h
+to_term (suc i) inner (state.Accepted v) last h =
+    let l = fields_term accepted inner v last h in
+    record { bytes = l.bytes; term = l.term; stands = l.stands; moved = l.moved; going = l.going; meant = λ d s at. elim (first_or_second d (suc i) at) [ inl x ↦ absurd (let y = x.0 in omega (arith, y)) | inr x ↦ (named_describes accepted d x.1, l.fits) ] }
+
+from_term : (s : Standing) (t : Term) (v : DeliveryState) → delivery_state.means s t v → TermMeant state_members t v
+from_term s t (state.Received v) m =
+    let l = (composite_is_sum received).from_term s t v m in
+    record { descriptor = l.descriptor; described_ = l.described_; place = 0; is = l.is; named = received_place l.descriptor (named_describes received l.descriptor (only_place l.descriptor (received.code, received.name) l.place l.named)); read = l.read }
+from_term s t (state.Accepted v) m =
+    let l = (composite_is_sum accepted).from_term s t v m in
+    record { descriptor = l.descriptor; described_ = l.described_; place = 1; is = l.is; named = accepted_place l.descriptor (named_describes accepted l.descriptor (only_place l.descriptor (accepted.code, accepted.name) l.place l.named)); read = l.read }
+
+pub states_are_members : IsSum state_members delivery_state.means
+states_are_members = record { to_term = to_term; from_term = from_term }
+
+pub no_received : (st : State) → NoneStands (FieldsRead received.fields) st → NoneStands (StateRead zero) st
+no_received st nothing (state.Received v) b h = nothing v b h
+no_received st nothing (state.Accepted v) b h = absurd h
+
+pub no_accepted : (st : State) → NoneStands (FieldsRead accepted.fields) st → NoneStands (StateRead (suc zero)) st
+no_accepted st nothing (state.Received v) b h = absurd h
+no_accepted st nothing (state.Accepted v) b h = nothing v b h

@@ -1,4 +1,10 @@
 //! The accepted outcome (Part 3, section 3.4.2).
+ghost use Rattle.std.specs.Prelude.{[], ◌∷◌, refl};
+ghost use Rattle.amqp_codec.specs.Composite.{composite};
+ghost use Rattle.amqp_codec.specs.Reading.{reading_of, reads_terms};
+ghost use Rattle.amqp_codec.specs.Ties.{tied, proper};
+ghost use Rattle.amqp_delivery.specs.Tables.{accepted};
+
 use amqp_codec::kernel::{Composite, Table, read_composite, write_composite};
 use amqp_codec::{
     ByteSource, Canonical, Decoder, Deserialize, DeserializeTerm, Encoder, Error, Serialize,
@@ -16,8 +22,6 @@ impl Accepted {
 }
 
 impl Composite for Accepted {
-    ghost use Rattle.amqp_delivery.specs.Tables.{accepted};
-
     ghost table = { accepted };
 
     fn table() -> Table {
@@ -50,12 +54,22 @@ impl Composite for Accepted {
 }
 
 impl Serialize for Accepted {
+    ghost canons = { λ v. (composite accepted).canon v ∷ [] };
+
+    ghost is_value = { (composite accepted).is_value };
+
     fn serialize(&self, encoder: &mut Encoder) -> Result<(), Error> {
         write_composite(self, encoder)
     }
+
+    fn in_type(&self) {}
+
+    ghost proper = { proper (composite accepted) refl };
 }
 
 impl Deserialize for Accepted {
+    ghost reading = { reading_of (composite accepted) };
+
     fn deserialize<R: ByteSource>(
         decoder: &mut Decoder<R>,
         alloc: Global,
@@ -67,14 +81,19 @@ impl Deserialize for Accepted {
 impl Canonical for Accepted {}
 
 impl SerializeTerm for Accepted {
+    ghost canon = { (composite accepted).canon };
+
     fn is_null(&self) -> bool {
         false
     }
+
+    ghost is_term = { λ v. refl };
 }
 
 impl DeserializeTerm for Accepted {
-    ghost use Rattle.amqp_codec.specs.Composite.{composite};
-    ghost use Rattle.amqp_delivery.specs.Tables.{accepted};
-
     ghost term = { composite accepted };
+
+    ghost tied = { tied (composite accepted) };
+
+    ghost reads_terms = { reads_terms (composite accepted) };
 }

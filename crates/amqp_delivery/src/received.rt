@@ -1,5 +1,11 @@
 //! The received state (Part 3, section 3.4.1).
-use amqp_codec::kernel::{Composite, FieldKind, Table, read_composite, write_composite};
+ghost use Rattle.std.specs.Prelude.{[], ◌∷◌, refl};
+ghost use Rattle.amqp_codec.specs.Composite.{composite};
+ghost use Rattle.amqp_codec.specs.Reading.{reading_of, reads_terms};
+ghost use Rattle.amqp_codec.specs.Ties.{tied, proper};
+ghost use Rattle.amqp_delivery.specs.Tables.{received};
+
+use amqp_codec::kernel::{Composite, FieldKind, Table, fill, read_composite, write_composite};
 use amqp_codec::{
     ByteSource, Canonical, Decoder, Deserialize, DeserializeTerm, Encoder, Error, Serialize,
     SerializeTerm,
@@ -21,8 +27,6 @@ impl Received {
 }
 
 impl Composite for Received {
-    ghost use Rattle.amqp_delivery.specs.Tables.{received};
-
     ghost table = { received };
 
     fn table() -> Table {
@@ -46,15 +50,17 @@ impl Composite for Received {
         alloc: Global,
     ) -> Result<(), Error> {
         match index {
-            0 => self.section_number = u32::deserialize(decoder, alloc)?,
-            1 => self.section_offset = u64::deserialize(decoder, alloc)?,
-            _ => return Err(decoder.refuse(Error::Surplus)),
+            0 => fill(&mut self.section_number, decoder, alloc),
+            1 => fill(&mut self.section_offset, decoder, alloc),
+            _ => Err(decoder.refuse(Error::Surplus)),
         }
-        Ok(())
     }
 
     fn is_null_field(&self, index: usize) -> bool {
-        index > 1
+        match index {
+            0 | 1 => false,
+            _ => true,
+        }
     }
 
     fn write_field(&self, index: usize, encoder: &mut Encoder) -> Result<(), Error> {
@@ -67,12 +73,25 @@ impl Composite for Received {
 }
 
 impl Serialize for Received {
+    ghost canons = { λ v. (composite received).canon v ∷ [] };
+
+    ghost is_value = { (composite received).is_value };
+
     fn serialize(&self, encoder: &mut Encoder) -> Result<(), Error> {
         write_composite(self, encoder)
     }
+
+    fn in_type(&self) {
+        self.section_number.in_type();
+        self.section_offset.in_type();
+    }
+
+    ghost proper = { proper (composite received) refl };
 }
 
 impl Deserialize for Received {
+    ghost reading = { reading_of (composite received) };
+
     fn deserialize<R: ByteSource>(
         decoder: &mut Decoder<R>,
         alloc: Global,
@@ -84,14 +103,19 @@ impl Deserialize for Received {
 impl Canonical for Received {}
 
 impl SerializeTerm for Received {
+    ghost canon = { (composite received).canon };
+
     fn is_null(&self) -> bool {
         false
     }
+
+    ghost is_term = { λ v. refl };
 }
 
 impl DeserializeTerm for Received {
-    ghost use Rattle.amqp_codec.specs.Composite.{composite};
-    ghost use Rattle.amqp_delivery.specs.Tables.{received};
-
     ghost term = { composite received };
+
+    ghost tied = { tied (composite received) };
+
+    ghost reads_terms = { reads_terms (composite received) };
 }

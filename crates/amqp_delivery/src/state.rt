@@ -1,5 +1,8 @@
 //! The state of a delivery (Part 2, section 2.8.7, and Part 3, section 3.4).
-ghost use Rattle.std.specs.Prelude.{◌≡◌};
+ghost use Rattle.std.specs.Prelude.{◌≡◌, [], ◌∷◌, refl};
+ghost use Rattle.amqp_codec.specs.Reading.{reading_of, reads_terms};
+ghost use Rattle.amqp_codec.specs.Ties.{tied, proper};
+ghost use Rattle.amqp_delivery.specs.Tables.{delivery_state};
 
 use crate::{Accepted, Received};
 use amqp_codec::kernel::{Sum, read_fields, read_sum};
@@ -37,7 +40,15 @@ impl From<Accepted> for DeliveryState {
 }
 
 impl Sum for DeliveryState {
-    fn members() -> &'static [(u64, &'static str)] {
+    ghost use Rattle.amqp_delivery.specs.Tables.{state_members, states_are_members};
+
+    ghost members = { state_members };
+
+    ghost means = { delivery_state.means };
+
+    ghost is_sum = { states_are_members };
+
+    fn descriptors() -> &'static [(u64, &'static str)] {
         &[Received::DESCRIPTOR, Accepted::DESCRIPTOR]
     }
 
@@ -55,15 +66,30 @@ impl Sum for DeliveryState {
 }
 
 impl Serialize for DeliveryState {
+    ghost canons = { λ v. delivery_state.canon v ∷ [] };
+
+    ghost is_value = { delivery_state.is_value };
+
     fn serialize(&self, encoder: &mut Encoder) -> Result<(), Error> {
         match self {
             DeliveryState::Received(received) => received.serialize(encoder),
             DeliveryState::Accepted(accepted) => accepted.serialize(encoder),
         }
     }
+
+    fn in_type(&self) {
+        match self {
+            DeliveryState::Received(received) => received.in_type(),
+            DeliveryState::Accepted(accepted) => accepted.in_type(),
+        }
+    }
+
+    ghost proper = { proper delivery_state refl };
 }
 
 impl Deserialize for DeliveryState {
+    ghost reading = { reading_of delivery_state };
+
     fn deserialize<R: ByteSource>(
         decoder: &mut Decoder<R>,
         alloc: Global,
@@ -75,13 +101,19 @@ impl Deserialize for DeliveryState {
 impl Canonical for DeliveryState {}
 
 impl SerializeTerm for DeliveryState {
+    ghost canon = { delivery_state.canon };
+
     fn is_null(&self) -> bool {
         false
     }
+
+    ghost is_term = { λ v. refl };
 }
 
 impl DeserializeTerm for DeliveryState {
-    ghost use Rattle.amqp_delivery.specs.Tables.{delivery_state};
-
     ghost term = { delivery_state };
+
+    ghost tied = { tied delivery_state };
+
+    ghost reads_terms = { reads_terms delivery_state };
 }

@@ -13,7 +13,9 @@ enum Row {
     Char(char),
     ListOfTwo,
     MapOfOne,
+    Binary(u32),
     ListOfBinary(u32),
+    Named,
     ArrayOfUints,
     ArrayOfAccepted,
     ArrayOfReceived,
@@ -61,7 +63,12 @@ fn write(row: Row, encoder: &mut Encoder, alloc: Global) -> Result<(), Error> {
             encoder.write_uint(1)?;
             encoder.end_map()
         }
-        Row::ListOfBinary(len) => write_binary_in_list(len, encoder, alloc),
+        Row::Binary(len) => write_binary(len, encoder, alloc),
+        Row::ListOfBinary(len) => {
+            encoder.begin_list()?;
+            write_binary(len, encoder, alloc)?;
+            encoder.end_list()
+        }
         Row::NestedLists(count) => write_nested(count, encoder),
         Row::ArraysInLists(count) => write_arrays_in_lists(count, encoder),
         Row::ListOfAll => write_list_of_all(encoder),
@@ -114,6 +121,11 @@ fn write_described(row: Row, encoder: &mut Encoder, alloc: Global) -> Result<(),
         }
         Row::NoneDescribed => {
             encoder.begin_described(&Descriptor::Code(0x24))?;
+            encoder.end_described()
+        }
+        Row::Named => {
+            encoder.begin_described(&name("a", alloc)?)?;
+            encoder.write_uint(1)?;
             encoder.end_described()
         }
         Row::NonAsciiName => encoder.begin_described(&name("é", alloc)?),
@@ -172,12 +184,10 @@ fn write_state(code: u64, fields: &[u64], encoder: &mut Encoder) -> Result<(), E
     encoder.end_described()
 }
 
-fn write_binary_in_list(len: u32, encoder: &mut Encoder, alloc: Global) -> Result<(), Error> {
+fn write_binary(len: u32, encoder: &mut Encoder, alloc: Global) -> Result<(), Error> {
     let mut bytes: Vec<u8> = Vec::new(alloc);
     bytes.resize(len as usize, 0x61)?;
-    encoder.begin_list()?;
-    encoder.write_binary(&bytes)?;
-    encoder.end_list()
+    encoder.write_binary(&bytes)
 }
 
 fn write_nested(count: u32, encoder: &mut Encoder) -> Result<(), Error> {
@@ -236,25 +246,31 @@ fn measure(row: Row, alloc: Global) -> Result<Measurement, Error> {
     encoder.into_measurement()
 }
 
-// The bytes of a row behind those that a buffer has.
-fn append(row: Row, buffer: Vec<u8>, alloc: Global) -> Result<Vec<u8>, Error> {
+// Puts the bytes of a row behind those that a buffer has. After a refusal the buffer has these alone.
+fn append(row: Row, buffer: &mut Vec<u8>, alloc: Global) -> Result<(), Error> {
     let Measurement { len, sizes } = measure(row, alloc)?;
-    let mut buffer = buffer;
-    buffer.reserve_exact(len)?;
-    let Some(limit) = buffer.len().checked_add(len) else {
+    let before = buffer.len();
+    let Some(limit) = before.checked_add(len) else {
         return Err(Error::TooLarge);
     };
-    let mut encoder = Encoder::filling(alloc, sizes, buffer, limit);
-    write(row, &mut encoder, alloc)?;
-    let buffer = encoder.into_buffer();
+    buffer.reserve_exact(len)?;
+    let room = std::mem::replace(buffer, Vec::new(alloc));
+    let mut encoder = Encoder::filling(alloc, sizes, room, limit);
+    let outcome = write(row, &mut encoder, alloc);
+    *buffer = encoder.into_buffer();
+    if outcome.is_err() {
+        buffer.truncate(before);
+        return outcome;
+    }
     if buffer.len() != limit {
         return Err(Error::Size);
     }
-    Ok(buffer)
+    Ok(())
 }
 
 fn digits(row: Row, alloc: Global) -> Result<String, Fail> {
-    let text = append(row, Vec::new(alloc), alloc)?;
+    let mut text = Vec::new(alloc);
+    append(row, &mut text, alloc)?;
     Ok(hex::encode(alloc, text)?)
 }
 
@@ -326,6 +342,16 @@ fn lists_of_one_binary(rt: HostRuntime) -> Result<(), Fail> {
 }
 
 #[test]
+fn binaries_by_length(rt: HostRuntime) -> Result<(), Fail> {
+    for (len, front, whole) in [(255, "a0ff61", 257), (256, "b00000010061", 261)] {
+        let written = digits(Row::Binary(len), rt.alloc())?;
+        assert!(rt; written.as_str().starts_with(front));
+        assert_eq!(rt; written.len() / 2, whole);
+    }
+    Ok(())
+}
+
+#[test]
 fn refusals_by_name(rt: HostRuntime) {
     for (row, number) in [
         (Row::MixedArray, 23),
@@ -354,7 +380,8 @@ fn refusals_by_name(rt: HostRuntime) {
 #[test]
 fn nesting_up_to_its_bound(rt: HostRuntime) -> Result<(), Fail> {
     for row in [Row::NestedLists(128), Row::ArraysInLists(128)] {
-        let written = append(row, Vec::new(rt.alloc()), rt.alloc())?;
+        let mut written = Vec::new(rt.alloc());
+        append(row, &mut written, rt.alloc())?;
         assert!(rt; written.len() > 128);
     }
     Ok(())
@@ -399,4 +426,45 @@ fn a_room_that_is_too_small(rt: HostRuntime) -> Result<(), Fail> {
     let buffer = encoder.into_buffer();
     assert_eq!(rt; buffer.as_slice(), [0xaa, 0xbb].as_slice());
     Ok(())
+}
+
+#[test]
+fn a_refused_value_leaves_the_buffer(rt: HostRuntime) -> Result<(), Fail> {
+    for (row, number) in [
+        (Row::MixedArray, 23),
+        (Row::NonAsciiName, 15),
+        (Row::OddMap, 5),
+        (Row::NestedLists(129), 10),
+        (Row::OfItsOwn, 29),
+    ] {
+        let mut buffer = [0xaa, 0xbb].to_vec(rt.alloc())?;
+        let outcome = append(row, &mut buffer, rt.alloc());
+        assert_eq!(rt; outcome.err().map(|e| e.number()), Some(number));
+        assert_eq!(rt; buffer.as_slice(), [0xaa, 0xbb].as_slice());
+    }
+    Ok(())
+}
+
+// Each growth is refused in turn by hand: `rt try --test --fail-alloc N`, for N from 1 on.
+#[test]
+fn want_of_memory_leaves_the_buffer(rt: HostRuntime) {
+    let rows: [(Row, &[u8]); 2] = [
+        (
+            Row::ListOfBinary(3),
+            &[0xaa, 0xbb, 0xc0, 6, 1, 0xa0, 3, 0x61, 0x61, 0x61],
+        ),
+        (Row::Named, &[0xaa, 0xbb, 0, 0xa3, 1, 0x61, 0x52, 1]),
+    ];
+    for (row, text) in rows {
+        let Ok(mut buffer) = [0xaa, 0xbb].to_vec(rt.alloc()) else {
+            continue;
+        };
+        match append(row, &mut buffer, rt.alloc()) {
+            Ok(()) => assert_eq!(rt; buffer.as_slice(), text),
+            Err(error) => {
+                assert_eq!(rt; error.number(), 21);
+                assert_eq!(rt; buffer.as_slice(), [0xaa, 0xbb].as_slice());
+            }
+        }
+    }
 }

@@ -1,0 +1,206 @@
+-- How deep bytes that are kept nest, and why terms can't be written.
+use Rattle.std.proofs.Common.{◌≡◌, inl, inr, ℕ, suc, ◌≤◌, max, Bool, true, false, cond, List, [], refl, ap, subst, arith}
+use Rattle.std.specs.Str.{bytes_eq}
+use Rattle.std.proofs.lemmas.Slice.Eq.{bytes_eq-Decides}
+use Rattle.amqp_model.specs.Term.{lazy_in_array, list, map, array, Term, Terms, leaf, holder, described, kept, barred, none, more}
+use Rattle.amqp_model.specs.Spelling.{enc}
+use Rattle.amqp_model.specs.Measures.{nest, nests, array_nest}
+use Rattle.amqp_model.specs.Ranges.{Everywhere, EverywhereIn, IsValue}
+use Rattle.amqp_model.specs.Refusals.{Somewhere, SomewhereIn, IsItem, IsRefused, core}
+use Rattle.amqp_model.specs.Kept.{Reads, ReadsEach}
+use Rattle.amqp_model.specs.Items.{terms_of}
+use Rattle.amqp_model.proofs.Unique.{one_term}
+use Rattle.amqp_wire.specs.declared.error.Error.{Error}
+use Rattle.amqp_encoder.specs.declared.size.Size.{Size}
+use Rattle.amqp_encoder.specs.Reasons.{nest_by, nests_by, array_nest_by}
+use Rattle.amqp_encoder.specs.Passes.{AreValues, AreRefused, IsMeasured}
+use Rattle.amqp_codec.specs.Written.{KnowsDepth, KnowDepths, IsProper, AreProper, AreUnwritable, AreWritable}
+
+mutual
+  everywhere_as : (P Q : Term → Type 0) → ((t : Term) → P t → Q t) → (t : Term) → Everywhere P t → Everywhere Q t
+  everywhere_as P Q f (leaf p) h = f (leaf p) h
+  everywhere_as P Q f (holder k ts) h = (f (holder k ts) h.0, everywhere_in_as P Q f ts h.1)
+  everywhere_as P Q f (described d t) h = (f (described d t) h.0, everywhere_as P Q f t h.1)
+  everywhere_as P Q f (kept b) h = f (kept b) h
+  everywhere_as P Q f (barred r) h = f (barred r) h
+
+  everywhere_in_as : (P Q : Term → Type 0) → ((t : Term) → P t → Q t) → (ts : Terms) → EverywhereIn P ts → EverywhereIn Q ts
+  everywhere_in_as P Q f none h = h
+  everywhere_in_as P Q f (more t ts) h = (everywhere_as P Q f t h.0, everywhere_in_as P Q f ts h.1)
+
+proper_value : (t : Term) → IsProper t → IsValue t
+proper_value (leaf p) h = h
+proper_value (holder list ts) h = h
+proper_value (holder map ts) h = h
+proper_value (holder array ts) h = h
+proper_value (described d t) h = h
+proper_value (kept b) h = tt
+proper_value (barred r) h = h
+
+pub proper_values : (ts : List Term) → AreProper ts → AreValues ts
+proper_values ts h = everywhere_in_as IsProper IsValue proper_value (terms_of ts) h
+
+-- no depth is too great
+abbrev IsSafe : (List ℕ → ℕ) → Type 0
+IsSafe deep = (b : List ℕ) (t : Term) → enc b t → deep b ≤ nest t
+
+raised : (f g : List ℕ → ℕ) → ((b : List ℕ) → f b ≤ g b) → IsSafe g → (t : Term) → KnowsDepth f t → KnowsDepth g t
+raised f g l s (leaf p) h = tt
+raised f g l s (holder k ts) h = tt
+raised f g l s (described d t) h = tt
+raised f g l s (kept b) h = λ t e. omega (arith, h t e, l b, s b t e)
+raised f g l s (barred r) h = tt
+
+same_term : (b : List ℕ) (t u : Term) → enc b t → enc b u → t ≡ u
+same_term b t u h k = one_term b b [] [] t u h k refl
+
+abbrev depth_at : List ℕ → ℕ → List ℕ → ℕ
+depth_at b n c = cond (bytes_eq b c) n 0
+
+at_least : (b c : List ℕ) (t u : Term) (test : Bool) → bytes_eq b c ≡ test → enc b t → enc c u → cond test (nest t) 0 ≤ nest u
+at_least b c t u true e h k = let i : b ≡ c = (bytes_eq-Decides b c).0 e in let j : t ≡ u = same_term c t u (subst (λ x. enc x t) i h) k in omega (arith, ap nest j)
+at_least b c t u false e h k = omega arith
+
+at_itself : (b : List ℕ) (t u : Term) → enc b t → enc b u → depth_at b (nest t) b ≡ nest u
+at_itself b t u h k = rw ((bytes_eq-Decides b b).1 refl) (ap nest (same_term b t u h k))
+
+-- bytes that are kept nest as deep as the term that they spell, where there is one
+mutual
+  depth : (t : Term) → Everywhere IsProper t → (deep : List ℕ → ℕ) × IsSafe deep × Everywhere (KnowsDepth deep) t
+  depth (leaf p) h = (λ b. 0, (λ b t e. omega arith), tt)
+  depth (holder k ts) h = let d = depths_in ts h.1 in (d.0, d.1, (tt, d.2))
+  depth (described d t) h = let x = depth t h.1 in (x.0, x.1, (tt, x.2))
+  depth (kept b) h = (depth_at b (nest h.0), (λ c u e. at_least b c h.0 u (bytes_eq b c) refl h.1 e), λ u e. at_itself b h.0 u h.1 e)
+  depth (barred r) h = (λ b. 0, (λ b t e. omega arith), tt)
+
+  depths_in : (ts : Terms) → EverywhereIn IsProper ts → (deep : List ℕ → ℕ) × IsSafe deep × EverywhereIn (KnowsDepth deep) ts
+  depths_in none h = (λ b. 0, (λ b t e. omega arith), tt)
+  depths_in (more t ts) h =
+      let f = depth t h.0 in
+      let g = depths_in ts h.1 in
+      let both : List ℕ → ℕ = λ b. max (f.0 b) (g.0 b) in
+      let safe : IsSafe both = λ b u e. omega (arith, f.1 b u e, g.1 b u e) in (
+        both,
+        safe,
+        (
+          everywhere_as (KnowsDepth f.0) (KnowsDepth both) (raised f.0 both (λ b. omega arith) safe) t f.2,
+          everywhere_in_as (KnowsDepth g.0) (KnowsDepth both) (raised g.0 both (λ b. omega arith) safe) ts g.2,
+        ),
+      )
+
+pub depths : (ts : List Term) → AreProper ts → (deep : List ℕ → ℕ) × KnowDepths deep ts
+depths ts h = let d = depths_in (terms_of ts) h in (d.0, d.2)
+
+-- what terms read as
+mutual
+  reads : (u : Term) → Everywhere IsProper u → (t : Term) × Reads u t
+  reads (leaf p) h = (leaf p, refl)
+  reads (holder k us) h = let r = reads_each us h.1 in (holder k r.0, (refl, r.1))
+  reads (described d u) h = let r = reads u h.1 in (described d r.0, (refl, r.1))
+  reads (kept b) h = h
+  reads (barred r) h = (barred r, refl)
+
+  reads_each : (us : Terms) → EverywhereIn IsProper us → (ts : Terms) × ReadsEach us ts
+  reads_each none h = (none, tt)
+  reads_each (more u us) h = let r = reads u h.0 in let s = reads_each us h.1 in (more r.0 s.0, (r.1, s.1))
+
+array_small : (ts : Terms) → array_nest ts ≤ suc (nests ts)
+array_small none = omega arith
+array_small (more (leaf p) ts) = omega (arith, array_small ts)
+array_small (more (holder k us) ts) = omega arith
+array_small (more (described d t) ts) = omega arith
+array_small (more (kept b) ts) = omega (arith, array_small ts)
+array_small (more (barred r) ts) = omega (arith, array_small ts)
+
+array_rest : (t : Term) (ts : Terms) → array_nest ts ≤ array_nest (more t ts)
+array_rest (leaf p) ts = omega arith
+array_rest (holder k us) ts = omega (arith, array_small ts)
+array_rest (described d t) ts = omega (arith, array_small ts)
+array_rest (kept b) ts = omega arith
+array_rest (barred r) ts = omega arith
+
+module _ (deep : List ℕ → ℕ) where
+  -- terms nest no deeper than what they read as
+  mutual
+    nest_reads : (u t : Term) → Reads u t → Everywhere (KnowsDepth deep) u → nest_by deep u ≤ nest t
+    nest_reads (leaf p) t r h = omega arith
+    nest_reads (holder list us) (holder l ts) r h = subst (λ c. nest_by deep (holder list us) ≤ nest (holder c ts)) r.0 (omega (arith, nests_read us ts r.1 h.1))
+    nest_reads (holder map us) (holder l ts) r h = subst (λ c. nest_by deep (holder map us) ≤ nest (holder c ts)) r.0 (omega (arith, nests_read us ts r.1 h.1))
+    nest_reads (holder array us) (holder l ts) r h = subst (λ c. nest_by deep (holder array us) ≤ nest (holder c ts)) r.0 (array_reads us ts r.1 h.1)
+    nest_reads (holder k us) t r h = absurd r
+    nest_reads (described d u) (described e t) r h = omega (arith, nest_reads u t r.1 h.1)
+    nest_reads (described d u) t r h = absurd r
+    nest_reads (kept b) t r h = omega (arith, h t r)
+    nest_reads (barred s) t r h = omega arith
+
+    pub nests_read : (us ts : Terms) → ReadsEach us ts → EverywhereIn (KnowsDepth deep) us → nests_by deep us ≤ nests ts
+    nests_read none ts r h = omega arith
+    nests_read (more u us) none r h = absurd r
+    nests_read (more u us) (more t ts) r h = omega (arith, nest_reads u t r.0 h.0, nests_read us ts r.1 h.1)
+
+    array_reads : (us ts : Terms) → ReadsEach us ts → EverywhereIn (KnowsDepth deep) us → array_nest_by deep us ≤ array_nest ts
+    array_reads none ts r h = omega arith
+    array_reads (more u us) none r h = absurd r
+    array_reads (more (leaf p) us) (more t ts) r h = omega (arith, array_rest t ts, array_reads us ts r.1 h.1)
+    array_reads (more (kept b) us) (more t ts) r h = omega (arith, array_rest t ts, array_reads us ts r.1 h.1)
+    array_reads (more (barred s) us) (more t ts) r h = omega (arith, array_rest t ts, array_reads us ts r.1 h.1)
+    array_reads (more (holder k vs) us) (more (holder l ws) ts) r h = omega (arith, nest_reads (holder k vs) (holder l ws) r.0 h.0, nests_read us ts r.1 h.1)
+    array_reads (more (holder k vs) us) (more t ts) r h = absurd r.0
+    array_reads (more (described d u) us) (more (described e t) ts) r h = omega (arith, nest_reads (described d u) (described e t) r.0 h.0, nests_read us ts r.1 h.1)
+    array_reads (more (described d u) us) (more t ts) r h = absurd r.0
+
+  abbrev NoneLazy : Term → Type 0
+  NoneLazy t = Somewhere (IsRefused lazy_in_array) t → ⊥
+
+  abbrev NoneLazyIn : Terms → Type 0
+  NoneLazyIn ts = SomewhereIn (IsRefused lazy_in_array) ts → ⊥
+
+  abbrev NoneKept : Terms → Type 0
+  NoneKept ts = (t : Term) (b : List ℕ) → IsItem t ts → core t ≡ kept b → ⊥
+
+  -- and no less deep, where no array has an item that is kept
+  mutual
+    reads_nest : (u t : Term) → Reads u t → Everywhere (KnowsDepth deep) u → NoneLazy u → nest t ≤ nest_by deep u
+    reads_nest (leaf p) (leaf q) r h f = omega arith
+    reads_nest (leaf p) t r h f = absurd r
+    reads_nest (holder list us) (holder l ts) r h f = subst (λ c. nest (holder c ts) ≤ nest_by deep (holder list us)) r.0 (omega (arith, read_nests us ts r.1 h.1 (λ i. f (inr i))))
+    reads_nest (holder map us) (holder l ts) r h f = subst (λ c. nest (holder c ts) ≤ nest_by deep (holder map us)) r.0 (omega (arith, read_nests us ts r.1 h.1 (λ i. f (inr i))))
+    reads_nest (holder array us) (holder l ts) r h f = subst (λ c. nest (holder c ts) ≤ nest_by deep (holder array us)) r.0 (read_array us ts r.1 h.1 (λ i. f (inr i)) (λ t b i e. f (inl (inr (t, b, i, e)))))
+    reads_nest (holder k us) t r h f = absurd r
+    reads_nest (described d u) (described e t) r h f = omega (arith, reads_nest u t r.1 h.1 (λ i. f (inr i)))
+    reads_nest (described d u) t r h f = absurd r
+    reads_nest (kept b) t r h f = omega (arith, h t r)
+    reads_nest (barred s) (barred q) r h f = omega arith
+    reads_nest (barred s) t r h f = absurd r
+
+    pub read_nests : (us ts : Terms) → ReadsEach us ts → EverywhereIn (KnowsDepth deep) us → NoneLazyIn us → nests ts ≤ nests_by deep us
+    read_nests none none r h f = omega arith
+    read_nests none (more t ts) r h f = absurd r
+    read_nests (more u us) none r h f = absurd r
+    read_nests (more u us) (more t ts) r h f = omega (arith, reads_nest u t r.0 h.0 (λ i. f (inl i)), read_nests us ts r.1 h.1 (λ i. f (inr i)))
+
+    read_array : (us ts : Terms) → ReadsEach us ts → EverywhereIn (KnowsDepth deep) us → NoneLazyIn us → NoneKept us → array_nest ts ≤ array_nest_by deep us
+    read_array none none r h f n = omega arith
+    read_array none (more t ts) r h f n = absurd r
+    read_array (more u us) none r h f n = absurd r
+    read_array (more (leaf p) us) (more (leaf q) ts) r h f n = read_array us ts r.1 h.1 (λ i. f (inr i)) (λ t b i. n t b (inr i))
+    read_array (more (leaf p) us) (more t ts) r h f n = absurd r.0
+    read_array (more (kept b) us) (more t ts) r h f n = absurd (n (kept b) b (inl refl) refl)
+    read_array (more (barred s) us) (more (barred q) ts) r h f n = read_array us ts r.1 h.1 (λ i. f (inr i)) (λ t b i. n t b (inr i))
+    read_array (more (barred s) us) (more t ts) r h f n = absurd r.0
+    read_array (more (holder k vs) us) (more (holder l ws) ts) r h f n = omega (arith, reads_nest (holder k vs) (holder l ws) r.0 h.0 (λ i. f (inl i)), read_nests us ts r.1 h.1 (λ i. f (inr i)))
+    read_array (more (holder k vs) us) (more t ts) r h f n = absurd r.0
+    read_array (more (described d u) us) (more (described e t) ts) r h f n = omega (arith, reads_nest (described d u) (described e t) r.0 h.0 (λ i. f (inl i)), read_nests us ts r.1 h.1 (λ i. f (inr i)))
+    read_array (more (described d u) us) (more t ts) r h f n = absurd r.0
+
+  -- an encoder's reasons are those of the terms
+  pub unwritable : (ts : List Term) (e : Error) → AreProper ts → KnowDepths deep ts → AreRefused deep ts e → AreUnwritable ts e
+  unwritable ts e i h (inl s) = inl s
+  unwritable ts e i h (inr (inl (d, l))) = let r = reads_each (terms_of ts) i in inr (inl (d, (r.0, r.1, omega (arith, l, nests_read (terms_of ts) r.0 r.1 h))))
+  unwritable ts e i h (inr (inr x)) = inr (inr x)
+
+  -- and there are none where they were measured
+  pub writable : (ts : List Term) (len : ℕ) (sizes : List Size) → KnowDepths deep ts → IsMeasured deep ts len sizes → AreWritable ts
+  writable ts len sizes h m e (inl s) = m.unrefused e (inl s)
+  writable ts len sizes h m e (inr (inl (d, (us, r, l)))) = omega (arith, l, m.nested, read_nests (terms_of ts) us r h (m.free lazy_in_array))
+  writable ts len sizes h m e (inr (inr x)) = m.unrefused e (inr (inr x))

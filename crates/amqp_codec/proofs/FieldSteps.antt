@@ -1,0 +1,216 @@
+-- The fields of a composite are read one after another.
+use Rattle.std.proofs.Common.{◌≡◌, inl, inr, ℕ, zero, suc, ◌-◌, ◌<◌, ◌≤◌, Bool, true, false, List, [], ◌∷◌, ◌++◌, length, drop, get_or, Option, Some, None, Result, Ok, Err, unwrap_or, refl, sym, ap, ◌∙◌, subst, arith, length-append}
+use Rattle.amqp_model.specs.Term.{null, list, Term, leaf}
+use Rattle.amqp_model.specs.Items.{is_null}
+use Rattle.amqp_model.specs.ItemLaws.{clash}
+use Rattle.amqp_model.specs.Slot.{is_required}
+use Rattle.amqp_model.specs.Fields.{Fits, kinds_of}
+use Rattle.amqp_model.specs.declared.tables.FieldKind.TheVariants.{Mandatory}
+use Rattle.amqp_wire.specs.declared.error.Error.{Error}
+use Rattle.amqp_wire.specs.declared.error.Error.TheVariants.{Missing}
+use Rattle.amqp_decoder.specs.declared.frame.Place.TheVariants.{InList}
+use Rattle.amqp_decoder.specs.State.{State, lower, past}
+use Rattle.amqp_decoder.proofs.Leaves.{lower-lower}
+use Rattle.amqp_decoder.proofs.Opening.{opens_same}
+use Rattle.amqp_decoder.specs.Reading.{Refused, BeginFault, Peeked}
+use Rattle.amqp_decoder.specs.Primitives.{standing, Value, Means}
+use Rattle.amqp_decoder.specs.Containers.{Opens, OpenFault, Closes, CloseFault}
+use Rattle.amqp_codec.specs.Fields.{Fields, slots}
+use Rattle.amqp_codec.specs.Reading.{stands_one}
+use Rattle.amqp_codec.specs.Lists.{StandEach, lower_zero, each_front, each_more}
+use Rattle.amqp_codec.specs.FieldReading.{MeansAt, FaultAt, FitsFront, KeepsBut, FitsAt, ItemRead, ItemFault, no_item, null_item, in_item, FieldsSoFar, FieldsRead, FieldsFault, FillsField, ReadsItem, filled_at, unfilled_at, no_list, at_item, left_out, not_ended, kind_at, front_null, front_filled, front_missing, front_end, front_start, fits_value, fits_null, fits_few, IsBlank}
+use Rattle.amqp_codec.specs.Refused.{refused_first, refused_later}
+use Rattle.amqp_codec.specs.Peeks.{peeked_going, peeked_from, peeked_to, not_null, value_peeked}
+
+the_item : (ts us : List Term) (t : Term) (rest : List Term) (n : ℕ) → length ts ≡ n → us ≡ ts ++ t ∷ rest → get_or us n (leaf null) ≡ t
+the_item [] us t rest n e f = ap (λ l. get_or l n (leaf null)) f ∙ ap (λ k. get_or (t ∷ rest) k (leaf null)) (sym e)
+the_item (x ∷ ts) us t rest n e f = ap (λ l. get_or l n (leaf null)) f ∙ ap (λ k. get_or (x ∷ (ts ++ t ∷ rest)) k (leaf null)) (sym e) ∙ the_item ts (ts ++ t ∷ rest) t rest (length ts) refl refl
+
+past_end : (us : List Term) (n : ℕ) → length us ≤ n → get_or us n (leaf null) ≡ leaf null
+past_end [] n l = refl
+past_end (u ∷ us) zero l = absurd (omega arith)
+past_end (u ∷ us) (suc n) l = past_end us n (omega arith)
+
+-- how many items are left behind some
+each_left : (st : State) (ts : List Term) (b : State) → StandEach st ts b → b.top.items ≡ lower st.top.items (length ts)
+each_left st [] b h = ap (λ (x : State). x.top.items) h ∙ sym (lower_zero st.top.items)
+each_left st (t ∷ ts) b (s, h, k) = each_left (past (length s) st) ts b k ∙ lower-lower st.top.items 1 (length ts) ∙ ap (lower st.top.items) (omega arith)
+
+pub each_going : (st : State) (ts : List Term) (b : State) → StandEach st ts b → st.error ≡ None → b.error ≡ None
+each_going st [] b h going = ap (λ (x : State). x.error) h ∙ going
+each_going st (t ∷ ts) b (s, h, k) going = each_going (past (length s) st) ts b k going
+
+pub header_going : {st first : State} {n : ℕ} (o : Opens list st n first) → o.data_.mid.error ≡ None
+header_going o = ap (λ (x : State). x.error) o.data_.header.took.moved ∙ ap (λ (x : State). x.error) o.begun.moved ∙ o.begun.going
+
+module _ {V : Type 0} (fs : Fields V) where
+  pub so_far_going : (st : State) (n i : ℕ) (v : V) (mid : State) → FieldsSoFar fs st n i v mid → st.error ≡ None
+  so_far_going st n i v mid h = h.opens.begun.going
+
+  -- an item was read
+  pub one_more : (st : State) (n i : ℕ) (v w : V) (mid b : State) → i < n → i < length (kinds_of (slots fs)) → FieldsSoFar fs st n i v mid → ItemRead fs i v w mid b → FieldsSoFar fs st n (suc i) w b
+  one_more st n i v w mid b l k h r =
+      let long : length h.terms ≡ i = h.long ∙ omega (arith, l) in
+      record {
+        first = h.first;
+        opens = h.opens;
+        terms = h.terms ++ r.term ∷ [];
+        each = subst (StandEach h.first (h.terms ++ r.term ∷ [])) (sym r.moved) (each_more h.first h.terms mid r.bytes r.term h.each r.stands);
+        long = length-append h.terms (r.term ∷ []) ∙ omega (arith, long, l);
+        front = elim r.fits [
+          | inl x ↦ subst (FitsFront fs (suc i) (h.terms ++ r.term ∷ [])) (sym x.2) (subst (λ t. FitsFront fs (suc i) (h.terms ++ t ∷ []) v) (sym x.0) (front_null fs i h.terms v Mandatory k long x.1 h.front))
+          | inr x ↦ front_filled fs i h.terms v w (standing mid.top.shared r.bytes) r.term long x.0 x.1 h.front
+        ];
+      }
+
+  -- an item is left out
+  pub one_less : (st : State) (n i : ℕ) (v : V) (mid : State) → n ≤ i → i < length (kinds_of (slots fs)) → is_required (kind_at fs i) ≡ false → FieldsSoFar fs st n i v mid → FieldsSoFar fs st n (suc i) v mid
+  one_less st n i v mid l k r h = record {
+    first = h.first;
+    opens = h.opens;
+    terms = h.terms;
+    each = h.each;
+    long = h.long ∙ omega (arith, l);
+    front = front_missing fs i h.terms v Mandatory k (omega (arith, h.long, l)) r h.front;
+  }
+
+  -- all that were read so far are the front of any value that stands there
+  record Further (n i : ℕ) (terms : List Term) (mid : State) (ts : List Term) : Type 0 where
+    last : State
+    b : State
+    count : length ts ≡ n
+    each : StandEach mid (drop (length terms) ts) last
+    front : ts ≡ terms ++ drop (length terms) ts
+    closes : Closes InList last b
+
+  further : (st : State) (n i : ℕ) (v w : V) (mid b : State) → (h : FieldsSoFar fs st n i v mid) → (k : FieldsRead fs st w b) → Further n i h.terms mid k.terms
+  further st n i v w mid b h k =
+      let o = opens_same list st (length k.terms) n k.stand.first h.first k.stand.opens h.opens in
+      let r = each_front h.first h.terms k.terms mid k.stand.last (omega (arith, h.long, o.0)) h.each (subst (λ (x : State). StandEach x k.terms k.stand.last) o.1 k.stand.each) in
+      record { last = k.stand.last; b = b; count = o.0; each = r.0; front = r.1; closes = k.stand.closes }
+
+  next_fits : (i : ℕ) (terms ts : List Term) (rest : List Term) (mid last : State) (w : V) → length terms ≡ i → i < length ts → i < length (kinds_of (slots fs)) → rest ≡ drop (length terms) ts → StandEach mid rest last → ts ≡ terms ++ rest → Fits (slots fs) ts w
+      → (b : State) × Value (FitsAt fs i) mid w b
+  next_fits i terms ts [] mid last w e l k r s f m = absurd (omega (arith, ap length f, length-append terms [], e, l))
+  next_fits i terms ts (t ∷ rest) mid last w e l k r (s, h, hs) f m =
+      let at : get_or ts i (leaf null) ≡ t = the_item terms ts t rest i e f in
+      (past (length s) mid, record { bytes = s; term = t; stands = h; moved = refl; meant = by_null (is_null t) refl at })
+    where
+      at_required : (r : Bool) → is_required (kind_at fs i) ≡ r → is_null (get_or ts i (leaf null)) ≡ true → is_required (kind_at fs i) ≡ false
+      at_required false x z = x
+      at_required true x z = absurd (fits_null fs i ts w Mandatory m k x z)
+
+      by_null : (z : Bool) → is_null t ≡ z → get_or ts i (leaf null) ≡ t → FitsAt fs i (standing mid.top.shared s) t w
+      by_null true z at = inl (z, at_required (is_required (kind_at fs i)) refl (ap is_null at ∙ z))
+      by_null false z at = inr (z, subst (λ x. MeansAt fs i (standing mid.top.shared s) x w) at (fits_value fs i ts w (standing mid.top.shared s) m l (ap is_null at ∙ z)))
+
+  -- an item couldn't be read
+  pub item_refused : (st : State) (n i : ℕ) (v : V) (mid : State) (e : Error) (new : State) → i < n → i < length (kinds_of (slots fs)) → mid.error ≡ None → FieldsSoFar fs st n i v mid → Refused (Value (FitsAt fs i)) (ItemFault fs i) mid e new → Refused (FieldsRead fs) (FieldsFault fs) st e new
+  item_refused st n i v mid e new l k going h r =
+      refused_later (Value (FitsAt fs i)) (ItemFault fs i) (FieldsRead fs) (FieldsFault fs) st mid e new (so_far_going st n i v mid h) going
+      (λ f. at_item h l k f)
+      (λ none w b q.
+      let g = further st n i v w mid b h q in
+      let x = next_fits i h.terms q.terms (drop (length h.terms) q.terms) mid g.last w (h.long ∙ omega (arith, l)) (omega (arith, g.count, l)) k refl g.each g.front q.fits in
+      none w x.0 x.1)
+      r
+
+  -- a required item is left out
+  pub left_out_refused : (st : State) (n i : ℕ) (v : V) (mid : State) (e : Error) (new : State) → n ≤ i → i < length (kinds_of (slots fs)) → is_required (kind_at fs i) ≡ true → e ≡ Missing → new.error ≡ Some e → FieldsSoFar fs st n i v mid → Refused (FieldsRead fs) (FieldsFault fs) st e new
+  left_out_refused st n i v mid e new l k required is kept h = record {
+    kept = kept;
+    again = λ d x. absurd (let y = so_far_going st n i v mid h in cc);
+    named = λ _. inr (left_out h l k required is);
+    none = inr (λ w b q.
+        let g = further st n i v w mid b h q in
+        fits_null fs i q.terms w Mandatory q.fits k required (ap is_null (past_end q.terms i (omega (arith, g.count, l)))));
+  }
+
+  rest_none : (ts : List Term) (k : ℕ) → length ts ≤ k → drop k ts ≡ []
+  rest_none [] zero l = refl
+  rest_none [] (suc k) l = refl
+  rest_none (t ∷ ts) zero l = absurd (omega arith)
+  rest_none (t ∷ ts) (suc k) l = rest_none ts k (omega arith)
+
+  -- the list couldn't be closed
+  pub end_refused : (st : State) (n i : ℕ) (v : V) (mid : State) (e : Error) (new : State) → i ≡ length (kinds_of (slots fs)) → mid.error ≡ None → FieldsSoFar fs st n i v mid → Refused (λ st (_ : Unit {0}) b. Closes InList st b) (CloseFault InList) mid e new → Refused (FieldsRead fs) (FieldsFault fs) st e new
+  end_refused st n i v mid e new all going h r =
+      refused_later (λ st (_ : Unit {0}) b. Closes InList st b) (CloseFault InList) (FieldsRead fs) (FieldsFault fs) st mid e new (so_far_going st n i v mid h) going
+      (λ f. not_ended (subst (λ k. FieldsSoFar fs st n k v mid) all h) f)
+      (λ none w b q.
+      let g = further st n i v w mid b h q in
+      let few = fits_few fs q.terms w q.fits in
+      let z : drop (length h.terms) q.terms ≡ [] = rest_none q.terms (length h.terms) (omega (arith, h.long, g.count, few, all)) in
+      let same : g.last ≡ mid = subst (λ x. StandEach mid x g.last) z g.each in
+      none tt g.b (subst (λ (x : State). Closes InList x g.b) same g.closes))
+      r
+
+  closes_items : (n k : ℕ) (o : Option ℕ) → o ≡ Some (n - k) → o ≡ Some 0 → n ≤ k
+  closes_items n k o e f = let z : n - k ≡ 0 = ap (λ x. unwrap_or x 0) (sym e ∙ f) in omega (arith, z)
+
+  -- the list was closed: these are the fields
+  pub all_read : (st : State) (n i : ℕ) (v : V) (mid b : State) → i ≡ length (kinds_of (slots fs)) → FieldsSoFar fs st n i v mid → Closes InList mid b → FieldsRead fs st v b
+  all_read st n i v mid b all h c =
+      let items = each_left h.first h.terms mid h.each in
+      let top : h.first.top.items ≡ Some n = ap (λ (x : State). x.top.items) h.opens.data_.entered in
+      let few : n ≤ length h.terms = closes_items n (length h.terms) mid.top.items (items ∙ ap (λ o. lower o (length h.terms)) top) c.items in
+      let count : n ≡ length h.terms = omega (arith, few, h.long) in
+      record {
+        terms = h.terms;
+        stand = record { first = h.first; last = mid; opens = subst (λ k. Opens list st k h.first) count h.opens; each = h.each; closes = c };
+        fits = front_end fs i h.terms v all (omega (arith, h.long)) h.front;
+      }
+
+  -- the list couldn't be opened
+  pub open_refused : (st : State) (e : Error) (new : State) → Refused (Opens list) (OpenFault list) st e new → Refused (FieldsRead fs) (FieldsFault fs) st e new
+  open_refused st e new r = refused_first (Opens list) (OpenFault list) (FieldsRead fs) (FieldsFault fs) st e new no_list (λ none w b q. none (length q.terms) q.stand.first q.stand.opens) r
+
+  pub none_so_far : (st : State) (n : ℕ) (v : V) (first : State) → Opens list st n first → IsBlank fs v → FieldsSoFar fs st n 0 v first
+  none_so_far st n v first o b = record { first = first; opens = o; terms = []; each = refl; long = omega arith; front = front_start fs [] v b }
+
+  pub so_far_still : (st : State) (n i : ℕ) (v : V) (mid : State) → FieldsSoFar fs st n i v mid → mid.error ≡ None
+  so_far_still st n i v mid h = each_going h.first h.terms mid h.each (ap (λ (x : State). x.error) h.opens.data_.entered ∙ header_going h.opens)
+
+-- Steps of one item.
+module _ {V : Type 0} (fs : Fields V) (i : ℕ) where
+  pub item_unbegun : (st : State) (e : Error) (new : State) → Refused Peeked BeginFault st e new → Refused (Value (FitsAt fs i)) (ItemFault fs i) st e new
+  item_unbegun st e new r = refused_first Peeked BeginFault (Value (FitsAt fs i)) (ItemFault fs i) st e new no_item (value_peeked (FitsAt fs i) st) r
+
+  -- null was taken, and fits
+  pub null_read : (v : V) (st b : State) → is_required (kind_at fs i) ≡ false → Value (Means (λ (_ : Unit {0}). null)) st tt b → ItemRead fs i v v st b
+  null_read v st b r h = record { bytes = h.bytes; term = h.term; stands = h.stands; moved = h.moved; fits = inl (h.meant, r, refl) }
+
+  -- null was taken, and doesn't fit
+  pub null_unfit : (st b : State) (e : Error) (new : State) → st.error ≡ None → is_required (kind_at fs i) ≡ true → e ≡ Missing → new.error ≡ Some e → Value (Means (λ (_ : Unit {0}). null)) st tt b → Refused (Value (FitsAt fs i)) (ItemFault fs i) st e new
+  null_unfit st b e new going required is kept h = record {
+    kept = kept;
+    again = λ d x. absurd (cc);
+    named = λ _. inr (null_item h required is);
+    none = inr (λ w c k.
+        let o = stands_one st h.bytes k.bytes h.term k.term h.stands k.stands in
+        let z : is_null k.term ≡ true = ap is_null (sym o.1 ∙ h.meant) in
+        elim k.meant [ inl x ↦ clash required x.1 | inr x ↦ clash z x.0 ]);
+  }
+
+  -- the field was filled
+  pub value_read : (v w : V) (st mid b : State) (c : ℕ) → Peeked st c mid → Value (MeansAt fs i) mid w b → KeepsBut fs i v w → ItemRead fs i v w st b
+  value_read v w st mid b c p h k =
+      let x = peeked_from (MeansAt fs i) st c mid w b p h in
+      record { bytes = x.bytes; term = x.term; stands = x.stands; moved = x.moved; fits = inr (x.meant, k) }
+
+  -- the field wasn't filled
+  pub value_refused : (st mid : State) (c : ℕ) (e : Error) (new : State) → Peeked st c mid → (c ≡ 0x40 → ⊥) → Refused (Value (MeansAt fs i)) (FaultAt fs i) mid e new → Refused (Value (FitsAt fs i)) (ItemFault fs i) st e new
+  value_refused st mid c e new p other r =
+      let going = peeked_going st c mid p in
+      refused_later (Value (MeansAt fs i)) (FaultAt fs i) (Value (FitsAt fs i)) (ItemFault fs i) st mid e new going.0 going.1 (in_item p)
+      (λ none w b h.
+      let n = not_null (FitsAt fs i) st c mid w b p other h in
+      elim h.meant [
+        | inl x ↦ clash x.0 n
+        | inr x ↦ none w b (peeked_to (MeansAt fs i) st c mid w b p (record { bytes = h.bytes; term = h.term; stands = h.stands; moved = h.moved; meant = x.1 }))
+      ])
+      r
+
+  pub filled_step : (v w : V) (st mid : State) (c : ℕ) (r : Result (Unit {0}) Error) (b : State) → i < length (kinds_of (slots fs)) → Peeked st c mid → (c ≡ 0x40 → ⊥) → FillsField fs i v w mid r b → ReadsItem fs i v w st r b
+  filled_step v w st mid c (Ok u) b k p other h = let x = filled_at fs i v w mid b k h in value_read v w st mid b c p x.0 x.1
+  filled_step v w st mid c (Err e) b k p other h = value_refused st mid c e b p other (unfilled_at fs i v w mid e b k h)

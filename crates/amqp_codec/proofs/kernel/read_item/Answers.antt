@@ -1,0 +1,38 @@
+use Rattle.std.proofs.Common.{Some, ap, sym, ◌∙◌}
+use Rattle.std.proofs.lemmas.Result.{err_from_is_err_and}
+use Rattle.amqp_model.specs.Term.{null}
+use Rattle.amqp_model.specs.Slot.{is_required}
+use Rattle.amqp_decoder.specs.State.{State}
+use Rattle.amqp_decoder.specs.Primitives.{Means}
+use Rattle.amqp_codec.specs.Peeks.{peeked_going, peeked_from}
+use Rattle.amqp_codec.proofs.Options.{null_refused}
+use Rattle.amqp_codec.proofs.FieldSteps.{item_unbegun, filled_step, null_unfit, null_read}
+use Rattle.amqp_codec.proofs.kernel.read_item.Goals as goal
+
+pub returns-in_err-peek_code : goal.returns-in_err-peek_code
+returns-in_err-peek_code g c tells =
+    let p = err_from_is_err_and c.from_residual.result c.from_residual.ensures.1 in
+    rw (p.1, p.2) (item_unbegun g.C.Composite.table.fields c.args.index _ _ _ (c.in_err-peek_code.ensures tells))
+
+pub returns-then-branch-ne-NULL : goal.returns-then-branch-ne-NULL
+returns-then-branch-ne-NULL g c tells =
+    filled_step g.C.Composite.table.fields c.args.index _ _ _ _ _ _ _ c.requires.within (c.in_ok-peek_code.ensures tells) c.if-branch-ne-NULL.true (c.fill_field.ensures tells c.requires.within)
+
+pub returns-in_err-read_null : goal.returns-in_err-read_null
+returns-in_err-read_null g c tells =
+    let p = err_from_is_err_and c.from_residual-in_err-read_null.result c.from_residual-in_err-read_null.ensures.1 in
+    rw (p.1, p.2) (null_refused _ _ _ _ _ _ _ (c.in_ok-peek_code.ensures tells) c.if-branch-ne-NULL.false (c.in_err-read_null.ensures tells))
+
+pub returns-then-is_required : goal.returns-then-is_required
+returns-then-is_required g c tells =
+    let peeked = c.in_ok-peek_code.ensures tells in
+    null_unfit g.C.Composite.table.fields c.args.index _ _ _ _ (peeked_going _ _ _ peeked).0
+    (ap is_required (sym c.requires.its_kind) ∙ sym c.is_required.ensures ∙ c.if-is_required.true)
+    c.refuse.ensures.answer (ap (λ (x : State). x.error) c.refuse.ensures.kept ∙ ap Some (sym c.refuse.ensures.answer))
+    (peeked_from (Means (λ (_ : Unit {0}). null)) _ _ _ tt _ peeked (c.in_ok-read_null.ensures tells))
+
+pub returns : goal.returns
+returns g c tells =
+    null_read g.C.Composite.table.fields c.args.index _ _ _
+    (ap is_required (sym c.requires.its_kind) ∙ sym c.is_required.ensures ∙ c.if-is_required.false)
+    (peeked_from (Means (λ (_ : Unit {0}). null)) _ _ _ tt _ (c.in_ok-peek_code.ensures tells) (c.in_ok-read_null.ensures tells))

@@ -1,0 +1,8 @@
+use Rattle.amqp_codec.proofs.Spelling.{read_spelled, spelled_read}
+use Rattle.amqp_codec.proofs.laws.reading_is_spelling.Goals as goal
+
+pub returns-clause-spelled : goal.returns-clause-spelled
+returns-clause-spelled g c = read_spelled g.T.DeserializeTerm.term g.T.Deserialize.reading g.met.T.DeserializeTerm.reads_terms
+
+pub returns-clause-read : goal.returns-clause-read
+returns-clause-read g c = spelled_read g.T.DeserializeTerm.term g.T.Deserialize.reading g.met.T.DeserializeTerm.reads_terms

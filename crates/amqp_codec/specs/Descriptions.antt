@@ -1,0 +1,162 @@
+-- A described value that stands next is opened, what is described stands in it, and it is closed (Part 1, section 1.2).
+use Rattle.std.proofs.Common.{◌≡◌, ℕ, ◌+◌, ◌-◌, ◌<◌, ◌≤◌, List, [], ◌∷◌, ◌++◌, length, drop, get_or, Option, Some, None, option_map, refl, sym, ap, ap₂, ◌∙◌, subst, arith, append_assoc, length-append, drop-drop}
+use Rattle.std.proofs.lemmas.List.{drop_at}
+use Rattle.amqp_model.specs.Term.{list, map, array, Descriptor, Term, leaf, holder, described, kept, barred}
+use Rattle.amqp_model.specs.Spelling.{Names, enc, data_of}
+use Rattle.amqp_model.specs.Measures.{nest}
+use Rattle.amqp_decoder.specs.declared.frame.Place.TheVariants.{InDescribed}
+use Rattle.amqp_decoder.specs.State.{State, Open, Has, lower, on, past}
+use Rattle.amqp_decoder.specs.Steps.{Took}
+use Rattle.amqp_decoder.specs.Reading.{IsFirst}
+use Rattle.amqp_decoder.specs.Primitives.{standing, SpellsAs, Stands}
+use Rattle.amqp_decoder.specs.Containers.{ClosesDescribed}
+use Rattle.amqp_decoder.specs.Described.{IsDescriptor, behind, entered, OpensDescribed}
+use Rattle.amqp_decoder.proofs.Leaves.{has_add, has_front, has_rest, lower-lower}
+
+-- The term stands next behind the descriptor.
+pub record DescribedStands (st : State) (d : Descriptor) (t : Term) (b : State) : Type 0 where
+  pub inner : State
+  pub opens : OpensDescribed st d inner
+  pub bytes : List ℕ
+  pub stands : Stands inner bytes t
+  pub closes : ClosesDescribed InDescribed (past (length bytes) inner) b
+
+-- a term nests at least as deep as it is described
+marks_nest : (t : Term) (ds : List Descriptor) (c : ℕ) (b : List ℕ) → data_of t ds c b → length ds ≤ nest t
+marks_nest t [] c b h = omega arith
+marks_nest (described d t) (e ∷ ds) c b h = omega (arith, marks_nest t ds c b h.1)
+marks_nest (leaf p) (e ∷ ds) c b h = absurd h
+marks_nest (holder list ts) (e ∷ ds) c b h = absurd h
+marks_nest (holder map ts) (e ∷ ds) c b h = absurd h
+marks_nest (holder array ts) (e ∷ ds) c b h = absurd h
+marks_nest (kept k) (e ∷ ds) c b h = absurd h
+marks_nest (barred r) (e ∷ ds) c b h = absurd h
+
+described_spelled : (o : Option (List Descriptor × ℕ)) (first own s : List ℕ) (d : Descriptor) (t : Term) → nest t < 128 → IsFirst o 0 first → IsDescriptor o d own → SpellsAs (standing (behind o) s) t → SpellsAs (standing o (first ++ (own ++ s))) (described d t)
+unfolding enc
+described_spelled None first own s d t few f n (ds, c, _, (h, x, e, k, data_)) = (
+  d ∷ ds,
+  c,
+  omega (arith, few, marks_nest t ds c x data_),
+  (
+    0 ∷ (own ++ h),
+    x,
+    ap (λ l. l ++ (own ++ s)) f ∙ ap (λ l. 0 ∷ (own ++ l)) e ∙ ap (λ l. 0 ∷ l) (sym (append_assoc own h x)),
+    (own, h, refl, n, k),
+    (refl, data_),
+  ),
+)
+described_spelled (Some ([], k)) first own s d t few f n h = absurd n
+described_spelled (Some (m ∷ ds, k)) first own s d t few f n h = subst (λ l. data_of (described d t) (m ∷ ds) k (l ++ (own ++ s))) (sym f.0) (subst (λ l. data_of (described d t) (m ∷ ds) k (l ++ s)) (sym n.0) (n.1, h))
+
+minus_minus : (a m n : ℕ) → a - m - n ≡ a - (m + n)
+minus_minus a m n = omega arith
+
+sum : (a b c : ℕ) → a + (b + c) ≡ a + b + c
+sum a b c = omega arith
+
+-- the state in which what is described stands
+abbrev inside_described : ℕ → ℕ → State → State
+inside_described first own st = entered (on own (past first st))
+
+-- the state behind it
+back : (first own s : ℕ) (st : State) → past (first + (own + s)) st ≡ record (past s (inside_described first own st)) { top = record (on own (past first st)).top { left = lower (on own (past first st)).top.left s }; saved = st.saved }
+back first own s st = ap (λ z. past z st) (sum first own s)
+    ∙ sym (rw (minus_minus st.ahead first own, minus_minus st.ahead (first + own) s, drop-drop own first st.rest, drop-drop s (first + own) st.rest, lower-lower st.top.left first own, lower-lower st.top.left (first + own) s) refl)
+
+left_described : (first own s : ℕ) (st b : State) → ClosesDescribed InDescribed (past s (inside_described first own st)) b → b ≡ past (first + (own + s)) st
+left_described first own s st b c =
+    let mid = on own (past first st) in
+    let kept_ = record mid.top { left = option_map (λ l. 0) mid.top.left } in
+    let outer : kept_ ≡ c.outer = ap (λ l. get_or l 0 st.top) c.saved in
+    let others : st.saved ≡ c.others = ap (λ l. drop 1 l) c.saved in
+    c.moved ∙ ap₂ (λ (t : Open) l. record (past s (inside_described first own st)) { top = record t { left = lower mid.top.left s }; saved = l }) (sym outer) (sym others) ∙ sym (back first own s st)
+
+-- What was opened, taken and closed is one term.
+pub described_term : (st : State) (d : Descriptor) (t : Term) (b : State) → st.nesting ≤ 128 → DescribedStands st d t b → (z : List ℕ) × Stands st z (described d t) × (b ≡ past (length z) st)
+described_term st d t b bound h =
+    let o = h.opens in
+    let first = o.begun.own in
+    let own = o.descriptor.own in
+    let took : Took (past (length first) st) own o.named = subst (λ (m : State). Took m own o.named) o.begun.moved o.descriptor.took in
+    let descriptor : IsDescriptor st.top.shared d own = subst (λ (m : State). IsDescriptor m.top.shared d own) o.begun.moved o.descriptor.descriptor in
+    let inner : h.inner ≡ inside_described (length first) (length own) st = o.opened ∙ ap entered took.moved in
+    let stands = subst (λ (i : State). Stands i h.bytes t) inner h.stands in
+    let closes = subst (λ (i : State). ClosesDescribed InDescribed (past (length h.bytes) i) b) inner h.closes in
+    let long : length (first ++ (own ++ h.bytes)) ≡ length first + (length own + length h.bytes) = length-append first (own ++ h.bytes) ∙ ap (λ k. length first + k) (length-append own h.bytes) in
+    let all : Has st.top.left (length first + (length own + length h.bytes)) =
+    has_add st.top.left (length first) (length own + length h.bytes) o.begun.room (has_add (lower st.top.left (length first)) (length own) (length h.bytes) took.room stands.room) in (
+      first ++ (own ++ h.bytes),
+      record {
+        going = o.begun.going;
+        item = o.begun.item;
+        room = subst (Has st.top.left) (sym long) all;
+        after = stands.after;
+        rest = o.begun.rest ∙ ap (λ x. first ++ x) (took.rest ∙ ap (λ x. own ++ x) stands.rest) ∙ ap (λ x. first ++ x) (sym (append_assoc own h.bytes stands.after)) ∙ sym (append_assoc first (own ++ h.bytes) stands.after);
+        spelled = described_spelled st.top.shared first own h.bytes d t (let x = stands.nested in let y = o.nested in omega (arith, x, y, bound)) o.begun.first descriptor stands.spelled;
+        nested = let x = stands.nested in let y = o.nested in omega (arith, x, y);
+      },
+      left_described (length first) (length own) (length h.bytes) st b closes ∙ ap (λ k. past k st) (sym long),
+    )
+
+described_split : (o : Option (List Descriptor × ℕ)) (z : List ℕ) (d : Descriptor) (t : Term) → SpellsAs (standing o z) (described d t)
+    → (first own s : List ℕ) × IsFirst o 0 first × IsDescriptor o d own × (z ≡ first ++ (own ++ s)) × SpellsAs (standing (behind o) s) t
+unfolding enc
+described_split None z d t ([], c, few, (h, x, e, k, data_)) = absurd data_
+described_split None z d t (f ∷ ds, c, few, (h, x, e, (n, r, e', names, k), data_)) = (
+  0 ∷ [],
+  n,
+  r ++ x,
+  refl,
+  subst (λ y. Names y n) (sym data_.0) names,
+  e ∙ ap (λ l. l ++ x) e' ∙ ap (λ l. 0 ∷ l) (append_assoc n r x),
+  (ds, c, omega (arith, few), (r, x, refl, k, data_.1)),
+)
+described_split (Some ([], k)) z d t h = absurd h
+described_split (Some (f ∷ ds, k)) z d t h = ([], [], z, (refl, refl), (refl, h.0), refl, h.1)
+
+-- A term that is described is opened, taken and closed.
+pub term_described : (st : State) (z : List ℕ) (d : Descriptor) (t : Term) → Stands st z (described d t) → DescribedStands st d t (past (length z) st)
+term_described st z d t h =
+    let f = described_split st.top.shared z d t h.spelled in
+    let first = f.0 in
+    let own = f.1 in
+    let s = f.2 in
+    let long : length z ≡ length first + (length own + length s) = ap length f.5 ∙ length-append first (own ++ s) ∙ ap (λ k. length first + k) (length-append own s) in
+    let room : Has st.top.left (length first + (length own + length s)) = subst (Has st.top.left) long h.room in
+    let behind_ : Has (lower st.top.left (length first)) (length own + length s) = has_rest st.top.left (length first) (length own + length s) room in
+    let whole : st.rest ≡ first ++ (own ++ (s ++ h.after)) =
+    h.rest ∙ ap (λ y. y ++ h.after) f.5 ∙ append_assoc first (own ++ s) h.after ∙ ap (λ y. first ++ y) (append_assoc own s h.after) in
+    let second : drop (length first) st.rest ≡ own ++ (s ++ h.after) = ap (drop (length first)) whole ∙ drop_at first (own ++ (s ++ h.after)) (length first) refl in
+    let third : drop (length own) (drop (length first) st.rest) ≡ s ++ h.after = ap (drop (length own)) second ∙ drop_at own (s ++ h.after) (length own) refl in
+    let mid = on (length own) (past (length first) st) in
+    record {
+      inner = inside_described (length first) (length own) st;
+      opens = record {
+        coded = past (length first) st;
+        named = mid;
+        begun = record { going = h.going; item = h.item; own = first; first = f.3; room = has_front st.top.left (length first) (length own + length s) room; rest = whole ∙ ap (λ y. first ++ y) (sym second); moved = refl };
+        nested = let y = h.nested in omega (arith, y);
+        descriptor = record { own = own; descriptor = f.4; took = record { room = has_front (lower st.top.left (length first)) (length own) (length s) behind_; rest = second ∙ ap (λ y. own ++ y) (sym third); moved = refl } };
+        opened = refl;
+      };
+      bytes = s;
+      stands = record {
+        going = h.going;
+        item = omega arith;
+        room = has_rest (lower st.top.left (length first)) (length own) (length s) behind_;
+        after = h.after;
+        rest = third;
+        spelled = f.6;
+        nested = let y = h.nested in omega (arith, y);
+      };
+      closes = record {
+        going = h.going;
+        here = refl;
+        items = ap Some (omega arith);
+        outer = record mid.top { left = option_map (λ l. 0) mid.top.left };
+        others = st.saved;
+        saved = refl;
+        moved = ap (λ k. past k st) long ∙ back (length first) (length own) (length s) st;
+      };
+    }

@@ -1,0 +1,195 @@
+-- How the fields of a composite are read, one after another.
+use Rattle.std.proofs.Common.{◌≡◌, ◌⊎◌, min, ℕ, zero, suc, ◌<◌, ◌≤◌, true, false, List, [], ◌∷◌, ◌++◌, length, get_or, Result, Ok, Err, refl, arith}
+use Rattle.amqp_model.specs.Term.{null, list, Term, leaf}
+use Rattle.amqp_model.specs.Standing.{Standing}
+use Rattle.amqp_model.specs.Items.{is_null}
+use Rattle.amqp_model.specs.Slot.{is_required}
+use Rattle.amqp_model.specs.Fields.{Fits, kinds_of}
+use Rattle.amqp_model.specs.declared.tables.FieldKind.{FieldKind}
+use Rattle.amqp_wire.specs.declared.error.Error.{Error}
+use Rattle.amqp_wire.specs.declared.error.Error.TheVariants.{Missing}
+use Rattle.amqp_model.specs.declared.tables.FieldKind.TheVariants.{Mandatory}
+use Rattle.amqp_decoder.specs.declared.frame.Place.TheVariants.{InList}
+use Rattle.amqp_decoder.specs.State.{State, past}
+use Rattle.amqp_decoder.specs.Reading.{Refused, BeginFault, Peeked}
+use Rattle.amqp_decoder.specs.Primitives.{standing, Stands, Value, Means}
+use Rattle.amqp_decoder.specs.Containers.{Opens, OpenFault, CloseFault}
+use Rattle.amqp_codec.specs.Lists.{StandEach, ListStands}
+use Rattle.amqp_codec.specs.Refused.{refused_first}
+use Rattle.amqp_codec.specs.Fields.{Fields, none, field, slots}
+
+-- all fields are equal
+abbrev pub Keeps : {V : Type 0} → Fields V → V → V → Type 0
+Keeps none v w = Unit {0}
+Keeps (field get f fs) v w = (get w ≡ get v) × Keeps fs v w
+
+-- all fields but one are equal
+abbrev pub KeepsBut : {V : Type 0} → Fields V → ℕ → V → V → Type 0
+KeepsBut none i v w = Unit {0}
+KeepsBut (field get f fs) zero v w = Keeps fs v w
+KeepsBut (field get f fs) (suc i) v w = (get w ≡ get v) × KeepsBut fs i v w
+
+-- each field but the required ones holds what null means
+abbrev pub IsBlank : {V : Type 0} → Fields V → V → Type 0
+IsBlank none v = Unit {0}
+IsBlank (field get f fs) v = (is_required f.slot.kind ≡ false → f.slot.meaning.means (leaf null) (get v)) × IsBlank fs v
+
+-- A value was read into its place.
+abbrev pub Fills : {T : Type 0} → (Standing → Term → T → Type 0) → (State → Error → Type 0) → State → T → Result (Unit {0}) Error → State → Type 0
+Fills reads fault st x (Ok u) b = Value reads st x b
+Fills reads fault st x (Err e) b = Refused (Value reads) fault st e b
+
+-- A value that isn't null was read into the field of this number, and the others stay.
+abbrev pub FillsField : {V : Type 0} → Fields V → ℕ → V → V → State → Result (Unit {0}) Error → State → Type 0
+FillsField none i v w st r b = Unit {0}
+FillsField (field get f fs) zero v w st r b = Fills f.reads f.fault st (get w) r b × Keeps fs v w
+FillsField (field get f fs) (suc i) v w st r b = (get w ≡ get v) × FillsField fs i v w st r b
+
+-- by a field's number
+abbrev pub MeansAt : {V : Type 0} → Fields V → ℕ → Standing → Term → V → Type 0
+MeansAt none i s t v = ⊥
+MeansAt (field get f fs) zero s t v = f.reads s t (get v)
+MeansAt (field get f fs) (suc i) s t v = MeansAt fs i s t v
+
+abbrev pub FaultAt : {V : Type 0} → Fields V → ℕ → State → Error → Type 0
+FaultAt none i st e = ⊥
+FaultAt (field get f fs) zero st e = f.fault st e
+FaultAt (field get f fs) (suc i) st e = FaultAt fs i st e
+
+-- The first n fields are what the terms mean, of which there are no more than n, and the others are blank.
+abbrev pub FitsFront : {V : Type 0} → Fields V → ℕ → List Term → V → Type 0
+FitsFront none n ts v = Unit {0}
+FitsFront (field get f fs) zero ts v = IsBlank (field get f fs) v
+FitsFront (field get f fs) (suc n) [] v = f.slot.meaning.means (leaf null) (get v) × FitsFront fs n [] v
+FitsFront (field get f fs) (suc n) (t ∷ ts) v = f.slot.meaning.means t (get v) × FitsFront fs n ts v
+
+pub front_start : {V : Type 0} (fs : Fields V) (ts : List Term) (v : V) → IsBlank fs v → FitsFront fs 0 ts v
+front_start none ts v b = tt
+front_start (field get f fs) ts v b = b
+
+-- a field without an item
+pub front_missing : {V : Type 0} (fs : Fields V) (n : ℕ) (ts : List Term) (v : V) (k : FieldKind) → n < length (kinds_of (slots fs)) → length ts ≤ n → is_required (get_or (kinds_of (slots fs)) n k) ≡ false → FitsFront fs n ts v → FitsFront fs (suc n) ts v
+front_missing none n ts v k l few r m = tt
+front_missing (field get f fs) zero [] v k l few r m = (m.0 r, front_start fs [] v m.1)
+front_missing (field get f fs) zero (t ∷ ts) v k l few r m = absurd (omega arith)
+front_missing (field get f fs) (suc n) [] v k l few r m = (m.0, front_missing fs n [] v k (omega arith) (omega arith) r m.1)
+front_missing (field get f fs) (suc n) (t ∷ ts) v k l few r m = (m.0, front_missing fs n ts v k (omega arith) (omega arith) r m.1)
+
+-- the next item is null
+pub front_null : {V : Type 0} (fs : Fields V) (n : ℕ) (ts : List Term) (v : V) (k : FieldKind) → n < length (kinds_of (slots fs)) → length ts ≡ n → is_required (get_or (kinds_of (slots fs)) n k) ≡ false → FitsFront fs n ts v → FitsFront fs (suc n) (ts ++ leaf null ∷ []) v
+front_null none n ts v k l e r m = tt
+front_null (field get f fs) zero [] v k l e r m = (m.0 r, front_start fs [] v m.1)
+front_null (field get f fs) zero (t ∷ ts) v k l e r m = absurd (omega arith)
+front_null (field get f fs) (suc n) [] v k l e r m = absurd (omega arith)
+front_null (field get f fs) (suc n) (t ∷ ts) v k l e r m = (m.0, front_null fs n ts v k (omega arith) (omega arith) r m.1)
+
+blank_kept : {V : Type 0} (fs : Fields V) (v w : V) → Keeps fs v w → IsBlank fs v → IsBlank fs w
+blank_kept none v w k b = tt
+blank_kept (field get f fs) v w k b = ((λ r. rw k.0 (b.0 r)), blank_kept fs v w k.1 b.1)
+
+-- the next item was read into its field
+pub front_filled : {V : Type 0} (fs : Fields V) (n : ℕ) (ts : List Term) (v w : V) (s : Standing) (t : Term) → length ts ≡ n → MeansAt fs n s t w → KeepsBut fs n v w → FitsFront fs n ts v → FitsFront fs (suc n) (ts ++ t ∷ []) w
+front_filled none n ts v w s t e a k m = absurd a
+front_filled (field get f fs) zero [] v w s t e a k m = (f.fits s t (get w) a, front_start fs [] w (blank_kept fs v w k m.1))
+front_filled (field get f fs) zero (u ∷ ts) v w s t e a k m = absurd (omega arith)
+front_filled (field get f fs) (suc n) [] v w s t e a k m = absurd (omega arith)
+front_filled (field get f fs) (suc n) (u ∷ ts) v w s t e a k m = ((rw k.0 m.0), front_filled fs n ts v w s t (omega arith) a k.1 m.1)
+
+-- all fields were gone through
+pub front_end : {V : Type 0} (fs : Fields V) (n : ℕ) (ts : List Term) (v : V) → n ≡ length (kinds_of (slots fs)) → length ts ≤ n → FitsFront fs n ts v → Fits (slots fs) ts v
+unfolding Fits
+front_end none n [] v e few m = tt
+front_end none n (t ∷ ts) v e few m = absurd (omega (arith, e))
+front_end (field get f fs) zero ts v e few m = absurd (omega (arith, e))
+front_end (field get f fs) (suc n) [] v e few m = (m.0, front_end fs n [] v (omega (arith, e)) (omega arith) m.1)
+front_end (field get f fs) (suc n) (t ∷ ts) v e few m = (m.0, front_end fs n ts v (omega (arith, e)) (omega arith) m.1)
+
+-- Of any value that the terms mean: what each field is.
+pub fits_value : {V : Type 0} (fs : Fields V) (n : ℕ) (ts : List Term) (v : V) (s : Standing) → Fits (slots fs) ts v → n < length ts → is_null (get_or ts n (leaf null)) ≡ false → MeansAt fs n s (get_or ts n (leaf null)) v
+unfolding Fits
+fits_value none n [] v s m l z = absurd (omega arith)
+fits_value none n (t ∷ ts) v s m l z = absurd m
+fits_value (field get f fs) n [] v s m l z = absurd (omega arith)
+fits_value (field get f fs) zero (t ∷ ts) v s m l z = f.is_read s t (get v) z m.0
+fits_value (field get f fs) (suc n) (t ∷ ts) v s m l z = fits_value fs n ts v s m.1 (omega arith) z
+
+pub fits_null : {V : Type 0} (fs : Fields V) (n : ℕ) (ts : List Term) (v : V) (k : FieldKind) → Fits (slots fs) ts v → n < length (kinds_of (slots fs)) → is_required (get_or (kinds_of (slots fs)) n k) ≡ true → is_null (get_or ts n (leaf null)) ≡ true → ⊥
+unfolding Fits
+fits_null none n ts v k m l r z = absurd (omega arith)
+fits_null (field get f fs) zero [] v k m l r z = f.slot.required (get v) r m.0
+fits_null (field get f fs) zero (t ∷ ts) v k m l r z = f.slot.required (get v) r (f.slot.null_alike t (get v) z m.0)
+fits_null (field get f fs) (suc n) [] v k m l r z = fits_null fs n [] v k m.1 (omega arith) r refl
+fits_null (field get f fs) (suc n) (t ∷ ts) v k m l r z = fits_null fs n ts v k m.1 (omega arith) r z
+
+pub fits_few : {V : Type 0} (fs : Fields V) (ts : List Term) (v : V) → Fits (slots fs) ts v → length ts ≤ length (kinds_of (slots fs))
+unfolding Fits
+fits_few none [] v m = omega arith
+fits_few none (t ∷ ts) v m = absurd m
+fits_few (field get f fs) [] v m = omega arith
+fits_few (field get f fs) (t ∷ ts) v m = omega (arith, fits_few fs ts v m.1)
+
+-- What was read into a field, by its number.
+pub filled_at : {V : Type 0} (fs : Fields V) (n : ℕ) (v w : V) (st b : State) → n < length (kinds_of (slots fs)) → FillsField fs n v w st (Ok tt) b → Value (MeansAt fs n) st w b × KeepsBut fs n v w
+filled_at none n v w st b l h = absurd (omega arith)
+filled_at (field get f fs) zero v w st b l h = (record { bytes = h.0.bytes; term = h.0.term; stands = h.0.stands; moved = h.0.moved; meant = h.0.meant }, h.1)
+filled_at (field get f fs) (suc n) v w st b l h =
+    let r = filled_at fs n v w st b (omega arith) h.1 in
+    (record { bytes = r.0.bytes; term = r.0.term; stands = r.0.stands; moved = r.0.moved; meant = r.0.meant }, (h.0, r.1))
+
+-- why none was
+pub unfilled_at : {V : Type 0} (fs : Fields V) (n : ℕ) (v w : V) (st : State) (e : Error) (b : State) → n < length (kinds_of (slots fs)) → FillsField fs n v w st (Err e) b → Refused (Value (MeansAt fs n)) (FaultAt fs n) st e b
+unfilled_at none n v w st e b l h = absurd (omega arith)
+unfilled_at (field get f fs) zero v w st e b l h =
+    refused_first (Value f.reads) f.fault (Value (MeansAt (field get f fs) zero)) (FaultAt (field get f fs) zero) st e b (λ x. x)
+    (λ none x c r. none (get x) c (record { bytes = r.bytes; term = r.term; stands = r.stands; moved = r.moved; meant = r.meant })) h.0
+unfilled_at (field get f fs) (suc n) v w st e b l h =
+    refused_first (Value (MeansAt fs n)) (FaultAt fs n) (Value (MeansAt (field get f fs) (suc n))) (FaultAt (field get f fs) (suc n)) st e b (λ x. x)
+    (λ none x c r. none x c (record { bytes = r.bytes; term = r.term; stands = r.stands; moved = r.moved; meant = r.meant })) (unfilled_at fs n v w st e b (omega arith) h.1)
+
+-- The kind of a field by its number, mandatory past the last one.
+abbrev pub kind_at : {V : Type 0} → Fields V → ℕ → FieldKind
+kind_at fs i = get_or (kinds_of (slots fs)) i Mandatory
+
+-- What an item means in its field: null where it may be left out, and else what the type of the field says.
+abbrev pub FitsAt : {V : Type 0} → Fields V → ℕ → Standing → Term → V → Type 0
+FitsAt fs i s t v = ((is_null t ≡ true) × (is_required (kind_at fs i) ≡ false)) ⊎ ((is_null t ≡ false) × MeansAt fs i s t v)
+
+-- An item stood next, and was read into its field.
+pub record ItemRead {V : Type 0} (fs : Fields V) (i : ℕ) (v w : V) (st b : State) : Type 0 where
+  pub bytes : List ℕ
+  pub term : Term
+  pub stands : Stands st bytes term
+  pub moved : b ≡ past (length bytes) st
+  pub fits : ((term ≡ leaf null) × (is_required (kind_at fs i) ≡ false) × (w ≡ v)) ⊎ (MeansAt fs i (standing st.top.shared bytes) term w × KeepsBut fs i v w)
+
+-- Why an item isn't read into its field: none begins, it is null where that doesn't fit, or the type of the field says.
+pub data ItemFault {V : Type 0} (fs : Fields V) (i : ℕ) (st : State) (e : Error) : Type 0 where
+  no_item : BeginFault st e → ItemFault fs i st e
+  null_item : {b : State} → Value (Means (λ (_ : Unit {0}). null)) st tt b → is_required (kind_at fs i) ≡ true → e ≡ Missing → ItemFault fs i st e
+  in_item : {c : ℕ} {mid : State} → Peeked st c mid → FaultAt fs i mid e → ItemFault fs i st e
+
+abbrev pub ReadsItem : {V : Type 0} → Fields V → ℕ → V → V → State → Result (Unit {0}) Error → State → Type 0
+ReadsItem fs i v w st (Ok u) b = ItemRead fs i v w st b
+ReadsItem fs i v w st (Err e) b = Refused (Value (FitsAt fs i)) (ItemFault fs i) st e b
+
+-- The fields up to number i were read from a list of n items.
+pub record FieldsSoFar {V : Type 0} (fs : Fields V) (st : State) (n i : ℕ) (v : V) (now_ : State) : Type 0 where
+  pub first : State
+  pub opens : Opens list st n first
+  pub terms : List Term
+  pub each : StandEach first terms now_
+  pub long : length terms ≡ min i n
+  pub front : FitsFront fs i terms v
+
+-- A list stood next that is the fields of the value.
+pub record FieldsRead {V : Type 0} (fs : Fields V) (st : State) (v : V) (b : State) : Type 0 where
+  pub terms : List Term
+  pub stand : ListStands st terms b
+  pub fits : Fits (slots fs) terms v
+
+-- Why no fields are read.
+pub data FieldsFault {V : Type 0} (fs : Fields V) (st : State) (e : Error) : Type 0 where
+  no_list : OpenFault list st e → FieldsFault fs st e
+  at_item : {n i : ℕ} {v : V} {mid : State} → FieldsSoFar fs st n i v mid → i < n → i < length (kinds_of (slots fs)) → ItemFault fs i mid e → FieldsFault fs st e
+  left_out : {n i : ℕ} {v : V} {mid : State} → FieldsSoFar fs st n i v mid → n ≤ i → i < length (kinds_of (slots fs)) → is_required (kind_at fs i) ≡ true → e ≡ Missing → FieldsFault fs st e
+  not_ended : {n : ℕ} {v : V} {mid : State} → FieldsSoFar fs st n (length (kinds_of (slots fs))) v mid → CloseFault InList mid e → FieldsFault fs st e

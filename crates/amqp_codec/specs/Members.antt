@@ -1,0 +1,185 @@
+-- A value that is one of several composites is read by the descriptor that stands there (Part 1, section 1.4).
+use Rattle.std.proofs.Common.{◌≡◌, ◌⊎◌, inl, inr, ℕ, suc, nat_lt, not, ◌+◌, ◌<◌, ◌≤◌, Bool, true, false, cond, eqb, List, [], ◌∷◌, ◌++◌, length, map, drop, position, option_map, Option, Some, None, refl, sym, ap, ap₂, ◌∙◌, subst, arith}
+use Rattle.std.specs.List.{position_or_len}
+use Rattle.std.specs.Str.{bytes_eq}
+use Rattle.std.proofs.lemmas.List.Quantifiers.{position-Some}
+use Rattle.amqp_model.specs.Term.{Descriptor, name, code, Term, described}
+use Rattle.amqp_model.specs.Standing.{Standing}
+use Rattle.amqp_model.proofs.Same.{names_same}
+use Rattle.amqp_wire.specs.declared.error.Error.{Error}
+use Rattle.amqp_decoder.specs.declared.frame.Place.TheVariants.{InDescribed}
+use Rattle.amqp_decoder.specs.State.{State, on, past}
+use Rattle.amqp_decoder.specs.Reading.{Refused}
+use Rattle.amqp_decoder.specs.Primitives.{standing, Stands, Value}
+use Rattle.amqp_decoder.specs.Containers.{ClosesDescribed, EndFault}
+use Rattle.amqp_decoder.specs.Described.{IsDescriptor, entered, TookDescriptor, OpensDescribed, Member, is_of, place_of, OpensOneOf, OneOfFault}
+use Rattle.amqp_decoder.proofs.Leaves.{begun_same}
+use Rattle.amqp_codec.specs.Reading.{stands_one}
+use Rattle.amqp_codec.specs.Refused.{refused_first, refused_later}
+use Rattle.amqp_codec.specs.Descriptions.{described_term, term_described}
+
+-- The members: their codes and names in order, and how what each describes is read.
+pub record Members (V : Type 0) : Type 1 where
+  pub names : List (ℕ × List ℕ)
+  pub reads : ℕ → State → V → State → Type 0
+  pub fault : ℕ → State → Error → Type 0
+
+abbrev pub is_named : Descriptor → ℕ × List ℕ → Bool
+is_named (code n) m = eqb m.0 n
+is_named (name s) m = bytes_eq m.1 s
+
+-- The place of the first member that the descriptor names.
+abbrev pub name_place : List (ℕ × List ℕ) → Descriptor → Option ℕ
+name_place ns d = position (is_named d) ns
+
+-- A pair as its code and its name.
+abbrev pub as_name : Member → ℕ × List ℕ
+as_name m = (m.0, m.1.now)
+
+-- A member stood next.
+pub record MemberRead {V : Type 0} (m : Members V) (st : State) (v : V) (b : State) : Type 0 where
+  pub descriptor : Descriptor
+  pub place : ℕ
+  pub is : name_place m.names descriptor ≡ Some place
+  pub inner : State
+  pub opens : OpensDescribed st descriptor inner
+  pub last : State
+  pub read : m.reads place inner v last
+  pub closes : ClosesDescribed InDescribed last b
+
+-- Why none is read.
+pub data MemberFault {V : Type 0} (m : Members V) (st : State) (e : Error) : Type 0 where
+  no_member : {ms : List Member} → map as_name ms ≡ m.names → OneOfFault ms st e → MemberFault m st e
+  in_member : {d : Descriptor} {i : ℕ} {inner : State} → OpensDescribed st d inner → name_place m.names d ≡ Some i → m.fault i inner e → MemberFault m st e
+  not_ended : {d : Descriptor} {i : ℕ} {inner last : State} {v : V} → OpensDescribed st d inner → name_place m.names d ≡ Some i → m.reads i inner v last → EndFault InDescribed last e → MemberFault m st e
+
+-- What was read behind the descriptor of a member is one term.
+pub record TermRead {V : Type 0} (m : Members V) (means : Standing → Term → V → Type 0) (i : ℕ) (inner : State) (v : V) (last : State) : Type 0 where
+  pub bytes : List ℕ
+  pub term : Term
+  pub stands : Stands inner bytes term
+  pub moved : last ≡ past (length bytes) inner
+  pub going : last.error ≡ None
+  pub meant : (d : Descriptor) (s : Standing) → name_place m.names d ≡ Some i → means s (described d term) v
+
+-- A term that means the value is described as a member.
+pub record TermMeant {V : Type 0} (m : Members V) (t : Term) (v : V) : Type 0 where
+  pub descriptor : Descriptor
+  pub described_ : Term
+  pub place : ℕ
+  pub is : t ≡ described descriptor described_
+  pub named : name_place m.names descriptor ≡ Some place
+  pub read : (inner : State) (z : List ℕ) → Stands inner z described_ → m.reads place inner v (past (length z) inner)
+
+-- The values are the members.
+pub record IsSum {V : Type 0} (m : Members V) (means : Standing → Term → V → Type 0) : Type 0 where
+  pub to_term : (i : ℕ) (inner : State) (v : V) (last : State) → m.reads i inner v last → TermRead m means i inner v last
+  pub from_term : (s : Standing) (t : Term) (v : V) → means s t v → TermMeant m t v
+
+length_names : (ms : List Member) → length ms ≡ length (map as_name ms)
+length_names [] = refl
+length_names (m ∷ ms) = ap suc (length_names ms)
+
+first_named : (d : Descriptor) (ms : List Member) → position_or_len (is_of d) ms ≡ position_or_len (is_named d) (map as_name ms)
+first_named d [] = refl
+first_named (code n) (m ∷ ms) = ap (λ k. cond (not (eqb m.0 n)) (1 + k) 0) (first_named (code n) ms)
+first_named (name s) (m ∷ ms) = ap (λ k. cond (not (bytes_eq m.1.now s)) (1 + k) 0) (first_named (name s) ms)
+
+place_is : (d : Descriptor) (ms : List Member) → place_of ms d ≡ name_place (map as_name ms) d
+place_is d ms = ap₂ (λ k n. cond (nat_lt k n) (Some k) None) (first_named d ms) (length_names ms)
+
+took_same : (o : Option (List Descriptor × ℕ)) (d e : Descriptor) (own other x y : List ℕ) → IsDescriptor o d own → IsDescriptor o e other → own ++ x ≡ other ++ y → (own ≡ other) × (d ≡ e)
+took_same None d e own other x y h k f = names_same d e own other x y h k f
+took_same (Some ([], c)) d e own other x y h k f = absurd h
+took_same (Some (g ∷ ds, c)) d e own other x y h k f = (h.0 ∙ sym k.0, h.1 ∙ sym k.1)
+
+-- one described value is opened at a place
+pub described_same : (st : State) (d e : Descriptor) (a b : State) → OpensDescribed st d a → OpensDescribed st e b → (d ≡ e) × (a ≡ b)
+described_same st d e a b h k =
+    let s = begun_same st 0 0 h.coded k.coded h.begun k.begun in
+    let t : TookDescriptor k.coded d h.named = subst (λ (x : State). TookDescriptor x d h.named) s.1 h.descriptor in
+    let r = took_same k.coded.top.shared d e t.own k.descriptor.own (drop (length t.own) k.coded.rest) (drop (length k.descriptor.own) k.coded.rest) t.descriptor k.descriptor.descriptor (sym t.took.rest ∙ k.descriptor.took.rest) in
+    let named : h.named ≡ k.named = t.took.moved ∙ ap (λ o. on (length o) k.coded) r.0 ∙ sym k.descriptor.took.moved in
+    (r.1, h.opened ∙ ap entered named ∙ sym k.opened)
+
+one_place : {i j : ℕ} {o p : Option ℕ} → o ≡ p → o ≡ Some i → p ≡ Some j → i ≡ j
+one_place {i} {j} e f g = ap (λ x. Rattle.std.proofs.Common.unwrap_or x i) (sym f ∙ e ∙ g)
+
+module _ {V : Type 0} (m : Members V) (means : Standing → Term → V → Type 0) (sum : IsSum m means) where
+  pub to_value : (st : State) (v : V) (b : State) → st.nesting ≡ 128 → MemberRead m st v b → Value means st v b
+  to_value st v b bound h =
+      let t = sum.to_term h.place h.inner v h.last h.read in
+      let closes : ClosesDescribed InDescribed (past (length t.bytes) h.inner) b = subst (λ (x : State). ClosesDescribed InDescribed x b) t.moved h.closes in
+      let r = described_term st h.descriptor t.term b (omega (arith, bound)) (record { inner = h.inner; opens = h.opens; bytes = t.bytes; stands = t.stands; closes = closes }) in
+      record { bytes = r.0; term = described h.descriptor t.term; stands = r.1; moved = r.2; meant = t.meant h.descriptor (standing st.top.shared r.0) h.is }
+
+  pub from_value : (st : State) (v : V) (b : State) → Value means st v b → MemberRead m st v b
+  from_value st v b h =
+      let t = sum.from_term (standing st.top.shared h.bytes) h.term v h.meant in
+      let k = term_described st h.bytes t.descriptor t.described_ (subst (λ x. Stands st h.bytes x) t.is h.stands) in
+      record {
+        descriptor = t.descriptor;
+        place = t.place;
+        is = t.named;
+        inner = k.inner;
+        opens = k.opens;
+        last = past (length k.bytes) k.inner;
+        read = t.read k.inner k.bytes k.stands;
+        closes = subst (λ (x : State). ClosesDescribed InDescribed (past (length k.bytes) k.inner) x) (sym h.moved) k.closes;
+      }
+
+  -- none of the members is opened
+  pub unopened : (ms : List Member) (st : State) (e : Error) (new : State) → map as_name ms ≡ m.names → Refused (OpensOneOf ms) (OneOfFault ms) st e new → Refused (Value means) (MemberFault m) st e new
+  unopened ms st e new names r =
+      refused_first (OpensOneOf ms) (OneOfFault ms) (Value means) (MemberFault m) st e new (no_member names)
+      (λ none v b h.
+      let k = from_value st v b h in
+      none k.place k.inner (record { descriptor = k.descriptor; place = place_is k.descriptor ms ∙ ap (λ ns. name_place ns k.descriptor) names ∙ k.is; opens = k.opens }))
+      r
+
+  pub opened_place : (ms : List Member) (st : State) (i : ℕ) (inner : State) → map as_name ms ≡ m.names → (o : OpensOneOf ms st i inner) → name_place m.names o.descriptor ≡ Some i
+  opened_place ms st i inner names o = sym (place_is o.descriptor ms ∙ ap (λ ns. name_place ns o.descriptor) names) ∙ o.place
+
+  pub opened_going : (ms : List Member) (st : State) (i : ℕ) (inner : State) → OpensOneOf ms st i inner → (st.error ≡ None) × (inner.error ≡ None)
+  opened_going ms st i inner o =
+      let going = o.opens.begun.going in
+      (going, ap (λ (x : State). x.error) o.opens.opened ∙ ap (λ (x : State). x.error) o.opens.descriptor.took.moved ∙ ap (λ (x : State). x.error) o.opens.begun.moved ∙ going)
+
+  -- what a member describes isn't read
+  pub unread : (ms : List Member) (st : State) (i : ℕ) (inner : State) (e : Error) (new : State) → map as_name ms ≡ m.names → OpensOneOf ms st i inner → Refused (m.reads i) (m.fault i) inner e new → Refused (Value means) (MemberFault m) st e new
+  unread ms st i inner e new names o r =
+      let going = opened_going ms st i inner o in
+      let at = opened_place ms st i inner names o in
+      refused_later (m.reads i) (m.fault i) (Value means) (MemberFault m) st inner e new going.0 going.1 (in_member o.opens at)
+      (λ none v b h.
+      let k = from_value st v b h in
+      let s = described_same st k.descriptor o.descriptor k.inner inner k.opens o.opens in
+      let p = one_place (ap (name_place m.names) s.0) k.is at in
+      none v k.last (subst (λ x. m.reads x inner v k.last) p (subst (λ (x : State). m.reads k.place x v k.last) s.1 k.read)))
+      r
+
+  -- the described value isn't ended
+  pub unended : (ms : List Member) (st : State) (i : ℕ) (inner last : State) (v : V) (e : Error) (new : State) → map as_name ms ≡ m.names → OpensOneOf ms st i inner → m.reads i inner v last
+      → Refused (λ st (_ : Unit {0}) b. ClosesDescribed InDescribed st b) (EndFault InDescribed) last e new → Refused (Value means) (MemberFault m) st e new
+  unended ms st i inner last v e new names o q r =
+      let going = opened_going ms st i inner o in
+      let at = opened_place ms st i inner names o in
+      let t = sum.to_term i inner v last q in
+      refused_later (λ st (_ : Unit {0}) b. ClosesDescribed InDescribed st b) (EndFault InDescribed) (Value means) (MemberFault m) st last e new going.0 t.going (not_ended o.opens at q)
+      (λ none w b h.
+      let k = from_value st w b h in
+      let s = described_same st k.descriptor o.descriptor k.inner inner k.opens o.opens in
+      let u = sum.to_term k.place k.inner w k.last k.read in
+      let same = stands_one inner u.bytes t.bytes u.term t.term (subst (λ (x : State). Stands x u.bytes u.term) s.1 u.stands) t.stands in
+      let ends : k.last ≡ last = u.moved ∙ ap₂ (λ n (x : State). past n x) (ap length same.0) s.1 ∙ sym t.moved in
+      none tt b (subst (λ (x : State). ClosesDescribed InDescribed x b) ends k.closes))
+      r
+
+  -- a member was read
+  pub read_whole : (ms : List Member) (st : State) (i : ℕ) (inner last : State) (v : V) (b : State) → map as_name ms ≡ m.names → st.nesting ≡ 128 → OpensOneOf ms st i inner → m.reads i inner v last → ClosesDescribed InDescribed last b → Value means st v b
+  read_whole ms st i inner last v b names bound o q c =
+      to_value st v b bound (record { descriptor = o.descriptor; place = i; is = opened_place ms st i inner names o; inner = inner; opens = o.opens; last = last; read = q; closes = c })
+
+  -- the place is one of a member
+  pub within : (ms : List Member) (st : State) (i : ℕ) (inner : State) → map as_name ms ≡ m.names → OpensOneOf ms st i inner → i < length m.names
+  within ms st i inner names o = (position-Some (is_named o.descriptor) m.names i (0, []) (opened_place ms st i inner names o)).0

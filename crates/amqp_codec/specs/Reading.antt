@@ -1,0 +1,126 @@
+-- What it is to read a value of a type: from which state of a decoder, and what state is left.
+use Rattle.std.proofs.Common.{◌≡◌, inl, inr, ℕ, ◌+◌, ◌≤◌, false, List, [], ◌++◌, length, Option, Some, None, ◌⊎◌, refl, sym, ap, ◌∙◌, subst, arith, ◌-◌, length-append}
+use Rattle.std.proofs.lemmas.List.{length-drop}
+use Rattle.amqp_model.specs.Term.{Term, Descriptor}
+use Rattle.amqp_model.specs.Spelling.{enc}
+use Rattle.amqp_model.specs.Standing.{Standing}
+use Rattle.amqp_model.proofs.Unique.{fronts, data_same}
+use Rattle.amqp_model.proofs.Count.{nodes_bounded}
+use Rattle.amqp_wire.specs.declared.error.Error.{Error}
+use Rattle.amqp_wire.specs.declared.error.Error.TheVariants.{Memory}
+use Rattle.amqp_decoder.specs.State.{State, past, top_level}
+use Rattle.amqp_decoder.specs.Steps.{Excused}
+use Rattle.amqp_decoder.specs.Reading.{Refused}
+use Rattle.amqp_decoder.specs.Primitives.{standing, SpellsAs, Stands, Value}
+use Rattle.amqp_codec.specs.TermType.{TermType}
+
+pub record Reading (T : Type 0) : Type 1 where
+  -- the two differ at most in where they lie in memory
+  pub same : T → T → Type 0
+  -- from the first state the value is read, and the second is left
+  pub reads : State → T → State → Type 0
+  -- the error names a fault that stands there
+  pub fault : State → Error → Type 0
+  -- the values in it
+  pub count : T → ℕ
+  pub same_sym : (v w : T) → same v w → same w v
+  pub same_trans : (v w x : T) → same v w → same w x → same v x
+  pub one : (st : State) (v w : T) (a b : State) → reads st v a → reads st w b → same v w × (a ≡ b)
+  pub going : (st : State) (v : T) (b : State) → reads st v b → st.error ≡ None
+  pub counted : (st : State) (v : T) (b : State) → st.top.shared ≡ None → reads st v b → count v + length b.rest ≤ length st.rest
+
+fronts_by : (shared : Option (List Descriptor × ℕ)) (s z x y : List ℕ) (t u : Term) → SpellsAs (standing shared s) t → SpellsAs (standing shared z) u → s ++ x ≡ z ++ y → (s ≡ z) × (t ≡ u)
+fronts_by None s z x y t u h k e = fronts s z x y t u h k e
+fronts_by (Some (ds, c)) s z x y t u h k e = data_same t u ds c s z x y h k e
+
+-- one term stands next
+pub stands_one : (st : State) (s z : List ℕ) (t u : Term) → Stands st s t → Stands st z u → (s ≡ z) × (t ≡ u)
+stands_one st s z t u h k = fronts_by st.top.shared s z h.after k.after t u h.spelled k.spelled (sym h.rest ∙ k.rest)
+
+-- what is read is one value, and leaves one state
+pub value_one : {T : Type 0} (same : T → T → Type 0) (means : Standing → Term → T → Type 0) → ((s : Standing) (t : Term) (v w : T) → means s t v → means s t w → same v w)
+    → (st : State) (v w : T) (a b : State) → Value means st v a → Value means st w b → same v w × (a ≡ b)
+value_one same means one st v w a b h k =
+    let r = stands_one st h.bytes k.bytes h.term k.term h.stands k.stands in
+    let m : means (standing st.top.shared k.bytes) k.term v =
+    subst (λ s. means (standing st.top.shared s) k.term v) r.0 (subst (λ t. means (standing st.top.shared h.bytes) t v) r.1 h.meant) in
+    (one (standing st.top.shared k.bytes) k.term v w m k.meant, h.moved ∙ ap (λ s. past (length s) st) r.0 ∙ sym k.moved)
+
+value_left : {T : Type 0} (means : Standing → Term → T → Type 0) (st : State) (v : T) (b : State) (h : Value means st v b) → length h.bytes + length b.rest ≡ length st.rest
+value_left means st v b h =
+    omega (arith, ap (λ (x : State). length x.rest) h.moved, length-drop (length h.bytes) st.rest, ap length h.stands.rest, length-append h.bytes h.stands.after)
+
+spelled_whole : (shared : Option (List Descriptor × ℕ)) (s : List ℕ) (t : Term) → shared ≡ None → SpellsAs (standing shared s) t → enc s t
+spelled_whole None s t e h = h
+spelled_whole (Some x) s t e h = absurd (cc)
+
+pub value_counted : {T : Type 0} (u : TermType T) (st : State) (v : T) (b : State) → st.top.shared ≡ None → Value u.means st v b → u.count v + length b.rest ≤ length st.rest
+value_counted u st v b n h =
+    omega (
+      arith,
+      value_left u.means st v b h,
+      u.counted (standing st.top.shared h.bytes) h.term v h.meant,
+      nodes_bounded h.bytes h.term (spelled_whole st.top.shared h.bytes h.term n h.stands.spelled),
+    )
+
+-- The reading of a type of terms.
+abbrev pub reading_of : {T : Type 0} → TermType T → Reading T
+reading_of u = record {
+  same = u.same;
+  reads = Value u.means;
+  fault = u.fault;
+  count = u.count;
+  same_sym = u.same_sym;
+  same_trans = u.same_trans;
+  one = value_one u.same u.means u.one;
+  going = λ st v b h. h.stands.going;
+  counted = value_counted u;
+}
+
+-- A type reads as its terms say.
+pub record ReadsTerms {T : Type 0} (u : TermType T) (r : Reading T) : Type 0 where
+  pub to_value : (st : State) (v : T) (b : State) → r.reads st v b → Value u.means st v b
+  pub from_value : (st : State) (v : T) (b : State) → Value u.means st v b → r.reads st v b
+  pub to_fault : (st : State) (e : Error) → r.fault st e → u.fault st e
+  pub to_same : (v w : T) → r.same v w → u.same v w
+
+pub reads_terms : {T : Type 0} (u : TermType T) → ReadsTerms u (reading_of u)
+reads_terms u = record { to_value = λ st v b h. h; from_value = λ st v b h. h; to_fault = λ st e h. h; to_same = λ v w h. h }
+
+-- A decoder at the start of an input.
+abbrev pub start : List ℕ → State
+start input = record { rest = input; ahead = 0; source = 0; top = top_level; saved = []; nesting = 128; error = None; failed = false }
+
+-- The input begins with n bytes that are read as the value.
+pub record IsRead {T : Type 0} (r : Reading T) (input : List ℕ) (v : T) (n : ℕ) : Type 0 where
+  pub after : State
+  pub read : r.reads (start input) v after
+  pub left : length after.rest + n ≡ length input
+
+-- The input begins with no value, and has the fault.
+pub record Unreadable {T : Type 0} (r : Reading T) (input : List ℕ) (e : Error) : Type 0 where
+  pub fault : r.fault (start input) e
+  pub none : (v : T) (n : ℕ) → IsRead r input v n → ⊥
+
+-- one value at most, and its length
+pub read_one : {T : Type 0} (r : Reading T) (input : List ℕ) (v w : T) (n m : ℕ) → IsRead r input v n → IsRead r input w m → r.same v w × (n ≡ m)
+read_one r input v w n m h k =
+    let u = r.one (start input) v w h.after k.after h.read k.read in
+    (u.0, omega (arith, h.left, k.left, ap (λ (x : State). length x.rest) u.1))
+
+pub read_bounded : {T : Type 0} (r : Reading T) (input : List ℕ) (v : T) (b : State) → r.reads (start input) v b → r.count v + length b.rest ≤ length input
+read_bounded r input v b h = r.counted (start input) v b refl h
+
+pub is_read : {T : Type 0} (r : Reading T) (input : List ℕ) (v : T) (b : State) (n : ℕ) → r.reads (start input) v b → n ≡ length input - length b.rest → IsRead r input v n
+is_read r input v b n h e = record { after = b; read = h; left = omega (arith, e, read_bounded r input v b h) }
+
+-- after a refusal from a source that never fails, nothing can be read, or memory ran out
+pub refused_read : {T : Type 0} (r : Reading T) (input : List ℕ) (e : Error) (b : State) → b.failed ≡ false → Refused r.reads r.fault (start input) e b → (e ≡ Memory) ⊎ Unreadable r input e
+refused_read {T} r input e b sound h = go (h.named refl) h.none
+  where
+    go : Excused e b ⊎ r.fault (start input) e → Excused e b ⊎ ((v : T) (st : State) → r.reads (start input) v st → ⊥) → (e ≡ Memory) ⊎ Unreadable r input e
+    go (inl (inl x)) n = inl x
+    go (inl (inr x)) n = absurd (let y = x.1 in cc)
+    go (inr f) (inl (inl x)) = inl x
+    go (inr f) (inl (inr x)) = absurd (let y = x.1 in cc)
+    go (inr f) (inr n) = inr (record { fault = f; none = λ v m k. n v k.after k.read })

@@ -1,0 +1,56 @@
+-- What writing a value is, in the terms that it is written as.
+use Rattle.std.specs.Prelude.{◌≡◌, ◌⊎◌, ℕ, ◌<◌, List, length, Result}
+use Rattle.amqp_model.specs.Term.{Term, Terms, kept, count}
+use Rattle.amqp_model.specs.Spelling.{enc}
+use Rattle.amqp_model.specs.Measures.{nest, nests}
+use Rattle.amqp_model.specs.Ranges.{EverywhereIn, IsValue}
+use Rattle.amqp_model.specs.Refusals.{SomewhereIn}
+use Rattle.amqp_model.specs.Kept.{ReadsEach}
+use Rattle.amqp_model.specs.Items.{terms_of}
+use Rattle.amqp_wire.specs.declared.error.Error.{Error}
+use Rattle.amqp_wire.specs.declared.error.Error.TheVariants.{Depth, TooLarge}
+use Rattle.amqp_encoder.specs.declared.encoder.Encoder.{Encoder}
+use Rattle.amqp_encoder.specs.declared.size.Size.{Size}
+use Rattle.amqp_encoder.specs.Measuring.{MAX}
+use Rattle.amqp_encoder.specs.Passes.{row_text, row_tokens, IsMeasured}
+use Rattle.amqp_encoder.specs.Reasons.{HasReason}
+use Rattle.amqp_encoder.specs.Writes.{Writes}
+
+-- bytes that are kept nest as deep as what they spell
+abbrev pub KnowsDepth : (List ℕ → ℕ) → Term → Type 0
+KnowsDepth deep (kept b) = (t : Term) → enc b t → deep b ≡ nest t
+KnowsDepth deep _ = Unit {0}
+
+abbrev pub KnowDepths : (List ℕ → ℕ) → List Term → Type 0
+KnowDepths deep ts = EverywhereIn (KnowsDepth deep) (terms_of ts)
+
+-- The calls for the terms were made in their order, up to a refusal.
+pub record WritesTerms (ts : List Term) (old : Encoder) (result : Result (Unit {0}) Error) (new : Encoder) : Type 0 where
+  pub calls : (deep : List ℕ → ℕ) → KnowDepths deep ts → Writes old (row_tokens deep ts) result new
+
+-- What a canonical term itself needs, its parts aside: a number or text of its type, a value for each key of a map;
+-- and bytes that are kept spell a term.
+abbrev pub IsProper : Term → Type 0
+IsProper (kept b) = (t : Term) × enc b t
+IsProper t = IsValue t
+
+abbrev pub AreProper : List Term → Type 0
+AreProper ts = EverywhereIn IsProper (terms_of ts)
+
+-- they read as terms that nest deeper than 128
+abbrev pub AreTooDeep : List Term → Type 0
+AreTooDeep ts = (us : Terms) × ReadsEach (terms_of ts) us × (128 < nests us)
+
+-- Why terms in a row aren't written: a term in them is refused for the reason, or they nest too deep,
+-- or are too long or too many.
+abbrev pub AreUnwritable : List Term → Error → Type 0
+AreUnwritable ts e =
+    SomewhereIn (HasReason e) (terms_of ts)
+    ⊎ (((e ≡ Depth) × AreTooDeep ts) ⊎ ((e ≡ TooLarge) × ((MAX < length (row_text ts)) ⊎ (MAX < count (terms_of ts)))))
+
+abbrev pub AreWritable : List Term → Type 0
+AreWritable ts = (e : Error) → AreUnwritable ts e → ⊥
+
+-- The terms can be written, and take so many bytes and these sizes.
+abbrev pub AreMeasured : List Term → ℕ → List Size → Type 0
+AreMeasured ts len sizes = (deep : List ℕ → ℕ) → KnowDepths deep ts → IsMeasured deep ts len sizes
