@@ -31,8 +31,8 @@ piece_more a b c bytes m n h k =
     (appends_more a b c (take m bytes) (take n (drop m bytes)) h (subst (λ l. Appends b c (take n l)) (take_all (length bytes - m) (drop m bytes) (omega (arith, length-drop m bytes))) k))
 
 pub is_answer : (line : List ℕ) (answer : Answer) → AnswersLine line answer → IsAnswer line (printed_of answer) (is_good answer)
-is_answer line (Rewritten text left) (named, input, asks, l) = rewritten named input text.items left asks l
-is_answer line (Refused e) (named, input, asks) = refused named input e asks
+is_answer line (Rewritten text left) (named, input, n, asks, t, l) = rewritten named input text.items n left asks t l
+is_answer line (Refused e) (named, input, asks, why) = refused named input e asks why
 is_answer line NoRequest h = other h
 
 and_assoc : (a b c : Bool) → ((a && b) && c) ≡ (a && (b && c))

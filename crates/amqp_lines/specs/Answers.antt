@@ -1,8 +1,14 @@
 -- What a line asks for, and what it is answered.
-use Rattle.std.specs.Prelude.{◌≡◌, ◌⊎◌, ℕ, ◌≤◌, Bool, true, false, ◌&&◌, List, [], ◌∷◌, ◌++◌, length, codes, Ok}
+use Rattle.std.specs.Prelude.{◌≡◌, ◌⊎◌, ℕ, ◌+◌, Bool, true, false, ◌&&◌, List, [], ◌∷◌, ◌++◌, length, codes, Ok}
 use Rattle.std.specs.Fmt.{decimal}
 use Rattle.hex.specs.Hex.{decode_of, encode_lower}
 use Rattle.amqp_wire.specs.declared.error.Error.{Error}
+use Rattle.amqp_wire.specs.declared.error.Error.TheVariants.{Memory}
+use Rattle.amqp_codec.specs.TermType.{TermType}
+use Rattle.amqp_codec.specs.Composite.{composite}
+use Rattle.amqp_codec.specs.Reading.{reading_of, Unreadable}
+use Rattle.amqp_codec.specs.Rewritten.{IsRewritten, Unwritten}
+use Rattle.amqp_delivery.specs.Tables.{accepted, received, delivery_state}
 use Rattle.amqp_wire.specs.Error.{number_of, name_of}
 use Rattle.amqp_lines.specs.Lines.{TakesLine}
 use Rattle.amqp_lines.specs.declared.answer.Answer.{Answer}
@@ -39,11 +45,30 @@ no_line e = codes "no " ++ (decimal (number_of e) ++ (32 ∷ (name_of e ++ (10 �
 abbrev pub other_line : List ℕ
 other_line = codes "no 0 Line\n"
 
--- The line is answered so, and this says whether that is `ok`. (Which text, how many bytes are left and which error are
--- those of the call that rewrites the bytes.)
+-- The text is the canonical one of the value that the first n bytes of the input are read as.
+abbrev pub TextOf : {T : Type 0} → TermType T → List ℕ → List ℕ → ℕ → Type 0
+TextOf u input text n = IsRewritten (reading_of u) (λ v. u.canon v ∷ []) input text n
+
+-- No value can be read there, and the input has the fault; or what is read can't be written.
+abbrev pub NoTextOf : {T : Type 0} → TermType T → List ℕ → Error → Type 0
+NoTextOf u input e = Unreadable (reading_of u) input e ⊎ Unwritten (reading_of u) (λ v. u.canon v ∷ []) input e
+
+-- The same of the type with that name.
+abbrev pub IsText : TypeName → List ℕ → List ℕ → ℕ → Type 0
+IsText Accepted = TextOf (composite accepted)
+IsText DeliveryState = TextOf delivery_state
+IsText Received = TextOf (composite received)
+
+abbrev pub HasNoText : TypeName → List ℕ → Error → Type 0
+HasNoText Accepted = NoTextOf (composite accepted)
+HasNoText DeliveryState = NoTextOf delivery_state
+HasNoText Received = NoTextOf (composite received)
+
+-- The line is answered so, and this says whether that is `ok`: by the canonical text and the number of the bytes behind
+-- the value, or by why there is none, which may be want of memory.
 pub data IsAnswer (line : List ℕ) : List ℕ → Bool → Type 0 where
-  rewritten : (named : TypeName) (input : List ℕ) (text : List ℕ) (left : ℕ) → Asks line named input → left ≤ length input → IsAnswer line (ok_line text left) true
-  refused : (named : TypeName) (input : List ℕ) (e : Error) → Asks line named input → IsAnswer line (no_line e) false
+  rewritten : (named : TypeName) (input : List ℕ) (text : List ℕ) (n left : ℕ) → Asks line named input → IsText named input text n → left + n ≡ length input → IsAnswer line (ok_line text left) true
+  refused : (named : TypeName) (input : List ℕ) (e : Error) → Asks line named input → (e ≡ Memory) ⊎ HasNoText named input e → IsAnswer line (no_line e) false
   other : ((named : TypeName) (input : List ℕ) → Asks line named input → ⊥) → IsAnswer line other_line false
 
 -- Line by line the input is answered by the output, and this says whether all answers are `ok`.
@@ -64,6 +89,6 @@ is_good NoRequest = false
 
 -- It answers the line.
 abbrev pub AnswersLine : List ℕ → Answer → Type 0
-AnswersLine line (Rewritten text left) = (named : TypeName) × (input : List ℕ) × Asks line named input × (left ≤ length input)
-AnswersLine line (Refused e) = (named : TypeName) × (input : List ℕ) × Asks line named input
+AnswersLine line (Rewritten text left) = (named : TypeName) × (input : List ℕ) × (n : ℕ) × Asks line named input × IsText named input text.items n × (left + n ≡ length input)
+AnswersLine line (Refused e) = (named : TypeName) × (input : List ℕ) × Asks line named input × ((e ≡ Memory) ⊎ HasNoText named input e)
 AnswersLine line NoRequest = (named : TypeName) (input : List ℕ) → Asks line named input → ⊥

@@ -1,7 +1,7 @@
 //! One line that asks for the canonical text of a value.
-ghost use Rattle.std.specs.Prelude.{◌≡◌, ◌≤◌, ℕ, List, length, IfOk, IfErr, MatchOption};
+ghost use Rattle.std.specs.Prelude.{◌≡◌, ◌≤◌, ◌⊎◌, ℕ, List, length, IfOk, IfErr, MatchOption};
 ghost use Rattle.amqp_wire.specs.declared.error.Error.TheVariants.{Memory};
-ghost use Rattle.amqp_lines.specs.Answers.{type_name, StandsFor, Asks};
+ghost use Rattle.amqp_lines.specs.Answers.{type_name, StandsFor, Asks, IsText, HasNoText};
 ghost use Rattle.amqp_lines.specs.declared.request.TypeName.{TypeName};
 
 use fe2o3_amqp_types::codec::{Error, canonical_text};
@@ -34,7 +34,10 @@ impl TypeName {
         self,
         input: &[u8],
         alloc: Global,
-    ) -> Result<(Vec<u8>, usize), Error> {
+    ) -> Result<(Vec<u8>, usize), Error>
+        ensures text { IfOk result (λ r. IsText self input.now r.0.items r.1) }
+        ensures refused { IfErr result (λ e. (e ≡ Memory) ⊎ HasNoText self input.now e) }
+    {
         match self {
             TypeName::Accepted => canonical_text::<Accepted>(input, alloc),
             TypeName::DeliveryState => canonical_text::<DeliveryState>(input, alloc),
