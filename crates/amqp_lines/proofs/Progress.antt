@@ -1,6 +1,6 @@
 -- How the answers grow, line by line.
-use Rattle.std.proofs.Common.{◌≡◌, ℕ, ◌+◌, ◌-◌, Bool, true, false, ◌&&◌, List, [], ◌++◌, length, take, drop, Option, Some, None, refl, sym, ap, ◌∙◌, subst, arith, append_assoc, append-nil, MatchOption, IfSome}
-use Rattle.std.proofs.lemmas.List.{take_all, length-drop}
+use Rattle.std.proofs.Common.{◌≡◌, ◌∷◌, ℕ, ◌+◌, ◌-◌, ◌≤◌, inl, inr, Bool, true, false, ◌&&◌, List, [], ◌++◌, length, take, drop, Option, Some, None, refl, sym, ap, ◌∙◌, subst, arith, append_assoc, append-nil, MatchOption, IfSome}
+use Rattle.std.proofs.lemmas.List.{take_all, length-drop, length-append}
 use Rattle.std.proofs.Math.Seq.{take-add}
 use Rattle.std.specs.Io.KnownBytes.{Appends, Keeps}
 use Rattle.amqp_lines.specs.Lines.{TakesLine}
@@ -43,8 +43,13 @@ and_true : (a : Bool) → (a && true) ≡ a
 and_true true = refl
 and_true false = refl
 
--- The output answers the lines up to here: with the answers to the rest it answers all.
-pub record Progress (input now before after : Option (List ℕ)) (all : Bool) : Type 0 where
+-- So many lines at least were taken.
+abbrev pub IsShorter : Option (List ℕ) → Option (List ℕ) → ℕ → Type 0
+IsShorter input now n = IfSome input (λ xs. MatchOption now ⊥ (λ rest. n + length rest ≤ length xs))
+
+-- The output answers the lines up to here, which are so many: with the answers to the rest it answers all.
+pub record Progress (input now before after : Option (List ℕ)) (n : ℕ) (all : Bool) : Type 0 where
+  pub counted : IsShorter input now n
   pub output : List ℕ
   pub appended : Appends before after output
   pub answered : IfSome input (λ xs. MatchOption now ⊥ (λ rest. (o : List ℕ) (a : Bool) → AreAnswers rest o a → AreAnswers xs (output ++ o) (all && a)))
@@ -54,8 +59,30 @@ begun_at None now k = tt
 begun_at (Some xs) None k = k
 begun_at (Some xs) (Some rest) k = λ o a h. subst (λ z. AreAnswers z o a) k h
 
-pub begun : (input now before : Option (List ℕ)) → Keeps input now → Progress input now before before true
-begun input now before k = record { output = []; appended = appends_none before; answered = begun_at input now k }
+unshortened : (input now : Option (List ℕ)) → Keeps input now → IsShorter input now 0
+unshortened None now k = tt
+unshortened (Some xs) None k = k
+unshortened (Some xs) (Some rest) k = omega (arith, ap length k)
+
+line_shortens : (xs line rest : List ℕ) → TakesLine xs line rest → 1 + length rest ≤ length xs
+line_shortens xs line rest (h, inl e) = omega (arith, ap length e, length-append line (10 ∷ rest))
+line_shortens xs [] rest (h, inr (e, f, n)) = absurd (n refl)
+line_shortens xs (c ∷ line) rest (h, inr (e, f, n)) = omega (arith, ap length e, ap length f)
+
+shorter : (input now new : Option (List ℕ)) (line : List ℕ) (n : ℕ) → IfSome now (λ xs. MatchOption new ⊥ (λ rest. TakesLine xs line rest)) → IsShorter input now n → IsShorter input new (n + 1)
+shorter None now new line n t h = tt
+shorter (Some xs) None new line n t h = absurd h
+shorter (Some xs) (Some r) None line n t h = t
+shorter (Some xs) (Some r) (Some rest) line n t h = omega (arith, h, line_shortens r line rest t)
+
+-- more lines were taken than a number counts
+pub overfull : (input now : Option (List ℕ)) (n : ℕ) → IsShorter input now n → IfSome input (λ xs. n ≤ length xs)
+overfull None now n h = tt
+overfull (Some xs) None n h = absurd h
+overfull (Some xs) (Some rest) n h = omega (arith, h)
+
+pub begun : (input now before : Option (List ℕ)) → Keeps input now → Progress input now before before 0 true
+begun input now before k = record { counted = unshortened input now k; output = []; appended = appends_none before; answered = begun_at input now k }
 
 further : (input now new : Option (List ℕ)) (line output text : List ℕ) (all good : Bool) → IsAnswer line text good
     → IfSome now (λ xs. MatchOption new ⊥ (λ rest. TakesLine xs line rest))
@@ -67,14 +94,19 @@ further (Some xs) (Some r) None line output text all good i t h = t
 further (Some xs) (Some r) (Some rest) line output text all good i t h =
     λ o a k. rw (append_assoc output text o, and_assoc all good a) (h (text ++ o) (good && a) (next t i k))
 
+one_line : {V : Type 0} (items : V → List ℕ) (now new : Option (List ℕ)) (o : Option V) (line : V) → o ≡ Some line → IfSome now (λ xs. MatchOption new ⊥ (λ rest. MatchOption o (xs ≡ []) (λ l. TakesLine xs (items l) rest)))
+    → IfSome now (λ xs. MatchOption new ⊥ (λ rest. TakesLine xs (items line) rest))
+one_line items now new o line e t = subst (λ z. IfSome now (λ xs. MatchOption new ⊥ (λ rest. MatchOption z (xs ≡ []) (λ l. TakesLine xs (items l) rest)))) e t
+
 -- one more line is answered
-pub one_more : {V : Type 0} (items : V → List ℕ) (input now new before middle after : Option (List ℕ)) (o : Option V) (line : V) (all good : Bool) → o ≡ Some line → Progress input now before middle all
+pub one_more : {V : Type 0} (items : V → List ℕ) (input now new before middle after : Option (List ℕ)) (o : Option V) (line : V) (n : ℕ) (all good : Bool) → o ≡ Some line → Progress input now before middle n all
     → IfSome now (λ xs. MatchOption new ⊥ (λ rest. MatchOption o (xs ≡ []) (λ l. TakesLine xs (items l) rest)))
-    → (text : List ℕ) × IsAnswer (items line) text good × Appends middle after text → Progress input new before after (all && good)
-one_more items input now new before middle after o line all good e p t (text, i, k) = record {
+    → (text : List ℕ) × IsAnswer (items line) text good × Appends middle after text → Progress input new before after (n + 1) (all && good)
+one_more items input now new before middle after o line n all good e p t (text, i, k) = record {
+  counted = shorter input now new (items line) n (one_line items now new o line e t) p.counted;
   output = p.output ++ text;
   appended = appends_more before middle after p.output text p.appended k;
-  answered = further input now new (items line) p.output text all good i (subst (λ z. IfSome now (λ xs. MatchOption new ⊥ (λ rest. MatchOption z (xs ≡ []) (λ l. TakesLine xs (items l) rest)))) e t) p.answered;
+  answered = further input now new (items line) p.output text all good i (one_line items now new o line e t) p.answered;
 }
 
 all_done : (input now new : Option (List ℕ)) (output : List ℕ) (all : Bool) → IfSome now (λ xs. MatchOption new ⊥ (λ rest. xs ≡ []))
@@ -90,8 +122,8 @@ told None before after output all h k = tt
 told (Some xs) before after output all h k = (output, h, k)
 
 -- no line is left
-pub ended : {V : Type 0} (items : V → List ℕ) (input now new before middle after : Option (List ℕ)) (o : Option V) (all : Bool) → o ≡ None → Progress input now before middle all
+pub ended : {V : Type 0} (items : V → List ℕ) (input now new before middle after : Option (List ℕ)) (o : Option V) (n : ℕ) (all : Bool) → o ≡ None → Progress input now before middle n all
     → IfSome now (λ xs. MatchOption new ⊥ (λ rest. MatchOption o (xs ≡ []) (λ l. TakesLine xs (items l) rest)))
     → Keeps middle after → IfSome input (λ xs. (out : List ℕ) × AreAnswers xs out all × Appends before after out)
-ended items input now new before middle after o all e p t k =
+ended items input now new before middle after o n all e p t k =
     told input before after p.output all (all_done input now new p.output all (subst (λ z. IfSome now (λ xs. MatchOption new ⊥ (λ rest. MatchOption z (xs ≡ []) (λ l. TakesLine xs (items l) rest)))) e t) p.answered) (appends_kept before middle after p.output p.appended k)

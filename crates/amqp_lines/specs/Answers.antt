@@ -1,9 +1,9 @@
 -- What a line asks for, and what it is answered.
-use Rattle.std.specs.Prelude.{◌≡◌, ◌⊎◌, ℕ, ◌+◌, Bool, true, false, ◌&&◌, List, [], ◌∷◌, ◌++◌, length, codes, Ok}
+use Rattle.std.specs.Prelude.{◌≡◌, ◌⊎◌, ◌≤◌, ℕ, ◌+◌, Bool, true, false, ◌&&◌, List, [], ◌∷◌, ◌++◌, length, codes, Ok, Option, IfSome}
 use Rattle.std.specs.Fmt.{decimal}
 use Rattle.hex.specs.Hex.{decode_of, encode_lower}
 use Rattle.amqp_wire.specs.declared.error.Error.{Error}
-use Rattle.amqp_wire.specs.declared.error.Error.TheVariants.{Memory}
+use Rattle.amqp_wire.specs.declared.error.Error.TheVariants.{Memory, Read}
 use Rattle.amqp_codec.specs.TermType.{TermType}
 use Rattle.amqp_codec.specs.Composite.{composite}
 use Rattle.amqp_codec.specs.Reading.{reading_of, Unreadable}
@@ -15,6 +15,16 @@ use Rattle.amqp_lines.specs.declared.answer.Answer.{Answer}
 use Rattle.amqp_lines.specs.declared.answer.Answer.TheVariants.{Rewritten, Refused, NoRequest}
 use Rattle.amqp_lines.specs.declared.request.TypeName.{TypeName}
 use Rattle.amqp_lines.specs.declared.request.TypeName.TheVariants.{Accepted, DeliveryState, Received}
+
+-- Memory ran out, or the reader or the writer failed.
+abbrev pub IsOutside : Error → Type 0
+IsOutside Memory = Unit {0}
+IsOutside (Read kind) = Unit {0}
+IsOutside _ = ⊥
+
+-- It has 2^64 - 1 bytes or more, if it tells.
+abbrev pub IsOverfull : Option (List ℕ) → Type 0
+IsOverfull input = IfSome input (λ bytes. 18446744073709551615 ≤ length bytes)
 
 -- The name of a type in a line.
 abbrev pub type_name : TypeName → List ℕ

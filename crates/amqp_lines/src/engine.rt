@@ -1,7 +1,8 @@
 //! All lines of a reader.
 ghost use Rattle.std.specs.Prelude.{◌≡◌, ◌≤◌, ◌⊎◌, ℕ, List, length, IfOk, IfErr, IfSome, OnOk};
 ghost use Rattle.std.specs.Io.KnownBytes.{Appends, Keeps};
-ghost use Rattle.amqp_lines.specs.Answers.{AreAnswers, IsAnswer};
+ghost use Rattle.amqp_lines.specs.Answers.{AreAnswers, IsAnswer, IsOutside, IsOverfull};
+ghost use Rattle.amqp_wire.specs.declared.error.Error.TheVariants.{TooLarge};
 
 use crate::answer::Answer;
 use crate::lines::Lines;
@@ -10,18 +11,19 @@ use std::alloc::Global;
 use std::io::{ErrorKind, Read, Write};
 
 /// Answers each line of the reader by a line to the writer, and answers whether all of them were `ok`.
-/// `Memory` where a line or its answer can't be held, `Read` where the reader or the writer fails; then
-/// nothing is said of what was written.
+/// `Memory` where a line or its answer can't be held, `Read` where the reader or the writer fails, `TooLarge` past
+/// 2^64 - 1 lines; then nothing is said of what was written.
 pub fn run<R: Read + Drop, W: Write>(
     reader: R,
     writer: &mut W,
     alloc: Global,
 ) -> Result<bool, Error>
-    ensures { IfOk result (λ all_ok. IfSome (R.remaining reader) (λ input. (output : List ℕ) × AreAnswers input output all_ok × Appends (W.contents writer.old) (W.contents writer.new) output)) }
+    ensures answers { IfOk result (λ all_ok. IfSome (R.remaining reader) (λ input. (output : List ℕ) × AreAnswers input output all_ok × Appends (W.contents writer.old) (W.contents writer.new) output)) }
+    ensures refused { IfErr result (λ e. IsOutside e ⊎ ((e ≡ TooLarge) × IsOverfull (R.remaining reader))) }
 {
     let mut lines = Lines::new(ReadSource::new(reader));
     let mut all_ok = true;
-    for _ in 0..u64::MAX {
+    for answered in 0..u64::MAX {
         let Some(line) = lines.next_line(alloc)? else {
             flush(writer)?;
             return Ok(all_ok);
@@ -33,7 +35,8 @@ pub fn run<R: Read + Drop, W: Write>(
 
 // Answers one line, and whether the answer is `ok`.
 fn answer_line<W: Write>(line: &[u8], writer: &mut W, alloc: Global) -> Result<bool, Error>
-    ensures { IfOk result (λ good. (text : List ℕ) × IsAnswer line.now text good × Appends (W.contents writer.old) (W.contents writer.new) text) }
+    ensures answer { IfOk result (λ good. (text : List ℕ) × IsAnswer line.now text good × Appends (W.contents writer.old) (W.contents writer.new) text) }
+    ensures err { IfErr result IsOutside }
 {
     let answer = Answer::to_line(line, alloc)?;
     let text = answer.printed(alloc)?;
@@ -43,7 +46,8 @@ fn answer_line<W: Write>(line: &[u8], writer: &mut W, alloc: Global) -> Result<b
 
 // Flushes the writer.
 fn flush<W: Write>(writer: &mut W) -> Result<(), Error>
-    ensures { OnOk result (Keeps (W.contents writer.old) (W.contents writer.new)) }
+    ensures kept { OnOk result (Keeps (W.contents writer.old) (W.contents writer.new)) }
+    ensures err { IfErr result IsOutside }
 {
     match writer.flush() {
         Ok(()) => Ok(()),
@@ -53,7 +57,8 @@ fn flush<W: Write>(writer: &mut W) -> Result<(), Error>
 
 // Writes all of the bytes. No kind of failure is tried again.
 fn write_whole<W: Write>(writer: &mut W, bytes: &[u8]) -> Result<(), Error>
-    ensures { OnOk result (Appends (W.contents writer.old) (W.contents writer.new) bytes.now) }
+    ensures written { OnOk result (Appends (W.contents writer.old) (W.contents writer.new) bytes.now) }
+    ensures err { IfErr result IsOutside }
 {
     let mut done = 0;
     while done < bytes.len() {

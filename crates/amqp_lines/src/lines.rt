@@ -1,6 +1,8 @@
 //! The lines of a source.
 ghost use Rattle.std.specs.Prelude.{◌≡◌, ◌≤◌, ◌++◌, ◌∷◌, [], List, ℕ, false, true, length, IfOk, IfErr, IfSome, MatchOption, ◌<◌, ◌+◌, take};
 ghost use Rattle.std.specs.Io.KnownBytes.{Consumes, Keeps, IsAtEnd};
+ghost use Rattle.amqp_wire.specs.declared.error.Error.TheVariants.{Memory};
+ghost use Rattle.amqp_lines.specs.Answers.{IsOutside};
 ghost use Rattle.amqp_lines.specs.Lines.{HasNo, TakesLine, with_feed};
 
 use fe2o3_amqp_types::codec::{ByteSource, Error};
@@ -46,6 +48,7 @@ impl<R: ByteSource> Lines<R> {
     // Pulls bytes where none are left, and answers whether there are any now.
     fn refill(&mut self) -> Result<bool, Error>
         ensures kept { IfOk result (λ _. Keeps self.old self.new) }
+        ensures err { IfErr result IsOutside }
         ensures ended { IfOk result (λ there. there ≡ false → IsAtEnd self.old) }
     {
         if self.start < self.end {
@@ -63,7 +66,8 @@ impl<R: ByteSource> Lines<R> {
 
     // Moves what is left of the line from the buffer, and answers whether its end was there.
     fn take_piece(&mut self, line: &mut Vec<u8>) -> Result<bool, Error>
-        ensures { IfOk result (λ ended. (piece : List ℕ) × HasNo 10 piece × (line.new.items ≡ line.old.items ++ piece) × Consumes self.old self.new (with_feed ended piece)) }
+        ensures taken { IfOk result (λ ended. (piece : List ℕ) × HasNo 10 piece × (line.new.items ≡ line.old.items ++ piece) × Consumes self.old self.new (with_feed ended piece)) }
+        ensures err { IfErr result (λ e. e ≡ Memory) }
     {
         let left = &self.buffer[self.start..self.end];
         let (len, taken, ended) = until_feed(left);
@@ -74,7 +78,8 @@ impl<R: ByteSource> Lines<R> {
 
     /// The next line without its line feed, or `None` at the end of the source.
     pub(crate) fn next_line(&mut self, alloc: Global) -> Result<Option<Vec<u8>>, Error>
-        ensures { IfOk result (λ o. IfSome self.old (λ input. MatchOption self.new ⊥ (λ rest. MatchOption o (input ≡ []) (λ line. TakesLine input line.items rest)))) }
+        ensures line { IfOk result (λ o. IfSome self.old (λ input. MatchOption self.new ⊥ (λ rest. MatchOption o (input ≡ []) (λ line. TakesLine input line.items rest)))) }
+        ensures err { IfErr result IsOutside }
     {
         let mut line = Vec::new(alloc);
         for _ in 0..u64::MAX {

@@ -68,6 +68,7 @@ enum Row {
     Text,
     Symbol,
     Nulls,
+    Binaries,
     Map,
     Ubytes,
     Array,
@@ -86,11 +87,14 @@ fn read_items<R: ByteSource>(
             Row::Ubytes => {
                 decoder.read_ubyte()?;
             }
+            Row::Binaries => {
+                decoder.read_binary(alloc)?;
+            }
             _ => decoder.read_null()?,
         }
     }
     match row {
-        Row::Nulls => decoder.end_list()?,
+        Row::Nulls | Row::Binaries => decoder.end_list()?,
         Row::Map => decoder.end_map()?,
         _ => decoder.end_array()?,
     }
@@ -134,7 +138,7 @@ fn read<R: ByteSource>(decoder: &mut Decoder<R>, row: Row, alloc: Global) -> Res
         Row::Text => Ok(decoder.read_string(alloc)?.len() as u64),
         Row::Symbol => Ok(decoder.read_symbol(alloc)?.as_str().len() as u64),
         Row::Term => Ok(decoder.read_term(alloc)?.len() as u64),
-        Row::Nulls => {
+        Row::Nulls | Row::Binaries => {
             let count = decoder.begin_list()?;
             read_items(decoder, row, count, alloc)
         }
@@ -250,6 +254,23 @@ fn containers(rt: HostRuntime) -> Result<(), Fail> {
             Row::Nulls,
             &[0xd0, 0, 0, 0, 5, 0xff, 0xff, 0xff, 0xff, 0x40],
             1004,
+            rt.alloc()
+        )
+    );
+    assert!(rt;
+        is_read(
+            Row::Binaries,
+            &[0xc0, 0x03, 0x01, 0xa0, 0x05],
+            1004,
+            rt.alloc()
+        )
+    );
+    assert!(rt; is_read(Row::Binaries, &[0xc0, 0x03, 0x01, 0xa0], 1001, rt.alloc()));
+    assert!(rt;
+        is_read(
+            Row::Binaries,
+            &[0xc0, 0x04, 0x01, 0xa0, 0x01, 0x05],
+            1,
             rt.alloc()
         )
     );

@@ -4,8 +4,8 @@ use Rattle.amqp_lines.specs.Lines.{with_feed}
 use Rattle.amqp_lines.proofs.Pieces.{left, taken_piece, taken_within}
 use Rattle.amqp_lines.proofs.lines.Lines.take_piece.Goals as goal
 
-pub returns : goal.returns
-returns g c =
+pub returns-clause-taken : goal.returns-clause-taken
+returns-clause-taken g c =
     let b = c.self.inside in
     let f = c.until_feed-len in
     let piece = left b.start b.end b.buffer in
