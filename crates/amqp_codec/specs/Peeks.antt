@@ -18,13 +18,6 @@ use Rattle.amqp_codec.specs.Nulls.{null_primitive}
 use Rattle.amqp_codec.specs.Refused.{NoneStands}
 
 -- The first code of a value that stands next, and its bytes in front.
-record First (st : State) (s : List ℕ) : Type 0 where
-  code : ℕ
-  own : List ℕ
-  first : IsFirst st.top.shared code own
-  others : List ℕ
-  front : s ≡ own ++ others
-
 first_own : (s : List ℕ) → 1 ≤ length s → (c : ℕ) × (others : List ℕ) × (s ≡ c ∷ others)
 first_own [] h = absurd (omega arith)
 first_own (c ∷ s) h = (c, s, refl)
@@ -130,7 +123,7 @@ begun_peeked st c mid p = by_shared st.top.shared refl
     by_shared (Some x) e = subst (λ m. (after : State) × Begun m c after) (sym (p.kept ∙ ap (λ o. looked_under o st) e)) (p.after, p.begun)
 
 -- a null that was looked at is there
-pub null_there : (st : State) (mid : State) (e : Error) (new : State) → Peeked st 0x40 mid → Excused e new ⊎ PrimitiveFault 0 mid e → Excused e new
+pub null_there : (st : State) (mid : State) (e : Error) (new : State) → Peeked st 0x40 mid → Excused false e new ⊎ PrimitiveFault 0 mid e → Excused false e new
 null_there st mid e new p (inl x) = x
 null_there st mid e new p (inr f) =
     let k = begun_peeked st 0x40 mid p in

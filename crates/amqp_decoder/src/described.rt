@@ -2,7 +2,7 @@
 ghost use Rattle.amqp_decoder.specs.declared.frame.Place.TheVariants.{InDescribed};
 ghost use Rattle.amqp_decoder.specs.Reading.{Reads};
 ghost use Rattle.amqp_decoder.specs.Containers.{ClosesDescribed, EndFault};
-ghost use Rattle.std.specs.Prelude.{◌≡◌, ◌≤◌, ◌<◌, length, take, option_map, Some, None, IfOk, IfErr, MatchOption, IsAscii};
+ghost use Rattle.std.specs.Prelude.{◌≡◌, ◌≤◌, ◌<◌, length, take, option_map, Some, None, IfOk, IfErr, MatchOption, IsAscii, true, false};
 ghost use Rattle.amqp_wire.specs.declared.error.Error.TheVariants.{Memory};
 ghost use Rattle.amqp_model.specs.Term.{name as of_name};
 ghost use Rattle.amqp_wire.specs.Sources.{Tells};
@@ -36,7 +36,7 @@ impl<R: ByteSource> Decoder<R> {
     #[inline]
     fn begin_descriptor(&mut self) -> Result<(), Error>
         ensures ok { Tells R.remaining → IfOk result (λ _. Begun self.old 0 self.new) }
-        ensures err { Tells R.remaining → IfErr result (λ e. Failed DescribedFault self.old e self.new) }
+        ensures err { Tells R.remaining → IfErr result (λ e. Failed false DescribedFault self.old e self.new) }
     {
         let code = self.begin()?;
         if code != format_code::DESCRIBED {
@@ -73,7 +73,7 @@ impl<R: ByteSource> Decoder<R> {
     // A descriptor.
     pub(crate) fn descriptor(&mut self, alloc: Global) -> Result<Descriptor, Error>
         ensures ok { Tells R.remaining → self.old.top.shared ≡ None → IfOk result (λ d. TookDescriptor self.old (descriptor_of d) self.new) }
-        ensures err { Tells R.remaining → self.old.top.shared ≡ None → IfErr result (λ e. DescriptorMissed self.old e self.new) }
+        ensures err { Tells R.remaining → self.old.top.shared ≡ None → IfErr result (λ e. DescriptorMissed true self.old e self.new) }
     {
         let code = self.byte()?;
         if let Some(value) = self.ulong_data(code)? {
@@ -98,7 +98,7 @@ impl<R: ByteSource> Decoder<R> {
     // The descriptor that stands next, or is shared.
     fn next_descriptor(&mut self, alloc: Global) -> Result<Descriptor, Error>
         ensures ok { Tells R.remaining → IsDescribable self.old.top.shared → IfOk result (λ d. TookDescriptor self.old (descriptor_of d) self.new) }
-        ensures err { Tells R.remaining → IsDescribable self.old.top.shared → IfErr result (λ e. DescriptorMissed self.old e self.new) }
+        ensures err { Tells R.remaining → IsDescribable self.old.top.shared → IfErr result (λ e. DescriptorMissed true self.old e self.new) }
     {
         match self.clone_descriptor()? {
             Some(descriptor) => Ok(descriptor),
@@ -110,7 +110,7 @@ impl<R: ByteSource> Decoder<R> {
     /// that is neither a symbol nor a ulong, `NonAscii` where it is a symbol with a byte above 0x7f, and `Depth` past
     /// 128 nested values.
     pub fn begin_described(&mut self, alloc: Global) -> Result<Descriptor, Error>
-        ensures { Tells R.remaining → Reads (λ st d st'. OpensDescribed st (descriptor_of d) st') OpenFault self.old result self.new }
+        ensures { Tells R.remaining → Reads true (λ st d st'. OpensDescribed st (descriptor_of d) st') OpenFault self.old result self.new }
     {
         self.begin_descriptor()?;
         let descriptor = self.next_descriptor(alloc)?;
@@ -149,7 +149,7 @@ impl<R: ByteSource> Decoder<R> {
     // The place of the member whose descriptor stands next.
     fn place_of_next(&mut self, members: Members<'_>) -> Result<Option<usize>, Error>
         ensures ok { Tells R.remaining → IsDescribable self.old.top.shared → IfOk result (λ place. TookPlace members.now self.old place self.new) }
-        ensures err { Tells R.remaining → IsDescribable self.old.top.shared → IfErr result (λ e. DescriptorMissed self.old e self.new) }
+        ensures err { Tells R.remaining → IsDescribable self.old.top.shared → IfErr result (λ e. DescriptorMissed false self.old e self.new) }
     {
         if let Some(descriptor) = self.shared_descriptor() {
             return Ok(place_of(members, descriptor));
@@ -166,7 +166,7 @@ impl<R: ByteSource> Decoder<R> {
     /// Begins a described value, and answers the place of the pair whose code or name its descriptor is;
     /// `WrongDescriptor` where it is none of them, and otherwise as `begin_described`. Takes no memory.
     pub fn begin_one_of(&mut self, members: &[(u64, &str)]) -> Result<usize, Error>
-        ensures opened { Tells R.remaining → Reads (OpensOneOf members.now) (OneOfFault members.now) self.old result self.new }
+        ensures opened { Tells R.remaining → Reads false (OpensOneOf members.now) (OneOfFault members.now) self.old result self.new }
         ensures nesting { Tells R.remaining → IfOk result (λ _. self.old.nesting ≡ 128) }
     {
         self.begin_descriptor()?;
@@ -181,7 +181,7 @@ impl<R: ByteSource> Decoder<R> {
     /// open.
     #[inline]
     pub fn end_described(&mut self) -> Result<(), Error>
-        ensures { Reads (λ st _ st'. ClosesDescribed InDescribed st st') (EndFault InDescribed) self.old result self.new }
+        ensures { Reads false (λ st _ st'. ClosesDescribed InDescribed st st') (EndFault InDescribed) self.old result self.new }
     {
         self.check_end(Place::InDescribed)?;
         self.leave_described();

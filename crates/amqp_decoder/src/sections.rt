@@ -1,7 +1,7 @@
 //! What stands at the top level: the end of the input, or the next section of a message (Part 3, section 3.2).
-ghost use Rattle.std.specs.Prelude.{◌≡◌, Some, IfOk, IfErr, IfSome};
+ghost use Rattle.std.specs.Prelude.{◌≡◌, Some, IfOk, IfErr, IfSome, false};
 ghost use Rattle.amqp_wire.specs.Sources.{Tells};
-ghost use Rattle.amqp_decoder.specs.Steps.{Excused};
+ghost use Rattle.amqp_decoder.specs.Steps.{SourceFailed};
 ghost use Rattle.amqp_decoder.specs.Reading.{Reads};
 ghost use Rattle.amqp_decoder.specs.Sections.{IsTop, NotTop, Ends, LooksOn, IsSection, PeeksSection};
 
@@ -55,7 +55,7 @@ fn section_of(descriptor: &[u8]) -> Option<u8>
 impl<R: ByteSource> Decoder<R> {
     // Nothing is open.
     fn check_top(&mut self) -> Result<(), Error>
-        ensures { Reads IsTop NotTop self.old result self.new }
+        ensures { Reads false IsTop NotTop self.old result self.new }
     {
         self.check()?;
         if !self.is_in(Place::Top) || self.depth() > 0 {
@@ -66,7 +66,7 @@ impl<R: ByteSource> Decoder<R> {
 
     /// Whether the input ends here, at the top level. Nothing is taken; `InvalidValue` in a container.
     pub fn at_end(&mut self) -> Result<bool, Error>
-        ensures { Tells R.remaining → Reads Ends NotTop self.old result self.new }
+        ensures { Tells R.remaining → Reads false Ends NotTop self.old result self.new }
     {
         self.check_top()?;
         Ok(!self.look_next()?)
@@ -75,7 +75,7 @@ impl<R: ByteSource> Decoder<R> {
     // How many bytes a described value's code and its descriptor take, which is a symbol with a size of four bytes.
     fn long_name_len(&mut self) -> Result<Option<usize>, Error>
         ensures ok { Tells R.remaining → IfOk result (λ _. LooksOn self.old self.new) }
-        ensures err { IfErr result (λ e. (self.new.error ≡ Some e) × Excused e self.new) }
+        ensures err { IfErr result (λ e. (self.new.error ≡ Some e) × SourceFailed e self.new) }
     {
         if self.look(6)? < 6 {
             return Ok(None);
@@ -92,7 +92,7 @@ impl<R: ByteSource> Decoder<R> {
     // How many bytes a described value's code and its descriptor take, of the kinds that name sections.
     fn descriptor_len(&mut self) -> Result<Option<usize>, Error>
         ensures ok { Tells R.remaining → IfOk result (λ _. LooksOn self.old self.new) }
-        ensures err { IfErr result (λ e. (self.new.error ≡ Some e) × Excused e self.new) }
+        ensures err { IfErr result (λ e. (self.new.error ≡ Some e) × SourceFailed e self.new) }
     {
         if self.look(3)? < 3 {
             return Ok(None);
@@ -112,7 +112,7 @@ impl<R: ByteSource> Decoder<R> {
     /// The code of the section whose whole descriptor stands next at the top level, if one does. Nothing is taken, and
     /// at most 64 bytes are looked at; `InvalidValue` in a container.
     pub fn peek_section(&mut self) -> Result<Option<u8>, Error>
-        ensures { Tells R.remaining → Reads PeeksSection NotTop self.old result self.new }
+        ensures { Tells R.remaining → Reads false PeeksSection NotTop self.old result self.new }
     {
         self.check_top()?;
         let Some(len) = self.descriptor_len()? else {
