@@ -15,12 +15,14 @@ use Rattle.amqp_decoder.proofs.Opening.{opens_same}
 use Rattle.amqp_decoder.specs.Reading.{Refused, BeginFault, Peeked}
 use Rattle.amqp_decoder.specs.Primitives.{standing, Value, Means}
 use Rattle.amqp_decoder.specs.Containers.{Opens, OpenFault, Closes, CloseFault}
+use Rattle.amqp_decoder.proofs.Steps.{answered_later}
+use Rattle.amqp_decoder.specs.Steps.{Answered}
 use Rattle.amqp_codec.specs.Fields.{Fields, slots, take_memory}
 use Rattle.amqp_codec.specs.Reading.{stands_one}
 use Rattle.amqp_codec.specs.Lists.{StandEach, lower_zero, each_front, each_more}
 use Rattle.amqp_codec.specs.FieldReading.{MeansAt, FaultAt, FitsFront, KeepsBut, FitsAt, ItemRead, ItemFault, no_item, null_item, in_item, FieldsSoFar, FieldsRead, FieldsFault, FillsField, ReadsItem, filled_at, unfilled_at, no_list, at_item, left_out, not_ended, kind_at, front_null, front_filled, front_missing, front_end, front_start, fits_value, fits_null, fits_few, IsBlank}
 use Rattle.amqp_codec.specs.Refused.{no_memory, refused_first, refused_later}
-use Rattle.amqp_codec.specs.Peeks.{peeked_going, peeked_from, peeked_to, not_null, value_peeked}
+use Rattle.amqp_codec.specs.Peeks.{peeked_failed, peeked_going, peeked_from, peeked_to, not_null, value_peeked}
 
 the_item : (ts us : List Term) (t : Term) (rest : List Term) (n : ℕ) → length ts ≡ n → us ≡ ts ++ t ∷ rest → get_or us n (leaf null) ≡ t
 the_item [] us t rest n e f = ap (λ l. get_or l n (leaf null)) f ∙ ap (λ k. get_or (t ∷ rest) k (leaf null)) (sym e)
@@ -43,7 +45,15 @@ each_going st (t ∷ ts) b (s, h, k) going = each_going (past (length s) st) ts 
 pub header_going : {st first : State} {n : ℕ} (o : Opens list st n first) → o.data_.mid.error ≡ None
 header_going o = ap (λ (x : State). x.error) o.data_.header.took.moved ∙ ap (λ (x : State). x.error) o.begun.moved ∙ o.begun.going
 
+each_failed : (st : State) (ts : List Term) (b : State) → StandEach st ts b → b.failed ≡ st.failed
+each_failed st [] b h = ap (λ (x : State). x.failed) h
+each_failed st (t ∷ ts) b (s, h, k) = each_failed (past (length s) st) ts b k
+
 module _ {V : Type 0} (fs : Fields V) where
+  so_far_failed : (st : State) (n i : ℕ) (v : V) (mid : State) → FieldsSoFar fs st n i v mid → mid.failed ≡ st.failed
+  so_far_failed st n i v mid h =
+      each_failed h.first h.terms mid h.each ∙ ap (λ (x : State). x.failed) h.opens.data_.entered ∙ ap (λ (x : State). x.failed) h.opens.data_.header.took.moved ∙ ap (λ (x : State). x.failed) h.opens.begun.moved
+
   pub so_far_going : (st : State) (n i : ℕ) (v : V) (mid : State) → FieldsSoFar fs st n i v mid → st.error ≡ None
   so_far_going st n i v mid h = h.opens.begun.going
 
@@ -107,7 +117,7 @@ module _ {V : Type 0} (fs : Fields V) where
   -- an item couldn't be read
   pub item_refused : (st : State) (n i : ℕ) (v : V) (mid : State) (e : Error) (new : State) → i < n → i < length (kinds_of (slots fs)) → mid.error ≡ None → FieldsSoFar fs st n i v mid → Refused (take_memory fs) (Value (FitsAt fs i)) (ItemFault fs i) mid e new → Refused (take_memory fs) (FieldsRead fs) (FieldsFault fs) st e new
   item_refused st n i v mid e new l k going h r =
-      refused_later (Value (FitsAt fs i)) (ItemFault fs i) (FieldsRead fs) (FieldsFault fs) st mid e new (λ t. t) (so_far_going st n i v mid h) going
+      refused_later (Value (FitsAt fs i)) (ItemFault fs i) (FieldsRead fs) (FieldsFault fs) st mid e new (λ t. t) (so_far_failed st n i v mid h) (so_far_going st n i v mid h) going
       (λ f. at_item h l k f)
       (λ none w b q.
       let g = further st n i v w mid b h q in
@@ -116,9 +126,9 @@ module _ {V : Type 0} (fs : Fields V) where
       r
 
   -- a required item is left out
-  pub left_out_refused : (st : State) (n i : ℕ) (v : V) (mid : State) (e : Error) (new : State) → n ≤ i → i < length (kinds_of (slots fs)) → is_required (kind_at fs i) ≡ true → e ≡ Missing → new.error ≡ Some e → FieldsSoFar fs st n i v mid → Refused (take_memory fs) (FieldsRead fs) (FieldsFault fs) st e new
+  pub left_out_refused : (st : State) (n i : ℕ) (v : V) (mid : State) (e : Error) (new : State) → n ≤ i → i < length (kinds_of (slots fs)) → is_required (kind_at fs i) ≡ true → e ≡ Missing → Answered mid e new → FieldsSoFar fs st n i v mid → Refused (take_memory fs) (FieldsRead fs) (FieldsFault fs) st e new
   left_out_refused st n i v mid e new l k required is kept h = record {
-    kept = kept;
+    kept = answered_later (so_far_failed st n i v mid h) kept;
     again = λ d x. absurd (let y = so_far_going st n i v mid h in cc);
     named = λ _. inr (left_out h l k required is);
     none = inr (λ w b q.
@@ -135,7 +145,7 @@ module _ {V : Type 0} (fs : Fields V) where
   -- the list couldn't be closed
   pub end_refused : (st : State) (n i : ℕ) (v : V) (mid : State) (e : Error) (new : State) → i ≡ length (kinds_of (slots fs)) → mid.error ≡ None → FieldsSoFar fs st n i v mid → Refused false (λ st (_ : Unit {0}) b. Closes InList st b) (CloseFault InList) mid e new → Refused (take_memory fs) (FieldsRead fs) (FieldsFault fs) st e new
   end_refused st n i v mid e new all going h r =
-      refused_later (λ st (_ : Unit {0}) b. Closes InList st b) (CloseFault InList) (FieldsRead fs) (FieldsFault fs) st mid e new no_memory (so_far_going st n i v mid h) going
+      refused_later (λ st (_ : Unit {0}) b. Closes InList st b) (CloseFault InList) (FieldsRead fs) (FieldsFault fs) st mid e new no_memory (so_far_failed st n i v mid h) (so_far_going st n i v mid h) going
       (λ f. not_ended (subst (λ k. FieldsSoFar fs st n k v mid) all h) f)
       (λ none w b q.
       let g = further st n i v w mid b h q in
@@ -181,9 +191,9 @@ module _ {V : Type 0} (fs : Fields V) (i : ℕ) where
   null_read v st b r h = record { bytes = h.bytes; term = h.term; stands = h.stands; moved = h.moved; fits = inl (h.meant, r, refl) }
 
   -- null was taken, and doesn't fit
-  pub null_unfit : (st b : State) (e : Error) (new : State) → st.error ≡ None → is_required (kind_at fs i) ≡ true → e ≡ Missing → new.error ≡ Some e → Value (Means (λ (_ : Unit {0}). null)) st tt b → Refused (take_memory fs) (Value (FitsAt fs i)) (ItemFault fs i) st e new
+  pub null_unfit : (st b : State) (e : Error) (new : State) → st.error ≡ None → is_required (kind_at fs i) ≡ true → e ≡ Missing → Answered b e new → Value (Means (λ (_ : Unit {0}). null)) st tt b → Refused (take_memory fs) (Value (FitsAt fs i)) (ItemFault fs i) st e new
   null_unfit st b e new going required is kept h = record {
-    kept = kept;
+    kept = answered_later (ap (λ (x : State). x.failed) h.moved) kept;
     again = λ d x. absurd (cc);
     named = λ _. inr (null_item h required is);
     none = inr (λ w c k.
@@ -202,7 +212,7 @@ module _ {V : Type 0} (fs : Fields V) (i : ℕ) where
   pub value_refused : (st mid : State) (c : ℕ) (e : Error) (new : State) → Peeked st c mid → (c ≡ 0x40 → ⊥) → Refused (take_memory fs) (Value (MeansAt fs i)) (FaultAt fs i) mid e new → Refused (take_memory fs) (Value (FitsAt fs i)) (ItemFault fs i) st e new
   value_refused st mid c e new p other r =
       let going = peeked_going st c mid p in
-      refused_later (Value (MeansAt fs i)) (FaultAt fs i) (Value (FitsAt fs i)) (ItemFault fs i) st mid e new (λ t. t) going.0 going.1 (in_item p)
+      refused_later (Value (MeansAt fs i)) (FaultAt fs i) (Value (FitsAt fs i)) (ItemFault fs i) st mid e new (λ t. t) (peeked_failed st c mid p) going.0 going.1 (in_item p)
       (λ none w b h.
       let n = not_null (FitsAt fs i) st c mid w b p other h in
       elim h.meant [

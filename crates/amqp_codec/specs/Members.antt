@@ -147,12 +147,15 @@ module _ {V : Type 0} (m : Members V) (means : Standing → Term → V → Type 
       let going = o.opens.begun.going in
       (going, ap (λ (x : State). x.error) o.opens.opened ∙ ap (λ (x : State). x.error) o.opens.descriptor.took.moved ∙ ap (λ (x : State). x.error) o.opens.begun.moved ∙ going)
 
+  pub opened_failed : (ms : List Member) (st : State) (i : ℕ) (inner : State) → OpensOneOf ms st i inner → inner.failed ≡ st.failed
+  opened_failed ms st i inner o = ap (λ (x : State). x.failed) o.opens.opened ∙ ap (λ (x : State). x.failed) o.opens.descriptor.took.moved ∙ ap (λ (x : State). x.failed) o.opens.begun.moved
+
   -- what a member describes isn't read
   pub unread : (ms : List Member) (st : State) (i : ℕ) (inner : State) (e : Error) (new : State) → map as_name ms ≡ m.names → OpensOneOf ms st i inner → Refused m.takes_memory (m.reads i) (m.fault i) inner e new → Refused m.takes_memory (Value means) (MemberFault m) st e new
   unread ms st i inner e new names o r =
       let going = opened_going ms st i inner o in
       let at = opened_place ms st i inner names o in
-      refused_later (m.reads i) (m.fault i) (Value means) (MemberFault m) st inner e new (λ t. t) going.0 going.1 (in_member o.opens at)
+      refused_later (m.reads i) (m.fault i) (Value means) (MemberFault m) st inner e new (λ t. t) (opened_failed ms st i inner o) going.0 going.1 (in_member o.opens at)
       (λ none v b h.
       let k = from_value st v b h in
       let s = described_same st k.descriptor o.descriptor k.inner inner k.opens o.opens in
@@ -167,7 +170,7 @@ module _ {V : Type 0} (m : Members V) (means : Standing → Term → V → Type 
       let going = opened_going ms st i inner o in
       let at = opened_place ms st i inner names o in
       let t = sum.to_term i inner v last q in
-      refused_later (λ st (_ : Unit {0}) b. ClosesDescribed InDescribed st b) (EndFault InDescribed) (Value means) (MemberFault m) st last e new no_memory going.0 t.going (not_ended o.opens at q)
+      refused_later (λ st (_ : Unit {0}) b. ClosesDescribed InDescribed st b) (EndFault InDescribed) (Value means) (MemberFault m) st last e new no_memory (ap (λ (x : State). x.failed) t.moved ∙ opened_failed ms st i inner o) going.0 t.going (not_ended o.opens at q)
       (λ none w b h.
       let k = from_value st w b h in
       let s = described_same st k.descriptor o.descriptor k.inner inner k.opens o.opens in

@@ -56,6 +56,13 @@ peeked_going st c mid h = (h.begun.going, ap (λ (x : State). x.error) h.kept �
     by_shared None = refl
     by_shared (Some x) = refl
 
+pub peeked_failed : (st : State) (c : ℕ) (mid : State) → Peeked st c mid → mid.failed ≡ st.failed
+peeked_failed st c mid h = ap (λ (x : State). x.failed) h.kept ∙ by_shared st.top.shared
+  where
+    by_shared : (o : Option (List Descriptor × ℕ)) → (looked_under o st).failed ≡ st.failed
+    by_shared None = refl
+    by_shared (Some x) = refl
+
 -- where a value stands, a first code can be looked at
 pub value_peeked : {A : Type 0} (means : Standing → Term → A → Type 0) (st : State) → NoneStands Peeked st → NoneStands (Value means) st
 value_peeked means st none v b h =

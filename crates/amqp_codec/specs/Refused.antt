@@ -4,6 +4,7 @@ use Rattle.amqp_wire.specs.declared.error.Error.{Error}
 use Rattle.amqp_decoder.specs.State.{State}
 use Rattle.amqp_decoder.specs.Steps.{Excused}
 use Rattle.amqp_decoder.specs.Reading.{Refused}
+use Rattle.amqp_decoder.proofs.Steps.{answered_later}
 
 -- a call that takes memory at most where another does
 pub excused_as : {a b : Bool} (e : Error) (st : State) → (a ≡ true → b ≡ true) → Excused a e st → Excused b e st
@@ -34,9 +35,9 @@ refused_first p f q g old e new may named none h = record {
 
 -- a later call was refused
 pub refused_later : {A B : Type 0} {a b : Bool} (p : State → A → State → Type 0) (f : State → Error → Type 0) (q : State → B → State → Type 0) (g : State → Error → Type 0) (old mid : State) (e : Error) (new : State)
-    → (a ≡ true → b ≡ true) → old.error ≡ None → mid.error ≡ None → (f mid e → g old e) → (NoneStands p mid → NoneStands q old) → Refused a p f mid e new → Refused b q g old e new
-refused_later p f q g old mid e new may going still named none h = record {
-  kept = h.kept;
+    → (a ≡ true → b ≡ true) → mid.failed ≡ old.failed → old.error ≡ None → mid.error ≡ None → (f mid e → g old e) → (NoneStands p mid → NoneStands q old) → Refused a p f mid e new → Refused b q g old e new
+refused_later p f q g old mid e new may sound going still named none h = record {
+  kept = answered_later sound h.kept;
   again = λ d x. absurd (cc);
   named = λ _. or_else (excused_as e new may) named (h.named still);
   none = or_else (excused_as e new may) none h.none;

@@ -11,11 +11,11 @@ use Rattle.amqp_model.proofs.Forms.{primitive_known}
 use Rattle.amqp_wire.specs.declared.error.Error.{Error}
 use Rattle.amqp_wire.specs.Codes.{refusal_of}
 use Rattle.amqp_decoder.specs.State.{State, Has, lower, on, past}
-use Rattle.amqp_decoder.specs.Steps.{SourceFailed, Excused, Took, Lacks, Short}
+use Rattle.amqp_decoder.specs.Steps.{Answered, SourceFailed, Excused, Took, Lacks, Short}
 use Rattle.amqp_decoder.specs.Reading.{Refused, Reads, IsFirst, Begun, BeginFault, missing, no_code}
 use Rattle.amqp_decoder.specs.Kinds.{kind_of, kind_at, kind_under, codes_of}
 use Rattle.amqp_decoder.specs.Primitives.{standing, SpellsAs, Stands, Value, Means, Leaf, LacksData, IsWhole, bad, PrimitiveFault, not_begun, wrong_code, no_data, bad_data, FixedFault, unbegun, other_code, too_few, Fixed, Failed, HasData, LacksDataOf}
-use Rattle.amqp_decoder.proofs.Steps.{not_lacking, not_begun_done, not_begun_lacking}
+use Rattle.amqp_decoder.proofs.Steps.{answered_begun, answered_took, not_lacking, not_begun_done, not_begun_lacking}
 use Rattle.amqp_decoder.proofs.KindsOfCodes.{kind_data, OneOf, kind_codes, kind_is, one_code}
 
 pub has_add : (o : Option ℕ) (m n : ℕ) → Has o m → Has (lower o m) n → Has o (m + n)
@@ -191,7 +191,7 @@ fault_not_leaf k st e p st' is (bad_data {c} {m} {b} {m'} g _ t h none _) l =
     none p (subst (λ z. PrimitiveData (format z) p b) (sym s.0) (subst (PrimitiveData (format l.code) p) same l.spelled))
 
 -- a failed call refuses every value of its kind
-pub refused_kind : {A : Type 0} {takes : Bool} (make : A → Primitive) (k : ℕ) (st : State) (e : Error) (new : State) → ((v : A) → kind_of (make v) ≡ k) → st.error ≡ None → new.error ≡ Some e → Excused takes e new ⊎ PrimitiveFault k st e → Refused takes (Value (Means make)) (PrimitiveFault k) st e new
+pub refused_kind : {A : Type 0} {takes : Bool} (make : A → Primitive) (k : ℕ) (st : State) (e : Error) (new : State) → ((v : A) → kind_of (make v) ≡ k) → st.error ≡ None → Answered st e new → Excused takes e new ⊎ PrimitiveFault k st e → Refused takes (Value (Means make)) (PrimitiveFault k) st e new
 refused_kind make k st e new is going kept why = record {
   kept = kept;
   again = λ d x. absurd (cc);
@@ -226,16 +226,16 @@ fixed_unbegun code n st e new r = record {
   named = λ g. elim (r.named g) [ inl x ↦ inl x | inr x ↦ inr (unbegun x) ];
 }
 
-pub fixed_other : (code n : ℕ) (st : State) (c : ℕ) (m : State) (e d : Error) (new : State) → Begun st c m → (c ≡ code → ⊥) → e ≡ refusal_of c → new.error ≡ Some e → Failed false (FixedFault code n) st e new
+pub fixed_other : (code n : ℕ) (st : State) (c : ℕ) (m : State) (e d : Error) (new : State) → Begun st c m → (c ≡ code → ⊥) → e ≡ refusal_of c → Answered m e new → Failed false (FixedFault code n) st e new
 fixed_other code n st c m e d new g other is kept = record {
-  kept = kept;
+  kept = answered_begun g kept;
   again = λ d x. let h = g.going in absurd (cc);
   named = λ h. inr (other_code g other is);
 }
 
 pub fixed_short : (code n : ℕ) (st : State) (m : State) (e : Error) (new : State) → Begun st code m → Short n m e new → Failed false (FixedFault code n) st e new
 fixed_short code n st m e new g s = record {
-  kept = s.kept;
+  kept = answered_begun g s.kept;
   again = λ d x. let h = g.going in absurd (cc);
   named = λ h. elim s.why [ inl x ↦ inl (inr x) | inr x ↦ inr (too_few g x) ];
 }
@@ -246,7 +246,7 @@ fixed_fault k code n st e is one lacks (other_code {c} g other d) = wrong_code g
 fixed_fault k code n st e is one lacks (too_few {m} g l) = no_data g (kind_is code k is) (lacks m l)
 
 -- a value of a kind of one constructor isn't read
-pub kind_failed : {A : Type 0} {takes : Bool} (make : A → Primitive) (k : ℕ) (st : State) (e : Error) (new : State) → ((v : A) → kind_of (make v) ≡ k) → new.error ≡ Some e → ((d : Error) → st.error ≡ Some d → (d ≡ e) × (new ≡ st))
+pub kind_failed : {A : Type 0} {takes : Bool} (make : A → Primitive) (k : ℕ) (st : State) (e : Error) (new : State) → ((v : A) → kind_of (make v) ≡ k) → Answered st e new → ((d : Error) → st.error ≡ Some d → (d ≡ e) × (new ≡ st))
     → (st.error ≡ None → Excused takes e new ⊎ PrimitiveFault k st e) → Refused takes (Value (Means make)) (PrimitiveFault k) st e new
 kind_failed {takes = takes} make k st e new kinds kept again why = record {
   kept = kept;
@@ -275,8 +275,8 @@ fixed_reads make k code n st new (Err e) kinds is one lacks d f h = fixed_refuse
 
 -- a value of a kind whose data is none
 pub bad_refused : {A : Type 0} (make : A → Primitive) (k code : ℕ) (st : State) (m : State) (b : List ℕ) (m' : State) (e : Error) (new : State) → ((v : A) → kind_of (make v) ≡ k) → kind_under (format code) ≡ Some k
-    → Begun st code m → Took m b m' → IsWhole (format code) b → ((p : Primitive) → PrimitiveData (format code) p b → ⊥) → e ≡ bad k → new.error ≡ Some e → Refused false (Value (Means make)) (PrimitiveFault k) st e new
-bad_refused make k code st m b m' e new kinds is g t h none d kept = refused_kind make k st e new kinds g.going kept (inr (bad_data g (kind_is code k is) t h none d))
+    → Begun st code m → Took m b m' → IsWhole (format code) b → ((p : Primitive) → PrimitiveData (format code) p b → ⊥) → e ≡ bad k → Answered m' e new → Refused false (Value (Means make)) (PrimitiveFault k) st e new
+bad_refused make k code st m b m' e new kinds is g t h none d kept = refused_kind make k st e new kinds g.going (answered_begun g (answered_took t kept)) (inr (bad_data g (kind_is code k is) t h none d))
 
 lower_none : (o : Option ℕ) → lower o 0 ≡ o
 lower_none None = refl
@@ -304,14 +304,14 @@ code_value make code st v new g d = data_value make code st new [] v new g d (to
 
 -- a code of another kind
 pub other_refused : {A : Type 0} (make : A → Primitive) (k : ℕ) (st : State) (c : ℕ) (m : State) (e : Error) (new : State) → ((v : A) → kind_of (make v) ≡ k)
-    → Begun st c m → (kind_at c ≡ Some k → ⊥) → e ≡ refusal_of c → new.error ≡ Some e → Refused false (Value (Means make)) (PrimitiveFault k) st e new
-other_refused make k st c m e new kinds g other d kept = refused_kind make k st e new kinds g.going kept (inr (wrong_code g other d))
+    → Begun st c m → (kind_at c ≡ Some k → ⊥) → e ≡ refusal_of c → Answered m e new → Refused false (Value (Means make)) (PrimitiveFault k) st e new
+other_refused make k st c m e new kinds g other d kept = refused_kind make k st e new kinds g.going (answered_begun g kept) (inr (wrong_code g other d))
 
 -- data that can't be taken
 pub lacking_refused : {A : Type 0} (make : A → Primitive) (k code : ℕ) (st : State) (m : State) (e : Error) (new : State) → ((v : A) → kind_of (make v) ≡ k) → kind_at code ≡ Some k
-    → Begun st code m → new.error ≡ Some e → SourceFailed e new ⊎ LacksData (format code) m e → Refused false (Value (Means make)) (PrimitiveFault k) st e new
+    → Begun st code m → Answered m e new → SourceFailed e new ⊎ LacksData (format code) m e → Refused false (Value (Means make)) (PrimitiveFault k) st e new
 lacking_refused make k code st m e new kinds is g kept why =
-    refused_kind make k st e new kinds g.going kept (elim why [ inl x ↦ inl (inr x) | inr x ↦ inr (no_data g is x) ])
+    refused_kind make k st e new kinds g.going (answered_begun g kept) (elim why [ inl x ↦ inl (inr x) | inr x ↦ inr (no_data g is x) ])
 
 pub short_refused : {A : Type 0} (make : A → Primitive) (k code n : ℕ) (st : State) (m : State) (e : Error) (new : State) → ((v : A) → kind_of (make v) ≡ k) → kind_under (format code) ≡ Some k
     → (Lacks n m e → LacksData (format code) m e) → Begun st code m → Short n m e new → Refused false (Value (Means make)) (PrimitiveFault k) st e new

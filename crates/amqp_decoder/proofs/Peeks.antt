@@ -6,7 +6,7 @@ use Rattle.amqp_model.specs.Standing.{Standing}
 use Rattle.amqp_wire.specs.declared.error.Error.{Error}
 use Rattle.amqp_wire.specs.declared.error.Error.TheVariants.{Cut}
 use Rattle.amqp_decoder.specs.State.{State, Has, lower, looked, moved, on, past}
-use Rattle.amqp_decoder.specs.Steps.{Took, Short, SizeRefused}
+use Rattle.amqp_decoder.specs.Steps.{Answered, Took, Short, SizeRefused}
 use Rattle.amqp_decoder.specs.Reading.{Refused, IsFirst, IsFirstShared, Begun, BeginFault, Peeked, looked_under}
 use Rattle.amqp_decoder.specs.Primitives.{standing, SpellsAs, Stands, Value}
 use Rattle.amqp_decoder.proofs.Steps.{begun_own, begun_shared, begin_short, short_of_size, missed_lacks, has_item}
@@ -50,7 +50,7 @@ none_there b [] e f = omega arith
 none_there b (x ∷ r) e f = let h : IsTrue b = f (omega arith) in absurd (cc)
 
 -- the input ends
-pub peek_cut : (st : State) (e : Error) (new : State) → st.error ≡ None → st.top.shared ≡ None → (st.top.left ≡ Some 0 → ⊥) → length st.rest < 1 → e ≡ Cut → new.error ≡ Some e → Refused false Peeked BeginFault st e new
+pub peek_cut : (st : State) (e : Error) (new : State) → st.error ≡ None → st.top.shared ≡ None → (st.top.left ≡ Some 0 → ⊥) → length st.rest < 1 → e ≡ Cut → Answered st e new → Refused false Peeked BeginFault st e new
 peek_cut st e new going none left short is kept =
     peek_refused st e new (begin_short st e new going none (record { kept = kept; why = inr (missed_lacks 1 st st.top.left e refl (has_item st.top.left left) is short) }))
 

@@ -5,7 +5,7 @@ use Rattle.amqp_model.specs.Term.{Descriptor}
 use Rattle.amqp_wire.specs.declared.error.Error.{Error}
 use Rattle.amqp_wire.specs.declared.error.Error.TheVariants.{Cut, Missing}
 use Rattle.amqp_decoder.specs.State.{Open, State, Has, lower, moved, on, past, announced, bytes_left}
-use Rattle.amqp_decoder.specs.Steps.{SourceFailed, Excused, Pulled, Missed, Took, Lacks, cut_open, cut_inside, too_long, Short, asked_in, SizeError, cut, wrong, SizeRefused}
+use Rattle.amqp_decoder.specs.Steps.{Answered, SourceFailed, Excused, Pulled, Missed, Took, Lacks, cut_open, cut_inside, too_long, Short, asked_in, SizeError, cut, wrong, SizeRefused}
 use Rattle.amqp_decoder.specs.Reading.{Refused, IsLeft, IsFirst, IsFirstShared, Begun, BeginFault, missing, no_code}
 
 -- a call that takes no memory is excused by its source alone
@@ -15,6 +15,23 @@ source_failed e st (inr x) = x
 
 pub excused_by_source : (takes : Bool) (e : Error) (st : State) → Excused false e st → Excused takes e st
 excused_by_source takes e st x = inr (source_failed e st x)
+
+-- the error was kept
+pub answered : (st new : State) (e d : Error) → new ≡ record st { error = Some d } → e ≡ d → Answered st e new
+answered st new e d h is = record { error = ap (λ (x : State). x.error) h ∙ ap Some (sym is); source = inl (ap (λ (x : State). x.failed) h) }
+
+pub answered_so : (st new : State) (e : Error) → new ≡ record st { error = Some e } → Answered st e new
+answered_so st new e h = answered st new e e h refl
+
+-- the refused call came after others
+pub answered_later : {st m : State} {e : Error} {new : State} → m.failed ≡ st.failed → Answered m e new → Answered st e new
+answered_later same a = record { error = a.error; source = elim a.source [ inl x ↦ inl (x ∙ same) | inr x ↦ inr x ] }
+
+pub answered_took : {st : State} {s : List ℕ} {m : State} {e : Error} {new : State} → Took st s m → Answered m e new → Answered st e new
+answered_took t a = answered_later (ap (λ (x : State). x.failed) t.moved) a
+
+pub answered_begun : {st : State} {c : ℕ} {m : State} {e : Error} {new : State} → Begun st c m → Answered m e new → Answered st e new
+answered_begun g a = answered_later (ap (λ (x : State). x.failed) g.moved) a
 
 -- the open container's bytes are lowered by n
 abbrev pub lowered : ℕ → State → State
@@ -38,7 +55,7 @@ missed_lacks n st (Some l) e h room is short = cut_inside h (inr short) (omega (
 -- too few bytes stood behind those that the container has room for
 pub short_of_missed : (n k : ℕ) (st : State) (m : State) (e : Error) (new : State) → k ≡ n → Has st.top.left n → m ≡ lowered n st → Missed false k m e new → Short n st e new
 short_of_missed n k st m e new same room is r = record {
-  kept = r.kept;
+  kept = answered_later (ap (λ (x : State). x.failed) is) r.kept;
   why = elim r.why [
     | inl x ↦ inl (source_failed e new x)
     | inr (x, y) ↦ inr (missed_lacks n st st.top.left e refl room x (subst (λ (z : State). length z.rest < n) is (omega (arith, same, y))))

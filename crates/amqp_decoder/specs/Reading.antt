@@ -4,12 +4,12 @@ use Rattle.amqp_model.specs.Term.{Descriptor}
 use Rattle.amqp_wire.specs.declared.error.Error.{Error}
 use Rattle.amqp_wire.specs.declared.error.Error.TheVariants.{Missing}
 use Rattle.amqp_decoder.specs.State.{State, Has, looked, past}
-use Rattle.amqp_decoder.specs.Steps.{Excused, Lacks}
+use Rattle.amqp_decoder.specs.Steps.{Answered, Excused, Lacks}
 
 -- Nothing that could be read stands there, and the error, which names a fault that does, is kept for each later call.
 -- takes: the call takes memory, and may want it
 pub record Refused {A : Type 0} (takes : Bool) (reads : State → A → State → Type 0) (fault : State → Error → Type 0) (old : State) (e : Error) (new : State) : Type 0 where
-  pub kept : new.error ≡ Some e
+  pub kept : Answered old e new
   pub again : (d : Error) → old.error ≡ Some d → (d ≡ e) × (new ≡ old)
   pub named : old.error ≡ None → Excused takes e new ⊎ fault old e
   pub none : Excused takes e new ⊎ ((v : A) (st : State) → reads old v st → ⊥)

@@ -34,7 +34,7 @@ impl<R: ByteSource> Decoder<R> {
     #[inline]
     pub(crate) fn header(&mut self, wide: bool, is_list: bool) -> Result<(u32, u32), Error>
         ensures ok { Tells R.remaining → IfOk result (λ h. Header is_list (cond wide 4 1) self.old h.0 h.1 self.new) }
-        ensures err { Tells R.remaining → IfErr result (λ e. Stopped false (HeaderFault is_list (cond wide 4 1) self.old) e self.new) }
+        ensures err { Tells R.remaining → IfErr result (λ e. Stopped false (HeaderFault is_list (cond wide 4 1) self.old) self.old e self.new) }
     {
         let width = width(wide);
         let size = self.number(wide)?;
@@ -55,7 +55,7 @@ impl<R: ByteSource> Decoder<R> {
     #[inline]
     fn open(&mut self, place: Place, count: u32, content: u32) -> Result<u32, Error>
         ensures ok { IfOk result (λ n. (n ≡ count) × Has self.old.top.left content × (length self.old.saved < self.old.nesting) × (self.new ≡ inside place count content self.old)) }
-        ensures err { Tells R.remaining → IfErr result (λ e. Stopped false (Unopened content self.old) e self.new) }
+        ensures err { Tells R.remaining → IfErr result (λ e. Stopped false (Unopened content self.old) self.old e self.new) }
     {
         self.lower(content)?;
         let inner = Frame {
@@ -72,7 +72,7 @@ impl<R: ByteSource> Decoder<R> {
     #[inline]
     fn open_list(&mut self, wide: bool) -> Result<u32, Error>
         ensures ok { Tells R.remaining → IfOk result (λ n. Entered list (cond wide 4 1) self.old n self.new) }
-        ensures err { Tells R.remaining → IfErr result (λ e. Stopped false (EnterFault list (cond wide 4 1) self.old) e self.new) }
+        ensures err { Tells R.remaining → IfErr result (λ e. Stopped false (EnterFault list (cond wide 4 1) self.old) self.old e self.new) }
     {
         let (count, content) = self.header(wide, true)?;
         self.open(Place::InList, count, content)
@@ -82,7 +82,7 @@ impl<R: ByteSource> Decoder<R> {
     #[inline]
     fn open_map(&mut self, wide: bool) -> Result<u32, Error>
         ensures ok { Tells R.remaining → IfOk result (λ n. Entered map (cond wide 4 1) self.old n self.new) }
-        ensures err { Tells R.remaining → IfErr result (λ e. Stopped false (EnterFault map (cond wide 4 1) self.old) e self.new) }
+        ensures err { Tells R.remaining → IfErr result (λ e. Stopped false (EnterFault map (cond wide 4 1) self.old) self.old e self.new) }
     {
         let (count, content) = self.header(wide, false)?;
         if count % 2 == 1 {

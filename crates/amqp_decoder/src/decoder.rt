@@ -8,7 +8,7 @@ ghost use Rattle.amqp_wire.specs.declared.error.Error.TheVariants.{Depth, Memory
 ghost use Rattle.amqp_decoder.specs.Described.{IsUnmarked, IsMark, entered};
 ghost use Rattle.amqp_decoder.specs.State.{Open, State, top_level, looked, moved, on, past, announced, Has, lower, unshared, descriptor_of};
 ghost use Rattle.amqp_decoder.specs.Reading.{Reads, Begun, BeginFault, Peeked, IsLeft, IsFirstShared};
-ghost use Rattle.amqp_decoder.specs.Steps.{SourceFailed, Pulled, Missed, Took, Short, SizeRefused, NoRoom, Stopped};
+ghost use Rattle.amqp_decoder.specs.Steps.{Answered, SourceFailed, Pulled, Missed, Took, Short, SizeRefused, NoRoom, Stopped};
 
 use crate::frame::{Frame, Place, ROW};
 use amqp_lengths::NESTING;
@@ -118,7 +118,7 @@ impl<R: ByteSource> Decoder<R> {
         ensures bytes { Tells R.remaining → self.old.ahead ≡ 0 → IfOk result (λ n. self.old.rest ≡ take n buffer.new ++ drop n self.old.rest) }
         ensures all { Tells R.remaining → self.old.ahead ≡ 0 → IfOk result (λ n. n < length buffer.old → length self.old.rest ≡ n) }
         ensures new { Tells R.remaining → self.old.ahead ≡ 0 → IfOk result (λ n. self.new ≡ moved n self.old) }
-        ensures err { IfErr result (λ e. (self.new.error ≡ Some e) × SourceFailed e self.new) }
+        ensures err { IfErr result (λ e. Answered self.old e self.new × SourceFailed e self.new) }
     {
         match fill(&mut self.source, buffer) {
             Ok(count) => Ok(count),
@@ -216,7 +216,7 @@ impl<R: ByteSource> Decoder<R> {
         ensures room { IfOk result (λ _. Has self.old.top.left count) }
         ensures new { IfOk result (λ _. self.new ≡ record self.old { top = record self.old.top { left = lower self.old.top.left count } }) }
         ensures err { Tells R.remaining → IfErr result (λ e. Short count self.old e self.new) }
-        ensures full { Tells R.remaining → IfErr result (λ e. Stopped false (NoRoom count self.old) e self.new) }
+        ensures full { Tells R.remaining → IfErr result (λ e. Stopped false (NoRoom count self.old) self.old e self.new) }
     {
         let Some(left) = self.left() else {
             return Ok(());
@@ -344,7 +344,7 @@ impl<R: ByteSource> Decoder<R> {
         ensures few { IfOk result (λ n. n ≤ 64) }
         ensures count { Tells R.remaining → IfOk result (λ n. n ≡ max self.old.ahead (min count (length self.old.rest))) }
         ensures new { Tells R.remaining → IfOk result (λ _. self.new ≡ looked (min count (length self.old.rest)) self.old) }
-        ensures err { IfErr result (λ e. (self.new.error ≡ Some e) × SourceFailed e self.new) }
+        ensures err { IfErr result (λ e. Answered self.old e self.new × SourceFailed e self.new) }
     {
         let ahead = self.ahead();
         if ahead >= count {
@@ -367,7 +367,7 @@ impl<R: ByteSource> Decoder<R> {
     pub(crate) fn look_next(&mut self) -> Result<bool, Error>
         ensures found { Tells R.remaining → IfOk result (λ b. IsTrue b ↔ (0 < length self.old.rest)) }
         ensures new { Tells R.remaining → IfOk result (λ b. self.new ≡ looked (min 1 (length self.old.rest)) self.old) }
-        ensures err { IfErr result (λ e. (self.new.error ≡ Some e) × SourceFailed e self.new) }
+        ensures err { IfErr result (λ e. Answered self.old e self.new × SourceFailed e self.new) }
     {
         if self.ahead() > 0 {
             return Ok(true);
@@ -428,12 +428,6 @@ impl<R: ByteSource> Decoder<R> {
         ensures { result ≡ false → self.now.top.shared ≡ None }
     {
         self.top.code != 0
-    }
-
-    // The open container.
-    #[inline]
-    pub(crate) fn top(&self) -> Frame {
-        self.top
     }
 
     /// How many containers and described values are open.
@@ -606,7 +600,7 @@ impl<R: ByteSource> Decoder<R> {
     pub(crate) fn share(&mut self, mut descriptors: Vec<Descriptor>, code: u8) -> Result<(), Error>
         requires { 0 < code }
         ensures ok { IfOk result (λ _. self.new ≡ record self.old { top = record self.old.top { shared = Some (map descriptor_of descriptors.items, code) } }) }
-        ensures err { IfErr result (λ e. (e ≡ Memory) × (self.new.error ≡ Some Memory)) }
+        ensures err { IfErr result (λ e. (e ≡ Memory) × Answered self.old e self.new) }
     {
         let first = self.top.last;
         let count = descriptors.len();

@@ -8,6 +8,7 @@ ghost use Rattle.amqp_model.specs.Term.{name as of_name};
 ghost use Rattle.amqp_wire.specs.Sources.{Tells};
 ghost use Rattle.amqp_wire.specs.Codes.{refusal_of};
 ghost use Rattle.amqp_decoder.specs.State.{moved, descriptor_of};
+ghost use Rattle.amqp_decoder.specs.Steps.{Answered};
 ghost use Rattle.amqp_decoder.specs.Reading.{Begun};
 ghost use Rattle.amqp_decoder.specs.Primitives.{Failed};
 ghost use Rattle.amqp_decoder.specs.Described.{IsUnmarked, IsMark, TookDescriptor, OpensDescribed, OpenFault, other_kind, symbol_code, place_of as place_in, IsDescribable, DescribedFault, DescriptorMissed, TookPlace, NameMissed, OpensOneOf, OneOfFault};
@@ -61,7 +62,7 @@ impl<R: ByteSource> Decoder<R> {
     #[inline]
     fn is_wide_symbol(&mut self, code: u8) -> Result<bool, Error>
         ensures ok { IfOk result (λ wide. (code ≡ symbol_code wide) × (self.new ≡ self.old)) }
-        ensures err { IfErr result (λ e. (code ≡ 0xa3 → ⊥) × (code ≡ 0xb3 → ⊥) × (e ≡ other_kind (refusal_of code)) × (self.new.error ≡ Some e)) }
+        ensures err { IfErr result (λ e. (code ≡ 0xa3 → ⊥) × (code ≡ 0xb3 → ⊥) × (e ≡ other_kind (refusal_of code)) × Answered self.old e self.new) }
     {
         match code {
             format_code::SYMBOL_8 => Ok(false),
@@ -87,7 +88,7 @@ impl<R: ByteSource> Decoder<R> {
     // A copy of the descriptor that is shared.
     fn clone_descriptor(&mut self) -> Result<Option<Descriptor>, Error>
         ensures ok { IfOk result (λ copy. MatchOption copy (IsUnmarked self.old.top.shared) (λ d. IsMark self.old.top.shared (descriptor_of d)) × (self.new ≡ self.old)) }
-        ensures err { IfErr result (λ e. (e ≡ Memory) × (self.new.error ≡ Some e)) }
+        ensures err { IfErr result (λ e. (e ≡ Memory) × Answered self.old e self.new) }
     {
         match copy_of(self.shared_descriptor()) {
             Ok(descriptor) => Ok(descriptor),

@@ -1,7 +1,7 @@
 //! What stands at the top level: the end of the input, or the next section of a message (Part 3, section 3.2).
 ghost use Rattle.std.specs.Prelude.{◌≡◌, Some, IfOk, IfErr, IfSome, false};
 ghost use Rattle.amqp_wire.specs.Sources.{Tells};
-ghost use Rattle.amqp_decoder.specs.Steps.{SourceFailed};
+ghost use Rattle.amqp_decoder.specs.Steps.{Answered, SourceFailed};
 ghost use Rattle.amqp_decoder.specs.Reading.{Reads};
 ghost use Rattle.amqp_decoder.specs.Sections.{IsTop, NotTop, Ends, LooksOn, IsSection, PeeksSection};
 
@@ -75,7 +75,7 @@ impl<R: ByteSource> Decoder<R> {
     // How many bytes a described value's code and its descriptor take, which is a symbol with a size of four bytes.
     fn long_name_len(&mut self) -> Result<Option<usize>, Error>
         ensures ok { Tells R.remaining → IfOk result (λ _. LooksOn self.old self.new) }
-        ensures err { IfErr result (λ e. (self.new.error ≡ Some e) × SourceFailed e self.new) }
+        ensures err { IfErr result (λ e. Answered self.old e self.new × SourceFailed e self.new) }
     {
         if self.look(6)? < 6 {
             return Ok(None);
@@ -92,7 +92,7 @@ impl<R: ByteSource> Decoder<R> {
     // How many bytes a described value's code and its descriptor take, of the kinds that name sections.
     fn descriptor_len(&mut self) -> Result<Option<usize>, Error>
         ensures ok { Tells R.remaining → IfOk result (λ _. LooksOn self.old self.new) }
-        ensures err { IfErr result (λ e. (self.new.error ≡ Some e) × SourceFailed e self.new) }
+        ensures err { IfErr result (λ e. Answered self.old e self.new × SourceFailed e self.new) }
     {
         if self.look(3)? < 3 {
             return Ok(None);

@@ -3,7 +3,7 @@ ghost use Rattle.std.specs.Prelude.{◌<◌, ◌≤◌, ◌≡◌, ◌++◌, ℕ
 ghost use Rattle.amqp_model.specs.Term.{binary, string, symbol};
 ghost use Rattle.amqp_wire.specs.Sources.{Tells};
 ghost use Rattle.amqp_decoder.specs.State.{moved};
-ghost use Rattle.amqp_decoder.specs.Steps.{Missed};
+ghost use Rattle.amqp_decoder.specs.Steps.{Answered, Missed};
 ghost use Rattle.amqp_decoder.specs.Reading.{Reads};
 ghost use Rattle.amqp_decoder.specs.Primitives.{Announced, SizedFault, Sized, Text, TextFault, Failed, Value, Means, PrimitiveFault};
 
@@ -95,7 +95,7 @@ impl<R: ByteSource> Decoder<R> {
     #[inline]
     pub(crate) fn ascii(&mut self, text: Vec<u8>) -> Result<Symbol, Error>
         ensures ok { IfOk result (λ symbol. IsAscii text.items × (string_bytes symbol.0 ≡ text.items) × (self.new ≡ self.old)) }
-        ensures err { IfErr result (λ e. (IsAscii text.items → ⊥) × (e ≡ Error.NonAscii) × (self.new.error ≡ Some e)) }
+        ensures err { IfErr result (λ e. (IsAscii text.items → ⊥) × (e ≡ Error.NonAscii) × Answered self.old e self.new) }
     {
         if !text.is_ascii() {
             drop(text);
