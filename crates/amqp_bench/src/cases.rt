@@ -1,6 +1,7 @@
-//! The values that are written.
+//! The values that are written and read.
 ghost use Rattle.std.specs.Prelude.{◌≤◌};
 
+use amqp_decoder::Decoder;
 use amqp_encoder::{Encoder, Measurement};
 use amqp_wire::Error;
 use std::alloc::Global;
@@ -71,6 +72,17 @@ impl Case {
         Ok(encoder.into_buffer())
     }
 
+    /// Reads the text, and answers the sum of its numbers and of the lengths of its texts and bytes.
+    pub(crate) fn read(self, text: &[u8], alloc: Global) -> Result<u64, Error> {
+        let mut decoder = Decoder::new(text, alloc);
+        match self {
+            Case::Uints => read_uints(&mut decoder),
+            Case::Strings => read_strings(&mut decoder, alloc),
+            Case::Map => read_map(&mut decoder, alloc),
+            Case::Binary => Ok(decoder.read_binary(alloc)?.len() as u64),
+        }
+    }
+
     fn serialize(self, content: &Content, encoder: &mut Encoder) -> Result<(), Error> {
         match self {
             Case::Uints => write_uints(&content.numbers, encoder),
@@ -104,4 +116,32 @@ fn write_map(content: &Content, encoder: &mut Encoder) -> Result<(), Error> {
         encoder.write_uint(*number)?;
     }
     encoder.end_map()
+}
+
+fn read_uints(decoder: &mut Decoder<&[u8]>) -> Result<u64, Error> {
+    let mut sum = 0u64;
+    for _ in 0..decoder.begin_list()? {
+        sum = sum.wrapping_add(u64::from(decoder.read_uint()?));
+    }
+    decoder.end_list()?;
+    Ok(sum)
+}
+
+fn read_strings(decoder: &mut Decoder<&[u8]>, alloc: Global) -> Result<u64, Error> {
+    let mut sum = 0u64;
+    for _ in 0..decoder.begin_list()? {
+        sum = sum.wrapping_add(decoder.read_string(alloc)?.len() as u64);
+    }
+    decoder.end_list()?;
+    Ok(sum)
+}
+
+fn read_map(decoder: &mut Decoder<&[u8]>, alloc: Global) -> Result<u64, Error> {
+    let mut sum = 0u64;
+    for _ in 0..decoder.begin_map()? / 2 {
+        sum = sum.wrapping_add(decoder.read_string(alloc)?.len() as u64);
+        sum = sum.wrapping_add(u64::from(decoder.read_uint()?));
+    }
+    decoder.end_map()?;
+    Ok(sum)
 }

@@ -16,7 +16,7 @@ use Rattle.amqp_encoder.specs.Writes.{Found, Follows, bytes_of}
 use Rattle.amqp_encoder.specs.Passes.{row_text, as_size, answer_of, BeginsMeasuring, BeginsFilling, Finds}
 use Rattle.amqp_encoder.proofs.Rows.{HasFound, HasFilled}
 use Rattle.amqp_encoder.proofs.Rows as rows
-use Rattle.amqp_codec.specs.Written.{KnowDepths, WritesTerms, AreProper, AreUnwritable, AreWritable, AreMeasured}
+use Rattle.amqp_codec.specs.Written.{KnowDepths, GaveUp, WritesTerms, AreProper, AreUnwritable, AreWritable, AreMeasured}
 use Rattle.amqp_codec.proofs.Depths.{proper_values, depths, unwritable}
 use Rattle.amqp_codec.proofs.Depths as depth
 
@@ -25,21 +25,34 @@ found_same (Measuring s) m n xs ys h k = (sym k.1 ∙ h.1, sym k.2 ∙ h.2)
 found_same (Filling s) m n xs ys h k = absurd h
 found_same (Stopped e) m n xs ys h k = absurd h
 
+memory : (e : Error) (r : Result (Unit {0}) Error) → r ≡ Err e → r ≡ Err Memory → e ≡ Memory
+memory e r h k = cc
+
+not_memory : (r : Result (Unit {0}) Error) → r ≡ Ok tt → r ≡ Err Memory → ⊥
+not_memory r h k = let e : Err Memory ≡ Ok tt = sym k ∙ h in cc
+
+not_refused : (r : Result (Unit {0}) Error) (e : Error) → r ≡ Err e → r ≡ Ok tt → ⊥
+not_refused r e h k = let i : Err e ≡ Ok tt = sym h ∙ k in cc
+
 module _ (ts : List Term) (proper : AreProper ts) where
   -- the measuring pass is refused
   pub measuring_refused : (old new : Encoder) (r : Result (Unit {0}) Error) (e : Error) → BeginsMeasuring old → r ≡ Err e → WritesTerms ts old r new → (e ≡ Memory) ⊎ AreUnwritable ts e
   measuring_refused old new r e b i w =
       let d = depths ts proper in
-      let f : HasFound d.0 ts new.pass (Err e) = rw i at (rows.measured d.0 ts old r new (proper_values ts proper) b (w.calls d.0 d.1)) in
-      elim f [ inl m ↦ inl m | inr u ↦ inr (unwritable d.0 ts e proper d.1 u) ]
+      elim (w.calls d.0 d.1) [
+        | inr g ↦ inl (memory e r i g.answer)
+        | inl c ↦
+            let f : HasFound d.0 ts new.pass (Err e) = rw i at (rows.measured d.0 ts old r new (proper_values ts proper) b c) in
+            elim f [ inl m ↦ inl m | inr u ↦ inr (unwritable d.0 ts e proper d.1 u) ]
+      ]
 
   module _ (old new : Encoder) (r : Result (Unit {0}) Error) (begins : BeginsMeasuring old) (went : r ≡ Ok tt) (wrote : WritesTerms ts old r new) where
     found_by : (deep : List ℕ → ℕ) → KnowDepths deep ts → HasFound deep ts new.pass (Ok tt)
-    found_by deep k = rw went at (rows.measured deep ts old r new (proper_values ts proper) begins (wrote.calls deep k))
+    found_by deep k = elim (wrote.calls deep k) [ inr g ↦ absurd (not_memory r went g.answer) | inl c ↦ rw went at (rows.measured deep ts old r new (proper_values ts proper) begins c) ]
 
     ended : (m : Result Measurement Error) → MatchResult m (λ m. Finds new m.len m.sizes.items) (λ e. (answer_of new ≡ Err e) ⊎ ((e ≡ InvalidValue) × ((len : ℕ) (sizes : List Size) → Finds new len sizes → ⊥) × (answer_of new ≡ Ok tt))) → MatchResult m (λ m. AreMeasured ts m.len m.sizes.items) (λ e. ⊥)
     ended (Ok m) h = λ deep k. (let f = found_by deep k in let q = found_same new.pass (length (row_text ts)) m.len (map as_size (all_sizes (terms_of ts))) m.sizes.items f.0 h in rw (q.0, q.1) f.1)
-    ended (Err e) (inl h) = let d = depths ts proper in let a = (wrote.calls d.0 d.1).runs.answer in cc
+    ended (Err e) (inl h) = let d = depths ts proper in elim (wrote.calls d.0 d.1) [ inr g ↦ absurd (not_memory r went g.answer) | inl c ↦ let a = c.runs.answer in cc ]
     ended (Err e) (inr h) = let d = depths ts proper in h.1 (length (row_text ts)) (map as_size (all_sizes (terms_of ts))) (found_by d.0 d.1).0
 
     pub measured : (m : Result Measurement Error) → MatchResult m (λ m. Finds new m.len m.sizes.items) (λ e. (answer_of new ≡ Err e) ⊎ ((e ≡ InvalidValue) × ((len : ℕ) (sizes : List Size) → Finds new len sizes → ⊥) × (answer_of new ≡ Ok tt))) → IfOk m (λ m. AreMeasured ts m.len m.sizes.items)
@@ -58,20 +71,20 @@ module _ (ts : List Term) (proper : AreProper ts) where
   measured_length len sizes m = let d = depths ts proper in (m d.0 d.1).exact
 
   module _ (len : ℕ) (sizes : List Size) (out : List ℕ) (limit : ℕ) (old new : Encoder) (r : Result (Unit {0}) Error) (measured : AreMeasured ts len sizes) (room : length out + len ≤ limit) (begins : BeginsFilling old sizes out limit) (wrote : WritesTerms ts old r new) where
-    filled_by : HasFilled (depths ts proper).0 (out ++ row_text ts) new.pass new.kept.items r
-    filled_by = let d = depths ts proper in rows.written d.0 ts len sizes out limit old r new (measured d.0 d.1) room begins (wrote.calls d.0 d.1)
+    filled_by : HasFilled (depths ts proper).0 (out ++ row_text ts) new.pass new.kept.items r ⊎ GaveUp old r new
+    filled_by = let d = depths ts proper in elim (wrote.calls d.0 d.1) [ inl c ↦ inl (rows.written d.0 ts len sizes out limit old r new (measured d.0 d.1) room begins c) | inr g ↦ inr g ]
 
     -- the filling pass wrote the text
     pub filled : r ≡ Ok tt → bytes_of new ≡ out ++ row_text ts
-    filled i = rw i at filled_by
+    filled i = elim filled_by [ inl f ↦ f.1 | inr g ↦ absurd (not_memory r i g.answer) ]
 
-    -- only memory can run out
+    -- only a type can run out of memory of its own
     pub filling_refused : (e : Error) → r ≡ Err e → e ≡ Memory
-    filling_refused e i = rw i at filled_by
+    filling_refused e i = elim filled_by [ inl f ↦ absurd (not_refused r e i f.0) | inr g ↦ memory e r i g.answer ]
 
     -- what was there before is kept
     pub front_kept : (n : ℕ) → n ≡ length out → take n (bytes_of new) ≡ out
     front_kept n i =
         let d = depths ts proper in
-        let k : Follows out (bytes_of new) = rw begins at (wrote.calls d.0 d.1).kept in
+        let k : Follows out (bytes_of new) = elim (wrote.calls d.0 d.1) [ inl c ↦ rw begins at c.kept | inr g ↦ rw begins at g.kept ] in
         rw (i, k.1) (take-append_seam out k.0)

@@ -1,5 +1,5 @@
 -- The canonical terms of a composite's fields, without the nulls at the end.
-use Rattle.std.proofs.Common.{◌≡◌, ℕ, zero, suc, ◌+◌, ◌-◌, ◌<◌, ◌≤◌, true, false, List, [], ◌∷◌, ◌++◌, length, take, refl, sym, ◌∙◌, ap, arith, add-one}
+use Rattle.std.proofs.Common.{◌≡◌, ℕ, zero, suc, ◌+◌, ◌-◌, ◌<◌, ◌≤◌, true, false, List, [], ◌∷◌, ◌++◌, length, take, refl, sym, ◌∙◌, ap, arith, add-one, inl}
 use Rattle.std.specs.Prelude.{Result, Ok, Err}
 use Rattle.amqp_model.specs.Term.{null, Term, leaf}
 use Rattle.amqp_wire.specs.declared.error.Error.{Error}
@@ -89,4 +89,4 @@ plain_null t h z = sym (plain_tidy t h) ∙ tidy_null t z
 
 -- null is written for a field that is null
 pub null_written : {V : Type 0} (fs : Fields V) (n : ℕ) (v : V) (a b : Encoder) (r : Result (Unit {0}) Error) → true ≡ is_null (canon_at fs n v) → Writes a (put null ∷ []) r b → WritesTerms (canon_at fs n v ∷ []) a r b
-null_written fs n v a b r z w = rw (plain_null (canon_at fs n v) (field_plain fs n v) (sym z)) (record { calls = λ deep k. w })
+null_written fs n v a b r z w = rw (plain_null (canon_at fs n v) (field_plain fs n v) (sym z)) (record { calls = λ deep k. inl w })

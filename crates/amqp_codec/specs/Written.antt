@@ -1,5 +1,5 @@
 -- What writing a value is, in the terms that it is written as.
-use Rattle.std.specs.Prelude.{◌≡◌, ◌⊎◌, ℕ, ◌<◌, List, length, Result}
+use Rattle.std.specs.Prelude.{◌≡◌, ◌⊎◌, ℕ, ◌<◌, List, length, Result, Ok, Err}
 use Rattle.amqp_model.specs.Term.{Term, Terms, kept, count}
 use Rattle.amqp_model.specs.Spelling.{enc}
 use Rattle.amqp_model.specs.Measures.{nest, nests}
@@ -8,13 +8,14 @@ use Rattle.amqp_model.specs.Refusals.{SomewhereIn}
 use Rattle.amqp_model.specs.Kept.{ReadsEach}
 use Rattle.amqp_model.specs.Items.{terms_of}
 use Rattle.amqp_wire.specs.declared.error.Error.{Error}
-use Rattle.amqp_wire.specs.declared.error.Error.TheVariants.{Depth, TooLarge}
+use Rattle.amqp_wire.specs.declared.error.Error.TheVariants.{Memory, Depth, TooLarge}
 use Rattle.amqp_encoder.specs.declared.encoder.Encoder.{Encoder}
+use Rattle.amqp_encoder.specs.declared.encoder.Pass.TheVariants.{Stopped}
 use Rattle.amqp_encoder.specs.declared.size.Size.{Size}
 use Rattle.amqp_encoder.specs.Measuring.{MAX}
-use Rattle.amqp_encoder.specs.Passes.{row_text, row_tokens, IsMeasured}
+use Rattle.amqp_encoder.specs.Passes.{row_text, row_tokens, answer_of, IsMeasured}
 use Rattle.amqp_encoder.specs.Reasons.{HasReason}
-use Rattle.amqp_encoder.specs.Writes.{Writes}
+use Rattle.amqp_encoder.specs.Writes.{Writes, Follows, bytes_of}
 
 -- bytes that are kept nest as deep as what they spell
 abbrev pub KnowsDepth : (List ℕ → ℕ) → Term → Type 0
@@ -24,9 +25,16 @@ KnowsDepth deep _ = Unit {0}
 abbrev pub KnowDepths : (List ℕ → ℕ) → List Term → Type 0
 KnowDepths deep ts = EverywhereIn (KnowsDepth deep) (terms_of ts)
 
--- The calls for the terms were made in their order, up to a refusal.
+-- The type of a value ran out of memory of its own, and refused the value for that.
+pub record GaveUp (old : Encoder) (result : Result (Unit {0}) Error) (new : Encoder) : Type 0 where
+  pub was_going : answer_of old ≡ Ok tt
+  pub answer : result ≡ Err Memory
+  pub state : new.pass ≡ Stopped Memory
+  pub kept : Follows (bytes_of old) (bytes_of new)
+
+-- The calls for the terms were made in their order, up to a refusal; or a type ran out of memory of its own.
 pub record WritesTerms (ts : List Term) (old : Encoder) (result : Result (Unit {0}) Error) (new : Encoder) : Type 0 where
-  pub calls : (deep : List ℕ → ℕ) → KnowDepths deep ts → Writes old (row_tokens deep ts) result new
+  pub calls : (deep : List ℕ → ℕ) → KnowDepths deep ts → Writes old (row_tokens deep ts) result new ⊎ GaveUp old result new
 
 -- What a canonical term itself needs, its parts aside: a number or text of its type, a value for each key of a map;
 -- and bytes that are kept spell a term.

@@ -23,7 +23,8 @@ pub trait Serialize {
     // A value of the type: its numbers are in their ranges, and so on.
     ghost is_value: { Self → Type 0 };
 
-    /// Writes the value to an encoder that measures, and again to one that fills.
+    /// Writes the value to an encoder that measures, and again to one that fills. A type that takes memory of its
+    /// own for this may refuse its value for want of it, by `Encoder::refuse`.
     fn serialize(&self, encoder: &mut Encoder) -> Result<(), Error>
         ensures { WritesTerms (canons self.now) encoder.old result encoder.new };
 

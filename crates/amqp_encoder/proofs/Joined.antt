@@ -5,7 +5,8 @@ use Rattle.std.proofs.lemmas.List.{append-nil}
 use Rattle.amqp_wire.specs.declared.error.Error.{Error}
 use Rattle.amqp_wire.specs.declared.error.Error.TheVariants.{Memory}
 use Rattle.amqp_encoder.specs.Tokens.{Token}
-use Rattle.amqp_encoder.specs.Writes.{step, steps, outcome, Runs, Writes, Follows, bytes_of, RanOut, IsGoing}
+use Rattle.amqp_encoder.specs.State.{Filled}
+use Rattle.amqp_encoder.specs.Writes.{step, steps, fill, filling, outcome, Runs, Writes, Follows, bytes_of, MayRunOut, AnyMayRunOut, RanOut, IsGoing}
 use Rattle.amqp_encoder.specs.declared.encoder.Encoder.{Encoder}
 use Rattle.amqp_encoder.specs.declared.encoder.Pass.{Pass}
 use Rattle.amqp_encoder.specs.declared.encoder.Pass.TheVariants.{Measuring, Filling, Stopped}
@@ -22,10 +23,38 @@ steps_stopped e [] = refl
 steps_stopped e (t ∷ ts) = steps_stopped e ts
 
 -- it went on before
-going_before : (s : Pass) (ts : List Token) → IsGoing (steps s ts) → IsGoing s
+pub going_before : (s : Pass) (ts : List Token) → IsGoing (steps s ts) → IsGoing s
 going_before (Measuring m) ts h = refl
 going_before (Filling f) ts h = refl
 going_before (Stopped e) ts h = ap outcome (sym (steps_stopped e ts)) ∙ h
+
+-- it doesn't measure
+abbrev Measures : Pass → Type 0
+Measures (Measuring m) = Unit {0}
+Measures _ = ⊥
+
+measures_no_more : (s : Pass) (t : Token) → (Measures s → ⊥) → Measures (step s t) → ⊥
+measures_no_more (Measuring m) t n = absurd (n tt)
+measures_no_more (Filling f) t n = filled (fill t f) where
+  filled : (r : Result Filled Error) → Measures (filling r) → ⊥
+  filled (Ok g) h = h
+  filled (Err e) h = h
+measures_no_more (Stopped e) t n = n
+
+measures_now : (s : Pass) (t : Token) → MayRunOut s t → Measures s
+measures_now (Measuring m) t h = tt
+measures_now (Filling f) t h = h
+measures_now (Stopped e) t h = h
+
+only_measuring : (s : Pass) (ts : List Token) → (Measures s → ⊥) → AnyMayRunOut s ts → ⊥
+unfolding AnyMayRunOut
+only_measuring s [] n h = h
+only_measuring s (t ∷ ts) n (inl h) = n (measures_now s t h)
+only_measuring s (t ∷ ts) n (inr h) = only_measuring (step s t) ts (measures_no_more s t n) h
+
+-- a filling pass takes no memory
+pub filling_never : (f : Filled) (ts : List Token) → AnyMayRunOut (Filling f) ts → ⊥
+filling_never f ts h = only_measuring (Filling f) ts (λ n. n) h
 
 stopped_of : (s : Pass) (e : Error) → Err e ≡ outcome s → s ≡ Stopped e
 stopped_of (Measuring m) e h = cc
@@ -36,9 +65,21 @@ nothing_runs : (s : Pass) → (r : Result (Unit {0}) Error) → r ≡ outcome s 
 unfolding steps
 nothing_runs s r h = record { answer = h; state = inl refl }
 
-joined_state : (a b c : Pass) (xs ys : List Token) → IsGoing b → (b ≡ steps a xs) ⊎ RanOut a b → (c ≡ steps b ys) ⊎ RanOut b c → (c ≡ steps a (xs ++ ys)) ⊎ RanOut a c
+-- memory may run out at one of the first calls, or at one behind them
+first_may : (s : Pass) (xs ys : List Token) → AnyMayRunOut s xs → AnyMayRunOut s (xs ++ ys)
+unfolding AnyMayRunOut
+first_may s [] ys h = absurd h
+first_may s (x ∷ xs) ys (inl h) = inl h
+first_may s (x ∷ xs) ys (inr h) = inr (first_may (step s x) xs ys h)
+
+later_may : (s : Pass) (xs ys : List Token) → AnyMayRunOut (steps s xs) ys → AnyMayRunOut s (xs ++ ys)
+unfolding AnyMayRunOut steps
+later_may s [] ys h = h
+later_may s (x ∷ xs) ys h = inr (later_may (step s x) xs ys h)
+
+joined_state : (a b c : Pass) (xs ys : List Token) → IsGoing b → (b ≡ steps a xs) ⊎ RanOut a xs b → (c ≡ steps b ys) ⊎ RanOut b ys c → (c ≡ steps a (xs ++ ys)) ⊎ RanOut a (xs ++ ys) c
 joined_state a b c xs ys g (inl h) (inl k) = inl (rw (steps-append, ← h) k)
-joined_state a b c xs ys g (inl h) (inr k) = inr (going_before a xs (rw h at k.0), k.1)
+joined_state a b c xs ys g (inl h) (inr k) = inr (later_may a xs ys (rw h at k.0), k.1)
 joined_state a b c xs ys g (inr h) k = let e : Err Memory ≡ Ok tt = sym (ap outcome h.1) ∙ g in cc
 
 join_runs : (a : Pass) (xs : List Token) (r : Result (Unit {0}) Error) (b : Pass) (ys : List Token) (s : Result (Unit {0}) Error) (c : Pass) →
@@ -48,9 +89,9 @@ join_runs a xs r b ys s c ok h k = record {
   state = joined_state a b c xs ys (sym h.answer ∙ ok) h.state k.state;
 }
 
-cut_state : (a b : Pass) (e : Error) (xs ys : List Token) → b ≡ Stopped e → (b ≡ steps a xs) ⊎ RanOut a b → (b ≡ steps a (xs ++ ys)) ⊎ RanOut a b
+cut_state : (a b : Pass) (e : Error) (xs ys : List Token) → b ≡ Stopped e → (b ≡ steps a xs) ⊎ RanOut a xs b → (b ≡ steps a (xs ++ ys)) ⊎ RanOut a (xs ++ ys) b
 cut_state a b e xs ys i (inl h) = inl (rw (steps-append, ← h, i) (sym (steps_stopped e ys)))
-cut_state a b e xs ys i (inr h) = inr h
+cut_state a b e xs ys i (inr h) = inr (first_may a xs ys h.0, h.1)
 
 cut_runs : (a : Pass) (xs : List Token) (r : Result (Unit {0}) Error) (b : Pass) (ys : List Token) (s : Result (Unit {0}) Error) (e y : Error) →
     r ≡ Err e → s ≡ Err y → y ≡ e → Runs a xs r b → Runs a (xs ++ ys) s b
@@ -62,7 +103,7 @@ cut_runs a xs r b ys s e y i j k h = record {
 stays : (a : List ℕ) → Follows a a
 stays a = ([], sym (append-nil a))
 
-on : (a b c : List ℕ) → Follows a b → Follows b c → Follows a c
+pub on : (a b c : List ℕ) → Follows a b → Follows b c → Follows a c
 on a b c h k = (h.0 ++ k.0, rw (k.1, h.1) (append_assoc a h.0 k.0))
 
 -- no call
@@ -73,6 +114,14 @@ nothing s r h = record { runs = nothing_runs s.pass r h; kept = stays (bytes_of 
 pub join : (a : Encoder) (xs : List Token) (r : Result (Unit {0}) Error) (b : Encoder) (ys : List Token) (s : Result (Unit {0}) Error) (c : Encoder) →
     r ≡ Ok tt → Writes a xs r b → Writes b ys s c → Writes a (xs ++ ys) s c
 join a xs r b ys s c ok h k = record { runs = join_runs a.pass xs r b.pass ys s c.pass ok h.runs k.runs; kept = on (bytes_of a) (bytes_of b) (bytes_of c) h.kept k.kept }
+
+going_then : (a b : Pass) (ts : List Token) → IsGoing b → (b ≡ steps a ts) ⊎ RanOut a ts b → IsGoing a
+going_then a b ts g (inl h) = going_before a ts (rw h at g)
+going_then a b ts g (inr h) = let e : Err Memory ≡ Ok tt = sym (ap outcome h.1) ∙ g in cc
+
+-- calls are answered Ok by an encoder that has refused nothing
+pub was_going : (a : Encoder) (ts : List Token) (r : Result (Unit {0}) Error) (b : Encoder) → r ≡ Ok tt → Writes a ts r b → IsGoing a.pass
+was_going a ts r b ok w = going_then a.pass b.pass ts (sym w.runs.answer ∙ ok) w.runs.state
 
 -- after a refusal nothing more is written
 pub cut : (a : Encoder) (xs : List Token) (r : Result (Unit {0}) Error) (b : Encoder) (ys : List Token) (s : Result (Unit {0}) Error) (e y : Error) →

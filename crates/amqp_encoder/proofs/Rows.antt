@@ -1,6 +1,6 @@
 -- Whole passes over terms in a row.
 use Rattle.std.proofs.Common.{◌≡◌, ℕ, ◌+◌, ◌<◌, ◌≤◌, List, [], ◌∷◌, ◌++◌, length, map, refl, ◌∙◌, ap, inl, inr, ◌⊎◌, arith, zero-add}
-use Rattle.std.specs.Prelude.{Result, MatchResult, Some}
+use Rattle.std.specs.Prelude.{Result, Ok, MatchResult, Some}
 use Rattle.std.proofs.lemmas.List.{append-nil}
 use Rattle.amqp_model.specs.Term.{list, map as map_, array, Term, Terms, leaf, holder, described, kept, barred, none, more, count}
 use Rattle.amqp_model.specs.Items.{terms_of}
@@ -13,12 +13,13 @@ use Rattle.amqp_encoder.specs.declared.size.Size.{Size}
 use Rattle.amqp_encoder.specs.declared.encoder.Encoder.{Encoder}
 use Rattle.amqp_encoder.specs.declared.encoder.Pass.{Pass}
 use Rattle.amqp_encoder.specs.declared.encoder.Pass.TheVariants.{Measuring, Filling, Stopped}
-use Rattle.amqp_encoder.specs.Tokens.{tokens, all_tokens}
+use Rattle.amqp_encoder.specs.Tokens.{Token, tokens, all_tokens}
 use Rattle.amqp_encoder.specs.State.{at_start, to_fill}
 use Rattle.amqp_encoder.specs.Sound.{levels, all_levels}
 use Rattle.amqp_encoder.specs.Reasons.{HasReason, nest_by, nests_by, array_nest_by, RowRefused}
 use Rattle.amqp_encoder.specs.Writes.{steps, outcome, Runs, Writes, bytes_in, Found}
 use Rattle.amqp_encoder.specs.Passes.{row_text, row_tokens, AreValues, AreRefused, as_size, IsMeasured, BeginsMeasuring, BeginsFilling}
+use Rattle.amqp_encoder.proofs.Joined.{filling_never, going_before, steps-append}
 use Rattle.amqp_encoder.proofs.Filled.{fill_terms, filled, last}
 use Rattle.amqp_encoder.proofs.Measured.{AcceptedAll, RefusedAll, some_inside, some_past, all_too_long, all_too_many, some_null, some_kept, some_other}
 use Rattle.amqp_encoder.proofs.Lifted.{alls_at, any_past}
@@ -141,16 +142,30 @@ module _ (deep : List ℕ → ℕ) where
 
   -- what a filling pass wrote
   abbrev pub HasFilled : List ℕ → Pass → List ℕ → Result (Unit {0}) Error → Type 0
-  HasFilled bytes new saved r = MatchResult r (λ _. bytes_in new saved ≡ bytes) (λ e. e ≡ Memory)
+  HasFilled bytes new saved r = (r ≡ Ok tt) × (bytes_in new saved ≡ bytes)
 
   wrote : (ts : List Term) (out saved : List ℕ) (limit len : ℕ) (sizes : List Size) (r : Result (Unit {0}) Error) (new : Pass) → IsMeasured deep ts len sizes → length out + len ≤ limit →
       Runs (Filling (to_fill sizes out limit)) (row_tokens deep ts) r new → HasFilled (out ++ row_text ts) new saved r
   wrote ts out saved limit len sizes r new m h w =
       elim w.state [
-        | inr o ↦ rw (w.answer, o.1) refl
-        | inl q ↦ rw (w.answer, q, filled_row ts out limit len sizes m h) refl
+        | inr o ↦ absurd (filling_never _ _ o.0)
+        | inl q ↦ rw (w.answer, q, filled_row ts out limit len sizes m h) (refl, refl)
       ]
 
   pub written : (ts : List Term) (len : ℕ) (sizes : List Size) (out : List ℕ) (limit : ℕ) (old : Encoder) (r : Result (Unit {0}) Error) (new : Encoder) → IsMeasured deep ts len sizes → length out + len ≤ limit → BeginsFilling old sizes out limit →
       Writes old (row_tokens deep ts) r new → HasFilled (out ++ row_text ts) new.pass new.kept.items r
   written ts len sizes out limit old r new m h i w = wrote ts out new.kept.items limit len sizes r new.pass m h (rw i at w.runs)
+
+  going_on : (ts : List Term) (out : List ℕ) (limit len : ℕ) (sizes : List Size) (first rest : List Token) (r : Result (Unit {0}) Error) (new : Pass) → IsMeasured deep ts len sizes → length out + len ≤ limit →
+      first ++ rest ≡ row_tokens deep ts → Runs (Filling (to_fill sizes out limit)) first r new → r ≡ Ok tt
+  going_on ts out limit len sizes first rest r new m h j w =
+      elim w.state [
+        | inr o ↦ absurd (filling_never _ _ o.0)
+        | inl q ↦ (w.answer ∙ ap outcome q) ∙ going_before (steps (Filling (to_fill sizes out limit)) first) rest
+            (rw (← steps-append (Filling (to_fill sizes out limit)) first rest, j, filled_row ts out limit len sizes m h) refl)
+      ]
+
+  -- each of its calls is answered Ok
+  pub answered : (ts : List Term) (len : ℕ) (sizes : List Size) (out : List ℕ) (limit : ℕ) (old : Encoder) (first rest : List Token) (r : Result (Unit {0}) Error) (new : Encoder) → IsMeasured deep ts len sizes → length out + len ≤ limit
+      → BeginsFilling old sizes out limit → first ++ rest ≡ row_tokens deep ts → Writes old first r new → r ≡ Ok tt
+  answered ts len sizes out limit old first rest r new m h i j w = going_on ts out limit len sizes first rest r new.pass m h j (rw i at w.runs)

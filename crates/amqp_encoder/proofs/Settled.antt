@@ -1,22 +1,26 @@
 -- What an encoder's call does, from what the pass did.
 use Rattle.std.proofs.Common.{◌≡◌, ℕ, List, [], ◌∷◌, length, take, drop, refl, sym, ◌∙◌, ap, inl, inr}
-use Rattle.std.specs.Prelude.{Result, Ok, Err, OnOk, IfErr}
+use Rattle.std.specs.Prelude.{Result, Ok, Err, OnOk, IfErr, IsOk}
 use Rattle.std.proofs.lemmas.List.{append-nil, take-append-drop}
 use Rattle.amqp_wire.specs.declared.error.Error.{Error}
-use Rattle.amqp_encoder.specs.Tokens.{Token}
+use Rattle.amqp_encoder.specs.Tokens.{Token, TakesMemory}
 use Rattle.amqp_encoder.specs.State.{Measured, Filled}
 use Rattle.amqp_encoder.specs.Gives.{Gives, Does}
-use Rattle.amqp_encoder.specs.Writes.{measure, fill, steps, measuring, filling, outcome, Runs, Writes, Follows, bytes_of}
+use Rattle.amqp_encoder.specs.Writes.{measure, fill, steps, measuring, filling, outcome, IsGoing, AnyMayRunOut, Runs, Writes, Follows, bytes_of}
 use Rattle.amqp_encoder.specs.declared.encoder.Encoder.{Encoder}
 use Rattle.amqp_encoder.specs.declared.encoder.Pass.{Pass}
 use Rattle.amqp_encoder.specs.declared.encoder.Pass.TheVariants.{Measuring, Filling, Stopped}
 
-measured : (m n : Measured) (o : Result (Unit {0}) Error) (new : Pass) (t : Token) → Gives (measure t m) o n
+going : (r : Result Measured Error) → IsOk r → IsGoing (measuring r)
+going (Ok m) h = refl
+going (Err e) h = cc
+
+measured : (m n : Measured) (o : Result (Unit {0}) Error) (new : Pass) (t : Token) → Gives (TakesMemory m.frame.place t) (measure t m) o n
     → OnOk o (new ≡ Measuring n) → IfErr o (λ e. new ≡ Stopped e) → Runs (Measuring m) (t ∷ []) o new
-unfolding steps
+unfolding steps AnyMayRunOut
 measured m n (Ok u) new t h e f = record { answer = sym (ap outcome e); state = inl (e ∙ sym (ap measuring h)) }
-measured m n (Err x) new t (inl h) e f = record { answer = sym (ap outcome f); state = inr (refl, (f ∙ ap Stopped h)) }
-measured m n (Err x) new t (inr h) e f = record { answer = sym (ap outcome f); state = inl (f ∙ sym (ap measuring h)) }
+measured m n (Err x) new t (inl h) e f = record { answer = sym (ap outcome f); state = inl (f ∙ sym (ap measuring h)) }
+measured m n (Err x) new t (inr h) e f = record { answer = sym (ap outcome f); state = inr (inl (h.1, going (measure t m) h.2), f ∙ ap Stopped h.0) }
 
 filled : (m n : Filled) (o : Result (Unit {0}) Error) (new : Pass) (t : Token) → Does (fill t m) o n
     → OnOk o (new ≡ Filling n) → IfErr o (λ e. new ≡ Stopped e) → Runs (Filling m) (t ∷ []) o new
@@ -32,11 +36,11 @@ weaken n new mid (Ok u) e x = ap (λ k. k.pass) e ∙ x
 weaken n new mid (Err y) e x = tt
 
 -- a call that takes no memory is one that might
-pub at_most : {X : Type 0} (r : Result X Error) (o : Result (Unit {0}) Error) (new : X) → Does r o new → Gives r o new
-at_most r (Ok u) new h = h
-at_most r (Err e) new h = inr h
+pub at_most : {X : Type 0} (takes : Type 0) (r : Result X Error) (o : Result (Unit {0}) Error) (new : X) → Does r o new → Gives takes r o new
+at_most takes r (Ok u) new h = h
+at_most takes r (Err e) new h = inl h
 
-pub settled_measuring : (old mid new : Encoder) (m n : Measured) (o r : Result (Unit {0}) Error) (t : Token) → old.pass ≡ Measuring m → Gives (measure t m) o n → mid.pass ≡ Measuring n → mid.kept ≡ old.kept → r ≡ o
+pub settled_measuring : (old mid new : Encoder) (m n : Measured) (o r : Result (Unit {0}) Error) (t : Token) → old.pass ≡ Measuring m → Gives (TakesMemory m.frame.place t) (measure t m) o n → mid.pass ≡ Measuring n → mid.kept ≡ old.kept → r ≡ o
     → OnOk o (new ≡ mid) → IfErr o (λ e. new.pass ≡ Stopped e) → bytes_of new ≡ bytes_of mid → Writes old (t ∷ []) r new
 settled_measuring old mid new m n o r t i h x y q e f k = record {
   runs = rw (i, q) (measured m n o new.pass t h (weaken _ new mid o e x) f);

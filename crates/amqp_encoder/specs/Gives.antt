@@ -1,5 +1,5 @@
 -- What a call of one pass did, and the bytes and lengths that its parts speak of.
-use Rattle.std.specs.Prelude.{◌≡◌, ℕ, ◌+◌, List, [], ◌∷◌, length, drop, ltb, cond, if◌then◌else◌, Result, Ok, Err, ◌⊎◌}
+use Rattle.std.specs.Prelude.{◌≡◌, ℕ, ◌+◌, List, [], ◌∷◌, length, drop, ltb, cond, if◌then◌else◌, Result, Ok, Err, IsOk, ◌⊎◌}
 use Rattle.amqp_model.specs.Term.{Descriptor, name, code, symbol}
 use Rattle.amqp_model.specs.Text.{Place, Plain, First, Later, spell, with_size}
 use Rattle.amqp_wire.specs.declared.error.Error.{Error}
@@ -11,10 +11,10 @@ use Rattle.amqp_encoder.specs.State.{Open, Measured, Filled, seen}
 use Rattle.amqp_encoder.specs.Measuring.{◌>>=◌, short_enough, checked, measure_value}
 use Rattle.amqp_encoder.specs.Filling.{fill_value}
 
--- What its function says, unless memory ran out.
-abbrev pub Gives : {X : Type 0} → Result X Error → Result (Unit {0}) Error → X → Type 0
-Gives r (Ok u) new = r ≡ Ok new
-Gives r (Err e) new = (e ≡ Memory) ⊎ (r ≡ Err e)
+-- What its function says; or memory ran out where the call takes memory, and that says Ok.
+abbrev pub Gives : {X : Type 0} → Type 0 → Result X Error → Result (Unit {0}) Error → X → Type 0
+Gives takes r (Ok u) new = r ≡ Ok new
+Gives takes r (Err e) new = (r ≡ Err e) ⊎ ((e ≡ Memory) × takes × IsOk r)
 
 -- The same of a call that takes no memory.
 abbrev pub Does : {X : Type 0} → Result X Error → Result (Unit {0}) Error → X → Type 0

@@ -1,6 +1,7 @@
 -- The calls that write a term.
 use Rattle.std.specs.Prelude.{ℕ, List, [], ◌∷◌, ◌++◌}
 use Rattle.amqp_model.specs.Term.{Primitive, Container, Descriptor, Term, Terms, leaf, holder, described, kept, barred, none, more}
+use Rattle.amqp_model.specs.Text.{Place, First}
 use Rattle.amqp_wire.specs.Refusals.{error_of}
 use Rattle.amqp_wire.specs.declared.error.Error.{Error}
 
@@ -13,6 +14,13 @@ pub data Token : Type 0 where
   begin_described : Descriptor → Token
   end_described : Token
   refuse : Error → Token
+
+-- A call that takes memory while it measures: for the size of a container that begins, and for a descriptor of an array's
+-- first item.
+abbrev pub TakesMemory : Place → Token → Type 0
+TakesMemory place (begin k) = Unit {0}
+TakesMemory First (begin_described d) = Unit {0}
+TakesMemory place t = ⊥
 
 -- The calls for a term, where kept bytes nest so deep.
 abbrev mutual

@@ -2,7 +2,7 @@
 use Rattle.std.specs.Prelude.{◌≡◌, ℕ, List, [], ◌∷◌, ◌++◌, Result, Ok, Err, ◌⊎◌}
 use Rattle.amqp_wire.specs.declared.error.Error.{Error}
 use Rattle.amqp_wire.specs.declared.error.Error.TheVariants.{Memory}
-use Rattle.amqp_encoder.specs.Tokens.{Token, put, keep, begin, end, begin_described, end_described, refuse}
+use Rattle.amqp_encoder.specs.Tokens.{Token, put, keep, begin, end, begin_described, end_described, refuse, TakesMemory}
 use Rattle.amqp_encoder.specs.State.{Measured, Filled}
 use Rattle.amqp_encoder.specs.Measuring.{measure_put, measure_keep, measure_begin, measure_end, measure_begin_described, measure_end_described}
 use Rattle.std.specs.Prelude.{length}
@@ -56,13 +56,24 @@ outcome (Stopped e) = Err e
 abbrev pub IsGoing : Pass → Type 0
 IsGoing s = outcome s ≡ Ok tt
 
-abbrev pub RanOut : Pass → Pass → Type 0
-RanOut old new = IsGoing old × (new ≡ Stopped Memory)
+-- Memory may run out at the call: it measures, takes memory and isn't refused. A filling pass takes none.
+abbrev pub MayRunOut : Pass → Token → Type 0
+MayRunOut (Measuring m) t = TakesMemory m.frame.place t × IsGoing (step (Measuring m) t)
+MayRunOut (Filling f) t = ⊥
+MayRunOut (Stopped e) t = ⊥
 
--- The calls were made in this order, up to a refusal; or memory ran out.
+-- The same of one of the calls, behind those before it.
+unfoldable pub AnyMayRunOut : Pass → List Token → Type 0
+AnyMayRunOut s [] = ⊥
+AnyMayRunOut s (t ∷ ts) = MayRunOut s t ⊎ AnyMayRunOut (step s t) ts
+
+abbrev pub RanOut : Pass → List Token → Pass → Type 0
+RanOut old ts new = AnyMayRunOut old ts × (new ≡ Stopped Memory)
+
+-- The calls were made in this order, up to a refusal; or memory ran out at one that takes memory.
 pub record Runs (old : Pass) (ts : List Token) (result : Result (Unit {0}) Error) (new : Pass) : Type 0 where
   pub answer : result ≡ outcome new
-  pub state : (new ≡ steps old ts) ⊎ RanOut old new
+  pub state : (new ≡ steps old ts) ⊎ RanOut old ts new
 
 -- the buffer's bytes: those that a filling pass has written behind what was there
 abbrev pub bytes_in : Pass → List ℕ → List ℕ

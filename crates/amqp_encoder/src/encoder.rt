@@ -33,7 +33,9 @@ pub(crate) enum Pass {
 }
 
 /// Measures what is written to it, or fills a buffer with its canonical text (Part 1, section 1.6). Once it
-/// has refused, it answers the same error to every call.
+/// has refused, it answers the same error to every call. It takes memory, and may answer `Memory` for want of
+/// it, only while it measures: where a list, map or array begins, and where a described value does that is the
+/// first item of an array.
 #[derive(Drop)]
 pub struct Encoder {
     pass: Pass,

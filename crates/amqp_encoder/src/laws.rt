@@ -25,13 +25,13 @@ pub fn measuring()
         → (e ≡ Memory) ⊎ AreRefused deep ts e }
 {}
 
-/// Where they were made of an encoder that fills, with what was measured and room for it, it has written their text, unless
-/// the type of one ran out of memory of its own.
+/// Where they were made of an encoder that fills, with what was measured and room for it, each of them was answered Ok,
+/// and it has written their text. It takes no memory, so that none is refused for want of that.
 pub fn filling()
-    ensures written { (deep : List ℕ → ℕ) (ts : List Term) (len : ℕ) (sizes : List Size) (out : List ℕ) (limit : ℕ) (old new : Encoder) → IsMeasured deep ts len sizes → length out + len ≤ limit
-        → BeginsFilling old sizes out limit → Writes old (row_tokens deep ts) (Ok tt) new → bytes_of new ≡ out ++ row_text ts }
-    ensures refused { (deep : List ℕ → ℕ) (ts : List Term) (len : ℕ) (sizes : List Size) (out : List ℕ) (limit : ℕ) (old new : Encoder) (e : Error) → IsMeasured deep ts len sizes → length out + len ≤ limit
-        → BeginsFilling old sizes out limit → Writes old (row_tokens deep ts) (Err e) new → e ≡ Memory }
+    ensures answered { (deep : List ℕ → ℕ) (ts : List Term) (len : ℕ) (sizes : List Size) (out : List ℕ) (limit : ℕ) (old new : Encoder) (first rest : List Token) (answer : Result (Unit {0}) Error) → IsMeasured deep ts len sizes
+        → length out + len ≤ limit → BeginsFilling old sizes out limit → first ++ rest ≡ row_tokens deep ts → Writes old first answer new → answer ≡ Ok tt }
+    ensures written { (deep : List ℕ → ℕ) (ts : List Term) (len : ℕ) (sizes : List Size) (out : List ℕ) (limit : ℕ) (old new : Encoder) (answer : Result (Unit {0}) Error) → IsMeasured deep ts len sizes → length out + len ≤ limit
+        → BeginsFilling old sizes out limit → Writes old (row_tokens deep ts) answer new → bytes_of new ≡ out ++ row_text ts }
 {}
 
 /// Each reason for which the model refuses one of the terms is a reason for the encoder, by its error, where it is told how

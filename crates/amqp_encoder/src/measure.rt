@@ -4,6 +4,7 @@ ghost use Rattle.std.specs.Cmp.Lexicographic.{pointwise};
 ghost use Rattle.std.specs.Bool.{OnTrue, OnFalse};
 ghost use Rattle.amqp_wire.specs.declared.error.Error.TheVariants.{InvalidValue};
 ghost use Rattle.amqp_encoder.specs.Values.{place_of, container_of, descriptor_of};
+ghost use Rattle.amqp_encoder.specs.Tokens.{TakesMemory, begin, begin_described};
 ghost use Rattle.amqp_encoder.specs.State.{at_start, seen};
 ghost use Rattle.amqp_encoder.specs.Opening.{opening};
 ghost use Rattle.amqp_encoder.specs.Measuring.{enter, leave, measure_value, measure_null_at, measure_keep, measure_begin, measure_end, measure_begin_described, measure_end_described, form_after};
@@ -211,7 +212,7 @@ impl Measure {
     }
 
     pub(crate) fn begin(&mut self, container: Container) -> Result<(), Error>
-        ensures { Gives (measure_begin (container_of container) self.old) result self.new }
+        ensures { Gives (TakesMemory self.old.frame.place (begin (container_of container))) (measure_begin (container_of container) self.old) result self.new }
     {
         if self.depth > container.around() {
             return Err(Error::Depth);
@@ -258,7 +259,7 @@ impl Measure {
     }
 
     pub(crate) fn begin_described(&mut self, descriptor: &Descriptor) -> Result<(), Error>
-        ensures { Gives (measure_begin_described (descriptor_of descriptor.now) self.old) result self.new }
+        ensures { Gives (TakesMemory self.old.frame.place (begin_described (descriptor_of descriptor.now))) (measure_begin_described (descriptor_of descriptor.now) self.old) result self.new }
     {
         if self.depth >= NESTING {
             return Err(Error::Depth);
