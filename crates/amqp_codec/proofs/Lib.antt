@@ -1,10 +1,8 @@
 pub mod Depths
 pub mod Joining
 pub mod Passes
-pub mod Reasons
-pub mod TermLaws
 pub mod Trimming
 pub mod PrimitiveReads
 pub mod Options
 pub mod FieldSteps
-pub mod Spelling
+pub mod Rewrites

@@ -24,3 +24,7 @@ pub mod Lists
 pub mod Descriptions
 pub mod Members
 pub mod Rewritten
+pub mod TermLaws
+pub mod Spelling
+pub mod Reasons
+pub mod Rewriting

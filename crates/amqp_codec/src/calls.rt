@@ -1,9 +1,9 @@
 //! Whole values from bytes and to bytes.
-ghost use Rattle.std.specs.Prelude.{◌≡◌, ◌≤◌, ◌⊎◌, ◌++◌, ℕ, length, IfOk, IfErr, OnOk, OnErr};
+ghost use Rattle.std.specs.Prelude.{◌≡◌, ◌≤◌, ◌⊎◌, ◌++◌, ℕ, true, length, IfOk, IfErr, OnOk, OnErr};
 ghost use Rattle.amqp_wire.specs.declared.error.Error.TheVariants.{Memory};
 ghost use Rattle.amqp_encoder.specs.Passes.{row_text};
 ghost use Rattle.amqp_codec.specs.Reading.{IsRead, Unreadable};
-ghost use Rattle.amqp_codec.specs.Rewritten.{IsRewritten, Unwritten};
+ghost use Rattle.amqp_codec.specs.Rewritten.{IsRewritten, IsReadAgain, IsOneText, IsOfNoOther, IsUnchanged, IsShortest, Unwritten};
 ghost use Rattle.amqp_codec.specs.Written.{AreMeasured, AreUnwritable, AreWritable};
 
 use crate::{Canonical, Deserialize, Serialize};
@@ -94,8 +94,14 @@ pub fn append_to_vec<T: Serialize>(
 }
 
 /// The canonical text of the value that the input begins with, and how many bytes that value takes there.
+/// An error is `Memory`, a fault of an input that begins with no value, or `TooLarge`.
 pub fn canonical_text<T: Canonical>(input: &[u8], alloc: Global) -> Result<(Vec<u8>, usize), Error>
     ensures text { IfOk result (λ r. IsRewritten T.reading T.canons input.now r.0.items r.1) }
+    ensures read_again { IfOk result (λ r. IsReadAgain T.reading T.follows T.again T.kept input.now r.0.items r.1) }
+    ensures one_text { IfOk result (λ r. IsOneText T.reading T.canons input.now r.0.items r.1) }
+    ensures no_other { IfOk result (λ r. IsOfNoOther T.reading T.canons T.kept input.now r.0.items r.1) }
+    ensures unchanged { IfOk result (λ r. IsUnchanged T.reading T.canons r.0.items) }
+    ensures shortest { T.is_least ≡ true → IfOk result (λ r. IsShortest T.reading T.canons input.now r.0.items r.1) }
     ensures refused { IfErr result (λ e. (e ≡ Memory) ⊎ (Unreadable T.reading input.now e ⊎ Unwritten T.reading T.canons input.now e)) }
 {
     let (value, len) = from_slice_counted::<T>(input, alloc)?;

@@ -1,8 +1,10 @@
 //! Optional values, boxes, and references, which are written only.
 ghost use Rattle.std.specs.Prelude.{IfSome};
+ghost use Rattle.amqp_model.specs.FieldType.{normal};
 ghost use Rattle.amqp_model.specs.Kinds.{option_canon};
 ghost use Rattle.amqp_codec.specs.OptionType.{option_of};
 ghost use Rattle.amqp_codec.specs.Reading.{reading_of, reads_terms};
+ghost use Rattle.amqp_codec.specs.Rewriting.{rewrites};
 ghost use Rattle.amqp_codec.specs.Wrappers.{boxed};
 ghost use Rattle.amqp_codec.specs.Ties.{option_canons, option_is_term, option_proper, option_tied, box_tied};
 
@@ -49,7 +51,13 @@ impl<T: DeserializeTerm> Deserialize for Option<T> {
     }
 }
 
-impl<T: DeserializeTerm> Canonical for Option<T> {}
+impl<T: DeserializeTerm> Canonical for Option<T> {
+    ghost again = { normal (option_of T.term).norm };
+
+    ghost is_least = { (option_of T.term).is_least };
+
+    ghost rewrites = { rewrites (option_tied T.tied) (option_proper T.canons T.is_value T.proper) };
+}
 
 impl<T: SerializeTerm> SerializeTerm for Option<T> {
     ghost canon = { option_canon T.canon };
@@ -103,7 +111,13 @@ impl<T: DeserializeTerm> Deserialize for Box<T> {
     }
 }
 
-impl<T: DeserializeTerm> Canonical for Box<T> {}
+impl<T: DeserializeTerm> Canonical for Box<T> {
+    ghost again = { normal (boxed T.term).norm };
+
+    ghost is_least = { T.term.is_least };
+
+    ghost rewrites = { rewrites (box_tied T.tied) (λ v. T.proper v.value) };
+}
 
 impl<T: SerializeTerm> SerializeTerm for Box<T> {
     ghost canon = { λ v. T.canon v.value };

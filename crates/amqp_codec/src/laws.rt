@@ -28,6 +28,14 @@ pub fn one_term_is_written<T: DeserializeTerm>()
     ensures refused { (v : T) (e : Error) → T.is_value v → AreUnwritable (T.canons v) e → IsRefusal (T.term.canon v) e }
 {}
 
+/// What `canonical_text` promises holds of a type of terms without a condition: anything may follow a text, each value is
+/// read from its text again, and the text is the shortest where the type is least.
+pub fn terms_are_read_again<T: DeserializeTerm>()
+    ensures follows { (more : List ℕ) → T.follows more }
+    ensures kept { (v : T) → T.kept v }
+    ensures least { T.is_least ≡ T.term.is_least }
+{}
+
 /// No input has two fronts that spell values, and no front spells two values.
 pub fn one_value<T: DeserializeTerm>()
     ensures value { (b c x y : List ℕ) (v w : T) → IsSpelled T.term b v → IsSpelled T.term c w → b ++ x ≡ c ++ y → T.term.same v w }

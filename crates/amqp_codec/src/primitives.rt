@@ -1,9 +1,11 @@
 //! The primitive types of std, and symbols (Part 1, section 1.6).
 ghost use Rattle.std.specs.Prelude.{[], ◌∷◌, refl};
+ghost use Rattle.amqp_model.specs.FieldType.{normal};
 ghost use Rattle.amqp_codec.specs.PrimitiveTypes.{boolean_type, uint_type, ulong_type};
 ghost use Rattle.amqp_codec.specs.Wrappers.{symbol_type};
 ghost use Rattle.amqp_codec.specs.Ties.{tied, proper};
 ghost use Rattle.amqp_codec.specs.Reading.{reading_of, reads_terms};
+ghost use Rattle.amqp_codec.specs.Rewriting.{rewrites};
 
 use crate::{Canonical, Deserialize, DeserializeTerm, Serialize, SerializeTerm};
 use amqp_decoder::Decoder;
@@ -33,7 +35,13 @@ impl Deserialize for bool {
     }
 }
 
-impl Canonical for bool {}
+impl Canonical for bool {
+    ghost again = { normal boolean_type.norm };
+
+    ghost is_least = { boolean_type.is_least };
+
+    ghost rewrites = { rewrites (tied boolean_type) (proper boolean_type refl) };
+}
 
 impl SerializeTerm for bool {
     ghost canon = { boolean_type.canon };
@@ -77,7 +85,13 @@ impl Deserialize for u32 {
     }
 }
 
-impl Canonical for u32 {}
+impl Canonical for u32 {
+    ghost again = { normal uint_type.norm };
+
+    ghost is_least = { uint_type.is_least };
+
+    ghost rewrites = { rewrites (tied uint_type) (proper uint_type refl) };
+}
 
 impl SerializeTerm for u32 {
     ghost canon = { uint_type.canon };
@@ -121,7 +135,13 @@ impl Deserialize for u64 {
     }
 }
 
-impl Canonical for u64 {}
+impl Canonical for u64 {
+    ghost again = { normal ulong_type.norm };
+
+    ghost is_least = { ulong_type.is_least };
+
+    ghost rewrites = { rewrites (tied ulong_type) (proper ulong_type refl) };
+}
 
 impl SerializeTerm for u64 {
     ghost canon = { ulong_type.canon };
@@ -166,7 +186,13 @@ impl Deserialize for Symbol {
     }
 }
 
-impl Canonical for Symbol {}
+impl Canonical for Symbol {
+    ghost again = { normal symbol_type.norm };
+
+    ghost is_least = { symbol_type.is_least };
+
+    ghost rewrites = { rewrites (tied symbol_type) (proper symbol_type refl) };
+}
 
 impl SerializeTerm for Symbol {
     ghost canon = { symbol_type.canon };

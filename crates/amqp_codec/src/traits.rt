@@ -1,5 +1,5 @@
 //! What can be read, written, or both.
-ghost use Rattle.std.specs.Prelude.{◌≡◌, List, [], ◌∷◌};
+ghost use Rattle.std.specs.Prelude.{◌≡◌, ℕ, Bool, List, [], ◌∷◌};
 ghost use Rattle.amqp_model.specs.Term.{Term};
 ghost use Rattle.amqp_model.specs.Items.{is_null};
 ghost use Rattle.amqp_codec.specs.TermType.{TermType};
@@ -8,6 +8,7 @@ ghost use Rattle.amqp_codec.specs.Ties.{Tied};
 ghost use Rattle.amqp_wire.specs.Sources.{Tells};
 ghost use Rattle.amqp_decoder.specs.Reading.{Reads};
 ghost use Rattle.amqp_codec.specs.Reading.{Reading, ReadsTerms};
+ghost use Rattle.amqp_codec.specs.Rewriting.{Rewriting};
 
 use amqp_decoder::Decoder;
 use amqp_encoder::Encoder;
@@ -44,8 +45,23 @@ pub trait Deserialize: Sized + Drop {
         ensures { Tells R.remaining → Reads reading.reads reading.fault decoder.old result decoder.new };
 }
 
-/// What can be both read and written.
-pub trait Canonical: Deserialize + Serialize {}
+/// What can be both read and written, so that each value has one canonical text, which is read as that value again.
+pub trait Canonical: Deserialize + Serialize {
+    // What may stand behind a text: anything, unless an impl says less.
+    ghost follows: { List ℕ → Type 0 } = { λ _. Unit {0} };
+
+    // What the text of a value is read as.
+    ghost again: { Self → Self };
+
+    // That is the value: always, unless an impl says less.
+    ghost kept: { Self → Type 0 } = { λ _. Unit {0} };
+
+    // No spelling of a value without arrays is shorter than its text.
+    ghost is_least: { Bool };
+
+    // The laws.
+    ghost rewrites: { Rewriting Self.reading Self.canons Self.is_value follows again kept is_least };
+}
 
 /// What is written as one term, which may be an item of a list, a map or an array.
 pub trait SerializeTerm: Serialize {
@@ -64,7 +80,7 @@ pub trait DeserializeTerm: Canonical + SerializeTerm {
     // Which terms mean the values, which one is canonical, and the laws of both.
     ghost term: { TermType Self };
 
-    ghost tied: { Tied term Self.canons Self.is_value };
+    ghost tied: { Tied term Self.canons Self.is_value Self.follows Self.kept Self.is_least };
 
     // It reads as its terms say.
     ghost reads_terms: { ReadsTerms term Self.reading };

@@ -1,7 +1,9 @@
 //! The accepted outcome (Part 3, section 3.4.2).
 ghost use Rattle.std.specs.Prelude.{[], ◌∷◌, refl};
+ghost use Rattle.amqp_model.specs.FieldType.{normal};
 ghost use Rattle.amqp_codec.specs.Composite.{composite};
 ghost use Rattle.amqp_codec.specs.Reading.{reading_of, reads_terms};
+ghost use Rattle.amqp_codec.specs.Rewriting.{rewrites};
 ghost use Rattle.amqp_codec.specs.Ties.{tied, proper};
 ghost use Rattle.amqp_delivery.specs.Tables.{accepted};
 
@@ -78,7 +80,13 @@ impl Deserialize for Accepted {
     }
 }
 
-impl Canonical for Accepted {}
+impl Canonical for Accepted {
+    ghost again = { normal (composite accepted).norm };
+
+    ghost is_least = { (composite accepted).is_least };
+
+    ghost rewrites = { rewrites (tied (composite accepted)) (proper (composite accepted) refl) };
+}
 
 impl SerializeTerm for Accepted {
     ghost canon = { (composite accepted).canon };

@@ -1,7 +1,9 @@
 //! The received state (Part 3, section 3.4.1).
 ghost use Rattle.std.specs.Prelude.{[], ◌∷◌, refl};
+ghost use Rattle.amqp_model.specs.FieldType.{normal};
 ghost use Rattle.amqp_codec.specs.Composite.{composite};
 ghost use Rattle.amqp_codec.specs.Reading.{reading_of, reads_terms};
+ghost use Rattle.amqp_codec.specs.Rewriting.{rewrites};
 ghost use Rattle.amqp_codec.specs.Ties.{tied, proper};
 ghost use Rattle.amqp_delivery.specs.Tables.{received};
 
@@ -100,7 +102,13 @@ impl Deserialize for Received {
     }
 }
 
-impl Canonical for Received {}
+impl Canonical for Received {
+    ghost again = { normal (composite received).norm };
+
+    ghost is_least = { (composite received).is_least };
+
+    ghost rewrites = { rewrites (tied (composite received)) (proper (composite received) refl) };
+}
 
 impl SerializeTerm for Received {
     ghost canon = { (composite received).canon };

@@ -1,6 +1,8 @@
 //! The state of a delivery (Part 2, section 2.8.7, and Part 3, section 3.4).
 ghost use Rattle.std.specs.Prelude.{◌≡◌, [], ◌∷◌, refl};
+ghost use Rattle.amqp_model.specs.FieldType.{normal};
 ghost use Rattle.amqp_codec.specs.Reading.{reading_of, reads_terms};
+ghost use Rattle.amqp_codec.specs.Rewriting.{rewrites};
 ghost use Rattle.amqp_codec.specs.Ties.{tied, proper};
 ghost use Rattle.amqp_delivery.specs.Tables.{delivery_state};
 
@@ -98,7 +100,13 @@ impl Deserialize for DeliveryState {
     }
 }
 
-impl Canonical for DeliveryState {}
+impl Canonical for DeliveryState {
+    ghost again = { normal delivery_state.norm };
+
+    ghost is_least = { delivery_state.is_least };
+
+    ghost rewrites = { rewrites (tied delivery_state) (proper delivery_state refl) };
+}
 
 impl SerializeTerm for DeliveryState {
     ghost canon = { delivery_state.canon };

@@ -1,4 +1,4 @@
-use Rattle.amqp_codec.proofs.TermLaws.{count_bounded}
+use Rattle.amqp_codec.specs.TermLaws.{count_bounded}
 use Rattle.amqp_codec.proofs.laws.count_is_bounded.Goals as goal
 
 pub returns : goal.returns

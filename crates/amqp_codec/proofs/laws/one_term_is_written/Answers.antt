@@ -1,4 +1,4 @@
-use Rattle.amqp_codec.proofs.Reasons.{tied_text, tied_writable, tied_refused}
+use Rattle.amqp_codec.specs.Reasons.{tied_text, tied_writable, tied_refused}
 use Rattle.amqp_codec.proofs.laws.one_term_is_written.Goals as goal
 
 pub returns-clause-is_value : goal.returns-clause-is_value

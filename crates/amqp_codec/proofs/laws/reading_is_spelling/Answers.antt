@@ -1,4 +1,4 @@
-use Rattle.amqp_codec.proofs.Spelling.{read_spelled, spelled_read}
+use Rattle.amqp_codec.specs.Spelling.{read_spelled, spelled_read}
 use Rattle.amqp_codec.proofs.laws.reading_is_spelling.Goals as goal
 
 pub returns-clause-spelled : goal.returns-clause-spelled

@@ -1,5 +1,5 @@
 -- Why terms aren't written, in the words of the record of their type.
-use Rattle.std.proofs.Common.{◌≡◌, ◌⊎◌, inl, inr, ◌<◌, List, [], ◌∷◌, refl, ap, ◌∙◌, subst, arith}
+use Rattle.std.proofs.Common.{◌≡◌, ◌⊎◌, inl, inr, ℕ, Bool, ◌<◌, List, [], ◌∷◌, refl, ap, ◌∙◌, subst, arith}
 use Rattle.std.proofs.lemmas.List.{append-nil}
 use Rattle.amqp_model.specs.Term.{Refusal, depth, list, map, array, Term, Terms, leaf, holder, described, kept, barred, none, more}
 use Rattle.amqp_model.specs.Text.{Plain, text, texts}
@@ -92,7 +92,7 @@ one_refused t e i (inr (inl (d, (us, reads, l)))) = inr (depth, d, one_deep t us
 one_refused t e i (inr (inr (d, h))) = inl d
 
 -- a type of terms
-module _ {T : Type 0} {u : TermType T} {canons : T → List Term} {is_value : T → Type 0} (tie : Tied u canons is_value) where
+module _ {T : Type 0} {u : TermType T} {canons : T → List Term} {is_value : T → Type 0} {follows : List ℕ → Type 0} {stays : T → Type 0} {is_least : Bool} (tie : Tied u canons is_value follows stays is_least) where
   pub tied_text : (v : T) → row_text (canons v) ≡ written u v
   tied_text v = ap row_text (tie.canons_is v) ∙ one_text (u.canon v)
 
