@@ -65,7 +65,12 @@ impl ByteSource for &[u8] {
         let bytes: &[u8] = *self;
         let n = bytes.len().min(buffer.len());
         let (front, rest) = bytes.split_at(n);
-        buffer[..n].copy_from_slice(front);
+        // A byte or four are stored faster than by a call that copies them.
+        match front {
+            [byte] => buffer[0] = *byte,
+            [a, b, c, d] => buffer[..4].copy_from_slice(&[*a, *b, *c, *d]),
+            _ => buffer[..n].copy_from_slice(front),
+        }
         *self = rest;
         Ok(n)
     }
