@@ -32,8 +32,8 @@ use Rattle.std.proofs.lemmas.Slice.Eq.{bytes_eq-Decides}
 use Rattle.amqp_decoder.specs.State.{State, past}
 use Rattle.amqp_decoder.specs.Primitives.{Stands}
 use Rattle.amqp_codec.specs.Lists.{list_term, term_list}
-use Rattle.amqp_codec.specs.FieldReading.{FieldsRead, FieldsFault}
-use Rattle.amqp_codec.specs.Members.{Members, MemberFault, TermRead, TermMeant, IsSum, is_named, name_place}
+use Rattle.amqp_codec.specs.FieldReading.{fields_not_memory, FieldsRead, FieldsFault}
+use Rattle.amqp_codec.specs.Members.{member_not_memory, Members, MemberFault, TermRead, TermMeant, IsSum, is_named, name_place}
 use Rattle.amqp_codec.specs.Fields.{Fields, slots, items, count_of, are_least, take_memory, items_plain, items_valued, items_nested, items_counted, items_writable, items_fewest, items_least}
 
 -- The table of a composite: the code and the name that describe it, and its fields.
@@ -270,6 +270,7 @@ composite c =
       is_value = AreValues (slots c.fields);
       means = λ s. MeansComposite (table_of c);
       fault = MemberFault (composite_members c);
+      not_memory = member_not_memory (composite_members c) (λ i. fields_not_memory c.fields);
       canon = canonical_term (table_of c);
       norm = c.norm;
       same = Same (slots c.fields);

@@ -195,6 +195,7 @@ either_of u w apart = record {
   is_value = IsEither u.is_value w.is_value;
   means = MeansEither u w;
   fault = λ st e. u.fault st e ⊎ w.fault st e;
+  not_memory = λ st f. elim f [ inl x ↦ u.not_memory st x | inr x ↦ w.not_memory st x ];
   canon = either_canon u w;
   norm = either_norm u w;
   same = either_same u w;

@@ -7,13 +7,14 @@ use Rattle.amqp_model.specs.Slot.{is_required}
 use Rattle.amqp_model.specs.Fields.{Fits, kinds_of}
 use Rattle.amqp_model.specs.declared.tables.FieldKind.{FieldKind}
 use Rattle.amqp_wire.specs.declared.error.Error.{Error}
-use Rattle.amqp_wire.specs.declared.error.Error.TheVariants.{Missing}
+use Rattle.amqp_wire.specs.declared.error.Error.TheVariants.{Memory, Missing}
 use Rattle.amqp_model.specs.declared.tables.FieldKind.TheVariants.{Mandatory}
 use Rattle.amqp_decoder.specs.declared.frame.Place.TheVariants.{InList}
 use Rattle.amqp_decoder.specs.State.{State, past}
 use Rattle.amqp_decoder.specs.Reading.{Refused, BeginFault, Peeked}
 use Rattle.amqp_decoder.specs.Primitives.{standing, Stands, Value, Means}
 use Rattle.amqp_decoder.specs.Containers.{Opens, OpenFault, CloseFault}
+use Rattle.amqp_decoder.proofs.NotMemory.{begin_not_memory, open_not_memory, close_not_memory}
 use Rattle.amqp_codec.specs.Lists.{StandEach, ListStands}
 use Rattle.amqp_codec.specs.Refused.{refused_first}
 use Rattle.amqp_codec.specs.Fields.{Fields, none, field, slots, take_memory, either_first, either_second}
@@ -193,3 +194,20 @@ pub data FieldsFault {V : Type 0} (fs : Fields V) (st : State) (e : Error) : Typ
   at_item : {n i : ℕ} {v : V} {mid : State} → FieldsSoFar fs st n i v mid → i < n → i < length (kinds_of (slots fs)) → ItemFault fs i mid e → FieldsFault fs st e
   left_out : {n i : ℕ} {v : V} {mid : State} → FieldsSoFar fs st n i v mid → n ≤ i → i < length (kinds_of (slots fs)) → is_required (kind_at fs i) ≡ true → e ≡ Missing → FieldsFault fs st e
   not_ended : {n : ℕ} {v : V} {mid : State} → FieldsSoFar fs st n (length (kinds_of (slots fs))) v mid → CloseFault InList mid e → FieldsFault fs st e
+
+-- No fault of a field is want of memory.
+fault_at_not_memory : {V : Type 0} (fs : Fields V) (i : ℕ) (st : State) → FaultAt fs i st Memory → ⊥
+fault_at_not_memory none i st f = f
+fault_at_not_memory (field get f fs) zero st x = f.not_memory st x
+fault_at_not_memory (field get f fs) (suc i) st x = fault_at_not_memory fs i st x
+
+item_not_memory : {V : Type 0} (fs : Fields V) (i : ℕ) (st : State) → ItemFault fs i st Memory → ⊥
+item_not_memory fs i st (no_item f) = begin_not_memory st f
+item_not_memory fs i st (null_item h r is) = cc
+item_not_memory fs i st (in_item {c} {mid} p f) = fault_at_not_memory fs i mid f
+
+pub fields_not_memory : {V : Type 0} (fs : Fields V) (st : State) → FieldsFault fs st Memory → ⊥
+fields_not_memory fs st (no_list f) = open_not_memory list st f
+fields_not_memory fs st (at_item {n} {i} {v} {mid} h l k f) = item_not_memory fs i mid f
+fields_not_memory fs st (left_out h l k r is) = cc
+fields_not_memory fs st (not_ended {n} {v} {mid} h f) = close_not_memory InList mid f

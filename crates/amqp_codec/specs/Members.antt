@@ -14,6 +14,8 @@ use Rattle.amqp_decoder.specs.Primitives.{standing, Stands, Value}
 use Rattle.amqp_decoder.specs.Containers.{ClosesDescribed, EndFault}
 use Rattle.amqp_decoder.specs.Described.{IsDescriptor, entered, TookDescriptor, OpensDescribed, Member, is_of, place_of, OpensOneOf, OneOfFault}
 use Rattle.amqp_decoder.proofs.Leaves.{begun_same}
+use Rattle.amqp_decoder.proofs.NotMemory.{one_of_not_memory, end_not_memory}
+use Rattle.amqp_wire.specs.declared.error.Error.TheVariants.{Memory}
 use Rattle.amqp_codec.specs.Reading.{stands_one}
 use Rattle.amqp_codec.specs.Refused.{no_memory, refused_first, refused_later}
 use Rattle.amqp_codec.specs.Descriptions.{described_term, term_described}
@@ -54,6 +56,11 @@ pub data MemberFault {V : Type 0} (m : Members V) (st : State) (e : Error) : Typ
   no_member : {ms : List Member} → map as_name ms ≡ m.names → OneOfFault ms st e → MemberFault m st e
   in_member : {d : Descriptor} {i : ℕ} {inner : State} → OpensDescribed st d inner → name_place m.names d ≡ Some i → m.fault i inner e → MemberFault m st e
   not_ended : {d : Descriptor} {i : ℕ} {inner last : State} {v : V} → OpensDescribed st d inner → name_place m.names d ≡ Some i → m.reads i inner v last → EndFault InDescribed last e → MemberFault m st e
+
+pub member_not_memory : {V : Type 0} (m : Members V) → ((i : ℕ) (st : State) → m.fault i st Memory → ⊥) → (st : State) → MemberFault m st Memory → ⊥
+member_not_memory m none st (no_member {ms} names f) = one_of_not_memory ms st f
+member_not_memory m none st (in_member {d} {i} {inner} o at f) = none i inner f
+member_not_memory m none st (not_ended {d} {i} {inner} {last} {v} o at q f) = end_not_memory InDescribed last f
 
 -- What was read behind the descriptor of a member is one term.
 pub record TermRead {V : Type 0} (m : Members V) (means : Standing → Term → V → Type 0) (i : ℕ) (inner : State) (v : V) (last : State) : Type 0 where

@@ -1,5 +1,5 @@
 -- An optional value: null is none.
-use Rattle.std.proofs.Common.{◌≡◌, ◌⊎◌, ℕ, ◌≤◌, Bool, true, false, List, Option, Some, None, IfSome, length, refl, sym, ap, ◌∙◌, subst, arith}
+use Rattle.std.proofs.Common.{inl, inr, ◌≡◌, ◌⊎◌, ℕ, ◌≤◌, Bool, true, false, List, Option, Some, None, IfSome, length, refl, sym, ap, ◌∙◌, subst, arith}
 use Rattle.amqp_model.specs.Term.{null, Refusal, too_large, Term, leaf, Descriptor}
 use Rattle.amqp_model.specs.Spelling.{enc}
 use Rattle.amqp_model.specs.Standing.{Standing, whole, part}
@@ -17,6 +17,8 @@ use Rattle.amqp_model.proofs.Lengths.{spelling_length}
 use Rattle.amqp_wire.specs.declared.error.Error.{Error}
 use Rattle.amqp_decoder.specs.State.{State}
 use Rattle.amqp_decoder.specs.Reading.{BeginFault, Peeked}
+use Rattle.amqp_decoder.proofs.NotMemory.{begin_not_memory}
+use Rattle.amqp_wire.specs.declared.error.Error.TheVariants.{Memory}
 use Rattle.amqp_codec.specs.Tidy.{tidy}
 use Rattle.amqp_codec.specs.TermType.{TermType, Spells, StandsCanonically, IsUnrefused, IsLeaf, IsKept, IsPlain}
 use Rattle.amqp_codec.specs.Leaves.{reads_leaf, null_writable}
@@ -30,6 +32,10 @@ MeansOption means s t (Some v) = (is_null t ≡ false) × means s t v
 -- No value begins, or what begins there has the fault.
 abbrev pub OptionFault : (State → Error → Type 0) → State → Error → Type 0
 OptionFault fault st e = BeginFault st e ⊎ ((c : ℕ) × (mid : State) × Peeked st c mid × fault mid e)
+
+pub option_not_memory : (fault : State → Error → Type 0) → ((st : State) → fault st Memory → ⊥) → (st : State) → OptionFault fault st Memory → ⊥
+option_not_memory fault none st (inl f) = begin_not_memory st f
+option_not_memory fault none st (inr (c, mid, p, f)) = none mid f
 
 abbrev pub keep : {T : Type 0} → Bool → T → Option T
 keep true v = None
@@ -184,6 +190,7 @@ option_of u = record {
   is_value = λ v. IfSome v u.is_value;
   means = MeansOption u.means;
   fault = OptionFault u.fault;
+  not_memory = option_not_memory u.fault u.not_memory;
   canon = option_canon u.canon;
   norm = norm_option u.norm u.solid u.canon;
   same = SameOption u.same;

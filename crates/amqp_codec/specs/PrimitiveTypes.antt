@@ -11,6 +11,7 @@ use Rattle.amqp_model.specs.FieldType.{plain}
 use Rattle.amqp_model.specs.Text.{form}
 use Rattle.amqp_model.proofs.Least.{text_is_least}
 use Rattle.amqp_decoder.specs.Primitives.{PrimitiveFault}
+use Rattle.amqp_decoder.proofs.NotMemory.{primitive_not_memory}
 use Rattle.amqp_codec.specs.TermType.{TermType, IsLeaf}
 use Rattle.amqp_codec.specs.Leaves.{leaf_injective, reads_leaf, leaf_writable}
 
@@ -41,6 +42,7 @@ module _ {A : Type 0} (make : A → Primitive) (range : A → Type 0) (laws : Is
     is_value = range;
     means = λ s. MeansPrimitive make range;
     fault = PrimitiveFault k;
+    not_memory = primitive_not_memory k;
     canon = λ v. leaf (make v);
     norm = plain;
     same = λ v w. v ≡ w;

@@ -19,8 +19,9 @@ pub record Reading (T : Type 0) : Type 1 where
   pub same : T → T → Type 0
   -- from the first state the value is read, and the second is left
   pub reads : State → T → State → Type 0
-  -- the error names a fault that stands there
+  -- the error names a fault that stands there; it isn't want of memory
   pub fault : State → Error → Type 0
+  pub not_memory : (st : State) → fault st Memory → ⊥
   -- reading it takes memory
   pub takes_memory : Bool
   -- the values in it
@@ -71,6 +72,7 @@ reading_of u = record {
   same = u.same;
   reads = Value u.means;
   fault = u.fault;
+  not_memory = u.not_memory;
   takes_memory = u.takes_memory;
   count = u.count;
   same_sym = u.same_sym;
@@ -128,3 +130,8 @@ refused_read {T} r input e b sound h = go (h.named refl) h.none
     go (inr f) (inl (inl x)) = inl x
     go (inr f) (inl (inr x)) = absurd (let y = x.1 in cc)
     go (inr f) (inr n) = inr (record { fault = f; none = λ v m k. n v k.after k.read })
+
+-- memory is wanted only where it is taken
+pub memory_wanted : {T : Type 0} (r : Reading T) (input : List ℕ) (e : Error) → ((r.takes_memory ≡ true) × (e ≡ Memory)) ⊎ Unreadable r input e → e ≡ Memory → r.takes_memory ≡ true
+memory_wanted r input e (inl x) is = x.0
+memory_wanted r input e (inr x) is = absurd (r.not_memory (start input) (subst (r.fault (start input)) is x.fault))

@@ -18,6 +18,7 @@ use Rattle.amqp_model.specs.DefaultLaws.{default_meaning}
 use Rattle.amqp_model.proofs.Lengths.{spelling_length}
 use Rattle.amqp_wire.specs.declared.error.Error.{Error}
 use Rattle.amqp_decoder.specs.State.{State}
+use Rattle.amqp_wire.specs.declared.error.Error.TheVariants.{Memory}
 use Rattle.amqp_codec.specs.TermType.{TermType, IsPlain}
 use Rattle.amqp_codec.specs.Leaves.{null_writable}
 use Rattle.amqp_codec.specs.FieldTypes.{anywhere, FieldLaws, field_type, type_laws}
@@ -29,6 +30,7 @@ pub record Field (T : Type 0) : Type 1 where
   -- what a term that isn't null means, standing so, and the faults in reading it
   pub reads : Standing → Term → T → Type 0
   pub fault : State → Error → Type 0
+  pub not_memory : (st : State) → fault st Memory → ⊥
   pub fits : (s : Standing) (t : Term) (v : T) → reads s t v → slot.meaning.means t v
   pub is_read : (s : Standing) (t : Term) (v : T) → is_null t ≡ false → slot.meaning.means t v → reads s t v
 
@@ -39,6 +41,7 @@ mandatory u solid blind = record {
   takes_memory = u.takes_memory;
   reads = u.means;
   fault = u.fault;
+  not_memory = u.not_memory;
   fits = λ s t v m. u.is_blind blind s anywhere t v m;
   is_read = λ s t v n m. u.is_blind blind anywhere s t v m;
 }
@@ -115,6 +118,7 @@ optional u solid blind =
       takes_memory = u.takes_memory;
       reads = λ s t. MeansSome (u.means s t);
       fault = u.fault;
+      not_memory = u.not_memory;
       fits = some_fits u solid blind;
       is_read = some_read u solid blind;
     }
@@ -182,6 +186,7 @@ default u solid blind d =
       takes_memory = u.takes_memory;
       reads = u.means;
       fault = u.fault;
+      not_memory = u.not_memory;
       fits = λ s t v m. inl (u.is_blind blind s anywhere t v m);
       is_read = other_read u solid blind d;
     }

@@ -12,6 +12,7 @@ use Rattle.amqp_model.specs.Items.{is_null, IsFree}
 use Rattle.amqp_model.specs.FieldType.{Norm, normal}
 use Rattle.amqp_wire.specs.declared.error.Error.{Error}
 use Rattle.amqp_decoder.specs.State.{State}
+use Rattle.amqp_wire.specs.declared.error.Error.TheVariants.{Memory}
 use Rattle.amqp_codec.specs.Tidy.{tidy}
 
 abbrev pub IsUnrefused : Term → Type 0
@@ -53,8 +54,9 @@ pub record TermType (T : Type 0) : Type 1 where
   pub is_value : T → Type 0
   -- the term, standing so, means the value
   pub means : Standing → Term → T → Type 0
-  -- the error names a fault of what stands before a decoder
+  -- the error names a fault of what stands before a decoder; it isn't want of memory
   pub fault : State → Error → Type 0
+  pub not_memory : (st : State) → fault st Memory → ⊥
   -- the canonical term, in which a refusal stands if the value has none
   pub canon : T → Term
   pub norm : Norm T

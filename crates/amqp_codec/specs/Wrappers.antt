@@ -31,6 +31,7 @@ via u to n is = record {
   is_value = λ v. u.is_value (to v);
   means = λ s t v. u.means s t (to v);
   fault = u.fault;
+  not_memory = u.not_memory;
   canon = λ v. u.canon (to v);
   norm = n;
   same = λ v w. u.same (to v) (to w);

@@ -17,6 +17,7 @@ pub fn from_slice<T: Deserialize>(input: &[u8], alloc: Global) -> Result<T, Erro
     ensures found { IfOk result (λ v. (n : ℕ) × IsRead T.reading input.now v n) }
     ensures one { IfOk result (λ v. (w : _) (m : ℕ) → IsRead T.reading input.now w m → T.reading.same v w) }
     ensures refused { IfErr result (λ e. ((T.reading.takes_memory ≡ true) × (e ≡ Memory)) ⊎ Unreadable T.reading input.now e) }
+    ensures memory { IfErr result (λ e. e ≡ Memory → T.reading.takes_memory ≡ true) }
 {
     let (value, _) = from_slice_counted(input, alloc)?;
     Ok(value)
@@ -28,6 +29,7 @@ pub fn from_slice_counted<T: Deserialize>(input: &[u8], alloc: Global) -> Result
     ensures one { IfOk result (λ r. (w : _) (m : ℕ) → IsRead T.reading input.now w m → T.reading.same r.0 w × (r.1 ≡ m)) }
     ensures bounded { IfOk result (λ r. T.reading.count r.0 ≤ r.1) }
     ensures refused { IfErr result (λ e. ((T.reading.takes_memory ≡ true) × (e ≡ Memory)) ⊎ Unreadable T.reading input.now e) }
+    ensures memory { IfErr result (λ e. e ≡ Memory → T.reading.takes_memory ≡ true) }
 {
     let mut decoder = Decoder::new(input, alloc);
     let read = T::deserialize(&mut decoder, alloc);

@@ -14,3 +14,4 @@ pub mod Fronts
 pub mod Constructed
 pub mod OpenedArrays
 pub mod KeptBytes
+pub mod NotMemory

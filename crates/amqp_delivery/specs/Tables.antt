@@ -7,13 +7,14 @@ use Rattle.amqp_model.specs.Composite.{Describes}
 use Rattle.amqp_wire.specs.declared.error.Error.{Error}
 use Rattle.amqp_decoder.specs.State.{State}
 use Rattle.amqp_model.specs.FieldType.{plain}
+use Rattle.amqp_wire.specs.declared.error.Error.TheVariants.{Memory}
 use Rattle.amqp_codec.specs.TermType.{TermType}
 use Rattle.amqp_codec.specs.PrimitiveTypes.{uint_type, ulong_type}
 use Rattle.amqp_codec.specs.Slots.{mandatory}
 use Rattle.amqp_codec.specs.Fields.{none, field, take_memory}
-use Rattle.amqp_codec.specs.FieldReading.{FieldsRead, FieldsFault}
+use Rattle.amqp_codec.specs.FieldReading.{fields_not_memory, FieldsRead, FieldsFault}
 use Rattle.amqp_codec.specs.Refused.{NoneStands}
-use Rattle.amqp_codec.specs.Members.{Members, MemberFault, TermRead, TermMeant, IsSum, is_named, name_place}
+use Rattle.amqp_codec.specs.Members.{member_not_memory, Members, MemberFault, TermRead, TermMeant, IsSum, is_named, name_place}
 use Rattle.amqp_codec.specs.Composite.{Table, table_of, composite, composite_is_sum, fields_term, named_describes, only_place}
 use Rattle.amqp_codec.specs.EitherType.{either_of}
 use Rattle.amqp_codec.specs.Wrappers.{via}
@@ -64,12 +65,16 @@ abbrev pub StateFault : ℕ → State → Error → Type 0
 StateFault zero st e = FieldsFault received.fields st e
 StateFault (suc i) st e = FieldsFault accepted.fields st e
 
+pub state_not_memory : (i : ℕ) (st : State) → StateFault i st Memory → ⊥
+state_not_memory zero st f = fields_not_memory received.fields st f
+state_not_memory (suc i) st f = fields_not_memory accepted.fields st f
+
 abbrev pub state_members : Members DeliveryState
 state_members = record { names = (received.code, received.name) ∷ (accepted.code, accepted.name) ∷ []; reads = StateRead; fault = StateFault; takes_memory = take_memory received.fields || take_memory accepted.fields }
 
 -- Part 3, section 3.4: a state is the member whose descriptor stands there
 abbrev pub delivery_state : TermType DeliveryState
-delivery_state = record (via either member plain (λ v. refl)) { fault = MemberFault state_members }
+delivery_state = record (via either member plain (λ v. refl)) { fault = MemberFault state_members; not_memory = member_not_memory state_members state_not_memory }
 
 first_or_second : (d : Descriptor) (i : ℕ) → name_place state_members.names d ≡ Some i → ((i ≡ 0) × (is_named d (received.code, received.name) ≡ true)) ⊎ ((i ≡ 1) × (is_named d (accepted.code, accepted.name) ≡ true))
 first_or_second d i h =

@@ -5,7 +5,7 @@ ghost use Rattle.std.specs.Prelude.{◌≡◌, false};
 use crate::{Accepted, DeliveryState, Received};
 use amqp_codec::Deserialize;
 
-/// They are read without memory: `from_slice` and `deserialize` name want of it for none of them.
+/// They are read without memory, so that `from_slice` answers `Memory` for none of them.
 pub fn reading_takes_no_memory()
     ensures accepted { ⟦<Accepted as Deserialize>⟧.reading.takes_memory ≡ false }
     ensures received { ⟦<Received as Deserialize>⟧.reading.takes_memory ≡ false }
