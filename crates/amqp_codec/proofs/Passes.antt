@@ -43,7 +43,7 @@ module _ (ts : List Term) (proper : AreProper ts) where
         | inr g ↦ inl (memory e r i g.answer)
         | inl c ↦
             let f : HasFound d.0 ts new.pass (Err e) = rw i at (rows.measured d.0 ts old r new (proper_values ts proper) b c) in
-            elim f [ inl m ↦ inl m | inr u ↦ inr (unwritable d.0 ts e proper d.1 u) ]
+            elim f [ inl m ↦ inl m.0 | inr u ↦ inr (unwritable d.0 ts e proper d.1 u) ]
       ]
 
   module _ (old new : Encoder) (r : Result (Unit {0}) Error) (begins : BeginsMeasuring old) (went : r ≡ Ok tt) (wrote : WritesTerms ts old r new) where

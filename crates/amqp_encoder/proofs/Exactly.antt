@@ -37,7 +37,7 @@ module _ (deep : List ℕ → ℕ) where
   row_accepted us old new x v i w = let found = measured deep us old (Ok tt) new v i w in not_caused us x (found.1.unrefused)
 
   pub row_refused : (us ts : List Term) (old new : Encoder) (e : Error) → KnowDepths deep us → AreValues us → AllRead us ts → BeginsMeasuring old → Writes old (row_tokens deep us) (Err e) new → (e ≡ Memory) ⊎ HasCause us e
-  row_refused us ts old new e x v h i w = elim (measured deep us old (Err e) new v i w) [ inl m ↦ inl m | inr r ↦ inr (has_cause deep us ts e x v h r) ]
+  row_refused us ts old new e x v h i w = elim (measured deep us old (Err e) new v i w) [ inl m ↦ inl m.0 | inr r ↦ inr (has_cause deep us ts e x v h r) ]
 
   pub row_exactly : (us ts : List Term) (old new : Encoder) (r : Result (Unit {0}) Error) → KnowDepths deep us → AreValues us → AllRead us ts → BeginsMeasuring old → Writes old (row_tokens deep us) r new
       → ((e : Error) → HasCause us e → ⊥) → (r ≡ Ok tt) ⊎ (r ≡ Err Memory)
@@ -50,7 +50,7 @@ module _ (deep : List ℕ → ℕ) where
       (λ r h. free (error_of r) (inl (r, refl, any_first (Refuses r) u [] h)), fits_machine u (λ l. free TooLarge (inr (refl, inl l))))
 
   pub term_refused : (u t : Term) (old new : Encoder) (e : Error) → KnowDepths deep (u ∷ []) → AreValues (u ∷ []) → Reads u t → BeginsMeasuring old → Writes old (tokens deep u) (Err e) new → (e ≡ Memory) ⊎ TermHasCause u e
-  term_refused u t old new e x v h i w = elim (measured deep (u ∷ []) old (Err e) new v i (rw (one_row u) at w)) [ inl m ↦ inl m | inr r ↦ inr (term_has_cause deep u t e x v h r) ]
+  term_refused u t old new e x v h i w = elim (measured deep (u ∷ []) old (Err e) new v i (rw (one_row u) at w)) [ inl m ↦ inl m.0 | inr r ↦ inr (term_has_cause deep u t e x v h r) ]
 
   pub term_exactly : (u t : Term) (old new : Encoder) (r : Result (Unit {0}) Error) → KnowDepths deep (u ∷ []) → AreValues (u ∷ []) → Reads u t → BeginsMeasuring old → Writes old (tokens deep u) r new
       → ((r : Refusal) → Refuses r u → ⊥) → length (text u Plain) ≤ MAX → (r ≡ Ok tt) ⊎ (r ≡ Err Memory)

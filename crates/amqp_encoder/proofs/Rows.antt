@@ -18,7 +18,8 @@ use Rattle.amqp_encoder.specs.State.{at_start, to_fill}
 use Rattle.amqp_encoder.specs.Sound.{levels, all_levels}
 use Rattle.amqp_encoder.specs.Reasons.{HasReason, nest_by, nests_by, array_nest_by, RowRefused}
 use Rattle.amqp_encoder.specs.Writes.{steps, outcome, Runs, Writes, bytes_in, Found}
-use Rattle.amqp_encoder.specs.Passes.{row_text, row_tokens, AreValues, AreRefused, as_size, IsMeasured, BeginsMeasuring, BeginsFilling}
+use Rattle.amqp_encoder.specs.Passes.{row_text, row_tokens, AreValues, HoldOthers, AreRefused, as_size, IsMeasured, BeginsMeasuring, BeginsFilling}
+use Rattle.amqp_encoder.proofs.Holders.{holds}
 use Rattle.amqp_encoder.proofs.Joined.{filling_never, going_before, steps-append}
 use Rattle.amqp_encoder.proofs.Filled.{fill_terms, filled, last}
 use Rattle.amqp_encoder.proofs.Measured.{AcceptedAll, RefusedAll, some_inside, some_past, all_too_long, all_too_many, some_null, some_kept, some_other}
@@ -110,7 +111,7 @@ module _ (deep : List ℕ → ℕ) where
 
   -- what a measuring pass found: the terms' length and sizes, or why they are refused
   abbrev pub HasFound : List Term → Pass → Result (Unit {0}) Error → Type 0
-  HasFound ts new r = MatchResult r (λ _. Found new (length (row_text ts)) (map as_size (all_sizes (terms_of ts))) × IsMeasured deep ts (length (row_text ts)) (map as_size (all_sizes (terms_of ts)))) (λ e. (e ≡ Memory) ⊎ AreRefused deep ts e)
+  HasFound ts new r = MatchResult r (λ _. Found new (length (row_text ts)) (map as_size (all_sizes (terms_of ts))) × IsMeasured deep ts (length (row_text ts)) (map as_size (all_sizes (terms_of ts)))) (λ e. ((e ≡ Memory) × HoldOthers ts) ⊎ AreRefused deep ts e)
 
   found_goes : (ts : List Term) (new : Pass) (r : Result (Unit {0}) Error) → AcceptedAll deep (terms_of ts) Plain 0 0 0 0 0 [] → new ≡ row_end ts → r ≡ outcome new → HasFound ts new r
   found_goes ts new r a i h = rw (h, i) ((refl, zero-add (length (row_text ts)), refl), measured_is ts a)
@@ -118,13 +119,13 @@ module _ (deep : List ℕ → ℕ) where
   found_stops : (ts : List Term) (new : Pass) (r : Result (Unit {0}) Error) (e : Error) → AreRefused deep ts e → new ≡ Stopped e → r ≡ outcome new → HasFound ts new r
   found_stops ts new r e w i h = rw (h, i) (inr w)
 
-  found_out : (ts : List Term) (new : Pass) (r : Result (Unit {0}) Error) → new ≡ Stopped Memory → r ≡ outcome new → HasFound ts new r
-  found_out ts new r i h = rw (h, i) (inl refl)
+  found_out : (ts : List Term) (new : Pass) (r : Result (Unit {0}) Error) → HoldOthers ts → new ≡ Stopped Memory → r ≡ outcome new → HasFound ts new r
+  found_out ts new r x i h = rw (h, i) (inl (refl, x))
 
   found : (ts : List Term) (r : Result (Unit {0}) Error) (new : Pass) → AreValues ts → Runs (Measuring at_start) (row_tokens deep ts) r new → HasFound ts new r
   found ts r new v w =
       elim w.state [
-        | inr o ↦ found_out ts new r o.1 w.answer
+        | inr o ↦ found_out ts new r (holds deep ts o.0) o.1 w.answer
         | inl q ↦ elim (measured_row ts v) [
           | goes a e ↦ found_goes ts new r a (q ∙ (e ∙ steps_none (row_end ts))) w.answer
           | stops x y e ↦ found_stops ts new r x (row_refused (terms_of ts) x y) (q ∙ e) w.answer

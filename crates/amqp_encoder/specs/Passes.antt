@@ -1,6 +1,6 @@
 -- Whole passes over some terms in a row, as the sections of a message are.
 use Rattle.std.specs.Prelude.{◌≡◌, ◌≤◌, ℕ, List, length, map, flat_map, Result}
-use Rattle.amqp_model.specs.Term.{Refusal, Term}
+use Rattle.amqp_model.specs.Term.{Refusal, Term, holder}
 use Rattle.amqp_model.specs.Items.{terms_of}
 use Rattle.amqp_model.specs.Text.{Plain, texts, all_sizes}
 use Rattle.amqp_model.specs.Ranges.{EverywhereIn, IsValue}
@@ -26,6 +26,14 @@ row_tokens deep ts = flat_map (tokens deep) ts
 -- the numbers and texts in them are of their types, and their maps have a value for each key
 abbrev pub AreValues : List Term → Type 0
 AreValues ts = EverywhereIn IsValue (terms_of ts)
+
+-- it is a list, a map or an array
+abbrev pub IsHolder : Term → Type 0
+IsHolder (holder k ts) = Unit {0}
+IsHolder _ = ⊥
+
+abbrev pub HoldOthers : List Term → Type 0
+HoldOthers ts = SomewhereIn IsHolder (terms_of ts)
 
 -- why they aren't written
 abbrev pub AreRefused : (List ℕ → ℕ) → List Term → Error → Type 0

@@ -14,15 +14,16 @@ ghost use Rattle.amqp_encoder.specs.Tokens.{Token, tokens};
 ghost use Rattle.amqp_encoder.specs.Measuring.{MAX};
 ghost use Rattle.amqp_encoder.specs.Refused.{AllRead, HasCause, IsNesting, KnowDepths, TermHasCause};
 ghost use Rattle.amqp_encoder.specs.Writes.{Writes, bytes_of};
-ghost use Rattle.amqp_encoder.specs.Passes.{AreRefused, AreValues, BeginsFilling, BeginsMeasuring, Finds, IsMeasured, as_size, row_text, row_tokens};
+ghost use Rattle.amqp_encoder.specs.Passes.{AreRefused, AreValues, BeginsFilling, BeginsMeasuring, Finds, HoldOthers, IsMeasured, as_size, row_text, row_tokens};
 
 /// Where the calls for some terms were made of an encoder that measures, it answers Ok where nothing refuses the terms,
-/// and has then found their length and sizes; else it answers why they are refused, or that memory ran out.
+/// and has then found their length and sizes; else it answers why they are refused, or that memory ran out, which it
+/// takes of terms that hold a list, a map or an array.
 pub fn measuring()
     ensures found { (deep : List ℕ → ℕ) (ts : List Term) (old new : Encoder) → AreValues ts → BeginsMeasuring old → Writes old (row_tokens deep ts) (Ok tt) new
         → Finds new (length (row_text ts)) (map as_size (all_sizes (terms_of ts))) × IsMeasured deep ts (length (row_text ts)) (map as_size (all_sizes (terms_of ts))) }
     ensures refused { (deep : List ℕ → ℕ) (ts : List Term) (old new : Encoder) (e : Error) → AreValues ts → BeginsMeasuring old → Writes old (row_tokens deep ts) (Err e) new
-        → (e ≡ Memory) ⊎ AreRefused deep ts e }
+        → ((e ≡ Memory) × HoldOthers ts) ⊎ AreRefused deep ts e }
 {}
 
 /// Where they were made of an encoder that fills, with what was measured and room for it, each of them was answered Ok,
