@@ -1,0 +1,10 @@
+pub mod Codes
+pub mod Fronts
+pub mod Values
+pub mod Holds
+pub mod Descriptors
+pub mod Terms
+pub mod Rows
+pub mod Containers
+pub mod Elements
+pub mod Answered

@@ -1,6 +1,10 @@
 //! How long the terms are that bytes begin with: a reading of slices that takes no memory.
 #![tactic(auto)]
 
+mod constructors;
+mod contents;
 mod lengths;
+mod primitives;
+mod sizes;
 
 pub use lengths::{NESTING, len_of_term, term_len};

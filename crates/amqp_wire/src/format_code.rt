@@ -1,5 +1,7 @@
 //! The format codes of constructors (Part 1, sections 1.2 and 1.6).
-ghost use Rattle.std.specs.Prelude.{◌≡◌};
+ghost use Rattle.std.specs.Prelude.{◌≡◌, ◌≤◌, ◌⊎◌, ◌↔◌, IsTrue, MatchOption};
+ghost use Rattle.amqp_model.specs.Constructors.{format};
+ghost use Rattle.amqp_model.specs.Spelling.{IsKnown};
 ghost use Rattle.amqp_wire.specs.Codes.{refusal_of};
 
 use crate::Error;
@@ -143,7 +145,10 @@ pub fn refusal(code: u8) -> Error
 }
 
 /// Why a code ends no constructor: it is a float's, or unknown.
-pub fn unknown(code: u8) -> Option<Error> {
+pub fn unknown(code: u8) -> Option<Error>
+    ensures { MatchOption result ((code ≡ 0) ⊎ IsKnown (format code))
+        (λ e. (e ≡ refusal_of code) × (IsKnown (format code) → ⊥)) }
+{
     match refusal(code) {
         Error::WrongType(_) => None,
         error => Some(error),
@@ -151,11 +156,15 @@ pub fn unknown(code: u8) -> Option<Error> {
 }
 
 /// A code whose data has no bytes.
-pub fn has_width_zero(code: u8) -> bool {
+pub fn has_width_zero(code: u8) -> bool
+    ensures { IsTrue result ↔ ((0x40 ≤ code) × (code ≤ 0x45)) }
+{
     NULL <= code && code <= LIST_0
 }
 
 /// The code of a list, a map or an array.
-pub fn is_compound(code: u8) -> bool {
+pub fn is_compound(code: u8) -> bool
+    ensures { IsTrue result ↔ ((code ≡ 0x45) ⊎ (0xc0 ≤ code)) }
+{
     code == LIST_0 || code >= LIST_8
 }

@@ -1,4 +1,6 @@
-use Rattle.std.proofs.Common.{length, ◌+◌, ◌*◌, ◌≤◌}
+use Rattle.std.proofs.Common.{length, ◌+◌, ◌*◌}
+use Rattle.amqp_lengths.specs.Lengths.{IsTerm, IsData}
+use Rattle.amqp_lengths.proofs.Rows.{Begins}
 use Rattle.amqp_lengths.proofs.lengths.+term.Given as goal
 
 abbrev pub decreases-array_len : goal.decreases-array_len
@@ -22,8 +24,8 @@ decreases-check_data l = 8 * length l.content.now + 5
 abbrev pub decreases-check_elements : goal.decreases-check_elements
 decreases-check_elements l = 8 * length l.content.now + 6
 
-abbrev pub invariant-check_data-loop : goal.invariant-check_data-loop
-invariant-check_data-loop l = l.len ≤ length l.content
+abbrev pub invariant-check_data-loop-done : goal.invariant-check_data-loop-done
+invariant-check_data-loop-done l = Begins (IsData l.code l.nesting) l.count l.content l.done l.len
 
-abbrev pub invariant-check_items-loop : goal.invariant-check_items-loop
-invariant-check_items-loop l = l.len ≤ length l.content
+abbrev pub invariant-check_items-loop-done : goal.invariant-check_items-loop-done
+invariant-check_items-loop-done l = Begins (IsTerm l.nesting) l.count l.content l.done l.len

@@ -1,0 +1,8 @@
+use Rattle.amqp_lengths.proofs.Answered.{none_there, cut_short}
+use Rattle.amqp_lengths.proofs.lengths.term_len.Goals as goal
+
+pub returns-clause-none : goal.returns-clause-none
+returns-clause-none c = none_there 128 c.args.input.now c.len_of_term.result c.len_of_term.ensures.refused
+
+pub returns-clause-cut : goal.returns-clause-cut
+returns-clause-cut c = cut_short 128 c.args.input.now c.len_of_term.result c.len_of_term.ensures.found c.len_of_term.ensures.refused

@@ -1,0 +1,4 @@
+pub mod Fronts
+pub mod Pieces
+pub mod Contents
+pub mod Lengths

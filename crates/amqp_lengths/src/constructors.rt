@@ -1,0 +1,63 @@
+//! Constructors: descriptors, and the code that they end in (Part 1, section 1.2).
+ghost use Rattle.std.specs.Prelude.{◌≡◌, IfOk, IfErr};
+ghost use Rattle.amqp_lengths.specs.Fronts.{IsFront, Refuses};
+ghost use Rattle.amqp_lengths.specs.Pieces.{NamesAny};
+ghost use Rattle.amqp_lengths.specs.Lengths.{Constructs, HasConstructor};
+
+use crate::lengths::NESTING;
+use crate::primitives::primitive_len;
+use amqp_wire::format_code::unknown;
+use amqp_wire::{Error, format_code};
+
+/// A constructor: its code, how many descriptors it has, and its length.
+#[derive(Clone, Copy)]
+pub(crate) struct Constructor {
+    pub(crate) code: u8,
+    pub(crate) descriptors: usize,
+    pub(crate) len: usize,
+}
+
+// The length of a descriptor.
+fn descriptor_len(input: &[u8]) -> Result<usize, Error>
+    ensures found { IfOk result (λ n. IsFront NamesAny input.now n) }
+    ensures refused { IfErr result (λ e. Refuses NamesAny input.now e) }
+{
+    let Some((code, data)) = input.split_first() else {
+        return Err(Error::Cut);
+    };
+    match *code {
+        format_code::ULONG_0
+        | format_code::SMALL_ULONG
+        | format_code::ULONG
+        | format_code::SYMBOL_8
+        | format_code::SYMBOL_32 => Ok(1 + primitive_len(*code, data)?),
+        code => Err(unknown(code).unwrap_or(Error::BadDescriptor)),
+    }
+}
+
+/// The constructor that the input begins with.
+pub(crate) fn read_constructor(input: &[u8]) -> Result<Constructor, Error>
+    ensures found { IfOk result (λ c. IsFront (Constructs c.descriptors c.code) input.now c.len) }
+    ensures refused { IfErr result (λ e. Refuses HasConstructor input.now e) }
+{
+    let mut len = 0;
+    let mut descriptors = 0;
+    while let Some((code, rest)) = input[len..].split_first() {
+        if *code != format_code::DESCRIBED {
+            return match unknown(*code) {
+                Some(error) => Err(error),
+                None => Ok(Constructor {
+                    code: *code,
+                    descriptors,
+                    len: len + 1,
+                }),
+            };
+        }
+        if descriptors == NESTING {
+            return Err(Error::Depth);
+        }
+        len += 1 + descriptor_len(rest)?;
+        descriptors += 1;
+    }
+    Err(Error::Cut)
+}
