@@ -15,15 +15,12 @@ use Rattle.amqp_decoder.specs.Primitives.{standing, SpellsAs, Stands}
 use Rattle.amqp_decoder.specs.Containers.{place_of, is_list, IsCount, Counts, Header, Entered, Opens, Closes}
 use Rattle.amqp_decoder.specs.Items.{Row, Next, Contains}
 use Rattle.amqp_decoder.proofs.Looks.{front_is}
-use Rattle.amqp_decoder.proofs.Leaves.{has_add, has_front, has_rest, lower-lower, after_code, on-past}
+use Rattle.amqp_decoder.proofs.Leaves.{has_add, has_front, has_rest, lower-lower, minus-minus, after_code, on-past}
 use Rattle.amqp_decoder.proofs.Opening.{on-on, took_both}
 
 -- k values of n bytes are taken
 abbrev pub many : ℕ → ℕ → State → State
 many k n st = record st { rest = drop n st.rest; ahead = st.ahead - n; top = record st.top { items = lower st.top.items k; left = lower st.top.left n } }
-
-minus-minus : (a m n : ℕ) → a - m - n ≡ a - (m + n)
-minus-minus a m n = omega arith
 
 many-past : (k m n : ℕ) (st : State) → many k n (past m st) ≡ many (suc k) (m + n) st
 many-past k m n st =

@@ -1,6 +1,6 @@
 //! The laws of what the calls of a decoder read. The functions do nothing; their contracts are proved.
 ghost use Rattle.std.specs.Prelude.{◌≡◌, ◌≤◌, ◌↔◌, ℕ, List, [], ◌∷◌, ◌++◌, length, None};
-ghost use Rattle.amqp_model.specs.Term.{Container, Term, Terms, holder, list, map};
+ghost use Rattle.amqp_model.specs.Term.{Container, Descriptor, Term, Terms, holder, described, list, map};
 ghost use Rattle.amqp_model.specs.Items.{items_of};
 ghost use Rattle.amqp_model.specs.Standing.{Standing};
 ghost use Rattle.amqp_decoder.specs.declared.frame.Place.{Place};
@@ -9,7 +9,7 @@ ghost use Rattle.amqp_decoder.specs.Steps.{Took};
 ghost use Rattle.amqp_decoder.specs.Reading.{Begun, Peeked};
 ghost use Rattle.amqp_decoder.specs.Primitives.{Stands, Value};
 ghost use Rattle.amqp_decoder.specs.Containers.{Opens, Closes};
-ghost use Rattle.amqp_decoder.specs.Items.{Next, Row, Contains};
+ghost use Rattle.amqp_decoder.specs.Items.{Next, Row, Contains, DescribedStands};
 
 /// What is read after a look is what is read without it.
 pub fn looks()
@@ -31,6 +31,13 @@ pub fn lists()
 /// The same of a map, whose items are its keys and what they lead to in turn (Part 1, section 1.6.23).
 pub fn maps()
     ensures { (st after : State) (items : Terms) → Contains map st (items_of items) after ↔ Next st (holder map items) after }
+{}
+
+/// A described value that is opened, whose value is taken, and that is closed is a term that stood there and is taken; and
+/// where a described value stands, this is how it is taken (Part 1, section 1.2).
+pub fn described_values()
+    ensures whole { (st after : State) (d : Descriptor) (t : Term) → st.nesting ≤ 128 → DescribedStands st d t after → Next st (described d t) after }
+    ensures parts { (st after : State) (d : Descriptor) (t : Term) → Next st (described d t) after → DescribedStands st d t after }
 {}
 
 /// At one state one term stands, as these bytes, and it leaves one state; of two rows of terms the shorter is the front of
