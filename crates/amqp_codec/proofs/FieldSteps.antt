@@ -15,12 +15,14 @@ use Rattle.amqp_decoder.proofs.Opening.{opens_same}
 use Rattle.amqp_decoder.specs.Reading.{Refused, BeginFault, Peeked}
 use Rattle.amqp_decoder.specs.Primitives.{standing, Value, Means}
 use Rattle.amqp_decoder.specs.Containers.{Opens, OpenFault, Closes, CloseFault}
-use Rattle.amqp_codec.specs.Fields.{Fields, slots}
+use Rattle.amqp_decoder.proofs.Steps.{answered_later}
+use Rattle.amqp_decoder.specs.Steps.{Answered}
+use Rattle.amqp_codec.specs.Fields.{Fields, slots, take_memory}
 use Rattle.amqp_codec.specs.Reading.{stands_one}
 use Rattle.amqp_codec.specs.Lists.{StandEach, lower_zero, each_front, each_more}
 use Rattle.amqp_codec.specs.FieldReading.{MeansAt, FaultAt, FitsFront, KeepsBut, FitsAt, ItemRead, ItemFault, no_item, null_item, in_item, FieldsSoFar, FieldsRead, FieldsFault, FillsField, ReadsItem, filled_at, unfilled_at, no_list, at_item, left_out, not_ended, kind_at, front_null, front_filled, front_missing, front_end, front_start, fits_value, fits_null, fits_few, IsBlank}
-use Rattle.amqp_codec.specs.Refused.{refused_first, refused_later}
-use Rattle.amqp_codec.specs.Peeks.{peeked_going, peeked_from, peeked_to, not_null, value_peeked}
+use Rattle.amqp_codec.specs.Refused.{no_memory, refused_first, refused_later}
+use Rattle.amqp_codec.specs.Peeks.{peeked_failed, peeked_going, peeked_from, peeked_to, not_null, value_peeked}
 
 the_item : (ts us : List Term) (t : Term) (rest : List Term) (n : ℕ) → length ts ≡ n → us ≡ ts ++ t ∷ rest → get_or us n (leaf null) ≡ t
 the_item [] us t rest n e f = ap (λ l. get_or l n (leaf null)) f ∙ ap (λ k. get_or (t ∷ rest) k (leaf null)) (sym e)
@@ -43,7 +45,15 @@ each_going st (t ∷ ts) b (s, h, k) going = each_going (past (length s) st) ts 
 pub header_going : {st first : State} {n : ℕ} (o : Opens list st n first) → o.data_.mid.error ≡ None
 header_going o = ap (λ (x : State). x.error) o.data_.header.took.moved ∙ ap (λ (x : State). x.error) o.begun.moved ∙ o.begun.going
 
+each_failed : (st : State) (ts : List Term) (b : State) → StandEach st ts b → b.failed ≡ st.failed
+each_failed st [] b h = ap (λ (x : State). x.failed) h
+each_failed st (t ∷ ts) b (s, h, k) = each_failed (past (length s) st) ts b k
+
 module _ {V : Type 0} (fs : Fields V) where
+  so_far_failed : (st : State) (n i : ℕ) (v : V) (mid : State) → FieldsSoFar fs st n i v mid → mid.failed ≡ st.failed
+  so_far_failed st n i v mid h =
+      each_failed h.first h.terms mid h.each ∙ ap (λ (x : State). x.failed) h.opens.data_.entered ∙ ap (λ (x : State). x.failed) h.opens.data_.header.took.moved ∙ ap (λ (x : State). x.failed) h.opens.begun.moved
+
   pub so_far_going : (st : State) (n i : ℕ) (v : V) (mid : State) → FieldsSoFar fs st n i v mid → st.error ≡ None
   so_far_going st n i v mid h = h.opens.begun.going
 
@@ -105,9 +115,9 @@ module _ {V : Type 0} (fs : Fields V) where
       by_null false z at = inr (z, subst (λ x. MeansAt fs i (standing mid.top.shared s) x w) at (fits_value fs i ts w (standing mid.top.shared s) m l (ap is_null at ∙ z)))
 
   -- an item couldn't be read
-  pub item_refused : (st : State) (n i : ℕ) (v : V) (mid : State) (e : Error) (new : State) → i < n → i < length (kinds_of (slots fs)) → mid.error ≡ None → FieldsSoFar fs st n i v mid → Refused (Value (FitsAt fs i)) (ItemFault fs i) mid e new → Refused (FieldsRead fs) (FieldsFault fs) st e new
+  pub item_refused : (st : State) (n i : ℕ) (v : V) (mid : State) (e : Error) (new : State) → i < n → i < length (kinds_of (slots fs)) → mid.error ≡ None → FieldsSoFar fs st n i v mid → Refused (take_memory fs) (Value (FitsAt fs i)) (ItemFault fs i) mid e new → Refused (take_memory fs) (FieldsRead fs) (FieldsFault fs) st e new
   item_refused st n i v mid e new l k going h r =
-      refused_later (Value (FitsAt fs i)) (ItemFault fs i) (FieldsRead fs) (FieldsFault fs) st mid e new (so_far_going st n i v mid h) going
+      refused_later (Value (FitsAt fs i)) (ItemFault fs i) (FieldsRead fs) (FieldsFault fs) st mid e new (λ t. t) (so_far_failed st n i v mid h) (so_far_going st n i v mid h) going
       (λ f. at_item h l k f)
       (λ none w b q.
       let g = further st n i v w mid b h q in
@@ -116,9 +126,9 @@ module _ {V : Type 0} (fs : Fields V) where
       r
 
   -- a required item is left out
-  pub left_out_refused : (st : State) (n i : ℕ) (v : V) (mid : State) (e : Error) (new : State) → n ≤ i → i < length (kinds_of (slots fs)) → is_required (kind_at fs i) ≡ true → e ≡ Missing → new.error ≡ Some e → FieldsSoFar fs st n i v mid → Refused (FieldsRead fs) (FieldsFault fs) st e new
+  pub left_out_refused : (st : State) (n i : ℕ) (v : V) (mid : State) (e : Error) (new : State) → n ≤ i → i < length (kinds_of (slots fs)) → is_required (kind_at fs i) ≡ true → e ≡ Missing → Answered mid e new → FieldsSoFar fs st n i v mid → Refused (take_memory fs) (FieldsRead fs) (FieldsFault fs) st e new
   left_out_refused st n i v mid e new l k required is kept h = record {
-    kept = kept;
+    kept = answered_later (so_far_failed st n i v mid h) kept;
     again = λ d x. absurd (let y = so_far_going st n i v mid h in cc);
     named = λ _. inr (left_out h l k required is);
     none = inr (λ w b q.
@@ -133,9 +143,9 @@ module _ {V : Type 0} (fs : Fields V) where
   rest_none (t ∷ ts) (suc k) l = rest_none ts k (omega arith)
 
   -- the list couldn't be closed
-  pub end_refused : (st : State) (n i : ℕ) (v : V) (mid : State) (e : Error) (new : State) → i ≡ length (kinds_of (slots fs)) → mid.error ≡ None → FieldsSoFar fs st n i v mid → Refused (λ st (_ : Unit {0}) b. Closes InList st b) (CloseFault InList) mid e new → Refused (FieldsRead fs) (FieldsFault fs) st e new
+  pub end_refused : (st : State) (n i : ℕ) (v : V) (mid : State) (e : Error) (new : State) → i ≡ length (kinds_of (slots fs)) → mid.error ≡ None → FieldsSoFar fs st n i v mid → Refused false (λ st (_ : Unit {0}) b. Closes InList st b) (CloseFault InList) mid e new → Refused (take_memory fs) (FieldsRead fs) (FieldsFault fs) st e new
   end_refused st n i v mid e new all going h r =
-      refused_later (λ st (_ : Unit {0}) b. Closes InList st b) (CloseFault InList) (FieldsRead fs) (FieldsFault fs) st mid e new (so_far_going st n i v mid h) going
+      refused_later (λ st (_ : Unit {0}) b. Closes InList st b) (CloseFault InList) (FieldsRead fs) (FieldsFault fs) st mid e new no_memory (so_far_failed st n i v mid h) (so_far_going st n i v mid h) going
       (λ f. not_ended (subst (λ k. FieldsSoFar fs st n k v mid) all h) f)
       (λ none w b q.
       let g = further st n i v w mid b h q in
@@ -162,8 +172,8 @@ module _ {V : Type 0} (fs : Fields V) where
       }
 
   -- the list couldn't be opened
-  pub open_refused : (st : State) (e : Error) (new : State) → Refused (Opens list) (OpenFault list) st e new → Refused (FieldsRead fs) (FieldsFault fs) st e new
-  open_refused st e new r = refused_first (Opens list) (OpenFault list) (FieldsRead fs) (FieldsFault fs) st e new no_list (λ none w b q. none (length q.terms) q.stand.first q.stand.opens) r
+  pub open_refused : (st : State) (e : Error) (new : State) → Refused false (Opens list) (OpenFault list) st e new → Refused (take_memory fs) (FieldsRead fs) (FieldsFault fs) st e new
+  open_refused st e new r = refused_first (Opens list) (OpenFault list) (FieldsRead fs) (FieldsFault fs) st e new no_memory no_list (λ none w b q. none (length q.terms) q.stand.first q.stand.opens) r
 
   pub none_so_far : (st : State) (n : ℕ) (v : V) (first : State) → Opens list st n first → IsBlank fs v → FieldsSoFar fs st n 0 v first
   none_so_far st n v first o b = record { first = first; opens = o; terms = []; each = refl; long = omega arith; front = front_start fs [] v b }
@@ -173,17 +183,17 @@ module _ {V : Type 0} (fs : Fields V) where
 
 -- Steps of one item.
 module _ {V : Type 0} (fs : Fields V) (i : ℕ) where
-  pub item_unbegun : (st : State) (e : Error) (new : State) → Refused Peeked BeginFault st e new → Refused (Value (FitsAt fs i)) (ItemFault fs i) st e new
-  item_unbegun st e new r = refused_first Peeked BeginFault (Value (FitsAt fs i)) (ItemFault fs i) st e new no_item (value_peeked (FitsAt fs i) st) r
+  pub item_unbegun : (st : State) (e : Error) (new : State) → Refused false Peeked BeginFault st e new → Refused (take_memory fs) (Value (FitsAt fs i)) (ItemFault fs i) st e new
+  item_unbegun st e new r = refused_first Peeked BeginFault (Value (FitsAt fs i)) (ItemFault fs i) st e new no_memory no_item (value_peeked (FitsAt fs i) st) r
 
   -- null was taken, and fits
   pub null_read : (v : V) (st b : State) → is_required (kind_at fs i) ≡ false → Value (Means (λ (_ : Unit {0}). null)) st tt b → ItemRead fs i v v st b
   null_read v st b r h = record { bytes = h.bytes; term = h.term; stands = h.stands; moved = h.moved; fits = inl (h.meant, r, refl) }
 
   -- null was taken, and doesn't fit
-  pub null_unfit : (st b : State) (e : Error) (new : State) → st.error ≡ None → is_required (kind_at fs i) ≡ true → e ≡ Missing → new.error ≡ Some e → Value (Means (λ (_ : Unit {0}). null)) st tt b → Refused (Value (FitsAt fs i)) (ItemFault fs i) st e new
+  pub null_unfit : (st b : State) (e : Error) (new : State) → st.error ≡ None → is_required (kind_at fs i) ≡ true → e ≡ Missing → Answered b e new → Value (Means (λ (_ : Unit {0}). null)) st tt b → Refused (take_memory fs) (Value (FitsAt fs i)) (ItemFault fs i) st e new
   null_unfit st b e new going required is kept h = record {
-    kept = kept;
+    kept = answered_later (ap (λ (x : State). x.failed) h.moved) kept;
     again = λ d x. absurd (cc);
     named = λ _. inr (null_item h required is);
     none = inr (λ w c k.
@@ -199,10 +209,10 @@ module _ {V : Type 0} (fs : Fields V) (i : ℕ) where
       record { bytes = x.bytes; term = x.term; stands = x.stands; moved = x.moved; fits = inr (x.meant, k) }
 
   -- the field wasn't filled
-  pub value_refused : (st mid : State) (c : ℕ) (e : Error) (new : State) → Peeked st c mid → (c ≡ 0x40 → ⊥) → Refused (Value (MeansAt fs i)) (FaultAt fs i) mid e new → Refused (Value (FitsAt fs i)) (ItemFault fs i) st e new
+  pub value_refused : (st mid : State) (c : ℕ) (e : Error) (new : State) → Peeked st c mid → (c ≡ 0x40 → ⊥) → Refused (take_memory fs) (Value (MeansAt fs i)) (FaultAt fs i) mid e new → Refused (take_memory fs) (Value (FitsAt fs i)) (ItemFault fs i) st e new
   value_refused st mid c e new p other r =
       let going = peeked_going st c mid p in
-      refused_later (Value (MeansAt fs i)) (FaultAt fs i) (Value (FitsAt fs i)) (ItemFault fs i) st mid e new going.0 going.1 (in_item p)
+      refused_later (Value (MeansAt fs i)) (FaultAt fs i) (Value (FitsAt fs i)) (ItemFault fs i) st mid e new (λ t. t) (peeked_failed st c mid p) going.0 going.1 (in_item p)
       (λ none w b h.
       let n = not_null (FitsAt fs i) st c mid w b p other h in
       elim h.meant [

@@ -1,5 +1,5 @@
 -- An optional value is read: null, or what begins otherwise.
-use Rattle.std.proofs.Common.{◌≡◌, inl, inr, ℕ, Some, None, ap, subst}
+use Rattle.std.proofs.Common.{Bool, false, ◌≡◌, inl, inr, ℕ, Some, None, ap, subst}
 use Rattle.amqp_model.specs.Term.{null}
 use Rattle.amqp_model.specs.Items.{is_null}
 use Rattle.amqp_model.specs.ItemLaws.{clash}
@@ -7,19 +7,20 @@ use Rattle.amqp_wire.specs.declared.error.Error.{Error}
 use Rattle.amqp_decoder.specs.State.{State}
 use Rattle.amqp_decoder.specs.Reading.{Refused, Peeked}
 use Rattle.amqp_decoder.specs.Primitives.{Value, Means, PrimitiveFault}
+use Rattle.amqp_decoder.proofs.Steps.{answered_later}
 use Rattle.amqp_codec.specs.TermType.{TermType}
 use Rattle.amqp_codec.specs.OptionType.{MeansOption, OptionFault}
 use Rattle.amqp_codec.specs.Reading.{Reading, ReadsTerms}
-use Rattle.amqp_codec.specs.Refused.{NoneStands, refused_later}
-use Rattle.amqp_codec.specs.Peeks.{peeked_going, peeked_from, peeked_to, null_there, not_null}
+use Rattle.amqp_codec.specs.Refused.{excused_as, no_memory, NoneStands, refused_later}
+use Rattle.amqp_codec.specs.Peeks.{peeked_failed, peeked_going, peeked_from, peeked_to, null_there, not_null}
 
 -- a null that was looked at can't be refused but for the source
-pub null_refused : {B : Type 0} (q : State → B → State → Type 0) (g : State → Error → Type 0) (st : State) (c : ℕ) (mid : State) (e : Error) (new : State) → Peeked st c mid → c ≡ 0x40 → Refused (Value (Means (λ (_ : Unit {0}). null))) (PrimitiveFault 0) mid e new → Refused q g st e new
+pub null_refused : {B : Type 0} {takes : Bool} (q : State → B → State → Type 0) (g : State → Error → Type 0) (st : State) (c : ℕ) (mid : State) (e : Error) (new : State) → Peeked st c mid → c ≡ 0x40 → Refused false (Value (Means (λ (_ : Unit {0}). null))) (PrimitiveFault 0) mid e new → Refused takes q g st e new
 null_refused q g st c mid e new p is h =
     let at : Peeked st 0x40 mid = subst (λ x. Peeked st x mid) is p in
     let going = peeked_going st 0x40 mid at in
-    let excused = null_there st mid e new at (h.named going.1) in
-    record { kept = h.kept; again = λ d x. absurd (let y = going.0 in cc); named = λ _. inl excused; none = inl excused }
+    let excused = excused_as e new no_memory (null_there st mid e new at (h.named going.1)) in
+    record { kept = answered_later (peeked_failed st 0x40 mid at) h.kept; again = λ d x. absurd (let y = going.0 in cc); named = λ _. inl excused; none = inl excused }
 
 module _ {T : Type 0} (u : TermType T) (r : Reading T) (reads : ReadsTerms u r) where
   pub none_read : (st : State) (c : ℕ) (mid b : State) → Peeked st c mid → Value (Means (λ (_ : Unit {0}). null)) mid tt b → Value (MeansOption u.means) st None b
@@ -38,8 +39,8 @@ module _ {T : Type 0} (u : TermType T) (r : Reading T) (reads : ReadsTerms u r) 
       let k : Value u.means st v b = record { bytes = h.bytes; term = h.term; stands = h.stands; moved = h.moved; meant = h.meant.1 } in
       none v b (reads.from_value mid v b (peeked_to u.means st c mid v b p k))
 
-  pub some_refused : (st : State) (c : ℕ) (mid : State) (e : Error) (new : State) → Peeked st c mid → (c ≡ 0x40 → ⊥) → Refused r.reads r.fault mid e new → Refused (Value (MeansOption u.means)) (OptionFault u.fault) st e new
+  pub some_refused : (st : State) (c : ℕ) (mid : State) (e : Error) (new : State) → Peeked st c mid → (c ≡ 0x40 → ⊥) → Refused r.takes_memory r.reads r.fault mid e new → Refused u.takes_memory (Value (MeansOption u.means)) (OptionFault u.fault) st e new
   some_refused st c mid e new p other h =
       let going = peeked_going st c mid p in
-      refused_later r.reads r.fault (Value (MeansOption u.means)) (OptionFault u.fault) st mid e new going.0 going.1
+      refused_later r.reads r.fault (Value (MeansOption u.means)) (OptionFault u.fault) st mid e new reads.to_memory (peeked_failed st c mid p) going.0 going.1
       (λ f. inr (c, mid, p, reads.to_fault mid e f)) (none_stands st c mid p other) h

@@ -199,7 +199,7 @@ module _ {V : Type 0} (c : Table V) where
 
 -- The one member that a composite is.
 abbrev pub composite_members : {V : Type 0} → Table V → Members V
-composite_members c = record { names = (c.code, c.name) ∷ []; reads = λ i. FieldsRead c.fields; fault = λ i. FieldsFault c.fields }
+composite_members c = record { names = (c.code, c.name) ∷ []; reads = λ i. FieldsRead c.fields; fault = λ i. FieldsFault c.fields; takes_memory = take_memory c.fields }
 
 pub named_describes : {V : Type 0} (c : Table V) (d : Descriptor) → is_named d (c.code, c.name) ≡ true → Describes (table_of c) d
 named_describes c (code n) h = sym (eqb-true c.code n h)

@@ -194,7 +194,7 @@ abbrev pub either_of : {A B : Type 0} (u : TermType A) (w : TermType B) → Form
 either_of u w apart = record {
   is_value = IsEither u.is_value w.is_value;
   means = MeansEither u w;
-  fault = λ st e. Unit {0};
+  fault = λ st e. u.fault st e ⊎ w.fault st e;
   canon = either_canon u w;
   norm = either_norm u w;
   same = either_same u w;

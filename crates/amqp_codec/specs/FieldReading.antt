@@ -1,5 +1,5 @@
 -- How the fields of a composite are read, one after another.
-use Rattle.std.proofs.Common.{◌≡◌, ◌⊎◌, min, ℕ, zero, suc, ◌<◌, ◌≤◌, true, false, List, [], ◌∷◌, ◌++◌, length, get_or, Result, Ok, Err, refl, arith}
+use Rattle.std.proofs.Common.{◌≡◌, ◌⊎◌, min, ℕ, zero, suc, ◌<◌, ◌≤◌, Bool, true, false, List, [], ◌∷◌, ◌++◌, length, get_or, Result, Ok, Err, refl, arith}
 use Rattle.amqp_model.specs.Term.{null, list, Term, leaf}
 use Rattle.amqp_model.specs.Standing.{Standing}
 use Rattle.amqp_model.specs.Items.{is_null}
@@ -16,7 +16,7 @@ use Rattle.amqp_decoder.specs.Primitives.{standing, Stands, Value, Means}
 use Rattle.amqp_decoder.specs.Containers.{Opens, OpenFault, CloseFault}
 use Rattle.amqp_codec.specs.Lists.{StandEach, ListStands}
 use Rattle.amqp_codec.specs.Refused.{refused_first}
-use Rattle.amqp_codec.specs.Fields.{Fields, none, field, slots}
+use Rattle.amqp_codec.specs.Fields.{Fields, none, field, slots, take_memory, either_first, either_second}
 
 -- all fields are equal
 abbrev pub Keeps : {V : Type 0} → Fields V → V → V → Type 0
@@ -35,15 +35,15 @@ IsBlank none v = Unit {0}
 IsBlank (field get f fs) v = (is_required f.slot.kind ≡ false → f.slot.meaning.means (leaf null) (get v)) × IsBlank fs v
 
 -- A value was read into its place.
-abbrev pub Fills : {T : Type 0} → (Standing → Term → T → Type 0) → (State → Error → Type 0) → State → T → Result (Unit {0}) Error → State → Type 0
-Fills reads fault st x (Ok u) b = Value reads st x b
-Fills reads fault st x (Err e) b = Refused (Value reads) fault st e b
+abbrev pub Fills : {T : Type 0} → Bool → (Standing → Term → T → Type 0) → (State → Error → Type 0) → State → T → Result (Unit {0}) Error → State → Type 0
+Fills takes reads fault st x (Ok u) b = Value reads st x b
+Fills takes reads fault st x (Err e) b = Refused takes (Value reads) fault st e b
 
--- A value that isn't null was read into the field of this number, and the others stay.
+-- A value that isn't null was read into the field of this number, and then the others stay.
 abbrev pub FillsField : {V : Type 0} → Fields V → ℕ → V → V → State → Result (Unit {0}) Error → State → Type 0
 FillsField none i v w st r b = Unit {0}
-FillsField (field get f fs) zero v w st r b = Fills f.reads f.fault st (get w) r b × Keeps fs v w
-FillsField (field get f fs) (suc i) v w st r b = (get w ≡ get v) × FillsField fs i v w st r b
+FillsField (field get f fs) zero v w st r b = Fills f.takes_memory f.reads f.fault st (get w) r b × (r ≡ Ok tt → Keeps fs v w)
+FillsField (field get f fs) (suc i) v w st r b = (r ≡ Ok tt → get w ≡ get v) × FillsField fs i v w st r b
 
 -- by a field's number
 abbrev pub MeansAt : {V : Type 0} → Fields V → ℕ → Standing → Term → V → Type 0
@@ -131,19 +131,19 @@ fits_few (field get f fs) (t ∷ ts) v m = omega (arith, fits_few fs ts v m.1)
 -- What was read into a field, by its number.
 pub filled_at : {V : Type 0} (fs : Fields V) (n : ℕ) (v w : V) (st b : State) → n < length (kinds_of (slots fs)) → FillsField fs n v w st (Ok tt) b → Value (MeansAt fs n) st w b × KeepsBut fs n v w
 filled_at none n v w st b l h = absurd (omega arith)
-filled_at (field get f fs) zero v w st b l h = (record { bytes = h.0.bytes; term = h.0.term; stands = h.0.stands; moved = h.0.moved; meant = h.0.meant }, h.1)
+filled_at (field get f fs) zero v w st b l h = (record { bytes = h.0.bytes; term = h.0.term; stands = h.0.stands; moved = h.0.moved; meant = h.0.meant }, h.1 refl)
 filled_at (field get f fs) (suc n) v w st b l h =
     let r = filled_at fs n v w st b (omega arith) h.1 in
-    (record { bytes = r.0.bytes; term = r.0.term; stands = r.0.stands; moved = r.0.moved; meant = r.0.meant }, (h.0, r.1))
+    (record { bytes = r.0.bytes; term = r.0.term; stands = r.0.stands; moved = r.0.moved; meant = r.0.meant }, (h.0 refl, r.1))
 
 -- why none was
-pub unfilled_at : {V : Type 0} (fs : Fields V) (n : ℕ) (v w : V) (st : State) (e : Error) (b : State) → n < length (kinds_of (slots fs)) → FillsField fs n v w st (Err e) b → Refused (Value (MeansAt fs n)) (FaultAt fs n) st e b
+pub unfilled_at : {V : Type 0} (fs : Fields V) (n : ℕ) (v w : V) (st : State) (e : Error) (b : State) → n < length (kinds_of (slots fs)) → FillsField fs n v w st (Err e) b → Refused (take_memory fs) (Value (MeansAt fs n)) (FaultAt fs n) st e b
 unfilled_at none n v w st e b l h = absurd (omega arith)
 unfilled_at (field get f fs) zero v w st e b l h =
-    refused_first (Value f.reads) f.fault (Value (MeansAt (field get f fs) zero)) (FaultAt (field get f fs) zero) st e b (λ x. x)
+    refused_first (Value f.reads) f.fault (Value (MeansAt (field get f fs) zero)) (FaultAt (field get f fs) zero) st e b (either_first f.takes_memory (take_memory fs)) (λ x. x)
     (λ none x c r. none (get x) c (record { bytes = r.bytes; term = r.term; stands = r.stands; moved = r.moved; meant = r.meant })) h.0
 unfilled_at (field get f fs) (suc n) v w st e b l h =
-    refused_first (Value (MeansAt fs n)) (FaultAt fs n) (Value (MeansAt (field get f fs) (suc n))) (FaultAt (field get f fs) (suc n)) st e b (λ x. x)
+    refused_first (Value (MeansAt fs n)) (FaultAt fs n) (Value (MeansAt (field get f fs) (suc n))) (FaultAt (field get f fs) (suc n)) st e b (either_second f.takes_memory (take_memory fs)) (λ x. x)
     (λ none x c r. none x c (record { bytes = r.bytes; term = r.term; stands = r.stands; moved = r.moved; meant = r.meant })) (unfilled_at fs n v w st e b (omega arith) h.1)
 
 -- The kind of a field by its number, mandatory past the last one.
@@ -170,7 +170,7 @@ pub data ItemFault {V : Type 0} (fs : Fields V) (i : ℕ) (st : State) (e : Erro
 
 abbrev pub ReadsItem : {V : Type 0} → Fields V → ℕ → V → V → State → Result (Unit {0}) Error → State → Type 0
 ReadsItem fs i v w st (Ok u) b = ItemRead fs i v w st b
-ReadsItem fs i v w st (Err e) b = Refused (Value (FitsAt fs i)) (ItemFault fs i) st e b
+ReadsItem fs i v w st (Err e) b = Refused (take_memory fs) (Value (FitsAt fs i)) (ItemFault fs i) st e b
 
 -- The fields up to number i were read from a list of n items.
 pub record FieldsSoFar {V : Type 0} (fs : Fields V) (st : State) (n i : ℕ) (v : V) (now_ : State) : Type 0 where

@@ -52,6 +52,14 @@ abbrev pub take_memory : {V : Type 0} → Fields V → Bool
 take_memory none = false
 take_memory (field get f fs) = f.takes_memory || take_memory fs
 
+pub either_first : (a b : Bool) → a ≡ true → (a || b) ≡ true
+either_first true b h = refl
+either_first false b h = absurd (clash h refl)
+
+pub either_second : (a b : Bool) → b ≡ true → (a || b) ≡ true
+either_second true b h = refl
+either_second false b h = h
+
 pub both_first : (a b : Bool) → both a b ≡ true → a ≡ true
 both_first true b h = refl
 both_first false b h = h

@@ -18,13 +18,15 @@ use Rattle.amqp_decoder.specs.Members.{as_name, is_named, name_place}
 use Rattle.amqp_decoder.proofs.Descriptions.{described_term, term_described}
 use Rattle.amqp_decoder.proofs.Members.{place_is}
 use Rattle.amqp_codec.specs.Reading.{stands_one}
-use Rattle.amqp_codec.specs.Refused.{refused_first, refused_later}
+use Rattle.amqp_codec.specs.Refused.{no_memory, refused_first, refused_later}
 
 -- The members: their codes and names in order, and how what each describes is read.
 pub record Members (V : Type 0) : Type 1 where
   pub names : List (ℕ × List ℕ)
   pub reads : ℕ → State → V → State → Type 0
   pub fault : ℕ → State → Error → Type 0
+  -- reading one of them takes memory
+  pub takes_memory : Bool
 
 -- A member stood next.
 pub record MemberRead {V : Type 0} (m : Members V) (st : State) (v : V) (b : State) : Type 0 where
@@ -107,9 +109,9 @@ module _ {V : Type 0} (m : Members V) (means : Standing → Term → V → Type 
       }
 
   -- none of the members is opened
-  pub unopened : (ms : List Member) (st : State) (e : Error) (new : State) → map as_name ms ≡ m.names → Refused (OpensOneOf ms) (OneOfFault ms) st e new → Refused (Value means) (MemberFault m) st e new
+  pub unopened : (ms : List Member) (st : State) (e : Error) (new : State) → map as_name ms ≡ m.names → Refused false (OpensOneOf ms) (OneOfFault ms) st e new → Refused m.takes_memory (Value means) (MemberFault m) st e new
   unopened ms st e new names r =
-      refused_first (OpensOneOf ms) (OneOfFault ms) (Value means) (MemberFault m) st e new (no_member names)
+      refused_first (OpensOneOf ms) (OneOfFault ms) (Value means) (MemberFault m) st e new no_memory (no_member names)
       (λ none v b h.
       let k = from_value st v b h in
       none k.place k.inner (record { descriptor = k.descriptor; place = place_is k.descriptor ms ∙ ap (λ ns. name_place ns k.descriptor) names ∙ k.is; opens = k.opens }))
@@ -123,12 +125,15 @@ module _ {V : Type 0} (m : Members V) (means : Standing → Term → V → Type 
       let going = o.opens.begun.going in
       (going, ap (λ (x : State). x.error) o.opens.opened ∙ ap (λ (x : State). x.error) o.opens.descriptor.took.moved ∙ ap (λ (x : State). x.error) o.opens.begun.moved ∙ going)
 
+  pub opened_failed : (ms : List Member) (st : State) (i : ℕ) (inner : State) → OpensOneOf ms st i inner → inner.failed ≡ st.failed
+  opened_failed ms st i inner o = ap (λ (x : State). x.failed) o.opens.opened ∙ ap (λ (x : State). x.failed) o.opens.descriptor.took.moved ∙ ap (λ (x : State). x.failed) o.opens.begun.moved
+
   -- what a member describes isn't read
-  pub unread : (ms : List Member) (st : State) (i : ℕ) (inner : State) (e : Error) (new : State) → map as_name ms ≡ m.names → OpensOneOf ms st i inner → Refused (m.reads i) (m.fault i) inner e new → Refused (Value means) (MemberFault m) st e new
+  pub unread : (ms : List Member) (st : State) (i : ℕ) (inner : State) (e : Error) (new : State) → map as_name ms ≡ m.names → OpensOneOf ms st i inner → Refused m.takes_memory (m.reads i) (m.fault i) inner e new → Refused m.takes_memory (Value means) (MemberFault m) st e new
   unread ms st i inner e new names o r =
       let going = opened_going ms st i inner o in
       let at = opened_place ms st i inner names o in
-      refused_later (m.reads i) (m.fault i) (Value means) (MemberFault m) st inner e new going.0 going.1 (in_member o.opens at)
+      refused_later (m.reads i) (m.fault i) (Value means) (MemberFault m) st inner e new (λ t. t) (opened_failed ms st i inner o) going.0 going.1 (in_member o.opens at)
       (λ none v b h.
       let k = from_value st v b h in
       let s = described_same st k.descriptor o.descriptor k.inner inner k.opens o.opens in
@@ -138,12 +143,12 @@ module _ {V : Type 0} (m : Members V) (means : Standing → Term → V → Type 
 
   -- the described value isn't ended
   pub unended : (ms : List Member) (st : State) (i : ℕ) (inner last : State) (v : V) (e : Error) (new : State) → map as_name ms ≡ m.names → OpensOneOf ms st i inner → m.reads i inner v last
-      → Refused (λ st (_ : Unit {0}) b. ClosesDescribed InDescribed st b) (EndFault InDescribed) last e new → Refused (Value means) (MemberFault m) st e new
+      → Refused false (λ st (_ : Unit {0}) b. ClosesDescribed InDescribed st b) (EndFault InDescribed) last e new → Refused m.takes_memory (Value means) (MemberFault m) st e new
   unended ms st i inner last v e new names o q r =
       let going = opened_going ms st i inner o in
       let at = opened_place ms st i inner names o in
       let t = sum.to_term i inner v last q in
-      refused_later (λ st (_ : Unit {0}) b. ClosesDescribed InDescribed st b) (EndFault InDescribed) (Value means) (MemberFault m) st last e new going.0 t.going (not_ended o.opens at q)
+      refused_later (λ st (_ : Unit {0}) b. ClosesDescribed InDescribed st b) (EndFault InDescribed) (Value means) (MemberFault m) st last e new no_memory (ap (λ (x : State). x.failed) t.moved ∙ opened_failed ms st i inner o) going.0 t.going (not_ended o.opens at q)
       (λ none w b h.
       let k = from_value st w b h in
       let s = described_same st k.descriptor o.descriptor k.inner inner k.opens o.opens in

@@ -18,13 +18,6 @@ use Rattle.amqp_codec.specs.Nulls.{null_primitive}
 use Rattle.amqp_codec.specs.Refused.{NoneStands}
 
 -- The first code of a value that stands next, and its bytes in front.
-record First (st : State) (s : List ℕ) : Type 0 where
-  code : ℕ
-  own : List ℕ
-  first : IsFirst st.top.shared code own
-  others : List ℕ
-  front : s ≡ own ++ others
-
 first_own : (s : List ℕ) → 1 ≤ length s → (c : ℕ) × (others : List ℕ) × (s ≡ c ∷ others)
 first_own [] h = absurd (omega arith)
 first_own (c ∷ s) h = (c, s, refl)
@@ -60,6 +53,13 @@ pub peeked_going : (st : State) (c : ℕ) (mid : State) → Peeked st c mid → 
 peeked_going st c mid h = (h.begun.going, ap (λ (x : State). x.error) h.kept ∙ by_shared st.top.shared ∙ h.begun.going)
   where
     by_shared : (o : Option (List Descriptor × ℕ)) → (looked_under o st).error ≡ st.error
+    by_shared None = refl
+    by_shared (Some x) = refl
+
+pub peeked_failed : (st : State) (c : ℕ) (mid : State) → Peeked st c mid → mid.failed ≡ st.failed
+peeked_failed st c mid h = ap (λ (x : State). x.failed) h.kept ∙ by_shared st.top.shared
+  where
+    by_shared : (o : Option (List Descriptor × ℕ)) → (looked_under o st).failed ≡ st.failed
     by_shared None = refl
     by_shared (Some x) = refl
 
@@ -130,7 +130,7 @@ begun_peeked st c mid p = by_shared st.top.shared refl
     by_shared (Some x) e = subst (λ m. (after : State) × Begun m c after) (sym (p.kept ∙ ap (λ o. looked_under o st) e)) (p.after, p.begun)
 
 -- a null that was looked at is there
-pub null_there : (st : State) (mid : State) (e : Error) (new : State) → Peeked st 0x40 mid → Excused e new ⊎ PrimitiveFault 0 mid e → Excused e new
+pub null_there : (st : State) (mid : State) (e : Error) (new : State) → Peeked st 0x40 mid → Excused false e new ⊎ PrimitiveFault 0 mid e → Excused false e new
 null_there st mid e new p (inl x) = x
 null_there st mid e new p (inr f) =
     let k = begun_peeked st 0x40 mid p in

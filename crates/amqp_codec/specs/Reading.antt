@@ -1,5 +1,5 @@
 -- What it is to read a value of a type: from which state of a decoder, and what state is left.
-use Rattle.std.proofs.Common.{◌≡◌, inl, inr, ℕ, ◌+◌, ◌≤◌, false, List, [], ◌++◌, length, Option, Some, None, ◌⊎◌, refl, sym, ap, ◌∙◌, subst, arith, ◌-◌, length-append}
+use Rattle.std.proofs.Common.{◌≡◌, inl, inr, ℕ, ◌+◌, ◌≤◌, Bool, true, false, List, [], ◌++◌, length, Option, Some, None, ◌⊎◌, refl, sym, ap, ◌∙◌, subst, arith, ◌-◌, length-append}
 use Rattle.std.proofs.lemmas.List.{length-drop}
 use Rattle.amqp_model.specs.Term.{Term, Descriptor}
 use Rattle.amqp_model.specs.Spelling.{enc}
@@ -21,6 +21,8 @@ pub record Reading (T : Type 0) : Type 1 where
   pub reads : State → T → State → Type 0
   -- the error names a fault that stands there
   pub fault : State → Error → Type 0
+  -- reading it takes memory
+  pub takes_memory : Bool
   -- the values in it
   pub count : T → ℕ
   pub same_sym : (v w : T) → same v w → same w v
@@ -69,6 +71,7 @@ reading_of u = record {
   same = u.same;
   reads = Value u.means;
   fault = u.fault;
+  takes_memory = u.takes_memory;
   count = u.count;
   same_sym = u.same_sym;
   same_trans = u.same_trans;
@@ -83,9 +86,10 @@ pub record ReadsTerms {T : Type 0} (u : TermType T) (r : Reading T) : Type 0 whe
   pub from_value : (st : State) (v : T) (b : State) → Value u.means st v b → r.reads st v b
   pub to_fault : (st : State) (e : Error) → r.fault st e → u.fault st e
   pub to_same : (v w : T) → r.same v w → u.same v w
+  pub to_memory : r.takes_memory ≡ true → u.takes_memory ≡ true
 
 pub reads_terms : {T : Type 0} (u : TermType T) → ReadsTerms u (reading_of u)
-reads_terms u = record { to_value = λ st v b h. h; from_value = λ st v b h. h; to_fault = λ st e h. h; to_same = λ v w h. h }
+reads_terms u = record { to_value = λ st v b h. h; from_value = λ st v b h. h; to_fault = λ st e h. h; to_same = λ v w h. h; to_memory = λ t. t }
 
 -- A decoder at the start of an input.
 abbrev pub start : List ℕ → State
@@ -114,11 +118,11 @@ read_bounded r input v b h = r.counted (start input) v b refl h
 pub is_read : {T : Type 0} (r : Reading T) (input : List ℕ) (v : T) (b : State) (n : ℕ) → r.reads (start input) v b → n ≡ length input - length b.rest → IsRead r input v n
 is_read r input v b n h e = record { after = b; read = h; left = omega (arith, e, read_bounded r input v b h) }
 
--- after a refusal from a source that never fails, nothing can be read, or memory ran out
-pub refused_read : {T : Type 0} (r : Reading T) (input : List ℕ) (e : Error) (b : State) → b.failed ≡ false → Refused r.reads r.fault (start input) e b → (e ≡ Memory) ⊎ Unreadable r input e
+-- after a refusal from a source that never fails, nothing can be read, or memory ran out where it is taken
+pub refused_read : {T : Type 0} (r : Reading T) (input : List ℕ) (e : Error) (b : State) → b.failed ≡ false → Refused r.takes_memory r.reads r.fault (start input) e b → ((r.takes_memory ≡ true) × (e ≡ Memory)) ⊎ Unreadable r input e
 refused_read {T} r input e b sound h = go (h.named refl) h.none
   where
-    go : Excused e b ⊎ r.fault (start input) e → Excused e b ⊎ ((v : T) (st : State) → r.reads (start input) v st → ⊥) → (e ≡ Memory) ⊎ Unreadable r input e
+    go : Excused r.takes_memory e b ⊎ r.fault (start input) e → Excused r.takes_memory e b ⊎ ((v : T) (st : State) → r.reads (start input) v st → ⊥) → ((r.takes_memory ≡ true) × (e ≡ Memory)) ⊎ Unreadable r input e
     go (inl (inl x)) n = inl x
     go (inl (inr x)) n = absurd (let y = x.1 in cc)
     go (inr f) (inl (inl x)) = inl x

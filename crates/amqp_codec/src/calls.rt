@@ -1,5 +1,5 @@
 //! Whole values from bytes and to bytes.
-ghost use Rattle.std.specs.Prelude.{◌≡◌, ◌≤◌, ◌⊎◌, ◌++◌, ℕ, length, IfOk, IfErr, OnOk, OnErr};
+ghost use Rattle.std.specs.Prelude.{◌≡◌, ◌≤◌, ◌⊎◌, ◌++◌, ℕ, true, length, IfOk, IfErr, OnOk, OnErr};
 ghost use Rattle.amqp_wire.specs.declared.error.Error.TheVariants.{Memory};
 ghost use Rattle.amqp_encoder.specs.Passes.{row_text};
 ghost use Rattle.amqp_codec.specs.Reading.{IsRead, Unreadable};
@@ -16,7 +16,7 @@ use std::alloc::Global;
 pub fn from_slice<T: Deserialize>(input: &[u8], alloc: Global) -> Result<T, Error>
     ensures found { IfOk result (λ v. (n : ℕ) × IsRead T.reading input.now v n) }
     ensures one { IfOk result (λ v. (w : _) (m : ℕ) → IsRead T.reading input.now w m → T.reading.same v w) }
-    ensures refused { IfErr result (λ e. (e ≡ Memory) ⊎ Unreadable T.reading input.now e) }
+    ensures refused { IfErr result (λ e. ((T.reading.takes_memory ≡ true) × (e ≡ Memory)) ⊎ Unreadable T.reading input.now e) }
 {
     let (value, _) = from_slice_counted(input, alloc)?;
     Ok(value)
@@ -27,7 +27,7 @@ pub fn from_slice_counted<T: Deserialize>(input: &[u8], alloc: Global) -> Result
     ensures found { IfOk result (λ r. IsRead T.reading input.now r.0 r.1) }
     ensures one { IfOk result (λ r. (w : _) (m : ℕ) → IsRead T.reading input.now w m → T.reading.same r.0 w × (r.1 ≡ m)) }
     ensures bounded { IfOk result (λ r. T.reading.count r.0 ≤ r.1) }
-    ensures refused { IfErr result (λ e. (e ≡ Memory) ⊎ Unreadable T.reading input.now e) }
+    ensures refused { IfErr result (λ e. ((T.reading.takes_memory ≡ true) × (e ≡ Memory)) ⊎ Unreadable T.reading input.now e) }
 {
     let mut decoder = Decoder::new(input, alloc);
     let read = T::deserialize(&mut decoder, alloc);

@@ -7,7 +7,7 @@ ghost use Rattle.amqp_model.specs.Slot.{is_required};
 ghost use Rattle.amqp_model.specs.Fields.{kinds_of, canonical_terms, canonical_items};
 ghost use Rattle.amqp_model.specs.Composite.{MeansComposite, canonical_term};
 ghost use Rattle.amqp_encoder.specs.Passes.{answer_of};
-ghost use Rattle.amqp_codec.specs.Fields.{slots, items, canon_at};
+ghost use Rattle.amqp_codec.specs.Fields.{slots, items, canon_at, take_memory};
 ghost use Rattle.amqp_codec.specs.Composite.{table_of, composite_members};
 ghost use Rattle.amqp_codec.specs.Written.{WritesTerms};
 ghost use Rattle.amqp_wire.specs.Sources.{Tells};
@@ -81,7 +81,7 @@ pub fn read_composite<C: Composite, R: ByteSource>(
     decoder: &mut Decoder<R>,
     alloc: Global,
 ) -> Result<C, Error>
-    ensures { Tells R.remaining → Reads (Value (λ s. MeansComposite (table_of C.table))) (MemberFault (composite_members C.table)) decoder.old result decoder.new }
+    ensures { Tells R.remaining → Reads (take_memory C.table.fields) (Value (λ s. MeansComposite (table_of C.table))) (MemberFault (composite_members C.table)) decoder.old result decoder.new }
 {
     decoder.begin_one_of(&[C::table().descriptor])?;
     let value = read_fields(decoder, alloc)?;
@@ -95,7 +95,7 @@ pub fn fill<T: DeserializeTerm, R: ByteSource>(
     decoder: &mut Decoder<R>,
     alloc: Global,
 ) -> Result<(), Error>
-    ensures { Tells R.remaining → Fills T.term.means T.term.fault decoder.old place.new result decoder.new }
+    ensures { Tells R.remaining → Fills T.term.takes_memory T.term.means T.term.fault decoder.old place.new result decoder.new }
 {
     *place = T::deserialize(decoder, alloc)?;
     Ok(())
@@ -130,7 +130,7 @@ pub trait Sum: Sized + Drop {
         decoder: &mut Decoder<R>,
         alloc: Global,
     ) -> Result<Self, Error>
-        ensures { place < length members.names → Tells R.remaining → Reads (members.reads place) (members.fault place) decoder.old result decoder.new };
+        ensures { place < length members.names → Tells R.remaining → Reads members.takes_memory (members.reads place) (members.fault place) decoder.old result decoder.new };
 
     // The values are the members.
     ghost is_sum: { IsSum members means };
@@ -138,7 +138,7 @@ pub trait Sum: Sized + Drop {
 
 /// Reads a sum of composites.
 pub fn read_sum<S: Sum, R: ByteSource>(decoder: &mut Decoder<R>, alloc: Global) -> Result<S, Error>
-    ensures { Tells R.remaining → Reads (Value S.means) (MemberFault S.members) decoder.old result decoder.new }
+    ensures { Tells R.remaining → Reads S.members.takes_memory (Value S.means) (MemberFault S.members) decoder.old result decoder.new }
 {
     let place = decoder.begin_one_of(S::descriptors())?;
     let value = S::read_member(place, decoder, alloc)?;
@@ -151,7 +151,7 @@ pub fn read_fields<C: Composite, R: ByteSource>(
     decoder: &mut Decoder<R>,
     alloc: Global,
 ) -> Result<C, Error>
-    ensures { Tells R.remaining → Reads (FieldsRead C.table.fields) (FieldsFault C.table.fields) decoder.old result decoder.new }
+    ensures { Tells R.remaining → Reads (take_memory C.table.fields) (FieldsRead C.table.fields) (FieldsFault C.table.fields) decoder.old result decoder.new }
 {
     let count = decoder.begin_list()? as usize;
     let mut value = C::blank(alloc);

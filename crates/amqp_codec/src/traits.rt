@@ -41,7 +41,7 @@ pub trait Deserialize: Sized + Drop {
 
     /// Reads a value from what the decoder stands before.
     fn deserialize<R: ByteSource>(decoder: &mut Decoder<R>, alloc: Global) -> Result<Self, Error>
-        ensures { Tells R.remaining → Reads reading.reads reading.fault decoder.old result decoder.new };
+        ensures { Tells R.remaining → Reads reading.takes_memory reading.reads reading.fault decoder.old result decoder.new };
 }
 
 /// What can be both read and written.

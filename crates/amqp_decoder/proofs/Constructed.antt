@@ -11,7 +11,7 @@ use Rattle.amqp_wire.specs.declared.error.Error.{Error}
 use Rattle.amqp_wire.specs.declared.error.Error.TheVariants.{Depth, ZeroWidthItems, WrongType, UnknownCode, FloatCode}
 use Rattle.amqp_wire.specs.Codes.{is_known, refusal_of}
 use Rattle.amqp_decoder.specs.State.{State, DescriptorValues, descriptor_of, Has, lower, on, past, inside}
-use Rattle.amqp_decoder.specs.Steps.{Excused, Took, Lacks, Short, NoRoom, Stopped}
+use Rattle.amqp_decoder.specs.Steps.{Answered, Excused, Took, Lacks, Short, NoRoom, Stopped}
 use Rattle.amqp_decoder.specs.Reading.{Refused, Reads, Begun, BeginFault}
 use Rattle.amqp_decoder.specs.Containers.{Header, HeaderFault}
 use Rattle.amqp_decoder.specs.Described.{IsDescriptor, TookDescriptor, DescriptorFault, DescriptorMissed}
@@ -19,7 +19,7 @@ use Rattle.amqp_decoder.specs.Arrays.{Marks, TookMarks, TookConstructor, Constru
 use Rattle.amqp_decoder.proofs.Leaves.{has_add, has_front, has_rest, begun_same, fault_not_begun, took_none}
 use Rattle.amqp_decoder.proofs.Opening.{took_both, on-on, header_same, header_not_faulty, one_width}
 use Rattle.amqp_decoder.proofs.Descriptors.{fault_not_names}
-use Rattle.amqp_decoder.proofs.Steps.{not_lacking}
+use Rattle.amqp_decoder.proofs.Steps.{answered_took, not_lacking}
 use Rattle.amqp_decoder.proofs.Looks.{front_is, rest_is}
 
 -- a test of each row holds of each code that is known
@@ -344,27 +344,27 @@ constructor_took st ds c m new few some t (known, same) =
     subst (TookConstructor st ds c) (sym same) (record { own = t.own ++ (c ∷ []); few = few; spelled = marks_end ds c t.own (known_code c some known) t.marks; took = t.took })
 
 -- why none is taken
-pub stopped_first : (st : State) (e : Error) (new : State) → Short 1 st e new → Stopped (ConstructorFault st) e new
-stopped_first st e new s = record { kept = s.kept; why = elim s.why [ inl x ↦ inl x | inr x ↦ inr (no_code [] [] st refl (took_none st) x) ] }
+pub stopped_first : (st : State) (e : Error) (new : State) → Short 1 st e new → Stopped true (ConstructorFault st) st e new
+stopped_first st e new s = record { kept = s.kept; why = elim s.why [ inl x ↦ inl (inr x) | inr x ↦ inr (no_code [] [] st refl (took_none st) x) ] }
 
-pub stopped_code : (st : State) (ds : List Descriptor) (m : State) (e : Error) (new : State) → TookNamed st ds m → Short 1 m e new → Stopped (ConstructorFault st) e new
-stopped_code st ds m e new t s = record { kept = s.kept; why = elim s.why [ inl x ↦ inl x | inr x ↦ inr (no_code ds t.own m t.marks t.took x) ] }
+pub stopped_code : (st : State) (ds : List Descriptor) (m : State) (e : Error) (new : State) → TookNamed st ds m → Short 1 m e new → Stopped true (ConstructorFault st) st e new
+stopped_code st ds m e new t s = record { kept = answered_took t.took s.kept; why = elim s.why [ inl x ↦ inl (inr x) | inr x ↦ inr (no_code ds t.own m t.marks t.took x) ] }
 
-pub stopped_mark : (st : State) (ds : List Descriptor) (n : ℕ) (m : State) (e : Error) (new : State) → n ≡ length ds → TookMarks st ds 0 m → Stopped (λ e. ((e ≡ Depth) × (128 ≤ n)) ⊎ DescriptorFault m e) e new → Stopped (ConstructorFault st) e new
+pub stopped_mark : (st : State) (ds : List Descriptor) (n : ℕ) (m : State) (e : Error) (new : State) → n ≡ length ds → TookMarks st ds 0 m → Stopped true (λ e. ((e ≡ Depth) × (128 ≤ n)) ⊎ DescriptorFault m e) m e new → Stopped true (ConstructorFault st) st e new
 stopped_mark st ds n m e new is t s = record {
-  kept = s.kept;
+  kept = answered_took t.took s.kept;
   why = elim s.why [
     | inl x ↦ inl x
     | inr y ↦ elim y [ inl z ↦ inr (too_many ds m t (omega (arith, is, z.1)) z.0) | inr z ↦ inr (no_mark ds m t z) ]
   ];
 }
 
-pub stopped_unknown : (st : State) (ds : List Descriptor) (c : ℕ) (m : State) (e : Error) (new : State) → (c ≡ 0 → ⊥) → TookMarks st ds c m → (if_unknown (refusal_of c) ≡ Some e) × (new.error ≡ Some e) → Stopped (ConstructorFault st) e new
-stopped_unknown st ds c m e new some t (none, kept) = let u = unknown_code c e none in record { kept = kept; why = inr (no_known_code ds c m t some u.0 u.1) }
+pub stopped_unknown : (st : State) (ds : List Descriptor) (c : ℕ) (m : State) (e : Error) (new : State) → (c ≡ 0 → ⊥) → TookMarks st ds c m → (if_unknown (refusal_of c) ≡ Some e) × Answered m e new → Stopped true (ConstructorFault st) st e new
+stopped_unknown st ds c m e new some t (none, kept) = let u = unknown_code c e none in record { kept = answered_took t.took kept; why = inr (no_known_code ds c m t some u.0 u.1) }
 
 pub more_named : (st : State) (l l' : DescriptorValues) (m : State) (new : State) → st.top.shared ≡ None → TookMarks st (map descriptor_of l) 0 m → (d : DescriptorValue) × TookDescriptor m (descriptor_of d) new × (l' ≡ l ++ (d ∷ [])) → TookNamed st (map descriptor_of l') new
 more_named st l l' m new none t (d, u, is) =
     subst (λ ds. TookNamed st ds new) (sym (map-append descriptor_of l (d ∷ [])) ∙ ap (map descriptor_of) (sym is)) (named_behind st (map descriptor_of l) m (descriptor_of d) new none t u)
 
-pub stopped_descriptor : (st : State) (n : ℕ) (e : Error) (new : State) → DescriptorMissed st e new → Stopped (λ e. ((e ≡ Depth) × (128 ≤ n)) ⊎ DescriptorFault st e) e new
+pub stopped_descriptor : (st : State) (n : ℕ) (e : Error) (new : State) → DescriptorMissed true st e new → Stopped true (λ e. ((e ≡ Depth) × (128 ≤ n)) ⊎ DescriptorFault st e) st e new
 stopped_descriptor st n e new f = record { kept = f.kept; why = elim f.why [ inl x ↦ inl x | inr (none, x) ↦ inr (inr x) ] }

@@ -11,7 +11,7 @@ use Rattle.amqp_wire.specs.declared.error.Error.TheVariants.{Depth, Memory, NonA
 use Rattle.amqp_wire.specs.Codes.{refusal_of}
 use Rattle.amqp_wire.specs.declared.descriptor.Descriptor.{Descriptor as DescriptorValue}
 use Rattle.amqp_decoder.specs.State.{State, Has, moved, on, descriptor_of}
-use Rattle.amqp_decoder.specs.Steps.{Excused, Pulled, Took, Short}
+use Rattle.amqp_decoder.specs.Steps.{Answered, Excused, Pulled, Took, Short}
 use Rattle.amqp_decoder.specs.Reading.{Refused, IsFirst, Begun, BeginFault}
 use Rattle.amqp_decoder.specs.Kinds.{kind_at}
 use Rattle.amqp_decoder.specs.Primitives.{LacksData, IsWhole, Failed, Announced, SizedFault, Sized, HasData, LacksDataOf}
@@ -19,7 +19,7 @@ use Rattle.amqp_decoder.specs.Described.{IsMark, IsUnmarked, IsDescriptor, IsDes
 use Rattle.amqp_decoder.proofs.KindsOfCodes.{kind_data, kind_is}
 use Rattle.amqp_decoder.proofs.Leaves.{has_add, has_rest, lower-lower, minus-minus, after_code, begun_same, fault_not_begun, data_not_lacking, data_whole, whole_same, took_none, not_two}
 use Rattle.amqp_decoder.proofs.SizedTexts.{sized_cut, no_text_value}
-use Rattle.amqp_decoder.proofs.Steps.{not_lacking, took_pulled}
+use Rattle.amqp_decoder.proofs.Steps.{answered, answered_begun, answered_later, answered_took, excused_by_source, not_lacking, took_pulled}
 
 on-on : (m n : ℕ) (st : State) → on n (on m st) ≡ on (m + n) st
 on-on m n st = rw (minus-minus st.ahead m n, drop-drop n m st.rest, lower-lower st.top.left m n) refl
@@ -121,31 +121,31 @@ name_place members st m sized new c n wide place none is t a (few, ascii, at_, w
 }
 
 -- why none is taken
-pub missed_code : (st : State) (e : Error) (new : State) → st.top.shared ≡ None → Short 1 st e new → DescriptorMissed st e new
-missed_code st e new none s = record { kept = s.kept; why = elim s.why [ inl x ↦ inl x | inr x ↦ inr (none, no_code x) ] }
+pub missed_code : {takes : Bool} (st : State) (e : Error) (new : State) → st.top.shared ≡ None → Short 1 st e new → DescriptorMissed takes st e new
+missed_code st e new none s = record { kept = s.kept; why = elim s.why [ inl x ↦ inl (inr x) | inr x ↦ inr (none, no_code x) ] }
 
-pub missed_ulong : (st : State) (m : State) (c : ℕ) (e : Error) (new : State) → st.top.shared ≡ None → Took st (c ∷ []) m → LacksDataOf 5 c m e new → DescriptorMissed st e new
-missed_ulong st m c e new none t l = record { kept = l.kept; why = elim l.why [ inl x ↦ inl x | inr x ↦ inr (none, no_data t (inl l.kind) x) ] }
+pub missed_ulong : {takes : Bool} (st : State) (m : State) (c : ℕ) (e : Error) (new : State) → st.top.shared ≡ None → Took st (c ∷ []) m → LacksDataOf 5 c m e new → DescriptorMissed takes st e new
+missed_ulong st m c e new none t l = record { kept = answered_took t l.kept; why = elim l.why [ inl x ↦ inl (inr x) | inr x ↦ inr (none, no_data t (inl l.kind) x) ] }
 
-pub missed_kind : (st : State) (m : State) (c : ℕ) (e : Error) (new : State) → st.top.shared ≡ None → Took st (c ∷ []) m → (kind_at c ≡ Some 5 → ⊥) → (c ≡ 0xa3 → ⊥) → (c ≡ 0xb3 → ⊥) → e ≡ other_kind (refusal_of c) → new.error ≡ Some e → DescriptorMissed st e new
+pub missed_kind : {takes : Bool} (st : State) (m : State) (c : ℕ) (e : Error) (new : State) → st.top.shared ≡ None → Took st (c ∷ []) m → (kind_at c ≡ Some 5 → ⊥) → (c ≡ 0xa3 → ⊥) → (c ≡ 0xb3 → ⊥) → e ≡ other_kind (refusal_of c) → Answered m e new → DescriptorMissed takes st e new
 missed_kind st m c e new none t code_ narrow wide is kept = record {
-  kept = kept;
+  kept = answered_took t kept;
   why = inr (none, no_kind t (λ k. elim k [ inl x ↦ code_ x | inr x ↦ not_two 18 c 0xa3 0xb3 refl narrow wide x ]) is);
 }
 
-pub missed_size : (st : State) (m : State) (c : ℕ) (wide : Bool) (e : Error) (new : State) → st.top.shared ≡ None → c ≡ symbol_code wide → Took st (c ∷ []) m → SizedFault (cond wide 4 1) m e new → DescriptorMissed st e new
+pub missed_size : {takes : Bool} (st : State) (m : State) (c : ℕ) (wide : Bool) (e : Error) (new : State) → st.top.shared ≡ None → c ≡ symbol_code wide → Took st (c ∷ []) m → SizedFault takes (cond wide 4 1) m e new → DescriptorMissed takes st e new
 missed_size st m c wide e new none is t f = record {
-  kept = f.kept;
+  kept = answered_took t f.kept;
   why = elim f.why [ inl x ↦ inl x | inr x ↦ inr (none, no_data t (inr (kind_is_symbol c wide is)) (subst (λ F. LacksData F m e) (sym (format_is c wide is)) x)) ];
 }
 
-pub missed_text : (st : State) (m : State) (m' : State) (c : ℕ) (wide : Bool) (s : List ℕ) (e : Error) (new : State) → st.top.shared ≡ None → c ≡ symbol_code wide → Took st (c ∷ []) m → Sized (cond wide 4 1) m s m' → (IsAscii s → ⊥) → e ≡ NonAscii → new.error ≡ Some e
-    → DescriptorMissed st e new
+pub missed_text : {takes : Bool} (st : State) (m : State) (m' : State) (c : ℕ) (wide : Bool) (s : List ℕ) (e : Error) (new : State) → st.top.shared ≡ None → c ≡ symbol_code wide → Took st (c ∷ []) m → Sized (cond wide 4 1) m s m' → (IsAscii s → ⊥) → e ≡ NonAscii → Answered m' e new
+    → DescriptorMissed takes st e new
 missed_text st m m' c wide s e new none is t z bad named kept =
     let b : List ℕ = bytes_high_first (cond wide 4 1) (length s) ++ s in
     let F = format_is c wide is in
     record {
-      kept = kept;
+      kept = answered_took t (answered_took z.took kept);
       why = inr (
         none,
         non_ascii t (kind_is_symbol c wide is) z.took (subst (λ G. IsWhole G b) (sym F) (s, z.fits, refl))
@@ -153,16 +153,16 @@ missed_text st m m' c wide s e new none is t z bad named kept =
       );
     }
 
-missed_ascii : (st : State) (m : State) (sized : State) (c n : ℕ) (wide : Bool) (e : Error) (new : State) → st.top.shared ≡ None → c ≡ symbol_code wide → Took st (c ∷ []) m → Announced (cond wide 4 1) m n sized → n ≤ length sized.rest → (IsAscii (take n sized.rest) → ⊥)
-    → e ≡ NonAscii → new.error ≡ Some e → DescriptorMissed st e new
+missed_ascii : {takes : Bool} (st : State) (m : State) (sized : State) (c n : ℕ) (wide : Bool) (e : Error) (new : State) → st.top.shared ≡ None → c ≡ symbol_code wide → Took st (c ∷ []) m → Announced (cond wide 4 1) m n sized → n ≤ length sized.rest → (IsAscii (take n sized.rest) → ⊥)
+    → e ≡ NonAscii → Answered sized e new → DescriptorMissed takes st e new
 missed_ascii st m sized c n wide e new none is t a few bad named kept =
     let s = take n sized.rest in
     let x = announced_took (cond wide 4 1) n m sized (moved n sized) s a refl few refl in
-    missed_text st m (moved n sized) c wide s e new none is t (record { fits = subst (λ k. k < 256 ^ cond wide 4 1) (sym x.0) a.fits; took = x.1 }) bad named kept
+    missed_text st m (moved n sized) c wide s e new none is t (record { fits = subst (λ k. k < 256 ^ cond wide 4 1) (sym x.0) a.fits; took = x.1 }) bad named (answered_later refl kept)
 
-pub missed_name : (st : State) (m : State) (sized : State) (c n : ℕ) (wide : Bool) (e : Error) (new : State) → st.top.shared ≡ None → c ≡ symbol_code wide → Took st (c ∷ []) m → Announced (cond wide 4 1) m n sized → NameMissed n sized e new → DescriptorMissed st e new
+pub missed_name : (st : State) (m : State) (sized : State) (c n : ℕ) (wide : Bool) (e : Error) (new : State) → st.top.shared ≡ None → c ≡ symbol_code wide → Took st (c ∷ []) m → Announced (cond wide 4 1) m n sized → NameMissed n sized e new → DescriptorMissed false st e new
 missed_name st m sized c n wide e new none is t a f = elim f.why [
-  | inl x ↦ record { kept = f.kept; why = inl x }
+  | inl x ↦ record { kept = answered_took t (answered_took a.took (answered_later (ap (λ (z : State). z.failed) a.lowered) f.kept)); why = inl (inr x) }
   | inr x ↦ elim x [
     | inl y ↦ missed_size st m c wide e new none is t (sized_cut (cond wide 4 1) n m sized e new a (record { kept = f.kept; why = inr y }))
     | inr (named, few, bad) ↦ missed_ascii st m sized c n wide e new none is t a few bad named f.kept
@@ -215,20 +215,20 @@ described_not st e mid (other_code {c} {m} h other _) g n = other (begun_same st
 described_not st e mid (too_deep h deep _) g n = omega arith
 
 -- a call that begins a described value fails
-pub unbegun : (st : State) (e : Error) (new : State) → Refused Begun BeginFault st e new → Failed DescribedFault st e new
+pub unbegun : (st : State) (e : Error) (new : State) → Refused false Begun BeginFault st e new → Failed false DescribedFault st e new
 unbegun st e new r = record { kept = r.kept; again = r.again; named = λ g. elim (r.named g) [ inl x ↦ inl x | inr x ↦ inr (not_begun x) ] }
 
-pub begun_fails : (fault : State → Error → Type 0) (st : State) (c : ℕ) (m : State) (e : Error) (new : State) → Begun st c m → new.error ≡ Some e → Excused e new ⊎ fault st e → Failed fault st e new
+pub begun_fails : {takes : Bool} (fault : State → Error → Type 0) (st : State) (c : ℕ) (m : State) (e : Error) (new : State) → Begun st c m → Answered m e new → Excused takes e new ⊎ fault st e → Failed takes fault st e new
 begun_fails fault st c m e new g kept why = record {
-  kept = kept;
+  kept = answered_begun g kept;
   again = λ d x. let h = g.going in absurd (cc);
   named = λ h. why;
 }
 
-pub deep_fails : (st : State) (m : State) (e : Error) (new : State) → Begun st 0 m → e ≡ Depth → m.nesting ≤ length m.saved → new ≡ record m { error = Some Depth } → Failed DescribedFault st e new
+pub deep_fails : (st : State) (m : State) (e : Error) (new : State) → Begun st 0 m → e ≡ Depth → m.nesting ≤ length m.saved → new ≡ record m { error = Some Depth } → Failed false DescribedFault st e new
 deep_fails st m e new g is deep kept =
     let deep_ : st.nesting ≤ length st.saved = subst (λ (z : State). z.nesting ≤ length z.saved) g.moved deep in
-    begun_fails DescribedFault st 0 m e new g (ap (λ (z : State). z.error) kept ∙ ap Some (sym is)) (inr (too_deep g deep_ is))
+    begun_fails DescribedFault st 0 m e new g (answered m new e Depth kept is) (inr (too_deep g deep_ is))
 
 -- one of the members
 pub opens_one : (members : List Member) (st : State) (m : State) (named : State) (i : ℕ) (new : State) → Begun st 0 m → TookPlace members m (Some i) named → length named.saved < named.nesting → new ≡ entered named → OpensOneOf members st i new
@@ -258,26 +258,26 @@ fault_not_one members st e i new (no_member {m} {m'} g t _) o =
     let e : Some i ≡ None = sym o.place ∙ ap (place_of members) d ∙ t.is in
     cc
 
-pub one_fails : (members : List Member) (st : State) (e : Error) (new : State) → Failed (OneOfFault members) st e new → Refused (OpensOneOf members) (OneOfFault members) st e new
+pub one_fails : (members : List Member) (st : State) (e : Error) (new : State) → Failed false (OneOfFault members) st e new → Refused false (OpensOneOf members) (OneOfFault members) st e new
 one_fails members st e new f = record { kept = f.kept; again = f.again; named = f.named; none = none st.error refl }
   where
-    none : (o : Option Error) → st.error ≡ o → Excused e new ⊎ ((i : ℕ) (b : State) → OpensOneOf members st i b → ⊥)
+    none : (o : Option Error) → st.error ≡ o → Excused false e new ⊎ ((i : ℕ) (b : State) → OpensOneOf members st i b → ⊥)
     none None g = elim (f.named g) [ inl x ↦ inl x | inr x ↦ inr (λ i b o. fault_not_one members st e i b x o) ]
     none (Some d) g = inr (λ i b o. let h = o.opens.begun.going in absurd (cc))
 
-pub one_unbegun : (members : List Member) (st : State) (e : Error) (new : State) → Failed DescribedFault st e new → Refused (OpensOneOf members) (OneOfFault members) st e new
+pub one_unbegun : (members : List Member) (st : State) (e : Error) (new : State) → Failed false DescribedFault st e new → Refused false (OpensOneOf members) (OneOfFault members) st e new
 one_unbegun members st e new f = one_fails members st e new (record { kept = f.kept; again = f.again; named = λ g. elim (f.named g) [ inl x ↦ inl x | inr x ↦ inr (not_described x) ] })
 
-pub one_missed : (members : List Member) (st : State) (m : State) (e : Error) (new : State) → Begun st 0 m → DescriptorMissed m e new → Refused (OpensOneOf members) (OneOfFault members) st e new
+pub one_missed : (members : List Member) (st : State) (m : State) (e : Error) (new : State) → Begun st 0 m → DescriptorMissed false m e new → Refused false (OpensOneOf members) (OneOfFault members) st e new
 one_missed members st m e new g f = one_fails members st e new (begun_fails (OneOfFault members) st 0 m e new g f.kept (elim f.why [ inl x ↦ inl x | inr (none, x) ↦ inr (no_descriptor g none x) ]))
 
-pub one_other : (members : List Member) (st : State) (m : State) (named : State) (e : Error) (new : State) → Begun st 0 m → TookPlace members m None named → e ≡ WrongDescriptor → new.error ≡ Some e → Refused (OpensOneOf members) (OneOfFault members) st e new
-one_other members st m named e new g t is kept = one_fails members st e new (begun_fails (OneOfFault members) st 0 m e new g kept (inr (no_member g t is)))
+pub one_other : (members : List Member) (st : State) (m : State) (named : State) (e : Error) (new : State) → Begun st 0 m → TookPlace members m None named → e ≡ WrongDescriptor → Answered named e new → Refused false (OpensOneOf members) (OneOfFault members) st e new
+one_other members st m named e new g t is kept = one_fails members st e new (begun_fails (OneOfFault members) st 0 m e new g (answered_took t.took.took kept) (inr (no_member g t is)))
 
-pub one_deep : (members : List Member) (st : State) (m : State) (place : Option ℕ) (named : State) (e : Error) (new : State) → Begun st 0 m → TookPlace members m place named → e ≡ Depth → named.nesting ≤ length named.saved → new ≡ record named { error = Some Depth } → Refused (OpensOneOf members) (OneOfFault members) st e new
+pub one_deep : (members : List Member) (st : State) (m : State) (place : Option ℕ) (named : State) (e : Error) (new : State) → Begun st 0 m → TookPlace members m place named → e ≡ Depth → named.nesting ≤ length named.saved → new ≡ record named { error = Some Depth } → Refused false (OpensOneOf members) (OneOfFault members) st e new
 one_deep members st m place named e new g t is deep kept =
     let deep_ : m.nesting ≤ length m.saved = subst (λ (z : State). z.nesting ≤ length z.saved) t.took.took.moved deep in
-    let kept_ : new.error ≡ Some e = ap (λ (z : State). z.error) kept ∙ ap Some (sym is) in
+    let kept_ : Answered m e new = answered_took t.took.took (answered named new e Depth kept is) in
     one_fails members st e new (begun_fails (OneOfFault members) st 0 m e new g kept_
     (inr (not_described (too_deep g (subst (λ (z : State). z.nesting ≤ length z.saved) g.moved deep_) is))))
 
@@ -295,23 +295,23 @@ fault_not_open st e d new (nameless {m} g none f) o =
 abbrev Any : State → DescriptorValue → State → Type 0
 Any st d st' = OpensDescribed st (descriptor_of d) st'
 
-any_fails : (st : State) (e : Error) (new : State) → Failed OpenFault st e new → Refused Any OpenFault st e new
+any_fails : (st : State) (e : Error) (new : State) → Failed true OpenFault st e new → Refused true Any OpenFault st e new
 any_fails st e new f = record { kept = f.kept; again = f.again; named = f.named; none = none st.error refl }
   where
-    none : (o : Option Error) → st.error ≡ o → Excused e new ⊎ ((d : DescriptorValue) (b : State) → Any st d b → ⊥)
+    none : (o : Option Error) → st.error ≡ o → Excused true e new ⊎ ((d : DescriptorValue) (b : State) → Any st d b → ⊥)
     none None g = elim (f.named g) [ inl x ↦ inl x | inr x ↦ inr (λ d b o. fault_not_open st e (descriptor_of d) b x o) ]
     none (Some c) g = inr (λ d b o. let h = o.begun.going in absurd (cc))
 
-pub any_unbegun : (st : State) (e : Error) (new : State) → Failed DescribedFault st e new → Refused Any OpenFault st e new
-any_unbegun st e new f = any_fails st e new (record { kept = f.kept; again = f.again; named = λ g. elim (f.named g) [ inl x ↦ inl x | inr x ↦ inr (not_open x) ] })
+pub any_unbegun : (st : State) (e : Error) (new : State) → Failed false DescribedFault st e new → Refused true Any OpenFault st e new
+any_unbegun st e new f = any_fails st e new (record { kept = f.kept; again = f.again; named = λ g. elim (f.named g) [ inl x ↦ inl (excused_by_source true e new x) | inr x ↦ inr (not_open x) ] })
 
-pub any_missed : (st : State) (m : State) (e : Error) (new : State) → Begun st 0 m → DescriptorMissed m e new → Refused Any OpenFault st e new
+pub any_missed : (st : State) (m : State) (e : Error) (new : State) → Begun st 0 m → DescriptorMissed true m e new → Refused true Any OpenFault st e new
 any_missed st m e new g f = any_fails st e new (begun_fails OpenFault st 0 m e new g f.kept (elim f.why [ inl x ↦ inl x | inr (none, x) ↦ inr (nameless g none x) ]))
 
-pub any_deep : (st : State) (m : State) (d : Descriptor) (named : State) (e : Error) (new : State) → Begun st 0 m → TookDescriptor m d named → (e ≡ Depth) × (named.nesting ≤ length named.saved) × (new ≡ record named { error = Some Depth }) → Refused Any OpenFault st e new
+pub any_deep : (st : State) (m : State) (d : Descriptor) (named : State) (e : Error) (new : State) → Begun st 0 m → TookDescriptor m d named → (e ≡ Depth) × (named.nesting ≤ length named.saved) × (new ≡ record named { error = Some Depth }) → Refused true Any OpenFault st e new
 any_deep st m d named e new g t (is, deep, kept) =
     let deep_ : m.nesting ≤ length m.saved = subst (λ (z : State). z.nesting ≤ length z.saved) t.took.moved deep in
-    let kept_ : new.error ≡ Some e = ap (λ (z : State). z.error) kept ∙ ap Some (sym is) in
+    let kept_ : Answered m e new = answered_took t.took (answered named new e Depth kept is) in
     any_fails st e new (begun_fails OpenFault st 0 m e new g kept_ (inr (not_open (too_deep g (subst (λ (z : State). z.nesting ≤ length z.saved) g.moved deep_) is))))
 
 pub any_entered : (st : State) (m : State) (d : Descriptor) (named : State) (new : State) → Begun st 0 m → TookDescriptor m d named → (length named.saved < named.nesting) × (new ≡ entered named) → OpensDescribed st d new
@@ -319,5 +319,5 @@ any_entered st m d named new g t (n, is) =
     let n_ : length m.saved < m.nesting = subst (λ (z : State). length z.saved < z.nesting) t.took.moved n in
     record { coded = m; named = named; begun = g; nested = subst (λ (z : State). length z.saved < z.nesting) g.moved n_; descriptor = t; opened = is }
 
-pub missed_copy : (st : State) (e : Error) (new : State) → (e ≡ Memory) × (new.error ≡ Some e) → DescriptorMissed st e new
-missed_copy st e new (is, kept) = record { kept = kept; why = inl (inl is) }
+pub missed_copy : (st : State) (e : Error) (new : State) → (e ≡ Memory) × Answered st e new → DescriptorMissed true st e new
+missed_copy st e new (is, kept) = record { kept = kept; why = inl (inl (refl, is)) }

@@ -1,5 +1,5 @@
 -- A primitive that stands next is a code that begins a value, and its data.
-use Rattle.std.proofs.Common.{◌≡◌, ◌≤◌, ◌<◌, ℕ, zero, suc, ◌+◌, ◌-◌, ◌^◌, ◌⊎◌, inl, inr, Option, Some, None, Result, Ok, Err, IfOk, IfErr, unwrap_or, List, [], ◌∷◌, ◌++◌, length, drop, get_or, refl, sym, ap, ◌∙◌, subst, arith, append_assoc, drop-drop, length-append}
+use Rattle.std.proofs.Common.{◌≡◌, ◌≤◌, ◌<◌, ℕ, zero, suc, ◌+◌, ◌-◌, ◌^◌, ◌⊎◌, inl, inr, Bool, false, Option, Some, None, Result, Ok, Err, IfOk, IfErr, unwrap_or, List, [], ◌∷◌, ◌++◌, length, drop, get_or, refl, sym, ap, ◌∙◌, subst, arith, append_assoc, drop-drop, length-append}
 use Rattle.std.proofs.lemmas.List.{drop_at}
 use Rattle.std.specs.Int.{bytes_high_first}
 use Rattle.std.specs.Char.{IsScalar}
@@ -11,11 +11,11 @@ use Rattle.amqp_model.proofs.Forms.{primitive_known}
 use Rattle.amqp_wire.specs.declared.error.Error.{Error}
 use Rattle.amqp_wire.specs.Codes.{refusal_of}
 use Rattle.amqp_decoder.specs.State.{State, Has, lower, on, past}
-use Rattle.amqp_decoder.specs.Steps.{Excused, Took, Lacks, Short}
+use Rattle.amqp_decoder.specs.Steps.{Answered, SourceFailed, Excused, Took, Lacks, Short}
 use Rattle.amqp_decoder.specs.Reading.{Refused, Reads, IsFirst, Begun, BeginFault, missing, no_code}
 use Rattle.amqp_decoder.specs.Kinds.{kind_of, kind_at, kind_under, codes_of}
 use Rattle.amqp_decoder.specs.Primitives.{standing, SpellsAs, Stands, Value, Means, Leaf, LacksData, IsWhole, bad, PrimitiveFault, not_begun, wrong_code, no_data, bad_data, FixedFault, unbegun, other_code, too_few, Fixed, Failed, HasData, LacksDataOf}
-use Rattle.amqp_decoder.proofs.Steps.{not_lacking, not_begun_done, not_begun_lacking}
+use Rattle.amqp_decoder.proofs.Steps.{answered_begun, answered_took, not_lacking, not_begun_done, not_begun_lacking}
 use Rattle.amqp_decoder.proofs.KindsOfCodes.{kind_data, OneOf, kind_codes, kind_is, one_code}
 
 pub has_add : (o : Option ℕ) (m n : ℕ) → Has o m → Has (lower o m) n → Has o (m + n)
@@ -191,7 +191,7 @@ fault_not_leaf k st e p st' is (bad_data {c} {m} {b} {m'} g _ t h none _) l =
     none p (subst (λ z. PrimitiveData (format z) p b) (sym s.0) (subst (PrimitiveData (format l.code) p) same l.spelled))
 
 -- a failed call refuses every value of its kind
-pub refused_kind : {A : Type 0} (make : A → Primitive) (k : ℕ) (st : State) (e : Error) (new : State) → ((v : A) → kind_of (make v) ≡ k) → st.error ≡ None → new.error ≡ Some e → Excused e new ⊎ PrimitiveFault k st e → Refused (Value (Means make)) (PrimitiveFault k) st e new
+pub refused_kind : {A : Type 0} {takes : Bool} (make : A → Primitive) (k : ℕ) (st : State) (e : Error) (new : State) → ((v : A) → kind_of (make v) ≡ k) → st.error ≡ None → Answered st e new → Excused takes e new ⊎ PrimitiveFault k st e → Refused takes (Value (Means make)) (PrimitiveFault k) st e new
 refused_kind make k st e new is going kept why = record {
   kept = kept;
   again = λ d x. absurd (cc);
@@ -199,7 +199,7 @@ refused_kind make k st e new is going kept why = record {
   none = elim why [ inl x ↦ inl x | inr x ↦ inr (λ v b h. fault_not_leaf k st e (make v) b (is v) x (value_leaf make st v b h)) ];
 }
 
-pub refused_first : {A : Type 0} (make : A → Primitive) (k : ℕ) (st : State) (e : Error) (new : State) → ((v : A) → kind_of (make v) ≡ k) → Refused Begun BeginFault st e new → Refused (Value (Means make)) (PrimitiveFault k) st e new
+pub refused_first : {A : Type 0} (make : A → Primitive) (k : ℕ) (st : State) (e : Error) (new : State) → ((v : A) → kind_of (make v) ≡ k) → Refused false Begun BeginFault st e new → Refused false (Value (Means make)) (PrimitiveFault k) st e new
 refused_first make k st e new is r = record {
   kept = r.kept;
   again = r.again;
@@ -219,25 +219,25 @@ ok_map (Ok v) P Q f h = f v h
 ok_map (Err e) P Q f h = tt
 
 -- why the data of a value of one constructor isn't read
-pub fixed_unbegun : (code n : ℕ) (st : State) (e : Error) (new : State) → Refused Begun BeginFault st e new → Failed (FixedFault code n) st e new
+pub fixed_unbegun : (code n : ℕ) (st : State) (e : Error) (new : State) → Refused false Begun BeginFault st e new → Failed false (FixedFault code n) st e new
 fixed_unbegun code n st e new r = record {
   kept = r.kept;
   again = r.again;
   named = λ g. elim (r.named g) [ inl x ↦ inl x | inr x ↦ inr (unbegun x) ];
 }
 
-pub fixed_other : (code n : ℕ) (st : State) (c : ℕ) (m : State) (e d : Error) (new : State) → Begun st c m → (c ≡ code → ⊥) → e ≡ refusal_of c → new.error ≡ Some e → Failed (FixedFault code n) st e new
+pub fixed_other : (code n : ℕ) (st : State) (c : ℕ) (m : State) (e d : Error) (new : State) → Begun st c m → (c ≡ code → ⊥) → e ≡ refusal_of c → Answered m e new → Failed false (FixedFault code n) st e new
 fixed_other code n st c m e d new g other is kept = record {
-  kept = kept;
+  kept = answered_begun g kept;
   again = λ d x. let h = g.going in absurd (cc);
   named = λ h. inr (other_code g other is);
 }
 
-pub fixed_short : (code n : ℕ) (st : State) (m : State) (e : Error) (new : State) → Begun st code m → Short n m e new → Failed (FixedFault code n) st e new
+pub fixed_short : (code n : ℕ) (st : State) (m : State) (e : Error) (new : State) → Begun st code m → Short n m e new → Failed false (FixedFault code n) st e new
 fixed_short code n st m e new g s = record {
-  kept = s.kept;
+  kept = answered_begun g s.kept;
   again = λ d x. let h = g.going in absurd (cc);
-  named = λ h. elim s.why [ inl x ↦ inl x | inr x ↦ inr (too_few g x) ];
+  named = λ h. elim s.why [ inl x ↦ inl (inr x) | inr x ↦ inr (too_few g x) ];
 }
 
 fixed_fault : (k code n : ℕ) (st : State) (e : Error) → kind_under (format code) ≡ Some k → codes_of k ≡ code ∷ [] → ((m : State) → Lacks n m e → LacksData (format code) m e) → FixedFault code n st e → PrimitiveFault k st e
@@ -246,21 +246,21 @@ fixed_fault k code n st e is one lacks (other_code {c} g other d) = wrong_code g
 fixed_fault k code n st e is one lacks (too_few {m} g l) = no_data g (kind_is code k is) (lacks m l)
 
 -- a value of a kind of one constructor isn't read
-pub kind_failed : {A : Type 0} (make : A → Primitive) (k : ℕ) (st : State) (e : Error) (new : State) → ((v : A) → kind_of (make v) ≡ k) → new.error ≡ Some e → ((d : Error) → st.error ≡ Some d → (d ≡ e) × (new ≡ st))
-    → (st.error ≡ None → Excused e new ⊎ PrimitiveFault k st e) → Refused (Value (Means make)) (PrimitiveFault k) st e new
-kind_failed make k st e new kinds kept again why = record {
+pub kind_failed : {A : Type 0} {takes : Bool} (make : A → Primitive) (k : ℕ) (st : State) (e : Error) (new : State) → ((v : A) → kind_of (make v) ≡ k) → Answered st e new → ((d : Error) → st.error ≡ Some d → (d ≡ e) × (new ≡ st))
+    → (st.error ≡ None → Excused takes e new ⊎ PrimitiveFault k st e) → Refused takes (Value (Means make)) (PrimitiveFault k) st e new
+kind_failed {takes = takes} make k st e new kinds kept again why = record {
   kept = kept;
   again = again;
   named = why;
   none = none st.error refl;
 }
   where
-    none : (o : Option Error) → st.error ≡ o → Excused e new ⊎ ((v : _) (b : State) → Value (Means make) st v b → ⊥)
+    none : (o : Option Error) → st.error ≡ o → Excused takes e new ⊎ ((v : _) (b : State) → Value (Means make) st v b → ⊥)
     none None g = elim (why g) [ inl x ↦ inl x | inr x ↦ inr (λ v b h. fault_not_leaf k st e (make v) b (kinds v) x (value_leaf make st v b h)) ]
     none (Some d) g = inr (λ v b h. let i = h.stands.going in absurd (cc))
 
 pub fixed_refused : {A : Type 0} (make : A → Primitive) (k code n : ℕ) (st : State) (e : Error) (new : State) → ((v : A) → kind_of (make v) ≡ k) → kind_under (format code) ≡ Some k → codes_of k ≡ code ∷ [] → ((m : State) → Lacks n m e → LacksData (format code) m e)
-    → Failed (FixedFault code n) st e new → Refused (Value (Means make)) (PrimitiveFault k) st e new
+    → Failed false (FixedFault code n) st e new → Refused false (Value (Means make)) (PrimitiveFault k) st e new
 fixed_refused make k code n st e new kinds is one lacks f =
     kind_failed make k st e new kinds f.kept f.again (λ g. elim (f.named g) [ inl x ↦ inl x | inr x ↦ inr (fixed_fault k code n st e is one lacks x) ])
 
@@ -269,14 +269,14 @@ fixed_value make code n st b v new d f = leaf_value make st v new (record { code
 
 -- the data itself is the value
 pub fixed_reads : (make : List ℕ → Primitive) (k code n : ℕ) (st : State) (new : State) (r : Result (List ℕ) Error) → ((v : List ℕ) → kind_of (make v) ≡ k) → kind_under (format code) ≡ Some k → codes_of k ≡ code ∷ [] → ((m : State) (e : Error) → Lacks n m e → LacksData (format code) m e)
-    → ((b : List ℕ) → length b ≡ n → PrimitiveData (format code) (make b) b) → IfOk r (λ b. Fixed code n st b new) → IfErr r (λ e. Failed (FixedFault code n) st e new) → Reads (Value (Means make)) (PrimitiveFault k) st r new
+    → ((b : List ℕ) → length b ≡ n → PrimitiveData (format code) (make b) b) → IfOk r (λ b. Fixed code n st b new) → IfErr r (λ e. Failed false (FixedFault code n) st e new) → Reads false (Value (Means make)) (PrimitiveFault k) st r new
 fixed_reads make k code n st new (Ok b) kinds is one lacks d f h = fixed_value make code n st b b new (d b f.width) f
 fixed_reads make k code n st new (Err e) kinds is one lacks d f h = fixed_refused make k code n st e new kinds is one (λ m l. lacks m e l) h
 
 -- a value of a kind whose data is none
 pub bad_refused : {A : Type 0} (make : A → Primitive) (k code : ℕ) (st : State) (m : State) (b : List ℕ) (m' : State) (e : Error) (new : State) → ((v : A) → kind_of (make v) ≡ k) → kind_under (format code) ≡ Some k
-    → Begun st code m → Took m b m' → IsWhole (format code) b → ((p : Primitive) → PrimitiveData (format code) p b → ⊥) → e ≡ bad k → new.error ≡ Some e → Refused (Value (Means make)) (PrimitiveFault k) st e new
-bad_refused make k code st m b m' e new kinds is g t h none d kept = refused_kind make k st e new kinds g.going kept (inr (bad_data g (kind_is code k is) t h none d))
+    → Begun st code m → Took m b m' → IsWhole (format code) b → ((p : Primitive) → PrimitiveData (format code) p b → ⊥) → e ≡ bad k → Answered m' e new → Refused false (Value (Means make)) (PrimitiveFault k) st e new
+bad_refused make k code st m b m' e new kinds is g t h none d kept = refused_kind make k st e new kinds g.going (answered_begun g (answered_took t kept)) (inr (bad_data g (kind_is code k is) t h none d))
 
 lower_none : (o : Option ℕ) → lower o 0 ≡ o
 lower_none None = refl
@@ -304,17 +304,17 @@ code_value make code st v new g d = data_value make code st new [] v new g d (to
 
 -- a code of another kind
 pub other_refused : {A : Type 0} (make : A → Primitive) (k : ℕ) (st : State) (c : ℕ) (m : State) (e : Error) (new : State) → ((v : A) → kind_of (make v) ≡ k)
-    → Begun st c m → (kind_at c ≡ Some k → ⊥) → e ≡ refusal_of c → new.error ≡ Some e → Refused (Value (Means make)) (PrimitiveFault k) st e new
-other_refused make k st c m e new kinds g other d kept = refused_kind make k st e new kinds g.going kept (inr (wrong_code g other d))
+    → Begun st c m → (kind_at c ≡ Some k → ⊥) → e ≡ refusal_of c → Answered m e new → Refused false (Value (Means make)) (PrimitiveFault k) st e new
+other_refused make k st c m e new kinds g other d kept = refused_kind make k st e new kinds g.going (answered_begun g kept) (inr (wrong_code g other d))
 
 -- data that can't be taken
 pub lacking_refused : {A : Type 0} (make : A → Primitive) (k code : ℕ) (st : State) (m : State) (e : Error) (new : State) → ((v : A) → kind_of (make v) ≡ k) → kind_at code ≡ Some k
-    → Begun st code m → new.error ≡ Some e → Excused e new ⊎ LacksData (format code) m e → Refused (Value (Means make)) (PrimitiveFault k) st e new
+    → Begun st code m → Answered m e new → SourceFailed e new ⊎ LacksData (format code) m e → Refused false (Value (Means make)) (PrimitiveFault k) st e new
 lacking_refused make k code st m e new kinds is g kept why =
-    refused_kind make k st e new kinds g.going kept (elim why [ inl x ↦ inl x | inr x ↦ inr (no_data g is x) ])
+    refused_kind make k st e new kinds g.going (answered_begun g kept) (elim why [ inl x ↦ inl (inr x) | inr x ↦ inr (no_data g is x) ])
 
 pub short_refused : {A : Type 0} (make : A → Primitive) (k code n : ℕ) (st : State) (m : State) (e : Error) (new : State) → ((v : A) → kind_of (make v) ≡ k) → kind_under (format code) ≡ Some k
-    → (Lacks n m e → LacksData (format code) m e) → Begun st code m → Short n m e new → Refused (Value (Means make)) (PrimitiveFault k) st e new
+    → (Lacks n m e → LacksData (format code) m e) → Begun st code m → Short n m e new → Refused false (Value (Means make)) (PrimitiveFault k) st e new
 short_refused make k code n st m e new kinds is lacks g s =
     lacking_refused make k code st m e new kinds (kind_is code k is) g s.kept (elim s.why [ inl x ↦ inl x | inr x ↦ inr (lacks x) ])
 

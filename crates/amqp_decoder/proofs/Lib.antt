@@ -16,4 +16,5 @@ pub mod Descriptions
 pub mod Fronts
 pub mod Constructed
 pub mod OpenedArrays
+pub mod ArrayTerms
 pub mod KeptBytes

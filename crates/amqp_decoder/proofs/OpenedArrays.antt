@@ -8,11 +8,12 @@ use Rattle.amqp_wire.specs.declared.error.Error.TheVariants.{Depth, Memory, Zero
 use Rattle.amqp_wire.specs.Codes.{refusal_of}
 use Rattle.amqp_decoder.specs.declared.frame.Place.TheVariants.{InArray}
 use Rattle.amqp_decoder.specs.State.{State, Has, inside}
-use Rattle.amqp_decoder.specs.Steps.{Excused, NoRoom, Stopped}
+use Rattle.amqp_decoder.specs.Steps.{Answered, Excused, NoRoom, Stopped}
 use Rattle.amqp_decoder.specs.Reading.{Refused, Reads, Begun, BeginFault}
 use Rattle.amqp_decoder.specs.Containers.{Header, HeaderFault}
 use Rattle.amqp_decoder.specs.Arrays.{TookConstructor, ConstructorFault, IsFlat, Shares, no_items, shared_by, SharesFault, no_constructor, zero_width, too_nested, Starts, EntersArray, EnterArrayFault, no_header, no_room, too_deep, no_start, OpensArray, ArrayFault, not_begun, wrong_code, no_data}
 use Rattle.amqp_decoder.proofs.Leaves.{begun_same, fault_not_begun}
+use Rattle.amqp_decoder.proofs.Steps.{answered, answered_begun, answered_later, answered_took, excused_by_source}
 use Rattle.amqp_decoder.proofs.Opening.{header_same, header_not_faulty, one_width}
 use Rattle.amqp_decoder.proofs.Constructed.{code_known, constructor_not, one_constructor}
 
@@ -35,21 +36,21 @@ shares_all st ds c m m' new zero flat some t wide zero_is flat_is (fits, same) i
     shared_by ds c m (items_left st ds c m t some) t (λ z. let x = (zero_is (known st ds c m t)).1 z in absurd (cc)) (fits_behind st ds c m flat t flat_is fits)
     (is ∙ ap (λ (z : State). record z { top = record z.top { shared = Some (ds, c) } }) same)
 
-pub stopped_unconstructed : (st : State) (e : Error) (new : State) → Stopped (ConstructorFault st) e new → Stopped (SharesFault st) e new
+pub stopped_unconstructed : (st : State) (e : Error) (new : State) → Stopped true (ConstructorFault st) st e new → Stopped true (SharesFault st) st e new
 stopped_unconstructed st e new s = record { kept = s.kept; why = elim s.why [ inl x ↦ inl x | inr x ↦ inr (no_constructor x) ] }
 
-pub stopped_zero : (st : State) (ds : List Descriptor) (c : ℕ) (m : State) (zero : Bool) (e : Error) (new : State) → (m.top.items ≡ Some 0 → ⊥) → TookConstructor st ds c m → zero ≡ true → (IsKnown (format c) → IsTrue zero ↔ HasWidthZero (format c)) → e ≡ ZeroWidthItems → new.error ≡ Some e → Stopped (SharesFault st) e new
-stopped_zero st ds c m zero e new some t wide zero_is is kept = record { kept = kept; why = inr (zero_width ds c m (items_left st ds c m t some) t ((zero_is (known st ds c m t)).0 wide) is) }
+pub stopped_zero : (st : State) (ds : List Descriptor) (c : ℕ) (m : State) (zero : Bool) (e : Error) (new : State) → (m.top.items ≡ Some 0 → ⊥) → TookConstructor st ds c m → zero ≡ true → (IsKnown (format c) → IsTrue zero ↔ HasWidthZero (format c)) → e ≡ ZeroWidthItems → Answered m e new → Stopped true (SharesFault st) st e new
+stopped_zero st ds c m zero e new some t wide zero_is is kept = record { kept = answered_took t.took kept; why = inr (zero_width ds c m (items_left st ds c m t some) t ((zero_is (known st ds c m t)).0 wide) is) }
 
 pub stopped_nested : (st : State) (ds : List Descriptor) (c : ℕ) (m : State) (flat : Bool) (e : Error) (new : State) → (m.top.items ≡ Some 0 → ⊥) → TookConstructor st ds c m → (IsKnown (format c) → IsTrue flat ↔ IsFlat ds (format c))
-    → (flat ≡ false) × (e ≡ Depth) × (m.nesting < length m.saved) × (new ≡ record m { error = Some Depth }) → Stopped (SharesFault st) e new
+    → (flat ≡ false) × (e ≡ Depth) × (m.nesting < length m.saved) × (new ≡ record m { error = Some Depth }) → Stopped true (SharesFault st) st e new
 stopped_nested st ds c m flat e new some t flat_is (not_flat, is, deep, kept) = record {
-  kept = ap (λ (z : State). z.error) kept ∙ ap Some (sym is);
+  kept = answered_took t.took (answered m new e Depth kept is);
   why = inr (too_nested ds c m (items_left st ds c m t some) t (λ f. let x = (flat_is (known st ds c m t)).1 f in absurd (cc)) (subst (λ (z : State). z.nesting < length z.saved) t.took.moved deep) is);
 }
 
-pub stopped_memory : (st : State) (e : Error) (new : State) → (e ≡ Memory) × (new.error ≡ Some Memory) → Stopped (SharesFault st) e new
-stopped_memory st e new (is, kept) = record { kept = kept ∙ ap Some (sym is); why = inl (inl is) }
+pub stopped_memory : (st : State) (ds : List Descriptor) (c : ℕ) (m : State) (e : Error) (new : State) → TookConstructor st ds c m → (e ≡ Memory) × Answered m e new → Stopped true (SharesFault st) st e new
+stopped_memory st ds c m e new t (is, kept) = record { kept = answered_took t.took kept; why = inl (inl (refl, is)) }
 
 shares_not : (st : State) (e : Error) (st' : State) → SharesFault st e → Shares st st' → ⊥
 shares_not st e st' (no_constructor f) (no_items ds c none t) = constructor_not st e ds c st' f t
@@ -84,7 +85,7 @@ arrays_not st n st' e (no_data c w m g f fault) o =
     let same : w ≡ o.width = one_width (format o.code) array w o.width (ap format (sym s.0) ∙ f) o.announced in
     enters_not o.width o.mid n st' e (subst (λ z. EnterArrayFault o.width z e) s.1 (subst (λ z. EnterArrayFault z m e) same fault)) o.data_
 
-array_refused : (st : State) (e : Error) (new : State) → st.error ≡ None → new.error ≡ Some e → Excused e new ⊎ ArrayFault st e → Refused OpensArray ArrayFault st e new
+array_refused : (st : State) (e : Error) (new : State) → st.error ≡ None → Answered st e new → Excused true e new ⊎ ArrayFault st e → Refused true OpensArray ArrayFault st e new
 array_refused st e new going kept why = record {
   kept = kept;
   again = λ d x. absurd (cc);
@@ -92,36 +93,36 @@ array_refused st e new going kept why = record {
   none = elim why [ inl x ↦ inl x | inr x ↦ inr (λ n b o. arrays_not st n b e x o) ];
 }
 
-pub array_unbegun : (st : State) (e : Error) (new : State) → Refused Begun BeginFault st e new → Refused OpensArray ArrayFault st e new
+pub array_unbegun : (st : State) (e : Error) (new : State) → Refused false Begun BeginFault st e new → Refused true OpensArray ArrayFault st e new
 array_unbegun st e new r = record {
   kept = r.kept;
   again = r.again;
-  named = λ g. elim (r.named g) [ inl x ↦ inl x | inr x ↦ inr (not_begun x) ];
-  none = elim r.none [ inl x ↦ inl x | inr f ↦ inr (λ n b o. f o.code o.mid o.begun) ];
+  named = λ g. elim (r.named g) [ inl x ↦ inl (excused_by_source true e new x) | inr x ↦ inr (not_begun x) ];
+  none = elim r.none [ inl x ↦ inl (excused_by_source true e new x) | inr f ↦ inr (λ n b o. f o.code o.mid o.begun) ];
 }
 
-pub array_other : (st : State) (c : ℕ) (m : State) (e : Error) (new : State) → Begun st c m → ((w : ℕ) → format c ≡ compound array w → ⊥) → e ≡ refusal_of c → new.error ≡ Some e → Refused OpensArray ArrayFault st e new
-array_other st c m e new g never is kept = array_refused st e new g.going kept (inr (wrong_code c m g never is))
+pub array_other : (st : State) (c : ℕ) (m : State) (e : Error) (new : State) → Begun st c m → ((w : ℕ) → format c ≡ compound array w → ⊥) → e ≡ refusal_of c → Answered m e new → Refused true OpensArray ArrayFault st e new
+array_other st c m e new g never is kept = array_refused st e new g.going (answered_begun g kept) (inr (wrong_code c m g never is))
 
-pub reads_array : (c w : ℕ) (st m new : State) (r : Result ℕ Error) → Begun st c m → format c ≡ compound array w → IfOk r (λ n. EntersArray w m n new) → IfErr r (λ e. Stopped (EnterArrayFault w m) e new) → Reads OpensArray ArrayFault st r new
+pub reads_array : (c w : ℕ) (st m new : State) (r : Result ℕ Error) → Begun st c m → format c ≡ compound array w → IfOk r (λ n. EntersArray w m n new) → IfErr r (λ e. Stopped true (EnterArrayFault w m) m e new) → Reads true OpensArray ArrayFault st r new
 reads_array c w st m new (Ok n) g f d h = record { code = c; width = w; mid = m; begun = g; announced = f; data_ = d }
-reads_array c w st m new (Err e) g f d h = array_refused st e new g.going h.kept (elim h.why [ inl x ↦ inl x | inr x ↦ inr (no_data c w m g f x) ])
+reads_array c w st m new (Err e) g f d h = array_refused st e new g.going (answered_begun g h.kept) (elim h.why [ inl x ↦ inl x | inr x ↦ inr (no_data c w m g f x) ])
 
 -- the steps behind the code
-pub stopped_header : (w : ℕ) (st : State) (e : Error) (new : State) → Stopped (HeaderFault false w st) e new → Stopped (EnterArrayFault w st) e new
-stopped_header w st e new s = record { kept = s.kept; why = elim s.why [ inl x ↦ inl x | inr x ↦ inr (no_header x) ] }
+pub stopped_header : (w : ℕ) (st : State) (e : Error) (new : State) → Stopped false (HeaderFault false w st) st e new → Stopped true (EnterArrayFault w st) st e new
+stopped_header w st e new s = record { kept = s.kept; why = elim s.why [ inl x ↦ inl (excused_by_source true e new x) | inr x ↦ inr (no_header x) ] }
 
-pub stopped_open : (w n k : ℕ) (st m : State) (e : Error) (new : State) → Header false w st n k m → Stopped (λ e. NoRoom k m e ⊎ ((m.nesting < length m.saved) × (e ≡ Depth))) e new → Stopped (EnterArrayFault w st) e new
+pub stopped_open : (w n k : ℕ) (st m : State) (e : Error) (new : State) → Header false w st n k m → Stopped false (λ e. NoRoom k m e ⊎ ((m.nesting < length m.saved) × (e ≡ Depth))) m e new → Stopped true (EnterArrayFault w st) st e new
 stopped_open w n k st m e new h s = record {
-  kept = s.kept;
+  kept = answered_took h.took s.kept;
   why = elim s.why [
-    | inl x ↦ inl x
+    | inl x ↦ inl (excused_by_source true e new x)
     | inr x ↦ elim x [ inl y ↦ inr (no_room n k m h y) | inr y ↦ inr (too_deep n k m h (subst (λ (z : State). z.nesting < length z.saved) h.took.moved y.0) y.1) ]
   ];
 }
 
-pub stopped_start : (w n k : ℕ) (st m m' : State) (e : Error) (new : State) → Header false w st n k m → 0 < max n k → m' ≡ inside InArray n k m → Stopped (SharesFault m') e new → Stopped (EnterArrayFault w st) e new
-stopped_start w n k st m m' e new h some is s = record { kept = s.kept; why = elim s.why [ inl x ↦ inl x | inr x ↦ inr (no_start n k m h some (subst (λ z. SharesFault z e) is x)) ] }
+pub stopped_start : (w n k : ℕ) (st m m' : State) (e : Error) (new : State) → Header false w st n k m → 0 < max n k → m' ≡ inside InArray n k m → Stopped true (SharesFault m') m' e new → Stopped true (EnterArrayFault w st) st e new
+stopped_start w n k st m m' e new h some is s = record { kept = answered_took h.took (answered_later (ap (λ (z : State). z.failed) is) s.kept); why = elim s.why [ inl x ↦ inl x | inr x ↦ inr (no_start n k m h some (subst (λ z. SharesFault z e) is x)) ] }
 
 entered_few : (w n k : ℕ) (st m : State) → Header false w st n k m → length m.saved ≤ m.nesting → length st.saved ≤ st.nesting
 entered_few w n k st m h few = subst (λ (z : State). length z.saved ≤ z.nesting) h.took.moved few

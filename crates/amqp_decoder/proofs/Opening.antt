@@ -9,10 +9,10 @@ use Rattle.amqp_wire.specs.declared.error.Error.{Error}
 use Rattle.amqp_wire.specs.declared.error.Error.TheVariants.{OddCount, Depth}
 use Rattle.amqp_wire.specs.Codes.{refusal_of}
 use Rattle.amqp_decoder.specs.State.{State, Has, lower, on, past, inside}
-use Rattle.amqp_decoder.specs.Steps.{Excused, Took, Lacks, Short, SizeError, SizeRefused, NoRoom, Stopped}
+use Rattle.amqp_decoder.specs.Steps.{Answered, Excused, Took, Lacks, Short, SizeError, SizeRefused, NoRoom, Stopped}
 use Rattle.amqp_decoder.specs.Reading.{Refused, Reads, Begun, BeginFault}
 use Rattle.amqp_decoder.specs.Containers.{place_of, is_list, IsCount, Counts, IsPossible, Header, HeaderFault, no_size, impossible, no_count, no_content, Unopened, Entered, EnterFault, no_header, odd_count, no_room, too_deep, Opens, OpenFault, not_begun, wrong_code, no_data}
-use Rattle.amqp_decoder.proofs.Steps.{not_lacking}
+use Rattle.amqp_decoder.proofs.Steps.{answered_begun, answered_took, not_lacking}
 use Rattle.amqp_decoder.proofs.Looks.{front_is}
 use Rattle.amqp_decoder.proofs.KindsOfCodes.{OneOf}
 use Rattle.amqp_decoder.proofs.Leaves.{has_add, has_front, has_rest, lower-lower, minus-minus, after_code, begun_same, fault_not_begun, took_none}
@@ -119,7 +119,7 @@ opens_not_faulty kind st n st' e (no_data {c} {width = w} {m} g f fault) o =
     entered_not_faulty kind o.width o.mid n st' e (subst (λ z. EnterFault kind o.width z e) s.1 (subst (λ z. EnterFault kind z m e) w_same fault)) o.data_
 
 -- no such container is opened
-open_refused : (kind : Container) (st : State) (e : Error) (new : State) → st.error ≡ None → new.error ≡ Some e → Excused e new ⊎ OpenFault kind st e → Refused (Opens kind) (OpenFault kind) st e new
+open_refused : (kind : Container) (st : State) (e : Error) (new : State) → st.error ≡ None → Answered st e new → Excused false e new ⊎ OpenFault kind st e → Refused false (Opens kind) (OpenFault kind) st e new
 open_refused kind st e new going kept why = record {
   kept = kept;
   again = λ d x. absurd (cc);
@@ -127,7 +127,7 @@ open_refused kind st e new going kept why = record {
   none = elim why [ inl x ↦ inl x | inr x ↦ inr (λ n b o. opens_not_faulty kind st n b e x o) ];
 }
 
-pub open_unbegun : (kind : Container) (st : State) (e : Error) (new : State) → Refused Begun BeginFault st e new → Refused (Opens kind) (OpenFault kind) st e new
+pub open_unbegun : (kind : Container) (st : State) (e : Error) (new : State) → Refused false Begun BeginFault st e new → Refused false (Opens kind) (OpenFault kind) st e new
 open_unbegun kind st e new r = record {
   kept = r.kept;
   again = r.again;
@@ -135,12 +135,12 @@ open_unbegun kind st e new r = record {
   none = elim r.none [ inl x ↦ inl x | inr f ↦ inr (λ n b o. f o.code o.mid o.begun) ];
 }
 
-pub open_other : (kind : Container) (st : State) (c : ℕ) (m : State) (e : Error) (new : State) → Begun st c m → ((w : ℕ) → format c ≡ compound kind w → ⊥) → e ≡ refusal_of c → new.error ≡ Some e → Refused (Opens kind) (OpenFault kind) st e new
-open_other kind st c m e new g never is kept = open_refused kind st e new g.going kept (inr (wrong_code g never is))
+pub open_other : (kind : Container) (st : State) (c : ℕ) (m : State) (e : Error) (new : State) → Begun st c m → ((w : ℕ) → format c ≡ compound kind w → ⊥) → e ≡ refusal_of c → Answered m e new → Refused false (Opens kind) (OpenFault kind) st e new
+open_other kind st c m e new g never is kept = open_refused kind st e new g.going (answered_begun g kept) (inr (wrong_code g never is))
 
-pub reads_open : (kind : Container) (c w : ℕ) (st m new : State) (r : Result ℕ Error) → Begun st c m → format c ≡ compound kind w → IfOk r (λ n. Entered kind w m n new) → IfErr r (λ e. Stopped (EnterFault kind w m) e new) → Reads (Opens kind) (OpenFault kind) st r new
+pub reads_open : (kind : Container) (c w : ℕ) (st m new : State) (r : Result ℕ Error) → Begun st c m → format c ≡ compound kind w → IfOk r (λ n. Entered kind w m n new) → IfErr r (λ e. Stopped false (EnterFault kind w m) m e new) → Reads false (Opens kind) (OpenFault kind) st r new
 reads_open kind c w st m new (Ok n) g f d h = record { code = c; width = w; mid = m; begun = g; announced = f; data_ = d }
-reads_open kind c w st m new (Err e) g f d h = open_refused kind st e new g.going h.kept (elim h.why [ inl x ↦ inl x | inr x ↦ inr (no_data g f x) ])
+reads_open kind c w st m new (Err e) g f d h = open_refused kind st e new g.going (answered_begun g h.kept) (elim h.why [ inl x ↦ inl x | inr x ↦ inr (no_data g f x) ])
 
 -- the codes of a kind of container
 abbrev tag : Container → ℕ
@@ -197,13 +197,13 @@ not_map c f g w e =
     elim (subst (OneOf c) map_codes (tag_codes c 2 (omega arith) (tag_is c map w e))) [ inl x ↦ f x | inr y ↦ elim y [ inl x ↦ g x | inr x ↦ absurd x ] ]
 
 -- what a header's steps find
-pub no_header_size : (l : Bool) (w : ℕ) (st : State) (e : Error) (new : State) → Short w st e new → Stopped (HeaderFault l w st) e new
-no_header_size l w st e new s = record { kept = s.kept; why = elim s.why [ inl x ↦ inl x | inr x ↦ inr (no_size x) ] }
+pub no_header_size : (l : Bool) (w : ℕ) (st : State) (e : Error) (new : State) → Short w st e new → Stopped false (HeaderFault l w st) st e new
+no_header_size l w st e new s = record { kept = s.kept; why = elim s.why [ inl x ↦ inl (inr x) | inr x ↦ inr (no_size x) ] }
 
-pub header_impossible : (l : Bool) (w s : ℕ) (b : Bool) (st m : State) (e : Error) (new : State) → b ≡ false → (IsPossible l w s → IsTrue b) → s < 256 ^ w → Took st (bytes_high_first w s) m → SizeRefused s m e new → Stopped (HeaderFault l w st) e new
+pub header_impossible : (l : Bool) (w s : ℕ) (b : Bool) (st m : State) (e : Error) (new : State) → b ≡ false → (IsPossible l w s → IsTrue b) → s < 256 ^ w → Took st (bytes_high_first w s) m → SizeRefused s m e new → Stopped false (HeaderFault l w st) st e new
 header_impossible l w s b st m e new is never fits t r = record {
-  kept = r.kept;
-  why = elim r.why [ inl x ↦ inl x | inr x ↦ inr (impossible fits t (λ p. let h : IsTrue b = never p in absurd (cc)) x) ];
+  kept = answered_took t r.kept;
+  why = elim r.why [ inl x ↦ inl (inr x) | inr x ↦ inr (impossible fits t (λ p. let h : IsTrue b = never p in absurd (cc)) x) ];
 }
 
 pub possible_at : (l : Bool) (w v s : ℕ) (b : Bool) → b ≡ true → (IsTrue b → IsPossible l w s) → w ≡ v → IsPossible l v s
@@ -214,13 +214,13 @@ pub possible_none : (l : Bool) (w s : ℕ) → IsPossible l w s → s < w → (l
 possible_none l w s (inl x) less = absurd (omega arith)
 possible_none l w s (inr x) less = x
 
-pub no_header_count : (l : Bool) (w s : ℕ) (st m : State) (e : Error) (new : State) → s < 256 ^ w → Took st (bytes_high_first w s) m → IsPossible l w s → Short w m e new → Stopped (HeaderFault l w st) e new
-no_header_count l w s st m e new fits t ok r = record { kept = r.kept; why = elim r.why [ inl x ↦ inl x | inr x ↦ inr (no_count fits t ok x) ] }
+pub no_header_count : (l : Bool) (w s : ℕ) (st m : State) (e : Error) (new : State) → s < 256 ^ w → Took st (bytes_high_first w s) m → IsPossible l w s → Short w m e new → Stopped false (HeaderFault l w st) st e new
+no_header_count l w s st m e new fits t ok r = record { kept = answered_took t r.kept; why = elim r.why [ inl x ↦ inl (inr x) | inr x ↦ inr (no_count fits t ok x) ] }
 
-pub no_header_content : (l : Bool) (w s n : ℕ) (st m m' : State) (e : Error) (new : State) → s ≡ 0 → 0 < n → n < 256 ^ w → Took st (bytes_high_first w s) m → Took m (bytes_high_first w n) m' → SizeRefused 0 m' e new → Stopped (HeaderFault l w st) e new
+pub no_header_content : (l : Bool) (w s n : ℕ) (st m m' : State) (e : Error) (new : State) → s ≡ 0 → 0 < n → n < 256 ^ w → Took st (bytes_high_first w s) m → Took m (bytes_high_first w n) m' → SizeRefused 0 m' e new → Stopped false (HeaderFault l w st) st e new
 no_header_content l w s n st m m' e new none some few t u r = record {
-  kept = r.kept;
-  why = elim r.why [ inl x ↦ inl x | inr x ↦ inr (no_content some few (subst (λ z. Took st (bytes_high_first w z ++ bytes_high_first w n) m') none (took_both st m m' (bytes_high_first w s) (bytes_high_first w n) t u)) x) ];
+  kept = answered_took t (answered_took u r.kept);
+  why = elim r.why [ inl x ↦ inl (inr x) | inr x ↦ inr (no_content some few (subst (λ z. Took st (bytes_high_first w z ++ bytes_high_first w n) m') none (took_both st m m' (bytes_high_first w s) (bytes_high_first w n) t u)) x) ];
 }
 
 pub header_of_none : (l : Bool) (w s n : ℕ) (st m m' : State) → s < 256 ^ w → n < 256 ^ w → l ≡ true → s ≡ 0 → n ≡ 0 → Took st (bytes_high_first w s) m → Took m (bytes_high_first w n) m' → Header l w st 0 0 m'
@@ -232,7 +232,7 @@ pub bare_header : (st : State) → Header true 0 st 0 0 st
 bare_header st = record { size = 0; fits = omega arith; few = omega arith; took = took_none st; counts = inl (omega arith) }
 
 -- why what a header announces isn't entered
-pub enter_unheaded : (kind : Container) (w : ℕ) (st : State) (e : Error) (new : State) → Stopped (HeaderFault (is_list kind) w st) e new → Stopped (EnterFault kind w st) e new
+pub enter_unheaded : (kind : Container) (w : ℕ) (st : State) (e : Error) (new : State) → Stopped false (HeaderFault (is_list kind) w st) st e new → Stopped false (EnterFault kind w st) st e new
 enter_unheaded kind w st e new s = record { kept = s.kept; why = elim s.why [ inl x ↦ inl x | inr x ↦ inr (no_header x) ] }
 
 unopened_fault : (kind : Container) (w n k : ℕ) (st m : State) (e : Error) → Header (is_list kind) w st n k m → IsCount kind n → Unopened k m e → EnterFault kind w st e
@@ -240,15 +240,15 @@ unopened_fault kind w n k st m e h c (inl x) = no_room h c x
 unopened_fault kind w n k st m e h c (inr (room, deep, d)) =
     too_deep h c room (subst (λ (z : State). z.nesting ≤ length z.saved) h.took.moved deep) d
 
-pub enter_unopened : (kind : Container) (w n k : ℕ) (st m : State) (e : Error) (new : State) → Header (is_list kind) w st n k m → IsCount kind n → Stopped (Unopened k m) e new → Stopped (EnterFault kind w st) e new
-enter_unopened kind w n k st m e new h c s = record { kept = s.kept; why = elim s.why [ inl x ↦ inl x | inr x ↦ inr (unopened_fault kind w n k st m e h c x) ] }
+pub enter_unopened : (kind : Container) (w n k : ℕ) (st m : State) (e : Error) (new : State) → Header (is_list kind) w st n k m → IsCount kind n → Stopped false (Unopened k m) m e new → Stopped false (EnterFault kind w st) st e new
+enter_unopened kind w n k st m e new h c s = record { kept = answered_took h.took s.kept; why = elim s.why [ inl x ↦ inl x | inr x ↦ inr (unopened_fault kind w n k st m e h c x) ] }
 
-pub enter_odd : (w n k : ℕ) (st m : State) (e : Error) (new : State) → Header false w st n k m → n % 2 ≡ 1 → e ≡ OddCount → new.error ≡ Some e → Stopped (EnterFault map w st) e new
-enter_odd w n k st m e new h odd is kept = record { kept = kept; why = inr (odd_count h (λ (x : n % 2 ≡ 0). omega (arith, odd, x)) is) }
+pub enter_odd : (w n k : ℕ) (st m : State) (e : Error) (new : State) → Header false w st n k m → n % 2 ≡ 1 → e ≡ OddCount → Answered m e new → Stopped false (EnterFault map w st) st e new
+enter_odd w n k st m e new h odd is kept = record { kept = answered_took h.took kept; why = inr (odd_count h (λ (x : n % 2 ≡ 0). omega (arith, odd, x)) is) }
 
 -- a list without a header is entered
 pub bare_reads : (c : ℕ) (st m new : State) (r : Result ℕ Error) → Begun st c m → format c ≡ compound list 0 → IfOk r (λ n. (n ≡ 0) × Has m.top.left 0 × (length m.saved < m.nesting) × (new ≡ inside (place_of list) 0 0 m))
-    → IfErr r (λ e. Stopped (Unopened 0 m) e new) → Reads (Opens list) (OpenFault list) st r new
+    → IfErr r (λ e. Stopped false (Unopened 0 m) m e new) → Reads false (Opens list) (OpenFault list) st r new
 bare_reads c st m new (Ok n) g f (is, room, few, entered) h =
     subst (λ z. Opens list st z new) (sym is) (record { code = c; width = 0; mid = m; begun = g; announced = f; data_ = record { content = 0; mid = m; header = bare_header m; count = tt; room = room; few = few; entered = entered } })
 bare_reads c st m new (Err e) g f h s = reads_open list c 0 st m new (Err e) g f tt (enter_unopened list 0 0 0 m m e new (bare_header m) tt s)

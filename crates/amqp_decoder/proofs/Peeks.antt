@@ -6,7 +6,7 @@ use Rattle.amqp_model.specs.Standing.{Standing}
 use Rattle.amqp_wire.specs.declared.error.Error.{Error}
 use Rattle.amqp_wire.specs.declared.error.Error.TheVariants.{Cut}
 use Rattle.amqp_decoder.specs.State.{State, Has, lower, looked, moved, on, past}
-use Rattle.amqp_decoder.specs.Steps.{Took, Short, SizeRefused}
+use Rattle.amqp_decoder.specs.Steps.{Answered, Took, Short, SizeRefused}
 use Rattle.amqp_decoder.specs.Reading.{Refused, IsFirst, IsFirstShared, Begun, BeginFault, Peeked, looked_under}
 use Rattle.amqp_decoder.specs.Primitives.{standing, SpellsAs, Stands, Value}
 use Rattle.amqp_decoder.proofs.Steps.{begun_own, begun_shared, begin_short, short_of_size, missed_lacks, has_item}
@@ -33,7 +33,7 @@ peeked_own st c new going item none room some is byte =
     let took : Took st (c ∷ []) (on 1 st) = record { room = room; rest = front_one st.rest some ∙ ap (λ x. x ∷ drop 1 st.rest) (sym c_is); moved = refl } in
     record { after = _; begun = begun_own st c (on 1 st) going item none took; kept = now ∙ ap (λ o. looked_under o st) (sym none) }
 
-pub peek_refused : (st : State) (e : Error) (new : State) → Refused Begun BeginFault st e new → Refused Peeked BeginFault st e new
+pub peek_refused : (st : State) (e : Error) (new : State) → Refused false Begun BeginFault st e new → Refused false Peeked BeginFault st e new
 peek_refused st e new r = record {
   kept = r.kept;
   again = r.again;
@@ -42,7 +42,7 @@ peek_refused st e new r = record {
 }
 
 -- the container has no byte left
-pub peek_size : (st : State) (e : Error) (new : State) → st.error ≡ None → st.top.shared ≡ None → st.top.left ≡ Some 0 → SizeRefused 1 st e new → Refused Peeked BeginFault st e new
+pub peek_size : (st : State) (e : Error) (new : State) → st.error ≡ None → st.top.shared ≡ None → st.top.left ≡ Some 0 → SizeRefused 1 st e new → Refused false Peeked BeginFault st e new
 peek_size st e new going none left r = peek_refused st e new (begin_short st e new going none (short_of_size 1 1 0 st e new left (omega arith) r))
 
 pub none_there : (b : Bool) (r : List ℕ) → b ≡ false → (0 < length r → IsTrue b) → length r < 1
@@ -50,7 +50,7 @@ none_there b [] e f = omega arith
 none_there b (x ∷ r) e f = let h : IsTrue b = f (omega arith) in absurd (cc)
 
 -- the input ends
-pub peek_cut : (st : State) (e : Error) (new : State) → st.error ≡ None → st.top.shared ≡ None → (st.top.left ≡ Some 0 → ⊥) → length st.rest < 1 → e ≡ Cut → new.error ≡ Some e → Refused Peeked BeginFault st e new
+pub peek_cut : (st : State) (e : Error) (new : State) → st.error ≡ None → st.top.shared ≡ None → (st.top.left ≡ Some 0 → ⊥) → length st.rest < 1 → e ≡ Cut → Answered st e new → Refused false Peeked BeginFault st e new
 peek_cut st e new going none left short is kept =
     peek_refused st e new (begin_short st e new going none (record { kept = kept; why = inr (missed_lacks 1 st st.top.left e refl (has_item st.top.left left) is short) }))
 
@@ -79,7 +79,7 @@ stands-looked n st s t = (
   λ k. record { going = k.going; item = k.item; room = k.room; after = k.after; rest = k.rest; spelled = k.spelled; nested = k.nested },
 )
 
-constructor_some : (ds : List Descriptor) (c : ℕ) (b : List ℕ) → Constructor ds c b → 1 ≤ length b
+pub constructor_some : (ds : List Descriptor) (c : ℕ) (b : List ℕ) → Constructor ds c b → 1 ≤ length b
 constructor_some [] c b h = omega (arith, ap length h.0)
 constructor_some (d ∷ ds) c b (x, y, e, _, _) = omega (arith, ap length e)
 

@@ -11,7 +11,7 @@ use Rattle.amqp_model.specs.Spelling.{PrimitiveData, descriptor_value}
 use Rattle.amqp_model.proofs.Bytes.{length-bytes, field}
 use Rattle.amqp_wire.specs.declared.error.Error.{Error}
 use Rattle.amqp_decoder.specs.State.{State, looked}
-use Rattle.amqp_decoder.specs.Steps.{Excused}
+use Rattle.amqp_decoder.specs.Steps.{SourceFailed}
 use Rattle.amqp_decoder.specs.Reading.{Reads}
 use Rattle.amqp_decoder.specs.Described.{Member, place_of}
 use Rattle.amqp_decoder.specs.Members.{as_name, is_named, name_place}
@@ -410,7 +410,7 @@ pub ahead_map : {E : Type 0} (r : Result (Option ℕ) E) (P Q : ℕ → Type 0) 
 ahead_map r P Q st m new looks f = ok_map r _ _ (λ o h. (looks_more st m new looks h.0, λ c. through (f c) (h.1 c)))
 
 -- what is found at the top level
-pub peeked : (r : Result (Option ℕ) Error) (st m new : State) → IsTop st tt m → IfOk r (λ o. LooksOn m new × ((c : ℕ) → (o ≡ Some c) ↔ IsSectionAhead m c)) → IfErr r (λ e. (new.error ≡ Some e) × Excused e new) → Reads PeeksSection NotTop st r new
+pub peeked : (r : Result (Option ℕ) Error) (st m new : State) → IsTop st tt m → IfOk r (λ o. LooksOn m new × ((c : ℕ) → (o ≡ Some c) ↔ IsSectionAhead m c)) → IfErr r (λ e. (new.error ≡ Some e) × SourceFailed e new) → Reads false PeeksSection NotTop st r new
 peeked (Ok o) st m new t h f = record {
   going = t.going;
   place = t.place;
@@ -418,4 +418,4 @@ peeked (Ok o) st m new t h f = record {
   answer = λ c. subst (λ z. (o ≡ Some c) ↔ IsSectionAhead z c) t.kept (h.1 c);
   kept = subst (λ z. LooksOn z new) t.kept h.0;
 }
-peeked (Err e) st m new t h f = record { kept = f.0; again = λ d x. let g = t.going in absurd (cc); named = λ g. inl f.1; none = inl f.1 }
+peeked (Err e) st m new t h f = record { kept = record { error = f.0; source = inr f.1.0 }; again = λ d x. let g = t.going in absurd (cc); named = λ g. inl (inr f.1); none = inl (inr f.1) }

@@ -1,11 +1,11 @@
 -- Texts, whose size stands before them.
-use Rattle.std.proofs.Common.{◌≡◌, ◌≤◌, ◌<◌, ℕ, ◌+◌, ◌-◌, ◌^◌, ◌⊎◌, inl, inr, Result, Ok, Err, IfOk, IfErr, Some, List, [], ◌∷◌, ◌++◌, unwrap_or, length, take, drop, refl, sym, ap, ◌∙◌, subst, arith, append_assoc, drop-drop}
+use Rattle.std.proofs.Common.{◌≡◌, ◌≤◌, ◌<◌, ℕ, ◌+◌, ◌-◌, ◌^◌, ◌⊎◌, inl, inr, Bool, true, false, Result, Ok, Err, IfOk, IfErr, Some, List, [], ◌∷◌, ◌++◌, unwrap_or, length, take, drop, refl, sym, ap, ◌∙◌, subst, arith, append_assoc, drop-drop}
 use Rattle.std.proofs.lemmas.List.{take_at, length-append, length-drop}
 use Rattle.std.proofs.Math.Seq.{take-add}
 use Rattle.std.specs.Int.{bytes_high_first}
 use Rattle.amqp_wire.specs.declared.error.Error.{Error}
 use Rattle.amqp_decoder.specs.State.{State, Has, lower, moved, on}
-use Rattle.amqp_decoder.specs.Steps.{Excused, Pulled, Missed, Took, Lacks, Short}
+use Rattle.amqp_decoder.specs.Steps.{Answered, Excused, Pulled, Missed, Took, Lacks, Short}
 use Rattle.amqp_model.specs.Term.{Primitive}
 use Rattle.amqp_model.specs.Constructors.{Format, variable, format}
 use Rattle.amqp_model.specs.Spelling.{PrimitiveData, IsValid}
@@ -16,7 +16,7 @@ use Rattle.amqp_decoder.specs.Kinds.{kind_of, kind_at, kind_under, codes_of}
 use Rattle.amqp_decoder.specs.Primitives.{Value, Means, LacksData, IsWhole, bad, PrimitiveFault, not_begun, wrong_code, no_data, bad_data, Failed, Announced, SizedFault, Sized, Text, TextFault, no_text, no_text_code, narrow_short, wide_short}
 use Rattle.amqp_decoder.proofs.KindsOfCodes.{kind_is}
 use Rattle.amqp_decoder.proofs.Leaves.{kind_failed, refused_kind, data_value, not_two}
-use Rattle.amqp_decoder.proofs.Steps.{short_of_missed}
+use Rattle.amqp_decoder.proofs.Steps.{answered_begun, answered_later, answered_took, excused_by_source, missed_lacks}
 
 -- one more piece
 pub kept_more : (k n : ℕ) (old m new : State) (piece before items items' : List ℕ) → m ≡ moved k old → k ≤ length old.rest → items ≡ before ++ take k old.rest → Pulled m piece new → length piece ≡ n → items' ≡ items ++ piece
@@ -31,38 +31,48 @@ kept_more k n old m new piece before items items' is few held p long added =
     )
 
 -- the size can't be taken
-pub sized_short : (w : ℕ) (st : State) (e : Error) (new : State) → Short w st e new → SizedFault w st e new
-sized_short w st e new s = record { kept = s.kept; why = elim s.why [ inl x ↦ inl x | inr x ↦ inr (inl x) ] }
+pub sized_short : {takes : Bool} (w : ℕ) (st : State) (e : Error) (new : State) → Short w st e new → SizedFault takes w st e new
+sized_short w st e new s = record { kept = s.kept; why = elim s.why [ inl x ↦ inl (inr x) | inr x ↦ inr (inl x) ] }
+
+-- what is promised without memory is promised with it
+pub sized_in : (takes : Bool) (w : ℕ) (st : State) (e : Error) (new : State) → SizedFault false w st e new → SizedFault takes w st e new
+sized_in takes w st e new s = record { kept = s.kept; why = elim s.why [ inl x ↦ inl (excused_by_source takes e new x) | inr x ↦ inr x ] }
 
 -- what it announces can't be taken
-pub sized_no_room : (w n : ℕ) (st m : State) (e : Error) (new : State) → n < 256 ^ w → Took st (bytes_high_first w n) m → Short n m e new → SizedFault w st e new
-sized_no_room w n st m e new fits t s = record { kept = s.kept; why = elim s.why [ inl x ↦ inl x | inr x ↦ inr (inr (n, m, fits, t, x)) ] }
+pub sized_no_room : {takes : Bool} (w n : ℕ) (st m : State) (e : Error) (new : State) → n < 256 ^ w → Took st (bytes_high_first w n) m → Short n m e new → SizedFault takes w st e new
+sized_no_room w n st m e new fits t s = record { kept = answered_took t s.kept; why = elim s.why [ inl x ↦ inl (inr x) | inr x ↦ inr (inr (n, m, fits, t, x)) ] }
 
-pub sized_cut : (w n : ℕ) (st m : State) (e : Error) (new : State) → Announced w st n m → Missed n m e new → SizedFault w st e new
-sized_cut w n st m e new a s = sized_no_room w n st a.mid e new a.fits a.took (short_of_missed n n a.mid m e new refl a.room a.lowered s)
+pub sized_cut : {takes : Bool} (w n : ℕ) (st m : State) (e : Error) (new : State) → Announced w st n m → Missed takes n m e new → SizedFault takes w st e new
+sized_cut w n st m e new a s = record {
+  kept = answered_took a.took (answered_later (ap (λ (x : State). x.failed) a.lowered) s.kept);
+  why = elim s.why [
+    | inl x ↦ inl x
+    | inr (x, y) ↦ inr (inr (n, a.mid, a.fits, a.took, missed_lacks n a.mid a.mid.top.left e refl a.room x (subst (λ (z : State). length z.rest < n) a.lowered y)))
+  ];
+}
 
 -- why no text is read
-pub text_unbegun : (narrow wide : ℕ) (st : State) (e : Error) (new : State) → Refused Begun BeginFault st e new → Failed (TextFault narrow wide) st e new
+pub text_unbegun : (narrow wide : ℕ) (st : State) (e : Error) (new : State) → Refused false Begun BeginFault st e new → Failed true (TextFault narrow wide) st e new
 text_unbegun narrow wide st e new r = record {
   kept = r.kept;
   again = r.again;
-  named = λ g. elim (r.named g) [ inl x ↦ inl x | inr x ↦ inr (no_text x) ];
+  named = λ g. elim (r.named g) [ inl x ↦ inl (excused_by_source true e new x) | inr x ↦ inr (no_text x) ];
 }
 
-failed_begun : (fault : State → Error → Type 0) (st : State) (c : ℕ) (m : State) (e : Error) (new : State) → Begun st c m → new.error ≡ Some e → Excused e new ⊎ fault st e → Failed fault st e new
+failed_begun : (fault : State → Error → Type 0) (st : State) (c : ℕ) (m : State) (e : Error) (new : State) → Begun st c m → Answered m e new → Excused true e new ⊎ fault st e → Failed true fault st e new
 failed_begun fault st c m e new g kept why = record {
-  kept = kept;
+  kept = answered_begun g kept;
   again = λ d x. let h = g.going in absurd (cc);
   named = λ h. why;
 }
 
-pub text_other : (narrow wide : ℕ) (st : State) (c : ℕ) (m : State) (e : Error) (new : State) → Begun st c m → (c ≡ narrow → ⊥) → (c ≡ wide → ⊥) → e ≡ refusal_of c → new.error ≡ Some e → Failed (TextFault narrow wide) st e new
+pub text_other : (narrow wide : ℕ) (st : State) (c : ℕ) (m : State) (e : Error) (new : State) → Begun st c m → (c ≡ narrow → ⊥) → (c ≡ wide → ⊥) → e ≡ refusal_of c → Answered m e new → Failed true (TextFault narrow wide) st e new
 text_other narrow wide st c m e new g f h is kept = failed_begun (TextFault narrow wide) st c m e new g kept (inr (no_text_code g f h is))
 
-pub text_narrow : (narrow wide : ℕ) (st : State) (m : State) (e : Error) (new : State) → Begun st narrow m → SizedFault 1 m e new → Failed (TextFault narrow wide) st e new
+pub text_narrow : (narrow wide : ℕ) (st : State) (m : State) (e : Error) (new : State) → Begun st narrow m → SizedFault true 1 m e new → Failed true (TextFault narrow wide) st e new
 text_narrow narrow wide st m e new g s = failed_begun (TextFault narrow wide) st narrow m e new g s.kept (elim s.why [ inl x ↦ inl x | inr x ↦ inr (narrow_short g x) ])
 
-pub text_wide : (narrow wide : ℕ) (st : State) (m : State) (e : Error) (new : State) → Begun st wide m → SizedFault 4 m e new → Failed (TextFault narrow wide) st e new
+pub text_wide : (narrow wide : ℕ) (st : State) (m : State) (e : Error) (new : State) → Begun st wide m → SizedFault true 4 m e new → Failed true (TextFault narrow wide) st e new
 text_wide narrow wide st m e new g s = failed_begun (TextFault narrow wide) st wide m e new g s.kept (elim s.why [ inl x ↦ inl x | inr x ↦ inr (wide_short g x) ])
 
 -- a kind whose values are a size and as many bytes, under two codes
@@ -84,8 +94,8 @@ text_fault k narrow wide make st e t (no_text_code {c} g f h is) = wrong_code g 
 text_fault k narrow wide make st e t (narrow_short {m} g l) = no_data g (kind_narrow k narrow wide make t) (subst (λ F. LacksData F m e) (sym t.short_code) l)
 text_fault k narrow wide make st e t (wide_short {m} g l) = no_data g (kind_wide k narrow wide make t) (subst (λ F. LacksData F m e) (sym t.long_code) l)
 
-pub text_refused : {A : Type 0} (contents : A → List ℕ) (k narrow wide : ℕ) (make : List ℕ → Primitive) (st : State) (e : Error) (new : State) → IsText k narrow wide make → Failed (TextFault narrow wide) st e new
-    → Refused (Value (Means (λ (v : A). make (contents v)))) (PrimitiveFault k) st e new
+pub text_refused : {A : Type 0} (contents : A → List ℕ) (k narrow wide : ℕ) (make : List ℕ → Primitive) (st : State) (e : Error) (new : State) → IsText k narrow wide make → Failed true (TextFault narrow wide) st e new
+    → Refused true (Value (Means (λ (v : A). make (contents v)))) (PrimitiveFault k) st e new
 text_refused contents k narrow wide make st e new t f =
     kind_failed (λ v. make (contents v)) k st e new (λ v. t.kind (contents v)) f.kept f.again (λ g. elim (f.named g) [ inl x ↦ inl x | inr x ↦ inr (text_fault k narrow wide make st e t x) ])
 
@@ -107,23 +117,26 @@ bad_text_at k w code make st mid m s e f kind g z none is =
     let b : List ℕ = bytes_high_first w (length s) ++ s in
     bad_data g kind z.took (subst (λ F. IsWhole F b) (sym f) (s, z.fits, refl)) (λ p d. no_text_value w make s p z.fits none (subst (λ F. PrimitiveData F p b) f d)) is
 
+answered_text : {narrow wide : ℕ} {st : State} {s : List ℕ} {m : State} {e : Error} {new : State} → Text narrow wide st s m → Answered m e new → Answered st e new
+answered_text x a = answered_begun x.begun (elim x.sized [ inl (is, s) ↦ answered_took s.took a | inr (is, s) ↦ answered_took s.took a ])
+
 -- bytes that are no text of the kind
-pub text_bad : {A : Type 0} (contents : A → List ℕ) (k narrow wide : ℕ) (make : List ℕ → Primitive) (st : State) (m : State) (s : List ℕ) (e : Error) (new : State) → IsText k narrow wide make → (IsValid (make s) → ⊥) → Text narrow wide st s m → e ≡ bad k → new.error ≡ Some e
-    → Refused (Value (Means (λ (v : A). make (contents v)))) (PrimitiveFault k) st e new
+pub text_bad : {A : Type 0} (contents : A → List ℕ) (k narrow wide : ℕ) (make : List ℕ → Primitive) (st : State) (m : State) (s : List ℕ) (e : Error) (new : State) → IsText k narrow wide make → (IsValid (make s) → ⊥) → Text narrow wide st s m → e ≡ bad k → Answered m e new
+    → Refused true (Value (Means (λ (v : A). make (contents v)))) (PrimitiveFault k) st e new
 text_bad contents k narrow wide make st m s e new t none x is kept =
-    refused_kind (λ v. make (contents v)) k st e new (λ v. t.kind (contents v)) x.begun.going kept (inr (elim x.sized [
+    refused_kind (λ v. make (contents v)) k st e new (λ v. t.kind (contents v)) x.begun.going (answered_text x kept) (inr (elim x.sized [
       | inl (c, z) ↦ bad_text_at k 1 narrow make st x.mid m s e t.short_code (kind_narrow k narrow wide make t) (subst (λ i. Begun st i x.mid) c x.begun) z none is
       | inr (c, z) ↦ bad_text_at k 4 wide make st x.mid m s e t.long_code (kind_wide k narrow wide make t) (subst (λ i. Begun st i x.mid) c x.begun) z none is
     ]))
 
 pub text_reads : {A : Type 0} (contents : A → List ℕ) (k narrow wide : ℕ) (make : List ℕ → Primitive) (st : State) (new : State) (r : Result A Error) → IsText k narrow wide make → ((s : List ℕ) → IsValid (make s)) → IfOk r (λ v. Text narrow wide st (contents v) new)
-    → IfErr r (λ e. Failed (TextFault narrow wide) st e new) → Reads (Value (Means (λ (v : A). make (contents v)))) (PrimitiveFault k) st r new
+    → IfErr r (λ e. Failed true (TextFault narrow wide) st e new) → Reads true (Value (Means (λ (v : A). make (contents v)))) (PrimitiveFault k) st r new
 text_reads contents k narrow wide make st new (Ok v) t valid x f = text_value contents k narrow wide make st v new t (valid (contents v)) x
 text_reads contents k narrow wide make st new (Err e) t valid x f = text_refused contents k narrow wide make st e new t f
 
 -- what was read is a text of the kind, or it is refused
 pub checked_reads : {A : Type 0} (contents : A → List ℕ) (k narrow wide : ℕ) (make : List ℕ → Primitive) (st m : State) (s : List ℕ) (new : State) (r : Result A Error) → IsText k narrow wide make → Text narrow wide st s m
-    → IfOk r (λ v. IsValid (make s) × (contents v ≡ s) × (new ≡ m)) → IfErr r (λ e. (IsValid (make s) → ⊥) × (e ≡ bad k) × (new.error ≡ Some e)) → Reads (Value (Means (λ (v : A). make (contents v)))) (PrimitiveFault k) st r new
+    → IfOk r (λ v. IsValid (make s) × (contents v ≡ s) × (new ≡ m)) → IfErr r (λ e. (IsValid (make s) → ⊥) × (e ≡ bad k) × Answered m e new) → Reads true (Value (Means (λ (v : A). make (contents v)))) (PrimitiveFault k) st r new
 checked_reads contents k narrow wide make st m s new (Ok v) t x (valid, is, kept) f =
     text_value contents k narrow wide make st v new t (subst (λ z. IsValid (make z)) (sym is) valid) (subst (λ z. Text narrow wide st z new) (sym is) (subst (Text narrow wide st s) (sym kept) x))
 checked_reads contents k narrow wide make st m s new (Err e) t x h (none, is, kept) = text_bad contents k narrow wide make st m s e new t none x is kept

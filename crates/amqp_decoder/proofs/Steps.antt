@@ -1,12 +1,37 @@
 -- How the steps of a call follow one another.
-use Rattle.std.proofs.Common.{◌≡◌, ◌≤◌, ◌<◌, ℕ, ◌+◌, ◌-◌, ◌⊎◌, inl, inr, Option, Some, None, List, [], ◌∷◌, ◌++◌, length, drop, get_or, unwrap_or, refl, sym, ap, ◌∙◌, subst, arith, suc, zero}
+use Rattle.std.proofs.Common.{◌≡◌, ◌≤◌, ◌<◌, ℕ, ◌+◌, ◌-◌, ◌⊎◌, inl, inr, Bool, false, Option, Some, None, List, [], ◌∷◌, ◌++◌, length, drop, get_or, unwrap_or, refl, sym, ap, ◌∙◌, subst, arith, suc, zero}
 use Rattle.std.proofs.lemmas.List.{length-append}
 use Rattle.amqp_model.specs.Term.{Descriptor}
 use Rattle.amqp_wire.specs.declared.error.Error.{Error}
 use Rattle.amqp_wire.specs.declared.error.Error.TheVariants.{Cut, Missing}
 use Rattle.amqp_decoder.specs.State.{Open, State, Has, lower, moved, on, past, announced, bytes_left}
-use Rattle.amqp_decoder.specs.Steps.{Excused, Pulled, Missed, Took, Lacks, cut_open, cut_inside, too_long, Short, asked_in, SizeError, cut, wrong, SizeRefused}
+use Rattle.amqp_decoder.specs.Steps.{Answered, SourceFailed, Excused, Pulled, Missed, Took, Lacks, cut_open, cut_inside, too_long, Short, asked_in, SizeError, cut, wrong, SizeRefused}
 use Rattle.amqp_decoder.specs.Reading.{Refused, IsLeft, IsFirst, IsFirstShared, Begun, BeginFault, missing, no_code}
+
+-- a call that takes no memory is excused by its source alone
+pub source_failed : (e : Error) (st : State) → Excused false e st → SourceFailed e st
+source_failed e st (inl (x, y)) = absurd (cc)
+source_failed e st (inr x) = x
+
+pub excused_by_source : (takes : Bool) (e : Error) (st : State) → Excused false e st → Excused takes e st
+excused_by_source takes e st x = inr (source_failed e st x)
+
+-- the error was kept
+pub answered : (st new : State) (e d : Error) → new ≡ record st { error = Some d } → e ≡ d → Answered st e new
+answered st new e d h is = record { error = ap (λ (x : State). x.error) h ∙ ap Some (sym is); source = inl (ap (λ (x : State). x.failed) h) }
+
+pub answered_so : (st new : State) (e : Error) → new ≡ record st { error = Some e } → Answered st e new
+answered_so st new e h = answered st new e e h refl
+
+-- the refused call came after others
+pub answered_later : {st m : State} {e : Error} {new : State} → m.failed ≡ st.failed → Answered m e new → Answered st e new
+answered_later same a = record { error = a.error; source = elim a.source [ inl x ↦ inl (x ∙ same) | inr x ↦ inr x ] }
+
+pub answered_took : {st : State} {s : List ℕ} {m : State} {e : Error} {new : State} → Took st s m → Answered m e new → Answered st e new
+answered_took t a = answered_later (ap (λ (x : State). x.failed) t.moved) a
+
+pub answered_begun : {st : State} {c : ℕ} {m : State} {e : Error} {new : State} → Begun st c m → Answered m e new → Answered st e new
+answered_begun g a = answered_later (ap (λ (x : State). x.failed) g.moved) a
 
 -- the open container's bytes are lowered by n
 abbrev pub lowered : ℕ → State → State
@@ -28,11 +53,11 @@ missed_lacks n st None e h room is short = cut_open h short is
 missed_lacks n st (Some l) e h room is short = cut_inside h (inr short) (omega (arith, ap (λ o. unwrap_or o 0) h)) is
 
 -- too few bytes stood behind those that the container has room for
-pub short_of_missed : (n k : ℕ) (st : State) (m : State) (e : Error) (new : State) → k ≡ n → Has st.top.left n → m ≡ lowered n st → Missed k m e new → Short n st e new
+pub short_of_missed : (n k : ℕ) (st : State) (m : State) (e : Error) (new : State) → k ≡ n → Has st.top.left n → m ≡ lowered n st → Missed false k m e new → Short n st e new
 short_of_missed n k st m e new same room is r = record {
-  kept = r.kept;
+  kept = answered_later (ap (λ (x : State). x.failed) is) r.kept;
   why = elim r.why [
-    | inl x ↦ inl x
+    | inl x ↦ inl (source_failed e new x)
     | inr (x, y) ↦ inr (missed_lacks n st st.top.left e refl room x (subst (λ (z : State). length z.rest < n) is (omega (arith, same, y))))
   ];
 }
@@ -118,7 +143,7 @@ not_begun_lacking st e c b none l h =
     not_lacking 1 st e h.own (drop (length h.own) st.rest) l (omega (arith, ap length own)) h.room h.rest
 
 -- no value is left
-pub begin_done : (st : State) (e : Error) (new : State) → Refused IsLeft (λ st e. (st.top.items ≡ Some 0) × (e ≡ Missing)) st e new → Refused Begun BeginFault st e new
+pub begin_done : (st : State) (e : Error) (new : State) → Refused false IsLeft (λ st e. (st.top.items ≡ Some 0) × (e ≡ Missing)) st e new → Refused false Begun BeginFault st e new
 begin_done st e new r = record {
   kept = r.kept;
   again = r.again;
@@ -130,10 +155,10 @@ begin_done st e new r = record {
 }
 
 -- its first byte can't be taken
-pub begin_short : (st : State) (e : Error) (new : State) → st.error ≡ None → st.top.shared ≡ None → Short 1 st e new → Refused Begun BeginFault st e new
+pub begin_short : (st : State) (e : Error) (new : State) → st.error ≡ None → st.top.shared ≡ None → Short 1 st e new → Refused false Begun BeginFault st e new
 begin_short st e new going none r = record {
   kept = r.kept;
   again = λ d x. absurd (cc);
-  named = λ g. elim r.why [ inl x ↦ inl x | inr x ↦ inr (no_code none x) ];
-  none = elim r.why [ inl x ↦ inl x | inr x ↦ inr (λ v b h. not_begun_lacking st e v b none x h) ];
+  named = λ g. elim r.why [ inl x ↦ inl (inr x) | inr x ↦ inr (no_code none x) ];
+  none = elim r.why [ inl x ↦ inl (inr x) | inr x ↦ inr (λ v b h. not_begun_lacking st e v b none x h) ];
 }

@@ -10,7 +10,7 @@ use Rattle.amqp_wire.specs.declared.error.Error.TheVariants.{Cut, Depth, BadDesc
 use Rattle.amqp_wire.specs.Codes.{refusal_of}
 use Rattle.amqp_decoder.specs.declared.frame.Place.TheVariants.{InDescribed}
 use Rattle.amqp_decoder.specs.State.{State}
-use Rattle.amqp_decoder.specs.Steps.{Excused, Took, Lacks}
+use Rattle.amqp_decoder.specs.Steps.{Answered, Excused, SourceFailed, Took, Lacks}
 use Rattle.amqp_decoder.specs.Reading.{Begun, BeginFault}
 use Rattle.amqp_decoder.specs.Kinds.{kind_at}
 use Rattle.amqp_decoder.specs.Primitives.{LacksData, IsWhole}
@@ -120,9 +120,9 @@ pub data DescriptorFault (st : State) (e : Error) : Type 0 where
       → ((d : Descriptor) → PrimitiveData (format c) (descriptor_value d) b → ⊥) → e ≡ NonAscii → DescriptorFault st e
 
 -- No descriptor was taken.
-pub record DescriptorMissed (st : State) (e : Error) (st' : State) : Type 0 where
-  pub kept : st'.error ≡ Some e
-  pub why : Excused e st' ⊎ ((st.top.shared ≡ None) × DescriptorFault st e)
+pub record DescriptorMissed (takes : Bool) (st : State) (e : Error) (st' : State) : Type 0 where
+  pub kept : Answered st e st'
+  pub why : Excused takes e st' ⊎ ((st.top.shared ≡ None) × DescriptorFault st e)
 
 -- A descriptor stood next, and the first member that it is stands at this place.
 pub record TookPlace (members : List Member) (st : State) (place : Option ℕ) (st' : State) : Type 0 where
@@ -132,8 +132,8 @@ pub record TookPlace (members : List Member) (st : State) (place : Option ℕ) (
 
 -- No name of n bytes was taken.
 pub record NameMissed (n : ℕ) (st : State) (e : Error) (st' : State) : Type 0 where
-  pub kept : st'.error ≡ Some e
-  pub why : Excused e st' ⊎ ((e ≡ Cut) × (length st.rest < n)) ⊎ ((e ≡ NonAscii) × (n ≤ length st.rest) × (IsAscii (take n st.rest) → ⊥))
+  pub kept : Answered st e st'
+  pub why : SourceFailed e st' ⊎ ((e ≡ Cut) × (length st.rest < n)) ⊎ ((e ≡ NonAscii) × (n ≤ length st.rest) × (IsAscii (take n st.rest) → ⊥))
 
 -- Why no described value is opened.
 pub data OpenFault (st : State) (e : Error) : Type 0 where

@@ -1,5 +1,5 @@
 -- What the calls that read primitives promise (Part 1, section 1.6).
-use Rattle.std.specs.Prelude.{◌≡◌, ℕ, ◌+◌, ◌-◌, ◌^◌, ◌<◌, ◌≤◌, ◌⊎◌, List, [], ◌∷◌, ◌++◌, length, drop, cond, eqb, Option, Some, None}
+use Rattle.std.specs.Prelude.{◌≡◌, ℕ, ◌+◌, ◌-◌, ◌^◌, ◌<◌, ◌≤◌, ◌⊎◌, Bool, List, [], ◌∷◌, ◌++◌, length, drop, cond, eqb, Option, Some, None}
 use Rattle.std.specs.Int.{bytes_high_first}
 use Rattle.amqp_model.specs.Term.{Primitive, Descriptor, Term, leaf}
 use Rattle.amqp_model.specs.Constructors.{Format, fixed, variable, compound, unknown, format}
@@ -10,7 +10,7 @@ use Rattle.amqp_wire.specs.declared.error.Error.{Error}
 use Rattle.amqp_wire.specs.declared.error.Error.TheVariants.{BadBool, BadChar, BadUtf8, NonAscii, InvalidValue}
 use Rattle.amqp_wire.specs.Codes.{refusal_of}
 use Rattle.amqp_decoder.specs.State.{State, Has, lower, past, on}
-use Rattle.amqp_decoder.specs.Steps.{Excused, Took, Lacks}
+use Rattle.amqp_decoder.specs.Steps.{Answered, Excused, SourceFailed, Took, Lacks}
 use Rattle.amqp_decoder.specs.Reading.{Begun, BeginFault}
 use Rattle.amqp_decoder.specs.Kinds.{kind_at}
 
@@ -70,9 +70,9 @@ pub record HasData (code : ℕ) (p : Primitive) (st : State) (st' : State) : Typ
 
 -- The data of a kind under a code of it can't be taken.
 pub record LacksDataOf (k code : ℕ) (st : State) (e : Error) (st' : State) : Type 0 where
-  pub kept : st'.error ≡ Some e
+  pub kept : Answered st e st'
   pub kind : kind_at code ≡ Some k
-  pub why : Excused e st' ⊎ LacksData (format code) st e
+  pub why : SourceFailed e st' ⊎ LacksData (format code) st e
 
 -- b is as long as the format announces.
 abbrev pub IsWhole : Format → List ℕ → Type 0
@@ -106,10 +106,10 @@ pub record Fixed (code n : ℕ) (st : State) (b : List ℕ) (st' : State) : Type
   pub width : length b ≡ n
 
 -- The error is kept for each later call, and names a fault that stands there.
-pub record Failed (fault : State → Error → Type 0) (old : State) (e : Error) (new : State) : Type 0 where
-  pub kept : new.error ≡ Some e
+pub record Failed (takes : Bool) (fault : State → Error → Type 0) (old : State) (e : Error) (new : State) : Type 0 where
+  pub kept : Answered old e new
   pub again : (d : Error) → old.error ≡ Some d → (d ≡ e) × (new ≡ old)
-  pub named : old.error ≡ None → Excused e new ⊎ fault old e
+  pub named : old.error ≡ None → Excused takes e new ⊎ fault old e
 
 -- A size stood next, and as many bytes have room in the open container.
 pub record Announced (w : ℕ) (st : State) (n : ℕ) (st' : State) : Type 0 where
@@ -128,9 +128,9 @@ pub record Sized (w : ℕ) (st : State) (s : List ℕ) (st' : State) : Type 0 wh
 abbrev pub LacksSized : ℕ → State → Error → Type 0
 LacksSized w st e = Lacks w st e ⊎ ((n : ℕ) × (st' : State) × (n < 256 ^ w) × Took st (bytes_high_first w n) st' × Lacks n st' e)
 
-pub record SizedFault (w : ℕ) (st : State) (e : Error) (st' : State) : Type 0 where
-  pub kept : st'.error ≡ Some e
-  pub why : Excused e st' ⊎ LacksSized w st e
+pub record SizedFault (takes : Bool) (w : ℕ) (st : State) (e : Error) (st' : State) : Type 0 where
+  pub kept : Answered st e st'
+  pub why : Excused takes e st' ⊎ LacksSized w st e
 
 -- One of the two codes, a size of one byte or of four, and as many bytes stood next.
 pub record Text (narrow wide : ℕ) (st : State) (s : List ℕ) (st' : State) : Type 0 where

@@ -1,22 +1,23 @@
 -- What a call that reads promises.
-use Rattle.std.specs.Prelude.{◌≡◌, ℕ, ◌<◌, ◌≤◌, ◌⊎◌, List, [], ◌∷◌, ◌++◌, length, drop, Option, Some, None, Result, Ok, Err}
+use Rattle.std.specs.Prelude.{◌≡◌, ℕ, ◌<◌, ◌≤◌, ◌⊎◌, Bool, List, [], ◌∷◌, ◌++◌, length, drop, Option, Some, None, Result, Ok, Err}
 use Rattle.amqp_model.specs.Term.{Descriptor}
 use Rattle.amqp_wire.specs.declared.error.Error.{Error}
 use Rattle.amqp_wire.specs.declared.error.Error.TheVariants.{Missing}
 use Rattle.amqp_decoder.specs.State.{State, Has, looked, past}
-use Rattle.amqp_decoder.specs.Steps.{Excused, Lacks}
+use Rattle.amqp_decoder.specs.Steps.{Answered, Excused, Lacks}
 
 -- Nothing that could be read stands there, and the error, which names a fault that does, is kept for each later call.
-pub record Refused {A : Type 0} (reads : State → A → State → Type 0) (fault : State → Error → Type 0) (old : State) (e : Error) (new : State) : Type 0 where
-  pub kept : new.error ≡ Some e
+-- takes: the call takes memory, and may want it
+pub record Refused {A : Type 0} (takes : Bool) (reads : State → A → State → Type 0) (fault : State → Error → Type 0) (old : State) (e : Error) (new : State) : Type 0 where
+  pub kept : Answered old e new
   pub again : (d : Error) → old.error ≡ Some d → (d ≡ e) × (new ≡ old)
-  pub named : old.error ≡ None → Excused e new ⊎ fault old e
-  pub none : Excused e new ⊎ ((v : A) (st : State) → reads old v st → ⊥)
+  pub named : old.error ≡ None → Excused takes e new ⊎ fault old e
+  pub none : Excused takes e new ⊎ ((v : A) (st : State) → reads old v st → ⊥)
 
 -- Ok of what stands next, or the reason why nothing does.
-abbrev pub Reads : {A : Type 0} → (State → A → State → Type 0) → (State → Error → Type 0) → State → Result A Error → State → Type 0
-Reads reads fault old (Ok v) new = reads old v new
-Reads reads fault old (Err e) new = Refused reads fault old e new
+abbrev pub Reads : {A : Type 0} → Bool → (State → A → State → Type 0) → (State → Error → Type 0) → State → Result A Error → State → Type 0
+Reads takes reads fault old (Ok v) new = reads old v new
+Reads takes reads fault old (Err e) new = Refused takes reads fault old e new
 
 -- A value is left.
 pub record IsLeft (st : State) (v : Unit {0}) (st' : State) : Type 0 where

@@ -8,19 +8,28 @@ abbrev pub IsRead : Error → Type 0
 IsRead (Read k) = Unit {0}
 IsRead _ = ⊥
 
--- A growth was refused, or the source has failed.
-abbrev pub Excused : Error → State → Type 0
-Excused e st = (e ≡ Memory) ⊎ (IsRead e × (st.failed ≡ true))
+-- The error is kept for each later call, and it is the source's where that began to fail.
+pub record Answered (st : State) (e : Error) (st' : State) : Type 0 where
+  pub error : st'.error ≡ Some e
+  pub source : (st'.failed ≡ st.failed) ⊎ IsRead e
+
+-- The source has failed.
+abbrev pub SourceFailed : Error → State → Type 0
+SourceFailed e st = IsRead e × (st.failed ≡ true)
+
+-- A growth was refused, where the call takes memory, or the source has failed.
+abbrev pub Excused : Bool → Error → State → Type 0
+Excused takes e st = ((takes ≡ true) × (e ≡ Memory)) ⊎ SourceFailed e st
 
 -- These bytes stood next, and were taken, whatever container is open.
 pub record Pulled (st : State) (s : List ℕ) (st' : State) : Type 0 where
   pub rest : st.rest ≡ s ++ drop (length s) st.rest
   pub moved : st' ≡ moved (length s) st
 
--- Fewer than n bytes stood there.
-pub record Missed (n : ℕ) (st : State) (e : Error) (st' : State) : Type 0 where
-  pub kept : st'.error ≡ Some e
-  pub why : Excused e st' ⊎ ((e ≡ Cut) × (length st.rest < n))
+-- Fewer than n bytes stood there, or memory to keep them was wanted where it is taken.
+pub record Missed (takes : Bool) (n : ℕ) (st : State) (e : Error) (st' : State) : Type 0 where
+  pub kept : Answered st e st'
+  pub why : Excused takes e st' ⊎ ((e ≡ Cut) × (length st.rest < n))
 
 -- These bytes of a value stood next, and were taken.
 pub record Took (st : State) (s : List ℕ) (st' : State) : Type 0 where
@@ -37,8 +46,8 @@ pub data Lacks (n : ℕ) (st : State) (e : Error) : Type 0 where
 
 -- n bytes of a value could not be taken.
 pub record Short (n : ℕ) (st : State) (e : Error) (st' : State) : Type 0 where
-  pub kept : st'.error ≡ Some e
-  pub why : Excused e st' ⊎ Lacks n st e
+  pub kept : Answered st e st'
+  pub why : SourceFailed e st' ⊎ Lacks n st e
 
 -- How much has to be there before a size is refused: what the open containers announce, and where nothing is bounded
 -- what the value itself still does.
@@ -61,10 +70,10 @@ pub record NoRoom (n : ℕ) (st : State) (e : Error) : Type 0 where
 
 -- A size was refused.
 pub record SizeRefused (own : ℕ) (st : State) (e : Error) (st' : State) : Type 0 where
-  pub kept : st'.error ≡ Some e
-  pub why : Excused e st' ⊎ SizeError own st e
+  pub kept : Answered st e st'
+  pub why : SourceFailed e st' ⊎ SizeError own st e
 
 -- The error is kept, and names a fault, unless it says of memory or of the source.
-pub record Stopped (fault : Error → Type 0) (e : Error) (st' : State) : Type 0 where
-  pub kept : st'.error ≡ Some e
-  pub why : Excused e st' ⊎ fault e
+pub record Stopped (takes : Bool) (fault : Error → Type 0) (st : State) (e : Error) (st' : State) : Type 0 where
+  pub kept : Answered st e st'
+  pub why : Excused takes e st' ⊎ fault e

@@ -1,5 +1,5 @@
 //! Arrays, whose items share a constructor (Part 1, sections 1.2.4 and 1.6.24).
-ghost use Rattle.std.specs.Prelude.{◌≡◌, ◌<◌, ◌≤◌, ◌+◌, ◌++◌, ◌∷◌, [], ◌⊎◌, ◌↔◌, IsTrue, cond, length, map, Some, None, OnOk, IfOk, IfErr, vec_len};
+ghost use Rattle.std.specs.Prelude.{◌≡◌, ◌<◌, ◌≤◌, ◌+◌, ◌++◌, ◌∷◌, [], ◌⊎◌, ◌↔◌, IsTrue, cond, length, map, Some, None, OnOk, IfOk, IfErr, vec_len, true, false};
 ghost use Rattle.amqp_model.specs.Constructors.{format};
 ghost use Rattle.amqp_model.specs.Spelling.{IsKnown, HasWidthZero};
 ghost use Rattle.amqp_wire.specs.Codes.{refusal_of};
@@ -8,7 +8,7 @@ ghost use Rattle.amqp_wire.specs.declared.descriptor.Descriptor.{Descriptor as D
 ghost use Rattle.amqp_wire.specs.declared.error.Error.TheVariants.{Depth};
 ghost use Rattle.amqp_decoder.specs.declared.frame.Place.TheVariants.{InArray};
 ghost use Rattle.amqp_decoder.specs.State.{State, Has, descriptor_of, inside};
-ghost use Rattle.amqp_decoder.specs.Steps.{NoRoom, Stopped};
+ghost use Rattle.amqp_decoder.specs.Steps.{Answered, NoRoom, Stopped};
 ghost use Rattle.amqp_decoder.specs.Reading.{Reads};
 ghost use Rattle.amqp_decoder.specs.Containers.{Closes, CloseFault};
 ghost use Rattle.amqp_decoder.specs.Described.{TookDescriptor, DescriptorFault};
@@ -52,7 +52,7 @@ impl<R: ByteSource> Decoder<R> {
     ) -> Result<(), Error>
         ensures few { OnOk result ((vec_len descriptors.old < 128) × (vec_len descriptors.new ≡ vec_len descriptors.old + 1)) }
         ensures ok { Tells R.remaining → self.old.top.shared ≡ None → IfOk result (λ _. (d : DescriptorValue) × TookDescriptor self.old (descriptor_of d) self.new × (descriptors.new.items ≡ descriptors.old.items ++ (d ∷ []))) }
-        ensures err { Tells R.remaining → self.old.top.shared ≡ None → IfErr result (λ e. Stopped (λ e. ((e ≡ Depth) × (128 ≤ length descriptors.old.items)) ⊎ DescriptorFault self.old e) e self.new) }
+        ensures err { Tells R.remaining → self.old.top.shared ≡ None → IfErr result (λ e. Stopped true (λ e. ((e ≡ Depth) × (128 ≤ length descriptors.old.items)) ⊎ DescriptorFault self.old e) self.old e self.new) }
     {
         if descriptors.len() >= NESTING {
             return Err(self.refuse(Error::Depth));
@@ -66,7 +66,7 @@ impl<R: ByteSource> Decoder<R> {
     // A code that ends a constructor is known.
     fn check_known(&mut self, code: u8) -> Result<(), Error>
         ensures ok { IfOk result (λ _. (if_unknown (refusal_of code) ≡ None) × (self.new ≡ self.old)) }
-        ensures err { IfErr result (λ e. (if_unknown (refusal_of code) ≡ Some e) × (self.new.error ≡ Some e)) }
+        ensures err { IfErr result (λ e. (if_unknown (refusal_of code) ≡ Some e) × Answered self.old e self.new) }
     {
         match format_code::refusal(code) {
             Error::WrongType(_) => Ok(()),
@@ -78,7 +78,7 @@ impl<R: ByteSource> Decoder<R> {
     fn constructor(&mut self, alloc: Global) -> Result<(Vec<Descriptor>, u8), Error>
         ensures code { IfOk result (λ found. 0 < found.1) }
         ensures ok { Tells R.remaining → self.old.top.shared ≡ None → IfOk result (λ found. TookConstructor self.old (map descriptor_of found.0.items) found.1 self.new) }
-        ensures err { Tells R.remaining → self.old.top.shared ≡ None → IfErr result (λ e. Stopped (ConstructorFault self.old) e self.new) }
+        ensures err { Tells R.remaining → self.old.top.shared ≡ None → IfErr result (λ e. Stopped true (ConstructorFault self.old) self.old e self.new) }
     {
         let mut descriptors = Vec::new(alloc);
         let mut code = self.byte()?;
@@ -93,7 +93,7 @@ impl<R: ByteSource> Decoder<R> {
     // The items of the open array share the constructor that stands next.
     fn take_constructor(&mut self, alloc: Global) -> Result<(), Error>
         ensures ok { Tells R.remaining → self.old.top.shared ≡ None → IfOk result (λ _. Shares self.old self.new) }
-        ensures err { Tells R.remaining → self.old.top.shared ≡ None → IfErr result (λ e. Stopped (SharesFault self.old) e self.new) }
+        ensures err { Tells R.remaining → self.old.top.shared ≡ None → IfErr result (λ e. Stopped true (SharesFault self.old) self.old e self.new) }
     {
         let (descriptors, code) = self.constructor(alloc)?;
         if self.is_done() {
@@ -109,7 +109,7 @@ impl<R: ByteSource> Decoder<R> {
     // Opens an array of so many items in so many bytes.
     fn open_items(&mut self, count: u32, content: u32) -> Result<(), Error>
         ensures ok { IfOk result (λ _. Has self.old.top.left content × (length self.old.saved ≤ self.old.nesting) × (self.new ≡ inside InArray count content self.old)) }
-        ensures err { Tells R.remaining → IfErr result (λ e. Stopped (λ e. NoRoom content self.old e ⊎ ((self.old.nesting < length self.old.saved) × (e ≡ Depth))) e self.new) }
+        ensures err { Tells R.remaining → IfErr result (λ e. Stopped false (λ e. NoRoom content self.old e ⊎ ((self.old.nesting < length self.old.saved) × (e ≡ Depth))) self.old e self.new) }
     {
         self.lower(content)?;
         let inner = Frame {
@@ -124,7 +124,7 @@ impl<R: ByteSource> Decoder<R> {
     // Opens an array whose code was taken.
     fn open_array(&mut self, wide: bool, alloc: Global) -> Result<u32, Error>
         ensures ok { Tells R.remaining → IfOk result (λ n. EntersArray (cond wide 4 1) self.old n self.new) }
-        ensures err { Tells R.remaining → IfErr result (λ e. Stopped (EnterArrayFault (cond wide 4 1) self.old) e self.new) }
+        ensures err { Tells R.remaining → IfErr result (λ e. Stopped true (EnterArrayFault (cond wide 4 1) self.old) self.old e self.new) }
     {
         let (count, content) = self.header(wide, false)?;
         self.open_items(count, content)?;
@@ -140,7 +140,7 @@ impl<R: ByteSource> Decoder<R> {
     /// as of `begin_described`, `Depth` past 128 descriptors or 128 nested values, and `Memory` also where the open
     /// arrays together share more than 255 descriptors.
     pub fn begin_array(&mut self, alloc: Global) -> Result<u32, Error>
-        ensures { Tells R.remaining → Reads OpensArray ArrayFault self.old result self.new }
+        ensures { Tells R.remaining → Reads true OpensArray ArrayFault self.old result self.new }
     {
         match self.begin()? {
             format_code::ARRAY_8 => self.open_array(false, alloc),
@@ -151,7 +151,7 @@ impl<R: ByteSource> Decoder<R> {
 
     /// Ends the array that is open: `Surplus` where items are left, `InvalidValue` where none is open.
     pub fn end_array(&mut self) -> Result<(), Error>
-        ensures { Tells R.remaining → Reads (λ st _ st'. Closes InArray st st') (CloseFault InArray) self.old result self.new }
+        ensures { Tells R.remaining → Reads false (λ st _ st'. Closes InArray st st') (CloseFault InArray) self.old result self.new }
     {
         self.check_end(Place::InArray)?;
         self.check_bytes()?;

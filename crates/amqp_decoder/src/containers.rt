@@ -1,5 +1,5 @@
 //! Lists and maps (Part 1, sections 1.6.22 and 1.6.23).
-ghost use Rattle.std.specs.Prelude.{◌≡◌, ◌<◌, ◌↔◌, IsTrue, cond, length, IfOk, IfErr};
+ghost use Rattle.std.specs.Prelude.{◌≡◌, ◌<◌, ◌↔◌, IsTrue, cond, length, IfOk, IfErr, false};
 ghost use Rattle.amqp_model.specs.Term.{list, map};
 ghost use Rattle.amqp_wire.specs.Sources.{Tells};
 ghost use Rattle.amqp_decoder.specs.State.{Has, inside};
@@ -34,7 +34,7 @@ impl<R: ByteSource> Decoder<R> {
     #[inline]
     pub(crate) fn header(&mut self, wide: bool, is_list: bool) -> Result<(u32, u32), Error>
         ensures ok { Tells R.remaining → IfOk result (λ h. Header is_list (cond wide 4 1) self.old h.0 h.1 self.new) }
-        ensures err { Tells R.remaining → IfErr result (λ e. Stopped (HeaderFault is_list (cond wide 4 1) self.old) e self.new) }
+        ensures err { Tells R.remaining → IfErr result (λ e. Stopped false (HeaderFault is_list (cond wide 4 1) self.old) self.old e self.new) }
     {
         let width = width(wide);
         let size = self.number(wide)?;
@@ -55,7 +55,7 @@ impl<R: ByteSource> Decoder<R> {
     #[inline]
     fn open(&mut self, place: Place, count: u32, content: u32) -> Result<u32, Error>
         ensures ok { IfOk result (λ n. (n ≡ count) × Has self.old.top.left content × (length self.old.saved < self.old.nesting) × (self.new ≡ inside place count content self.old)) }
-        ensures err { Tells R.remaining → IfErr result (λ e. Stopped (Unopened content self.old) e self.new) }
+        ensures err { Tells R.remaining → IfErr result (λ e. Stopped false (Unopened content self.old) self.old e self.new) }
     {
         self.lower(content)?;
         let inner = Frame {
@@ -72,7 +72,7 @@ impl<R: ByteSource> Decoder<R> {
     #[inline]
     fn open_list(&mut self, wide: bool) -> Result<u32, Error>
         ensures ok { Tells R.remaining → IfOk result (λ n. Entered list (cond wide 4 1) self.old n self.new) }
-        ensures err { Tells R.remaining → IfErr result (λ e. Stopped (EnterFault list (cond wide 4 1) self.old) e self.new) }
+        ensures err { Tells R.remaining → IfErr result (λ e. Stopped false (EnterFault list (cond wide 4 1) self.old) self.old e self.new) }
     {
         let (count, content) = self.header(wide, true)?;
         self.open(Place::InList, count, content)
@@ -82,7 +82,7 @@ impl<R: ByteSource> Decoder<R> {
     #[inline]
     fn open_map(&mut self, wide: bool) -> Result<u32, Error>
         ensures ok { Tells R.remaining → IfOk result (λ n. Entered map (cond wide 4 1) self.old n self.new) }
-        ensures err { Tells R.remaining → IfErr result (λ e. Stopped (EnterFault map (cond wide 4 1) self.old) e self.new) }
+        ensures err { Tells R.remaining → IfErr result (λ e. Stopped false (EnterFault map (cond wide 4 1) self.old) self.old e self.new) }
     {
         let (count, content) = self.header(wide, false)?;
         if count % 2 == 1 {
@@ -95,7 +95,7 @@ impl<R: ByteSource> Decoder<R> {
     /// values.
     #[inline]
     pub fn begin_list(&mut self) -> Result<u32, Error>
-        ensures { Tells R.remaining → Reads (Opens list) (OpenFault list) self.old result self.new }
+        ensures { Tells R.remaining → Reads false (Opens list) (OpenFault list) self.old result self.new }
     {
         match self.begin()? {
             format_code::LIST_0 => self.open(Place::InList, 0, 0),
@@ -109,7 +109,7 @@ impl<R: ByteSource> Decoder<R> {
     /// `OddCount` where the number is odd.
     #[inline]
     pub fn begin_map(&mut self) -> Result<u32, Error>
-        ensures { Tells R.remaining → Reads (Opens map) (OpenFault map) self.old result self.new }
+        ensures { Tells R.remaining → Reads false (Opens map) (OpenFault map) self.old result self.new }
     {
         match self.begin()? {
             format_code::MAP_8 => self.open_map(false),
@@ -121,7 +121,7 @@ impl<R: ByteSource> Decoder<R> {
     // Ends the list or map that is open.
     #[inline]
     fn close(&mut self, place: Place) -> Result<(), Error>
-        ensures { Tells R.remaining → Reads (λ st _ st'. Closes place st st') (CloseFault place) self.old result self.new }
+        ensures { Tells R.remaining → Reads false (λ st _ st'. Closes place st st') (CloseFault place) self.old result self.new }
     {
         self.check_end(place)?;
         self.check_bytes()?;
@@ -132,7 +132,7 @@ impl<R: ByteSource> Decoder<R> {
     /// Ends the list that is open: `Surplus` where values are left, `InvalidValue` where none is open.
     #[inline]
     pub fn end_list(&mut self) -> Result<(), Error>
-        ensures { Tells R.remaining → Reads (λ st _ st'. Closes InList st st') (CloseFault InList) self.old result self.new }
+        ensures { Tells R.remaining → Reads false (λ st _ st'. Closes InList st st') (CloseFault InList) self.old result self.new }
     {
         self.close(Place::InList)
     }
@@ -140,7 +140,7 @@ impl<R: ByteSource> Decoder<R> {
     /// Ends the map that is open: `Surplus` where values are left, `InvalidValue` where none is open.
     #[inline]
     pub fn end_map(&mut self) -> Result<(), Error>
-        ensures { Tells R.remaining → Reads (λ st _ st'. Closes InMap st st') (CloseFault InMap) self.old result self.new }
+        ensures { Tells R.remaining → Reads false (λ st _ st'. Closes InMap st st') (CloseFault InMap) self.old result self.new }
     {
         self.close(Place::InMap)
     }

@@ -8,7 +8,7 @@ ghost use Rattle.amqp_wire.specs.declared.error.Error.TheVariants.{Depth, Memory
 ghost use Rattle.amqp_decoder.specs.Described.{IsUnmarked, IsMark, entered};
 ghost use Rattle.amqp_decoder.specs.State.{Open, State, top_level, looked, moved, on, past, announced, Has, lower, unshared, descriptor_of};
 ghost use Rattle.amqp_decoder.specs.Reading.{Reads, Begun, BeginFault, Peeked, IsLeft, IsFirstShared};
-ghost use Rattle.amqp_decoder.specs.Steps.{Excused, Pulled, Missed, Took, Short, SizeRefused, NoRoom, Stopped};
+ghost use Rattle.amqp_decoder.specs.Steps.{Answered, SourceFailed, Pulled, Missed, Took, Short, SizeRefused, NoRoom, Stopped};
 
 use crate::frame::{Frame, Place, ROW};
 use amqp_lengths::NESTING;
@@ -118,7 +118,7 @@ impl<R: ByteSource> Decoder<R> {
         ensures bytes { Tells R.remaining → self.old.ahead ≡ 0 → IfOk result (λ n. self.old.rest ≡ take n buffer.new ++ drop n self.old.rest) }
         ensures all { Tells R.remaining → self.old.ahead ≡ 0 → IfOk result (λ n. n < length buffer.old → length self.old.rest ≡ n) }
         ensures new { Tells R.remaining → self.old.ahead ≡ 0 → IfOk result (λ n. self.new ≡ moved n self.old) }
-        ensures err { IfErr result (λ e. (self.new.error ≡ Some e) × Excused e self.new) }
+        ensures err { IfErr result (λ e. Answered self.old e self.new × SourceFailed e self.new) }
     {
         match fill(&mut self.source, buffer) {
             Ok(count) => Ok(count),
@@ -130,7 +130,7 @@ impl<R: ByteSource> Decoder<R> {
     #[inline]
     pub(crate) fn pull_all(&mut self, buffer: &mut [u8]) -> Result<(), Error>
         ensures ok { Tells R.remaining → IfOk result (λ _. Pulled self.old buffer.new self.new) }
-        ensures err { Tells R.remaining → IfErr result (λ e. Missed (length buffer.old) self.old e self.new) }
+        ensures err { Tells R.remaining → IfErr result (λ e. Missed false (length buffer.old) self.old e self.new) }
     {
         let mut done = 0;
         if self.start < self.end {
@@ -157,7 +157,7 @@ impl<R: ByteSource> Decoder<R> {
     fn skip(&mut self, count: u64) -> Result<(), Error>
         ensures ok { Tells R.remaining → IfOk result (λ _. count ≤ length self.old.rest) }
         ensures new { Tells R.remaining → IfOk result (λ _. self.new ≡ moved count self.old) }
-        ensures err { Tells R.remaining → IfErr result (λ e. Missed count self.old e self.new) }
+        ensures err { Tells R.remaining → IfErr result (λ e. Missed false count self.old e self.new) }
     {
         let mut buffer = [0; SKIP];
         let mut left = count;
@@ -216,7 +216,7 @@ impl<R: ByteSource> Decoder<R> {
         ensures room { IfOk result (λ _. Has self.old.top.left count) }
         ensures new { IfOk result (λ _. self.new ≡ record self.old { top = record self.old.top { left = lower self.old.top.left count } }) }
         ensures err { Tells R.remaining → IfErr result (λ e. Short count self.old e self.new) }
-        ensures full { Tells R.remaining → IfErr result (λ e. Stopped (NoRoom count self.old) e self.new) }
+        ensures full { Tells R.remaining → IfErr result (λ e. Stopped false (NoRoom count self.old) self.old e self.new) }
     {
         let Some(left) = self.left() else {
             return Ok(());
@@ -276,7 +276,7 @@ impl<R: ByteSource> Decoder<R> {
     // A value is left.
     #[inline]
     pub(crate) fn check_item(&mut self) -> Result<(), Error>
-        ensures { Reads IsLeft (λ st e. (st.top.items ≡ Some 0) × (e ≡ Error.Missing)) self.old result self.new }
+        ensures { Reads false IsLeft (λ st e. (st.top.items ≡ Some 0) × (e ≡ Error.Missing)) self.old result self.new }
     {
         self.check()?;
         if self.is_done() {
@@ -316,7 +316,7 @@ impl<R: ByteSource> Decoder<R> {
     // The next value's first code, which is taken.
     #[inline]
     pub(crate) fn begin(&mut self) -> Result<u8, Error>
-        ensures { Tells R.remaining → Reads Begun BeginFault self.old result self.new }
+        ensures { Tells R.remaining → Reads false Begun BeginFault self.old result self.new }
     {
         self.check_item()?;
         if let Some(code) = self.shared_code() {
@@ -344,7 +344,7 @@ impl<R: ByteSource> Decoder<R> {
         ensures few { IfOk result (λ n. n ≤ 64) }
         ensures count { Tells R.remaining → IfOk result (λ n. n ≡ max self.old.ahead (min count (length self.old.rest))) }
         ensures new { Tells R.remaining → IfOk result (λ _. self.new ≡ looked (min count (length self.old.rest)) self.old) }
-        ensures err { IfErr result (λ e. (self.new.error ≡ Some e) × Excused e self.new) }
+        ensures err { IfErr result (λ e. Answered self.old e self.new × SourceFailed e self.new) }
     {
         let ahead = self.ahead();
         if ahead >= count {
@@ -367,7 +367,7 @@ impl<R: ByteSource> Decoder<R> {
     pub(crate) fn look_next(&mut self) -> Result<bool, Error>
         ensures found { Tells R.remaining → IfOk result (λ b. IsTrue b ↔ (0 < length self.old.rest)) }
         ensures new { Tells R.remaining → IfOk result (λ b. self.new ≡ looked (min 1 (length self.old.rest)) self.old) }
-        ensures err { IfErr result (λ e. (self.new.error ≡ Some e) × Excused e self.new) }
+        ensures err { IfErr result (λ e. Answered self.old e self.new × SourceFailed e self.new) }
     {
         if self.ahead() > 0 {
             return Ok(true);
@@ -407,7 +407,7 @@ impl<R: ByteSource> Decoder<R> {
     /// Nothing is taken.
     #[inline]
     pub fn peek_code(&mut self) -> Result<u8, Error>
-        ensures { Tells R.remaining → Reads Peeked BeginFault self.old result self.new }
+        ensures { Tells R.remaining → Reads false Peeked BeginFault self.old result self.new }
     {
         self.check_item()?;
         if let Some(code) = self.shared_code() {
@@ -428,12 +428,6 @@ impl<R: ByteSource> Decoder<R> {
         ensures { result ≡ false → self.now.top.shared ≡ None }
     {
         self.top.code != 0
-    }
-
-    // The open container.
-    #[inline]
-    pub(crate) fn top(&self) -> Frame {
-        self.top
     }
 
     /// How many containers and described values are open.
@@ -543,7 +537,7 @@ impl<R: ByteSource> Decoder<R> {
     // The open container is of this kind, and no item of it is left.
     #[inline]
     pub(crate) fn check_end(&mut self, place: Place) -> Result<(), Error>
-        ensures { Reads (λ st _ st'. AtEnd place st st') (EndFault place) self.old result self.new }
+        ensures { Reads false (λ st _ st'. AtEnd place st st') (EndFault place) self.old result self.new }
     {
         self.check()?;
         if !self.is_in(place) {
@@ -606,7 +600,7 @@ impl<R: ByteSource> Decoder<R> {
     pub(crate) fn share(&mut self, mut descriptors: Vec<Descriptor>, code: u8) -> Result<(), Error>
         requires { 0 < code }
         ensures ok { IfOk result (λ _. self.new ≡ record self.old { top = record self.old.top { shared = Some (map descriptor_of descriptors.items, code) } }) }
-        ensures err { IfErr result (λ e. (e ≡ Memory) × (self.new.error ≡ Some Memory)) }
+        ensures err { IfErr result (λ e. (e ≡ Memory) × Answered self.old e self.new) }
     {
         let first = self.top.last;
         let count = descriptors.len();

@@ -2,12 +2,13 @@
 ghost use Rattle.amqp_decoder.specs.declared.frame.Place.TheVariants.{InDescribed};
 ghost use Rattle.amqp_decoder.specs.Reading.{Reads};
 ghost use Rattle.amqp_decoder.specs.Containers.{ClosesDescribed, EndFault};
-ghost use Rattle.std.specs.Prelude.{◌≡◌, ◌≤◌, ◌<◌, length, take, option_map, Some, None, IfOk, IfErr, MatchOption, IsAscii};
+ghost use Rattle.std.specs.Prelude.{◌≡◌, ◌≤◌, ◌<◌, length, take, option_map, Some, None, IfOk, IfErr, MatchOption, IsAscii, true, false};
 ghost use Rattle.amqp_wire.specs.declared.error.Error.TheVariants.{Memory};
 ghost use Rattle.amqp_model.specs.Term.{name as of_name};
 ghost use Rattle.amqp_wire.specs.Sources.{Tells};
 ghost use Rattle.amqp_wire.specs.Codes.{refusal_of};
 ghost use Rattle.amqp_decoder.specs.State.{moved, descriptor_of};
+ghost use Rattle.amqp_decoder.specs.Steps.{Answered};
 ghost use Rattle.amqp_decoder.specs.Reading.{Begun};
 ghost use Rattle.amqp_decoder.specs.Primitives.{Failed};
 ghost use Rattle.amqp_decoder.specs.Described.{IsUnmarked, IsMark, TookDescriptor, OpensDescribed, OpenFault, other_kind, symbol_code, place_of as place_in, IsDescribable, DescribedFault, DescriptorMissed, TookPlace, NameMissed, OpensOneOf, OneOfFault};
@@ -36,7 +37,7 @@ impl<R: ByteSource> Decoder<R> {
     #[inline]
     fn begin_descriptor(&mut self) -> Result<(), Error>
         ensures ok { Tells R.remaining → IfOk result (λ _. Begun self.old 0 self.new) }
-        ensures err { Tells R.remaining → IfErr result (λ e. Failed DescribedFault self.old e self.new) }
+        ensures err { Tells R.remaining → IfErr result (λ e. Failed false DescribedFault self.old e self.new) }
     {
         let code = self.begin()?;
         if code != format_code::DESCRIBED {
@@ -61,7 +62,7 @@ impl<R: ByteSource> Decoder<R> {
     #[inline]
     fn is_wide_symbol(&mut self, code: u8) -> Result<bool, Error>
         ensures ok { IfOk result (λ wide. (code ≡ symbol_code wide) × (self.new ≡ self.old)) }
-        ensures err { IfErr result (λ e. (code ≡ 0xa3 → ⊥) × (code ≡ 0xb3 → ⊥) × (e ≡ other_kind (refusal_of code)) × (self.new.error ≡ Some e)) }
+        ensures err { IfErr result (λ e. (code ≡ 0xa3 → ⊥) × (code ≡ 0xb3 → ⊥) × (e ≡ other_kind (refusal_of code)) × Answered self.old e self.new) }
     {
         match code {
             format_code::SYMBOL_8 => Ok(false),
@@ -73,7 +74,7 @@ impl<R: ByteSource> Decoder<R> {
     // A descriptor.
     pub(crate) fn descriptor(&mut self, alloc: Global) -> Result<Descriptor, Error>
         ensures ok { Tells R.remaining → self.old.top.shared ≡ None → IfOk result (λ d. TookDescriptor self.old (descriptor_of d) self.new) }
-        ensures err { Tells R.remaining → self.old.top.shared ≡ None → IfErr result (λ e. DescriptorMissed self.old e self.new) }
+        ensures err { Tells R.remaining → self.old.top.shared ≡ None → IfErr result (λ e. DescriptorMissed true self.old e self.new) }
     {
         let code = self.byte()?;
         if let Some(value) = self.ulong_data(code)? {
@@ -87,7 +88,7 @@ impl<R: ByteSource> Decoder<R> {
     // A copy of the descriptor that is shared.
     fn clone_descriptor(&mut self) -> Result<Option<Descriptor>, Error>
         ensures ok { IfOk result (λ copy. MatchOption copy (IsUnmarked self.old.top.shared) (λ d. IsMark self.old.top.shared (descriptor_of d)) × (self.new ≡ self.old)) }
-        ensures err { IfErr result (λ e. (e ≡ Memory) × (self.new.error ≡ Some e)) }
+        ensures err { IfErr result (λ e. (e ≡ Memory) × Answered self.old e self.new) }
     {
         match copy_of(self.shared_descriptor()) {
             Ok(descriptor) => Ok(descriptor),
@@ -98,7 +99,7 @@ impl<R: ByteSource> Decoder<R> {
     // The descriptor that stands next, or is shared.
     fn next_descriptor(&mut self, alloc: Global) -> Result<Descriptor, Error>
         ensures ok { Tells R.remaining → IsDescribable self.old.top.shared → IfOk result (λ d. TookDescriptor self.old (descriptor_of d) self.new) }
-        ensures err { Tells R.remaining → IsDescribable self.old.top.shared → IfErr result (λ e. DescriptorMissed self.old e self.new) }
+        ensures err { Tells R.remaining → IsDescribable self.old.top.shared → IfErr result (λ e. DescriptorMissed true self.old e self.new) }
     {
         match self.clone_descriptor()? {
             Some(descriptor) => Ok(descriptor),
@@ -110,7 +111,7 @@ impl<R: ByteSource> Decoder<R> {
     /// that is neither a symbol nor a ulong, `NonAscii` where it is a symbol with a byte above 0x7f, and `Depth` past
     /// 128 nested values.
     pub fn begin_described(&mut self, alloc: Global) -> Result<Descriptor, Error>
-        ensures { Tells R.remaining → Reads (λ st d st'. OpensDescribed st (descriptor_of d) st') OpenFault self.old result self.new }
+        ensures { Tells R.remaining → Reads true (λ st d st'. OpensDescribed st (descriptor_of d) st') OpenFault self.old result self.new }
     {
         self.begin_descriptor()?;
         let descriptor = self.next_descriptor(alloc)?;
@@ -149,7 +150,7 @@ impl<R: ByteSource> Decoder<R> {
     // The place of the member whose descriptor stands next.
     fn place_of_next(&mut self, members: Members<'_>) -> Result<Option<usize>, Error>
         ensures ok { Tells R.remaining → IsDescribable self.old.top.shared → IfOk result (λ place. TookPlace members.now self.old place self.new) }
-        ensures err { Tells R.remaining → IsDescribable self.old.top.shared → IfErr result (λ e. DescriptorMissed self.old e self.new) }
+        ensures err { Tells R.remaining → IsDescribable self.old.top.shared → IfErr result (λ e. DescriptorMissed false self.old e self.new) }
     {
         if let Some(descriptor) = self.shared_descriptor() {
             return Ok(place_of(members, descriptor));
@@ -166,7 +167,7 @@ impl<R: ByteSource> Decoder<R> {
     /// Begins a described value, and answers the place of the pair whose code or name its descriptor is;
     /// `WrongDescriptor` where it is none of them, and otherwise as `begin_described`. Takes no memory.
     pub fn begin_one_of(&mut self, members: &[(u64, &str)]) -> Result<usize, Error>
-        ensures opened { Tells R.remaining → Reads (OpensOneOf members.now) (OneOfFault members.now) self.old result self.new }
+        ensures opened { Tells R.remaining → Reads false (OpensOneOf members.now) (OneOfFault members.now) self.old result self.new }
         ensures nesting { Tells R.remaining → IfOk result (λ _. self.old.nesting ≡ 128) }
     {
         self.begin_descriptor()?;
@@ -181,7 +182,7 @@ impl<R: ByteSource> Decoder<R> {
     /// open.
     #[inline]
     pub fn end_described(&mut self) -> Result<(), Error>
-        ensures { Reads (λ st _ st'. ClosesDescribed InDescribed st st') (EndFault InDescribed) self.old result self.new }
+        ensures { Reads false (λ st _ st'. ClosesDescribed InDescribed st st') (EndFault InDescribed) self.old result self.new }
     {
         self.check_end(Place::InDescribed)?;
         self.leave_described();

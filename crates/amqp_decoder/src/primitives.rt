@@ -1,5 +1,5 @@
 //! The calls that read primitives whose data has a known width (Part 1, section 1.6).
-ghost use Rattle.std.specs.Prelude.{◌<◌, ◌≡◌, Some, MatchOption, IfOk, IfErr};
+ghost use Rattle.std.specs.Prelude.{◌<◌, ◌≡◌, Some, MatchOption, IfOk, IfErr, false};
 ghost use Rattle.amqp_model.specs.Term.{null, boolean, ubyte, ushort, uint, ulong, byte, short, int, long, char, timestamp, decimal32, decimal64, decimal128, uuid};
 ghost use Rattle.amqp_wire.specs.Sources.{Tells};
 ghost use Rattle.amqp_decoder.specs.Reading.{Reads};
@@ -15,7 +15,7 @@ impl<R: ByteSource> Decoder<R> {
     fn fixed<const N: usize>(&mut self, code: u8) -> Result<[u8; N], Error>
         requires { N < 256 }
         ensures ok { Tells R.remaining → IfOk result (λ b. Fixed code N self.old b self.new) }
-        ensures err { Tells R.remaining → IfErr result (λ e. Failed (FixedFault code N) self.old e self.new) }
+        ensures err { Tells R.remaining → IfErr result (λ e. Failed false (FixedFault code N) self.old e self.new) }
     {
         let found = self.begin()?;
         if found != code {
@@ -27,7 +27,7 @@ impl<R: ByteSource> Decoder<R> {
     /// Null (Part 1, section 1.6.1).
     #[inline]
     pub fn read_null(&mut self) -> Result<(), Error>
-        ensures { Tells R.remaining → Reads (Value (Means (λ _. null))) (PrimitiveFault 0) self.old result self.new }
+        ensures { Tells R.remaining → Reads false (Value (Means (λ _. null))) (PrimitiveFault 0) self.old result self.new }
     {
         let _data = self.fixed::<0>(format_code::NULL)?;
         Ok(())
@@ -36,7 +36,7 @@ impl<R: ByteSource> Decoder<R> {
     /// A boolean (Part 1, section 1.6.2); `BadBool` where its byte is above 1.
     #[inline]
     pub fn read_bool(&mut self) -> Result<bool, Error>
-        ensures { Tells R.remaining → Reads (Value (Means boolean)) (PrimitiveFault 1) self.old result self.new }
+        ensures { Tells R.remaining → Reads false (Value (Means boolean)) (PrimitiveFault 1) self.old result self.new }
     {
         match self.begin()? {
             format_code::BOOLEAN_TRUE => Ok(true),
@@ -53,7 +53,7 @@ impl<R: ByteSource> Decoder<R> {
     /// An unsigned integer of 8 bits (Part 1, section 1.6.3).
     #[inline]
     pub fn read_ubyte(&mut self) -> Result<u8, Error>
-        ensures { Tells R.remaining → Reads (Value (Means ubyte)) (PrimitiveFault 2) self.old result self.new }
+        ensures { Tells R.remaining → Reads false (Value (Means ubyte)) (PrimitiveFault 2) self.old result self.new }
     {
         Ok(u8::from_be_bytes(self.fixed(format_code::UBYTE)?))
     }
@@ -61,7 +61,7 @@ impl<R: ByteSource> Decoder<R> {
     /// An unsigned integer of 16 bits (Part 1, section 1.6.4).
     #[inline]
     pub fn read_ushort(&mut self) -> Result<u16, Error>
-        ensures { Tells R.remaining → Reads (Value (Means ushort)) (PrimitiveFault 3) self.old result self.new }
+        ensures { Tells R.remaining → Reads false (Value (Means ushort)) (PrimitiveFault 3) self.old result self.new }
     {
         Ok(u16::from_be_bytes(self.fixed(format_code::USHORT)?))
     }
@@ -69,7 +69,7 @@ impl<R: ByteSource> Decoder<R> {
     /// An unsigned integer of 32 bits (Part 1, section 1.6.5).
     #[inline]
     pub fn read_uint(&mut self) -> Result<u32, Error>
-        ensures { Tells R.remaining → Reads (Value (Means uint)) (PrimitiveFault 4) self.old result self.new }
+        ensures { Tells R.remaining → Reads false (Value (Means uint)) (PrimitiveFault 4) self.old result self.new }
     {
         match self.begin()? {
             format_code::UINT_0 => Ok(0),
@@ -96,7 +96,7 @@ impl<R: ByteSource> Decoder<R> {
     /// An unsigned integer of 64 bits (Part 1, section 1.6.6).
     #[inline]
     pub fn read_ulong(&mut self) -> Result<u64, Error>
-        ensures { Tells R.remaining → Reads (Value (Means ulong)) (PrimitiveFault 5) self.old result self.new }
+        ensures { Tells R.remaining → Reads false (Value (Means ulong)) (PrimitiveFault 5) self.old result self.new }
     {
         let code = self.begin()?;
         match self.ulong_data(code)? {
@@ -108,7 +108,7 @@ impl<R: ByteSource> Decoder<R> {
     /// A signed integer of 8 bits (Part 1, section 1.6.7).
     #[inline]
     pub fn read_byte(&mut self) -> Result<i8, Error>
-        ensures { Tells R.remaining → Reads (Value (Means byte)) (PrimitiveFault 6) self.old result self.new }
+        ensures { Tells R.remaining → Reads false (Value (Means byte)) (PrimitiveFault 6) self.old result self.new }
     {
         Ok(i8::from_be_bytes(self.fixed(format_code::BYTE)?))
     }
@@ -116,7 +116,7 @@ impl<R: ByteSource> Decoder<R> {
     /// A signed integer of 16 bits (Part 1, section 1.6.8).
     #[inline]
     pub fn read_short(&mut self) -> Result<i16, Error>
-        ensures { Tells R.remaining → Reads (Value (Means short)) (PrimitiveFault 7) self.old result self.new }
+        ensures { Tells R.remaining → Reads false (Value (Means short)) (PrimitiveFault 7) self.old result self.new }
     {
         Ok(i16::from_be_bytes(self.fixed(format_code::SHORT)?))
     }
@@ -124,7 +124,7 @@ impl<R: ByteSource> Decoder<R> {
     /// A signed integer of 32 bits (Part 1, section 1.6.9).
     #[inline]
     pub fn read_int(&mut self) -> Result<i32, Error>
-        ensures { Tells R.remaining → Reads (Value (Means int)) (PrimitiveFault 8) self.old result self.new }
+        ensures { Tells R.remaining → Reads false (Value (Means int)) (PrimitiveFault 8) self.old result self.new }
     {
         match self.begin()? {
             format_code::SMALL_INT => Ok(i32::from(i8::from_be_bytes(self.take()?))),
@@ -136,7 +136,7 @@ impl<R: ByteSource> Decoder<R> {
     /// A signed integer of 64 bits (Part 1, section 1.6.10).
     #[inline]
     pub fn read_long(&mut self) -> Result<i64, Error>
-        ensures { Tells R.remaining → Reads (Value (Means long)) (PrimitiveFault 9) self.old result self.new }
+        ensures { Tells R.remaining → Reads false (Value (Means long)) (PrimitiveFault 9) self.old result self.new }
     {
         match self.begin()? {
             format_code::SMALL_LONG => Ok(i64::from(i8::from_be_bytes(self.take()?))),
@@ -148,7 +148,7 @@ impl<R: ByteSource> Decoder<R> {
     /// The bytes of a decimal of 32 bits (Part 1, section 1.6.13).
     #[inline]
     pub fn read_dec32(&mut self) -> Result<[u8; 4], Error>
-        ensures { Tells R.remaining → Reads (Value (Means decimal32)) (PrimitiveFault 10) self.old result self.new }
+        ensures { Tells R.remaining → Reads false (Value (Means decimal32)) (PrimitiveFault 10) self.old result self.new }
     {
         self.fixed(format_code::DECIMAL_32)
     }
@@ -156,7 +156,7 @@ impl<R: ByteSource> Decoder<R> {
     /// The bytes of a decimal of 64 bits (Part 1, section 1.6.14).
     #[inline]
     pub fn read_dec64(&mut self) -> Result<[u8; 8], Error>
-        ensures { Tells R.remaining → Reads (Value (Means decimal64)) (PrimitiveFault 11) self.old result self.new }
+        ensures { Tells R.remaining → Reads false (Value (Means decimal64)) (PrimitiveFault 11) self.old result self.new }
     {
         self.fixed(format_code::DECIMAL_64)
     }
@@ -164,7 +164,7 @@ impl<R: ByteSource> Decoder<R> {
     /// The bytes of a decimal of 128 bits (Part 1, section 1.6.15).
     #[inline]
     pub fn read_dec128(&mut self) -> Result<[u8; 16], Error>
-        ensures { Tells R.remaining → Reads (Value (Means decimal128)) (PrimitiveFault 12) self.old result self.new }
+        ensures { Tells R.remaining → Reads false (Value (Means decimal128)) (PrimitiveFault 12) self.old result self.new }
     {
         self.fixed(format_code::DECIMAL_128)
     }
@@ -172,7 +172,7 @@ impl<R: ByteSource> Decoder<R> {
     /// A character (Part 1, section 1.6.16); `BadChar` where it is no Unicode scalar value.
     #[inline]
     pub fn read_char(&mut self) -> Result<char, Error>
-        ensures { Tells R.remaining → Reads (Value (Means char)) (PrimitiveFault 13) self.old result self.new }
+        ensures { Tells R.remaining → Reads false (Value (Means char)) (PrimitiveFault 13) self.old result self.new }
     {
         let number = u32::from_be_bytes(self.fixed(format_code::CHAR)?);
         match char::from_u32(number) {
@@ -184,7 +184,7 @@ impl<R: ByteSource> Decoder<R> {
     /// The milliseconds of a timestamp (Part 1, section 1.6.17).
     #[inline]
     pub fn read_timestamp(&mut self) -> Result<i64, Error>
-        ensures { Tells R.remaining → Reads (Value (Means timestamp)) (PrimitiveFault 14) self.old result self.new }
+        ensures { Tells R.remaining → Reads false (Value (Means timestamp)) (PrimitiveFault 14) self.old result self.new }
     {
         Ok(i64::from_be_bytes(self.fixed(format_code::TIMESTAMP)?))
     }
@@ -192,7 +192,7 @@ impl<R: ByteSource> Decoder<R> {
     /// The bytes of a UUID (Part 1, section 1.6.18).
     #[inline]
     pub fn read_uuid(&mut self) -> Result<[u8; 16], Error>
-        ensures { Tells R.remaining → Reads (Value (Means uuid)) (PrimitiveFault 15) self.old result self.new }
+        ensures { Tells R.remaining → Reads false (Value (Means uuid)) (PrimitiveFault 15) self.old result self.new }
     {
         self.fixed(format_code::UUID)
     }

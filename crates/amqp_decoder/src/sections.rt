@@ -1,9 +1,9 @@
 //! What stands at the top level: the end of the input, or the next section of a message (Part 3, section 3.2).
-ghost use Rattle.std.specs.Prelude.{◌≡◌, ◌<◌, ◌≤◌, ◌+◌, ◌^◌, ◌↔◌, ℕ, map, Some, IfOk, IfErr, IfSome, option_map};
+ghost use Rattle.std.specs.Prelude.{◌≡◌, ◌<◌, ◌≤◌, ◌+◌, ◌^◌, ◌↔◌, ℕ, map, Some, IfOk, IfErr, IfSome, option_map, false};
 ghost use Rattle.std.specs.Int.{bytes_high_first};
 ghost use Rattle.amqp_model.specs.Term.{code as of_code, name as of_name};
 ghost use Rattle.amqp_wire.specs.Sources.{Tells};
-ghost use Rattle.amqp_decoder.specs.Steps.{Excused};
+ghost use Rattle.amqp_decoder.specs.Steps.{SourceFailed};
 ghost use Rattle.amqp_decoder.specs.Reading.{Reads};
 ghost use Rattle.amqp_decoder.specs.Members.{as_name};
 ghost use Rattle.amqp_decoder.specs.Sections.{IsTop, NotTop, Ends, LooksOn, sections, IsOfSection, IsNameAhead, IsLongNameAhead, IsLongCodeAhead, IsSectionAhead, PeeksSection};
@@ -73,7 +73,7 @@ fn text_size(bytes: [u8; 4]) -> usize
 impl<R: ByteSource> Decoder<R> {
     // Nothing is open.
     fn check_top(&mut self) -> Result<(), Error>
-        ensures { Reads IsTop NotTop self.old result self.new }
+        ensures { Reads false IsTop NotTop self.old result self.new }
     {
         self.check()?;
         if !self.is_in(Place::Top) || self.depth() > 0 {
@@ -84,7 +84,7 @@ impl<R: ByteSource> Decoder<R> {
 
     /// Whether the input ends here, at the top level. Nothing is taken; `InvalidValue` in a container.
     pub fn at_end(&mut self) -> Result<bool, Error>
-        ensures { Tells R.remaining → Reads Ends NotTop self.old result self.new }
+        ensures { Tells R.remaining → Reads false Ends NotTop self.old result self.new }
     {
         self.check_top()?;
         Ok(!self.look_next()?)
@@ -94,7 +94,7 @@ impl<R: ByteSource> Decoder<R> {
     fn section_named(&mut self, start: usize, len: usize) -> Result<Option<u8>, Error>
         requires { start ≤ 64 }
         ensures ok { Tells R.remaining → IfOk result (λ section. LooksOn self.old self.new × ((c : ℕ) → (section ≡ Some c) ↔ IsNameAhead start len self.old.rest c)) }
-        ensures err { IfErr result (λ e. (self.new.error ≡ Some e) × Excused e self.new) }
+        ensures err { IfErr result (λ e. (self.new.error ≡ Some e) × SourceFailed e self.new) }
     {
         if len > LOOK - start {
             return Ok(None);
@@ -109,7 +109,7 @@ impl<R: ByteSource> Decoder<R> {
     // The section whose name stands next behind a size of four bytes.
     fn section_of_symbol(&mut self) -> Result<Option<u8>, Error>
         ensures ok { Tells R.remaining → IfOk result (λ section. LooksOn self.old self.new × ((c : ℕ) → (section ≡ Some c) ↔ IsLongNameAhead self.old.rest c)) }
-        ensures err { IfErr result (λ e. (self.new.error ≡ Some e) × Excused e self.new) }
+        ensures err { IfErr result (λ e. (self.new.error ≡ Some e) × SourceFailed e self.new) }
     {
         self.look(6)?;
         let &[_, _, a, b, c, d, ..] = self.looked() else {
@@ -121,7 +121,7 @@ impl<R: ByteSource> Decoder<R> {
     // The section whose code stands next as eight bytes.
     fn section_of_ulong(&mut self) -> Result<Option<u8>, Error>
         ensures ok { Tells R.remaining → IfOk result (λ section. LooksOn self.old self.new × ((c : ℕ) → (section ≡ Some c) ↔ IsLongCodeAhead self.old.rest c)) }
-        ensures err { IfErr result (λ e. (self.new.error ≡ Some e) × Excused e self.new) }
+        ensures err { IfErr result (λ e. (self.new.error ≡ Some e) × SourceFailed e self.new) }
     {
         self.look(10)?;
         let &[_, _, a, b, c, d, e, f, g, h, ..] = self.looked() else {
@@ -134,7 +134,7 @@ impl<R: ByteSource> Decoder<R> {
     // The section whose descriptor stands next.
     fn section_ahead(&mut self) -> Result<Option<u8>, Error>
         ensures ok { Tells R.remaining → IfOk result (λ section. LooksOn self.old self.new × ((c : ℕ) → (section ≡ Some c) ↔ IsSectionAhead self.old c)) }
-        ensures err { IfErr result (λ e. (self.new.error ≡ Some e) × Excused e self.new) }
+        ensures err { IfErr result (λ e. (self.new.error ≡ Some e) × SourceFailed e self.new) }
     {
         self.look(3)?;
         let &[first, code, next, ..] = self.looked() else {
@@ -156,7 +156,7 @@ impl<R: ByteSource> Decoder<R> {
     /// bytes; `None` where none does. Nothing is taken, and at most 64 bytes are looked at; `InvalidValue` in a
     /// container.
     pub fn peek_section(&mut self) -> Result<Option<u8>, Error>
-        ensures { Tells R.remaining → Reads PeeksSection NotTop self.old result self.new }
+        ensures { Tells R.remaining → Reads false PeeksSection NotTop self.old result self.new }
     {
         self.check_top()?;
         self.section_ahead()

@@ -1,9 +1,9 @@
 //! The calls that read texts and binaries (Part 1, sections 1.6.19 to 1.6.21).
-ghost use Rattle.std.specs.Prelude.{◌<◌, ◌≤◌, ◌≡◌, ◌++◌, ℕ, List, length, take, cond, Some, IsAscii, string_bytes, IfOk, IfErr};
+ghost use Rattle.std.specs.Prelude.{◌<◌, ◌≤◌, ◌≡◌, ◌++◌, ℕ, List, length, take, cond, Some, IsAscii, string_bytes, IfOk, IfErr, true, false};
 ghost use Rattle.amqp_model.specs.Term.{binary, string, symbol};
 ghost use Rattle.amqp_wire.specs.Sources.{Tells};
 ghost use Rattle.amqp_decoder.specs.State.{moved};
-ghost use Rattle.amqp_decoder.specs.Steps.{Missed};
+ghost use Rattle.amqp_decoder.specs.Steps.{Answered, Missed};
 ghost use Rattle.amqp_decoder.specs.Reading.{Reads};
 ghost use Rattle.amqp_decoder.specs.Primitives.{Announced, SizedFault, Sized, Text, TextFault, Failed, Value, Means, PrimitiveFault};
 
@@ -23,7 +23,7 @@ impl<R: ByteSource> Decoder<R> {
         requires some { 0 < N }
         requires few { N ≤ 4096 }
         ensures ok { Tells R.remaining → IfOk result (λ _. (len ≤ length self.old.rest) × (text.new.items ≡ text.old.items ++ take len self.old.rest) × (self.new ≡ moved len self.old)) }
-        ensures err { Tells R.remaining → IfErr result (λ e. Missed len self.old e self.new) }
+        ensures err { Tells R.remaining → IfErr result (λ e. Missed true len self.old e self.new) }
     {
         let mut buffer = [0; N];
         let mut left = len as usize;
@@ -43,7 +43,7 @@ impl<R: ByteSource> Decoder<R> {
     #[inline]
     pub(crate) fn keep(&mut self, len: u32, text: &mut Vec<u8>) -> Result<(), Error>
         ensures ok { Tells R.remaining → IfOk result (λ _. (len ≤ length self.old.rest) × (text.new.items ≡ text.old.items ++ take len self.old.rest) × (self.new ≡ moved len self.old)) }
-        ensures err { Tells R.remaining → IfErr result (λ e. Missed len self.old e self.new) }
+        ensures err { Tells R.remaining → IfErr result (λ e. Missed true len self.old e self.new) }
     {
         if len <= SHORT {
             self.keep_pieces::<64>(len, text)
@@ -56,7 +56,7 @@ impl<R: ByteSource> Decoder<R> {
     #[inline]
     pub(crate) fn text_len(&mut self, wide: bool) -> Result<u32, Error>
         ensures ok { Tells R.remaining → IfOk result (λ n. Announced (cond wide 4 1) self.old n self.new) }
-        ensures err { Tells R.remaining → IfErr result (λ e. SizedFault (cond wide 4 1) self.old e self.new) }
+        ensures err { Tells R.remaining → IfErr result (λ e. SizedFault false (cond wide 4 1) self.old e self.new) }
     {
         let len = self.number(wide)?;
         self.lower(len)?;
@@ -67,7 +67,7 @@ impl<R: ByteSource> Decoder<R> {
     #[inline]
     pub(crate) fn text_data(&mut self, wide: bool, alloc: Global) -> Result<Vec<u8>, Error>
         ensures ok { Tells R.remaining → IfOk result (λ text. Sized (cond wide 4 1) self.old text.items self.new) }
-        ensures err { Tells R.remaining → IfErr result (λ e. SizedFault (cond wide 4 1) self.old e self.new) }
+        ensures err { Tells R.remaining → IfErr result (λ e. SizedFault true (cond wide 4 1) self.old e self.new) }
     {
         let len = self.text_len(wide)?;
         let mut text = Vec::new(alloc);
@@ -79,7 +79,7 @@ impl<R: ByteSource> Decoder<R> {
     #[inline]
     fn content(&mut self, narrow: u8, wide: u8, alloc: Global) -> Result<Vec<u8>, Error>
         ensures ok { Tells R.remaining → IfOk result (λ text. Text narrow wide self.old text.items self.new) }
-        ensures err { Tells R.remaining → IfErr result (λ e. Failed (TextFault narrow wide) self.old e self.new) }
+        ensures err { Tells R.remaining → IfErr result (λ e. Failed true (TextFault narrow wide) self.old e self.new) }
     {
         let code = self.begin()?;
         if code == narrow {
@@ -95,7 +95,7 @@ impl<R: ByteSource> Decoder<R> {
     #[inline]
     pub(crate) fn ascii(&mut self, text: Vec<u8>) -> Result<Symbol, Error>
         ensures ok { IfOk result (λ symbol. IsAscii text.items × (string_bytes symbol.0 ≡ text.items) × (self.new ≡ self.old)) }
-        ensures err { IfErr result (λ e. (IsAscii text.items → ⊥) × (e ≡ Error.NonAscii) × (self.new.error ≡ Some e)) }
+        ensures err { IfErr result (λ e. (IsAscii text.items → ⊥) × (e ≡ Error.NonAscii) × Answered self.old e self.new) }
     {
         if !text.is_ascii() {
             drop(text);
@@ -109,14 +109,14 @@ impl<R: ByteSource> Decoder<R> {
 
     /// Bytes (Part 1, section 1.6.19).
     pub fn read_binary(&mut self, alloc: Global) -> Result<Vec<u8>, Error>
-        ensures { Tells R.remaining → Reads (Value (Means (λ bytes. binary bytes.items))) (PrimitiveFault 16) self.old result self.new }
+        ensures { Tells R.remaining → Reads true (Value (Means (λ bytes. binary bytes.items))) (PrimitiveFault 16) self.old result self.new }
     {
         self.content(format_code::BINARY_8, format_code::BINARY_32, alloc)
     }
 
     /// A text (Part 1, section 1.6.20); `BadUtf8` where it is not UTF-8.
     pub fn read_string(&mut self, alloc: Global) -> Result<String, Error>
-        ensures { Tells R.remaining → Reads (Value (Means (λ text. string (string_bytes text)))) (PrimitiveFault 17) self.old result self.new }
+        ensures { Tells R.remaining → Reads true (Value (Means (λ text. string (string_bytes text)))) (PrimitiveFault 17) self.old result self.new }
     {
         let text = self.content(format_code::STRING_8, format_code::STRING_32, alloc)?;
         match String::from_utf8(text) {
@@ -127,7 +127,7 @@ impl<R: ByteSource> Decoder<R> {
 
     /// A symbol (Part 1, section 1.6.21); `NonAscii` where a byte is above 0x7f.
     pub fn read_symbol(&mut self, alloc: Global) -> Result<Symbol, Error>
-        ensures { Tells R.remaining → Reads (Value (Means (λ text. symbol (string_bytes text.0)))) (PrimitiveFault 18) self.old result self.new }
+        ensures { Tells R.remaining → Reads true (Value (Means (λ text. symbol (string_bytes text.0)))) (PrimitiveFault 18) self.old result self.new }
     {
         let text = self.content(format_code::SYMBOL_8, format_code::SYMBOL_32, alloc)?;
         self.ascii(text)

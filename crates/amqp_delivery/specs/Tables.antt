@@ -1,5 +1,5 @@
 -- The tables of the delivery states (Part 3, section 3.4).
-use Rattle.std.proofs.Common.{◌≡◌, ◌⊎◌, ◌<◌, inl, inr, codes, ℕ, zero, suc, true, List, [], ◌∷◌, Some, get_or, refl, sym, subst, arith}
+use Rattle.std.proofs.Common.{◌≡◌, ◌⊎◌, ◌<◌, inl, inr, codes, ℕ, zero, suc, true, ◌||◌, List, [], ◌∷◌, Some, get_or, refl, sym, subst, arith}
 use Rattle.std.proofs.lemmas.List.Quantifiers.{position-Some}
 use Rattle.amqp_model.specs.Term.{Descriptor, name, code, Term}
 use Rattle.amqp_model.specs.Standing.{Standing}
@@ -10,7 +10,7 @@ use Rattle.amqp_model.specs.FieldType.{plain}
 use Rattle.amqp_codec.specs.TermType.{TermType}
 use Rattle.amqp_codec.specs.PrimitiveTypes.{uint_type, ulong_type}
 use Rattle.amqp_codec.specs.Slots.{mandatory}
-use Rattle.amqp_codec.specs.Fields.{none, field}
+use Rattle.amqp_codec.specs.Fields.{none, field, take_memory}
 use Rattle.amqp_codec.specs.FieldReading.{FieldsRead, FieldsFault}
 use Rattle.amqp_codec.specs.Refused.{NoneStands}
 use Rattle.amqp_decoder.specs.Members.{is_named, name_place}
@@ -66,7 +66,7 @@ StateFault zero st e = FieldsFault received.fields st e
 StateFault (suc i) st e = FieldsFault accepted.fields st e
 
 abbrev pub state_members : Members DeliveryState
-state_members = record { names = (received.code, received.name) ∷ (accepted.code, accepted.name) ∷ []; reads = StateRead; fault = StateFault }
+state_members = record { names = (received.code, received.name) ∷ (accepted.code, accepted.name) ∷ []; reads = StateRead; fault = StateFault; takes_memory = take_memory received.fields || take_memory accepted.fields }
 
 -- Part 3, section 3.4: a state is the member whose descriptor stands there
 abbrev pub delivery_state : TermType DeliveryState

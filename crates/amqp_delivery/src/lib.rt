@@ -2,6 +2,7 @@
 #![tactic(auto)]
 
 mod accepted;
+pub mod laws;
 mod received;
 mod state;
 

@@ -4,6 +4,7 @@ use Rattle.amqp_model.specs.Slot.{is_required}
 use Rattle.amqp_model.specs.Fields.{kinds_of}
 use Rattle.amqp_model.specs.declared.tables.FieldKind.TheVariants.{Mandatory}
 use Rattle.amqp_decoder.specs.State.{State}
+use Rattle.amqp_decoder.proofs.Steps.{answered}
 use Rattle.amqp_codec.specs.Fields.{slots}
 use Rattle.amqp_codec.proofs.FieldSteps.{open_refused, none_so_far, item_refused, left_out_refused, one_more, one_less, end_refused, all_read, so_far_still}
 use Rattle.amqp_codec.proofs.kernel.read_fields.Goals as goal
@@ -32,7 +33,7 @@ returns-then-is_required g c tells =
     let within : i < length (kinds_of (slots fs)) = omega (arith, ap length c.table.ensures.kinds, c.loop-index-test.true) in
     left_out_refused fs _ _ _ _ _ _ _ c.if-index-count.false within
     (ap (λ l. is_required (get_or l i Mandatory)) (sym c.table.ensures.kinds) ∙ sym c.is_required.ensures ∙ c.if-is_required.true)
-    c.refuse.ensures.answer (ap (λ (x : State). x.error) c.refuse.ensures.kept ∙ ap Some (sym c.refuse.ensures.answer)) (c.loop-index.invariant tells)
+    c.refuse.ensures.answer (answered _ _ _ _ c.refuse.ensures.kept c.refuse.ensures.answer) (c.loop-index.invariant tells)
 
 pub loop-index-preserved : goal.loop-index-preserved
 loop-index-preserved g c tells =

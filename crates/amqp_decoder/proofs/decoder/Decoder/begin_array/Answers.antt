@@ -3,6 +3,7 @@ use Rattle.std.proofs.lemmas.Result.{err_from_is_err_and}
 use Rattle.amqp_decoder.specs.State.{State}
 use Rattle.amqp_decoder.proofs.Opening.{not_array}
 use Rattle.amqp_decoder.proofs.OpenedArrays.{array_unbegun, array_other, reads_array}
+use Rattle.amqp_decoder.proofs.Steps.{answered_so}
 use Rattle.amqp_decoder.proofs.decoder.Decoder.begin_array.Goals as goal
 
 pub returns-in_err-code : goal.returns-in_err-code
@@ -18,4 +19,4 @@ returns-in-240 g c = λ told. reads_array 0xf0 4 _ _ _ _ (rw c.in-240.is at (c.i
 
 pub returns-in_default : goal.returns-in_default
 returns-in_default g c = λ told.
-    array_other _ _ _ _ _ (c.in_ok-code.ensures told) (not_array c.in_ok-code.code (search rules) (search rules)) c.refuse_code.ensures.answer (ap (λ (x : State). x.error) c.refuse_code.ensures.kept)
+    array_other _ _ _ _ _ (c.in_ok-code.ensures told) (not_array c.in_ok-code.code (search rules) (search rules)) c.refuse_code.ensures.answer (answered_so _ _ _ c.refuse_code.ensures.kept)

@@ -4,6 +4,7 @@ use Rattle.amqp_decoder.specs.State.{State}
 use Rattle.amqp_decoder.specs.Described.{DescribedFault, other_code}
 use Rattle.amqp_decoder.proofs.Leaves.{err_map}
 use Rattle.amqp_decoder.proofs.Descriptors.{unbegun, begun_fails, deep_fails}
+use Rattle.amqp_decoder.proofs.Steps.{answered_so}
 use Rattle.amqp_decoder.proofs.decoder.Decoder.begin_descriptor.Goals as goal
 
 pub returns-in_err-code-clause-err : goal.returns-in_err-code-clause-err
@@ -14,7 +15,7 @@ returns-in_err-code-clause-err g c = λ told.
 pub returns-then-code-ne-DESCRIBED-clause-err : goal.returns-then-code-ne-DESCRIBED-clause-err
 returns-then-code-ne-DESCRIBED-clause-err g c = λ told.
     let h = c.in_ok-code.ensures told in
-    begun_fails DescribedFault _ _ _ c.refuse_code.result _ h (ap (λ (x : State). x.error) c.refuse_code.ensures.kept) (inr (other_code h (search rules) c.refuse_code.ensures.answer))
+    begun_fails DescribedFault _ _ _ c.refuse_code.result _ h (answered_so _ _ _ c.refuse_code.ensures.kept) (inr (other_code h (search rules) c.refuse_code.ensures.answer))
 
 pub returns-clause-err : goal.returns-clause-err
 returns-clause-err g c = λ told.

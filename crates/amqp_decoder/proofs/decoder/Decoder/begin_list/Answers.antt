@@ -3,6 +3,7 @@ use Rattle.std.proofs.lemmas.Result.{err_from_is_err_and}
 use Rattle.amqp_model.specs.Term.{list}
 use Rattle.amqp_decoder.specs.State.{State}
 use Rattle.amqp_decoder.proofs.Opening.{open_unbegun, open_other, not_list, reads_open, bare_reads}
+use Rattle.amqp_decoder.proofs.Steps.{answered_so}
 use Rattle.amqp_decoder.proofs.decoder.Decoder.begin_list.Goals as goal
 
 pub returns-in_err-code : goal.returns-in_err-code
@@ -21,4 +22,4 @@ returns-in-208 g c = λ told. reads_open list 0xd0 4 _ _ _ _ (rw c.in-208.is at 
 
 pub returns-in_default : goal.returns-in_default
 returns-in_default g c = λ told.
-    open_other list _ _ _ _ _ (c.in_ok-code.ensures told) (not_list c.in_ok-code.code (search rules) (search rules) (search rules)) c.refuse_code.ensures.answer (ap (λ (x : State). x.error) c.refuse_code.ensures.kept)
+    open_other list _ _ _ _ _ (c.in_ok-code.ensures told) (not_list c.in_ok-code.code (search rules) (search rules) (search rules)) c.refuse_code.ensures.answer (answered_so _ _ _ c.refuse_code.ensures.kept)

@@ -3,6 +3,7 @@ use Rattle.std.proofs.lemmas.Result.{err_from_is_err_and}
 use Rattle.amqp_model.specs.Term.{map}
 use Rattle.amqp_decoder.specs.State.{State}
 use Rattle.amqp_decoder.proofs.Opening.{open_unbegun, open_other, not_map, reads_open}
+use Rattle.amqp_decoder.proofs.Steps.{answered_so}
 use Rattle.amqp_decoder.proofs.decoder.Decoder.begin_map.Goals as goal
 
 pub returns-in_err-code : goal.returns-in_err-code
@@ -18,4 +19,4 @@ returns-in-209 g c = λ told. reads_open map 0xd1 4 _ _ _ _ (rw c.in-209.is at (
 
 pub returns-in_default : goal.returns-in_default
 returns-in_default g c = λ told.
-    open_other map _ _ _ _ _ (c.in_ok-code.ensures told) (not_map c.in_ok-code.code (search rules) (search rules)) c.refuse_code.ensures.answer (ap (λ (x : State). x.error) c.refuse_code.ensures.kept)
+    open_other map _ _ _ _ _ (c.in_ok-code.ensures told) (not_map c.in_ok-code.code (search rules) (search rules)) c.refuse_code.ensures.answer (answered_so _ _ _ c.refuse_code.ensures.kept)

@@ -2,6 +2,7 @@ use Rattle.std.proofs.Common.{Some, ap, sym, ◌∙◌}
 use Rattle.std.proofs.lemmas.Result.{err_from_is_err_and}
 use Rattle.amqp_decoder.specs.State.{State}
 use Rattle.amqp_decoder.proofs.Descriptors.{begun_describable, one_unbegun, one_missed, one_other, one_deep, one_entered}
+use Rattle.amqp_decoder.proofs.Steps.{answered}
 use Rattle.amqp_decoder.proofs.decoder.Decoder.begin_one_of.Goals as goal
 
 pub returns-in_err-begin_descriptor-clause-opened : goal.returns-in_err-begin_descriptor-clause-opened
@@ -19,7 +20,7 @@ pub returns-in_default-clause-opened : goal.returns-in_default-clause-opened
 returns-in_default-clause-opened g c = λ told.
     let begun = c.in_ok-begin_descriptor.ensures.ok told in
     let took = rw c.in_default.is at (c.in_ok-place.ensures.ok told (begun_describable _ _ begun)) in
-    one_other _ _ _ _ _ _ begun took c.refuse.ensures.answer (ap (λ (x : State). x.error) c.refuse.ensures.kept ∙ ap Some (sym c.refuse.ensures.answer))
+    one_other _ _ _ _ _ _ begun took c.refuse.ensures.answer (answered _ _ _ _ c.refuse.ensures.kept c.refuse.ensures.answer)
 
 pub returns-in_err-enter_described-clause-opened : goal.returns-in_err-enter_described-clause-opened
 returns-in_err-enter_described-clause-opened g c = λ told.

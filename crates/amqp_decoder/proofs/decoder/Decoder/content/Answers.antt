@@ -4,6 +4,7 @@ use Rattle.amqp_model.specs.Term.{Primitive, binary, string, symbol}
 use Rattle.amqp_decoder.specs.State.{State}
 use Rattle.amqp_decoder.proofs.Leaves.{err_map}
 use Rattle.amqp_decoder.proofs.SizedTexts.{text_unbegun, text_other, text_narrow, text_wide}
+use Rattle.amqp_decoder.proofs.Steps.{answered_so}
 use Rattle.amqp_decoder.proofs.decoder.Decoder.content.Goals as goal
 
 pub returns-in_err-code-clause-err : goal.returns-in_err-code-clause-err
@@ -18,4 +19,4 @@ pub returns-then-code-wide-clause-err : goal.returns-then-code-wide-clause-err
 returns-then-code-wide-clause-err g c = λ told. err_map _ _ _ (λ e s. text_wide _ _ _ _ _ _ (rw c.if-code-wide.true at (c.in_ok-code.ensures told)) s) (c.text_data-then-code-wide.ensures.err told)
 
 pub returns-else-code-wide-clause-err : goal.returns-else-code-wide-clause-err
-returns-else-code-wide-clause-err g c = λ told. text_other _ _ _ _ _ _ _ (c.in_ok-code.ensures told) (search rules) (search rules) c.refuse_code.ensures.answer (ap (λ (x : State). x.error) c.refuse_code.ensures.kept)
+returns-else-code-wide-clause-err g c = λ told. text_other _ _ _ _ _ _ _ (c.in_ok-code.ensures told) (search rules) (search rules) c.refuse_code.ensures.answer (answered_so _ _ _ c.refuse_code.ensures.kept)

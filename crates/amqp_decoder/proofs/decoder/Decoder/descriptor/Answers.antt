@@ -2,6 +2,8 @@ use Rattle.std.proofs.Common.{rules, arith, ◌≡◌, Some, refl, ap, sym, ◌�
 use Rattle.std.proofs.lemmas.Result.{err_from_is_err_and}
 use Rattle.amqp_model.specs.Term.{name}
 use Rattle.amqp_decoder.specs.Described.{TookDescriptor}
+use Rattle.amqp_decoder.specs.State.{State}
+use Rattle.amqp_decoder.proofs.Steps.{answered_later}
 use Rattle.amqp_decoder.proofs.Descriptors.{code_took, text_took, missed_code, missed_ulong, missed_kind, missed_size, missed_text}
 use Rattle.amqp_decoder.proofs.decoder.Decoder.descriptor.Goals as goal
 
@@ -23,7 +25,7 @@ returns-in_err-wide-clause-err g c = λ told none.
     let p = err_from_is_err_and c.from_residual-in_err-wide.result c.from_residual-in_err-wide.ensures.1 in
     let other = rw c.in_default.is at (c.in_ok-value.ensures.ok told) in
     let why = c.in_err-wide.ensures.err in
-    rw (p.1, p.2) (missed_kind _ _ _ _ _ none (c.in_ok-code.ensures.ok told) other.0 why.0 why.1 why.2 why.3)
+    rw (p.1, p.2) (missed_kind _ _ _ _ _ none (c.in_ok-code.ensures.ok told) other.0 why.0 why.1 why.2 (answered_later (ap (λ (x : State). x.failed) other.1) why.3))
 
 pub returns-in_err-text-clause-err : goal.returns-in_err-text-clause-err
 returns-in_err-text-clause-err g c = λ told none.

@@ -2,6 +2,7 @@ use Rattle.std.proofs.Common.{rules, arith, ◌≡◌, ◌≤◌, ◌<◌, ◌+�
 use Rattle.std.proofs.lemmas.Result.{err_from_is_err_and}
 use Rattle.amqp_decoder.specs.State.{State}
 use Rattle.amqp_decoder.proofs.Leaves.{err_map, fixed_unbegun, fixed_other, fixed_short}
+use Rattle.amqp_decoder.proofs.Steps.{answered_so}
 use Rattle.amqp_decoder.proofs.decoder.Decoder.fixed.Goals as goal
 
 pub returns-in_err-found-clause-err : goal.returns-in_err-found-clause-err
@@ -10,7 +11,7 @@ returns-in_err-found-clause-err g c = λ told.
     rw (p.1, p.2) (fixed_unbegun _ _ _ _ _ (c.in_err-found.ensures told))
 
 pub returns-then-found-code-clause-err : goal.returns-then-found-code-clause-err
-returns-then-found-code-clause-err g c = λ told. fixed_other _ _ _ _ _ _ c.refuse_code.result _ (c.in_ok-found.ensures told) (search rules) c.refuse_code.ensures.answer (ap (λ (x : State). x.error) c.refuse_code.ensures.kept)
+returns-then-found-code-clause-err g c = λ told. fixed_other _ _ _ _ _ _ c.refuse_code.result _ (c.in_ok-found.ensures told) (search rules) c.refuse_code.ensures.answer (answered_so _ _ _ c.refuse_code.ensures.kept)
 
 pub returns-clause-err : goal.returns-clause-err
 returns-clause-err g c = λ told. err_map _ _ _ (λ e s. fixed_short _ _ _ _ _ _ (rw c.if-found-code.false at (c.in_ok-found.ensures told)) s) (c.take.ensures.err told)

@@ -4,6 +4,7 @@ use Rattle.amqp_model.specs.Term.{map}
 use Rattle.amqp_decoder.specs.State.{State}
 use Rattle.amqp_decoder.proofs.Leaves.{err_map}
 use Rattle.amqp_decoder.proofs.Opening.{enter_unheaded, enter_unopened, enter_odd}
+use Rattle.amqp_decoder.proofs.Steps.{answered}
 use Rattle.amqp_decoder.proofs.decoder.Decoder.open_map.Goals as goal
 
 pub returns-in_err-count-clause-err : goal.returns-in_err-count-clause-err
@@ -13,7 +14,7 @@ returns-in_err-count-clause-err g c = λ told.
 
 pub returns-then-count-eq1-clause-err : goal.returns-then-count-eq1-clause-err
 returns-then-count-eq1-clause-err g c = λ told.
-    enter_odd _ _ _ _ _ _ _ (c.in_ok-count.ensures.ok told) (search rules) c.refuse.ensures.answer (ap (λ (x : State). x.error) c.refuse.ensures.kept ∙ ap Some (sym c.refuse.ensures.answer))
+    enter_odd _ _ _ _ _ _ _ (c.in_ok-count.ensures.ok told) (search rules) c.refuse.ensures.answer (answered _ _ _ _ c.refuse.ensures.kept c.refuse.ensures.answer)
 
 pub returns-clause-err : goal.returns-clause-err
 returns-clause-err g c = λ told.

@@ -1,6 +1,6 @@
 use Rattle.std.proofs.Common.{rules, arith, ◌≡◌, ◌≤◌, ◌<◌, ℕ, Some, None, length, refl, ap, sym, ◌∙◌, subst}
 use Rattle.amqp_decoder.specs.State.{State}
-use Rattle.amqp_decoder.proofs.Steps.{has_item}
+use Rattle.amqp_decoder.proofs.Steps.{answered_later, answered, has_item}
 use Rattle.amqp_decoder.proofs.Peeks.{peeked_shared, peeked_own, peek_size, peek_cut, none_there}
 use Rattle.amqp_decoder.proofs.decoder.Decoder.peek_code.Goals as goal
 
@@ -17,7 +17,7 @@ returns-then-eq g c = λ told.
 pub returns-then-not-branch : goal.returns-then-not-branch
 returns-then-not-branch g c = λ told.
     let left = c.in_ok-check_item.ensures in
-    peek_cut _ _ _ left.going (rw left.kept at c.in_default.ensures) (λ x. let h : c.check_item.new.self.top.left ≡ Some 0 → ⊥ = search rules in h (ap (λ (st : State). st.top.left) left.kept ∙ x)) (rw left.kept at (none_there _ _ c.if-not-branch.true (c.in_ok-look_next.ensures.found told).1)) c.refuse.ensures.answer (ap (λ (x : State). x.error) c.refuse.ensures.kept ∙ ap Some (sym c.refuse.ensures.answer))
+    peek_cut _ _ _ left.going (rw left.kept at c.in_default.ensures) (λ x. let h : c.check_item.new.self.top.left ≡ Some 0 → ⊥ = search rules in h (ap (λ (st : State). st.top.left) left.kept ∙ x)) (rw left.kept at (none_there _ _ c.if-not-branch.true (c.in_ok-look_next.ensures.found told).1)) c.refuse.ensures.answer (answered_later (ap (λ (st : State). st.failed) (c.in_ok-look_next.ensures.new told) ∙ ap (λ (st : State). st.failed) left.kept) (answered c.look_next.new.self _ _ _ c.refuse.ensures.kept c.refuse.ensures.answer))
 
 pub returns : goal.returns
 returns g c = λ told.

@@ -1,6 +1,8 @@
-use Rattle.std.proofs.Common.{sym, ◌∙◌}
+use Rattle.std.proofs.Common.{ap, sym, ◌∙◌}
 use Rattle.std.proofs.lemmas.Result.{err_from_is_err_and}
 use Rattle.amqp_model.specs.Term.{code}
+use Rattle.amqp_decoder.specs.State.{State}
+use Rattle.amqp_decoder.proofs.Steps.{answered_later}
 use Rattle.amqp_decoder.proofs.Leaves.{err_map, ok_map}
 use Rattle.amqp_decoder.proofs.Descriptors.{unmarked, code_took, name_place, missed_code, missed_ulong, missed_kind, missed_size, missed_name}
 use Rattle.amqp_decoder.proofs.decoder.Decoder.place_of_next.Goals as goal
@@ -29,7 +31,7 @@ returns-in_err-wide-clause-err g c = λ told can.
     let none = unmarked _ c.in_default.ensures can in
     let other = rw c.in_default-2.is at (c.in_ok-value.ensures.ok told) in
     let why = c.in_err-wide.ensures.err in
-    rw (p.1, p.2) (missed_kind _ _ _ _ _ none (c.in_ok-code.ensures.ok told) other.0 why.0 why.1 why.2 why.3)
+    rw (p.1, p.2) (missed_kind _ _ _ _ _ none (c.in_ok-code.ensures.ok told) other.0 why.0 why.1 why.2 (answered_later (ap (λ (x : State). x.failed) other.1) why.3))
 
 pub returns-in_err-len-clause-err : goal.returns-in_err-len-clause-err
 returns-in_err-len-clause-err g c = λ told can.

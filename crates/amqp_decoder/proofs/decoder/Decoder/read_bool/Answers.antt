@@ -8,6 +8,7 @@ use Rattle.amqp_model.specs.Spelling.{PrimitiveData}
 use Rattle.amqp_decoder.specs.State.{State}
 use Rattle.amqp_decoder.proofs.Leaves.{refused_first, short_refused, other_refused, data_value, code_value, not_two, not_three, not_char, bad_refused, fixed_refused, fixed_value}
 use Rattle.amqp_decoder.proofs.Leaves.{not_boolean}
+use Rattle.amqp_decoder.proofs.Steps.{answered, answered_so}
 use Rattle.amqp_decoder.proofs.decoder.Decoder.read_bool.Goals as goal
 
 pub returns-in_err-code : goal.returns-in_err-code
@@ -22,7 +23,7 @@ returns-in_err-byte-in-86 g c = λ told.
 
 pub returns-in_default : goal.returns-in_default
 returns-in_default g c = λ told.
-    other_refused boolean 1 _ _ _ _ _ (λ v. refl) (c.in_ok-code.ensures told) (not_three 1 _ 65 66 86 refl (search rules) (search rules) (search rules)) c.refuse_code.ensures.answer (ap (λ (x : State). x.error) c.refuse_code.ensures.kept)
+    other_refused boolean 1 _ _ _ _ _ (λ v. refl) (c.in_ok-code.ensures told) (not_three 1 _ 65 66 86 refl (search rules) (search rules) (search rules)) c.refuse_code.ensures.answer (answered_so _ _ _ c.refuse_code.ensures.kept)
 
 pub returns-in-65 : goal.returns-in-65
 returns-in-65 g c = λ told. code_value boolean 65 _ _ _ (rw c.in-65.is at (c.in_ok-code.ensures told)) (refl, refl, tt)
@@ -41,4 +42,4 @@ returns-in-1 g c = λ told.
 pub returns-in_default-2 : goal.returns-in_default-2
 returns-in_default-2 g c = λ told.
     bad_refused boolean 1 86 _ _ (c.in_ok-byte-in-86.field-0 ∷ []) _ _ _ (λ v. refl) refl (rw c.in-86.is at (c.in_ok-code.ensures told)) (c.in_ok-byte-in-86.ensures.ok told) refl
-    (λ p d. not_boolean c.in_ok-byte-in-86.field-0 p (search rules) (search rules) d.1) c.refuse.ensures.answer (ap (λ (x : State). x.error) c.refuse.ensures.kept ∙ ap Some (sym c.refuse.ensures.answer))
+    (λ p d. not_boolean c.in_ok-byte-in-86.field-0 p (search rules) (search rules) d.1) c.refuse.ensures.answer (answered _ _ _ _ c.refuse.ensures.kept c.refuse.ensures.answer)

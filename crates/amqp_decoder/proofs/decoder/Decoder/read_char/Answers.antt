@@ -7,6 +7,7 @@ use Rattle.amqp_model.specs.Constructors.{format}
 use Rattle.amqp_model.specs.Spelling.{PrimitiveData}
 use Rattle.amqp_decoder.specs.State.{State}
 use Rattle.amqp_decoder.proofs.Leaves.{refused_first, short_refused, other_refused, data_value, code_value, not_two, not_three, not_char, bad_refused, fixed_refused, fixed_value}
+use Rattle.amqp_decoder.proofs.Steps.{answered}
 use Rattle.amqp_decoder.proofs.decoder.Decoder.read_char.Goals as goal
 
 pub returns-in_err-fixed : goal.returns-in_err-fixed
@@ -25,4 +26,4 @@ returns-in-None g c = λ told.
     let f = c.in_ok-fixed.ensures.ok told in
     bad_refused char 13 0x73 _ _ c.in_ok-fixed.field-0 _ _ _ (λ v. refl) refl f.begun f.took f.width
     (λ p d. not_char _ p (rw c.from_be_bytes-number.ensures at c.in-None.ensures.value) d.1 d.2)
-    c.refuse.ensures.answer (ap (λ (x : State). x.error) c.refuse.ensures.kept ∙ ap Some (sym c.refuse.ensures.answer))
+    c.refuse.ensures.answer (answered _ _ _ _ c.refuse.ensures.kept c.refuse.ensures.answer)

@@ -7,6 +7,7 @@ use Rattle.amqp_model.specs.Constructors.{format}
 use Rattle.amqp_model.specs.Spelling.{PrimitiveData}
 use Rattle.amqp_decoder.specs.State.{State}
 use Rattle.amqp_decoder.proofs.Leaves.{refused_first, short_refused, other_refused, data_value, code_value, not_two, not_three, bad_refused, fixed_refused, fixed_value}
+use Rattle.amqp_decoder.proofs.Steps.{answered_so}
 use Rattle.amqp_decoder.proofs.decoder.Decoder.read_int.Goals as goal
 
 pub returns-in_err-code : goal.returns-in_err-code
@@ -26,7 +27,7 @@ returns-in_err-take-in-113 g c = λ told.
 
 pub returns-in_default : goal.returns-in_default
 returns-in_default g c = λ told.
-    other_refused int 8 _ _ _ _ _ (λ v. refl) (c.in_ok-code.ensures told) (not_two 8 _ 84 113 refl (search rules) (search rules)) c.refuse_code.ensures.answer (ap (λ (x : State). x.error) c.refuse_code.ensures.kept)
+    other_refused int 8 _ _ _ _ _ (λ v. refl) (c.in_ok-code.ensures told) (not_two 8 _ 84 113 refl (search rules) (search rules)) c.refuse_code.ensures.answer (answered_so _ _ _ c.refuse_code.ensures.kept)
 
 pub returns-in_ok-take-in-84 : goal.returns-in_ok-take-in-84
 returns-in_ok-take-in-84 g c = λ told.

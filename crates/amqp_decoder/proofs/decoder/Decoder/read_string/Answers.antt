@@ -7,6 +7,7 @@ use Rattle.std.proofs.lemmas.Str.{IsUtf8-string_bytes}
 use Rattle.std.proofs.Common.{String, Vec, Global, ℕ}
 use Rattle.amqp_decoder.specs.Primitives.{Text}
 use Rattle.amqp_decoder.proofs.SizedTexts.{text_value, text_refused, text_bad}
+use Rattle.amqp_decoder.proofs.Steps.{answered}
 use Rattle.amqp_decoder.proofs.decoder.Decoder.read_string.Goals as goal
 
 pub returns-in_err-text : goal.returns-in_err-text
@@ -22,4 +23,4 @@ returns-in-Ok g c = λ told.
 pub returns : goal.returns
 returns g c = λ told.
     text_bad (λ (v : String Global). string_bytes v) 17 0xa1 0xb1 string _ _ _ _ _ (record { short_code = refl; long_code = refl; kind = λ s. refl; codes = refl }) (λ h. let x = c.in-Err.ensures.succeeds h in absurd (cc)) (c.in_ok-text.ensures.ok told) c.refuse.ensures.answer
-    (ap (λ (x : State). x.error) c.refuse.ensures.kept ∙ ap Some (sym c.refuse.ensures.answer))
+    (answered _ _ _ _ c.refuse.ensures.kept c.refuse.ensures.answer)

@@ -3,6 +3,7 @@ use Rattle.std.proofs.lemmas.Result.{err_from_is_err_and}
 use Rattle.amqp_model.specs.Term.{Primitive, ulong}
 use Rattle.amqp_decoder.specs.State.{State}
 use Rattle.amqp_decoder.proofs.Leaves.{refused_first, lacking_refused, other_refused, data_value}
+use Rattle.amqp_decoder.proofs.Steps.{answered_later, answered_so}
 use Rattle.amqp_decoder.proofs.decoder.Decoder.read_ulong.Goals as goal
 
 pub returns-in_err-code : goal.returns-in_err-code
@@ -25,4 +26,4 @@ pub returns-in-None : goal.returns-in-None
 returns-in-None g c = λ told.
     let d = rw c.in-None.is at (c.in_ok-value.ensures.ok told) in
     let b = c.in_ok-code.ensures told in
-    other_refused ulong 5 _ _ _ _ _ (λ v. refl) b d.0 c.refuse_code.ensures.answer (ap (λ (x : State). x.error) c.refuse_code.ensures.kept)
+    other_refused ulong 5 _ _ _ _ _ (λ v. refl) b d.0 c.refuse_code.ensures.answer (answered_later (ap (λ (x : State). x.failed) d.1) (answered_so c.ulong_data.new.self _ _ c.refuse_code.ensures.kept))

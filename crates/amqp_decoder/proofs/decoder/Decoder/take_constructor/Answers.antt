@@ -3,6 +3,7 @@ use Rattle.std.proofs.lemmas.Result.{err_from_is_err_and}
 use Rattle.amqp_decoder.specs.State.{State, descriptor_of}
 use Rattle.amqp_decoder.proofs.Leaves.{ok_map, err_map}
 use Rattle.amqp_decoder.proofs.OpenedArrays.{shares_none, shares_all, stopped_unconstructed, stopped_zero, stopped_nested, stopped_memory}
+use Rattle.amqp_decoder.proofs.Steps.{answered}
 use Rattle.amqp_decoder.proofs.decoder.Decoder.take_constructor.Goals as goal
 
 pub returns-in_err-descriptors-clause-err : goal.returns-in_err-descriptors-clause-err
@@ -17,7 +18,7 @@ pub returns-then-has_no_data-clause-err : goal.returns-then-has_no_data-clause-e
 returns-then-has_no_data-clause-err g c = λ told none.
     let left : c.constructor.new.self.top.items ≡ Some 0 → ⊥ = λ z. let x = c.is_done.ensures.1 z in let y = c.if-is_done.false in absurd (cc) in
     stopped_zero _ _ _ _ _ _ _ left (c.in_ok-descriptors.ensures.ok told none) c.if-has_no_data.true c.has_no_data.ensures c.refuse.ensures.answer
-    (ap (λ (x : State). x.error) c.refuse.ensures.kept ∙ ap Some (sym c.refuse.ensures.answer))
+    (answered _ _ _ _ c.refuse.ensures.kept c.refuse.ensures.answer)
 
 pub returns-in_err-check_items-clause-err : goal.returns-in_err-check_items-clause-err
 returns-in_err-check_items-clause-err g c = λ told none.
