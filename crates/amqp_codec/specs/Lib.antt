@@ -21,7 +21,6 @@ pub mod Refused
 pub mod FieldReading
 pub mod Peeks
 pub mod Lists
-pub mod Descriptions
 pub mod Members
 pub mod Rewritten
 pub mod TermLaws

@@ -14,11 +14,13 @@ use Rattle.amqp_decoder.specs.Primitives.{standing, Stands, Value}
 use Rattle.amqp_decoder.specs.Containers.{ClosesDescribed, EndFault}
 use Rattle.amqp_decoder.specs.Described.{IsDescriptor, entered, TookDescriptor, OpensDescribed, Member, is_of, place_of, OpensOneOf, OneOfFault}
 use Rattle.amqp_decoder.proofs.Leaves.{begun_same}
+use Rattle.amqp_decoder.specs.Members.{as_name, is_named, name_place}
+use Rattle.amqp_decoder.proofs.Descriptions.{described_term, term_described}
+use Rattle.amqp_decoder.proofs.Members.{place_is}
 use Rattle.amqp_decoder.proofs.NotMemory.{one_of_not_memory, end_not_memory}
 use Rattle.amqp_wire.specs.declared.error.Error.TheVariants.{Memory}
 use Rattle.amqp_codec.specs.Reading.{stands_one}
 use Rattle.amqp_codec.specs.Refused.{no_memory, refused_first, refused_later}
-use Rattle.amqp_codec.specs.Descriptions.{described_term, term_described}
 
 -- The members: their codes and names in order, and how what each describes is read.
 pub record Members (V : Type 0) : Type 1 where
@@ -27,18 +29,6 @@ pub record Members (V : Type 0) : Type 1 where
   pub fault : ℕ → State → Error → Type 0
   -- reading one of them takes memory
   pub takes_memory : Bool
-
-abbrev pub is_named : Descriptor → ℕ × List ℕ → Bool
-is_named (code n) m = eqb m.0 n
-is_named (name s) m = bytes_eq m.1 s
-
--- The place of the first member that the descriptor names.
-abbrev pub name_place : List (ℕ × List ℕ) → Descriptor → Option ℕ
-name_place ns d = position (is_named d) ns
-
--- A pair as its code and its name.
-abbrev pub as_name : Member → ℕ × List ℕ
-as_name m = (m.0, m.1.now)
 
 -- A member stood next.
 pub record MemberRead {V : Type 0} (m : Members V) (st : State) (v : V) (b : State) : Type 0 where
@@ -85,18 +75,6 @@ pub record IsSum {V : Type 0} (m : Members V) (means : Standing → Term → V �
   pub to_term : (i : ℕ) (inner : State) (v : V) (last : State) → m.reads i inner v last → TermRead m means i inner v last
   pub from_term : (s : Standing) (t : Term) (v : V) → means s t v → TermMeant m t v
 
-length_names : (ms : List Member) → length ms ≡ length (map as_name ms)
-length_names [] = refl
-length_names (m ∷ ms) = ap suc (length_names ms)
-
-first_named : (d : Descriptor) (ms : List Member) → position_or_len (is_of d) ms ≡ position_or_len (is_named d) (map as_name ms)
-first_named d [] = refl
-first_named (code n) (m ∷ ms) = ap (λ k. cond (not (eqb m.0 n)) (1 + k) 0) (first_named (code n) ms)
-first_named (name s) (m ∷ ms) = ap (λ k. cond (not (bytes_eq m.1.now s)) (1 + k) 0) (first_named (name s) ms)
-
-place_is : (d : Descriptor) (ms : List Member) → place_of ms d ≡ name_place (map as_name ms) d
-place_is d ms = ap₂ (λ k n. cond (nat_lt k n) (Some k) None) (first_named d ms) (length_names ms)
-
 took_same : (o : Option (List Descriptor × ℕ)) (d e : Descriptor) (own other x y : List ℕ) → IsDescriptor o d own → IsDescriptor o e other → own ++ x ≡ other ++ y → (own ≡ other) × (d ≡ e)
 took_same None d e own other x y h k f = names_same d e own other x y h k f
 took_same (Some ([], c)) d e own other x y h k f = absurd h
@@ -120,12 +98,12 @@ module _ {V : Type 0} (m : Members V) (means : Standing → Term → V → Type 
       let t = sum.to_term h.place h.inner v h.last h.read in
       let closes : ClosesDescribed InDescribed (past (length t.bytes) h.inner) b = subst (λ (x : State). ClosesDescribed InDescribed x b) t.moved h.closes in
       let r = described_term st h.descriptor t.term b (omega (arith, bound)) (record { inner = h.inner; opens = h.opens; bytes = t.bytes; stands = t.stands; closes = closes }) in
-      record { bytes = r.0; term = described h.descriptor t.term; stands = r.1; moved = r.2; meant = t.meant h.descriptor (standing st.top.shared r.0) h.is }
+      record { bytes = r.bytes; term = described h.descriptor t.term; stands = r.stands; moved = r.moved; meant = t.meant h.descriptor (standing st.top.shared r.bytes) h.is }
 
   pub from_value : (st : State) (v : V) (b : State) → Value means st v b → MemberRead m st v b
   from_value st v b h =
       let t = sum.from_term (standing st.top.shared h.bytes) h.term v h.meant in
-      let k = term_described st h.bytes t.descriptor t.described_ (subst (λ x. Stands st h.bytes x) t.is h.stands) in
+      let k = term_described st t.descriptor t.described_ b (record { bytes = h.bytes; stands = subst (λ x. Stands st h.bytes x) t.is h.stands; moved = h.moved }) in
       record {
         descriptor = t.descriptor;
         place = t.place;
@@ -134,7 +112,7 @@ module _ {V : Type 0} (m : Members V) (means : Standing → Term → V → Type 
         opens = k.opens;
         last = past (length k.bytes) k.inner;
         read = t.read k.inner k.bytes k.stands;
-        closes = subst (λ (x : State). ClosesDescribed InDescribed (past (length k.bytes) k.inner) x) (sym h.moved) k.closes;
+        closes = k.closes;
       }
 
   -- none of the members is opened

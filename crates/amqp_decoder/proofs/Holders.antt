@@ -15,15 +15,12 @@ use Rattle.amqp_decoder.specs.Primitives.{standing, SpellsAs, Stands}
 use Rattle.amqp_decoder.specs.Containers.{place_of, is_list, IsCount, Counts, Header, Entered, Opens, Closes}
 use Rattle.amqp_decoder.specs.Items.{Row, Next, Contains}
 use Rattle.amqp_decoder.proofs.Looks.{front_is}
-use Rattle.amqp_decoder.proofs.Leaves.{has_add, has_front, has_rest, lower-lower, after_code, on-past}
+use Rattle.amqp_decoder.proofs.Leaves.{has_add, has_front, has_rest, lower-lower, minus-minus, after_code, on-past}
 use Rattle.amqp_decoder.proofs.Opening.{on-on, took_both}
 
 -- k values of n bytes are taken
 abbrev pub many : ℕ → ℕ → State → State
 many k n st = record st { rest = drop n st.rest; ahead = st.ahead - n; top = record st.top { items = lower st.top.items k; left = lower st.top.left n } }
-
-minus-minus : (a m n : ℕ) → a - m - n ≡ a - (m + n)
-minus-minus a m n = omega arith
 
 many-past : (k m n : ℕ) (st : State) → many k n (past m st) ≡ many (suc k) (m + n) st
 many-past k m n st =
@@ -80,30 +77,44 @@ together (more t us) st b st' (s, r, e, k, row) =
       nested = omega (arith, k.nested, i.nested);
     }
 
-pub row_spelled : (us : Terms) (st : State) (b : List ℕ) (st' : State) → st.top.shared ≡ None → Row st (items_of us) b st' → items_spelled us b
-unfolding enc
-row_spelled none st b st' shared row = row.0
-row_spelled (more t us) st b st' shared (s, r, e, k, row) =
-    (s, r, e, subst (λ o. SpellsAs (standing o s) t) shared k.spelled, row_spelled us (past (length s) st) r st' shared row)
+-- some terms stand one after another, each so
+abbrev pub AllSpelled : Option (List Descriptor × ℕ) → Terms → List ℕ → Type 0
+AllSpelled o none b = b ≡ []
+AllSpelled o (more t us) b = (first others : List ℕ) × (b ≡ first ++ others) × SpellsAs (standing o first) t × AllSpelled o us others
+
+pub row_spelled : (o : Option (List Descriptor × ℕ)) (us : Terms) (st : State) (b : List ℕ) (st' : State) → st.top.shared ≡ o → Row st (items_of us) b st' → AllSpelled o us b
+row_spelled o none st b st' shared row = row.0
+row_spelled o (more t us) st b st' shared (s, r, e, k, row) =
+    (s, r, e, subst (λ x. SpellsAs (standing x s) t) shared k.spelled, row_spelled o us (past (length s) st) r st' shared row)
 
 -- terms that are spelled there can be taken in a row
-pub row_of : (us : Terms) (st : State) (b x : List ℕ) → st.error ≡ None → st.top.shared ≡ None → Has st.top.items (count us) → Has st.top.left (length b) → st.rest ≡ b ++ x → items_spelled us b → nests us ≤ st.nesting - length st.saved → Row st (items_of us) b (many (count us) (length b) st)
-unfolding enc
-row_of none st b x going shared items room rest e nested = (e, sym (many_none st ∙ ap (λ n. many 0 n st) (sym (ap length e))))
-row_of (more t us) st b x going shared items room rest (s, r, e, h, hs) nested =
+pub row_of : (o : Option (List Descriptor × ℕ)) (us : Terms) (st : State) (b x : List ℕ) → st.error ≡ None → st.top.shared ≡ o → Has st.top.items (count us) → Has st.top.left (length b) → st.rest ≡ b ++ x → AllSpelled o us b → nests us ≤ st.nesting - length st.saved → Row st (items_of us) b (many (count us) (length b) st)
+row_of o none st b x going shared items room rest e nested = (e, sym (many_none st ∙ ap (λ n. many 0 n st) (sym (ap length e))))
+row_of o (more t us) st b x going shared items room rest (s, r, e, h, hs) nested =
     let n : length b ≡ length s + length r = ap length e ∙ length-append s r in
     let room_ : Has st.top.left (length s + length r) = subst (Has st.top.left) n room in
     let here : st.rest ≡ s ++ (r ++ x) = rest ∙ ap (λ l. l ++ x) e ∙ append_assoc s r x in
     let behind : drop (length s) st.rest ≡ r ++ x = ap (drop (length s)) here ∙ drop_at s (r ++ x) (length s) refl in
     let one : 1 + count us ≡ suc (count us) = omega arith in
     let items_ : Has st.top.items (1 + count us) = subst (Has st.top.items) (sym one) items in
-    let i = row_of us (past (length s) st) r x going shared (has_rest st.top.items 1 (count us) items_) (has_rest st.top.left (length s) (length r) room_) behind hs (omega (arith, nested)) in (
+    let i = row_of o us (past (length s) st) r x going shared (has_rest st.top.items 1 (count us) items_) (has_rest st.top.left (length s) (length r) room_) behind hs (omega (arith, nested)) in (
       s,
       r,
       e,
-      record { going = going; item = has_front st.top.items 1 (count us) items_; room = has_front st.top.left (length s) (length r) room_; after = r ++ x; rest = here; spelled = subst (λ o. SpellsAs (standing o s) t) (sym shared) h; nested = omega (arith, nested) },
+      record { going = going; item = has_front st.top.items 1 (count us) items_; room = has_front st.top.left (length s) (length r) room_; after = r ++ x; rest = here; spelled = subst (λ y. SpellsAs (standing y s) t) (sym shared) h; nested = omega (arith, nested) },
       subst (Row (past (length s) st) (items_of us) r) (many-past (count us) (length s) (length r) st ∙ ap (λ k. many (suc (count us)) k st) (sym n)) i,
     )
+
+-- the items of a list or a map
+all_items : (us : Terms) (b : List ℕ) → AllSpelled None us b → items_spelled us b
+unfolding enc
+all_items none b h = h
+all_items (more t us) b (s, r, e, h, hs) = (s, r, e, h, all_items us r hs)
+
+items_all : (us : Terms) (b : List ℕ) → items_spelled us b → AllSpelled None us b
+unfolding enc
+items_all none b h = h
+items_all (more t us) b (s, r, e, h, hs) = (s, r, e, h, items_all us r hs)
 
 -- a list or a map
 abbrev pub IsRow : Container → Type 0
@@ -121,7 +132,7 @@ data_holder list us c b is d = (tt, d)
 data_holder map us c b is d = d
 data_holder array us c b is d = absurd is
 
-holder_bare : (kind : Container) (us : Terms) (f : Descriptor) (ds : List Descriptor) (c : ℕ) (b : List ℕ) → data_of (holder kind us) (f ∷ ds) c b → ⊥
+pub holder_bare : (kind : Container) (us : Terms) (f : Descriptor) (ds : List Descriptor) (c : ℕ) (b : List ℕ) → data_of (holder kind us) (f ∷ ds) c b → ⊥
 holder_bare list us f ds c b d = d
 holder_bare map us f ds c b d = d
 holder_bare array us f ds c b d = d
@@ -148,7 +159,7 @@ is_size kind w n b size (inl h) = inl h
 is_size kind w n b size (inr (k, a, c, d)) = inr (ap is_list k, a, ap length c, d)
 
 -- a format of containers, and its data
-record Split (kind : Container) (F : Format) (n : ℕ) (Content : List ℕ → Type 0) (d : List ℕ) : Type 0 where
+pub record Split (kind : Container) (F : Format) (n : ℕ) (Content : List ℕ → Type 0) (d : List ℕ) : Type 0 where
   pub width : ℕ
   pub size : ℕ
   pub content : List ℕ
@@ -159,23 +170,23 @@ record Split (kind : Container) (F : Format) (n : ℕ) (Content : List ℕ → T
   pub few : n < 256 ^ width
   pub whole : d ≡ bytes_high_first width size ++ (bytes_high_first width n ++ content)
 
-container_split : (F : Format) (kind : Container) (n : ℕ) (Content : List ℕ → Type 0) (d : List ℕ) → ContainerData F kind n Content d → Split kind F n Content d
+pub container_split : (F : Format) (kind : Container) (n : ℕ) (Content : List ℕ → Type 0) (d : List ℕ) → ContainerData F kind n Content d → Split kind F n Content d
 container_split (fixed w f) kind n C d h = absurd h
 container_split (variable w f) kind n C d h = absurd h
 container_split (compound k w) kind n C d (same, size, content, is, c, fits, few, e) = record { width = w; size = size; content = content; announced = ap (λ x. compound x w) same; sized = is; inner = c; fits = fits; few = few; whole = e }
 container_split unknown kind n C d h = absurd h
 
-split_container : (F : Format) (kind : Container) (n : ℕ) (Content : List ℕ → Type 0) (d : List ℕ) (s : Split kind F n Content d) → ContainerData F kind n Content d
+pub split_container : (F : Format) (kind : Container) (n : ℕ) (Content : List ℕ → Type 0) (d : List ℕ) (s : Split kind F n Content d) → ContainerData F kind n Content d
 split_container F kind n C d s = subst (λ G. ContainerData G kind n C d) (sym s.announced) (refl, s.size, s.content, s.sized, s.inner, s.fits, s.few, s.whole)
 
-first_spelled : (o : Option (List Descriptor × ℕ)) (c : ℕ) (own b : List ℕ) (t : Term) → IsFirst o c own → IsKnown (format c) → data_of t [] c b → SpellsAs (standing o (own ++ b)) t
+pub first_spelled : (o : Option (List Descriptor × ℕ)) (c : ℕ) (own b : List ℕ) (t : Term) → IsFirst o c own → IsKnown (format c) → data_of t [] c b → SpellsAs (standing o (own ++ b)) t
 unfolding enc
 first_spelled None c own b t first known d = ([], c, omega arith, (c ∷ [], b, ap (λ l. l ++ b) first, (refl, known), d))
 first_spelled (Some ([], k)) c own b t (e, f) known d = subst (λ x. data_of t [] k (x ++ b)) (sym e) (subst (λ x. data_of t [] x b) f d)
 first_spelled (Some (e ∷ ds, k)) c own b t (f, g) known d = absurd (subst (λ x. IsKnown (format x)) g known)
 
 -- the first bytes of its own, and the data
-record Front (o : Option (List Descriptor × ℕ)) (t : Term) (s : List ℕ) : Type 0 where
+pub record Front (o : Option (List Descriptor × ℕ)) (t : Term) (s : List ℕ) : Type 0 where
   pub code : ℕ
   pub own : List ℕ
   pub data_ : List ℕ
@@ -187,22 +198,22 @@ front_own : (t : Term) (ds : List Descriptor) (c : ℕ) (first second s : List �
 front_own t [] c first second s bare e k d = record { code = c; own = first; data_ = second; whole = e; first = k.0; spelled = d }
 front_own t (f ∷ ds) c first second s bare e k d = absurd (bare f ds c second d)
 
-front_of : (o : Option (List Descriptor × ℕ)) (t : Term) (s : List ℕ) → ((f : Descriptor) (ds : List Descriptor) (c : ℕ) (b : List ℕ) → data_of t (f ∷ ds) c b → ⊥) → SpellsAs (standing o s) t → Front o t s
+pub front_of : (o : Option (List Descriptor × ℕ)) (t : Term) (s : List ℕ) → ((f : Descriptor) (ds : List Descriptor) (c : ℕ) (b : List ℕ) → data_of t (f ∷ ds) c b → ⊥) → SpellsAs (standing o s) t → Front o t s
 unfolding enc
 front_of None t s bare (ds, c, few, (first, second, e, k, d)) = front_own t ds c first second s bare e k d
 front_of (Some ([], k)) t s bare d = record { code = k; own = []; data_ = s; whole = refl; first = (refl, refl); spelled = d }
 front_of (Some (f ∷ ds, k)) t s bare d = absurd (bare f ds k s d)
 
-known : (F : Format) (kind : Container) (w : ℕ) → F ≡ compound kind w → IsKnown F
+pub known : (F : Format) (kind : Container) (w : ℕ) → F ≡ compound kind w → IsKnown F
 known F kind w e = subst IsKnown (sym e) tt
 
 -- the states on the way through a container of n bytes behind a header of h and the code's own bytes
-closed_at : (st m after : State) (own h n : ℕ) → m ≡ past own st → after ≡ on h m → on n after ≡ past (own + h + n) st
+pub closed_at : (st m after : State) (own h n : ℕ) → m ≡ past own st → after ≡ on h m → on n after ≡ past (own + h + n) st
 closed_at st m after own h n e f =
     ap (on n) f ∙ on-on h n m ∙ ap (on (h + n)) e ∙ on-past own (h + n) st ∙ ap (λ k. past k st) (omega arith)
 
 -- an inner bound that is used up
-used_up : (o : Option ℕ) (n k : ℕ) → o ≡ Some n → Has o k → lower o k ≡ Some 0 → n ≡ k
+pub used_up : (o : Option ℕ) (n k : ℕ) → o ≡ Some n → Has o k → lower o k ≡ Some 0 → n ≡ k
 used_up None n k e h f = absurd (cc)
 used_up (Some l) n k e h f = omega (arith, ap (λ o. unwrap_or o 0) e, ap (λ o. unwrap_or o 0) f)
 
@@ -217,7 +228,7 @@ left_is p n k b content last at new outer others is saved moved same =
     ∙ ap (λ l. record (many k b (inside p n content at)) { top = record at.top { left = lower at.top.left content }; saved = l }) (sym tail)
     ∙ ap (λ c. record at { rest = drop b at.rest; ahead = at.ahead - b; top = record at.top { left = lower at.top.left c } }) same
 
-three : (own h b : List ℕ) → length (own ++ (h ++ b)) ≡ length own + length h + length b
+pub three : (own h b : List ℕ) → length (own ++ (h ++ b)) ≡ length own + length h + length b
 three own h b = length-append own (h ++ b) ∙ ap (λ n. length own + n) (length-append h b) ∙ (omega arith)
 
 pub whole : (kind : Container) → IsRow kind → (st : State) (us : Terms) (new : State) → Contains kind st (items_of us) new → Next st (holder kind us) new
@@ -250,7 +261,7 @@ whole kind is st us new c =
       content = b;
       announced = o.announced;
       sized = size_is kind o.width (count us) b d.content h.size is k_is h.counts;
-      inner = row_spelled us c.mid b c.last (ap (λ (z : State). z.top.shared) d.entered) c.items;
+      inner = all_items us b (row_spelled None us c.mid b c.last (ap (λ (z : State). z.top.shared) d.entered) c.items);
       fits = h.fits;
       few = h.few;
       whole = append_assoc (bytes_high_first o.width h.size) (bytes_high_first o.width (count us)) b;
@@ -331,7 +342,7 @@ parts kind is st us new next =
       };
       bytes = b;
       last = many n (length b) mid;
-      items = row_of us mid b _ k.going refl (subst (λ o. Has o n) (sym items_are) whole_count) all_bytes two.1.rest x.inner (omega (arith, deep));
+      items = row_of None us mid b _ k.going refl (subst (λ o. Has o n) (sym items_are) whole_count) all_bytes two.1.rest (items_all us b x.inner) (omega (arith, deep));
       closed = record {
         going = k.going;
         here = refl;

@@ -7,11 +7,15 @@ pub mod Opening
 pub mod Peeks
 pub mod Rows
 pub mod SectionLooks
+pub mod SectionsAhead
+pub mod Members
 pub mod SizedTexts
 pub mod Steps
 pub mod Descriptors
+pub mod Descriptions
 pub mod Fronts
 pub mod Constructed
 pub mod OpenedArrays
+pub mod ArrayTerms
 pub mod KeptBytes
 pub mod NotMemory

@@ -15,10 +15,7 @@ use Rattle.amqp_decoder.specs.Containers.{place_of, is_list, IsCount, Counts, Is
 use Rattle.amqp_decoder.proofs.Steps.{answered_begun, answered_took, not_lacking}
 use Rattle.amqp_decoder.proofs.Looks.{front_is}
 use Rattle.amqp_decoder.proofs.KindsOfCodes.{OneOf}
-use Rattle.amqp_decoder.proofs.Leaves.{has_add, has_front, has_rest, lower-lower, after_code, begun_same, fault_not_begun, took_none}
-
-minus-minus : (a m n : ℕ) → a - m - n ≡ a - (m + n)
-minus-minus a m n = omega arith
+use Rattle.amqp_decoder.proofs.Leaves.{has_add, has_front, has_rest, lower-lower, minus-minus, after_code, begun_same, fault_not_begun, took_none}
 
 pub on-on : (m n : ℕ) (st : State) → on n (on m st) ≡ on (m + n) st
 on-on m n st = rw (minus-minus st.ahead m n, drop-drop n m st.rest, lower-lower st.top.left m n) refl

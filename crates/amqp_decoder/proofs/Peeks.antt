@@ -79,7 +79,7 @@ stands-looked n st s t = (
   λ k. record { going = k.going; item = k.item; room = k.room; after = k.after; rest = k.rest; spelled = k.spelled; nested = k.nested },
 )
 
-constructor_some : (ds : List Descriptor) (c : ℕ) (b : List ℕ) → Constructor ds c b → 1 ≤ length b
+pub constructor_some : (ds : List Descriptor) (c : ℕ) (b : List ℕ) → Constructor ds c b → 1 ≤ length b
 constructor_some [] c b h = omega (arith, ap length h.0)
 constructor_some (d ∷ ds) c b (x, y, e, _, _) = omega (arith, ap length e)
 

@@ -1,9 +1,12 @@
 -- What is read one after another, and in a container.
 use Rattle.std.specs.Prelude.{◌≡◌, ℕ, List, [], ◌∷◌, ◌++◌, length}
-use Rattle.amqp_model.specs.Term.{Container, Term}
+use Rattle.amqp_model.specs.Term.{Container, Descriptor, Term}
+use Rattle.amqp_decoder.specs.declared.frame.Place.TheVariants.{InArray, InDescribed}
 use Rattle.amqp_decoder.specs.State.{State, past}
 use Rattle.amqp_decoder.specs.Primitives.{Stands}
-use Rattle.amqp_decoder.specs.Containers.{place_of, Opens, Closes}
+use Rattle.amqp_decoder.specs.Containers.{place_of, Opens, Closes, ClosesDescribed}
+use Rattle.amqp_decoder.specs.Described.{OpensDescribed}
+use Rattle.amqp_decoder.specs.Arrays.{OpensArray}
 
 -- The term stood next, and was taken.
 pub record Next (st : State) (t : Term) (st' : State) : Type 0 where
@@ -25,3 +28,21 @@ pub record Contains (kind : Container) (st : State) (ts : List Term) (st' : Stat
   pub last : State
   pub items : Row mid ts bytes last
   pub closed : Closes (place_of kind) last st'
+
+-- An array was opened, these terms were taken in it, under the constructor that they share, and it was closed.
+pub record ContainsArray (st : State) (ts : List Term) (st' : State) : Type 0 where
+  pub count : ℕ
+  pub mid : State
+  pub opened : OpensArray st count mid
+  pub bytes : List ℕ
+  pub last : State
+  pub items : Row mid ts bytes last
+  pub closed : Closes InArray last st'
+
+-- A value with this descriptor was opened, the term was taken in it, and it was closed.
+pub record DescribedStands (st : State) (d : Descriptor) (t : Term) (st' : State) : Type 0 where
+  pub inner : State
+  pub opens : OpensDescribed st d inner
+  pub bytes : List ℕ
+  pub stands : Stands inner bytes t
+  pub closes : ClosesDescribed InDescribed (past (length bytes) inner) st'

@@ -5,6 +5,7 @@ pub mod Kinds
 pub mod Primitives
 pub mod Containers
 pub mod Described
+pub mod Members
 pub mod Items
 pub mod Arrays
 pub mod Terms

@@ -1,6 +1,6 @@
 //! The laws of what the calls of a decoder read. The functions do nothing; their contracts are proved.
 ghost use Rattle.std.specs.Prelude.{◌≡◌, ◌≤◌, ◌↔◌, ℕ, List, [], ◌∷◌, ◌++◌, length, None};
-ghost use Rattle.amqp_model.specs.Term.{Container, Term, Terms, holder, list, map};
+ghost use Rattle.amqp_model.specs.Term.{Container, Descriptor, Term, Terms, holder, described, list, map, array};
 ghost use Rattle.amqp_model.specs.Items.{items_of};
 ghost use Rattle.amqp_model.specs.Standing.{Standing};
 ghost use Rattle.amqp_decoder.specs.declared.frame.Place.{Place};
@@ -9,7 +9,8 @@ ghost use Rattle.amqp_decoder.specs.Steps.{Took};
 ghost use Rattle.amqp_decoder.specs.Reading.{Begun, Peeked};
 ghost use Rattle.amqp_decoder.specs.Primitives.{Stands, Value};
 ghost use Rattle.amqp_decoder.specs.Containers.{Opens, Closes};
-ghost use Rattle.amqp_decoder.specs.Items.{Next, Row, Contains};
+ghost use Rattle.amqp_decoder.specs.Arrays.{OpensArray};
+ghost use Rattle.amqp_decoder.specs.Items.{Next, Row, Contains, ContainsArray, DescribedStands};
 
 /// What is read after a look is what is read without it.
 pub fn looks()
@@ -33,6 +34,20 @@ pub fn maps()
     ensures { (st after : State) (items : Terms) → Contains map st (items_of items) after ↔ Next st (holder map items) after }
 {}
 
+/// The same of an array, whose items stand under the constructor that they share (Part 1, sections 1.2.4 and 1.6.24); where
+/// it stands, it is taken so if no more containers are open than values may be nested.
+pub fn arrays()
+    ensures whole { (st after : State) (items : Terms) → ContainsArray st (items_of items) after → Next st (holder array items) after }
+    ensures parts { (st after : State) (items : Terms) → length st.saved ≤ st.nesting → Next st (holder array items) after → ContainsArray st (items_of items) after }
+{}
+
+/// A described value that is opened, whose value is taken, and that is closed is a term that stood there and is taken; and
+/// where a described value stands, this is how it is taken (Part 1, section 1.2).
+pub fn described_values()
+    ensures whole { (st after : State) (d : Descriptor) (t : Term) → st.nesting ≤ 128 → DescribedStands st d t after → Next st (described d t) after }
+    ensures parts { (st after : State) (d : Descriptor) (t : Term) → Next st (described d t) after → DescribedStands st d t after }
+{}
+
 /// At one state one term stands, as these bytes, and it leaves one state; of two rows of terms the shorter is the front of
 /// the longer; and a container is opened and closed in one way.
 pub fn one_reading()
@@ -40,6 +55,7 @@ pub fn one_reading()
     ensures next { (st after other : State) (t u : Term) → Next st t after → Next st u other → (t ≡ u) × (after ≡ other) }
     ensures row { (ts us : List Term) (st mid after : State) (b c : List ℕ) → Row st ts b mid → Row st us c after → length ts ≤ length us → (others : List Term) × (d : List ℕ) × (us ≡ ts ++ others) × Row mid others d after }
     ensures opens { (kind : Container) (st after other : State) (n m : ℕ) → Opens kind st n after → Opens kind st m other → (n ≡ m) × (after ≡ other) }
+    ensures opens_array { (st after other : State) (n m : ℕ) → OpensArray st n after → OpensArray st m other → (n ≡ m) × (after ≡ other) }
     ensures closes { (place : Place) (st after other : State) → Closes place st after → Closes place st other → after ≡ other }
 {}
 

@@ -1,9 +1,12 @@
 //! What stands at the top level: the end of the input, or the next section of a message (Part 3, section 3.2).
-ghost use Rattle.std.specs.Prelude.{◌≡◌, Some, IfOk, IfErr, IfSome, false};
+ghost use Rattle.std.specs.Prelude.{◌≡◌, ◌<◌, ◌≤◌, ◌+◌, ◌^◌, ◌↔◌, ℕ, map, Some, IfOk, IfErr, IfSome, option_map, false};
+ghost use Rattle.std.specs.Int.{bytes_high_first};
+ghost use Rattle.amqp_model.specs.Term.{code as of_code, name as of_name};
 ghost use Rattle.amqp_wire.specs.Sources.{Tells};
-ghost use Rattle.amqp_decoder.specs.Steps.{Answered, SourceFailed};
+ghost use Rattle.amqp_decoder.specs.Steps.{SourceFailed};
 ghost use Rattle.amqp_decoder.specs.Reading.{Reads};
-ghost use Rattle.amqp_decoder.specs.Sections.{IsTop, NotTop, Ends, LooksOn, IsSection, PeeksSection};
+ghost use Rattle.amqp_decoder.specs.Members.{as_name};
+ghost use Rattle.amqp_decoder.specs.Sections.{IsTop, NotTop, Ends, LooksOn, sections, IsOfSection, IsNameAhead, IsLongNameAhead, IsLongCodeAhead, IsSectionAhead, PeeksSection};
 
 use crate::Decoder;
 use crate::decoder::LOOK;
@@ -24,32 +27,47 @@ const SECTIONS: Members<'static> = &[
     (0x78, "amqp:footer:map"),
 ];
 
+/// The members that a section may be.
+fn section_members() -> Members<'static>
+    ensures { map as_name result.now ≡ sections }
+{
+    SECTIONS
+}
+
+/// The code of the first section.
+const FIRST: u8 = 0x70;
+
 /// The code of the section at a place.
 fn section_at(place: Option<usize>) -> Option<u8>
-    ensures { IfSome result IsSection }
+    requires { IfSome place (λ i. i < 9) }
+    ensures { result ≡ option_map (λ i. 0x70 + i) place }
 {
     match place {
-        Some(place) if place < 9 => Some(0x70 + place as u8),
-        _ => None,
+        Some(place) => Some(FIRST + place as u8),
+        None => None,
     }
 }
 
-/// The section whose descriptor these bytes are.
-fn section_of(descriptor: &[u8]) -> Option<u8>
-    ensures { IfSome result IsSection }
+/// The section with this code.
+fn section_of_code(code: u64) -> Option<u8>
+    ensures { (c : ℕ) → (result ≡ Some c) ↔ IsOfSection c (of_code code) }
 {
-    match descriptor {
-        [format_code::SMALL_ULONG, code] => section_at(place_of_code(SECTIONS, u64::from(*code))),
-        [format_code::ULONG, a, b, c, d, e, f, g, h] => {
-            let code = u64::from_be_bytes([*a, *b, *c, *d, *e, *f, *g, *h]);
-            section_at(place_of_code(SECTIONS, code))
-        }
-        [format_code::SYMBOL_8, _, name @ ..] => section_at(place_of_name(SECTIONS, name)),
-        [format_code::SYMBOL_32, _, _, _, _, name @ ..] => {
-            section_at(place_of_name(SECTIONS, name))
-        }
-        _ => None,
-    }
+    section_at(place_of_code(section_members(), code))
+}
+
+/// The code of the section with this name.
+fn section_of_name(name: &[u8]) -> Option<u8>
+    ensures { (c : ℕ) → (result ≡ Some c) ↔ IsOfSection c (of_name name.now) }
+{
+    section_at(place_of_name(section_members(), name))
+}
+
+/// The size of a text that these bytes are.
+fn text_size(bytes: [u8; 4]) -> usize
+    ensures fits { result < 256 ^ 4 }
+    ensures value { bytes_high_first 4 result ≡ bytes }
+{
+    u32::from_be_bytes(bytes) as usize
 }
 
 impl<R: ByteSource> Decoder<R> {
@@ -72,61 +90,75 @@ impl<R: ByteSource> Decoder<R> {
         Ok(!self.look_next()?)
     }
 
-    // How many bytes a described value's code and its descriptor take, which is a symbol with a size of four bytes.
-    fn long_name_len(&mut self) -> Result<Option<usize>, Error>
-        ensures ok { Tells R.remaining → IfOk result (λ _. LooksOn self.old self.new) }
-        ensures err { IfErr result (λ e. Answered self.old e self.new × SourceFailed e self.new) }
+    // The section that these bytes name, so many that begin so far behind the next one.
+    fn section_named(&mut self, start: usize, len: usize) -> Result<Option<u8>, Error>
+        requires { start ≤ 64 }
+        ensures ok { Tells R.remaining → IfOk result (λ section. LooksOn self.old self.new × ((c : ℕ) → (section ≡ Some c) ↔ IsNameAhead start len self.old.rest c)) }
+        ensures err { IfErr result (λ e. (self.new.error ≡ Some e) × SourceFailed e self.new) }
     {
-        if self.look(6)? < 6 {
+        if len > LOOK - start {
             return Ok(None);
         }
-        let len = [
-            self.looked_byte(2),
-            self.looked_byte(3),
-            self.looked_byte(4),
-            self.looked_byte(5),
-        ];
-        Ok(Some((u32::from_be_bytes(len) as usize).saturating_add(6)))
+        self.look(start + len)?;
+        match self.looked().get(start..start + len) {
+            Some(name) => Ok(section_of_name(name)),
+            None => Ok(None),
+        }
     }
 
-    // How many bytes a described value's code and its descriptor take, of the kinds that name sections.
-    fn descriptor_len(&mut self) -> Result<Option<usize>, Error>
-        ensures ok { Tells R.remaining → IfOk result (λ _. LooksOn self.old self.new) }
-        ensures err { IfErr result (λ e. Answered self.old e self.new × SourceFailed e self.new) }
+    // The section whose name stands next behind a size of four bytes.
+    fn section_of_symbol(&mut self) -> Result<Option<u8>, Error>
+        ensures ok { Tells R.remaining → IfOk result (λ section. LooksOn self.old self.new × ((c : ℕ) → (section ≡ Some c) ↔ IsLongNameAhead self.old.rest c)) }
+        ensures err { IfErr result (λ e. (self.new.error ≡ Some e) × SourceFailed e self.new) }
     {
-        if self.look(3)? < 3 {
+        self.look(6)?;
+        let &[_, _, a, b, c, d, ..] = self.looked() else {
+            return Ok(None);
+        };
+        self.section_named(6, text_size([a, b, c, d]))
+    }
+
+    // The section whose code stands next as eight bytes.
+    fn section_of_ulong(&mut self) -> Result<Option<u8>, Error>
+        ensures ok { Tells R.remaining → IfOk result (λ section. LooksOn self.old self.new × ((c : ℕ) → (section ≡ Some c) ↔ IsLongCodeAhead self.old.rest c)) }
+        ensures err { IfErr result (λ e. (self.new.error ≡ Some e) × SourceFailed e self.new) }
+    {
+        self.look(10)?;
+        let &[_, _, a, b, c, d, e, f, g, h, ..] = self.looked() else {
+            return Ok(None);
+        };
+        let code = u64::from_be_bytes([a, b, c, d, e, f, g, h]);
+        Ok(section_of_code(code))
+    }
+
+    // The section whose descriptor stands next.
+    fn section_ahead(&mut self) -> Result<Option<u8>, Error>
+        ensures ok { Tells R.remaining → IfOk result (λ section. LooksOn self.old self.new × ((c : ℕ) → (section ≡ Some c) ↔ IsSectionAhead self.old c)) }
+        ensures err { IfErr result (λ e. (self.new.error ≡ Some e) × SourceFailed e self.new) }
+    {
+        self.look(3)?;
+        let &[first, code, next, ..] = self.looked() else {
+            return Ok(None);
+        };
+        if first != format_code::DESCRIBED {
             return Ok(None);
         }
-        if self.looked_byte(0) != format_code::DESCRIBED {
-            return Ok(None);
-        }
-        match self.looked_byte(1) {
-            format_code::SMALL_ULONG => Ok(Some(3)),
-            format_code::ULONG => Ok(Some(10)),
-            format_code::SYMBOL_8 => Ok(Some(3 + usize::from(self.looked_byte(2)))),
-            format_code::SYMBOL_32 => self.long_name_len(),
+        match code {
+            format_code::SMALL_ULONG => Ok(section_of_code(u64::from(next))),
+            format_code::ULONG => self.section_of_ulong(),
+            format_code::SYMBOL_8 => self.section_named(3, usize::from(next)),
+            format_code::SYMBOL_32 => self.section_of_symbol(),
             _ => Ok(None),
         }
     }
 
-    /// The code of the section whose whole descriptor stands next at the top level, if one does. Nothing is taken, and
-    /// at most 64 bytes are looked at; `InvalidValue` in a container.
+    /// The code of the section whose whole descriptor, in any of its spellings, stands next at the top level within 64
+    /// bytes; `None` where none does. Nothing is taken, and at most 64 bytes are looked at; `InvalidValue` in a
+    /// container.
     pub fn peek_section(&mut self) -> Result<Option<u8>, Error>
         ensures { Tells R.remaining → Reads false PeeksSection NotTop self.old result self.new }
     {
         self.check_top()?;
-        let Some(len) = self.descriptor_len()? else {
-            return Ok(None);
-        };
-        if len > LOOK {
-            return Ok(None);
-        }
-        if self.look(len)? < len {
-            return Ok(None);
-        }
-        match self.looked().get(1..len) {
-            Some(descriptor) => Ok(section_of(descriptor)),
-            None => Ok(None),
-        }
+        self.section_ahead()
     }
 }

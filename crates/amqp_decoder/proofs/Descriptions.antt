@@ -1,5 +1,6 @@
--- A described value that stands next is opened, what is described stands in it, and it is closed (Part 1, section 1.2).
-use Rattle.std.proofs.Common.{◌≡◌, ℕ, ◌+◌, ◌-◌, ◌<◌, ◌≤◌, List, [], ◌∷◌, ◌++◌, length, drop, get_or, Option, Some, None, option_map, refl, sym, ap, ap₂, ◌∙◌, subst, arith, append_assoc, length-append, drop-drop}
+-- A described value is opened, what is described stands in it, and it is closed; and the other way round (Part 1,
+-- section 1.2).
+use Rattle.std.proofs.Common.{◌≡◌, ℕ, ◌+◌, ◌<◌, ◌≤◌, List, [], ◌∷◌, ◌++◌, length, drop, get_or, Option, Some, None, option_map, refl, sym, ap, ap₂, ◌∙◌, subst, arith, append_assoc, length-append, drop-drop}
 use Rattle.std.proofs.lemmas.List.{drop_at}
 use Rattle.amqp_model.specs.Term.{list, map, array, Descriptor, Term, leaf, holder, described, kept, barred}
 use Rattle.amqp_model.specs.Spelling.{Names, enc, data_of}
@@ -10,16 +11,9 @@ use Rattle.amqp_decoder.specs.Steps.{Took}
 use Rattle.amqp_decoder.specs.Reading.{IsFirst}
 use Rattle.amqp_decoder.specs.Primitives.{standing, SpellsAs, Stands}
 use Rattle.amqp_decoder.specs.Containers.{ClosesDescribed}
-use Rattle.amqp_decoder.specs.Described.{IsDescriptor, behind, entered, OpensDescribed}
-use Rattle.amqp_decoder.proofs.Leaves.{has_add, has_front, has_rest, lower-lower}
-
--- The term stands next behind the descriptor.
-pub record DescribedStands (st : State) (d : Descriptor) (t : Term) (b : State) : Type 0 where
-  pub inner : State
-  pub opens : OpensDescribed st d inner
-  pub bytes : List ℕ
-  pub stands : Stands inner bytes t
-  pub closes : ClosesDescribed InDescribed (past (length bytes) inner) b
+use Rattle.amqp_decoder.specs.Described.{IsDescriptor, behind, entered}
+use Rattle.amqp_decoder.specs.Items.{Next, DescribedStands}
+use Rattle.amqp_decoder.proofs.Leaves.{has_add, has_front, has_rest, lower-lower, minus-minus}
 
 -- a term nests at least as deep as it is described
 marks_nest : (t : Term) (ds : List Descriptor) (c : ℕ) (b : List ℕ) → data_of t ds c b → length ds ≤ nest t
@@ -49,9 +43,6 @@ described_spelled None first own s d t few f n (ds, c, _, (h, x, e, k, data_)) =
 described_spelled (Some ([], k)) first own s d t few f n h = absurd n
 described_spelled (Some (m ∷ ds, k)) first own s d t few f n h = subst (λ l. data_of (described d t) (m ∷ ds) k (l ++ (own ++ s))) (sym f.0) (subst (λ l. data_of (described d t) (m ∷ ds) k (l ++ s)) (sym n.0) (n.1, h))
 
-minus_minus : (a m n : ℕ) → a - m - n ≡ a - (m + n)
-minus_minus a m n = omega arith
-
 sum : (a b c : ℕ) → a + (b + c) ≡ a + b + c
 sum a b c = omega arith
 
@@ -62,7 +53,7 @@ inside_described first own st = entered (on own (past first st))
 -- the state behind it
 back : (first own s : ℕ) (st : State) → past (first + (own + s)) st ≡ record (past s (inside_described first own st)) { top = record (on own (past first st)).top { left = lower (on own (past first st)).top.left s }; saved = st.saved }
 back first own s st = ap (λ z. past z st) (sum first own s)
-    ∙ sym (rw (minus_minus st.ahead first own, minus_minus st.ahead (first + own) s, drop-drop own first st.rest, drop-drop s (first + own) st.rest, lower-lower st.top.left first own, lower-lower st.top.left (first + own) s) refl)
+    ∙ sym (rw (minus-minus st.ahead first own, minus-minus st.ahead (first + own) s, drop-drop own first st.rest, drop-drop s (first + own) st.rest, lower-lower st.top.left first own, lower-lower st.top.left (first + own) s) refl)
 
 left_described : (first own s : ℕ) (st b : State) → ClosesDescribed InDescribed (past s (inside_described first own st)) b → b ≡ past (first + (own + s)) st
 left_described first own s st b c =
@@ -73,7 +64,7 @@ left_described first own s st b c =
     c.moved ∙ ap₂ (λ (t : Open) l. record (past s (inside_described first own st)) { top = record t { left = lower mid.top.left s }; saved = l }) (sym outer) (sym others) ∙ sym (back first own s st)
 
 -- What was opened, taken and closed is one term.
-pub described_term : (st : State) (d : Descriptor) (t : Term) (b : State) → st.nesting ≤ 128 → DescribedStands st d t b → (z : List ℕ) × Stands st z (described d t) × (b ≡ past (length z) st)
+pub described_term : (st : State) (d : Descriptor) (t : Term) (b : State) → st.nesting ≤ 128 → DescribedStands st d t b → Next st (described d t) b
 described_term st d t b bound h =
     let o = h.opens in
     let first = o.begun.own in
@@ -85,9 +76,10 @@ described_term st d t b bound h =
     let closes = subst (λ (i : State). ClosesDescribed InDescribed (past (length h.bytes) i) b) inner h.closes in
     let long : length (first ++ (own ++ h.bytes)) ≡ length first + (length own + length h.bytes) = length-append first (own ++ h.bytes) ∙ ap (λ k. length first + k) (length-append own h.bytes) in
     let all : Has st.top.left (length first + (length own + length h.bytes)) =
-    has_add st.top.left (length first) (length own + length h.bytes) o.begun.room (has_add (lower st.top.left (length first)) (length own) (length h.bytes) took.room stands.room) in (
-      first ++ (own ++ h.bytes),
-      record {
+    has_add st.top.left (length first) (length own + length h.bytes) o.begun.room (has_add (lower st.top.left (length first)) (length own) (length h.bytes) took.room stands.room) in
+    record {
+      bytes = first ++ (own ++ h.bytes);
+      stands = record {
         going = o.begun.going;
         item = o.begun.item;
         room = subst (Has st.top.left) (sym long) all;
@@ -95,9 +87,9 @@ described_term st d t b bound h =
         rest = o.begun.rest ∙ ap (λ x. first ++ x) (took.rest ∙ ap (λ x. own ++ x) stands.rest) ∙ ap (λ x. first ++ x) (sym (append_assoc own h.bytes stands.after)) ∙ sym (append_assoc first (own ++ h.bytes) stands.after);
         spelled = described_spelled st.top.shared first own h.bytes d t (let x = stands.nested in let y = o.nested in omega (arith, x, y, bound)) o.begun.first descriptor stands.spelled;
         nested = let x = stands.nested in let y = o.nested in omega (arith, x, y);
-      },
-      left_described (length first) (length own) (length h.bytes) st b closes ∙ ap (λ k. past k st) (sym long),
-    )
+      };
+      moved = left_described (length first) (length own) (length h.bytes) st b closes ∙ ap (λ k. past k st) (sym long);
+    }
 
 described_split : (o : Option (List Descriptor × ℕ)) (z : List ℕ) (d : Descriptor) (t : Term) → SpellsAs (standing o z) (described d t)
     → (first own s : List ℕ) × IsFirst o 0 first × IsDescriptor o d own × (z ≡ first ++ (own ++ s)) × SpellsAs (standing (behind o) s) t
@@ -116,8 +108,10 @@ described_split (Some ([], k)) z d t h = absurd h
 described_split (Some (f ∷ ds, k)) z d t h = ([], [], z, (refl, refl), (refl, h.0), refl, h.1)
 
 -- A term that is described is opened, taken and closed.
-pub term_described : (st : State) (z : List ℕ) (d : Descriptor) (t : Term) → Stands st z (described d t) → DescribedStands st d t (past (length z) st)
-term_described st z d t h =
+pub term_described : (st : State) (d : Descriptor) (t : Term) (b : State) → Next st (described d t) b → DescribedStands st d t b
+term_described st d t b next =
+    let z = next.bytes in
+    let h = next.stands in
     let f = described_split st.top.shared z d t h.spelled in
     let first = f.0 in
     let own = f.1 in
@@ -157,6 +151,6 @@ term_described st z d t h =
         outer = record mid.top { left = option_map (λ l. 0) mid.top.left };
         others = st.saved;
         saved = refl;
-        moved = ap (λ k. past k st) long ∙ back (length first) (length own) (length s) st;
+        moved = next.moved ∙ ap (λ k. past k st) long ∙ back (length first) (length own) (length s) st;
       };
     }

@@ -1,0 +1,357 @@
+-- An array that is opened, whose items are taken, and that is closed, is a whole term; and the other way round.
+use Rattle.std.proofs.Common.{◌≡◌, ◌≤◌, ◌<◌, ℕ, zero, suc, ◌+◌, ◌-◌, ◌^◌, ◌⊎◌, inl, inr, max, false, Option, Some, None, List, [], ◌∷◌, ◌++◌, length, drop, get_or, refl, sym, ap, ap₂, ◌∙◌, subst, arith, append_assoc, append-nil, drop-drop, length-append}
+use Rattle.std.proofs.lemmas.List.{drop_at}
+use Rattle.std.specs.Int.{bytes_high_first}
+use Rattle.amqp_model.specs.Term.{Primitive, list, map, array, Container, Term, Terms, leaf, holder, described, kept, barred, none, more, count, Descriptor}
+use Rattle.amqp_model.specs.Items.{items_of}
+use Rattle.amqp_model.specs.Constructors.{Format, fixed, variable, compound, unknown, format}
+use Rattle.amqp_model.specs.Spelling.{Constructor, PrimitiveData, ContainerData, data_of, elements_of, shared_data_of}
+use Rattle.amqp_model.specs.Measures.{nest, nests, array_nest}
+use Rattle.amqp_decoder.specs.declared.frame.Place.TheVariants.{InArray}
+use Rattle.amqp_decoder.specs.State.{Open, State, Has, lower, on, past, inside}
+use Rattle.amqp_decoder.specs.Steps.{Took}
+use Rattle.amqp_decoder.specs.Containers.{Header}
+use Rattle.amqp_decoder.specs.Arrays.{TookConstructor, IsFlat, Shares, no_items, shared_by, Starts, EntersArray, OpensArray}
+use Rattle.amqp_decoder.specs.Items.{Row, Next, ContainsArray}
+use Rattle.amqp_decoder.proofs.Looks.{front_is}
+use Rattle.amqp_decoder.proofs.Leaves.{has_add, lower-lower, minus-minus, begun_same}
+use Rattle.amqp_decoder.proofs.Peeks.{constructor_some}
+use Rattle.amqp_decoder.proofs.Opening.{header_same, one_width, took_both}
+use Rattle.amqp_decoder.proofs.Constructed.{one_constructor}
+use Rattle.amqp_decoder.proofs.Holders.{many, together, AllSpelled, row_spelled, row_of, Split, container_split, split_container, first_spelled, front_of, holder_bare, known, used_up, closed_at, three, took_parts}
+
+-- what a row of terms under one constructor is as data
+all_data : (us : Terms) (ds : List Descriptor) (c : ℕ) (b : List ℕ) → AllSpelled (Some (ds, c)) us b → shared_data_of us ds c b
+all_data none ds c b h = h
+all_data (more t us) ds c b (s, r, e, h, hs) = (s, r, e, h, all_data us ds c r hs)
+
+data_all : (us : Terms) (ds : List Descriptor) (c : ℕ) (b : List ℕ) → shared_data_of us ds c b → AllSpelled (Some (ds, c)) us b
+data_all none ds c b h = h
+data_all (more t us) ds c b (s, r, e, h, hs) = (s, r, e, h, data_all us ds c r hs)
+
+flat_holds : (F : Format) (k : Container) (n : ℕ) (C : List ℕ → Type 0) (b : List ℕ) → IsFlat [] F → ContainerData F k n C b → ⊥
+flat_holds (fixed w f) k n C b flat h = h
+flat_holds (variable w f) k n C b flat h = h
+flat_holds (compound j w) k n C b flat h = flat
+flat_holds unknown k n C b flat h = h
+
+-- an item of a constructor that holds no others is a primitive
+flat_leaf : (t : Term) (ds : List Descriptor) (c : ℕ) (b : List ℕ) → IsFlat ds (format c) → data_of t ds c b → (nest t ≡ 0) × ((us : Terms) → array_nest (more t us) ≡ array_nest us)
+flat_leaf t (e ∷ ds) c b flat h = absurd flat
+flat_leaf (leaf p) [] c b flat h = (refl, λ us. refl)
+flat_leaf (holder list ts) [] c b flat h = absurd (flat_holds (format c) list _ _ b flat h)
+flat_leaf (holder map ts) [] c b flat h = absurd (flat_holds (format c) map _ _ b flat h.1)
+flat_leaf (holder array ts) [] c b flat h = absurd (flat_holds (format c) array _ _ b flat h)
+flat_leaf (described d t) [] c b flat h = absurd h
+flat_leaf (kept k) [] c b flat h = absurd h
+flat_leaf (barred r) [] c b flat h = absurd h
+
+flat_rows : (us : Terms) (ds : List Descriptor) (c : ℕ) (b : List ℕ) → IsFlat ds (format c) → shared_data_of us ds c b → (nests us ≡ 0) × (array_nest us ≡ 0)
+flat_rows none ds c b flat h = (refl, refl)
+flat_rows (more t us) ds c b flat (s, r, e, h, hs) =
+    let one = flat_leaf t ds c s flat h in
+    let all = flat_rows us ds c r flat hs in
+    (omega (arith, one.0, all.0), one.1 us ∙ all.1)
+
+array_nest_most : (us : Terms) → array_nest us ≤ suc (nests us)
+array_nest_most none = omega arith
+array_nest_most (more (holder k vs) us) = omega arith
+array_nest_most (more (described d t) us) = omega arith
+array_nest_most (more (leaf p) us) = omega (arith, array_nest_most us)
+array_nest_most (more (kept k) us) = omega (arith, array_nest_most us)
+array_nest_most (more (barred r) us) = omega (arith, array_nest_most us)
+
+flat_format : (F : Format) (p : Primitive) (b : List ℕ) → PrimitiveData F p b → IsFlat [] F
+flat_format (fixed w f) p b h = tt
+flat_format (variable w f) p b h = tt
+flat_format (compound k w) p b h = h
+flat_format unknown p b h = tt
+
+-- the items hold no others, or the array counts in nesting
+flat_or_deep : (t : Term) (us : Terms) (ds : List Descriptor) (c : ℕ) (b : List ℕ) → data_of t ds c b → IsFlat ds (format c) ⊎ (array_nest (more t us) ≡ suc (nests (more t us)))
+flat_or_deep (leaf p) us [] c b h = inl (flat_format (format c) p b h)
+flat_or_deep (leaf p) us (e ∷ ds) c b h = absurd h
+flat_or_deep (holder k ts) us ds c b h = inr refl
+flat_or_deep (described d t) us ds c b h = inr refl
+flat_or_deep (kept k) us [] c b h = absurd h
+flat_or_deep (kept k) us (e ∷ ds) c b h = absurd h
+flat_or_deep (barred r) us [] c b h = absurd h
+flat_or_deep (barred r) us (e ∷ ds) c b h = absurd h
+
+-- the items of an array stand, behind a constructor of x bytes
+abbrev within : ℕ → Option (List Descriptor × ℕ) → ℕ → ℕ → State → State
+within x o n content at = record (on x (inside InArray n content at)) { top = record (on x (inside InArray n content at)).top { shared = o } }
+
+-- the first item of an array stands next
+record Started (us : Terms) (n content : ℕ) (at mid : State) : Type 0 where
+  pub own : List ℕ
+  pub shared : Option (List Descriptor × ℕ)
+  pub is : mid ≡ within (length own) shared n content at
+  pub took : Took (inside InArray n content at) own (on (length own) (inside InArray n content at))
+  pub elements : (b : List ℕ) → AllSpelled shared us b → elements_of us (own ++ b)
+  pub nested : (b : List ℕ) → AllSpelled shared us b → nests us ≤ at.nesting - suc (length at.saved) → array_nest us ≤ at.nesting - length at.saved
+
+on_none : (st : State) (l : ℕ) → st.top.left ≡ Some l → st ≡ on 0 st
+on_none st l e =
+    let a : st.ahead ≡ st.ahead - 0 = omega arith in
+    let n : l ≡ l - 0 = omega arith in
+    let same : st.top.left ≡ lower st.top.left 0 = e ∙ ap Some n ∙ ap (λ o. lower o 0) (sym e) in
+    ap (λ k. record st { ahead = k }) a ∙ ap (λ o. record st { ahead = st.ahead - 0; top = record st.top { left = o } }) same
+
+started : (us : Terms) (n content : ℕ) (at mid : State) → n ≡ count us → Starts n content (inside InArray n content at) mid → Started us n content at mid
+started none n content at mid len (inl (e, is)) = record {
+  own = [];
+  shared = None;
+  is = is ∙ on_none (inside InArray n content at) content refl;
+  took = record { room = omega arith; rest = refl; moved = refl };
+  elements = λ b h. inl h;
+  nested = λ b h k. omega arith;
+}
+started none n content at mid len (inr (some, no_items ds c empty t)) = record {
+  own = t.own;
+  shared = None;
+  is = t.took.moved;
+  took = subst (Took (inside InArray n content at) t.own) t.took.moved t.took;
+  elements = λ b h. inr (ds, c, t.few, (t.own, b, refl, t.spelled, h));
+  nested = λ b h k. omega arith;
+}
+started none n content at mid len (inr (some, shared_by ds c m full t wide fits is)) = absurd (full (ap Some len))
+started (more t us) n content at mid len (inl (e, is)) = absurd (omega (arith, e, len))
+started (more t us) n content at mid len (inr (some, no_items ds c empty k)) = absurd (let e : Some n ≡ Some 0 = empty in let z : n ≡ 0 = cc in omega (arith, z, len))
+started (more t us) n content at mid len (inr (some, shared_by ds c m full k wide fits is)) = record {
+  own = k.own;
+  shared = Some (ds, c);
+  is = is ∙ ap (λ (z : State). record z { top = record z.top { shared = Some (ds, c) } }) k.took.moved;
+  took = subst (Took (inside InArray n content at) k.own) k.took.moved k.took;
+  elements = λ b (s, r, e, h, hs). (ds, c, k.few, (k.own, b, refl, k.spelled, (wide, (s, r, e, h, all_data us ds c r hs))));
+  nested = λ b h few. elim fits [
+    | inl flat ↦ let z = flat_rows (more t us) ds c b flat (all_data (more t us) ds c b h) in omega (arith, z.1)
+    | inr deep ↦ omega (arith, deep, few, array_nest_most (more t us))
+  ];
+}
+
+starts_items : (n content : ℕ) (st mid : State) → Starts n content st mid → mid.top.items ≡ st.top.items
+starts_items n content st mid (inl (e, is)) = ap (λ (z : State). z.top.items) is
+starts_items n content st mid (inr (some, no_items ds c empty t)) = ap (λ (z : State). z.top.items) t.took.moved
+starts_items n content st mid (inr (some, shared_by ds c m full t wide fits is)) = ap (λ (z : State). z.top.items) is ∙ ap (λ (z : State). z.top.items) t.took.moved
+
+-- the container around an array that was left
+array_left : (x b n content : ℕ) (o : Option (List Descriptor × ℕ)) (at : State) → content ≡ x + b → record (many n b (within x o n content at)) { top = record at.top { left = lower at.top.left content }; saved = at.saved } ≡ on (x + b) at
+array_left x b n content o at e = rw (minus-minus at.ahead x b, drop-drop b x at.rest, e) refl
+
+four : (own h x b : List ℕ) → length (own ++ (h ++ (x ++ b))) ≡ length own + length h + (length x + length b)
+four own h x b = three own h (x ++ b) ∙ ap (λ n. length own + length h + n) (length-append x b)
+
+pub whole_array : (st : State) (us : Terms) (new : State) → ContainsArray st (items_of us) new → Next st (holder array us) new
+whole_array st us new c =
+    let o = c.opened in
+    let d = o.data_ in
+    let g = o.begun in
+    let own = g.own in
+    let b = c.bytes in
+    let t = together us c.mid b c.last c.items in
+    let n_is : c.count ≡ count us = used_up c.mid.top.items c.count (count us) (starts_items c.count d.content _ c.mid d.starts) t.items (sym (ap (λ (z : State). z.top.items) t.moved) ∙ c.closed.items) in
+    let s = started us c.count d.content d.mid c.mid n_is d.starts in
+    let x = s.own in
+    let over : d.content - length x ≡ length b = used_up c.mid.top.left (d.content - length x) (length b) (ap (λ (z : State). z.top.left) s.is) t.room (sym (ap (λ (z : State). z.top.left) t.moved) ∙ c.closed.left) in
+    let few : length x ≤ d.content = s.took.room in
+    let k_is : d.content ≡ length x + length b = omega (arith, over, few) in
+    let h : Header false o.width o.mid (count us) d.content d.mid = subst (λ n. Header false o.width o.mid n d.content d.mid) n_is d.header in
+    let head = bytes_high_first o.width h.size ++ bytes_high_first o.width (count us) in
+    let at : State = on (length head) (past (length own) st) in
+    let at_is : d.mid ≡ at = h.took.moved ∙ ap (on (length head)) g.moved in
+    let tk = subst (λ z. Took z head d.mid) g.moved h.took in
+    let first : Took st own (on (length own) st) = record { room = g.room; rest = g.rest; moved = refl } in
+    let second : Took (on (length own) st) head (on (length head) (on (length own) st)) = record { room = tk.room; rest = tk.rest; moved = refl } in
+    let long : length (x ++ b) ≡ length x + length b = length-append x b in
+    let third : Took (on (length head) (on (length own) st)) (x ++ b) (on (length (x ++ b)) (on (length head) (on (length own) st))) = record {
+      room = subst (Has at.top.left) (k_is ∙ sym long) (subst (λ (z : State). Has z.top.left d.content) at_is d.room);
+      rest = subst (λ (z : State). z.rest ≡ (x ++ b) ++ drop (length (x ++ b)) z.rest) at_is (front_is (x ++ b) d.mid.rest (drop (length b) (drop (length x) d.mid.rest)) (length (x ++ b)) refl
+          (s.took.rest ∙ ap (λ l. x ++ l) (subst (λ (z : State). z.rest ≡ b ++ drop (length b) z.rest) s.is t.rest) ∙ sym (append_assoc x b (drop (length b) (drop (length x) d.mid.rest)))));
+      moved = refl;
+    } in
+    let all = took_both st _ _ own (head ++ (x ++ b)) first (took_both _ _ _ head (x ++ b) second third) in
+    let rows = row_spelled s.shared us c.mid b c.last (ap (λ (z : State). z.top.shared) s.is) c.items in
+    let split : Split array (format o.code) (count us) (elements_of us) (head ++ (x ++ b)) = record {
+      width = o.width;
+      size = h.size;
+      content = x ++ b;
+      announced = o.announced;
+      sized = elim h.counts [ inl e ↦ inl (e ∙ ap (λ k. o.width + k) (k_is ∙ sym long)) | inr (listed, e, f, z) ↦ absurd (cc) ];
+      inner = s.elements b rows;
+      fits = h.fits;
+      few = h.few;
+      whole = append_assoc (bytes_high_first o.width h.size) (bytes_high_first o.width (count us)) (x ++ b);
+    } in
+    let data_is = split_container (format o.code) array (count us) (elements_of us) (head ++ (x ++ b)) split in
+    let levels : length c.mid.saved ≡ suc (length d.mid.saved) = ap (λ (z : State). length z.saved) s.is in
+    let limit : c.mid.nesting ≡ d.mid.nesting = ap (λ (z : State). z.nesting) s.is in
+    let deep : array_nest us ≤ d.mid.nesting - length d.mid.saved = s.nested b rows (let m = t.nested in omega (arith, m, levels, limit)) in
+    let left : new ≡ record (many (count us) (length b) (within (length x) s.shared c.count d.content d.mid)) { top = c.closed.outer; saved = c.closed.others } = c.closed.moved ∙ ap (λ (z : State). record z { top = c.closed.outer; saved = c.closed.others }) (t.moved ∙ ap (many (count us) (length b)) s.is) in
+    let saved : (record d.mid.top { left = lower d.mid.top.left d.content }) ∷ d.mid.saved ≡ c.closed.outer ∷ c.closed.others = sym (ap (λ (z : State). z.saved) (t.moved ∙ ap (many (count us) (length b)) s.is)) ∙ c.closed.saved in
+    let out : new ≡ on (length x + length b) d.mid = left
+    ∙ ap₂ (λ (f : Open) (l : List Open). record (many (count us) (length b) (within (length x) s.shared c.count d.content d.mid)) { top = f; saved = l }) (sym (ap (λ l. get_or l 0 d.mid.top) saved)) (sym (ap (drop 1) saved))
+    ∙ ap (λ n. record (many (count us) (length b) (within (length x) s.shared n d.content d.mid)) { top = record d.mid.top { left = lower d.mid.top.left d.content }; saved = d.mid.saved }) n_is
+    ∙ array_left (length x) (length b) (count us) d.content s.shared d.mid k_is in
+    record {
+      bytes = own ++ (head ++ (x ++ b));
+      stands = record {
+        going = g.going;
+        item = g.item;
+        room = all.room;
+        after = drop (length (own ++ (head ++ (x ++ b)))) st.rest;
+        rest = all.rest;
+        spelled = first_spelled st.top.shared o.code own (head ++ (x ++ b)) (holder array us) g.first (known (format o.code) array o.width o.announced) data_is;
+        nested = subst (λ (z : State). array_nest us ≤ z.nesting - length z.saved) at_is deep;
+      };
+      moved = out ∙ ap (on (length x + length b)) at_is ∙ closed_at st (past (length own) st) at (length own) (length head) (length x + length b) refl refl ∙ ap (λ k. past k st) (sym (four own head x b));
+    }
+
+-- how an array that stands there is begun
+record Beginning (us : Terms) (content : List ℕ) (at : State) : Type 0 where
+  pub own : List ℕ
+  pub items : List ℕ
+  pub shared : Option (List Descriptor × ℕ)
+  pub split : content ≡ own ++ items
+  pub spelled : AllSpelled shared us items
+  pub starts : Starts (count us) (length content) (inside InArray (count us) (length content) at) (within (length own) shared (count us) (length content) at)
+  pub nested : nests us ≤ at.nesting - suc (length at.saved)
+
+-- the constructor of the items is there
+constructed : (n : ℕ) (content own items after : List ℕ) (ds : List Descriptor) (c : ℕ) (at : State) → content ≡ own ++ items → at.rest ≡ content ++ after → length ds ≤ 128 → Constructor ds c own
+    → TookConstructor (inside InArray n (length content) at) ds c (on (length own) (inside InArray n (length content) at))
+constructed n content own items after ds c at e rest few k = record {
+  own = own;
+  few = few;
+  spelled = k;
+  took = record {
+    room = omega (arith, ap length e, length-append own items);
+    rest = front_is own at.rest (items ++ after) (length own) refl (rest ∙ ap (λ l. l ++ after) e ∙ append_assoc own items after);
+    moved = refl;
+  };
+}
+
+some_content : (n : ℕ) (content own items : List ℕ) (ds : List Descriptor) (c : ℕ) → content ≡ own ++ items → Constructor ds c own → 0 < max n (length content)
+some_content n content own items ds c e k = omega (arith, ap length e, length-append own items, constructor_some ds c own k)
+
+beginning : (us : Terms) (content after : List ℕ) (at : State) → elements_of us content → at.rest ≡ content ++ after → array_nest us ≤ at.nesting - length at.saved → Beginning us content at
+beginning none content after at (inl e) rest deep = record {
+  own = [];
+  items = [];
+  shared = None;
+  split = e;
+  spelled = refl;
+  starts = inl (omega (arith, ap length e), sym (on_none (inside InArray 0 (length content) at) (length content) refl));
+  nested = omega arith;
+}
+beginning none content after at (inr (ds, c, few, (own, items, e, k, h))) rest deep = record {
+  own = own;
+  items = items;
+  shared = None;
+  split = e;
+  spelled = h;
+  starts = inr (some_content 0 content own items ds c e k, no_items ds c refl (constructed 0 content own items after ds c at e rest few k));
+  nested = omega arith;
+}
+beginning (more t us) content after at (ds, c, few, (own, items, e, k, (wide, (s, r, f, h, hs)))) rest deep =
+    let room : IsFlat ds (format c) ⊎ (suc (length at.saved) ≤ at.nesting) = elim (flat_or_deep t us ds c s h) [ inl x ↦ inl x | inr x ↦ inr (omega (arith, x, deep)) ] in
+    let few_ : nests (more t us) ≤ at.nesting - suc (length at.saved) = elim (flat_or_deep t us ds c s h) [ inl x ↦ omega (arith, (flat_rows (more t us) ds c items x (s, r, f, h, hs)).0) | inr x ↦ omega (arith, x, deep) ] in
+    record {
+      own = own;
+      items = items;
+      shared = Some (ds, c);
+      split = e;
+      spelled = (s, r, f, h, data_all us ds c r hs);
+      starts = inr (some_content (count (more t us)) content own items ds c e k, shared_by ds c _ (λ z. let y : suc (count us) ≡ 0 = cc in absurd (omega (arith, y))) (constructed (count (more t us)) content own items after ds c at e rest few k) wide room refl);
+      nested = few_;
+    }
+
+-- an array that stands there is opened, its items are taken and it is closed
+pub array_parts : (st : State) (us : Terms) (new : State) → length st.saved ≤ st.nesting → Next st (holder array us) new → ContainsArray st (items_of us) new
+array_parts st us new few next =
+    let k = next.stands in
+    let f = front_of st.top.shared (holder array us) next.bytes (holder_bare array us) k.spelled in
+    let y = container_split (format f.code) array (count us) (elements_of us) f.data_ f.spelled in
+    let own = f.own in
+    let content = y.content in
+    let n = count us in
+    let head = bytes_high_first y.width y.size ++ bytes_high_first y.width n in
+    let s_is : next.bytes ≡ own ++ (head ++ content) = f.whole ∙ ap (λ l. own ++ l) (y.whole ∙ sym (append_assoc (bytes_high_first y.width y.size) (bytes_high_first y.width n) content)) in
+    let all : Took st (own ++ (head ++ content)) (on (length (own ++ (head ++ content))) st) = record {
+      room = subst (λ l. Has st.top.left (length l)) s_is k.room;
+      rest = front_is (own ++ (head ++ content)) st.rest k.after (length (own ++ (head ++ content))) refl (k.rest ∙ ap (λ l. l ++ k.after) s_is);
+      moved = refl;
+    } in
+    let one = took_parts st _ own (head ++ content) all in
+    let two = took_parts _ _ head content one.1 in
+    let at : State = on (length head) (past (length own) st) in
+    let start = beginning us content (drop (length content) at.rest) at y.inner two.1.rest k.nested in
+    let x = start.own in
+    let b = start.items in
+    let mid : State = within (length x) start.shared n (length content) at in
+    let long : length content ≡ length x + length b = ap length start.split ∙ length-append x b in
+    let behind : drop (length x) at.rest ≡ b ++ drop (length content) at.rest = ap (drop (length x)) (two.1.rest ∙ ap (λ l. l ++ drop (length content) at.rest) start.split ∙ append_assoc x b (drop (length content) at.rest)) ∙ drop_at x (b ++ drop (length content) at.rest) (length x) refl in
+    let none_left : n - n ≡ 0 = omega arith in
+    let none_over : length content - length x - length b ≡ 0 = omega (arith, long) in
+    record {
+      count = n;
+      mid = mid;
+      opened = record {
+        code = f.code;
+        width = y.width;
+        mid = past (length own) st;
+        begun = record { going = k.going; item = k.item; own = own; first = f.first; room = one.0.room; rest = one.0.rest; moved = refl };
+        announced = y.announced;
+        data_ = record {
+          content = length content;
+          mid = at;
+          header = record { size = y.size; fits = y.fits; few = y.few; took = record { room = two.0.room; rest = two.0.rest; moved = refl }; counts = elim y.sized [ inl e ↦ inl e | inr (one_kind, e, g, z) ↦ absurd (cc) ] };
+          room = two.1.room;
+          few = few;
+          starts = start.starts;
+        };
+      };
+      bytes = b;
+      last = many n (length b) mid;
+      items = row_of start.shared us mid b (drop (length content) at.rest) k.going refl (omega arith) (omega (arith, long)) behind start.spelled start.nested;
+      closed = record {
+        going = k.going;
+        here = refl;
+        items = ap Some none_left;
+        left = ap Some none_over;
+        outer = record at.top { left = lower at.top.left (length content) };
+        others = at.saved;
+        saved = refl;
+        moved = next.moved ∙ ap (λ l. past (length l) st) (s_is ∙ ap (λ l. own ++ (head ++ l)) start.split) ∙ ap (λ m. past m st) (four own head x b)
+            ∙ sym (closed_at st (past (length own) st) at (length own) (length head) (length x + length b) refl refl) ∙ sym (array_left (length x) (length b) n (length content) start.shared at long);
+      };
+    }
+
+shares_same : (st a b : State) → Shares st a → Shares st b → a ≡ b
+shares_same st a b (no_items ds c e t) (no_items es k f u) = (one_constructor st ds es c k a b t u).2
+shares_same st a b (no_items ds c e t) (shared_by es k m full u wide fits is) = absurd (full e)
+shares_same st a b (shared_by ds c m full t wide fits is) (no_items es k f u) = absurd (full f)
+shares_same st a b (shared_by ds c m full t wide fits is) (shared_by es k m' full' u wide' fits' is') =
+    let e = one_constructor st ds es c k m m' t u in
+    is ∙ ap (λ (z : State). record z { top = record z.top { shared = Some (ds, c) } }) e.2 ∙ ap₂ (λ (l : List Descriptor) (j : ℕ). record m' { top = record m'.top { shared = Some (l, j) } }) e.0 e.1 ∙ sym is'
+
+starts_same : (n content : ℕ) (st a b : State) → Starts n content st a → Starts n content st b → a ≡ b
+starts_same n content st a b (inl (e, f)) (inl (g, h)) = f ∙ sym h
+starts_same n content st a b (inl (e, f)) (inr (g, h)) = absurd (omega (arith, e, g))
+starts_same n content st a b (inr (e, f)) (inl (g, h)) = absurd (omega (arith, e, g))
+starts_same n content st a b (inr (e, f)) (inr (g, h)) = shares_same st a b f h
+
+enters_same : (w : ℕ) (st : State) (n n' : ℕ) (a b : State) → EntersArray w st n a → EntersArray w st n' b → (n ≡ n') × (a ≡ b)
+enters_same w st n n' a b d d' =
+    let s = header_same false w st n d.content n' d'.content d.mid d'.mid d.header d'.header in
+    let one = subst (λ k. Starts k d.content (inside InArray k d.content d.mid) a) s.0 d.starts in
+    let two = subst (λ k. Starts n' k (inside InArray n' k d.mid) a) s.1 one in
+    let all = subst (λ z. Starts n' d'.content (inside InArray n' d'.content z) a) s.2 two in
+    (s.0, starts_same n' d'.content (inside InArray n' d'.content d'.mid) a b all d'.starts)
+
+-- an array is opened in one way
+pub opens_array_same : (st : State) (n n' : ℕ) (a b : State) → OpensArray st n a → OpensArray st n' b → (n ≡ n') × (a ≡ b)
+opens_array_same st n n' a b o p =
+    let s = begun_same st o.code p.code o.mid p.mid o.begun p.begun in
+    let w : o.width ≡ p.width = one_width (format p.code) array o.width p.width (ap format (sym s.0) ∙ o.announced) p.announced in
+    enters_same p.width p.mid n n' a b (subst (λ z. EntersArray p.width z n a) s.1 (subst (λ k. EntersArray k o.mid n a) w o.data_)) p.data_
