@@ -33,6 +33,7 @@ use Rattle.amqp_decoder.specs.State.{State, past}
 use Rattle.amqp_decoder.specs.Primitives.{Stands}
 use Rattle.amqp_codec.specs.Lists.{list_term, term_list}
 use Rattle.amqp_codec.specs.FieldReading.{FieldsRead, FieldsFault}
+use Rattle.amqp_codec.specs.Elsewhere.{fields_read, fields_fault, member_fault}
 use Rattle.amqp_codec.specs.Members.{Members, MemberFault, TermRead, TermMeant, IsSum, is_named, name_place}
 use Rattle.amqp_codec.specs.Fields.{Fields, slots, items, count_of, are_least, take_memory, items_plain, items_valued, items_nested, items_counted, items_writable, items_fewest, items_least}
 
@@ -198,7 +199,13 @@ module _ {V : Type 0} (c : Table V) where
 
 -- The one member that a composite is.
 abbrev pub composite_members : {V : Type 0} → Table V → Members V
-composite_members c = record { names = (c.code, c.name) ∷ []; reads = λ i. FieldsRead c.fields; fault = λ i. FieldsFault c.fields }
+composite_members c = record {
+  names = (c.code, c.name) ∷ [];
+  reads = λ i. FieldsRead c.fields;
+  fault = λ i. FieldsFault c.fields;
+  reads_elsewhere = λ source failed i. fields_read source failed c.fields;
+  fault_elsewhere = λ source failed i. fields_fault source failed c.fields;
+}
 
 pub named_describes : {V : Type 0} (c : Table V) (d : Descriptor) → is_named d (c.code, c.name) ≡ true → Describes (table_of c) d
 named_describes c (code n) h = sym (eqb-true c.code n h)
@@ -306,4 +313,5 @@ composite c =
       least = composite_least_of c;
       is_blind = λ _ s z t v h. h;
       is_plain = λ _. composite_plain c;
+      fault_elsewhere = λ source failed. member_fault source failed (composite_members c);
     }

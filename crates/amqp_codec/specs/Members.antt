@@ -9,6 +9,7 @@ use Rattle.amqp_model.proofs.Same.{names_same}
 use Rattle.amqp_wire.specs.declared.error.Error.{Error}
 use Rattle.amqp_decoder.specs.declared.frame.Place.TheVariants.{InDescribed}
 use Rattle.amqp_decoder.specs.State.{State, on, past}
+use Rattle.amqp_decoder.specs.Elsewhere.{elsewhere}
 use Rattle.amqp_decoder.specs.Reading.{Refused}
 use Rattle.amqp_decoder.specs.Primitives.{standing, Stands, Value}
 use Rattle.amqp_decoder.specs.Containers.{ClosesDescribed, EndFault}
@@ -23,6 +24,9 @@ pub record Members (V : Type 0) : Type 1 where
   pub names : List (ℕ × List ℕ)
   pub reads : ℕ → State → V → State → Type 0
   pub fault : ℕ → State → Error → Type 0
+  -- both are the same of another source
+  pub reads_elsewhere : (source : ℕ) (failed : Bool) (i : ℕ) (st : State) (v : V) (b : State) → reads i st v b → reads i (elsewhere source failed st) v (elsewhere source failed b)
+  pub fault_elsewhere : (source : ℕ) (failed : Bool) (i : ℕ) (st : State) (e : Error) → fault i st e → fault i (elsewhere source failed st) e
 
 abbrev pub is_named : Descriptor → ℕ × List ℕ → Bool
 is_named (code n) m = eqb m.0 n

@@ -9,3 +9,4 @@ pub mod Items
 pub mod Arrays
 pub mod Terms
 pub mod Sections
+pub mod Elsewhere

@@ -6,6 +6,8 @@ mod appending;
 #[cfg(test)]
 mod delivery;
 #[cfg(test)]
+mod from_readers;
+#[cfg(test)]
 mod lines;
 #[cfg(test)]
 mod reading;
