@@ -11,6 +11,7 @@ mod from_readers;
 mod lines;
 #[cfg(test)]
 mod reading;
+pub mod user_type;
 #[cfg(test)]
 mod wire;
 #[cfg(test)]
