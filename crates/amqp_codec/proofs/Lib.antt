@@ -6,3 +6,4 @@ pub mod PrimitiveReads
 pub mod Options
 pub mod FieldSteps
 pub mod Rewrites
+pub mod FromReader

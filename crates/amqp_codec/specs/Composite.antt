@@ -32,6 +32,7 @@ use Rattle.std.proofs.lemmas.Slice.Eq.{bytes_eq-Decides}
 use Rattle.amqp_decoder.specs.State.{State, past}
 use Rattle.amqp_decoder.specs.Primitives.{Stands}
 use Rattle.amqp_codec.specs.Lists.{list_term, term_list}
+use Rattle.amqp_codec.specs.Elsewhere.{fields_read, fields_fault, member_fault}
 use Rattle.amqp_decoder.specs.Members.{is_named, name_place}
 use Rattle.amqp_codec.specs.FieldReading.{fields_not_memory, FieldsRead, FieldsFault}
 use Rattle.amqp_codec.specs.Members.{member_not_memory, Members, MemberFault, TermRead, TermMeant, IsSum}
@@ -199,7 +200,14 @@ module _ {V : Type 0} (c : Table V) where
 
 -- The one member that a composite is.
 abbrev pub composite_members : {V : Type 0} → Table V → Members V
-composite_members c = record { names = (c.code, c.name) ∷ []; reads = λ i. FieldsRead c.fields; fault = λ i. FieldsFault c.fields; takes_memory = take_memory c.fields }
+composite_members c = record {
+  names = (c.code, c.name) ∷ [];
+  reads = λ i. FieldsRead c.fields;
+  fault = λ i. FieldsFault c.fields;
+  takes_memory = take_memory c.fields;
+  reads_elsewhere = λ source failed i. fields_read source failed c.fields;
+  fault_elsewhere = λ source failed i. fields_fault source failed c.fields;
+}
 
 pub named_describes : {V : Type 0} (c : Table V) (d : Descriptor) → is_named d (c.code, c.name) ≡ true → Describes (table_of c) d
 named_describes c (code n) h = sym (eqb-true c.code n h)
@@ -308,4 +316,5 @@ composite c =
       least = composite_least_of c;
       is_blind = λ _ s z t v h. h;
       is_plain = λ _. composite_plain c;
+      fault_elsewhere = λ source failed. member_fault source failed (composite_members c);
     }

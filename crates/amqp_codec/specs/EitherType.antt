@@ -232,4 +232,5 @@ either_of u w apart = record {
   least = either_least u w;
   is_blind = either_is_blind u w;
   is_plain = either_is_plain u w;
+  fault_elsewhere = λ source failed st e h. elim h [ inl f ↦ inl (u.fault_elsewhere source failed st e f) | inr f ↦ inr (w.fault_elsewhere source failed st e f) ];
 }

@@ -9,6 +9,7 @@ pub mod Plain
 pub mod FieldTypes
 pub mod Slots
 pub mod Fields
+pub mod Elsewhere
 pub mod Composite
 pub mod EitherType
 pub mod TidyText

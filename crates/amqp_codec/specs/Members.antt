@@ -9,6 +9,7 @@ use Rattle.amqp_model.proofs.Same.{names_same}
 use Rattle.amqp_wire.specs.declared.error.Error.{Error}
 use Rattle.amqp_decoder.specs.declared.frame.Place.TheVariants.{InDescribed}
 use Rattle.amqp_decoder.specs.State.{State, on, past}
+use Rattle.amqp_decoder.specs.Elsewhere.{elsewhere}
 use Rattle.amqp_decoder.specs.Reading.{Refused}
 use Rattle.amqp_decoder.specs.Primitives.{standing, Stands, Value}
 use Rattle.amqp_decoder.specs.Containers.{ClosesDescribed, EndFault}
@@ -29,6 +30,9 @@ pub record Members (V : Type 0) : Type 1 where
   pub fault : ℕ → State → Error → Type 0
   -- reading one of them takes memory
   pub takes_memory : Bool
+  -- both are the same of another source
+  pub reads_elsewhere : (source : ℕ) (failed : Bool) (i : ℕ) (st : State) (v : V) (b : State) → reads i st v b → reads i (elsewhere source failed st) v (elsewhere source failed b)
+  pub fault_elsewhere : (source : ℕ) (failed : Bool) (i : ℕ) (st : State) (e : Error) → fault i st e → fault i (elsewhere source failed st) e
 
 -- A member stood next.
 pub record MemberRead {V : Type 0} (m : Members V) (st : State) (v : V) (b : State) : Type 0 where

@@ -16,6 +16,7 @@ use Rattle.amqp_model.specs.OptionLaws.{option_refl, option_sym, option_trans, s
 use Rattle.amqp_model.proofs.Lengths.{spelling_length}
 use Rattle.amqp_wire.specs.declared.error.Error.{Error}
 use Rattle.amqp_decoder.specs.State.{State}
+use Rattle.amqp_decoder.specs.Elsewhere.{elsewhere, begin_fault, peeked}
 use Rattle.amqp_decoder.specs.Reading.{BeginFault, Peeked}
 use Rattle.amqp_decoder.proofs.NotMemory.{begin_not_memory}
 use Rattle.amqp_wire.specs.declared.error.Error.TheVariants.{Memory}
@@ -185,6 +186,10 @@ module _ {T : Type 0} (u : TermType T) where
   option_is_plain l None = tt
   option_is_plain l (Some v) = u.is_plain l v
 
+  pub option_fault : (source : ℕ) (failed : Bool) (st : State) (e : Error) → OptionFault u.fault st e → OptionFault u.fault (elsewhere source failed st) e
+  option_fault source failed st e (inl h) = inl (begin_fault source failed h)
+  option_fault source failed st e (inr (c, mid, p, h)) = inr (c, elsewhere source failed mid, peeked source failed p, u.fault_elsewhere source failed mid e h)
+
 abbrev pub option_of : {T : Type 0} → TermType T → TermType (Option T)
 option_of u = record {
   is_value = λ v. IfSome v u.is_value;
@@ -227,4 +232,5 @@ option_of u = record {
   least = option_least u;
   is_blind = option_is_blind u;
   is_plain = option_is_plain u;
+  fault_elsewhere = option_fault u;
 }

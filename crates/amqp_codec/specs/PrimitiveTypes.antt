@@ -12,6 +12,7 @@ use Rattle.amqp_model.specs.Text.{form}
 use Rattle.amqp_model.proofs.Least.{text_is_least}
 use Rattle.amqp_decoder.specs.Primitives.{PrimitiveFault}
 use Rattle.amqp_decoder.proofs.NotMemory.{primitive_not_memory}
+use Rattle.amqp_decoder.specs.Elsewhere.{primitive_fault}
 use Rattle.amqp_codec.specs.TermType.{TermType, IsLeaf}
 use Rattle.amqp_codec.specs.Leaves.{leaf_injective, reads_leaf, leaf_writable}
 
@@ -79,6 +80,7 @@ module _ {A : Type 0} (make : A → Primitive) (range : A → Type 0) (laws : Is
     least = λ _ b t v i n e m. primitive_least b t v i e m.0;
     is_blind = λ _ s z t v m. m;
     is_plain = λ _ v. tt;
+    fault_elsewhere = λ source failed st e. primitive_fault source failed;
   }
 
 boolean_form : (b : Bool) → primitive_form (boolean b) ≡ primitive_form (boolean true)

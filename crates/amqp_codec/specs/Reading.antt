@@ -1,5 +1,5 @@
 -- What it is to read a value of a type: from which state of a decoder, and what state is left.
-use Rattle.std.proofs.Common.{◌≡◌, inl, inr, ℕ, ◌+◌, ◌≤◌, Bool, true, false, List, [], ◌++◌, length, Option, Some, None, ◌⊎◌, refl, sym, ap, ◌∙◌, subst, arith, ◌-◌, length-append}
+use Rattle.std.proofs.Common.{◌≡◌, inl, inr, ℕ, ◌+◌, ◌≤◌, Bool, true, false, List, [], ◌++◌, length, drop, Option, Some, None, ◌⊎◌, refl, sym, ap, ◌∙◌, subst, arith, ◌-◌, length-append}
 use Rattle.std.proofs.lemmas.List.{length-drop}
 use Rattle.amqp_model.specs.Term.{Term, Descriptor}
 use Rattle.amqp_model.specs.Spelling.{enc}
@@ -9,10 +9,18 @@ use Rattle.amqp_model.proofs.Count.{nodes_bounded}
 use Rattle.amqp_wire.specs.declared.error.Error.{Error}
 use Rattle.amqp_wire.specs.declared.error.Error.TheVariants.{Memory}
 use Rattle.amqp_decoder.specs.State.{State, past, top_level}
+use Rattle.amqp_decoder.specs.Elsewhere.{elsewhere, value}
 use Rattle.amqp_decoder.specs.Steps.{Excused}
 use Rattle.amqp_decoder.specs.Reading.{Refused}
 use Rattle.amqp_decoder.specs.Primitives.{standing, SpellsAs, Stands, Value}
 use Rattle.amqp_codec.specs.TermType.{TermType}
+
+-- The bytes in front were taken, and none behind them from the source, unless the type looks on.
+pub record Taken (looks_on : Bool) (st : State) (b : State) : Type 0 where
+  pub count : ℕ
+  pub within : count ≤ length st.rest
+  pub rest : b.rest ≡ drop count st.rest
+  pub ahead : looks_on ≡ false → b.ahead ≡ st.ahead - count
 
 pub record Reading (T : Type 0) : Type 1 where
   -- the two differ at most in where they lie in memory
@@ -26,11 +34,17 @@ pub record Reading (T : Type 0) : Type 1 where
   pub takes_memory : Bool
   -- the values in it
   pub count : T → ℕ
+  -- what follows a value may have been looked at
+  pub looks_on : Bool
   pub same_sym : (v w : T) → same v w → same w v
   pub same_trans : (v w x : T) → same v w → same w x → same v x
   pub one : (st : State) (v w : T) (a b : State) → reads st v a → reads st w b → same v w × (a ≡ b)
   pub going : (st : State) (v : T) (b : State) → reads st v b → st.error ≡ None
   pub counted : (st : State) (v : T) (b : State) → st.top.shared ≡ None → reads st v b → count v + length b.rest ≤ length st.rest
+  pub taken : (st : State) (v : T) (b : State) → reads st v b → Taken looks_on st b
+  -- it doesn't hang on the source
+  pub reads_elsewhere : (source : ℕ) (failed : Bool) (st : State) (v : T) (b : State) → reads st v b → reads (elsewhere source failed st) v (elsewhere source failed b)
+  pub fault_elsewhere : (source : ℕ) (failed : Bool) (st : State) (e : Error) → fault st e → fault (elsewhere source failed st) e
 
 fronts_by : (shared : Option (List Descriptor × ℕ)) (s z x y : List ℕ) (t u : Term) → SpellsAs (standing shared s) t → SpellsAs (standing shared z) u → s ++ x ≡ z ++ y → (s ≡ z) × (t ≡ u)
 fronts_by None s z x y t u h k e = fronts s z x y t u h k e
@@ -66,6 +80,14 @@ value_counted u st v b n h =
       nodes_bounded h.bytes h.term (spelled_whole st.top.shared h.bytes h.term n h.stands.spelled),
     )
 
+pub value_taken : {T : Type 0} (means : Standing → Term → T → Type 0) (st : State) (v : T) (b : State) → Value means st v b → Taken false st b
+value_taken means st v b h = record {
+  count = length h.bytes;
+  within = omega (arith, value_left means st v b h);
+  rest = ap (λ (x : State). x.rest) h.moved;
+  ahead = λ _. ap (λ (x : State). x.ahead) h.moved;
+}
+
 -- The reading of a type of terms.
 abbrev pub reading_of : {T : Type 0} → TermType T → Reading T
 reading_of u = record {
@@ -80,6 +102,10 @@ reading_of u = record {
   one = value_one u.same u.means u.one;
   going = λ st v b h. h.stands.going;
   counted = value_counted u;
+  looks_on = false;
+  taken = value_taken u.means;
+  reads_elsewhere = λ source failed st v b. value source failed u.means;
+  fault_elsewhere = u.fault_elsewhere;
 }
 
 -- A type reads as its terms say.
@@ -89,9 +115,10 @@ pub record ReadsTerms {T : Type 0} (u : TermType T) (r : Reading T) : Type 0 whe
   pub to_fault : (st : State) (e : Error) → r.fault st e → u.fault st e
   pub to_same : (v w : T) → r.same v w → u.same v w
   pub to_memory : r.takes_memory ≡ true → u.takes_memory ≡ true
+  pub looks_on : r.looks_on ≡ false
 
 pub reads_terms : {T : Type 0} (u : TermType T) → ReadsTerms u (reading_of u)
-reads_terms u = record { to_value = λ st v b h. h; from_value = λ st v b h. h; to_fault = λ st e h. h; to_same = λ v w h. h; to_memory = λ t. t }
+reads_terms u = record { to_value = λ st v b h. h; from_value = λ st v b h. h; to_fault = λ st e h. h; to_same = λ v w h. h; to_memory = λ t. t; looks_on = refl }
 
 -- A decoder at the start of an input.
 abbrev pub start : List ℕ → State

@@ -13,6 +13,7 @@ use Rattle.amqp_model.specs.FieldType.{Norm, normal}
 use Rattle.amqp_wire.specs.declared.error.Error.{Error}
 use Rattle.amqp_decoder.specs.State.{State}
 use Rattle.amqp_wire.specs.declared.error.Error.TheVariants.{Memory}
+use Rattle.amqp_decoder.specs.Elsewhere.{elsewhere}
 use Rattle.amqp_codec.specs.Tidy.{tidy}
 
 abbrev pub IsUnrefused : Term → Type 0
@@ -110,3 +111,5 @@ pub record TermType (T : Type 0) : Type 1 where
   -- a type that doesn't look at standings keeps no bytes
   pub is_blind : blind ≡ true → (s z : Standing) (t : Term) (v : T) → means s t v → means z t v
   pub is_plain : blind ≡ true → (v : T) → IsPlain (canon v)
+  -- what faults stand before a decoder doesn't hang on its source
+  pub fault_elsewhere : (source : ℕ) (failed : Bool) (st : State) (e : Error) → fault st e → fault (elsewhere source failed st) e

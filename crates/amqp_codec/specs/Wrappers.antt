@@ -68,6 +68,7 @@ via u to n is = record {
   least = λ l b t v. u.least l b t (to v);
   is_blind = λ e s z t v. u.is_blind e s z t (to v);
   is_plain = λ e v. u.is_plain e (to v);
+  fault_elsewhere = u.fault_elsewhere;
 }
 
 abbrev pub norm_box : {T Z : Type 0} → Norm T → Norm (Box T Z)

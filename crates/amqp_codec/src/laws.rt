@@ -1,5 +1,5 @@
 //! The laws of every type of terms, over the bytes that spell its values.
-ghost use Rattle.std.specs.Prelude.{◌≡◌, ◌≤◌, ℕ, true, List, ◌++◌, length};
+ghost use Rattle.std.specs.Prelude.{◌≡◌, ◌≤◌, ℕ, true, false, List, ◌++◌, length};
 ghost use Rattle.amqp_model.specs.Term.{Refusal, too_large};
 ghost use Rattle.amqp_model.specs.Ranges.{Everywhere, IsNoArray, IsBytes};
 ghost use Rattle.amqp_model.specs.Refusals.{Refuses};
@@ -13,10 +13,12 @@ ghost use Rattle.amqp_codec.specs.Reading.{IsRead};
 
 use crate::DeserializeTerm;
 
-/// What is read from the front of an input is what that front spells, whatever stands behind it.
+/// What is read from the front of an input is what that front spells, whatever stands behind it; and nothing behind it
+/// is looked at.
 pub fn reading_is_spelling<T: DeserializeTerm>()
     ensures spelled { (input : List ℕ) (v : T) (n : ℕ) → IsRead T.reading input v n → (n ≤ length input) × IsSpelled T.term (take n input) v }
     ensures read { (b more : List ℕ) (v : T) → IsSpelled T.term b v → IsRead T.reading (b ++ more) v (length b) }
+    ensures no_more { T.reading.looks_on ≡ false }
 {}
 
 /// What `to_vec`, `encoded_len` and `append_to_vec` say of a value's canonical terms, they say of the canonical term

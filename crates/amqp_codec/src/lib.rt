@@ -6,6 +6,7 @@ mod containers;
 pub mod kernel;
 pub mod laws;
 mod primitives;
+mod reader;
 mod traits;
 
 pub use amqp_decoder::Decoder;
@@ -14,4 +15,5 @@ pub use amqp_wire::{ByteSource, Descriptor, Error, ReadSource, Symbol};
 pub use calls::{
     append_to_vec, canonical_text, encoded_len, from_slice, from_slice_counted, to_vec,
 };
+pub use reader::from_reader;
 pub use traits::{Canonical, Deserialize, DeserializeTerm, Serialize, SerializeTerm};

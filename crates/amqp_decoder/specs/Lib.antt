@@ -10,3 +10,4 @@ pub mod Items
 pub mod Arrays
 pub mod Terms
 pub mod Sections
+pub mod Elsewhere

@@ -73,6 +73,7 @@ impl<R: ByteSource> Decoder<R> {
     pub fn into_source(self) -> R
         ensures named { R.name result ≡ self.source }
         ensures rest { known (R.remaining result) ≡ drop self.ahead self.rest }
+        ensures failed { R.broken result ≡ self.failed }
     {
         let Decoder { source, .. } = self;
         source

@@ -6,9 +6,12 @@ mod appending;
 #[cfg(test)]
 mod delivery;
 #[cfg(test)]
+mod from_readers;
+#[cfg(test)]
 mod lines;
 #[cfg(test)]
 mod reading;
+pub mod user_type;
 #[cfg(test)]
 mod wire;
 #[cfg(test)]

@@ -8,14 +8,14 @@ use std::test::Fail;
 
 /// A source that gives one byte a call, and fails at a call.
 #[derive(Drop)]
-struct Dripping<'a> {
-    bytes: &'a [u8],
+pub(crate) struct Dripping<'a> {
+    pub(crate) bytes: &'a [u8],
     calls: usize,
     failed: bool,
 }
 
 impl<'a> Dripping<'a> {
-    fn new(bytes: &'a [u8], calls: usize) -> Dripping<'a> {
+    pub(crate) fn new(bytes: &'a [u8], calls: usize) -> Dripping<'a> {
         Dripping {
             bytes,
             calls,

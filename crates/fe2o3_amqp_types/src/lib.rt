@@ -7,7 +7,7 @@ pub mod codec {
     pub use amqp_codec::{
         ByteSource, Canonical, Decoder, Descriptor, Deserialize, DeserializeTerm, Encoder, Error,
         ReadSource, Serialize, SerializeTerm, Symbol, append_to_vec, canonical_text, encoded_len,
-        from_slice, from_slice_counted, to_vec,
+        from_reader, from_slice, from_slice_counted, to_vec,
     };
 }
 

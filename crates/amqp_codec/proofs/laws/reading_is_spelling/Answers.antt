@@ -6,3 +6,6 @@ returns-clause-spelled g c = read_spelled g.T.DeserializeTerm.term g.T.Deseriali
 
 pub returns-clause-read : goal.returns-clause-read
 returns-clause-read g c = spelled_read g.T.DeserializeTerm.term g.T.Deserialize.reading g.met.T.DeserializeTerm.reads_terms
+
+pub returns-clause-no_more : goal.returns-clause-no_more
+returns-clause-no_more g c = g.met.T.DeserializeTerm.reads_terms.looks_on

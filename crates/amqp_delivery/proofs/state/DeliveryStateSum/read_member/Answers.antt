@@ -1,4 +1,3 @@
-use Rattle.std.proofs.Common.{rules}
 use Rattle.std.proofs.lemmas.Result.{err_from_is_err_and}
 use Rattle.amqp_codec.specs.FieldReading.{FieldsRead, FieldsFault}
 use Rattle.amqp_codec.specs.Refused.{refused_first}

@@ -1,0 +1,60 @@
+-- What is read from a reader is what is read from its bytes.
+use Rattle.std.proofs.Common.{◌≡◌, ◌⊎◌, inl, inr, ℕ, ◌-◌, Bool, true, false, List, length, drop, Result, Ok, Err, IfOk, IfErr, refl, sym, ap, ◌∙◌, arith}
+use Rattle.std.proofs.lemmas.List.{length-drop}
+use Rattle.amqp_wire.specs.declared.error.Error.{Error}
+use Rattle.amqp_wire.specs.declared.error.Error.TheVariants.{Memory}
+use Rattle.amqp_decoder.specs.State.{State}
+use Rattle.amqp_decoder.specs.Elsewhere.{elsewhere}
+use Rattle.amqp_decoder.specs.Steps.{Excused, IsRead as IsReadError}
+use Rattle.amqp_decoder.specs.Reading.{Refused, Reads}
+use Rattle.amqp_codec.specs.Reading.{Reading, start, IsRead, Unreadable, is_read, read_one}
+
+module _ {T : Type 0} (r : Reading T) (input : List ℕ) (source : ℕ) (failed : Bool) where
+  abbrev begin : State
+  begin = elsewhere source failed (start input)
+
+  read_here : (v : T) (b : State) → r.reads begin v b → IsRead r input v (length input - length b.rest)
+  read_here v b h = is_read r input v (elsewhere 0 false b) (length input - length b.rest) (r.reads_elsewhere 0 false begin v b h) refl
+
+  behind_here : r.looks_on ≡ false → (v : T) (b : State) → r.reads begin v b → (w : T) (n : ℕ) → IsRead r input w n → drop b.ahead b.rest ≡ drop n input
+  behind_here own v b h w n k =
+      let t = r.taken begin v b h in
+      let ahead : b.ahead ≡ 0 = t.ahead own ∙ omega arith in
+      let n_is : t.count ≡ n = omega (arith, (read_one r input v w (length input - length b.rest) n (read_here v b h) k).1, ap length t.rest, length-drop t.count input, t.within) in
+      ap (λ i. drop i b.rest) ahead ∙ (t.rest ∙ ap (λ i. drop i input) n_is)
+
+  refused_here : (e : Error) (b : State) → Refused r.takes_memory r.reads r.fault begin e b → ((r.takes_memory ≡ true) × (e ≡ Memory)) ⊎ ((IsReadError e × (b.failed ≡ true)) ⊎ Unreadable r input e)
+  refused_here e b h = go (h.named refl) h.none
+    where
+      go : Excused r.takes_memory e b ⊎ r.fault begin e → Excused r.takes_memory e b ⊎ ((v : T) (st : State) → r.reads begin v st → ⊥) → ((r.takes_memory ≡ true) × (e ≡ Memory)) ⊎ ((IsReadError e × (b.failed ≡ true)) ⊎ Unreadable r input e)
+      go (inl (inl x)) n = inl x
+      go (inl (inr x)) n = inr (inl x)
+      go (inr f) (inl (inl x)) = inl x
+      go (inr f) (inl (inr x)) = inr (inl x)
+      go (inr f) (inr n) = inr (inr (record { fault = r.fault_elsewhere 0 false begin e f; none = λ v m k. n v (elsewhere source failed k.after) (r.reads_elsewhere source failed (start input) v k.after k.read) }))
+
+  pub found : (res : Result T Error) (b : State) → Reads r.takes_memory r.reads r.fault begin res b → IfOk res (λ v. (n : ℕ) × IsRead r input v n)
+  found (Ok v) b h = (length input - length b.rest, read_here v b h)
+  found (Err e) b h = tt
+
+  pub one : (res : Result T Error) (b : State) → Reads r.takes_memory r.reads r.fault begin res b → IfOk res (λ v. (w : T) (m : ℕ) → IsRead r input w m → r.same v w)
+  one (Ok v) b h = λ w m k. (read_one r input v w (length input - length b.rest) m (read_here v b h) k).0
+  one (Err e) b h = tt
+
+  pub behind : (res : Result T Error) (b : State) → Reads r.takes_memory r.reads r.fault begin res b → r.looks_on ≡ false → (left : List ℕ) → left ≡ drop b.ahead b.rest → IfOk res (λ v. (w : T) (n : ℕ) → IsRead r input w n → left ≡ drop n input)
+  behind (Ok v) b h own left e = λ w n k. e ∙ behind_here own v b h w n k
+  behind (Err x) b h own left e = tt
+
+  pub refused : (res : Result T Error) (b : State) → Reads r.takes_memory r.reads r.fault begin res b → (broken : Bool) → broken ≡ b.failed → IfErr res (λ e. ((r.takes_memory ≡ true) × (e ≡ Memory)) ⊎ ((IsReadError e × (broken ≡ true)) ⊎ Unreadable r input e))
+  refused (Ok v) b h broken e = tt
+  refused (Err x) b h broken e = go (refused_here x b h)
+    where
+      go : ((r.takes_memory ≡ true) × (x ≡ Memory)) ⊎ ((IsReadError x × (b.failed ≡ true)) ⊎ Unreadable r input x) → ((r.takes_memory ≡ true) × (x ≡ Memory)) ⊎ ((IsReadError x × (broken ≡ true)) ⊎ Unreadable r input x)
+      go (inl m) = inl m
+      go (inr (inl (i, f))) = inr (inl (i, e ∙ f))
+      go (inr (inr u)) = inr (inr u)
+
+  -- a source that begins to fail is never hidden behind another error
+  pub failing : (res : Result T Error) (b : State) → Reads r.takes_memory r.reads r.fault begin res b → (broken before : Bool) → broken ≡ b.failed → before ≡ failed → IfErr res (λ e. (broken ≡ before) ⊎ IsReadError e)
+  failing (Ok v) b h broken before e f = tt
+  failing (Err x) b h broken before e f = elim h.kept.source [ inl s ↦ inl (e ∙ s ∙ sym f) | inr i ↦ inr i ]

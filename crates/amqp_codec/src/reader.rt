@@ -1,0 +1,83 @@
+//! Whole values from a reader.
+ghost use Rattle.std.specs.Prelude.{◌≡◌, ◌⊎◌, ℕ, true, false, drop, IfOk, IfErr};
+ghost use Rattle.amqp_wire.specs.declared.error.Error.TheVariants.{Memory};
+ghost use Rattle.amqp_wire.specs.Sources.{known, Tells};
+ghost use Rattle.amqp_decoder.specs.Steps.{IsRead as IsReadError};
+ghost use Rattle.amqp_codec.specs.Reading.{IsRead, Unreadable};
+
+use crate::Deserialize;
+use amqp_decoder::Decoder;
+use amqp_wire::{ByteSource, Error};
+use std::alloc::Global;
+use std::io::ErrorKind;
+use std::marker::{Brand, PhantomData};
+
+/// The value that the reader's bytes begin with, however it gives them. The reader is left behind the value.
+/// An error is `Memory`, where reading the type takes memory, `Read` of a reader that has failed, and always where it
+/// begins to fail, or a fault of bytes that begin with no value; how many bytes were taken then isn't said.
+pub fn from_reader<T: Deserialize, R: ByteSource>(reader: &mut R, alloc: Global) -> Result<T, Error>
+    ensures found { Tells R.remaining → IfOk result (λ v. (n : ℕ) × IsRead T.reading (known (R.remaining reader.old)) v n) }
+    ensures one { Tells R.remaining → IfOk result (λ v. (w : _) (m : ℕ) → IsRead T.reading (known (R.remaining reader.old)) w m → T.reading.same v w) }
+    ensures behind { Tells R.remaining → T.reading.looks_on ≡ false → IfOk result (λ v. (w : _) (n : ℕ) → IsRead T.reading (known (R.remaining reader.old)) w n → known (R.remaining reader.new) ≡ drop n (known (R.remaining reader.old))) }
+    ensures refused { Tells R.remaining → IfErr result (λ e. ((T.reading.takes_memory ≡ true) × (e ≡ Memory)) ⊎ ((IsReadError e × (R.broken reader.new ≡ true)) ⊎ Unreadable T.reading (known (R.remaining reader.old)) e)) }
+    ensures failing { Tells R.remaining → IfErr result (λ e. (R.broken reader.new ≡ R.broken reader.old) ⊎ IsReadError e) }
+{
+    let (read, _reader) = read_named::<T, _, Brand>(reader, alloc);
+    read
+}
+
+// The name of a source, which a call picks.
+trait Name {
+    ghost name: { ℕ };
+}
+
+impl Name for Brand {
+    ghost name = { 0 };
+}
+
+// A source of that name. So the one that a decoder gives back is the one that it was made of.
+#[derive(Drop)]
+struct Named<S: ByteSource, N: Name> {
+    source: S,
+    of: PhantomData<N>,
+    ghost is_named: { S.name source ≡ N.name },
+}
+
+impl<S: ByteSource, N: Name> ByteSource for Named<S, N> {
+    ghost remaining = { λ s. S.remaining s.source };
+
+    ghost broken = { λ s. S.broken s.source };
+
+    ghost name = { λ s. S.name s.source };
+
+    fn pull(&mut self, buffer: &mut [u8]) -> Result<usize, ErrorKind> {
+        self.source.pull(buffer)
+    }
+
+    fn failed(&self) -> bool {
+        self.source.failed()
+    }
+}
+
+// The value that the source's bytes begin with, and the source, which is left behind it.
+fn read_named<T: Deserialize, S: ByteSource, N: Name>(
+    source: S,
+    alloc: Global,
+) -> (Result<T, Error>, S)
+    requires { S.name source ≡ N.name }
+    ensures named { S.name result.1 ≡ S.name source }
+    ensures found { Tells S.remaining → IfOk result.0 (λ v. (n : ℕ) × IsRead T.reading (known (S.remaining source)) v n) }
+    ensures one { Tells S.remaining → IfOk result.0 (λ v. (w : _) (m : ℕ) → IsRead T.reading (known (S.remaining source)) w m → T.reading.same v w) }
+    ensures behind { Tells S.remaining → T.reading.looks_on ≡ false → IfOk result.0 (λ v. (w : _) (n : ℕ) → IsRead T.reading (known (S.remaining source)) w n → known (S.remaining result.1) ≡ drop n (known (S.remaining source))) }
+    ensures refused { Tells S.remaining → IfErr result.0 (λ e. ((T.reading.takes_memory ≡ true) × (e ≡ Memory)) ⊎ ((IsReadError e × (S.broken result.1 ≡ true)) ⊎ Unreadable T.reading (known (S.remaining source)) e)) }
+    ensures failing { Tells S.remaining → IfErr result.0 (λ e. (S.broken result.1 ≡ S.broken source) ⊎ IsReadError e) }
+{
+    let named = Named::<S, N> {
+        source,
+        of: PhantomData,
+    };
+    let mut decoder = Decoder::new(named, alloc);
+    let read = T::deserialize(&mut decoder, alloc);
+    let Named { source, .. } = decoder.into_source();
+    (read, source)
+}
