@@ -1,5 +1,5 @@
 -- A list of one uint is a list that is opened, a uint in it, and its end.
-use Rattle.std.proofs.Common.{◌≡◌, ℕ, ◌-◌, ◌<◌, ◌^◌, List, [], ◌∷◌, length, Some, None, unwrap_or, refl, sym, ap, ◌∙◌, subst, arith}
+use Rattle.std.proofs.Common.{◌≡◌, false, ℕ, ◌-◌, ◌<◌, ◌^◌, List, [], ◌∷◌, length, Some, None, unwrap_or, refl, sym, ap, ◌∙◌, subst, arith}
 use Rattle.amqp_model.specs.Term.{uint, list, Term, leaf, holder, none, more}
 use Rattle.amqp_model.specs.Standing.{Standing}
 use Rattle.amqp_wire.specs.declared.error.Error.{Error}
@@ -11,7 +11,7 @@ use Rattle.amqp_decoder.specs.Containers.{Opens, OpenFault, Closes, CloseFault}
 use Rattle.amqp_decoder.proofs.Opening.{opens_same}
 use Rattle.amqp_codec.specs.Reading.{value_one}
 use Rattle.amqp_codec.specs.Lists.{ListStands, list_term, term_list}
-use Rattle.amqp_codec.specs.Refused.{refused_first, refused_later}
+use Rattle.amqp_codec.specs.Refused.{no_memory, refused_first, refused_later}
 use Rattle.amqp_tests.specs.declared.user_type.Seconds.{Seconds}
 use Rattle.amqp_tests.specs.SecondsType.{MeansSeconds, SecondsFault, no_list, no_count, not_ended}
 
@@ -59,12 +59,15 @@ opened_going : (st first : State) (n : ℕ) → Opens list st n first → first.
 opened_going st first n o =
     ap (λ (x : State). x.error) o.data_.entered ∙ (ap (λ (x : State). x.error) o.data_.header.took.moved ∙ (ap (λ (x : State). x.error) o.begun.moved ∙ o.begun.going))
 
-pub unopened : (st : State) (e : Error) (new : State) → Refused (Opens list) (OpenFault list) st e new → Refused IsSeconds SecondsFault st e new
-unopened st e new h = refused_first (Opens list) (OpenFault list) IsSeconds SecondsFault st e new no_list (λ nothing v b k. (let p = parts st v b k in nothing 1 p.first p.opens)) h
+opened_sound : (st first : State) (n : ℕ) → Opens list st n first → first.failed ≡ st.failed
+opened_sound st first n o = ap (λ (x : State). x.failed) o.data_.entered ∙ (ap (λ (x : State). x.failed) o.data_.header.took.moved ∙ ap (λ (x : State). x.failed) o.begun.moved)
 
-pub unread : (st first : State) (n : ℕ) (e : Error) (new : State) → Opens list st n first → Refused IsUint (PrimitiveFault 4) first e new → Refused IsSeconds SecondsFault st e new
+pub unopened : (st : State) (e : Error) (new : State) → Refused false (Opens list) (OpenFault list) st e new → Refused false IsSeconds SecondsFault st e new
+unopened st e new h = refused_first (Opens list) (OpenFault list) IsSeconds SecondsFault st e new no_memory no_list (λ nothing v b k. (let p = parts st v b k in nothing 1 p.first p.opens)) h
+
+pub unread : (st first : State) (n : ℕ) (e : Error) (new : State) → Opens list st n first → Refused false IsUint (PrimitiveFault 4) first e new → Refused false IsSeconds SecondsFault st e new
 unread st first n e new o h =
-    refused_later IsUint (PrimitiveFault 4) IsSeconds SecondsFault st first e new o.begun.going (opened_going st first n o) (no_count o)
+    refused_later IsUint (PrimitiveFault 4) IsSeconds SecondsFault st first e new no_memory (opened_sound st first n o) o.begun.going (opened_going st first n o) (no_count o)
     (λ nothing v b k.
     let p = parts st v b k in
     nothing v.count p.last (subst (λ (x : State). IsUint x v.count p.last) (sym (opens_same list st n 1 first p.first o p.opens).1) p.read)) h
@@ -72,9 +75,9 @@ unread st first n e new o h =
 uint_one : (s : Standing) (t : Term) (v w : ℕ) → t ≡ leaf (uint v) → t ≡ leaf (uint w) → v ≡ w
 uint_one s t v w h k = let e : leaf (uint v) ≡ leaf (uint w) = sym h ∙ k in cc
 
-pub unended : (st first last : State) (n k : ℕ) (e : Error) (new : State) → Opens list st n first → IsUint first k last → Refused (λ st (_ : Unit {0}) b. Closes InList st b) (CloseFault InList) last e new → Refused IsSeconds SecondsFault st e new
+pub unended : (st first last : State) (n k : ℕ) (e : Error) (new : State) → Opens list st n first → IsUint first k last → Refused false (λ st (_ : Unit {0}) b. Closes InList st b) (CloseFault InList) last e new → Refused false IsSeconds SecondsFault st e new
 unended st first last n k e new o r h =
-    refused_later (λ st (_ : Unit {0}) b. Closes InList st b) (CloseFault InList) IsSeconds SecondsFault st last e new o.begun.going (ap (λ (x : State). x.error) r.moved ∙ opened_going st first n o) (not_ended o r)
+    refused_later (λ st (_ : Unit {0}) b. Closes InList st b) (CloseFault InList) IsSeconds SecondsFault st last e new no_memory (ap (λ (x : State). x.failed) r.moved ∙ opened_sound st first n o) o.begun.going (ap (λ (x : State). x.error) r.moved ∙ opened_going st first n o) (not_ended o r)
     (λ nothing v b q.
     let p = parts st v b q in
     let other = subst (λ (x : State). IsUint x v.count p.last) (sym (opens_same list st n 1 first p.first o p.opens).1) p.read in

@@ -1,5 +1,5 @@
 -- A user's own type: a duration as a list of one uint.
-use Rattle.std.proofs.Common.{◌≡◌, inl, inr, ℕ, ◌≤◌, ◌<◌, ◌^◌, Bool, true, List, None, length, refl, sym, ap, ◌∙◌, subst, arith}
+use Rattle.std.proofs.Common.{◌≡◌, inl, inr, ℕ, ◌≤◌, ◌<◌, ◌^◌, Bool, true, false, List, None, length, refl, sym, ap, ◌∙◌, subst, arith}
 use Rattle.amqp_model.specs.Term.{uint, Refusal, too_large, non_ascii, duplicate_key, depth, zero_width_items, empty_multiple, mixed_array, lazy_in_array, custom, list, Term, leaf, holder, none, more}
 use Rattle.amqp_model.specs.Spelling.{enc}
 use Rattle.amqp_model.specs.Text.{Plain, text, form}
@@ -11,11 +11,13 @@ use Rattle.amqp_model.specs.Items.{is_null, IsFree}
 use Rattle.amqp_model.specs.FieldType.{plain}
 use Rattle.amqp_model.proofs.Least.{text_is_least}
 use Rattle.amqp_wire.specs.declared.error.Error.{Error}
+use Rattle.amqp_wire.specs.declared.error.Error.TheVariants.{Memory}
 use Rattle.amqp_decoder.specs.declared.frame.Place.TheVariants.{InList}
 use Rattle.amqp_decoder.specs.State.{State}
 use Rattle.amqp_decoder.specs.Primitives.{Value, Means, PrimitiveFault}
 use Rattle.amqp_decoder.specs.Containers.{Opens, OpenFault, CloseFault}
 use Rattle.amqp_decoder.specs.Elsewhere.{elsewhere, value, primitive_fault, opens, open_fault, close_fault}
+use Rattle.amqp_decoder.proofs.NotMemory.{primitive_not_memory, close_not_memory, open_not_memory}
 use Rattle.amqp_codec.specs.TermType.{TermType, IsLeaf}
 use Rattle.amqp_codec.specs.Plain.{reads_itself, plain_reads}
 use Rattle.amqp_tests.specs.declared.user_type.Seconds.{Seconds}
@@ -36,6 +38,11 @@ pub fault_elsewhere : (source : ℕ) (failed : Bool) (st : State) (e : Error) �
 fault_elsewhere source failed st e (no_list h) = no_list (open_fault source failed h)
 fault_elsewhere source failed st e (no_count o h) = no_count (opens source failed o) (primitive_fault source failed h)
 fault_elsewhere source failed st e (not_ended o v h) = not_ended (opens source failed o) (value source failed (Means uint) v) (close_fault source failed h)
+
+pub not_memory : (st : State) → SecondsFault st Memory → ⊥
+not_memory st (no_list h) = open_not_memory list st h
+not_memory st (no_count {n} {first} o h) = primitive_not_memory 4 first h
+not_memory st (not_ended {n} {k} {first} {last} o v h) = close_not_memory InList last h
 
 pub one_list : (v w : Seconds) → list_of v ≡ list_of w → v ≡ w
 one_list v w e = let f : v.count ≡ w.count = cc in ap (λ n. let s : Seconds = record { count = n } in s) f
@@ -96,7 +103,7 @@ seconds_type = record {
   count = λ _. 2;
   solid = true;
   blind = true;
-  takes_memory = Rattle.std.proofs.Common.false;
+  takes_memory = false;
   is_least = true;
   same_refl = λ v. refl;
   same_sym = λ v w h. sym h;
@@ -126,5 +133,6 @@ seconds_type = record {
   least = λ _ b t v i n e m. list_least b t v i n e m.0;
   is_blind = λ _ s z t v m. m;
   is_plain = λ _ v. (tt, tt);
+  not_memory = not_memory;
   fault_elsewhere = fault_elsewhere;
 }

@@ -1,4 +1,4 @@
-use Rattle.std.proofs.Common.{[], ◌∷◌}
+use Rattle.std.proofs.Common.{[], ◌∷◌, inl}
 use Rattle.std.proofs.lemmas.Result.{err_from_is_err_and}
 use Rattle.amqp_model.specs.Term.{uint, list, leaf}
 use Rattle.amqp_codec.proofs.Joining.{container_wraps, open_refused, inner_refused, all_written}
@@ -12,9 +12,9 @@ returns-in_err-begin_list c =
 pub returns-in_err-write_uint : goal.returns-in_err-write_uint
 returns-in_err-write_uint c =
     inner_refused (container_wraps list (leaf (uint c.args.self.now.count) ∷ [])) _ _ _ _ _ _ _ c.in_ok-begin_list.was c.in_err-write_uint.was
-    (err_from_is_err_and c.from_residual-in_err-write_uint.result c.from_residual-in_err-write_uint.ensures.1) c.begin_list.ensures (record { calls = λ deep k. c.write_uint.ensures })
+    (err_from_is_err_and c.from_residual-in_err-write_uint.result c.from_residual-in_err-write_uint.ensures.1) c.begin_list.ensures (record { calls = λ deep k. inl c.write_uint.ensures })
 
 pub returns : goal.returns
 returns c =
     all_written (container_wraps list (leaf (uint c.args.self.now.count) ∷ [])) _ _ _ _ _ _ _ c.in_ok-begin_list.was c.in_ok-write_uint.was
-    c.begin_list.ensures (record { calls = λ deep k. c.write_uint.ensures }) c.end_list.ensures
+    c.begin_list.ensures (record { calls = λ deep k. inl c.write_uint.ensures }) c.end_list.ensures
