@@ -1,9 +1,7 @@
 -- A value that is one of several composites is read by the descriptor that stands there (Part 1, section 1.4).
 use Rattle.std.proofs.Common.{◌≡◌, ◌⊎◌, inl, inr, ℕ, suc, nat_lt, not, ◌+◌, ◌<◌, ◌≤◌, Bool, true, false, cond, eqb, List, [], ◌∷◌, ◌++◌, length, map, drop, position, option_map, Option, Some, None, refl, sym, ap, ap₂, ◌∙◌, subst, arith}
-use Rattle.std.specs.List.{position_or_len}
-use Rattle.std.specs.Str.{bytes_eq}
 use Rattle.std.proofs.lemmas.List.Quantifiers.{position-Some}
-use Rattle.amqp_model.specs.Term.{Descriptor, name, code, Term, described}
+use Rattle.amqp_model.specs.Term.{Descriptor, Term, described}
 use Rattle.amqp_model.specs.Standing.{Standing}
 use Rattle.amqp_model.proofs.Same.{names_same}
 use Rattle.amqp_wire.specs.declared.error.Error.{Error}
@@ -13,7 +11,7 @@ use Rattle.amqp_decoder.specs.Elsewhere.{elsewhere}
 use Rattle.amqp_decoder.specs.Reading.{Refused}
 use Rattle.amqp_decoder.specs.Primitives.{standing, Stands, Value}
 use Rattle.amqp_decoder.specs.Containers.{ClosesDescribed, EndFault}
-use Rattle.amqp_decoder.specs.Described.{IsDescriptor, entered, TookDescriptor, OpensDescribed, Member, is_of, place_of, OpensOneOf, OneOfFault}
+use Rattle.amqp_decoder.specs.Described.{IsDescriptor, entered, TookDescriptor, OpensDescribed, Member, OpensOneOf, OneOfFault}
 use Rattle.amqp_decoder.proofs.Leaves.{begun_same}
 use Rattle.amqp_decoder.specs.Members.{as_name, is_named, name_place}
 use Rattle.amqp_decoder.proofs.Descriptions.{described_term, term_described}

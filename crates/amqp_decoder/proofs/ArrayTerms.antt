@@ -1,5 +1,5 @@
 -- An array that is opened, whose items are taken, and that is closed, is a whole term; and the other way round.
-use Rattle.std.proofs.Common.{◌≡◌, ◌≤◌, ◌<◌, ℕ, zero, suc, ◌+◌, ◌-◌, ◌^◌, ◌⊎◌, inl, inr, max, false, Option, Some, None, List, [], ◌∷◌, ◌++◌, length, drop, get_or, refl, sym, ap, ap₂, ◌∙◌, subst, arith, append_assoc, append-nil, drop-drop, length-append}
+use Rattle.std.proofs.Common.{◌≡◌, ◌≤◌, ◌<◌, ℕ, suc, ◌+◌, ◌-◌, ◌⊎◌, inl, inr, max, false, Option, Some, None, List, [], ◌∷◌, ◌++◌, length, drop, get_or, refl, sym, ap, ap₂, ◌∙◌, subst, arith, append_assoc, drop-drop, length-append}
 use Rattle.std.proofs.lemmas.List.{drop_at}
 use Rattle.std.specs.Int.{bytes_high_first}
 use Rattle.amqp_model.specs.Term.{Primitive, list, map, array, Container, Term, Terms, leaf, holder, described, kept, barred, none, more, count, Descriptor}
@@ -12,9 +12,9 @@ use Rattle.amqp_decoder.specs.State.{Open, State, Has, lower, on, past, inside}
 use Rattle.amqp_decoder.specs.Steps.{Took}
 use Rattle.amqp_decoder.specs.Containers.{Header}
 use Rattle.amqp_decoder.specs.Arrays.{TookConstructor, IsFlat, Shares, no_items, shared_by, Starts, EntersArray, OpensArray}
-use Rattle.amqp_decoder.specs.Items.{Row, Next, ContainsArray}
+use Rattle.amqp_decoder.specs.Items.{Next, ContainsArray}
 use Rattle.amqp_decoder.proofs.Looks.{front_is}
-use Rattle.amqp_decoder.proofs.Leaves.{has_add, lower-lower, minus-minus, begun_same}
+use Rattle.amqp_decoder.proofs.Leaves.{minus-minus, begun_same}
 use Rattle.amqp_decoder.proofs.Peeks.{constructor_some}
 use Rattle.amqp_decoder.proofs.Opening.{header_same, one_width, took_both}
 use Rattle.amqp_decoder.proofs.Constructed.{one_constructor}

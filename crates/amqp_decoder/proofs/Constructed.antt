@@ -1,23 +1,21 @@
 -- Constructors, and the arrays whose items share them.
-use Rattle.std.proofs.Common.{◌≡◌, ◌≤◌, ◌<◌, ℕ, zero, suc, ◌+◌, ◌-◌, ◌⊎◌, inl, inr, Bool, true, false, not, ◌&&◌, cond, eqb, ltb, leb, ◌↔◌, IsTrue, Option, Some, None, Result, Ok, Err, IfOk, IfErr, List, [], ◌∷◌, ◌++◌, length, take, drop, max, map, get_or, unwrap_or, refl, sym, ap, ap₂, ◌∙◌, subst, arith, append_assoc, length-append, append-nil}
+use Rattle.std.proofs.Common.{◌≡◌, ◌≤◌, ◌<◌, ℕ, zero, suc, ◌+◌, ◌⊎◌, inl, inr, Bool, true, false, not, ◌&&◌, cond, eqb, ltb, leb, ◌↔◌, IsTrue, Option, Some, None, List, [], ◌∷◌, ◌++◌, length, drop, map, get_or, unwrap_or, refl, sym, ap, ◌∙◌, subst, arith, append_assoc, length-append, append-nil}
 use Rattle.std.proofs.lemmas.Bool.{eqb-true, ltb-true, eqb-false, lt-ltb, ne_eqb}
-use Rattle.std.proofs.lemmas.List.{drop_at, map-append, length-map}
+use Rattle.std.proofs.lemmas.List.{drop_at, map-append}
 use Rattle.amqp_wire.specs.declared.descriptor.Descriptor.{Descriptor as DescriptorValue}
-use Rattle.amqp_model.specs.Term.{Descriptor, array}
+use Rattle.amqp_model.specs.Term.{Descriptor}
 use Rattle.amqp_model.specs.Constructors.{Format, fixed, variable, compound, unknown, format, constructors, look_up}
-use Rattle.amqp_model.specs.Spelling.{PrimitiveData, IsKnown, HasWidthZero, Names, Constructor, descriptor_value}
+use Rattle.amqp_model.specs.Spelling.{IsKnown, HasWidthZero, Names, Constructor}
 use Rattle.amqp_model.proofs.Same.{names_same, constructor_same}
 use Rattle.amqp_wire.specs.declared.error.Error.{Error}
-use Rattle.amqp_wire.specs.declared.error.Error.TheVariants.{Depth, ZeroWidthItems, WrongType, UnknownCode, FloatCode}
+use Rattle.amqp_wire.specs.declared.error.Error.TheVariants.{Depth, WrongType, UnknownCode, FloatCode}
 use Rattle.amqp_wire.specs.Codes.{is_known, refusal_of}
-use Rattle.amqp_decoder.specs.State.{State, DescriptorValues, descriptor_of, Has, lower, on, past, inside}
-use Rattle.amqp_decoder.specs.Steps.{Answered, Excused, Took, Lacks, Short, NoRoom, Stopped}
-use Rattle.amqp_decoder.specs.Reading.{Refused, Reads, Begun, BeginFault}
-use Rattle.amqp_decoder.specs.Containers.{Header, HeaderFault}
+use Rattle.amqp_decoder.specs.State.{State, DescriptorValues, descriptor_of, Has, on}
+use Rattle.amqp_decoder.specs.Steps.{Answered, Took, Lacks, Short, Stopped}
 use Rattle.amqp_decoder.specs.Described.{IsDescriptor, TookDescriptor, DescriptorFault, DescriptorMissed}
 use Rattle.amqp_decoder.specs.Arrays.{Marks, TookMarks, TookConstructor, ConstructorFault, no_code, no_mark, too_many, no_known_code, IsFlat, if_unknown}
-use Rattle.amqp_decoder.proofs.Leaves.{has_add, has_front, has_rest, begun_same, fault_not_begun, took_none}
-use Rattle.amqp_decoder.proofs.Opening.{took_both, on-on, header_same, header_not_faulty, one_width}
+use Rattle.amqp_decoder.proofs.Leaves.{has_front, has_rest, took_none}
+use Rattle.amqp_decoder.proofs.Opening.{took_both, on-on}
 use Rattle.amqp_decoder.proofs.Descriptors.{fault_not_names}
 use Rattle.amqp_decoder.proofs.Steps.{answered_took, not_lacking}
 use Rattle.amqp_decoder.proofs.Looks.{front_is, rest_is}

@@ -1,18 +1,18 @@
 -- A list or a map that is opened, whose items are taken, and that is closed, is a whole term; and the other way round.
-use Rattle.std.proofs.Common.{◌≡◌, ◌≤◌, ◌<◌, ℕ, zero, suc, ◌+◌, ◌-◌, ◌^◌, ◌%◌, ◌⊎◌, inl, inr, max, Bool, true, Option, Some, None, List, [], ◌∷◌, ◌++◌, length, drop, get_or, unwrap_or, refl, sym, ap, ap₂, ◌∙◌, subst, arith, append_assoc, append-nil, drop-drop, length-append}
+use Rattle.std.proofs.Common.{◌≡◌, ◌≤◌, ◌<◌, ℕ, suc, ◌+◌, ◌-◌, ◌^◌, inl, inr, Option, Some, None, List, [], ◌∷◌, ◌++◌, length, drop, get_or, unwrap_or, refl, sym, ap, ◌∙◌, subst, arith, append_assoc, append-nil, drop-drop, length-append}
 use Rattle.std.proofs.lemmas.List.{drop_at}
 use Rattle.std.specs.Int.{bytes_high_first}
 use Rattle.amqp_model.specs.Term.{Container, list, map, array, Term, Terms, holder, none, more, count, Descriptor}
-use Rattle.amqp_model.specs.Items.{terms_of, items_of}
+use Rattle.amqp_model.specs.Items.{items_of}
 use Rattle.amqp_model.specs.Constructors.{Format, fixed, variable, compound, unknown, format}
-use Rattle.amqp_model.specs.Spelling.{IsSize, ContainerData, IsKnown, Constructor, Spelled, data_of, enc, items_of as items_spelled}
+use Rattle.amqp_model.specs.Spelling.{IsSize, ContainerData, IsKnown, Constructor, data_of, enc, items_of as items_spelled}
 use Rattle.amqp_model.specs.Measures.{nest, nests}
 use Rattle.amqp_decoder.specs.declared.frame.Place.{Place}
 use Rattle.amqp_decoder.specs.State.{Open, State, Has, lower, on, past, inside, items_of as items_at}
 use Rattle.amqp_decoder.specs.Steps.{Took}
-use Rattle.amqp_decoder.specs.Reading.{IsFirst, Begun}
-use Rattle.amqp_decoder.specs.Primitives.{standing, SpellsAs, Stands}
-use Rattle.amqp_decoder.specs.Containers.{place_of, is_list, IsCount, Counts, Header, Entered, Opens, Closes}
+use Rattle.amqp_decoder.specs.Reading.{IsFirst}
+use Rattle.amqp_decoder.specs.Primitives.{standing, SpellsAs}
+use Rattle.amqp_decoder.specs.Containers.{place_of, is_list, IsCount, Counts, Header}
 use Rattle.amqp_decoder.specs.Items.{Row, Next, Contains}
 use Rattle.amqp_decoder.proofs.Looks.{front_is}
 use Rattle.amqp_decoder.proofs.Leaves.{has_add, has_front, has_rest, lower-lower, minus-minus, after_code, on-past}

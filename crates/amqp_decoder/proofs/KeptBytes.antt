@@ -1,12 +1,12 @@
 -- Bytes that are taken and kept.
-use Rattle.std.proofs.Common.{◌≡◌, ◌≤◌, ℕ, ◌+◌, Bool, true, false, cond, None, List, [], ◌∷◌, ◌++◌, length, take, drop, refl, sym, ap, ◌∙◌, subst, arith, append_assoc, append-nil, drop-drop, length-append}
+use Rattle.std.proofs.Common.{◌≡◌, ◌≤◌, ℕ, ◌+◌, Bool, true, false, cond, None, List, [], ◌∷◌, ◌++◌, length, take, drop, refl, sym, ap, ◌∙◌, subst, append_assoc, drop-drop, length-append}
 use Rattle.std.proofs.lemmas.List.{length-take-le, take-append-drop}
 use Rattle.std.specs.Int.{bytes_high_first}
-use Rattle.amqp_decoder.specs.State.{State, Has, lower, moved, on, past}
+use Rattle.amqp_decoder.specs.State.{State, Has, lower, moved, past}
 use Rattle.amqp_decoder.specs.Steps.{Pulled, Took}
 use Rattle.amqp_decoder.specs.Reading.{IsFirst, Begun}
 use Rattle.amqp_decoder.specs.Terms.{Keeps, KeepsBehind, TakesBytes}
-use Rattle.amqp_decoder.proofs.Steps.{took_pulled, lowered}
+use Rattle.amqp_decoder.proofs.Steps.{took_pulled}
 use Rattle.amqp_decoder.proofs.Leaves.{took_none, has_add, after_code, on-past}
 use Rattle.amqp_decoder.proofs.Opening.{took_both}
 

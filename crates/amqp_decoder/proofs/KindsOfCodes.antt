@@ -1,8 +1,8 @@
 -- What stands under a code is of the kind that it announces.
-use Rattle.std.proofs.Common.{◌≡◌, ℕ, zero, suc, ◌⊎◌, inl, inr, Bool, true, false, cond, eqb, List, [], ◌∷◌, Option, Some, None, option_map, refl, sym, ap, ◌∙◌, subst}
+use Rattle.std.proofs.Common.{◌≡◌, ℕ, zero, suc, ◌⊎◌, inl, inr, Bool, true, false, cond, eqb, List, [], ◌∷◌, Option, Some, None, option_map, refl, sym, ap, subst}
 use Rattle.std.proofs.lemmas.Bool.{eqb-true, eq-eqb}
-use Rattle.amqp_model.specs.Term.{Primitive, boolean}
-use Rattle.amqp_model.specs.Constructors.{Format, fixed, variable, compound, unknown, format, constructors, look_up, boolean_byte}
+use Rattle.amqp_model.specs.Term.{Primitive}
+use Rattle.amqp_model.specs.Constructors.{Format, unknown, format, constructors, look_up, boolean_byte}
 use Rattle.amqp_model.specs.Spelling.{PrimitiveData}
 use Rattle.amqp_decoder.specs.Kinds.{kind_of, kind_under, kind_at, is_kind, codes_in, codes_of}
 

@@ -1,12 +1,12 @@
 -- A primitive that stands next is a code that begins a value, and its data.
-use Rattle.std.proofs.Common.{◌≡◌, ◌≤◌, ◌<◌, ℕ, zero, suc, ◌+◌, ◌-◌, ◌^◌, ◌⊎◌, inl, inr, Bool, false, Option, Some, None, Result, Ok, Err, IfOk, IfErr, unwrap_or, List, [], ◌∷◌, ◌++◌, length, drop, get_or, refl, sym, ap, ◌∙◌, subst, arith, append_assoc, drop-drop, length-append}
+use Rattle.std.proofs.Common.{◌≡◌, ◌<◌, ℕ, zero, suc, ◌+◌, ◌-◌, ◌^◌, ◌⊎◌, inl, inr, Bool, false, Option, Some, None, Result, Ok, Err, IfOk, IfErr, unwrap_or, List, [], ◌∷◌, ◌++◌, length, drop, get_or, refl, sym, ap, ◌∙◌, subst, arith, append_assoc, drop-drop, length-append}
 use Rattle.std.proofs.lemmas.List.{drop_at}
 use Rattle.std.specs.Int.{bytes_high_first}
 use Rattle.std.specs.Char.{IsScalar}
-use Rattle.amqp_model.specs.Term.{Primitive, char, Descriptor, Term, leaf}
+use Rattle.amqp_model.specs.Term.{Primitive, char, Descriptor, leaf}
 use Rattle.amqp_model.specs.Constructors.{Format, fixed, variable, compound, unknown, format, boolean_byte}
-use Rattle.amqp_model.specs.Spelling.{PrimitiveData, IsValid, Constructor, Spelled, data_of, enc}
-use Rattle.amqp_model.proofs.Bytes.{front, rest, field, length-bytes}
+use Rattle.amqp_model.specs.Spelling.{PrimitiveData, IsValid, Constructor, data_of, enc}
+use Rattle.amqp_model.proofs.Bytes.{front, field, length-bytes}
 use Rattle.amqp_model.proofs.Forms.{primitive_known}
 use Rattle.amqp_wire.specs.declared.error.Error.{Error}
 use Rattle.amqp_wire.specs.Codes.{refusal_of}
@@ -14,7 +14,7 @@ use Rattle.amqp_decoder.specs.State.{State, Has, lower, on, past}
 use Rattle.amqp_decoder.specs.Steps.{Answered, SourceFailed, Excused, Took, Lacks, Short}
 use Rattle.amqp_decoder.specs.Reading.{Refused, Reads, IsFirst, Begun, BeginFault, missing, no_code}
 use Rattle.amqp_decoder.specs.Kinds.{kind_of, kind_at, kind_under, codes_of}
-use Rattle.amqp_decoder.specs.Primitives.{standing, SpellsAs, Stands, Value, Means, Leaf, LacksData, IsWhole, bad, PrimitiveFault, not_begun, wrong_code, no_data, bad_data, FixedFault, unbegun, other_code, too_few, Fixed, Failed, HasData, LacksDataOf}
+use Rattle.amqp_decoder.specs.Primitives.{standing, SpellsAs, Value, Means, Leaf, LacksData, IsWhole, bad, PrimitiveFault, not_begun, wrong_code, no_data, bad_data, FixedFault, unbegun, other_code, too_few, Fixed, Failed, LacksDataOf}
 use Rattle.amqp_decoder.proofs.Steps.{answered_begun, answered_took, not_lacking, not_begun_done, not_begun_lacking}
 use Rattle.amqp_decoder.proofs.KindsOfCodes.{kind_data, OneOf, kind_codes, kind_is, one_code}
 

@@ -1,5 +1,5 @@
 -- Bytes that were looked at, and those of the source behind them.
-use Rattle.std.proofs.Common.{◌≡◌, ◌≤◌, ◌<◌, ℕ, ◌+◌, ◌-◌, List, [], ◌++◌, length, take, drop, min, max, ◌⊎◌, inl, inr, Bool, refl, sym, ap, ◌∙◌, subst, arith, append_assoc, length-append, drop-drop}
+use Rattle.std.proofs.Common.{◌≡◌, ◌≤◌, ◌<◌, ℕ, ◌+◌, ◌-◌, List, [], ◌++◌, length, take, drop, min, max, inl, inr, Bool, sym, ap, ◌∙◌, arith, append_assoc, length-append, drop-drop}
 use Rattle.std.proofs.lemmas.List.{drop_at, take_at, length-take-le, length-drop, take-append-le}
 use Rattle.std.proofs.lemmas.List.Edits.{take-paste}
 use Rattle.std.specs.List.{copy_within}

@@ -1,15 +1,14 @@
 -- No fault is named as want of memory.
 use Rattle.std.proofs.Common.{◌≡◌, inl, inr, ℕ, Bool, true, false, cond, eqb, List}
-use Rattle.amqp_model.specs.Term.{Container, list}
+use Rattle.amqp_model.specs.Term.{Container}
 use Rattle.amqp_model.specs.Constructors.{Format, fixed, variable, compound, unknown, format}
 use Rattle.amqp_wire.specs.Codes.{is_known, refusal_of}
-use Rattle.amqp_wire.specs.declared.error.Error.{Error}
 use Rattle.amqp_wire.specs.declared.error.Error.TheVariants.{Memory, UnknownCode, FloatCode, WrongType, BadBool, BadChar, BadUtf8, NonAscii, InvalidValue}
 use Rattle.amqp_decoder.specs.declared.frame.Place.{Place}
 use Rattle.amqp_decoder.specs.State.{State}
 use Rattle.amqp_decoder.specs.Steps.{Lacks, cut_open, cut_inside, too_long, SizeError, cut, wrong}
 use Rattle.amqp_decoder.specs.Reading.{BeginFault, missing, no_code}
-use Rattle.amqp_decoder.specs.Primitives.{LacksData, bad, PrimitiveFault, not_begun, wrong_code, no_data, bad_data}
+use Rattle.amqp_decoder.specs.Primitives.{LacksData, PrimitiveFault, not_begun, wrong_code, no_data, bad_data}
 use Rattle.amqp_decoder.specs.Containers.{EndFault, other_place, nothing_open, items_left, CloseFault, not_at_end, bytes_left_over, HeaderFault, no_size, impossible, no_count, no_content, EnterFault, no_header, odd_count, no_room, too_deep, OpenFault}
 use Rattle.amqp_decoder.specs.Containers as containers
 use Rattle.amqp_decoder.specs.Described.{Member, other_kind, DescribedFault, DescriptorFault, no_kind, non_ascii, OneOfFault, not_described, no_descriptor, no_member}

@@ -1,5 +1,5 @@
 -- What stands at a place stands there in one way.
-use Rattle.std.proofs.Common.{◌≡◌, ◌≤◌, ℕ, suc, Option, Some, None, List, [], ◌∷◌, ◌++◌, length, drop, get_or, refl, sym, ap, ap₂, ◌∙◌, subst, arith}
+use Rattle.std.proofs.Common.{◌≡◌, ◌≤◌, ℕ, Option, Some, None, List, [], ◌∷◌, ◌++◌, length, drop, get_or, refl, sym, ap, ap₂, ◌∙◌, subst, arith}
 use Rattle.amqp_model.specs.Term.{Term, Descriptor}
 use Rattle.amqp_model.specs.Standing.{Standing}
 use Rattle.amqp_model.proofs.Unique.{fronts, data_same}

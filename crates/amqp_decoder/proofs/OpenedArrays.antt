@@ -1,5 +1,5 @@
 -- How an array is begun: a code, a size, a count, and the constructor that its items share.
-use Rattle.std.proofs.Common.{◌≡◌, ◌≤◌, ◌<◌, ℕ, ◌⊎◌, inl, inr, Bool, true, false, ◌↔◌, IsTrue, cond, Option, Some, None, Result, Ok, Err, IfOk, IfErr, List, length, max, refl, sym, ap, ◌∙◌, subst, arith}
+use Rattle.std.proofs.Common.{◌≡◌, ◌≤◌, ◌<◌, ℕ, ◌⊎◌, inl, inr, Bool, true, false, ◌↔◌, IsTrue, Some, None, Result, Ok, Err, IfOk, IfErr, List, length, max, refl, sym, ap, ◌∙◌, subst, arith}
 use Rattle.amqp_model.specs.Term.{Descriptor, array}
 use Rattle.amqp_model.specs.Constructors.{compound, format}
 use Rattle.amqp_model.specs.Spelling.{IsKnown, HasWidthZero}

@@ -1,21 +1,21 @@
 -- How a container is begun: a code, a size, a count, and room for as many bytes.
-use Rattle.std.proofs.Common.{◌≡◌, ◌≤◌, ◌<◌, ℕ, zero, suc, ◌+◌, ◌-◌, ◌^◌, ◌%◌, ◌⊎◌, inl, inr, Bool, true, false, IsTrue, cond, eqb, Option, Some, None, Result, Ok, Err, IfOk, IfErr, List, [], ◌∷◌, ◌++◌, length, drop, refl, sym, ap, ap₂, ◌∙◌, subst, arith, append_assoc, drop-drop, length-append}
+use Rattle.std.proofs.Common.{◌≡◌, ◌≤◌, ◌<◌, ℕ, ◌+◌, ◌^◌, ◌%◌, ◌⊎◌, inl, inr, Bool, true, false, IsTrue, cond, eqb, None, Result, Ok, Err, IfOk, IfErr, List, [], ◌∷◌, ◌++◌, length, drop, refl, sym, ap, ap₂, ◌∙◌, subst, arith, append_assoc, drop-drop, length-append}
 use Rattle.std.proofs.lemmas.Bool.{eqb-true, eq-eqb}
 use Rattle.std.specs.Int.{bytes_high_first}
 use Rattle.amqp_model.specs.Term.{Container, list, map, array}
 use Rattle.amqp_model.specs.Constructors.{Format, fixed, variable, compound, unknown, format, constructors, look_up}
 use Rattle.amqp_model.proofs.Bytes.{field, length-bytes}
 use Rattle.amqp_wire.specs.declared.error.Error.{Error}
-use Rattle.amqp_wire.specs.declared.error.Error.TheVariants.{OddCount, Depth}
+use Rattle.amqp_wire.specs.declared.error.Error.TheVariants.{OddCount}
 use Rattle.amqp_wire.specs.Codes.{refusal_of}
-use Rattle.amqp_decoder.specs.State.{State, Has, lower, on, past, inside}
-use Rattle.amqp_decoder.specs.Steps.{Answered, Excused, Took, Lacks, Short, SizeError, SizeRefused, NoRoom, Stopped}
+use Rattle.amqp_decoder.specs.State.{State, Has, lower, on, inside}
+use Rattle.amqp_decoder.specs.Steps.{Answered, Excused, Took, Lacks, Short, SizeRefused, Stopped}
 use Rattle.amqp_decoder.specs.Reading.{Refused, Reads, Begun, BeginFault}
 use Rattle.amqp_decoder.specs.Containers.{place_of, is_list, IsCount, Counts, IsPossible, Header, HeaderFault, no_size, impossible, no_count, no_content, Unopened, Entered, EnterFault, no_header, odd_count, no_room, too_deep, Opens, OpenFault, not_begun, wrong_code, no_data}
 use Rattle.amqp_decoder.proofs.Steps.{answered_begun, answered_took, not_lacking}
 use Rattle.amqp_decoder.proofs.Looks.{front_is}
 use Rattle.amqp_decoder.proofs.KindsOfCodes.{OneOf}
-use Rattle.amqp_decoder.proofs.Leaves.{has_add, has_front, has_rest, lower-lower, minus-minus, after_code, begun_same, fault_not_begun, took_none}
+use Rattle.amqp_decoder.proofs.Leaves.{has_add, has_rest, lower-lower, minus-minus, after_code, begun_same, fault_not_begun, took_none}
 
 pub on-on : (m n : ℕ) (st : State) → on n (on m st) ≡ on (m + n) st
 on-on m n st = rw (minus-minus st.ahead m n, drop-drop n m st.rest, lower-lower st.top.left m n) refl

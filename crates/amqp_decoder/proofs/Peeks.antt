@@ -1,12 +1,12 @@
 -- What a look at the next value's first code finds.
-use Rattle.std.proofs.Common.{◌≡◌, ◌≤◌, ◌<◌, ℕ, suc, ◌+◌, ◌-◌, ◌⊎◌, inl, inr, Bool, false, IsTrue, Option, Some, None, List, [], ◌∷◌, ◌++◌, length, drop, get_or, length-append, ◌↔◌, min, max, refl, sym, ap, ◌∙◌, subst, arith}
+use Rattle.std.proofs.Common.{◌≡◌, ◌≤◌, ◌<◌, ℕ, ◌-◌, inl, inr, Bool, false, IsTrue, Option, Some, None, List, [], ◌∷◌, length, drop, get_or, length-append, ◌↔◌, min, max, refl, sym, ap, ◌∙◌, subst, arith}
 use Rattle.amqp_model.specs.Term.{Descriptor, Term}
 use Rattle.amqp_model.specs.Spelling.{Constructor, enc}
 use Rattle.amqp_model.specs.Standing.{Standing}
 use Rattle.amqp_wire.specs.declared.error.Error.{Error}
 use Rattle.amqp_wire.specs.declared.error.Error.TheVariants.{Cut}
-use Rattle.amqp_decoder.specs.State.{State, Has, lower, looked, moved, on, past}
-use Rattle.amqp_decoder.specs.Steps.{Answered, Took, Short, SizeRefused}
+use Rattle.amqp_decoder.specs.State.{State, Has, looked, moved, on, past}
+use Rattle.amqp_decoder.specs.Steps.{Answered, Took, SizeRefused}
 use Rattle.amqp_decoder.specs.Reading.{Refused, IsFirst, IsFirstShared, Begun, BeginFault, Peeked, looked_under}
 use Rattle.amqp_decoder.specs.Primitives.{standing, SpellsAs, Stands, Value}
 use Rattle.amqp_decoder.proofs.Steps.{begun_own, begun_shared, begin_short, short_of_size, missed_lacks, has_item}

@@ -4,10 +4,10 @@ use Rattle.std.proofs.lemmas.List.{take_at, length-append, length-drop}
 use Rattle.std.proofs.Math.Seq.{take-add}
 use Rattle.std.specs.Int.{bytes_high_first}
 use Rattle.amqp_wire.specs.declared.error.Error.{Error}
-use Rattle.amqp_decoder.specs.State.{State, Has, lower, moved, on}
-use Rattle.amqp_decoder.specs.Steps.{Answered, Excused, Pulled, Missed, Took, Lacks, Short}
+use Rattle.amqp_decoder.specs.State.{State, moved}
+use Rattle.amqp_decoder.specs.Steps.{Answered, Excused, Pulled, Missed, Took, Short}
 use Rattle.amqp_model.specs.Term.{Primitive}
-use Rattle.amqp_model.specs.Constructors.{Format, variable, format}
+use Rattle.amqp_model.specs.Constructors.{variable, format}
 use Rattle.amqp_model.specs.Spelling.{PrimitiveData, IsValid}
 use Rattle.amqp_model.proofs.Bytes.{field}
 use Rattle.amqp_wire.specs.Codes.{refusal_of}

@@ -1,10 +1,10 @@
 -- How the steps of a call follow one another.
-use Rattle.std.proofs.Common.{◌≡◌, ◌≤◌, ◌<◌, ℕ, ◌+◌, ◌-◌, ◌⊎◌, inl, inr, Bool, false, Option, Some, None, List, [], ◌∷◌, ◌++◌, length, drop, get_or, unwrap_or, refl, sym, ap, ◌∙◌, subst, arith, suc, zero}
+use Rattle.std.proofs.Common.{◌≡◌, ◌≤◌, ◌<◌, ℕ, ◌-◌, inl, inr, Bool, false, Option, Some, None, List, [], ◌∷◌, ◌++◌, length, drop, get_or, unwrap_or, refl, sym, ap, ◌∙◌, subst, arith, suc, zero}
 use Rattle.std.proofs.lemmas.List.{length-append}
 use Rattle.amqp_model.specs.Term.{Descriptor}
 use Rattle.amqp_wire.specs.declared.error.Error.{Error}
 use Rattle.amqp_wire.specs.declared.error.Error.TheVariants.{Cut, Missing}
-use Rattle.amqp_decoder.specs.State.{Open, State, Has, lower, moved, on, past, announced, bytes_left}
+use Rattle.amqp_decoder.specs.State.{State, Has, lower, past, announced}
 use Rattle.amqp_decoder.specs.Steps.{Answered, SourceFailed, Excused, Pulled, Missed, Took, Lacks, cut_open, cut_inside, too_long, Short, asked_in, SizeError, cut, wrong, SizeRefused}
 use Rattle.amqp_decoder.specs.Reading.{Refused, IsLeft, IsFirst, IsFirstShared, Begun, BeginFault, missing, no_code}
 

@@ -1,7 +1,7 @@
 -- What the calls that begin arrays promise (Part 1, sections 1.2.4 and 1.6.24).
-use Rattle.std.specs.Prelude.{◌≡◌, ◌<◌, ◌≤◌, ◌⊎◌, ℕ, Bool, false, List, [], ◌∷◌, ◌++◌, length, max, Option, Some, None}
+use Rattle.std.specs.Prelude.{◌≡◌, ◌<◌, ◌≤◌, ◌⊎◌, ℕ, false, List, [], ◌∷◌, ◌++◌, length, max, Option, Some, None}
 use Rattle.amqp_model.specs.Term.{Descriptor, array}
-use Rattle.amqp_model.specs.Constructors.{Format, fixed, variable, compound, unknown, format}
+use Rattle.amqp_model.specs.Constructors.{Format, compound, format}
 use Rattle.amqp_model.specs.Spelling.{IsKnown, HasWidthZero, Names, Constructor}
 use Rattle.amqp_wire.specs.Codes.{refusal_of}
 use Rattle.amqp_wire.specs.declared.error.Error.{Error}
@@ -11,7 +11,7 @@ use Rattle.amqp_decoder.specs.State.{State, Has, inside}
 use Rattle.amqp_decoder.specs.Steps.{Took, Lacks, NoRoom}
 use Rattle.amqp_decoder.specs.Reading.{Begun, BeginFault}
 use Rattle.amqp_decoder.specs.Containers.{Header, HeaderFault}
-use Rattle.amqp_decoder.specs.Described.{TookDescriptor, DescriptorFault}
+use Rattle.amqp_decoder.specs.Described.{DescriptorFault}
 
 -- Descriptors, each after a 0.
 abbrev pub Marks : List Descriptor → List ℕ → Type 0

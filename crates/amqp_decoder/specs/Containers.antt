@@ -1,5 +1,5 @@
 -- What the calls that begin and end containers promise (Part 1, sections 1.2 and 1.6.22 to 1.6.24).
-use Rattle.std.specs.Prelude.{◌≡◌, ◌<◌, ◌≤◌, ◌+◌, ◌^◌, ◌%◌, ◌⊎◌, ℕ, Bool, true, false, List, [], ◌∷◌, ◌++◌, length, Option, Some, None}
+use Rattle.std.specs.Prelude.{◌≡◌, ◌<◌, ◌≤◌, ◌+◌, ◌^◌, ◌%◌, ◌⊎◌, ℕ, Bool, true, false, List, [], ◌∷◌, ◌++◌, length, Some, None}
 use Rattle.std.specs.Int.{bytes_high_first}
 use Rattle.amqp_model.specs.Term.{Container, list, map, array}
 use Rattle.amqp_model.specs.Constructors.{compound, format}
@@ -9,7 +9,7 @@ use Rattle.amqp_wire.specs.declared.error.Error.TheVariants.{Surplus, InvalidVal
 use Rattle.amqp_decoder.specs.declared.frame.Place.{Place}
 use Rattle.amqp_decoder.specs.declared.frame.Place.TheVariants.{InList, InMap, InArray}
 use Rattle.amqp_decoder.specs.State.{Open, State, Has, inside}
-use Rattle.amqp_decoder.specs.Steps.{SizeError, Took, Lacks, NoRoom, Stopped}
+use Rattle.amqp_decoder.specs.Steps.{SizeError, Took, Lacks, NoRoom}
 use Rattle.amqp_decoder.specs.Reading.{Begun, BeginFault}
 
 -- A container of this kind is open, and no item of it is left.

@@ -1,5 +1,5 @@
 -- What stands before a decoder, and its faults, are the same of another source.
-use Rattle.std.proofs.Common.{◌≡◌, ◌⊎◌, inl, inr, ℕ, Bool, List, Option, Some, None, ap, refl, ◌∙◌}
+use Rattle.std.proofs.Common.{◌≡◌, inl, inr, ℕ, Bool, List, Option, Some, None, ap, refl, ◌∙◌}
 use Rattle.amqp_model.specs.Term.{Container, Descriptor}
 use Rattle.amqp_model.specs.Constructors.{Format, fixed, variable, compound, unknown, format}
 use Rattle.amqp_wire.specs.declared.error.Error.{Error}

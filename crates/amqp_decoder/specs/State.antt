@@ -1,5 +1,5 @@
 -- What a decoder has before it.
-use Rattle.std.specs.Prelude.{◌≡◌, ℕ, zero, suc, ◌+◌, ◌-◌, ◌≤◌, ◌<◌, Bool, cond, eqb, List, [], ◌∷◌, ◌++◌, length, take, drop, map, get_or, max, Option, Some, None, unwrap_or, string_bytes}
+use Rattle.std.specs.Prelude.{ℕ, zero, suc, ◌+◌, ◌-◌, ◌≤◌, Bool, cond, eqb, List, [], ◌∷◌, take, drop, map, get_or, max, Option, Some, None, unwrap_or, string_bytes}
 use Rattle.amqp_model.specs.Term.{Descriptor, name, code}
 use Rattle.amqp_wire.specs.declared.error.Error.{Error}
 use Rattle.amqp_wire.specs.declared.descriptor.Descriptor.{Descriptor as DescriptorValue}

@@ -1,5 +1,5 @@
 -- What the calls that keep the bytes of terms promise.
-use Rattle.std.specs.Prelude.{◌≡◌, ℕ, List, [], ◌∷◌, ◌++◌, length, drop, None}
+use Rattle.std.specs.Prelude.{◌≡◌, ℕ, List, ◌∷◌, ◌++◌, length, drop, None}
 use Rattle.amqp_decoder.specs.State.{State, Has, past}
 use Rattle.amqp_decoder.specs.Steps.{Took}
 

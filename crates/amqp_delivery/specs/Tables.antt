@@ -1,5 +1,5 @@
 -- The tables of the delivery states (Part 3, section 3.4).
-use Rattle.std.proofs.Common.{◌≡◌, ◌⊎◌, ◌<◌, inl, inr, codes, ℕ, zero, suc, Bool, true, ◌||◌, List, [], ◌∷◌, Some, get_or, refl, sym, subst, arith}
+use Rattle.std.proofs.Common.{◌≡◌, ◌⊎◌, ◌<◌, inl, inr, codes, ℕ, zero, suc, Bool, true, ◌||◌, [], ◌∷◌, Some, get_or, refl, sym, subst, arith}
 use Rattle.std.proofs.lemmas.List.Quantifiers.{position-Some}
 use Rattle.amqp_model.specs.Term.{Descriptor, name, code, Term}
 use Rattle.amqp_model.specs.Standing.{Standing}

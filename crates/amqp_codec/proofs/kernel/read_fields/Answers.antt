@@ -1,9 +1,8 @@
-use Rattle.std.proofs.Common.{arith, add-one, Some, ap, sym, ◌∙◌, ◌≡◌, ◌<◌, length, get_or}
+use Rattle.std.proofs.Common.{arith, add-one, ap, sym, ◌∙◌, ◌≡◌, ◌<◌, length, get_or}
 use Rattle.std.proofs.lemmas.Result.{err_from_is_err_and}
 use Rattle.amqp_model.specs.Slot.{is_required}
 use Rattle.amqp_model.specs.Fields.{kinds_of}
 use Rattle.amqp_model.specs.declared.tables.FieldKind.TheVariants.{Mandatory}
-use Rattle.amqp_decoder.specs.State.{State}
 use Rattle.amqp_decoder.proofs.Steps.{answered}
 use Rattle.amqp_codec.specs.Fields.{slots}
 use Rattle.amqp_codec.proofs.FieldSteps.{open_refused, none_so_far, item_refused, left_out_refused, one_more, one_less, end_refused, all_read, so_far_still}

@@ -1,8 +1,7 @@
-use Rattle.std.proofs.Common.{Some, ap, sym, ◌∙◌}
+use Rattle.std.proofs.Common.{ap, sym, ◌∙◌}
 use Rattle.std.proofs.lemmas.Result.{err_from_is_err_and}
 use Rattle.amqp_model.specs.Term.{null}
 use Rattle.amqp_model.specs.Slot.{is_required}
-use Rattle.amqp_decoder.specs.State.{State}
 use Rattle.amqp_decoder.specs.Primitives.{Means}
 use Rattle.amqp_decoder.proofs.Steps.{answered}
 use Rattle.amqp_codec.specs.Peeks.{peeked_going, peeked_from}

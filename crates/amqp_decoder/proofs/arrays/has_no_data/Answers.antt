@@ -1,4 +1,3 @@
-use Rattle.std.proofs.Common.{rules}
 use Rattle.amqp_decoder.proofs.Constructed.{has_data, no_data}
 use Rattle.amqp_decoder.proofs.arrays.has_no_data.Goals as goal
 

@@ -1,5 +1,4 @@
-use Rattle.std.proofs.Common.{rules, map, ◌≡◌, []}
-use Rattle.amqp_decoder.proofs.Constructed.{no_items, list_items, described_items, none_described, one_constructor, constructor_not}
+use Rattle.amqp_decoder.proofs.Constructed.{no_items, list_items, described_items, none_described}
 use Rattle.amqp_decoder.proofs.arrays.is_flat.Goals as goal
 
 pub returns-then-not-is_empty : goal.returns-then-not-is_empty

@@ -1,5 +1,4 @@
-use Rattle.std.proofs.Common.{rules, arith, ◌≡◌, ◌≤◌, ◌<◌, ◌+◌, ℕ, Some, None, length, take, unwrap_or, refl, ap, sym, subst, ◌∙◌}
-use Rattle.std.proofs.lemmas.Result.{err_from_is_err_and}
+use Rattle.std.proofs.Common.{arith, take, unwrap_or, ap}
 use Rattle.amqp_decoder.specs.State.{State}
 use Rattle.std.proofs.lemmas.List.{take_all}
 use Rattle.amqp_decoder.specs.declared.frame.Frame.{Frame}

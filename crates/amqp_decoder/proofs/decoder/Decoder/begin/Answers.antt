@@ -1,8 +1,5 @@
-use Rattle.std.proofs.Common.{rules, arith, ◌≡◌, ◌≤◌, ◌<◌, ◌+◌, ℕ, Some, None, length, take, unwrap_or, refl, ap, sym, subst, ◌∙◌}
 use Rattle.std.proofs.lemmas.Result.{err_from_is_err_and}
-use Rattle.amqp_decoder.specs.State.{State}
 use Rattle.amqp_decoder.proofs.Steps.{begun_own, begin_short}
-use Rattle.amqp_decoder.specs.Steps.{Took, Short}
 use Rattle.amqp_decoder.proofs.decoder.Decoder.begin.Goals as goal
 
 pub returns-in_err-code : goal.returns-in_err-code

@@ -1,6 +1,5 @@
-use Rattle.std.proofs.Common.{rules, ◌≡◌, refl, ap}
+use Rattle.std.proofs.Common.{rules, refl}
 use Rattle.std.proofs.lemmas.Result.{err_from_is_err_and}
-use Rattle.amqp_decoder.specs.State.{State}
 use Rattle.amqp_decoder.proofs.Opening.{not_array}
 use Rattle.amqp_decoder.proofs.OpenedArrays.{array_unbegun, array_other, reads_array}
 use Rattle.amqp_decoder.proofs.Steps.{answered_so}

@@ -1,4 +1,3 @@
-use Rattle.std.proofs.Common.{rules, arith, ◌≡◌, Some, refl, ap, sym, ◌∙◌, subst}
 use Rattle.std.proofs.lemmas.Result.{err_from_is_err_and}
 use Rattle.amqp_decoder.proofs.Descriptors.{begun_describable, any_unbegun, any_missed, any_deep, any_entered}
 use Rattle.amqp_decoder.proofs.decoder.Decoder.begin_described.Goals as goal

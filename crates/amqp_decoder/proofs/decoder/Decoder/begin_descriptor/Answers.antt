@@ -1,6 +1,5 @@
-use Rattle.std.proofs.Common.{rules, ap, inr}
+use Rattle.std.proofs.Common.{rules, inr}
 use Rattle.std.proofs.lemmas.Result.{err_from_is_err_and}
-use Rattle.amqp_decoder.specs.State.{State}
 use Rattle.amqp_decoder.specs.Described.{DescribedFault, other_code}
 use Rattle.amqp_decoder.proofs.Leaves.{err_map}
 use Rattle.amqp_decoder.proofs.Descriptors.{unbegun, begun_fails, deep_fails}

@@ -1,4 +1,4 @@
-use Rattle.std.proofs.Common.{rules, arith, ◌≡◌, length, Some, None, refl}
+use Rattle.std.proofs.Common.{rules, refl}
 use Rattle.amqp_decoder.proofs.Rows.{split_saved}
 use Rattle.amqp_decoder.proofs.decoder.Decoder.check_end.Goals as goal
 

@@ -1,4 +1,4 @@
-use Rattle.std.proofs.Common.{rules, arith, ◌≡◌, ◌≤◌, ◌<◌, inl, inr, length, refl}
+use Rattle.std.proofs.Common.{arith, ◌≤◌, ◌<◌, inl, inr, length, refl}
 use Rattle.amqp_decoder.proofs.Rows.{length-stack}
 use Rattle.amqp_decoder.proofs.decoder.Decoder.check_items.Goals as goal
 

@@ -1,9 +1,8 @@
-use Rattle.std.proofs.Common.{rules, arith, ◌≡◌, ◌≤◌, None, map, length, vec_len, sym}
+use Rattle.std.proofs.Common.{rules, arith, ◌≡◌, ◌≤◌, map, length, vec_len, sym}
 use Rattle.std.proofs.lemmas.Result.{err_from_is_err_and}
 use Rattle.std.proofs.lemmas.List.{length-map}
-use Rattle.amqp_wire.specs.Sources.{Tells}
-use Rattle.amqp_decoder.specs.State.{State, descriptor_of}
-use Rattle.amqp_decoder.proofs.Constructed.{first_code, unshared_behind, more_named, code_after, constructor_took, stopped_first, stopped_code, stopped_mark, stopped_unknown}
+use Rattle.amqp_decoder.specs.State.{descriptor_of}
+use Rattle.amqp_decoder.proofs.Constructed.{unshared_behind, more_named, code_after, constructor_took, stopped_first, stopped_code, stopped_mark, stopped_unknown}
 use Rattle.amqp_decoder.proofs.decoder.Decoder.constructor.Goals as goal
 
 pub returns-in_err-code-clause-err : goal.returns-in_err-code-clause-err

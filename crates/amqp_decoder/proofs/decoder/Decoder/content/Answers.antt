@@ -1,7 +1,5 @@
-use Rattle.std.proofs.Common.{rules, arith, ◌≡◌, ◌≤◌, ◌<◌, ◌+◌, ◌-◌, ℕ, Bool, true, false, Some, None, [], ◌∷◌, length, take, refl, ap, sym, ◌∙◌, subst, string_bytes}
+use Rattle.std.proofs.Common.{rules}
 use Rattle.std.proofs.lemmas.Result.{err_from_is_err_and}
-use Rattle.amqp_model.specs.Term.{Primitive, binary, string, symbol}
-use Rattle.amqp_decoder.specs.State.{State}
 use Rattle.amqp_decoder.proofs.Leaves.{err_map}
 use Rattle.amqp_decoder.proofs.SizedTexts.{text_unbegun, text_other, text_narrow, text_wide}
 use Rattle.amqp_decoder.proofs.Steps.{answered_so}

@@ -1,6 +1,5 @@
-use Rattle.std.proofs.Common.{rules, arith, ◌≡◌, ◌≤◌, ◌-◌, ◌+◌, ℕ, length, take, drop, refl, ap, sym, ◌∙◌}
-use Rattle.amqp_decoder.specs.State.{State}
-use Rattle.amqp_decoder.proofs.Looks.{pending_none, filled_bytes, filled_rest, filled_all, moved_is}
+use Rattle.std.proofs.Common.{arith}
+use Rattle.amqp_decoder.proofs.Looks.{pending_none, filled_bytes, filled_rest, moved_is}
 use Rattle.amqp_decoder.proofs.decoder.Decoder.fill.Goals as goal
 
 pub returns-in-Ok-clause-bytes : goal.returns-in-Ok-clause-bytes

@@ -1,7 +1,5 @@
-use Rattle.std.proofs.Common.{rules, arith, ◌≡◌, ◌≤◌, ◌<◌, ◌^◌, ℕ, Bool, cond, IsTrue, refl, ap, sym, ◌∙◌, subst}
+use Rattle.std.proofs.Common.{arith}
 use Rattle.std.proofs.lemmas.Result.{err_from_is_err_and}
-use Rattle.amqp_decoder.specs.State.{State}
-use Rattle.amqp_decoder.specs.Containers.{IsPossible}
 use Rattle.amqp_decoder.proofs.Opening.{no_header_size, header_impossible, no_header_count, no_header_content, header_of_none, possible_at, possible_none}
 use Rattle.amqp_decoder.proofs.decoder.Decoder.header.Goals as goal
 

@@ -1,5 +1,5 @@
-use Rattle.std.proofs.Common.{rules, arith, ◌≡◌}
-use Rattle.amqp_decoder.proofs.KeptBytes.{keeps_join, keeps_byte, keeps_behind}
+use Rattle.std.proofs.Common.{arith}
+use Rattle.amqp_decoder.proofs.KeptBytes.{keeps_byte, keeps_behind}
 use Rattle.amqp_decoder.proofs.decoder.Decoder.keep_constructor.Goals as goal
 
 pub loop-code-preserved : goal.loop-code-preserved

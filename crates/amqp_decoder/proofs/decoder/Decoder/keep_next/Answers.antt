@@ -1,5 +1,5 @@
 use Rattle.amqp_decoder.proofs.Leaves.{ok_map}
-use Rattle.amqp_decoder.proofs.KeptBytes.{keeps_next, takes_bytes}
+use Rattle.amqp_decoder.proofs.KeptBytes.{keeps_next}
 use Rattle.amqp_decoder.proofs.decoder.Decoder.keep_next.Goals as goal
 
 pub returns : goal.returns

@@ -1,7 +1,4 @@
-use Rattle.std.proofs.Common.{rules, arith, ◌≡◌, ◌≤◌, ◌<◌, ◌+◌, ◌-◌, ℕ, Bool, true, false, Some, None, [], ◌∷◌, length, take, ◌++◌, refl, ap, sym, ◌∙◌, subst}
-use Rattle.std.proofs.lemmas.Result.{err_from_is_err_and}
-use Rattle.amqp_model.specs.Term.{Primitive, ulong}
-use Rattle.amqp_decoder.specs.State.{State}
+use Rattle.std.proofs.Common.{rules, arith, ◌≡◌, ◌≤◌, ◌+◌, ◌-◌, length, take, ◌++◌, ap, ◌∙◌, subst}
 use Rattle.amqp_decoder.proofs.SizedTexts.{kept_more}
 use Rattle.amqp_wire.specs.Sources.{Tells}
 use Rattle.amqp_decoder.specs.State.{moved}

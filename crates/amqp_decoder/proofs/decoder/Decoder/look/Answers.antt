@@ -1,4 +1,4 @@
-use Rattle.std.proofs.Common.{rules, arith, ◌≡◌, ◌≤◌, ◌<◌, ◌-◌, ◌+◌, ℕ, length, take, drop, max, min, refl, ap, sym, ◌∙◌}
+use Rattle.std.proofs.Common.{rules, arith, ◌≡◌, ◌≤◌, ◌-◌, length, ap, sym, ◌∙◌}
 use Rattle.amqp_decoder.specs.State.{State}
 use Rattle.amqp_decoder.proofs.Looks.{looked_more, looked_count, looked_is}
 use Rattle.amqp_decoder.proofs.decoder.Decoder.look.Goals as goal

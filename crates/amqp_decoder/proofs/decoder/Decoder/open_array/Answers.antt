@@ -1,4 +1,4 @@
-use Rattle.std.proofs.Common.{rules, arith, ◌≡◌, ◌<◌, max, refl, ap, sym, ◌∙◌}
+use Rattle.std.proofs.Common.{arith, ◌<◌, max, ap, sym, ◌∙◌}
 use Rattle.std.proofs.lemmas.Result.{err_from_is_err_and}
 use Rattle.amqp_decoder.specs.State.{State}
 use Rattle.amqp_decoder.proofs.OpenedArrays.{stopped_header, stopped_open, stopped_start, enters_none, enters_all}

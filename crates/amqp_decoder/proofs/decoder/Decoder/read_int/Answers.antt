@@ -1,12 +1,9 @@
-use Rattle.std.proofs.Common.{rules, arith, ◌≡◌, ℕ, Bool, true, false, Some, None, [], ◌∷◌, refl, ap, sym, ◌∙◌}
+use Rattle.std.proofs.Common.{rules, Some, refl, ap, sym, ◌∙◌}
 use Rattle.std.proofs.lemmas.Result.{err_from_is_err_and}
 use Rattle.std.proofs.lemmas.Int.{to_z-of_z}
-use Rattle.std.specs.Int.{w8, w16, w32, w64}
-use Rattle.amqp_model.specs.Term.{Primitive, boolean, uint, int, long, char}
-use Rattle.amqp_model.specs.Constructors.{format}
-use Rattle.amqp_model.specs.Spelling.{PrimitiveData}
-use Rattle.amqp_decoder.specs.State.{State}
-use Rattle.amqp_decoder.proofs.Leaves.{refused_first, short_refused, other_refused, data_value, code_value, not_two, not_three, bad_refused, fixed_refused, fixed_value}
+use Rattle.std.specs.Int.{w8, w32}
+use Rattle.amqp_model.specs.Term.{int}
+use Rattle.amqp_decoder.proofs.Leaves.{refused_first, short_refused, other_refused, data_value, not_two}
 use Rattle.amqp_decoder.proofs.Steps.{answered_so}
 use Rattle.amqp_decoder.proofs.decoder.Decoder.read_int.Goals as goal
 

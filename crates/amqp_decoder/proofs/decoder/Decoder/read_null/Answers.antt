@@ -1,6 +1,6 @@
-use Rattle.std.proofs.Common.{rules, arith, ◌≡◌, ℕ, Some, refl, ap, sym, ◌∙◌}
+use Rattle.std.proofs.Common.{refl}
 use Rattle.std.proofs.lemmas.Result.{err_from_is_err_and}
-use Rattle.amqp_model.specs.Term.{null, ubyte, ushort, byte, short, timestamp, char, decimal32, decimal64, decimal128, uuid}
+use Rattle.amqp_model.specs.Term.{null}
 use Rattle.amqp_decoder.proofs.Leaves.{fixed_refused, fixed_value}
 use Rattle.amqp_decoder.proofs.decoder.Decoder.read_null.Goals as goal
 

@@ -1,8 +1,6 @@
-use Rattle.std.proofs.Common.{rules, ◌≡◌, Some, refl, ap, sym, ◌∙◌, subst, string_bytes}
+use Rattle.std.proofs.Common.{refl, ap, sym, subst, string_bytes}
 use Rattle.std.proofs.lemmas.Result.{err_from_is_err_and}
-use Rattle.amqp_model.specs.Term.{binary, string, symbol}
-use Rattle.amqp_wire.specs.declared.symbol.Symbol.{Symbol}
-use Rattle.amqp_decoder.specs.State.{State}
+use Rattle.amqp_model.specs.Term.{string}
 use Rattle.std.proofs.lemmas.Str.{IsUtf8-string_bytes}
 use Rattle.std.proofs.Common.{String, Vec, Global, ℕ}
 use Rattle.amqp_decoder.specs.Primitives.{Text}

@@ -1,8 +1,7 @@
-use Rattle.std.proofs.Common.{rules, ◌≡◌, Some, refl, ap, sym, ◌∙◌, subst, string_bytes}
+use Rattle.std.proofs.Common.{refl, string_bytes}
 use Rattle.std.proofs.lemmas.Result.{err_from_is_err_and}
-use Rattle.amqp_model.specs.Term.{binary, string, symbol}
+use Rattle.amqp_model.specs.Term.{symbol}
 use Rattle.amqp_wire.specs.declared.symbol.Symbol.{Symbol}
-use Rattle.amqp_decoder.specs.State.{State}
 use Rattle.amqp_decoder.proofs.SizedTexts.{text_refused, checked_reads}
 use Rattle.amqp_decoder.proofs.decoder.Decoder.read_symbol.Goals as goal
 

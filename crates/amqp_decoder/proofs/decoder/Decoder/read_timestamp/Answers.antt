@@ -1,6 +1,6 @@
-use Rattle.std.proofs.Common.{rules, arith, ◌≡◌, ℕ, Some, refl, ap, sym, ◌∙◌}
+use Rattle.std.proofs.Common.{rules, Some, refl, ap, sym, ◌∙◌}
 use Rattle.std.proofs.lemmas.Result.{err_from_is_err_and}
-use Rattle.amqp_model.specs.Term.{null, ubyte, ushort, byte, short, timestamp, char, decimal32, decimal64, decimal128, uuid}
+use Rattle.amqp_model.specs.Term.{timestamp}
 use Rattle.amqp_decoder.proofs.Leaves.{fixed_refused, fixed_value}
 use Rattle.std.specs.Int.{w64}
 use Rattle.std.proofs.lemmas.Int.{to_z-of_z}

@@ -1,6 +1,4 @@
-use Rattle.std.proofs.Common.{rules, arith, ◌≡◌, ◌≤◌, ◌<◌, ◌+◌, ℕ, Some, None, length, take, unwrap_or, refl, ap, sym, subst, ◌∙◌}
 use Rattle.std.proofs.lemmas.Result.{err_from_is_err_and}
-use Rattle.amqp_decoder.specs.State.{State}
 use Rattle.std.proofs.lemmas.List.{length-replicate}
 use Rattle.amqp_decoder.proofs.Steps.{short_of_missed}
 use Rattle.amqp_decoder.proofs.decoder.Decoder.take.Goals as goal

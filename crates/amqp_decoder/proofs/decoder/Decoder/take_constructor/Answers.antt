@@ -1,8 +1,7 @@
-use Rattle.std.proofs.Common.{rules, ◌≡◌, Some, map, refl, ap, sym, ◌∙◌}
+use Rattle.std.proofs.Common.{◌≡◌, Some}
 use Rattle.std.proofs.lemmas.Result.{err_from_is_err_and}
-use Rattle.amqp_decoder.specs.State.{State, descriptor_of}
-use Rattle.amqp_decoder.proofs.Leaves.{ok_map, err_map}
-use Rattle.amqp_decoder.proofs.OpenedArrays.{shares_none, shares_all, stopped_unconstructed, stopped_zero, stopped_nested, stopped_memory}
+use Rattle.amqp_decoder.proofs.Leaves.{ok_map}
+use Rattle.amqp_decoder.proofs.OpenedArrays.{shares_none, shares_all, stopped_unconstructed, stopped_zero, stopped_nested}
 use Rattle.amqp_decoder.proofs.Steps.{answered}
 use Rattle.amqp_decoder.proofs.decoder.Decoder.take_constructor.Goals as goal
 

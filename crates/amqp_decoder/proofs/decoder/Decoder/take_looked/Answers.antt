@@ -1,6 +1,4 @@
-use Rattle.std.proofs.Common.{rules, arith, ◌≡◌, ◌≤◌, ◌-◌, ◌+◌, ℕ, length, take, drop, refl, ap, sym, ◌∙◌}
-use Rattle.std.proofs.lemmas.List.{drop-drop}
-use Rattle.amqp_decoder.specs.State.{State}
+use Rattle.std.proofs.Common.{arith, ◌≡◌, ◌≤◌, ◌-◌, ◌+◌, take, drop, refl, ap, ◌∙◌}
 use Rattle.amqp_decoder.proofs.Looks.{looked_bytes, looked_rest, moved_is}
 use Rattle.amqp_decoder.proofs.decoder.Decoder.take_looked.Goals as goal
 

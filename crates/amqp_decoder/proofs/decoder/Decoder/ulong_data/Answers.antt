@@ -1,9 +1,6 @@
-use Rattle.std.proofs.Common.{rules, arith, ◌≡◌, ℕ, Bool, true, false, Some, None, [], ◌∷◌, refl, ap, sym, ◌∙◌, subst}
+use Rattle.std.proofs.Common.{rules, refl}
 use Rattle.std.proofs.lemmas.Result.{err_from_is_err_and}
-use Rattle.amqp_model.specs.Term.{Primitive, ulong}
-use Rattle.amqp_decoder.specs.State.{State}
-use Rattle.amqp_decoder.proofs.Leaves.{refused_first, lacking_refused, other_refused, data_value, not_three, short_data, took_none}
-use Rattle.amqp_decoder.specs.Primitives.{LacksDataOf}
+use Rattle.amqp_decoder.proofs.Leaves.{not_three, short_data}
 use Rattle.amqp_decoder.proofs.decoder.Decoder.ulong_data.Goals as goal
 
 pub returns-in_err-byte-in-83-clause-err : goal.returns-in_err-byte-in-83-clause-err
