@@ -1,11 +1,15 @@
 -- Bytes that are taken and kept.
-use Rattle.std.proofs.Common.{◌≡◌, ◌≤◌, ℕ, ◌+◌, Bool, true, false, cond, None, List, [], ◌∷◌, ◌++◌, length, take, drop, refl, sym, ap, ◌∙◌, subst, append_assoc, drop-drop, length-append}
-use Rattle.std.proofs.lemmas.List.{length-take-le, take-append-drop}
+use Rattle.std.proofs.Common.{arith, ◌≡◌, ◌≤◌, ℕ, ◌+◌, ◌-◌, Bool, true, false, cond, None, List, [], ◌∷◌, ◌++◌, length, take, drop, refl, sym, ap, ◌∙◌, subst, append_assoc, drop-drop, length-append}
+use Rattle.std.proofs.lemmas.List.{length-take-le, take-append-drop, take_all}
 use Rattle.std.specs.Int.{bytes_high_first}
+use Rattle.amqp_model.specs.Measures.{nest}
+use Rattle.amqp_lengths.specs.Fronts.{IsFront}
+use Rattle.amqp_lengths.specs.Lengths.{IsTerm}
+use Rattle.amqp_decoder.specs.Primitives.{standing, SpellsAs}
 use Rattle.amqp_decoder.specs.State.{State, Has, lower, moved, past}
 use Rattle.amqp_decoder.specs.Steps.{Pulled, Took}
 use Rattle.amqp_decoder.specs.Reading.{IsFirst, Begun}
-use Rattle.amqp_decoder.specs.Terms.{Keeps, KeepsBehind, TakesBytes}
+use Rattle.amqp_decoder.specs.Terms.{Keeps, KeepsBehind, TakesTerm}
 use Rattle.amqp_decoder.proofs.Steps.{took_pulled}
 use Rattle.amqp_decoder.proofs.Leaves.{took_none, has_add, after_code, on-past}
 use Rattle.amqp_decoder.proofs.Opening.{took_both}
@@ -51,17 +55,28 @@ keeps_behind c a b d st m new h k = record {
   added = k.added ∙ ap (λ l. l ++ k.own) h.added ∙ append_assoc a (c ∷ h.own) k.own;
 }
 
-pub takes_bytes : (st m new : State) (c : ℕ) (before after : List ℕ) → st.top.shared ≡ None → before ≡ [] → Begun st c m → KeepsBehind c before m after new → TakesBytes st after new
-takes_bytes st m new c before after none empty g h =
+pub takes_term : (st m new : State) (c : ℕ) (before after : List ℕ) → st.top.shared ≡ None → before ≡ [] → Begun st c m → KeepsBehind c before m after new → IsTerm (new.nesting - length new.saved) after → TakesTerm st after new
+takes_term st m new c before after none empty g h (t, spelled, deep) =
     let own : g.own ≡ c ∷ [] = subst (λ o. IsFirst o c g.own) none g.first in
     let is : after ≡ g.own ++ h.own = h.added ∙ ap (λ l. l ++ (c ∷ h.own)) empty ∙ ap (λ l. l ++ h.own) (sym own) in
-    let t = subst (λ z. Took z h.own new) g.moved h.took in
+    let u = subst (λ z. Took z h.own new) g.moved h.took in
     let long : length after ≡ length g.own + length h.own = ap length is ∙ length-append g.own h.own in
+    let moved : new ≡ past (length after) st = u.moved ∙ on-past (length g.own) (length h.own) st ∙ ap (λ n. past n st) (sym long) in
     record {
-      going = g.going;
-      item = g.item;
+      term = t;
+      stands = record {
+        going = g.going;
+        item = g.item;
+        room = subst (Has st.top.left) (sym long) (has_add st.top.left (length g.own) (length h.own) g.room u.room);
+        after = drop (length after) st.rest;
+        rest = after_code g.own h.own st.rest g.rest u.rest ∙ ap (λ x. (g.own ++ h.own) ++ x) (drop-drop (length h.own) (length g.own) st.rest ∙ ap (λ n. drop n st.rest) (sym long)) ∙ ap (λ l. l ++ drop (length after) st.rest) (sym is);
+        spelled = subst (λ o. SpellsAs (standing o after) t) (sym none) spelled;
+        nested = subst (λ (z : State). nest t ≤ z.nesting - length z.saved) moved deep;
+      };
       unshared = none;
-      room = subst (Has st.top.left) (sym long) (has_add st.top.left (length g.own) (length h.own) g.room t.room);
-      rest = after_code g.own h.own st.rest g.rest t.rest ∙ ap (λ x. (g.own ++ h.own) ++ x) (drop-drop (length h.own) (length g.own) st.rest ∙ ap (λ n. drop n st.rest) (sym long)) ∙ ap (λ l. l ++ drop (length after) st.rest) (sym is);
-      moved = t.moved ∙ on-past (length g.own) (length h.own) st ∙ ap (λ n. past n st) (sym long);
+      moved = moved;
     }
+
+-- all bytes are the front that was found
+pub whole_front : (P : List ℕ → Type 0) (b : List ℕ) (n : ℕ) → IsFront P b n → n ≡ length b → P b
+whole_front P b n f all = subst P (take_all n b (omega arith)) f.spelled

@@ -1,7 +1,9 @@
 -- What the calls that keep the bytes of terms promise.
-use Rattle.std.specs.Prelude.{◌≡◌, ℕ, List, ◌∷◌, ◌++◌, length, drop, None}
-use Rattle.amqp_decoder.specs.State.{State, Has, past}
+use Rattle.std.specs.Prelude.{◌≡◌, ℕ, List, ◌∷◌, ◌++◌, length, None}
+use Rattle.amqp_decoder.specs.State.{State, past}
 use Rattle.amqp_decoder.specs.Steps.{Took}
+use Rattle.amqp_decoder.specs.Primitives.{Stands}
+use Rattle.amqp_model.specs.Term.{Term}
 
 -- Bytes were taken, and added to those before.
 pub record Keeps (before : List ℕ) (st : State) (after : List ℕ) (st' : State) : Type 0 where
@@ -15,11 +17,9 @@ pub record KeepsBehind (first : ℕ) (before : List ℕ) (st : State) (after : L
   pub took : Took st own st'
   pub added : after ≡ before ++ (first ∷ own)
 
--- The bytes of one value of its own stood next, and were taken.
-pub record TakesBytes (st : State) (s : List ℕ) (st' : State) : Type 0 where
-  pub going : st.error ≡ None
-  pub item : Has st.top.items 1
+-- A term stood next as these bytes, a constructor of its own among them, and was taken.
+pub record TakesTerm (st : State) (s : List ℕ) (st' : State) : Type 0 where
+  pub term : Term
+  pub stands : Stands st s term
   pub unshared : st.top.shared ≡ None
-  pub room : Has st.top.left (length s)
-  pub rest : st.rest ≡ s ++ drop (length s) st.rest
   pub moved : st' ≡ past (length s) st

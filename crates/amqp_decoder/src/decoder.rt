@@ -439,6 +439,13 @@ impl<R: ByteSource> Decoder<R> {
         self.depth
     }
 
+    /// How deep a value that begins here may nest.
+    pub(crate) fn nesting_left(&self) -> usize
+        ensures { result ≡ self.now.nesting - length self.now.saved }
+    {
+        NESTING.saturating_sub(self.depth)
+    }
+
     // Opens a container whose items share nothing; `left` is what the open one keeps of its bytes.
     #[inline]
     pub(crate) fn enter(&mut self, left: Option<u32>, inner: Frame) -> Result<(), Error>

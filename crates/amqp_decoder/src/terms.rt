@@ -1,7 +1,7 @@
 //! The bytes of whole terms (Part 1, section 1.2).
 ghost use Rattle.std.specs.Prelude.{◌≡◌, ◌++◌, ◌∷◌, [], cond, None, IfOk};
 ghost use Rattle.amqp_wire.specs.Sources.{Tells};
-ghost use Rattle.amqp_decoder.specs.Terms.{Keeps, KeepsBehind, TakesBytes};
+ghost use Rattle.amqp_decoder.specs.Terms.{Keeps, KeepsBehind, TakesTerm};
 
 use crate::Decoder;
 use amqp_lengths::{NESTING, len_of_term};
@@ -127,21 +127,22 @@ impl<R: ByteSource> Decoder<R> {
 
     // Adds the bytes of the next term.
     fn keep_term(&mut self, bytes: &mut Vec<u8>) -> Result<(), Error>
-        ensures { Tells R.remaining → self.old.top.shared ≡ None → bytes.old.items ≡ [] → IfOk result (λ _. TakesBytes self.old bytes.new.items self.new) }
+        ensures { Tells R.remaining → self.old.top.shared ≡ None → bytes.old.items ≡ [] → IfOk result (λ _. TakesTerm self.old bytes.new.items self.new) }
     {
         let first = self.begin()?;
         let code = self.keep_constructor(first, bytes)?;
         self.keep_data(code, bytes)?;
-        match len_of_term(bytes.as_slice(), NESTING.saturating_sub(self.depth())) {
-            Ok(_) => Ok(()),
+        match len_of_term(bytes.as_slice(), self.nesting_left()) {
+            Ok(len) if len == bytes.len() => Ok(()),
+            Ok(_) => Err(self.refuse(Error::Size)),
             Err(error) => Err(self.refuse(error)),
         }
     }
 
-    /// The bytes of the next term, of any kind; `LazyInArray` where it is the item of an array, whose constructor is
-    /// none of its own.
+    /// The bytes that spell the next term, of any kind, its constructor included (Part 1, section 1.2); `LazyInArray`
+    /// where it is the item of an array, whose constructor is none of its own.
     pub fn read_term(&mut self, alloc: Global) -> Result<Vec<u8>, Error>
-        ensures { Tells R.remaining → IfOk result (λ bytes. TakesBytes self.old bytes.items self.new) }
+        ensures { Tells R.remaining → IfOk result (λ bytes. TakesTerm self.old bytes.items self.new) }
     {
         self.check_item()?;
         if self.is_shared() {
