@@ -1,6 +1,8 @@
 //! The bytes of whole terms (Part 1, section 1.2).
-ghost use Rattle.std.specs.Prelude.{◌≡◌, ◌++◌, ◌∷◌, [], cond, None, IfOk};
+ghost use Rattle.std.specs.Prelude.{◌≡◌, ◌++◌, ◌∷◌, [], cond, Some, None, Err, IfOk, IfErr};
 ghost use Rattle.amqp_wire.specs.Sources.{Tells};
+ghost use Rattle.amqp_wire.specs.declared.error.Error.{Error};
+ghost use Rattle.amqp_decoder.specs.Steps.{Answered};
 ghost use Rattle.amqp_decoder.specs.Terms.{Keeps, KeepsBehind, TakesTerm};
 
 use crate::Decoder;
@@ -40,7 +42,8 @@ fn unused_digits(wide: bool) -> usize
 impl<R: ByteSource> Decoder<R> {
     // Adds a byte that was taken.
     fn keep_byte(&mut self, byte: u8, bytes: &mut Vec<u8>) -> Result<(), Error>
-        ensures { IfOk result (λ _. (bytes.new.items ≡ bytes.old.items ++ (byte ∷ [])) × (self.new ≡ self.old)) }
+        ensures ok { IfOk result (λ _. (bytes.new.items ≡ bytes.old.items ++ (byte ∷ [])) × (self.new ≡ self.old)) }
+        ensures err { IfErr result (λ e. Answered self.old e self.new) }
     {
         match bytes.push(byte) {
             Ok(()) => Ok(()),
@@ -50,7 +53,8 @@ impl<R: ByteSource> Decoder<R> {
 
     // Adds the next so many bytes of the open container.
     fn keep_next(&mut self, len: u32, bytes: &mut Vec<u8>) -> Result<(), Error>
-        ensures { Tells R.remaining → IfOk result (λ _. Keeps bytes.old.items self.old bytes.new.items self.new) }
+        ensures ok { Tells R.remaining → IfOk result (λ _. Keeps bytes.old.items self.old bytes.new.items self.new) }
+        ensures err { Tells R.remaining → IfErr result (λ e. Answered self.old e self.new) }
     {
         self.lower(len)?;
         self.keep(len, bytes)
@@ -58,7 +62,8 @@ impl<R: ByteSource> Decoder<R> {
 
     // Adds a number of one byte or of four, and answers it.
     fn keep_number(&mut self, wide: bool, bytes: &mut Vec<u8>) -> Result<u32, Error>
-        ensures { Tells R.remaining → IfOk result (λ _. Keeps bytes.old.items self.old bytes.new.items self.new) }
+        ensures ok { Tells R.remaining → IfOk result (λ _. Keeps bytes.old.items self.old bytes.new.items self.new) }
+        ensures err { Tells R.remaining → IfErr result (λ e. Answered self.old e self.new) }
     {
         let number = self.number(wide)?;
         let digits = number.to_be_bytes();
@@ -70,7 +75,8 @@ impl<R: ByteSource> Decoder<R> {
 
     // Adds the data under a known code.
     fn keep_data(&mut self, code: u8, bytes: &mut Vec<u8>) -> Result<(), Error>
-        ensures { Tells R.remaining → IfOk result (λ _. Keeps bytes.old.items self.old bytes.new.items self.new) }
+        ensures ok { Tells R.remaining → IfOk result (λ _. Keeps bytes.old.items self.old bytes.new.items self.new) }
+        ensures err { Tells R.remaining → IfErr result (λ e. Answered self.old e self.new) }
     {
         match data_of(code) {
             Data::Fixed(width) => self.keep_next(width, bytes),
@@ -87,7 +93,8 @@ impl<R: ByteSource> Decoder<R> {
 
     // Adds a descriptor.
     fn keep_descriptor_bytes(&mut self, bytes: &mut Vec<u8>) -> Result<(), Error>
-        ensures { Tells R.remaining → IfOk result (λ _. Keeps bytes.old.items self.old bytes.new.items self.new) }
+        ensures ok { Tells R.remaining → IfOk result (λ _. Keeps bytes.old.items self.old bytes.new.items self.new) }
+        ensures err { Tells R.remaining → IfErr result (λ e. Answered self.old e self.new) }
     {
         let code = self.byte()?;
         match code {
@@ -105,7 +112,8 @@ impl<R: ByteSource> Decoder<R> {
 
     // Adds the constructor that begins with this code, and answers its last code.
     fn keep_constructor(&mut self, first: u8, bytes: &mut Vec<u8>) -> Result<u8, Error>
-        ensures { Tells R.remaining → IfOk result (λ _. KeepsBehind first bytes.old.items self.old bytes.new.items self.new) }
+        ensures ok { Tells R.remaining → IfOk result (λ _. KeepsBehind first bytes.old.items self.old bytes.new.items self.new) }
+        ensures err { Tells R.remaining → IfErr result (λ e. Answered self.old e self.new) }
     {
         let mut code = first;
         let mut count = 0;
@@ -127,7 +135,8 @@ impl<R: ByteSource> Decoder<R> {
 
     // Adds the bytes of the next term.
     fn keep_term(&mut self, bytes: &mut Vec<u8>) -> Result<(), Error>
-        ensures { Tells R.remaining → self.old.top.shared ≡ None → bytes.old.items ≡ [] → IfOk result (λ _. TakesTerm self.old bytes.new.items self.new) }
+        ensures ok { Tells R.remaining → self.old.top.shared ≡ None → bytes.old.items ≡ [] → IfOk result (λ _. TakesTerm self.old bytes.new.items self.new) }
+        ensures err { Tells R.remaining → IfErr result (λ e. Answered self.old e self.new) }
     {
         let first = self.begin()?;
         let code = self.keep_constructor(first, bytes)?;
@@ -142,7 +151,9 @@ impl<R: ByteSource> Decoder<R> {
     /// The bytes that spell the next term, of any kind, its constructor included (Part 1, section 1.2); `LazyInArray`
     /// where it is the item of an array, whose constructor is none of its own.
     pub fn read_term(&mut self, alloc: Global) -> Result<Vec<u8>, Error>
-        ensures { Tells R.remaining → IfOk result (λ bytes. TakesTerm self.old bytes.items self.new) }
+        ensures found { Tells R.remaining → IfOk result (λ bytes. TakesTerm self.old bytes.items self.new) }
+        ensures kept { Tells R.remaining → IfErr result (λ e. Answered self.old e self.new) }
+        ensures again { (e : Error) → self.old.error ≡ Some e → (result ≡ Err e) × (self.new ≡ self.old) }
     {
         self.check_item()?;
         if self.is_shared() {
