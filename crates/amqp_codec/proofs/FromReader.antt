@@ -1,5 +1,5 @@
 -- What is read from a reader is what is read from its bytes.
-use Rattle.std.proofs.Common.{◌≡◌, ◌⊎◌, inl, inr, ℕ, ◌-◌, Bool, true, false, List, length, drop, Result, Ok, Err, IfOk, IfErr, refl, sym, ap, ◌∙◌, arith}
+use Rattle.std.proofs.Common.{◌≡◌, ◌⊎◌, inl, inr, ℕ, ◌-◌, Bool, true, false, List, length, drop, Result, Ok, Err, IfOk, IfErr, MatchResult, refl, sym, ap, ◌∙◌, arith}
 use Rattle.std.proofs.lemmas.List.{length-drop}
 use Rattle.amqp_wire.specs.declared.error.Error.{Error}
 use Rattle.amqp_wire.specs.declared.error.Error.TheVariants.{Memory}
@@ -55,6 +55,6 @@ module _ {T : Type 0} (r : Reading T) (input : List ℕ) (source : ℕ) (failed 
       go (inr (inr u)) = inr (inr u)
 
   -- a source that begins to fail is never hidden behind another error
-  pub failing : (res : Result T Error) (b : State) → Reads r.takes_memory r.reads r.fault begin res b → (broken before : Bool) → broken ≡ b.failed → before ≡ failed → IfErr res (λ e. (broken ≡ before) ⊎ IsReadError e)
-  failing (Ok v) b h broken before e f = tt
+  pub failing : (res : Result T Error) (b : State) → Reads r.takes_memory r.reads r.fault begin res b → (broken before : Bool) → broken ≡ b.failed → before ≡ failed → MatchResult res (λ _. broken ≡ before) (λ e. (broken ≡ before) ⊎ IsReadError e)
+  failing (Ok v) b h broken before e f = e ∙ (r.taken begin v b h).sound ∙ sym f
   failing (Err x) b h broken before e f = elim h.kept.source [ inl s ↦ inl (e ∙ s ∙ sym f) | inr i ↦ inr i ]

@@ -15,12 +15,14 @@ use Rattle.amqp_decoder.specs.Reading.{Refused}
 use Rattle.amqp_decoder.specs.Primitives.{standing, SpellsAs, Stands, Value}
 use Rattle.amqp_codec.specs.TermType.{TermType}
 
--- The bytes in front were taken, and none behind them from the source, unless the type looks on.
+-- The bytes in front were taken, and none behind them from the source, unless the type looks on; and the source didn't
+-- begin to fail.
 pub record Taken (looks_on : Bool) (st : State) (b : State) : Type 0 where
   pub count : ℕ
   pub within : count ≤ length st.rest
   pub rest : b.rest ≡ drop count st.rest
   pub ahead : looks_on ≡ false → b.ahead ≡ st.ahead - count
+  pub sound : b.failed ≡ st.failed
 
 pub record Reading (T : Type 0) : Type 1 where
   -- the two differ at most in where they lie in memory
@@ -86,6 +88,7 @@ value_taken means st v b h = record {
   within = omega (arith, value_left means st v b h);
   rest = ap (λ (x : State). x.rest) h.moved;
   ahead = λ _. ap (λ (x : State). x.ahead) h.moved;
+  sound = ap (λ (x : State). x.failed) h.moved;
 }
 
 -- The reading of a type of terms.

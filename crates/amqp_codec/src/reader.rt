@@ -1,5 +1,5 @@
 //! Whole values from a reader.
-ghost use Rattle.std.specs.Prelude.{◌≡◌, ◌⊎◌, ℕ, true, false, drop, IfOk, IfErr};
+ghost use Rattle.std.specs.Prelude.{◌≡◌, ◌⊎◌, ℕ, true, false, drop, IfOk, IfErr, MatchResult};
 ghost use Rattle.amqp_wire.specs.declared.error.Error.TheVariants.{Memory};
 ghost use Rattle.amqp_wire.specs.Sources.{known, Tells};
 ghost use Rattle.amqp_decoder.specs.Steps.{IsRead as IsReadError};
@@ -20,7 +20,7 @@ pub fn from_reader<T: Deserialize, R: ByteSource>(reader: &mut R, alloc: Global)
     ensures one { Tells R.remaining → IfOk result (λ v. (w : _) (m : ℕ) → IsRead T.reading (known (R.remaining reader.old)) w m → T.reading.same v w) }
     ensures behind { Tells R.remaining → T.reading.looks_on ≡ false → IfOk result (λ v. (w : _) (n : ℕ) → IsRead T.reading (known (R.remaining reader.old)) w n → known (R.remaining reader.new) ≡ drop n (known (R.remaining reader.old))) }
     ensures refused { Tells R.remaining → IfErr result (λ e. ((T.reading.takes_memory ≡ true) × (e ≡ Memory)) ⊎ ((IsReadError e × (R.broken reader.new ≡ true)) ⊎ Unreadable T.reading (known (R.remaining reader.old)) e)) }
-    ensures failing { Tells R.remaining → IfErr result (λ e. (R.broken reader.new ≡ R.broken reader.old) ⊎ IsReadError e) }
+    ensures failing { Tells R.remaining → MatchResult result (λ _. R.broken reader.new ≡ R.broken reader.old) (λ e. (R.broken reader.new ≡ R.broken reader.old) ⊎ IsReadError e) }
 {
     let (read, _reader) = read_named::<T, _, Brand>(reader, alloc);
     read
@@ -70,7 +70,7 @@ fn read_named<T: Deserialize, S: ByteSource, N: Name>(
     ensures one { Tells S.remaining → IfOk result.0 (λ v. (w : _) (m : ℕ) → IsRead T.reading (known (S.remaining source)) w m → T.reading.same v w) }
     ensures behind { Tells S.remaining → T.reading.looks_on ≡ false → IfOk result.0 (λ v. (w : _) (n : ℕ) → IsRead T.reading (known (S.remaining source)) w n → known (S.remaining result.1) ≡ drop n (known (S.remaining source))) }
     ensures refused { Tells S.remaining → IfErr result.0 (λ e. ((T.reading.takes_memory ≡ true) × (e ≡ Memory)) ⊎ ((IsReadError e × (S.broken result.1 ≡ true)) ⊎ Unreadable T.reading (known (S.remaining source)) e)) }
-    ensures failing { Tells S.remaining → IfErr result.0 (λ e. (S.broken result.1 ≡ S.broken source) ⊎ IsReadError e) }
+    ensures failing { Tells S.remaining → MatchResult result.0 (λ _. S.broken result.1 ≡ S.broken source) (λ e. (S.broken result.1 ≡ S.broken source) ⊎ IsReadError e) }
 {
     let named = Named::<S, N> {
         source,
