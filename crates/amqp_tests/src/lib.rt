@@ -11,6 +11,8 @@ mod from_readers;
 mod lines;
 #[cfg(test)]
 mod reading;
+#[cfg(test)]
+mod reading_calls;
 pub mod user_type;
 #[cfg(test)]
 mod wire;
