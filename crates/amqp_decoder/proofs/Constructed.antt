@@ -1,162 +1,53 @@
 -- Constructors, and the arrays whose items share them.
-use Rattle.std.proofs.Common.{◌≡◌, ◌≤◌, ◌<◌, ℕ, zero, suc, ◌+◌, ◌⊎◌, inl, inr, Bool, true, false, not, ◌&&◌, cond, eqb, ltb, leb, ◌↔◌, IsTrue, Option, Some, None, List, [], ◌∷◌, ◌++◌, length, drop, map, get_or, unwrap_or, refl, sym, ap, ◌∙◌, subst, arith, append_assoc, length-append, append-nil}
-use Rattle.std.proofs.lemmas.Bool.{eqb-true, ltb-true, eqb-false, lt-ltb, ne_eqb}
+use Rattle.std.proofs.Common.{◌≡◌, ◌≤◌, ℕ, ◌+◌, ◌⊎◌, inl, inr, Bool, true, false, not, eqb, leb, ◌↔◌, IsTrue, None, List, [], ◌∷◌, ◌++◌, length, drop, map, get_or, refl, sym, ap, ◌∙◌, subst, arith, append_assoc, length-append, append-nil}
+use Rattle.std.proofs.lemmas.Bool.{eqb-true, leb-true, le-leb, or_cases, or_right}
 use Rattle.std.proofs.lemmas.List.{drop_at, map-append}
 use Rattle.amqp_wire.specs.declared.descriptor.Descriptor.{Descriptor as DescriptorValue}
 use Rattle.amqp_model.specs.Term.{Descriptor}
-use Rattle.amqp_model.specs.Constructors.{Format, fixed, variable, compound, unknown, format, constructors, look_up}
+use Rattle.amqp_model.specs.Constructors.{Format, fixed, variable, compound, unknown, format}
 use Rattle.amqp_model.specs.Spelling.{IsKnown, HasWidthZero, Names, Constructor}
 use Rattle.amqp_model.proofs.Same.{names_same, constructor_same}
 use Rattle.amqp_wire.specs.declared.error.Error.{Error}
-use Rattle.amqp_wire.specs.declared.error.Error.TheVariants.{Depth, WrongType, UnknownCode, FloatCode}
-use Rattle.amqp_wire.specs.Codes.{is_known, refusal_of}
+use Rattle.amqp_wire.specs.declared.error.Error.TheVariants.{Depth}
+use Rattle.amqp_wire.specs.Codes.{refusal_of}
+use Rattle.amqp_lengths.specs.Pieces.{IsPrimitive}
+use Rattle.amqp_lengths.proofs.Codes.{zero_at, is_holder, Divided, holder_at}
 use Rattle.amqp_decoder.specs.State.{State, DescriptorValues, descriptor_of, Has, on}
 use Rattle.amqp_decoder.specs.Steps.{Answered, Took, Lacks, Short, Stopped}
 use Rattle.amqp_decoder.specs.Described.{IsDescriptor, TookDescriptor, DescriptorFault, DescriptorMissed}
-use Rattle.amqp_decoder.specs.Arrays.{Marks, TookMarks, TookConstructor, ConstructorFault, no_code, no_mark, too_many, no_known_code, IsFlat, if_unknown}
+use Rattle.amqp_decoder.specs.Arrays.{Marks, TookMarks, TookConstructor, ConstructorFault, no_code, no_mark, too_many, no_known_code, IsFlat}
 use Rattle.amqp_decoder.proofs.Leaves.{has_front, has_rest, took_none}
 use Rattle.amqp_decoder.proofs.Opening.{took_both, on-on}
 use Rattle.amqp_decoder.proofs.Descriptors.{fault_not_names}
 use Rattle.amqp_decoder.proofs.Steps.{answered_took, not_lacking}
 use Rattle.amqp_decoder.proofs.Looks.{front_is, rest_is}
 
--- a test of each row holds of each code that is known
-abbrev rows_pass : (ℕ → Format → Bool) → List (ℕ × Format) → Bool
-rows_pass q [] = true
-rows_pass q (row ∷ rows) = q row.0 row.1 && rows_pass q rows
+-- a known code whose data has no bytes
+pub known_zero : (c : ℕ) (none : Bool) → IsTrue none ↔ ((0x40 ≤ c) × (c ≤ 0x45)) → IsKnown (format c) → IsTrue none ↔ HasWidthZero (format c)
+known_zero c none is k = (λ e. (zero_at c).1 (is.0 e) k, λ z. is.1 ((zero_at c).0 z))
 
-both_first : (a b : Bool) → (a && b) ≡ true → a ≡ true
-both_first true b e = refl
-both_first false b e = e
+holder_is : (c : ℕ) → is_holder c ≡ true → (c ≡ 0x45) ⊎ (0xc0 ≤ c)
+holder_is c h = elim (or_cases (eqb c 0x45) (leb 0xc0 c) h) [ inl x ↦ inl (eqb-true c 0x45 x) | inr y ↦ inr (leb-true 0xc0 c y) ]
 
-both_second : (a b : Bool) → (a && b) ≡ true → b ≡ true
-both_second true b e = e
-both_second false b e = absurd (cc)
+is_holder_of : (c : ℕ) → (c ≡ 0x45) ⊎ (0xc0 ≤ c) → is_holder c ≡ true
+is_holder_of c (inl e) = subst (λ n. is_holder n ≡ true) (sym e) refl
+is_holder_of c (inr h) = or_right (eqb c 0x45) (leb 0xc0 c) (le-leb 0xc0 c h)
 
-row_at : (q : ℕ → Format → Bool) (c : ℕ) (row : ℕ × Format) (F : Format) (t : Bool) → eqb c row.0 ≡ t → q row.0 row.1 ≡ true → (IsKnown F → q c F ≡ true) → IsKnown (cond t row.1 F) → q c (cond t row.1 F) ≡ true
-row_at q c row F true s h f k = ap (λ x. q x row.1) (eqb-true c row.0 s) ∙ h
-row_at q c row F false s h f k = f k
+primitive_flat : (F : Format) → IsPrimitive F → IsFlat [] F
+primitive_flat (fixed w f) h = tt
+primitive_flat (variable w f) h = tt
+primitive_flat (compound k w) h = absurd h
+primitive_flat unknown h = absurd h
 
-row_passes : (q : ℕ → Format → Bool) (c : ℕ) (rows : List (ℕ × Format)) → rows_pass q rows ≡ true → IsKnown (look_up c rows) → q c (look_up c rows) ≡ true
-row_passes q c [] h k = absurd k
-row_passes q c (row ∷ rows) h k =
-    row_at q c row (look_up c rows) (eqb c row.0) refl (both_first (q row.0 row.1) (rows_pass q rows) h) (λ x. row_passes q c rows (both_second (q row.0 row.1) (rows_pass q rows) h) x) k
+flat_divided : (c : ℕ) (holds : Bool) → IsTrue holds ↔ ((c ≡ 0x45) ⊎ (0xc0 ≤ c)) → Divided c (format c) → IsTrue (not holds) ↔ IsFlat [] (format c)
+flat_divided c true is (inl (p, e)) = let h = is_holder_of c (is.0 refl) in absurd (cc)
+flat_divided c false is (inl (p, e)) = (λ x. primitive_flat (format c) p, λ f. refl)
+flat_divided c true is (inr (kind, w, f, e)) = (λ x. absurd (cc), λ h. absurd (subst (IsFlat []) f h))
+flat_divided c false is (inr (kind, w, f, e)) = let h = is.1 (holder_is c e) in absurd (cc)
 
-abbrev same_bool : Bool → Bool → Bool
-same_bool true b = b
-same_bool false b = not b
-
-same_is : (a b : Bool) → same_bool a b ≡ true → a ≡ b
-same_is true true e = refl
-same_is true false e = sym e
-same_is false true e = e
-same_is false false e = refl
-
-abbrev zero_width : Format → Bool
-zero_width (fixed zero f) = true
-zero_width (fixed (suc n) f) = false
-zero_width (variable zero f) = true
-zero_width (variable (suc n) f) = false
-zero_width (compound k zero) = true
-zero_width (compound k (suc n)) = false
-zero_width unknown = false
-
-zero_is : (F : Format) → zero_width F ≡ true → HasWidthZero F
-zero_is (fixed zero f) e = tt
-zero_is (variable zero f) e = tt
-zero_is (compound k zero) e = tt
-zero_is (fixed (suc n) f) e = absurd (cc)
-zero_is (variable (suc n) f) e = absurd (cc)
-zero_is (compound k (suc n)) e = absurd (cc)
-zero_is unknown e = absurd (cc)
-
-is_zero : (F : Format) → HasWidthZero F → zero_width F ≡ true
-is_zero (fixed zero f) e = refl
-is_zero (variable zero f) e = refl
-is_zero (compound k zero) e = refl
-is_zero (fixed (suc n) f) e = absurd e
-is_zero (variable (suc n) f) e = absurd e
-is_zero (compound k (suc n)) e = absurd e
-is_zero unknown e = absurd e
-
-abbrev zero_code : ℕ → Bool
-zero_code c = ltb 63 c && leb c 69
-
-zero_rows : rows_pass (λ c F. same_bool (zero_width F) (zero_code c)) constructors ≡ true
-zero_rows = refl
-
-zero_at : (c : ℕ) → IsKnown (format c) → zero_width (format c) ≡ zero_code c
-zero_at c k = same_is (zero_width (format c)) (zero_code c) (row_passes (λ c F. same_bool (zero_width F) (zero_code c)) c constructors zero_rows k)
-
-pub has_data : (c : ℕ) → c < 64 → IsKnown (format c) → HasWidthZero (format c) → ⊥
-has_data c h k z =
-    let e : zero_code c ≡ true = sym (zero_at c k) ∙ is_zero (format c) z in
-    let l = ltb-true 63 c (both_first (ltb 63 c) (leb c 69) e) in omega arith
-
-and_true : (a b : Bool) → a ≡ true → b ≡ true → (a && b) ≡ true
-and_true true b e f = f
-and_true false b e f = absurd (cc)
-
-pub no_data : (c : ℕ) → 64 ≤ c → IsKnown (format c) → IsTrue (leb c 69) ↔ HasWidthZero (format c)
-no_data c h k = (
-  λ e. zero_is (format c) (zero_at c k ∙ and_true (ltb 63 c) (leb c 69) (lt-ltb 63 c (omega arith)) e),
-  λ z. both_second (ltb 63 c) (leb c 69) (sym (zero_at c k) ∙ is_zero (format c) z),
-)
-
-abbrev flat_format : Format → Bool
-flat_format (compound k w) = false
-flat_format _ = true
-
-abbrev flat_code : ℕ → Bool
-flat_code c = not (eqb c 0x45) && ltb c 0xc0
-
-flat_rows : rows_pass (λ c F. same_bool (flat_format F) (flat_code c)) constructors ≡ true
-flat_rows = refl
-
-flat_at : (c : ℕ) → IsKnown (format c) → flat_format (format c) ≡ flat_code c
-flat_at c k = same_is (flat_format (format c)) (flat_code c) (row_passes (λ c F. same_bool (flat_format F) (flat_code c)) c constructors flat_rows k)
-
-flat_is : (F : Format) → flat_format F ≡ true → IsFlat [] F
-flat_is (fixed w f) e = tt
-flat_is (variable w f) e = tt
-flat_is (compound k w) e = absurd (cc)
-flat_is unknown e = tt
-
-is_flat : (F : Format) → IsFlat [] F → flat_format F ≡ true
-is_flat (fixed w f) e = refl
-is_flat (variable w f) e = refl
-is_flat (compound k w) e = absurd e
-is_flat unknown e = refl
-
-not_is : (b : Bool) → b ≡ false → not b ≡ true
-not_is false e = refl
-not_is true e = absurd (cc)
-
-is_not : (b : Bool) → not b ≡ true → b ≡ false
-is_not false e = refl
-is_not true e = absurd (cc)
-
-pub no_items : (c : ℕ) (ds : List Descriptor) → ds ≡ [] → (c ≡ 0x45 → ⊥) → IsKnown (format c) → IsTrue (ltb c 0xc0) ↔ IsFlat ds (format c)
-no_items c ds none other k = (
-  λ e. subst (λ l. IsFlat l (format c)) (sym none) (flat_is (format c) (flat_at c k ∙ and_true (not (eqb c 0x45)) (ltb c 0xc0) (not_is (eqb c 0x45) (ne_eqb c 0x45 other)) e)),
-  λ f. both_second (not (eqb c 0x45)) (ltb c 0xc0) (sym (flat_at c k) ∙ is_flat (format c) (subst (λ l. IsFlat l (format c)) none f)),
-)
-
-pub list_items : (c : ℕ) (ds : List Descriptor) → ds ≡ [] → c ≡ 0x45 → IsKnown (format c) → IsTrue false ↔ IsFlat ds (format c)
-list_items c ds none is k = (
-  λ e. absurd (cc),
-  λ f.
-      let e = is_not (eqb c 0x45) (both_first (not (eqb c 0x45)) (ltb c 0xc0) (sym (flat_at c k) ∙ is_flat (format c) (subst (λ l. IsFlat l (format c)) none f))) in
-      absurd (eqb-false c 0x45 e is),
-)
-
-pub described_items : (c : ℕ) (l : DescriptorValues) → false ≡ eqb (length l) 0 → IsTrue false ↔ IsFlat (map descriptor_of l) (format c)
-described_items c [] e = absurd (cc)
-described_items c (d ∷ ds) e = (λ e. absurd (cc), λ f. absurd f)
-
-pub none_described : (l : DescriptorValues) → true ≡ eqb (length l) 0 → map descriptor_of l ≡ []
-none_described [] e = refl
-none_described (d ∷ ds) e = let h = eqb-true (length (d ∷ ds)) 0 (sym e) in absurd (omega arith)
+pub flat_items : (c : ℕ) (l : DescriptorValues) (holds : Bool) → true ≡ eqb (length l) 0 → IsTrue holds ↔ ((c ≡ 0x45) ⊎ (0xc0 ≤ c)) → IsKnown (format c) → IsTrue (not holds) ↔ IsFlat (map descriptor_of l) (format c)
+flat_items c [] holds none is k = flat_divided c holds is (holder_at c k)
+flat_items c (d ∷ ds) holds none is k = let h = eqb-true (length (d ∷ ds)) 0 (sym none) in absurd (omega arith)
 
 -- the code of a constructor
 pub code_known : (ds : List Descriptor) (c : ℕ) (b : List ℕ) → Constructor ds c b → IsKnown (format c)
@@ -309,37 +200,10 @@ marks_end : (ds : List Descriptor) (c : ℕ) (a : List ℕ) → IsKnown (format 
 marks_end [] c a k h = (ap (λ l. l ++ (c ∷ [])) h, k)
 marks_end (d ∷ ds) c a k (first, second, is, names, h) = (first, second ++ (c ∷ []), ap (λ l. l ++ (c ∷ [])) is ∙ ap (λ l. 0 ∷ l) (append_assoc first second (c ∷ [])), names, marks_end ds c second k h)
 
-not_word : (F : Format) (c : ℕ) (e : Option Error) → if_unknown (cond (is_known F) (WrongType c) (UnknownCode c)) ≡ None → IsKnown F
-not_word (fixed w f) c e h = tt
-not_word (variable w f) c e h = tt
-not_word (compound k w) c e h = tt
-not_word unknown c e h = absurd (cc)
-
-known_by : (a b z : Bool) (F : Format) (c : ℕ) → z ≡ false → if_unknown (cond a (FloatCode c) (cond b (FloatCode c) (cond z (WrongType c) (cond (is_known F) (WrongType c) (UnknownCode c))))) ≡ None → IsKnown F
-known_by true b z F c e h = absurd (cc)
-known_by false true z F c e h = absurd (cc)
-known_by false false true F c e h = absurd (cc)
-known_by false false false F c e h = not_word F c None h
-
-known_code : (c : ℕ) → (c ≡ 0 → ⊥) → if_unknown (refusal_of c) ≡ None → IsKnown (format c)
-known_code c some h = known_by (eqb c 0x72) (eqb c 0x82) (eqb c 0) (format c) c (ne_eqb c 0 some) h
-
-unknown_by : (a b z : Bool) (F : Format) (c : ℕ) (e : Error) → (a ≡ true → IsKnown F → ⊥) → (b ≡ true → IsKnown F → ⊥) → if_unknown (cond a (FloatCode c) (cond b (FloatCode c) (cond z (WrongType c) (cond (is_known F) (WrongType c) (UnknownCode c))))) ≡ Some e
-    → (IsKnown F → ⊥) × (e ≡ cond a (FloatCode c) (cond b (FloatCode c) (cond z (WrongType c) (cond (is_known F) (WrongType c) (UnknownCode c)))))
-unknown_by true b z F c e f g h = (f refl, ap (λ o. unwrap_or o e) (sym h))
-unknown_by false true z F c e f g h = (g refl, ap (λ o. unwrap_or o e) (sym h))
-unknown_by false false true F c e f g h = absurd (cc)
-unknown_by false false false (fixed w v) c e f g h = absurd (cc)
-unknown_by false false false (variable w v) c e f g h = absurd (cc)
-unknown_by false false false (compound k w) c e f g h = absurd (cc)
-unknown_by false false false unknown c e f g h = (λ x. x, ap (λ o. unwrap_or o e) (sym h))
-
-unknown_code : (c : ℕ) (e : Error) → if_unknown (refusal_of c) ≡ Some e → (IsKnown (format c) → ⊥) × (e ≡ refusal_of c)
-unknown_code c e h = unknown_by (eqb c 0x72) (eqb c 0x82) (eqb c 0) (format c) c e (λ a k. subst (λ n. IsKnown (format n)) (eqb-true c 0x72 a) k) (λ b k. subst (λ n. IsKnown (format n)) (eqb-true c 0x82 b) k) h
-
-pub constructor_took : (st : State) (ds : List Descriptor) (c : ℕ) (m : State) (new : State) → length ds ≤ 128 → (c ≡ 0 → ⊥) → TookMarks st ds c m → (if_unknown (refusal_of c) ≡ None) × (new ≡ m) → TookConstructor st ds c new
-constructor_took st ds c m new few some t (known, same) =
-    subst (TookConstructor st ds c) (sym same) (record { own = t.own ++ (c ∷ []); few = few; spelled = marks_end ds c t.own (known_code c some known) t.marks; took = t.took })
+pub constructor_took : (st : State) (ds : List Descriptor) (c : ℕ) (m : State) (new : State) → length ds ≤ 128 → (c ≡ 0 → ⊥) → TookMarks st ds c m → ((c ≡ 0) ⊎ IsKnown (format c)) × (new ≡ m) → TookConstructor st ds c new
+constructor_took st ds c m new few some t (inl none, same) = absurd (some none)
+constructor_took st ds c m new few some t (inr known, same) =
+    subst (TookConstructor st ds c) (sym same) (record { own = t.own ++ (c ∷ []); few = few; spelled = marks_end ds c t.own known t.marks; took = t.took })
 
 -- why none is taken
 pub stopped_first : (st : State) (e : Error) (new : State) → Short 1 st e new → Stopped true (ConstructorFault st) st e new
@@ -357,8 +221,8 @@ stopped_mark st ds n m e new is t s = record {
   ];
 }
 
-pub stopped_unknown : (st : State) (ds : List Descriptor) (c : ℕ) (m : State) (e : Error) (new : State) → (c ≡ 0 → ⊥) → TookMarks st ds c m → (if_unknown (refusal_of c) ≡ Some e) × Answered m e new → Stopped true (ConstructorFault st) st e new
-stopped_unknown st ds c m e new some t (none, kept) = let u = unknown_code c e none in record { kept = answered_took t.took kept; why = inr (no_known_code ds c m t some u.0 u.1) }
+pub stopped_unknown : (st : State) (ds : List Descriptor) (c : ℕ) (m : State) (e : Error) (new : State) → (c ≡ 0 → ⊥) → TookMarks st ds c m → (IsKnown (format c) → ⊥) × (e ≡ refusal_of c) × Answered m e new → Stopped true (ConstructorFault st) st e new
+stopped_unknown st ds c m e new some t (never, is, kept) = record { kept = answered_took t.took kept; why = inr (no_known_code ds c m t some never is) }
 
 pub more_named : (st : State) (l l' : DescriptorValues) (m : State) (new : State) → st.top.shared ≡ None → TookMarks st (map descriptor_of l) 0 m → (d : DescriptorValue) × TookDescriptor m (descriptor_of d) new × (l' ≡ l ++ (d ∷ [])) → TookNamed st (map descriptor_of l') new
 more_named st l l' m new none t (d, u, is) =

@@ -1,6 +1,6 @@
 -- The row of frames.
-use Rattle.std.proofs.Common.{◌≡◌, ◌≤◌, ◌<◌, ℕ, zero, suc, ◌+◌, ◌-◌, ◌++◌, Option, IfSome, IsSome, MatchOption, option_map, List, length, take, drop, map, eqb, cond, Some, None, ap₂, subst, get_or, set, ◌≢◌, [], ◌∷◌, unwrap_or, Bool, true, false, ltb, refl, ap, sym, ◌∙◌, arith, add-one}
-use Rattle.std.proofs.lemmas.List.{get_or-set_same, get_or-set_other, take_all, drop-take, drop-drop, drop_at, take_at, take-take, length-take-le}
+use Rattle.std.proofs.Common.{◌≡◌, ◌≤◌, ◌<◌, ℕ, zero, suc, ◌+◌, ◌-◌, ◌*◌, ◌++◌, Option, IfSome, IsSome, MatchOption, option_map, List, length, take, drop, map, eqb, cond, Some, None, ap₂, subst, get_or, set, ◌≢◌, [], ◌∷◌, unwrap_or, Bool, true, false, ltb, refl, ap, sym, ◌∙◌, arith, add-one}
+use Rattle.std.proofs.lemmas.List.{get_or-set_same, get_or-set_other, get_or-take, take_all, drop-take, drop-drop, drop_at, take_at, take-take, length-take-le}
 use Rattle.std.proofs.lemmas.Bool.{ltb-true, ltb-false, ne_eqb, eq-eqb}
 use Rattle.std.proofs.Math.Seq.{drop-cons, take-nil}
 use Rattle.std.proofs.Math.ListN.{get_or-eq_default}
@@ -10,7 +10,7 @@ use Rattle.std.specs.Borrow.{Bor}
 use Rattle.std.specs.Option.{option_and}
 use Rattle.amqp_wire.specs.declared.error.Error.{Error}
 use Rattle.amqp_decoder.specs.declared.frame.Frame.{Frame}
-use Rattle.amqp_decoder.specs.State.{DescriptorValues, Open, open_of, items_of, shared_of, descriptor_of, State, stack, unused, bytes_left, Nested}
+use Rattle.amqp_decoder.specs.State.{DescriptorValues, Open, open_of, items_of, shared_of, descriptor_of, State, stack, unused, bytes_left, shared_in, Nested}
 use Rattle.amqp_decoder.specs.Described.{IsMark, IsUnmarked, behind}
 use Rattle.amqp_wire.specs.declared.descriptor.Descriptor.{Descriptor as DescriptorValue}
 
@@ -50,13 +50,35 @@ split_saved [] h = absurd (h refl)
 split_saved (f ∷ fs) h = (f, fs, refl)
 
 nested_set : (d i : ℕ) (fs : List Frame) (f : Frame) (m : ℕ) → d ≤ i → Nested d fs m → Nested d (set fs i f) m
-nested_set zero i fs f m h n = tt
+nested_set zero i fs f m h n = n
 nested_set (suc d) i fs f m h n =
     let ne : ◌≢◌ d i = omega arith in
-    rw (get_or-set_other fs i d f unused ne) (n.0, nested_set d i fs f (get_or fs d unused).last (omega arith) n.1)
+    rw (get_or-set_other fs i d f unused ne) (n.0, n.1, nested_set d i fs f (get_or fs d unused).last (omega arith) n.2)
 
-pub nested_push : (d : ℕ) (fs : List Frame) (f : Frame) (m : ℕ) → d < length fs → Nested d fs f.last → f.last ≤ m → Nested (d + 1) (set fs d f) m
-nested_push d fs f m h n few = rw (add-one, get_or-set_same fs d f unused h) (few, nested_set d d fs f f.last (omega arith) n)
+pub nested_push : (d : ℕ) (fs : List Frame) (f : Frame) → d < length fs → Nested d fs f.last → Nested (d + 1) (set fs d f) f.last
+nested_push d fs f h n = rw (add-one, get_or-set_same fs d f unused h) (omega arith, omega arith, nested_set d d fs f f.last (omega arith) n)
+
+-- at most 128 descriptors for each frame
+few_nested : (d : ℕ) (fs : List Frame) (m : ℕ) → Nested d fs m → m ≤ 128 * d + 128
+few_nested zero fs m n = omega arith
+few_nested (suc d) fs m n = let few = few_nested d fs (get_or fs d unused).last n.2 in omega (arith, few, n.1)
+
+pub few_shared : (d : ℕ) (fs : List Frame) (m : ℕ) → Nested d fs m → shared_in d fs ≤ 128 * d
+few_shared zero fs m n = omega arith
+few_shared (suc d) fs m n = let few = few_nested d fs (get_or fs d unused).last n.2 in omega (arith, few)
+
+pub shared_among : (d : ℕ) (fs : List Frame) (m : ℕ) → Nested d fs m → shared_in d fs ≤ m
+shared_among zero fs m n = omega arith
+shared_among (suc d) fs m n = n.0
+
+-- the descriptors of a frame behind the others
+pub nested_last : (d : ℕ) (fs : List Frame) (m k : ℕ) → Nested d fs m → shared_in d fs ≤ k → k ≤ shared_in d fs + 128 → Nested d fs k
+nested_last zero fs m k n low high = omega (arith, high)
+nested_last (suc d) fs m k n low high = (low, high, n.2)
+
+pub shared_front : (d : ℕ) (fs : List Frame) → d ≤ length fs → shared_in (length (take d fs)) (take d fs) ≡ shared_in d fs
+shared_front zero fs few = refl
+shared_front (suc d) fs few = ap (λ k. shared_in k (take (suc d) fs)) (length-take-le (suc d) fs few) ∙ ap (λ (f : Frame). f.last) (get_or-take (suc d) fs d unused (omega arith))
 
 front_kept : (k n : ℕ) (ds es : DescriptorValues) → k ≤ n → take n ds ≡ take n es → take k ds ≡ take k es
 front_kept k n ds es h e = sym (take-take k n ds h) ∙ ap (take k) e ∙ take-take k n es h
@@ -76,7 +98,7 @@ open_kept ds es n f few e =
 pub stack_kept : (ds es : DescriptorValues) (n d : ℕ) (fs : List Frame) (m : ℕ) → Nested d fs m → m ≤ n → take n ds ≡ take n es → stack ds d fs ≡ stack es d fs
 stack_kept ds es n zero fs m h few e = refl
 stack_kept ds es n (suc d) fs m h few e =
-    ap₂ (λ o l. o ∷ l) (open_kept ds es n (get_or fs d unused) (omega (arith, h.0)) e) (stack_kept ds es n d fs (get_or fs d unused).last h.1 (omega (arith, h.0)) e)
+    ap₂ (λ o l. o ∷ l) (open_kept ds es n (get_or fs d unused) (omega (arith, h.0)) e) (stack_kept ds es n d fs (get_or fs d unused).last h.2 (omega (arith, h.0)) e)
 
 -- the first descriptor of those that are left
 part_first : (ds : DescriptorValues) (first last : ℕ) (d : DescriptorValue) → first < last → last ≤ length ds → take (last - first) (drop first ds) ≡ get_or ds first d ∷ take (last - suc first) (drop (suc first) ds)

@@ -1,11 +1,11 @@
 -- What the calls that begin arrays promise (Part 1, sections 1.2.4 and 1.6.24).
-use Rattle.std.specs.Prelude.{◌≡◌, ◌<◌, ◌≤◌, ◌⊎◌, ℕ, false, List, [], ◌∷◌, ◌++◌, length, max, Option, Some, None}
+use Rattle.std.specs.Prelude.{◌≡◌, ◌<◌, ◌≤◌, ◌⊎◌, ℕ, false, List, [], ◌∷◌, ◌++◌, length, max, Some}
 use Rattle.amqp_model.specs.Term.{Descriptor, array}
 use Rattle.amqp_model.specs.Constructors.{Format, compound, format}
 use Rattle.amqp_model.specs.Spelling.{IsKnown, HasWidthZero, Names, Constructor}
 use Rattle.amqp_wire.specs.Codes.{refusal_of}
 use Rattle.amqp_wire.specs.declared.error.Error.{Error}
-use Rattle.amqp_wire.specs.declared.error.Error.TheVariants.{Depth, ZeroWidthItems, WrongType}
+use Rattle.amqp_wire.specs.declared.error.Error.TheVariants.{Depth, ZeroWidthItems}
 use Rattle.amqp_decoder.specs.declared.frame.Place.TheVariants.{InArray}
 use Rattle.amqp_decoder.specs.State.{State, Has, inside}
 use Rattle.amqp_decoder.specs.Steps.{Took, Lacks, NoRoom}
@@ -90,8 +90,3 @@ pub data ArrayFault (st : State) (e : Error) : Type 0 where
   not_begun : BeginFault st e → ArrayFault st e
   wrong_code : (c : ℕ) (m : State) → Begun st c m → ((width : ℕ) → format c ≡ compound array width → ⊥) → e ≡ refusal_of c → ArrayFault st e
   no_data : (c width : ℕ) (m : State) → Begun st c m → format c ≡ compound array width → EnterArrayFault width m e → ArrayFault st e
-
--- The error for a code that isn't known.
-abbrev pub if_unknown : Error → Option Error
-if_unknown (WrongType c) = None
-if_unknown e = Some e

@@ -70,10 +70,16 @@ stack ds (suc n) fs = open_of ds (get_or fs n unused) ∷ stack ds n fs
 abbrev pub unshared : Frame → Open
 unshared f = record { place = f.place; items = items_of f.place f.items; left = f.left; shared = None }
 
--- Each of the first n frames has its descriptors among those of the next one, and the last of them among the first m.
+-- How many descriptors the first n frames share together.
+abbrev pub shared_in : ℕ → List Frame → ℕ
+shared_in zero fs = 0
+shared_in (suc n) fs = (get_or fs n unused).last
+
+-- The descriptors that each of the first n frames has, and one behind them that has m: those of the frame around it, and
+-- at most 128 more.
 abbrev pub Nested : ℕ → List Frame → ℕ → Type 0
-Nested zero fs m = Unit {0}
-Nested (suc n) fs m = ((get_or fs n unused).last ≤ m) × Nested n fs (get_or fs n unused).last
+Nested zero fs m = m ≤ 128
+Nested (suc n) fs m = ((get_or fs n unused).last ≤ m) × (m ≤ (get_or fs n unused).last + 128) × Nested n fs (get_or fs n unused).last
 
 -- The bytes of a buffer that were looked at and aren't taken.
 abbrev pub pending : ℕ → ℕ → List ℕ → List ℕ

@@ -12,7 +12,7 @@ ghost use Rattle.amqp_decoder.specs.Steps.{Answered, NoRoom, Stopped};
 ghost use Rattle.amqp_decoder.specs.Reading.{Reads};
 ghost use Rattle.amqp_decoder.specs.Containers.{Closes, CloseFault};
 ghost use Rattle.amqp_decoder.specs.Described.{TookDescriptor, DescriptorFault};
-ghost use Rattle.amqp_decoder.specs.Arrays.{TookConstructor, ConstructorFault, IsFlat, Shares, SharesFault, EntersArray, EnterArrayFault, OpensArray, ArrayFault, if_unknown};
+ghost use Rattle.amqp_decoder.specs.Arrays.{TookConstructor, ConstructorFault, IsFlat, Shares, SharesFault, EntersArray, EnterArrayFault, OpensArray, ArrayFault};
 
 use crate::Decoder;
 use crate::frame::{Frame, Place};
@@ -24,23 +24,7 @@ use std::alloc::Global;
 fn is_flat(descriptors: &[Descriptor], code: u8) -> bool
     ensures { IsKnown (format code) → IsTrue result ↔ IsFlat (map descriptor_of descriptors.now) (format code) }
 {
-    if !descriptors.is_empty() {
-        return false;
-    }
-    if code == format_code::LIST_0 {
-        return false;
-    }
-    code < format_code::LIST_8
-}
-
-// The values of this code have no data.
-fn has_no_data(code: u8) -> bool
-    ensures { IsKnown (format code) → IsTrue result ↔ HasWidthZero (format code) }
-{
-    if code < format_code::NULL {
-        return false;
-    }
-    code <= format_code::LIST_0
+    descriptors.is_empty() && !format_code::is_compound(code)
 }
 
 impl<R: ByteSource> Decoder<R> {
@@ -65,18 +49,19 @@ impl<R: ByteSource> Decoder<R> {
 
     // A code that ends a constructor is known.
     fn check_known(&mut self, code: u8) -> Result<(), Error>
-        ensures ok { IfOk result (λ _. (if_unknown (refusal_of code) ≡ None) × (self.new ≡ self.old)) }
-        ensures err { IfErr result (λ e. (if_unknown (refusal_of code) ≡ Some e) × Answered self.old e self.new) }
+        ensures ok { IfOk result (λ _. ((code ≡ 0) ⊎ IsKnown (format code)) × (self.new ≡ self.old)) }
+        ensures err { IfErr result (λ e. (IsKnown (format code) → ⊥) × (e ≡ refusal_of code) × Answered self.old e self.new) }
     {
-        match format_code::refusal(code) {
-            Error::WrongType(_) => Ok(()),
-            error => Err(self.refuse(error)),
+        match format_code::unknown(code) {
+            None => Ok(()),
+            Some(error) => Err(self.refuse(error)),
         }
     }
 
     // The constructor that stands next: its descriptors, and its code.
     fn constructor(&mut self, alloc: Global) -> Result<(Vec<Descriptor>, u8), Error>
         ensures code { IfOk result (λ found. 0 < found.1) }
+        ensures few { IfOk result (λ found. vec_len found.0 ≤ 128) }
         ensures ok { Tells R.remaining → self.old.top.shared ≡ None → IfOk result (λ found. TookConstructor self.old (map descriptor_of found.0.items) found.1 self.new) }
         ensures err { Tells R.remaining → self.old.top.shared ≡ None → IfErr result (λ e. Stopped true (ConstructorFault self.old) self.old e self.new) }
     {
@@ -99,7 +84,7 @@ impl<R: ByteSource> Decoder<R> {
         if self.is_done() {
             return Ok(());
         }
-        if has_no_data(code) {
+        if format_code::has_width_zero(code) {
             return Err(self.refuse(Error::ZeroWidthItems));
         }
         self.check_items(is_flat(&descriptors, code))?;
@@ -137,8 +122,7 @@ impl<R: ByteSource> Decoder<R> {
 
     /// Begins an array (Part 1, section 1.6.24), and answers how many items it holds. The constructor that they share
     /// stands for each of them in turn; `ZeroWidthItems` where its code has no data, `BadDescriptor` and `NonAscii`
-    /// as of `begin_described`, `Depth` past 128 descriptors or 128 nested values, and `Memory` also where the open
-    /// arrays together share more than 255 descriptors.
+    /// as of `begin_described`, `Depth` past 128 descriptors or 128 nested values.
     pub fn begin_array(&mut self, alloc: Global) -> Result<u32, Error>
         ensures { Tells R.remaining → Reads true OpensArray ArrayFault self.old result self.new }
     {

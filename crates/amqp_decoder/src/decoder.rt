@@ -1,5 +1,5 @@
 //! The state of a decoder, and how it takes bytes.
-ghost use Rattle.std.specs.Prelude.{◌≤◌, ◌≡◌, ◌<◌, ◌-◌, ◌++◌, ℕ, List, [], ◌∷◌, length, take, drop, map, min, max, slice_index, false, Option, Some, None, IfOk, IfErr, MatchOption, MatchResult, cond, ◌^◌, ◌↔◌, ◌⊎◌, true, false, IsTrue};
+ghost use Rattle.std.specs.Prelude.{◌≤◌, ◌≡◌, ◌<◌, ◌-◌, ◌++◌, ℕ, List, [], ◌∷◌, length, take, drop, map, min, max, slice_index, false, Option, Some, None, IfOk, IfErr, MatchOption, MatchResult, cond, ◌^◌, ◌↔◌, ◌⊎◌, true, false, IsTrue, vec_len};
 ghost use Rattle.std.specs.Int.{bytes_high_first};
 ghost use Rattle.amqp_wire.specs.Codes.{refusal_of};
 ghost use Rattle.amqp_wire.specs.Sources.{known, Tells};
@@ -10,7 +10,7 @@ ghost use Rattle.amqp_decoder.specs.State.{Open, State, top_level, looked, moved
 ghost use Rattle.amqp_decoder.specs.Reading.{Reads, Begun, BeginFault, Peeked, IsLeft, IsFirstShared};
 ghost use Rattle.amqp_decoder.specs.Steps.{Answered, SourceFailed, Pulled, Missed, Took, Short, SizeRefused, NoRoom, Stopped};
 
-use crate::frame::{Frame, Place, ROW};
+use crate::frame::{Frame, Place, ROW, descriptors_in};
 use amqp_lengths::NESTING;
 use amqp_wire::{ByteSource, Descriptor, Error, fill, format_code};
 use std::alloc::Global;
@@ -18,9 +18,6 @@ use std::marker::Model;
 
 /// The most bytes that are looked at before they are taken.
 pub(crate) const LOOK: usize = 64;
-
-/// The most descriptors of the constructors of open arrays.
-const MOST_DESCRIPTORS: usize = 255;
 
 /// The most bytes of skipped content that are pulled at once.
 const SKIP: usize = 256;
@@ -299,7 +296,7 @@ impl<R: ByteSource> Decoder<R> {
         } = self.top;
         if code == 0 {
             None
-        } else if first < last && usize::from(first) < self.descriptors.len() {
+        } else if first < last {
             Some(format_code::DESCRIBED)
         } else {
             Some(code)
@@ -606,21 +603,21 @@ impl<R: ByteSource> Decoder<R> {
 
     // The items of the open array share these descriptors and this code.
     pub(crate) fn share(&mut self, mut descriptors: Vec<Descriptor>, code: u8) -> Result<(), Error>
-        requires { 0 < code }
+        requires coded { 0 < code }
+        requires few { vec_len descriptors ≤ 128 }
         ensures ok { IfOk result (λ _. self.new ≡ record self.old { top = record self.old.top { shared = Some (map descriptor_of descriptors.items, code) } }) }
         ensures err { IfErr result (λ e. (e ≡ Memory) × Answered self.old e self.new) }
     {
-        let first = self.top.last;
-        let count = descriptors.len();
+        let first = descriptors_in(&self.frames[..self.depth]);
+        let last = first + descriptors.len() as u16;
+        self.top.last = first;
         self.descriptors.truncate(usize::from(first));
-        if count > MOST_DESCRIPTORS - usize::from(first)
-            || self.descriptors.append(&mut descriptors).is_err()
-        {
+        if self.descriptors.append(&mut descriptors).is_err() {
             return Err(self.refuse(Error::Memory));
         }
         self.top.code = code;
         self.top.first = first;
-        self.top.last = first + count as u8;
+        self.top.last = last;
         Ok(())
     }
 

@@ -1,7 +1,7 @@
 //! One open container.
 
-ghost use Rattle.std.specs.Prelude.{◌≡◌, ◌↔◌, IsTrue, Some};
-ghost use Rattle.amqp_decoder.specs.State.{items_of};
+ghost use Rattle.std.specs.Prelude.{◌≡◌, ◌↔◌, IsTrue, Some, length};
+ghost use Rattle.amqp_decoder.specs.State.{items_of, shared_in};
 
 /// 128 containers that count in nesting, and an array of primitives in them.
 pub(crate) const ROW: usize = 129;
@@ -27,8 +27,8 @@ pub(crate) struct Frame {
     pub left: Option<u32>,
     pub place: Place,
     pub code: u8,
-    pub first: u8,
-    pub last: u8,
+    pub first: u16,
+    pub last: u16,
 }
 
 impl Frame {
@@ -48,5 +48,15 @@ impl Frame {
         ensures { IsTrue result ↔ (items_of self.now.place self.now.items ≡ Some 0) }
     {
         self.items == 0 && self.place != Place::Top
+    }
+}
+
+/// How many descriptors the frames of a row share together.
+pub(crate) fn descriptors_in(frames: &[Frame]) -> u16
+    ensures { result ≡ shared_in (length frames.now) frames.now }
+{
+    match frames.last() {
+        Some(frame) => frame.last,
+        None => 0,
     }
 }

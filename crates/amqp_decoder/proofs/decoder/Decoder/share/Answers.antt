@@ -1,16 +1,27 @@
-use Rattle.std.proofs.Common.{rules, arith, ◌≡◌, ◌≤◌, ◌+◌, ◌++◌, length, take, ap}
-use Rattle.amqp_decoder.specs.State.{items_of}
-use Rattle.amqp_decoder.proofs.Rows.{added_front, added_shared, stack_kept, same_view}
+use Rattle.std.proofs.Common.{rules, arith, ◌≡◌, ◌≤◌, ◌+◌, ◌++◌, length, take, ap, ◌∙◌}
+use Rattle.amqp_decoder.specs.State.{items_of, shared_in, Nested}
+use Rattle.amqp_decoder.proofs.Rows.{few_shared, shared_among, shared_front, nested_last, added_front, added_shared, stack_kept, same_view}
 use Rattle.amqp_decoder.proofs.decoder.Decoder.share.Goals as goal
+
+pub overflow_add-last : goal.overflow_add-last
+overflow_add-last g c =
+    let few : c.self.inside.depth ≤ length c.self.inside.frames = omega arith in
+    let first : c.descriptors_in-first.result ≡ shared_in c.self.inside.depth c.self.inside.frames = c.descriptors_in-first.ensures ∙ shared_front c.self.inside.depth c.self.inside.frames few in
+    let least = few_shared c.self.inside.depth c.self.inside.frames c.self.inside.top.last c.self.invariant.3 in
+    omega (arith, c.requires)
 
 pub returns-clause-ok : goal.returns-clause-ok
 returns-clause-ok g c =
-    let n = c.self.inside.top.last in
+    let n = c.descriptors_in-first.result in
     let ds = c.self.inside.descriptors.items in
     let l = c.append.new.self.items in
     let es = c.args.descriptors.items in
+    let rows : c.self.inside.depth ≤ length c.self.inside.frames = omega arith in
+    let first : n ≡ shared_in c.self.inside.depth c.self.inside.frames = c.descriptors_in-first.ensures ∙ shared_front c.self.inside.depth c.self.inside.frames rows in
+    let among = shared_among c.self.inside.depth c.self.inside.frames c.self.inside.top.last c.self.invariant.3 in
     let few : n ≤ length ds = omega (arith, c.self.invariant.4) in
+    let nested : Nested c.self.inside.depth c.self.inside.frames n = nested_last _ _ _ n c.self.invariant.3 (omega arith) (omega arith) in
     let items : l ≡ take n ds ++ es = search rules in
-    let shared = added_shared ds es l n c.args.code (n + c.len-count.result) (λ z. omega (arith, c.requires)) few items (omega arith) in
-    let saved = stack_kept l ds n c.self.inside.depth c.self.inside.frames n c.self.invariant.3 (omega arith) (added_front ds es l n few items) in
+    let shared = added_shared ds es l n c.args.code (n + c.len.result) (λ z. omega (arith, c.requires.coded)) few items (omega arith) in
+    let saved = stack_kept l ds n c.self.inside.depth c.self.inside.frames n nested (omega arith) (added_front ds es l n few items) in
     rw (← c.self.view_is) (same_view _ _ _ _ _ _ _ _ _ _ (ap (λ x. record { place = c.self.inside.top.place; items = items_of c.self.inside.top.place c.self.inside.top.items; left = c.self.inside.top.left; shared = x }) shared) saved)

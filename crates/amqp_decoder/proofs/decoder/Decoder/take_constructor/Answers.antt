@@ -1,6 +1,7 @@
 use Rattle.std.proofs.Common.{◌≡◌, Some}
 use Rattle.std.proofs.lemmas.Result.{err_from_is_err_and}
 use Rattle.amqp_decoder.proofs.Leaves.{ok_map}
+use Rattle.amqp_decoder.proofs.Constructed.{known_zero}
 use Rattle.amqp_decoder.proofs.OpenedArrays.{shares_none, shares_all, stopped_unconstructed, stopped_zero, stopped_nested}
 use Rattle.amqp_decoder.proofs.Steps.{answered}
 use Rattle.amqp_decoder.proofs.decoder.Decoder.take_constructor.Goals as goal
@@ -13,10 +14,10 @@ returns-in_err-descriptors-clause-err g c = λ told none.
 pub returns-then-is_done-clause-ok : goal.returns-then-is_done-clause-ok
 returns-then-is_done-clause-ok g c = λ told none. shares_none _ _ _ _ (c.is_done.ensures.0 c.if-is_done.true) (c.in_ok-descriptors.ensures.ok told none)
 
-pub returns-then-has_no_data-clause-err : goal.returns-then-has_no_data-clause-err
-returns-then-has_no_data-clause-err g c = λ told none.
+pub returns-then-has_width_zero-clause-err : goal.returns-then-has_width_zero-clause-err
+returns-then-has_width_zero-clause-err g c = λ told none.
     let left : c.constructor.new.self.top.items ≡ Some 0 → ⊥ = λ z. let x = c.is_done.ensures.1 z in let y = c.if-is_done.false in absurd (cc) in
-    stopped_zero _ _ _ _ _ _ _ left (c.in_ok-descriptors.ensures.ok told none) c.if-has_no_data.true c.has_no_data.ensures c.refuse.ensures.answer
+    stopped_zero _ _ _ _ _ _ _ left (c.in_ok-descriptors.ensures.ok told none) c.if-has_width_zero.true (known_zero c.in_ok-descriptors.code c.has_width_zero.result c.has_width_zero.ensures) c.refuse.ensures.answer
     (answered _ _ _ _ c.refuse.ensures.kept c.refuse.ensures.answer)
 
 pub returns-in_err-check_items-clause-err : goal.returns-in_err-check_items-clause-err
@@ -29,4 +30,4 @@ pub returns-clause-ok : goal.returns-clause-ok
 returns-clause-ok g c = λ told none.
     let left : c.constructor.new.self.top.items ≡ Some 0 → ⊥ = λ z. let x = c.is_done.ensures.1 z in let y = c.if-is_done.false in absurd (cc) in
     let took = c.in_ok-descriptors.ensures.ok told none in
-    ok_map _ _ _ (λ x h. shares_all _ _ _ _ _ _ c.has_no_data.result c.is_flat.result left took c.if-has_no_data.false c.has_no_data.ensures (rw c.deref.ensures.value at c.is_flat.ensures) c.in_ok-check_items.ensures.ok h) c.share.ensures.ok
+    ok_map _ _ _ (λ x h. shares_all _ _ _ _ _ _ c.has_width_zero.result c.is_flat.result left took c.if-has_width_zero.false (known_zero c.in_ok-descriptors.code c.has_width_zero.result c.has_width_zero.ensures) (rw c.deref.ensures.value at c.is_flat.ensures) c.in_ok-check_items.ensures.ok h) c.share.ensures.ok
