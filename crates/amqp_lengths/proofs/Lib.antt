@@ -1,5 +1,6 @@
 pub mod Codes
 pub mod Fronts
+pub mod Announced
 pub mod Values
 pub mod Holds
 pub mod Descriptors

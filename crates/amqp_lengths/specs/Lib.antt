@@ -1,4 +1,5 @@
 pub mod Fronts
 pub mod Pieces
+pub mod Announced
 pub mod Contents
 pub mod Lengths
