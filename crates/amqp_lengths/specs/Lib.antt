@@ -1,4 +1,6 @@
 pub mod Fronts
 pub mod Pieces
+pub mod Announced
 pub mod Contents
 pub mod Lengths
+pub mod Faults
