@@ -11,7 +11,7 @@ use Rattle.amqp_wire.specs.declared.error.Error.{Error}
 use Rattle.amqp_wire.specs.declared.error.Error.TheVariants.{Depth, WrongType, UnknownCode, FloatCode}
 use Rattle.amqp_wire.specs.Codes.{is_known, refusal_of}
 use Rattle.amqp_decoder.specs.State.{State, DescriptorValues, descriptor_of, Has, on}
-use Rattle.amqp_decoder.specs.Steps.{Answered, Took, Lacks, Short, Stopped}
+use Rattle.amqp_decoder.specs.Steps.{Answered, Took, Lacks, Stopped}
 use Rattle.amqp_decoder.specs.Described.{IsDescriptor, TookDescriptor, DescriptorFault, DescriptorMissed}
 use Rattle.amqp_decoder.specs.Arrays.{Marks, TookMarks, TookConstructor, ConstructorFault, no_code, no_mark, too_many, no_known_code, IsFlat, if_unknown}
 use Rattle.amqp_decoder.proofs.Leaves.{has_front, has_rest, took_none}
@@ -272,7 +272,7 @@ one_constructor st ds es c k m m' t u =
     (s.1.0, s.1.1, t.took.moved ∙ ap (λ l. on (length l) st) s.0 ∙ sym u.took.moved)
 
 -- marks are taken one by one
-marks_more : (ds : List Descriptor) (d : Descriptor) (a b : List ℕ) → Marks ds a → Names d b → Marks (ds ++ (d ∷ [])) (a ++ (0 ∷ b))
+pub marks_more : (ds : List Descriptor) (d : Descriptor) (a b : List ℕ) → Marks ds a → Names d b → Marks (ds ++ (d ∷ [])) (a ++ (0 ∷ b))
 marks_more [] d a b h n = (b, [], ap (λ l. l ++ (0 ∷ b)) h ∙ ap (λ l. 0 ∷ l) (sym (append-nil b)), n, refl)
 marks_more (e ∷ ds) d a b (first, second, is, names, h) n =
     (first, second ++ (0 ∷ b), ap (λ l. l ++ (0 ∷ b)) is ∙ ap (λ l. 0 ∷ l) (append_assoc first second (0 ∷ b)), names, marks_more ds d second b h n)
@@ -305,7 +305,7 @@ pub code_after : (st : State) (ds : List Descriptor) (m : State) (c : ℕ) (new 
 code_after st ds m c new t u = record { own = t.own; marks = t.marks; took = took_both st m new t.own (c ∷ []) t.took u }
 
 -- a known code ends a constructor
-marks_end : (ds : List Descriptor) (c : ℕ) (a : List ℕ) → IsKnown (format c) → Marks ds a → Constructor ds c (a ++ (c ∷ []))
+pub marks_end : (ds : List Descriptor) (c : ℕ) (a : List ℕ) → IsKnown (format c) → Marks ds a → Constructor ds c (a ++ (c ∷ []))
 marks_end [] c a k h = (ap (λ l. l ++ (c ∷ [])) h, k)
 marks_end (d ∷ ds) c a k (first, second, is, names, h) = (first, second ++ (c ∷ []), ap (λ l. l ++ (c ∷ [])) is ∙ ap (λ l. 0 ∷ l) (append_assoc first second (c ∷ [])), names, marks_end ds c second k h)
 
@@ -321,7 +321,7 @@ known_by false true z F c e h = absurd (cc)
 known_by false false true F c e h = absurd (cc)
 known_by false false false F c e h = not_word F c None h
 
-known_code : (c : ℕ) → (c ≡ 0 → ⊥) → if_unknown (refusal_of c) ≡ None → IsKnown (format c)
+pub known_code : (c : ℕ) → (c ≡ 0 → ⊥) → if_unknown (refusal_of c) ≡ None → IsKnown (format c)
 known_code c some h = known_by (eqb c 0x72) (eqb c 0x82) (eqb c 0) (format c) c (ne_eqb c 0 some) h
 
 unknown_by : (a b z : Bool) (F : Format) (c : ℕ) (e : Error) → (a ≡ true → IsKnown F → ⊥) → (b ≡ true → IsKnown F → ⊥) → if_unknown (cond a (FloatCode c) (cond b (FloatCode c) (cond z (WrongType c) (cond (is_known F) (WrongType c) (UnknownCode c))))) ≡ Some e
@@ -342,11 +342,11 @@ constructor_took st ds c m new few some t (known, same) =
     subst (TookConstructor st ds c) (sym same) (record { own = t.own ++ (c ∷ []); few = few; spelled = marks_end ds c t.own (known_code c some known) t.marks; took = t.took })
 
 -- why none is taken
-pub stopped_first : (st : State) (e : Error) (new : State) → Short 1 st e new → Stopped true (ConstructorFault st) st e new
-stopped_first st e new s = record { kept = s.kept; why = elim s.why [ inl x ↦ inl (inr x) | inr x ↦ inr (no_code [] [] st refl (took_none st) x) ] }
+pub stopped_first : (st : State) (e : Error) (new : State) → Stopped true (Lacks 1 st) st e new → Stopped true (ConstructorFault st) st e new
+stopped_first st e new s = record { kept = s.kept; why = elim s.why [ inl x ↦ inl x | inr x ↦ inr (no_code [] [] st refl (took_none st) x) ] }
 
-pub stopped_code : (st : State) (ds : List Descriptor) (m : State) (e : Error) (new : State) → TookNamed st ds m → Short 1 m e new → Stopped true (ConstructorFault st) st e new
-stopped_code st ds m e new t s = record { kept = answered_took t.took s.kept; why = elim s.why [ inl x ↦ inl (inr x) | inr x ↦ inr (no_code ds t.own m t.marks t.took x) ] }
+pub stopped_code : (st : State) (ds : List Descriptor) (m : State) (e : Error) (new : State) → TookNamed st ds m → Stopped true (Lacks 1 m) m e new → Stopped true (ConstructorFault st) st e new
+stopped_code st ds m e new t s = record { kept = answered_took t.took s.kept; why = elim s.why [ inl x ↦ inl x | inr x ↦ inr (no_code ds t.own m t.marks t.took x) ] }
 
 pub stopped_mark : (st : State) (ds : List Descriptor) (n : ℕ) (m : State) (e : Error) (new : State) → n ≡ length ds → TookMarks st ds 0 m → Stopped true (λ e. ((e ≡ Depth) × (128 ≤ n)) ⊎ DescriptorFault m e) m e new → Stopped true (ConstructorFault st) st e new
 stopped_mark st ds n m e new is t s = record {

@@ -64,7 +64,7 @@ impl<R: ByteSource> Decoder<R> {
     }
 
     // A code that ends a constructor is known.
-    fn check_known(&mut self, code: u8) -> Result<(), Error>
+    pub(crate) fn check_known(&mut self, code: u8) -> Result<(), Error>
         ensures ok { IfOk result (λ _. (if_unknown (refusal_of code) ≡ None) × (self.new ≡ self.old)) }
         ensures err { IfErr result (λ e. (if_unknown (refusal_of code) ≡ Some e) × Answered self.old e self.new) }
     {
