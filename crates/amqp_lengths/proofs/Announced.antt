@@ -21,7 +21,7 @@ content_size_is kind w n size content (inr (is, _, empty, nothing)) =
     whole ∙ ap (λ z. content_size list w z) (sym nothing) ∙ ap (λ k. content_size k w size) (sym is)
 
 -- the data of primitives, containers and terms
-primitive_announced : (F : Format) (p : Primitive) (b : List ℕ) → PrimitiveData F p b → IsAnnounced F b
+pub primitive_announced : (F : Format) (p : Primitive) (b : List ℕ) → PrimitiveData F p b → IsAnnounced F b
 primitive_announced (fixed w value) p b h = h.0
 primitive_announced (variable w value) p b (content, fits, s, v, ok) = (length content, content, fits, s, omega arith)
 primitive_announced (compound kind w) p b h = absurd h
@@ -56,7 +56,7 @@ unfolding enc
 announced_term b t (ds, c, few, (own, data_, e, k, h)) = (ds, c, own, data_, k, announced_data t ds c data_ h, e)
 
 -- two sizes in front of one list
-size_same : (w size size' : ℕ) (behind behind' b b' x y : List ℕ) → size < 256 ^ w → size' < 256 ^ w → b ≡ bytes_high_first w size ++ behind → b' ≡ bytes_high_first w size' ++ behind' → b ++ x ≡ b' ++ y
+pub size_same : (w size size' : ℕ) (behind behind' b b' x y : List ℕ) → size < 256 ^ w → size' < 256 ^ w → b ≡ bytes_high_first w size ++ behind → b' ≡ bytes_high_first w size' ++ behind' → b ++ x ≡ b' ++ y
     → (size ≡ size') × (behind ++ x ≡ behind' ++ y)
 size_same w size size' behind behind' b b' x y fits fits' s s' e =
     field w size size' (behind ++ x) (behind' ++ y) fits fits'

@@ -4,7 +4,7 @@ use Rattle.std.proofs.lemmas.Bool.{eqb-true}
 use Rattle.amqp_model.specs.Term.{Primitive, ulong, symbol, Container, Descriptor, name, code}
 use Rattle.amqp_model.specs.Constructors.{Format, fixed, variable, compound, unknown, format, constructors, look_up, boolean_byte}
 use Rattle.amqp_model.specs.Spelling.{PrimitiveData, IsKnown, HasWidthZero, descriptor_value}
-use Rattle.amqp_lengths.specs.Pieces.{width_of, fixed_width, IsPrimitive, IsValue}
+use Rattle.amqp_lengths.specs.Pieces.{width_of, fixed_width, IsPrimitive, IsValue, IsDescriptorCode}
 
 abbrev EachRow : (ℕ → Format → Type 0) → List (ℕ × Format) → Type 0
 EachRow P [] = Unit {0}
@@ -110,15 +110,11 @@ boolean_no_mark (zero ∷ y ∷ r) = refl
 boolean_no_mark (suc zero ∷ y ∷ r) = refl
 boolean_no_mark (suc (suc n) ∷ y ∷ r) = refl
 
--- the codes of ulongs and symbols
-abbrev pub IsMarkCode : ℕ → Type 0
-IsMarkCode c = (c ≡ 0x44) ⊎ (c ≡ 0x53) ⊎ (c ≡ 0x80) ⊎ (c ≡ 0xa3) ⊎ (c ≡ 0xb3)
-
 abbrev MarkRow : ℕ → Format → Type 0
-MarkRow c F = (d : Descriptor) (b : List ℕ) → PrimitiveData F (descriptor_value d) b → IsMarkCode c
+MarkRow c F = (d : Descriptor) (b : List ℕ) → PrimitiveData F (descriptor_value d) b → IsDescriptorCode c
 
 mark_rows : EachRow MarkRow constructors
 mark_rows = (λ d b h. absurd (no_mark d _ refl h.1), (λ d b h. absurd (no_mark d _ refl h.1), (λ d b h. absurd (no_mark d _ refl h.1), (λ d b h. absurd (no_mark d _ refl h.1), (λ d b h. inl refl, (λ d b h. absurd h, (λ d b h. absurd (no_mark d _ refl h.1), (λ d b h. absurd (no_mark d _ refl h.1), (λ d b h. absurd (no_mark d _ refl h.1), (λ d b h. inr (inl refl), (λ d b h. absurd (no_mark d _ refl h.1), (λ d b h. absurd (no_mark d _ refl h.1), (λ d b h. absurd (no_mark d (boolean_byte b) (boolean_no_mark b) h.1), (λ d b h. absurd (no_mark d _ refl h.1), (λ d b h. absurd (no_mark d _ refl h.1), (λ d b h. absurd (no_mark d _ refl h.1), (λ d b h. absurd (no_mark d _ refl h.1), (λ d b h. absurd (no_mark d _ refl h.1), (λ d b h. absurd (no_mark d _ refl h.1), (λ d b h. inr (inr (inl refl)), (λ d b h. absurd (no_mark d _ refl h.1), (λ d b h. absurd (no_mark d _ refl h.1), (λ d b h. absurd (no_mark d _ refl h.1), (λ d b h. absurd (no_mark d _ refl h.1), (λ d b h. absurd (no_mark d _ refl h.1), (λ d b h. absurd (no_mark d _ refl h.3), (λ d b h. absurd (no_mark d _ refl h.3), (λ d b h. inr (inr (inr (inl refl))), (λ d b h. absurd (no_mark d _ refl h.3), (λ d b h. absurd (no_mark d _ refl h.3), (λ d b h. inr (inr (inr (inr refl))), (λ d b h. absurd h, (λ d b h. absurd h, (λ d b h. absurd h, (λ d b h. absurd h, (λ d b h. absurd h, (λ d b h. absurd h, tt)))))))))))))))))))))))))))))))))))))
 
-pub mark_at : (c : ℕ) (d : Descriptor) (b : List ℕ) → PrimitiveData (format c) (descriptor_value d) b → IsMarkCode c
+pub mark_at : (c : ℕ) (d : Descriptor) (b : List ℕ) → PrimitiveData (format c) (descriptor_value d) b → IsDescriptorCode c
 mark_at c = at_rows MarkRow c (λ d b h. absurd h) constructors mark_rows

@@ -11,9 +11,9 @@ use Rattle.amqp_model.specs.Spelling.{IsKnown, IsValid, PrimitiveData, descripto
 use Rattle.amqp_model.proofs.Same.{names_same}
 use Rattle.amqp_model.proofs.Bytes.{rest}
 use Rattle.amqp_lengths.specs.Fronts.{IsFront, MayFollow, Refuses}
-use Rattle.amqp_lengths.specs.Pieces.{PrimitiveOf, NamesAny}
-use Rattle.amqp_lengths.specs.Lengths.{Constructs, HasConstructor}
-use Rattle.amqp_lengths.proofs.Codes.{IsMarkCode, mark_at}
+use Rattle.amqp_lengths.specs.Pieces.{PrimitiveOf, NamesAny, IsDescriptorCode}
+use Rattle.amqp_lengths.specs.Lengths.{Marks, HasMarks, Constructs, HasConstructor}
+use Rattle.amqp_lengths.proofs.Codes.{mark_at}
 use Rattle.amqp_lengths.proofs.Fronts.{refuses_behind, refuses_short}
 
 -- lists that begin with one byte
@@ -29,7 +29,7 @@ mark_short c after e h = record {
 }
 
 -- no descriptor has the code
-pub mark_other : (c : ℕ) (after : List ℕ) (e : Error) → (IsMarkCode c → ⊥) → Refuses NamesAny (c ∷ after) e
+pub mark_other : (c : ℕ) (after : List ℕ) (e : Error) → (IsDescriptorCode c → ⊥) → Refuses NamesAny (c ∷ after) e
 mark_other c after e other = record {
   none = λ more m b y is (d, (c', bytes, s, k)).
       let r = heads c c' bytes (after ++ more) b y s is in
@@ -39,28 +39,19 @@ mark_other c after e other = record {
 abbrev IsMark : List ℕ → ℕ → Type 0
 IsMark b c = PrimitiveOf c b → (d : Descriptor) × PrimitiveData (format c) (descriptor_value d) b
 
-marks_value : (c : ℕ) (b : List ℕ) → IsMarkCode c → IsMark b c
+marks_value : (c : ℕ) (b : List ℕ) → IsDescriptorCode c → IsMark b c
 marks_value c b (inl e) = subst (IsMark b) (sym e) (λ (p, (l, s, ok)). (code 0, (l, refl, tt)))
 marks_value c b (inr (inl e)) = subst (IsMark b) (sym e) (λ (p, (l, s, ok)). (code (from_be_bytes w8 b), (l, refl, tt)))
 marks_value c b (inr (inr (inl e))) = subst (IsMark b) (sym e) (λ (p, (l, s, ok)). (code (from_be_bytes w64 b), (l, refl, tt)))
 marks_value c b (inr (inr (inr (inl e)))) = subst (IsMark b) (sym e) (λ (p, (s, fits, is, v, ok)). (name s, (s, fits, is, refl, subst IsValid (sym (ap (λ o. unwrap_or o p) v)) ok)))
 marks_value c b (inr (inr (inr (inr e)))) = subst (IsMark b) (sym e) (λ (p, (s, fits, is, v, ok)). (name s, (s, fits, is, refl, subst IsValid (sym (ap (λ o. unwrap_or o p) v)) ok)))
 
-pub mark_found : (c : ℕ) (after : List ℕ) (n : ℕ) → IsMarkCode c → IsFront (PrimitiveOf c) after n → IsFront NamesAny (c ∷ after) (1 + n)
+pub mark_found : (c : ℕ) (after : List ℕ) (n : ℕ) → IsDescriptorCode c → IsFront (PrimitiveOf c) after n → IsFront NamesAny (c ∷ after) (1 + n)
 mark_found c after n is f =
     let v = marks_value c (take n after) is f.spelled in
     let one : suc n ≡ 1 + n = omega arith in
     let long : 1 + n ≤ suc (length after) = omega (arith, f.within) in
     record { within = long; spelled = (v.0, (c, take n after, ap (λ k. take k (c ∷ after)) (sym one), v.1)) }
-
--- descriptors, each after a 0
-abbrev pub Marks : List Descriptor → List ℕ → Type 0
-Marks [] b = b ≡ []
-Marks (d ∷ ds) b = (first second : List ℕ) × (b ≡ 0 ∷ (first ++ second)) × Names d first × Marks ds second
-
--- n descriptors
-abbrev pub HasMarks : ℕ → List ℕ → Type 0
-HasMarks n b = (ds : List Descriptor) × (length ds ≡ n) × Marks ds b
 
 marks_done : (ds : List Descriptor) (c : ℕ) (b : List ℕ) → Marks ds b → IsKnown (format c) → Constructor ds c (b ++ (c ∷ []))
 marks_done [] c b h k = (ap (λ l. l ++ (c ∷ [])) h, k)
@@ -72,28 +63,33 @@ marks_more [] d b a h n = (a, [], ap (λ l. l ++ (0 ∷ a)) h ∙ ap (λ l. 0 �
 marks_more (f ∷ ds) d b a (first, second, e, m, h) n =
     (first, second ++ (0 ∷ a), ap (λ l. l ++ (0 ∷ a)) e ∙ ap (λ l. 0 ∷ l) (append_assoc first second (0 ∷ a)), m, marks_more ds d second a h n)
 
+-- of a constructor that begins as some descriptors do, what stands behind them
+pub marks_front : (ds : List Descriptor) (a x : List ℕ) (es : List Descriptor) (c : ℕ) (b y : List ℕ) → Marks ds a → Constructor es c b → a ++ x ≡ b ++ y
+    → (r : List ℕ) × (fs : List Descriptor) × (x ≡ r ++ y) × (length es ≡ length ds + length fs) × Constructor fs c r
+marks_front [] a x es c b y h k e = (b, es, ap (λ l. l ++ x) (sym h) ∙ e, omega arith, k)
+marks_front (d ∷ ds) a x [] c b y (first, second, s, m, h) (is, known) e =
+    let r = heads 0 c [] ((first ++ second) ++ x) b y is (ap (λ l. l ++ x) (sym s) ∙ e) in
+    absurd (subst (λ z. IsKnown (format z)) (sym r.0) known)
+marks_front (d ∷ ds) a x (f ∷ es) c b y (first, second, s, m, h) (first', second', s', m', k) e =
+    let r = heads 0 0 (first' ++ second') ((first ++ second) ++ x) b y s' (ap (λ l. l ++ x) (sym s) ∙ e) in
+    let all : first ++ (second ++ x) ≡ first' ++ (second' ++ y) = sym (append_assoc first second x) ∙ r.1 ∙ append_assoc first' second' y in
+    let same = names_same d f first first' (second ++ x) (second' ++ y) m m' all in
+    let (t, fs, u, l, v) = marks_front ds second x es c second' y h k (rest first first' (second ++ x) (second' ++ y) (ap length same.0) all) in
+    (t, fs, u, omega (arith, l), v)
+
 -- a constructor that goes on behind n descriptors
 abbrev pub GoesOn : ℕ → List ℕ → Type 0
 GoesOn n b = (es : List Descriptor) × (c : ℕ) × (n + length es ≤ 128) × Constructor es c b
 
-marks_behind : (n : ℕ) (ds : List Descriptor) (a x : List ℕ) (es : List Descriptor) (c : ℕ) (b y : List ℕ) → Marks ds a → n + length es ≤ 128 → Constructor es c b → a ++ x ≡ b ++ y
-    → (r : List ℕ) × (x ≡ r ++ y) × GoesOn (n + length ds) r
-marks_behind n [] a x es c b y h few k e =
-    (b, ap (λ l. l ++ x) (sym h) ∙ e, (es, c, omega arith, k))
-marks_behind n (d ∷ ds) a x [] c b y (first, second, s, m, h) few (is, known) e =
-    let r = heads 0 c [] ((first ++ second) ++ x) b y is (ap (λ l. l ++ x) (sym s) ∙ e) in
-    absurd (subst (λ z. IsKnown (format z)) (sym r.0) known)
-marks_behind n (d ∷ ds) a x (f ∷ es) c b y (first, second, s, m, h) few (first', second', s', m', k) e =
-    let r = heads 0 0 (first' ++ second') ((first ++ second) ++ x) b y s' (ap (λ l. l ++ x) (sym s) ∙ e) in
-    let all : first ++ (second ++ x) ≡ first' ++ (second' ++ y) = sym (append_assoc first second x) ∙ r.1 ∙ append_assoc first' second' y in
-    let same = names_same d f first first' (second ++ x) (second' ++ y) m m' all in
-    let (t, u, v) = marks_behind (suc n) ds second x es c second' y h (omega arith) k (rest first first' (second ++ x) (second' ++ y) (ap length same.0) all) in
-    (t, u, (v.0, v.1, omega (arith, v.2), v.3))
+marks_behind : (ds : List Descriptor) (a x : List ℕ) (es : List Descriptor) (c : ℕ) (b y : List ℕ) → Marks ds a → length es ≤ 128 → Constructor es c b → a ++ x ≡ b ++ y
+    → (r : List ℕ) × (x ≡ r ++ y) × GoesOn (length ds) r
+marks_behind ds a x es c b y h few k e =
+    let (r, fs, u, l, v) = marks_front ds a x es c b y h k e in (r, u, (fs, c, omega (arith, l), v))
 
 pub marks_refuse : (n len : ℕ) (input after : List ℕ) (e : Error) → HasMarks n (take len input) → drop len input ≡ after → Refuses (GoesOn n) after e → Refuses HasConstructor input e
 marks_refuse n len input after e (ds, l, h) at k =
     refuses_behind HasConstructor (GoesOn n) input len e (λ b x y (m, c, (es, l', few, q)) r.
-    let (t, u, v) = marks_behind 0 ds (take len input) x es c b y h (omega arith) q r in (t, u, (v.0, v.1, omega (arith, v.2), v.3)))
+    let (t, u, v) = marks_behind ds (take len input) x es c b y h (omega arith) q r in (t, u, (v.0, v.1, omega (arith, v.2), v.3)))
     (subst (λ z. Refuses (GoesOn n) z e) (sym at) k)
 
 -- what follows is no constructor that goes on

@@ -6,6 +6,8 @@ pub mod Holds
 pub mod Descriptors
 pub mod Terms
 pub mod Rows
+pub mod Faults
 pub mod Containers
 pub mod Elements
 pub mod Answered
+pub mod Cuts

@@ -1,6 +1,7 @@
 -- Pieces one after another.
-use Rattle.std.proofs.Common.{◌≡◌, ℕ, zero, suc, Result, Ok, Err, IfOk, IfErr, IsErr, ◌+◌, ◌-◌, ◌<◌, ◌≤◌, List, [], ◌∷◌, ◌++◌, length, take, drop, refl, sym, ap, ◌∙◌, subst, arith, append-nil, drop-drop}
+use Rattle.std.proofs.Common.{◌≡◌, ℕ, zero, suc, Result, Ok, Err, IfOk, IfErr, IsErr, ◌+◌, ◌-◌, ◌<◌, ◌≤◌, List, [], ◌∷◌, ◌++◌, length, take, drop, refl, sym, ap, ◌∙◌, subst, subst₂, arith, append_assoc, append-nil, drop-drop}
 use Rattle.std.proofs.lemmas.List.{take-append-drop, length-drop}
+use Rattle.std.proofs.Math.Seq.{take-add}
 use Rattle.amqp_wire.specs.declared.error.Error.{Error}
 use Rattle.amqp_model.specs.Term.{Terms, none, more, Descriptor, count}
 use Rattle.amqp_model.specs.Spelling.{items_of, shared_data_of, enc}
@@ -21,13 +22,19 @@ Once P = (b b' x y : List ℕ) → P b → P b' → b ++ x ≡ b' ++ y → b ≡
 -- Of n pieces the first i are the first bytes: the others are a row exactly if all of them are.
 pub record Begins (P : List ℕ → Type 0) (n : ℕ) (content : List ℕ) (i len : ℕ) : Type 0 where
   pub within : len ≤ length content
+  pub pieces : Row P i (take len content)
   pub there : Row P n content → Row P (n - i) (drop len content)
   pub back : Row P (n - i) (drop len content) → Row P n content
 
 pub begins_none : (P : List ℕ → Type 0) (n : ℕ) (content : List ℕ) → Begins P n content 0 0
 begins_none P n content =
     let same : n - 0 ≡ n = omega arith in
-    record { within = omega arith; there = λ h. subst (λ k. Row P k content) (sym same) h; back = λ h. subst (λ k. Row P k content) same h }
+    record { within = omega arith; pieces = refl; there = λ h. subst (λ k. Row P k content) (sym same) h; back = λ h. subst (λ k. Row P k content) same h }
+
+-- a row and one piece more
+row_more : (P : List ℕ → Type 0) (n : ℕ) (a b : List ℕ) → Row P n a → P b → Row P (suc n) (a ++ b)
+row_more P zero a b h p = (b, [], ap (λ l. l ++ b) h ∙ sym (append-nil b), p, refl)
+row_more P (suc n) a b (first, second, e, q, r) p = (first, second ++ b, ap (λ l. l ++ b) e ∙ append_assoc first second b, q, row_more P n second b r p)
 
 first_piece : (P : List ℕ → Type 0) → Once P → (m k : ℕ) (b : List ℕ) → IsFront P b k → Row P (suc m) b → Row P m (drop k b)
 first_piece P once m k b f (first, second, e, p, r) =
@@ -41,8 +48,10 @@ begins_more P once n content i len k less h f =
     let behind : drop k (drop len content) ≡ drop (len + k) content = drop-drop k len content in
     let within = h.within in
     let within2 = f.within in
+    let one : suc i ≡ i + 1 = omega arith in
     record {
       within = omega (arith, within, within2, length-drop len content);
+      pieces = subst₂ (Row P) one (sym (take-add len k content)) (row_more P i (take len content) (take k (drop len content)) h.pieces f.spelled);
       there = λ r. subst (Row P (n - (i + 1))) behind (first_piece P once (n - (i + 1)) k (drop len content) f (subst (λ m. Row P m (drop len content)) left (h.there r)));
       back = λ r. h.back (subst (λ m. Row P m (drop len content)) (sym left)
           (take k (drop len content), drop k (drop len content), sym (take-append-drop k (drop len content)), f.spelled, subst (Row P (n - (i + 1))) (sym behind) r));

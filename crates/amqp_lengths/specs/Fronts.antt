@@ -8,6 +8,12 @@ pub record IsFront (P : List ℕ → Type 0) (input : List ℕ) (n : ℕ) : Type
   pub within : n ≤ length input
   pub spelled : P (take n input)
 
+-- The input is a P and what follows it.
+pub record Behind (P : List ℕ → Type 0) (input after : List ℕ) : Type 0 where
+  pub front : List ℕ
+  pub is : input ≡ front ++ after
+  pub spelled : P front
+
 -- No front of the input is a P.
 abbrev pub NoFront : (List ℕ → Type 0) → List ℕ → Type 0
 NoFront P input = (front after : List ℕ) → input ≡ front ++ after → P front → ⊥

@@ -1,9 +1,18 @@
 -- Terms, and the parts of terms that recur in one another.
-use Rattle.std.specs.Prelude.{◌≡◌, ℕ, zero, suc, ◌≤◌, ◌<◌, ◌+◌, ◌%◌, ◌||◌, cond, eqb, nat_lt, leb, List, [], ◌++◌, length}
+use Rattle.std.specs.Prelude.{◌≡◌, ℕ, zero, suc, ◌≤◌, ◌<◌, ◌+◌, ◌%◌, ◌||◌, cond, eqb, nat_lt, leb, List, [], ◌∷◌, ◌++◌, length}
 use Rattle.amqp_model.specs.Term.{Container, list, map, array, Term, Terms, Descriptor, count}
 use Rattle.amqp_model.specs.Constructors.{compound}
-use Rattle.amqp_model.specs.Spelling.{Joined, ContainerData, Constructor, data_of, items_of, elements_of, enc}
+use Rattle.amqp_model.specs.Spelling.{Joined, ContainerData, Names, Constructor, data_of, items_of, elements_of, enc}
 use Rattle.amqp_model.specs.Measures.{nest, nests, array_nest}
+
+-- Descriptors, each after a 0.
+abbrev pub Marks : List Descriptor → List ℕ → Type 0
+Marks [] b = b ≡ []
+Marks (d ∷ ds) b = (first second : List ℕ) × (b ≡ 0 ∷ (first ++ second)) × Names d first × Marks ds second
+
+-- n descriptors.
+abbrev pub HasMarks : ℕ → List ℕ → Type 0
+HasMarks n b = (ds : List Descriptor) × (length ds ≡ n) × Marks ds b
 
 -- A constructor of so many descriptors and this code.
 abbrev pub Constructs : ℕ → ℕ → List ℕ → Type 0

@@ -3,3 +3,4 @@ pub mod Pieces
 pub mod Announced
 pub mod Contents
 pub mod Lengths
+pub mod Faults

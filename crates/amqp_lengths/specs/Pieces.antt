@@ -1,5 +1,5 @@
 -- Numbers, sizes, primitives and descriptors.
-use Rattle.std.specs.Prelude.{◌≡◌, ℕ, ◌<◌, ◌/◌, ◌^◌, Bool, cond, eqb, List, ◌++◌, length, Option, Some, None}
+use Rattle.std.specs.Prelude.{◌≡◌, ℕ, ◌<◌, ◌/◌, ◌^◌, ◌⊎◌, Bool, cond, eqb, List, ◌++◌, length, Option, Some, None}
 use Rattle.std.specs.Int.{bytes_high_first}
 use Rattle.amqp_model.specs.Term.{Primitive, Descriptor}
 use Rattle.amqp_model.specs.Constructors.{Format, fixed, variable, compound, unknown, format}
@@ -52,6 +52,17 @@ HasWidth unknown b = Unit {0}
 -- The data of a primitive under a code.
 abbrev pub PrimitiveOf : ℕ → List ℕ → Type 0
 PrimitiveOf c b = (p : Primitive) × PrimitiveData (format c) p b
+
+-- The data of a primitive under a format, and in it the bytes that are its value.
+abbrev pub HoldsBytes : Format → List ℕ → List ℕ → Type 0
+HoldsBytes (fixed w value) content b = (length content ≡ w) × (b ≡ content)
+HoldsBytes (variable w value) content b = IsSized w content b
+HoldsBytes (compound kind w) content b = ⊥
+HoldsBytes unknown content b = ⊥
+
+-- Part 1, section 1.5: the codes of ulongs and symbols.
+abbrev pub IsDescriptorCode : ℕ → Type 0
+IsDescriptorCode c = (c ≡ 0x44) ⊎ (c ≡ 0x53) ⊎ (c ≡ 0x80) ⊎ (c ≡ 0xa3) ⊎ (c ≡ 0xb3)
 
 -- The bytes of a descriptor.
 abbrev pub NamesAny : List ℕ → Type 0

@@ -3,6 +3,7 @@ ghost use Rattle.std.specs.Prelude.{◌≡◌, IfOk, IfErr};
 ghost use Rattle.amqp_lengths.specs.Fronts.{IsFront, Refuses};
 ghost use Rattle.amqp_lengths.specs.Pieces.{NamesAny};
 ghost use Rattle.amqp_lengths.specs.Lengths.{Constructs, HasConstructor};
+ghost use Rattle.amqp_lengths.specs.Faults.{DescriptorFault, ConstructorFault};
 
 use crate::lengths::NESTING;
 use crate::primitives::primitive_len;
@@ -21,6 +22,7 @@ pub(crate) struct Constructor {
 fn descriptor_len(input: &[u8]) -> Result<usize, Error>
     ensures found { IfOk result (λ n. IsFront NamesAny input.now n) }
     ensures refused { IfErr result (λ e. Refuses NamesAny input.now e) }
+    ensures fault { IfErr result (λ e. DescriptorFault input.now e) }
 {
     let Some((code, data)) = input.split_first() else {
         return Err(Error::Cut);
@@ -31,6 +33,7 @@ fn descriptor_len(input: &[u8]) -> Result<usize, Error>
         | format_code::ULONG
         | format_code::SYMBOL_8
         | format_code::SYMBOL_32 => Ok(1 + primitive_len(*code, data)?),
+        format_code::DESCRIBED => Err(Error::BadDescriptor),
         code => Err(unknown(code).unwrap_or(Error::BadDescriptor)),
     }
 }
@@ -39,6 +42,7 @@ fn descriptor_len(input: &[u8]) -> Result<usize, Error>
 pub(crate) fn read_constructor(input: &[u8]) -> Result<Constructor, Error>
     ensures found { IfOk result (λ c. IsFront (Constructs c.descriptors c.code) input.now c.len) }
     ensures refused { IfErr result (λ e. Refuses HasConstructor input.now e) }
+    ensures fault { IfErr result (λ e. ConstructorFault input.now e) }
 {
     let mut len = 0;
     let mut descriptors = 0;

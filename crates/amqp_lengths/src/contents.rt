@@ -3,6 +3,7 @@ ghost use Rattle.std.specs.Prelude.{◌≡◌, IfOk, IfErr};
 ghost use Rattle.amqp_lengths.specs.Fronts.{IsFront, Refuses};
 ghost use Rattle.amqp_lengths.specs.Pieces.{width_of};
 ghost use Rattle.amqp_lengths.specs.Contents.{container_of, IsContent, HasContent};
+ghost use Rattle.amqp_lengths.specs.Faults.{ContentFault};
 
 use crate::sizes::{number, sized, width_of};
 use amqp_wire::Error;
@@ -27,6 +28,7 @@ pub(crate) struct Content<'a> {
 pub(crate) fn read_content(input: &[u8], wide: bool, kind: Kind) -> Result<Content<'_>, Error>
     ensures found { IfOk result (λ c. IsFront (IsContent (container_of kind) (width_of wide) c.count c.items.now) input.now c.len) }
     ensures refused { IfErr result (λ e. Refuses (HasContent (container_of kind) (width_of wide)) input.now e) }
+    ensures fault { IfErr result (λ e. ContentFault (container_of kind) (width_of wide) input.now e) }
 {
     let width = width_of(wide);
     let body = sized(input, wide)?;

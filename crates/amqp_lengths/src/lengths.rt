@@ -7,6 +7,8 @@ ghost use Rattle.amqp_lengths.specs.Fronts.{IsFront, Refuses, NoFront};
 ghost use Rattle.amqp_lengths.specs.Pieces.{width_of};
 ghost use Rattle.amqp_lengths.specs.Contents.{container_of};
 ghost use Rattle.amqp_lengths.specs.Lengths.{levels_of, Row, IsTerm, IsData, IsHolder, IsArray, HasElements, HasPairs, IsCutTerm};
+ghost use Rattle.amqp_wire.specs.declared.error.Error.{Error};
+ghost use Rattle.amqp_lengths.specs.Faults.{inside, TermFault, DataFault, HolderFault, ItemsFault, ArrayFault, ElementsFault, SharedFault, AsksMore};
 
 use crate::constructors::{Constructor, read_constructor};
 use crate::contents::{Kind, read_content};
@@ -21,13 +23,16 @@ pub const NESTING: usize = 128;
 /// The length in bytes of the term that the input begins with, its constructor included (Part 1, section 1.2). What stands
 /// behind it isn't looked at. Takes no memory.
 ///
-/// The error is `Cut` where the input is a proper front of a term. Where it begins with none, nor is a front of one, the
-/// error is that of the first fault: `UnknownCode`, `FloatCode`, `BadDescriptor`, `BadBool`, `BadChar`, `BadUtf8`,
-/// `NonAscii`, `Size`, `OddCount`, `ZeroWidthItems`, or `Depth` past `NESTING` levels or descriptors.
+/// The error is `Cut` where the input is a proper front of a term, and only where it ends before a constructor does or
+/// before the data that its code announces. Any other error names a fault that stands in the input: `UnknownCode`,
+/// `FloatCode`, `BadDescriptor`, `BadBool`, `BadChar`, `BadUtf8`, `NonAscii`, `Size` (also of a value that asks for more
+/// than the container around it holds), `OddCount`, `ZeroWidthItems`, or `Depth` past `NESTING` levels or descriptors.
 pub fn term_len(input: &[u8]) -> Result<usize, Error>
     ensures found { IfOk result (λ n. IsFront (IsTerm NESTING) input.now n) }
     ensures none { IfErr result (λ _. NoFront (IsTerm NESTING) input.now) }
     ensures cut { IsCutTerm NESTING input.now → result ≡ Err Cut }
+    ensures fault { IfErr result (λ e. TermFault NESTING input.now e) }
+    ensures cut_only { IfErr result (λ e. e ≡ Cut → AsksMore input.now) }
 {
     len_of_term(input, NESTING)
 }
@@ -36,6 +41,7 @@ pub fn term_len(input: &[u8]) -> Result<usize, Error>
 fn within<T>(answer: Result<T, Error>) -> Result<T, Error>
     ensures found { IfOk result (λ value. answer ≡ Ok value) }
     ensures refused { IfErr result (λ _. IsErr answer) }
+    ensures fault { IfErr result (λ e. (cause : Error) × (answer ≡ Err cause) × (e ≡ inside cause)) }
 {
     match answer {
         Err(Error::Cut) => Err(Error::Size),
@@ -48,6 +54,7 @@ fn within<T>(answer: Result<T, Error>) -> Result<T, Error>
 fn check_items(content: &[u8], count: usize, nesting: usize) -> Result<(), Error>
     ensures found { IfOk result (λ _. Row (IsTerm nesting) count content.now) }
     ensures refused { IfErr result (λ _. Row (IsTerm nesting) count content.now → ⊥) }
+    ensures fault { IfErr result (λ e. ItemsFault nesting count content.now e) }
 {
     let mut len = 0;
     for done in 0..count {
@@ -66,6 +73,7 @@ fn check_data(content: &[u8], code: u8, count: usize, nesting: usize) -> Result<
     requires { IsKnown (format code) }
     ensures found { IfOk result (λ _. Row (IsData code nesting) count content.now) }
     ensures refused { IfErr result (λ _. Row (IsData code nesting) count content.now → ⊥) }
+    ensures fault { IfErr result (λ e. SharedFault code nesting count content.now e) }
 {
     let mut len = 0;
     for done in 0..count {
@@ -93,6 +101,7 @@ fn nesting_of_items(shared: &Constructor, nesting: usize) -> Option<usize>
 fn check_elements(content: &[u8], count: usize, nesting: usize) -> Result<(), Error>
     ensures found { IfOk result (λ _. HasElements nesting count content.now) }
     ensures refused { IfErr result (λ _. HasElements nesting count content.now → ⊥) }
+    ensures fault { IfErr result (λ e. ElementsFault nesting count content.now e) }
 {
     if content.is_empty() {
         return if count == 0 { Ok(()) } else { Err(Error::Size) };
@@ -130,6 +139,7 @@ fn has_pairs(kind: Kind, count: usize) -> bool
 fn list_len(input: &[u8], wide: bool, kind: Kind, nesting: usize) -> Result<usize, Error>
     ensures found { IfOk result (λ n. IsFront (IsHolder (container_of kind) (width_of wide) nesting) input.now n) }
     ensures refused { IfErr result (λ e. Refuses (IsHolder (container_of kind) (width_of wide) nesting) input.now e) }
+    ensures fault { IfErr result (λ e. HolderFault (container_of kind) (width_of wide) nesting input.now e) }
 {
     let parts = read_content(input, wide, kind)?;
     let Some(nesting) = nesting.checked_sub(1) else {
@@ -147,6 +157,7 @@ fn list_len(input: &[u8], wide: bool, kind: Kind, nesting: usize) -> Result<usiz
 fn array_len(input: &[u8], wide: bool, nesting: usize) -> Result<usize, Error>
     ensures found { IfOk result (λ n. IsFront (IsArray (width_of wide) nesting) input.now n) }
     ensures refused { IfErr result (λ e. Refuses (IsArray (width_of wide) nesting) input.now e) }
+    ensures fault { IfErr result (λ e. ArrayFault (width_of wide) nesting input.now e) }
 {
     let parts = read_content(input, wide, Kind::Array)?;
     check_elements(parts.items, parts.count, nesting)?;
@@ -159,6 +170,7 @@ fn data_len(code: u8, input: &[u8], nesting: usize) -> Result<usize, Error>
     requires { IsKnown (format code) }
     ensures found { IfOk result (λ n. IsFront (IsData code nesting) input.now n) }
     ensures refused { IfErr result (λ e. Refuses (IsData code nesting) input.now e) }
+    ensures fault { IfErr result (λ e. DataFault code nesting input.now e) }
 {
     match code {
         format_code::LIST_0 if nesting == 0 => Err(Error::Depth),
@@ -178,6 +190,7 @@ fn data_len(code: u8, input: &[u8], nesting: usize) -> Result<usize, Error>
 pub fn len_of_term(input: &[u8], nesting: usize) -> Result<usize, Error>
     ensures found { IfOk result (λ n. IsFront (IsTerm nesting) input.now n) }
     ensures refused { IfErr result (λ e. Refuses (IsTerm nesting) input.now e) }
+    ensures fault { IfErr result (λ e. TermFault nesting input.now e) }
 {
     let shared = read_constructor(input)?;
     match nesting.checked_sub(shared.descriptors) {

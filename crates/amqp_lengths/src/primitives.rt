@@ -2,7 +2,8 @@
 ghost use Rattle.std.specs.Prelude.{◌≡◌, ◌+◌, IfOk, IfErr};
 ghost use Rattle.amqp_model.specs.Constructors.{format};
 ghost use Rattle.amqp_lengths.specs.Fronts.{IsFront, Refuses};
-ghost use Rattle.amqp_lengths.specs.Pieces.{fixed_width, IsPrimitive, IsValue, HasWidth, PrimitiveOf};
+ghost use Rattle.amqp_lengths.specs.Pieces.{fixed_width, IsPrimitive, IsValue, HasWidth, PrimitiveOf, value_of};
+ghost use Rattle.amqp_lengths.specs.Faults.{ValueFault, PrimitiveFault};
 
 use crate::sizes::{fixed, sized, width_of};
 use amqp_wire::{Error, format_code};
@@ -28,6 +29,7 @@ fn check_value(code: u8, bytes: &[u8]) -> Result<(), Error>
     requires width { HasWidth (format code) bytes.now }
     ensures found { IfOk result (λ _. IsValue (format code) bytes.now) }
     ensures refused { IfErr result (λ _. IsValue (format code) bytes.now → ⊥) }
+    ensures fault { IfErr result (λ e. ValueFault (value_of (format code) bytes.now) e) }
 {
     match code {
         format_code::BOOLEAN => match bytes {
@@ -60,6 +62,7 @@ pub(crate) fn primitive_len(code: u8, input: &[u8]) -> Result<usize, Error>
     requires { IsPrimitive (format code) }
     ensures found { IfOk result (λ n. IsFront (PrimitiveOf code) input.now n) }
     ensures refused { IfErr result (λ e. Refuses (PrimitiveOf code) input.now e) }
+    ensures fault { IfErr result (λ e. PrimitiveFault (format code) input.now e) }
 {
     if code < format_code::BINARY_8 {
         let width = fixed_width(code);

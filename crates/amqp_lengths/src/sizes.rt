@@ -3,6 +3,7 @@ ghost use Rattle.std.specs.Prelude.{◌≤◌, ◌<◌, ◌+◌, ◌^◌, ◌≡
 ghost use Rattle.amqp_wire.specs.declared.error.Error.TheVariants.{Cut};
 ghost use Rattle.amqp_lengths.specs.Fronts.{IsFront, Refuses};
 ghost use Rattle.amqp_lengths.specs.Pieces.{width_of, IsNumber, IsSized, HasSize};
+ghost use Rattle.amqp_lengths.specs.Announced.{WantsSized};
 
 use amqp_wire::Error;
 
@@ -40,6 +41,7 @@ pub(crate) fn fixed(input: &[u8], width: usize) -> Result<&[u8], Error>
 pub(crate) fn sized(input: &[u8], wide: bool) -> Result<&[u8], Error>
     ensures found { IfOk result (λ content. IsFront (IsSized (width_of wide) content.now) input.now (width_of wide + length content.now)) }
     ensures refused { IfErr result (λ e. Refuses (HasSize (width_of wide)) input.now e) }
+    ensures fault { IfErr result (λ e. (e ≡ Cut) × WantsSized (width_of wide) (λ size. size) input.now) }
 {
     let width = width_of(wide);
     let len = number(input, wide)?;

@@ -1,5 +1,5 @@
 use Rattle.std.proofs.Common.{length, take, ◌-◌, ◌≤◌}
-use Rattle.amqp_lengths.proofs.Descriptors.{HasMarks}
+use Rattle.amqp_lengths.specs.Lengths.{HasMarks}
 use Rattle.amqp_lengths.proofs.constructors.read_constructor.Given as goal
 
 abbrev pub invariant-loop-code : goal.invariant-loop-code

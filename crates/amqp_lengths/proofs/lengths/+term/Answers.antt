@@ -1,4 +1,4 @@
-use Rattle.std.proofs.Common.{rules, ◌≡◌, ◌≤◌, ◌-◌, [], take, drop, length, sym, ap, ◌∙◌, subst, arith}
+use Rattle.std.proofs.Common.{rules, ◌≡◌, ◌<◌, ◌≤◌, ◌-◌, [], take, drop, length, sym, ap, ◌∙◌, subst, arith}
 use Rattle.std.proofs.lemmas.List.{length-drop}
 use Rattle.std.proofs.lemmas.Result.{err_from_is_err_and}
 use Rattle.amqp_model.specs.Term.{list, map, array}
@@ -15,6 +15,8 @@ use Rattle.amqp_lengths.proofs.Terms.{constructs_known, term_unbegun, term_deep,
 use Rattle.amqp_lengths.proofs.Rows.{begins_none, piece_more, piece_not, begins_all, begins_less, no_bytes}
 use Rattle.amqp_lengths.proofs.Containers.{found_part, ok_part, err_part, any_err, ok_at, content_length, width_some, refused_part, holder_unbegun, holder_odd, holder_bad, holder_found, array_unbegun, array_bad, array_found, list_data, data_list, map_data, data_map, array_data, data_array, primitive_data, data_primitive, empty_data}
 use Rattle.amqp_lengths.proofs.Elements.{elements_unread, elements_none, elements_bare, elements_surplus, elements_rows, elements_found}
+use Rattle.amqp_lengths.specs.Faults.{DataFault, ElementsFault, SharedFault, term_constructor, term_nests, term_data, data_of_primitive, data_of_holder, data_of_array, holder_content, holder_deep, holder_unpaired, holder_items, array_content, array_elements, elements_missing, elements_over, elements_empty, elements_deep, elements_data}
+use Rattle.amqp_lengths.proofs.Faults.{behind_front, behind_content, behind_empty, err_map, items_bad, items_left, shared_bad, shared_left, elements_unreadable}
 use Rattle.amqp_lengths.proofs.lengths.+term.Goals as goal
 
 pub array_len-returns-in_err-parts-clause-refused : goal.array_len-returns-in_err-parts-clause-refused
@@ -263,3 +265,140 @@ check_elements-returns-in-None-clause-refused t c =
     let r = elements_rows c.args.nesting s.descriptors s.code c.args.count s.len c.args.content.now some found.spelled c.if-count-eq0-2.false h in
     let few = r.1 in
     omega (arith, few, c.in-None.ensures)
+
+pub array_len-returns-in_err-parts-clause-fault : goal.array_len-returns-in_err-parts-clause-fault
+array_len-returns-in_err-parts-clause-fault t c =
+    let p = err_from_is_err_and c.from_residual.result c.from_residual.ensures.1 in
+    rw (p.1, p.2) (array_content (width_of c.args.wide) c.args.nesting c.args.input.now _ c.in_err-parts.ensures.fault)
+
+pub array_len-returns-in_err-check_elements-clause-fault : goal.array_len-returns-in_err-check_elements-clause-fault
+array_len-returns-in_err-check_elements-clause-fault t c =
+    let p = err_from_is_err_and c.from_residual-in_err-check_elements.result c.from_residual-in_err-check_elements.ensures.1 in
+    rw (p.1, p.2) (array_elements (width_of c.args.wide) c.args.nesting c.args.input.now _ _ _ _ (behind_front _ _ _ c.in_ok-parts.ensures.found) c.in_err-check_elements.ensures.fault)
+
+pub check_items-returns-in_err-len-clause-fault : goal.check_items-returns-in_err-len-clause-fault
+check_items-returns-in_err-len-clause-fault t c =
+    let p = err_from_is_err_and c.from_residual.result c.from_residual.ensures.1 in
+    rw (p.1, p.2) (items_bad c.args.nesting c.args.count c.args.content.now c.loop-done.done c.loop-done.len c.len_of_term.result _ c.loop-done-test.true c.loop-done.invariant c.len_of_term.ensures.fault c.in_err-len.ensures.fault)
+
+pub check_items-returns-else-len-content-clause-fault : goal.check_items-returns-else-len-content-clause-fault
+check_items-returns-else-len-content-clause-fault t c =
+    items_left c.args.nesting c.args.count c.args.content.now c.loop-done.done c.loop-done.len (omega arith) c.loop-done.invariant c.if-len-content.false
+
+pub check_data-returns-in_err-len-clause-fault : goal.check_data-returns-in_err-len-clause-fault
+check_data-returns-in_err-len-clause-fault t c =
+    let p = err_from_is_err_and c.from_residual.result c.from_residual.ensures.1 in
+    rw (p.1, p.2) (shared_bad c.args.code c.args.nesting c.args.count c.args.content.now c.loop-done.done c.loop-done.len c.data_len.result _ c.loop-done-test.true c.loop-done.invariant c.data_len.ensures.fault c.in_err-len.ensures.fault)
+
+pub check_data-returns-else-len-content-clause-fault : goal.check_data-returns-else-len-content-clause-fault
+check_data-returns-else-len-content-clause-fault t c =
+    shared_left c.args.code c.args.nesting c.args.count c.args.content.now c.loop-done.done c.loop-done.len (omega arith) c.loop-done.invariant c.if-len-content.false
+
+pub len_of_term-returns-in_err-shared-clause-fault : goal.len_of_term-returns-in_err-shared-clause-fault
+len_of_term-returns-in_err-shared-clause-fault t c =
+    let p = err_from_is_err_and c.from_residual.result c.from_residual.ensures.1 in
+    rw (p.1, p.2) (term_constructor c.args.nesting c.args.input.now _ c.in_err-shared.ensures.fault)
+
+pub len_of_term-returns-in_err-data_len-in-Some-clause-fault : goal.len_of_term-returns-in_err-data_len-in-Some-clause-fault
+len_of_term-returns-in_err-data_len-in-Some-clause-fault t c =
+    let p = err_from_is_err_and c.from_residual-in_err-data_len-in-Some.result c.from_residual-in_err-data_len-in-Some.ensures.1 in
+    let s = c.in_ok-shared.shared in
+    rw (p.1, p.2) (term_data c.args.nesting c.args.input.now _ s.descriptors s.code c.in-Some.nesting _ (behind_front _ _ _ c.in_ok-shared.ensures.found) (omega arith)
+    (subst (λ l. DataFault s.code c.in-Some.nesting l c.in_err-data_len-in-Some.field-0.0) (tail_all s.len c.args.input.now) c.in_err-data_len-in-Some.ensures.fault))
+
+pub len_of_term-returns-in-None-clause-fault : goal.len_of_term-returns-in-None-clause-fault
+len_of_term-returns-in-None-clause-fault t c =
+    let s = c.in_ok-shared.shared in
+    term_nests c.args.nesting c.args.input.now s.descriptors s.code _ (behind_front _ _ _ c.in_ok-shared.ensures.found) (omega arith)
+
+pub list_len-returns-in_err-parts-clause-fault : goal.list_len-returns-in_err-parts-clause-fault
+list_len-returns-in_err-parts-clause-fault t c =
+    let p = err_from_is_err_and c.from_residual.result c.from_residual.ensures.1 in
+    rw (p.1, p.2) (holder_content (container_of c.args.kind) (width_of c.args.wide) c.args.nesting c.args.input.now _ c.in_err-parts.ensures.fault)
+
+pub list_len-returns-in_default-clause-fault : goal.list_len-returns-in_default-clause-fault
+list_len-returns-in_default-clause-fault t c =
+    let parts = c.in_ok-parts.parts in
+    let kind = container_of c.args.kind in
+    holder_deep kind (width_of c.args.wide) c.args.nesting c.args.input.now _ (behind_content kind (width_of c.args.wide) parts.count parts.len parts.items.now c.args.input.now c.in_ok-parts.ensures.found) (omega arith)
+
+pub list_len-returns-then-not-has_pairs-clause-fault : goal.list_len-returns-then-not-has_pairs-clause-fault
+list_len-returns-then-not-has_pairs-clause-fault t c =
+    holder_unpaired (container_of c.args.kind) (width_of c.args.wide) c.args.nesting c.args.input.now _ _ _ (behind_front _ _ _ c.in_ok-parts.ensures.found) (λ h. let e = c.has_pairs.ensures.1 h in absurd (cc))
+
+pub list_len-returns-in_err-check_items-clause-fault : goal.list_len-returns-in_err-check_items-clause-fault
+list_len-returns-in_err-check_items-clause-fault t c =
+    let p = err_from_is_err_and c.from_residual-in_err-check_items.result c.from_residual-in_err-check_items.ensures.1 in
+    rw (p.1, p.2) (holder_items (container_of c.args.kind) (width_of c.args.wide) c.args.nesting c.args.input.now _ _ c.in-Some.nesting _ _ (behind_front _ _ _ c.in_ok-parts.ensures.found) (omega arith) c.in_err-check_items.ensures.fault)
+
+pub data_len-returns-in-69-clause-fault : goal.data_len-returns-in-69-clause-fault
+data_len-returns-in-69-clause-fault t c =
+    data_of_holder c.args.code c.args.nesting c.args.input.now _ list 0 (ap format c.in-69.is) (λ e. cc) (holder_deep list 0 c.args.nesting c.args.input.now _ (behind_empty c.args.input.now) c.if-nesting-eq0.true)
+
+pub data_len-returns-in-192-clause-fault : goal.data_len-returns-in-192-clause-fault
+data_len-returns-in-192-clause-fault t c =
+    err_map _ (DataFault c.args.code c.args.nesting c.args.input.now) c.list_len.result (λ e h. data_of_holder c.args.code c.args.nesting c.args.input.now e list 1 (ap format c.in-192.is) (λ k. cc) h) c.list_len.ensures.fault
+
+pub data_len-returns-in-208-clause-fault : goal.data_len-returns-in-208-clause-fault
+data_len-returns-in-208-clause-fault t c =
+    err_map _ (DataFault c.args.code c.args.nesting c.args.input.now) c.list_len-in-208.result (λ e h. data_of_holder c.args.code c.args.nesting c.args.input.now e list 4 (ap format c.in-208.is) (λ k. cc) h) c.list_len-in-208.ensures.fault
+
+pub data_len-returns-in-193-clause-fault : goal.data_len-returns-in-193-clause-fault
+data_len-returns-in-193-clause-fault t c =
+    err_map _ (DataFault c.args.code c.args.nesting c.args.input.now) c.list_len-in-193.result (λ e h. data_of_holder c.args.code c.args.nesting c.args.input.now e map 1 (ap format c.in-193.is) (λ k. cc) h) c.list_len-in-193.ensures.fault
+
+pub data_len-returns-in-209-clause-fault : goal.data_len-returns-in-209-clause-fault
+data_len-returns-in-209-clause-fault t c =
+    err_map _ (DataFault c.args.code c.args.nesting c.args.input.now) c.list_len-in-209.result (λ e h. data_of_holder c.args.code c.args.nesting c.args.input.now e map 4 (ap format c.in-209.is) (λ k. cc) h) c.list_len-in-209.ensures.fault
+
+pub data_len-returns-in-224-clause-fault : goal.data_len-returns-in-224-clause-fault
+data_len-returns-in-224-clause-fault t c =
+    err_map _ (DataFault c.args.code c.args.nesting c.args.input.now) c.array_len.result (λ e h. data_of_array c.args.code c.args.nesting c.args.input.now e 1 (ap format c.in-224.is) h) c.array_len.ensures.fault
+
+pub data_len-returns-in-240-clause-fault : goal.data_len-returns-in-240-clause-fault
+data_len-returns-in-240-clause-fault t c =
+    err_map _ (DataFault c.args.code c.args.nesting c.args.input.now) c.array_len-in-240.result (λ e h. data_of_array c.args.code c.args.nesting c.args.input.now e 4 (ap format c.in-240.is) h) c.array_len-in-240.ensures.fault
+
+pub data_len-returns-in_default-clause-fault : goal.data_len-returns-in_default-clause-fault
+data_len-returns-in_default-clause-fault t c =
+    err_map _ (DataFault c.args.code c.args.nesting c.args.input.now) c.primitive_len.result (λ e h. data_of_primitive c.args.code c.args.nesting c.args.input.now e h) c.primitive_len.ensures.fault
+
+pub check_elements-returns-else-count-eq0-clause-fault : goal.check_elements-returns-else-count-eq0-clause-fault
+check_elements-returns-else-count-eq0-clause-fault t c =
+    let empty : length c.args.content.now ≡ 0 = grind arith in
+    elements_missing c.args.nesting c.args.count c.args.content.now (no_bytes c.args.content.now empty) (omega arith)
+
+pub check_elements-returns-in_err-shared-clause-fault : goal.check_elements-returns-in_err-shared-clause-fault
+check_elements-returns-in_err-shared-clause-fault t c =
+    let p = err_from_is_err_and c.from_residual.result c.from_residual.ensures.1 in
+    let some : 0 < length c.args.content.now = grind arith in
+    rw (p.1, p.2) (elements_unreadable c.args.nesting c.args.count c.args.content.now c.read_constructor.result _ some c.read_constructor.ensures.fault c.in_err-shared.ensures.fault)
+
+pub check_elements-returns-else-is_empty-2-clause-fault : goal.check_elements-returns-else-is_empty-2-clause-fault
+check_elements-returns-else-is_empty-2-clause-fault t c =
+    let s = c.in_ok-shared.shared in
+    let found = ok_at (λ (x : Constructor). IsFront (Constructs x.descriptors x.code) c.args.content.now x.len) c.read_constructor.result s c.read_constructor.ensures.found c.in_ok-shared.ensures.found in
+    let all : length (take (length c.args.content.now - s.len) (drop s.len c.args.content.now)) ≡ length (drop s.len c.args.content.now) = ap length (tail_all s.len c.args.content.now) in
+    elements_over c.args.nesting c.args.count c.args.content.now s.descriptors s.code _ (behind_front _ _ _ found) c.if-count-eq0-2.true (grind arith)
+
+pub check_elements-returns-then-has_width_zero-clause-fault : goal.check_elements-returns-then-has_width_zero-clause-fault
+check_elements-returns-then-has_width_zero-clause-fault t c =
+    let s = c.in_ok-shared.shared in
+    let found = ok_at (λ (x : Constructor). IsFront (Constructs x.descriptors x.code) c.args.content.now x.len) c.read_constructor.result s c.read_constructor.ensures.found c.in_ok-shared.ensures.found in
+    elements_empty c.args.nesting c.args.count c.args.content.now s.descriptors s.code _ (behind_front _ _ _ found) (omega arith)
+    ((zero_at s.code).1 (c.has_width_zero.ensures.0 c.if-has_width_zero.true) (constructs_known s.descriptors s.code _ found.spelled))
+
+pub check_elements-returns-in-Some-clause-fault : goal.check_elements-returns-in-Some-clause-fault
+check_elements-returns-in-Some-clause-fault t c =
+    let s = c.in_ok-shared.shared in
+    let found = ok_at (λ (x : Constructor). IsFront (Constructs x.descriptors x.code) c.args.content.now x.len) c.read_constructor.result s c.read_constructor.ensures.found c.in_ok-shared.ensures.found in
+    let some : 0 < c.args.count = omega arith in
+    err_map _ (ElementsFault c.args.nesting c.args.count c.args.content.now) c.check_data.result
+    (λ e h. elements_data c.args.nesting c.args.count c.args.content.now e s.descriptors s.code c.in-Some.nesting _ (behind_front _ _ _ found) some c.in-Some.ensures
+    (subst (λ l. SharedFault s.code c.in-Some.nesting c.args.count l e) (tail_all s.len c.args.content.now) h)) c.check_data.ensures.fault
+
+pub check_elements-returns-in-None-clause-fault : goal.check_elements-returns-in-None-clause-fault
+check_elements-returns-in-None-clause-fault t c =
+    let s = c.in_ok-shared.shared in
+    let found = ok_at (λ (x : Constructor). IsFront (Constructs x.descriptors x.code) c.args.content.now x.len) c.read_constructor.result s c.read_constructor.ensures.found c.in_ok-shared.ensures.found in
+    elements_deep c.args.nesting c.args.count c.args.content.now s.descriptors s.code _ (behind_front _ _ _ found) (omega arith) c.in-None.ensures

@@ -1,4 +1,5 @@
 use Rattle.amqp_lengths.proofs.Answered.{none_there, cut_short}
+use Rattle.amqp_lengths.proofs.Cuts.{error_asks}
 use Rattle.amqp_lengths.proofs.lengths.term_len.Goals as goal
 
 pub returns-clause-none : goal.returns-clause-none
@@ -6,3 +7,6 @@ returns-clause-none c = none_there 128 c.args.input.now c.len_of_term.result c.l
 
 pub returns-clause-cut : goal.returns-clause-cut
 returns-clause-cut c = cut_short 128 c.args.input.now c.len_of_term.result c.len_of_term.ensures.found c.len_of_term.ensures.refused
+
+pub returns-clause-cut_only : goal.returns-clause-cut_only
+returns-clause-cut_only c = error_asks 128 c.args.input.now c.len_of_term.result c.len_of_term.ensures.fault
