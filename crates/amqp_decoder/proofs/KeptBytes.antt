@@ -1,82 +1,88 @@
 -- Bytes that are taken and kept.
-use Rattle.std.proofs.Common.{arith, ◌≡◌, ◌≤◌, ℕ, ◌+◌, ◌-◌, Bool, true, false, cond, None, List, [], ◌∷◌, ◌++◌, length, take, drop, refl, sym, ap, ◌∙◌, subst, append_assoc, drop-drop, length-append}
-use Rattle.std.proofs.lemmas.List.{length-take-le, take-append-drop, take_all}
+use Rattle.std.proofs.Common.{arith, ◌≡◌, ◌≤◌, ◌<◌, ℕ, ◌^◌, inl, inr, Bool, true, false, IsTrue, ◌↔◌, cond, Some, List, [], ◌∷◌, ◌++◌, length, take, drop, refl, sym, ap, ◌∙◌, subst, append_assoc, length-append, IsAscii}
+use Rattle.std.proofs.lemmas.List.{length-take-le, take-append-drop, drop_at}
 use Rattle.std.specs.Int.{bytes_high_first}
-use Rattle.amqp_model.specs.Measures.{nest}
-use Rattle.amqp_lengths.specs.Fronts.{IsFront}
-use Rattle.amqp_lengths.specs.Lengths.{IsTerm}
-use Rattle.amqp_decoder.specs.Primitives.{standing, SpellsAs}
-use Rattle.amqp_decoder.specs.State.{State, Has, lower, moved, past}
-use Rattle.amqp_decoder.specs.Steps.{Pulled, Took}
-use Rattle.amqp_decoder.specs.Reading.{IsFirst, Begun}
-use Rattle.amqp_decoder.specs.Terms.{Keeps, KeepsBehind, TakesTerm}
-use Rattle.amqp_decoder.proofs.Steps.{took_pulled}
-use Rattle.amqp_decoder.proofs.Leaves.{took_none, has_add, after_code, on-past}
+use Rattle.amqp_wire.specs.declared.error.Error.{Error}
+use Rattle.amqp_wire.specs.declared.error.Error.TheVariants.{NonAscii}
+use Rattle.amqp_lengths.specs.Pieces.{IsSized}
+use Rattle.amqp_decoder.specs.State.{State, Has, lower, moved}
+use Rattle.amqp_decoder.specs.Steps.{Pulled, Took, Lacks, Stopped}
+use Rattle.amqp_decoder.specs.Terms.{Keeps, IsSymbol, SymbolFault, no_text, no_ascii}
+use Rattle.amqp_decoder.proofs.Steps.{answered, answered_took, stopped_as, stopped_later, took_pulled}
 use Rattle.amqp_decoder.proofs.Opening.{took_both}
 
-pub keeps_join : (a b c : List ℕ) (st m new : State) → Keeps a st b m → Keeps b m c new → Keeps a st c new
-keeps_join a b c st m new h k = record {
+pub keeps_both : (P Q R : List ℕ → Type 0) (a b c : List ℕ) (st m new : State) → ((x y : List ℕ) → P x → Q y → R (x ++ y)) → Keeps P a st b m → Keeps Q b m c new → Keeps R a st c new
+keeps_both P Q R a b c st m new join h k = record {
   own = h.own ++ k.own;
+  is = join h.own k.own h.is k.is;
   took = took_both st m new h.own k.own h.took k.took;
   added = k.added ∙ ap (λ l. l ++ k.own) h.added ∙ append_assoc a h.own k.own;
 }
 
+pub keeps_as : (P Q : List ℕ → Type 0) (a b : List ℕ) (st new : State) → ((x : List ℕ) → P x → Q x) → Keeps P a st b new → Keeps Q a st b new
+keeps_as P Q a b st new f h = record { own = h.own; is = f h.own h.is; took = h.took; added = h.added }
+
+-- a byte that was taken is added
+pub keeps_code : (c : ℕ) (before after : List ℕ) (st m new : State) → Took st (c ∷ []) m → after ≡ before ++ (c ∷ []) → new ≡ m → Keeps (λ s. s ≡ c ∷ []) before st after new
+keeps_code c before after st m new t added same = record { own = c ∷ []; is = refl; took = subst (Took st (c ∷ [])) (sym same) t; added = added }
+
 pub keeps_next : (n : ℕ) (before after : List ℕ) (st m new : State) → Has st.top.left n → m ≡ record st { top = record st.top { left = lower st.top.left n } }
-    → (n ≤ length m.rest) × (after ≡ before ++ take n m.rest) × (new ≡ moved n m) → Keeps before st after new
+    → (n ≤ length m.rest) × (after ≡ before ++ take n m.rest) × (new ≡ moved n m) → Keeps (λ s. length s ≡ n) before st after new
 keeps_next n before after st m new room is (few, added, went) =
     let s = take n m.rest in
     let long : length s ≡ n = length-take-le n m.rest few in
     let whole : m.rest ≡ s ++ drop (length s) m.rest = sym (take-append-drop n m.rest) ∙ ap (λ k. s ++ drop k m.rest) (sym long) in
     let pulled : Pulled m s new = record { rest = whole; moved = went ∙ ap (λ k. moved k m) (sym long) } in
-    record { own = s; took = took_pulled n st m s new long room is pulled; added = added }
+    record { own = s; is = long; took = took_pulled n st m s new long room is pulled; added = added }
 
 digits : (wide : Bool) (n : ℕ) → drop (cond wide 0 3) (bytes_high_first 4 n) ≡ bytes_high_first (cond wide 4 1) n
 digits true n = refl
 digits false n = refl
 
-pub keeps_number : (wide : Bool) (n k : ℕ) (before after bytes : List ℕ) (st new : State) → Took st (bytes_high_first (cond wide 4 1) n) new → bytes ≡ bytes_high_first 4 n → k ≡ cond wide 0 3 → after ≡ before ++ drop k bytes → Keeps before st after new
+pub keeps_number : (wide : Bool) (n k : ℕ) (before after bytes : List ℕ) (st new : State) → Took st (bytes_high_first (cond wide 4 1) n) new → bytes ≡ bytes_high_first 4 n → k ≡ cond wide 0 3 → after ≡ before ++ drop k bytes
+    → Keeps (λ s. s ≡ bytes_high_first (cond wide 4 1) n) before st after new
 keeps_number wide n k before after bytes st new t is skip added = record {
   own = bytes_high_first (cond wide 4 1) n;
+  is = refl;
   took = t;
   added = added ∙ ap (λ l. before ++ drop k l) is ∙ ap (λ j. before ++ drop j (bytes_high_first 4 n)) skip ∙ ap (λ l. before ++ l) (digits wide n);
 }
 
--- a byte that was taken is added
-pub keeps_byte : (c : ℕ) (before after : List ℕ) (st m new : State) → Took st (c ∷ []) m → (after ≡ before ++ (c ∷ [])) × (new ≡ m) → Keeps before st after new
-keeps_byte c before after st m new t (added, is) = record { own = c ∷ []; took = subst (Took st (c ∷ [])) (sym is) t; added = added }
+-- a size and what it announces
+sized_own : (w n : ℕ) (x y : List ℕ) → n < 256 ^ w → x ≡ bytes_high_first w n → length y ≡ n → IsSized w y (x ++ y)
+sized_own w n x y fits is long = (subst (λ k. k < 256 ^ w) (sym long) fits, ap (λ l. l ++ y) is ∙ ap (λ k. bytes_high_first w k ++ y) (sym long))
 
-pub keeps_first : (c : ℕ) (before after : List ℕ) (st new : State) → (after ≡ before ++ (c ∷ [])) × (new ≡ st) → KeepsBehind c before st after new
-keeps_first c before after st new (added, is) = record { own = []; took = subst (Took st []) (sym is) (took_none st); added = added }
+-- what was added last
+added_last : (b c y : List ℕ) (start : ℕ) → start ≡ length b → c ≡ b ++ y → drop start c ≡ y
+added_last b c y start is added = ap (drop start) added ∙ drop_at b y start (sym is)
 
-pub keeps_behind : (c : ℕ) (a b d : List ℕ) (st m new : State) → KeepsBehind c a st b m → Keeps b m d new → KeepsBehind c a st d new
-keeps_behind c a b d st m new h k = record {
+-- a test of what was added last
+text_test : (start : ℕ) (t : Bool) (slice b c y : List ℕ) → start ≡ length b → slice ≡ c → c ≡ b ++ y → (start ≤ length slice → IsTrue t ↔ IsAscii (drop start slice)) → IsTrue t ↔ IsAscii y
+text_test start t slice b c y at_ is added f =
+    subst (λ z. IsTrue t ↔ IsAscii z) (ap (drop start) is ∙ added_last b c y start at_ added) (f (omega (arith, ap length is, ap length added, length-append b y)))
+
+pub keeps_symbol : (w n start : ℕ) (t : Bool) (slice a b c : List ℕ) (st m new : State) → n < 256 ^ w → start ≡ length b → slice ≡ c → (start ≤ length slice → IsTrue t ↔ IsAscii (drop start slice)) → t ≡ true
+    → Keeps (λ s. s ≡ bytes_high_first w n) a st b m → Keeps (λ s. length s ≡ n) b m c new → Keeps (IsSymbol w) a st c new
+keeps_symbol w n start t slice a b c st m new fits at_ is test true_ h k = record {
   own = h.own ++ k.own;
+  is = (k.own, (text_test start t slice b c k.own at_ is k.added test).0 true_, sized_own w n h.own k.own fits h.is k.is);
   took = took_both st m new h.own k.own h.took k.took;
-  added = k.added ∙ ap (λ l. l ++ k.own) h.added ∙ append_assoc a (c ∷ h.own) k.own;
+  added = k.added ∙ ap (λ l. l ++ k.own) h.added ∙ append_assoc a h.own k.own;
 }
 
-pub takes_term : (st m new : State) (c : ℕ) (before after : List ℕ) → st.top.shared ≡ None → before ≡ [] → Begun st c m → KeepsBehind c before m after new → IsTerm (new.nesting - length new.saved) after → TakesTerm st after new
-takes_term st m new c before after none empty g h (t, spelled, deep) =
-    let own : g.own ≡ c ∷ [] = subst (λ o. IsFirst o c g.own) none g.first in
-    let is : after ≡ g.own ++ h.own = h.added ∙ ap (λ l. l ++ (c ∷ h.own)) empty ∙ ap (λ l. l ++ h.own) (sym own) in
-    let u = subst (λ z. Took z h.own new) g.moved h.took in
-    let long : length after ≡ length g.own + length h.own = ap length is ∙ length-append g.own h.own in
-    let moved : new ≡ past (length after) st = u.moved ∙ on-past (length g.own) (length h.own) st ∙ ap (λ n. past n st) (sym long) in
-    record {
-      term = t;
-      stands = record {
-        going = g.going;
-        item = g.item;
-        room = subst (Has st.top.left) (sym long) (has_add st.top.left (length g.own) (length h.own) g.room u.room);
-        after = drop (length after) st.rest;
-        rest = after_code g.own h.own st.rest g.rest u.rest ∙ ap (λ x. (g.own ++ h.own) ++ x) (drop-drop (length h.own) (length g.own) st.rest ∙ ap (λ n. drop n st.rest) (sym long)) ∙ ap (λ l. l ++ drop (length after) st.rest) (sym is);
-        spelled = subst (λ o. SpellsAs (standing o after) t) (sym none) spelled;
-        nested = subst (λ (z : State). nest t ≤ z.nesting - length z.saved) moved deep;
-      };
-      unshared = none;
-      moved = moved;
-    }
+pub stopped_size : (w : ℕ) (st : State) (e : Error) (new : State) → Stopped true (Lacks w st) st e new → Stopped true (SymbolFault w st) st e new
+stopped_size w st e new s = stopped_as (Lacks w st) (SymbolFault w st) st e new (λ d x. no_text (inl x)) s
 
--- all bytes are the front that was found
-pub whole_front : (P : List ℕ → Type 0) (b : List ℕ) (n : ℕ) → IsFront P b n → n ≡ length b → P b
-whole_front P b n f all = subst P (take_all n b (omega arith)) f.spelled
+pub stopped_text : (w n : ℕ) (a b : List ℕ) (st m : State) (e : Error) (new : State) → n < 256 ^ w → Keeps (λ s. s ≡ bytes_high_first w n) a st b m → Stopped true (Lacks n m) m e new → Stopped true (SymbolFault w st) st e new
+stopped_text w n a b st m e new fits h s = stopped_later (Lacks n m) (SymbolFault w st) st m h.own e new h.took (λ d x. no_text (inr (n, m, fits, subst (λ l. Took st l m) h.is h.took, x))) s
+
+pub stopped_ascii : (w n start : ℕ) (t : Bool) (slice a b c : List ℕ) (st m m' : State) (e : Error) (new : State) → n < 256 ^ w → start ≡ length b → slice ≡ c → (start ≤ length slice → IsTrue t ↔ IsAscii (drop start slice)) → t ≡ false
+    → Keeps (λ s. s ≡ bytes_high_first w n) a st b m → Keeps (λ s. length s ≡ n) b m c m' → e ≡ NonAscii → new ≡ record m' { error = Some NonAscii } → Stopped true (SymbolFault w st) st e new
+stopped_ascii w n start t slice a b c st m m' e new fits at_ is test false_ h k named kept =
+    let sized = sized_own w n h.own k.own fits h.is k.is in
+    let took : Took st (h.own ++ k.own) m' = took_both st m m' h.own k.own h.took k.took in
+    let bad : IsAscii k.own → ⊥ = λ x. let y = (text_test start t slice b c k.own at_ is k.added test).1 x in absurd (cc (y, false_)) in
+    record {
+      kept = answered_took took (answered m' new e NonAscii kept named);
+      why = inr (no_ascii (record { fits = sized.0; took = subst (λ l. Took st l m') sized.1 took }) bad named);
+    }

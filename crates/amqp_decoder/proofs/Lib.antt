@@ -19,3 +19,6 @@ pub mod OpenedArrays
 pub mod ArrayTerms
 pub mod KeptBytes
 pub mod NotMemory
+pub mod KeptConstructors
+pub mod KeptData
+pub mod KeptTerms

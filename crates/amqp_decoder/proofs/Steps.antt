@@ -5,7 +5,7 @@ use Rattle.amqp_model.specs.Term.{Descriptor}
 use Rattle.amqp_wire.specs.declared.error.Error.{Error}
 use Rattle.amqp_wire.specs.declared.error.Error.TheVariants.{Cut, Missing}
 use Rattle.amqp_decoder.specs.State.{State, Has, lower, past, announced}
-use Rattle.amqp_decoder.specs.Steps.{Answered, SourceFailed, Excused, Pulled, Missed, Took, Lacks, cut_open, cut_inside, too_long, Short, asked_in, SizeError, cut, wrong, SizeRefused}
+use Rattle.amqp_decoder.specs.Steps.{Answered, SourceFailed, Excused, Pulled, Missed, Took, Lacks, cut_open, cut_inside, too_long, Short, Stopped, asked_in, SizeError, cut, wrong, SizeRefused}
 use Rattle.amqp_decoder.specs.Reading.{Refused, IsLeft, IsFirst, IsFirstShared, Begun, BeginFault, missing, no_code}
 
 -- a call that takes no memory is excused by its source alone
@@ -162,3 +162,20 @@ begin_short st e new going none r = record {
   named = λ g. elim r.why [ inl x ↦ inl (inr x) | inr x ↦ inr (no_code none x) ];
   none = elim r.why [ inl x ↦ inl (inr x) | inr x ↦ inr (λ v b h. not_begun_lacking st e v b none x h) ];
 }
+
+-- why a call stopped
+pub stopped_short : {takes : Bool} (n : ℕ) (st : State) (e : Error) (new : State) → Short n st e new → Stopped takes (Lacks n st) st e new
+stopped_short n st e new s = record { kept = s.kept; why = elim s.why [ inl x ↦ inl (inr x) | inr x ↦ inr x ] }
+
+pub stopped_missed : {takes : Bool} (n : ℕ) (st m : State) (e : Error) (new : State) → Has st.top.left n → m ≡ record st { top = record st.top { left = lower st.top.left n } } → Missed takes n m e new → Stopped takes (Lacks n st) st e new
+stopped_missed n st m e new room is s = record {
+  kept = answered_later (ap (λ (x : State). x.failed) is) s.kept;
+  why = elim s.why [ inl x ↦ inl x | inr (x, y) ↦ inr (missed_lacks n st st.top.left e refl room x (subst (λ (z : State). length z.rest < n) is y)) ];
+}
+
+pub stopped_as : {takes : Bool} (P Q : Error → Type 0) (st : State) (e : Error) (new : State) → ((d : Error) → P d → Q d) → Stopped takes P st e new → Stopped takes Q st e new
+stopped_as P Q st e new f s = record { kept = s.kept; why = elim s.why [ inl x ↦ inl x | inr x ↦ inr (f e x) ] }
+
+-- after bytes that were taken
+pub stopped_later : {takes : Bool} (P Q : Error → Type 0) (st m : State) (s : List ℕ) (e : Error) (new : State) → Took st s m → ((d : Error) → P d → Q d) → Stopped takes P m e new → Stopped takes Q st e new
+stopped_later P Q st m s e new t f r = record { kept = answered_took t r.kept; why = elim r.why [ inl x ↦ inl x | inr x ↦ inr (f e x) ] }

@@ -1,21 +1,69 @@
--- What the calls that keep the bytes of terms promise.
-use Rattle.std.specs.Prelude.{◌≡◌, ℕ, List, ◌∷◌, ◌++◌, length, None}
+-- What the calls that keep the bytes of terms promise (Part 1, section 1.2).
+use Rattle.std.specs.Prelude.{◌≡◌, ◌≤◌, ◌<◌, ◌^◌, ◌-◌, ◌⊎◌, ℕ, false, cond, List, ◌++◌, length, Some, None, IsAscii}
+use Rattle.std.specs.Int.{bytes_high_first}
+use Rattle.amqp_model.specs.Term.{Descriptor, Term}
+use Rattle.amqp_model.specs.Constructors.{Format, fixed, variable, compound, format}
+use Rattle.amqp_model.specs.Spelling.{Constructor}
+use Rattle.amqp_wire.specs.declared.error.Error.{Error}
+use Rattle.amqp_wire.specs.declared.error.Error.TheVariants.{NonAscii, Missing, Size, LazyInArray}
+use Rattle.amqp_lengths.specs.Pieces.{IsSized}
+use Rattle.amqp_lengths.specs.Fronts.{Refuses}
+use Rattle.amqp_lengths.specs.Lengths.{IsTerm}
+use Rattle.amqp_lengths.specs.Announced.{content_size, IsAnnounced}
+use Rattle.amqp_decoder.specs.declared.terms.Data.{Data}
+use Rattle.amqp_decoder.specs.declared.terms.Data.TheVariants.{Fixed as of_width, Sized as of_size}
 use Rattle.amqp_decoder.specs.State.{State, past}
-use Rattle.amqp_decoder.specs.Steps.{Took}
-use Rattle.amqp_decoder.specs.Primitives.{Stands}
-use Rattle.amqp_model.specs.Term.{Term}
+use Rattle.amqp_decoder.specs.Steps.{Took, Lacks, SizeError}
+use Rattle.amqp_decoder.specs.Primitives.{Stands, LacksData, LacksSized, Sized}
+use Rattle.amqp_decoder.specs.Containers.{is_list}
+use Rattle.amqp_decoder.specs.Arrays.{TookConstructor, ConstructorFault}
 
--- Bytes were taken, and added to those before.
-pub record Keeps (before : List ℕ) (st : State) (after : List ℕ) (st' : State) : Type 0 where
+-- Bytes that are P were taken, and added to those before.
+pub record Keeps (P : List ℕ → Type 0) (before : List ℕ) (st : State) (after : List ℕ) (st' : State) : Type 0 where
   pub own : List ℕ
+  pub is : P own
   pub took : Took st own st'
   pub added : after ≡ before ++ own
 
--- The same behind a byte that had been taken.
-pub record KeepsBehind (first : ℕ) (before : List ℕ) (st : State) (after : List ℕ) (st' : State) : Type 0 where
-  pub own : List ℕ
-  pub took : Took st own st'
-  pub added : after ≡ before ++ (first ∷ own)
+-- The bytes are a size and the ASCII text that it announces.
+abbrev pub IsSymbol : ℕ → List ℕ → Type 0
+IsSymbol w b = (s : List ℕ) × IsAscii s × IsSized w s b
+
+-- Why no such bytes are taken.
+pub data SymbolFault (w : ℕ) (st : State) (e : Error) : Type 0 where
+  no_text : LacksSized w st e → SymbolFault w st e
+  no_ascii : {s : List ℕ} {m : State} → Sized w st s m → (IsAscii s → ⊥) → e ≡ NonAscii → SymbolFault w st e
+
+-- The bytes are a constructor of at most 128 descriptors and this code.
+abbrev pub IsConstructor : ℕ → List ℕ → Type 0
+IsConstructor c b = (ds : List Descriptor) × (length ds ≤ 128) × Constructor ds c b
+
+-- What a format announces. A container's size is in front of its count, which only that of an empty list may miss.
+abbrev pub Announces : Format → Data → Type 0
+Announces (fixed w value) (of_width n) = n ≡ w
+Announces (variable w value) (of_size wide listed) = (w ≡ cond wide 4 1) × (listed ≡ false)
+Announces (compound kind w) (of_width n) = (n ≡ 0) × (w ≡ 0)
+Announces (compound kind w) (of_size wide listed) = (w ≡ cond wide 4 1) × (listed ≡ is_list kind)
+Announces _ _ = ⊥
+
+-- The data that a format announces can't be taken: a primitive's, or a container's size or as many bytes as belong behind it.
+abbrev pub LacksAnnounced : Format → State → Error → Type 0
+LacksAnnounced (compound kind w) st e =
+    Lacks w st e ⊎ ((n : ℕ) × (st' : State) × (n < 256 ^ w) × Took st (bytes_high_first w n) st' × Lacks (content_size kind w n) st' e)
+LacksAnnounced F st e = LacksData F st e
+
+-- The bytes, which were taken in front of the state, are no term that nests at most so deep. A wrong size is named where all
+-- is there that the open containers announce.
+pub data NoTerm (nesting : ℕ) (b : List ℕ) (st : State) (e : Error) : Type 0 where
+  wrong_size : Refuses (IsTerm nesting) b Size → SizeError 0 st e → NoTerm nesting b st e
+  wrong_term : Refuses (IsTerm nesting) b e → (e ≡ Size → ⊥) → NoTerm nesting b st e
+
+-- Why no bytes of a term are taken.
+pub data SpellingFault (st : State) (e : Error) : Type 0 where
+  no_constructor : ConstructorFault st e → SpellingFault st e
+  no_data : {ds : List Descriptor} {c : ℕ} {m : State} → TookConstructor st ds c m → LacksAnnounced (format c) m e → SpellingFault st e
+  no_term : {ds : List Descriptor} {c : ℕ} {m : State} {b : List ℕ} {m' : State} (t : TookConstructor st ds c m) → Took m b m' → IsAnnounced (format c) b
+      → NoTerm (st.nesting - length st.saved) (t.own ++ b) m' e → SpellingFault st e
 
 -- A term stood next as these bytes, a constructor of its own among them, and was taken.
 pub record TakesTerm (st : State) (s : List ℕ) (st' : State) : Type 0 where
@@ -23,3 +71,9 @@ pub record TakesTerm (st : State) (s : List ℕ) (st' : State) : Type 0 where
   pub stands : Stands st s term
   pub unshared : st.top.shared ≡ None
   pub moved : st' ≡ past (length s) st
+
+-- Why no term is read.
+pub data TermFault (st : State) (e : Error) : Type 0 where
+  missing : st.top.items ≡ Some 0 → e ≡ Missing → TermFault st e
+  in_array : (st.top.shared ≡ None → ⊥) → e ≡ LazyInArray → TermFault st e
+  misspelled : st.top.shared ≡ None → SpellingFault st e → TermFault st e

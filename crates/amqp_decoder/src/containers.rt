@@ -14,7 +14,7 @@ use amqp_wire::{ByteSource, Error, format_code};
 
 // How many bytes a size or a count has.
 #[inline]
-fn width(wide: bool) -> u32
+pub(crate) fn width(wide: bool) -> u32
     ensures { result ≡ cond wide 4 1 }
 {
     if wide { 4 } else { 1 }

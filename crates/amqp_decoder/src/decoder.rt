@@ -305,7 +305,7 @@ impl<R: ByteSource> Decoder<R> {
 
     // An item of the open container is taken.
     #[inline]
-    fn take_item(&mut self)
+    pub(crate) fn take_item(&mut self)
         ensures { self.new ≡ record self.old { top = record self.old.top { items = lower self.old.top.items 1 } } }
     {
         self.top.items = self.top.items.saturating_sub(1);
@@ -423,7 +423,7 @@ impl<R: ByteSource> Decoder<R> {
     // The items of the open container share a constructor.
     #[inline]
     pub(crate) fn is_shared(&self) -> bool
-        ensures { result ≡ false → self.now.top.shared ≡ None }
+        ensures { (result ≡ false) ↔ (self.now.top.shared ≡ None) }
     {
         self.top.code != 0
     }

@@ -48,7 +48,7 @@ impl<R: ByteSource> Decoder<R> {
 
     // Neither a ulong nor a symbol.
     #[cold]
-    fn refuse_descriptor(&mut self, code: u8) -> Error
+    pub(crate) fn refuse_descriptor(&mut self, code: u8) -> Error
         ensures answer { result ≡ other_kind (refusal_of code) }
         ensures kept { self.new ≡ record self.old { error = Some result } }
     {

@@ -1,13 +1,23 @@
 //! The bytes of whole terms (Part 1, section 1.2).
-ghost use Rattle.std.specs.Prelude.{◌≡◌, ◌++◌, ◌∷◌, [], cond, Some, None, Err, IfOk, IfErr};
+ghost use Rattle.std.specs.Prelude.{◌≡◌, ◌<◌, ◌≤◌, ◌↔◌, ◌^◌, ◌-◌, ◌∷◌, [], ℕ, cond, length, drop, IsTrue, IsAscii, Some, None, Err, IfOk, IfErr, true, false};
+ghost use Rattle.std.specs.Int.{bytes_high_first};
+ghost use Rattle.amqp_model.specs.Constructors.{format};
+ghost use Rattle.amqp_model.specs.Spelling.{IsKnown};
 ghost use Rattle.amqp_wire.specs.Sources.{Tells};
 ghost use Rattle.amqp_wire.specs.declared.error.Error.{Error};
-ghost use Rattle.amqp_decoder.specs.Steps.{Answered};
-ghost use Rattle.amqp_decoder.specs.Terms.{Keeps, KeepsBehind, TakesTerm};
+ghost use Rattle.amqp_lengths.specs.Fronts.{IsFront};
+ghost use Rattle.amqp_lengths.specs.Pieces.{NamesAny};
+ghost use Rattle.amqp_lengths.specs.Lengths.{IsTerm};
+ghost use Rattle.amqp_lengths.specs.Announced.{IsAnnounced};
+ghost use Rattle.amqp_decoder.specs.Steps.{Took, Lacks, Stopped};
+ghost use Rattle.amqp_decoder.specs.Reading.{Reads};
+ghost use Rattle.amqp_decoder.specs.Described.{DescriptorFault};
+ghost use Rattle.amqp_decoder.specs.Arrays.{ConstructorFault};
+ghost use Rattle.amqp_decoder.specs.Terms.{Keeps, IsSymbol, SymbolFault, IsConstructor, Announces, LacksAnnounced, NoTerm, SpellingFault, TakesTerm, TermFault};
 
 use crate::Decoder;
+use crate::containers::width;
 use amqp_lengths::{NESTING, len_of_term};
-use amqp_wire::format_code::unknown;
 use amqp_wire::{ByteSource, Error, format_code};
 use std::alloc::Global;
 
@@ -17,7 +27,9 @@ enum Data {
     Sized { wide: bool, is_list: bool },
 }
 
-fn data_of(code: u8) -> Data {
+fn data_of(code: u8) -> Data
+    ensures { IsKnown (format code) → Announces (format code) result }
+{
     match code {
         0x00..=0x4f => Data::Fixed(0),
         0x50..=0x5f => Data::Fixed(1),
@@ -39,22 +51,46 @@ fn unused_digits(wide: bool) -> usize
     if wide { 0 } else { 3 }
 }
 
+// How many bytes belong behind a size: as many as it says, or the count of a list whose size is 0.
+fn content_len(size: u32, wide: bool, is_list: bool) -> u32
+    ensures empty { is_list ≡ true → size ≡ 0 → result ≡ cond wide 4 1 }
+    ensures other { is_list ≡ false → result ≡ size }
+    ensures some { 0 < size → result ≡ size }
+{
+    if is_list && size == 0 {
+        width(wide)
+    } else {
+        size
+    }
+}
+
+// The bytes from this place on are ASCII.
+fn is_ascii_from(bytes: &[u8], start: usize) -> bool
+    ensures { start ≤ length bytes.now → IsTrue result ↔ IsAscii (drop start bytes.now) }
+{
+    match bytes.get(start..) {
+        Some(text) => text.is_ascii(),
+        None => false,
+    }
+}
+
 impl<R: ByteSource> Decoder<R> {
-    // Adds a byte that was taken.
-    fn keep_byte(&mut self, byte: u8, bytes: &mut Vec<u8>) -> Result<(), Error>
-        ensures ok { IfOk result (λ _. (bytes.new.items ≡ bytes.old.items ++ (byte ∷ [])) × (self.new ≡ self.old)) }
-        ensures err { IfErr result (λ e. Answered self.old e self.new) }
+    // Takes the next byte, and adds it.
+    fn keep_code(&mut self, bytes: &mut Vec<u8>) -> Result<u8, Error>
+        ensures ok { Tells R.remaining → IfOk result (λ code. Keeps (λ s. s ≡ code ∷ []) bytes.old.items self.old bytes.new.items self.new) }
+        ensures err { Tells R.remaining → IfErr result (λ e. Stopped true (Lacks 1 self.old) self.old e self.new) }
     {
-        match bytes.push(byte) {
-            Ok(()) => Ok(()),
+        let code = self.byte()?;
+        match bytes.push(code) {
+            Ok(()) => Ok(code),
             Err(_) => Err(self.refuse(Error::Memory)),
         }
     }
 
     // Adds the next so many bytes of the open container.
     fn keep_next(&mut self, len: u32, bytes: &mut Vec<u8>) -> Result<(), Error>
-        ensures ok { Tells R.remaining → IfOk result (λ _. Keeps bytes.old.items self.old bytes.new.items self.new) }
-        ensures err { Tells R.remaining → IfErr result (λ e. Answered self.old e self.new) }
+        ensures ok { Tells R.remaining → IfOk result (λ _. Keeps (λ s. length s ≡ len) bytes.old.items self.old bytes.new.items self.new) }
+        ensures err { Tells R.remaining → IfErr result (λ e. Stopped true (Lacks len self.old) self.old e self.new) }
     {
         self.lower(len)?;
         self.keep(len, bytes)
@@ -62,8 +98,9 @@ impl<R: ByteSource> Decoder<R> {
 
     // Adds a number of one byte or of four, and answers it.
     fn keep_number(&mut self, wide: bool, bytes: &mut Vec<u8>) -> Result<u32, Error>
-        ensures ok { Tells R.remaining → IfOk result (λ _. Keeps bytes.old.items self.old bytes.new.items self.new) }
-        ensures err { Tells R.remaining → IfErr result (λ e. Answered self.old e self.new) }
+        ensures ok { Tells R.remaining → IfOk result (λ n. Keeps (λ s. s ≡ bytes_high_first (cond wide 4 1) n) bytes.old.items self.old bytes.new.items self.new) }
+        ensures err { Tells R.remaining → IfErr result (λ e. Stopped true (Lacks (cond wide 4 1) self.old) self.old e self.new) }
+        ensures fits { IfOk result (λ n. n < 256 ^ cond wide 4 1) }
     {
         let number = self.number(wide)?;
         let digits = number.to_be_bytes();
@@ -73,94 +110,106 @@ impl<R: ByteSource> Decoder<R> {
         }
     }
 
-    // Adds the data under a known code.
-    fn keep_data(&mut self, code: u8, bytes: &mut Vec<u8>) -> Result<(), Error>
-        ensures ok { Tells R.remaining → IfOk result (λ _. Keeps bytes.old.items self.old bytes.new.items self.new) }
-        ensures err { Tells R.remaining → IfErr result (λ e. Answered self.old e self.new) }
+    // Adds a size of one byte or of four and the text that it announces.
+    fn keep_symbol(&mut self, wide: bool, bytes: &mut Vec<u8>) -> Result<(), Error>
+        ensures ok { Tells R.remaining → IfOk result (λ _. Keeps (IsSymbol (cond wide 4 1)) bytes.old.items self.old bytes.new.items self.new) }
+        ensures err { Tells R.remaining → IfErr result (λ e. Stopped true (SymbolFault (cond wide 4 1) self.old) self.old e self.new) }
     {
-        match data_of(code) {
-            Data::Fixed(width) => self.keep_next(width, bytes),
-            Data::Sized { wide, is_list } => {
-                let size = self.keep_number(wide, bytes)?;
-                if size > 0 || !is_list {
-                    return self.keep_next(size, bytes);
-                }
-                self.keep_number(wide, bytes)?;
-                Ok(())
-            }
+        let len = self.keep_number(wide, bytes)?;
+        let start = bytes.len();
+        self.keep_next(len, bytes)?;
+        if is_ascii_from(bytes.as_slice(), start) {
+            return Ok(());
         }
+        Err(self.refuse(Error::NonAscii))
     }
 
     // Adds a descriptor.
     fn keep_descriptor_bytes(&mut self, bytes: &mut Vec<u8>) -> Result<(), Error>
-        ensures ok { Tells R.remaining → IfOk result (λ _. Keeps bytes.old.items self.old bytes.new.items self.new) }
-        ensures err { Tells R.remaining → IfErr result (λ e. Answered self.old e self.new) }
+        ensures ok { Tells R.remaining → IfOk result (λ _. Keeps NamesAny bytes.old.items self.old bytes.new.items self.new) }
+        ensures err { Tells R.remaining → IfErr result (λ e. Stopped true (DescriptorFault self.old) self.old e self.new) }
     {
-        let code = self.byte()?;
+        let code = self.keep_code(bytes)?;
         match code {
-            format_code::ULONG_0
-            | format_code::SMALL_ULONG
-            | format_code::ULONG
-            | format_code::SYMBOL_8
-            | format_code::SYMBOL_32 => {
-                self.keep_byte(code, bytes)?;
-                self.keep_data(code, bytes)
-            }
-            _ => Err(self.refuse(unknown(code).unwrap_or(Error::BadDescriptor))),
+            format_code::ULONG_0 => Ok(()),
+            format_code::SMALL_ULONG => self.keep_next(1, bytes),
+            format_code::ULONG => self.keep_next(8, bytes),
+            format_code::SYMBOL_8 => self.keep_symbol(false, bytes),
+            format_code::SYMBOL_32 => self.keep_symbol(true, bytes),
+            _ => Err(self.refuse_descriptor(code)),
         }
     }
 
-    // Adds the constructor that begins with this code, and answers its last code.
-    fn keep_constructor(&mut self, first: u8, bytes: &mut Vec<u8>) -> Result<u8, Error>
-        ensures ok { Tells R.remaining → IfOk result (λ _. KeepsBehind first bytes.old.items self.old bytes.new.items self.new) }
-        ensures err { Tells R.remaining → IfErr result (λ e. Answered self.old e self.new) }
+    // Adds the constructor that stands next, and answers its code.
+    fn keep_constructor(&mut self, bytes: &mut Vec<u8>) -> Result<u8, Error>
+        ensures ok { Tells R.remaining → IfOk result (λ code. Keeps (IsConstructor code) bytes.old.items self.old bytes.new.items self.new) }
+        ensures err { Tells R.remaining → IfErr result (λ e. Stopped true (ConstructorFault self.old) self.old e self.new) }
     {
-        let mut code = first;
+        let mut code = self.keep_code(bytes)?;
         let mut count = 0;
-        self.keep_byte(code, bytes)?;
         while code == format_code::DESCRIBED {
             if count == NESTING {
                 return Err(self.refuse(Error::Depth));
             }
             self.keep_descriptor_bytes(bytes)?;
-            code = self.byte()?;
-            self.keep_byte(code, bytes)?;
+            code = self.keep_code(bytes)?;
             count += 1;
         }
-        match unknown(code) {
-            None => Ok(code),
-            Some(error) => Err(self.refuse(error)),
+        self.check_known(code)?;
+        Ok(code)
+    }
+
+    // Adds the data under a known code.
+    fn keep_data(&mut self, code: u8, bytes: &mut Vec<u8>) -> Result<(), Error>
+        ensures ok { Tells R.remaining → IsKnown (format code) → IfOk result (λ _. Keeps (IsAnnounced (format code)) bytes.old.items self.old bytes.new.items self.new) }
+        ensures err { Tells R.remaining → IsKnown (format code) → IfErr result (λ e. Stopped true (LacksAnnounced (format code) self.old) self.old e self.new) }
+    {
+        match data_of(code) {
+            Data::Fixed(width) => self.keep_next(width, bytes),
+            Data::Sized { wide, is_list } => {
+                let size = self.keep_number(wide, bytes)?;
+                self.keep_next(content_len(size, wide, is_list), bytes)
+            }
         }
     }
 
-    // Adds the bytes of the next term.
-    fn keep_term(&mut self, bytes: &mut Vec<u8>) -> Result<(), Error>
-        ensures ok { Tells R.remaining → self.old.top.shared ≡ None → bytes.old.items ≡ [] → IfOk result (λ _. TakesTerm self.old bytes.new.items self.new) }
-        ensures err { Tells R.remaining → IfErr result (λ e. Answered self.old e self.new) }
+    // Checks that a constructor and the data that its code announces are a term.
+    fn check_term(&mut self, bytes: &[u8]) -> Result<(), Error>
+        ensures ok { IfOk result (λ _. (n : ℕ) × IsFront (IsTerm (self.old.nesting - length self.old.saved)) bytes.now n × (self.new ≡ self.old)) }
+        ensures err { Tells R.remaining → IfErr result (λ e. Stopped false (NoTerm (self.old.nesting - length self.old.saved) bytes.now self.old) self.old e self.new) }
     {
-        let first = self.begin()?;
-        let code = self.keep_constructor(first, bytes)?;
-        self.keep_data(code, bytes)?;
-        match len_of_term(bytes.as_slice(), self.nesting_left()) {
-            Ok(len) if len == bytes.len() => Ok(()),
-            Ok(_) => Err(self.refuse(Error::Size)),
+        match len_of_term(bytes, self.nesting_left()) {
+            Ok(_) => Ok(()),
+            Err(Error::Size) => Err(self.refuse_size(0)),
             Err(error) => Err(self.refuse(error)),
         }
     }
 
+    // The bytes of the next term, which are taken.
+    fn term_bytes(&mut self, alloc: Global) -> Result<Vec<u8>, Error>
+        ensures ok { Tells R.remaining → IfOk result (λ bytes. Took self.old bytes.items self.new × IsTerm (self.old.nesting - length self.old.saved) bytes.items) }
+        ensures err { Tells R.remaining → IfErr result (λ e. Stopped true (SpellingFault self.old) self.old e self.new) }
+    {
+        let mut bytes = Vec::new(alloc);
+        let code = self.keep_constructor(&mut bytes)?;
+        self.keep_data(code, &mut bytes)?;
+        self.check_term(bytes.as_slice())?;
+        Ok(bytes)
+    }
+
     /// The bytes that spell the next term, of any kind, its constructor included (Part 1, section 1.2); `LazyInArray`
-    /// where it is the item of an array, whose constructor is none of its own.
+    /// where it is the item of an array, whose constructor is none of its own, and otherwise the errors of `term_len`. In
+    /// an open container `Size` is answered once all is there that the outermost one announces, and `Cut` before that.
     pub fn read_term(&mut self, alloc: Global) -> Result<Vec<u8>, Error>
-        ensures found { Tells R.remaining → IfOk result (λ bytes. TakesTerm self.old bytes.items self.new) }
-        ensures kept { Tells R.remaining → IfErr result (λ e. Answered self.old e self.new) }
+        ensures read { Tells R.remaining → Reads true (λ st bytes st'. TakesTerm st bytes.items st') TermFault self.old result self.new }
         ensures again { (e : Error) → self.old.error ≡ Some e → (result ≡ Err e) × (self.new ≡ self.old) }
     {
         self.check_item()?;
         if self.is_shared() {
             return Err(self.refuse(Error::LazyInArray));
         }
-        let mut bytes = Vec::new(alloc);
-        self.keep_term(&mut bytes)?;
+        let bytes = self.term_bytes(alloc)?;
+        self.take_item();
         Ok(bytes)
     }
 }

@@ -73,6 +73,7 @@ enum Row {
     Ubytes,
     Array,
     Term,
+    TermInList,
     Described,
 }
 
@@ -138,6 +139,10 @@ fn read<R: ByteSource>(decoder: &mut Decoder<R>, row: Row, alloc: Global) -> Res
         Row::Text => Ok(decoder.read_string(alloc)?.len() as u64),
         Row::Symbol => Ok(decoder.read_symbol(alloc)?.as_str().len() as u64),
         Row::Term => Ok(decoder.read_term(alloc)?.len() as u64),
+        Row::TermInList => {
+            decoder.begin_list()?;
+            Ok(decoder.read_term(alloc)?.len() as u64)
+        }
         Row::Nulls | Row::Binaries => {
             let count = decoder.begin_list()?;
             read_items(decoder, row, count, alloc)
@@ -364,6 +369,18 @@ fn lengths(rt: HostRuntime) -> Result<(), Fail> {
     assert!(rt; is_read(Row::Term, &[0x56, 0x02], 1012, rt.alloc()));
     assert!(rt; is_read(Row::Term, &[0xc0, 0x02, 0x01, 0x99], 1002, rt.alloc()));
     assert!(rt; is_read(Row::Term, &[0x00, 0x40, 0x40], 1028, rt.alloc()));
+    Ok(())
+}
+
+#[test]
+fn terms_in_a_list(rt: HostRuntime) -> Result<(), Fail> {
+    let inner = [0xc0, 0x03, 0x01, 0xa0, 0x05];
+    for (size, wanted) in [(0x10, 1001), (0x06, 1004)] {
+        let mut input = Vec::new(rt.alloc());
+        input.extend_from_slice(&[0xc0, size, 0x01])?;
+        input.extend_from_slice(&inner)?;
+        assert!(rt; is_read(Row::TermInList, input.as_slice(), wanted, rt.alloc()));
+    }
     Ok(())
 }
 

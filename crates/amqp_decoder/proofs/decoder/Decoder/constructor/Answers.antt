@@ -3,12 +3,13 @@ use Rattle.std.proofs.lemmas.Result.{err_from_is_err_and}
 use Rattle.std.proofs.lemmas.List.{length-map}
 use Rattle.amqp_decoder.specs.State.{descriptor_of}
 use Rattle.amqp_decoder.proofs.Constructed.{unshared_behind, more_named, code_after, constructor_took, stopped_first, stopped_code, stopped_mark, stopped_unknown}
+use Rattle.amqp_decoder.proofs.Steps.{stopped_short}
 use Rattle.amqp_decoder.proofs.decoder.Decoder.constructor.Goals as goal
 
 pub returns-in_err-code-clause-err : goal.returns-in_err-code-clause-err
 returns-in_err-code-clause-err g c = λ told none.
     let p = err_from_is_err_and c.from_residual.result c.from_residual.ensures.1 in
-    rw (p.1, p.2) (stopped_first _ _ _ (c.in_err-code.ensures.err told))
+    rw (p.1, p.2) (stopped_first _ _ _ (stopped_short _ _ _ _ (c.in_err-code.ensures.err told)))
 
 pub returns-in_err-keep_descriptor-clause-err : goal.returns-in_err-keep_descriptor-clause-err
 returns-in_err-keep_descriptor-clause-err g c = λ told none.
@@ -21,7 +22,7 @@ returns-in_err-code-2-clause-err g c = λ told none.
     let p = err_from_is_err_and c.from_residual-in_err-code-2.result c.from_residual-in_err-code-2.ensures.1 in
     let marks = rw c.loop-code-test.true at (c.loop-code.invariant.marks told none) in
     let named = more_named _ _ _ _ _ none marks (c.in_ok-keep_descriptor.ensures.ok told (unshared_behind _ _ _ _ marks none)) in
-    rw (p.1, p.2) (stopped_code _ _ _ _ _ named (c.in_err-code-2.ensures.err told))
+    rw (p.1, p.2) (stopped_code _ _ _ _ _ named (stopped_short _ _ _ _ (c.in_err-code-2.ensures.err told)))
 
 pub loop-code-preserved : goal.loop-code-preserved
 loop-code-preserved g c = record {
