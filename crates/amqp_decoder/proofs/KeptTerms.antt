@@ -82,8 +82,8 @@ refused_whole : (P : List ℕ → Type 0) (b : List ℕ) (e : Error) → Refuses
 refused_whole P b e r h = r.none [] (λ _. refl) b [] refl h
 
 not_term : (k : ℕ) (b : List ℕ) (st : State) (e : Error) → NoTerm k b st e → IsTerm k b → ⊥
-not_term k b st e (wrong_size r s) h = refused_whole (IsTerm k) b Size r h
-not_term k b st e (wrong_term r o) h = refused_whole (IsTerm k) b e r h
+not_term k b st e (wrong_size r f s) h = refused_whole (IsTerm k) b Size r h
+not_term k b st e (wrong_term r f o) h = refused_whole (IsTerm k) b e r h
 
 whole_of : (st m m' : State) (ds : List Descriptor) (c : ℕ) (d : List ℕ) (t : TookConstructor st ds c m) → Took m d m' → IsAnnounced (format c) d → Whole c t.own d (t.own ++ d)
 whole_of st m m' ds c d t u h = record { descriptors = ds; few = t.few; constructor = t.spelled; announced = h; is = refl }

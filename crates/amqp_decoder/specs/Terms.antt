@@ -8,6 +8,7 @@ use Rattle.amqp_wire.specs.declared.error.Error.{Error}
 use Rattle.amqp_wire.specs.declared.error.Error.TheVariants.{NonAscii, Missing, Size, LazyInArray}
 use Rattle.amqp_lengths.specs.Pieces.{IsSized}
 use Rattle.amqp_lengths.specs.Fronts.{Refuses}
+use Rattle.amqp_lengths.specs.Faults.{TermFault as FaultIn}
 use Rattle.amqp_lengths.specs.Lengths.{IsTerm}
 use Rattle.amqp_lengths.specs.Announced.{content_size, IsAnnounced}
 use Rattle.amqp_decoder.specs.declared.terms.Data.{Data}
@@ -52,11 +53,11 @@ LacksAnnounced (compound kind w) st e =
     Lacks w st e ⊎ ((n : ℕ) × (st' : State) × (n < 256 ^ w) × Took st (bytes_high_first w n) st' × Lacks (content_size kind w n) st' e)
 LacksAnnounced F st e = LacksData F st e
 
--- The bytes, which were taken in front of the state, are no term that nests at most so deep. A wrong size is named where all
--- is there that the open containers announce.
+-- The bytes, which were taken in front of the state, are no term that nests at most so deep: no bytes that begin so begin with
+-- one, and the fault is named that stands in them. A wrong size is named where all is there that the open containers announce.
 pub data NoTerm (nesting : ℕ) (b : List ℕ) (st : State) (e : Error) : Type 0 where
-  wrong_size : Refuses (IsTerm nesting) b Size → SizeError 0 st e → NoTerm nesting b st e
-  wrong_term : Refuses (IsTerm nesting) b e → (e ≡ Size → ⊥) → NoTerm nesting b st e
+  wrong_size : Refuses (IsTerm nesting) b Size → FaultIn nesting b Size → SizeError 0 st e → NoTerm nesting b st e
+  wrong_term : Refuses (IsTerm nesting) b e → FaultIn nesting b e → (e ≡ Size → ⊥) → NoTerm nesting b st e
 
 -- Why no bytes of a term are taken.
 pub data SpellingFault (st : State) (e : Error) : Type 0 where
