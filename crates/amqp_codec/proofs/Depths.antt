@@ -1,20 +1,23 @@
 -- How deep bytes that are kept nest, and why terms can't be written.
-use Rattle.std.proofs.Common.{◌≡◌, inl, inr, ℕ, suc, ◌≤◌, max, Bool, true, false, cond, List, [], refl, ap, subst, arith}
+use Rattle.std.proofs.Common.{◌≡◌, inl, inr, ℕ, ◌≤◌, max, Bool, true, false, cond, List, [], refl, ap, subst, arith}
 use Rattle.std.specs.Str.{bytes_eq}
 use Rattle.std.proofs.lemmas.Slice.Eq.{bytes_eq-Decides}
 use Rattle.amqp_model.specs.Term.{lazy_in_array, list, map, array, Term, Terms, leaf, holder, described, kept, barred, none, more}
 use Rattle.amqp_model.specs.Spelling.{enc}
-use Rattle.amqp_model.specs.Measures.{nest, nests, array_nest}
+use Rattle.amqp_model.specs.Measures.{nest, nests}
 use Rattle.amqp_model.specs.Ranges.{Everywhere, EverywhereIn, IsValue}
-use Rattle.amqp_model.specs.Refusals.{Somewhere, SomewhereIn, IsItem, IsRefused, core}
+use Rattle.amqp_model.specs.Refusals.{SomewhereIn, HasKeptItem, IsRefused}
 use Rattle.amqp_model.specs.Kept.{Reads, ReadsEach}
 use Rattle.amqp_model.specs.Items.{terms_of}
 use Rattle.amqp_model.proofs.Unique.{one_term}
 use Rattle.amqp_wire.specs.declared.error.Error.{Error}
 use Rattle.amqp_encoder.specs.declared.size.Size.{Size}
-use Rattle.amqp_encoder.specs.Reasons.{nest_by, nests_by, array_nest_by}
+use Rattle.amqp_encoder.specs.Reasons.{nests_by}
 use Rattle.amqp_encoder.specs.Passes.{AreValues, AreRefused, IsMeasured}
-use Rattle.amqp_codec.specs.Written.{KnowsDepth, KnowDepths, IsProper, AreProper, AreUnwritable, AreWritable}
+use Rattle.amqp_encoder.specs.Refused.{KnowsDepth, KnowDepths}
+use Rattle.amqp_encoder.proofs.Rows.{somewhere_in_as}
+use Rattle.amqp_encoder.proofs.Refused.{none_deeper, all_as_deep}
+use Rattle.amqp_codec.specs.Written.{IsProper, AreProper, AreUnwritable, AreWritable}
 
 mutual
   everywhere_as : (P Q : Term → Type 0) → ((t : Term) → P t → Q t) → (t : Term) → Everywhere P t → Everywhere Q t
@@ -104,99 +107,18 @@ mutual
   reads_each none h = (none, tt)
   reads_each (more u us) h = let r = reads u h.0 in let s = reads_each us h.1 in (more r.0 s.0, (r.1, s.1))
 
-array_small : (ts : Terms) → array_nest ts ≤ suc (nests ts)
-array_small none = omega arith
-array_small (more (leaf p) ts) = omega (arith, array_small ts)
-array_small (more (holder k us) ts) = omega arith
-array_small (more (described d t) ts) = omega arith
-array_small (more (kept b) ts) = omega (arith, array_small ts)
-array_small (more (barred r) ts) = omega (arith, array_small ts)
-
-array_rest : (t : Term) (ts : Terms) → array_nest ts ≤ array_nest (more t ts)
-array_rest (leaf p) ts = omega arith
-array_rest (holder k us) ts = omega (arith, array_small ts)
-array_rest (described d t) ts = omega (arith, array_small ts)
-array_rest (kept b) ts = omega arith
-array_rest (barred r) ts = omega arith
+is_lazy : (t : Term) → HasKeptItem t → IsRefused lazy_in_array t
+is_lazy t h = inr h
 
 module _ (deep : List ℕ → ℕ) where
-  -- terms nest no deeper than what they read as
-  mutual
-    nest_reads : (u t : Term) → Reads u t → Everywhere (KnowsDepth deep) u → nest_by deep u ≤ nest t
-    nest_reads (leaf p) t r h = omega arith
-    nest_reads (holder list us) (holder l ts) r h = subst (λ c. nest_by deep (holder list us) ≤ nest (holder c ts)) r.0 (omega (arith, nests_read us ts r.1 h.1))
-    nest_reads (holder map us) (holder l ts) r h = subst (λ c. nest_by deep (holder map us) ≤ nest (holder c ts)) r.0 (omega (arith, nests_read us ts r.1 h.1))
-    nest_reads (holder array us) (holder l ts) r h = subst (λ c. nest_by deep (holder array us) ≤ nest (holder c ts)) r.0 (array_reads us ts r.1 h.1)
-    nest_reads (holder k us) t r h = absurd r
-    nest_reads (described d u) (described e t) r h = omega (arith, nest_reads u t r.1 h.1)
-    nest_reads (described d u) t r h = absurd r
-    nest_reads (kept b) t r h = omega (arith, h t r)
-    nest_reads (barred s) t r h = omega arith
-
-    pub nests_read : (us ts : Terms) → ReadsEach us ts → EverywhereIn (KnowsDepth deep) us → nests_by deep us ≤ nests ts
-    nests_read none ts r h = omega arith
-    nests_read (more u us) none r h = absurd r
-    nests_read (more u us) (more t ts) r h = omega (arith, nest_reads u t r.0 h.0, nests_read us ts r.1 h.1)
-
-    array_reads : (us ts : Terms) → ReadsEach us ts → EverywhereIn (KnowsDepth deep) us → array_nest_by deep us ≤ array_nest ts
-    array_reads none ts r h = omega arith
-    array_reads (more u us) none r h = absurd r
-    array_reads (more (leaf p) us) (more t ts) r h = omega (arith, array_rest t ts, array_reads us ts r.1 h.1)
-    array_reads (more (kept b) us) (more t ts) r h = omega (arith, array_rest t ts, array_reads us ts r.1 h.1)
-    array_reads (more (barred s) us) (more t ts) r h = omega (arith, array_rest t ts, array_reads us ts r.1 h.1)
-    array_reads (more (holder k vs) us) (more (holder l ws) ts) r h = omega (arith, nest_reads (holder k vs) (holder l ws) r.0 h.0, nests_read us ts r.1 h.1)
-    array_reads (more (holder k vs) us) (more t ts) r h = absurd r.0
-    array_reads (more (described d u) us) (more (described e t) ts) r h = omega (arith, nest_reads (described d u) (described e t) r.0 h.0, nests_read us ts r.1 h.1)
-    array_reads (more (described d u) us) (more t ts) r h = absurd r.0
-
-  abbrev NoneLazy : Term → Type 0
-  NoneLazy t = Somewhere (IsRefused lazy_in_array) t → ⊥
-
-  abbrev NoneLazyIn : Terms → Type 0
-  NoneLazyIn ts = SomewhereIn (IsRefused lazy_in_array) ts → ⊥
-
-  abbrev NoneKept : Terms → Type 0
-  NoneKept ts = (t : Term) (b : List ℕ) → IsItem t ts → core t ≡ kept b → ⊥
-
-  -- and no less deep, where no array has an item that is kept
-  mutual
-    reads_nest : (u t : Term) → Reads u t → Everywhere (KnowsDepth deep) u → NoneLazy u → nest t ≤ nest_by deep u
-    reads_nest (leaf p) (leaf q) r h f = omega arith
-    reads_nest (leaf p) t r h f = absurd r
-    reads_nest (holder list us) (holder l ts) r h f = subst (λ c. nest (holder c ts) ≤ nest_by deep (holder list us)) r.0 (omega (arith, read_nests us ts r.1 h.1 (λ i. f (inr i))))
-    reads_nest (holder map us) (holder l ts) r h f = subst (λ c. nest (holder c ts) ≤ nest_by deep (holder map us)) r.0 (omega (arith, read_nests us ts r.1 h.1 (λ i. f (inr i))))
-    reads_nest (holder array us) (holder l ts) r h f = subst (λ c. nest (holder c ts) ≤ nest_by deep (holder array us)) r.0 (read_array us ts r.1 h.1 (λ i. f (inr i)) (λ t b i e. f (inl (inr (t, b, i, e)))))
-    reads_nest (holder k us) t r h f = absurd r
-    reads_nest (described d u) (described e t) r h f = omega (arith, reads_nest u t r.1 h.1 (λ i. f (inr i)))
-    reads_nest (described d u) t r h f = absurd r
-    reads_nest (kept b) t r h f = omega (arith, h t r)
-    reads_nest (barred s) (barred q) r h f = omega arith
-    reads_nest (barred s) t r h f = absurd r
-
-    pub read_nests : (us ts : Terms) → ReadsEach us ts → EverywhereIn (KnowsDepth deep) us → NoneLazyIn us → nests ts ≤ nests_by deep us
-    read_nests none none r h f = omega arith
-    read_nests none (more t ts) r h f = absurd r
-    read_nests (more u us) none r h f = absurd r
-    read_nests (more u us) (more t ts) r h f = omega (arith, reads_nest u t r.0 h.0 (λ i. f (inl i)), read_nests us ts r.1 h.1 (λ i. f (inr i)))
-
-    read_array : (us ts : Terms) → ReadsEach us ts → EverywhereIn (KnowsDepth deep) us → NoneLazyIn us → NoneKept us → array_nest ts ≤ array_nest_by deep us
-    read_array none none r h f n = omega arith
-    read_array none (more t ts) r h f n = absurd r
-    read_array (more u us) none r h f n = absurd r
-    read_array (more (leaf p) us) (more (leaf q) ts) r h f n = read_array us ts r.1 h.1 (λ i. f (inr i)) (λ t b i. n t b (inr i))
-    read_array (more (leaf p) us) (more t ts) r h f n = absurd r.0
-    read_array (more (kept b) us) (more t ts) r h f n = absurd (n (kept b) b (inl refl) refl)
-    read_array (more (barred s) us) (more (barred q) ts) r h f n = read_array us ts r.1 h.1 (λ i. f (inr i)) (λ t b i. n t b (inr i))
-    read_array (more (barred s) us) (more t ts) r h f n = absurd r.0
-    read_array (more (holder k vs) us) (more (holder l ws) ts) r h f n = omega (arith, reads_nest (holder k vs) (holder l ws) r.0 h.0 (λ i. f (inl i)), read_nests us ts r.1 h.1 (λ i. f (inr i)))
-    read_array (more (holder k vs) us) (more t ts) r h f n = absurd r.0
-    read_array (more (described d u) us) (more (described e t) ts) r h f n = omega (arith, reads_nest (described d u) (described e t) r.0 h.0 (λ i. f (inl i)), read_nests us ts r.1 h.1 (λ i. f (inr i)))
-    read_array (more (described d u) us) (more t ts) r h f n = absurd r.0
+  -- terms are as deep as what they read as, where no array has an item that is kept
+  read_nests : (us ts : Terms) → ReadsEach us ts → EverywhereIn (KnowsDepth deep) us → (SomewhereIn (IsRefused lazy_in_array) us → ⊥) → nests ts ≤ nests_by deep us
+  read_nests us ts r h f = elim (all_as_deep deep us ts h r) [ inl l ↦ l | inr k ↦ absurd (f (somewhere_in_as HasKeptItem (IsRefused lazy_in_array) is_lazy us k)) ]
 
   -- an encoder's reasons are those of the terms
   pub unwritable : (ts : List Term) (e : Error) → AreProper ts → KnowDepths deep ts → AreRefused deep ts e → AreUnwritable ts e
   unwritable ts e i h (inl s) = inl s
-  unwritable ts e i h (inr (inl (d, l))) = let r = reads_each (terms_of ts) i in inr (inl (d, (r.0, r.1, omega (arith, l, nests_read (terms_of ts) r.0 r.1 h))))
+  unwritable ts e i h (inr (inl (d, l))) = let r = reads_each (terms_of ts) i in inr (inl (d, (r.0, r.1, omega (arith, l, none_deeper deep (terms_of ts) r.0 h r.1))))
   unwritable ts e i h (inr (inr x)) = inr (inr x)
 
   -- and there are none where they were measured

@@ -1,28 +1,30 @@
 -- The fields of a composite are read one after another.
-use Rattle.std.proofs.Common.{◌≡◌, inl, inr, ℕ, zero, suc, ◌-◌, ◌<◌, ◌≤◌, Bool, true, false, List, [], ◌∷◌, ◌++◌, length, drop, get_or, Option, Some, None, Result, Ok, Err, unwrap_or, refl, sym, ap, ◌∙◌, subst, arith, length-append}
-use Rattle.amqp_model.specs.Term.{null, list, Term, leaf}
-use Rattle.amqp_model.specs.Items.{is_null}
-use Rattle.amqp_model.specs.ItemLaws.{clash}
+use Rattle.std.proofs.Common.{◌≡◌, inl, inr, ℕ, zero, suc, ◌-◌, ◌<◌, ◌≤◌, Bool, true, false, List, [], ◌∷◌, ◌++◌, length, get_or, None, Result, Ok, Err, refl, sym, ap, ◌∙◌, subst, arith, length-append}
+use Rattle.amqp_model.specs.Term.{null, list, Term, leaf, count}
+use Rattle.amqp_model.specs.Items.{is_null, terms_of}
+use Rattle.amqp_model.specs.ItemLaws.{clash, items_of-terms_of}
 use Rattle.amqp_model.specs.Slot.{is_required}
 use Rattle.amqp_model.specs.Fields.{Fits, kinds_of}
 use Rattle.amqp_model.specs.declared.tables.FieldKind.TheVariants.{Mandatory}
 use Rattle.amqp_wire.specs.declared.error.Error.{Error}
 use Rattle.amqp_wire.specs.declared.error.Error.TheVariants.{Missing}
 use Rattle.amqp_decoder.specs.declared.frame.Place.TheVariants.{InList}
-use Rattle.amqp_decoder.specs.State.{State, lower, past}
-use Rattle.amqp_decoder.proofs.Leaves.{lower-lower}
+use Rattle.amqp_decoder.specs.State.{State, past}
+use Rattle.amqp_decoder.specs.Items.{Row}
+use Rattle.amqp_decoder.proofs.Holders.{Together, together, used_up, row_joined, row_of_one}
+use Rattle.amqp_decoder.proofs.OneReading.{stands_same, row_front}
 use Rattle.amqp_decoder.proofs.Opening.{opens_same}
+use Rattle.amqp_decoder.proofs.Peeks.{value-peeked}
 use Rattle.amqp_decoder.specs.Reading.{Refused, BeginFault, Peeked}
 use Rattle.amqp_decoder.specs.Primitives.{standing, Value, Means}
 use Rattle.amqp_decoder.specs.Containers.{Opens, OpenFault, Closes, CloseFault}
 use Rattle.amqp_decoder.proofs.Steps.{answered_later}
 use Rattle.amqp_decoder.specs.Steps.{Answered}
+use Rattle.amqp_encoder.proofs.Refused.{count_of}
 use Rattle.amqp_codec.specs.Fields.{Fields, slots, take_memory}
-use Rattle.amqp_codec.specs.Reading.{stands_one}
-use Rattle.amqp_codec.specs.Lists.{StandEach, lower_zero, each_front, each_more}
 use Rattle.amqp_codec.specs.FieldReading.{MeansAt, FaultAt, FitsFront, KeepsBut, FitsAt, ItemRead, ItemFault, no_item, null_item, in_item, FieldsSoFar, FieldsRead, FieldsFault, FillsField, ReadsItem, filled_at, unfilled_at, no_list, at_item, left_out, not_ended, kind_at, front_null, front_filled, front_missing, front_end, front_start, fits_value, fits_null, fits_few, IsBlank}
-use Rattle.amqp_codec.specs.Refused.{no_memory, refused_first, refused_later}
-use Rattle.amqp_codec.specs.Peeks.{peeked_failed, peeked_going, peeked_from, peeked_to, not_null, value_peeked}
+use Rattle.amqp_codec.specs.Refused.{no_memory, opened_going, opened_sound, refused_first, refused_later}
+use Rattle.amqp_codec.specs.Peeks.{peeked_failed, peeked_going, not_null, value_peeked}
 
 the_item : (ts us : List Term) (t : Term) (rest : List Term) (n : ℕ) → length ts ≡ n → us ≡ ts ++ t ∷ rest → get_or us n (leaf null) ≡ t
 the_item [] us t rest n e f = ap (λ l. get_or l n (leaf null)) f ∙ ap (λ k. get_or (t ∷ rest) k (leaf null)) (sym e)
@@ -33,26 +35,19 @@ past_end [] n l = refl
 past_end (u ∷ us) zero l = absurd (omega arith)
 past_end (u ∷ us) (suc n) l = past_end us n (omega arith)
 
--- how many items are left behind some
-each_left : (st : State) (ts : List Term) (b : State) → StandEach st ts b → b.top.items ≡ lower st.top.items (length ts)
-each_left st [] b h = ap (λ (x : State). x.top.items) h ∙ sym (lower_zero st.top.items)
-each_left st (t ∷ ts) b (s, h, k) = each_left (past (length s) st) ts b k ∙ lower-lower st.top.items 1 (length ts) ∙ ap (lower st.top.items) (omega arith)
+-- what the items that were taken are together
+row_together : (st : State) (ts : List Term) (s : List ℕ) (b : State) → Row st ts s b → Together st (terms_of ts) s b
+row_together st ts s b h = together (terms_of ts) st s b (subst (λ us. Row st us s b) (sym (items_of-terms_of ts)) h)
 
-pub each_going : (st : State) (ts : List Term) (b : State) → StandEach st ts b → st.error ≡ None → b.error ≡ None
-each_going st [] b h going = ap (λ (x : State). x.error) h ∙ going
-each_going st (t ∷ ts) b (s, h, k) going = each_going (past (length s) st) ts b k going
-
-pub header_going : {st first : State} {n : ℕ} (o : Opens list st n first) → o.data_.mid.error ≡ None
-header_going o = ap (λ (x : State). x.error) o.data_.header.took.moved ∙ ap (λ (x : State). x.error) o.begun.moved ∙ o.begun.going
-
-each_failed : (st : State) (ts : List Term) (b : State) → StandEach st ts b → b.failed ≡ st.failed
-each_failed st [] b h = ap (λ (x : State). x.failed) h
-each_failed st (t ∷ ts) b (s, h, k) = each_failed (past (length s) st) ts b k
+-- a list that is closed had as many items as were taken
+all_taken : (st first mid b : State) (n : ℕ) (ts : List Term) (s : List ℕ) → Opens list st n first → Row first ts s mid → Closes InList mid b → length ts ≡ n
+all_taken st first mid b n ts s o h c =
+    let t = row_together first ts s mid h in
+    sym (used_up first.top.items n (count (terms_of ts)) (ap (λ (x : State). x.top.items) o.data_.entered) t.items (sym (ap (λ (x : State). x.top.items) t.moved) ∙ c.items) ∙ count_of ts)
 
 module _ {V : Type 0} (fs : Fields V) where
   so_far_failed : (st : State) (n i : ℕ) (v : V) (mid : State) → FieldsSoFar fs st n i v mid → mid.failed ≡ st.failed
-  so_far_failed st n i v mid h =
-      each_failed h.first h.terms mid h.each ∙ ap (λ (x : State). x.failed) h.opens.data_.entered ∙ ap (λ (x : State). x.failed) h.opens.data_.header.took.moved ∙ ap (λ (x : State). x.failed) h.opens.begun.moved
+  so_far_failed st n i v mid h = ap (λ (x : State). x.failed) (row_together h.first h.terms h.bytes mid h.each).moved ∙ opened_sound h.opens
 
   pub so_far_going : (st : State) (n i : ℕ) (v : V) (mid : State) → FieldsSoFar fs st n i v mid → st.error ≡ None
   so_far_going st n i v mid h = h.opens.begun.going
@@ -65,7 +60,8 @@ module _ {V : Type 0} (fs : Fields V) where
         first = h.first;
         opens = h.opens;
         terms = h.terms ++ r.term ∷ [];
-        each = subst (StandEach h.first (h.terms ++ r.term ∷ [])) (sym r.moved) (each_more h.first h.terms mid r.bytes r.term h.each r.stands);
+        bytes = h.bytes ++ r.bytes;
+        each = row_joined h.terms (r.term ∷ []) h.first mid b h.bytes r.bytes h.each (row_of_one r.term mid b (record { bytes = r.bytes; stands = r.stands; moved = r.moved }));
         long = length-append h.terms (r.term ∷ []) ∙ omega (arith, long, l);
         front = elim r.fits [
           | inl x ↦ subst (FitsFront fs (suc i) (h.terms ++ r.term ∷ [])) (sym x.2) (subst (λ t. FitsFront fs (suc i) (h.terms ++ t ∷ []) v) (sym x.0) (front_null fs i h.terms v Mandatory k long x.1 h.front))
@@ -79,6 +75,7 @@ module _ {V : Type 0} (fs : Fields V) where
     first = h.first;
     opens = h.opens;
     terms = h.terms;
+    bytes = h.bytes;
     each = h.each;
     long = h.long ∙ omega (arith, l);
     front = front_missing fs i h.terms v Mandatory k (omega (arith, h.long, l)) r h.front;
@@ -89,20 +86,23 @@ module _ {V : Type 0} (fs : Fields V) where
     last : State
     b : State
     count : length ts ≡ n
-    each : StandEach mid (drop (length terms) ts) last
-    front : ts ≡ terms ++ drop (length terms) ts
+    others : List Term
+    bytes : List ℕ
+    each : Row mid others bytes last
+    front : ts ≡ terms ++ others
     closes : Closes InList last b
 
   further : (st : State) (n i : ℕ) (v w : V) (mid b : State) → (h : FieldsSoFar fs st n i v mid) → (k : FieldsRead fs st w b) → Further n i h.terms mid k.terms
   further st n i v w mid b h k =
-      let o = opens_same list st (length k.terms) n k.stand.first h.first k.stand.opens h.opens in
-      let r = each_front h.first h.terms k.terms mid k.stand.last (omega (arith, h.long, o.0)) h.each (subst (λ (x : State). StandEach x k.terms k.stand.last) o.1 k.stand.each) in
-      record { last = k.stand.last; b = b; count = o.0; each = r.0; front = r.1; closes = k.stand.closes }
+      let c = k.stand in
+      let o = opens_same list st c.count n c.mid h.first c.opened h.opens in
+      let long : length k.terms ≡ n = all_taken st c.mid c.last b c.count k.terms c.bytes c.opened c.items c.closed ∙ o.0 in
+      let r = row_front h.terms k.terms h.first mid c.last h.bytes c.bytes h.each (subst (λ (x : State). Row x k.terms c.bytes c.last) o.1 c.items) (omega (arith, h.long, long)) in
+      record { last = c.last; b = b; count = long; others = r.0; bytes = r.1; each = r.3; front = r.2; closes = c.closed }
 
-  next_fits : (i : ℕ) (terms ts : List Term) (rest : List Term) (mid last : State) (w : V) → length terms ≡ i → i < length ts → i < length (kinds_of (slots fs)) → rest ≡ drop (length terms) ts → StandEach mid rest last → ts ≡ terms ++ rest → Fits (slots fs) ts w
-      → (b : State) × Value (FitsAt fs i) mid w b
-  next_fits i terms ts [] mid last w e l k r s f m = absurd (omega (arith, ap length f, length-append terms [], e, l))
-  next_fits i terms ts (t ∷ rest) mid last w e l k r (s, h, hs) f m =
+  next_fits : (i : ℕ) (terms ts rest : List Term) (mid last : State) (z : List ℕ) (w : V) → length terms ≡ i → i < length ts → i < length (kinds_of (slots fs)) → Row mid rest z last → ts ≡ terms ++ rest → Fits (slots fs) ts w → (b : State) × Value (FitsAt fs i) mid w b
+  next_fits i terms ts [] mid last z w e l k r f m = absurd (omega (arith, ap length f, length-append terms [], e, l))
+  next_fits i terms ts (t ∷ rest) mid last z w e l k (s, others, j, h, hs) f m =
       let at : get_or ts i (leaf null) ≡ t = the_item terms ts t rest i e f in
       (past (length s) mid, record { bytes = s; term = t; stands = h; moved = refl; meant = by_null (is_null t) refl at })
     where
@@ -121,7 +121,7 @@ module _ {V : Type 0} (fs : Fields V) where
       (λ f. at_item h l k f)
       (λ none w b q.
       let g = further st n i v w mid b h q in
-      let x = next_fits i h.terms q.terms (drop (length h.terms) q.terms) mid g.last w (h.long ∙ omega (arith, l)) (omega (arith, g.count, l)) k refl g.each g.front q.fits in
+      let x = next_fits i h.terms q.terms g.others mid g.last g.bytes w (h.long ∙ omega (arith, l)) (omega (arith, g.count, l)) k g.each g.front q.fits in
       none w x.0 x.1)
       r
 
@@ -136,11 +136,9 @@ module _ {V : Type 0} (fs : Fields V) where
         fits_null fs i q.terms w Mandatory q.fits k required (ap is_null (past_end q.terms i (omega (arith, g.count, l)))));
   }
 
-  rest_none : (ts : List Term) (k : ℕ) → length ts ≤ k → drop k ts ≡ []
-  rest_none [] zero l = refl
-  rest_none [] (suc k) l = refl
-  rest_none (t ∷ ts) zero l = absurd (omega arith)
-  rest_none (t ∷ ts) (suc k) l = rest_none ts k (omega arith)
+  nothing_taken : (ts : List Term) (mid last : State) (s : List ℕ) → length ts ≡ 0 → Row mid ts s last → last ≡ mid
+  nothing_taken [] mid last s l h = h.1
+  nothing_taken (t ∷ ts) mid last s l h = absurd (omega arith)
 
   -- the list couldn't be closed
   pub end_refused : (st : State) (n i : ℕ) (v : V) (mid : State) (e : Error) (new : State) → i ≡ length (kinds_of (slots fs)) → mid.error ≡ None → FieldsSoFar fs st n i v mid → Refused false (λ st (_ : Unit {0}) b. Closes InList st b) (CloseFault InList) mid e new → Refused (take_memory fs) (FieldsRead fs) (FieldsFault fs) st e new
@@ -150,36 +148,27 @@ module _ {V : Type 0} (fs : Fields V) where
       (λ none w b q.
       let g = further st n i v w mid b h q in
       let few = fits_few fs q.terms w q.fits in
-      let z : drop (length h.terms) q.terms ≡ [] = rest_none q.terms (length h.terms) (omega (arith, h.long, g.count, few, all)) in
-      let same : g.last ≡ mid = subst (λ x. StandEach mid x g.last) z g.each in
+      let same = nothing_taken g.others mid g.last g.bytes (omega (arith, h.long, g.count, few, all, ap length g.front, length-append h.terms g.others)) g.each in
       none tt g.b (subst (λ (x : State). Closes InList x g.b) same g.closes))
       r
 
-  closes_items : (n k : ℕ) (o : Option ℕ) → o ≡ Some (n - k) → o ≡ Some 0 → n ≤ k
-  closes_items n k o e f = let z : n - k ≡ 0 = ap (λ x. unwrap_or x 0) (sym e ∙ f) in omega (arith, z)
-
   -- the list was closed: these are the fields
   pub all_read : (st : State) (n i : ℕ) (v : V) (mid b : State) → i ≡ length (kinds_of (slots fs)) → FieldsSoFar fs st n i v mid → Closes InList mid b → FieldsRead fs st v b
-  all_read st n i v mid b all h c =
-      let items = each_left h.first h.terms mid h.each in
-      let top : h.first.top.items ≡ Some n = ap (λ (x : State). x.top.items) h.opens.data_.entered in
-      let few : n ≤ length h.terms = closes_items n (length h.terms) mid.top.items (items ∙ ap (λ o. lower o (length h.terms)) top) c.items in
-      let count : n ≡ length h.terms = omega (arith, few, h.long) in
-      record {
-        terms = h.terms;
-        stand = record { first = h.first; last = mid; opens = subst (λ k. Opens list st k h.first) count h.opens; each = h.each; closes = c };
-        fits = front_end fs i h.terms v all (omega (arith, h.long)) h.front;
-      }
+  all_read st n i v mid b all h c = record {
+    terms = h.terms;
+    stand = record { count = n; mid = h.first; opened = h.opens; bytes = h.bytes; last = mid; items = h.each; closed = c };
+    fits = front_end fs i h.terms v all (omega (arith, h.long)) h.front;
+  }
 
   -- the list couldn't be opened
   pub open_refused : (st : State) (e : Error) (new : State) → Refused false (Opens list) (OpenFault list) st e new → Refused (take_memory fs) (FieldsRead fs) (FieldsFault fs) st e new
-  open_refused st e new r = refused_first (Opens list) (OpenFault list) (FieldsRead fs) (FieldsFault fs) st e new no_memory no_list (λ none w b q. none (length q.terms) q.stand.first q.stand.opens) r
+  open_refused st e new r = refused_first (Opens list) (OpenFault list) (FieldsRead fs) (FieldsFault fs) st e new no_memory no_list (λ none w b q. none q.stand.count q.stand.mid q.stand.opened) r
 
   pub none_so_far : (st : State) (n : ℕ) (v : V) (first : State) → Opens list st n first → IsBlank fs v → FieldsSoFar fs st n 0 v first
-  none_so_far st n v first o b = record { first = first; opens = o; terms = []; each = refl; long = omega arith; front = front_start fs [] v b }
+  none_so_far st n v first o b = record { first = first; opens = o; terms = []; bytes = []; each = (refl, refl); long = omega arith; front = front_start fs [] v b }
 
   pub so_far_still : (st : State) (n i : ℕ) (v : V) (mid : State) → FieldsSoFar fs st n i v mid → mid.error ≡ None
-  so_far_still st n i v mid h = each_going h.first h.terms mid h.each (ap (λ (x : State). x.error) h.opens.data_.entered ∙ header_going h.opens)
+  so_far_still st n i v mid h = ap (λ (x : State). x.error) (row_together h.first h.terms h.bytes mid h.each).moved ∙ opened_going h.opens
 
 -- Steps of one item.
 module _ {V : Type 0} (fs : Fields V) (i : ℕ) where
@@ -197,7 +186,7 @@ module _ {V : Type 0} (fs : Fields V) (i : ℕ) where
     again = λ d x. absurd (cc);
     named = λ _. inr (null_item h required is);
     none = inr (λ w c k.
-        let o = stands_one st h.bytes k.bytes h.term k.term h.stands k.stands in
+        let o = stands_same st h.bytes k.bytes h.term k.term h.stands k.stands in
         let z : is_null k.term ≡ true = ap is_null (sym o.1 ∙ h.meant) in
         elim k.meant [ inl x ↦ clash required x.1 | inr x ↦ clash z x.0 ]);
   }
@@ -205,7 +194,7 @@ module _ {V : Type 0} (fs : Fields V) (i : ℕ) where
   -- the field was filled
   pub value_read : (v w : V) (st mid b : State) (c : ℕ) → Peeked st c mid → Value (MeansAt fs i) mid w b → KeepsBut fs i v w → ItemRead fs i v w st b
   value_read v w st mid b c p h k =
-      let x = peeked_from (MeansAt fs i) st c mid w b p h in
+      let x = (value-peeked (MeansAt fs i) st mid b c w p).0 h in
       record { bytes = x.bytes; term = x.term; stands = x.stands; moved = x.moved; fits = inr (x.meant, k) }
 
   -- the field wasn't filled
@@ -217,7 +206,7 @@ module _ {V : Type 0} (fs : Fields V) (i : ℕ) where
       let n = not_null (FitsAt fs i) st c mid w b p other h in
       elim h.meant [
         | inl x ↦ clash x.0 n
-        | inr x ↦ none w b (peeked_to (MeansAt fs i) st c mid w b p (record { bytes = h.bytes; term = h.term; stands = h.stands; moved = h.moved; meant = x.1 }))
+        | inr x ↦ none w b ((value-peeked (MeansAt fs i) st mid b c w p).1 (record { bytes = h.bytes; term = h.term; stands = h.stands; moved = h.moved; meant = x.1 }))
       ])
       r
 

@@ -58,3 +58,10 @@ module _ {T : Type 0} (r : Reading T) (input : List ℕ) (source : ℕ) (failed 
   pub failing : (res : Result T Error) (b : State) → Reads r.takes_memory r.reads r.fault begin res b → (broken before : Bool) → broken ≡ b.failed → before ≡ failed → MatchResult res (λ _. broken ≡ before) (λ e. (broken ≡ before) ⊎ IsReadError e)
   failing (Ok v) b h broken before e f = e ∙ (r.taken begin v b h).sound ∙ sym f
   failing (Err x) b h broken before e f = elim h.kept.source [ inl s ↦ inl (e ∙ s ∙ sym f) | inr i ↦ inr i ]
+
+-- a source that never fails is no reason
+pub refused_whole : {T : Type 0} (r : Reading T) (input : List ℕ) (e : Error) (b : State) → b.failed ≡ false → Refused r.takes_memory r.reads r.fault (start input) e b → ((r.takes_memory ≡ true) × (e ≡ Memory)) ⊎ Unreadable r input e
+refused_whole r input e b sound h = elim (refused_here r input 0 false e b h) [
+  | inl m ↦ inl m
+  | inr x ↦ elim x [ inl (i, f) ↦ absurd (cc) | inr u ↦ inr u ]
+]

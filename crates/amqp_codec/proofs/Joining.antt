@@ -1,7 +1,8 @@
 -- Terms that are written one after another, and terms that hold others.
-use Rattle.std.proofs.Common.{append_assoc, ◌≡◌, ℕ, List, [], ◌∷◌, ◌++◌, refl, sym, ap, ◌∙◌, ◌⊎◌, inl, inr}
+use Rattle.std.proofs.Common.{◌≡◌, ℕ, List, [], ◌∷◌, ◌++◌, refl, sym, ap, ◌∙◌, ◌⊎◌, inl, inr}
 use Rattle.std.specs.Prelude.{Result, Ok, Err}
 use Rattle.std.proofs.lemmas.List.{append-nil}
+use Rattle.std.proofs.lemmas.Grind.{flat_map-append}
 use Rattle.amqp_model.specs.Term.{Container, Term, holder, described, Descriptor}
 use Rattle.amqp_model.specs.Items.{terms_of}
 use Rattle.amqp_wire.specs.declared.error.Error.{Error}
@@ -12,16 +13,10 @@ use Rattle.amqp_encoder.specs.declared.encoder.Pass.TheVariants.{Measuring, Fill
 use Rattle.amqp_encoder.specs.Tokens.{Token, tokens, all_tokens, begin, end, begin_described, end_described, refuse}
 use Rattle.amqp_encoder.specs.Passes.{row_tokens}
 use Rattle.amqp_encoder.specs.Writes.{Runs, Writes, IsGoing, AnyMayRunOut, steps, outcome, bytes_of}
+use Rattle.amqp_encoder.proofs.Rows.{row_calls}
 use Rattle.amqp_encoder.proofs.Joined.{steps_stopped, nothing, join, cut, on, was_going}
-use Rattle.amqp_codec.specs.Written.{KnowDepths, GaveUp, WritesTerms}
-
-row_calls : (deep : List ℕ → ℕ) (ts : List Term) → all_tokens deep (terms_of ts) ≡ row_tokens deep ts
-row_calls deep [] = refl
-row_calls deep (t ∷ ts) = ap (λ r. tokens deep t ++ r) (row_calls deep ts)
-
-joined_calls : (deep : List ℕ → ℕ) (ts us : List Term) → row_tokens deep (ts ++ us) ≡ row_tokens deep ts ++ row_tokens deep us
-joined_calls deep [] us = refl
-joined_calls deep (t ∷ ts) us = rw (joined_calls deep ts us) (sym (append_assoc (tokens deep t) (row_tokens deep ts) (row_tokens deep us)))
+use Rattle.amqp_encoder.specs.Refused.{KnowDepths}
+use Rattle.amqp_codec.specs.Written.{GaveUp, WritesTerms}
 
 known_first : (deep : List ℕ → ℕ) (ts us : List Term) → KnowDepths deep (ts ++ us) → KnowDepths deep ts
 known_first deep [] us h = tt
@@ -67,13 +62,13 @@ no_terms s r h = record { calls = λ deep k. inl (nothing s r h) }
 -- some terms and then others
 pub terms_join : (ts us : List Term) (a b c : Encoder) (q r : Result (Unit {0}) Error) → q ≡ Ok tt → WritesTerms ts a q b → WritesTerms us b r c → WritesTerms (ts ++ us) a r c
 terms_join ts us a b c q r o w x = record {
-  calls = λ deep k. (rw (joined_calls deep ts us) (join_up a (row_tokens deep ts) q b (row_tokens deep us) r c o (w.calls deep (known_first deep ts us k)) (x.calls deep (known_second deep ts us k))));
+  calls = λ deep k. (rw (flat_map-append (tokens deep) ts us) (join_up a (row_tokens deep ts) q b (row_tokens deep us) r c o (w.calls deep (known_first deep ts us k)) (x.calls deep (known_second deep ts us k))));
 }
 
 -- after a refusal nothing more is written
 pub terms_cut : (ts us : List Term) (a b : Encoder) (q r : Result (Unit {0}) Error) (e : Error) → q ≡ Err e → (y : Error) × (r ≡ Err y) × (y ≡ e) → WritesTerms ts a q b → WritesTerms (ts ++ us) a r b
 terms_cut ts us a b q r e o p w = record {
-  calls = λ deep k. (rw (joined_calls deep ts us) (cut_up a (row_tokens deep ts) q b (row_tokens deep us) r e p.0 o p.1 p.2 (w.calls deep (known_first deep ts us k))));
+  calls = λ deep k. (rw (flat_map-append (tokens deep) ts us) (cut_up a (row_tokens deep ts) q b (row_tokens deep us) r e p.0 o p.1 p.2 (w.calls deep (known_first deep ts us k))));
 }
 
 -- The calls for a term are one that opens it, those for the terms in it, and one that closes it.
@@ -83,7 +78,7 @@ pub record Wraps (t : Term) (x : Token) (ts : List Term) (y : Token) : Type 0 wh
 
 pub container_wraps : (k : Container) (ts : List Term) → Wraps (holder k (terms_of ts)) (begin k) ts (end k)
 container_wraps k ts = record {
-  is = λ deep. ap (λ r. begin k ∷ r) (append-nil (all_tokens deep (terms_of ts) ++ end k ∷ []) ∙ ap (λ r. r ++ end k ∷ []) (row_calls deep ts));
+  is = λ deep. ap (λ r. begin k ∷ r) (append-nil (all_tokens deep (terms_of ts) ++ end k ∷ []) ∙ ap (λ r. r ++ end k ∷ []) (sym (row_calls deep ts)));
   knows = λ deep h. h.0.1;
 }
 

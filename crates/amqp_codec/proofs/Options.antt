@@ -8,11 +8,12 @@ use Rattle.amqp_decoder.specs.State.{State}
 use Rattle.amqp_decoder.specs.Reading.{Refused, Peeked}
 use Rattle.amqp_decoder.specs.Primitives.{Value, Means, PrimitiveFault}
 use Rattle.amqp_decoder.proofs.Steps.{answered_later}
+use Rattle.amqp_decoder.proofs.Peeks.{value-peeked}
 use Rattle.amqp_codec.specs.TermType.{TermType}
 use Rattle.amqp_codec.specs.OptionType.{MeansOption, OptionFault}
 use Rattle.amqp_codec.specs.Reading.{Reading, ReadsTerms}
 use Rattle.amqp_codec.specs.Refused.{excused_as, no_memory, NoneStands, refused_later}
-use Rattle.amqp_codec.specs.Peeks.{peeked_failed, peeked_going, peeked_from, peeked_to, null_there, not_null}
+use Rattle.amqp_codec.specs.Peeks.{peeked_failed, peeked_going, null_there, not_null}
 
 -- a null that was looked at can't be refused but for the source
 pub null_refused : {B : Type 0} {takes : Bool} (q : State → B → State → Type 0) (g : State → Error → Type 0) (st : State) (c : ℕ) (mid : State) (e : Error) (new : State) → Peeked st c mid → c ≡ 0x40 → Refused false (Value (Means (λ (_ : Unit {0}). null))) (PrimitiveFault 0) mid e new → Refused takes q g st e new
@@ -25,19 +26,19 @@ null_refused q g st c mid e new p is h =
 module _ {T : Type 0} (u : TermType T) (r : Reading T) (reads : ReadsTerms u r) where
   pub none_read : (st : State) (c : ℕ) (mid b : State) → Peeked st c mid → Value (Means (λ (_ : Unit {0}). null)) mid tt b → Value (MeansOption u.means) st None b
   none_read st c mid b p h =
-      let k = peeked_from (Means (λ (_ : Unit {0}). null)) st c mid tt b p h in
+      let k = (value-peeked (Means (λ (_ : Unit {0}). null)) st mid b c tt p).0 h in
       record { bytes = k.bytes; term = k.term; stands = k.stands; moved = k.moved; meant = ap is_null k.meant }
 
   pub some_read : (st : State) (c : ℕ) (mid : State) (v : T) (b : State) → Peeked st c mid → (c ≡ 0x40 → ⊥) → r.reads mid v b → Value (MeansOption u.means) st (Some v) b
   some_read st c mid v b p other h =
-      let k = peeked_from u.means st c mid v b p (reads.to_value mid v b h) in
+      let k = (value-peeked u.means st mid b c v p).0 (reads.to_value mid v b h) in
       record { bytes = k.bytes; term = k.term; stands = k.stands; moved = k.moved; meant = (not_null u.means st c mid v b p other k, k.meant) }
 
   none_stands : (st : State) (c : ℕ) (mid : State) → Peeked st c mid → (c ≡ 0x40 → ⊥) → NoneStands r.reads mid → NoneStands (Value (MeansOption u.means)) st
   none_stands st c mid p other none None b h = clash h.meant (not_null (MeansOption u.means) st c mid None b p other h)
   none_stands st c mid p other none (Some v) b h =
       let k : Value u.means st v b = record { bytes = h.bytes; term = h.term; stands = h.stands; moved = h.moved; meant = h.meant.1 } in
-      none v b (reads.from_value mid v b (peeked_to u.means st c mid v b p k))
+      none v b (reads.from_value mid v b ((value-peeked u.means st mid b c v p).1 k))
 
   pub some_refused : (st : State) (c : ℕ) (mid : State) (e : Error) (new : State) → Peeked st c mid → (c ≡ 0x40 → ⊥) → Refused r.takes_memory r.reads r.fault mid e new → Refused u.takes_memory (Value (MeansOption u.means)) (OptionFault u.fault) st e new
   some_refused st c mid e new p other h =

@@ -16,7 +16,8 @@ use Rattle.amqp_encoder.specs.Writes.{Found, Follows, bytes_of}
 use Rattle.amqp_encoder.specs.Passes.{row_text, as_size, answer_of, BeginsMeasuring, BeginsFilling, Finds}
 use Rattle.amqp_encoder.proofs.Rows.{HasFound, HasFilled}
 use Rattle.amqp_encoder.proofs.Rows as rows
-use Rattle.amqp_codec.specs.Written.{KnowDepths, GaveUp, WritesTerms, AreProper, AreUnwritable, AreWritable, AreMeasured}
+use Rattle.amqp_encoder.specs.Refused.{KnowDepths}
+use Rattle.amqp_codec.specs.Written.{GaveUp, WritesTerms, AreProper, AreUnwritable, AreWritable, AreMeasured}
 use Rattle.amqp_codec.proofs.Depths.{proper_values, depths, unwritable}
 use Rattle.amqp_codec.proofs.Depths as depth
 

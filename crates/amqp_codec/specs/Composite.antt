@@ -1,6 +1,6 @@
 -- The type of a composite: a described list whose items fit its table (Part 1, sections 1.4 and 1.5).
 use Rattle.std.proofs.Common.{◌≡◌, inl, inr, ℕ, ◌+◌, ◌<◌, ◌≤◌, true, false, List, [], ◌∷◌, ◌++◌, None, Some, get_or, length, length-append, refl, sym, ap, ◌∙◌, subst, arith, suc, cond, eqb, ltb}
-use Rattle.amqp_model.specs.Term.{Refusal, too_large, non_ascii, duplicate_key, depth, zero_width_items, empty_multiple, mixed_array, lazy_in_array, custom, list, map, array, Descriptor, name, code, ulong, symbol, Term, Terms, leaf, holder, described, kept, barred, none, more, count}
+use Rattle.amqp_model.specs.Term.{Refusal, too_large, list, map, array, Descriptor, name, code, ulong, symbol, Term, Terms, leaf, holder, described, kept, barred, none, more, count}
 use Rattle.amqp_model.specs.Constructors.{format}
 use Rattle.amqp_model.specs.Spelling.{enc, data_of, ContainerData, Names, items_of as ItemsStand}
 use Rattle.amqp_model.specs.Standing.{Standing, whole, part}
@@ -10,6 +10,7 @@ use Rattle.amqp_model.specs.Ranges.{Everywhere, EverywhereIn, IsValue, IsNoArray
 use Rattle.amqp_model.specs.Refusals.{Somewhere, SomewhereIn, IsRefused}
 use Rattle.amqp_model.specs.Kept.{Reads}
 use Rattle.amqp_model.specs.Items.{is_null, items_of, terms_of}
+use Rattle.amqp_model.specs.ItemLaws.{items_of-terms_of}
 use Rattle.amqp_model.specs.FieldType.{Norm, normal}
 use Rattle.amqp_model.specs.Fields.{Fits, AreValues, IsNormal, Same}
 use Rattle.amqp_model.specs.Composite.{MeansComposite, Describes, ListFits, canonical_term}
@@ -26,14 +27,15 @@ use Rattle.std.proofs.lemmas.Bool.{ltb-false, ltb-true}
 use Rattle.amqp_codec.specs.Tidy.{tidy}
 use Rattle.amqp_codec.specs.TermType.{TermType, Spells, IsUnrefused, IsLeaf, IsPlain}
 use Rattle.amqp_codec.specs.Plain.{reads_itself, plain_reads}
+use Rattle.amqp_codec.specs.Flaws.{size_alone, list_flawless, code_flawless}
 use Rattle.std.proofs.lemmas.Bool.{eqb-true, eq-eqb}
 use Rattle.std.proofs.lemmas.List.Quantifiers.{position-Some}
 use Rattle.std.proofs.lemmas.Slice.Eq.{bytes_eq-Decides}
-use Rattle.amqp_decoder.specs.State.{State, past}
-use Rattle.amqp_decoder.specs.Primitives.{Stands}
-use Rattle.amqp_codec.specs.Lists.{list_term, term_list}
+use Rattle.amqp_decoder.specs.State.{State}
 use Rattle.amqp_codec.specs.Elsewhere.{fields_read, fields_fault, member_fault}
+use Rattle.amqp_decoder.specs.Items.{Contains}
 use Rattle.amqp_decoder.specs.Members.{is_named, name_place}
+use Rattle.amqp_decoder.proofs.Holders.{whole as list_whole, parts as list_parts}
 use Rattle.amqp_codec.specs.FieldReading.{fields_not_memory, FieldsRead, FieldsFault}
 use Rattle.amqp_codec.specs.Members.{member_not_memory, Members, MemberFault, TermRead, TermMeant, IsSum}
 use Rattle.amqp_codec.specs.Fields.{Fields, slots, items, count_of, are_least, take_memory, items_plain, items_valued, items_nested, items_counted, items_writable, items_fewest, items_least}
@@ -67,36 +69,12 @@ by_cases c P (holder k ts) v f m = absurd m
 by_cases c P (kept b) v f m = absurd m
 by_cases c P (barred r) v f m = absurd m
 
-list_flaw : (ts : Terms) (r : Refusal) → IsRefused r (holder list ts) → r ≡ too_large
-list_flaw ts r (inl e) = absurd (cc)
-list_flaw ts too_large (inr h) = refl
-list_flaw ts non_ascii (inr h) = absurd h
-list_flaw ts duplicate_key (inr h) = absurd h
-list_flaw ts depth (inr h) = absurd h
-list_flaw ts zero_width_items (inr h) = absurd h
-list_flaw ts empty_multiple (inr h) = absurd h
-list_flaw ts mixed_array (inr h) = absurd h
-list_flaw ts lazy_in_array (inr h) = absurd h
-list_flaw ts (custom n) (inr h) = absurd h
-
-described_flaw : (n : ℕ) (t : Term) (r : Refusal) → IsRefused r (described (code n) t) → r ≡ too_large
-described_flaw n t r (inl e) = absurd (cc)
-described_flaw n t too_large (inr h) = refl
-described_flaw n t non_ascii (inr h) = absurd h
-described_flaw n t duplicate_key (inr h) = absurd h
-described_flaw n t depth (inr h) = absurd h
-described_flaw n t zero_width_items (inr h) = absurd h
-described_flaw n t empty_multiple (inr h) = absurd h
-described_flaw n t mixed_array (inr h) = absurd h
-described_flaw n t lazy_in_array (inr h) = absurd h
-described_flaw n t (custom m) (inr h) = absurd h
-
 abbrev ItemsAreLarge : Terms → Type 0
 ItemsAreLarge us = (r : Refusal) → SomewhereIn (IsRefused r) us → r ≡ too_large
 
 term_flaw : (n : ℕ) (us : Terms) → ItemsAreLarge us → (r : Refusal) → Somewhere (IsRefused r) (described (code n) (holder list us)) → r ≡ too_large
-term_flaw n us h r (inl i) = described_flaw n (holder list us) r i
-term_flaw n us h r (inr (inl i)) = list_flaw us r i
+term_flaw n us h r (inl i) = size_alone (code_flawless n (holder list us)) r i
+term_flaw n us h r (inr (inl i)) = size_alone (list_flawless us) r i
 term_flaw n us h r (inr (inr i)) = h r i
 
 -- the items of a list stand in its data
@@ -226,50 +204,47 @@ only_place d m i h =
 first_place : (d : Descriptor) (m : ℕ × List ℕ) → is_named d m ≡ true → name_place (m ∷ []) d ≡ Some 0
 first_place d m h = rw h refl
 
-pub items_terms : (ts : List Term) → items_of (terms_of ts) ≡ ts
-items_terms [] = refl
-items_terms (t ∷ ts) = ap (λ us. t ∷ us) (items_terms ts)
+-- The fields of a composite stand behind the descriptor of a member.
+module _ {V W : Type 0} (c : Table V) (m : Members W) (i : ℕ) (v : V) (w : W) where
+  -- those that were read mean a value of the members
+  pub fields_to_member : (means : Standing → Term → W → Type 0) → ((d : Descriptor) → name_place m.names d ≡ Some i → is_named d (c.code, c.name) ≡ true) → ((s : Standing) (t : Term) → MeansComposite (table_of c) t v → means s t w)
+      → (inner last : State) → FieldsRead c.fields inner v last → TermRead m means i inner w last
+  fields_to_member means named meant inner last h =
+      let same = sym (items_of-terms_of h.terms) in
+      let fits : ListFits (table_of c) (holder list (terms_of h.terms)) v = subst (λ ts. Fits (slots c.fields) ts v) same h.fits in
+      record {
+        term = holder list (terms_of h.terms);
+        taken = list_whole list tt inner (terms_of h.terms) last (subst (λ ts. Contains list inner ts last) same h.stand);
+        meant = λ d s at. meant s (described d (holder list (terms_of h.terms))) (named_describes c d (named d at), fits);
+      }
 
--- The fields that were read are one list.
-pub record FieldsTerm {V : Type 0} (c : Table V) (inner : State) (v : V) (last : State) : Type 0 where
-  pub bytes : List ℕ
-  pub term : Term
-  pub stands : Stands inner bytes term
-  pub moved : last ≡ past (length bytes) inner
-  pub going : last.error ≡ None
-  pub fits : ListFits (table_of c) term v
+  -- and any that the value means are read
+  pub member_to_fields : ((d : Descriptor) → Describes (table_of c) d → name_place m.names d ≡ Some i) → ((inner last : State) → FieldsRead c.fields inner v last → m.reads i inner w last)
+      → (t : Term) → MeansComposite (table_of c) t v → TermMeant m t w
+  member_to_fields placed reads t h = by_cases (table_of c) (λ t. TermMeant m t w) t v
+      (λ d ts e f. record {
+        descriptor = d;
+        described_ = holder list ts;
+        place = i;
+        is = refl;
+        named = placed d e;
+        read = λ inner last k. reads inner last (record { terms = items_of ts; stand = list_parts list tt inner ts last k; fits = f });
+      })
+      h
 
-pub fields_term : {V : Type 0} (c : Table V) (inner : State) (v : V) (last : State) → FieldsRead c.fields inner v last → FieldsTerm c inner v last
-fields_term c inner v last h =
-    let l = list_term inner h.terms last h.stand in
-    record {
-      bytes = l.0;
-      term = holder list (terms_of h.terms);
-      stands = l.1;
-      moved = l.2;
-      going = ap (λ (x : State). x.error) l.2 ∙ l.1.going;
-      fits = subst (λ ts. Fits (slots c.fields) ts v) (sym (items_terms h.terms)) h.fits;
-    }
+-- the place of a member, by its code and its name
+pub described_place : {V : Type 0} (c : Table V) (names : List (ℕ × List ℕ)) (i : ℕ) → name_place names (code c.code) ≡ Some i → name_place names (name c.name) ≡ Some i → (d : Descriptor) → Describes (table_of c) d → name_place names d ≡ Some i
+described_place c names i by_code by_name (code n) e = subst (λ k. name_place names (code k) ≡ Some i) (sym e) by_code
+described_place c names i by_code by_name (name s) e = subst (λ k. name_place names (name k) ≡ Some i) (sym e) by_name
 
 pub composite_is_sum : {V : Type 0} (c : Table V) → IsSum (composite_members c) (λ s. MeansComposite (table_of c))
 composite_is_sum {V} c = record { to_term = to; from_term = from }
   where
     to : (i : ℕ) (inner : State) (v : V) (last : State) → FieldsRead c.fields inner v last → TermRead (composite_members c) (λ s. MeansComposite (table_of c)) i inner v last
-    to i inner v last h =
-        let l = fields_term c inner v last h in
-        record { bytes = l.bytes; term = l.term; stands = l.stands; moved = l.moved; going = l.going; meant = λ d s at. (named_describes c d (only_place d (c.code, c.name) i at), l.fits) }
+    to i inner v last = fields_to_member c (composite_members c) i v v (λ s. MeansComposite (table_of c)) (λ d. only_place d (c.code, c.name) i) (λ s t m. m) inner last
 
     from : (s : Standing) (t : Term) (v : V) → MeansComposite (table_of c) t v → TermMeant (composite_members c) t v
-    from s t v m = by_cases (table_of c) (λ t. TermMeant (composite_members c) t v) t v
-        (λ d ts e f. record {
-          descriptor = d;
-          described_ = holder list ts;
-          place = 0;
-          is = refl;
-          named = first_place d (c.code, c.name) (describes_named c d e);
-          read = λ inner z k. record { terms = items_of ts; stand = term_list inner z ts k; fits = f };
-        })
-        m
+    from s t v = member_to_fields c (composite_members c) 0 v v (λ d e. first_place d (c.code, c.name) (describes_named c d e)) (λ inner last h. h) t
 
 -- The type of a composite by its table.
 abbrev pub composite : {V : Type 0} → Table V → TermType V

@@ -1,5 +1,6 @@
 -- A value of one type or of another, whose terms have other forms.
-use Rattle.std.proofs.Common.{◌≡◌, ◌⊎◌, inl, inr, ℕ, ◌≤◌, true, false, ◌||◌, List, None, length, refl, sym}
+use Rattle.std.proofs.Common.{◌≡◌, ◌⊎◌, inl, inr, ℕ, ◌≤◌, true, false, ◌&&◌, ◌||◌, List, None, length, refl, sym}
+use Rattle.std.specs.Cmp.{first_so, second_so}
 use Rattle.amqp_model.specs.Term.{Refusal, too_large, Term, Descriptor}
 use Rattle.amqp_model.specs.Spelling.{enc}
 use Rattle.amqp_model.specs.Standing.{Standing, whole, part}
@@ -12,7 +13,6 @@ use Rattle.amqp_model.specs.Items.{is_null, IsFree}
 use Rattle.amqp_model.specs.FieldType.{Norm, normal, plain, by_norm}
 use Rattle.amqp_codec.specs.Tidy.{tidy}
 use Rattle.amqp_codec.specs.TermType.{TermType, Spells, StandsCanonically, IsUnrefused, IsLeaf, IsKept, IsPlain}
-use Rattle.amqp_codec.specs.Fields.{both, both_first, both_second}
 
 -- what the one or the other says of a value
 abbrev pub either : {A B C : Type 0} → (A → C) → (B → C) → A ⊎ B → C
@@ -111,9 +111,9 @@ module _ {A B : Type 0} (u : TermType A) (w : TermType B) where
   either_canon_means s t (inl a) i f c r = rw (either_normal u.norm w.norm (inl a)) (u.canon_means s t a i f c r)
   either_canon_means s t (inr b) i f c r = rw (either_normal u.norm w.norm (inr b)) (w.canon_means s t b i f c r)
 
-  pub either_blind_means : both u.blind w.blind ≡ true → (s : Standing) (v : A ⊎ B) → IsEither u.is_value w.is_value v → IsFree (either_canon v) → MeansEither s (either_canon v) (normal either_norm v)
-  either_blind_means l s (inl a) i f = rw (either_normal u.norm w.norm (inl a)) (u.blind_means (both_first u.blind w.blind l) s a i f)
-  either_blind_means l s (inr b) i f = rw (either_normal u.norm w.norm (inr b)) (w.blind_means (both_second u.blind w.blind l) s b i f)
+  pub either_blind_means : (u.blind && w.blind) ≡ true → (s : Standing) (v : A ⊎ B) → IsEither u.is_value w.is_value v → IsFree (either_canon v) → MeansEither s (either_canon v) (normal either_norm v)
+  either_blind_means l s (inl a) i f = rw (either_normal u.norm w.norm (inl a)) (u.blind_means (first_so u.blind w.blind l) s a i f)
+  either_blind_means l s (inr b) i f = rw (either_normal u.norm w.norm (inr b)) (w.blind_means (second_so u.blind w.blind l) s b i f)
 
   pub either_norm_canon : (v : A ⊎ B) → tidy (either_canon (normal either_norm v)) ≡ tidy (either_canon v)
   either_norm_canon (inl a) = rw (either_normal u.norm w.norm (inl a)) (u.norm_canon a)
@@ -151,9 +151,9 @@ module _ {A B : Type 0} (u : TermType A) (w : TermType B) where
   either_null_alike s t (inl a) = u.null_alike s t a
   either_null_alike s t (inr b) = w.null_alike s t b
 
-  pub either_is_solid : both u.solid w.solid ≡ true → (v : A ⊎ B) → is_null (either_canon v) ≡ false
-  either_is_solid l (inl a) = u.is_solid (both_first u.solid w.solid l) a
-  either_is_solid l (inr b) = w.is_solid (both_second u.solid w.solid l) b
+  pub either_is_solid : (u.solid && w.solid) ≡ true → (v : A ⊎ B) → is_null (either_canon v) ≡ false
+  either_is_solid l (inl a) = u.is_solid (first_so u.solid w.solid l) a
+  either_is_solid l (inr b) = w.is_solid (second_so u.solid w.solid l) b
 
   pub either_formed : FormsApart → (s z : Standing) (t r : Term) (v x : A ⊎ B) → MeansEither s t v → MeansEither z r x → form t ≡ form r → form (either_canon v) ≡ form (either_canon x)
   either_formed apart s z t r (inl a) (inl c) h k e = u.formed s z t r a c h k e
@@ -177,17 +177,17 @@ module _ {A B : Type 0} (u : TermType A) (w : TermType B) where
   either_counted s t (inl a) = u.counted s t a
   either_counted s t (inr b) = w.counted s t b
 
-  pub either_least : both u.is_least w.is_least ≡ true → (b : List ℕ) (t : Term) (v : A ⊎ B) → IsBytes b → Everywhere IsNoArray (either_canon v) → enc b t → MeansEither (whole b) t v → length (text (either_canon v) Plain) ≤ length b
-  either_least l b t (inl a) = u.least (both_first u.is_least w.is_least l) b t a
-  either_least l b t (inr x) = w.least (both_second u.is_least w.is_least l) b t x
+  pub either_least : (u.is_least && w.is_least) ≡ true → (b : List ℕ) (t : Term) (v : A ⊎ B) → IsBytes b → Everywhere IsNoArray (either_canon v) → enc b t → MeansEither (whole b) t v → length (text (either_canon v) Plain) ≤ length b
+  either_least l b t (inl a) = u.least (first_so u.is_least w.is_least l) b t a
+  either_least l b t (inr x) = w.least (second_so u.is_least w.is_least l) b t x
 
-  pub either_is_blind : both u.blind w.blind ≡ true → (s z : Standing) (t : Term) (v : A ⊎ B) → MeansEither s t v → MeansEither z t v
-  either_is_blind l s z t (inl a) = u.is_blind (both_first u.blind w.blind l) s z t a
-  either_is_blind l s z t (inr b) = w.is_blind (both_second u.blind w.blind l) s z t b
+  pub either_is_blind : (u.blind && w.blind) ≡ true → (s z : Standing) (t : Term) (v : A ⊎ B) → MeansEither s t v → MeansEither z t v
+  either_is_blind l s z t (inl a) = u.is_blind (first_so u.blind w.blind l) s z t a
+  either_is_blind l s z t (inr b) = w.is_blind (second_so u.blind w.blind l) s z t b
 
-  pub either_is_plain : both u.blind w.blind ≡ true → (v : A ⊎ B) → IsPlain (either_canon v)
-  either_is_plain l (inl a) = u.is_plain (both_first u.blind w.blind l) a
-  either_is_plain l (inr b) = w.is_plain (both_second u.blind w.blind l) b
+  pub either_is_plain : (u.blind && w.blind) ≡ true → (v : A ⊎ B) → IsPlain (either_canon v)
+  either_is_plain l (inl a) = u.is_plain (first_so u.blind w.blind l) a
+  either_is_plain l (inr b) = w.is_plain (second_so u.blind w.blind l) b
 
 -- A sum of two types.
 abbrev pub either_of : {A B : Type 0} (u : TermType A) (w : TermType B) → FormsApart u w → TermType (A ⊎ B)
@@ -200,10 +200,10 @@ either_of u w apart = record {
   norm = either_norm u w;
   same = either_same u w;
   count = either u.count w.count;
-  solid = both u.solid w.solid;
-  blind = both u.blind w.blind;
+  solid = u.solid && w.solid;
+  blind = u.blind && w.blind;
   takes_memory = u.takes_memory || w.takes_memory;
-  is_least = both u.is_least w.is_least;
+  is_least = u.is_least && w.is_least;
   same_refl = either_refl u w;
   same_sym = either_sym u w;
   same_trans = either_trans u w;

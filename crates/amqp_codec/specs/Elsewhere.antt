@@ -3,8 +3,8 @@ use Rattle.std.proofs.Common.{ℕ, zero, suc, Bool, List, [], ◌∷◌, length,
 use Rattle.amqp_model.specs.Term.{Term}
 use Rattle.amqp_wire.specs.declared.error.Error.{Error}
 use Rattle.amqp_decoder.specs.State.{State, past}
+use Rattle.amqp_decoder.specs.Items.{Row}
 use Rattle.amqp_decoder.specs.Elsewhere.{elsewhere, begin_fault, peeked, value, stands, opens, open_fault, end_fault, closes, close_fault, opens_described, one_of_fault}
-use Rattle.amqp_codec.specs.Lists.{StandEach}
 use Rattle.amqp_codec.specs.Fields.{Fields, none, field}
 use Rattle.amqp_codec.specs.FieldReading.{FaultAt, ItemFault, no_item, null_item, in_item, FieldsSoFar, FieldsRead, FieldsFault, no_list, at_item, left_out, not_ended}
 use Rattle.amqp_codec.specs.Members as members
@@ -14,21 +14,21 @@ module _ (source : ℕ) (failed : Bool) where
   abbrev at : State → State
   at = elsewhere source failed
 
-  stand_each : (ts : List Term) (st b : State) → StandEach st ts b → StandEach (at st) ts (at b)
-  stand_each [] st b h = ap at h
-  stand_each (t ∷ ts) st b (s, h, k) = (s, stands source failed h, stand_each ts (past (length s) st) b k)
+  row : (ts : List Term) (st : State) (s : List ℕ) (b : State) → Row st ts s b → Row (at st) ts s (at b)
+  row [] st s b (e, h) = (e, ap at h)
+  row (t ∷ ts) st s b (first, others, e, h, k) = (first, others, e, stands source failed h, row ts (past (length first) st) others b k)
 
   pub fields_read : {V : Type 0} (fs : Fields V) (st : State) (v : V) (b : State) → FieldsRead fs st v b → FieldsRead fs (at st) v (at b)
   fields_read fs st v b h =
       let l = h.stand in
       record {
         terms = h.terms;
-        stand = record { first = at l.first; last = at l.last; opens = opens source failed l.opens; each = stand_each h.terms l.first l.last l.each; closes = closes source failed l.closes };
+        stand = record { count = l.count; mid = at l.mid; opened = opens source failed l.opened; bytes = l.bytes; last = at l.last; items = row h.terms l.mid l.bytes l.last l.items; closed = closes source failed l.closed };
         fits = h.fits;
       }
 
   so_far : {V : Type 0} (fs : Fields V) (st : State) (n i : ℕ) (v : V) (mid : State) → FieldsSoFar fs st n i v mid → FieldsSoFar fs (at st) n i v (at mid)
-  so_far fs st n i v mid h = record { first = at h.first; opens = opens source failed h.opens; terms = h.terms; each = stand_each h.terms h.first mid h.each; long = h.long; front = h.front }
+  so_far fs st n i v mid h = record { first = at h.first; opens = opens source failed h.opens; terms = h.terms; bytes = h.bytes; each = row h.terms h.first h.bytes mid h.each; long = h.long; front = h.front }
 
   fault_at : {V : Type 0} (fs : Fields V) (i : ℕ) (st : State) (e : Error) → FaultAt fs i st e → FaultAt fs i (at st) e
   fault_at none i st e h = h

@@ -14,8 +14,8 @@ use Rattle.amqp_decoder.specs.State.{State, past}
 use Rattle.amqp_decoder.specs.Reading.{Refused, BeginFault, Peeked}
 use Rattle.amqp_decoder.specs.Primitives.{standing, Stands, Value, Means}
 use Rattle.amqp_decoder.specs.Containers.{Opens, OpenFault, CloseFault}
+use Rattle.amqp_decoder.specs.Items.{Row, Contains}
 use Rattle.amqp_decoder.proofs.NotMemory.{begin_not_memory, open_not_memory, close_not_memory}
-use Rattle.amqp_codec.specs.Lists.{StandEach, ListStands}
 use Rattle.amqp_codec.specs.Refused.{refused_first}
 use Rattle.amqp_codec.specs.Fields.{Fields, none, field, slots, take_memory, either_first, either_second}
 
@@ -178,14 +178,15 @@ pub record FieldsSoFar {V : Type 0} (fs : Fields V) (st : State) (n i : ℕ) (v 
   pub first : State
   pub opens : Opens list st n first
   pub terms : List Term
-  pub each : StandEach first terms now_
+  pub bytes : List ℕ
+  pub each : Row first terms bytes now_
   pub long : length terms ≡ min i n
   pub front : FitsFront fs i terms v
 
 -- A list stood next that is the fields of the value.
 pub record FieldsRead {V : Type 0} (fs : Fields V) (st : State) (v : V) (b : State) : Type 0 where
   pub terms : List Term
-  pub stand : ListStands st terms b
+  pub stand : Contains list st terms b
   pub fits : Fits (slots fs) terms v
 
 -- Why no fields are read.

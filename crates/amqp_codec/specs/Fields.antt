@@ -1,5 +1,6 @@
 -- Tables of fields, and the laws of their items, once for all tables.
-use Rattle.std.proofs.Common.{◌≡◌, inl, inr, ℕ, zero, ◌+◌, ◌≤◌, Bool, true, false, ◌||◌, cond, List, [], ◌∷◌, ◌++◌, length, length-append, refl, ap, ◌∙◌, subst, arith, max, suc}
+use Rattle.std.proofs.Common.{◌≡◌, inl, inr, ℕ, zero, ◌+◌, ◌≤◌, Bool, true, false, ◌&&◌, ◌||◌, cond, List, [], ◌∷◌, ◌++◌, length, length-append, refl, ap, ◌∙◌, subst, arith, max, suc}
+use Rattle.std.specs.Cmp.{first_so, second_so}
 use Rattle.amqp_model.specs.Term.{Refusal, too_large, null, Term, Terms, leaf, count}
 use Rattle.amqp_model.specs.Term as term
 use Rattle.amqp_model.specs.Spelling.{enc, items_of as ItemsStand}
@@ -13,6 +14,7 @@ use Rattle.amqp_model.specs.Fields.{Fits, canonical_items, AreValues}
 use Rattle.amqp_model.specs.Fields as table
 use Rattle.amqp_model.proofs.Least.{bytes_left, bytes_right}
 use Rattle.amqp_model.proofs.ItemCounts.{canonical_fewest}
+use Rattle.amqp_encoder.proofs.Refused.{count_of as count_terms}
 use Rattle.amqp_codec.specs.TermType.{ArePlain}
 use Rattle.amqp_codec.specs.Slots.{Field}
 
@@ -40,13 +42,9 @@ abbrev pub count_of : {V : Type 0} → Fields V → V → ℕ
 count_of none v = 0
 count_of (field get f fs) v = f.laws.count (get v) + count_of fs v
 
-abbrev pub both : Bool → Bool → Bool
-both true b = b
-both false b = false
-
 abbrev pub are_least : {V : Type 0} → Fields V → Bool
 are_least none = true
-are_least (field get f fs) = both f.laws.is_least (are_least fs)
+are_least (field get f fs) = f.laws.is_least && are_least fs
 
 abbrev pub take_memory : {V : Type 0} → Fields V → Bool
 take_memory none = false
@@ -59,14 +57,6 @@ either_first false b h = absurd (clash h refl)
 pub either_second : (a b : Bool) → b ≡ true → (a || b) ≡ true
 either_second true b h = refl
 either_second false b h = h
-
-pub both_first : (a b : Bool) → both a b ≡ true → a ≡ true
-both_first true b h = refl
-both_first false b h = h
-
-pub both_second : (a b : Bool) → both a b ≡ true → b ≡ true
-both_second true b h = h
-both_second false b h = absurd (clash h refl)
 
 -- what holds with an item and without it holds where it may be left out
 left_out : (E : Terms → Type 0) (t : Term) (b : Bool) → E term.none → E (term.more t term.none) → E (terms_of (cond b [] (t ∷ [])))
@@ -121,10 +111,6 @@ items_writable (field get f fs) (term.more t ts) b v (first, second, e, s, rest)
     before_each OnlyLarge (f.slot.meaning.canon (get v)) (canonical_items (slots fs) v) (λ r i. absurd i)
     (one_more (f.slot.meaning.canon (get v)) (items fs v) (f.laws.writable first t (get v) s h.0) (items_writable fs ts second v rest h.1))
 
-count_terms : (ts : List Term) → count (terms_of ts) ≡ length ts
-count_terms [] = refl
-count_terms (t ∷ ts) = ap suc (count_terms ts)
-
 length_items : (ts : Terms) → length (items_of ts) ≡ count ts
 length_items term.none = refl
 length_items (term.more t ts) = ap suc (length_items ts)
@@ -153,7 +139,7 @@ items_least (field get f fs) (term.more t ts) b v l i n (first, second, e, s, re
       arith,
       long,
       length-append (text canon Plain) (texts (items fs v) Plain),
-      f.laws.least (both_first f.laws.is_least (are_least fs) l) first t (get v) (bytes_left first second bytes) k.0 s h.0,
-      items_least fs ts second v (both_second f.laws.is_least (are_least fs) l) (bytes_right first second bytes) k.1 rest h.1,
+      f.laws.least (first_so f.laws.is_least (are_least fs) l) first t (get v) (bytes_left first second bytes) k.0 s h.0,
+      items_least fs ts second v (second_so f.laws.is_least (are_least fs) l) (bytes_right first second bytes) k.1 rest h.1,
     ))
     n

@@ -1,20 +1,16 @@
 -- Facts about terms that are one primitive.
-use Rattle.std.proofs.Common.{◌≡◌, ℕ, inl, inr, List, [], ◌∷◌, refl, sym, ap, subst}
-use Rattle.amqp_model.specs.Term.{Primitive, null, symbol, Refusal, too_large, non_ascii, duplicate_key, depth, zero_width_items, empty_multiple, mixed_array, lazy_in_array, custom, Term, leaf, holder, described, kept, barred, Descriptor}
+use Rattle.std.proofs.Common.{◌≡◌, ℕ, List, [], ◌∷◌, sym, ap, subst}
+use Rattle.amqp_model.specs.Term.{Primitive, null, Refusal, too_large, Term, leaf, holder, described, kept, barred, Descriptor}
 use Rattle.amqp_model.specs.Constructors.{Format, fixed, variable, compound, unknown, format}
 use Rattle.amqp_model.specs.Spelling.{PrimitiveData, IsValid, data_of, enc}
 use Rattle.amqp_model.specs.Standing.{Standing, whole, part}
 use Rattle.amqp_model.specs.Refusals.{IsRefused}
 use Rattle.amqp_model.specs.Kept.{Reads}
 use Rattle.amqp_codec.specs.TermType.{Spells}
-
--- the primitive of a leaf
-abbrev pub primitive_of : Term → Primitive → Primitive
-primitive_of (leaf p) q = p
-primitive_of _ q = q
+use Rattle.amqp_codec.specs.Flaws.{size_alone, leaf_flawless}
 
 pub leaf_injective : (p q : Primitive) → leaf p ≡ leaf q → p ≡ q
-leaf_injective p q e = ap (λ t. primitive_of t p) e
+leaf_injective p q e = cc
 
 pub reads_leaf : (p : Primitive) (t : Term) → Reads (leaf p) t → t ≡ leaf p
 reads_leaf p (leaf q) h = ap leaf (sym h)
@@ -38,35 +34,10 @@ unfolding enc
 spelled_valid (whole b) p (ds, c, few, (h, d, e, k, s)) = leaf_valid p ds c d s
 spelled_valid (part ds c b) p h = leaf_valid p ds c b h
 
-no_flaw : (p : Primitive) (r : Refusal) → IsValid p → IsRefused r (leaf p) → r ≡ too_large
-no_flaw p r v (inl e) = absurd (cc)
-no_flaw p too_large v (inr h) = refl
-no_flaw (symbol s) non_ascii v (inr h) = absurd (h v)
-no_flaw p duplicate_key v (inr h) = absurd h
-no_flaw p depth v (inr h) = absurd h
-no_flaw p zero_width_items v (inr h) = absurd h
-no_flaw p empty_multiple v (inr h) = absurd h
-no_flaw p mixed_array v (inr h) = absurd h
-no_flaw p lazy_in_array v (inr h) = absurd h
-no_flaw p (custom n) v (inr h) = absurd h
-no_flaw p non_ascii v (inr h) = absurd h
-
 -- what was spelled is refused for its size alone
 pub leaf_writable : (s : Standing) (t : Term) (p : Primitive) (r : Refusal) → Spells s t → t ≡ leaf p → IsRefused r (leaf p) → r ≡ too_large
-leaf_writable s t p r h e i = no_flaw p r (spelled_valid s p (subst (Spells s) e h)) i
-
-no_null_flaw : (r : Refusal) → IsRefused r (leaf null) → ⊥
-no_null_flaw r (inl e) = cc
-no_null_flaw too_large (inr h) = h
-no_null_flaw non_ascii (inr h) = h
-no_null_flaw duplicate_key (inr h) = h
-no_null_flaw depth (inr h) = h
-no_null_flaw zero_width_items (inr h) = h
-no_null_flaw empty_multiple (inr h) = h
-no_null_flaw mixed_array (inr h) = h
-no_null_flaw lazy_in_array (inr h) = h
-no_null_flaw (custom n) (inr h) = h
+leaf_writable s t p r h e i = size_alone (leaf_flawless p (spelled_valid s p (subst (Spells s) e h))) r i
 
 -- nothing refuses null
 pub null_writable : (r : Refusal) → IsRefused r (leaf null) → r ≡ too_large
-null_writable r h = absurd (no_null_flaw r h)
+null_writable r h = size_alone (leaf_flawless null tt) r h

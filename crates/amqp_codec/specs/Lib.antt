@@ -1,5 +1,6 @@
 pub mod Tidy
 pub mod TermType
+pub mod Flaws
 pub mod Leaves
 pub mod Nulls
 pub mod PrimitiveTypes
@@ -21,7 +22,6 @@ pub mod Reading
 pub mod Refused
 pub mod FieldReading
 pub mod Peeks
-pub mod Lists
 pub mod Members
 pub mod Rewritten
 pub mod TermLaws

@@ -1,5 +1,5 @@
 -- A value that is one of several composites is read by the descriptor that stands there (Part 1, section 1.4).
-use Rattle.std.proofs.Common.{◌≡◌, ◌⊎◌, inl, inr, ℕ, suc, nat_lt, not, ◌+◌, ◌<◌, ◌≤◌, Bool, true, false, cond, eqb, List, [], ◌∷◌, ◌++◌, length, map, drop, position, option_map, Option, Some, None, refl, sym, ap, ap₂, ◌∙◌, subst, arith}
+use Rattle.std.proofs.Common.{◌≡◌, ℕ, ◌+◌, ◌<◌, Bool, false, List, [], ◌∷◌, ◌++◌, length, map, drop, Option, Some, None, refl, sym, ap, ◌∙◌, subst, arith}
 use Rattle.std.proofs.lemmas.List.Quantifiers.{position-Some}
 use Rattle.amqp_model.specs.Term.{Descriptor, Term, described}
 use Rattle.amqp_model.specs.Standing.{Standing}
@@ -13,12 +13,13 @@ use Rattle.amqp_decoder.specs.Primitives.{standing, Stands, Value}
 use Rattle.amqp_decoder.specs.Containers.{ClosesDescribed, EndFault}
 use Rattle.amqp_decoder.specs.Described.{IsDescriptor, entered, TookDescriptor, OpensDescribed, Member, OpensOneOf, OneOfFault}
 use Rattle.amqp_decoder.proofs.Leaves.{begun_same}
+use Rattle.amqp_decoder.specs.Items.{Next}
 use Rattle.amqp_decoder.specs.Members.{as_name, is_named, name_place}
 use Rattle.amqp_decoder.proofs.Descriptions.{described_term, term_described}
 use Rattle.amqp_decoder.proofs.Members.{place_is}
+use Rattle.amqp_decoder.proofs.OneReading.{next_same}
 use Rattle.amqp_decoder.proofs.NotMemory.{one_of_not_memory, end_not_memory}
 use Rattle.amqp_wire.specs.declared.error.Error.TheVariants.{Memory}
-use Rattle.amqp_codec.specs.Reading.{stands_one}
 use Rattle.amqp_codec.specs.Refused.{no_memory, refused_first, refused_later}
 
 -- The members: their codes and names in order, and how what each describes is read.
@@ -56,11 +57,8 @@ member_not_memory m none st (not_ended {d} {i} {inner} {last} {v} o at q f) = en
 
 -- What was read behind the descriptor of a member is one term.
 pub record TermRead {V : Type 0} (m : Members V) (means : Standing → Term → V → Type 0) (i : ℕ) (inner : State) (v : V) (last : State) : Type 0 where
-  pub bytes : List ℕ
   pub term : Term
-  pub stands : Stands inner bytes term
-  pub moved : last ≡ past (length bytes) inner
-  pub going : last.error ≡ None
+  pub taken : Next inner term last
   pub meant : (d : Descriptor) (s : Standing) → name_place m.names d ≡ Some i → means s (described d term) v
 
 -- A term that means the value is described as a member.
@@ -70,7 +68,7 @@ pub record TermMeant {V : Type 0} (m : Members V) (t : Term) (v : V) : Type 0 wh
   pub place : ℕ
   pub is : t ≡ described descriptor described_
   pub named : name_place m.names descriptor ≡ Some place
-  pub read : (inner : State) (z : List ℕ) → Stands inner z described_ → m.reads place inner v (past (length z) inner)
+  pub read : (inner last : State) → Next inner described_ last → m.reads place inner v last
 
 -- The values are the members.
 pub record IsSum {V : Type 0} (m : Members V) (means : Standing → Term → V → Type 0) : Type 0 where
@@ -98,8 +96,8 @@ module _ {V : Type 0} (m : Members V) (means : Standing → Term → V → Type 
   pub to_value : (st : State) (v : V) (b : State) → st.nesting ≡ 128 → MemberRead m st v b → Value means st v b
   to_value st v b bound h =
       let t = sum.to_term h.place h.inner v h.last h.read in
-      let closes : ClosesDescribed InDescribed (past (length t.bytes) h.inner) b = subst (λ (x : State). ClosesDescribed InDescribed x b) t.moved h.closes in
-      let r = described_term st h.descriptor t.term b (omega (arith, bound)) (record { inner = h.inner; opens = h.opens; bytes = t.bytes; stands = t.stands; closes = closes }) in
+      let closes : ClosesDescribed InDescribed (past (length t.taken.bytes) h.inner) b = subst (λ (x : State). ClosesDescribed InDescribed x b) t.taken.moved h.closes in
+      let r = described_term st h.descriptor t.term b (omega (arith, bound)) (record { inner = h.inner; opens = h.opens; bytes = t.taken.bytes; stands = t.taken.stands; closes = closes }) in
       record { bytes = r.bytes; term = described h.descriptor t.term; stands = r.stands; moved = r.moved; meant = t.meant h.descriptor (standing st.top.shared r.bytes) h.is }
 
   pub from_value : (st : State) (v : V) (b : State) → Value means st v b → MemberRead m st v b
@@ -113,7 +111,7 @@ module _ {V : Type 0} (m : Members V) (means : Standing → Term → V → Type 
         inner = k.inner;
         opens = k.opens;
         last = past (length k.bytes) k.inner;
-        read = t.read k.inner k.bytes k.stands;
+        read = t.read k.inner (past (length k.bytes) k.inner) (record { bytes = k.bytes; stands = k.stands; moved = refl });
         closes = k.closes;
       }
 
@@ -157,13 +155,12 @@ module _ {V : Type 0} (m : Members V) (means : Standing → Term → V → Type 
       let going = opened_going ms st i inner o in
       let at = opened_place ms st i inner names o in
       let t = sum.to_term i inner v last q in
-      refused_later (λ st (_ : Unit {0}) b. ClosesDescribed InDescribed st b) (EndFault InDescribed) (Value means) (MemberFault m) st last e new no_memory (ap (λ (x : State). x.failed) t.moved ∙ opened_failed ms st i inner o) going.0 t.going (not_ended o.opens at q)
+      refused_later (λ st (_ : Unit {0}) b. ClosesDescribed InDescribed st b) (EndFault InDescribed) (Value means) (MemberFault m) st last e new no_memory (ap (λ (x : State). x.failed) t.taken.moved ∙ opened_failed ms st i inner o) going.0 (ap (λ (x : State). x.error) t.taken.moved ∙ going.1) (not_ended o.opens at q)
       (λ none w b h.
       let k = from_value st w b h in
       let s = described_same st k.descriptor o.descriptor k.inner inner k.opens o.opens in
       let u = sum.to_term k.place k.inner w k.last k.read in
-      let same = stands_one inner u.bytes t.bytes u.term t.term (subst (λ (x : State). Stands x u.bytes u.term) s.1 u.stands) t.stands in
-      let ends : k.last ≡ last = u.moved ∙ ap₂ (λ n (x : State). past n x) (ap length same.0) s.1 ∙ sym t.moved in
+      let ends : k.last ≡ last = (next_same inner k.last last u.term t.term (subst (λ (x : State). Next x u.term k.last) s.1 u.taken) t.taken).1 in
       none tt b (subst (λ (x : State). ClosesDescribed InDescribed x b) ends k.closes))
       r
 

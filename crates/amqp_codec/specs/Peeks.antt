@@ -1,5 +1,5 @@
 -- A value stands where its first code was looked at.
-use Rattle.std.proofs.Common.{◌≡◌, inl, inr, ℕ, ◌+◌, ◌-◌, ◌≤◌, true, false, List, [], ◌∷◌, ◌++◌, length, drop, take, max, Option, Some, None, Result, Ok, Err, ◌⊎◌, refl, sym, ap, ◌∙◌, subst, arith}
+use Rattle.std.proofs.Common.{◌≡◌, inl, inr, ℕ, ◌+◌, ◌-◌, ◌≤◌, true, false, List, [], ◌∷◌, ◌++◌, length, drop, Option, Some, None, ◌⊎◌, refl, sym, ap, ◌∙◌, arith, append_assoc, length-append}
 use Rattle.std.proofs.lemmas.List.{drop_at}
 use Rattle.amqp_model.specs.Term.{null, Term, leaf, holder, described, kept, barred, Descriptor}
 use Rattle.amqp_model.specs.Standing.{Standing}
@@ -8,11 +8,13 @@ use Rattle.amqp_model.specs.Items.{is_null}
 use Rattle.amqp_model.specs.ItemLaws.{clash}
 use Rattle.amqp_model.proofs.Lengths.{spelling_length}
 use Rattle.amqp_wire.specs.declared.error.Error.{Error}
-use Rattle.amqp_decoder.specs.State.{State, Has, looked, past}
+use Rattle.amqp_decoder.specs.State.{State, past}
 use Rattle.amqp_decoder.specs.Steps.{Excused}
 use Rattle.amqp_decoder.specs.Reading.{Begun, IsFirst, Peeked, looked_under}
 use Rattle.amqp_decoder.specs.Primitives.{standing, SpellsAs, Stands, Value, Means, PrimitiveFault}
 use Rattle.amqp_decoder.proofs.Leaves.{value_leaf, begun_same, fault_not_leaf, code_value}
+use Rattle.amqp_decoder.proofs.Steps.{has_less}
+use Rattle.amqp_decoder.proofs.Peeks.{begun-peeked}
 use Rattle.amqp_decoder.proofs.KindsOfCodes.{kind_data, one_code}
 use Rattle.amqp_codec.specs.Nulls.{null_primitive}
 use Rattle.amqp_codec.specs.Refused.{NoneStands}
@@ -27,15 +29,11 @@ first_by None s t h = let f = first_own s (spelling_length s t h) in (f.0, f.0 �
 first_by (Some ([], k)) s t h = (k, [], s, (refl, refl), refl)
 first_by (Some (d ∷ ds, k)) s t h = (0, [], s, (refl, refl), refl)
 
-has_less : (o : Option ℕ) (m n : ℕ) → m ≤ n → Has o n → Has o m
-has_less None m n l h = tt
-has_less (Some k) m n l h = omega (arith, l, h)
-
 pub stands_begun : (st : State) (s : List ℕ) (t : Term) → Stands st s t → (c : ℕ) × (after : State) × Begun st c after
 stands_begun st s t h =
     let f = first_by st.top.shared s t h.spelled in
     let own = f.1 in
-    let whole : st.rest ≡ own ++ (f.2 ++ h.after) = h.rest ∙ ap (λ x. x ++ h.after) f.4 ∙ Rattle.std.proofs.Common.append_assoc own f.2 h.after in (
+    let whole : st.rest ≡ own ++ (f.2 ++ h.after) = h.rest ∙ ap (λ x. x ++ h.after) f.4 ∙ append_assoc own f.2 h.after in (
       f.0,
       past (length own) st,
       record {
@@ -43,7 +41,7 @@ stands_begun st s t h =
         item = h.item;
         own = own;
         first = f.3;
-        room = has_less st.top.left (length own) (length s) (omega (arith, ap length f.4, Rattle.std.proofs.Common.length-append own f.2)) h.room;
+        room = has_less st.top.left (length own) (length s) (omega (arith, ap length f.4, length-append own f.2)) h.room;
         rest = whole ∙ ap (λ x. own ++ x) (sym (drop_at own (f.2 ++ h.after) (length own) refl) ∙ ap (drop (length own)) (sym whole));
         moved = refl;
       },
@@ -69,43 +67,6 @@ value_peeked means st none v b h =
     let f = stands_begun st h.bytes h.term h.stands in
     none f.0 (looked_under st.top.shared st) (record { after = f.1; begun = f.2; kept = refl })
 
--- a value takes a byte at least, unless its constructor is shared
-long_enough : (shared : Option (List Descriptor × ℕ)) (s : List ℕ) (t : Term) → shared ≡ None → SpellsAs (standing shared s) t → 1 ≤ length s
-long_enough None s t e h = spelling_length s t h
-long_enough (Some x) s t e h = absurd (cc)
-
-past_looked : (st : State) (n : ℕ) → 1 ≤ n → past n (looked 1 st) ≡ past n st
-past_looked st n h =
-    let e : max st.ahead 1 - n ≡ st.ahead - n = omega (arith, h) in
-    ap (λ a. record (past n st) { ahead = a }) e
-
-module _ {A : Type 0} (means : Standing → Term → A → Type 0) where
-  value_looked : (o : Option (List Descriptor × ℕ)) (st : State) (v : A) (b : State) → st.top.shared ≡ o → Value means st v b → Value means (looked_under o st) v b
-  value_looked None st v b e h = record {
-    bytes = h.bytes;
-    term = h.term;
-    stands = record { going = h.stands.going; item = h.stands.item; room = h.stands.room; after = h.stands.after; rest = h.stands.rest; spelled = h.stands.spelled; nested = h.stands.nested };
-    moved = h.moved ∙ sym (past_looked st (length h.bytes) (long_enough st.top.shared h.bytes h.term e h.stands.spelled));
-    meant = h.meant;
-  }
-  value_looked (Some x) st v b e h = h
-
-  looked_value : (o : Option (List Descriptor × ℕ)) (st : State) (v : A) (b : State) → st.top.shared ≡ o → Value means (looked_under o st) v b → Value means st v b
-  looked_value None st v b e h = record {
-    bytes = h.bytes;
-    term = h.term;
-    stands = record { going = h.stands.going; item = h.stands.item; room = h.stands.room; after = h.stands.after; rest = h.stands.rest; spelled = h.stands.spelled; nested = h.stands.nested };
-    moved = h.moved ∙ past_looked st (length h.bytes) (long_enough st.top.shared h.bytes h.term e h.stands.spelled);
-    meant = h.meant;
-  }
-  looked_value (Some x) st v b e h = h
-
-  pub peeked_from : (st : State) (c : ℕ) (mid : State) (v : A) (b : State) → Peeked st c mid → Value means mid v b → Value means st v b
-  peeked_from st c mid v b p h = looked_value st.top.shared st v b refl (subst (λ m. Value means m v b) p.kept h)
-
-  pub peeked_to : (st : State) (c : ℕ) (mid : State) (v : A) (b : State) → Peeked st c mid → Value means st v b → Value means mid v b
-  peeked_to st c mid v b p h = subst (λ m. Value means m v b) (sym p.kept) (value_looked st.top.shared st v b refl h)
-
 null_by : (shared : Option (List Descriptor × ℕ)) (s : List ℕ) (t : Term) → SpellsAs (standing shared s) t → is_null t ≡ true → t ≡ leaf null
 unfolding enc
 null_by shared s (leaf p) h n = ap leaf (null_primitive p n)
@@ -121,21 +82,12 @@ is_the_null st s t h = null_by st.top.shared s t h.spelled
 abbrev MeansNull : Standing → Term → Unit {0} → Type 0
 MeansNull = Means (λ _. null)
 
-begun_peeked : (st : State) (c : ℕ) (mid : State) → Peeked st c mid → (after : State) × Begun mid c after
-begun_peeked st c mid p = by_shared st.top.shared refl
-  where
-    by_shared : (o : Option (List Descriptor × ℕ)) → st.top.shared ≡ o → (after : State) × Begun mid c after
-    by_shared None e = subst (λ m. (after : State) × Begun m c after) (sym (p.kept ∙ ap (λ o. looked_under o st) e))
-        (past (length p.begun.own) (looked 1 st), record { going = p.begun.going; item = p.begun.item; own = p.begun.own; first = p.begun.first; room = p.begun.room; rest = p.begun.rest; moved = refl })
-    by_shared (Some x) e = subst (λ m. (after : State) × Begun m c after) (sym (p.kept ∙ ap (λ o. looked_under o st) e)) (p.after, p.begun)
-
 -- a null that was looked at is there
 pub null_there : (st : State) (mid : State) (e : Error) (new : State) → Peeked st 0x40 mid → Excused false e new ⊎ PrimitiveFault 0 mid e → Excused false e new
 null_there st mid e new p (inl x) = x
 null_there st mid e new p (inr f) =
-    let k = begun_peeked st 0x40 mid p in
-    let v : Value MeansNull mid tt k.0 = code_value (λ _. null) 0x40 mid tt k.0 k.1 (refl, refl, tt) in
-    absurd (fault_not_leaf 0 mid e null k.0 refl f (value_leaf (λ _. null) mid tt k.0 v))
+    let v : Value MeansNull mid tt p.after = code_value (λ _. null) 0x40 mid tt p.after ((begun-peeked st mid p.after 0x40 0x40 p).1 p.begun) (refl, refl, tt) in
+    absurd (fault_not_leaf 0 mid e null p.after refl f (value_leaf (λ _. null) mid tt p.after v))
 
 -- what begins by another code is no null
 pub not_null : {A : Type 0} (means : Standing → Term → A → Type 0) (st : State) (c : ℕ) (mid : State) (v : A) (b : State) → Peeked st c mid → (c ≡ 0x40 → ⊥) → (h : Value means st v b) → is_null h.term ≡ false

@@ -1,18 +1,15 @@
 -- What it is to read a value of a type: from which state of a decoder, and what state is left.
-use Rattle.std.proofs.Common.{◌≡◌, inl, inr, ℕ, ◌+◌, ◌≤◌, Bool, true, false, List, [], ◌++◌, length, drop, Option, Some, None, ◌⊎◌, refl, sym, ap, ◌∙◌, subst, arith, ◌-◌, length-append}
+use Rattle.std.proofs.Common.{◌≡◌, inl, inr, ℕ, ◌+◌, ◌≤◌, Bool, true, false, List, [], length, drop, None, ◌⊎◌, refl, ap, subst, arith, ◌-◌, length-append}
 use Rattle.std.proofs.lemmas.List.{length-drop}
-use Rattle.amqp_model.specs.Term.{Term, Descriptor}
-use Rattle.amqp_model.specs.Spelling.{enc}
+use Rattle.amqp_model.specs.Term.{Term}
 use Rattle.amqp_model.specs.Standing.{Standing}
-use Rattle.amqp_model.proofs.Unique.{fronts, data_same}
 use Rattle.amqp_model.proofs.Count.{nodes_bounded}
 use Rattle.amqp_wire.specs.declared.error.Error.{Error}
 use Rattle.amqp_wire.specs.declared.error.Error.TheVariants.{Memory}
-use Rattle.amqp_decoder.specs.State.{State, past, top_level}
+use Rattle.amqp_decoder.specs.State.{State, top_level}
 use Rattle.amqp_decoder.specs.Elsewhere.{elsewhere, value}
-use Rattle.amqp_decoder.specs.Steps.{Excused}
-use Rattle.amqp_decoder.specs.Reading.{Refused}
-use Rattle.amqp_decoder.specs.Primitives.{standing, SpellsAs, Stands, Value}
+use Rattle.amqp_decoder.specs.Primitives.{standing, SpellsAs, Value}
+use Rattle.amqp_decoder.proofs.OneReading.{value_same}
 use Rattle.amqp_codec.specs.TermType.{TermType}
 
 -- The bytes in front were taken, and none behind them from the source, unless the type looks on; and the source didn't
@@ -48,30 +45,15 @@ pub record Reading (T : Type 0) : Type 1 where
   pub reads_elsewhere : (source : ℕ) (failed : Bool) (st : State) (v : T) (b : State) → reads st v b → reads (elsewhere source failed st) v (elsewhere source failed b)
   pub fault_elsewhere : (source : ℕ) (failed : Bool) (st : State) (e : Error) → fault st e → fault (elsewhere source failed st) e
 
-fronts_by : (shared : Option (List Descriptor × ℕ)) (s z x y : List ℕ) (t u : Term) → SpellsAs (standing shared s) t → SpellsAs (standing shared z) u → s ++ x ≡ z ++ y → (s ≡ z) × (t ≡ u)
-fronts_by None s z x y t u h k e = fronts s z x y t u h k e
-fronts_by (Some (ds, c)) s z x y t u h k e = data_same t u ds c s z x y h k e
-
--- one term stands next
-pub stands_one : (st : State) (s z : List ℕ) (t u : Term) → Stands st s t → Stands st z u → (s ≡ z) × (t ≡ u)
-stands_one st s z t u h k = fronts_by st.top.shared s z h.after k.after t u h.spelled k.spelled (sym h.rest ∙ k.rest)
-
 -- what is read is one value, and leaves one state
 pub value_one : {T : Type 0} (same : T → T → Type 0) (means : Standing → Term → T → Type 0) → ((s : Standing) (t : Term) (v w : T) → means s t v → means s t w → same v w)
     → (st : State) (v w : T) (a b : State) → Value means st v a → Value means st w b → same v w × (a ≡ b)
 value_one same means one st v w a b h k =
-    let r = stands_one st h.bytes k.bytes h.term k.term h.stands k.stands in
-    let m : means (standing st.top.shared k.bytes) k.term v =
-    subst (λ s. means (standing st.top.shared s) k.term v) r.0 (subst (λ t. means (standing st.top.shared h.bytes) t v) r.1 h.meant) in
-    (one (standing st.top.shared k.bytes) k.term v w m k.meant, h.moved ∙ ap (λ s. past (length s) st) r.0 ∙ sym k.moved)
+    let r = value_same means st a b v w h k in (one r.0 r.1 v w r.2 r.3, r.4)
 
 value_left : {T : Type 0} (means : Standing → Term → T → Type 0) (st : State) (v : T) (b : State) (h : Value means st v b) → length h.bytes + length b.rest ≡ length st.rest
 value_left means st v b h =
     omega (arith, ap (λ (x : State). length x.rest) h.moved, length-drop (length h.bytes) st.rest, ap length h.stands.rest, length-append h.bytes h.stands.after)
-
-spelled_whole : (shared : Option (List Descriptor × ℕ)) (s : List ℕ) (t : Term) → shared ≡ None → SpellsAs (standing shared s) t → enc s t
-spelled_whole None s t e h = h
-spelled_whole (Some x) s t e h = absurd (cc)
 
 pub value_counted : {T : Type 0} (u : TermType T) (st : State) (v : T) (b : State) → st.top.shared ≡ None → Value u.means st v b → u.count v + length b.rest ≤ length st.rest
 value_counted u st v b n h =
@@ -79,7 +61,7 @@ value_counted u st v b n h =
       arith,
       value_left u.means st v b h,
       u.counted (standing st.top.shared h.bytes) h.term v h.meant,
-      nodes_bounded h.bytes h.term (spelled_whole st.top.shared h.bytes h.term n h.stands.spelled),
+      nodes_bounded h.bytes h.term (subst (λ o. SpellsAs (standing o h.bytes) h.term) n h.stands.spelled),
     )
 
 pub value_taken : {T : Type 0} (means : Standing → Term → T → Type 0) (st : State) (v : T) (b : State) → Value means st v b → Taken false st b
@@ -149,17 +131,6 @@ read_bounded r input v b h = r.counted (start input) v b refl h
 
 pub is_read : {T : Type 0} (r : Reading T) (input : List ℕ) (v : T) (b : State) (n : ℕ) → r.reads (start input) v b → n ≡ length input - length b.rest → IsRead r input v n
 is_read r input v b n h e = record { after = b; read = h; left = omega (arith, e, read_bounded r input v b h) }
-
--- after a refusal from a source that never fails, nothing can be read, or memory ran out where it is taken
-pub refused_read : {T : Type 0} (r : Reading T) (input : List ℕ) (e : Error) (b : State) → b.failed ≡ false → Refused r.takes_memory r.reads r.fault (start input) e b → ((r.takes_memory ≡ true) × (e ≡ Memory)) ⊎ Unreadable r input e
-refused_read {T} r input e b sound h = go (h.named refl) h.none
-  where
-    go : Excused r.takes_memory e b ⊎ r.fault (start input) e → Excused r.takes_memory e b ⊎ ((v : T) (st : State) → r.reads (start input) v st → ⊥) → ((r.takes_memory ≡ true) × (e ≡ Memory)) ⊎ Unreadable r input e
-    go (inl (inl x)) n = inl x
-    go (inl (inr x)) n = absurd (let y = x.1 in cc)
-    go (inr f) (inl (inl x)) = inl x
-    go (inr f) (inl (inr x)) = absurd (let y = x.1 in cc)
-    go (inr f) (inr n) = inr (record { fault = f; none = λ v m k. n v k.after k.read })
 
 -- memory is wanted only where it is taken
 pub memory_wanted : {T : Type 0} (r : Reading T) (input : List ℕ) (e : Error) → ((r.takes_memory ≡ true) × (e ≡ Memory)) ⊎ Unreadable r input e → e ≡ Memory → r.takes_memory ≡ true

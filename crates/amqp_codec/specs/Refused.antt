@@ -1,9 +1,11 @@
 -- Refusals of a call that is made of other calls.
-use Rattle.std.proofs.Common.{◌≡◌, inl, inr, Bool, true, false, None, ◌⊎◌}
+use Rattle.std.proofs.Common.{◌≡◌, inl, inr, ℕ, Bool, true, false, None, ◌⊎◌, ap, ◌∙◌}
+use Rattle.amqp_model.specs.Term.{Container}
 use Rattle.amqp_wire.specs.declared.error.Error.{Error}
 use Rattle.amqp_decoder.specs.State.{State}
 use Rattle.amqp_decoder.specs.Steps.{Excused}
 use Rattle.amqp_decoder.specs.Reading.{Refused}
+use Rattle.amqp_decoder.specs.Containers.{Opens}
 use Rattle.amqp_decoder.proofs.Steps.{answered_later}
 
 -- a call that takes memory at most where another does
@@ -14,6 +16,13 @@ excused_as e st may (inr x) = inr x
 -- a call that takes none
 pub no_memory : {b : Bool} → false ≡ true → b ≡ true
 no_memory h = absurd (cc)
+
+-- a call that opened a container came with no error kept, and its source hasn't begun to fail
+pub opened_going : {kind : Container} {st first : State} {n : ℕ} → Opens kind st n first → first.error ≡ None
+opened_going o = ap (λ (x : State). x.error) o.data_.entered ∙ ap (λ (x : State). x.error) o.data_.header.took.moved ∙ ap (λ (x : State). x.error) o.begun.moved ∙ o.begun.going
+
+pub opened_sound : {kind : Container} {st first : State} {n : ℕ} → Opens kind st n first → first.failed ≡ st.failed
+opened_sound o = ap (λ (x : State). x.failed) o.data_.entered ∙ ap (λ (x : State). x.failed) o.data_.header.took.moved ∙ ap (λ (x : State). x.failed) o.begun.moved
 
 -- nothing that could be read stands there, unless the refusal is excused
 abbrev pub NoneStands : {A : Type 0} → (State → A → State → Type 0) → State → Type 0

@@ -2,7 +2,7 @@
 use Rattle.std.specs.Prelude.{◌≡◌, ◌⊎◌, ℕ, ◌<◌, List, length, Result, Ok, Err}
 use Rattle.amqp_model.specs.Term.{Term, Terms, kept, count}
 use Rattle.amqp_model.specs.Spelling.{enc}
-use Rattle.amqp_model.specs.Measures.{nest, nests}
+use Rattle.amqp_model.specs.Measures.{nests}
 use Rattle.amqp_model.specs.Ranges.{EverywhereIn, IsValue}
 use Rattle.amqp_model.specs.Refusals.{SomewhereIn}
 use Rattle.amqp_model.specs.Kept.{ReadsEach}
@@ -15,15 +15,8 @@ use Rattle.amqp_encoder.specs.declared.size.Size.{Size}
 use Rattle.amqp_encoder.specs.Measuring.{MAX}
 use Rattle.amqp_encoder.specs.Passes.{row_text, row_tokens, answer_of, IsMeasured}
 use Rattle.amqp_encoder.specs.Reasons.{HasReason}
+use Rattle.amqp_encoder.specs.Refused.{KnowDepths}
 use Rattle.amqp_encoder.specs.Writes.{Writes, Follows, bytes_of}
-
--- bytes that are kept nest as deep as what they spell
-abbrev pub KnowsDepth : (List ℕ → ℕ) → Term → Type 0
-KnowsDepth deep (kept b) = (t : Term) → enc b t → deep b ≡ nest t
-KnowsDepth deep _ = Unit {0}
-
-abbrev pub KnowDepths : (List ℕ → ℕ) → List Term → Type 0
-KnowDepths deep ts = EverywhereIn (KnowsDepth deep) (terms_of ts)
 
 -- The type of a value ran out of memory of its own, and refused the value for that.
 pub record GaveUp (old : Encoder) (result : Result (Unit {0}) Error) (new : Encoder) : Type 0 where

@@ -74,7 +74,7 @@ one_byte [] h = absurd (omega arith)
 one_byte (x ∷ []) h = refl
 one_byte (x ∷ y ∷ r) h = absurd (omega arith)
 
-has_less : (o : Option ℕ) (m n : ℕ) → m ≤ n → Has o n → Has o m
+pub has_less : (o : Option ℕ) (m n : ℕ) → m ≤ n → Has o n → Has o m
 has_less None m n h k = tt
 has_less (Some l) m n h k = omega arith
 

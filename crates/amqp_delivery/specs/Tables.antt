@@ -1,9 +1,8 @@
 -- The tables of the delivery states (Part 3, section 3.4).
-use Rattle.std.proofs.Common.{◌≡◌, ◌⊎◌, ◌<◌, inl, inr, codes, ℕ, zero, suc, Bool, true, ◌||◌, [], ◌∷◌, Some, get_or, refl, sym, subst, arith}
+use Rattle.std.proofs.Common.{◌≡◌, ◌⊎◌, ◌<◌, inl, inr, codes, ℕ, zero, suc, Bool, true, ◌||◌, [], ◌∷◌, Some, get_or, refl, arith}
 use Rattle.std.proofs.lemmas.List.Quantifiers.{position-Some}
 use Rattle.amqp_model.specs.Term.{Descriptor, name, code, Term}
 use Rattle.amqp_model.specs.Standing.{Standing}
-use Rattle.amqp_model.specs.Composite.{Describes}
 use Rattle.amqp_wire.specs.declared.error.Error.{Error}
 use Rattle.amqp_decoder.specs.State.{State}
 use Rattle.amqp_decoder.specs.Elsewhere.{elsewhere}
@@ -18,7 +17,7 @@ use Rattle.amqp_codec.specs.Refused.{NoneStands}
 use Rattle.amqp_codec.specs.Elsewhere.{fields_read, fields_fault, member_fault}
 use Rattle.amqp_decoder.specs.Members.{is_named, name_place}
 use Rattle.amqp_codec.specs.Members.{member_not_memory, Members, MemberFault, TermRead, TermMeant, IsSum}
-use Rattle.amqp_codec.specs.Composite.{Table, table_of, composite, composite_is_sum, fields_term, named_describes, only_place}
+use Rattle.amqp_codec.specs.Composite.{Table, composite, fields_to_member, member_to_fields, described_place}
 use Rattle.amqp_codec.specs.EitherType.{either_of}
 use Rattle.amqp_codec.specs.Wrappers.{via}
 use Rattle.amqp_codec.specs.Apart.{composites_apart}
@@ -110,31 +109,21 @@ first_or_second d i h =
     by_place (suc zero) l e = inr (refl, e)
     by_place (suc (suc i)) l e = absurd (omega arith)
 
-received_place : (d : Descriptor) → Describes (table_of received) d → name_place state_members.names d ≡ Some 0
-received_place (code n) e = subst (λ k. name_place state_members.names (code k) ≡ Some 0) (sym e) refl
-received_place (name s) e = subst (λ k. name_place state_members.names (name k) ≡ Some 0) (sym e) refl
+received_named : (d : Descriptor) → name_place state_members.names d ≡ Some 0 → is_named d (received.code, received.name) ≡ true
+received_named d at = elim (first_or_second d 0 at) [ inl x ↦ x.1 | inr x ↦ absurd (cc) ]
 
-accepted_place : (d : Descriptor) → Describes (table_of accepted) d → name_place state_members.names d ≡ Some 1
-accepted_place (code n) e = subst (λ k. name_place state_members.names (code k) ≡ Some 1) (sym e) refl
-accepted_place (name s) e = subst (λ k. name_place state_members.names (name k) ≡ Some 1) (sym e) refl
+accepted_named : (d : Descriptor) (i : ℕ) → name_place state_members.names d ≡ Some (suc i) → is_named d (accepted.code, accepted.name) ≡ true
+accepted_named d i at = elim (first_or_second d (suc i) at) [ inl x ↦ absurd (let y = x.0 in omega (arith, y)) | inr x ↦ x.1 ]
 
 to_term : (i : ℕ) (inner : State) (v : DeliveryState) (last : State) → StateRead i inner v last → TermRead state_members delivery_state.means i inner v last
-to_term zero inner (state.Received v) last h =
-    let l = fields_term received inner v last h in
-    record { bytes = l.bytes; term = l.term; stands = l.stands; moved = l.moved; going = l.going; meant = λ d s at. elim (first_or_second d 0 at) [ inl x ↦ (named_describes received d x.1, l.fits) | inr x ↦ absurd (cc) ] }
+to_term zero inner (state.Received v) last h = fields_to_member received state_members 0 v (state.Received v) delivery_state.means received_named (λ s t m. m) inner last h
 to_term zero inner (state.Accepted v) last h = absurd h
 to_term (suc i) inner (state.Received v) last h = absurd h
-to_term (suc i) inner (state.Accepted v) last h =
-    let l = fields_term accepted inner v last h in
-    record { bytes = l.bytes; term = l.term; stands = l.stands; moved = l.moved; going = l.going; meant = λ d s at. elim (first_or_second d (suc i) at) [ inl x ↦ absurd (let y = x.0 in omega (arith, y)) | inr x ↦ (named_describes accepted d x.1, l.fits) ] }
+to_term (suc i) inner (state.Accepted v) last h = fields_to_member accepted state_members (suc i) v (state.Accepted v) delivery_state.means (λ d. accepted_named d i) (λ s t m. m) inner last h
 
 from_term : (s : Standing) (t : Term) (v : DeliveryState) → delivery_state.means s t v → TermMeant state_members t v
-from_term s t (state.Received v) m =
-    let l = (composite_is_sum received).from_term s t v m in
-    record { descriptor = l.descriptor; described_ = l.described_; place = 0; is = l.is; named = received_place l.descriptor (named_describes received l.descriptor (only_place l.descriptor (received.code, received.name) l.place l.named)); read = l.read }
-from_term s t (state.Accepted v) m =
-    let l = (composite_is_sum accepted).from_term s t v m in
-    record { descriptor = l.descriptor; described_ = l.described_; place = 1; is = l.is; named = accepted_place l.descriptor (named_describes accepted l.descriptor (only_place l.descriptor (accepted.code, accepted.name) l.place l.named)); read = l.read }
+from_term s t (state.Received v) = member_to_fields received state_members 0 v (state.Received v) (described_place received state_members.names 0 refl refl) (λ inner last h. h) t
+from_term s t (state.Accepted v) = member_to_fields accepted state_members 1 v (state.Accepted v) (described_place accepted state_members.names 1 refl refl) (λ inner last h. h) t
 
 pub states_are_members : IsSum state_members delivery_state.means
 states_are_members = record { to_term = to_term; from_term = from_term }

@@ -73,7 +73,7 @@ no_odd list us v h = h
 no_odd map us v h = h v
 no_odd array us v h = h
 
-count_of : (us : List Term) → count (terms_of us) ≡ length us
+pub count_of : (us : List Term) → count (terms_of us) ≡ length us
 count_of [] = refl
 count_of (u ∷ us) = ap suc (count_of us)
 
@@ -114,7 +114,7 @@ module _ (deep : List ℕ → ℕ) where
     no_deeper (barred r) (barred s) x h = omega arith
     no_deeper u t x h = let no_way : ⊥ = grind arith in absurd no_way
 
-    none_deeper : (us ts : Terms) → EverywhereIn (KnowsDepth deep) us → ReadsEach us ts → nests_by deep us ≤ nests ts
+    pub none_deeper : (us ts : Terms) → EverywhereIn (KnowsDepth deep) us → ReadsEach us ts → nests_by deep us ≤ nests ts
     none_deeper none none x h = omega arith
     none_deeper none (more t ts) x h = absurd h
     none_deeper (more u us) none x h = absurd h
@@ -142,7 +142,7 @@ module _ (deep : List ℕ → ℕ) where
     as_deep (barred r) (barred s) x h = inl (omega arith)
     as_deep u t x h = let no_way : ⊥ = grind arith in absurd no_way
 
-    all_as_deep : (us ts : Terms) → EverywhereIn (KnowsDepth deep) us → ReadsEach us ts → (nests ts ≤ nests_by deep us) ⊎ SomewhereIn HasKeptItem us
+    pub all_as_deep : (us ts : Terms) → EverywhereIn (KnowsDepth deep) us → ReadsEach us ts → (nests ts ≤ nests_by deep us) ⊎ SomewhereIn HasKeptItem us
     all_as_deep none none x h = inl (omega arith)
     all_as_deep none (more t ts) x h = absurd h
     all_as_deep (more u us) none x h = absurd h

@@ -27,7 +27,7 @@ use Rattle.amqp_encoder.proofs.Lifted.{alls_at, any_past}
 use Rattle.amqp_encoder.proofs.Measuring.{fr, mk, Goes, goes, stops, codes_after, all_descs}
 use Rattle.amqp_encoder.proofs.MeasuredTerms.{measure_terms}
 
-row_calls : (deep : List ℕ → ℕ) (ts : List Term) → row_tokens deep ts ≡ all_tokens deep (terms_of ts)
+pub row_calls : (deep : List ℕ → ℕ) (ts : List Term) → row_tokens deep ts ≡ all_tokens deep (terms_of ts)
 row_calls deep [] = refl
 row_calls deep (t ∷ ts) = ap (λ r. tokens deep t ++ r) (row_calls deep ts)
 

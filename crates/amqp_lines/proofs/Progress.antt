@@ -1,7 +1,8 @@
 -- How the answers grow, line by line.
-use Rattle.std.proofs.Common.{◌≡◌, ◌∷◌, ℕ, ◌+◌, ◌-◌, ◌≤◌, inl, inr, Bool, true, false, ◌&&◌, List, [], ◌++◌, length, take, drop, Option, Some, None, refl, sym, ap, ◌∙◌, subst, arith, append_assoc, append-nil, MatchOption, IfSome}
+use Rattle.std.proofs.Common.{◌≡◌, ◌∷◌, ℕ, ◌+◌, ◌-◌, ◌≤◌, inl, inr, Bool, true, ◌&&◌, List, [], ◌++◌, length, take, drop, Option, Some, None, refl, sym, ap, ◌∙◌, subst, arith, append_assoc, append-nil, MatchOption, IfSome}
 use Rattle.std.proofs.lemmas.List.{take_all, length-drop, length-append}
 use Rattle.std.proofs.Math.Seq.{take-add}
+use Rattle.std.proofs.Math.Bool.{and_assoc, and-true}
 use Rattle.std.specs.Io.KnownBytes.{Appends, Keeps}
 use Rattle.amqp_lines.specs.Lines.{TakesLine}
 use Rattle.amqp_lines.specs.Answers.{IsAnswer, AreAnswers, done, next, rewritten, refused, other, printed_of, is_good, AnswersLine}
@@ -34,14 +35,6 @@ pub is_answer : (line : List ℕ) (answer : Answer) → AnswersLine line answer 
 is_answer line (Rewritten text left) (named, input, n, asks, t, l) = rewritten named input text.items n left asks t l
 is_answer line (Refused e) (named, input, asks, why) = refused named input e asks why
 is_answer line NoRequest h = other h
-
-and_assoc : (a b c : Bool) → ((a && b) && c) ≡ (a && (b && c))
-and_assoc true b c = refl
-and_assoc false b c = refl
-
-and_true : (a : Bool) → (a && true) ≡ a
-and_true true = refl
-and_true false = refl
 
 -- So many lines at least were taken.
 abbrev pub IsShorter : Option (List ℕ) → Option (List ℕ) → ℕ → Type 0
@@ -115,7 +108,7 @@ all_done : (input now new : Option (List ℕ)) (output : List ℕ) (all : Bool) 
 all_done None now new output all e h = tt
 all_done (Some xs) None new output all e h = absurd h
 all_done (Some xs) (Some r) None output all e h = absurd e
-all_done (Some xs) (Some r) (Some rest) output all e h = rw (sym (append-nil output), sym (and_true all)) (h [] true (subst (λ z. AreAnswers z [] true) (sym e) done))
+all_done (Some xs) (Some r) (Some rest) output all e h = rw (sym (append-nil output), sym (and-true all)) (h [] true (subst (λ z. AreAnswers z [] true) (sym e) done))
 
 told : (input : Option (List ℕ)) (before after : Option (List ℕ)) (output : List ℕ) (all : Bool) → IfSome input (λ xs. AreAnswers xs output all) → Appends before after output → IfSome input (λ xs. (o : List ℕ) × AreAnswers xs o all × Appends before after o)
 told None before after output all h k = tt

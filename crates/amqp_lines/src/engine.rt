@@ -1,5 +1,5 @@
 //! All lines of a reader.
-ghost use Rattle.std.specs.Prelude.{◌≡◌, ◌≤◌, ◌⊎◌, ℕ, List, length, IfOk, IfErr, IfSome, OnOk};
+ghost use Rattle.std.specs.Prelude.{◌≡◌, ◌<◌, ◌⊎◌, ℕ, List, length, take, IfOk, IfErr, IfSome, OnOk, OnErr};
 ghost use Rattle.std.specs.Io.KnownBytes.{Appends, Keeps};
 ghost use Rattle.amqp_lines.specs.Answers.{AreAnswers, IsAnswer, IsOutside, IsOverfull};
 ghost use Rattle.amqp_wire.specs.declared.error.Error.TheVariants.{TooLarge};
@@ -44,9 +44,9 @@ fn answer_line<W: Write>(line: &[u8], writer: &mut W, alloc: Global) -> Result<b
     Ok(answer.is_ok())
 }
 
-// Flushes the writer.
+// Flushes the writer, which keeps what was written.
 fn flush<W: Write>(writer: &mut W) -> Result<(), Error>
-    ensures kept { OnOk result (Keeps (W.contents writer.old) (W.contents writer.new)) }
+    ensures kept { Keeps (W.contents writer.old) (W.contents writer.new) }
     ensures err { IfErr result IsOutside }
 {
     match writer.flush() {
@@ -55,9 +55,10 @@ fn flush<W: Write>(writer: &mut W) -> Result<(), Error>
     }
 }
 
-// Writes all of the bytes. No kind of failure is tried again.
+// Writes all of the bytes. No kind of failure is tried again; a front of them was written then, and not all.
 fn write_whole<W: Write>(writer: &mut W, bytes: &[u8]) -> Result<(), Error>
     ensures written { OnOk result (Appends (W.contents writer.old) (W.contents writer.new) bytes.now) }
+    ensures part { OnErr result ((n : ℕ) × (n < length bytes.now) × Appends (W.contents writer.old) (W.contents writer.new) (take n bytes.now)) }
     ensures err { IfErr result IsOutside }
 {
     let mut done = 0;

@@ -1,6 +1,6 @@
 -- A user's own type: a duration as a list of one uint.
-use Rattle.std.proofs.Common.{◌≡◌, inl, inr, ℕ, ◌≤◌, ◌<◌, ◌^◌, Bool, true, false, List, None, length, refl, sym, ap, ◌∙◌, subst, arith}
-use Rattle.amqp_model.specs.Term.{uint, Refusal, too_large, non_ascii, duplicate_key, depth, zero_width_items, empty_multiple, mixed_array, lazy_in_array, custom, list, Term, leaf, holder, none, more}
+use Rattle.std.proofs.Common.{◌≡◌, inl, inr, ℕ, ◌≤◌, ◌<◌, ◌^◌, Bool, true, false, List, length, refl, sym, ap, ◌∙◌, subst, arith}
+use Rattle.amqp_model.specs.Term.{uint, Refusal, too_large, list, Term, leaf, holder, none, more}
 use Rattle.amqp_model.specs.Spelling.{enc}
 use Rattle.amqp_model.specs.Text.{Plain, text, form}
 use Rattle.amqp_model.specs.Measures.{nest, nodes}
@@ -19,6 +19,7 @@ use Rattle.amqp_decoder.specs.Containers.{Opens, OpenFault, CloseFault}
 use Rattle.amqp_decoder.specs.Elsewhere.{elsewhere, value, primitive_fault, opens, open_fault, close_fault}
 use Rattle.amqp_decoder.proofs.NotMemory.{primitive_not_memory, close_not_memory, open_not_memory}
 use Rattle.amqp_codec.specs.TermType.{TermType, IsLeaf}
+use Rattle.amqp_codec.specs.Flaws.{size_alone, leaf_flawless, list_flawless}
 use Rattle.amqp_codec.specs.Plain.{reads_itself, plain_reads}
 use Rattle.amqp_tests.specs.declared.user_type.Seconds.{Seconds}
 
@@ -50,33 +51,9 @@ one_list v w e = let f : v.count ≡ w.count = cc in ap (λ n. let s : Seconds =
 pub list_reads : (t : Term) (v : Seconds) → Reads (list_of v) t → t ≡ list_of v
 list_reads t v r = plain_reads (list_of v) t (tt, tt) r
 
-flawless : (r : Refusal) (n : ℕ) → IsRefused r (leaf (uint n)) → r ≡ too_large
-flawless r n (inl e) = absurd (cc)
-flawless too_large n (inr h) = refl
-flawless non_ascii n (inr h) = absurd h
-flawless duplicate_key n (inr h) = absurd h
-flawless depth n (inr h) = absurd h
-flawless zero_width_items n (inr h) = absurd h
-flawless empty_multiple n (inr h) = absurd h
-flawless mixed_array n (inr h) = absurd h
-flawless lazy_in_array n (inr h) = absurd h
-flawless (custom m) n (inr h) = absurd h
-
-list_flaw : (r : Refusal) (v : Seconds) → IsRefused r (list_of v) → r ≡ too_large
-list_flaw r v (inl e) = absurd (cc)
-list_flaw too_large v (inr h) = refl
-list_flaw non_ascii v (inr h) = absurd h
-list_flaw duplicate_key v (inr h) = absurd h
-list_flaw depth v (inr h) = absurd h
-list_flaw zero_width_items v (inr h) = absurd h
-list_flaw empty_multiple v (inr h) = absurd h
-list_flaw mixed_array v (inr h) = absurd h
-list_flaw lazy_in_array v (inr h) = absurd h
-list_flaw (custom m) v (inr h) = absurd h
-
 pub list_writable : (v : Seconds) (r : Refusal) → Somewhere (IsRefused r) (list_of v) → r ≡ too_large
-list_writable v r (inl h) = list_flaw r v h
-list_writable v r (inr (inl h)) = flawless r v.count h
+list_writable v r (inl h) = size_alone (list_flawless (more (leaf (uint v.count)) none)) r h
+list_writable v r (inr (inl h)) = size_alone (leaf_flawless (uint v.count) tt) r h
 list_writable v r (inr (inr h)) = absurd h
 
 pub list_free : (v : Seconds) → IsFree (list_of v)

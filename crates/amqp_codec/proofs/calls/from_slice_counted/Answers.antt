@@ -1,6 +1,7 @@
 use Rattle.std.proofs.Common.{arith, refl}
 use Rattle.std.proofs.lemmas.Result.{err_from_is_err_and}
-use Rattle.amqp_codec.specs.Reading.{read_one, read_bounded, refused_read, is_read, memory_wanted}
+use Rattle.amqp_codec.specs.Reading.{read_one, read_bounded, is_read, memory_wanted}
+use Rattle.amqp_codec.proofs.FromReader.{refused_whole}
 use Rattle.amqp_codec.proofs.calls.from_slice_counted.Goals as goal
 
 pub returns-clause-found : goal.returns-clause-found
@@ -21,9 +22,9 @@ returns-clause-bounded g c =
 pub returns-in_err-value-clause-refused : goal.returns-in_err-value-clause-refused
 returns-in_err-value-clause-refused g c =
     let p = err_from_is_err_and c.from_residual.result c.from_residual.ensures.1 in
-    rw (p.1, p.2) (refused_read g.T.Deserialize.reading c.args.input.now _ c.deserialize-read.new.decoder c.unread-left.ensures.whole (rw c.new-decoder.ensures at (c.in_err-value.ensures (λ s. (s.now, refl)))))
+    rw (p.1, p.2) (refused_whole g.T.Deserialize.reading c.args.input.now _ c.deserialize-read.new.decoder c.unread-left.ensures.whole (rw c.new-decoder.ensures at (c.in_err-value.ensures (λ s. (s.now, refl)))))
 
 pub returns-in_err-value-clause-memory : goal.returns-in_err-value-clause-memory
 returns-in_err-value-clause-memory g c =
     let p = err_from_is_err_and c.from_residual.result c.from_residual.ensures.1 in
-    rw (p.1, p.2) (memory_wanted g.T.Deserialize.reading c.args.input.now _ (refused_read g.T.Deserialize.reading c.args.input.now _ c.deserialize-read.new.decoder c.unread-left.ensures.whole (rw c.new-decoder.ensures at (c.in_err-value.ensures (λ s. (s.now, refl))))))
+    rw (p.1, p.2) (memory_wanted g.T.Deserialize.reading c.args.input.now _ (refused_whole g.T.Deserialize.reading c.args.input.now _ c.deserialize-read.new.decoder c.unread-left.ensures.whole (rw c.new-decoder.ensures at (c.in_err-value.ensures (λ s. (s.now, refl))))))

@@ -4,7 +4,8 @@ use Rattle.amqp_model.specs.Term.{null}
 use Rattle.amqp_model.specs.Slot.{is_required}
 use Rattle.amqp_decoder.specs.Primitives.{Means}
 use Rattle.amqp_decoder.proofs.Steps.{answered}
-use Rattle.amqp_codec.specs.Peeks.{peeked_going, peeked_from}
+use Rattle.amqp_decoder.proofs.Peeks.{value-peeked}
+use Rattle.amqp_codec.specs.Peeks.{peeked_going}
 use Rattle.amqp_codec.proofs.Options.{null_refused}
 use Rattle.amqp_codec.proofs.FieldSteps.{item_unbegun, filled_step, null_unfit, null_read}
 use Rattle.amqp_codec.proofs.kernel.read_item.Goals as goal
@@ -29,10 +30,10 @@ returns-then-is_required g c tells =
     null_unfit g.C.Composite.table.fields c.args.index _ _ _ _ (peeked_going _ _ _ peeked).0
     (ap is_required (sym c.requires.its_kind) ∙ sym c.is_required.ensures ∙ c.if-is_required.true)
     c.refuse.ensures.answer (answered _ _ _ _ c.refuse.ensures.kept c.refuse.ensures.answer)
-    (peeked_from (Means (λ (_ : Unit {0}). null)) _ _ _ tt _ peeked (c.in_ok-read_null.ensures tells))
+    ((value-peeked (Means (λ (_ : Unit {0}). null)) _ _ _ _ tt peeked).0 (c.in_ok-read_null.ensures tells))
 
 pub returns : goal.returns
 returns g c tells =
     null_read g.C.Composite.table.fields c.args.index _ _ _
     (ap is_required (sym c.requires.its_kind) ∙ sym c.is_required.ensures ∙ c.if-is_required.false)
-    (peeked_from (Means (λ (_ : Unit {0}). null)) _ _ _ tt _ (c.in_ok-peek_code.ensures tells) (c.in_ok-read_null.ensures tells))
+    ((value-peeked (Means (λ (_ : Unit {0}). null)) _ _ _ _ tt (c.in_ok-peek_code.ensures tells)).0 (c.in_ok-read_null.ensures tells))
