@@ -11,11 +11,13 @@ use Rattle.amqp_wire.specs.declared.error.Error.{Error}
 use Rattle.amqp_wire.specs.declared.error.Error.TheVariants.{Depth}
 use Rattle.amqp_wire.specs.Codes.{refusal_of}
 use Rattle.amqp_lengths.specs.Pieces.{IsPrimitive}
+use Rattle.amqp_lengths.specs.Lengths.{Marks}
+use Rattle.amqp_lengths.proofs.Descriptors.{marks_more, marks_done}
 use Rattle.amqp_lengths.proofs.Codes.{zero_at, is_holder, Divided, holder_at}
 use Rattle.amqp_decoder.specs.State.{State, DescriptorValues, descriptor_of, Has, on}
 use Rattle.amqp_decoder.specs.Steps.{Answered, Took, Lacks, Stopped}
 use Rattle.amqp_decoder.specs.Described.{IsDescriptor, TookDescriptor, DescriptorFault, DescriptorMissed}
-use Rattle.amqp_decoder.specs.Arrays.{Marks, TookMarks, TookConstructor, ConstructorFault, no_code, no_mark, too_many, no_known_code, IsFlat}
+use Rattle.amqp_decoder.specs.Arrays.{TookMarks, TookConstructor, ConstructorFault, no_code, no_mark, too_many, no_known_code, IsFlat}
 use Rattle.amqp_decoder.proofs.Leaves.{has_front, has_rest, took_none}
 use Rattle.amqp_decoder.proofs.Opening.{took_both, on-on}
 use Rattle.amqp_decoder.proofs.Descriptors.{fault_not_names}
@@ -163,11 +165,6 @@ one_constructor st ds es c k m m' t u =
     (s.1.0, s.1.1, t.took.moved ∙ ap (λ l. on (length l) st) s.0 ∙ sym u.took.moved)
 
 -- marks are taken one by one
-pub marks_more : (ds : List Descriptor) (d : Descriptor) (a b : List ℕ) → Marks ds a → Names d b → Marks (ds ++ (d ∷ [])) (a ++ (0 ∷ b))
-marks_more [] d a b h n = (b, [], ap (λ l. l ++ (0 ∷ b)) h ∙ ap (λ l. 0 ∷ l) (sym (append-nil b)), n, refl)
-marks_more (e ∷ ds) d a b (first, second, is, names, h) n =
-    (first, second ++ (0 ∷ b), ap (λ l. l ++ (0 ∷ b)) is ∙ ap (λ l. 0 ∷ l) (append_assoc first second (0 ∷ b)), names, marks_more ds d second b h n)
-
 pub first_code : (st : State) (c : ℕ) (m : State) → Took st (c ∷ []) m → TookMarks st [] c m
 first_code st c m t = record { own = []; marks = refl; took = t }
 
@@ -195,11 +192,6 @@ named_behind st ds m d new none t u =
 pub code_after : (st : State) (ds : List Descriptor) (m : State) (c : ℕ) (new : State) → TookNamed st ds m → Took m (c ∷ []) new → TookMarks st ds c new
 code_after st ds m c new t u = record { own = t.own; marks = t.marks; took = took_both st m new t.own (c ∷ []) t.took u }
 
--- a known code ends a constructor
-pub marks_end : (ds : List Descriptor) (c : ℕ) (a : List ℕ) → IsKnown (format c) → Marks ds a → Constructor ds c (a ++ (c ∷ []))
-marks_end [] c a k h = (ap (λ l. l ++ (c ∷ [])) h, k)
-marks_end (d ∷ ds) c a k (first, second, is, names, h) = (first, second ++ (c ∷ []), ap (λ l. l ++ (c ∷ [])) is ∙ ap (λ l. 0 ∷ l) (append_assoc first second (c ∷ [])), names, marks_end ds c second k h)
-
 -- a code that may end a constructor, and isn't 0
 pub ends_known : (c : ℕ) → (c ≡ 0 → ⊥) → (c ≡ 0) ⊎ IsKnown (format c) → IsKnown (format c)
 ends_known c some (inl none) = absurd (some none)
@@ -207,7 +199,7 @@ ends_known c some (inr known) = known
 
 pub constructor_took : (st : State) (ds : List Descriptor) (c : ℕ) (m : State) (new : State) → length ds ≤ 128 → (c ≡ 0 → ⊥) → TookMarks st ds c m → ((c ≡ 0) ⊎ IsKnown (format c)) × (new ≡ m) → TookConstructor st ds c new
 constructor_took st ds c m new few some t (known, same) =
-    subst (TookConstructor st ds c) (sym same) (record { own = t.own ++ (c ∷ []); few = few; spelled = marks_end ds c t.own (ends_known c some known) t.marks; took = t.took })
+    subst (TookConstructor st ds c) (sym same) (record { own = t.own ++ (c ∷ []); few = few; spelled = marks_done ds c t.own t.marks (ends_known c some known); took = t.took })
 
 -- why none is taken
 pub stopped_first : (st : State) (e : Error) (new : State) → Stopped true (Lacks 1 st) st e new → Stopped true (ConstructorFault st) st e new

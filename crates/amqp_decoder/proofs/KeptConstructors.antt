@@ -8,16 +8,18 @@ use Rattle.amqp_wire.specs.declared.error.Error.{Error}
 use Rattle.amqp_wire.specs.declared.error.Error.TheVariants.{Depth}
 use Rattle.amqp_wire.specs.Codes.{refusal_of}
 use Rattle.amqp_lengths.specs.Pieces.{NamesAny}
+use Rattle.amqp_lengths.specs.Lengths.{Marks}
+use Rattle.amqp_lengths.proofs.Descriptors.{marks_more, marks_done}
 use Rattle.amqp_decoder.specs.State.{State}
 use Rattle.amqp_decoder.specs.Steps.{Answered, Took, Lacks, Stopped}
 use Rattle.amqp_decoder.specs.Kinds.{kind_at}
 use Rattle.amqp_decoder.specs.Primitives.{LacksData, IsWhole}
 use Rattle.amqp_decoder.specs.Described.{other_kind, DescriptorFault, no_code, no_kind, no_data, non_ascii}
-use Rattle.amqp_decoder.specs.Arrays.{Marks, TookMarks, ConstructorFault}
+use Rattle.amqp_decoder.specs.Arrays.{TookMarks, ConstructorFault}
 use Rattle.amqp_decoder.specs.Terms.{Keeps, IsSymbol, SymbolFault, no_text, no_ascii, IsConstructor}
 use Rattle.amqp_decoder.proofs.Leaves.{not_two, not_three}
 use Rattle.amqp_decoder.proofs.SizedTexts.{no_text_value}
-use Rattle.amqp_decoder.proofs.Constructed.{TookNamed, marks_more, marks_end, ends_known, stopped_code, stopped_mark, stopped_unknown}
+use Rattle.amqp_decoder.proofs.Constructed.{TookNamed, ends_known, stopped_code, stopped_mark, stopped_unknown}
 use Rattle.amqp_decoder.proofs.Steps.{answered, answered_so, answered_took, stopped_as, stopped_later}
 use Rattle.amqp_decoder.proofs.KeptBytes.{keeps_both, keeps_as}
 
@@ -114,7 +116,7 @@ constructor_kept n c a b st m new few some h (known, same) =
     subst (Keeps (IsConstructor c) a st b) (sym same) (keeps_as (IsMarked n c) (IsConstructor c) a b st m ends h)
   where
     ends : (x : List ℕ) → IsMarked n c x → IsConstructor c x
-    ends x (ds, count, own, marks, is) = (ds, omega arith, subst (Constructor ds c) (sym is) (marks_end ds c own (ends_known c some known) marks))
+    ends x (ds, count, own, marks, is) = (ds, omega arith, subst (Constructor ds c) (sym is) (marks_done ds c own marks (ends_known c some known)))
 
 -- why no constructor is kept
 pub unmarked_deep : (n : ℕ) (a b : List ℕ) (st m : State) (e : Error) (new : State) → n ≡ 128 → Keeps (IsMarked n 0) a st b m → e ≡ Depth → new ≡ record m { error = Some Depth } → Stopped true (ConstructorFault st) st e new

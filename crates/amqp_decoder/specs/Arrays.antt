@@ -6,17 +6,13 @@ use Rattle.amqp_model.specs.Spelling.{IsKnown, HasWidthZero, Names, Constructor}
 use Rattle.amqp_wire.specs.Codes.{refusal_of}
 use Rattle.amqp_wire.specs.declared.error.Error.{Error}
 use Rattle.amqp_wire.specs.declared.error.Error.TheVariants.{Depth, ZeroWidthItems}
+use Rattle.amqp_lengths.specs.Lengths.{Marks}
 use Rattle.amqp_decoder.specs.declared.frame.Place.TheVariants.{InArray}
 use Rattle.amqp_decoder.specs.State.{State, Has, inside}
 use Rattle.amqp_decoder.specs.Steps.{Took, Lacks, NoRoom}
 use Rattle.amqp_decoder.specs.Reading.{Begun, BeginFault}
 use Rattle.amqp_decoder.specs.Containers.{Header, HeaderFault}
 use Rattle.amqp_decoder.specs.Described.{DescriptorFault}
-
--- Descriptors, each after a 0.
-abbrev pub Marks : List Descriptor → List ℕ → Type 0
-Marks [] b = b ≡ []
-Marks (d ∷ ds) b = (first second : List ℕ) × (b ≡ 0 ∷ (first ++ second)) × Names d first × Marks ds second
 
 -- Descriptors, each after a 0, and a further code stood next, and were taken.
 pub record TookMarks (st : State) (ds : List Descriptor) (c : ℕ) (st' : State) : Type 0 where

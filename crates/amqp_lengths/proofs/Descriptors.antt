@@ -53,12 +53,12 @@ mark_found c after n is f =
     let long : 1 + n ≤ suc (length after) = omega (arith, f.within) in
     record { within = long; spelled = (v.0, (c, take n after, ap (λ k. take k (c ∷ after)) (sym one), v.1)) }
 
-marks_done : (ds : List Descriptor) (c : ℕ) (b : List ℕ) → Marks ds b → IsKnown (format c) → Constructor ds c (b ++ (c ∷ []))
+pub marks_done : (ds : List Descriptor) (c : ℕ) (b : List ℕ) → Marks ds b → IsKnown (format c) → Constructor ds c (b ++ (c ∷ []))
 marks_done [] c b h k = (ap (λ l. l ++ (c ∷ [])) h, k)
 marks_done (d ∷ ds) c b (first, second, e, n, h) k =
     (first, second ++ (c ∷ []), ap (λ l. l ++ (c ∷ [])) e ∙ ap (λ l. 0 ∷ l) (append_assoc first second (c ∷ [])), n, marks_done ds c second h k)
 
-marks_more : (ds : List Descriptor) (d : Descriptor) (b a : List ℕ) → Marks ds b → Names d a → Marks (ds ++ (d ∷ [])) (b ++ (0 ∷ a))
+pub marks_more : (ds : List Descriptor) (d : Descriptor) (b a : List ℕ) → Marks ds b → Names d a → Marks (ds ++ (d ∷ [])) (b ++ (0 ∷ a))
 marks_more [] d b a h n = (a, [], ap (λ l. l ++ (0 ∷ a)) h ∙ ap (λ l. 0 ∷ l) (sym (append-nil a)), n, refl)
 marks_more (f ∷ ds) d b a (first, second, e, m, h) n =
     (first, second ++ (0 ∷ a), ap (λ l. l ++ (0 ∷ a)) e ∙ ap (λ l. 0 ∷ l) (append_assoc first second (0 ∷ a)), m, marks_more ds d second a h n)
