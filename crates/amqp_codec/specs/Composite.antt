@@ -33,7 +33,7 @@ use Rattle.amqp_decoder.specs.State.{State, past}
 use Rattle.amqp_decoder.specs.Primitives.{Stands}
 use Rattle.amqp_codec.specs.Lists.{list_term, term_list}
 use Rattle.amqp_codec.specs.Elsewhere.{fields_read, fields_fault, member_fault}
-use Rattle.amqp_decoder.specs.Members.{is_named, name_place}
+use Rattle.amqp_input.specs.Members.{is_named, name_place}
 use Rattle.amqp_codec.specs.FieldReading.{fields_not_memory, FieldsRead, FieldsFault}
 use Rattle.amqp_codec.specs.Members.{member_not_memory, Members, MemberFault, TermRead, TermMeant, IsSum}
 use Rattle.amqp_codec.specs.Fields.{Fields, slots, items, count_of, are_least, take_memory, items_plain, items_valued, items_nested, items_counted, items_writable, items_fewest, items_least}

@@ -14,7 +14,7 @@ use Rattle.amqp_decoder.specs.Reading.{IsFirst}
 use Rattle.amqp_decoder.specs.Primitives.{standing, SpellsAs, Stands}
 use Rattle.amqp_decoder.specs.Containers.{Counts, Opens, Closes}
 use Rattle.amqp_decoder.proofs.Leaves.{has_add, has_front, has_rest, lower-lower}
-use Rattle.amqp_decoder.proofs.Looks.{front_is}
+use Rattle.amqp_input.proofs.Looks.{front_is}
 use Rattle.amqp_codec.specs.Reading.{stands_one}
 
 -- The terms stand next, one after another.

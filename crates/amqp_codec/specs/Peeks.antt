@@ -13,7 +13,7 @@ use Rattle.amqp_decoder.specs.Steps.{Excused}
 use Rattle.amqp_decoder.specs.Reading.{Begun, IsFirst, Peeked, looked_under}
 use Rattle.amqp_decoder.specs.Primitives.{standing, SpellsAs, Stands, Value, Means, PrimitiveFault}
 use Rattle.amqp_decoder.proofs.Leaves.{value_leaf, begun_same, fault_not_leaf, code_value}
-use Rattle.amqp_decoder.proofs.KindsOfCodes.{kind_data, one_code}
+use Rattle.amqp_input.proofs.KindsOfCodes.{kind_data, one_code}
 use Rattle.amqp_codec.specs.Nulls.{null_primitive}
 use Rattle.amqp_codec.specs.Refused.{NoneStands}
 

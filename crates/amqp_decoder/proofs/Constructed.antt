@@ -18,7 +18,7 @@ use Rattle.amqp_decoder.proofs.Leaves.{has_front, has_rest, took_none}
 use Rattle.amqp_decoder.proofs.Opening.{took_both, on-on}
 use Rattle.amqp_decoder.proofs.Descriptors.{fault_not_names}
 use Rattle.amqp_decoder.proofs.Steps.{answered_took, not_lacking}
-use Rattle.amqp_decoder.proofs.Looks.{front_is, rest_is}
+use Rattle.amqp_input.proofs.Looks.{front_is, rest_is}
 
 -- a test of each row holds of each code that is known
 abbrev rows_pass : (ℕ → Format → Bool) → List (ℕ × Format) → Bool

@@ -7,15 +7,16 @@ ghost use Rattle.amqp_wire.specs.declared.error.Error.TheVariants.{Memory};
 ghost use Rattle.amqp_model.specs.Term.{name as of_name};
 ghost use Rattle.amqp_wire.specs.Sources.{Tells};
 ghost use Rattle.amqp_wire.specs.Codes.{refusal_of};
+ghost use Rattle.amqp_input.specs.Members.{place_of as place_in};
 ghost use Rattle.amqp_decoder.specs.State.{moved, descriptor_of};
 ghost use Rattle.amqp_decoder.specs.Steps.{Answered};
 ghost use Rattle.amqp_decoder.specs.Reading.{Begun};
 ghost use Rattle.amqp_decoder.specs.Primitives.{Failed};
-ghost use Rattle.amqp_decoder.specs.Described.{IsUnmarked, IsMark, TookDescriptor, OpensDescribed, OpenFault, other_kind, symbol_code, place_of as place_in, IsDescribable, DescribedFault, DescriptorMissed, TookPlace, NameMissed, OpensOneOf, OneOfFault};
+ghost use Rattle.amqp_decoder.specs.Described.{IsUnmarked, IsMark, TookDescriptor, OpensDescribed, OpenFault, other_kind, symbol_code, IsDescribable, DescribedFault, DescriptorMissed, TookPlace, NameMissed, OpensOneOf, OneOfFault};
 
 use crate::Decoder;
 use crate::frame::Place;
-use crate::names::{Members, next_front, place_of, place_of_code, place_of_name};
+use amqp_input::names::{Members, next_front, place_of, place_of_code, place_of_name};
 use amqp_wire::{ByteSource, Descriptor, Error, format_code};
 use std::alloc::{AllocError, Global};
 
@@ -46,19 +47,7 @@ impl<R: ByteSource> Decoder<R> {
         self.check_nesting()
     }
 
-    // Neither a ulong nor a symbol.
-    #[cold]
-    fn refuse_descriptor(&mut self, code: u8) -> Error
-        ensures answer { result ≡ other_kind (refusal_of code) }
-        ensures kept { self.new ≡ record self.old { error = Some result } }
-    {
-        match format_code::refusal(code) {
-            Error::WrongType(_) => self.refuse(Error::BadDescriptor),
-            error => self.refuse(error),
-        }
-    }
-
-    // Whether the size of a symbol under this code has four bytes.
+    // Whether the size of a symbol under this code has four bytes; another code is no descriptor's.
     #[inline]
     fn is_wide_symbol(&mut self, code: u8) -> Result<bool, Error>
         ensures ok { IfOk result (λ wide. (code ≡ symbol_code wide) × (self.new ≡ self.old)) }
@@ -67,7 +56,10 @@ impl<R: ByteSource> Decoder<R> {
         match code {
             format_code::SYMBOL_8 => Ok(false),
             format_code::SYMBOL_32 => Ok(true),
-            _ => Err(self.refuse_descriptor(code)),
+            _ => match format_code::refusal(code) {
+                Error::WrongType(_) => Err(self.refuse(Error::BadDescriptor)),
+                error => Err(self.refuse(error)),
+            },
         }
     }
 
