@@ -34,7 +34,7 @@ use Rattle.std.proofs.lemmas.Slice.Eq.{bytes_eq-Decides}
 use Rattle.amqp_decoder.specs.State.{State}
 use Rattle.amqp_codec.specs.Elsewhere.{fields_read, fields_fault, member_fault}
 use Rattle.amqp_decoder.specs.Items.{Contains}
-use Rattle.amqp_decoder.specs.Members.{is_named, name_place}
+use Rattle.amqp_input.specs.Members.{is_named, name_place}
 use Rattle.amqp_decoder.proofs.Holders.{whole as list_whole, parts as list_parts}
 use Rattle.amqp_codec.specs.FieldReading.{fields_not_memory, FieldsRead, FieldsFault}
 use Rattle.amqp_codec.specs.Members.{member_not_memory, Members, MemberFault, TermRead, TermMeant, IsSum}

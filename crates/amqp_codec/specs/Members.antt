@@ -11,12 +11,12 @@ use Rattle.amqp_decoder.specs.Elsewhere.{elsewhere}
 use Rattle.amqp_decoder.specs.Reading.{Refused}
 use Rattle.amqp_decoder.specs.Primitives.{standing, Stands, Value}
 use Rattle.amqp_decoder.specs.Containers.{ClosesDescribed, EndFault}
-use Rattle.amqp_decoder.specs.Described.{IsDescriptor, entered, TookDescriptor, OpensDescribed, Member, OpensOneOf, OneOfFault}
+use Rattle.amqp_input.specs.Members.{Member, as_name, is_named, name_place}
+use Rattle.amqp_decoder.specs.Described.{IsDescriptor, entered, TookDescriptor, OpensDescribed, OpensOneOf, OneOfFault}
 use Rattle.amqp_decoder.proofs.Leaves.{begun_same}
 use Rattle.amqp_decoder.specs.Items.{Next}
-use Rattle.amqp_decoder.specs.Members.{as_name, is_named, name_place}
 use Rattle.amqp_decoder.proofs.Descriptions.{described_term, term_described}
-use Rattle.amqp_decoder.proofs.Members.{place_is}
+use Rattle.amqp_input.proofs.Members.{place_is}
 use Rattle.amqp_decoder.proofs.OneReading.{next_same}
 use Rattle.amqp_decoder.proofs.NotMemory.{one_of_not_memory, end_not_memory}
 use Rattle.amqp_wire.specs.declared.error.Error.TheVariants.{Memory}

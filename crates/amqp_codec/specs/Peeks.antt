@@ -15,7 +15,7 @@ use Rattle.amqp_decoder.specs.Primitives.{standing, SpellsAs, Stands, Value, Mea
 use Rattle.amqp_decoder.proofs.Leaves.{value_leaf, begun_same, fault_not_leaf, code_value}
 use Rattle.amqp_decoder.proofs.Steps.{has_less}
 use Rattle.amqp_decoder.proofs.Peeks.{begun-peeked}
-use Rattle.amqp_decoder.proofs.KindsOfCodes.{kind_data, one_code}
+use Rattle.amqp_input.proofs.KindsOfCodes.{kind_data, one_code}
 use Rattle.amqp_codec.specs.Nulls.{null_primitive}
 use Rattle.amqp_codec.specs.Refused.{NoneStands}
 

@@ -13,7 +13,7 @@ ghost use Rattle.amqp_codec.specs.Written.{WritesTerms};
 ghost use Rattle.amqp_wire.specs.Sources.{Tells};
 ghost use Rattle.amqp_decoder.specs.Reading.{Reads};
 ghost use Rattle.amqp_decoder.specs.Primitives.{Value};
-ghost use Rattle.amqp_decoder.specs.Members.{as_name};
+ghost use Rattle.amqp_input.specs.Members.{as_name};
 ghost use Rattle.amqp_codec.specs.Members.{MemberFault};
 ghost use Rattle.amqp_codec.specs.FieldReading.{FieldsRead, FieldsFault, Fills, FillsField, IsBlank, ReadsItem, kind_at};
 

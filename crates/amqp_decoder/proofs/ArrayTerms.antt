@@ -13,7 +13,7 @@ use Rattle.amqp_decoder.specs.Steps.{Took}
 use Rattle.amqp_decoder.specs.Containers.{Header}
 use Rattle.amqp_decoder.specs.Arrays.{TookConstructor, IsFlat, Shares, no_items, shared_by, Starts, EntersArray, OpensArray}
 use Rattle.amqp_decoder.specs.Items.{Next, ContainsArray}
-use Rattle.amqp_decoder.proofs.Looks.{front_is}
+use Rattle.amqp_input.proofs.Looks.{front_is}
 use Rattle.amqp_decoder.proofs.Leaves.{minus-minus, begun_same}
 use Rattle.amqp_decoder.proofs.Peeks.{constructor_some}
 use Rattle.amqp_decoder.proofs.Opening.{header_same, one_width, took_both}

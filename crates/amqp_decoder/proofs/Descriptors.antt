@@ -13,11 +13,12 @@ use Rattle.amqp_wire.specs.declared.descriptor.Descriptor.{Descriptor as Descrip
 use Rattle.amqp_decoder.specs.State.{State, Has, moved, on, descriptor_of}
 use Rattle.amqp_decoder.specs.Steps.{Answered, Excused, Pulled, Took, Short}
 use Rattle.amqp_decoder.specs.Reading.{Refused, IsFirst, Begun, BeginFault}
-use Rattle.amqp_decoder.specs.Kinds.{kind_at}
+use Rattle.amqp_input.specs.Kinds.{kind_at}
 use Rattle.amqp_decoder.specs.Primitives.{LacksData, IsWhole, Failed, Announced, SizedFault, Sized, HasData, LacksDataOf}
-use Rattle.amqp_decoder.specs.Described.{IsMark, IsUnmarked, IsDescriptor, IsDescribable, TookDescriptor, entered, Member, place_of, OpensOneOf, DescribedFault, not_begun, other_code, too_deep, other_kind, symbol_code, IsDescriptorKind, DescriptorFault, no_code, no_kind, no_data, non_ascii, DescriptorMissed, TookPlace, NameMissed, OneOfFault, OpenFault, not_open, nameless, not_described, no_descriptor, no_member, OpensDescribed}
-use Rattle.amqp_decoder.proofs.KindsOfCodes.{kind_data, kind_is}
-use Rattle.amqp_decoder.proofs.Leaves.{has_add, has_rest, lower-lower, minus-minus, after_code, begun_same, fault_not_begun, data_not_lacking, data_whole, whole_same, took_none, not_two}
+use Rattle.amqp_input.specs.Members.{Member, place_of}
+use Rattle.amqp_decoder.specs.Described.{IsMark, IsUnmarked, IsDescriptor, IsDescribable, TookDescriptor, entered, OpensOneOf, DescribedFault, not_begun, other_code, too_deep, other_kind, symbol_code, IsDescriptorKind, DescriptorFault, no_code, no_kind, no_data, non_ascii, DescriptorMissed, TookPlace, NameMissed, OneOfFault, OpenFault, not_open, nameless, not_described, no_descriptor, no_member, OpensDescribed}
+use Rattle.amqp_input.proofs.KindsOfCodes.{kind_data, kind_is, not_two}
+use Rattle.amqp_decoder.proofs.Leaves.{has_add, has_rest, lower-lower, minus-minus, after_code, begun_same, fault_not_begun, data_not_lacking, data_whole, whole_same, took_none}
 use Rattle.amqp_decoder.proofs.SizedTexts.{sized_cut, no_text_value}
 use Rattle.amqp_decoder.proofs.Steps.{answered, answered_begun, answered_later, answered_took, excused_by_source, not_lacking, took_pulled}
 

@@ -14,7 +14,7 @@ use Rattle.amqp_decoder.specs.Reading.{IsFirst}
 use Rattle.amqp_decoder.specs.Primitives.{standing, SpellsAs}
 use Rattle.amqp_decoder.specs.Containers.{place_of, is_list, IsCount, Counts, Header}
 use Rattle.amqp_decoder.specs.Items.{Row, Next, Contains}
-use Rattle.amqp_decoder.proofs.Looks.{front_is}
+use Rattle.amqp_input.proofs.Looks.{front_is}
 use Rattle.amqp_decoder.proofs.Leaves.{has_add, has_front, has_rest, lower-lower, minus-minus, after_code, on-past}
 use Rattle.amqp_decoder.proofs.Opening.{on-on, took_both}
 

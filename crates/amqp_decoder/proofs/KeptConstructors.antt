@@ -12,7 +12,7 @@ use Rattle.amqp_lengths.specs.Lengths.{Marks}
 use Rattle.amqp_lengths.proofs.Descriptors.{marks_more, marks_done}
 use Rattle.amqp_decoder.specs.State.{State}
 use Rattle.amqp_decoder.specs.Steps.{Answered, Took, Lacks, Stopped}
-use Rattle.amqp_decoder.specs.Kinds.{kind_at}
+use Rattle.amqp_input.specs.Kinds.{kind_at}
 use Rattle.amqp_decoder.specs.Primitives.{LacksData, IsWhole}
 use Rattle.amqp_decoder.specs.Described.{other_kind, DescriptorFault, no_code, no_kind, no_data, non_ascii}
 use Rattle.amqp_decoder.specs.Arrays.{TookMarks, ConstructorFault}

@@ -13,10 +13,10 @@ use Rattle.amqp_wire.specs.Codes.{refusal_of}
 use Rattle.amqp_decoder.specs.State.{State, Has, lower, on, past}
 use Rattle.amqp_decoder.specs.Steps.{Answered, SourceFailed, Excused, Took, Lacks, Short}
 use Rattle.amqp_decoder.specs.Reading.{Refused, Reads, IsFirst, Begun, BeginFault, missing, no_code}
-use Rattle.amqp_decoder.specs.Kinds.{kind_of, kind_at, kind_under, codes_of}
+use Rattle.amqp_input.specs.Kinds.{kind_of, kind_at, kind_under, codes_of}
 use Rattle.amqp_decoder.specs.Primitives.{standing, SpellsAs, Value, Means, Leaf, LacksData, IsWhole, bad, PrimitiveFault, not_begun, wrong_code, no_data, bad_data, FixedFault, unbegun, other_code, too_few, Fixed, Failed, LacksDataOf}
 use Rattle.amqp_decoder.proofs.Steps.{answered_begun, answered_took, not_lacking, not_begun_done, not_begun_lacking}
-use Rattle.amqp_decoder.proofs.KindsOfCodes.{kind_data, OneOf, kind_codes, kind_is, one_code}
+use Rattle.amqp_input.proofs.KindsOfCodes.{kind_data, kind_is, one_code}
 
 pub has_add : (o : Option ℕ) (m n : ℕ) → Has o m → Has (lower o m) n → Has o (m + n)
 has_add None m n h k = tt
@@ -317,13 +317,6 @@ pub short_refused : {A : Type 0} (make : A → Primitive) (k code n : ℕ) (st :
     → (Lacks n m e → LacksData (format code) m e) → Begun st code m → Short n m e new → Refused false (Value (Means make)) (PrimitiveFault k) st e new
 short_refused make k code n st m e new kinds is lacks g s =
     lacking_refused make k code st m e new kinds (kind_is code k is) g s.kept (elim s.why [ inl x ↦ inl x | inr x ↦ inr (lacks x) ])
-
-pub not_two : (k c a b : ℕ) → codes_of k ≡ a ∷ b ∷ [] → (c ≡ a → ⊥) → (c ≡ b → ⊥) → kind_at c ≡ Some k → ⊥
-not_two k c a b e f g h = elim (subst (OneOf c) e (kind_codes c k h)) [ inl x ↦ f x | inr x ↦ elim x [ inl y ↦ g y | inr y ↦ absurd y ] ]
-
-pub not_three : (k c a b d : ℕ) → codes_of k ≡ a ∷ b ∷ d ∷ [] → (c ≡ a → ⊥) → (c ≡ b → ⊥) → (c ≡ d → ⊥) → kind_at c ≡ Some k → ⊥
-not_three k c a b d e f g i h =
-    elim (subst (OneOf c) e (kind_codes c k h)) [ inl x ↦ f x | inr x ↦ elim x [ inl y ↦ g y | inr y ↦ elim y [ inl z ↦ i z | inr z ↦ absurd z ] ] ]
 
 pub not_boolean : (n : ℕ) (p : Primitive) → (n ≡ 0 → ⊥) → (n ≡ 1 → ⊥) → boolean_byte (n ∷ []) ≡ Some p → ⊥
 not_boolean zero p f g e = f refl

@@ -11,7 +11,8 @@ use Rattle.amqp_decoder.specs.Reading.{BeginFault, missing, no_code}
 use Rattle.amqp_decoder.specs.Primitives.{LacksData, PrimitiveFault, not_begun, wrong_code, no_data, bad_data}
 use Rattle.amqp_decoder.specs.Containers.{EndFault, other_place, nothing_open, items_left, CloseFault, not_at_end, bytes_left_over, HeaderFault, no_size, impossible, no_count, no_content, EnterFault, no_header, odd_count, no_room, too_deep, OpenFault}
 use Rattle.amqp_decoder.specs.Containers as containers
-use Rattle.amqp_decoder.specs.Described.{Member, other_kind, DescribedFault, DescriptorFault, no_kind, non_ascii, OneOfFault, not_described, no_descriptor, no_member}
+use Rattle.amqp_input.specs.Members.{Member}
+use Rattle.amqp_decoder.specs.Described.{other_kind, DescribedFault, DescriptorFault, no_kind, non_ascii, OneOfFault, not_described, no_descriptor, no_member}
 use Rattle.amqp_decoder.specs.Described as described
 
 refusal_by : (a b d k : Bool) (c : ℕ) → Memory ≡ cond a (FloatCode c) (cond b (FloatCode c) (cond d (WrongType c) (cond k (WrongType c) (UnknownCode c)))) → ⊥

@@ -13,8 +13,8 @@ use Rattle.amqp_decoder.specs.Steps.{Answered, Excused, Took, Lacks, Short, Size
 use Rattle.amqp_decoder.specs.Reading.{Refused, Reads, Begun, BeginFault}
 use Rattle.amqp_decoder.specs.Containers.{place_of, is_list, IsCount, Counts, IsPossible, Header, HeaderFault, no_size, impossible, no_count, no_content, Unopened, Entered, EnterFault, no_header, odd_count, no_room, too_deep, Opens, OpenFault, not_begun, wrong_code, no_data}
 use Rattle.amqp_decoder.proofs.Steps.{answered_begun, answered_took, not_lacking}
-use Rattle.amqp_decoder.proofs.Looks.{front_is}
-use Rattle.amqp_decoder.proofs.KindsOfCodes.{OneOf}
+use Rattle.amqp_input.proofs.Looks.{front_is}
+use Rattle.amqp_input.proofs.KindsOfCodes.{OneOf}
 use Rattle.amqp_decoder.proofs.Leaves.{has_add, has_rest, lower-lower, minus-minus, after_code, begun_same, fault_not_begun, took_none}
 
 pub on-on : (m n : ℕ) (st : State) → on n (on m st) ≡ on (m + n) st

@@ -12,10 +12,10 @@ use Rattle.amqp_model.specs.Spelling.{PrimitiveData, IsValid}
 use Rattle.amqp_model.proofs.Bytes.{field}
 use Rattle.amqp_wire.specs.Codes.{refusal_of}
 use Rattle.amqp_decoder.specs.Reading.{Refused, Reads, Begun, BeginFault}
-use Rattle.amqp_decoder.specs.Kinds.{kind_of, kind_at, kind_under, codes_of}
+use Rattle.amqp_input.specs.Kinds.{kind_of, kind_at, kind_under, codes_of}
 use Rattle.amqp_decoder.specs.Primitives.{Value, Means, LacksData, IsWhole, bad, PrimitiveFault, not_begun, wrong_code, no_data, bad_data, Failed, Announced, SizedFault, Sized, Text, TextFault, no_text, no_text_code, narrow_short, wide_short}
-use Rattle.amqp_decoder.proofs.KindsOfCodes.{kind_is}
-use Rattle.amqp_decoder.proofs.Leaves.{kind_failed, refused_kind, data_value, not_two}
+use Rattle.amqp_input.proofs.KindsOfCodes.{kind_is, not_two}
+use Rattle.amqp_decoder.proofs.Leaves.{kind_failed, refused_kind, data_value}
 use Rattle.amqp_decoder.proofs.Steps.{answered_begun, answered_later, answered_took, excused_by_source, missed_lacks}
 
 -- one more piece

@@ -1,8 +1,6 @@
 -- What the calls that begin described values promise (Part 1, section 1.2).
-use Rattle.std.specs.Prelude.{◌≡◌, ℕ, ◌<◌, ◌≤◌, ◌⊎◌, Bool, List, [], ◌∷◌, length, take, drop, eqb, cond, option_map, position, All, MatchOption, Option, Some, None, IsAscii}
-use Rattle.std.specs.Borrow.{Bor}
-use Rattle.std.specs.Str.{bytes_eq}
-use Rattle.amqp_model.specs.Term.{Descriptor, name, code}
+use Rattle.std.specs.Prelude.{◌≡◌, ℕ, ◌<◌, ◌≤◌, ◌⊎◌, Bool, List, [], ◌∷◌, length, take, drop, cond, option_map, Option, Some, None, IsAscii}
+use Rattle.amqp_model.specs.Term.{Descriptor}
 use Rattle.amqp_model.specs.Constructors.{format}
 use Rattle.amqp_model.specs.Spelling.{PrimitiveData, Names, descriptor_value}
 use Rattle.amqp_wire.specs.declared.error.Error.{Error}
@@ -12,7 +10,8 @@ use Rattle.amqp_decoder.specs.declared.frame.Place.TheVariants.{InDescribed}
 use Rattle.amqp_decoder.specs.State.{State}
 use Rattle.amqp_decoder.specs.Steps.{Answered, Excused, SourceFailed, Took, Lacks}
 use Rattle.amqp_decoder.specs.Reading.{Begun, BeginFault}
-use Rattle.amqp_decoder.specs.Kinds.{kind_at}
+use Rattle.amqp_input.specs.Kinds.{kind_at}
+use Rattle.amqp_input.specs.Members.{Member, place_of}
 use Rattle.amqp_decoder.specs.Primitives.{LacksData, IsWhole}
 
 -- The first of the descriptors that are shared.
@@ -65,26 +64,6 @@ pub record OpensDescribed (st : State) (d : Descriptor) (st' : State) : Type 0 w
   pub nested : length st.saved < st.nesting
   pub descriptor : TookDescriptor coded d named
   pub opened : st' ≡ entered named
-
--- A code and a name.
-abbrev pub Member : Type 0
-Member = ℕ × Bor (List ℕ)
-
-abbrev pub is_of : Descriptor → Member → Bool
-is_of (code n) m = eqb m.0 n
-is_of (name s) m = bytes_eq m.1.now s
-
--- The place of the first member whose code or name the descriptor is.
-abbrev pub place_of : List Member → Descriptor → Option ℕ
-place_of members d = position (is_of d) members
-
--- The member's name isn't one of so many bytes that begins so.
-abbrev pub BeginsNot : Member → ℕ → List ℕ → Type 0
-BeginsNot m n s = length m.1.now ≡ n → take (length s) m.1.now ≡ s → ⊥
-
--- The bytes s of a name of n bytes are known as the front of a member's name, or no such name begins so.
-abbrev pub FrontIs : List Member → ℕ → List ℕ → Option (Bor (List ℕ)) → Type 0
-FrontIs members n s known = MatchOption known (All (λ m. BeginsNot m n s) members) (λ front. front.now ≡ s)
 
 -- A described value with the descriptor of this member stood next, and was opened.
 pub record OpensOneOf (members : List Member) (st : State) (i : ℕ) (st' : State) : Type 0 where

@@ -11,7 +11,8 @@ use Rattle.amqp_decoder.specs.Primitives.{LacksData, PrimitiveFault, not_begun, 
 use Rattle.amqp_decoder.specs.Containers as containers
 use Rattle.amqp_decoder.specs.Containers.{AtEnd, EndFault, other_place, nothing_open, items_left, Closes, CloseFault, not_at_end, bytes_left_over, ClosesDescribed, Header, HeaderFault, no_size, impossible, no_count, no_content, Entered, EnterFault, no_header, odd_count, no_room, too_deep, Opens, OpenFault}
 use Rattle.amqp_decoder.specs.Described as described
-use Rattle.amqp_decoder.specs.Described.{TookDescriptor, OpensDescribed, Member, TookPlace, DescribedFault, other_code, DescriptorFault, no_kind, non_ascii, OneOfFault, not_described, no_descriptor, no_member}
+use Rattle.amqp_input.specs.Members.{Member}
+use Rattle.amqp_decoder.specs.Described.{TookDescriptor, OpensDescribed, TookPlace, DescribedFault, other_code, DescriptorFault, no_kind, non_ascii, OneOfFault, not_described, no_descriptor, no_member}
 use Rattle.amqp_decoder.specs.Primitives.{Stands, Value}
 use Rattle.amqp_model.specs.Term.{Term}
 use Rattle.amqp_model.specs.Standing.{Standing}

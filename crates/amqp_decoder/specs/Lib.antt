@@ -1,11 +1,9 @@
 pub mod State
 pub mod Steps
 pub mod Reading
-pub mod Kinds
 pub mod Primitives
 pub mod Containers
 pub mod Described
-pub mod Members
 pub mod Items
 pub mod Arrays
 pub mod Terms

@@ -12,7 +12,7 @@ use Rattle.amqp_wire.specs.Codes.{refusal_of}
 use Rattle.amqp_decoder.specs.State.{State, Has, lower, past}
 use Rattle.amqp_decoder.specs.Steps.{Answered, Excused, SourceFailed, Took, Lacks}
 use Rattle.amqp_decoder.specs.Reading.{Begun, BeginFault}
-use Rattle.amqp_decoder.specs.Kinds.{kind_at}
+use Rattle.amqp_input.specs.Kinds.{kind_at}
 
 -- How a value stands: as bytes of its own, or as the data of an array's item under the constructor that is shared.
 abbrev pub standing : Option (List Descriptor × ℕ) → List ℕ → Standing

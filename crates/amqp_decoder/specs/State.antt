@@ -1,9 +1,9 @@
 -- What a decoder has before it.
-use Rattle.std.specs.Prelude.{ℕ, zero, suc, ◌+◌, ◌-◌, ◌≤◌, Bool, cond, eqb, List, [], ◌∷◌, take, drop, map, get_or, max, Option, Some, None, unwrap_or, string_bytes}
-use Rattle.amqp_model.specs.Term.{Descriptor, name, code}
+use Rattle.std.specs.Prelude.{ℕ, zero, suc, ◌+◌, ◌-◌, ◌≤◌, Bool, cond, eqb, List, [], ◌∷◌, take, drop, map, get_or, max, Option, Some, None, unwrap_or}
+use Rattle.amqp_model.specs.Term.{Descriptor}
 use Rattle.amqp_wire.specs.declared.error.Error.{Error}
 use Rattle.amqp_wire.specs.declared.descriptor.Descriptor.{Descriptor as DescriptorValue}
-use Rattle.amqp_wire.specs.declared.descriptor.Descriptor.TheVariants.{Name, Code}
+pub use Rattle.amqp_input.specs.Members.{descriptor_of}
 use Rattle.amqp_decoder.specs.declared.frame.Frame.{Frame}
 use Rattle.amqp_decoder.specs.declared.frame.Place.{Place}
 use Rattle.amqp_decoder.specs.declared.frame.Place.TheVariants.{Top}
@@ -38,10 +38,6 @@ pub record State : Type 0 where
 -- The top level, where nothing is bounded.
 abbrev pub top_level : Open
 top_level = record { place = Top; items = None; left = None; shared = None }
-
-abbrev pub descriptor_of : DescriptorValue → Descriptor
-descriptor_of (Name s) = name (string_bytes s.0)
-descriptor_of (Code n) = code n
 
 abbrev pub items_of : Place → ℕ → Option ℕ
 items_of Top n = None
@@ -80,10 +76,6 @@ shared_in (suc n) fs = (get_or fs n unused).last
 abbrev pub Nested : ℕ → List Frame → ℕ → Type 0
 Nested zero fs m = m ≤ 128
 Nested (suc n) fs m = ((get_or fs n unused).last ≤ m) × (m ≤ (get_or fs n unused).last + 128) × Nested n fs (get_or fs n unused).last
-
--- The bytes of a buffer that were looked at and aren't taken.
-abbrev pub pending : ℕ → ℕ → List ℕ → List ℕ
-pending start end_ looked = take (end_ - start) (drop start looked)
 
 -- A bound that may be absent has room for n.
 abbrev pub Has : Option ℕ → ℕ → Type 0

@@ -3,21 +3,21 @@ ghost use Rattle.std.specs.Prelude.{◌≤◌, ◌≡◌, ◌<◌, ◌-◌, ◌+
 ghost use Rattle.std.specs.Int.{bytes_high_first};
 ghost use Rattle.amqp_wire.specs.Codes.{refusal_of};
 ghost use Rattle.amqp_wire.specs.Sources.{known, Tells};
+ghost use Rattle.amqp_input.specs.Sections.{IsSectionAhead};
 ghost use Rattle.amqp_decoder.specs.Containers.{AtEnd, EndFault};
 ghost use Rattle.amqp_wire.specs.declared.error.Error.TheVariants.{Depth, Memory};
 ghost use Rattle.amqp_decoder.specs.Described.{IsUnmarked, IsMark, entered};
 ghost use Rattle.amqp_decoder.specs.State.{Open, State, top_level, looked, moved, on, past, announced, Has, lower, unshared, descriptor_of};
 ghost use Rattle.amqp_decoder.specs.Reading.{Reads, Begun, BeginFault, Peeked, IsLeft, IsFirstShared};
+ghost use Rattle.amqp_decoder.specs.Sections.{LooksOn};
 ghost use Rattle.amqp_decoder.specs.Steps.{Answered, SourceFailed, Pulled, Missed, Took, Short, SizeRefused, NoRoom, Stopped};
 
 use crate::frame::{Frame, Place, ROW, descriptors_in};
+use amqp_input::Input;
 use amqp_lengths::NESTING;
-use amqp_wire::{ByteSource, Descriptor, Error, fill, format_code};
+use amqp_wire::{ByteSource, Descriptor, Error, format_code};
 use std::alloc::Global;
 use std::marker::Model;
-
-/// The most bytes that are looked at before they are taken.
-pub(crate) const LOOK: usize = 64;
 
 /// The most bytes of skipped content that are pulled at once.
 const SKIP: usize = 256;
@@ -25,27 +25,23 @@ const SKIP: usize = 256;
 /// A cursor over the terms of a source. Once it has refused, it answers the same error to every call.
 #[derive(Drop)]
 pub struct Decoder<R: ByteSource> {
-    source: R,
+    input: Input<R>,
     top: Frame,
     error: Option<Error>,
-    start: usize,
-    end: usize,
     depth: usize,
     descriptors: Vec<Descriptor>,
-    looked: [u8; LOOK],
     frames: [Frame; ROW],
 }
 
 impl<R: ByteSource> Model for Decoder<R> {
-    ghost use Rattle.std.specs.Prelude.{◌≤◌, ◌++◌, ◌-◌, vec_len};
-    ghost use Rattle.amqp_wire.specs.Sources.{known};
-    ghost use Rattle.amqp_decoder.specs.State.{State, stack, open_of, pending, Nested};
+    ghost use Rattle.std.specs.Prelude.{◌≤◌, vec_len};
+    ghost use Rattle.amqp_decoder.specs.State.{State, stack, open_of, Nested};
 
     ghost Value = { State };
 
-    ghost view = { λ d. record { rest = pending d.start d.end d.looked ++ known (R.remaining d.source); ahead = d.end - d.start; source = R.name d.source; top = open_of d.descriptors.items d.top; saved = stack d.descriptors.items d.depth d.frames; nesting = 128; error = d.error; failed = R.broken d.source } };
+    ghost view = { λ d. record { rest = d.input.rest; ahead = d.input.ahead; source = d.input.source; top = open_of d.descriptors.items d.top; saved = stack d.descriptors.items d.depth d.frames; nesting = 128; error = d.error; failed = d.input.failed } };
 
-    ghost invariant = { λ d. (d.start ≤ d.end) × (d.end ≤ 64) × (d.depth ≤ 129) × Nested d.depth d.frames d.top.last × (d.top.last ≤ vec_len d.descriptors) };
+    ghost invariant = { λ d. (d.depth ≤ 129) × Nested d.depth d.frames d.top.last × (d.top.last ≤ vec_len d.descriptors) };
 }
 
 impl<R: ByteSource> Decoder<R> {
@@ -54,14 +50,11 @@ impl<R: ByteSource> Decoder<R> {
         ensures { result ≡ record { rest = known (R.remaining source); ahead = 0; source = R.name source; top = top_level; saved = []; nesting = 128; error = None; failed = R.broken source } }
     {
         Decoder {
-            source,
+            input: Input::new(source),
             top: Frame::TOP,
             error: None,
-            start: 0,
-            end: 0,
             depth: 0,
             descriptors: Vec::new(alloc),
-            looked: [0; LOOK],
             frames: [Frame::TOP; ROW],
         }
     }
@@ -72,8 +65,8 @@ impl<R: ByteSource> Decoder<R> {
         ensures rest { known (R.remaining result) ≡ drop self.ahead self.rest }
         ensures failed { R.broken result ≡ self.failed }
     {
-        let Decoder { source, .. } = self;
-        source
+        let Decoder { input, .. } = self;
+        input.into_source()
     }
 
     /// Keeps the error, which every later call answers.
@@ -96,45 +89,17 @@ impl<R: ByteSource> Decoder<R> {
         }
     }
 
-    // Moves bytes that were looked at to the front of the buffer, and answers how many.
-    fn take_looked(&mut self, buffer: &mut [u8]) -> usize
-        ensures count { result ≡ min (length buffer.old) self.old.ahead }
-        ensures bytes { self.old.rest ≡ take result buffer.new ++ drop result self.old.rest }
-        ensures new { self.new ≡ moved result self.old }
-    {
-        let count = buffer.len().min(self.end - self.start);
-        let end = self.start + count;
-        buffer[..count].copy_from_slice(&self.looked[self.start..end]);
-        self.start = end;
-        count
-    }
-
-    // Fills the buffer from the source, as far as that goes.
-    #[inline]
-    fn fill(&mut self, buffer: &mut [u8]) -> Result<usize, Error>
-        ensures fits { IfOk result (λ n. n ≤ length buffer.old) }
-        ensures bytes { Tells R.remaining → self.old.ahead ≡ 0 → IfOk result (λ n. self.old.rest ≡ take n buffer.new ++ drop n self.old.rest) }
-        ensures all { Tells R.remaining → self.old.ahead ≡ 0 → IfOk result (λ n. n < length buffer.old → length self.old.rest ≡ n) }
-        ensures new { Tells R.remaining → self.old.ahead ≡ 0 → IfOk result (λ n. self.new ≡ moved n self.old) }
-        ensures err { IfErr result (λ e. Answered self.old e self.new × SourceFailed e self.new) }
-    {
-        match fill(&mut self.source, buffer) {
-            Ok(count) => Ok(count),
-            Err(kind) => Err(self.refuse(Error::Read(kind))),
-        }
-    }
-
     // Fills the whole buffer with the next bytes.
     #[inline]
     pub(crate) fn pull_all(&mut self, buffer: &mut [u8]) -> Result<(), Error>
         ensures ok { Tells R.remaining → IfOk result (λ _. Pulled self.old buffer.new self.new) }
         ensures err { Tells R.remaining → IfErr result (λ e. Missed false (length buffer.old) self.old e self.new) }
     {
-        let mut done = 0;
-        if self.start < self.end {
-            done = self.take_looked(buffer);
-        }
-        if done < buffer.len() && self.fill(&mut buffer[done..])? < buffer.len() - done {
+        let count = match self.input.pull(buffer) {
+            Ok(count) => count,
+            Err(kind) => return Err(self.refuse(Error::Read(kind))),
+        };
+        if count < buffer.len() {
             return Err(self.refuse(Error::Cut));
         }
         Ok(())
@@ -326,40 +291,6 @@ impl<R: ByteSource> Decoder<R> {
         Ok(code)
     }
 
-    // How many bytes are looked at.
-    #[inline]
-    fn ahead(&self) -> usize
-        ensures few { result ≤ 64 }
-        ensures count { result ≡ self.now.ahead }
-        ensures there { result ≤ length self.now.rest }
-    {
-        self.looked().len()
-    }
-
-    // Looks at the next so many bytes, or at all where there are fewer, and answers how many are looked at.
-    pub(crate) fn look(&mut self, count: usize) -> Result<usize, Error>
-        requires { count ≤ 64 }
-        ensures few { IfOk result (λ n. n ≤ 64) }
-        ensures count { Tells R.remaining → IfOk result (λ n. n ≡ max self.old.ahead (min count (length self.old.rest))) }
-        ensures new { Tells R.remaining → IfOk result (λ _. self.new ≡ looked (min count (length self.old.rest)) self.old) }
-        ensures err { IfErr result (λ e. Answered self.old e self.new × SourceFailed e self.new) }
-    {
-        let ahead = self.ahead();
-        if ahead >= count {
-            return Ok(ahead);
-        }
-        self.looked.copy_within(self.start..self.end, 0);
-        self.start = 0;
-        self.end = ahead;
-        match fill(&mut self.source, &mut self.looked[ahead..count]) {
-            Ok(n) => {
-                self.end += n;
-                Ok(self.end)
-            }
-            Err(kind) => Err(self.refuse(Error::Read(kind))),
-        }
-    }
-
     // Looks at the next byte, if there is one.
     #[inline]
     pub(crate) fn look_next(&mut self) -> Result<bool, Error>
@@ -367,38 +298,35 @@ impl<R: ByteSource> Decoder<R> {
         ensures new { Tells R.remaining → IfOk result (λ b. self.new ≡ looked (min 1 (length self.old.rest)) self.old) }
         ensures err { IfErr result (λ e. Answered self.old e self.new × SourceFailed e self.new) }
     {
-        if self.ahead() > 0 {
+        if self.input.ahead() > 0 {
             return Ok(true);
         }
-        Ok(self.look(1)? > 0)
+        match self.input.look(1) {
+            Ok(ahead) => Ok(ahead > 0),
+            Err(kind) => Err(self.refuse(Error::Read(kind))),
+        }
     }
 
     // The byte that is looked at, so many behind the next one.
     pub(crate) fn looked_byte(&self, index: usize) -> u8
         ensures { index < self.now.ahead → result ≡ slice_index self.now.rest index }
     {
-        match self.looked().get(index) {
+        match self.input.looked().get(index) {
             Some(byte) => *byte,
             None => 0,
         }
     }
 
-    // The bytes that are looked at, and the source behind them.
-    fn parts(&self) -> (&[u8], &R)
-        ensures few { length result.0.now ≤ 64 }
-        ensures bytes { self.now.rest ≡ result.0.now ++ known (R.remaining result.1.now) }
-        ensures failed { self.now.failed ≡ R.broken result.1.now }
+    // The code of the section whose descriptor stands next.
+    pub(crate) fn section_ahead(&mut self) -> Result<Option<u8>, Error>
+        ensures looks { Tells R.remaining → IfOk result (λ _. LooksOn self.old self.new) }
+        ensures ok { Tells R.remaining → IfOk result (λ section. (c : ℕ) → (section ≡ Some c) ↔ IsSectionAhead self.old.rest c) }
+        ensures err { IfErr result (λ e. Answered self.old e self.new × SourceFailed e self.new) }
     {
-        (&self.looked[self.start..self.end], &self.source)
-    }
-
-    // The bytes that are looked at.
-    pub(crate) fn looked(&self) -> &[u8]
-        ensures few { length result.now ≤ 64 }
-        ensures count { length result.now ≡ self.now.ahead }
-        ensures bytes { result.now ≡ take self.now.ahead self.now.rest }
-    {
-        &self.looked[self.start..self.end]
+        match self.input.section_ahead() {
+            Ok(section) => Ok(section),
+            Err(kind) => Err(self.refuse(Error::Read(kind))),
+        }
     }
 
     /// The first code of the next value's constructor, 0 for a described value; `Missing` where no value is left.
@@ -635,8 +563,6 @@ impl Decoder<&[u8]> {
         ensures count { result ≡ length self.now.rest }
         ensures whole { self.now.failed ≡ false }
     {
-        let (looked, source) = self.parts();
-        let source: &[u8] = *source;
-        source.len().saturating_add(looked.len())
+        self.input.unread()
     }
 }

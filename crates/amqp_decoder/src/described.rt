@@ -7,15 +7,16 @@ ghost use Rattle.amqp_wire.specs.declared.error.Error.TheVariants.{Memory};
 ghost use Rattle.amqp_model.specs.Term.{name as of_name};
 ghost use Rattle.amqp_wire.specs.Sources.{Tells};
 ghost use Rattle.amqp_wire.specs.Codes.{refusal_of};
+ghost use Rattle.amqp_input.specs.Members.{place_of as place_in};
 ghost use Rattle.amqp_decoder.specs.State.{moved, descriptor_of};
 ghost use Rattle.amqp_decoder.specs.Steps.{Answered};
 ghost use Rattle.amqp_decoder.specs.Reading.{Begun};
 ghost use Rattle.amqp_decoder.specs.Primitives.{Failed};
-ghost use Rattle.amqp_decoder.specs.Described.{IsUnmarked, IsMark, TookDescriptor, OpensDescribed, OpenFault, other_kind, symbol_code, place_of as place_in, IsDescribable, DescribedFault, DescriptorMissed, TookPlace, NameMissed, OpensOneOf, OneOfFault};
+ghost use Rattle.amqp_decoder.specs.Described.{IsUnmarked, IsMark, TookDescriptor, OpensDescribed, OpenFault, other_kind, symbol_code, IsDescribable, DescribedFault, DescriptorMissed, TookPlace, NameMissed, OpensOneOf, OneOfFault};
 
 use crate::Decoder;
 use crate::frame::Place;
-use crate::names::{Members, next_front, place_of, place_of_code, place_of_name};
+use amqp_input::names::{Members, next_front, place_of, place_of_code, place_of_name};
 use amqp_wire::{ByteSource, Descriptor, Error, format_code};
 use std::alloc::{AllocError, Global};
 

@@ -7,7 +7,6 @@ mod decoder;
 mod described;
 mod frame;
 pub mod laws;
-mod names;
 mod primitives;
 mod sections;
 mod terms;

@@ -4,7 +4,7 @@ ghost use Rattle.amqp_model.specs.Term.{null, boolean, ubyte, ushort, uint, ulon
 ghost use Rattle.amqp_wire.specs.Sources.{Tells};
 ghost use Rattle.amqp_decoder.specs.Reading.{Reads};
 ghost use Rattle.amqp_decoder.specs.Primitives.{Fixed, FixedFault, Failed, Value, Means, PrimitiveFault, HasData, LacksDataOf};
-ghost use Rattle.amqp_decoder.specs.Kinds.{kind_at};
+ghost use Rattle.amqp_input.specs.Kinds.{kind_at};
 
 use crate::Decoder;
 use amqp_wire::{ByteSource, Error, format_code};

@@ -15,7 +15,7 @@ use Rattle.amqp_codec.specs.Fields.{none, field, take_memory}
 use Rattle.amqp_codec.specs.FieldReading.{fields_not_memory, FieldsRead, FieldsFault}
 use Rattle.amqp_codec.specs.Refused.{NoneStands}
 use Rattle.amqp_codec.specs.Elsewhere.{fields_read, fields_fault, member_fault}
-use Rattle.amqp_decoder.specs.Members.{is_named, name_place}
+use Rattle.amqp_input.specs.Members.{is_named, name_place}
 use Rattle.amqp_codec.specs.Members.{member_not_memory, Members, MemberFault, TermRead, TermMeant, IsSum}
 use Rattle.amqp_codec.specs.Composite.{Table, composite, fields_to_member, member_to_fields, described_place}
 use Rattle.amqp_codec.specs.EitherType.{either_of}

@@ -5,7 +5,7 @@ use Rattle.amqp_decoder.proofs.decoder.Decoder.enter.Goals as goal
 pub invariant_of-self : goal.invariant_of-self
 invariant_of-self g c =
     let few : c.self.inside.depth < length c.self.inside.frames = omega arith in
-    (c.self.invariant.0, c.self.invariant.1, omega arith, nested_push _ _ _ few c.self.invariant.3, c.self.invariant.4)
+    (omega arith, nested_push _ _ _ few c.self.invariant.1, c.self.invariant.2)
 
 pub returns-clause-ok : goal.returns-clause-ok
 returns-clause-ok g c =

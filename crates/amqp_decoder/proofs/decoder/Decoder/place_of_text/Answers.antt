@@ -2,9 +2,9 @@ use Rattle.std.proofs.Common.{rules, ◌≡◌, ◌≤◌, ◌+◌, ◌-◌, ◌
 use Rattle.std.proofs.lemmas.List.{length-take-le}
 use Rattle.amqp_wire.specs.Sources.{Tells}
 use Rattle.amqp_decoder.specs.State.{moved}
-use Rattle.amqp_decoder.specs.Described.{FrontIs}
+use Rattle.amqp_input.specs.Members.{FrontIs}
 use Rattle.amqp_decoder.proofs.SizedTexts.{kept_more}
-use Rattle.amqp_decoder.proofs.Fronts.{ascii_both, no_place}
+use Rattle.amqp_input.proofs.Fronts.{ascii_both, no_place}
 use Rattle.amqp_decoder.proofs.decoder.Decoder.place_of_text.Goals as goal
 
 pub loop-left-preserved : goal.loop-left-preserved

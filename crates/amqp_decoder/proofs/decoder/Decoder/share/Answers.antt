@@ -7,7 +7,7 @@ pub overflow_add-last : goal.overflow_add-last
 overflow_add-last g c =
     let few : c.self.inside.depth ≤ length c.self.inside.frames = omega arith in
     let first : c.descriptors_in-first.result ≡ shared_in c.self.inside.depth c.self.inside.frames = c.descriptors_in-first.ensures ∙ shared_front c.self.inside.depth c.self.inside.frames few in
-    let least = few_shared c.self.inside.depth c.self.inside.frames c.self.inside.top.last c.self.invariant.3 in
+    let least = few_shared c.self.inside.depth c.self.inside.frames c.self.inside.top.last c.self.invariant.1 in
     omega (arith, c.requires)
 
 pub returns-clause-ok : goal.returns-clause-ok
@@ -18,9 +18,9 @@ returns-clause-ok g c =
     let es = c.args.descriptors.items in
     let rows : c.self.inside.depth ≤ length c.self.inside.frames = omega arith in
     let first : n ≡ shared_in c.self.inside.depth c.self.inside.frames = c.descriptors_in-first.ensures ∙ shared_front c.self.inside.depth c.self.inside.frames rows in
-    let among = shared_among c.self.inside.depth c.self.inside.frames c.self.inside.top.last c.self.invariant.3 in
-    let few : n ≤ length ds = omega (arith, c.self.invariant.4) in
-    let nested : Nested c.self.inside.depth c.self.inside.frames n = nested_last _ _ _ n c.self.invariant.3 (omega arith) (omega arith) in
+    let among = shared_among c.self.inside.depth c.self.inside.frames c.self.inside.top.last c.self.invariant.1 in
+    let few : n ≤ length ds = omega (arith, c.self.invariant.2) in
+    let nested : Nested c.self.inside.depth c.self.inside.frames n = nested_last _ _ _ n c.self.invariant.1 (omega arith) (omega arith) in
     let items : l ≡ take n ds ++ es = search rules in
     let shared = added_shared ds es l n c.args.code (n + c.len.result) (λ z. omega (arith, c.requires.coded)) few items (omega arith) in
     let saved = stack_kept l ds n c.self.inside.depth c.self.inside.frames n nested (omega arith) (added_front ds es l n few items) in

@@ -1,0 +1,4 @@
+pub mod State
+pub mod Kinds
+pub mod Members
+pub mod Sections

@@ -1,0 +1,24 @@
+-- What an input has before it.
+use Rattle.std.specs.Prelude.{ℕ, ◌-◌, Bool, List, take, drop, max}
+
+-- rest: the bytes to the end of the input
+-- ahead: how many of them were looked at, and are out of the source
+-- source: the borrow that the source is
+-- failed: the source has failed
+pub record State : Type 0 where
+  pub rest : List ℕ
+  pub ahead : ℕ
+  pub source : ℕ
+  pub failed : Bool
+
+-- The bytes of a buffer that were looked at and aren't taken.
+abbrev pub pending : ℕ → ℕ → List ℕ → List ℕ
+pending start end_ looked = take (end_ - start) (drop start looked)
+
+-- The next n bytes were looked at: none of them is taken.
+abbrev pub looked : ℕ → State → State
+looked n st = record st { ahead = max st.ahead n }
+
+-- n bytes are taken.
+abbrev pub moved : ℕ → State → State
+moved n st = record st { rest = drop n st.rest; ahead = st.ahead - n }

@@ -1,0 +1,9 @@
+//! The input of a decoder: the bytes of a source, which are looked at before they are taken, and the codes and names that
+//! stand in them.
+#![tactic(auto)]
+
+mod input;
+pub mod names;
+mod sections;
+
+pub use input::Input;
