@@ -39,7 +39,8 @@ pub data SymbolFault (w : ℕ) (st : State) (e : Error) : Type 0 where
 abbrev pub IsConstructor : ℕ → List ℕ → Type 0
 IsConstructor c b = (ds : List Descriptor) × (length ds ≤ 128) × Constructor ds c b
 
--- What a format announces. A container's size is in front of its count, which only that of an empty list may miss.
+-- What a format announces: data of a known width, or a size and what belongs behind it. The code of the empty list (Part 1,
+-- section 1.6.22) announces no bytes.
 abbrev pub Announces : Format → Data → Type 0
 Announces (fixed w value) (of_width n) = n ≡ w
 Announces (variable w value) (of_size wide listed) = (w ≡ cond wide 4 1) × (listed ≡ false)

@@ -173,7 +173,8 @@ impl<R: ByteSource> Decoder<R> {
         }
     }
 
-    // Checks that a constructor and the data that its code announces are a term.
+    // Checks that a constructor and the data that its code announces are a term. A term that they begin with is all of
+    // them.
     fn check_term(&mut self, bytes: &[u8]) -> Result<(), Error>
         ensures ok { IfOk result (λ _. (n : ℕ) × IsFront (IsTerm (self.old.nesting - length self.old.saved)) bytes.now n × (self.new ≡ self.old)) }
         ensures err { Tells R.remaining → IfErr result (λ e. Stopped false (NoTerm (self.old.nesting - length self.old.saved) bytes.now self.old) self.old e self.new) }
