@@ -17,7 +17,7 @@ use Rattle.amqp_decoder.specs.Primitives.{LacksData, IsWhole}
 use Rattle.amqp_decoder.specs.Described.{other_kind, DescriptorFault, no_code, no_kind, no_data, non_ascii}
 use Rattle.amqp_decoder.specs.Arrays.{TookMarks, ConstructorFault}
 use Rattle.amqp_decoder.specs.Terms.{Keeps, IsSymbol, SymbolFault, no_text, no_ascii, IsConstructor}
-use Rattle.amqp_decoder.proofs.Leaves.{not_two, not_three}
+use Rattle.amqp_input.proofs.KindsOfCodes.{not_two, not_three}
 use Rattle.amqp_decoder.proofs.SizedTexts.{no_text_value}
 use Rattle.amqp_decoder.proofs.Constructed.{TookNamed, ends_known, stopped_code, stopped_mark, stopped_unknown}
 use Rattle.amqp_decoder.proofs.Steps.{answered, answered_so, answered_took, stopped_as, stopped_later}
