@@ -365,6 +365,7 @@ impl<R: ByteSource> Decoder<R> {
     }
 
     /// How deep a value that begins here may nest.
+    #[inline]
     pub(crate) fn nesting_left(&self) -> usize
         ensures { result ≡ self.now.nesting - length self.now.saved }
     {
@@ -404,18 +405,6 @@ impl<R: ByteSource> Decoder<R> {
             return Err(self.refuse(Error::Depth));
         }
         self.enter(left, inner)
-    }
-
-    // One more described value may be open.
-    #[inline]
-    pub(crate) fn check_nesting(&mut self) -> Result<(), Error>
-        ensures ok { IfOk result (λ _. (length self.old.saved < self.old.nesting) × (self.new ≡ self.old)) }
-        ensures err { IfErr result (λ e. (e ≡ Depth) × (self.old.nesting ≤ length self.old.saved) × (self.new ≡ record self.old { error = Some Depth })) }
-    {
-        if self.depth >= NESTING {
-            return Err(self.refuse(Error::Depth));
-        }
-        Ok(())
     }
 
     // An array's items that hold others, or are described, count in nesting.

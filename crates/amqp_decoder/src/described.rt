@@ -2,7 +2,7 @@
 ghost use Rattle.amqp_decoder.specs.declared.frame.Place.TheVariants.{InDescribed};
 ghost use Rattle.amqp_decoder.specs.Reading.{Reads};
 ghost use Rattle.amqp_decoder.specs.Containers.{ClosesDescribed, EndFault};
-ghost use Rattle.std.specs.Prelude.{◌≡◌, ◌≤◌, ◌<◌, length, take, option_map, Some, None, IfOk, IfErr, MatchOption, IsAscii, true, false};
+ghost use Rattle.std.specs.Prelude.{◌≡◌, ◌≤◌, ◌<◌, length, take, Some, None, IfOk, IfErr, MatchOption, IsAscii, true, false};
 ghost use Rattle.amqp_wire.specs.declared.error.Error.TheVariants.{Memory};
 ghost use Rattle.amqp_model.specs.Term.{name as of_name};
 ghost use Rattle.amqp_wire.specs.Sources.{Tells};
@@ -18,20 +18,10 @@ use crate::Decoder;
 use crate::frame::Place;
 use amqp_input::names::{Members, next_front, place_of, place_of_code, place_of_name};
 use amqp_wire::{ByteSource, Descriptor, Error, format_code};
-use std::alloc::{AllocError, Global};
+use std::alloc::Global;
 
 /// The most bytes of a name that are compared at once.
 const PIECE: usize = 256;
-
-// A copy of a descriptor.
-fn copy_of(descriptor: Option<&Descriptor>) -> Result<Option<Descriptor>, AllocError>
-    ensures { IfOk result (λ copy. option_map descriptor_of copy ≡ option_map (λ d. descriptor_of d.now) descriptor.entry) }
-{
-    match descriptor {
-        Some(descriptor) => Ok(Some(descriptor.clone()?)),
-        None => Ok(None),
-    }
-}
 
 impl<R: ByteSource> Decoder<R> {
     // Takes the code of a described value.
@@ -44,7 +34,10 @@ impl<R: ByteSource> Decoder<R> {
         if code != format_code::DESCRIBED {
             return Err(self.refuse_code(code));
         }
-        self.check_nesting()
+        if self.nesting_left() == 0 {
+            return Err(self.refuse(Error::Depth));
+        }
+        Ok(())
     }
 
     // Neither a ulong nor a symbol.
@@ -91,8 +84,11 @@ impl<R: ByteSource> Decoder<R> {
         ensures ok { IfOk result (λ copy. MatchOption copy (IsUnmarked self.old.top.shared) (λ d. IsMark self.old.top.shared (descriptor_of d)) × (self.new ≡ self.old)) }
         ensures err { IfErr result (λ e. (e ≡ Memory) × Answered self.old e self.new) }
     {
-        match copy_of(self.shared_descriptor()) {
-            Ok(descriptor) => Ok(descriptor),
+        let Some(descriptor) = self.shared_descriptor() else {
+            return Ok(None);
+        };
+        match descriptor.clone() {
+            Ok(descriptor) => Ok(Some(descriptor)),
             Err(_) => Err(self.refuse(Error::Memory)),
         }
     }

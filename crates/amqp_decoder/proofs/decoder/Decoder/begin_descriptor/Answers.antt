@@ -1,7 +1,6 @@
-use Rattle.std.proofs.Common.{rules, inr}
+use Rattle.std.proofs.Common.{rules, arith, inr}
 use Rattle.std.proofs.lemmas.Result.{err_from_is_err_and}
 use Rattle.amqp_decoder.specs.Described.{DescribedFault, other_code}
-use Rattle.amqp_decoder.proofs.Leaves.{err_map}
 use Rattle.amqp_decoder.proofs.Descriptors.{unbegun, begun_fails, deep_fails}
 use Rattle.amqp_decoder.proofs.Steps.{answered_so}
 use Rattle.amqp_decoder.proofs.decoder.Decoder.begin_descriptor.Goals as goal
@@ -16,6 +15,6 @@ returns-then-code-ne-DESCRIBED-clause-err g c = λ told.
     let h = c.in_ok-code.ensures told in
     begun_fails DescribedFault _ _ _ c.refuse_code.result _ h (answered_so _ _ _ c.refuse_code.ensures.kept) (inr (other_code h (search rules) c.refuse_code.ensures.answer))
 
-pub returns-clause-err : goal.returns-clause-err
-returns-clause-err g c = λ told.
-    err_map _ _ _ (λ e s. deep_fails _ _ e _ (rw c.if-code-ne-DESCRIBED.false at (c.in_ok-code.ensures told)) s.0 s.1 s.2) c.check_nesting.ensures.err
+pub returns-then-nesting_left-eq0-clause-err : goal.returns-then-nesting_left-eq0-clause-err
+returns-then-nesting_left-eq0-clause-err g c = λ told.
+    deep_fails _ _ _ _ (rw c.if-code-ne-DESCRIBED.false at (c.in_ok-code.ensures told)) c.refuse.ensures.answer (omega (arith, c.nesting_left.ensures, c.if-nesting_left-eq0.true)) c.refuse.ensures.kept
