@@ -4,7 +4,8 @@ use Rattle.amqp_model.specs.Term.{list, Descriptor, name, code, Terms, holder, d
 use Rattle.amqp_model.specs.Text.{form}
 use Rattle.amqp_model.specs.Composite.{Describes}
 use Rattle.amqp_model.specs.ItemLaws.{clash}
-use Rattle.amqp_codec.specs.Composite.{Table, table_of, by_cases, composite}
+use Rattle.amqp_model.specs.CompositeLaws.{by_cases}
+use Rattle.amqp_codec.specs.Composite.{Table, table_of, composite}
 use Rattle.amqp_codec.specs.EitherType.{FormsApart, either_of}
 use Rattle.amqp_codec.specs.TermType.{TermType}
 

@@ -15,6 +15,7 @@ use Rattle.amqp_model.specs.FieldType.{Norm, normal}
 use Rattle.amqp_model.specs.Fields.{Fits, AreValues, IsNormal, Same}
 use Rattle.amqp_model.specs.Composite.{MeansComposite, Describes, ListFits, canonical_term}
 use Rattle.amqp_model.specs.Composite as model
+use Rattle.amqp_model.specs.CompositeLaws.{by_cases}
 use Rattle.amqp_model.specs.CompositeLaws as laws
 use Rattle.amqp_model.proofs.Barred.{unrefused_free}
 use Rattle.amqp_model.proofs.Least.{bytes_left, bytes_right, container_least, descriptor_least}
@@ -54,20 +55,6 @@ pub record Table (V : Type 0) : Type 1 where
 -- as the model's table
 abbrev pub table_of : {V : Type 0} → Table V → model.Table V
 table_of c = record { code = c.code; name = c.name; fields = slots c.fields; norm = c.norm; norm_is = c.norm_is }
-
--- what holds of each described list that fits, holds of all that is meant
-pub by_cases : {V : Type 0} (c : model.Table V) (P : Term → Type 0) (t : Term) (v : V) → ((d : Descriptor) (ts : Terms) → Describes c d → Fits c.fields (items_of ts) v → P (described d (holder list ts))) → MeansComposite c t v → P t
-by_cases c P (described d (holder list ts)) v f m = f d ts m.0 m.1
-by_cases c P (described d (holder map ts)) v f m = absurd m.1
-by_cases c P (described d (holder array ts)) v f m = absurd m.1
-by_cases c P (described d (leaf p)) v f m = absurd m.1
-by_cases c P (described d (described e t)) v f m = absurd m.1
-by_cases c P (described d (kept b)) v f m = absurd m.1
-by_cases c P (described d (barred r)) v f m = absurd m.1
-by_cases c P (leaf p) v f m = absurd m
-by_cases c P (holder k ts) v f m = absurd m
-by_cases c P (kept b) v f m = absurd m
-by_cases c P (barred r) v f m = absurd m
 
 abbrev ItemsAreLarge : Terms → Type 0
 ItemsAreLarge us = (r : Refusal) → SomewhereIn (IsRefused r) us → r ≡ too_large

@@ -15,6 +15,7 @@ use Rattle.amqp_decoder.specs.Primitives.{standing, SpellsAs, Stands, Value, Mea
 use Rattle.amqp_decoder.proofs.Leaves.{value_leaf, begun_same, fault_not_leaf, code_value}
 use Rattle.amqp_decoder.proofs.Steps.{has_less}
 use Rattle.amqp_decoder.proofs.Peeks.{begun-peeked}
+use Rattle.amqp_input.specs.Kinds.{nulls}
 use Rattle.amqp_input.proofs.KindsOfCodes.{kind_data, one_code}
 use Rattle.amqp_codec.specs.Nulls.{null_primitive}
 use Rattle.amqp_codec.specs.Refused.{NoneStands}
@@ -83,7 +84,7 @@ abbrev MeansNull : Standing → Term → Unit {0} → Type 0
 MeansNull = Means (λ _. null)
 
 -- a null that was looked at is there
-pub null_there : (st : State) (mid : State) (e : Error) (new : State) → Peeked st 0x40 mid → Excused false e new ⊎ PrimitiveFault 0 mid e → Excused false e new
+pub null_there : (st : State) (mid : State) (e : Error) (new : State) → Peeked st 0x40 mid → Excused false e new ⊎ PrimitiveFault nulls mid e → Excused false e new
 null_there st mid e new p (inl x) = x
 null_there st mid e new p (inr f) =
     let v : Value MeansNull mid tt p.after = code_value (λ _. null) 0x40 mid tt p.after ((begun-peeked st mid p.after 0x40 0x40 p).1 p.begun) (refl, refl, tt) in

@@ -10,6 +10,7 @@ use Rattle.amqp_model.specs.Items.{is_null, is_null_primitive}
 use Rattle.amqp_model.specs.FieldType.{plain}
 use Rattle.amqp_model.specs.Text.{form}
 use Rattle.amqp_model.proofs.Least.{text_is_least}
+use Rattle.amqp_input.specs.Kinds.{booleans, uints, ulongs, symbols}
 use Rattle.amqp_decoder.specs.Primitives.{PrimitiveFault}
 use Rattle.amqp_decoder.proofs.NotMemory.{primitive_not_memory}
 use Rattle.amqp_decoder.specs.Elsewhere.{primitive_fault}
@@ -37,7 +38,7 @@ module _ {A : Type 0} (make : A → Primitive) (range : A → Type 0) (laws : Is
   pub primitive_least : (b : List ℕ) (t : Term) (v : A) → IsBytes b → enc b t → t ≡ leaf (make v) → length (text (leaf (make v)) Plain) ≤ length b
   primitive_least b t v i e h = text_is_least b (leaf (make v)) tt i (subst (enc b) h e)
 
-  -- k: the place of the kind among those of Part 1, section 1.6
+  -- k: the kind, of those of Part 1, section 1.6
   abbrev pub primitive_type : ℕ → Bool → TermType A
   primitive_type k takes_memory = record {
     is_value = range;
@@ -107,16 +108,16 @@ symbol_kind = record { injective = λ v w e. cc; in_range = λ v i. i; not_null 
 
 -- Part 1, section 1.6.2
 abbrev pub boolean_type : TermType Bool
-boolean_type = primitive_type boolean (λ _. Unit {0}) boolean_kind 1 false
+boolean_type = primitive_type boolean (λ _. Unit {0}) boolean_kind booleans false
 
 -- Part 1, section 1.6.5
 abbrev pub uint_type : TermType ℕ
-uint_type = primitive_type uint (λ n. n < 2 ^ 32) uint_kind 4 false
+uint_type = primitive_type uint (λ n. n < 2 ^ 32) uint_kind uints false
 
 -- Part 1, section 1.6.6
 abbrev pub ulong_type : TermType ℕ
-ulong_type = primitive_type ulong (λ n. n < 2 ^ 64) ulong_kind 5 false
+ulong_type = primitive_type ulong (λ n. n < 2 ^ 64) ulong_kind ulongs false
 
 -- Part 1, section 1.6.21: the bytes of a symbol. One that isn't ASCII is a value that can't be written.
 abbrev pub symbol_bytes_type : TermType (List ℕ)
-symbol_bytes_type = primitive_type symbol (λ _. Unit {0}) symbol_kind 18 true
+symbol_bytes_type = primitive_type symbol (λ _. Unit {0}) symbol_kind symbols true

@@ -217,8 +217,8 @@ stopped_mark st ds n m e new is t s = record {
   ];
 }
 
-pub stopped_unknown : (st : State) (ds : List Descriptor) (c : ℕ) (m : State) (e : Error) (new : State) → (c ≡ 0 → ⊥) → TookMarks st ds c m → (IsKnown (format c) → ⊥) × (e ≡ refusal_of c) × Answered m e new → Stopped true (ConstructorFault st) st e new
-stopped_unknown st ds c m e new some t (never, is, kept) = record { kept = answered_took t.took kept; why = inr (no_known_code ds c m t some never is) }
+pub stopped_unknown : (st : State) (ds : List Descriptor) (c : ℕ) (m : State) (e : Error) (new : State) → TookMarks st ds c m → (c ≡ 0 → ⊥) × (IsKnown (format c) → ⊥) × (e ≡ refusal_of c) × Answered m e new → Stopped true (ConstructorFault st) st e new
+stopped_unknown st ds c m e new t (some, never, is, kept) = record { kept = answered_took t.took kept; why = inr (no_known_code ds c m t some never is) }
 
 pub more_named : (st : State) (l l' : DescriptorValues) (m : State) (new : State) → st.top.shared ≡ None → TookMarks st (map descriptor_of l) 0 m → (d : DescriptorValue) × TookDescriptor m (descriptor_of d) new × (l' ≡ l ++ (d ∷ [])) → TookNamed st (map descriptor_of l') new
 more_named st l l' m new none t (d, u, is) =

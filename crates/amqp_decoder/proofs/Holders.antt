@@ -15,6 +15,7 @@ use Rattle.amqp_decoder.specs.Primitives.{standing, SpellsAs}
 use Rattle.amqp_decoder.specs.Containers.{place_of, is_list, IsCount, Counts, Header}
 use Rattle.amqp_decoder.specs.Items.{Row, Next, Contains}
 use Rattle.amqp_input.proofs.Looks.{front_is}
+use Rattle.amqp_decoder.proofs.Steps.{has_none, lower_none}
 use Rattle.amqp_decoder.proofs.Leaves.{has_add, has_front, has_rest, lower-lower, minus-minus, after_code, on-past}
 use Rattle.amqp_decoder.proofs.Opening.{on-on, took_both}
 
@@ -27,20 +28,12 @@ many-past k m n st =
     let one : 1 + k ≡ suc k = omega arith in
     rw (minus-minus st.ahead m n, drop-drop n m st.rest, lower-lower st.top.left m n, lower-lower st.top.items 1 k, one) refl
 
-lower_none : (o : Option ℕ) → o ≡ lower o 0
-lower_none None = refl
-lower_none (Some l) = ap Some (omega arith)
-
 many_none : (st : State) → st ≡ many 0 0 st
 many_none st =
     let a : st.ahead ≡ st.ahead - 0 = omega arith in
     ap (λ x. record st { ahead = x }) a
-    ∙ ap (λ x. record st { ahead = st.ahead - 0; top = record st.top { items = x } }) (lower_none st.top.items)
-    ∙ ap (λ x. record st { ahead = st.ahead - 0; top = record st.top { items = lower st.top.items 0; left = x } }) (lower_none st.top.left)
-
-has_none : (o : Option ℕ) → Has o 0
-has_none None = tt
-has_none (Some l) = omega arith
+    ∙ ap (λ x. record st { ahead = st.ahead - 0; top = record st.top { items = x } }) (sym (lower_none st.top.items))
+    ∙ ap (λ x. record st { ahead = st.ahead - 0; top = record st.top { items = lower st.top.items 0; left = x } }) (sym (lower_none st.top.left))
 
 -- what some terms in a row are together
 pub record Together (st : State) (us : Terms) (b : List ℕ) (st' : State) : Type 0 where

@@ -1,6 +1,8 @@
 -- Bytes that are taken and kept.
-use Rattle.std.proofs.Common.{arith, ◌≡◌, ◌≤◌, ◌<◌, ℕ, ◌^◌, inl, inr, Bool, true, false, IsTrue, ◌↔◌, cond, Some, List, [], ◌∷◌, ◌++◌, length, take, drop, refl, sym, ap, ◌∙◌, subst, append_assoc, length-append, IsAscii}
+use Rattle.std.proofs.Common.{arith, ◌≡◌, ◌≤◌, ◌<◌, ℕ, ◌^◌, ◌-◌, inl, inr, Bool, true, false, cond, Some, List, [], ◌∷◌, ◌++◌, length, take, drop, refl, sym, ap, ◌∙◌, subst, append_assoc, length-append, IsAscii}
 use Rattle.std.proofs.lemmas.List.{length-take-le, take-append-drop, drop_at}
+use Rattle.std.specs.List.{slice_range}
+use Rattle.std.proofs.Math.Seq.{take-length}
 use Rattle.std.specs.Int.{bytes_high_first}
 use Rattle.amqp_wire.specs.declared.error.Error.{Error}
 use Rattle.amqp_wire.specs.declared.error.Error.TheVariants.{NonAscii}
@@ -35,11 +37,11 @@ keeps_next n before after st m new room is (few, added, went) =
     let pulled : Pulled m s new = record { rest = whole; moved = went ∙ ap (λ k. moved k m) (sym long) } in
     record { own = s; is = long; took = took_pulled n st m s new long room is pulled; added = added }
 
-digits : (wide : Bool) (n : ℕ) → drop (cond wide 0 3) (bytes_high_first 4 n) ≡ bytes_high_first (cond wide 4 1) n
+digits : (wide : Bool) (n : ℕ) → drop (4 - cond wide 4 1) (bytes_high_first 4 n) ≡ bytes_high_first (cond wide 4 1) n
 digits true n = refl
 digits false n = refl
 
-pub keeps_number : (wide : Bool) (n k : ℕ) (before after bytes : List ℕ) (st new : State) → Took st (bytes_high_first (cond wide 4 1) n) new → bytes ≡ bytes_high_first 4 n → k ≡ cond wide 0 3 → after ≡ before ++ drop k bytes
+pub keeps_number : (wide : Bool) (n k : ℕ) (before after bytes : List ℕ) (st new : State) → Took st (bytes_high_first (cond wide 4 1) n) new → bytes ≡ bytes_high_first 4 n → k ≡ 4 - cond wide 4 1 → after ≡ before ++ drop k bytes
     → Keeps (λ s. s ≡ bytes_high_first (cond wide 4 1) n) before st after new
 keeps_number wide n k before after bytes st new t is skip added = record {
   own = bytes_high_first (cond wide 4 1) n;
@@ -56,16 +58,18 @@ sized_own w n x y fits is long = (subst (λ k. k < 256 ^ w) (sym long) fits, ap 
 added_last : (b c y : List ℕ) (start : ℕ) → start ≡ length b → c ≡ b ++ y → drop start c ≡ y
 added_last b c y start is added = ap (drop start) added ∙ drop_at b y start (sym is)
 
--- a test of what was added last
-text_test : (start : ℕ) (t : Bool) (slice b c y : List ℕ) → start ≡ length b → slice ≡ c → c ≡ b ++ y → (start ≤ length slice → IsTrue t ↔ IsAscii (drop start slice)) → IsTrue t ↔ IsAscii y
-text_test start t slice b c y at_ is added f =
-    subst (λ z. IsTrue t ↔ IsAscii z) (ap (drop start) is ∙ added_last b c y start at_ added) (f (omega (arith, ap length is, ap length added, length-append b y)))
+-- the text that was added last
+pub text_is : (start : ℕ) (text slice b c y : List ℕ) → start ≡ length b → slice ≡ c → c ≡ b ++ y → text ≡ slice_range slice start (length slice) → text ≡ y
+text_is start text slice b c y at_ is added found =
+    let rest : drop start slice ≡ y = ap (drop start) is ∙ added_last b c y start at_ added in
+    let long : length slice - start ≡ length y = omega (arith, ap length is, ap length added, length-append b y, at_) in
+    found ∙ ap (λ l. take (length slice - start) l) rest ∙ ap (λ n. take n y) long ∙ take-length y
 
-pub keeps_symbol : (w n start : ℕ) (t : Bool) (slice a b c : List ℕ) (st m new : State) → n < 256 ^ w → start ≡ length b → slice ≡ c → (start ≤ length slice → IsTrue t ↔ IsAscii (drop start slice)) → t ≡ true
+pub keeps_symbol : (w n : ℕ) (a b c : List ℕ) (st m new : State) → n < 256 ^ w → ((y : List ℕ) → c ≡ b ++ y → IsAscii y)
     → Keeps (λ s. s ≡ bytes_high_first w n) a st b m → Keeps (λ s. length s ≡ n) b m c new → Keeps (IsSymbol w) a st c new
-keeps_symbol w n start t slice a b c st m new fits at_ is test true_ h k = record {
+keeps_symbol w n a b c st m new fits good h k = record {
   own = h.own ++ k.own;
-  is = (k.own, (text_test start t slice b c k.own at_ is k.added test).0 true_, sized_own w n h.own k.own fits h.is k.is);
+  is = (k.own, good k.own k.added, sized_own w n h.own k.own fits h.is k.is);
   took = took_both st m new h.own k.own h.took k.took;
   added = k.added ∙ ap (λ l. l ++ k.own) h.added ∙ append_assoc a h.own k.own;
 }
@@ -76,13 +80,12 @@ stopped_size w st e new s = stopped_as (Lacks w st) (SymbolFault w st) st e new 
 pub stopped_text : (w n : ℕ) (a b : List ℕ) (st m : State) (e : Error) (new : State) → n < 256 ^ w → Keeps (λ s. s ≡ bytes_high_first w n) a st b m → Stopped true (Lacks n m) m e new → Stopped true (SymbolFault w st) st e new
 stopped_text w n a b st m e new fits h s = stopped_later (Lacks n m) (SymbolFault w st) st m h.own e new h.took (λ d x. no_text (inr (n, m, fits, subst (λ l. Took st l m) h.is h.took, x))) s
 
-pub stopped_ascii : (w n start : ℕ) (t : Bool) (slice a b c : List ℕ) (st m m' : State) (e : Error) (new : State) → n < 256 ^ w → start ≡ length b → slice ≡ c → (start ≤ length slice → IsTrue t ↔ IsAscii (drop start slice)) → t ≡ false
+pub stopped_ascii : (w n : ℕ) (a b c : List ℕ) (st m m' : State) (e : Error) (new : State) → n < 256 ^ w → ((y : List ℕ) → c ≡ b ++ y → IsAscii y → ⊥)
     → Keeps (λ s. s ≡ bytes_high_first w n) a st b m → Keeps (λ s. length s ≡ n) b m c m' → e ≡ NonAscii → new ≡ record m' { error = Some NonAscii } → Stopped true (SymbolFault w st) st e new
-stopped_ascii w n start t slice a b c st m m' e new fits at_ is test false_ h k named kept =
+stopped_ascii w n a b c st m m' e new fits bad h k named kept =
     let sized = sized_own w n h.own k.own fits h.is k.is in
     let took : Took st (h.own ++ k.own) m' = took_both st m m' h.own k.own h.took k.took in
-    let bad : IsAscii k.own → ⊥ = λ x. let y = (text_test start t slice b c k.own at_ is k.added test).1 x in absurd (cc (y, false_)) in
     record {
       kept = answered_took took (answered m' new e NonAscii kept named);
-      why = inr (no_ascii (record { fits = sized.0; took = subst (λ l. Took st l m') sized.1 took }) bad named);
+      why = inr (no_ascii (record { fits = sized.0; took = subst (λ l. Took st l m') sized.1 took }) (bad k.own k.added) named);
     }

@@ -130,5 +130,5 @@ unmarked_name n a b st m e new h s =
 pub unmarked_code : (n : ℕ) (a b : List ℕ) (st m : State) (e : Error) (new : State) → Keeps (IsNamed n) a st b m → Stopped true (Lacks 1 m) m e new → Stopped true (ConstructorFault st) st e new
 unmarked_code n a b st m e new h s = stopped_code st h.is.0 m e new (named_took n a b st m h) s
 
-pub unmarked_unknown : (n c : ℕ) (a b : List ℕ) (st m : State) (e : Error) (new : State) → (c ≡ 0 → ⊥) → Keeps (IsMarked n c) a st b m → (IsKnown (format c) → ⊥) × (e ≡ refusal_of c) × Answered m e new → Stopped true (ConstructorFault st) st e new
-unmarked_unknown n c a b st m e new some h s = stopped_unknown st h.is.0 c m e new some (marked_took n c a b st m h) s
+pub unmarked_unknown : (n c : ℕ) (a b : List ℕ) (st m : State) (e : Error) (new : State) → Keeps (IsMarked n c) a st b m → (c ≡ 0 → ⊥) × (IsKnown (format c) → ⊥) × (e ≡ refusal_of c) × Answered m e new → Stopped true (ConstructorFault st) st e new
+unmarked_unknown n c a b st m e new h s = stopped_unknown st h.is.0 c m e new (marked_took n c a b st m h) s

@@ -15,7 +15,7 @@ use Rattle.amqp_decoder.specs.Steps.{Answered, SourceFailed, Excused, Took, Lack
 use Rattle.amqp_decoder.specs.Reading.{Refused, Reads, IsFirst, Begun, BeginFault, missing, no_code}
 use Rattle.amqp_input.specs.Kinds.{kind_of, kind_at, kind_under, codes_of}
 use Rattle.amqp_decoder.specs.Primitives.{standing, SpellsAs, Value, Means, Leaf, LacksData, IsWhole, bad, PrimitiveFault, not_begun, wrong_code, no_data, bad_data, FixedFault, unbegun, other_code, too_few, Fixed, Failed, LacksDataOf}
-use Rattle.amqp_decoder.proofs.Steps.{answered_begun, answered_took, not_lacking, not_begun_done, not_begun_lacking}
+use Rattle.amqp_decoder.proofs.Steps.{answered_begun, answered_took, has_none, lower_none, not_lacking, not_begun_done, not_begun_lacking}
 use Rattle.amqp_input.proofs.KindsOfCodes.{kind_data, kind_is, one_code}
 
 pub has_add : (o : Option ℕ) (m n : ℕ) → Has o m → Has (lower o m) n → Has o (m + n)
@@ -277,14 +277,6 @@ fixed_reads make k code n st new (Err e) kinds is one lacks d f h = fixed_refuse
 pub bad_refused : {A : Type 0} (make : A → Primitive) (k code : ℕ) (st : State) (m : State) (b : List ℕ) (m' : State) (e : Error) (new : State) → ((v : A) → kind_of (make v) ≡ k) → kind_under (format code) ≡ Some k
     → Begun st code m → Took m b m' → IsWhole (format code) b → ((p : Primitive) → PrimitiveData (format code) p b → ⊥) → e ≡ bad k → Answered m' e new → Refused false (Value (Means make)) (PrimitiveFault k) st e new
 bad_refused make k code st m b m' e new kinds is g t h none d kept = refused_kind make k st e new kinds g.going (answered_begun g (answered_took t kept)) (inr (bad_data g (kind_is code k is) t h none d))
-
-lower_none : (o : Option ℕ) → lower o 0 ≡ o
-lower_none None = refl
-lower_none (Some l) = ap Some (omega arith)
-
-has_none : (o : Option ℕ) → Has o 0
-has_none None = tt
-has_none (Some l) = omega arith
 
 pub took_none : (m : State) → Took m [] m
 took_none m =

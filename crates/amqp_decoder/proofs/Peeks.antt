@@ -1,5 +1,7 @@
 -- What a look at the next value's first code finds.
-use Rattle.std.proofs.Common.{◌≡◌, ◌≤◌, ◌<◌, ℕ, ◌-◌, inl, inr, Bool, false, IsTrue, Option, Some, None, List, [], ◌∷◌, length, drop, get_or, length-append, ◌↔◌, min, max, refl, sym, ap, ◌∙◌, subst, arith}
+use Rattle.std.proofs.Common.{◌≡◌, ◌≤◌, ◌<◌, ℕ, zero, suc, ◌-◌, inl, inr, Bool, false, IsTrue, Option, Some, None, is_some, MatchOption, List, [], ◌∷◌, length, take, drop, get_or, slice_get, length-append, ◌↔◌, min, max, refl, sym, ap, ◌∙◌, subst, arith}
+use Rattle.std.proofs.lemmas.List.{length-take}
+use Rattle.std.proofs.lemmas.Option.{get_or_from_slice_get}
 use Rattle.amqp_model.specs.Term.{Descriptor, Term}
 use Rattle.amqp_model.specs.Spelling.{Constructor, enc}
 use Rattle.amqp_model.specs.Standing.{Standing}
@@ -19,19 +21,19 @@ under_shared (Some s) c st h = refl
 pub peeked_shared : (st : State) (c : ℕ) → st.error ≡ None → Has st.top.items 1 → IsFirstShared st.top.shared c → Peeked st c st
 peeked_shared st c going item h = record { after = _; begun = begun_shared st c going item h; kept = under_shared st.top.shared c st h }
 
-front_one : (r : List ℕ) → 0 < length r → r ≡ get_or r 0 0 ∷ drop 1 r
-front_one [] h = absurd (omega arith)
-front_one (x ∷ r) h = refl
+-- the first of the bytes that are looked at
+first_is : (n c : ℕ) (row r : List ℕ) → row ≡ take n r → Some c ≡ slice_get row 0 → r ≡ c ∷ drop 1 r
+first_is zero c row r is at = let e : Some c ≡ None = at ∙ ap (λ l. slice_get l 0) is in absurd (cc)
+first_is (suc n) c row [] is at = let e : Some c ≡ None = at ∙ ap (λ l. slice_get l 0) is in absurd (cc)
+first_is (suc n) c row (x ∷ r) is at = ap (λ b. b ∷ r) (sym (ap (λ l. get_or l 0 0) is) ∙ get_or_from_slice_get row 0 c 0 (sym at))
 
 -- a byte stands there, and is looked at
-pub peeked_own : (st : State) (c : ℕ) (new : State) → st.error ≡ None → Has st.top.items 1 → st.top.shared ≡ None → Has st.top.left 1 → 0 < length st.rest → new ≡ looked (min 1 (length st.rest)) st → (0 < new.ahead → c ≡ get_or new.rest 0 0) → Peeked st c new
-peeked_own st c new going item none room some is byte =
-    let one : min 1 (length st.rest) ≡ 1 = omega (arith, some) in
-    let now : new ≡ looked 1 st = is ∙ ap (λ n. looked n st) one in
-    let ahead : 0 < new.ahead = omega (arith, ap (λ (x : State). x.ahead) now) in
-    let c_is : c ≡ get_or st.rest 0 0 = byte ahead ∙ ap (λ (x : State). get_or x.rest 0 0) now in
-    let took : Took st (c ∷ []) (on 1 st) = record { room = room; rest = front_one st.rest some ∙ ap (λ x. x ∷ drop 1 st.rest) (sym c_is); moved = refl } in
-    record { after = _; begun = begun_own st c (on 1 st) going item none took; kept = now ∙ ap (λ o. looked_under o st) (sym none) }
+pub peeked_own : (st : State) (c : ℕ) (new : State) (row : List ℕ) → st.error ≡ None → Has st.top.items 1 → st.top.shared ≡ None → Has st.top.left 1 → new ≡ looked (min 1 (length st.rest)) st → row ≡ take new.ahead new.rest → Some c ≡ slice_get row 0 → Peeked st c new
+peeked_own st c new row going item none room is front at =
+    let byte : st.rest ≡ c ∷ drop 1 st.rest = first_is _ c row st.rest (front ∙ ap (λ (x : State). take x.ahead x.rest) is) at in
+    let one : min 1 (length st.rest) ≡ 1 = omega (arith, ap length byte) in
+    let took : Took st (c ∷ []) (on 1 st) = record { room = room; rest = byte; moved = refl } in
+    record { after = _; begun = begun_own st c (on 1 st) going item none took; kept = is ∙ ap (λ n. looked n st) one ∙ ap (λ o. looked_under o st) (sym none) }
 
 pub peek_refused : (st : State) (e : Error) (new : State) → Refused false Begun BeginFault st e new → Refused false Peeked BeginFault st e new
 peek_refused st e new r = record {
@@ -45,9 +47,13 @@ peek_refused st e new r = record {
 pub peek_size : (st : State) (e : Error) (new : State) → st.error ≡ None → st.top.shared ≡ None → st.top.left ≡ Some 0 → SizeRefused 1 st e new → Refused false Peeked BeginFault st e new
 peek_size st e new going none left r = peek_refused st e new (begin_short st e new going none (short_of_size 1 1 0 st e new left (omega arith) r))
 
-pub none_there : (b : Bool) (r : List ℕ) → b ≡ false → (0 < length r → IsTrue b) → length r < 1
-none_there b [] e f = omega arith
-none_there b (x ∷ r) e f = let h : IsTrue b = f (omega arith) in absurd (cc)
+nothing_at : (row : List ℕ) → None ≡ slice_get row 0 → length row ≡ 0
+nothing_at [] e = refl
+nothing_at (x ∷ row) e = absurd (cc)
+
+pub none_there : (st new : State) (row : List ℕ) → new ≡ looked (min 1 (length st.rest)) st → row ≡ take new.ahead new.rest → None ≡ slice_get row 0 → length st.rest < 1
+none_there st new row is front at =
+    omega (arith, nothing_at row at, ap length (front ∙ ap (λ (x : State). take x.ahead x.rest) is), length-take (max st.ahead (min 1 (length st.rest))) st.rest)
 
 -- the input ends
 pub peek_cut : (st : State) (e : Error) (new : State) → st.error ≡ None → st.top.shared ≡ None → (st.top.left ≡ Some 0 → ⊥) → length st.rest < 1 → e ≡ Cut → Answered st e new → Refused false Peeked BeginFault st e new
@@ -114,3 +120,8 @@ value_after means st after v (Some s) e = (λ x. x, λ x. x)
 -- a value that is read after a look is the value that is read without it
 pub value-peeked : {A : Type 0} (means : Standing → Term → A → Type 0) (st seen after : State) (c : ℕ) (v : A) → Peeked st c seen → Value means seen v after ↔ Value means st v after
 value-peeked means st seen after c v p = subst (λ (x : State). Value means x v after ↔ Value means st v after) (sym p.kept) (value_after means st after v st.top.shared refl)
+
+-- no code is shared
+pub no_code_shared : (o : Option ℕ) (shared : Option (List Descriptor × ℕ)) → MatchOption o (shared ≡ None) (λ c. IsFirstShared shared c) → is_some o ≡ false → shared ≡ None
+no_code_shared None shared h e = h
+no_code_shared (Some c) shared h e = absurd (cc)

@@ -104,11 +104,11 @@ first_shared None c h = absurd h
 first_shared (Some ([], k)) c h = (refl, h)
 first_shared (Some (d ∷ ds, k)) c h = (refl, h)
 
-has_none : (o : Option ℕ) → Has o 0
+pub has_none : (o : Option ℕ) → Has o 0
 has_none None = tt
 has_none (Some l) = omega arith
 
-lower_none : (o : Option ℕ) → lower o 0 ≡ o
+pub lower_none : (o : Option ℕ) → lower o 0 ≡ o
 lower_none None = refl
 lower_none (Some l) = ap Some (omega arith)
 

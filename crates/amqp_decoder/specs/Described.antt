@@ -10,7 +10,7 @@ use Rattle.amqp_decoder.specs.declared.frame.Place.TheVariants.{InDescribed}
 use Rattle.amqp_decoder.specs.State.{State}
 use Rattle.amqp_decoder.specs.Steps.{Answered, Excused, SourceFailed, Took, Lacks}
 use Rattle.amqp_decoder.specs.Reading.{Begun, BeginFault}
-use Rattle.amqp_input.specs.Kinds.{kind_at}
+use Rattle.amqp_input.specs.Kinds.{kind_at, ulongs, symbols}
 use Rattle.amqp_input.specs.Members.{Member, place_of}
 use Rattle.amqp_decoder.specs.Primitives.{LacksData, IsWhole}
 
@@ -88,14 +88,14 @@ symbol_code wide = cond wide 0xb3 0xa3
 
 -- The kinds of descriptors: a ulong and a symbol.
 abbrev pub IsDescriptorKind : Option ℕ → Type 0
-IsDescriptorKind k = (k ≡ Some 5) ⊎ (k ≡ Some 18)
+IsDescriptorKind k = (k ≡ Some ulongs) ⊎ (k ≡ Some symbols)
 
 -- Why no descriptor is read.
 pub data DescriptorFault (st : State) (e : Error) : Type 0 where
   no_code : Lacks 1 st e → DescriptorFault st e
   no_kind : {c : ℕ} {m : State} → Took st (c ∷ []) m → (IsDescriptorKind (kind_at c) → ⊥) → e ≡ other_kind (refusal_of c) → DescriptorFault st e
   no_data : {c : ℕ} {m : State} → Took st (c ∷ []) m → IsDescriptorKind (kind_at c) → LacksData (format c) m e → DescriptorFault st e
-  non_ascii : {c : ℕ} {m : State} {b : List ℕ} {m' : State} → Took st (c ∷ []) m → kind_at c ≡ Some 18 → Took m b m' → IsWhole (format c) b
+  non_ascii : {c : ℕ} {m : State} {b : List ℕ} {m' : State} → Took st (c ∷ []) m → kind_at c ≡ Some symbols → Took m b m' → IsWhole (format c) b
       → ((d : Descriptor) → PrimitiveData (format c) (descriptor_value d) b → ⊥) → e ≡ NonAscii → DescriptorFault st e
 
 -- No descriptor was taken.

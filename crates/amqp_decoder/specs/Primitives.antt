@@ -12,7 +12,7 @@ use Rattle.amqp_wire.specs.Codes.{refusal_of}
 use Rattle.amqp_decoder.specs.State.{State, Has, lower, past}
 use Rattle.amqp_decoder.specs.Steps.{Answered, Excused, SourceFailed, Took, Lacks}
 use Rattle.amqp_decoder.specs.Reading.{Begun, BeginFault}
-use Rattle.amqp_input.specs.Kinds.{kind_at}
+use Rattle.amqp_input.specs.Kinds.{kind_at, booleans, chars, strings, symbols}
 
 -- How a value stands: as bytes of its own, or as the data of an array's item under the constructor that is shared.
 abbrev pub standing : Option (List Descriptor × ℕ) → List ℕ → Standing
@@ -83,7 +83,7 @@ IsWhole unknown b = ⊥
 
 -- The error for data that is no value of its kind.
 abbrev pub bad : ℕ → Error
-bad k = cond (eqb k 1) BadBool (cond (eqb k 13) BadChar (cond (eqb k 17) BadUtf8 (cond (eqb k 18) NonAscii InvalidValue)))
+bad k = cond (eqb k booleans) BadBool (cond (eqb k chars) BadChar (cond (eqb k strings) BadUtf8 (cond (eqb k symbols) NonAscii InvalidValue)))
 
 -- Why no primitive of a kind is read.
 pub data PrimitiveFault (k : ℕ) (st : State) (e : Error) : Type 0 where

@@ -50,7 +50,7 @@ impl<R: ByteSource> Decoder<R> {
     // A code that ends a constructor is known.
     pub(crate) fn check_known(&mut self, code: u8) -> Result<(), Error>
         ensures ok { IfOk result (λ _. ((code ≡ 0) ⊎ IsKnown (format code)) × (self.new ≡ self.old)) }
-        ensures err { IfErr result (λ e. (IsKnown (format code) → ⊥) × (e ≡ refusal_of code) × Answered self.old e self.new) }
+        ensures err { IfErr result (λ e. (code ≡ 0 → ⊥) × (IsKnown (format code) → ⊥) × (e ≡ refusal_of code) × Answered self.old e self.new) }
     {
         match format_code::unknown(code) {
             None => Ok(()),

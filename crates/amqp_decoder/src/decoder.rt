@@ -22,7 +22,12 @@ use std::marker::Model;
 /// The most bytes of skipped content that are pulled at once.
 const SKIP: usize = 256;
 
-/// A cursor over the terms of a source. Once it has refused, it answers the same error to every call.
+/// A cursor over the terms of a source (Part 1, section 1.2). Once it has refused, it answers the same error to every call.
+///
+/// A call that reads a value answers `Missing` where no item is left in what is open, `Cut` where the input ends in the
+/// value, `Size` where a size is wrong and all is there that the outermost size announces, `UnknownCode` and `FloatCode`
+/// of such a code, `WrongType` of another kind's, `Memory` where it takes memory and a growth is refused, and `Read` where
+/// the source fails. What it answers besides is said of each call.
 #[derive(Drop)]
 pub struct Decoder<R: ByteSource> {
     input: Input<R>,
@@ -250,7 +255,7 @@ impl<R: ByteSource> Decoder<R> {
 
     // The first code of the constructor that the items share.
     #[inline]
-    fn shared_code(&self) -> Option<u8>
+    pub(crate) fn shared_code(&self) -> Option<u8>
         ensures { MatchOption result (self.now.top.shared ≡ None) (λ c. IsFirstShared self.now.top.shared c) }
     {
         let Frame {
@@ -307,16 +312,6 @@ impl<R: ByteSource> Decoder<R> {
         }
     }
 
-    // The byte that is looked at, so many behind the next one.
-    pub(crate) fn looked_byte(&self, index: usize) -> u8
-        ensures { index < self.now.ahead → result ≡ slice_index self.now.rest index }
-    {
-        match self.input.looked().get(index) {
-            Some(byte) => *byte,
-            None => 0,
-        }
-    }
-
     // The code of the section whose descriptor stands next.
     pub(crate) fn section_ahead(&mut self) -> Result<Option<u8>, Error>
         ensures looks { Tells R.remaining → IfOk result (λ _. LooksOn self.old self.new) }
@@ -342,18 +337,11 @@ impl<R: ByteSource> Decoder<R> {
         if self.left() == Some(0) {
             return Err(self.refuse_size(1));
         }
-        if !self.look_next()? {
-            return Err(self.refuse(Error::Cut));
+        self.look_next()?;
+        match self.input.looked().first() {
+            Some(code) => Ok(*code),
+            None => Err(self.refuse(Error::Cut)),
         }
-        Ok(self.looked_byte(0))
-    }
-
-    // The items of the open container share a constructor.
-    #[inline]
-    pub(crate) fn is_shared(&self) -> bool
-        ensures { (result ≡ false) ↔ (self.now.top.shared ≡ None) }
-    {
-        self.top.code != 0
     }
 
     /// How many containers and described values are open.

@@ -79,28 +79,17 @@ impl<R: ByteSource> Decoder<R> {
         Ok(Descriptor::Name(self.ascii(text)?))
     }
 
-    // A copy of the descriptor that is shared.
-    fn clone_descriptor(&mut self) -> Result<Option<Descriptor>, Error>
-        ensures ok { IfOk result (λ copy. MatchOption copy (IsUnmarked self.old.top.shared) (λ d. IsMark self.old.top.shared (descriptor_of d)) × (self.new ≡ self.old)) }
-        ensures err { IfErr result (λ e. (e ≡ Memory) × Answered self.old e self.new) }
-    {
-        let Some(descriptor) = self.shared_descriptor() else {
-            return Ok(None);
-        };
-        match descriptor.clone() {
-            Ok(descriptor) => Ok(Some(descriptor)),
-            Err(_) => Err(self.refuse(Error::Memory)),
-        }
-    }
-
     // The descriptor that stands next, or is shared.
     fn next_descriptor(&mut self, alloc: Global) -> Result<Descriptor, Error>
         ensures ok { Tells R.remaining → IsDescribable self.old.top.shared → IfOk result (λ d. TookDescriptor self.old (descriptor_of d) self.new) }
         ensures err { Tells R.remaining → IsDescribable self.old.top.shared → IfErr result (λ e. DescriptorMissed true self.old e self.new) }
     {
-        match self.clone_descriptor()? {
-            Some(descriptor) => Ok(descriptor),
-            None => self.descriptor(alloc),
+        let Some(descriptor) = self.shared_descriptor() else {
+            return self.descriptor(alloc);
+        };
+        match descriptor.clone() {
+            Ok(descriptor) => Ok(descriptor),
+            Err(_) => Err(self.refuse(Error::Memory)),
         }
     }
 

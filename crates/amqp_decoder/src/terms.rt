@@ -44,13 +44,6 @@ fn data_of(code: u8) -> Data
     }
 }
 
-// How many of the four bytes of a number don't stand in front of its data.
-fn unused_digits(wide: bool) -> usize
-    ensures { result ≡ cond wide 0 3 }
-{
-    if wide { 0 } else { 3 }
-}
-
 // How many bytes belong behind a size: as many as it says, or the count of a list whose size is 0.
 fn content_len(size: u32, wide: bool, is_list: bool) -> u32
     ensures empty { is_list ≡ true → size ≡ 0 → result ≡ cond wide 4 1 }
@@ -61,16 +54,6 @@ fn content_len(size: u32, wide: bool, is_list: bool) -> u32
         width(wide)
     } else {
         size
-    }
-}
-
-// The bytes from this place on are ASCII.
-fn is_ascii_from(bytes: &[u8], start: usize) -> bool
-    ensures { start ≤ length bytes.now → IsTrue result ↔ IsAscii (drop start bytes.now) }
-{
-    match bytes.get(start..) {
-        Some(text) => text.is_ascii(),
-        None => false,
     }
 }
 
@@ -104,7 +87,7 @@ impl<R: ByteSource> Decoder<R> {
     {
         let number = self.number(wide)?;
         let digits = number.to_be_bytes();
-        match bytes.extend_from_slice(&digits[unused_digits(wide)..]) {
+        match bytes.extend_from_slice(&digits[4 - width(wide) as usize..]) {
             Ok(()) => Ok(number),
             Err(_) => Err(self.refuse(Error::Memory)),
         }
@@ -118,10 +101,10 @@ impl<R: ByteSource> Decoder<R> {
         let len = self.keep_number(wide, bytes)?;
         let start = bytes.len();
         self.keep_next(len, bytes)?;
-        if is_ascii_from(bytes.as_slice(), start) {
-            return Ok(());
+        match bytes.get(start..) {
+            Some(text) if text.is_ascii() => Ok(()),
+            _ => Err(self.refuse(Error::NonAscii)),
         }
-        Err(self.refuse(Error::NonAscii))
     }
 
     // Adds a descriptor.
@@ -206,7 +189,7 @@ impl<R: ByteSource> Decoder<R> {
         ensures again { (e : Error) → self.old.error ≡ Some e → (result ≡ Err e) × (self.new ≡ self.old) }
     {
         self.check_item()?;
-        if self.is_shared() {
+        if self.shared_code().is_some() {
             return Err(self.refuse(Error::LazyInArray));
         }
         let bytes = self.term_bytes(alloc)?;

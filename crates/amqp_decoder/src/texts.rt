@@ -2,6 +2,7 @@
 ghost use Rattle.std.specs.Prelude.{◌<◌, ◌≤◌, ◌≡◌, ◌++◌, ℕ, List, length, take, cond, Some, IsAscii, string_bytes, IfOk, IfErr, true, false};
 ghost use Rattle.amqp_model.specs.Term.{binary, string, symbol};
 ghost use Rattle.amqp_wire.specs.Sources.{Tells};
+ghost use Rattle.amqp_input.specs.Kinds.{binaries, strings, symbols};
 ghost use Rattle.amqp_decoder.specs.State.{moved};
 ghost use Rattle.amqp_decoder.specs.Steps.{Answered, Missed};
 ghost use Rattle.amqp_decoder.specs.Reading.{Reads};
@@ -109,14 +110,14 @@ impl<R: ByteSource> Decoder<R> {
 
     /// Bytes (Part 1, section 1.6.19).
     pub fn read_binary(&mut self, alloc: Global) -> Result<Vec<u8>, Error>
-        ensures { Tells R.remaining → Reads true (Value (Means (λ bytes. binary bytes.items))) (PrimitiveFault 16) self.old result self.new }
+        ensures { Tells R.remaining → Reads true (Value (Means (λ bytes. binary bytes.items))) (PrimitiveFault binaries) self.old result self.new }
     {
         self.content(format_code::BINARY_8, format_code::BINARY_32, alloc)
     }
 
     /// A text (Part 1, section 1.6.20); `BadUtf8` where it is not UTF-8.
     pub fn read_string(&mut self, alloc: Global) -> Result<String, Error>
-        ensures { Tells R.remaining → Reads true (Value (Means (λ text. string (string_bytes text)))) (PrimitiveFault 17) self.old result self.new }
+        ensures { Tells R.remaining → Reads true (Value (Means (λ text. string (string_bytes text)))) (PrimitiveFault strings) self.old result self.new }
     {
         let text = self.content(format_code::STRING_8, format_code::STRING_32, alloc)?;
         match String::from_utf8(text) {
@@ -127,7 +128,7 @@ impl<R: ByteSource> Decoder<R> {
 
     /// A symbol (Part 1, section 1.6.21); `NonAscii` where a byte is above 0x7f.
     pub fn read_symbol(&mut self, alloc: Global) -> Result<Symbol, Error>
-        ensures { Tells R.remaining → Reads true (Value (Means (λ text. symbol (string_bytes text.0)))) (PrimitiveFault 18) self.old result self.new }
+        ensures { Tells R.remaining → Reads true (Value (Means (λ text. symbol (string_bytes text.0)))) (PrimitiveFault symbols) self.old result self.new }
     {
         let text = self.content(format_code::SYMBOL_8, format_code::SYMBOL_32, alloc)?;
         self.ascii(text)

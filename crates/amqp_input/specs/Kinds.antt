@@ -3,27 +3,85 @@ use Rattle.std.specs.Prelude.{ℕ, zero, suc, Bool, false, cond, eqb, List, [], 
 use Rattle.amqp_model.specs.Term.{Primitive, null, boolean, ubyte, ushort, uint, ulong, byte, short, int, long, char, timestamp, decimal32, decimal64, decimal128, uuid, binary, string, symbol}
 use Rattle.amqp_model.specs.Constructors.{Format, fixed, variable, compound, unknown, format, constructors}
 
--- The place of a primitive's kind among those of section 1.6, from null on.
+-- The kinds, by their places among those of section 1.6.
+abbrev pub nulls : ℕ
+nulls = 0
+
+abbrev pub booleans : ℕ
+booleans = 1
+
+abbrev pub ubytes : ℕ
+ubytes = 2
+
+abbrev pub ushorts : ℕ
+ushorts = 3
+
+abbrev pub uints : ℕ
+uints = 4
+
+abbrev pub ulongs : ℕ
+ulongs = 5
+
+abbrev pub bytes : ℕ
+bytes = 6
+
+abbrev pub shorts : ℕ
+shorts = 7
+
+abbrev pub ints : ℕ
+ints = 8
+
+abbrev pub longs : ℕ
+longs = 9
+
+abbrev pub decimals32 : ℕ
+decimals32 = 10
+
+abbrev pub decimals64 : ℕ
+decimals64 = 11
+
+abbrev pub decimals128 : ℕ
+decimals128 = 12
+
+abbrev pub chars : ℕ
+chars = 13
+
+abbrev pub timestamps : ℕ
+timestamps = 14
+
+abbrev pub uuids : ℕ
+uuids = 15
+
+abbrev pub binaries : ℕ
+binaries = 16
+
+abbrev pub strings : ℕ
+strings = 17
+
+abbrev pub symbols : ℕ
+symbols = 18
+
+-- The kind of a primitive.
 abbrev pub kind_of : Primitive → ℕ
-kind_of null = 0
-kind_of (boolean b) = 1
-kind_of (ubyte n) = 2
-kind_of (ushort n) = 3
-kind_of (uint n) = 4
-kind_of (ulong n) = 5
-kind_of (byte z) = 6
-kind_of (short z) = 7
-kind_of (int z) = 8
-kind_of (long z) = 9
-kind_of (decimal32 b) = 10
-kind_of (decimal64 b) = 11
-kind_of (decimal128 b) = 12
-kind_of (char n) = 13
-kind_of (timestamp z) = 14
-kind_of (uuid b) = 15
-kind_of (binary s) = 16
-kind_of (string s) = 17
-kind_of (symbol s) = 18
+kind_of null = nulls
+kind_of (boolean b) = booleans
+kind_of (ubyte n) = ubytes
+kind_of (ushort n) = ushorts
+kind_of (uint n) = uints
+kind_of (ulong n) = ulongs
+kind_of (byte z) = bytes
+kind_of (short z) = shorts
+kind_of (int z) = ints
+kind_of (long z) = longs
+kind_of (decimal32 b) = decimals32
+kind_of (decimal64 b) = decimals64
+kind_of (decimal128 b) = decimals128
+kind_of (char n) = chars
+kind_of (timestamp z) = timestamps
+kind_of (uuid b) = uuids
+kind_of (binary s) = binaries
+kind_of (string s) = strings
+kind_of (symbol s) = symbols
 
 abbrev pub zeros : ℕ → List ℕ
 zeros zero = []

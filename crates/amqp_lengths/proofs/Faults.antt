@@ -72,10 +72,10 @@ pub char_fault : (b : List ℕ) (n : ℕ) (o : Option ℕ) → n ≡ from_be_byt
 char_fault b n o is h e = (subst (λ k. IsScalar k → ⊥) is (none_scalar o n h e), refl)
 
 -- a code that is no descriptor's
-pub descriptor_code : (c : ℕ) (after : List ℕ) (o : Option Error) → (c ≡ 0 → ⊥) → (IsDescriptorCode c → ⊥) → MatchOption o ((c ≡ 0) ⊎ IsKnown (format c)) (λ e. (e ≡ refusal_of c) × (IsKnown (format c) → ⊥))
+pub descriptor_code : (c : ℕ) (after : List ℕ) (o : Option Error) → (IsDescriptorCode c → ⊥) → MatchOption o ((c ≡ 0) ⊎ IsKnown (format c)) (λ e. (e ≡ refusal_of c) × (IsKnown (format c) → ⊥) × (c ≡ 0 → ⊥))
     → DescriptorFault (c ∷ after) (unwrap_or o BadDescriptor)
-descriptor_code c after None some other h = descriptor_other c after refl h other
-descriptor_code c after (Some e) some other h = subst (DescriptorFault (c ∷ after)) (sym h.0) (descriptor_unknown c after refl some h.1)
+descriptor_code c after None other h = descriptor_other c after refl h other
+descriptor_code c after (Some e) other h = subst (DescriptorFault (c ∷ after)) (sym h.0) (descriptor_unknown c after refl h.2 h.1)
 
 -- the content of containers
 compound_cut : (kind : Container) (w : ℕ) (input : List ℕ) → WantsSized w (λ size. size) input → Wants (compound kind w) input

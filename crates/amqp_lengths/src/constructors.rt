@@ -33,7 +33,6 @@ fn descriptor_len(input: &[u8]) -> Result<usize, Error>
         | format_code::ULONG
         | format_code::SYMBOL_8
         | format_code::SYMBOL_32 => Ok(1 + primitive_len(*code, data)?),
-        format_code::DESCRIBED => Err(Error::BadDescriptor),
         code => Err(unknown(code).unwrap_or(Error::BadDescriptor)),
     }
 }

@@ -9,7 +9,7 @@ use Rattle.amqp_model.specs.FieldLaws.{canonical_fit, fits_one, same_fields_refl
 use Rattle.amqp_model.specs.Composite.{Table, Describes, MeansComposite, canonical_term}
 
 -- what holds of each described list that fits, holds of all that is meant
-by_cases : {V : Type 0} (c : Table V) (P : Term → Type 0) (t : Term) (v : V) → ((d : Descriptor) (ts : Terms) → Describes c d → Fits c.fields (items_of ts) v → P (described d (holder list ts))) → MeansComposite c t v → P t
+pub by_cases : {V : Type 0} (c : Table V) (P : Term → Type 0) (t : Term) (v : V) → ((d : Descriptor) (ts : Terms) → Describes c d → Fits c.fields (items_of ts) v → P (described d (holder list ts))) → MeansComposite c t v → P t
 by_cases c P (described d (holder list ts)) v f m = f d ts m.0 m.1
 by_cases c P (described d (holder map ts)) v f m = absurd m.1
 by_cases c P (described d (holder array ts)) v f m = absurd m.1

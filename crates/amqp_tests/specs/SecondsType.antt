@@ -12,6 +12,7 @@ use Rattle.amqp_model.specs.FieldType.{plain}
 use Rattle.amqp_model.proofs.Least.{text_is_least}
 use Rattle.amqp_wire.specs.declared.error.Error.{Error}
 use Rattle.amqp_wire.specs.declared.error.Error.TheVariants.{Memory}
+use Rattle.amqp_input.specs.Kinds.{uints}
 use Rattle.amqp_decoder.specs.declared.frame.Place.TheVariants.{InList}
 use Rattle.amqp_decoder.specs.State.{State}
 use Rattle.amqp_decoder.specs.Primitives.{Value, Means, PrimitiveFault}
@@ -32,7 +33,7 @@ MeansSeconds t v = (t ≡ list_of v) × (v.count < 2 ^ 32)
 -- No list begins, no uint stands in it, or more than that.
 pub data SecondsFault (st : State) (e : Error) : Type 0 where
   no_list : OpenFault list st e → SecondsFault st e
-  no_count : {n : ℕ} {first : State} → Opens list st n first → PrimitiveFault 4 first e → SecondsFault st e
+  no_count : {n : ℕ} {first : State} → Opens list st n first → PrimitiveFault uints first e → SecondsFault st e
   not_ended : {n k : ℕ} {first last : State} → Opens list st n first → Value (Means uint) first k last → CloseFault InList last e → SecondsFault st e
 
 pub fault_elsewhere : (source : ℕ) (failed : Bool) (st : State) (e : Error) → SecondsFault st e → SecondsFault (elsewhere source failed st) e

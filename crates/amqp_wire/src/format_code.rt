@@ -147,7 +147,7 @@ pub fn refusal(code: u8) -> Error
 /// Why a code ends no constructor: it is a float's, or unknown.
 pub fn unknown(code: u8) -> Option<Error>
     ensures { MatchOption result ((code ≡ 0) ⊎ IsKnown (format code))
-        (λ e. (e ≡ refusal_of code) × (IsKnown (format code) → ⊥)) }
+        (λ e. (e ≡ refusal_of code) × (IsKnown (format code) → ⊥) × (code ≡ 0 → ⊥)) }
 {
     match refusal(code) {
         Error::WrongType(_) => None,

@@ -1,9 +1,9 @@
-use Rattle.std.proofs.Common.{rules, ◌≡◌, ◌+◌, inl, sym, subst, arith}
+use Rattle.std.proofs.Common.{rules, ◌≡◌, ◌+◌, sym, subst}
 use Rattle.std.proofs.lemmas.Result.{err_from_is_err_and}
 use Rattle.amqp_lengths.specs.Fronts.{IsFront, Refuses}
 use Rattle.amqp_lengths.specs.Pieces.{NamesAny, IsDescriptorCode}
 use Rattle.amqp_lengths.proofs.Descriptors.{mark_short, mark_other, mark_found}
-use Rattle.amqp_lengths.specs.Faults.{DescriptorFault, descriptor_missing, descriptor_other, descriptor_data}
+use Rattle.amqp_lengths.specs.Faults.{DescriptorFault, descriptor_missing, descriptor_data}
 use Rattle.amqp_lengths.proofs.Rows.{no_bytes}
 use Rattle.amqp_lengths.proofs.Faults.{descriptor_code}
 use Rattle.amqp_lengths.proofs.constructors.descriptor_len.Goals as goal
@@ -30,13 +30,7 @@ returns-in_err-primitive_len-in-68-clause-fault c =
     let p = err_from_is_err_and c.from_residual.result c.from_residual.ensures.1 in
     rw (p.1, p.2) (descriptor_data _ _ _ c.in-Some.ensures.cases.0 c.in-68.is c.in_err-primitive_len-in-68.ensures.fault)
 
-pub returns-in-0-clause-fault : goal.returns-in-0-clause-fault
-returns-in-0-clause-fault c =
-    let none : IsDescriptorCode c.in-Some.code.now → ⊥ = λ h. grind arith in
-    descriptor_other _ _ c.in-Some.ensures.cases.0 (inl c.in-0.is) none
-
 pub returns-in_default-code-clause-fault : goal.returns-in_default-code-clause-fault
 returns-in_default-code-clause-fault c =
     let other : IsDescriptorCode c.in-Some.code.now → ⊥ = search rules in
-    let some : c.in-Some.code.now ≡ 0 → ⊥ = search rules in
-    subst (λ l. DescriptorFault l c.unwrap_or.result) (sym c.in-Some.ensures.cases.0) (rw c.unwrap_or.ensures (descriptor_code _ _ c.unknown.result some other c.unknown.ensures))
+    subst (λ l. DescriptorFault l c.unwrap_or.result) (sym c.in-Some.ensures.cases.0) (rw c.unwrap_or.ensures (descriptor_code _ _ c.unknown.result other c.unknown.ensures))

@@ -36,7 +36,7 @@ loop-code-preserved g c = record {
 pub returns-in_err-check_known-clause-err : goal.returns-in_err-check_known-clause-err
 returns-in_err-check_known-clause-err g c = λ told none.
     let p = err_from_is_err_and c.from_residual-in_err-check_known.result c.from_residual-in_err-check_known.ensures.1 in
-    rw (p.1, p.2) (stopped_unknown _ _ _ _ _ _ c.loop-code-test.false (c.loop-code.invariant.marks told none) c.in_err-check_known.ensures.err)
+    rw (p.1, p.2) (stopped_unknown _ _ _ _ _ _ (c.loop-code.invariant.marks told none) c.in_err-check_known.ensures.err)
 
 pub returns-clause-ok : goal.returns-clause-ok
 returns-clause-ok g c = λ told none.

@@ -44,7 +44,7 @@ returns-in_err-code-2-clause-err g c = λ told.
 pub returns-in_err-check_known-clause-err : goal.returns-in_err-check_known-clause-err
 returns-in_err-check_known-clause-err g c = λ told.
     let p = err_from_is_err_and c.from_residual-in_err-check_known.result c.from_residual-in_err-check_known.ensures.1 in
-    rw (p.1, p.2) (unmarked_unknown _ _ _ _ _ _ _ _ c.loop-code-test.false (c.loop-code.invariant.kept told) c.in_err-check_known.ensures.err)
+    rw (p.1, p.2) (unmarked_unknown _ _ _ _ _ _ _ _ (c.loop-code.invariant.kept told) c.in_err-check_known.ensures.err)
 
 pub returns-clause-ok : goal.returns-clause-ok
 returns-clause-ok g c = λ told. constructor_kept _ _ _ _ _ _ _ c.loop-code.invariant.few c.loop-code-test.false (c.loop-code.invariant.kept told) c.in_ok-check_known.ensures.ok

@@ -1,4 +1,4 @@
-use Rattle.std.proofs.Common.{rules, ℕ, ◌<◌, ◌^◌}
+use Rattle.std.proofs.Common.{rules, ◌<◌, ◌^◌}
 use Rattle.std.proofs.lemmas.Result.{err_from_is_err_and}
 use Rattle.amqp_tests.proofs.SecondsReads.{whole, unopened, unread, unended}
 use Rattle.amqp_tests.proofs.user_type.SecondsDeserialize.deserialize.Goals as goal
