@@ -21,7 +21,7 @@ returns-in-Some-clause-ok g c = λ told.
     let start : c.len-start.result ≡ length c.keep_number.new.bytes.items = omega (arith, long, c.len-start.ensures) in
     let ascii : IsAscii c.in-Some.text.now = search rules in
     let good : (y : List ℕ) → c.keep_next.new.bytes.items ≡ c.keep_number.new.bytes.items ++ y → IsAscii y = λ y added.
-        subst IsAscii (text_is _ _ _ _ _ _ start c.deref.ensures.value added c.in-Some.ensures.lookup.0.2) ascii in
+    subst IsAscii (text_is _ _ _ _ _ _ start c.deref.ensures.value added c.in-Some.ensures.lookup.0.2) ascii in
     keeps_symbol _ _ _ _ _ _ _ _ c.in_ok-len.ensures.fits good (c.in_ok-len.ensures.ok told) (c.in_ok-keep_next.ensures.ok told)
 
 pub returns-in_default-clause-err : goal.returns-in_default-clause-err
@@ -29,12 +29,12 @@ returns-in_default-clause-err g c = λ told.
     let long : length c.keep_number.new.bytes.items ≡ vec_len c.keep_number.new.bytes = search rules in
     let start : c.len-start.result ≡ length c.keep_number.new.bytes.items = omega (arith, long, c.len-start.ensures) in
     let bad : (y : List ℕ) → c.keep_next.new.bytes.items ≡ c.keep_number.new.bytes.items ++ y → IsAscii y → ⊥ = λ y added ascii.
-        elim c.in_default.branch [
-          in_default-via-in-Some+else-is_ascii w ↦ (
-            let other : IsNotAscii w.in-Some.text.now = search rules in
-            let same : w.in-Some.text.now ≡ y = text_is _ _ _ _ _ _ start c.deref.ensures.value added w.in-Some.ensures.lookup.0.2 in
-            let small = subst IsAscii (sym same) ascii other.0 in omega (arith, small, other.1))
-        | in_default-via-in_default w ↦ omega (arith, start, ap length c.deref.ensures.value, ap length added, length-append c.keep_number.new.bytes.items y, w.in_default.ensures.lookup.0)
-        ] in
+    elim c.in_default.branch [
+      | in_default-via-in-Some+else-is_ascii w ↦ (
+          let other : IsNotAscii w.in-Some.text.now = search rules in
+          let same : w.in-Some.text.now ≡ y = text_is _ _ _ _ _ _ start c.deref.ensures.value added w.in-Some.ensures.lookup.0.2 in
+          let small = subst IsAscii (sym same) ascii other.0 in omega (arith, small, other.1))
+      | in_default-via-in_default w ↦ omega (arith, start, ap length c.deref.ensures.value, ap length added, length-append c.keep_number.new.bytes.items y, w.in_default.ensures.lookup.0)
+    ] in
     stopped_ascii _ _ _ _ _ _ _ _ c.refuse.result _ c.in_ok-len.ensures.fits bad (c.in_ok-len.ensures.ok told) (c.in_ok-keep_next.ensures.ok told)
     c.refuse.ensures.answer c.refuse.ensures.kept
