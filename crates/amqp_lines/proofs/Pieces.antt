@@ -49,12 +49,6 @@ pub no_more : (c : ℕ) (a b : List ℕ) → HasNo c a → HasNo c b → HasNo c
 no_more c [] b h k = k
 no_more c (x ∷ a) b h k = (h.0, no_more c a b h.1 k)
 
-pub consumes_more : (a b c : Option (List ℕ)) (x y : List ℕ) → Consumes a b x → Consumes b c y → Consumes a c (x ++ y)
-consumes_more None b c x y h k = tt
-consumes_more (Some p) None c x y h k = absurd h
-consumes_more (Some p) (Some q) None x y h k = absurd k
-consumes_more (Some p) (Some q) (Some r) x y h k = h ∙ ap (λ l. x ++ l) k ∙ sym (append_assoc x y r)
-
 -- the last line lacks its line feed
 pub ended_line : (a n b : Option (List ℕ)) (line : List ℕ) → HasNo 10 line → Consumes a n line → (line ≡ [] → ⊥) → Keeps n b → IsAtEnd n → IfSome a (λ input. MatchOption b ⊥ (λ rest. TakesLine input line rest))
 ended_line None n b line f h e k i = tt
@@ -68,9 +62,3 @@ whole_line (Some p) None b line piece f g h k = absurd h
 whole_line (Some p) (Some q) None line piece f g h k = absurd k
 whole_line (Some p) (Some q) (Some r) line piece f g h k =
     (no_more 10 line piece f g, inl (h ∙ ap (λ l. line ++ l) (k ∙ append_assoc piece (10 ∷ []) r) ∙ sym (append_assoc line piece (10 ∷ r))))
-
-pub consumes_kept : (a n m : Option (List ℕ)) (x : List ℕ) → Consumes a n x → Keeps n m → Consumes a m x
-consumes_kept None n m x h k = tt
-consumes_kept (Some p) None m x h k = absurd h
-consumes_kept (Some p) (Some q) None x h k = absurd k
-consumes_kept (Some p) (Some q) (Some r) x h k = h ∙ ap (λ l. x ++ l) (sym k)

@@ -1,35 +1,20 @@
 -- How the answers grow, line by line.
-use Rattle.std.proofs.Common.{◌≡◌, ◌∷◌, ℕ, ◌+◌, ◌-◌, ◌≤◌, inl, inr, Bool, true, ◌&&◌, List, [], ◌++◌, length, take, drop, Option, Some, None, refl, sym, ap, ◌∙◌, subst, arith, append_assoc, append-nil, MatchOption, IfSome}
+use Rattle.std.proofs.Common.{◌≡◌, ◌∷◌, ℕ, ◌+◌, ◌-◌, ◌≤◌, inl, inr, Bool, true, ◌&&◌, List, [], ◌++◌, length, take, drop, Option, Some, None, refl, sym, ap, subst, arith, append_assoc, append-nil, MatchOption, IfSome}
 use Rattle.std.proofs.lemmas.List.{take_all, length-drop, length-append}
 use Rattle.std.proofs.Math.Seq.{take-add}
 use Rattle.std.proofs.Math.Bool.{and_assoc, and-true}
 use Rattle.std.specs.Io.KnownBytes.{Appends, Keeps}
+use Rattle.std.proofs.KnownBytes.{Appends-kept, Appends-nil, Appends-trans}
 use Rattle.amqp_lines.specs.Lines.{TakesLine}
 use Rattle.amqp_lines.specs.Answers.{IsAnswer, AreAnswers, done, next, rewritten, refused, other, printed_of, is_good, AnswersLine}
 use Rattle.amqp_lines.specs.declared.answer.Answer.{Answer}
 use Rattle.amqp_lines.specs.declared.answer.Answer.TheVariants.{Rewritten, Refused, NoRequest}
 
-pub appends_none : (a : Option (List ℕ)) → Appends a a []
-appends_none None = tt
-appends_none (Some x) = sym (append-nil x)
-
-pub appends_more : (a b c : Option (List ℕ)) (x y : List ℕ) → Appends a b x → Appends b c y → Appends a c (x ++ y)
-appends_more None b c x y h k = tt
-appends_more (Some p) None c x y h k = absurd h
-appends_more (Some p) (Some q) None x y h k = absurd k
-appends_more (Some p) (Some q) (Some r) x y h k = k ∙ ap (λ l. l ++ y) h ∙ append_assoc p x y
-
-pub appends_kept : (a b c : Option (List ℕ)) (x : List ℕ) → Appends a b x → Keeps b c → Appends a c x
-appends_kept None b c x h k = tt
-appends_kept (Some p) None c x h k = absurd h
-appends_kept (Some p) (Some q) None x h k = absurd k
-appends_kept (Some p) (Some q) (Some r) x h k = k ∙ h
-
 -- a further piece of the bytes
 pub piece_more : (a b c : Option (List ℕ)) (bytes : List ℕ) (m n : ℕ) → Appends a b (take m bytes) → Appends b c (take n (take (length bytes - m) (drop m bytes))) → Appends a c (take (m + n) bytes)
 piece_more a b c bytes m n h k =
     subst (Appends a c) (sym (take-add m n bytes))
-    (appends_more a b c (take m bytes) (take n (drop m bytes)) h (subst (λ l. Appends b c (take n l)) (take_all (length bytes - m) (drop m bytes) (omega (arith, length-drop m bytes))) k))
+    (Appends-trans a b c (take m bytes) (take n (drop m bytes)) h (subst (λ l. Appends b c (take n l)) (take_all (length bytes - m) (drop m bytes) (omega (arith, length-drop m bytes))) k))
 
 pub is_answer : (line : List ℕ) (answer : Answer) → AnswersLine line answer → IsAnswer line (printed_of answer) (is_good answer)
 is_answer line (Rewritten text left) (named, input, n, asks, t, l) = rewritten named input text.items n left asks t l
@@ -75,7 +60,7 @@ overfull (Some xs) None n h = absurd h
 overfull (Some xs) (Some rest) n h = omega (arith, h)
 
 pub begun : (input now before : Option (List ℕ)) → Keeps input now → Progress input now before before 0 true
-begun input now before k = record { counted = unshortened input now k; output = []; appended = appends_none before; answered = begun_at input now k }
+begun input now before k = record { counted = unshortened input now k; output = []; appended = Appends-nil before; answered = begun_at input now k }
 
 further : (input now new : Option (List ℕ)) (line output text : List ℕ) (all good : Bool) → IsAnswer line text good
     → IfSome now (λ xs. MatchOption new ⊥ (λ rest. TakesLine xs line rest))
@@ -98,7 +83,7 @@ pub one_more : {V : Type 0} (items : V → List ℕ) (input now new before middl
 one_more items input now new before middle after o line n all good e p t (text, i, k) = record {
   counted = shorter input now new (items line) n (one_line items now new o line e t) p.counted;
   output = p.output ++ text;
-  appended = appends_more before middle after p.output text p.appended k;
+  appended = Appends-trans before middle after p.output text p.appended k;
   answered = further input now new (items line) p.output text all good i (one_line items now new o line e t) p.answered;
 }
 
@@ -119,4 +104,4 @@ pub ended : {V : Type 0} (items : V → List ℕ) (input now new before middle a
     → IfSome now (λ xs. MatchOption new ⊥ (λ rest. MatchOption o (xs ≡ []) (λ l. TakesLine xs (items l) rest)))
     → Keeps middle after → IfSome input (λ xs. (out : List ℕ) × AreAnswers xs out all × Appends before after out)
 ended items input now new before middle after o n all e p t k =
-    told input before after p.output all (all_done input now new p.output all (subst (λ z. IfSome now (λ xs. MatchOption new ⊥ (λ rest. MatchOption z (xs ≡ []) (λ l. TakesLine xs (items l) rest)))) e t) p.answered) (appends_kept before middle after p.output p.appended k)
+    told input before after p.output all (all_done input now new p.output all (subst (λ z. IfSome now (λ xs. MatchOption new ⊥ (λ rest. MatchOption z (xs ≡ []) (λ l. TakesLine xs (items l) rest)))) e t) p.answered) (Appends-kept before middle after p.output p.appended k)
