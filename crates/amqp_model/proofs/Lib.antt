@@ -7,6 +7,7 @@ pub mod Shortest
 pub mod Least
 pub mod Primitives
 pub mod Forms
+pub mod Mixed
 pub mod Written
 pub mod Unrefused
 pub mod Rows

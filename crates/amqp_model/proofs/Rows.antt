@@ -1,14 +1,15 @@
 -- Worked rows.
-use Rattle.std.proofs.Common.{◌≡◌, ℕ, ◌^◌, ◌<◌, ◌≤◌, inl, inr, List, [], ◌∷◌, ◌++◌, length, take, drop, get_or, refl, sym, ap, ◌∙◌, subst, suc, cond, ltb, arith, append-nil, true, Some, unwrap_or}
+use Rattle.std.proofs.Common.{◌≡◌, ℕ, ◌^◌, ◌<◌, ◌≤◌, inl, inr, List, [], ◌∷◌, ◌++◌, length, take, drop, get_or, refl, sym, ap, ◌∙◌, subst, suc, cond, ltb, arith, append-nil, true, Some, None, unwrap_or}
 use Rattle.std.specs.Int.{bytes_high_first}
-use Rattle.amqp_model.specs.Term.{null, boolean, uint, symbol, binary, Refusal, depth, zero_width_items, non_ascii, mixed_array, too_large, lazy_in_array, list, map, array, Term, Terms, leaf, holder, described, kept, barred, none, more, Descriptor, count}
+use Rattle.amqp_model.specs.Term.{Primitive, null, boolean, uint, symbol, binary, Refusal, depth, zero_width_items, non_ascii, mixed_array, too_large, lazy_in_array, list, map, array, Term, Terms, leaf, holder, described, kept, barred, none, more, Descriptor, count}
 use Rattle.amqp_model.specs.Constructors.{format}
 use Rattle.amqp_model.specs.Spelling.{Joined, IsSize, HasWidthZero, Spelled, data_of, elements_of, shared_data_of, enc}
 use Rattle.amqp_model.specs.Text.{Plain, spell, head, container_text, form, text, texts}
 use Rattle.amqp_model.specs.Measures.{nest, array_nest}
 use Rattle.amqp_model.specs.Kept.{Reads}
-use Rattle.amqp_model.specs.Refusals.{IsItem, core, HasFlaw, Refuses}
+use Rattle.amqp_model.specs.Refusals.{IsItem, core, HasForm, Differ, HasMixedItems, HasFlaw, Refuses}
 use Rattle.amqp_model.proofs.Bytes.{field}
+use Rattle.amqp_model.proofs.Mixed.{one_form_shared}
 
 abbrev one_binary : List ℕ → Term
 one_binary s = holder list (more (leaf (binary s)) none)
@@ -98,9 +99,12 @@ empty_size t h =
     let sizes = field 1 0 size (0x00 ∷ []) (bytes_high_first 1 (count ts) ++ content) (omega arith) fits e in
     no_size (count ts) content (subst (IsSize map 1 (count ts) content) (sym sizes.0) s)
 
+uint_boolean : form (leaf (uint 1)) ≡ form (leaf (boolean true)) → ⊥
+uint_boolean e = let n : 0x70 ≡ 0x56 = ap (λ o. (unwrap_or {T = List Descriptor × ℕ} o ([], 0)).1) e in omega (arith, n)
+
 pub mixed_items : Refuses mixed_array (holder array (more (leaf (uint 1)) (more (leaf (boolean true)) none)))
 unfolding Refuses
-mixed_items = inl (inl (inr (leaf (uint 1), leaf (boolean true), inl refl, inr (inl refl), λ e. let n : 0x70 ≡ 0x56 = ap (λ o. (unwrap_or {T = List Descriptor × ℕ} o ([], 0)).1) e in absurd (omega arith))))
+mixed_items = inl (inl (inr (leaf (uint 1), leaf (boolean true), inl refl, inr (inl refl), ((([], 0x70), refl), (([], 0x56), refl), uint_boolean))))
 
 pub null_item : Refuses zero_width_items (holder array (more (leaf null) none))
 unfolding Refuses
@@ -126,55 +130,185 @@ pub barred_part : (r : Refusal) → Refuses r (holder list (more (barred r) none
 unfolding Refuses
 barred_part r = inl (inr (inl (inl refl)))
 
-abbrev uints : Terms
-uints = more (leaf (uint 1)) (more (leaf (uint 2)) none)
+abbrev both : Term → Term → Terms
+both a u = more a (more u none)
 
--- each item is a uint
-uint_item : (P : Term → Type 0) → P (leaf (uint 1)) → P (leaf (uint 2)) → (t : Term) → IsItem t uints → P t
-uint_item P one two t (inl e) = subst P (sym e) one
-uint_item P one two t (inr (inl e)) = subst P (sym e) two
-uint_item P one two t (inr (inr e)) = absurd e
+-- a uint and another term
+abbrev after_uint : Term → Terms
+after_uint u = both (leaf (uint 1)) u
 
-no_flaw : (r : Refusal) → HasFlaw r (holder array uints) → ⊥
+either_item : (a u : Term) (P : Term → Type 0) → P a → P u → (t : Term) → IsItem t (both a u) → P t
+either_item a u P one two t (inl e) = subst P (sym e) one
+either_item a u P one two t (inr (inl e)) = subst P (sym e) two
+either_item a u P one two t (inr (inr e)) = absurd e
+
+no_leaf_flaw : (r : Refusal) (n : ℕ) → HasFlaw r (leaf (uint n)) → ⊥
+no_leaf_flaw mixed_array n h = h
+no_leaf_flaw r n h = h
+
+reads_leaf : (p : Primitive) (t : Term) → Reads (leaf p) t → t ≡ leaf p
+reads_leaf p (leaf q) r = ap leaf (sym r)
+reads_leaf p (holder k ts) r = absurd r
+reads_leaf p (described d t) r = absurd r
+reads_leaf p (kept b) r = absurd r
+reads_leaf p (barred s) r = absurd r
+
+reads_barred : (r : Refusal) (t : Term) → Reads (barred r) t → t ≡ barred r
+reads_barred r (leaf p) h = absurd h
+reads_barred r (holder k ts) h = absurd h
+reads_barred r (described d t) h = absurd h
+reads_barred r (kept b) h = absurd h
+reads_barred r (barred s) h = ap barred (sym h)
+
+flat : (u : Term) → ((t : Term) → Reads u t → array_nest (more t none) ≡ 0) → (t : Term) → Reads (holder array (after_uint u)) t → nest t ≡ 0
+flat u f (holder list ts) r = absurd (array_list r.0)
+flat u f (holder map ts) r = absurd (array_map r.0)
+flat u f (holder array none) r = absurd r.1
+flat u f (holder array (more a none)) r = absurd r.1.1
+flat u f (holder array (more a (more b none))) r = subst (λ a. array_nest (more a (more b none)) ≡ 0) (sym (reads_leaf (uint 1) a r.1.0)) (f b r.1.1.0)
+flat u f (holder array (more a (more b (more c ts)))) r = absurd r.1.1.1
+flat u f (leaf p) r = absurd r
+flat u f (described d t) r = absurd r
+flat u f (kept b) r = absurd r
+flat u f (barred s) r = absurd r
+
+flat_leaf : (p : Primitive) (t : Term) → Reads (leaf p) t → array_nest (more t none) ≡ 0
+flat_leaf p t r = subst (λ t. array_nest (more t none) ≡ 0) (sym (reads_leaf p t r)) refl
+
+flat_barred : (s : Refusal) (t : Term) → Reads (barred s) t → array_nest (more t none) ≡ 0
+flat_barred s t r = subst (λ t. array_nest (more t none) ≡ 0) (sym (reads_barred s t r)) refl
+
+no_flaw : (r : Refusal) → HasFlaw r (holder array (after_uint (leaf (uint 2)))) → ⊥
 unfolding texts text
 no_flaw mixed_array (t, u, i, j, n) =
-    n (uint_item (λ t. form t ≡ Some ([], 0x70)) refl refl t i ∙ sym (uint_item (λ t. form t ≡ Some ([], 0x70)) refl refl u j))
-no_flaw zero_width_items (t, i, e) = uint_item (λ t. core t ≡ leaf null → ⊥) (λ e. cc) (λ e. cc) t i e
-no_flaw lazy_in_array (t, b, i, e) = uint_item (λ t. core t ≡ kept b → ⊥) (λ e. cc) (λ e. cc) t i e
+    let one = either_item (leaf (uint 1)) (leaf (uint 2)) (λ t. form t ≡ Some ([], 0x70)) refl refl in
+    one_form_shared t u (([], 0x70), one t i) (one t i ∙ sym (one u j)) n
+no_flaw zero_width_items (t, i, e) = either_item (leaf (uint 1)) (leaf (uint 2)) (λ t. core t ≡ leaf null → ⊥) (λ e. cc) (λ e. cc) t i e
+no_flaw lazy_in_array (t, b, i, e) = either_item (leaf (uint 1)) (leaf (uint 2)) (λ t. core t ≡ kept b → ⊥) (λ e. cc) (λ e. cc) t i e
 no_flaw too_large h = omega arith
 no_flaw r h = h
 
-no_item_flaw : (r : Refusal) (n : ℕ) → HasFlaw r (leaf (uint n)) → ⊥
-no_item_flaw mixed_array n h = h
-no_item_flaw r n h = h
-
-reads_uint : (n : ℕ) (t : Term) → Reads (leaf (uint n)) t → t ≡ leaf (uint n)
-reads_uint n (leaf p) r = ap leaf (sym r)
-reads_uint n (holder k ts) r = absurd r
-reads_uint n (described d t) r = absurd r
-reads_uint n (kept b) r = absurd r
-reads_uint n (barred s) r = absurd r
-
-flat : (t : Term) → Reads (holder array uints) t → nest t ≡ 0
-flat (holder list ts) r = absurd (array_list r.0)
-flat (holder map ts) r = absurd (array_map r.0)
-flat (holder array none) r = absurd r.1
-flat (holder array (more a none)) r = absurd r.1.1
-flat (holder array (more a (more b none))) r =
-    subst (λ a. array_nest (more a (more b none)) ≡ 0) (sym (reads_uint 1 a r.1.0)) (subst (λ b. array_nest (more (leaf (uint 1)) (more b none)) ≡ 0) (sym (reads_uint 2 b r.1.1.0)) refl)
-flat (holder array (more a (more b (more c ts)))) r = absurd r.1.1.1
-flat (leaf p) r = absurd r
-flat (described d t) r = absurd r
-flat (kept b) r = absurd r
-flat (barred s) r = absurd r
-
-pub uints_written : (r : Refusal) → Refuses r (holder array uints) → ⊥
+pub uints_written : (r : Refusal) → Refuses r (holder array (after_uint (leaf (uint 2)))) → ⊥
 unfolding Refuses
 uints_written r (inl (inl (inl e))) = cc
 uints_written r (inl (inl (inr h))) = no_flaw r h
 uints_written r (inl (inr (inl (inl e)))) = cc
-uints_written r (inl (inr (inl (inr h)))) = no_item_flaw r 1 h
+uints_written r (inl (inr (inl (inr h)))) = no_leaf_flaw r 1 h
 uints_written r (inl (inr (inr (inl (inl e))))) = cc
-uints_written r (inl (inr (inr (inl (inr h))))) = no_item_flaw r 2 h
+uints_written r (inl (inr (inr (inl (inr h))))) = no_leaf_flaw r 2 h
 uints_written r (inl (inr (inr (inr h)))) = h
-uints_written r (inr (e, (t, reads, n))) = let l = flat t reads in absurd (omega arith)
+uints_written r (inr (e, (t, reads, n))) = let l = flat (leaf (uint 2)) (flat_leaf (uint 2)) t reads in absurd (omega arith)
+
+formless : (t : Term) → form t ≡ None → HasForm t → ⊥
+formless t e (f, h) = cc
+
+uint_shared : Differ (leaf (uint 1)) (leaf (uint 1)) → ⊥
+uint_shared = one_form_shared (leaf (uint 1)) (leaf (uint 1)) (([], 0x70), refl) refl
+
+-- two items none of which differs from one make no array mixed
+unmixed : (a u : Term) → (Differ a a → ⊥) → (Differ a u → ⊥) → (Differ u a → ⊥) → (Differ u u → ⊥) → HasMixedItems (holder array (both a u)) → ⊥
+unmixed a u h k l m (t, v, i, j, n) =
+    let by_first = either_item a u (λ v. Differ a v → ⊥) h k v j in
+    let by_second = either_item a u (λ v. Differ u v → ⊥) l m v j in
+    either_item a u (λ t. Differ t v → ⊥) by_first by_second t i n
+
+-- nor does a term without a form behind a uint
+unmixed_formless : (u : Term) → form u ≡ None → (Differ (leaf (uint 1)) u → HasForm u) → (Differ u (leaf (uint 1)) → HasForm u) → (Differ u u → HasForm u)
+    → HasMixedItems (holder array (after_uint u)) → ⊥
+unmixed_formless u e k l m =
+    unmixed (leaf (uint 1)) u uint_shared (λ n. formless u e (k n)) (λ n. formless u e (l n)) (λ n. formless u e (m n))
+
+unmixed_null : HasMixedItems (holder array (after_uint (leaf null))) → ⊥
+unmixed_null = unmixed_formless (leaf null) refl (λ n. n.1) (λ n. n.0) (λ n. n.0)
+
+unmixed_kept : (b : List ℕ) → HasMixedItems (holder array (after_uint (kept b))) → ⊥
+unmixed_kept b = unmixed_formless (kept b) refl (λ n. n.1) (λ n. n.0) (λ n. n.0)
+
+unmixed_barred : (r : Refusal) → HasMixedItems (holder array (after_uint (barred r))) → ⊥
+unmixed_barred r = unmixed_formless (barred r) refl (λ n. n.1) (λ n. n.0) (λ n. n.0)
+
+null_flaw : (s : Refusal) → HasFlaw s (holder array (after_uint (leaf null))) → s ≡ zero_width_items
+unfolding texts text
+null_flaw mixed_array h = absurd (unmixed_null h)
+null_flaw zero_width_items h = refl
+null_flaw lazy_in_array (t, b, i, e) = absurd (either_item (leaf (uint 1)) (leaf null) (λ t. core t ≡ kept b → ⊥) (λ e. cc) (λ e. cc) t i e)
+null_flaw too_large h = absurd (omega arith)
+null_flaw s h = absurd h
+
+no_null_flaw : (s : Refusal) → HasFlaw s (leaf null) → ⊥
+no_null_flaw mixed_array h = h
+no_null_flaw s h = h
+
+pub null_alone : (s : Refusal) → Refuses s (holder array (after_uint (leaf null))) → s ≡ zero_width_items
+unfolding Refuses
+null_alone s (inl (inl (inl e))) = cc
+null_alone s (inl (inl (inr h))) = null_flaw s h
+null_alone s (inl (inr (inl (inl e)))) = cc
+null_alone s (inl (inr (inl (inr h)))) = absurd (no_leaf_flaw s 1 h)
+null_alone s (inl (inr (inr (inl (inl e))))) = cc
+null_alone s (inl (inr (inr (inl (inr h))))) = absurd (no_null_flaw s h)
+null_alone s (inl (inr (inr (inr h)))) = absurd h
+null_alone s (inr (e, (t, reads, n))) = let l = flat (leaf null) (flat_leaf null) t reads in absurd (omega arith)
+
+barred_flaw : (r s : Refusal) → HasFlaw s (holder array (after_uint (barred r))) → ⊥
+unfolding texts text
+barred_flaw r mixed_array h = unmixed_barred r h
+barred_flaw r zero_width_items (t, i, e) = either_item (leaf (uint 1)) (barred r) (λ t. core t ≡ leaf null → ⊥) (λ e. cc) (λ e. cc) t i e
+barred_flaw r lazy_in_array (t, b, i, e) = either_item (leaf (uint 1)) (barred r) (λ t. core t ≡ kept b → ⊥) (λ e. cc) (λ e. cc) t i e
+barred_flaw r too_large h = omega arith
+barred_flaw r s h = h
+
+no_barred_flaw : (r s : Refusal) → HasFlaw s (barred r) → ⊥
+no_barred_flaw r mixed_array h = h
+no_barred_flaw r s h = h
+
+pub barred_alone : (r s : Refusal) → Refuses s (holder array (after_uint (barred r))) → s ≡ r
+unfolding Refuses
+barred_alone r s (inl (inl (inl e))) = cc
+barred_alone r s (inl (inl (inr h))) = absurd (barred_flaw r s h)
+barred_alone r s (inl (inr (inl (inl e)))) = cc
+barred_alone r s (inl (inr (inl (inr h)))) = absurd (no_leaf_flaw s 1 h)
+barred_alone r s (inl (inr (inr (inl (inl e))))) = cc
+barred_alone r s (inl (inr (inr (inl (inr h))))) = absurd (no_barred_flaw r s h)
+barred_alone r s (inl (inr (inr (inr h)))) = absurd h
+barred_alone r s (inr (e, (t, reads, n))) = let l = flat (barred r) (flat_barred r) t reads in absurd (omega arith)
+
+-- kept bytes may be too many, or nest too deep, but they make no array mixed
+pub kept_unmixed : (b : List ℕ) → Refuses mixed_array (holder array (after_uint (kept b))) → ⊥
+unfolding Refuses
+kept_unmixed b (inl (inl (inl e))) = cc
+kept_unmixed b (inl (inl (inr h))) = unmixed_kept b h
+kept_unmixed b (inl (inr (inl (inl e)))) = cc
+kept_unmixed b (inl (inr (inl (inr h)))) = h
+kept_unmixed b (inl (inr (inr (inl (inl e))))) = cc
+kept_unmixed b (inl (inr (inr (inl (inr h))))) = h
+kept_unmixed b (inl (inr (inr (inr h)))) = h
+kept_unmixed b (inr (e, w)) = cc
+
+-- a described null makes an array of uints mixed, but for one of uints under that descriptor
+no_null : HasForm (leaf null) → ⊥
+no_null = formless (leaf null) refl
+
+same_descriptor : (d : Descriptor) → HasMixedItems (holder array (both (described d (leaf (uint 1))) (described d (leaf null)))) → ⊥
+same_descriptor d =
+    unmixed (described d (leaf (uint 1))) (described d (leaf null))
+    (λ n. uint_shared (n refl)) (λ n. no_null (n refl).1) (λ n. no_null (n refl).0) (λ n. no_null (n refl).0)
+
+pub described_null_unmixed : (d : Descriptor) → Refuses mixed_array (holder array (both (described d (leaf (uint 1))) (described d (leaf null)))) → ⊥
+unfolding Refuses
+described_null_unmixed d (inl (inl (inl e))) = cc
+described_null_unmixed d (inl (inl (inr h))) = same_descriptor d h
+described_null_unmixed d (inl (inr (inl (inl (inl e))))) = cc
+described_null_unmixed d (inl (inr (inl (inl (inr h))))) = h
+described_null_unmixed d (inl (inr (inl (inr (inl e))))) = cc
+described_null_unmixed d (inl (inr (inl (inr (inr h))))) = h
+described_null_unmixed d (inl (inr (inr (inl (inl (inl e)))))) = cc
+described_null_unmixed d (inl (inr (inr (inl (inl (inr h)))))) = h
+described_null_unmixed d (inl (inr (inr (inl (inr (inl e)))))) = cc
+described_null_unmixed d (inl (inr (inr (inl (inr (inr h)))))) = h
+described_null_unmixed d (inl (inr (inr (inr h)))) = h
+described_null_unmixed d (inr (e, w)) = cc
+
+pub described_null_mixed : (d : Descriptor) → Refuses mixed_array (holder array (after_uint (described d (leaf null))))
+unfolding Refuses
+described_null_mixed d = inl (inl (inr (leaf (uint 1), described d (leaf null), inl refl, inr (inl refl), (([], 0x70), refl))))

@@ -1,6 +1,6 @@
 -- Why a canonical term isn't written: what Part 1 forbids, and what this project refuses.
-use Rattle.std.specs.Prelude.{◌≡◌, ℕ, ◌+◌, ◌<◌, ◌≤◌, ◌^◌, ◌⊎◌, List, length, IsAscii}
-use Rattle.amqp_model.specs.Term.{Primitive, null, binary, string, symbol, Refusal, depth, zero_width_items, non_ascii, mixed_array, too_large, lazy_in_array, array, Term, Terms, leaf, holder, described, kept, barred, none, more, count}
+use Rattle.std.specs.Prelude.{◌≡◌, ℕ, ◌+◌, ◌<◌, ◌≤◌, ◌^◌, ◌⊎◌, List, length, Some, IsAscii}
+use Rattle.amqp_model.specs.Term.{Primitive, null, binary, string, symbol, Refusal, depth, zero_width_items, non_ascii, mixed_array, too_large, lazy_in_array, array, Term, Terms, leaf, holder, described, kept, barred, none, more, count, Descriptor}
 use Rattle.amqp_model.specs.Spelling.{descriptor_value}
 use Rattle.amqp_model.specs.Text.{form, texts, content_of, first_place}
 use Rattle.amqp_model.specs.Measures.{nest}
@@ -26,9 +26,23 @@ abbrev pub core : Term → Term
 core (described d t) = core t
 core t = t
 
--- Part 1, section 1.2.4: an array with items of two forms.
+-- It has a constructor in an array: no null does, nor what is kept or barred.
+abbrev pub HasForm : Term → Type 0
+HasForm t = (f : List Descriptor × ℕ) × (form t ≡ Some f)
+
+-- Part 1, section 1.2.4: the items of an array share one constructor, with its descriptors. Two terms can't share one where just one of
+-- them is described, where neither is and their forms differ, or where their descriptors differ or else what stands under them can't.
+-- A term that isn't described and has no form rules out none.
+abbrev pub Differ : Term → Term → Type 0
+Differ (described d t) (described e u) = d ≡ e → Differ t u
+Differ (described d t) u = HasForm u
+Differ t (described e u) = HasForm t
+Differ t u = HasForm t × HasForm u × (form t ≡ form u → ⊥)
+
+-- Part 1, section 1.2.4: an array with two items that can't share a constructor. That an item is refused for a reason of its own
+-- (a null, kept bytes, what is barred) doesn't make it one.
 abbrev pub HasMixedItems : Term → Type 0
-HasMixedItems (holder array ts) = (t : Term) × (u : Term) × IsItem t ts × IsItem u ts × (form t ≡ form u → ⊥)
+HasMixedItems (holder array ts) = (t : Term) × (u : Term) × IsItem t ts × IsItem u ts × Differ t u
 HasMixedItems _ = ⊥
 
 -- An array with a null, whose data is of width zero.

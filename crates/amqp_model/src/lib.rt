@@ -78,7 +78,8 @@ pub fn worked_rows()
     ensures no_map_of_size_zero { (t : Term) → enc (0xc1 ∷ 0 ∷ 0 ∷ []) t → ⊥ }
 {}
 
-/// Worked refusals: one for each reason that a term itself can give, and a term that nothing refuses.
+/// Worked refusals: one for each reason that a term itself can give, a term that nothing refuses, and arrays that an item with a
+/// reason of its own doesn't make mixed, but where it is the only one that is described (Part 1, section 1.2.4).
 pub fn worked_refusals()
     ensures mixed_items { Refuses mixed_array (holder array (more (leaf (uint 1)) (more (leaf (boolean true)) none))) }
     ensures null_item { Refuses zero_width_items (holder array (more (leaf null) none)) }
@@ -88,4 +89,9 @@ pub fn worked_refusals()
     ensures below_128_levels { (d : Descriptor) (t : Term) → Reads t t → nest t ≡ 128 → Refuses depth (described d t) }
     ensures barred_item { (r : Refusal) → Refuses r (holder list (more (barred r) none)) }
     ensures array_of_uints { (r : Refusal) → Refuses r (holder array (more (leaf (uint 1)) (more (leaf (uint 2)) none))) → ⊥ }
+    ensures null_behind_uint { (r : Refusal) → Refuses r (holder array (more (leaf (uint 1)) (more (leaf null) none))) → r ≡ zero_width_items }
+    ensures kept_behind_uint { (b : List ℕ) → Refuses mixed_array (holder array (more (leaf (uint 1)) (more (kept b) none))) → ⊥ }
+    ensures barred_behind_uint { (q r : Refusal) → Refuses r (holder array (more (leaf (uint 1)) (more (barred q) none))) → r ≡ q }
+    ensures null_under_the_descriptor { (d : Descriptor) → Refuses mixed_array (holder array (more (described d (leaf (uint 1))) (more (described d (leaf null)) none))) → ⊥ }
+    ensures null_under_a_descriptor { (d : Descriptor) → Refuses mixed_array (holder array (more (leaf (uint 1)) (more (described d (leaf null)) none))) }
 {}

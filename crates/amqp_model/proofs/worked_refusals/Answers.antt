@@ -11,4 +11,9 @@ returns c = record {
   below_128_levels = Rows.deep;
   barred_item = Rows.barred_part;
   array_of_uints = Rows.uints_written;
+  null_behind_uint = Rows.null_alone;
+  kept_behind_uint = Rows.kept_unmixed;
+  barred_behind_uint = Rows.barred_alone;
+  null_under_the_descriptor = Rows.described_null_unmixed;
+  null_under_a_descriptor = Rows.described_null_mixed;
 }
