@@ -5,12 +5,12 @@ use Rattle.amqp_model.specs.Term.{null, Term, leaf, holder, described, kept, bar
 use Rattle.amqp_model.specs.Spelling.{descriptor_value}
 use Rattle.amqp_model.specs.Text.{wide, wide_code, shortest, spell, form}
 use Rattle.amqp_model.specs.Ranges.{IsInRange}
-use Rattle.amqp_model.specs.Refusals.{core}
+use Rattle.amqp_model.specs.Refusals.{core, HasForm, Differ}
 use Rattle.amqp_model.proofs.Primitives.{IsWritten}
 use Rattle.amqp_model.proofs.Forms.{Form, under, names, primitive_form_at, holder_form_at}
 use Rattle.amqp_model.proofs.Same.{names_same}
 use Rattle.amqp_encoder.specs.Measuring.{descriptor_bytes}
-use Rattle.amqp_encoder.proofs.Measured.{descs, core_code, HasForm, Chain}
+use Rattle.amqp_encoder.proofs.Measured.{descs, core_code, Chain, IsOther}
 
 abbrev bytes_of : List Descriptor → List ℕ
 bytes_of [] = []
@@ -67,6 +67,15 @@ form_alike t u (f, e) h =
     let x = form_bytes t f e in
     let y = form_bytes u f (sym h ∙ e) in
     (x.0 ∙ sym y.0, x.1 ∙ sym y.1)
+
+-- a term whose constructor is another one than that of a term differs from it
+pub other_differs : (t u : Term) → HasForm t → IsOther (descs t) (core_code t) u → Differ t u
+other_differs (described d t) (described e u) (f, i) n =
+    let a = under d (form t) f i in
+    λ same. other_differs t u (a.0, a.1) (n (descs t) (ap (λ d. descriptor_bytes d ++ descs t) same))
+other_differs (described d t) u h n = n.0
+other_differs t (described e u) h n = h
+other_differs t u h n = (h, n.0, λ e. n.1 (refl, (form_alike t u h e).1))
 
 -- null and kept bytes have no form
 pub null_form : (t : Term) → core t ≡ leaf null → form t ≡ None

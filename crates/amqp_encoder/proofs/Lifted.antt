@@ -1,5 +1,5 @@
 -- From the parts of a described value or a container to itself.
-use Rattle.std.proofs.Common.{◌≡◌, ℕ, suc, zero, ◌+◌, ◌%◌, ◌<◌, ◌≤◌, ◌^◌, List, [], ◌∷◌, ◌++◌, length, take, drop, refl, sym, ◌∙◌, ap, inl, inr, ◌⊎◌, arith, Bool, true, false, length-append, option_map}
+use Rattle.std.proofs.Common.{◌≡◌, ℕ, suc, zero, ◌+◌, ◌%◌, ◌<◌, ◌≤◌, ◌^◌, List, [], ◌∷◌, ◌++◌, length, take, drop, refl, sym, ◌∙◌, ap, subst, inl, inr, ◌⊎◌, arith, Bool, true, false, length-append, option_map}
 use Rattle.std.specs.Prelude.{Ok, eqb, not}
 use Rattle.std.proofs.lemmas.Bool.{eqb-true}
 use Rattle.std.proofs.lemmas.List.{drop_at, drop-drop, take-append-drop}
@@ -7,16 +7,17 @@ use Rattle.amqp_model.specs.Term.{Primitive, Refusal, zero_width_items, mixed_ar
 use Rattle.amqp_model.specs.Spelling.{descriptor_value}
 use Rattle.amqp_model.specs.Text.{Place, Plain, First, Later, next, first_place, wide_code, form, text, texts, content_of, descriptor_text}
 use Rattle.amqp_model.specs.Ranges.{IsInRange}
-use Rattle.amqp_model.specs.Refusals.{Somewhere, SomewhereIn, IsItem, IsNonAscii, IsLong, HasFlaw}
+use Rattle.amqp_model.specs.Refusals.{Somewhere, SomewhereIn, IsItem, HasForm, IsNonAscii, IsLong, HasFlaw}
 use Rattle.amqp_model.proofs.Primitives.{IsWritten}
+use Rattle.amqp_model.proofs.Mixed.{one_form_shared}
 use Rattle.amqp_wire.specs.declared.error.Error.{Error}
 use Rattle.amqp_wire.specs.declared.error.Error.TheVariants.{TooLarge}
 use Rattle.amqp_encoder.specs.Measuring.{MAX, descriptor_bytes, around, is_odd_map}
 use Rattle.amqp_encoder.specs.Filling.{sized}
 use Rattle.amqp_encoder.specs.Reasons.{HasReason, IsOddMap, nest_by, nests_by, array_nest_by}
 use Rattle.amqp_encoder.specs.Sound.{HasSize}
-use Rattle.amqp_encoder.proofs.Measured.{InArray, descs, core_code, Same, Other, HasForm, Chain, IsWithin, AllWithin, IsPast, AnyPast, AcceptedAt, RefusedAt, inside, past, too_long, too_many, null_item, kept_item, other, AllAlike, Uniform, MixedAt, AllFormed, AcceptedAll, RefusedAll, some_inside, some_past, all_too_long, all_too_many, some_null, some_kept, some_other}
-use Rattle.amqp_encoder.proofs.Constructors.{alike_forms, form_alike, null_form, kept_form, formless}
+use Rattle.amqp_encoder.proofs.Measured.{InArray, descs, core_code, Same, IsOther, Other, Chain, IsWithin, AllWithin, IsPast, AnyPast, AcceptedAt, RefusedAt, inside, past, too_long, too_many, null_item, kept_item, other, AllAlike, Uniform, MixedAt, AllFormed, AcceptedAll, RefusedAll, some_inside, some_past, all_too_long, all_too_many, some_null, some_kept, some_other}
+use Rattle.amqp_encoder.proofs.Constructors.{alike_forms, other_differs, null_form, kept_form, formless}
 
 -- what a call has tested of a primitive
 pub record Tested (p : Primitive) : Type 0 where
@@ -52,10 +53,11 @@ same_on Later s D cd b ds x g h = (seam s D b g ∙ ap (λ l. b ++ l) h.0, h.1)
 rest_of : (s : ℕ) (D b ds : List ℕ) → drop s D ≡ b ++ ds → drop (s + length b) D ≡ ds
 rest_of s D b ds h = sym (drop-drop (length b) s D) ∙ ap (drop (length b)) h ∙ drop_at b ds (length b) refl
 
-other_on : (p : Place) (s : ℕ) (D : List ℕ) (cd : ℕ) (b ds : List ℕ) (x : ℕ) → Other p (form_in p s D b) (descs_in p D b) cd ds x → Other p s D cd (b ++ ds) x
-other_on Plain s D cd b ds x h = h
-other_on First s D cd b ds x h = h
-other_on Later s D cd b ds x h = λ k. h (rest_of s D b ds k.0, k.1)
+other_on : (p : Place) (s : ℕ) (D : List ℕ) (cd : ℕ) (x : Descriptor) (t : Term) → Other p (form_in p s D (descriptor_bytes x)) (descs_in p D (descriptor_bytes x)) cd t
+    → Other p s D cd (described x t)
+other_on Plain s D cd x t h = h
+other_on First s D cd x t h = h
+other_on Later s D cd x t h = λ rest e. subst (λ ds. IsOther ds cd t) (rest_of s D (descriptor_bytes x) rest e) h
 
 described_flawless : (x : Descriptor) (t : Term) → Tested (descriptor_value x) → (r : Refusal) → HasFlaw r (described x t) → ⊥
 described_flawless x t g mixed_array h = h
@@ -173,7 +175,7 @@ module _ (deep : List ℕ → ℕ) where
   refused_described x t p c n d s cd D e (too_many i h) = absurd (omega arith)
   refused_described x t p c n d s cd D e (null_item i a h) = null_item i a h
   refused_described x t p c n d s cd D e (kept_item i a b h) = kept_item i a b h
-  refused_described x t p c n d s cd D e (other i h) = other i (other_on p s D cd (descriptor_bytes x) (descs t) (core_code t) h)
+  refused_described x t p c n d s cd D e (other i h) = other i (other_on p s D cd x t h)
 
   -- containers
 
@@ -208,7 +210,7 @@ module _ (deep : List ℕ → ℕ) where
   content_fits array (suc n) items h l = omega (arith, h.0)
 
   array_flawless : (ts : Terms) (s cd : ℕ) (D : List ℕ) → AllFormed deep ts → Uniform deep First s D cd ts → HasSize (length (texts ts First)) (count ts) → (r : Refusal) → HasFlaw r (holder array ts) → ⊥
-  array_flawless ts s cd D f a z mixed_array (t, u, i, j, other_) = other_ (unmixed ts s cd D f a t u i j)
+  array_flawless ts s cd D f a z mixed_array (t, u, i, j, n) = one_form_shared t u (item_formed t ts i f).0 (unmixed ts s cd D f a t u i j) n
   array_flawless ts s cd D f a z zero_width_items (t, i, h) = formless t (item_formed t ts i f).0 (null_form t h)
   array_flawless ts s cd D f a z lazy_in_array (t, b, i, h) = formless t (item_formed t ts i f).0 (kept_form t b h)
   array_flawless ts s cd D f a z non_ascii h = h
@@ -280,7 +282,7 @@ module _ (deep : List ℕ → ℕ) where
 
   mixed_holder : (ts : Terms) (s cd : ℕ) (D : List ℕ) → MixedAt deep First s D cd ts → HasFlaw mixed_array (holder array ts)
   mixed_holder none s cd D h = absurd h
-  mixed_holder (more t ts) s cd D (g, (u, i, unlike)) = (t, u, inl refl, inr i, λ e. unlike (form_alike t u g e))
+  mixed_holder (more t ts) s cd D (g, (u, i, n)) = (t, u, inl refl, inr i, other_differs t u g n)
 
   pub refused_holder : (k : Container) (ts : Terms) (p : Place) (c n d s cd : ℕ) (D : List ℕ) (e : Error)
       → RefusedAll deep ts (first_place k) 0 0 (d + 1) (length D) 0 D e → RefusedAt deep (holder k ts) p c n d s cd D e

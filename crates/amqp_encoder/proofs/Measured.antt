@@ -1,13 +1,12 @@
 -- What holds of a term that the measuring pass takes, and of one that it refuses.
-use Rattle.std.proofs.Common.{◌≡◌, ℕ, ◌+◌, ◌<◌, ◌≤◌, List, [], ◌++◌, length, drop, refl, sym, inl, inr, ◌⊎◌, arith, length-append, Some}
+use Rattle.std.proofs.Common.{◌≡◌, ℕ, ◌+◌, ◌<◌, ◌≤◌, List, [], ◌++◌, length, drop, refl, sym, inl, inr, ◌⊎◌, arith, length-append}
 use Rattle.std.proofs.lemmas.List.{drop_at}
 use Rattle.amqp_model.specs.Term.{null, Term, Terms, leaf, holder, described, kept, none, more, count}
 use Rattle.amqp_model.specs.Spelling.{descriptor_value}
-use Rattle.amqp_model.specs.Text.{Place, Plain, First, Later, next, wide, wide_code, form, text, texts}
+use Rattle.amqp_model.specs.Text.{Place, Plain, First, Later, next, wide, wide_code, text, texts}
 use Rattle.amqp_model.specs.Ranges.{IsInRange}
-use Rattle.amqp_model.specs.Refusals.{Somewhere, SomewhereIn, IsItem, core}
+use Rattle.amqp_model.specs.Refusals.{Somewhere, SomewhereIn, IsItem, core, HasForm}
 use Rattle.amqp_model.proofs.Primitives.{IsWritten}
-use Rattle.amqp_model.proofs.Forms.{Form}
 use Rattle.amqp_wire.specs.declared.error.Error.{Error}
 use Rattle.amqp_wire.specs.declared.error.Error.TheVariants.{Depth, ZeroWidthItems, MixedArray, TooLarge, LazyInArray}
 use Rattle.amqp_encoder.specs.Measuring.{MAX, descriptor_bytes}
@@ -52,13 +51,21 @@ Same Plain s D cd ds x = Unit {0}
 Same First s D cd ds x = Unit {0}
 Same Later s D cd ds x = (drop s D ≡ ds) × (cd ≡ x)
 
-abbrev pub Other : Place → ℕ → List ℕ → ℕ → List ℕ → ℕ → Type 0
-Other Plain s D cd ds x = ⊥
-Other First s D cd ds x = ⊥
-Other Later s D cd ds x = (drop s D ≡ ds) × (cd ≡ x) → ⊥
+-- no descriptor is left and the code is this one, which isn't so
+abbrev pub OtherCode : Place → ℕ → List ℕ → ℕ → ℕ → Type 0
+OtherCode Plain s D cd x = ⊥
+OtherCode First s D cd x = ⊥
+OtherCode Later s D cd x = (drop s D ≡ []) × (cd ≡ x) → ⊥
 
-abbrev pub HasForm : Term → Type 0
-HasForm t = (f : Form) × (form t ≡ Some f)
+-- these bytes of descriptors and this code aren't the constructor of the term, as far as it has one
+abbrev pub IsOther : List ℕ → ℕ → Term → Type 0
+IsOther ds x (described d t) = (rest : List ℕ) → ds ≡ descriptor_bytes d ++ rest → IsOther rest x t
+IsOther ds x t = HasForm t × ((ds ≡ []) × (x ≡ core_code t) → ⊥)
+
+abbrev pub Other : Place → ℕ → List ℕ → ℕ → Term → Type 0
+Other Plain s D cd t = ⊥
+Other First s D cd t = ⊥
+Other Later s D cd t = IsOther (drop s D) cd t
 
 -- the descriptors of a term are of their types
 abbrev pub Chain : Term → Type 0
@@ -107,7 +114,7 @@ module _ (deep : List ℕ → ℕ) where
     too_many : e ≡ TooLarge → MAX < n + 1 → RefusedAt t p c n d s cd D e
     null_item : e ≡ ZeroWidthItems → InArray p → core t ≡ leaf null → RefusedAt t p c n d s cd D e
     kept_item : e ≡ LazyInArray → InArray p → (b : List ℕ) → core t ≡ kept b → RefusedAt t p c n d s cd D e
-    other : e ≡ MixedArray → Other p s D cd (descs t) (core_code t) → RefusedAt t p c n d s cd D e
+    other : e ≡ MixedArray → Other p s D cd t → RefusedAt t p c n d s cd D e
 
   -- each has this constructor
   abbrev pub AllAlike : List ℕ → ℕ → Terms → Type 0
@@ -122,7 +129,7 @@ module _ (deep : List ℕ → ℕ) where
 
   -- one has another
   abbrev pub Unlike : List ℕ → ℕ → Terms → Type 0
-  Unlike ds x ts = (u : Term) × IsItem u ts × ((ds ≡ descs u) × (x ≡ core_code u) → ⊥)
+  Unlike ds x ts = (u : Term) × IsItem u ts × IsOther ds x u
 
   abbrev pub MixedAt : Place → ℕ → List ℕ → ℕ → Terms → Type 0
   MixedAt Plain s D cd ts = ⊥
@@ -176,7 +183,7 @@ module _ (deep : List ℕ → ℕ) where
   mixed_on First t ts s cd D f g m = (g tt, rw (← drop_at D (descs t) s (sym f)) m)
   mixed_on Later t ts s cd D f g m = (m.0, inr m.1, m.2)
 
-  mixed_here : (p : Place) (t : Term) (ts : Terms) (s cd : ℕ) (D : List ℕ) → Other p s D cd (descs t) (core_code t) → MixedAt p s D cd (more t ts)
+  mixed_here : (p : Place) (t : Term) (ts : Terms) (s cd : ℕ) (D : List ℕ) → Other p s D cd t → MixedAt p s D cd (more t ts)
   mixed_here Plain t ts s cd D m = m
   mixed_here First t ts s cd D m = absurd m
   mixed_here Later t ts s cd D m = (t, inl refl, m)

@@ -27,7 +27,7 @@ use Rattle.amqp_encoder.proofs.Filled.{last}
 use Rattle.amqp_encoder.proofs.Measured.{descs, core_code, code_after, descs_after, Fit, Same, Other, AcceptedAt, RefusedAt, inside, past, too_long, too_many, null_item, kept_item, other, Uniform, AcceptedAll, RefusedAll, accepted_more, refused_here, refused_later}
 use Rattle.amqp_encoder.proofs.Lifted.{Tested, form_in, descs_in, GoesOn, accepted_described, refused_described, accepted_holder, refused_holder, refused_size}
 use Rattle.amqp_encoder.proofs.TakenBytes.{takes_bytes, unfit}
-use Rattle.amqp_encoder.proofs.Measuring.{fr, mk, goes, stops, first_step, stop_step, lt_cases, bool_cases, leave_case, enter_case, no_descs, tested, foreign, overlong, check_of, kept_clean, is_one, TermGoes, TermsGo, leaf_goes, codes_after, all_descs}
+use Rattle.amqp_encoder.proofs.Measuring.{fr, mk, goes, stops, first_step, stop_step, lt_cases, bool_cases, leave_case, enter_case, no_descs, tested, foreign, overlong, check_of, kept_clean, is_one, TermGoes, TermsGo, other_holder, leaf_goes, codes_after, all_descs}
 
 -- kept bytes
 
@@ -48,16 +48,16 @@ later_descriptor : (x : Descriptor) (k : Option Container) (cd c n i s : ℕ) (o
     ≡ Ok (mk (fr None Later cd (length (descriptor_text Later x)) 0 0 (s + length (descriptor_bytes x))) (fr k Later cd c n i s ∷ outer) sizes D))
     × GoesOn Later s D (descriptor_bytes x) × Fit Later (s + length (descriptor_bytes x)) D)
     ⊎ ((describe_at Later (descriptor_bytes x) (mk (fr k Later cd c n i s) outer sizes D) ≡ Err MixedArray)
-    × ((ds : List ℕ) (y : ℕ) → Other Later s D cd (descriptor_bytes x ++ ds) y))
+    × ((t : Term) → Other Later s D cd (described x t)))
 later_descriptor x k cd c n i s outer sizes D f true e =
     let h : take (length (descriptor_bytes x)) (drop s D) ≡ descriptor_bytes x = (bytes_decides (take (length (descriptor_bytes x)) (drop s D)) (descriptor_bytes x)).0 e in
     inl (rw e refl, h, fits_on (descriptor_bytes x) s D f h)
 later_descriptor x k cd c n i s outer sizes D f false e =
     inr (
       rw e refl,
-      λ ds y h.
-          let yes : goes_on (descriptor_bytes x) s D ≡ true = (bytes_decides (take (length (descriptor_bytes x)) (drop s D)) (descriptor_bytes x)).1 (front_of (descriptor_bytes x) ds s D h.0) in
-          let clash : true ≡ false = sym yes ∙ e in cc,
+      λ t ds h.
+          let yes : goes_on (descriptor_bytes x) s D ≡ true = (bytes_decides (take (length (descriptor_bytes x)) (drop s D)) (descriptor_bytes x)).1 (front_of (descriptor_bytes x) ds s D h) in
+          let clash : true ≡ false = sym yes ∙ e in absurd (cc),
     )
 
 describe_case : (x : Descriptor) (k : Option Container) (p : Place) (cd c n i s : ℕ) (outer : List Open) (sizes : List Size) (D : List ℕ) → Fit p s D →
@@ -65,7 +65,7 @@ describe_case : (x : Descriptor) (k : Option Container) (p : Place) (cd c n i s 
     ≡ Ok (mk (fr None p cd (length (descriptor_text p x)) 0 0 (form_in p s D (descriptor_bytes x))) (fr k p cd c n i s ∷ outer) sizes (descs_in p D (descriptor_bytes x))))
     × GoesOn p s D (descriptor_bytes x) × Fit p (form_in p s D (descriptor_bytes x)) (descs_in p D (descriptor_bytes x)))
     ⊎ ((describe_at p (descriptor_bytes x) (mk (fr k p cd c n i s) outer sizes D) ≡ Err MixedArray)
-    × ((ds : List ℕ) (y : ℕ) → Other p s D cd (descriptor_bytes x ++ ds) y))
+    × ((t : Term) → Other p s D cd (described x t)))
 describe_case x k Plain cd c n i s outer sizes D f = inl (refl, tt, tt)
 describe_case x k First cd c n i s outer sizes D f = inl (refl, tt, refl)
 describe_case x k Later cd c n i s outer sizes D f = later_descriptor x k cd c n i s outer sizes D f (goes_on (descriptor_bytes x) s D) refl
@@ -284,7 +284,7 @@ module _ (deep : List ℕ → ℕ) where
             | foreign e h ↦ stops NonAscii (inside (inl (inl (non_ascii, refl, inr h)))) (stop_step _ NonAscii (begin_described x) _ (rw (a.0, r) (ap (λ r. r >>= λ _. describe_at p (descriptor_bytes x) (mk (fr k p cd c n i s) outer sizes D)) e)))
             | overlong e h ↦ stops TooLarge (inside (inl (inl (too_large, refl, inr h)))) (stop_step _ TooLarge (begin_described x) _ (rw (a.0, r) (ap (λ r. r >>= λ _. describe_at p (descriptor_bytes x) (mk (fr k p cd c n i s) outer sizes D)) e)))
             | tested e g ↦ elim (describe_case x k p cd c n i s outer sizes D f) [
-              | inr b ↦ stops MixedArray (other refl (b.1 (descs t) (core_code t))) (stop_step _ MixedArray (begin_described x) _ (rw (a.0, r) (ap (λ r. r >>= λ _. describe_at p (descriptor_bytes x) (mk (fr k p cd c n i s) outer sizes D)) e ∙ b.0)))
+              | inr b ↦ stops MixedArray (other refl (b.1 t)) (stop_step _ MixedArray (begin_described x) _ (rw (a.0, r) (ap (λ r. r >>= λ _. describe_at p (descriptor_bytes x) (mk (fr k p cd c n i s) outer sizes D)) e ∙ b.0)))
               | inl b ↦ described_goes x t k p cd c n i s outer sizes D others a.1 g v.0 b.1
                   (first_step _ _ (begin_described x) ((tokens deep t ++ end_described ∷ []) ++ others) (rw (a.0, r) (ap (λ r. r >>= λ _. describe_at p (descriptor_bytes x) (mk (fr k p cd c n i s) outer sizes D)) e ∙ b.0))
                   ∙ ap (steps _) (append_assoc (tokens deep t) (end_described ∷ []) others))
@@ -296,7 +296,7 @@ module _ (deep : List ℕ → ℕ) where
         elim (lt_cases (around h) (length outer)) [
           | inl a ↦ stops Depth (past refl (deep_holder deep h (length outer) ts a.1)) (stop_step _ Depth (begin h) _ (rw (a.0) refl))
           | inr a ↦ elim (enter_case (wide_code h) k p cd c n i s outer sizes D r f) [
-            | inr b ↦ stops MixedArray (other refl b.1) (stop_step _ MixedArray (begin h) _ (rw (a.0) (ap (λ r. r >>= λ n. Ok (opened h n)) (b.0))))
+            | inr b ↦ stops MixedArray (other refl (other_holder h ts p s cd D b.1)) (stop_step _ MixedArray (begin h) _ (rw (a.0) (ap (λ r. r >>= λ n. Ok (opened h n)) (b.0))))
             | inl b ↦ holder_goes h ts k p cd c n i s outer sizes D others a.1 v.1 b.1
                 (first_step _ _ (begin h) ((all_tokens deep ts ++ end h ∷ []) ++ others) (rw (a.0) (ap (λ r. r >>= λ n. Ok (opened h n)) (b.0))) ∙ ap (steps _) (append_assoc (all_tokens deep ts) (end h ∷ []) others))
                 (measure_terms ts h (first_place h) 0 0 0 (length sizes) (length D) (fr k p (code_after p cd (wide_code h)) c n i s ∷ outer) (sizes ++ no_size ∷ []) D (end h ∷ others) (fits_itself h ts p D) (omega arith) (omega arith) v.1)

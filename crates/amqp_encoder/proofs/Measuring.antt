@@ -3,9 +3,9 @@ use Rattle.std.proofs.Common.{◌≡◌, ℕ, suc, ◌+◌, ◌-◌, ◌<◌, �
 use Rattle.std.specs.Prelude.{Ok, Err, ltb, eqb}
 use Rattle.std.proofs.lemmas.Bool.{ltb-true, ltb-false, eqb-true, eqb-false}
 use Rattle.std.proofs.lemmas.List.{append-nil, drop_all, length-drop}
-use Rattle.amqp_model.specs.Term.{Primitive, null, binary, string, symbol, Refusal, non_ascii, too_large, mixed_array, zero_width_items, lazy_in_array, Container, Term, Terms, leaf, kept, none, more, count}
-use Rattle.amqp_model.specs.Text.{Place, Plain, First, Later, next, wide, primitive_text, text, texts, sizes_of, all_sizes}
-use Rattle.amqp_model.specs.Refusals.{IsNonAscii, IsLong, HasFlaw}
+use Rattle.amqp_model.specs.Term.{Primitive, null, binary, string, symbol, Refusal, non_ascii, too_large, mixed_array, zero_width_items, lazy_in_array, Container, Term, Terms, leaf, holder, kept, none, more, count}
+use Rattle.amqp_model.specs.Text.{Place, Plain, First, Later, next, wide, wide_code, primitive_text, text, texts, sizes_of, all_sizes}
+use Rattle.amqp_model.specs.Refusals.{HasForm, IsNonAscii, IsLong, HasFlaw}
 use Rattle.amqp_wire.specs.declared.error.Error.{Error}
 use Rattle.amqp_wire.specs.declared.error.Error.TheVariants.{NonAscii, MixedArray, TooLarge}
 use Rattle.amqp_encoder.specs.declared.size.Size.{Size}
@@ -21,7 +21,7 @@ use Rattle.amqp_encoder.proofs.Texts.{ascii_tested, ascii_from}
 use Rattle.amqp_encoder.proofs.Joined.{steps_stopped}
 use Rattle.amqp_encoder.specs.Passes.{as_size}
 use Rattle.amqp_encoder.proofs.Filled.{last}
-use Rattle.amqp_encoder.proofs.Measured.{InArray, descs, core_code, code_after, descs_after, Fit, Same, Other, HasForm, AcceptedAt, RefusedAt, too_long, too_many, other, AcceptedAll, RefusedAll}
+use Rattle.amqp_encoder.proofs.Measured.{InArray, descs, core_code, code_after, descs_after, Fit, Same, OtherCode, Other, AcceptedAt, RefusedAt, too_long, too_many, other, AcceptedAll, RefusedAll}
 use Rattle.amqp_encoder.proofs.Lifted.{Tested}
 
 abbrev pub fr : Option Container → Place → ℕ → ℕ → ℕ → ℕ → ℕ → Open
@@ -73,7 +73,7 @@ nothing_left s D f h = let e : length D - s ≡ 0 = sym (length-drop s D) ∙ ap
 
 later_case : (x : ℕ) (k : Option Container) (cd c n i s : ℕ) (outer : List Open) (sizes : List Size) (D : List ℕ) → s ≤ length D →
     ((take_form Later x (mk (fr k Later cd c n i s) outer sizes D) ≡ Ok (mk (fr k Later cd c n i s) outer sizes D)) × Same Later s D cd [] x)
-    ⊎ ((take_form Later x (mk (fr k Later cd c n i s) outer sizes D) ≡ Err MixedArray) × Other Later s D cd [] x)
+    ⊎ ((take_form Later x (mk (fr k Later cd c n i s) outer sizes D) ≡ Err MixedArray) × OtherCode Later s D cd x)
 later_case x k cd c n i s outer sizes D f =
     elim (bool_cases (eqb cd x)) [
       | inr a ↦ inr (rw a refl, λ h. eqb-false cd x a h.1)
@@ -85,14 +85,14 @@ later_case x k cd c n i s outer sizes D f =
 
 form_case : (x : ℕ) (k : Option Container) (p : Place) (cd c n i s : ℕ) (outer : List Open) (sizes : List Size) (D : List ℕ) → Fit p s D →
     ((take_form p x (mk (fr k p cd c n i s) outer sizes D) ≡ Ok (mk (fr k p (code_after p cd x) c n i s) outer sizes D)) × Same p s D cd [] x)
-    ⊎ ((take_form p x (mk (fr k p cd c n i s) outer sizes D) ≡ Err MixedArray) × Other p s D cd [] x)
+    ⊎ ((take_form p x (mk (fr k p cd c n i s) outer sizes D) ≡ Err MixedArray) × OtherCode p s D cd x)
 form_case x k Plain cd c n i s outer sizes D f = inl (refl, tt)
 form_case x k First cd c n i s outer sizes D f = inl (refl, tt)
 form_case x k Later cd c n i s outer sizes D f = later_case x k cd c n i s outer sizes D f
 
 pub enter_case : (x : ℕ) (k : Option Container) (p : Place) (cd c n i s : ℕ) (outer : List Open) (sizes : List Size) (D : List ℕ) → is_full (fr k p cd c n i s) ≡ false → Fit p s D →
     ((enter x (mk (fr k p cd c n i s) outer sizes D) ≡ Ok (mk (fr k p (code_after p cd x) c n i s) outer sizes D)) × Same p s D cd [] x)
-    ⊎ ((enter x (mk (fr k p cd c n i s) outer sizes D) ≡ Err MixedArray) × Other p s D cd [] x)
+    ⊎ ((enter x (mk (fr k p cd c n i s) outer sizes D) ≡ Err MixedArray) × OtherCode p s D cd x)
 enter_case x k p cd c n i s outer sizes D r f = rw r (form_case x k p cd c n i s outer sizes D f)
 
 pub no_descs : (p : Place) (D : List ℕ) → descs_after p D [] ≡ D
@@ -175,6 +175,17 @@ primitive_has_form x h = (([], (wide x).0), refl)
 pub is_one : (d : ℕ) → suc d ≡ d + 1
 is_one d = sym (add-one d)
 
+-- where a constructor's code is another one
+pub other_leaf : (x : Primitive) (p : Place) (s cd : ℕ) (D : List ℕ) → (InArray p → HasForm (leaf x)) → OtherCode p s D cd (wide x).0 → Other p s D cd (leaf x)
+other_leaf x Plain s cd D h n = n
+other_leaf x First s cd D h n = n
+other_leaf x Later s cd D h n = (h tt, n)
+
+pub other_holder : (k : Container) (ts : Terms) (p : Place) (s cd : ℕ) (D : List ℕ) → OtherCode p s D cd (wide_code k) → Other p s D cd (holder k ts)
+other_holder k ts Plain s cd D n = n
+other_holder k ts First s cd D n = n
+other_holder k ts Later s cd D n = ((([], wide_code k), refl), n)
+
 module _ (deep : List ℕ → ℕ) where
   abbrev pub TermGoes : Term → Option Container → Place → ℕ → ℕ → ℕ → ℕ → ℕ → List Open → List Size → List ℕ → List Token → Type 0
   TermGoes t k p cd c n i s outer sizes D others =
@@ -206,7 +217,7 @@ module _ (deep : List ℕ → ℕ) where
   leaf_goes x k p cd c n i s outer sizes D others r f g m h is =
       rw (append-nil sizes, no_descs p D)
       (elim (enter_case (wide x).0 k p cd c n i s outer sizes D r f) [
-        | inr a ↦ stops MixedArray (other refl a.1) (stop_step _ MixedArray (put x) others (is ∙ ap (λ r. r >>= leave (length (primitive_text p x))) (a.0)))
+        | inr a ↦ stops MixedArray (other refl (other_leaf x p s cd D h a.1)) (stop_step _ MixedArray (put x) others (is ∙ ap (λ r. r >>= leave (length (primitive_text p x))) (a.0)))
         | inl a ↦ elim (leave_case (length (primitive_text p x)) k p (code_after p cd (wide x).0) c n i s outer sizes D) [
           | inl b ↦ goes (record { sound = (g.fits, m); clean = leaf_clean x g; within = tt; long = b.1; many = b.2; formed = h; chain = tt; same = a.1 })
               (first_step _ _ (put x) others (is ∙ (ap (λ r. r >>= leave (length (primitive_text p x))) (a.0) ∙ b.0)))

@@ -86,6 +86,37 @@ pub one_text : (u : Term) → row_text (u ∷ []) ≡ text u Plain
 unfolding text
 one_text u = append-nil (text u Plain)
 
+pub has_reason : (r : Refusal) (t : Term) → IsRefused r t → HasReason (error_of r) t
+has_reason r t h = inl (r, refl, h)
+
+-- an encoder's reason that lies in a term is one of the model
+mutual
+  pub reason_named : (e : Error) (u t : Term) → Everywhere IsValue u → Reads u t → Somewhere (HasReason e) u → (r : Refusal) × (e ≡ error_of r) × Somewhere (IsRefused r) u
+  reason_named e (leaf p) t v h (inl w) = w
+  reason_named e (leaf p) t v h (inr (inl c)) = absurd c.1
+  reason_named e (leaf p) t v h (inr (inr c)) = absurd c.1
+  reason_named e (holder k us) (holder l ts) v h (inl (inl w)) = (w.0, w.1, inl w.2)
+  reason_named e (holder k us) (holder l ts) v h (inl (inr (inl c))) = absurd (no_empty us ts h.1 c.1.1)
+  reason_named e (holder k us) (holder l ts) v h (inl (inr (inr c))) = absurd (no_odd k us v.0 c.1)
+  reason_named e (holder k us) (holder l ts) v h (inr w) = let n = some_reason_named e us ts v.1 h.1 w in (n.0, n.1, inr n.2)
+  reason_named e (described d u) (described f t) v h (inl (inl w)) = (w.0, w.1, inl w.2)
+  reason_named e (described d u) (described f t) v h (inl (inr (inl c))) = absurd c.1
+  reason_named e (described d u) (described f t) v h (inl (inr (inr c))) = absurd c.1
+  reason_named e (described d u) (described f t) v h (inr w) = let n = reason_named e u t v.1 h.1 w in (n.0, n.1, inr n.2)
+  reason_named e (kept b) t v h (inl w) = w
+  reason_named e (kept b) t v h (inr (inl c)) = absurd c.1
+  reason_named e (kept b) t v h (inr (inr c)) = absurd c.1
+  reason_named e (barred r) t v h (inl w) = w
+  reason_named e (barred r) t v h (inr (inl c)) = absurd c.1
+  reason_named e (barred r) t v h (inr (inr c)) = absurd c.1
+  reason_named e u t v h w = let no_way : ⊥ = grind arith in absurd no_way
+
+  pub some_reason_named : (e : Error) (us ts : Terms) → EverywhereIn IsValue us → ReadsEach us ts → SomewhereIn (HasReason e) us → (r : Refusal) × (e ≡ error_of r) × SomewhereIn (IsRefused r) us
+  some_reason_named e none ts v h w = absurd w
+  some_reason_named e (more u us) none v h w = absurd h
+  some_reason_named e (more u us) (more t ts) v h (inl w) = let n = reason_named e u t v.0 h.0 w in (n.0, n.1, inl n.2)
+  some_reason_named e (more u us) (more t ts) v h (inr w) = let n = some_reason_named e us ts v.1 h.1 w in (n.0, n.1, inr n.2)
+
 module _ (deep : List ℕ → ℕ) where
   mutual
     knows : IsNesting deep → (u : Term) → Everywhere (KnowsDepth deep) u
@@ -168,9 +199,6 @@ module _ (deep : List ℕ → ℕ) where
     items_as_deep (more (kept b) us) (more t ts) x h = inr (inl (kept b, b, inl refl, refl))
     items_as_deep (more u us) (more t ts) x h = let no_way : ⊥ = grind arith in absurd no_way
 
-  has_reason : (r : Refusal) (t : Term) → IsRefused r t → HasReason (error_of r) t
-  has_reason r t h = inl (r, refl, h)
-
   kept_reason : (t : Term) → HasKeptItem t → HasReason LazyInArray t
   kept_reason t h = inl (lazy_in_array, refl, inr h)
 
@@ -202,33 +230,6 @@ module _ (deep : List ℕ → ℕ) where
 
   -- To the model's refusals.
 
-  mutual
-    named : (e : Error) (u t : Term) → Everywhere IsValue u → Reads u t → Somewhere (HasReason e) u → (r : Refusal) × (e ≡ error_of r) × Somewhere (IsRefused r) u
-    named e (leaf p) t v h (inl w) = w
-    named e (leaf p) t v h (inr (inl c)) = absurd c.1
-    named e (leaf p) t v h (inr (inr c)) = absurd c.1
-    named e (holder k us) (holder l ts) v h (inl (inl w)) = (w.0, w.1, inl w.2)
-    named e (holder k us) (holder l ts) v h (inl (inr (inl c))) = absurd (no_empty us ts h.1 c.1.1)
-    named e (holder k us) (holder l ts) v h (inl (inr (inr c))) = absurd (no_odd k us v.0 c.1)
-    named e (holder k us) (holder l ts) v h (inr w) = let n = all_named e us ts v.1 h.1 w in (n.0, n.1, inr n.2)
-    named e (described d u) (described f t) v h (inl (inl w)) = (w.0, w.1, inl w.2)
-    named e (described d u) (described f t) v h (inl (inr (inl c))) = absurd c.1
-    named e (described d u) (described f t) v h (inl (inr (inr c))) = absurd c.1
-    named e (described d u) (described f t) v h (inr w) = let n = named e u t v.1 h.1 w in (n.0, n.1, inr n.2)
-    named e (kept b) t v h (inl w) = w
-    named e (kept b) t v h (inr (inl c)) = absurd c.1
-    named e (kept b) t v h (inr (inr c)) = absurd c.1
-    named e (barred r) t v h (inl w) = w
-    named e (barred r) t v h (inr (inl c)) = absurd c.1
-    named e (barred r) t v h (inr (inr c)) = absurd c.1
-    named e u t v h w = let no_way : ⊥ = grind arith in absurd no_way
-
-    all_named : (e : Error) (us ts : Terms) → EverywhereIn IsValue us → ReadsEach us ts → SomewhereIn (HasReason e) us → (r : Refusal) × (e ≡ error_of r) × SomewhereIn (IsRefused r) us
-    all_named e none ts v h w = absurd w
-    all_named e (more u us) none v h w = absurd h
-    all_named e (more u us) (more t ts) v h (inl w) = let n = named e u t v.0 h.0 w in (n.0, n.1, inl n.2)
-    all_named e (more u us) (more t ts) v h (inr w) = let n = all_named e us ts v.1 h.1 w in (n.0, n.1, inr n.2)
-
   later_named : (u : Term) (us : List Term) (e : Error) → IsNamed us e → IsNamed (u ∷ us) e
   later_named u us e (r, i, h) = (r, i, any_later (Refuses r) u us h)
 
@@ -236,7 +237,7 @@ module _ (deep : List ℕ → ℕ) where
   unfolding Refuses
   row_named e [] ts v h w = absurd w
   row_named e (u ∷ us) [] v h w = absurd h
-  row_named e (u ∷ us) (t ∷ ts) v h (inl w) = let n = named e u t v.0 h.0 w in (n.0, n.1, any_first (Refuses n.0) u us (inl n.2))
+  row_named e (u ∷ us) (t ∷ ts) v h (inl w) = let n = reason_named e u t v.0 h.0 w in (n.0, n.1, any_first (Refuses n.0) u us (inl n.2))
   row_named e (u ∷ us) (t ∷ ts) v h (inr w) = later_named u us e (row_named e us ts v.1 h.1 w)
 
   row_deep : (e : Error) (us ts : List Term) → KnowDepths deep us → AllRead us ts → e ≡ Depth → 128 < nests_by deep (terms_of us) → IsNamed us e

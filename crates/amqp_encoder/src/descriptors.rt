@@ -1,4 +1,4 @@
-//! The bytes of descriptors (Part 1, sections 1.2 and 1.3).
+//! The bytes of descriptors (Part 1, sections 1.2 and 1.5).
 ghost use Rattle.std.specs.Prelude.{◌≡◌, ◌<◌, ◌^◌, ◌++◌, ℕ, List, length};
 ghost use Rattle.amqp_model.specs.Term.{name, code, symbol};
 ghost use Rattle.amqp_encoder.specs.Values.{descriptor_of};

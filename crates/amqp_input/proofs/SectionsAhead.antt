@@ -9,6 +9,7 @@ use Rattle.amqp_model.specs.Term.{ulong, symbol, Descriptor, name, code}
 use Rattle.amqp_model.specs.Constructors.{fixed, variable, format}
 use Rattle.amqp_model.specs.Spelling.{PrimitiveData, descriptor_value}
 use Rattle.amqp_model.proofs.Bytes.{length-bytes, field}
+use Rattle.amqp_model.proofs.Same.{names_same}
 use Rattle.amqp_input.specs.State.{State, looked}
 use Rattle.amqp_input.specs.Members.{Member, place_of, as_name, is_named, name_place}
 use Rattle.amqp_input.specs.Sections.{LooksOn, sections, IsOfSection, IsSectionAhead, IsNameAhead, IsLongNameAhead, IsLongCodeAhead}
@@ -71,12 +72,21 @@ place_at : (d : Descriptor) (c i : ℕ) (s : List ℕ) → i < 9 → c ≡ 0x70 
 place_at d c i s h f g (inl e) = ap (name_place sections) (e ∙ ap code f) ∙ code_place i h
 place_at d c i s h f g (inr e) = ap (name_place sections) (e ∙ ap name g) ∙ title_place i h
 
-place_of_section : (d : Descriptor) (c : ℕ) → IsOfSection c d → option_map (λ i. 0x70 + i) (name_place sections d) ≡ Some c
+pub place_of_section : (d : Descriptor) (c : ℕ) → IsOfSection c d → option_map (λ i. 0x70 + i) (name_place sections d) ≡ Some c
 place_of_section d c (s, (i, few, at_), is) =
     let row : (c, s) ≡ (0x70 + i, title i) = sym at_ ∙ row_is i (c, s) few in
     let f : c ≡ 0x70 + i = ap (λ (r : ℕ × List ℕ). r.0) row in
     let g : s ≡ title i = ap (λ (r : ℕ × List ℕ). r.1) row in
     ap (option_map (λ i. 0x70 + i)) (place_at d c i s few f g is) ∙ ap Some (sym f)
+
+-- a descriptor is that of one section at most, and one input begins with that of one
+section_of_one : (d : Descriptor) (b c : ℕ) → IsOfSection b d → IsOfSection c d → b ≡ c
+section_of_one d b c h i = ap (λ o. unwrap_or o b) (sym (place_of_section d b h) ∙ place_of_section d c i)
+
+pub one_ahead : (rest : List ℕ) (b c : ℕ) → IsSectionAhead rest b → IsSectionAhead rest c → b ≡ c
+one_ahead rest b c h i =
+    let same = names_same h.descriptor i.descriptor h.own i.own h.after i.after h.spelled i.spelled (ap (drop 1) (sym h.split ∙ i.split)) in
+    section_of_one h.descriptor b c h.is (subst (IsOfSection c) (sym same.1) i.is)
 
 section_at : (d : Descriptor) (c : ℕ) (o : Option ℕ) → name_place sections d ≡ o → option_map (λ i. 0x70 + i) o ≡ Some c → IsOfSection c d
 section_at d c None e f = absurd (cc)

@@ -3,6 +3,7 @@
 #![tactic(auto)]
 
 mod input;
+pub mod laws;
 pub mod names;
 mod sections;
 

@@ -1,4 +1,4 @@
-//! Descriptors: what a described value begins with (Part 1, sections 1.2 and 1.3).
+//! Descriptors: what a described value begins with (Part 1, sections 1.2 and 1.5).
 use crate::Symbol;
 
 /// The descriptor of a described value. A typed one is the same as its name and as its code.

@@ -14,7 +14,7 @@ pub enum Error {
     /// No constructor has this format code (Part 1, section 1.2).
     #[error("no constructor has the code 0x{0:02x}")]
     UnknownCode(u8),
-    /// The code of a float or a double (Part 1, sections 1.6.12 and 1.6.13), which are not supported.
+    /// The code of a float or a double (Part 1, sections 1.6.11 and 1.6.12), which are not supported.
     #[error("floating point numbers, as of the code 0x{0:02x}, are not supported")]
     FloatCode(u8),
     /// A size differs from what its content takes.
