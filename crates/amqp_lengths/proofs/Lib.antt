@@ -11,3 +11,5 @@ pub mod Containers
 pub mod Elements
 pub mod Answered
 pub mod Cuts
+pub mod RefusedBytes
+pub mod DeeperFaults

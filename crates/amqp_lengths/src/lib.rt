@@ -3,6 +3,7 @@
 
 mod constructors;
 mod contents;
+pub mod laws;
 mod lengths;
 mod primitives;
 mod sizes;
