@@ -7,18 +7,19 @@ use Rattle.amqp_model.specs.Items.{items_of}
 use Rattle.amqp_model.specs.Constructors.{Format, fixed, variable, compound, unknown, format}
 use Rattle.amqp_model.specs.Spelling.{Constructor, PrimitiveData, ContainerData, data_of, elements_of, shared_data_of}
 use Rattle.amqp_model.specs.Measures.{nest, nests, array_nest}
+use Rattle.amqp_model.specs.Standing.{Standing, StandInArray}
 use Rattle.amqp_decoder.specs.declared.frame.Place.TheVariants.{InArray}
 use Rattle.amqp_decoder.specs.State.{Open, State, Has, lower, on, past, inside}
 use Rattle.amqp_decoder.specs.Steps.{Took}
 use Rattle.amqp_decoder.specs.Containers.{Header}
 use Rattle.amqp_decoder.specs.Arrays.{TookConstructor, IsFlat, Shares, no_items, shared_by, Starts, EntersArray, OpensArray}
-use Rattle.amqp_decoder.specs.Items.{Next, ContainsArray}
+use Rattle.amqp_decoder.specs.Items.{Next, row_standings, NextWithParts, ContainsArray}
 use Rattle.amqp_input.proofs.Looks.{front_is}
 use Rattle.amqp_decoder.proofs.Leaves.{minus-minus, begun_same}
 use Rattle.amqp_decoder.proofs.Peeks.{constructor_some}
 use Rattle.amqp_decoder.proofs.Opening.{header_same, one_width, took_both}
 use Rattle.amqp_decoder.proofs.Constructed.{one_constructor}
-use Rattle.amqp_decoder.proofs.Holders.{many, together, AllSpelled, row_spelled, row_of, Split, container_split, split_container, first_spelled, front_of, holder_bare, known, used_up, closed_at, three, took_parts}
+use Rattle.amqp_decoder.proofs.Holders.{many, together, AllSpelled, row_spelled, row_of, StandUnder, row_stands, container_split, split_container, first_spelled, first_parts, front_of, holder_bare, known, used_up, closed_at, three, took_parts}
 
 -- what a row of terms under one constructor is as data
 all_data : (us : Terms) (ds : List Descriptor) (c : ℕ) (b : List ℕ) → AllSpelled (Some (ds, c)) us b → shared_data_of us ds c b
@@ -35,13 +36,17 @@ flat_holds (variable w f) k n C b flat h = h
 flat_holds (compound j w) k n C b flat h = flat
 flat_holds unknown k n C b flat h = h
 
+pub flat_array : (us : Terms) (ds : List Descriptor) (c : ℕ) (b : List ℕ) → IsFlat ds (format c) → data_of (holder array us) ds c b → ⊥
+flat_array us [] c b flat h = flat_holds (format c) array _ _ b flat h
+flat_array us (e ∷ ds) c b flat h = flat
+
 -- an item of a constructor that holds no others is a primitive
 flat_leaf : (t : Term) (ds : List Descriptor) (c : ℕ) (b : List ℕ) → IsFlat ds (format c) → data_of t ds c b → (nest t ≡ 0) × ((us : Terms) → array_nest (more t us) ≡ array_nest us)
 flat_leaf t (e ∷ ds) c b flat h = absurd flat
 flat_leaf (leaf p) [] c b flat h = (refl, λ us. refl)
 flat_leaf (holder list ts) [] c b flat h = absurd (flat_holds (format c) list _ _ b flat h)
 flat_leaf (holder map ts) [] c b flat h = absurd (flat_holds (format c) map _ _ b flat h.1)
-flat_leaf (holder array ts) [] c b flat h = absurd (flat_holds (format c) array _ _ b flat h)
+flat_leaf (holder array ts) [] c b flat h = absurd (flat_array ts [] c b flat h)
 flat_leaf (described d t) [] c b flat h = absurd h
 flat_leaf (kept k) [] c b flat h = absurd h
 flat_leaf (barred r) [] c b flat h = absurd h
@@ -87,8 +92,9 @@ record Started (us : Terms) (n content : ℕ) (at mid : State) : Type 0 where
   pub own : List ℕ
   pub shared : Option (List Descriptor × ℕ)
   pub is : mid ≡ within (length own) shared n content at
-  pub took : Took (inside InArray n content at) own (on (length own) (inside InArray n content at))
+  pub took : Took (inside InArray 0 content at) own (on (length own) (inside InArray 0 content at))
   pub elements : (b : List ℕ) → AllSpelled shared us b → elements_of us (own ++ b)
+  pub stands : (ss : List Standing) (b : List ℕ) → StandUnder shared us ss b → StandInArray us ss (own ++ b)
   pub nested : (b : List ℕ) → AllSpelled shared us b → nests us ≤ at.nesting - suc (length at.saved) → array_nest us ≤ at.nesting - length at.saved
 
 on_none : (st : State) (l : ℕ) → st.top.left ≡ Some l → st ≡ on 0 st
@@ -98,42 +104,54 @@ on_none st l e =
     let same : st.top.left ≡ lower st.top.left 0 = e ∙ ap Some n ∙ ap (λ o. lower o 0) (sym e) in
     ap (λ k. record st { ahead = k }) a ∙ ap (λ o. record st { ahead = st.ahead - 0; top = record st.top { left = o } }) same
 
-started : (us : Terms) (n content : ℕ) (at mid : State) → n ≡ count us → Starts n content (inside InArray n content at) mid → Started us n content at mid
+started : (us : Terms) (n content : ℕ) (at mid : State) → n ≡ count us → Starts n content (inside InArray 0 content at) mid → Started us n content at mid
 started none n content at mid len (inl (e, is)) = record {
   own = [];
   shared = None;
-  is = is ∙ on_none (inside InArray n content at) content refl;
+  is = is ∙ on_none (inside InArray 0 content at) content refl ∙ ap (λ k. within 0 None k content at) (sym len);
   took = record { room = omega arith; rest = refl; moved = refl };
   elements = λ b h. inl h;
+  stands = λ ss b h. h.1;
   nested = λ b h k. omega arith;
 }
 started none n content at mid len (inr (some, no_items ds c empty t)) = record {
   own = t.own;
   shared = None;
-  is = t.took.moved;
-  took = subst (Took (inside InArray n content at) t.own) t.took.moved t.took;
+  is = t.took.moved ∙ ap (λ k. within (length t.own) None k content at) (sym len);
+  took = subst (Took (inside InArray 0 content at) t.own) t.took.moved t.took;
   elements = λ b h. inr (ds, c, t.few, (t.own, b, refl, t.spelled, h));
+  stands = λ ss b h. h.1;
   nested = λ b h k. omega arith;
 }
-started none n content at mid len (inr (some, shared_by ds c m full t wide fits is)) = absurd (full (ap Some len))
+started none n content at mid len (inr (some, shared_by ds c m full t wide fits is)) = absurd (full len)
 started (more t us) n content at mid len (inl (e, is)) = absurd (omega (arith, e, len))
-started (more t us) n content at mid len (inr (some, no_items ds c empty k)) = absurd (let e : Some n ≡ Some 0 = empty in let z : n ≡ 0 = cc in omega (arith, z, len))
+started (more t us) n content at mid len (inr (some, no_items ds c empty k)) = absurd (omega (arith, empty, len))
 started (more t us) n content at mid len (inr (some, shared_by ds c m full k wide fits is)) = record {
   own = k.own;
   shared = Some (ds, c);
-  is = is ∙ ap (λ (z : State). record z { top = record z.top { shared = Some (ds, c) } }) k.took.moved;
-  took = subst (Took (inside InArray n content at) k.own) k.took.moved k.took;
+  is = is ∙ ap (λ (z : State). record z { top = record z.top { items = Some n; shared = Some (ds, c) } }) k.took.moved;
+  took = subst (Took (inside InArray 0 content at) k.own) k.took.moved k.took;
   elements = λ b (s, r, e, h, hs). (ds, c, k.few, (k.own, b, refl, k.spelled, (wide, (s, r, e, h, all_data us ds c r hs))));
+  stands = λ ss b h. (ds, c, k.few, (k.own, b, refl, k.spelled, h));
   nested = λ b h few. elim fits [
     | inl flat ↦ let z = flat_rows (more t us) ds c b flat (all_data (more t us) ds c b h) in omega (arith, z.1)
     | inr deep ↦ omega (arith, deep, few, array_nest_most (more t us))
   ];
 }
 
-starts_items : (n content : ℕ) (st mid : State) → Starts n content st mid → mid.top.items ≡ st.top.items
-starts_items n content st mid (inl (e, is)) = ap (λ (z : State). z.top.items) is
-starts_items n content st mid (inr (some, no_items ds c empty t)) = ap (λ (z : State). z.top.items) t.took.moved
-starts_items n content st mid (inr (some, shared_by ds c m full t wide fits is)) = ap (λ (z : State). z.top.items) is ∙ ap (λ (z : State). z.top.items) t.took.moved
+pub starts_items : (n content : ℕ) (st mid : State) → st.top.items ≡ Some 0 → Starts n content st mid → mid.top.items ≡ Some n
+starts_items n content st mid start (inl (e, is)) = ap (λ (z : State). z.top.items) is ∙ start ∙ ap Some (omega (arith, e))
+starts_items n content st mid start (inr (some, no_items ds c empty t)) = ap (λ (z : State). z.top.items) t.took.moved ∙ start ∙ ap Some (sym empty)
+starts_items n content st mid start (inr (some, shared_by ds c m full t wide fits is)) = ap (λ (z : State). z.top.items) is
+
+starts_place : (n content : ℕ) (st mid : State) → Starts n content st mid → mid.top.place ≡ st.top.place
+starts_place n content st mid (inl (e, is)) = ap (λ (z : State). z.top.place) is
+starts_place n content st mid (inr (some, no_items ds c empty t)) = ap (λ (z : State). z.top.place) t.took.moved
+starts_place n content st mid (inr (some, shared_by ds c m full t wide fits is)) = ap (λ (z : State). z.top.place) is ∙ ap (λ (z : State). z.top.place) t.took.moved
+
+-- what is left of an array that was opened
+pub opened_items : (st : State) (n : ℕ) (st' : State) → OpensArray st n st' → (st'.top.place ≡ InArray) × (st'.top.items ≡ Some n)
+opened_items st n st' o = let d = o.data_ in (starts_place n d.content _ st' d.starts, starts_items n d.content _ st' refl d.starts)
 
 -- the container around an array that was left
 array_left : (x b n content : ℕ) (o : Option (List Descriptor × ℕ)) (at : State) → content ≡ x + b → record (many n b (within x o n content at)) { top = record at.top { left = lower at.top.left content }; saved = at.saved } ≡ on (x + b) at
@@ -142,15 +160,16 @@ array_left x b n content o at e = rw (minus-minus at.ahead x b, drop-drop b x at
 four : (own h x b : List ℕ) → length (own ++ (h ++ (x ++ b))) ≡ length own + length h + (length x + length b)
 four own h x b = three own h (x ++ b) ∙ ap (λ n. length own + length h + n) (length-append x b)
 
-pub whole_array : (st : State) (us : Terms) (new : State) → ContainsArray st (items_of us) new → Next st (holder array us) new
-whole_array st us new c =
+-- the items of an array stand in it as they were taken
+pub whole_array_with_parts : (st : State) (us : Terms) (new : State) (c : ContainsArray st (items_of us) new) → NextWithParts st (holder array us) (row_standings c.mid (items_of us) c.bytes c.last c.items) new
+whole_array_with_parts st us new c =
     let o = c.opened in
     let d = o.data_ in
     let g = o.begun in
     let own = g.own in
     let b = c.bytes in
     let t = together us c.mid b c.last c.items in
-    let n_is : c.count ≡ count us = used_up c.mid.top.items c.count (count us) (starts_items c.count d.content _ c.mid d.starts) t.items (sym (ap (λ (z : State). z.top.items) t.moved) ∙ c.closed.items) in
+    let n_is : c.count ≡ count us = used_up c.mid.top.items c.count (count us) (starts_items c.count d.content _ c.mid refl d.starts) t.items (sym (ap (λ (z : State). z.top.items) t.moved) ∙ c.closed.items) in
     let s = started us c.count d.content d.mid c.mid n_is d.starts in
     let x = s.own in
     let over : d.content - length x ≡ length b = used_up c.mid.top.left (d.content - length x) (length b) (ap (λ (z : State). z.top.left) s.is) t.room (sym (ap (λ (z : State). z.top.left) t.moved) ∙ c.closed.left) in
@@ -171,19 +190,23 @@ whole_array st us new c =
       moved = refl;
     } in
     let all = took_both st _ _ own (head ++ (x ++ b)) first (took_both _ _ _ head (x ++ b) second third) in
-    let rows = row_spelled s.shared us c.mid b c.last (ap (λ (z : State). z.top.shared) s.is) c.items in
-    let split : Split array (format o.code) (count us) (elements_of us) (head ++ (x ++ b)) = record {
+    let shared : c.mid.top.shared ≡ s.shared = ap (λ (z : State). z.top.shared) s.is in
+    let rows = row_spelled s.shared us c.mid b c.last shared c.items in
+    let data_of_content : (C : List ℕ → Type 0) → C (x ++ b) → ContainerData (format o.code) array (count us) C (head ++ (x ++ b)) = λ C inner. split_container (format o.code) array (count us) C (head ++ (x ++ b)) (record {
       width = o.width;
       size = h.size;
       content = x ++ b;
       announced = o.announced;
       sized = elim h.counts [ inl e ↦ inl (e ∙ ap (λ k. o.width + k) (k_is ∙ sym long)) | inr (listed, e, f, z) ↦ absurd (cc) ];
-      inner = s.elements b rows;
+      inner = inner;
       fits = h.fits;
       few = h.few;
       whole = append_assoc (bytes_high_first o.width h.size) (bytes_high_first o.width (count us)) (x ++ b);
-    } in
-    let data_is = split_container (format o.code) array (count us) (elements_of us) (head ++ (x ++ b)) split in
+    }) in
+    let ss = row_standings c.mid (items_of us) b c.last c.items in
+    let data_is = data_of_content (elements_of us) (s.elements b rows) in
+    let parts_are = data_of_content (StandInArray us ss) (s.stands ss b (row_stands s.shared us c.mid b c.last shared c.items)) in
+    let code_is = known (format o.code) array o.width o.announced in
     let levels : length c.mid.saved ≡ suc (length d.mid.saved) = ap (λ (z : State). length z.saved) s.is in
     let limit : c.mid.nesting ≡ d.mid.nesting = ap (λ (z : State). z.nesting) s.is in
     let deep : array_nest us ≤ d.mid.nesting - length d.mid.saved = s.nested b rows (let m = t.nested in omega (arith, m, levels, limit)) in
@@ -194,18 +217,24 @@ whole_array st us new c =
     ∙ ap (λ n. record (many (count us) (length b) (within (length x) s.shared n d.content d.mid)) { top = record d.mid.top { left = lower d.mid.top.left d.content }; saved = d.mid.saved }) n_is
     ∙ array_left (length x) (length b) (count us) d.content s.shared d.mid k_is in
     record {
-      bytes = own ++ (head ++ (x ++ b));
-      stands = record {
-        going = g.going;
-        item = g.item;
-        room = all.room;
-        after = drop (length (own ++ (head ++ (x ++ b)))) st.rest;
-        rest = all.rest;
-        spelled = first_spelled st.top.shared o.code own (head ++ (x ++ b)) (holder array us) g.first (known (format o.code) array o.width o.announced) data_is;
-        nested = subst (λ (z : State). array_nest us ≤ z.nesting - length z.saved) at_is deep;
+      next = record {
+        bytes = own ++ (head ++ (x ++ b));
+        stands = record {
+          going = g.going;
+          item = g.item;
+          room = all.room;
+          after = drop (length (own ++ (head ++ (x ++ b)))) st.rest;
+          rest = all.rest;
+          spelled = first_spelled st.top.shared o.code own (head ++ (x ++ b)) (holder array us) g.first code_is data_is;
+          nested = subst (λ (z : State). array_nest us ≤ z.nesting - length z.saved) at_is deep;
+        };
+        moved = out ∙ ap (on (length x + length b)) at_is ∙ closed_at st (past (length own) st) at (length own) (length head) (length x + length b) refl refl ∙ ap (λ k. past k st) (sym (four own head x b));
       };
-      moved = out ∙ ap (on (length x + length b)) at_is ∙ closed_at st (past (length own) st) at (length own) (length head) (length x + length b) refl refl ∙ ap (λ k. past k st) (sym (four own head x b));
+      parts = first_parts st.top.shared o.code own (head ++ (x ++ b)) array us ss g.first code_is parts_are;
     }
+
+pub whole_array : (st : State) (us : Terms) (new : State) → ContainsArray st (items_of us) new → Next st (holder array us) new
+whole_array st us new c = let h = whole_array_with_parts st us new c in h.next
 
 -- how an array that stands there is begun
 record Beginning (us : Terms) (content : List ℕ) (at : State) : Type 0 where
@@ -214,13 +243,13 @@ record Beginning (us : Terms) (content : List ℕ) (at : State) : Type 0 where
   pub shared : Option (List Descriptor × ℕ)
   pub split : content ≡ own ++ items
   pub spelled : AllSpelled shared us items
-  pub starts : Starts (count us) (length content) (inside InArray (count us) (length content) at) (within (length own) shared (count us) (length content) at)
+  pub starts : Starts (count us) (length content) (inside InArray 0 (length content) at) (within (length own) shared (count us) (length content) at)
   pub nested : nests us ≤ at.nesting - suc (length at.saved)
 
 -- the constructor of the items is there
-constructed : (n : ℕ) (content own items after : List ℕ) (ds : List Descriptor) (c : ℕ) (at : State) → content ≡ own ++ items → at.rest ≡ content ++ after → length ds ≤ 128 → Constructor ds c own
-    → TookConstructor (inside InArray n (length content) at) ds c (on (length own) (inside InArray n (length content) at))
-constructed n content own items after ds c at e rest few k = record {
+constructed : (content own items after : List ℕ) (ds : List Descriptor) (c : ℕ) (at : State) → content ≡ own ++ items → at.rest ≡ content ++ after → length ds ≤ 128 → Constructor ds c own
+    → TookConstructor (inside InArray 0 (length content) at) ds c (on (length own) (inside InArray 0 (length content) at))
+constructed content own items after ds c at e rest few k = record {
   own = own;
   few = few;
   spelled = k;
@@ -250,7 +279,7 @@ beginning none content after at (inr (ds, c, few, (own, items, e, k, h))) rest d
   shared = None;
   split = e;
   spelled = h;
-  starts = inr (some_content 0 content own items ds c e k, no_items ds c refl (constructed 0 content own items after ds c at e rest few k));
+  starts = inr (some_content 0 content own items ds c e k, no_items ds c refl (constructed content own items after ds c at e rest few k));
   nested = omega arith;
 }
 beginning (more t us) content after at (ds, c, few, (own, items, e, k, (wide, (s, r, f, h, hs)))) rest deep =
@@ -262,7 +291,7 @@ beginning (more t us) content after at (ds, c, few, (own, items, e, k, (wide, (s
       shared = Some (ds, c);
       split = e;
       spelled = (s, r, f, h, data_all us ds c r hs);
-      starts = inr (some_content (count (more t us)) content own items ds c e k, shared_by ds c _ (λ z. let y : suc (count us) ≡ 0 = cc in absurd (omega (arith, y))) (constructed (count (more t us)) content own items after ds c at e rest few k) wide room refl);
+      starts = inr (some_content (count (more t us)) content own items ds c e k, shared_by ds c _ (λ z. absurd (omega (arith, z))) (constructed content own items after ds c at e rest few k) wide room refl);
       nested = few_;
     }
 
@@ -327,27 +356,27 @@ array_parts st us new few next =
       };
     }
 
-shares_same : (st a b : State) → Shares st a → Shares st b → a ≡ b
-shares_same st a b (no_items ds c e t) (no_items es k f u) = (one_constructor st ds es c k a b t u).2
-shares_same st a b (no_items ds c e t) (shared_by es k m full u wide fits is) = absurd (full e)
-shares_same st a b (shared_by ds c m full t wide fits is) (no_items es k f u) = absurd (full f)
-shares_same st a b (shared_by ds c m full t wide fits is) (shared_by es k m' full' u wide' fits' is') =
+shares_same : (n : ℕ) (st a b : State) → Shares n st a → Shares n st b → a ≡ b
+shares_same n st a b (no_items ds c e t) (no_items es k f u) = (one_constructor st ds es c k a b t u).2
+shares_same n st a b (no_items ds c e t) (shared_by es k m full u wide fits is) = absurd (full e)
+shares_same n st a b (shared_by ds c m full t wide fits is) (no_items es k f u) = absurd (full f)
+shares_same n st a b (shared_by ds c m full t wide fits is) (shared_by es k m' full' u wide' fits' is') =
     let e = one_constructor st ds es c k m m' t u in
-    is ∙ ap (λ (z : State). record z { top = record z.top { shared = Some (ds, c) } }) e.2 ∙ ap₂ (λ (l : List Descriptor) (j : ℕ). record m' { top = record m'.top { shared = Some (l, j) } }) e.0 e.1 ∙ sym is'
+    is ∙ ap (λ (z : State). record z { top = record z.top { items = Some n; shared = Some (ds, c) } }) e.2 ∙ ap₂ (λ (l : List Descriptor) (j : ℕ). record m' { top = record m'.top { items = Some n; shared = Some (l, j) } }) e.0 e.1 ∙ sym is'
 
 starts_same : (n content : ℕ) (st a b : State) → Starts n content st a → Starts n content st b → a ≡ b
 starts_same n content st a b (inl (e, f)) (inl (g, h)) = f ∙ sym h
 starts_same n content st a b (inl (e, f)) (inr (g, h)) = absurd (omega (arith, e, g))
 starts_same n content st a b (inr (e, f)) (inl (g, h)) = absurd (omega (arith, e, g))
-starts_same n content st a b (inr (e, f)) (inr (g, h)) = shares_same st a b f h
+starts_same n content st a b (inr (e, f)) (inr (g, h)) = shares_same n st a b f h
 
 enters_same : (w : ℕ) (st : State) (n n' : ℕ) (a b : State) → EntersArray w st n a → EntersArray w st n' b → (n ≡ n') × (a ≡ b)
 enters_same w st n n' a b d d' =
     let s = header_same false w st n d.content n' d'.content d.mid d'.mid d.header d'.header in
-    let one = subst (λ k. Starts k d.content (inside InArray k d.content d.mid) a) s.0 d.starts in
-    let two = subst (λ k. Starts n' k (inside InArray n' k d.mid) a) s.1 one in
-    let all = subst (λ z. Starts n' d'.content (inside InArray n' d'.content z) a) s.2 two in
-    (s.0, starts_same n' d'.content (inside InArray n' d'.content d'.mid) a b all d'.starts)
+    let one = subst (λ k. Starts k d.content (inside InArray 0 d.content d.mid) a) s.0 d.starts in
+    let two = subst (λ k. Starts n' k (inside InArray 0 k d.mid) a) s.1 one in
+    let all = subst (λ z. Starts n' d'.content (inside InArray 0 d'.content z) a) s.2 two in
+    (s.0, starts_same n' d'.content (inside InArray 0 d'.content d'.mid) a b all d'.starts)
 
 -- an array is opened in one way
 pub opens_array_same : (st : State) (n n' : ℕ) (a b : State) → OpensArray st n a → OpensArray st n' b → (n ≡ n') × (a ≡ b)

@@ -1,5 +1,5 @@
 -- Constructors, and the arrays whose items share them.
-use Rattle.std.proofs.Common.{◌≡◌, ◌≤◌, ℕ, ◌+◌, ◌⊎◌, inl, inr, Bool, true, false, not, eqb, leb, ◌↔◌, IsTrue, None, List, [], ◌∷◌, ◌++◌, length, drop, map, get_or, refl, sym, ap, ◌∙◌, subst, arith, append_assoc, length-append, append-nil}
+use Rattle.std.proofs.Common.{◌≡◌, ◌≤◌, ℕ, ◌+◌, ◌⊎◌, inl, inr, Bool, true, false, not, eqb, leb, ◌↔◌, IsTrue, None, List, [], ◌∷◌, ◌++◌, length, drop, map, get_or, refl, sym, ap, ◌∙◌, subst, arith, append_assoc, length-append}
 use Rattle.std.proofs.lemmas.Bool.{eqb-true, leb-true, le-leb, or_cases, or_right}
 use Rattle.std.proofs.lemmas.List.{drop_at, map-append}
 use Rattle.amqp_wire.specs.declared.descriptor.Descriptor.{Descriptor as DescriptorValue}
@@ -50,6 +50,17 @@ flat_divided c false is (inr (kind, w, f, e)) = let h = is.1 (holder_is c e) in 
 pub flat_items : (c : ℕ) (l : DescriptorValues) (holds : Bool) → true ≡ eqb (length l) 0 → IsTrue holds ↔ ((c ≡ 0x45) ⊎ (0xc0 ≤ c)) → IsKnown (format c) → IsTrue (not holds) ↔ IsFlat (map descriptor_of l) (format c)
 flat_items c [] holds none is k = flat_divided c holds is (holder_at c k)
 flat_items c (d ∷ ds) holds none is k = let h = eqb-true (length (d ∷ ds)) 0 (sym none) in absurd (omega arith)
+
+flat_any : (F : Format) → (IsKnown F → IsFlat [] F) → IsFlat [] F
+flat_any (fixed w f) h = h tt
+flat_any (variable w f) h = h tt
+flat_any (compound k w) h = h tt
+flat_any unknown h = tt
+
+-- a code that isn't known holds no others, either
+pub flat_found : (c : ℕ) (l : DescriptorValues) (holds : Bool) → true ≡ eqb (length l) 0 → IsTrue holds ↔ ((c ≡ 0x45) ⊎ (0xc0 ≤ c)) → IsTrue (not holds) → IsFlat (map descriptor_of l) (format c)
+flat_found c [] holds none is h = flat_any (format c) (λ k. (flat_items c [] holds none is k).0 h)
+flat_found c (d ∷ ds) holds none is h = let h = eqb-true (length (d ∷ ds)) 0 (sym none) in absurd (omega arith)
 
 -- the code of a constructor
 pub code_known : (ds : List Descriptor) (c : ℕ) (b : List ℕ) → Constructor ds c b → IsKnown (format c)

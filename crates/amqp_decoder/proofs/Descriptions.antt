@@ -5,6 +5,7 @@ use Rattle.std.proofs.lemmas.List.{drop_at}
 use Rattle.amqp_model.specs.Term.{list, map, array, Descriptor, Term, leaf, holder, described, kept, barred}
 use Rattle.amqp_model.specs.Spelling.{Names, enc, data_of}
 use Rattle.amqp_model.specs.Measures.{nest}
+use Rattle.amqp_model.specs.Standing.{part, Parts}
 use Rattle.amqp_decoder.specs.declared.frame.Place.TheVariants.{InDescribed}
 use Rattle.amqp_decoder.specs.State.{State, Open, Has, lower, on, past}
 use Rattle.amqp_decoder.specs.Steps.{Took}
@@ -12,7 +13,7 @@ use Rattle.amqp_decoder.specs.Reading.{IsFirst}
 use Rattle.amqp_decoder.specs.Primitives.{standing, SpellsAs, Stands}
 use Rattle.amqp_decoder.specs.Containers.{ClosesDescribed}
 use Rattle.amqp_decoder.specs.Described.{IsDescriptor, behind, entered}
-use Rattle.amqp_decoder.specs.Items.{Next, DescribedStands}
+use Rattle.amqp_decoder.specs.Items.{Next, NextWithParts, DescribedStands}
 use Rattle.amqp_decoder.proofs.Leaves.{has_add, has_front, has_rest, lower-lower, minus-minus}
 
 -- a term nests at least as deep as it is described
@@ -43,6 +44,11 @@ described_spelled None first own s d t few f n (ds, c, _, (h, x, e, k, data_)) =
 described_spelled (Some ([], k)) first own s d t few f n h = absurd n
 described_spelled (Some (m ∷ ds, k)) first own s d t few f n h = subst (λ l. data_of (described d t) (m ∷ ds) k (l ++ (own ++ s))) (sym f.0) (subst (λ l. data_of (described d t) (m ∷ ds) k (l ++ s)) (sym n.0) (n.1, h))
 
+described_parts : (o : Option (List Descriptor × ℕ)) (first own s : List ℕ) (d : Descriptor) (t : Term) → IsFirst o 0 first → IsDescriptor o d own → Parts (standing o (first ++ (own ++ s))) (described d t) (standing (behind o) s ∷ [])
+described_parts None first own s d t f n = (own, s, ap (λ l. l ++ (own ++ s)) f, n, refl)
+described_parts (Some ([], k)) first own s d t f n = absurd n
+described_parts (Some (m ∷ ds, k)) first own s d t f n = ap (λ l. part ds k l ∷ []) (sym (ap (λ l. l ++ (own ++ s)) f.0 ∙ ap (λ l. l ++ s) n.0))
+
 sum : (a b c : ℕ) → a + (b + c) ≡ a + b + c
 sum a b c = omega arith
 
@@ -63,9 +69,9 @@ left_described first own s st b c =
     let others : st.saved ≡ c.others = ap (λ l. drop 1 l) c.saved in
     c.moved ∙ ap₂ (λ (t : Open) l. record (past s (inside_described first own st)) { top = record t { left = lower mid.top.left s }; saved = l }) (sym outer) (sym others) ∙ sym (back first own s st)
 
--- What was opened, taken and closed is one term.
-pub described_term : (st : State) (d : Descriptor) (t : Term) (b : State) → st.nesting ≤ 128 → DescribedStands st d t b → Next st (described d t) b
-described_term st d t b bound h =
+-- What was opened, taken and closed is one term, in which what is described stands as it was taken.
+pub described_with_parts : (st : State) (d : Descriptor) (t : Term) (b : State) → st.nesting ≤ 128 → (h : DescribedStands st d t b) → NextWithParts st (described d t) (standing h.inner.top.shared h.bytes ∷ []) b
+described_with_parts st d t b bound h =
     let o = h.opens in
     let first = o.begun.own in
     let own = o.descriptor.own in
@@ -78,20 +84,27 @@ described_term st d t b bound h =
     let all : Has st.top.left (length first + (length own + length h.bytes)) =
     has_add st.top.left (length first) (length own + length h.bytes) o.begun.room (has_add (lower st.top.left (length first)) (length own) (length h.bytes) took.room stands.room) in
     record {
-      bytes = first ++ (own ++ h.bytes);
-      stands = record {
-        going = o.begun.going;
-        item = o.begun.item;
-        room = subst (Has st.top.left) (sym long) all;
-        after = stands.after;
-        rest = o.begun.rest ∙ ap (λ x. first ++ x) (took.rest ∙ ap (λ x. own ++ x) stands.rest) ∙ ap (λ x. first ++ x) (sym (append_assoc own h.bytes stands.after)) ∙ sym (append_assoc first (own ++ h.bytes) stands.after);
-        spelled = described_spelled st.top.shared first own h.bytes d t (let x = stands.nested in let y = o.nested in omega (arith, x, y, bound)) o.begun.first descriptor stands.spelled;
-        nested = let x = stands.nested in let y = o.nested in omega (arith, x, y);
+      next = record {
+        bytes = first ++ (own ++ h.bytes);
+        stands = record {
+          going = o.begun.going;
+          item = o.begun.item;
+          room = subst (Has st.top.left) (sym long) all;
+          after = stands.after;
+          rest = o.begun.rest ∙ ap (λ x. first ++ x) (took.rest ∙ ap (λ x. own ++ x) stands.rest) ∙ ap (λ x. first ++ x) (sym (append_assoc own h.bytes stands.after)) ∙ sym (append_assoc first (own ++ h.bytes) stands.after);
+          spelled = described_spelled st.top.shared first own h.bytes d t (let x = stands.nested in let y = o.nested in omega (arith, x, y, bound)) o.begun.first descriptor stands.spelled;
+          nested = let x = stands.nested in let y = o.nested in omega (arith, x, y);
+        };
+        moved = left_described (length first) (length own) (length h.bytes) st b closes ∙ ap (λ k. past k st) (sym long);
       };
-      moved = left_described (length first) (length own) (length h.bytes) st b closes ∙ ap (λ k. past k st) (sym long);
+      parts = subst (λ (i : State). Parts (standing st.top.shared (first ++ (own ++ h.bytes))) (described d t) (standing i.top.shared h.bytes ∷ [])) (sym inner)
+          (described_parts st.top.shared first own h.bytes d t o.begun.first descriptor);
     }
 
-described_split : (o : Option (List Descriptor × ℕ)) (z : List ℕ) (d : Descriptor) (t : Term) → SpellsAs (standing o z) (described d t)
+pub described_term : (st : State) (d : Descriptor) (t : Term) (b : State) → st.nesting ≤ 128 → DescribedStands st d t b → Next st (described d t) b
+described_term st d t b bound h = let x = described_with_parts st d t b bound h in x.next
+
+pub described_split : (o : Option (List Descriptor × ℕ)) (z : List ℕ) (d : Descriptor) (t : Term) → SpellsAs (standing o z) (described d t)
     → (first own s : List ℕ) × IsFirst o 0 first × IsDescriptor o d own × (z ≡ first ++ (own ++ s)) × SpellsAs (standing (behind o) s) t
 unfolding enc
 described_split None z d t ([], c, few, (h, x, e, k, data_)) = absurd data_

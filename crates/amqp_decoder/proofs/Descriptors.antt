@@ -171,13 +171,15 @@ missed_name st m sized c n wide e new none is t a f = elim f.why [
 ]
 
 -- one descriptor stands in one place
-one_descriptor : (o : Option (List Descriptor × ℕ)) (d e : Descriptor) (a b x y : List ℕ) → IsDescriptor o d a → IsDescriptor o e b → a ++ x ≡ b ++ y → d ≡ e
-one_descriptor None d e a b x y h k s = (names_same d e a b x y h k s).1
+one_descriptor : (o : Option (List Descriptor × ℕ)) (d e : Descriptor) (a b x y : List ℕ) → IsDescriptor o d a → IsDescriptor o e b → a ++ x ≡ b ++ y → (a ≡ b) × (d ≡ e)
+one_descriptor None d e a b x y h k s = names_same d e a b x y h k s
 one_descriptor (Some ([], c)) d e a b x y h k s = absurd h
-one_descriptor (Some (f ∷ ds, c)) d e a b x y h k s = h.1 ∙ sym k.1
+one_descriptor (Some (f ∷ ds, c)) d e a b x y h k s = (h.0 ∙ sym k.0, h.1 ∙ sym k.1)
 
-pub descriptor_same : (st : State) (d e : Descriptor) (m m' : State) → TookDescriptor st d m → TookDescriptor st e m' → d ≡ e
-descriptor_same st d e m m' t u = one_descriptor st.top.shared d e t.own u.own (drop (length t.own) st.rest) (drop (length u.own) st.rest) t.descriptor u.descriptor (sym t.took.rest ∙ u.took.rest)
+pub descriptor_same : (st : State) (d e : Descriptor) (m m' : State) → TookDescriptor st d m → TookDescriptor st e m' → (d ≡ e) × (m ≡ m')
+descriptor_same st d e m m' t u =
+    let s = one_descriptor st.top.shared d e t.own u.own (drop (length t.own) st.rest) (drop (length u.own) st.rest) t.descriptor u.descriptor (sym t.took.rest ∙ u.took.rest) in
+    (s.1, t.took.moved ∙ ap (λ l. on (length l) st) s.0 ∙ sym u.took.moved)
 
 descriptor_kind : (d : Descriptor) (c : ℕ) (b : List ℕ) → PrimitiveData (format c) (descriptor_value d) b → IsDescriptorKind (kind_at c)
 descriptor_kind (name s) c b h = inr (kind_data c (symbol s) b h)
@@ -255,7 +257,7 @@ fault_not_one members st e i new (no_descriptor {m} g none f) o =
     fault_not_took m e o.descriptor o.opens.named none f (subst (λ z. TookDescriptor z o.descriptor o.opens.named) same o.opens.descriptor)
 fault_not_one members st e i new (no_member {m} {m'} g t _) o =
     let same = (begun_same st 0 0 o.opens.coded m o.opens.begun g).1 in
-    let d = descriptor_same m o.descriptor t.descriptor o.opens.named m' (subst (λ z. TookDescriptor z o.descriptor o.opens.named) same o.opens.descriptor) t.took in
+    let (d, _) = descriptor_same m o.descriptor t.descriptor o.opens.named m' (subst (λ z. TookDescriptor z o.descriptor o.opens.named) same o.opens.descriptor) t.took in
     let e : Some i ≡ None = sym o.place ∙ ap (place_of members) d ∙ t.is in
     cc
 
@@ -286,7 +288,7 @@ one_deep members st m place named e new g t is deep kept =
 pub one_entered : (members : List Member) (st : State) (m : State) (named : State) (i : ℕ) (new : State) → Begun st 0 m → TookPlace members m (Some i) named → (length named.saved < named.nesting) × (new ≡ entered named) → OpensOneOf members st i new
 one_entered members st m named i new g t (n, is) = opens_one members st m named i new g t n is
 
-fault_not_open : (st : State) (e : Error) (d : Descriptor) (new : State) → OpenFault st e → OpensDescribed st d new → ⊥
+pub fault_not_open : (st : State) (e : Error) (d : Descriptor) (new : State) → OpenFault st e → OpensDescribed st d new → ⊥
 fault_not_open st e d new (not_open f) o = described_not st e o.coded f o.begun o.nested
 fault_not_open st e d new (nameless {m} g none f) o =
     let same = (begun_same st 0 0 o.coded m o.begun g).1 in

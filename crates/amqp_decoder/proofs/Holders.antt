@@ -7,13 +7,14 @@ use Rattle.amqp_model.specs.Items.{items_of}
 use Rattle.amqp_model.specs.Constructors.{Format, fixed, variable, compound, unknown, format}
 use Rattle.amqp_model.specs.Spelling.{IsSize, ContainerData, IsKnown, Constructor, data_of, enc, items_of as items_spelled}
 use Rattle.amqp_model.specs.Measures.{nest, nests}
+use Rattle.amqp_model.specs.Standing.{Standing, StandWhole, StandAsData, StandIn, Parts}
 use Rattle.amqp_decoder.specs.declared.frame.Place.{Place}
 use Rattle.amqp_decoder.specs.State.{Open, State, Has, lower, on, past, inside, items_of as items_at}
 use Rattle.amqp_decoder.specs.Steps.{Took}
 use Rattle.amqp_decoder.specs.Reading.{IsFirst}
 use Rattle.amqp_decoder.specs.Primitives.{standing, SpellsAs}
 use Rattle.amqp_decoder.specs.Containers.{place_of, is_list, IsCount, Counts, Header}
-use Rattle.amqp_decoder.specs.Items.{Row, Next, Contains}
+use Rattle.amqp_decoder.specs.Items.{Row, Next, row_standings, NextWithParts, Contains}
 use Rattle.amqp_input.proofs.Looks.{front_is}
 use Rattle.amqp_decoder.proofs.Steps.{has_none, lower_none}
 use Rattle.amqp_decoder.proofs.Leaves.{has_add, has_front, has_rest, lower-lower, minus-minus, after_code, on-past}
@@ -98,6 +99,21 @@ row_of o (more t us) st b x going shared items room rest (s, r, e, h, hs) nested
       subst (Row (past (length s) st) (items_of us) r) (many-past (count us) (length s) (length r) st ∙ ap (λ k. many (suc (count us)) k st) (sym n)) i,
     )
 
+-- some terms stand one after another, and how each does
+abbrev pub StandUnder : Option (List Descriptor × ℕ) → Terms → List Standing → List ℕ → Type 0
+StandUnder None us ss b = StandWhole us ss b
+StandUnder (Some (ds, c)) us ss b = StandAsData us ss ds c b
+
+pub row_stands : (o : Option (List Descriptor × ℕ)) (us : Terms) (st : State) (b : List ℕ) (st' : State) → st.top.shared ≡ o → (row : Row st (items_of us) b st') → StandUnder o us (row_standings st (items_of us) b st' row) b
+row_stands None none st b st' e row = (row.0, refl)
+row_stands (Some (ds, c)) none st b st' e row = (row.0, refl)
+row_stands None (more t us) st b st' e (s, r, f, k, row) =
+    let others = row_standings (past (length s) st) (items_of us) r st' row in
+    (s, r, others, f, subst (λ x. SpellsAs (standing x s) t) e k.spelled, row_stands None us (past (length s) st) r st' e row, ap (λ x. standing x s ∷ others) e)
+row_stands (Some (ds, c)) (more t us) st b st' e (s, r, f, k, row) =
+    let others = row_standings (past (length s) st) (items_of us) r st' row in
+    (s, r, others, f, subst (λ x. SpellsAs (standing x s) t) e k.spelled, row_stands (Some (ds, c)) us (past (length s) st) r st' e row, ap (λ x. standing x s ∷ others) e)
+
 -- the items of a list or a map
 all_items : (us : Terms) (b : List ℕ) → AllSpelled None us b → items_spelled us b
 unfolding enc
@@ -135,7 +151,7 @@ nest_holder list us is = refl
 nest_holder map us is = refl
 nest_holder array us is = absurd is
 
-place_items : (kind : Container) (n : ℕ) → items_at (place_of kind) n ≡ Some n
+pub place_items : (kind : Container) (n : ℕ) → items_at (place_of kind) n ≡ Some n
 place_items list n = refl
 place_items map n = refl
 place_items array n = refl
@@ -177,6 +193,16 @@ unfolding enc
 first_spelled None c own b t first known d = ([], c, omega arith, (c ∷ [], b, ap (λ l. l ++ b) first, (refl, known), d))
 first_spelled (Some ([], k)) c own b t (e, f) known d = subst (λ x. data_of t [] k (x ++ b)) (sym e) (subst (λ x. data_of t [] x b) f d)
 first_spelled (Some (e ∷ ds, k)) c own b t (f, g) known d = absurd (subst (λ x. IsKnown (format x)) g known)
+
+pub first_parts : (o : Option (List Descriptor × ℕ)) (c : ℕ) (own b : List ℕ) (kind : Container) (us : Terms) (ss : List Standing) → IsFirst o c own → IsKnown (format c) → StandIn (holder kind us) ss [] c b → Parts (standing o (own ++ b)) (holder kind us) ss
+first_parts None c own b kind us ss first known d = ([], c, omega arith, (c ∷ [], b, ap (λ l. l ++ b) first, (refl, known), d))
+first_parts (Some ([], k)) c own b kind us ss (e, f) known d = subst (λ x. StandIn (holder kind us) ss [] k (x ++ b)) (sym e) (subst (λ x. StandIn (holder kind us) ss [] x b) f d)
+first_parts (Some (e ∷ ds, k)) c own b kind us ss (f, g) known d = absurd (subst (λ x. IsKnown (format x)) g known)
+
+parts_in : (kind : Container) (us : Terms) (ss : List Standing) (c : ℕ) (b : List ℕ) → IsRow kind → ContainerData (format c) kind (count us) (StandWhole us ss) b → StandIn (holder kind us) ss [] c b
+parts_in list us ss c b is d = d
+parts_in map us ss c b is d = d
+parts_in array us ss c b is d = absurd is
 
 -- the first bytes of its own, and the data
 pub record Front (o : Option (List Descriptor × ℕ)) (t : Term) (s : List ℕ) : Type 0 where
@@ -224,8 +250,9 @@ left_is p n k b content last at new outer others is saved moved same =
 pub three : (own h b : List ℕ) → length (own ++ (h ++ b)) ≡ length own + length h + length b
 three own h b = length-append own (h ++ b) ∙ ap (λ n. length own + n) (length-append h b) ∙ (omega arith)
 
-pub whole : (kind : Container) → IsRow kind → (st : State) (us : Terms) (new : State) → Contains kind st (items_of us) new → Next st (holder kind us) new
-whole kind is st us new c =
+-- the items of a container stand in it as they were taken
+pub whole_with_parts : (kind : Container) → IsRow kind → (st : State) (us : Terms) (new : State) (c : Contains kind st (items_of us) new) → NextWithParts st (holder kind us) (row_standings c.mid (items_of us) c.bytes c.last c.items) new
+whole_with_parts kind is st us new c =
     let o = c.opened in
     let d = o.data_ in
     let g = o.begun in
@@ -248,35 +275,46 @@ whole kind is st us new c =
       moved = refl;
     } in
     let all = took_both st _ _ own (head ++ b) first (took_both _ _ _ head b second third) in
-    let split : Split kind (format o.code) (count us) (items_spelled us) (head ++ b) = record {
+    let data_of_content : (C : List ℕ → Type 0) → C b → ContainerData (format o.code) kind (count us) C (head ++ b) = λ C inner. split_container (format o.code) kind (count us) C (head ++ b) (record {
       width = o.width;
       size = h.size;
       content = b;
       announced = o.announced;
       sized = size_is kind o.width (count us) b d.content h.size is k_is h.counts;
-      inner = all_items us b (row_spelled None us c.mid b c.last (ap (λ (z : State). z.top.shared) d.entered) c.items);
+      inner = inner;
       fits = h.fits;
       few = h.few;
       whole = append_assoc (bytes_high_first o.width h.size) (bytes_high_first o.width (count us)) b;
-    } in
-    let data_is = holder_data kind us o.code (head ++ b) is (subst (IsCount kind) n_is d.count) (split_container (format o.code) kind (count us) (items_spelled us) (head ++ b) split) in
+    }) in
+    let unshared : c.mid.top.shared ≡ None = ap (λ (z : State). z.top.shared) d.entered in
+    let ss = row_standings c.mid (items_of us) b c.last c.items in
+    let items_in = data_of_content (items_spelled us) (all_items us b (row_spelled None us c.mid b c.last unshared c.items)) in
+    let data_is = holder_data kind us o.code (head ++ b) is (subst (IsCount kind) n_is d.count) items_in in
+    let parts_are = parts_in kind us ss o.code (head ++ b) is (data_of_content (StandWhole us ss) (row_stands None us c.mid b c.last unshared c.items)) in
+    let code_is = known (format o.code) kind o.width o.announced in
     let levels : length c.mid.saved ≡ suc (length st.saved) = ap (λ (z : State). length z.saved) mid_is in
     let limit : c.mid.nesting ≡ st.nesting = ap (λ (z : State). z.nesting) mid_is in
     let few : suc (length st.saved) ≤ st.nesting = subst (λ (z : State). suc (length z.saved) ≤ z.nesting) g.moved d.few in
     record {
-      bytes = own ++ (head ++ b);
-      stands = record {
-        going = g.going;
-        item = g.item;
-        room = all.room;
-        after = drop (length (own ++ (head ++ b))) st.rest;
-        rest = all.rest;
-        spelled = first_spelled st.top.shared o.code own (head ++ b) (holder kind us) g.first (known (format o.code) kind o.width o.announced) data_is;
-        nested = omega (arith, t.nested, levels, limit, few, nest_holder kind us is);
+      next = record {
+        bytes = own ++ (head ++ b);
+        stands = record {
+          going = g.going;
+          item = g.item;
+          room = all.room;
+          after = drop (length (own ++ (head ++ b))) st.rest;
+          rest = all.rest;
+          spelled = first_spelled st.top.shared o.code own (head ++ b) (holder kind us) g.first code_is data_is;
+          nested = omega (arith, t.nested, levels, limit, few, nest_holder kind us is);
+        };
+        moved = left_is (place_of kind) c.count (count us) (length b) d.content c.last at new c.closed.outer c.closed.others (t.moved ∙ ap (many (count us) (length b)) mid_is) c.closed.saved c.closed.moved k_is
+            ∙ closed_at st (past (length own) st) at (length own) (length head) (length b) refl refl ∙ ap (λ k. past k st) (sym (three own head b));
       };
-      moved = left_is (place_of kind) c.count (count us) (length b) d.content c.last at new c.closed.outer c.closed.others (t.moved ∙ ap (many (count us) (length b)) mid_is) c.closed.saved c.closed.moved k_is
-          ∙ closed_at st (past (length own) st) at (length own) (length head) (length b) refl refl ∙ ap (λ k. past k st) (sym (three own head b));
+      parts = first_parts st.top.shared o.code own (head ++ b) kind us ss g.first code_is parts_are;
     }
+
+pub whole : (kind : Container) → IsRow kind → (st : State) (us : Terms) (new : State) → Contains kind st (items_of us) new → Next st (holder kind us) new
+whole kind is st us new c = let h = whole_with_parts kind is st us new c in h.next
 
 pub took_parts : (st m : State) (a b : List ℕ) → Took st (a ++ b) m → Took st a (on (length a) st) × Took (on (length a) st) b (on (length b) (on (length a) st))
 took_parts st m a b t =

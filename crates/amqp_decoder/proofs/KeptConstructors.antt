@@ -1,5 +1,5 @@
 -- Constructors that are taken and kept.
-use Rattle.std.proofs.Common.{◌≡◌, ◌≤◌, ℕ, ◌+◌, ◌⊎◌, inl, inr, arith, true, Some, None, List, [], ◌∷◌, ◌++◌, length, refl, sym, ap, ◌∙◌, subst, append_assoc, length-append}
+use Rattle.std.proofs.Common.{◌≡◌, ◌≤◌, ℕ, ◌+◌, ◌⊎◌, inl, inr, arith, true, Some, List, [], ◌∷◌, ◌++◌, length, refl, sym, ap, ◌∙◌, subst, append_assoc, length-append}
 use Rattle.std.specs.Int.{bytes_high_first, w8, w64, from_be_bytes}
 use Rattle.amqp_model.specs.Term.{Descriptor, name, code, symbol}
 use Rattle.amqp_model.specs.Constructors.{variable, format}

@@ -89,7 +89,7 @@ whole_of : (st m m' : State) (ds : List Descriptor) (c : ℕ) (d : List ℕ) (t 
 whole_of st m m' ds c d t u h = record { descriptors = ds; few = t.few; constructor = t.spelled; announced = h; is = refl }
 
 -- where a fault stands, no term does
-misspelled_not : (st : State) (e : Error) (s after : List ℕ) (t : Term) → SpellingFault st e → Has st.top.left (length s) → st.rest ≡ s ++ after → enc s t → nest t ≤ st.nesting - length st.saved → ⊥
+pub misspelled_not : (st : State) (e : Error) (s after : List ℕ) (t : Term) → SpellingFault st e → Has st.top.left (length s) → st.rest ≡ s ++ after → enc s t → nest t ≤ st.nesting - length st.saved → ⊥
 misspelled_not st e s after t f room is spelled nested = not f
   where
     w : Spelling s
@@ -116,8 +116,8 @@ misspelled_not st e s after t f room is spelled nested = not f
 
 fault_not_takes : (st : State) (e : Error) (s : List ℕ) (st' : State) → TermFault st e → TakesTerm st s st' → ⊥
 fault_not_takes st e s st' (missing none is) h = let x : 1 ≤ 0 = subst (λ o. Has o 1) none h.stands.item in omega arith
-fault_not_takes st e s st' (in_array shared is) h = shared h.unshared
-fault_not_takes st e s st' (misspelled none f) h =
+fault_not_takes st e s st' (in_array item shared is) h = shared h.unshared
+fault_not_takes st e s st' (misspelled item none f) h =
     let k = h.stands in misspelled_not st e s k.after h.term f k.room k.rest (subst (λ o. SpellsAs (standing o s) h.term) none k.spelled) k.nested
 
 -- the parts of a term that were kept
@@ -185,5 +185,5 @@ term_refused items st e new going kept why = record {
   none = elim why [ inl x ↦ inl x | inr x ↦ inr (λ v b h. fault_not_takes st e (items v) b x h) ];
 }
 
-pub term_misspelled : {A : Type 0} (items : A → List ℕ) (st : State) (e : Error) (new : State) → st.error ≡ None → st.top.shared ≡ None → Stopped true (SpellingFault st) st e new → Refused true (Any items) TermFault st e new
-term_misspelled items st e new going none s = term_refused items st e new going s.kept (elim s.why [ inl x ↦ inl x | inr x ↦ inr (misspelled none x) ])
+pub term_misspelled : {A : Type 0} (items : A → List ℕ) (st : State) (e : Error) (new : State) → st.error ≡ None → Has st.top.items 1 → st.top.shared ≡ None → Stopped true (SpellingFault st) st e new → Refused true (Any items) TermFault st e new
+term_misspelled items st e new going item none s = term_refused items st e new going s.kept (elim s.why [ inl x ↦ inl x | inr x ↦ inr (misspelled item none x) ])

@@ -73,7 +73,7 @@ leaf_value make st v st' l =
     }
 
 -- the first bytes of its own, and the data
-record Split (o : Option (List Descriptor × ℕ)) (p : Primitive) (s : List ℕ) : Type 0 where
+pub record Split (o : Option (List Descriptor × ℕ)) (p : Primitive) (s : List ℕ) : Type 0 where
   pub code : ℕ
   pub own : List ℕ
   pub data_ : List ℕ
@@ -85,7 +85,7 @@ split_own : (p : Primitive) (ds : List Descriptor) (c : ℕ) (first second s : L
 split_own p [] c first second s e k d = record { code = c; own = first; data_ = second; whole = e; first = k.0; spelled = d }
 split_own p (f ∷ ds) c first second s e k d = absurd d
 
-split_leaf : (o : Option (List Descriptor × ℕ)) (p : Primitive) (s : List ℕ) → SpellsAs (standing o s) (leaf p) → Split o p s
+pub split_leaf : (o : Option (List Descriptor × ℕ)) (p : Primitive) (s : List ℕ) → SpellsAs (standing o s) (leaf p) → Split o p s
 unfolding enc
 split_leaf None p s (ds, c, few, (first, second, e, k, d)) = split_own p ds c first second s e k d
 split_leaf (Some ([], k)) p s d = record { code = k; own = []; data_ = s; whole = refl; first = (refl, refl); spelled = d }
@@ -136,7 +136,7 @@ begun_same st c c' m m' h k =
 
 pub fault_not_begun : (st : State) (e : Error) (c : ℕ) (m : State) → BeginFault st e → Begun st c m → ⊥
 fault_not_begun st e c m (missing h is) k = not_begun_done st c m h k
-fault_not_begun st e c m (no_code none l) k = not_begun_lacking st e c m none l k
+fault_not_begun st e c m (no_code item none l) k = not_begun_lacking st e c m none l k
 
 -- data that stands there isn't lacking
 sized_not_lacking : (w : ℕ) (m m' m1 : State) (e : Error) (b s : List ℕ) (n : ℕ) → n < 256 ^ w → length s < 256 ^ w → b ≡ bytes_high_first w (length s) ++ s → Took m b m' → Took m (bytes_high_first w n) m1 → Lacks n m1 e → ⊥

@@ -2,6 +2,7 @@ pub mod Holders
 pub mod Leaves
 pub mod OneReading
 pub mod Opening
+pub mod Closing
 pub mod Peeks
 pub mod Rows
 pub mod SizedTexts
@@ -12,8 +13,13 @@ pub mod Descriptions
 pub mod Constructed
 pub mod OpenedArrays
 pub mod ArrayTerms
+pub mod Rooms
 pub mod KeptBytes
 pub mod NotMemory
 pub mod KeptConstructors
 pub mod KeptData
 pub mod KeptTerms
+pub mod TermErrors
+pub mod Misspelled
+pub mod NothingInside
+pub mod ItemsLeft

@@ -6,6 +6,7 @@ use Rattle.amqp_model.specs.Spelling.{IsKnown, HasWidthZero}
 use Rattle.amqp_wire.specs.declared.error.Error.{Error}
 use Rattle.amqp_wire.specs.declared.error.Error.TheVariants.{Depth, Memory, ZeroWidthItems}
 use Rattle.amqp_wire.specs.Codes.{refusal_of}
+use Rattle.amqp_decoder.specs.declared.frame.Place.{Place}
 use Rattle.amqp_decoder.specs.declared.frame.Place.TheVariants.{InArray}
 use Rattle.amqp_decoder.specs.State.{State, Has, inside}
 use Rattle.amqp_decoder.specs.Steps.{Answered, Excused, NoRoom, Stopped}
@@ -20,51 +21,46 @@ use Rattle.amqp_decoder.proofs.Constructed.{code_known, constructor_not, one_con
 known : (st : State) (ds : List Descriptor) (c : ℕ) (m : State) → TookConstructor st ds c m → IsKnown (format c)
 known st ds c m t = code_known ds c t.own t.spelled
 
-items_left : (st : State) (ds : List Descriptor) (c : ℕ) (m : State) → TookConstructor st ds c m → (m.top.items ≡ Some 0 → ⊥) → st.top.items ≡ Some 0 → ⊥
-items_left st ds c m t some none = some (ap (λ (z : State). z.top.items) t.took.moved ∙ none)
-
-pub shares_none : (st : State) (ds : List Descriptor) (c : ℕ) (m : State) → m.top.items ≡ Some 0 → TookConstructor st ds c m → Shares st m
-shares_none st ds c m none t = no_items ds c (sym (ap (λ (z : State). z.top.items) t.took.moved) ∙ none) t
-
 fits_behind : (st : State) (ds : List Descriptor) (c : ℕ) (m : State) (flat : Bool) → TookConstructor st ds c m → (IsKnown (format c) → IsTrue flat ↔ IsFlat ds (format c)) → (flat ≡ true) ⊎ (length m.saved ≤ m.nesting) → IsFlat ds (format c) ⊎ (length st.saved ≤ st.nesting)
 fits_behind st ds c m flat t is (inl x) = inl ((is (known st ds c m t)).0 x)
 fits_behind st ds c m flat t is (inr x) = inr (subst (λ (z : State). length z.saved ≤ z.nesting) t.took.moved x)
 
-pub shares_all : (st : State) (ds : List Descriptor) (c : ℕ) (m m' : State) (new : State) (zero flat : Bool) → (m.top.items ≡ Some 0 → ⊥) → TookConstructor st ds c m → zero ≡ false → (IsKnown (format c) → IsTrue zero ↔ HasWidthZero (format c)) → (IsKnown (format c) → IsTrue flat ↔ IsFlat ds (format c))
-    → ((flat ≡ true) ⊎ (length m.saved ≤ m.nesting)) × (m' ≡ m) → new ≡ record m' { top = record m'.top { shared = Some (ds, c) } } → Shares st new
-shares_all st ds c m m' new zero flat some t wide zero_is flat_is (fits, same) is =
-    shared_by ds c m (items_left st ds c m t some) t (λ z. let x = (zero_is (known st ds c m t)).1 z in absurd (cc)) (fits_behind st ds c m flat t flat_is fits)
-    (is ∙ ap (λ (z : State). record z { top = record z.top { shared = Some (ds, c) } }) same)
+pub shares_all : (n : ℕ) (st : State) (ds : List Descriptor) (c : ℕ) (m m' : State) (new : State) (zero flat : Bool) → (n ≡ 0 → ⊥) → st.top.place ≡ InArray → TookConstructor st ds c m → zero ≡ false → (IsKnown (format c) → IsTrue zero ↔ HasWidthZero (format c)) → (IsKnown (format c) → IsTrue flat ↔ IsFlat ds (format c))
+    → ((flat ≡ true) ⊎ (length m.saved ≤ m.nesting)) × (m' ≡ m) → new ≡ record m' { top = record m'.top { place = InArray; items = Some n; shared = Some (ds, c) } } → Shares n st new
+shares_all n st ds c m m' new zero flat some here t wide zero_is flat_is (fits, same) is =
+    shared_by ds c m some t (λ z. let x = (zero_is (known st ds c m t)).1 z in absurd (cc)) (fits_behind st ds c m flat t flat_is fits)
+    (is ∙ ap (λ (z : State). record z { top = record z.top { place = InArray; items = Some n; shared = Some (ds, c) } }) same
+    ∙ ap (λ (p : Place). record m { top = record m.top { place = p; items = Some n; shared = Some (ds, c) } }) (sym (ap (λ (z : State). z.top.place) t.took.moved ∙ here)))
 
-pub stopped_unconstructed : (st : State) (e : Error) (new : State) → Stopped true (ConstructorFault st) st e new → Stopped true (SharesFault st) st e new
-stopped_unconstructed st e new s = record { kept = s.kept; why = elim s.why [ inl x ↦ inl x | inr x ↦ inr (no_constructor x) ] }
+pub stopped_unconstructed : (n : ℕ) (st : State) (e : Error) (new : State) → Stopped true (ConstructorFault st) st e new → Stopped true (SharesFault n st) st e new
+stopped_unconstructed n st e new s = record { kept = s.kept; why = elim s.why [ inl x ↦ inl x | inr x ↦ inr (no_constructor x) ] }
 
-pub stopped_zero : (st : State) (ds : List Descriptor) (c : ℕ) (m : State) (zero : Bool) (e : Error) (new : State) → (m.top.items ≡ Some 0 → ⊥) → TookConstructor st ds c m → zero ≡ true → (IsKnown (format c) → IsTrue zero ↔ HasWidthZero (format c)) → e ≡ ZeroWidthItems → Answered m e new → Stopped true (SharesFault st) st e new
-stopped_zero st ds c m zero e new some t wide zero_is is kept = record { kept = answered_took t.took kept; why = inr (zero_width ds c m (items_left st ds c m t some) t ((zero_is (known st ds c m t)).0 wide) is) }
+pub stopped_zero : (n : ℕ) (st : State) (ds : List Descriptor) (c : ℕ) (m : State) (zero : Bool) (e : Error) (new : State) → (n ≡ 0 → ⊥) → TookConstructor st ds c m → zero ≡ true → (IsKnown (format c) → IsTrue zero ↔ HasWidthZero (format c)) → e ≡ ZeroWidthItems → Answered m e new → Stopped true (SharesFault n st) st e new
+stopped_zero n st ds c m zero e new some t wide zero_is is kept = record { kept = answered_took t.took kept; why = inr (zero_width ds c m some t ((zero_is (known st ds c m t)).0 wide) is) }
 
-pub stopped_nested : (st : State) (ds : List Descriptor) (c : ℕ) (m : State) (flat : Bool) (e : Error) (new : State) → (m.top.items ≡ Some 0 → ⊥) → TookConstructor st ds c m → (IsKnown (format c) → IsTrue flat ↔ IsFlat ds (format c))
-    → (flat ≡ false) × (e ≡ Depth) × (m.nesting < length m.saved) × (new ≡ record m { error = Some Depth }) → Stopped true (SharesFault st) st e new
-stopped_nested st ds c m flat e new some t flat_is (not_flat, is, deep, kept) = record {
+pub stopped_nested : (n : ℕ) (st : State) (ds : List Descriptor) (c : ℕ) (m : State) (flat : Bool) (e : Error) (new : State) → (n ≡ 0 → ⊥) → TookConstructor st ds c m → (IsKnown (format c) → IsTrue flat ↔ IsFlat ds (format c))
+    → (flat ≡ false) × (e ≡ Depth) × (m.nesting < length m.saved) × (new ≡ record m { error = Some Depth }) → Stopped true (SharesFault n st) st e new
+stopped_nested n st ds c m flat e new some t flat_is (not_flat, is, deep, kept) = record {
   kept = answered_took t.took (answered m new e Depth kept is);
-  why = inr (too_nested ds c m (items_left st ds c m t some) t (λ f. let x = (flat_is (known st ds c m t)).1 f in absurd (cc)) (subst (λ (z : State). z.nesting < length z.saved) t.took.moved deep) is);
+  why = inr (too_nested ds c m some t (λ f. let x = (flat_is (known st ds c m t)).1 f in absurd (cc)) (subst (λ (z : State). z.nesting < length z.saved) t.took.moved deep) is);
 }
 
-pub stopped_memory : (st : State) (ds : List Descriptor) (c : ℕ) (m : State) (e : Error) (new : State) → TookConstructor st ds c m → (e ≡ Memory) × Answered m e new → Stopped true (SharesFault st) st e new
-stopped_memory st ds c m e new t (is, kept) = record { kept = answered_took t.took kept; why = inl (inl (refl, is)) }
+pub stopped_memory : (n : ℕ) (st : State) (ds : List Descriptor) (c : ℕ) (m : State) (e : Error) (new : State) → TookConstructor st ds c m → (e ≡ Memory) × Answered m e new → Stopped true (SharesFault n st) st e new
+stopped_memory n st ds c m e new t (is, kept) = record { kept = answered_took t.took kept; why = inl (inl (refl, is)) }
 
-shares_not : (st : State) (e : Error) (st' : State) → SharesFault st e → Shares st st' → ⊥
-shares_not st e st' (no_constructor f) (no_items ds c none t) = constructor_not st e ds c st' f t
-shares_not st e st' (no_constructor f) (shared_by ds c m some t wide fits is) = constructor_not st e ds c m f t
-shares_not st e st' (zero_width ds c m some t z is) (no_items es k none u) = some none
-shares_not st e st' (zero_width ds c m some t z is) (shared_by es k m' more u wide fits same) = wide (subst (λ n. HasWidthZero (format n)) (one_constructor st ds es c k m m' t u).1 z)
-shares_not st e st' (too_nested ds c m some t uneven deep is) (no_items es k none u) = some none
-shares_not st e st' (too_nested ds c m some t uneven deep is) (shared_by es k m' more u wide (inl flat) same) =
-    let s = one_constructor st ds es c k m m' t u in uneven (subst (λ n. IsFlat ds (format n)) (sym s.1) (subst (λ l. IsFlat l (format k)) (sym s.0) flat))
-shares_not st e st' (too_nested ds c m some t uneven deep is) (shared_by es k m' more u wide (inr few) same) = omega arith
+shares_not : (n : ℕ) (st : State) (e : Error) (st' : State) → SharesFault n st e → Shares n st st' → ⊥
+shares_not n st e st' (no_constructor f) (no_items ds c none t) = constructor_not st e ds c st' f t
+shares_not n st e st' (no_constructor f) (shared_by ds c m some t wide fits is) = constructor_not st e ds c m f t
+shares_not n st e st' (zero_width ds c m some t z is) (no_items es k none u) = some none
+shares_not n st e st' (zero_width ds c m some t z is) (shared_by es k m' more u wide fits same) = wide (subst (λ j. HasWidthZero (format j)) (one_constructor st ds es c k m m' t u).1 z)
+shares_not n st e st' (too_nested ds c m some t uneven deep is) (no_items es k none u) = some none
+shares_not n st e st' (too_nested ds c m some t uneven deep is) (shared_by es k m' more u wide (inl flat) same) =
+    let s = one_constructor st ds es c k m m' t u in uneven (subst (λ j. IsFlat ds (format j)) (sym s.1) (subst (λ l. IsFlat l (format k)) (sym s.0) flat))
+shares_not n st e st' (too_nested ds c m some t uneven deep is) (shared_by es k m' more u wide (inr few) same) = omega arith
 
-starts_not : (n k : ℕ) (st : State) (e : Error) (st' : State) → 0 < max n k → SharesFault st e → Starts n k st st' → ⊥
+starts_not : (n k : ℕ) (st : State) (e : Error) (st' : State) → 0 < max n k → SharesFault n st e → Starts n k st st' → ⊥
 starts_not n k st e st' some f (inl x) = omega (arith, x.0)
-starts_not n k st e st' some f (inr x) = shares_not st e st' f x.1
+starts_not n k st e st' some f (inr x) = shares_not n st e st' f x.1
 
 enters_not : (w : ℕ) (st : State) (n : ℕ) (st' : State) (e : Error) → EnterArrayFault w st e → EntersArray w st n st' → ⊥
 enters_not w st n st' e (no_header f) d = header_not_faulty false w st n d.content d.mid e f d.header
@@ -74,10 +70,10 @@ enters_not w st n st' e (no_room i k m h full) d =
 enters_not w st n st' e (too_deep i k m h deep is) d = let few = d.few in omega (arith, deep, few)
 enters_not w st n st' e (no_start i k m h some f) d =
     let s = header_same false w st n d.content i k d.mid m d.header h in
-    starts_not i k (inside InArray i k m) e st' some f
-    (subst (λ z. Starts i k (inside InArray i k z) st') s.2 (subst (λ z. Starts i z (inside InArray i z d.mid) st') s.1 (subst (λ z. Starts z d.content (inside InArray z d.content d.mid) st') s.0 d.starts)))
+    starts_not i k (inside InArray 0 k m) e st' some f
+    (subst (λ z. Starts i k (inside InArray 0 k z) st') s.2 (subst (λ z. Starts i z (inside InArray 0 z d.mid) st') s.1 (subst (λ z. Starts z d.content (inside InArray 0 d.content d.mid) st') s.0 d.starts)))
 
-arrays_not : (st : State) (n : ℕ) (st' : State) (e : Error) → ArrayFault st e → OpensArray st n st' → ⊥
+pub arrays_not : (st : State) (n : ℕ) (st' : State) (e : Error) → ArrayFault st e → OpensArray st n st' → ⊥
 arrays_not st n st' e (not_begun f) o = fault_not_begun st e o.code o.mid f o.begun
 arrays_not st n st' e (wrong_code c m g never is) o = let s = begun_same st c o.code m o.mid g o.begun in never o.width (ap format s.0 ∙ o.announced)
 arrays_not st n st' e (no_data c w m g f fault) o =
@@ -121,14 +117,14 @@ stopped_open w n k st m e new h s = record {
   ];
 }
 
-pub stopped_start : (w n k : ℕ) (st m m' : State) (e : Error) (new : State) → Header false w st n k m → 0 < max n k → m' ≡ inside InArray n k m → Stopped true (SharesFault m') m' e new → Stopped true (EnterArrayFault w st) st e new
-stopped_start w n k st m m' e new h some is s = record { kept = answered_took h.took (answered_later (ap (λ (z : State). z.failed) is) s.kept); why = elim s.why [ inl x ↦ inl x | inr x ↦ inr (no_start n k m h some (subst (λ z. SharesFault z e) is x)) ] }
+pub stopped_start : (w n k : ℕ) (st m m' : State) (e : Error) (new : State) → Header false w st n k m → 0 < max n k → m' ≡ inside InArray 0 k m → Stopped true (SharesFault n m') m' e new → Stopped true (EnterArrayFault w st) st e new
+stopped_start w n k st m m' e new h some is s = record { kept = answered_took h.took (answered_later (ap (λ (z : State). z.failed) is) s.kept); why = elim s.why [ inl x ↦ inl x | inr x ↦ inr (no_start n k m h some (subst (λ z. SharesFault n z e) is x)) ] }
 
 entered_few : (w n k : ℕ) (st m : State) → Header false w st n k m → length m.saved ≤ m.nesting → length st.saved ≤ st.nesting
 entered_few w n k st m h few = subst (λ (z : State). length z.saved ≤ z.nesting) h.took.moved few
 
-pub enters_none : (w n k : ℕ) (st m m' : State) → Header false w st n k m → Has m.top.left k × (length m.saved ≤ m.nesting) × (m' ≡ inside InArray n k m) → max n k ≡ 0 → EntersArray w st n m'
+pub enters_none : (w n k : ℕ) (st m m' : State) → Header false w st n k m → Has m.top.left k × (length m.saved ≤ m.nesting) × (m' ≡ inside InArray 0 k m) → max n k ≡ 0 → EntersArray w st n m'
 enters_none w n k st m m' h (room, few, is) none = record { content = k; mid = m; header = h; room = room; few = entered_few w n k st m h few; starts = inl (none, is) }
 
-pub enters_all : (w n k : ℕ) (st m m' : State) (new : State) → Header false w st n k m → Has m.top.left k × (length m.saved ≤ m.nesting) × (m' ≡ inside InArray n k m) → 0 < max n k → Shares m' new → EntersArray w st n new
-enters_all w n k st m m' new h (room, few, is) some s = record { content = k; mid = m; header = h; room = room; few = entered_few w n k st m h few; starts = inr (some, subst (λ z. Shares z new) is s) }
+pub enters_all : (w n k : ℕ) (st m m' : State) (new : State) → Header false w st n k m → Has m.top.left k × (length m.saved ≤ m.nesting) × (m' ≡ inside InArray 0 k m) → 0 < max n k → Shares n m' new → EntersArray w st n new
+enters_all w n k st m m' new h (room, few, is) some s = record { content = k; mid = m; header = h; room = room; few = entered_few w n k st m h few; starts = inr (some, subst (λ z. Shares n z new) is s) }

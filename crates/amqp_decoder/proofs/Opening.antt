@@ -109,7 +109,7 @@ pub one_width : (F : Format) (k : Container) (w w' : ℕ) → F ≡ compound k w
 unfolding width_of
 one_width F k w w' e f = ap width_of (sym e ∙ f)
 
-opens_not_faulty : (kind : Container) (st : State) (n : ℕ) (st' : State) (e : Error) → OpenFault kind st e → Opens kind st n st' → ⊥
+pub opens_not_faulty : (kind : Container) (st : State) (n : ℕ) (st' : State) (e : Error) → OpenFault kind st e → Opens kind st n st' → ⊥
 opens_not_faulty kind st n st' e (not_begun f) o = fault_not_begun st e o.code o.mid f o.begun
 opens_not_faulty kind st n st' e (wrong_code {c} {m} g never is) o =
     let s = begun_same st c o.code m o.mid g o.begun in never o.width (ap format s.0 ∙ o.announced)

@@ -1,5 +1,5 @@
 -- What a look at the next value's first code finds.
-use Rattle.std.proofs.Common.{◌≡◌, ◌≤◌, ◌<◌, ℕ, zero, suc, ◌-◌, inl, inr, Bool, false, IsTrue, Option, Some, None, is_some, MatchOption, List, [], ◌∷◌, length, take, drop, get_or, slice_get, length-append, ◌↔◌, min, max, refl, sym, ap, ◌∙◌, subst, arith}
+use Rattle.std.proofs.Common.{◌≡◌, ◌≤◌, ◌<◌, ℕ, zero, suc, ◌-◌, inl, inr, false, Option, Some, None, is_some, MatchOption, List, [], ◌∷◌, length, take, drop, get_or, slice_get, length-append, ◌↔◌, min, max, refl, sym, ap, ◌∙◌, subst, arith}
 use Rattle.std.proofs.lemmas.List.{length-take}
 use Rattle.std.proofs.lemmas.Option.{get_or_from_slice_get}
 use Rattle.amqp_model.specs.Term.{Descriptor, Term}
@@ -44,8 +44,8 @@ peek_refused st e new r = record {
 }
 
 -- the container has no byte left
-pub peek_size : (st : State) (e : Error) (new : State) → st.error ≡ None → st.top.shared ≡ None → st.top.left ≡ Some 0 → SizeRefused 1 st e new → Refused false Peeked BeginFault st e new
-peek_size st e new going none left r = peek_refused st e new (begin_short st e new going none (short_of_size 1 1 0 st e new left (omega arith) r))
+pub peek_size : (st : State) (e : Error) (new : State) → st.error ≡ None → Has st.top.items 1 → st.top.shared ≡ None → st.top.left ≡ Some 0 → SizeRefused 1 st e new → Refused false Peeked BeginFault st e new
+peek_size st e new going item none left r = peek_refused st e new (begin_short st e new going item none (short_of_size 1 1 0 st e new left (omega arith) r))
 
 nothing_at : (row : List ℕ) → None ≡ slice_get row 0 → length row ≡ 0
 nothing_at [] e = refl
@@ -56,9 +56,9 @@ none_there st new row is front at =
     omega (arith, nothing_at row at, ap length (front ∙ ap (λ (x : State). take x.ahead x.rest) is), length-take (max st.ahead (min 1 (length st.rest))) st.rest)
 
 -- the input ends
-pub peek_cut : (st : State) (e : Error) (new : State) → st.error ≡ None → st.top.shared ≡ None → (st.top.left ≡ Some 0 → ⊥) → length st.rest < 1 → e ≡ Cut → Answered st e new → Refused false Peeked BeginFault st e new
-peek_cut st e new going none left short is kept =
-    peek_refused st e new (begin_short st e new going none (record { kept = kept; why = inr (missed_lacks 1 st st.top.left e refl (has_item st.top.left left) is short) }))
+pub peek_cut : (st : State) (e : Error) (new : State) → st.error ≡ None → Has st.top.items 1 → st.top.shared ≡ None → (st.top.left ≡ Some 0 → ⊥) → length st.rest < 1 → e ≡ Cut → Answered st e new → Refused false Peeked BeginFault st e new
+peek_cut st e new going item none left short is kept =
+    peek_refused st e new (begin_short st e new going item none (record { kept = kept; why = inr (missed_lacks 1 st st.top.left e refl (has_item st.top.left left) is short) }))
 
 max-minus : (a n k : ℕ) → n ≤ k → max a n - k ≡ a - k
 max-minus a n k h = omega (arith, h)

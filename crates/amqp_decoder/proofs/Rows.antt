@@ -1,5 +1,5 @@
 -- The row of frames.
-use Rattle.std.proofs.Common.{◌≡◌, ◌≤◌, ◌<◌, ℕ, zero, suc, ◌+◌, ◌-◌, ◌*◌, ◌++◌, Option, IfSome, IsSome, MatchOption, option_map, List, length, take, drop, map, eqb, cond, Some, None, ap₂, subst, get_or, set, ◌≢◌, [], ◌∷◌, unwrap_or, Bool, true, false, ltb, refl, ap, sym, ◌∙◌, arith, add-one}
+use Rattle.std.proofs.Common.{◌≡◌, ◌≤◌, ◌<◌, ℕ, zero, suc, ◌+◌, ◌-◌, ◌*◌, ◌++◌, ◌⊎◌, inl, inr, Option, IfSome, IsSome, MatchOption, option_map, List, length, take, drop, map, eqb, cond, Some, None, ap₂, subst, get_or, set, ◌≢◌, [], ◌∷◌, unwrap_or, Bool, true, false, ltb, refl, ap, sym, ◌∙◌, arith, add-one}
 use Rattle.std.proofs.lemmas.List.{get_or-set_same, get_or-set_other, get_or-take, take_all, drop-take, drop-drop, drop_at, take_at, take-take, length-take-le}
 use Rattle.std.proofs.lemmas.Bool.{ltb-true, ltb-false, ne_eqb, eq-eqb}
 use Rattle.std.proofs.Math.Seq.{drop-cons, take-nil}
@@ -10,7 +10,10 @@ use Rattle.std.specs.Borrow.{Bor}
 use Rattle.std.specs.Option.{option_and}
 use Rattle.amqp_wire.specs.declared.error.Error.{Error}
 use Rattle.amqp_decoder.specs.declared.frame.Frame.{Frame}
-use Rattle.amqp_decoder.specs.State.{DescriptorValues, Open, open_of, items_of, shared_of, descriptor_of, State, stack, unused, bytes_left, shared_in, Nested}
+use Rattle.amqp_decoder.specs.declared.frame.Place.{Place}
+use Rattle.amqp_decoder.specs.declared.frame.Place.TheVariants.{Top, InList, InMap, InArray, InDescribed}
+use Rattle.amqp_decoder.specs.State.{DescriptorValues, Open, open_of, items_of, shared_of, descriptor_of, State, stack, unused, bytes_left, shared_in, Nested, top_level, IsLevel, Bounded, IsHolder}
+use Rattle.amqp_decoder.specs.Rooms.{IsRoomy}
 use Rattle.amqp_decoder.specs.Described.{IsMark, IsUnmarked, behind}
 use Rattle.amqp_wire.specs.declared.descriptor.Descriptor.{Descriptor as DescriptorValue}
 
@@ -57,6 +60,55 @@ nested_set (suc d) i fs f m h n =
 
 pub nested_push : (d : ℕ) (fs : List Frame) (f : Frame) → d < length fs → Nested d fs f.last → Nested (d + 1) (set fs d f) f.last
 nested_push d fs f h n = rw (add-one, get_or-set_same fs d f unused h) (omega arith, omega arith, nested_set d d fs f f.last (omega arith) n)
+
+bounded_set : (d i : ℕ) (fs : List Frame) (f : Frame) (p : Place) (l : Option ℕ) → d ≤ i → Bounded d fs p l → Bounded d (set fs i f) p l
+bounded_set zero i fs f p l h b = tt
+bounded_set (suc d) i fs f p l h b =
+    let ne : ◌≢◌ d i = omega arith in
+    rw (get_or-set_other fs i d f unused ne) (b.0, b.1, bounded_set d i fs f (get_or fs d unused).place (get_or fs d unused).left (omega arith) b.2)
+
+pub bounded_push : (d : ℕ) (fs : List Frame) (f : Frame) (p : Place) (l : Option ℕ) → d < length fs → (p ≡ InDescribed → f.left ≡ None → l ≡ None) → IsLevel f → Bounded d fs f.place f.left → Bounded (d + 1) (set fs d f) p l
+bounded_push d fs f p l h open_ level b = rw (add-one, get_or-set_same fs d f unused h) (open_, level, bounded_set d d fs f f.place f.left (omega arith) b)
+
+-- the last frame of those has other bytes left, or stands elsewhere
+pub bounded_as : (d : ℕ) (fs : List Frame) (p q : Place) (l k : Option ℕ) → (q ≡ InDescribed → (p ≡ InDescribed) × (l ≡ None → k ≡ None)) → Bounded d fs p l → Bounded d fs q k
+bounded_as zero fs p q l k h b = tt
+bounded_as (suc d) fs p q l k h b = (λ e n. (h e).1 (b.0 (h e).0 n), b.1, b.2)
+
+-- the frame around the last one
+pub outer_frame : (d k : ℕ) (fs : List Frame) (m : ℕ) (p : Place) (l : Option ℕ) → d ≡ suc k → Nested d fs m → Bounded d fs p l → Nested (suc k) fs m × Bounded (suc k) fs p l
+outer_frame d k fs m p l e n b = (subst (λ i. Nested i fs m) e n, subst (λ i. Bounded i fs p l) e b)
+
+holder_items : (p : Place) (n : ℕ) → IsHolder p → items_of p n ≡ Some n
+holder_items InList n h = refl
+holder_items InMap n h = refl
+holder_items InArray n h = refl
+holder_items Top n h = absurd h
+holder_items InDescribed n h = absurd h
+
+-- a container that is entered counts in nesting, or has no items
+pub room_inside : (o : Open) (d depth nesting : ℕ) (p : Place) (n : ℕ) → o.items ≡ items_of p n → depth ≡ d → nesting ≡ 128 → IsHolder p → (depth < nesting) ⊎ (n ≡ 0) → IsRoomy 128 (d + 1) o
+room_inside o d depth nesting p n is e f h (inl few) = inl (omega arith)
+room_inside o d depth nesting p n is e f h (inr none) = inr (inl (is ∙ holder_items p n h ∙ ap Some none))
+
+none_less : (p : Place) (i k : ℕ) → k ≡ i - 1 → items_of p i ≡ Some 0 → items_of p k ≡ Some 0
+none_less Top i k less e = absurd (cc)
+none_less InList i k less e = ap Some (omega (arith, ap (λ o. unwrap_or o 0) e))
+none_less InMap i k less e = ap Some (omega (arith, ap (λ o. unwrap_or o 0) e))
+none_less InArray i k less e = ap Some (omega (arith, ap (λ o. unwrap_or o 0) e))
+none_less InDescribed i k less e = ap Some (omega (arith, ap (λ o. unwrap_or o 0) e))
+
+pub room_less : (ds : DescriptorValues) (d : ℕ) (f : Frame) (k : ℕ) → k ≡ f.items - 1 → IsRoomy 128 d (open_of ds f) → IsRoomy 128 d (open_of ds (record f { items = k }))
+room_less ds d f k less (inl few) = inl few
+room_less ds d f k less (inr (inl none)) = inr (inl (none_less f.place f.items k less none))
+room_less ds d f k less (inr (inr flat)) = inr (inr flat)
+
+level_of : (p : Place) (i : ℕ) (l : Option ℕ) (c : ℕ) (part : DescriptorValues) → p ≡ Top → l ≡ None → c ≡ 0
+    → ◌≡◌ {A = Open} (record { place = p; items = items_of p i; left = l; shared = cond (eqb c 0) None (Some (map descriptor_of part, c)) }) top_level
+level_of p i l c part e f g = rw (e, f, g) refl
+
+pub level : (ds : DescriptorValues) (f : Frame) → IsLevel f → f.place ≡ Top → open_of ds f ≡ top_level
+level ds f h e = level_of f.place f.items f.left f.code (take (f.last - f.first) (drop f.first ds)) e (h e).0 (h e).1
 
 -- at most 128 descriptors for each frame
 few_nested : (d : ℕ) (fs : List Frame) (m : ℕ) → Nested d fs m → m ≤ 128 * d + 128
@@ -177,3 +229,7 @@ same_view r a s n e f t u ts us h k = ap₂ (state_of r a s n e f) h k
 pub and_none : (o : Option ℕ) → option_and {U = ℕ} o (Some 0) ≡ option_map (λ l. 0) o
 and_none None = refl
 and_none (Some l) = refl
+
+pub none_and : (o : Option ℕ) → option_and {U = ℕ} o (Some 0) ≡ None → o ≡ None
+none_and None e = refl
+none_and (Some l) e = absurd (cc)

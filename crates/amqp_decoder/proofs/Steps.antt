@@ -155,11 +155,11 @@ begin_done st e new r = record {
 }
 
 -- its first byte can't be taken
-pub begin_short : (st : State) (e : Error) (new : State) → st.error ≡ None → st.top.shared ≡ None → Short 1 st e new → Refused false Begun BeginFault st e new
-begin_short st e new going none r = record {
+pub begin_short : (st : State) (e : Error) (new : State) → st.error ≡ None → Has st.top.items 1 → st.top.shared ≡ None → Short 1 st e new → Refused false Begun BeginFault st e new
+begin_short st e new going item none r = record {
   kept = r.kept;
   again = λ d x. absurd (cc);
-  named = λ g. elim r.why [ inl x ↦ inl (inr x) | inr x ↦ inr (no_code none x) ];
+  named = λ g. elim r.why [ inl x ↦ inl (inr x) | inr x ↦ inr (no_code item none x) ];
   none = elim r.why [ inl x ↦ inl (inr x) | inr x ↦ inr (λ v b h. not_begun_lacking st e v b none x h) ];
 }
 

@@ -12,6 +12,7 @@ pub peeked : (r : Result (Option ℕ) Error) (st m new : State) → IsTop st tt 
 peeked (Ok o) st m new t looks is f = record {
   going = t.going;
   place = t.place;
+  top = t.top;
   saved = t.saved;
   answer = λ c. subst (λ (z : State). (o ≡ Some c) ↔ IsSectionAhead z.rest c) t.kept (is c);
   kept = subst (λ z. LooksOn z new) t.kept looks;

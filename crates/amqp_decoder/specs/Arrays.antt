@@ -40,37 +40,38 @@ IsFlat [] (compound kind width) = ⊥
 IsFlat [] _ = Unit {0}
 IsFlat (d ∷ ds) F = ⊥
 
--- The constructor of an array's items stood next, and they share it: its code isn't of width zero.
-pub data Shares (st : State) (st' : State) : Type 0 where
-  no_items : (ds : List Descriptor) (c : ℕ) → st.top.items ≡ Some 0 → TookConstructor st ds c st' → Shares st st'
-  shared_by : (ds : List Descriptor) (c : ℕ) (m : State) → (st.top.items ≡ Some 0 → ⊥) → TookConstructor st ds c m → (HasWidthZero (format c) → ⊥) → IsFlat ds (format c) ⊎ (length st.saved ≤ st.nesting)
-      → st' ≡ record m { top = record m.top { shared = Some (ds, c) } } → Shares st st'
+-- The constructor of an array's n items stood next, and they share it, and are left from then on: its code isn't of width zero.
+pub data Shares (n : ℕ) (st : State) (st' : State) : Type 0 where
+  no_items : (ds : List Descriptor) (c : ℕ) → n ≡ 0 → TookConstructor st ds c st' → Shares n st st'
+  shared_by : (ds : List Descriptor) (c : ℕ) (m : State) → (n ≡ 0 → ⊥) → TookConstructor st ds c m → (HasWidthZero (format c) → ⊥) → IsFlat ds (format c) ⊎ (length st.saved ≤ st.nesting)
+      → st' ≡ record m { top = record m.top { items = Some n; shared = Some (ds, c) } } → Shares n st st'
 
 -- Why they don't.
-pub data SharesFault (st : State) (e : Error) : Type 0 where
-  no_constructor : ConstructorFault st e → SharesFault st e
-  zero_width : (ds : List Descriptor) (c : ℕ) (m : State) → (st.top.items ≡ Some 0 → ⊥) → TookConstructor st ds c m → HasWidthZero (format c) → e ≡ ZeroWidthItems → SharesFault st e
-  too_nested : (ds : List Descriptor) (c : ℕ) (m : State) → (st.top.items ≡ Some 0 → ⊥) → TookConstructor st ds c m → (IsFlat ds (format c) → ⊥) → st.nesting < length st.saved → e ≡ Depth → SharesFault st e
+pub data SharesFault (n : ℕ) (st : State) (e : Error) : Type 0 where
+  no_constructor : ConstructorFault st e → SharesFault n st e
+  zero_width : (ds : List Descriptor) (c : ℕ) (m : State) → (n ≡ 0 → ⊥) → TookConstructor st ds c m → HasWidthZero (format c) → e ≡ ZeroWidthItems → SharesFault n st e
+  too_nested : (ds : List Descriptor) (c : ℕ) (m : State) → (n ≡ 0 → ⊥) → TookConstructor st ds c m → (IsFlat ds (format c) → ⊥) → st.nesting < length st.saved → e ≡ Depth → SharesFault n st e
 
 -- An array without items may have no constructor.
 abbrev pub Starts : ℕ → ℕ → State → State → Type 0
-Starts n content st st' = ((max n content ≡ 0) × (st' ≡ st)) ⊎ ((0 < max n content) × Shares st st')
+Starts n content st st' = ((max n content ≡ 0) × (st' ≡ st)) ⊎ ((0 < max n content) × Shares n st st')
 
--- The data of an array of n items stood next, as far as its items, and it was entered.
+-- The data of an array of n items stood next, as far as its items, and it was entered; none of them is left before the
+-- constructor is known.
 pub record EntersArray (width : ℕ) (st : State) (n : ℕ) (st' : State) : Type 0 where
   pub content : ℕ
   pub mid : State
   pub header : Header false width st n content mid
   pub room : Has mid.top.left content
   pub few : length st.saved ≤ st.nesting
-  pub starts : Starts n content (inside InArray n content mid) st'
+  pub starts : Starts n content (inside InArray 0 content mid) st'
 
 -- Why none is entered.
 pub data EnterArrayFault (width : ℕ) (st : State) (e : Error) : Type 0 where
   no_header : HeaderFault false width st e → EnterArrayFault width st e
   no_room : (n content : ℕ) (m : State) → Header false width st n content m → NoRoom content m e → EnterArrayFault width st e
   too_deep : (n content : ℕ) (m : State) → Header false width st n content m → st.nesting < length st.saved → e ≡ Depth → EnterArrayFault width st e
-  no_start : (n content : ℕ) (m : State) → Header false width st n content m → 0 < max n content → SharesFault (inside InArray n content m) e → EnterArrayFault width st e
+  no_start : (n content : ℕ) (m : State) → Header false width st n content m → 0 < max n content → SharesFault n (inside InArray 0 content m) e → EnterArrayFault width st e
 
 -- An array of n items stood next, as far as its items, and it was entered.
 pub record OpensArray (st : State) (n : ℕ) (st' : State) : Type 0 where

@@ -22,11 +22,18 @@ pub record AtEnd (place : Place) (st : State) (st' : State) : Type 0 where
   pub saved : st.saved ≡ outer ∷ others
   pub kept : st' ≡ st
 
--- Why it isn't at its end.
+-- A container of this kind is open.
+pub record IsOpen (place : Place) (st : State) : Type 0 where
+  pub here : st.top.place ≡ place
+  pub outer : Open
+  pub others : List Open
+  pub saved : st.saved ≡ outer ∷ others
+
+-- Why it isn't at its end: another kind is open or none, or items of it are left.
 pub data EndFault (place : Place) (st : State) (e : Error) : Type 0 where
   other_place : (st.top.place ≡ place → ⊥) → e ≡ InvalidValue → EndFault place st e
   nothing_open : st.saved ≡ [] → e ≡ InvalidValue → EndFault place st e
-  items_left : (st.top.items ≡ Some 0 → ⊥) → e ≡ Surplus → EndFault place st e
+  items_left : IsOpen place st → (st.top.items ≡ Some 0 → ⊥) → e ≡ Surplus → EndFault place st e
 
 -- A container of this kind, of which nothing is left, was left.
 pub record Closes (place : Place) (st : State) (st' : State) : Type 0 where
@@ -39,10 +46,10 @@ pub record Closes (place : Place) (st : State) (st' : State) : Type 0 where
   pub saved : st.saved ≡ outer ∷ others
   pub moved : st' ≡ record st { top = outer; saved = others }
 
--- Why none is left.
+-- Why none is left: it isn't at its end, or it is, and bytes of it are left.
 pub data CloseFault (place : Place) (st : State) (e : Error) : Type 0 where
   not_at_end : EndFault place st e → CloseFault place st e
-  bytes_left_over : (st.top.left ≡ Some 0 → ⊥) → SizeError 0 st e → CloseFault place st e
+  bytes_left_over : IsOpen place st → st.top.items ≡ Some 0 → (st.top.left ≡ Some 0 → ⊥) → SizeError 0 st e → CloseFault place st e
 
 -- The value behind a descriptor was taken: what it stands in has the bytes that are left.
 pub record ClosesDescribed (place : Place) (st : State) (st' : State) : Type 0 where

@@ -1,45 +1,85 @@
--- What stands before a decoder, and its faults, are the same of another source.
-use Rattle.std.proofs.Common.{◌≡◌, inl, inr, ℕ, Bool, List, Option, Some, None, ap, refl, ◌∙◌}
-use Rattle.amqp_model.specs.Term.{Container, Descriptor}
+-- What stands before a decoder is the same of another source, and where values may nest deeper; and so is a fault, unless it
+-- is that they nest too deep.
+use Rattle.std.proofs.Common.{◌≡◌, ◌≤◌, ◌<◌, inl, inr, ℕ, ◌⊎◌, ◌-◌, Bool, List, ◌++◌, length, Option, Some, None, refl, sym, ap, ◌∙◌, arith}
+use Rattle.amqp_model.specs.Term.{Container, Descriptor, Term}
 use Rattle.amqp_model.specs.Constructors.{Format, fixed, variable, compound, unknown, format}
+use Rattle.amqp_model.specs.Standing.{Standing}
 use Rattle.amqp_wire.specs.declared.error.Error.{Error}
+use Rattle.amqp_wire.specs.declared.error.Error.TheVariants.{Size, Depth}
+use Rattle.amqp_input.specs.Members.{Member}
 use Rattle.amqp_decoder.specs.declared.frame.Place.{Place}
-use Rattle.amqp_decoder.specs.State.{State}
+use Rattle.amqp_decoder.specs.declared.frame.Place.TheVariants.{InArray}
+use Rattle.amqp_decoder.specs.State.{State, inside}
 use Rattle.amqp_decoder.specs.Steps.{Took, Lacks, cut_open, cut_inside, too_long, SizeError, cut, wrong, NoRoom}
 use Rattle.amqp_decoder.specs.Reading.{Begun, BeginFault, missing, no_code, looked_under, Peeked}
-use Rattle.amqp_decoder.specs.Primitives.{LacksData, PrimitiveFault, not_begun, wrong_code, no_data, bad_data}
+use Rattle.amqp_decoder.specs.Primitives.{Stands, Value, LacksData, PrimitiveFault, not_begun, wrong_code, no_data, bad_data}
 use Rattle.amqp_decoder.specs.Containers as containers
-use Rattle.amqp_decoder.specs.Containers.{AtEnd, EndFault, other_place, nothing_open, items_left, Closes, CloseFault, not_at_end, bytes_left_over, ClosesDescribed, Header, HeaderFault, no_size, impossible, no_count, no_content, Entered, EnterFault, no_header, odd_count, no_room, too_deep, Opens, OpenFault}
+use Rattle.amqp_decoder.specs.Containers.{IsOpen, EndFault, other_place, nothing_open, items_left, Closes, CloseFault, not_at_end, bytes_left_over, ClosesDescribed, Header, HeaderFault, no_size, impossible, no_count, no_content, Entered, EnterFault, no_header, odd_count, no_room, too_deep, Opens, OpenFault}
 use Rattle.amqp_decoder.specs.Described as described
-use Rattle.amqp_input.specs.Members.{Member}
-use Rattle.amqp_decoder.specs.Described.{TookDescriptor, OpensDescribed, TookPlace, DescribedFault, other_code, DescriptorFault, no_kind, non_ascii, OneOfFault, not_described, no_descriptor, no_member}
-use Rattle.amqp_decoder.specs.Primitives.{Stands, Value}
-use Rattle.amqp_model.specs.Term.{Term}
-use Rattle.amqp_model.specs.Standing.{Standing}
+use Rattle.amqp_decoder.specs.Described.{TookDescriptor, OpensDescribed, TookPlace, DescribedFault, other_code, DescriptorFault, no_kind, non_ascii, not_open, nameless, OneOfFault, not_described, no_descriptor, no_member}
+use Rattle.amqp_decoder.specs.Arrays as arrays
+use Rattle.amqp_decoder.specs.Arrays.{IsFlat, TookMarks, TookConstructor, ConstructorFault, no_mark, too_many, no_known_code, Shares, no_items, shared_by, SharesFault, no_constructor, zero_width, too_nested, Starts, EntersArray, EnterArrayFault, no_start, OpensArray, ArrayFault}
+use Rattle.amqp_decoder.specs.Rooms.{HasRoom}
+use Rattle.amqp_decoder.specs.Terms as terms
+use Rattle.amqp_decoder.specs.Terms.{LacksAnnounced, NoTerm, wrong_size, wrong_term, SpellingFault, no_term, TakesTerm, TermFault, in_array, misspelled}
+use Rattle.amqp_lengths.proofs.RefusedBytes.{fault_refuses}
+use Rattle.amqp_lengths.proofs.DeeperFaults.{fault_deeper}
+
+-- Another source, which may have failed, and a bound on nesting that is no lower.
+pub record Setting : Type 0 where
+  pub source : ℕ
+  pub failed : Bool
+  pub deepen : ℕ → ℕ
+  pub grows : (n : ℕ) → n ≤ deepen n
+
+abbrev pub under : Setting → State → State
+under c st = record st { source = c.source; failed = c.failed; nesting = c.deepen st.nesting }
+
+-- Another source alone.
+abbrev pub another : ℕ → Bool → Setting
+another source failed = record { source = source; failed = failed; deepen = λ n. n; grows = λ n. omega arith }
 
 -- The same before a decoder of another source, which may have failed.
 abbrev pub elsewhere : ℕ → Bool → State → State
 elsewhere source failed st = record st { source = source; failed = failed }
 
-module _ (source : ℕ) (failed : Bool) where
+pub elsewhere_under : (source : ℕ) (failed : Bool) (st : State) → under (another source failed) st ≡ elsewhere source failed st
+elsewhere_under source failed st = refl
+
+-- An error by depth isn't kept by a greater bound.
+abbrev pub KeepsError : Setting → Error → Type 0
+KeepsError c e = e ≡ Depth → (n : ℕ) → c.deepen n ≡ n
+
+pub keeps_another : (source : ℕ) (failed : Bool) (e : Error) → KeepsError (another source failed) e
+keeps_another source failed e = λ deep n. refl
+
+module _ (c : Setting) where
   abbrev at : State → State
-  at = elsewhere source failed
+  at = under c
 
   took : {st st' : State} {s : List ℕ} → Took st s st' → Took (at st) s (at st')
   took h = record { room = h.room; rest = h.rest; moved = ap at h.moved }
 
-  pub begun : {st st' : State} {c : ℕ} → Begun st c st' → Begun (at st) c (at st')
+  pub begun : {st st' : State} {k : ℕ} → Begun st k st' → Begun (at st) k (at st')
   begun h = record { going = h.going; item = h.item; own = h.own; first = h.first; room = h.room; rest = h.rest; moved = ap at h.moved }
 
   looked_at : (o : Option (List Descriptor × ℕ)) (st : State) → at (looked_under o st) ≡ looked_under o (at st)
   looked_at None st = refl
-  looked_at (Some c) st = refl
+  looked_at (Some s) st = refl
 
-  pub peeked : {st st' : State} {c : ℕ} → Peeked st c st' → Peeked (at st) c (at st')
+  pub peeked : {st st' : State} {k : ℕ} → Peeked st k st' → Peeked (at st) k (at st')
   peeked {st} h = record { after = at h.after; begun = begun h.begun; kept = ap at h.kept ∙ looked_at st.top.shared st }
 
   pub stands : {st : State} {s : List ℕ} {t : Term} → Stands st s t → Stands (at st) s t
-  stands h = record { going = h.going; item = h.item; room = h.room; after = h.after; rest = h.rest; spelled = h.spelled; nested = h.nested }
+  stands {st} h = record {
+    going = h.going;
+    item = h.item;
+    room = h.room;
+    after = h.after;
+    rest = h.rest;
+    spelled = h.spelled;
+    nested = let n = h.nested in let g = c.grows st.nesting in omega (arith, n, g);
+  }
 
   pub value : {A : Type 0} (means : Standing → Term → A → Type 0) {st st' : State} {v : A} → Value means st v st' → Value means (at st) v (at st')
   value means h = record { bytes = h.bytes; term = h.term; stands = stands h.stands; moved = ap at h.moved; meant = h.meant }
@@ -56,9 +96,9 @@ module _ (source : ℕ) (failed : Bool) where
   room_fault : {n : ℕ} {st : State} {e : Error} → NoRoom n st e → NoRoom n (at st) e
   room_fault h = record { less = h.less; why = size_error h.why }
 
-  pub begin_fault : {st : State} {e : Error} → BeginFault st e → BeginFault (at st) e
-  begin_fault (missing i e) = missing i e
-  begin_fault (no_code s l) = no_code s (lacks l)
+  pub begin_fault : {st : State} {e : Error} → KeepsError c e → BeginFault st e → BeginFault (at st) e
+  begin_fault keeps (missing i e) = missing i e
+  begin_fault keeps (no_code i s l) = no_code i s (lacks l)
 
   data_fault : (F : Format) (st : State) (e : Error) → LacksData F st e → LacksData F (at st) e
   data_fault (fixed w v) st e h = lacks h
@@ -67,11 +107,18 @@ module _ (source : ℕ) (failed : Bool) where
   data_fault (compound k w) st e h = h
   data_fault unknown st e h = h
 
-  pub primitive_fault : {k : ℕ} {st : State} {e : Error} → PrimitiveFault k st e → PrimitiveFault k (at st) e
-  primitive_fault (not_begun h) = not_begun (begin_fault h)
-  primitive_fault (wrong_code b k e) = wrong_code (begun b) k e
-  primitive_fault (no_data {c} {m} b k h) = no_data (begun b) k (data_fault (format c) m _ h)
-  primitive_fault (bad_data b k t w n e) = bad_data (begun b) k (took t) w n e
+  pub primitive_fault : {k : ℕ} {st : State} {e : Error} → KeepsError c e → PrimitiveFault k st e → PrimitiveFault k (at st) e
+  primitive_fault keeps (not_begun h) = not_begun (begin_fault keeps h)
+  primitive_fault keeps (wrong_code b k e) = wrong_code (begun b) k e
+  primitive_fault keeps (no_data {c = n} {m} b k h) = no_data (begun b) k (data_fault (format n) m _ h)
+  primitive_fault keeps (bad_data b k t w n e) = bad_data (begun b) k (took t) w n e
+
+  -- no deeper than the bound, which an error by depth keeps
+  deep : {e : Error} {m : ℕ} → KeepsError c e → (n : ℕ) → n ≤ m → e ≡ Depth → c.deepen n ≤ m
+  deep keeps n l is = let same = keeps is n in omega (arith, l, same)
+
+  deeper : {e : Error} {m : ℕ} → KeepsError c e → (n : ℕ) → n < m → e ≡ Depth → c.deepen n < m
+  deeper keeps n l is = let same = keeps is n in omega (arith, l, same)
 
   -- containers
   header : {listed : Bool} {w n content : ℕ} {st st' : State} → Header listed w st n content st' → Header listed w (at st) n content (at st')
@@ -84,59 +131,172 @@ module _ (source : ℕ) (failed : Bool) where
   header_fault (no_content l m t h) = no_content l m (took t) (size_error h)
 
   entered : {kind : Container} {w n : ℕ} {st st' : State} → Entered kind w st n st' → Entered kind w (at st) n (at st')
-  entered h = record { content = h.content; mid = at h.mid; header = header h.header; count = h.count; room = h.room; few = h.few; entered = ap at h.entered }
+  entered {st} h = record {
+    content = h.content;
+    mid = at h.mid;
+    header = header h.header;
+    count = h.count;
+    room = h.room;
+    few = let n = h.few in let g = c.grows st.nesting in omega (arith, n, g);
+    entered = ap at h.entered;
+  }
 
-  enter_fault : {kind : Container} {w : ℕ} {st : State} {e : Error} → EnterFault kind w st e → EnterFault kind w (at st) e
-  enter_fault (no_header h) = no_header (header_fault h)
-  enter_fault (odd_count h n e) = odd_count (header h) n e
-  enter_fault (no_room h c r) = no_room (header h) c (room_fault r)
-  enter_fault (too_deep h c r l e) = too_deep (header h) c r l e
+  enter_fault : {kind : Container} {w : ℕ} {st : State} {e : Error} → KeepsError c e → EnterFault kind w st e → EnterFault kind w (at st) e
+  enter_fault keeps (no_header h) = no_header (header_fault h)
+  enter_fault keeps (odd_count h n e) = odd_count (header h) n e
+  enter_fault keeps (no_room h n r) = no_room (header h) n (room_fault r)
+  enter_fault {st} keeps (too_deep h n r l e) = too_deep (header h) n r (deep keeps st.nesting l e) e
 
   pub opens : {kind : Container} {n : ℕ} {st st' : State} → Opens kind st n st' → Opens kind (at st) n (at st')
   opens h = record { code = h.code; width = h.width; mid = at h.mid; begun = begun h.begun; announced = h.announced; data_ = entered h.data_ }
 
-  pub open_fault : {kind : Container} {st : State} {e : Error} → OpenFault kind st e → OpenFault kind (at st) e
-  open_fault (containers.not_begun h) = containers.not_begun (begin_fault h)
-  open_fault (containers.wrong_code b n e) = containers.wrong_code (begun b) n e
-  open_fault (containers.no_data b f h) = containers.no_data (begun b) f (enter_fault h)
+  pub open_fault : {kind : Container} {st : State} {e : Error} → KeepsError c e → OpenFault kind st e → OpenFault kind (at st) e
+  open_fault keeps (containers.not_begun h) = containers.not_begun (begin_fault keeps h)
+  open_fault keeps (containers.wrong_code b n e) = containers.wrong_code (begun b) n e
+  open_fault keeps (containers.no_data b f h) = containers.no_data (begun b) f (enter_fault keeps h)
 
-  pub end_fault : {place : Place} {st : State} {e : Error} → EndFault place st e → EndFault place (at st) e
-  end_fault (other_place n e) = other_place n e
-  end_fault (nothing_open s e) = nothing_open s e
-  end_fault (items_left n e) = items_left n e
+  is_open : {place : Place} {st : State} → IsOpen place st → IsOpen place (at st)
+  is_open h = record { here = h.here; outer = h.outer; others = h.others; saved = h.saved }
+
+  pub end_fault : {place : Place} {st : State} {e : Error} → KeepsError c e → EndFault place st e → EndFault place (at st) e
+  end_fault keeps (other_place n e) = other_place n e
+  end_fault keeps (nothing_open s e) = nothing_open s e
+  end_fault keeps (items_left o n e) = items_left (is_open o) n e
 
   pub closes : {place : Place} {st st' : State} → Closes place st st' → Closes place (at st) (at st')
   closes h = record { going = h.going; here = h.here; items = h.items; left = h.left; outer = h.outer; others = h.others; saved = h.saved; moved = ap at h.moved }
 
-  pub close_fault : {place : Place} {st : State} {e : Error} → CloseFault place st e → CloseFault place (at st) e
-  close_fault (not_at_end h) = not_at_end (end_fault h)
-  close_fault (bytes_left_over n h) = bytes_left_over n (size_error h)
+  pub close_fault : {place : Place} {st : State} {e : Error} → KeepsError c e → CloseFault place st e → CloseFault place (at st) e
+  close_fault keeps (not_at_end h) = not_at_end (end_fault keeps h)
+  close_fault keeps (bytes_left_over o i n h) = bytes_left_over (is_open o) i n (size_error h)
 
   -- described values
   took_descriptor : {st st' : State} {d : Descriptor} → TookDescriptor st d st' → TookDescriptor (at st) d (at st')
   took_descriptor h = record { own = h.own; descriptor = h.descriptor; took = took h.took }
 
   pub opens_described : {st st' : State} {d : Descriptor} → OpensDescribed st d st' → OpensDescribed (at st) d (at st')
-  opens_described h = record { coded = at h.coded; named = at h.named; begun = begun h.begun; nested = h.nested; descriptor = took_descriptor h.descriptor; opened = ap at h.opened }
+  opens_described {st} h = record {
+    coded = at h.coded;
+    named = at h.named;
+    begun = begun h.begun;
+    nested = let n = h.nested in let g = c.grows st.nesting in omega (arith, n, g);
+    descriptor = took_descriptor h.descriptor;
+    opened = ap at h.opened;
+  }
 
   pub closes_described : {place : Place} {st st' : State} → ClosesDescribed place st st' → ClosesDescribed place (at st) (at st')
   closes_described h = record { going = h.going; here = h.here; items = h.items; outer = h.outer; others = h.others; saved = h.saved; moved = ap at h.moved }
 
-  described_fault : {st : State} {e : Error} → DescribedFault st e → DescribedFault (at st) e
-  described_fault (described.not_begun h) = described.not_begun (begin_fault h)
-  described_fault (other_code b n e) = other_code (begun b) n e
-  described_fault (described.too_deep b l e) = described.too_deep (begun b) l e
+  described_fault : {st : State} {e : Error} → KeepsError c e → DescribedFault st e → DescribedFault (at st) e
+  described_fault keeps (described.not_begun h) = described.not_begun (begin_fault keeps h)
+  described_fault keeps (other_code b n e) = other_code (begun b) n e
+  described_fault {st} keeps (described.too_deep b l e) = described.too_deep (begun b) (deep keeps st.nesting l e) e
 
   descriptor_fault : {st : State} {e : Error} → DescriptorFault st e → DescriptorFault (at st) e
   descriptor_fault (described.no_code h) = described.no_code (lacks h)
   descriptor_fault (no_kind t n e) = no_kind (took t) n e
-  descriptor_fault (described.no_data {c} {m} t k h) = described.no_data (took t) k (data_fault (format c) m _ h)
+  descriptor_fault (described.no_data {c = n} {m} t k h) = described.no_data (took t) k (data_fault (format n) m _ h)
   descriptor_fault (non_ascii t k u w n e) = non_ascii (took t) k (took u) w n e
 
   took_place : {members : List Member} {o : Option ℕ} {st st' : State} → TookPlace members st o st' → TookPlace members (at st) o (at st')
   took_place h = record { descriptor = h.descriptor; took = took_descriptor h.took; is = h.is }
 
-  pub one_of_fault : {members : List Member} {st : State} {e : Error} → OneOfFault members st e → OneOfFault members (at st) e
-  one_of_fault (not_described h) = not_described (described_fault h)
-  one_of_fault (no_descriptor b s h) = no_descriptor (begun b) s (descriptor_fault h)
-  one_of_fault (no_member b t e) = no_member (begun b) (took_place t) e
+  pub one_of_fault : {members : List Member} {st : State} {e : Error} → KeepsError c e → OneOfFault members st e → OneOfFault members (at st) e
+  one_of_fault keeps (not_described h) = not_described (described_fault keeps h)
+  one_of_fault keeps (no_descriptor b s h) = no_descriptor (begun b) s (descriptor_fault h)
+  one_of_fault keeps (no_member b t e) = no_member (begun b) (took_place t) e
+
+  pub open_described_fault : {st : State} {e : Error} → KeepsError c e → described.OpenFault st e → described.OpenFault (at st) e
+  open_described_fault keeps (not_open h) = not_open (described_fault keeps h)
+  open_described_fault keeps (nameless b s h) = nameless (begun b) s (descriptor_fault h)
+
+  -- arrays
+  took_constructor : {st st' : State} {ds : List Descriptor} {k : ℕ} → TookConstructor st ds k st' → TookConstructor (at st) ds k (at st')
+  took_constructor h = record { own = h.own; few = h.few; spelled = h.spelled; took = took h.took }
+
+  took_marks : {st st' : State} {ds : List Descriptor} {k : ℕ} → TookMarks st ds k st' → TookMarks (at st) ds k (at st')
+  took_marks h = record { own = h.own; marks = h.marks; took = took h.took }
+
+  fits : {F : Type 0} (n m : ℕ) → F ⊎ (m ≤ n) → F ⊎ (m ≤ c.deepen n)
+  fits n m (inl flat) = inl flat
+  fits n m (inr few) = let g = c.grows n in inr (omega (arith, few, g))
+
+  shares : {n : ℕ} {st st' : State} → Shares n st st' → Shares n (at st) (at st')
+  shares (no_items ds k e t) = no_items ds k e (took_constructor t)
+  shares {st} (shared_by ds k m some t wide room is) = shared_by ds k (at m) some (took_constructor t) wide (fits st.nesting (length st.saved) room) (ap at is)
+
+  starts : (n content : ℕ) (st st' : State) → Starts n content st st' → Starts n content (at st) (at st')
+  starts n content st st' (inl (e, is)) = inl (e, ap at is)
+  starts n content st st' (inr (l, s)) = inr (l, shares s)
+
+  enters_array : {w n : ℕ} {st st' : State} → EntersArray w st n st' → EntersArray w (at st) n (at st')
+  enters_array {n} {st} {st'} h = record {
+    content = h.content;
+    mid = at h.mid;
+    header = header h.header;
+    room = h.room;
+    few = let f = h.few in let g = c.grows st.nesting in omega (arith, f, g);
+    starts = starts n h.content (inside InArray 0 h.content h.mid) st' h.starts;
+  }
+
+  pub opens_array : {n : ℕ} {st st' : State} → OpensArray st n st' → OpensArray (at st) n (at st')
+  opens_array h = record { code = h.code; width = h.width; mid = at h.mid; begun = begun h.begun; announced = h.announced; data_ = enters_array h.data_ }
+
+  constructor_fault : {st : State} {e : Error} → ConstructorFault st e → ConstructorFault (at st) e
+  constructor_fault (arrays.no_code ds own m marks t l) = arrays.no_code ds own (at m) marks (took t) (lacks l)
+  constructor_fault (no_mark ds m t h) = no_mark ds (at m) (took_marks t) (descriptor_fault h)
+  constructor_fault (too_many ds m t l e) = too_many ds (at m) (took_marks t) l e
+  constructor_fault (no_known_code ds k m t some never e) = no_known_code ds k (at m) (took_marks t) some never e
+
+  shares_fault : {n : ℕ} {st : State} {e : Error} → KeepsError c e → SharesFault n st e → SharesFault n (at st) e
+  shares_fault keeps (no_constructor h) = no_constructor (constructor_fault h)
+  shares_fault keeps (zero_width ds k m some t wide e) = zero_width ds k (at m) some (took_constructor t) wide e
+  shares_fault {st} keeps (too_nested ds k m some t uneven l e) = too_nested ds k (at m) some (took_constructor t) uneven (deeper keeps st.nesting l e) e
+
+  enter_array_fault : {w : ℕ} {st : State} {e : Error} → KeepsError c e → EnterArrayFault w st e → EnterArrayFault w (at st) e
+  enter_array_fault keeps (arrays.no_header h) = arrays.no_header (header_fault h)
+  enter_array_fault keeps (arrays.no_room n content m h r) = arrays.no_room n content (at m) (header h) (room_fault r)
+  enter_array_fault {st} keeps (arrays.too_deep n content m h l e) = arrays.too_deep n content (at m) (header h) (deeper keeps st.nesting l e) e
+  enter_array_fault keeps (no_start n content m h l f) = no_start n content (at m) (header h) l (shares_fault keeps f)
+
+  pub array_fault : {st : State} {e : Error} → KeepsError c e → ArrayFault st e → ArrayFault (at st) e
+  array_fault keeps (arrays.not_begun h) = arrays.not_begun (begin_fault keeps h)
+  array_fault keeps (arrays.wrong_code k m b n e) = arrays.wrong_code k (at m) (begun b) n e
+  array_fault keeps (arrays.no_data k w m b f h) = arrays.no_data k w (at m) (begun b) f (enter_array_fault keeps h)
+
+  pub has_room : (st : State) → HasRoom st → HasRoom (at st)
+  has_room st (inl few) = let g = c.grows st.nesting in inl (omega (arith, few, g))
+  has_room st (inr h) = inr h
+
+  -- whole terms
+  pub takes_term : {st st' : State} {s : List ℕ} → TakesTerm st s st' → TakesTerm (at st) s (at st')
+  takes_term h = record { term = h.term; stands = stands h.stands; unshared = h.unshared; moved = ap at h.moved }
+
+  announced_fault : (F : Format) (st : State) (e : Error) → LacksAnnounced F st e → LacksAnnounced F (at st) e
+  announced_fault (fixed w v) st e h = data_fault (fixed w v) st e h
+  announced_fault (variable w v) st e h = data_fault (variable w v) st e h
+  announced_fault (compound k w) st e (inl h) = inl (lacks h)
+  announced_fault (compound k w) st e (inr (n, mid, l, t, h)) = inr (n, at mid, l, took t, lacks h)
+  announced_fault unknown st e h = h
+
+  no_term_deeper : (nesting more : ℕ) (b : List ℕ) (st : State) (e : Error) → nesting ≤ more → (e ≡ Depth → nesting ≡ more)
+      → NoTerm nesting b st e → NoTerm more b (at st) e
+  no_term_deeper nesting more b st e least same (wrong_size none f s) =
+      let g = fault_deeper nesting more b Size least (λ d. absurd (cc)) f in wrong_size (fault_refuses more b Size g) g (size_error s)
+  no_term_deeper nesting more b st e least same (wrong_term none f other) =
+      let g = fault_deeper nesting more b e least same f in wrong_term (fault_refuses more b e g) g other
+
+  spelling_fault : {st : State} {e : Error} → KeepsError c e → SpellingFault st e → SpellingFault (at st) e
+  unfolding took_constructor
+  spelling_fault keeps (terms.no_constructor h) = terms.no_constructor (constructor_fault h)
+  spelling_fault {e} keeps (terms.no_data {c = k} {m} t l) = terms.no_data (took_constructor t) (announced_fault (format k) m e l)
+  spelling_fault {st} {e} keeps (no_term {b} {m'} t u h f) =
+      let g = c.grows st.nesting in
+      let open_ = length st.saved in
+      let same = λ (d : e ≡ Depth). ap (λ n. n - open_) (sym (keeps d st.nesting)) in
+      no_term (took_constructor t) (took u) h (no_term_deeper (st.nesting - open_) (c.deepen st.nesting - open_) (t.own ++ b) m' e (omega (arith, g)) same f)
+
+  pub term_fault : {st : State} {e : Error} → KeepsError c e → TermFault st e → TermFault (at st) e
+  term_fault keeps (terms.missing h is) = terms.missing h is
+  term_fault keeps (in_array h shared is) = in_array h shared is
+  term_fault keeps (misspelled h none f) = misspelled h none (spelling_fault keeps f)

@@ -1,9 +1,10 @@
 -- What is read one after another, and in a container.
 use Rattle.std.specs.Prelude.{◌≡◌, ℕ, List, [], ◌∷◌, ◌++◌, length}
+use Rattle.amqp_model.specs.Standing.{Standing, Parts}
 use Rattle.amqp_model.specs.Term.{Container, Descriptor, Term}
 use Rattle.amqp_decoder.specs.declared.frame.Place.TheVariants.{InArray, InDescribed}
 use Rattle.amqp_decoder.specs.State.{State, past}
-use Rattle.amqp_decoder.specs.Primitives.{Stands}
+use Rattle.amqp_decoder.specs.Primitives.{standing, Stands}
 use Rattle.amqp_decoder.specs.Containers.{place_of, Opens, Closes, ClosesDescribed}
 use Rattle.amqp_decoder.specs.Described.{OpensDescribed}
 use Rattle.amqp_decoder.specs.Arrays.{OpensArray}
@@ -18,6 +19,16 @@ pub record Next (st : State) (t : Term) (st' : State) : Type 0 where
 abbrev pub Row : State → List Term → List ℕ → State → Type 0
 Row st [] b st' = (b ≡ []) × (st' ≡ st)
 Row st (t ∷ ts) b st' = (first others : List ℕ) × (b ≡ first ++ others) × Stands st first t × Row (past (length first) st) ts others st'
+
+-- How the terms of a row stand.
+abbrev pub row_standings : (st : State) (ts : List Term) (b : List ℕ) (st' : State) → Row st ts b st' → List Standing
+row_standings st [] b st' row = []
+row_standings st (t ∷ ts) b st' (first, others, e, k, row) = standing st.top.shared first ∷ row_standings (past (length first) st) ts others st' row
+
+-- The term stood next, with its parts so, and was taken.
+pub record NextWithParts (st : State) (t : Term) (ss : List Standing) (st' : State) : Type 0 where
+  pub next : Next st t st'
+  pub parts : Parts (standing st.top.shared next.bytes) t ss
 
 -- A container of this kind was opened, these terms were taken in it, and it was closed.
 pub record Contains (kind : Container) (st : State) (ts : List Term) (st' : State) : Type 0 where

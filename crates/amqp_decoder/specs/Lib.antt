@@ -6,6 +6,8 @@ pub mod Containers
 pub mod Described
 pub mod Items
 pub mod Arrays
+pub mod Rooms
 pub mod Terms
+pub mod Misspelled
 pub mod Sections
 pub mod Elsewhere

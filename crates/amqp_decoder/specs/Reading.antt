@@ -46,10 +46,10 @@ pub record Begun (st : State) (c : ℕ) (st' : State) : Type 0 where
   pub rest : st.rest ≡ own ++ drop (length own) st.rest
   pub moved : st' ≡ past (length own) st
 
--- Why no value begins.
+-- Why no value begins: none is left, or one is, and its first code can't be taken.
 pub data BeginFault (st : State) (e : Error) : Type 0 where
   missing : st.top.items ≡ Some 0 → e ≡ Missing → BeginFault st e
-  no_code : st.top.shared ≡ None → Lacks 1 st e → BeginFault st e
+  no_code : Has st.top.items 1 → st.top.shared ≡ None → Lacks 1 st e → BeginFault st e
 
 -- The next value's first code was looked at, where no constructor is shared.
 abbrev pub looked_under : Option (List Descriptor × ℕ) → State → State

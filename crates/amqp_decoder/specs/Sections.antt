@@ -4,12 +4,13 @@ use Rattle.amqp_wire.specs.declared.error.Error.{Error}
 use Rattle.amqp_wire.specs.declared.error.Error.TheVariants.{InvalidValue}
 use Rattle.amqp_input.specs.Sections.{IsSectionAhead}
 use Rattle.amqp_decoder.specs.declared.frame.Place.TheVariants.{Top}
-use Rattle.amqp_decoder.specs.State.{State, looked}
+use Rattle.amqp_decoder.specs.State.{State, top_level, looked}
 
 -- Nothing is open.
 pub record IsTop (st : State) (v : Unit {0}) (st' : State) : Type 0 where
   pub going : st.error ≡ None
   pub place : st.top.place ≡ Top
+  pub top : st.top ≡ top_level
   pub saved : st.saved ≡ []
   pub kept : st' ≡ st
 
@@ -21,6 +22,7 @@ NotTop st e = (st.top.place ≡ Top → st.saved ≡ [] → ⊥) × (e ≡ Inval
 pub record Ends (st : State) (b : Bool) (st' : State) : Type 0 where
   pub going : st.error ≡ None
   pub place : st.top.place ≡ Top
+  pub top : st.top ≡ top_level
   pub saved : st.saved ≡ []
   pub answer : IsTrue b ↔ (st.rest ≡ [])
   pub kept : st' ≡ looked (min 1 (length st.rest)) st
@@ -34,6 +36,7 @@ LooksOn st st' = (n : ℕ) × (n ≤ 64) × (n ≤ length st.rest) × (st' ≡ l
 pub record PeeksSection (st : State) (section : Option ℕ) (st' : State) : Type 0 where
   pub going : st.error ≡ None
   pub place : st.top.place ≡ Top
+  pub top : st.top ≡ top_level
   pub saved : st.saved ≡ []
   pub answer : (c : ℕ) → (section ≡ Some c) ↔ IsSectionAhead st.rest c
   pub kept : LooksOn st st'

@@ -1,12 +1,12 @@
 -- What a decoder has before it.
-use Rattle.std.specs.Prelude.{ℕ, zero, suc, ◌+◌, ◌-◌, ◌≤◌, Bool, cond, eqb, List, [], ◌∷◌, take, drop, map, get_or, max, Option, Some, None, unwrap_or}
+use Rattle.std.specs.Prelude.{◌≡◌, ℕ, zero, suc, ◌+◌, ◌-◌, ◌≤◌, Bool, cond, eqb, List, [], ◌∷◌, take, drop, map, get_or, max, Option, Some, None, unwrap_or}
 use Rattle.amqp_model.specs.Term.{Descriptor}
 use Rattle.amqp_wire.specs.declared.error.Error.{Error}
 use Rattle.amqp_wire.specs.declared.descriptor.Descriptor.{Descriptor as DescriptorValue}
 pub use Rattle.amqp_input.specs.Members.{descriptor_of}
 use Rattle.amqp_decoder.specs.declared.frame.Frame.{Frame}
 use Rattle.amqp_decoder.specs.declared.frame.Place.{Place}
-use Rattle.amqp_decoder.specs.declared.frame.Place.TheVariants.{Top}
+use Rattle.amqp_decoder.specs.declared.frame.Place.TheVariants.{Top, InArray, InDescribed, InList, InMap}
 
 -- An open container: where its values stand, and how many items and how many bytes are left of it, without what
 -- stands in the containers that are open in it (at the top level neither is bounded). The items of an array share a
@@ -76,6 +76,24 @@ shared_in (suc n) fs = (get_or fs n unused).last
 abbrev pub Nested : ℕ → List Frame → ℕ → Type 0
 Nested zero fs m = m ≤ 128
 Nested (suc n) fs m = ((get_or fs n unused).last ≤ m) × (m ≤ (get_or fs n unused).last + 128) × Nested n fs (get_or fs n unused).last
+
+-- At the top level nothing is bounded, and nothing shared.
+abbrev pub IsLevel : Frame → Type 0
+IsLevel f = f.place ≡ Top → (f.left ≡ None) × (f.code ≡ 0)
+
+-- Each of the first n frames is so, and what is described in one of them, or stands behind them at this place and has so many
+-- bytes left, has no bound where the frame around it has none.
+abbrev pub Bounded : ℕ → List Frame → Place → Option ℕ → Type 0
+Bounded zero fs p l = Unit {0}
+Bounded (suc n) fs p l = (p ≡ InDescribed → (get_or fs n unused).left ≡ None → l ≡ None) × IsLevel (get_or fs n unused) × Bounded n fs (get_or fs n unused).place (get_or fs n unused).left
+
+-- Where the items of a container stand.
+abbrev pub IsHolder : Place → Type 0
+IsHolder Top = ⊥
+IsHolder InList = Unit {0}
+IsHolder InMap = Unit {0}
+IsHolder InArray = Unit {0}
+IsHolder InDescribed = ⊥
 
 -- A bound that may be absent has room for n.
 abbrev pub Has : Option ℕ → ℕ → Type 0

@@ -13,7 +13,7 @@ use Rattle.amqp_lengths.specs.Lengths.{IsTerm}
 use Rattle.amqp_lengths.specs.Announced.{content_size, IsAnnounced}
 use Rattle.amqp_decoder.specs.declared.terms.Data.{Data}
 use Rattle.amqp_decoder.specs.declared.terms.Data.TheVariants.{Fixed as of_width, Sized as of_size}
-use Rattle.amqp_decoder.specs.State.{State, past}
+use Rattle.amqp_decoder.specs.State.{State, Has, past}
 use Rattle.amqp_decoder.specs.Steps.{Took, Lacks, SizeError}
 use Rattle.amqp_decoder.specs.Primitives.{Stands, LacksData, LacksSized, Sized}
 use Rattle.amqp_decoder.specs.Containers.{is_list}
@@ -77,5 +77,5 @@ pub record TakesTerm (st : State) (s : List ℕ) (st' : State) : Type 0 where
 -- Why no term is read.
 pub data TermFault (st : State) (e : Error) : Type 0 where
   missing : st.top.items ≡ Some 0 → e ≡ Missing → TermFault st e
-  in_array : (st.top.shared ≡ None → ⊥) → e ≡ LazyInArray → TermFault st e
-  misspelled : st.top.shared ≡ None → SpellingFault st e → TermFault st e
+  in_array : Has st.top.items 1 → (st.top.shared ≡ None → ⊥) → e ≡ LazyInArray → TermFault st e
+  misspelled : Has st.top.items 1 → st.top.shared ≡ None → SpellingFault st e → TermFault st e

@@ -12,6 +12,7 @@ ghost use Rattle.amqp_decoder.specs.Steps.{Answered, NoRoom, Stopped};
 ghost use Rattle.amqp_decoder.specs.Reading.{Reads};
 ghost use Rattle.amqp_decoder.specs.Containers.{Closes, CloseFault};
 ghost use Rattle.amqp_decoder.specs.Described.{TookDescriptor, DescriptorFault};
+ghost use Rattle.amqp_decoder.specs.Rooms.{HasRoom};
 ghost use Rattle.amqp_decoder.specs.Arrays.{TookConstructor, ConstructorFault, IsFlat, Shares, SharesFault, EntersArray, EnterArrayFault, OpensArray, ArrayFault};
 
 use crate::Decoder;
@@ -22,7 +23,8 @@ use std::alloc::Global;
 
 // The items of this constructor hold no others.
 fn is_flat(descriptors: &[Descriptor], code: u8) -> bool
-    ensures { IsKnown (format code) → IsTrue result ↔ IsFlat (map descriptor_of descriptors.now) (format code) }
+    ensures is { IsKnown (format code) → IsTrue result ↔ IsFlat (map descriptor_of descriptors.now) (format code) }
+    ensures flat { IsTrue result → IsFlat (map descriptor_of descriptors.now) (format code) }
 {
     descriptors.is_empty() && !format_code::is_compound(code)
 }
@@ -75,35 +77,35 @@ impl<R: ByteSource> Decoder<R> {
         Ok((descriptors, code))
     }
 
-    // The items of the open array share the constructor that stands next.
-    fn take_constructor(&mut self, alloc: Global) -> Result<(), Error>
-        ensures ok { Tells R.remaining → self.old.top.shared ≡ None → IfOk result (λ _. Shares self.old self.new) }
-        ensures err { Tells R.remaining → self.old.top.shared ≡ None → IfErr result (λ e. Stopped true (SharesFault self.old) self.old e self.new) }
+    // So many items of the open array share the constructor that stands next.
+    fn take_constructor(&mut self, count: u32, alloc: Global) -> Result<(), Error>
+        ensures ok { Tells R.remaining → self.old.top.shared ≡ None → self.old.top.place ≡ InArray → IfOk result (λ _. Shares count self.old self.new) }
+        ensures err { Tells R.remaining → self.old.top.shared ≡ None → IfErr result (λ e. Stopped true (SharesFault count self.old) self.old e self.new) }
     {
         let (descriptors, code) = self.constructor(alloc)?;
-        if self.is_done() {
+        if count == 0 {
             return Ok(());
         }
         if format_code::has_width_zero(code) {
             return Err(self.refuse(Error::ZeroWidthItems));
         }
         self.check_items(is_flat(&descriptors, code))?;
-        self.share(descriptors, code)
+        self.share(descriptors, code, count)
     }
 
-    // Opens an array of so many items in so many bytes.
-    fn open_items(&mut self, count: u32, content: u32) -> Result<(), Error>
-        ensures ok { IfOk result (λ _. Has self.old.top.left content × (length self.old.saved ≤ self.old.nesting) × (self.new ≡ inside InArray count content self.old)) }
+    // Opens an array of so many bytes, whose constructor isn't known yet: none of its items is left.
+    fn open_items(&mut self, content: u32) -> Result<(), Error>
+        ensures ok { IfOk result (λ _. Has self.old.top.left content × (length self.old.saved ≤ self.old.nesting) × (self.new ≡ inside InArray 0 content self.old)) }
         ensures err { Tells R.remaining → IfErr result (λ e. Stopped false (λ e. NoRoom content self.old e ⊎ ((self.old.nesting < length self.old.saved) × (e ≡ Depth))) self.old e self.new) }
     {
         self.lower(content)?;
         let inner = Frame {
-            items: count,
+            items: 0,
             left: Some(content),
             place: Place::InArray,
             ..Frame::TOP
         };
-        self.enter(self.left(), inner)
+        self.enter(inner)
     }
 
     // Opens an array whose code was taken.
@@ -112,11 +114,11 @@ impl<R: ByteSource> Decoder<R> {
         ensures err { Tells R.remaining → IfErr result (λ e. Stopped true (EnterArrayFault (cond wide 4 1) self.old) self.old e self.new) }
     {
         let (count, content) = self.header(wide, false)?;
-        self.open_items(count, content)?;
+        self.open_items(content)?;
         if count.max(content) == 0 {
             return Ok(count);
         }
-        self.take_constructor(alloc)?;
+        self.take_constructor(count, alloc)?;
         Ok(count)
     }
 
@@ -124,8 +126,10 @@ impl<R: ByteSource> Decoder<R> {
     /// stands for each of them in turn; `ZeroWidthItems` where its code has no data, `BadDescriptor` and `NonAscii`
     /// as of `begin_described`, `Depth` past 128 descriptors or 128 nested values.
     pub fn begin_array(&mut self, alloc: Global) -> Result<u32, Error>
-        ensures { Tells R.remaining → Reads true OpensArray ArrayFault self.old result self.new }
+        ensures opened { Tells R.remaining → Reads true OpensArray ArrayFault self.old result self.new }
+        ensures room { HasRoom self.old }
     {
+        self.room();
         match self.begin()? {
             format_code::ARRAY_8 => self.open_array(false, alloc),
             format_code::ARRAY_32 => self.open_array(true, alloc),

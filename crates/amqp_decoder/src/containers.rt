@@ -2,7 +2,7 @@
 ghost use Rattle.std.specs.Prelude.{◌≡◌, ◌<◌, ◌↔◌, IsTrue, cond, length, IfOk, IfErr, false};
 ghost use Rattle.amqp_model.specs.Term.{list, map};
 ghost use Rattle.amqp_wire.specs.Sources.{Tells};
-ghost use Rattle.amqp_decoder.specs.State.{Has, inside};
+ghost use Rattle.amqp_decoder.specs.State.{Has, IsHolder, inside};
 ghost use Rattle.amqp_decoder.specs.Steps.{Stopped};
 ghost use Rattle.amqp_decoder.specs.declared.frame.Place.TheVariants.{InList, InMap};
 ghost use Rattle.amqp_decoder.specs.Reading.{Reads};
@@ -54,6 +54,7 @@ impl<R: ByteSource> Decoder<R> {
     // Opens a list or a map of so many items in so many bytes.
     #[inline]
     fn open(&mut self, place: Place, count: u32, content: u32) -> Result<u32, Error>
+        requires { IsHolder place }
         ensures ok { IfOk result (λ n. (n ≡ count) × Has self.old.top.left content × (length self.old.saved < self.old.nesting) × (self.new ≡ inside place count content self.old)) }
         ensures err { Tells R.remaining → IfErr result (λ e. Stopped false (Unopened content self.old) self.old e self.new) }
     {
@@ -64,7 +65,7 @@ impl<R: ByteSource> Decoder<R> {
             place,
             ..Frame::TOP
         };
-        self.enter_counted(self.left(), inner)?;
+        self.enter_counted(inner)?;
         Ok(count)
     }
 

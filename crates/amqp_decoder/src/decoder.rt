@@ -7,9 +7,13 @@ ghost use Rattle.amqp_input.specs.Sections.{IsSectionAhead};
 ghost use Rattle.amqp_decoder.specs.Containers.{AtEnd, EndFault};
 ghost use Rattle.amqp_wire.specs.declared.error.Error.TheVariants.{Depth, Memory};
 ghost use Rattle.amqp_decoder.specs.Described.{IsUnmarked, IsMark, entered};
-ghost use Rattle.amqp_decoder.specs.State.{Open, State, top_level, looked, moved, on, past, announced, Has, lower, unshared, descriptor_of};
+ghost use Rattle.amqp_decoder.specs.State.{Open, State, IsHolder, top_level, looked, moved, on, past, announced, Has, lower, unshared, descriptor_of};
+ghost use Rattle.amqp_decoder.specs.declared.frame.Place.TheVariants.{Top, InArray, InDescribed};
 ghost use Rattle.amqp_decoder.specs.Reading.{Reads, Begun, BeginFault, Peeked, IsLeft, IsFirstShared};
 ghost use Rattle.amqp_decoder.specs.Sections.{LooksOn};
+ghost use Rattle.amqp_model.specs.Constructors.{format};
+ghost use Rattle.amqp_decoder.specs.Arrays.{IsFlat};
+ghost use Rattle.amqp_decoder.specs.Rooms.{HasRoom};
 ghost use Rattle.amqp_decoder.specs.Steps.{Answered, SourceFailed, Pulled, Missed, Took, Short, SizeRefused, NoRoom, Stopped};
 
 use crate::frame::{Frame, Place, ROW, descriptors_in};
@@ -40,13 +44,14 @@ pub struct Decoder<R: ByteSource> {
 
 impl<R: ByteSource> Model for Decoder<R> {
     ghost use Rattle.std.specs.Prelude.{◌≤◌, vec_len};
-    ghost use Rattle.amqp_decoder.specs.State.{State, stack, open_of, Nested};
+    ghost use Rattle.amqp_decoder.specs.State.{State, stack, open_of, Nested, IsLevel, Bounded};
+    ghost use Rattle.amqp_decoder.specs.Rooms.{IsRoomy};
 
     ghost Value = { State };
 
     ghost view = { λ d. record { rest = d.input.rest; ahead = d.input.ahead; source = d.input.source; top = open_of d.descriptors.items d.top; saved = stack d.descriptors.items d.depth d.frames; nesting = 128; error = d.error; failed = d.input.failed } };
 
-    ghost invariant = { λ d. (d.depth ≤ 129) × Nested d.depth d.frames d.top.last × (d.top.last ≤ vec_len d.descriptors) };
+    ghost invariant = { λ d. (d.depth ≤ 129) × Nested d.depth d.frames d.top.last × (d.top.last ≤ vec_len d.descriptors) × IsLevel d.top × Bounded d.depth d.frames d.top.place d.top.left × IsRoomy 128 d.depth (open_of d.descriptors.items d.top) };
 }
 
 impl<R: ByteSource> Decoder<R> {
@@ -86,12 +91,21 @@ impl<R: ByteSource> Decoder<R> {
     /// The error of a decoder that has refused.
     #[inline]
     pub fn check(&self) -> Result<(), Error>
-        ensures { MatchResult result (λ _. self.now.error ≡ None) (λ e. self.now.error ≡ Some e) }
+        ensures error { MatchResult result (λ _. self.now.error ≡ None) (λ e. self.now.error ≡ Some e) }
+        ensures room { HasRoom self.now }
     {
         match self.error {
             Some(error) => Err(error),
             None => Ok(()),
         }
+    }
+
+    // No more containers are open than may be nested.
+    #[inline]
+    pub(crate) fn room(&self)
+        ensures { HasRoom self.now }
+    {
+        let _depth = &self.depth;
     }
 
     // Fills the whole buffer with the next bytes.
@@ -148,6 +162,7 @@ impl<R: ByteSource> Decoder<R> {
     // So many bytes are left in the open container.
     #[inline]
     fn set_left(&mut self, left: Option<u32>)
+        requires { self.old.top.left ≡ None → left ≡ None }
         ensures { self.new ≡ record self.old { top = record self.old.top { left = left } } }
     {
         self.top.left = left;
@@ -360,18 +375,20 @@ impl<R: ByteSource> Decoder<R> {
         NESTING.saturating_sub(self.depth)
     }
 
-    // Opens a container whose items share nothing; `left` is what the open one keeps of its bytes.
+    // Opens a container whose items share nothing.
     #[inline]
-    pub(crate) fn enter(&mut self, left: Option<u32>, inner: Frame) -> Result<(), Error>
+    pub(crate) fn enter(&mut self, inner: Frame) -> Result<(), Error>
+        requires holder { IsHolder inner.place }
+        requires room { (length self.old.saved < self.old.nesting) ⊎ (inner.items ≡ 0) }
         ensures limit { self.old.nesting ≡ 128 }
-        ensures ok { IfOk result (λ _. (length self.old.saved < 129) × (self.new ≡ record self.old { top = unshared inner; saved = (record self.old.top { left = left }) ∷ self.old.saved })) }
+        ensures ok { IfOk result (λ _. (length self.old.saved < 129) × (self.new ≡ record self.old { top = unshared inner; saved = self.old.top ∷ self.old.saved })) }
         ensures err { IfErr result (λ e. (e ≡ Depth) × (129 ≤ length self.old.saved) × (self.new ≡ record self.old { error = Some Depth })) }
     {
         if self.depth >= ROW {
             return Err(self.refuse(Error::Depth));
         }
         let last = self.top.last;
-        self.frames[self.depth] = Frame { left, ..self.top };
+        self.frames[self.depth] = self.top;
         self.depth += 1;
         self.top = Frame {
             code: 0,
@@ -384,15 +401,16 @@ impl<R: ByteSource> Decoder<R> {
 
     // Opens a container that counts in nesting.
     #[inline]
-    pub(crate) fn enter_counted(&mut self, left: Option<u32>, inner: Frame) -> Result<(), Error>
+    pub(crate) fn enter_counted(&mut self, inner: Frame) -> Result<(), Error>
+        requires { IsHolder inner.place }
         ensures limit { self.old.nesting ≡ 128 }
-        ensures ok { IfOk result (λ _. (length self.old.saved < 128) × (self.new ≡ record self.old { top = unshared inner; saved = (record self.old.top { left = left }) ∷ self.old.saved })) }
+        ensures ok { IfOk result (λ _. (length self.old.saved < 128) × (self.new ≡ record self.old { top = unshared inner; saved = self.old.top ∷ self.old.saved })) }
         ensures err { IfErr result (λ e. (e ≡ Depth) × (128 ≤ length self.old.saved) × (self.new ≡ record self.old { error = Some Depth })) }
     {
         if self.depth >= NESTING {
             return Err(self.refuse(Error::Depth));
         }
-        self.enter(left, inner)
+        self.enter(inner)
     }
 
     // An array's items that hold others, or are described, count in nesting.
@@ -444,6 +462,14 @@ impl<R: ByteSource> Decoder<R> {
         self.top.place == place
     }
 
+    // Nothing is open.
+    pub(crate) fn is_top(&self) -> bool
+        ensures is { IsTrue result ↔ ((self.now.top.place ≡ Top) × (self.now.saved ≡ [])) }
+        ensures level { self.now.top.place ≡ Top → self.now.top ≡ top_level }
+    {
+        self.top.place == Place::Top && self.depth == 0
+    }
+
     // The open container is of this kind, and no item of it is left.
     #[inline]
     pub(crate) fn check_end(&mut self, place: Place) -> Result<(), Error>
@@ -488,11 +514,16 @@ impl<R: ByteSource> Decoder<R> {
     // Leaves a described value, whose bytes are those of what it stands in.
     #[inline]
     pub(crate) fn leave_described(&mut self)
+        requires { self.old.top.place ≡ InDescribed }
         ensures { (outer : Open) (others : List Open) → self.old.saved ≡ outer ∷ others → self.new ≡ record self.old { top = record outer { left = self.old.top.left }; saved = others } }
     {
-        let left = self.left();
-        self.leave();
-        self.set_left(left);
+        if self.depth > 0 {
+            self.depth -= 1;
+            self.top = Frame {
+                left: self.top.left,
+                ..self.frames[self.depth]
+            };
+        }
     }
 
     // The descriptor that the next value shares.
@@ -506,20 +537,29 @@ impl<R: ByteSource> Decoder<R> {
         }
     }
 
-    // The items of the open array share these descriptors and this code.
-    pub(crate) fn share(&mut self, mut descriptors: Vec<Descriptor>, code: u8) -> Result<(), Error>
+    // So many items are left in the open array, and share these descriptors and this code.
+    pub(crate) fn share(
+        &mut self,
+        mut descriptors: Vec<Descriptor>,
+        code: u8,
+        count: u32,
+    ) -> Result<(), Error>
         requires coded { 0 < code }
         requires few { vec_len descriptors ≤ 128 }
-        ensures ok { IfOk result (λ _. self.new ≡ record self.old { top = record self.old.top { shared = Some (map descriptor_of descriptors.items, code) } }) }
+        requires room { IsFlat (map descriptor_of descriptors.items) (format code) ⊎ (length self.old.saved ≤ self.old.nesting) }
+        ensures ok { IfOk result (λ _. self.new ≡ record self.old { top = record self.old.top { place = InArray; items = Some count; shared = Some (map descriptor_of descriptors.items, code) } }) }
         ensures err { IfErr result (λ e. (e ≡ Memory) × Answered self.old e self.new) }
     {
         let first = descriptors_in(&self.frames[..self.depth]);
         let last = first + descriptors.len() as u16;
+        self.top.place = Place::InArray;
+        self.top.items = 0;
         self.top.last = first;
         self.descriptors.truncate(usize::from(first));
         if self.descriptors.append(&mut descriptors).is_err() {
             return Err(self.refuse(Error::Memory));
         }
+        self.top.items = count;
         self.top.code = code;
         self.top.first = first;
         self.top.last = last;

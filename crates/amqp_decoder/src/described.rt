@@ -12,6 +12,7 @@ ghost use Rattle.amqp_decoder.specs.State.{moved, descriptor_of};
 ghost use Rattle.amqp_decoder.specs.Steps.{Answered};
 ghost use Rattle.amqp_decoder.specs.Reading.{Begun};
 ghost use Rattle.amqp_decoder.specs.Primitives.{Failed};
+ghost use Rattle.amqp_decoder.specs.Rooms.{HasRoom};
 ghost use Rattle.amqp_decoder.specs.Described.{IsUnmarked, IsMark, TookDescriptor, OpensDescribed, OpenFault, other_kind, symbol_code, IsDescribable, DescribedFault, DescriptorMissed, TookPlace, NameMissed, OpensOneOf, OneOfFault};
 
 use crate::Decoder;
@@ -155,7 +156,9 @@ impl<R: ByteSource> Decoder<R> {
     pub fn begin_one_of(&mut self, members: &[(u64, &str)]) -> Result<usize, Error>
         ensures opened { Tells R.remaining → Reads false (OpensOneOf members.now) (OneOfFault members.now) self.old result self.new }
         ensures nesting { Tells R.remaining → IfOk result (λ _. self.old.nesting ≡ 128) }
+        ensures room { HasRoom self.old }
     {
+        self.room();
         self.begin_descriptor()?;
         let Some(place) = self.place_of_next(members)? else {
             return Err(self.refuse(Error::WrongDescriptor));

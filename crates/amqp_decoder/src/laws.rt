@@ -1,16 +1,25 @@
 //! The laws of what the calls of a decoder read. The functions do nothing; their contracts are proved.
-ghost use Rattle.std.specs.Prelude.{◌≡◌, ◌≤◌, ◌↔◌, ℕ, List, [], ◌∷◌, ◌++◌, length, None};
+ghost use Rattle.std.specs.Prelude.{◌≡◌, ◌<◌, ◌≤◌, ◌↔◌, ℕ, List, [], ◌∷◌, ◌++◌, length, Some, None};
 ghost use Rattle.amqp_model.specs.Term.{Container, Descriptor, Term, Terms, holder, described, list, map, array};
 ghost use Rattle.amqp_model.specs.Items.{items_of};
 ghost use Rattle.amqp_model.specs.Standing.{Standing};
 ghost use Rattle.amqp_decoder.specs.declared.frame.Place.{Place};
-ghost use Rattle.amqp_decoder.specs.State.{State, looked, moved, on, past};
+ghost use Rattle.amqp_decoder.specs.declared.frame.Place.TheVariants.{InArray};
+ghost use Rattle.amqp_decoder.specs.State.{State, Has, looked, moved, on, past};
 ghost use Rattle.amqp_decoder.specs.Steps.{Took};
 ghost use Rattle.amqp_decoder.specs.Reading.{Begun, Peeked};
-ghost use Rattle.amqp_decoder.specs.Primitives.{Stands, Value};
-ghost use Rattle.amqp_decoder.specs.Containers.{Opens, Closes};
-ghost use Rattle.amqp_decoder.specs.Arrays.{OpensArray};
-ghost use Rattle.amqp_decoder.specs.Items.{Next, Row, Contains, ContainsArray, DescribedStands};
+ghost use Rattle.amqp_decoder.specs.Primitives.{standing, Stands, Value, PrimitiveFault};
+ghost use Rattle.amqp_input.specs.Members.{Member};
+ghost use Rattle.amqp_wire.specs.declared.error.Error.{Error};
+ghost use Rattle.amqp_wire.specs.declared.error.Error.TheVariants.{Memory};
+ghost use Rattle.amqp_decoder.specs.Elsewhere.{Setting, under, KeepsError};
+ghost use Rattle.amqp_decoder.specs.Misspelled.{IsMisspelling, NothingStands};
+ghost use Rattle.amqp_decoder.specs.Terms.{TermFault};
+ghost use Rattle.amqp_decoder.specs.Containers.{Opens, OpenFault, Closes, CloseFault};
+ghost use Rattle.amqp_decoder.specs.Arrays.{OpensArray, ArrayFault};
+ghost use Rattle.amqp_decoder.specs.Rooms.{HasFlatItems, HasRoom};
+ghost use Rattle.amqp_decoder.specs.Described.{OpensDescribed, OneOfFault, OpenFault as OpenDescribedFault};
+ghost use Rattle.amqp_decoder.specs.Items.{Next, NextWithParts, Row, row_standings, Contains, ContainsArray, DescribedStands};
 
 /// What is read after a look is what is read without it.
 pub fn looks()
@@ -23,29 +32,46 @@ pub fn looks()
     ensures begun { (st looked after : State) (c d : ℕ) → Peeked st c looked → (Begun looked d after ↔ Begun st d after) }
 {}
 
-/// A list that is opened, whose items are taken in turn, and that is closed is a term that stood there and is taken; and
-/// where a list stands, this is how it is taken (Part 1, sections 1.2.3 and 1.6.22).
+/// A list that is opened, whose items are taken in turn, and that is closed is a term that stood there and is taken, with
+/// the items as its parts; and where a list stands, this is how it is taken (Part 1, sections 1.2.3 and 1.6.22).
 pub fn lists()
-    ensures { (st after : State) (items : Terms) → Contains list st (items_of items) after ↔ Next st (holder list items) after }
+    ensures taken { (st after : State) (items : Terms) → Contains list st (items_of items) after ↔ Next st (holder list items) after }
+    ensures stands { (st after : State) (items : Terms) (c : Contains list st (items_of items) after) → NextWithParts st (holder list items) (row_standings c.mid (items_of items) c.bytes c.last c.items) after }
 {}
 
 /// The same of a map, whose items are its keys and what they lead to in turn (Part 1, section 1.6.23).
 pub fn maps()
-    ensures { (st after : State) (items : Terms) → Contains map st (items_of items) after ↔ Next st (holder map items) after }
+    ensures taken { (st after : State) (items : Terms) → Contains map st (items_of items) after ↔ Next st (holder map items) after }
+    ensures stands { (st after : State) (items : Terms) (c : Contains map st (items_of items) after) → NextWithParts st (holder map items) (row_standings c.mid (items_of items) c.bytes c.last c.items) after }
 {}
 
 /// The same of an array, whose items stand under the constructor that they share (Part 1, sections 1.2.4 and 1.6.24); where
-/// it stands, it is taken so if no more containers are open than values may be nested.
+/// it stands, it is taken so where containers have room, as they do in every decoder.
 pub fn arrays()
+    ensures opened { (st after : State) (n : ℕ) → OpensArray st n after → (after.top.place ≡ InArray) × (after.top.items ≡ Some n) }
     ensures whole { (st after : State) (items : Terms) → ContainsArray st (items_of items) after → Next st (holder array items) after }
-    ensures parts { (st after : State) (items : Terms) → length st.saved ≤ st.nesting → Next st (holder array items) after → ContainsArray st (items_of items) after }
+    ensures stands { (st after : State) (items : Terms) (c : ContainsArray st (items_of items) after) → NextWithParts st (holder array items) (row_standings c.mid (items_of items) c.bytes c.last c.items) after }
+    ensures parts { (st after : State) (items : Terms) → HasRoom st → Next st (holder array items) after → ContainsArray st (items_of items) after }
 {}
 
-/// A described value that is opened, whose value is taken, and that is closed is a term that stood there and is taken; and
-/// where a described value stands, this is how it is taken (Part 1, section 1.2).
+/// A described value that is opened, whose value is taken, and that is closed is a term that stood there and is taken, with
+/// the value as its part; and where a described value stands, this is how it is taken (Part 1, section 1.2).
 pub fn described_values()
     ensures whole { (st after : State) (d : Descriptor) (t : Term) → st.nesting ≤ 128 → DescribedStands st d t after → Next st (described d t) after }
+    ensures stands { (st after : State) (d : Descriptor) (t : Term) → st.nesting ≤ 128 → (h : DescribedStands st d t after) → NextWithParts st (described d t) (standing h.inner.top.shared h.bytes ∷ []) after }
     ensures parts { (st after : State) (d : Descriptor) (t : Term) → Next st (described d t) after → DescribedStands st d t after }
+{}
+
+/// Containers have room at the top level, keep it where something is looked at or taken, and have it in what is opened.
+pub fn rooms()
+    ensures top { (st : State) → st.saved ≡ [] → HasRoom st }
+    ensures fits { (st : State) → HasRoom st → Has st.top.items 1 → (HasFlatItems st.top.shared → ⊥) → length st.saved ≤ st.nesting }
+    ensures looked { (n : ℕ) (st : State) → HasRoom st → HasRoom (looked n st) }
+    ensures next { (st after : State) (t : Term) → Next st t after → HasRoom st → HasRoom after }
+    ensures row { (ts : List Term) (st after : State) (b : List ℕ) → Row st ts b after → HasRoom st → HasRoom after }
+    ensures opened { (kind : Container) (st after : State) (n : ℕ) → Opens kind st n after → HasRoom after }
+    ensures opened_array { (st after : State) (n : ℕ) → OpensArray st n after → HasRoom after }
+    ensures opened_described { (st after : State) (d : Descriptor) → OpensDescribed st d after → HasRoom after }
 {}
 
 /// At one state one term stands, as these bytes, and it leaves one state; of two rows of terms the shorter is the front of
@@ -78,4 +104,29 @@ pub fn one_value<T: HasMeaning>()
 pub fn rows()
     ensures one { (t : Term) (st after : State) → Next st t after → (b : List ℕ) × Row st (t ∷ []) b after }
     ensures joined { (ts us : List Term) (st mid after : State) (b c : List ℕ) → Row st ts b mid → Row mid us c after → Row st (ts ++ us) (b ++ c) after }
+{}
+
+/// A fault is the same before another source, and where values may nest deeper unless it is `Depth`; and none is want of memory.
+pub fn faults()
+    ensures arrays { (c : Setting) (st : State) (e : Error) → KeepsError c e → ArrayFault st e → ArrayFault (under c st) e }
+    ensures described { (c : Setting) (st : State) (e : Error) → KeepsError c e → OpenDescribedFault st e → OpenDescribedFault (under c st) e }
+    ensures terms { (c : Setting) (st : State) (e : Error) → KeepsError c e → TermFault st e → TermFault (under c st) e }
+    ensures no_array { (st : State) → ArrayFault st Memory → ⊥ }
+    ensures no_described { (st : State) → OpenDescribedFault st Memory → ⊥ }
+    ensures no_term { (st : State) → TermFault st Memory → ⊥ }
+{}
+
+/// An error that says of bytes that they are no term, whatever type is read, names a fault only where no term stands; and where
+/// none stands among the items of a container, or in a described value, none stands around it (Part 1, section 1.2).
+pub fn misspellings()
+    ensures primitives { (k : ℕ) (st : State) (e : Error) → IsMisspelling e → PrimitiveFault k st e → NothingStands st }
+    ensures lists { (st : State) (e : Error) → IsMisspelling e → OpenFault list st e → NothingStands st }
+    ensures maps { (st : State) (e : Error) → IsMisspelling e → OpenFault map st e → NothingStands st }
+    ensures arrays { (st : State) (e : Error) → HasRoom st → IsMisspelling e → ArrayFault st e → NothingStands st }
+    ensures described { (st : State) (e : Error) → IsMisspelling e → OpenDescribedFault st e → NothingStands st }
+    ensures members { (members : List Member) (st : State) (e : Error) → IsMisspelling e → OneOfFault members st e → NothingStands st }
+    ensures terms { (st : State) (e : Error) → IsMisspelling e → TermFault st e → NothingStands st }
+    ensures in_array { (st first mid : State) (n : ℕ) (ts : List Term) (b : List ℕ) → HasRoom st → OpensArray st n first → Row first ts b mid → length ts < n → NothingStands mid → NothingStands st }
+    ensures at_array_end { (place : Place) (st first last : State) (n : ℕ) (ts : List Term) (b : List ℕ) (e : Error) → HasRoom st → OpensArray st n first → Row first ts b last → IsMisspelling e → CloseFault place last e → NothingStands st }
+    ensures in_described { (st inner : State) (d : Descriptor) → OpensDescribed st d inner → NothingStands inner → NothingStands st }
 {}

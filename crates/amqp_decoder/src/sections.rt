@@ -5,7 +5,6 @@ ghost use Rattle.amqp_decoder.specs.Reading.{Reads};
 ghost use Rattle.amqp_decoder.specs.Sections.{IsTop, NotTop, Ends, PeeksSection};
 
 use crate::Decoder;
-use crate::frame::Place;
 use amqp_wire::{ByteSource, Error};
 
 impl<R: ByteSource> Decoder<R> {
@@ -14,7 +13,7 @@ impl<R: ByteSource> Decoder<R> {
         ensures { Reads false IsTop NotTop self.old result self.new }
     {
         self.check()?;
-        if !self.is_in(Place::Top) || self.depth() > 0 {
+        if !self.is_top() {
             return Err(self.refuse(Error::InvalidValue));
         }
         Ok(())

@@ -8,7 +8,7 @@ returns-in_err-code g c = λ told.
     let left = c.in_ok-check_item.ensures in
     let none = c.in_default.ensures in
     let short = rw left.kept at (c.in_err-code.ensures.err told) in
-    rw (p.1, p.2) (begin_short _ _ _ left.going (rw left.kept at none) short)
+    rw (p.1, p.2) (begin_short _ _ _ left.going left.item (rw left.kept at none) short)
 
 pub returns : goal.returns
 returns g c = λ told.

@@ -1,14 +1,24 @@
-use Rattle.std.proofs.Common.{arith, ◌<◌, length, refl}
-use Rattle.amqp_decoder.proofs.Rows.{length-stack, stack-push, nested_push}
+use Rattle.std.proofs.Common.{arith, ◌<◌, ◌≡◌, length, refl, subst, ap, sym, ◌∙◌}
+use Rattle.amqp_decoder.specs.State.{State, IsHolder, unshared}
+use Rattle.amqp_decoder.proofs.Rows.{length-stack, stack-push, nested_push, bounded_push, room_inside}
 use Rattle.amqp_decoder.proofs.decoder.Decoder.enter.Goals as goal
 
 pub invariant_of-self : goal.invariant_of-self
 invariant_of-self g c =
     let few : c.self.inside.depth < length c.self.inside.frames = omega arith in
-    (omega arith, nested_push _ _ _ few c.self.invariant.1, c.self.invariant.2)
+    let inner : IsHolder c.args.inner.place = c.requires.holder in
+    let deep : length c.args.self.now.saved ≡ c.self.inside.depth = ap (λ (st : State). length st.saved) (sym c.self.view_is) ∙ length-stack _ _ _ in
+    let limit : c.args.self.now.nesting ≡ 128 = ap (λ (st : State). st.nesting) (sym c.self.view_is) in (
+      omega arith,
+      nested_push _ _ _ few c.self.invariant.1,
+      c.self.invariant.2,
+      λ e. absurd (subst IsHolder e inner),
+      bounded_push _ _ _ _ _ few (λ e. absurd (subst IsHolder e inner)) c.self.invariant.3 c.self.invariant.4,
+      room_inside (unshared c.args.inner) _ _ _ c.args.inner.place c.args.inner.items refl deep limit inner c.requires.room,
+    )
 
 pub returns-clause-ok : goal.returns-clause-ok
 returns-clause-ok g c =
     let few : c.self.inside.depth < length c.self.inside.frames = omega arith in
-    let pushed = stack-push c.self.inside.descriptors.items c.self.inside.depth c.self.inside.frames (record c.self.inside.top { left = c.args.left }) few in
+    let pushed = stack-push c.self.inside.descriptors.items c.self.inside.depth c.self.inside.frames c.self.inside.top few in
     rw (← c.self.view_is, length-stack, pushed) (omega arith, refl)

@@ -1,11 +1,20 @@
-use Rattle.std.proofs.Common.{arith, ◌≤◌, ◌<◌, length, refl}
-use Rattle.amqp_decoder.proofs.Rows.{length-stack, stack-push, nested_push, shared_behind, and_none}
+use Rattle.std.proofs.Common.{arith, ◌≡◌, ◌≤◌, ◌<◌, length, refl, None, Some, ap, sym, ◌∙◌, inl}
+use Rattle.std.specs.Option.{option_and}
+use Rattle.amqp_decoder.proofs.Rows.{length-stack, stack-push, nested_push, bounded_push, bounded_as, shared_behind, and_none, none_and}
 use Rattle.amqp_decoder.proofs.decoder.Decoder.enter_described.Goals as goal
 
 pub invariant_of-self : goal.invariant_of-self
 invariant_of-self g c =
     let few : c.self.inside.depth < length c.self.inside.frames = omega arith in
-    (omega arith, nested_push _ _ _ few c.self.invariant.1, c.self.invariant.2)
+    let outer = record c.self.inside.top { left = c.and.result } in
+    let kept : c.self.inside.top.left ≡ None → c.and.result ≡ None = λ e. c.and.ensures ∙ ap (λ o. option_and o (Some 0)) e in (
+      omega arith,
+      nested_push _ _ _ few c.self.invariant.1,
+      c.self.invariant.2,
+      λ e. absurd (cc),
+      bounded_push _ _ outer _ _ few (λ e n. none_and _ (sym c.and.ensures ∙ n)) (λ e. (kept (c.self.invariant.3 e).0, (c.self.invariant.3 e).1)) (bounded_as _ _ _ _ _ _ (λ e. (e, kept)) c.self.invariant.4),
+      inl (omega arith),
+    )
 
 pub returns-clause-err : goal.returns-clause-err
 returns-clause-err g c =

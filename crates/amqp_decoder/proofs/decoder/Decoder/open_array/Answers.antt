@@ -30,4 +30,4 @@ returns-clause-ok g c = λ told.
     let opened = c.in_ok-open_items.ensures.ok in
     let none = ap (λ (z : State). z.top.shared) opened.2 in
     let some : 0 < max c.in_ok-count.count c.in_ok-count.content = omega (arith, c.max.ensures, c.if-max-eq0.false) in
-    enters_all _ _ _ _ _ _ _ (c.in_ok-count.ensures.ok told) opened some (c.in_ok-take_constructor.ensures.ok told none)
+    enters_all _ _ _ _ _ _ _ (c.in_ok-count.ensures.ok told) opened some (c.in_ok-take_constructor.ensures.ok told none (ap (λ (z : State). z.top.place) opened.2))

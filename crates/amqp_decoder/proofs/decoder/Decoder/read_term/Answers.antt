@@ -10,4 +10,4 @@ returns-in_err-bytes-clause-read g c = λ told.
     let left = c.in_ok-check_item.ensures in
     let none = no_code_shared _ _ c.shared_code.ensures (sym c.is_some.ensures ∙ c.if-is_some.false) in
     let stopped = rw left.kept at (c.in_err-bytes.ensures.err told) in
-    rw (p.1, p.2) (term_misspelled (λ (v : Vec ℕ Global). v.items) _ _ _ left.going (rw left.kept at none) stopped)
+    rw (p.1, p.2) (term_misspelled (λ (v : Vec ℕ Global). v.items) _ _ _ left.going left.item (rw left.kept at none) stopped)

@@ -1,33 +1,37 @@
-use Rattle.std.proofs.Common.{◌≡◌, Some}
+use Rattle.std.proofs.Common.{◌≤◌, inl, inr, length, subst, sym}
 use Rattle.std.proofs.lemmas.Result.{err_from_is_err_and}
+use Rattle.amqp_decoder.specs.State.{State}
 use Rattle.amqp_decoder.proofs.Leaves.{ok_map}
 use Rattle.amqp_decoder.proofs.Constructed.{known_zero}
-use Rattle.amqp_decoder.proofs.OpenedArrays.{shares_none, shares_all, stopped_unconstructed, stopped_zero, stopped_nested}
+use Rattle.amqp_decoder.specs.Arrays.{no_items}
+use Rattle.amqp_decoder.proofs.OpenedArrays.{shares_all, stopped_unconstructed, stopped_zero, stopped_nested}
 use Rattle.amqp_decoder.proofs.Steps.{answered}
 use Rattle.amqp_decoder.proofs.decoder.Decoder.take_constructor.Goals as goal
 
 pub returns-in_err-descriptors-clause-err : goal.returns-in_err-descriptors-clause-err
 returns-in_err-descriptors-clause-err g c = λ told none.
     let p = err_from_is_err_and c.from_residual.result c.from_residual.ensures.1 in
-    rw (p.1, p.2) (stopped_unconstructed _ _ _ (c.in_err-descriptors.ensures.err told none))
+    rw (p.1, p.2) (stopped_unconstructed _ _ _ _ (c.in_err-descriptors.ensures.err told none))
 
-pub returns-then-is_done-clause-ok : goal.returns-then-is_done-clause-ok
-returns-then-is_done-clause-ok g c = λ told none. shares_none _ _ _ _ (c.is_done.ensures.0 c.if-is_done.true) (c.in_ok-descriptors.ensures.ok told none)
+pub returns-then-count-eq0-clause-ok : goal.returns-then-count-eq0-clause-ok
+returns-then-count-eq0-clause-ok g c = λ told none here. no_items _ _ c.if-count-eq0.true (c.in_ok-descriptors.ensures.ok told none)
 
 pub returns-then-has_width_zero-clause-err : goal.returns-then-has_width_zero-clause-err
 returns-then-has_width_zero-clause-err g c = λ told none.
-    let left : c.constructor.new.self.top.items ≡ Some 0 → ⊥ = λ z. let x = c.is_done.ensures.1 z in let y = c.if-is_done.false in absurd (cc) in
-    stopped_zero _ _ _ _ _ _ _ left (c.in_ok-descriptors.ensures.ok told none) c.if-has_width_zero.true (known_zero c.in_ok-descriptors.code c.has_width_zero.result c.has_width_zero.ensures) c.refuse.ensures.answer
+    stopped_zero _ _ _ _ _ _ _ _ c.if-count-eq0.false (c.in_ok-descriptors.ensures.ok told none) c.if-has_width_zero.true (known_zero c.in_ok-descriptors.code c.has_width_zero.result c.has_width_zero.ensures) c.refuse.ensures.answer
     (answered _ _ _ _ c.refuse.ensures.kept c.refuse.ensures.answer)
 
 pub returns-in_err-check_items-clause-err : goal.returns-in_err-check_items-clause-err
 returns-in_err-check_items-clause-err g c = λ told none.
     let p = err_from_is_err_and c.from_residual-in_err-check_items.result c.from_residual-in_err-check_items.ensures.1 in
-    let left : c.constructor.new.self.top.items ≡ Some 0 → ⊥ = λ z. let x = c.is_done.ensures.1 z in let y = c.if-is_done.false in absurd (cc) in
-    rw (p.1, p.2) (stopped_nested _ _ _ _ c.is_flat.result _ _ left (c.in_ok-descriptors.ensures.ok told none) (rw c.deref.ensures.value at c.is_flat.ensures) c.in_err-check_items.ensures.err)
+    rw (p.1, p.2) (stopped_nested _ _ _ _ _ c.is_flat.result _ _ c.if-count-eq0.false (c.in_ok-descriptors.ensures.ok told none) (rw c.deref.ensures.value at c.is_flat.ensures.is) c.in_err-check_items.ensures.err)
+
+pub share-requires-clause-room : goal.share-requires-clause-room
+share-requires-clause-room g c =
+    let fits = c.in_ok-check_items.ensures.ok in
+    elim fits.0 [ inl x ↦ inl ((rw c.deref.ensures.value at c.is_flat.ensures.flat) x) | inr few ↦ inr (subst (λ (st : State). length st.saved ≤ st.nesting) (sym fits.1) few) ]
 
 pub returns-clause-ok : goal.returns-clause-ok
-returns-clause-ok g c = λ told none.
-    let left : c.constructor.new.self.top.items ≡ Some 0 → ⊥ = λ z. let x = c.is_done.ensures.1 z in let y = c.if-is_done.false in absurd (cc) in
+returns-clause-ok g c = λ told none here.
     let took = c.in_ok-descriptors.ensures.ok told none in
-    ok_map _ _ _ (λ x h. shares_all _ _ _ _ _ _ c.has_width_zero.result c.is_flat.result left took c.if-has_width_zero.false (known_zero c.in_ok-descriptors.code c.has_width_zero.result c.has_width_zero.ensures) (rw c.deref.ensures.value at c.is_flat.ensures) c.in_ok-check_items.ensures.ok h) c.share.ensures.ok
+    ok_map _ _ _ (λ x h. shares_all _ _ _ _ _ _ _ c.has_width_zero.result c.is_flat.result c.if-count-eq0.false here took c.if-has_width_zero.false (known_zero c.in_ok-descriptors.code c.has_width_zero.result c.has_width_zero.ensures) (rw c.deref.ensures.value at c.is_flat.ensures.is) c.in_ok-check_items.ensures.ok h) c.share.ensures.ok

@@ -1,0 +1,136 @@
+-- Where bytes are no term, the error is that they end, or it says so of them.
+use Rattle.std.proofs.Common.{◌≡◌, ℕ, ◌⊎◌, inl, inr, ◌∙◌, arith, Bool, true, false, cond, eqb, List, Option, Some, None, refl, sym, subst}
+use Rattle.std.proofs.lemmas.Bool.{eqb-true, eq-eqb}
+use Rattle.amqp_model.specs.Term.{Primitive, char, string, symbol, Container, array}
+use Rattle.amqp_model.specs.Constructors.{Format, fixed, variable, compound, unknown, format}
+use Rattle.amqp_model.specs.Spelling.{IsKnown}
+use Rattle.amqp_wire.specs.declared.error.Error.{Error}
+use Rattle.amqp_wire.specs.declared.error.Error.TheVariants.{Cut, UnknownCode, FloatCode, WrongType}
+use Rattle.amqp_wire.specs.Codes.{is_known, refusal_of}
+use Rattle.amqp_lengths.specs.Pieces.{value_of}
+use Rattle.amqp_lengths.specs.Faults.{ValueFault, PrimitiveFault, primitive_wanting, primitive_no_value, DescriptorFault, descriptor_missing, descriptor_other, descriptor_unknown, descriptor_data, ConstructorFault, constructor_ends, constructor_unknown, constructor_long, constructor_descriptor, ContentFault, content_wanting, content_small, content_counted, inside, TermFault, term_constructor, term_nests, term_data, DataFault, data_of_primitive, data_of_holder, data_of_array, HolderFault, holder_content, holder_deep, holder_unpaired, holder_items, ItemsFault, items_fault, items_over, ArrayFault, array_content, array_elements, ElementsFault, elements_missing, elements_constructor, elements_over, elements_empty, elements_deep, elements_data, SharedFault, shared_fault, shared_over}
+use Rattle.amqp_decoder.specs.Misspelled.{IsMisspelling}
+
+yes_no : (b : Bool) → b ≡ true → b ≡ false → ⊥
+yes_no b e f = let x : true ≡ false = sym e ∙ f in cc
+
+known_yes : (F : Format) → IsKnown F → is_known F ≡ true
+known_yes (fixed w f) h = refl
+known_yes (variable w f) h = refl
+known_yes (compound k w) h = refl
+known_yes unknown h = absurd h
+
+refusal_by : (c : ℕ) (F : Format) (a b d k : Bool) → (c ≡ 0x72 → IsKnown F → ⊥) → (c ≡ 0x82 → IsKnown F → ⊥) → eqb c 0x72 ≡ a
+    → eqb c 0x82 ≡ b → eqb c 0 ≡ d → is_known F ≡ k
+    → IsMisspelling (cond a (FloatCode c) (cond b (FloatCode c) (cond d (WrongType c) (cond k (WrongType c) (UnknownCode c)))))
+    → (c ≡ 0 → ⊥) × (IsKnown F → ⊥)
+refusal_by c F true b d k float double e f g i h = let x = eqb-true c 0x72 e in (λ z. omega (arith, z, x), float x)
+refusal_by c F false true d k float double e f g i h = let x = eqb-true c 0x82 f in (λ z. omega (arith, z, x), double x)
+refusal_by c F false false true k float double e f g i h = absurd h
+refusal_by c F false false false true float double e f g i h = absurd h
+refusal_by c F false false false false float double e f g i h =
+    (λ z. yes_no (eqb c 0) (eq-eqb c 0 z) g, λ k. yes_no (is_known F) (known_yes F k) i)
+
+-- a code that is refused as that of no term
+pub refusal_misspelled : (c : ℕ) → IsMisspelling (refusal_of c) → (c ≡ 0 → ⊥) × (IsKnown (format c) → ⊥)
+refusal_misspelled c h =
+    let none : (n : ℕ) → c ≡ n → IsKnown (format c) → IsKnown (format n) = λ n e k. subst (λ z. IsKnown (format z)) e k in
+    refusal_by c (format c) (eqb c 0x72) (eqb c 0x82) (eqb c 0) (is_known (format c)) (none 0x72) (none 0x82) refl refl refl refl h
+
+yes_known : (F : Format) → is_known F ≡ true → IsKnown F
+yes_known (fixed w f) h = tt
+yes_known (variable w f) h = tt
+yes_known (compound k w) h = tt
+yes_known unknown h = let x : false ≡ true = h in absurd (cc)
+
+misspelled_by : (c : ℕ) (a b d k : Bool) → eqb c 0 ≡ d → is_known (format c) ≡ k → (c ≡ 0 → ⊥) → (IsKnown (format c) → ⊥)
+    → IsMisspelling (cond a (FloatCode c) (cond b (FloatCode c) (cond d (WrongType c) (cond k (WrongType c) (UnknownCode c)))))
+misspelled_by c true b d k g i some none = tt
+misspelled_by c false true d k g i some none = tt
+misspelled_by c false false true k g i some none = absurd (some (eqb-true c 0 g))
+misspelled_by c false false false true g i some none = absurd (none (yes_known (format c) i))
+misspelled_by c false false false false g i some none = tt
+
+misspelled_refusal : (c : ℕ) → (c ≡ 0 → ⊥) → (IsKnown (format c) → ⊥) → IsMisspelling (refusal_of c)
+misspelled_refusal c some none = misspelled_by c (eqb c 0x72) (eqb c 0x82) (eqb c 0) (is_known (format c)) refl refl some none
+
+-- the errors of terms
+abbrev IsOfTerms : Error → Type 0
+IsOfTerms e = (e ≡ Cut) ⊎ IsMisspelling e
+
+misspelled_inside : (e : Error) → IsMisspelling e → IsMisspelling (inside e)
+misspelled_inside Cut h = tt
+misspelled_inside e h = h
+
+of_inside : (e : Error) → IsOfTerms e → IsMisspelling (inside e)
+of_inside e (inl is) = subst (λ x. IsMisspelling (inside x)) (sym is) tt
+of_inside e (inr h) = misspelled_inside e h
+
+of_value : (o : Option Primitive) (e : Error) → ValueFault o e → IsMisspelling e
+of_value None e h = subst IsMisspelling (sym h) tt
+of_value (Some (char n)) e h = subst IsMisspelling (sym h.1) tt
+of_value (Some (string s)) e h = subst IsMisspelling (sym h.1) tt
+of_value (Some (symbol s)) e h = subst IsMisspelling (sym h.1) tt
+of_value (Some p) e h = absurd h
+
+of_primitive : (F : Format) (input : List ℕ) (e : Error) → PrimitiveFault F input e → IsOfTerms e
+of_primitive F input e (primitive_wanting p h) = inl refl
+of_primitive F input e (primitive_no_value content after x b h) = inr (of_value (value_of F content) x h)
+
+of_descriptor : (input : List ℕ) (e : Error) → DescriptorFault input e → IsOfTerms e
+of_descriptor input e (descriptor_missing is) = inl refl
+of_descriptor input e (descriptor_other c after is known other) = inr tt
+of_descriptor input e (descriptor_unknown c after is some none) = inr (misspelled_refusal c some none)
+of_descriptor input e (descriptor_data c after x is code h) = of_primitive (format c) after x h
+
+of_constructor : (input : List ℕ) (e : Error) → ConstructorFault input e → IsOfTerms e
+of_constructor input e (constructor_ends n few b) = inl refl
+of_constructor input e (constructor_unknown n c after few b some none) = inr (misspelled_refusal c some none)
+of_constructor input e (constructor_long after b) = inr tt
+of_constructor input e (constructor_descriptor n after x few b h) = of_descriptor after x h
+
+of_content : (kind : Container) (w : ℕ) (input : List ℕ) (e : Error) → ContentFault kind w input e → IsOfTerms e
+of_content kind w input e (content_wanting h) = inl refl
+of_content kind w input e (content_small h) = inr tt
+of_content kind w input e (content_counted k h) = inr tt
+
+mutual
+  of_term : (nesting : ℕ) (input : List ℕ) (e : Error) → TermFault nesting input e → IsOfTerms e
+  of_term nesting input e (term_constructor k b x h) = of_constructor b x h
+  of_term nesting input e (term_nests k b n c after there deep) = inr tt
+  of_term nesting input e (term_data k b x n c left after there is h) = of_data c left after x h
+
+  of_data : (code nesting : ℕ) (input : List ℕ) (e : Error) → DataFault code nesting input e → IsOfTerms e
+  of_data code nesting input e (data_of_primitive c k b x h) = of_primitive (format c) b x h
+  of_data code nesting input e (data_of_holder c k b x kind w is some h) = of_holder kind w k b x h
+  of_data code nesting input e (data_of_array c k b x w is h) = of_array w k b x h
+
+  of_holder : (kind : Container) (w nesting : ℕ) (input : List ℕ) (e : Error) → HolderFault kind w nesting input e → IsOfTerms e
+  of_holder kind w nesting input e (holder_content k v m b x h) = of_content k v b x h
+  of_holder kind w nesting input e (holder_deep k v m b after there is) = inr tt
+  of_holder kind w nesting input e (holder_unpaired k v m b n items after there odd) = inr tt
+  of_holder kind w nesting input e (holder_items k v m b x n left items after there is h) = inr (of_items left n items x h)
+
+  of_items : (nesting n : ℕ) (content : List ℕ) (e : Error) → ItemsFault nesting n content e → IsMisspelling e
+  of_items nesting n content e (items_fault k m b x done after less there h) = of_inside x (of_term k after x h)
+  of_items nesting n content e (items_over k m b after there some) = tt
+
+  of_array : (w nesting : ℕ) (input : List ℕ) (e : Error) → ArrayFault w nesting input e → IsOfTerms e
+  of_array w nesting input e (array_content v m b x h) = of_content array v b x h
+  of_array w nesting input e (array_elements v m b x n items after there h) = inr (of_elements m n items x h)
+
+  of_elements : (nesting n : ℕ) (content : List ℕ) (e : Error) → ElementsFault nesting n content e → IsMisspelling e
+  of_elements nesting n content e (elements_missing k j b is some) = tt
+  of_elements nesting n content e (elements_constructor k j b x some h) = of_inside x (of_constructor b x h)
+  of_elements nesting n content e (elements_over k j b m c after there is some) = tt
+  of_elements nesting n content e (elements_empty k j b m c after there some h) = tt
+  of_elements nesting n content e (elements_deep k j b m c after there some h) = tt
+  of_elements nesting n content e (elements_data k j b x m c left after there some is h) = of_shared c left j after x h
+
+  of_shared : (code nesting n : ℕ) (content : List ℕ) (e : Error) → SharedFault code nesting n content e → IsMisspelling e
+  of_shared code nesting n content e (shared_fault c k m b x done after less there h) = of_inside x (of_data c k after x h)
+  of_shared code nesting n content e (shared_over c k m b after there some) = tt
+
+-- bytes that are no term are refused since they end, or as such
+pub term_error : (nesting : ℕ) (input : List ℕ) (e : Error) → TermFault nesting input e → (e ≡ Cut) ⊎ IsMisspelling e
+term_error nesting input e h = of_term nesting input e h
