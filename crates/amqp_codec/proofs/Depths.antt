@@ -2,46 +2,23 @@
 use Rattle.std.proofs.Common.{◌≡◌, inl, inr, ℕ, ◌≤◌, max, Bool, true, false, cond, List, [], refl, ap, subst, arith}
 use Rattle.std.specs.Str.{bytes_eq}
 use Rattle.std.proofs.lemmas.Slice.Eq.{bytes_eq-Decides}
-use Rattle.amqp_model.specs.Term.{lazy_in_array, list, map, array, Term, Terms, leaf, holder, described, kept, barred, none, more}
+use Rattle.amqp_model.specs.Term.{lazy_in_array, Term, Terms, leaf, holder, described, kept, barred, none, more}
 use Rattle.amqp_model.specs.Spelling.{enc}
 use Rattle.amqp_model.specs.Measures.{nest, nests}
-use Rattle.amqp_model.specs.Ranges.{Everywhere, EverywhereIn, IsValue}
+use Rattle.amqp_model.specs.Ranges.{Everywhere, EverywhereIn}
 use Rattle.amqp_model.specs.Refusals.{SomewhereIn, HasKeptItem, IsRefused}
-use Rattle.amqp_model.specs.Kept.{Reads, ReadsEach}
+use Rattle.amqp_model.specs.Kept.{ReadsEach}
 use Rattle.amqp_model.specs.Items.{terms_of}
 use Rattle.amqp_model.proofs.Unique.{one_term}
 use Rattle.amqp_wire.specs.declared.error.Error.{Error}
 use Rattle.amqp_encoder.specs.declared.size.Size.{Size}
 use Rattle.amqp_encoder.specs.Reasons.{nests_by}
-use Rattle.amqp_encoder.specs.Passes.{AreValues, AreRefused, IsMeasured}
+use Rattle.amqp_encoder.specs.Passes.{AreRefused, IsMeasured}
 use Rattle.amqp_encoder.specs.Refused.{KnowsDepth, KnowDepths}
 use Rattle.amqp_encoder.proofs.Rows.{somewhere_in_as}
 use Rattle.amqp_encoder.proofs.Refused.{none_deeper, all_as_deep}
 use Rattle.amqp_codec.specs.Written.{IsProper, AreProper, AreUnwritable, AreWritable}
-
-mutual
-  everywhere_as : (P Q : Term → Type 0) → ((t : Term) → P t → Q t) → (t : Term) → Everywhere P t → Everywhere Q t
-  everywhere_as P Q f (leaf p) h = f (leaf p) h
-  everywhere_as P Q f (holder k ts) h = (f (holder k ts) h.0, everywhere_in_as P Q f ts h.1)
-  everywhere_as P Q f (described d t) h = (f (described d t) h.0, everywhere_as P Q f t h.1)
-  everywhere_as P Q f (kept b) h = f (kept b) h
-  everywhere_as P Q f (barred r) h = f (barred r) h
-
-  everywhere_in_as : (P Q : Term → Type 0) → ((t : Term) → P t → Q t) → (ts : Terms) → EverywhereIn P ts → EverywhereIn Q ts
-  everywhere_in_as P Q f none h = h
-  everywhere_in_as P Q f (more t ts) h = (everywhere_as P Q f t h.0, everywhere_in_as P Q f ts h.1)
-
-proper_value : (t : Term) → IsProper t → IsValue t
-proper_value (leaf p) h = h
-proper_value (holder list ts) h = h
-proper_value (holder map ts) h = h
-proper_value (holder array ts) h = h
-proper_value (described d t) h = h
-proper_value (kept b) h = tt
-proper_value (barred r) h = h
-
-pub proper_values : (ts : List Term) → AreProper ts → AreValues ts
-proper_values ts h = everywhere_in_as IsProper IsValue proper_value (terms_of ts) h
+use Rattle.amqp_codec.specs.Proper.{everywhere_as, everywhere_in_as, proper_reads_each}
 
 -- no depth is too great
 abbrev IsSafe : (List ℕ → ℕ) → Type 0
@@ -94,19 +71,6 @@ mutual
 pub depths : (ts : List Term) → AreProper ts → (deep : List ℕ → ℕ) × KnowDepths deep ts
 depths ts h = let d = depths_in (terms_of ts) h in (d.0, d.2)
 
--- what terms read as
-mutual
-  reads : (u : Term) → Everywhere IsProper u → (t : Term) × Reads u t
-  reads (leaf p) h = (leaf p, refl)
-  reads (holder k us) h = let r = reads_each us h.1 in (holder k r.0, (refl, r.1))
-  reads (described d u) h = let r = reads u h.1 in (described d r.0, (refl, r.1))
-  reads (kept b) h = h
-  reads (barred r) h = (barred r, refl)
-
-  reads_each : (us : Terms) → EverywhereIn IsProper us → (ts : Terms) × ReadsEach us ts
-  reads_each none h = (none, tt)
-  reads_each (more u us) h = let r = reads u h.0 in let s = reads_each us h.1 in (more r.0 s.0, (r.1, s.1))
-
 is_lazy : (t : Term) → HasKeptItem t → IsRefused lazy_in_array t
 is_lazy t h = inr h
 
@@ -118,7 +82,7 @@ module _ (deep : List ℕ → ℕ) where
   -- an encoder's reasons are those of the terms
   pub unwritable : (ts : List Term) (e : Error) → AreProper ts → KnowDepths deep ts → AreRefused deep ts e → AreUnwritable ts e
   unwritable ts e i h (inl s) = inl s
-  unwritable ts e i h (inr (inl (d, l))) = let r = reads_each (terms_of ts) i in inr (inl (d, (r.0, r.1, omega (arith, l, none_deeper deep (terms_of ts) r.0 h r.1))))
+  unwritable ts e i h (inr (inl (d, l))) = let r = proper_reads_each (terms_of ts) i in inr (inl (d, (r.0, r.1, omega (arith, l, none_deeper deep (terms_of ts) r.0 h r.1))))
   unwritable ts e i h (inr (inr x)) = inr (inr x)
 
   -- and there are none where they were measured

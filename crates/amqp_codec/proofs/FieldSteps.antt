@@ -1,5 +1,5 @@
 -- The fields of a composite are read one after another.
-use Rattle.std.proofs.Common.{◌≡◌, inl, inr, ℕ, zero, suc, ◌-◌, ◌<◌, ◌≤◌, Bool, true, false, List, [], ◌∷◌, ◌++◌, length, get_or, None, Result, Ok, Err, refl, sym, ap, ◌∙◌, subst, arith, length-append}
+use Rattle.std.proofs.Common.{◌≡◌, inl, inr, ℕ, zero, suc, ◌<◌, ◌≤◌, Bool, true, false, List, [], ◌∷◌, ◌++◌, length, get_or, None, Result, Ok, Err, refl, sym, ap, ◌∙◌, subst, arith, length-append, Some}
 use Rattle.amqp_model.specs.Term.{null, list, Term, leaf, count}
 use Rattle.amqp_model.specs.Items.{is_null, terms_of}
 use Rattle.amqp_model.specs.ItemLaws.{clash, items_of-terms_of}
@@ -7,7 +7,6 @@ use Rattle.amqp_model.specs.Slot.{is_required}
 use Rattle.amqp_model.specs.Fields.{Fits, kinds_of}
 use Rattle.amqp_model.specs.declared.tables.FieldKind.TheVariants.{Mandatory}
 use Rattle.amqp_wire.specs.declared.error.Error.{Error}
-use Rattle.amqp_wire.specs.declared.error.Error.TheVariants.{Missing}
 use Rattle.amqp_decoder.specs.declared.frame.Place.TheVariants.{InList}
 use Rattle.amqp_decoder.specs.State.{State, past}
 use Rattle.amqp_decoder.specs.Items.{Row}
@@ -22,7 +21,7 @@ use Rattle.amqp_decoder.proofs.Steps.{answered_later}
 use Rattle.amqp_decoder.specs.Steps.{Answered}
 use Rattle.amqp_encoder.proofs.Refused.{count_of}
 use Rattle.amqp_codec.specs.Fields.{Fields, slots, take_memory}
-use Rattle.amqp_codec.specs.FieldReading.{MeansAt, FaultAt, FitsFront, KeepsBut, FitsAt, ItemRead, ItemFault, no_item, null_item, in_item, FieldsSoFar, FieldsRead, FieldsFault, FillsField, ReadsItem, filled_at, unfilled_at, no_list, at_item, left_out, not_ended, kind_at, front_null, front_filled, front_missing, front_end, front_start, fits_value, fits_null, fits_few, IsBlank}
+use Rattle.amqp_codec.specs.FieldReading.{absence, absent, MeansAt, FaultAt, FitsFront, KeepsBut, FitsAt, ItemRead, ItemFault, no_item, null_item, in_item, FieldsSoFar, FieldsRead, FieldsFault, FillsField, ReadsItem, filled_at, unfilled_at, no_list, at_item, left_out, not_ended, kind_at, front_null, front_filled, front_missing, front_end, front_start, fits_value, fits_null, fits_few, IsBlank}
 use Rattle.amqp_codec.specs.Refused.{no_memory, opened_going, opened_sound, refused_first, refused_later}
 use Rattle.amqp_codec.specs.Peeks.{peeked_failed, peeked_going, not_null, value_peeked}
 
@@ -126,14 +125,14 @@ module _ {V : Type 0} (fs : Fields V) where
       r
 
   -- a required item is left out
-  pub left_out_refused : (st : State) (n i : ℕ) (v : V) (mid : State) (e : Error) (new : State) → n ≤ i → i < length (kinds_of (slots fs)) → is_required (kind_at fs i) ≡ true → e ≡ Missing → Answered mid e new → FieldsSoFar fs st n i v mid → Refused (take_memory fs) (FieldsRead fs) (FieldsFault fs) st e new
-  left_out_refused st n i v mid e new l k required is kept h = record {
+  pub left_out_refused : (st : State) (n i : ℕ) (v : V) (mid : State) (e : Error) (new : State) → n ≤ i → i < length (kinds_of (slots fs)) → absence (kind_at fs i) ≡ Some e → Answered mid e new → FieldsSoFar fs st n i v mid → Refused (take_memory fs) (FieldsRead fs) (FieldsFault fs) st e new
+  left_out_refused st n i v mid e new l k is kept h = record {
     kept = answered_later (so_far_failed st n i v mid h) kept;
     again = λ d x. absurd (let y = so_far_going st n i v mid h in cc);
-    named = λ _. inr (left_out h l k required is);
+    named = λ _. inr (left_out h l k is);
     none = inr (λ w b q.
         let g = further st n i v w mid b h q in
-        fits_null fs i q.terms w Mandatory q.fits k required (ap is_null (past_end q.terms i (omega (arith, g.count, l)))));
+        fits_null fs i q.terms w Mandatory q.fits k (absent (kind_at fs i) e is) (ap is_null (past_end q.terms i (omega (arith, g.count, l)))));
   }
 
   nothing_taken : (ts : List Term) (mid last : State) (s : List ℕ) → length ts ≡ 0 → Row mid ts s last → last ≡ mid
@@ -180,15 +179,15 @@ module _ {V : Type 0} (fs : Fields V) (i : ℕ) where
   null_read v st b r h = record { bytes = h.bytes; term = h.term; stands = h.stands; moved = h.moved; fits = inl (h.meant, r, refl) }
 
   -- null was taken, and doesn't fit
-  pub null_unfit : (st b : State) (e : Error) (new : State) → st.error ≡ None → is_required (kind_at fs i) ≡ true → e ≡ Missing → Answered b e new → Value (Means (λ (_ : Unit {0}). null)) st tt b → Refused (take_memory fs) (Value (FitsAt fs i)) (ItemFault fs i) st e new
-  null_unfit st b e new going required is kept h = record {
+  pub null_unfit : (st b : State) (e : Error) (new : State) → st.error ≡ None → absence (kind_at fs i) ≡ Some e → Answered b e new → Value (Means (λ (_ : Unit {0}). null)) st tt b → Refused (take_memory fs) (Value (FitsAt fs i)) (ItemFault fs i) st e new
+  null_unfit st b e new going is kept h = record {
     kept = answered_later (ap (λ (x : State). x.failed) h.moved) kept;
     again = λ d x. absurd (cc);
-    named = λ _. inr (null_item h required is);
+    named = λ _. inr (null_item h is);
     none = inr (λ w c k.
         let o = stands_same st h.bytes k.bytes h.term k.term h.stands k.stands in
         let z : is_null k.term ≡ true = ap is_null (sym o.1 ∙ h.meant) in
-        elim k.meant [ inl x ↦ clash required x.1 | inr x ↦ clash z x.0 ]);
+        elim k.meant [ inl x ↦ clash (absent (kind_at fs i) e is) x.1 | inr x ↦ clash z x.0 ]);
   }
 
   -- the field was filled
@@ -201,7 +200,7 @@ module _ {V : Type 0} (fs : Fields V) (i : ℕ) where
   pub value_refused : (st mid : State) (c : ℕ) (e : Error) (new : State) → Peeked st c mid → (c ≡ 0x40 → ⊥) → Refused (take_memory fs) (Value (MeansAt fs i)) (FaultAt fs i) mid e new → Refused (take_memory fs) (Value (FitsAt fs i)) (ItemFault fs i) st e new
   value_refused st mid c e new p other r =
       let going = peeked_going st c mid p in
-      refused_later (Value (MeansAt fs i)) (FaultAt fs i) (Value (FitsAt fs i)) (ItemFault fs i) st mid e new (λ t. t) (peeked_failed st c mid p) going.0 going.1 (in_item p)
+      refused_later (Value (MeansAt fs i)) (FaultAt fs i) (Value (FitsAt fs i)) (ItemFault fs i) st mid e new (λ t. t) (peeked_failed st c mid p) going.0 going.1 (in_item p other)
       (λ none w b h.
       let n = not_null (FitsAt fs i) st c mid w b p other h in
       elim h.meant [

@@ -31,7 +31,7 @@ module _ {T : Type 0} (r : Reading T) (input : List ℕ) (source : ℕ) (failed 
       go (inl (inr x)) n = inr (inl x)
       go (inr f) (inl (inl x)) = inl x
       go (inr f) (inl (inr x)) = inr (inl x)
-      go (inr f) (inr n) = inr (inr (record { fault = r.fault_elsewhere 0 false begin e f; none = λ v m k. n v (elsewhere source failed k.after) (r.reads_elsewhere source failed (start input) v k.after k.read) }))
+      go (inr f) (inr n) = inr (inr (record { fault = r.fault_elsewhere 0 false begin e f; none = λ v m k. n v (elsewhere source failed k.after) (r.reads_elsewhere source failed (start input) v k.after k.read); unspelled = λ one i. r.misspelled one input e i (r.fault_elsewhere 0 false begin e f) }))
 
   pub found : (res : Result T Error) (b : State) → Reads r.takes_memory r.reads r.fault begin res b → IfOk res (λ v. (n : ℕ) × IsRead r input v n)
   found (Ok v) b h = (length input - length b.rest, read_here v b h)
@@ -56,7 +56,7 @@ module _ {T : Type 0} (r : Reading T) (input : List ℕ) (source : ℕ) (failed 
 
   -- a source that begins to fail is never hidden behind another error
   pub failing : (res : Result T Error) (b : State) → Reads r.takes_memory r.reads r.fault begin res b → (broken before : Bool) → broken ≡ b.failed → before ≡ failed → MatchResult res (λ _. broken ≡ before) (λ e. (broken ≡ before) ⊎ IsReadError e)
-  failing (Ok v) b h broken before e f = e ∙ (r.taken begin v b h).sound ∙ sym f
+  failing (Ok v) b h broken before e f = e ∙ (r.stays begin v b h).sound ∙ sym f
   failing (Err x) b h broken before e f = elim h.kept.source [ inl s ↦ inl (e ∙ s ∙ sym f) | inr i ↦ inr i ]
 
 -- a source that never fails is no reason

@@ -40,8 +40,8 @@ module _ {T : Type 0} (u : TermType T) (r : Reading T) (reads : ReadsTerms u r) 
       let k : Value u.means st v b = record { bytes = h.bytes; term = h.term; stands = h.stands; moved = h.moved; meant = h.meant.1 } in
       none v b (reads.from_value mid v b ((value-peeked u.means st mid b c v p).1 k))
 
-  pub some_refused : (st : State) (c : ℕ) (mid : State) (e : Error) (new : State) → Peeked st c mid → (c ≡ 0x40 → ⊥) → Refused r.takes_memory r.reads r.fault mid e new → Refused u.takes_memory (Value (MeansOption u.means)) (OptionFault u.fault) st e new
+  pub some_refused : (st : State) (c : ℕ) (mid : State) (e : Error) (new : State) → Peeked st c mid → (c ≡ 0x40 → ⊥) → Refused r.takes_memory r.reads r.fault mid e new → Refused u.takes_memory (Value (MeansOption u.means)) (OptionFault u.faults.fault) st e new
   some_refused st c mid e new p other h =
       let going = peeked_going st c mid p in
-      refused_later r.reads r.fault (Value (MeansOption u.means)) (OptionFault u.fault) st mid e new reads.to_memory (peeked_failed st c mid p) going.0 going.1
-      (λ f. inr (c, mid, p, reads.to_fault mid e f)) (none_stands st c mid p other) h
+      refused_later r.reads r.fault (Value (MeansOption u.means)) (OptionFault u.faults.fault) st mid e new reads.to_memory (peeked_failed st c mid p) going.0 going.1
+      (λ f. inr (c, mid, p, other, reads.to_fault mid e f)) (none_stands st c mid p other) h

@@ -18,7 +18,8 @@ use Rattle.amqp_encoder.proofs.Rows.{HasFound, HasFilled}
 use Rattle.amqp_encoder.proofs.Rows as rows
 use Rattle.amqp_encoder.specs.Refused.{KnowDepths}
 use Rattle.amqp_codec.specs.Written.{GaveUp, WritesTerms, AreProper, AreUnwritable, AreWritable, AreMeasured}
-use Rattle.amqp_codec.proofs.Depths.{proper_values, depths, unwritable}
+use Rattle.amqp_codec.specs.Proper.{proper_values}
+use Rattle.amqp_codec.proofs.Depths.{depths, unwritable}
 use Rattle.amqp_codec.proofs.Depths as depth
 
 found_same : (s : Pass) (m n : ℕ) (xs ys : List Size) → Found s m xs → Found s n ys → (n ≡ m) × (ys ≡ xs)

@@ -7,14 +7,17 @@ use Rattle.amqp_wire.specs.declared.error.Error.TheVariants.{Memory}
 use Rattle.amqp_encoder.specs.Passes.{row_text}
 use Rattle.amqp_codec.specs.Reading.{Reading, IsRead, Unreadable, read_one}
 use Rattle.amqp_codec.specs.Rewriting.{Rewriting}
-use Rattle.amqp_codec.specs.Rewritten.{IsRewritten, IsReadAgain, IsOneText, IsOfNoOther, IsUnchanged, IsShortest, Unwritten}
+use Rattle.amqp_codec.specs.Rewritten.{IsRewritten, IsReadAgain, AreReadAgain, IsOneText, IsOfNoOther, IsUnchanged, IsShortest, Unwritten}
 use Rattle.amqp_codec.specs.Written.{AreWritable, AreUnwritable}
 
-module _ {T : Type 0} {r : Reading T} {canons : T → List Term} {is_value : T → Type 0} {follows : List ℕ → Type 0} {again : T → T} {kept : T → Type 0} {is_least : Bool} (laws : Rewriting r canons is_value follows again kept is_least) where
+module _ {T : Type 0} {r : Reading T} {canons : T → List Term} {is_value : T → Type 0} {follows : List ℕ → Type 0} {again : T → T} {kept lasts : T → Type 0} {is_least : Bool} (laws : Rewriting r canons is_value follows again kept lasts is_least) where
   own_text : (input : List ℕ) (v : T) (n : ℕ) → IsRead r input v n → AreWritable (canons v) → IsRead r (row_text (canons v)) (again v) (length (row_text (canons v)))
   own_text input v n h f =
       let text = row_text (canons v) in
-      subst (λ b. IsRead r b (again v) (length text)) (append-nil text) (laws.reads_again v [] (laws.value input v n h) f laws.alone)
+      subst (λ b. IsRead r b (again v) (length text)) (append-nil text) (laws.reads_again v [] (laws.value input v n h) (laws.lasting input v n h) f laws.alone)
+
+  pub every_text : AreReadAgain r canons is_value follows again lasts
+  every_text = record { read = laws.reads_again; text = laws.text_again }
 
   module _ (input text : List ℕ) (n : ℕ) (h : IsRewritten r canons input text n) where
     canons_are : (v : T) → IsRead r input v n → canons h.value ≡ canons v
@@ -28,7 +31,7 @@ module _ {T : Type 0} {r : Reading T} {canons : T → List Term} {is_value : T �
 
     pub read_again : IsReadAgain r follows again kept input text n
     read_again = record {
-      read = λ v more k f. subst (λ b. IsRead r (b ++ more) (again v) (length b)) (sym (text_is v k)) (laws.reads_again v more (laws.value input v n k) (writable v k) f);
+      read = λ v more k f. subst (λ b. IsRead r (b ++ more) (again v) (length b)) (sym (text_is v k)) (laws.reads_again v more (laws.value input v n k) (laws.lasting input v n k) (writable v k) f);
       itself = λ v k s. laws.own input v n k s;
     }
 

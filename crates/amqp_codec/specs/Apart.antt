@@ -6,6 +6,7 @@ use Rattle.amqp_model.specs.Composite.{Describes}
 use Rattle.amqp_model.specs.ItemLaws.{clash}
 use Rattle.amqp_model.specs.CompositeLaws.{by_cases}
 use Rattle.amqp_codec.specs.Composite.{Table, table_of, composite}
+use Rattle.amqp_codec.specs.Faults.{Faults}
 use Rattle.amqp_codec.specs.EitherType.{FormsApart, either_of}
 use Rattle.amqp_codec.specs.TermType.{TermType}
 
@@ -50,6 +51,6 @@ module _ {V W : Type 0} (c : Table V) (d : Table W) (h : differ c d ≡ true) wh
       m
 
 -- what is apart from two types is apart from their sum
-pub apart_from_sum : {A B C : Type 0} (u : TermType A) (v : TermType B) (w : TermType C) (h : FormsApart v w) → FormsApart u v → FormsApart u w → FormsApart u (either_of v w h)
-apart_from_sum u v w h f g s z t r a (inl b) m n = f s z t r a b m n
-apart_from_sum u v w h f g s z t r a (inr x) m n = g s z t r a x m n
+pub apart_from_sum : {A B C : Type 0} (u : TermType A) (v : TermType B) (w : TermType C) (h : FormsApart v w) (faults : Faults) → FormsApart u v → FormsApart u w → FormsApart u (either_of v w h faults)
+apart_from_sum u v w h faults f g s z t r a (inl b) m n = f s z t r a b m n
+apart_from_sum u v w h faults f g s z t r a (inr x) m n = g s z t r a x m n

@@ -1,6 +1,6 @@
 -- The type of a composite: a described list whose items fit its table (Part 1, sections 1.4 and 1.5).
 use Rattle.std.proofs.Common.{◌≡◌, inl, inr, ℕ, ◌+◌, ◌<◌, ◌≤◌, true, false, List, [], ◌∷◌, ◌++◌, None, Some, get_or, length, length-append, refl, sym, ap, ◌∙◌, subst, arith, suc, cond, eqb, ltb}
-use Rattle.amqp_model.specs.Term.{Refusal, too_large, list, map, array, Descriptor, name, code, ulong, symbol, Term, Terms, leaf, holder, described, kept, barred, none, more, count}
+use Rattle.amqp_model.specs.Term.{Refusal, too_large, list, Descriptor, name, code, ulong, symbol, Term, Terms, holder, described, none, more, count}
 use Rattle.amqp_model.specs.Constructors.{format}
 use Rattle.amqp_model.specs.Spelling.{enc, data_of, ContainerData, Names, items_of as ItemsStand}
 use Rattle.amqp_model.specs.Standing.{Standing, whole, part}
@@ -28,17 +28,18 @@ use Rattle.std.proofs.lemmas.Bool.{ltb-false, ltb-true}
 use Rattle.amqp_codec.specs.Tidy.{tidy}
 use Rattle.amqp_codec.specs.TermType.{TermType, Spells, IsUnrefused, IsLeaf, IsPlain}
 use Rattle.amqp_codec.specs.Plain.{reads_itself, plain_reads}
+use Rattle.amqp_codec.specs.Leaves.{holder_not_null}
 use Rattle.amqp_codec.specs.Flaws.{size_alone, list_flawless, code_flawless}
 use Rattle.std.proofs.lemmas.Bool.{eqb-true, eq-eqb}
 use Rattle.std.proofs.lemmas.List.Quantifiers.{position-Some}
 use Rattle.std.proofs.lemmas.Slice.Eq.{bytes_eq-Decides}
 use Rattle.amqp_decoder.specs.State.{State}
-use Rattle.amqp_codec.specs.Elsewhere.{fields_read, fields_fault, member_fault}
+use Rattle.amqp_codec.specs.Elsewhere.{fields_read, fields_faults, member_faults}
 use Rattle.amqp_decoder.specs.Items.{Contains}
 use Rattle.amqp_input.specs.Members.{is_named, name_place}
 use Rattle.amqp_decoder.proofs.Holders.{whole as list_whole, parts as list_parts}
-use Rattle.amqp_codec.specs.FieldReading.{fields_not_memory, FieldsRead, FieldsFault}
-use Rattle.amqp_codec.specs.Members.{member_not_memory, Members, MemberFault, TermRead, TermMeant, IsSum}
+use Rattle.amqp_codec.specs.FieldReading.{FieldsRead}
+use Rattle.amqp_codec.specs.Members.{Members, TermRead, TermMeant, IsSum}
 use Rattle.amqp_codec.specs.Fields.{Fields, slots, items, count_of, are_least, take_memory, items_plain, items_valued, items_nested, items_counted, items_writable, items_fewest, items_least}
 
 -- The table of a composite: the code and the name that describe it, and its fields.
@@ -82,7 +83,7 @@ data_items d ts (e ∷ f ∷ ds) c b h = absurd h.1
 standing_items : (s : Standing) (d : Descriptor) (ts : Terms) → Spells s (described d (holder list ts)) → (content : List ℕ) × ItemsStand ts content
 unfolding enc
 standing_items (whole b) d ts (ds, c, few, (h, x, e, k, s)) = data_items d ts ds c x s
-standing_items (part ds c b) d ts h = data_items d ts ds c b h
+standing_items (part ds c b) d ts h = data_items d ts ds c b h.1
 
 -- a code below 256 takes two bytes at most, and a name at least two
 code_length : (n : ℕ) → n < 256 → length (spell (shortest (ulong n))) ≤ 2
@@ -168,10 +169,9 @@ abbrev pub composite_members : {V : Type 0} → Table V → Members V
 composite_members c = record {
   names = (c.code, c.name) ∷ [];
   reads = λ i. FieldsRead c.fields;
-  fault = λ i. FieldsFault c.fields;
+  faults = λ i. fields_faults c.fields;
   takes_memory = take_memory c.fields;
-  reads_elsewhere = λ source failed i. fields_read source failed c.fields;
-  fault_elsewhere = λ source failed i. fields_fault source failed c.fields;
+  reads_elsewhere = λ s i. fields_read s c.fields;
 }
 
 pub named_describes : {V : Type 0} (c : Table V) (d : Descriptor) → is_named d (c.code, c.name) ≡ true → Describes (table_of c) d
@@ -240,8 +240,7 @@ composite c =
     record {
       is_value = AreValues (slots c.fields);
       means = λ s. MeansComposite (table_of c);
-      fault = MemberFault (composite_members c);
-      not_memory = member_not_memory (composite_members c) (λ i. fields_not_memory c.fields);
+      faults = member_faults (composite_members c);
       canon = canonical_term (table_of c);
       norm = c.norm;
       same = Same (slots c.fields);
@@ -271,6 +270,7 @@ composite c =
       null_alike = λ s. composite_null c;
       is_solid = λ _ v. refl;
       formed = λ s z t u v w h k e. refl;
+      core_null = λ s t v m e. absurd (holder_not_null list (items c.fields v) e);
       formless = λ s. composite_formless c;
       nested = λ s. composite_nested c;
       leaf_alike = λ s t u v h r. composite_leaf_alike c t u v h;
@@ -278,5 +278,4 @@ composite c =
       least = composite_least_of c;
       is_blind = λ _ s z t v h. h;
       is_plain = λ _. composite_plain c;
-      fault_elsewhere = λ source failed. member_fault source failed (composite_members c);
     }

@@ -1,7 +1,7 @@
 -- A value of one type or of another, whose terms have other forms.
-use Rattle.std.proofs.Common.{◌≡◌, ◌⊎◌, inl, inr, ℕ, ◌≤◌, true, false, ◌&&◌, ◌||◌, List, None, length, refl, sym}
+use Rattle.std.proofs.Common.{◌≡◌, ◌⊎◌, inl, inr, ℕ, ◌≤◌, Bool, true, false, ◌&&◌, ◌||◌, List, None, length, refl, sym, ap, ◌∙◌, subst}
 use Rattle.std.specs.Cmp.{first_so, second_so}
-use Rattle.amqp_model.specs.Term.{Refusal, too_large, Term, Descriptor}
+use Rattle.amqp_model.specs.Term.{null, Refusal, too_large, Term, leaf, Descriptor}
 use Rattle.amqp_model.specs.Spelling.{enc}
 use Rattle.amqp_model.specs.Standing.{Standing, whole, part}
 use Rattle.amqp_model.specs.Text.{Plain, text, form}
@@ -12,6 +12,20 @@ use Rattle.amqp_model.specs.Kept.{Reads}
 use Rattle.amqp_model.specs.Items.{is_null, IsFree}
 use Rattle.amqp_model.specs.FieldType.{Norm, normal, plain, by_norm}
 use Rattle.amqp_codec.specs.Tidy.{tidy}
+use Rattle.amqp_wire.specs.declared.error.Error.{Error}
+use Rattle.amqp_wire.specs.declared.error.Error.TheVariants.{Memory}
+use Rattle.amqp_decoder.specs.State.{State}
+use Rattle.amqp_decoder.specs.Reading.{BeginFault, Peeked}
+use Rattle.amqp_decoder.specs.Rooms.{HasRoom}
+use Rattle.amqp_decoder.specs.Misspelled.{IsMisspelling, NothingStands}
+use Rattle.amqp_decoder.proofs.Misspelled.{begin_misspelled}
+use Rattle.amqp_decoder.proofs.NothingInside.{nothing_peeked}
+use Rattle.amqp_decoder.proofs.Rooms.{room_peeked}
+use Rattle.amqp_decoder.specs.Elsewhere.{Setting, under, KeepsError, begin_fault, peeked}
+use Rattle.amqp_decoder.proofs.NotMemory.{begin_not_memory}
+use Rattle.amqp_decoder.proofs.Leaves.{begun_same, fault_not_begun}
+use Rattle.amqp_model.specs.ItemLaws.{clash}
+use Rattle.amqp_codec.specs.Faults.{Faults}
 use Rattle.amqp_codec.specs.TermType.{TermType, Spells, StandsCanonically, IsUnrefused, IsLeaf, IsKept, IsPlain}
 
 -- what the one or the other says of a value
@@ -161,6 +175,10 @@ module _ {A B : Type 0} (u : TermType A) (w : TermType B) where
   either_formed apart s z t r (inl a) (inr d) h k e = absurd (apart s z t r a d h k e)
   either_formed apart s z t r (inr b) (inl c) h k e = absurd (apart z s r t c b k h (sym e))
 
+  pub either_core_null : (s : Standing) (t : Term) (v : A ⊎ B) → MeansEither s t v → core (either_canon v) ≡ leaf null → form t ≡ None
+  either_core_null s t (inl a) = u.core_null s t a
+  either_core_null s t (inr b) = w.core_null s t b
+
   pub either_formless : (s : Standing) (t : Term) (v : A ⊎ B) → MeansEither s t v → form t ≡ None → form (either_canon v) ≡ None
   either_formless s t (inl a) = u.formless s t a
   either_formless s t (inr b) = w.formless s t b
@@ -189,13 +207,49 @@ module _ {A B : Type 0} (u : TermType A) (w : TermType B) where
   either_is_plain l (inl a) = u.is_plain (first_so u.blind w.blind l) a
   either_is_plain l (inr b) = w.is_plain (second_so u.blind w.blind l) b
 
--- A sum of two types.
-abbrev pub either_of : {A B : Type 0} (u : TermType A) (w : TermType B) → FormsApart u w → TermType (A ⊎ B)
-either_of u w apart = record {
+-- Why no value of two types that are told from each other by the first code is read: none begins, or what begins by a
+-- code of the first type has a fault of that one, and what begins by another code a fault of the second.
+pub data EitherFault (is_first : ℕ → Bool) (f g : Faults) (st : State) (e : Error) : Type 0 where
+  no_value : BeginFault st e → EitherFault is_first f g st e
+  in_first : {c : ℕ} {mid : State} → Peeked st c mid → is_first c ≡ true → f.fault mid e → EitherFault is_first f g st e
+  in_second : {c : ℕ} {mid : State} → Peeked st c mid → is_first c ≡ false → g.fault mid e → EitherFault is_first f g st e
+
+module _ (is_first : ℕ → Bool) (f g : Faults) where
+  pub either_not_memory : (st : State) → EitherFault is_first f g st Memory → ⊥
+  either_not_memory st (no_value h) = begin_not_memory st h
+  either_not_memory st (in_first {c} {mid} p is h) = f.not_memory mid h
+  either_not_memory st (in_second {c} {mid} p is h) = g.not_memory mid h
+
+  pub either_elsewhere : (s : Setting) (st : State) (e : Error) → KeepsError s e → EitherFault is_first f g st e → EitherFault is_first f g (under s st) e
+  either_elsewhere s st e k (no_value h) = no_value (begin_fault s k h)
+  either_elsewhere s st e k (in_first {c} {mid} p is h) = in_first (peeked s p) is (f.fault_elsewhere s mid e k h)
+  either_elsewhere s st e k (in_second {c} {mid} p is h) = in_second (peeked s p) is (g.fault_elsewhere s mid e k h)
+
+  pub either_misspelled : (st : State) (e : Error) → HasRoom st → IsMisspelling e → EitherFault is_first f g st e → NothingStands st
+  either_misspelled st e room i (no_value h) = begin_misspelled st e i h
+  either_misspelled st e room i (in_first {c} {mid} p is h) = nothing_peeked st c mid p (f.misspelled mid e (room_peeked st c mid p room) i h)
+  either_misspelled st e room i (in_second {c} {mid} p is h) = nothing_peeked st c mid p (g.misspelled mid e (room_peeked st c mid p room) i h)
+
+  abbrev pub either_faults : Faults
+  either_faults = record { fault = EitherFault is_first f g; not_memory = either_not_memory; fault_elsewhere = either_elsewhere; misspelled = either_misspelled }
+
+  -- where a code was looked at, a fault is of the type that it tells, and of no other
+  pub first_fault : (st mid : State) (c : ℕ) (e : Error) → Peeked st c mid → is_first c ≡ true → EitherFault is_first f g st e → f.fault mid e
+  first_fault st mid c e p is (no_value h) = absurd (fault_not_begun st e c p.after h p.begun)
+  first_fault st mid c e p is (in_first {c = d} {mid = seen} q k h) = subst (λ (x : State). f.fault x e) (q.kept ∙ sym p.kept) h
+  first_fault st mid c e p is (in_second {c = d} {mid = seen} q k h) = absurd (clash (ap is_first (sym (begun_same st c d p.after q.after p.begun q.begun).0) ∙ is) k)
+
+  pub second_fault : (st mid : State) (c : ℕ) (e : Error) → Peeked st c mid → is_first c ≡ false → EitherFault is_first f g st e → g.fault mid e
+  second_fault st mid c e p is (no_value h) = absurd (fault_not_begun st e c p.after h p.begun)
+  second_fault st mid c e p is (in_first {c = d} {mid = seen} q k h) = absurd (clash k (ap is_first (sym (begun_same st c d p.after q.after p.begun q.begun).0) ∙ is))
+  second_fault st mid c e p is (in_second {c = d} {mid = seen} q k h) = subst (λ (x : State). g.fault x e) (q.kept ∙ sym p.kept) h
+
+-- A sum of two types: which errors its reading may answer hangs on how the one is told from the other.
+abbrev pub either_of : {A B : Type 0} (u : TermType A) (w : TermType B) → FormsApart u w → Faults → TermType (A ⊎ B)
+either_of u w apart faults = record {
   is_value = IsEither u.is_value w.is_value;
   means = MeansEither u w;
-  fault = λ st e. u.fault st e ⊎ w.fault st e;
-  not_memory = λ st f. elim f [ inl x ↦ u.not_memory st x | inr x ↦ w.not_memory st x ];
+  faults = faults;
   canon = either_canon u w;
   norm = either_norm u w;
   same = either_same u w;
@@ -225,6 +279,7 @@ either_of u w apart = record {
   null_alike = either_null_alike u w;
   is_solid = either_is_solid u w;
   formed = either_formed u w apart;
+  core_null = either_core_null u w;
   formless = either_formless u w;
   nested = either_nested u w;
   leaf_alike = either_leaf_alike u w;
@@ -232,5 +287,4 @@ either_of u w apart = record {
   least = either_least u w;
   is_blind = either_is_blind u w;
   is_plain = either_is_plain u w;
-  fault_elsewhere = λ source failed st e h. elim h [ inl f ↦ inl (u.fault_elsewhere source failed st e f) | inr f ↦ inr (w.fault_elsewhere source failed st e f) ];
 }

@@ -1,5 +1,5 @@
 -- How the fields of a composite are read, one after another.
-use Rattle.std.proofs.Common.{◌≡◌, ◌⊎◌, min, ℕ, zero, suc, ◌<◌, ◌≤◌, Bool, true, false, List, [], ◌∷◌, ◌++◌, length, get_or, Result, Ok, Err, refl, arith}
+use Rattle.std.proofs.Common.{◌≡◌, ◌⊎◌, min, ℕ, zero, suc, ◌<◌, ◌≤◌, Bool, true, false, List, [], ◌∷◌, ◌++◌, length, get_or, Option, Some, None, Result, Ok, Err, refl, arith}
 use Rattle.amqp_model.specs.Term.{null, list, Term, leaf}
 use Rattle.amqp_model.specs.Standing.{Standing}
 use Rattle.amqp_model.specs.Items.{is_null}
@@ -7,8 +7,8 @@ use Rattle.amqp_model.specs.Slot.{is_required}
 use Rattle.amqp_model.specs.Fields.{Fits, kinds_of}
 use Rattle.amqp_model.specs.declared.tables.FieldKind.{FieldKind}
 use Rattle.amqp_wire.specs.declared.error.Error.{Error}
-use Rattle.amqp_wire.specs.declared.error.Error.TheVariants.{Memory, Missing}
-use Rattle.amqp_model.specs.declared.tables.FieldKind.TheVariants.{Mandatory}
+use Rattle.amqp_wire.specs.declared.error.Error.TheVariants.{Memory, Missing, EmptyMultiple}
+use Rattle.amqp_model.specs.declared.tables.FieldKind.TheVariants.{Mandatory, Optional, Default, Multiple, MandatoryMultiple}
 use Rattle.amqp_decoder.specs.declared.frame.Place.TheVariants.{InList}
 use Rattle.amqp_decoder.specs.State.{State, past}
 use Rattle.amqp_decoder.specs.Reading.{Refused, BeginFault, Peeked}
@@ -43,7 +43,7 @@ Fills takes reads fault st x (Err e) b = Refused takes (Value reads) fault st e 
 -- A value that isn't null was read into the field of this number, and then the others stay.
 abbrev pub FillsField : {V : Type 0} → Fields V → ℕ → V → V → State → Result (Unit {0}) Error → State → Type 0
 FillsField none i v w st r b = Unit {0}
-FillsField (field get f fs) zero v w st r b = Fills f.takes_memory f.reads f.fault st (get w) r b × (r ≡ Ok tt → Keeps fs v w)
+FillsField (field get f fs) zero v w st r b = Fills f.takes_memory f.reads f.faults.fault st (get w) r b × (r ≡ Ok tt → Keeps fs v w)
 FillsField (field get f fs) (suc i) v w st r b = (r ≡ Ok tt → get w ≡ get v) × FillsField fs i v w st r b
 
 -- by a field's number
@@ -54,7 +54,7 @@ MeansAt (field get f fs) (suc i) s t v = MeansAt fs i s t v
 
 abbrev pub FaultAt : {V : Type 0} → Fields V → ℕ → State → Error → Type 0
 FaultAt none i st e = ⊥
-FaultAt (field get f fs) zero st e = f.fault st e
+FaultAt (field get f fs) zero st e = f.faults.fault st e
 FaultAt (field get f fs) (suc i) st e = FaultAt fs i st e
 
 -- The first n fields are what the terms mean, of which there are no more than n, and the others are blank.
@@ -141,7 +141,7 @@ filled_at (field get f fs) (suc n) v w st b l h =
 pub unfilled_at : {V : Type 0} (fs : Fields V) (n : ℕ) (v w : V) (st : State) (e : Error) (b : State) → n < length (kinds_of (slots fs)) → FillsField fs n v w st (Err e) b → Refused (take_memory fs) (Value (MeansAt fs n)) (FaultAt fs n) st e b
 unfilled_at none n v w st e b l h = absurd (omega arith)
 unfilled_at (field get f fs) zero v w st e b l h =
-    refused_first (Value f.reads) f.fault (Value (MeansAt (field get f fs) zero)) (FaultAt (field get f fs) zero) st e b (either_first f.takes_memory (take_memory fs)) (λ x. x)
+    refused_first (Value f.reads) f.faults.fault (Value (MeansAt (field get f fs) zero)) (FaultAt (field get f fs) zero) st e b (either_first f.takes_memory (take_memory fs)) (λ x. x)
     (λ none x c r. none (get x) c (record { bytes = r.bytes; term = r.term; stands = r.stands; moved = r.moved; meant = r.meant })) h.0
 unfilled_at (field get f fs) (suc n) v w st e b l h =
     refused_first (Value (MeansAt fs n)) (FaultAt fs n) (Value (MeansAt (field get f fs) (suc n))) (FaultAt (field get f fs) (suc n)) st e b (either_second f.takes_memory (take_memory fs)) (λ x. x)
@@ -163,11 +163,32 @@ pub record ItemRead {V : Type 0} (fs : Fields V) (i : ℕ) (v w : V) (st b : Sta
   pub moved : b ≡ past (length bytes) st
   pub fits : ((term ≡ leaf null) × (is_required (kind_at fs i) ≡ false) × (w ≡ v)) ⊎ (MeansAt fs i (standing st.top.shared bytes) term w × KeepsBut fs i v w)
 
--- Why an item isn't read into its field: none begins, it is null where that doesn't fit, or the type of the field says.
+-- Part 1, section 1.4: the error for a field that is null or left out, where it must be there.
+abbrev pub absence : FieldKind → Option Error
+absence Mandatory = Some Missing
+absence MandatoryMultiple = Some EmptyMultiple
+absence _ = None
+
+pub absent : (k : FieldKind) (e : Error) → absence k ≡ Some e → is_required k ≡ true
+absent Mandatory e h = refl
+absent MandatoryMultiple e h = refl
+absent Optional e h = cc
+absent Default e h = cc
+absent Multiple e h = cc
+
+pub not_absent : (k : FieldKind) → absence k ≡ None → is_required k ≡ false
+not_absent Mandatory h = cc
+not_absent MandatoryMultiple h = cc
+not_absent Optional h = refl
+not_absent Default h = refl
+not_absent Multiple h = refl
+
+-- Why an item isn't read into its field: none begins, it is null where that doesn't fit, or it isn't null and the type of the
+-- field says.
 pub data ItemFault {V : Type 0} (fs : Fields V) (i : ℕ) (st : State) (e : Error) : Type 0 where
   no_item : BeginFault st e → ItemFault fs i st e
-  null_item : {b : State} → Value (Means (λ (_ : Unit {0}). null)) st tt b → is_required (kind_at fs i) ≡ true → e ≡ Missing → ItemFault fs i st e
-  in_item : {c : ℕ} {mid : State} → Peeked st c mid → FaultAt fs i mid e → ItemFault fs i st e
+  null_item : {b : State} → Value (Means (λ (_ : Unit {0}). null)) st tt b → absence (kind_at fs i) ≡ Some e → ItemFault fs i st e
+  in_item : {c : ℕ} {mid : State} → Peeked st c mid → (c ≡ 0x40 → ⊥) → FaultAt fs i mid e → ItemFault fs i st e
 
 abbrev pub ReadsItem : {V : Type 0} → Fields V → ℕ → V → V → State → Result (Unit {0}) Error → State → Type 0
 ReadsItem fs i v w st (Ok u) b = ItemRead fs i v w st b
@@ -193,22 +214,29 @@ pub record FieldsRead {V : Type 0} (fs : Fields V) (st : State) (v : V) (b : Sta
 pub data FieldsFault {V : Type 0} (fs : Fields V) (st : State) (e : Error) : Type 0 where
   no_list : OpenFault list st e → FieldsFault fs st e
   at_item : {n i : ℕ} {v : V} {mid : State} → FieldsSoFar fs st n i v mid → i < n → i < length (kinds_of (slots fs)) → ItemFault fs i mid e → FieldsFault fs st e
-  left_out : {n i : ℕ} {v : V} {mid : State} → FieldsSoFar fs st n i v mid → n ≤ i → i < length (kinds_of (slots fs)) → is_required (kind_at fs i) ≡ true → e ≡ Missing → FieldsFault fs st e
+  left_out : {n i : ℕ} {v : V} {mid : State} → FieldsSoFar fs st n i v mid → n ≤ i → i < length (kinds_of (slots fs)) → absence (kind_at fs i) ≡ Some e → FieldsFault fs st e
   not_ended : {n : ℕ} {v : V} {mid : State} → FieldsSoFar fs st n (length (kinds_of (slots fs))) v mid → CloseFault InList mid e → FieldsFault fs st e
 
 -- No fault of a field is want of memory.
 fault_at_not_memory : {V : Type 0} (fs : Fields V) (i : ℕ) (st : State) → FaultAt fs i st Memory → ⊥
 fault_at_not_memory none i st f = f
-fault_at_not_memory (field get f fs) zero st x = f.not_memory st x
+fault_at_not_memory (field get f fs) zero st x = f.faults.not_memory st x
 fault_at_not_memory (field get f fs) (suc i) st x = fault_at_not_memory fs i st x
+
+absence_not_memory : (k : FieldKind) → absence k ≡ Some Memory → ⊥
+absence_not_memory Mandatory e = cc
+absence_not_memory MandatoryMultiple e = cc
+absence_not_memory Optional e = cc
+absence_not_memory Default e = cc
+absence_not_memory Multiple e = cc
 
 item_not_memory : {V : Type 0} (fs : Fields V) (i : ℕ) (st : State) → ItemFault fs i st Memory → ⊥
 item_not_memory fs i st (no_item f) = begin_not_memory st f
-item_not_memory fs i st (null_item h r is) = cc
-item_not_memory fs i st (in_item {c} {mid} p f) = fault_at_not_memory fs i mid f
+item_not_memory fs i st (null_item h is) = absence_not_memory (kind_at fs i) is
+item_not_memory fs i st (in_item {c} {mid} p n f) = fault_at_not_memory fs i mid f
 
 pub fields_not_memory : {V : Type 0} (fs : Fields V) (st : State) → FieldsFault fs st Memory → ⊥
 fields_not_memory fs st (no_list f) = open_not_memory list st f
 fields_not_memory fs st (at_item {n} {i} {v} {mid} h l k f) = item_not_memory fs i mid f
-fields_not_memory fs st (left_out h l k r is) = cc
+fields_not_memory fs st (left_out {n} {i} h l k is) = absence_not_memory (kind_at fs i) is
 fields_not_memory fs st (not_ended {n} {v} {mid} h f) = close_not_memory InList mid f

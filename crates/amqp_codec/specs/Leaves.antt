@@ -1,16 +1,24 @@
 -- Facts about terms that are one primitive.
-use Rattle.std.proofs.Common.{◌≡◌, ℕ, List, [], ◌∷◌, sym, ap, subst}
-use Rattle.amqp_model.specs.Term.{Primitive, null, Refusal, too_large, Term, leaf, holder, described, kept, barred, Descriptor}
+use Rattle.std.proofs.Common.{◌≡◌, ℕ, false, List, [], ◌∷◌, sym, ap, subst}
+use Rattle.amqp_model.specs.Term.{Primitive, null, Refusal, too_large, Container, Term, Terms, leaf, holder, described, kept, barred, Descriptor}
 use Rattle.amqp_model.specs.Constructors.{Format, fixed, variable, compound, unknown, format}
 use Rattle.amqp_model.specs.Spelling.{PrimitiveData, IsValid, data_of, enc}
 use Rattle.amqp_model.specs.Standing.{Standing, whole, part}
 use Rattle.amqp_model.specs.Refusals.{IsRefused}
 use Rattle.amqp_model.specs.Kept.{Reads}
+use Rattle.amqp_model.specs.Items.{is_null_primitive}
+use Rattle.amqp_model.specs.ItemLaws.{clash}
 use Rattle.amqp_codec.specs.TermType.{Spells}
 use Rattle.amqp_codec.specs.Flaws.{size_alone, leaf_flawless}
 
 pub leaf_injective : (p q : Primitive) → leaf p ≡ leaf q → p ≡ q
 leaf_injective p q e = cc
+
+pub leaf_not_null : (p : Primitive) → is_null_primitive p ≡ false → leaf p ≡ leaf null → ⊥
+leaf_not_null p n e = clash (ap is_null_primitive (leaf_injective p null e)) n
+
+pub holder_not_null : (k : Container) (ts : Terms) → holder k ts ≡ leaf null → ⊥
+holder_not_null k ts e = cc
 
 pub reads_leaf : (p : Primitive) (t : Term) → Reads (leaf p) t → t ≡ leaf p
 reads_leaf p (leaf q) h = ap leaf (sym h)
@@ -32,7 +40,7 @@ leaf_valid p (d ∷ ds) c b h = absurd h
 pub spelled_valid : (s : Standing) (p : Primitive) → Spells s (leaf p) → IsValid p
 unfolding enc
 spelled_valid (whole b) p (ds, c, few, (h, d, e, k, s)) = leaf_valid p ds c d s
-spelled_valid (part ds c b) p h = leaf_valid p ds c b h
+spelled_valid (part ds c b) p h = leaf_valid p ds c b h.1
 
 -- what was spelled is refused for its size alone
 pub leaf_writable : (s : Standing) (t : Term) (p : Primitive) (r : Refusal) → Spells s t → t ≡ leaf p → IsRefused r (leaf p) → r ≡ too_large

@@ -1,4 +1,5 @@
 pub mod Tidy
+pub mod Faults
 pub mod TermType
 pub mod Flaws
 pub mod Leaves
@@ -10,6 +11,7 @@ pub mod Plain
 pub mod FieldTypes
 pub mod Slots
 pub mod Fields
+pub mod Misspelled
 pub mod Elsewhere
 pub mod Composite
 pub mod EitherType
@@ -17,6 +19,7 @@ pub mod TidyText
 pub mod Spelled
 pub mod Apart
 pub mod Written
+pub mod Proper
 pub mod Ties
 pub mod Reading
 pub mod Refused

@@ -3,35 +3,34 @@ use Rattle.std.proofs.Common.{◌≡◌, ℕ, ◌+◌, ◌<◌, Bool, false, Lis
 use Rattle.std.proofs.lemmas.List.Quantifiers.{position-Some}
 use Rattle.amqp_model.specs.Term.{Descriptor, Term, described}
 use Rattle.amqp_model.specs.Standing.{Standing}
-use Rattle.amqp_model.proofs.Same.{names_same}
 use Rattle.amqp_wire.specs.declared.error.Error.{Error}
 use Rattle.amqp_decoder.specs.declared.frame.Place.TheVariants.{InDescribed}
-use Rattle.amqp_decoder.specs.State.{State, on, past}
-use Rattle.amqp_decoder.specs.Elsewhere.{elsewhere}
+use Rattle.amqp_decoder.specs.State.{State, past}
+use Rattle.amqp_decoder.specs.Elsewhere.{Setting, under}
 use Rattle.amqp_decoder.specs.Reading.{Refused}
 use Rattle.amqp_decoder.specs.Primitives.{standing, Stands, Value}
 use Rattle.amqp_decoder.specs.Containers.{ClosesDescribed, EndFault}
 use Rattle.amqp_input.specs.Members.{Member, as_name, is_named, name_place}
-use Rattle.amqp_decoder.specs.Described.{IsDescriptor, entered, TookDescriptor, OpensDescribed, OpensOneOf, OneOfFault}
-use Rattle.amqp_decoder.proofs.Leaves.{begun_same}
+use Rattle.amqp_decoder.specs.Described.{OpensDescribed, OpensOneOf, OneOfFault}
+use Rattle.amqp_decoder.proofs.NothingInside.{opens_described_same}
 use Rattle.amqp_decoder.specs.Items.{Next}
 use Rattle.amqp_decoder.proofs.Descriptions.{described_term, term_described}
 use Rattle.amqp_input.proofs.Members.{place_is}
 use Rattle.amqp_decoder.proofs.OneReading.{next_same}
 use Rattle.amqp_decoder.proofs.NotMemory.{one_of_not_memory, end_not_memory}
 use Rattle.amqp_wire.specs.declared.error.Error.TheVariants.{Memory}
+use Rattle.amqp_codec.specs.Faults.{Faults}
 use Rattle.amqp_codec.specs.Refused.{no_memory, refused_first, refused_later}
 
 -- The members: their codes and names in order, and how what each describes is read.
 pub record Members (V : Type 0) : Type 1 where
   pub names : List (ℕ × List ℕ)
   pub reads : ℕ → State → V → State → Type 0
-  pub fault : ℕ → State → Error → Type 0
+  pub faults : ℕ → Faults
   -- reading one of them takes memory
   pub takes_memory : Bool
-  -- both are the same of another source
-  pub reads_elsewhere : (source : ℕ) (failed : Bool) (i : ℕ) (st : State) (v : V) (b : State) → reads i st v b → reads i (elsewhere source failed st) v (elsewhere source failed b)
-  pub fault_elsewhere : (source : ℕ) (failed : Bool) (i : ℕ) (st : State) (e : Error) → fault i st e → fault i (elsewhere source failed st) e
+  -- what is read hangs neither on the source nor on how deep values may nest
+  pub reads_elsewhere : (c : Setting) (i : ℕ) (st : State) (v : V) (b : State) → reads i st v b → reads i (under c st) v (under c b)
 
 -- A member stood next.
 pub record MemberRead {V : Type 0} (m : Members V) (st : State) (v : V) (b : State) : Type 0 where
@@ -47,13 +46,13 @@ pub record MemberRead {V : Type 0} (m : Members V) (st : State) (v : V) (b : Sta
 -- Why none is read.
 pub data MemberFault {V : Type 0} (m : Members V) (st : State) (e : Error) : Type 0 where
   no_member : {ms : List Member} → map as_name ms ≡ m.names → OneOfFault ms st e → MemberFault m st e
-  in_member : {d : Descriptor} {i : ℕ} {inner : State} → OpensDescribed st d inner → name_place m.names d ≡ Some i → m.fault i inner e → MemberFault m st e
+  in_member : {d : Descriptor} {i : ℕ} {inner : State} → OpensDescribed st d inner → name_place m.names d ≡ Some i → (m.faults i).fault inner e → MemberFault m st e
   not_ended : {d : Descriptor} {i : ℕ} {inner last : State} {v : V} → OpensDescribed st d inner → name_place m.names d ≡ Some i → m.reads i inner v last → EndFault InDescribed last e → MemberFault m st e
 
-pub member_not_memory : {V : Type 0} (m : Members V) → ((i : ℕ) (st : State) → m.fault i st Memory → ⊥) → (st : State) → MemberFault m st Memory → ⊥
-member_not_memory m none st (no_member {ms} names f) = one_of_not_memory ms st f
-member_not_memory m none st (in_member {d} {i} {inner} o at f) = none i inner f
-member_not_memory m none st (not_ended {d} {i} {inner} {last} {v} o at q f) = end_not_memory InDescribed last f
+pub member_not_memory : {V : Type 0} (m : Members V) (st : State) → MemberFault m st Memory → ⊥
+member_not_memory m st (no_member {ms} names f) = one_of_not_memory ms st f
+member_not_memory m st (in_member {d} {i} {inner} o at f) = (m.faults i).not_memory inner f
+member_not_memory m st (not_ended {d} {i} {inner} {last} {v} o at q f) = end_not_memory InDescribed last f
 
 -- What was read behind the descriptor of a member is one term.
 pub record TermRead {V : Type 0} (m : Members V) (means : Standing → Term → V → Type 0) (i : ℕ) (inner : State) (v : V) (last : State) : Type 0 where
@@ -74,20 +73,6 @@ pub record TermMeant {V : Type 0} (m : Members V) (t : Term) (v : V) : Type 0 wh
 pub record IsSum {V : Type 0} (m : Members V) (means : Standing → Term → V → Type 0) : Type 0 where
   pub to_term : (i : ℕ) (inner : State) (v : V) (last : State) → m.reads i inner v last → TermRead m means i inner v last
   pub from_term : (s : Standing) (t : Term) (v : V) → means s t v → TermMeant m t v
-
-took_same : (o : Option (List Descriptor × ℕ)) (d e : Descriptor) (own other x y : List ℕ) → IsDescriptor o d own → IsDescriptor o e other → own ++ x ≡ other ++ y → (own ≡ other) × (d ≡ e)
-took_same None d e own other x y h k f = names_same d e own other x y h k f
-took_same (Some ([], c)) d e own other x y h k f = absurd h
-took_same (Some (g ∷ ds, c)) d e own other x y h k f = (h.0 ∙ sym k.0, h.1 ∙ sym k.1)
-
--- one described value is opened at a place
-pub described_same : (st : State) (d e : Descriptor) (a b : State) → OpensDescribed st d a → OpensDescribed st e b → (d ≡ e) × (a ≡ b)
-described_same st d e a b h k =
-    let s = begun_same st 0 0 h.coded k.coded h.begun k.begun in
-    let t : TookDescriptor k.coded d h.named = subst (λ (x : State). TookDescriptor x d h.named) s.1 h.descriptor in
-    let r = took_same k.coded.top.shared d e t.own k.descriptor.own (drop (length t.own) k.coded.rest) (drop (length k.descriptor.own) k.coded.rest) t.descriptor k.descriptor.descriptor (sym t.took.rest ∙ k.descriptor.took.rest) in
-    let named : h.named ≡ k.named = t.took.moved ∙ ap (λ o. on (length o) k.coded) r.0 ∙ sym k.descriptor.took.moved in
-    (r.1, h.opened ∙ ap entered named ∙ sym k.opened)
 
 one_place : {i j : ℕ} {o p : Option ℕ} → o ≡ p → o ≡ Some i → p ≡ Some j → i ≡ j
 one_place {i} {j} e f g = ap (λ x. Rattle.std.proofs.Common.unwrap_or x i) (sym f ∙ e ∙ g)
@@ -136,14 +121,14 @@ module _ {V : Type 0} (m : Members V) (means : Standing → Term → V → Type 
   opened_failed ms st i inner o = ap (λ (x : State). x.failed) o.opens.opened ∙ ap (λ (x : State). x.failed) o.opens.descriptor.took.moved ∙ ap (λ (x : State). x.failed) o.opens.begun.moved
 
   -- what a member describes isn't read
-  pub unread : (ms : List Member) (st : State) (i : ℕ) (inner : State) (e : Error) (new : State) → map as_name ms ≡ m.names → OpensOneOf ms st i inner → Refused m.takes_memory (m.reads i) (m.fault i) inner e new → Refused m.takes_memory (Value means) (MemberFault m) st e new
+  pub unread : (ms : List Member) (st : State) (i : ℕ) (inner : State) (e : Error) (new : State) → map as_name ms ≡ m.names → OpensOneOf ms st i inner → Refused m.takes_memory (m.reads i) (m.faults i).fault inner e new → Refused m.takes_memory (Value means) (MemberFault m) st e new
   unread ms st i inner e new names o r =
       let going = opened_going ms st i inner o in
       let at = opened_place ms st i inner names o in
-      refused_later (m.reads i) (m.fault i) (Value means) (MemberFault m) st inner e new (λ t. t) (opened_failed ms st i inner o) going.0 going.1 (in_member o.opens at)
+      refused_later (m.reads i) (m.faults i).fault (Value means) (MemberFault m) st inner e new (λ t. t) (opened_failed ms st i inner o) going.0 going.1 (in_member o.opens at)
       (λ none v b h.
       let k = from_value st v b h in
-      let s = described_same st k.descriptor o.descriptor k.inner inner k.opens o.opens in
+      let s = opens_described_same st k.descriptor o.descriptor k.inner inner k.opens o.opens in
       let p = one_place (ap (name_place m.names) s.0) k.is at in
       none v k.last (subst (λ x. m.reads x inner v k.last) p (subst (λ (x : State). m.reads k.place x v k.last) s.1 k.read)))
       r
@@ -158,7 +143,7 @@ module _ {V : Type 0} (m : Members V) (means : Standing → Term → V → Type 
       refused_later (λ st (_ : Unit {0}) b. ClosesDescribed InDescribed st b) (EndFault InDescribed) (Value means) (MemberFault m) st last e new no_memory (ap (λ (x : State). x.failed) t.taken.moved ∙ opened_failed ms st i inner o) going.0 (ap (λ (x : State). x.error) t.taken.moved ∙ going.1) (not_ended o.opens at q)
       (λ none w b h.
       let k = from_value st w b h in
-      let s = described_same st k.descriptor o.descriptor k.inner inner k.opens o.opens in
+      let s = opens_described_same st k.descriptor o.descriptor k.inner inner k.opens o.opens in
       let u = sum.to_term k.place k.inner w k.last k.read in
       let ends : k.last ≡ last = (next_same inner k.last last u.term t.term (subst (λ (x : State). Next x u.term k.last) s.1 u.taken) t.taken).1 in
       none tt b (subst (λ (x : State). ClosesDescribed InDescribed x b) ends k.closes))

@@ -16,11 +16,17 @@ use Rattle.amqp_model.specs.OptionLaws.{option_refl, option_sym, option_trans, s
 use Rattle.amqp_model.proofs.Lengths.{spelling_length}
 use Rattle.amqp_wire.specs.declared.error.Error.{Error}
 use Rattle.amqp_decoder.specs.State.{State}
-use Rattle.amqp_decoder.specs.Elsewhere.{elsewhere, begin_fault, peeked}
+use Rattle.amqp_decoder.specs.Elsewhere.{Setting, under, KeepsError, begin_fault, peeked}
 use Rattle.amqp_decoder.specs.Reading.{BeginFault, Peeked}
+use Rattle.amqp_decoder.specs.Rooms.{HasRoom}
+use Rattle.amqp_decoder.specs.Misspelled.{IsMisspelling, NothingStands}
+use Rattle.amqp_decoder.proofs.Misspelled.{begin_misspelled}
+use Rattle.amqp_decoder.proofs.NothingInside.{nothing_peeked}
+use Rattle.amqp_decoder.proofs.Rooms.{room_peeked}
 use Rattle.amqp_decoder.proofs.NotMemory.{begin_not_memory}
 use Rattle.amqp_wire.specs.declared.error.Error.TheVariants.{Memory}
 use Rattle.amqp_codec.specs.Tidy.{tidy}
+use Rattle.amqp_codec.specs.Faults.{Faults}
 use Rattle.amqp_codec.specs.TermType.{TermType, Spells, StandsCanonically, IsUnrefused, IsLeaf, IsKept, IsPlain}
 use Rattle.amqp_codec.specs.Leaves.{reads_leaf, null_writable}
 use Rattle.amqp_codec.specs.Nulls.{tidy_null, null_tidy, null_form, null_nodes}
@@ -30,13 +36,24 @@ abbrev pub MeansOption : {T : Type 0} → (Standing → Term → T → Type 0) �
 MeansOption means s t None = is_null t ≡ true
 MeansOption means s t (Some v) = (is_null t ≡ false) × means s t v
 
--- No value begins, or what begins there has the fault.
+-- No value begins, or what begins there isn't null and has the fault.
 abbrev pub OptionFault : (State → Error → Type 0) → State → Error → Type 0
-OptionFault fault st e = BeginFault st e ⊎ ((c : ℕ) × (mid : State) × Peeked st c mid × fault mid e)
+OptionFault fault st e = BeginFault st e ⊎ ((c : ℕ) × (mid : State) × Peeked st c mid × (c ≡ 0x40 → ⊥) × fault mid e)
 
-pub option_not_memory : (fault : State → Error → Type 0) → ((st : State) → fault st Memory → ⊥) → (st : State) → OptionFault fault st Memory → ⊥
-option_not_memory fault none st (inl f) = begin_not_memory st f
-option_not_memory fault none st (inr (c, mid, p, f)) = none mid f
+pub option_not_memory : (f : Faults) (st : State) → OptionFault f.fault st Memory → ⊥
+option_not_memory f st (inl h) = begin_not_memory st h
+option_not_memory f st (inr (c, mid, p, n, h)) = f.not_memory mid h
+
+pub option_elsewhere : (f : Faults) (s : Setting) (st : State) (e : Error) → KeepsError s e → OptionFault f.fault st e → OptionFault f.fault (under s st) e
+option_elsewhere f s st e k (inl h) = inl (begin_fault s k h)
+option_elsewhere f s st e k (inr (c, mid, p, n, h)) = inr (c, under s mid, peeked s p, n, f.fault_elsewhere s mid e k h)
+
+pub option_misspelled : (f : Faults) (st : State) (e : Error) → HasRoom st → IsMisspelling e → OptionFault f.fault st e → NothingStands st
+option_misspelled f st e room i (inl h) = begin_misspelled st e i h
+option_misspelled f st e room i (inr (c, mid, p, n, h)) = nothing_peeked st c mid p (f.misspelled mid e (room_peeked st c mid p room) i h)
+
+abbrev pub option_faults : Faults → Faults
+option_faults f = record { fault = OptionFault f.fault; not_memory = option_not_memory f; fault_elsewhere = option_elsewhere f; misspelled = option_misspelled f }
 
 abbrev pub keep : {T : Type 0} → Bool → T → Option T
 keep true v = None
@@ -156,6 +173,10 @@ module _ {T : Type 0} (u : TermType T) where
   option_formless s t None m e = refl
   option_formless s t (Some v) m e = u.formless s t v m.1 e
 
+  pub option_core_null : (s : Standing) (t : Term) (v : Option T) → MeansOption u.means s t v → core (option_canon u.canon v) ≡ leaf null → form t ≡ None
+  option_core_null s t None m e = null_form t m
+  option_core_null s t (Some v) m e = u.core_null s t v m.1 e
+
   pub option_formed : (s z : Standing) (t r : Term) (v w : Option T) → MeansOption u.means s t v → MeansOption u.means z r w → form t ≡ form r → form (option_canon u.canon v) ≡ form (option_canon u.canon w)
   option_formed s z t r None w m n e = sym (option_formless z r w n (sym e ∙ null_form t m))
   option_formed s z t r (Some v) None m n e = u.formless s t v m.1 (e ∙ null_form r n)
@@ -186,16 +207,11 @@ module _ {T : Type 0} (u : TermType T) where
   option_is_plain l None = tt
   option_is_plain l (Some v) = u.is_plain l v
 
-  pub option_fault : (source : ℕ) (failed : Bool) (st : State) (e : Error) → OptionFault u.fault st e → OptionFault u.fault (elsewhere source failed st) e
-  option_fault source failed st e (inl h) = inl (begin_fault source failed h)
-  option_fault source failed st e (inr (c, mid, p, h)) = inr (c, elsewhere source failed mid, peeked source failed p, u.fault_elsewhere source failed mid e h)
-
 abbrev pub option_of : {T : Type 0} → TermType T → TermType (Option T)
 option_of u = record {
   is_value = λ v. IfSome v u.is_value;
   means = MeansOption u.means;
-  fault = OptionFault u.fault;
-  not_memory = option_not_memory u.fault u.not_memory;
+  faults = option_faults u.faults;
   canon = option_canon u.canon;
   norm = norm_option u.norm u.solid u.canon;
   same = SameOption u.same;
@@ -225,6 +241,7 @@ option_of u = record {
   null_alike = option_null_alike u;
   is_solid = λ e v. absurd (clash e refl);
   formed = option_formed u;
+  core_null = option_core_null u;
   formless = option_formless u;
   nested = option_nested u;
   leaf_alike = option_leaf_alike u;
@@ -232,5 +249,4 @@ option_of u = record {
   least = option_least u;
   is_blind = option_is_blind u;
   is_plain = option_is_plain u;
-  fault_elsewhere = option_fault u;
 }

@@ -13,9 +13,11 @@ use Rattle.amqp_model.proofs.Least.{text_is_least}
 use Rattle.amqp_input.specs.Kinds.{booleans, uints, ulongs, symbols}
 use Rattle.amqp_decoder.specs.Primitives.{PrimitiveFault}
 use Rattle.amqp_decoder.proofs.NotMemory.{primitive_not_memory}
+use Rattle.amqp_decoder.proofs.Misspelled.{primitive_misspelled}
 use Rattle.amqp_decoder.specs.Elsewhere.{primitive_fault}
+use Rattle.amqp_codec.specs.Faults.{Faults}
 use Rattle.amqp_codec.specs.TermType.{TermType, IsLeaf}
-use Rattle.amqp_codec.specs.Leaves.{leaf_injective, reads_leaf, leaf_writable}
+use Rattle.amqp_codec.specs.Leaves.{leaf_injective, leaf_not_null, reads_leaf, leaf_writable}
 
 -- The values of A are the primitives of one kind.
 pub record IsKind {A : Type 0} (make : A → Primitive) (range : A → Type 0) : Type 0 where
@@ -27,6 +29,15 @@ pub record IsKind {A : Type 0} (make : A → Primitive) (range : A → Type 0) :
 
 abbrev pub MeansPrimitive : {A : Type 0} → (A → Primitive) → (A → Type 0) → Term → A → Type 0
 MeansPrimitive make range t v = (t ≡ leaf (make v)) × range v
+
+-- Why no primitive of a kind is read.
+abbrev pub primitive_faults : ℕ → Faults
+primitive_faults k = record {
+  fault = PrimitiveFault k;
+  not_memory = primitive_not_memory k;
+  fault_elsewhere = λ c st e. primitive_fault c;
+  misspelled = λ st e _ i. primitive_misspelled k st e i;
+}
 
 module _ {A : Type 0} (make : A → Primitive) (range : A → Type 0) (laws : IsKind make range) where
   pub primitive_one : (t : Term) (v w : A) → MeansPrimitive make range t v → MeansPrimitive make range t w → v ≡ w
@@ -43,8 +54,7 @@ module _ {A : Type 0} (make : A → Primitive) (range : A → Type 0) (laws : Is
   primitive_type k takes_memory = record {
     is_value = range;
     means = λ s. MeansPrimitive make range;
-    fault = PrimitiveFault k;
-    not_memory = primitive_not_memory k;
+    faults = primitive_faults k;
     canon = λ v. leaf (make v);
     norm = plain;
     same = λ v w. v ≡ w;
@@ -74,6 +84,7 @@ module _ {A : Type 0} (make : A → Primitive) (range : A → Type 0) (laws : Is
     null_alike = λ s t v m. ap is_null (sym m.0);
     is_solid = λ _ v. laws.not_null v;
     formed = λ s z t u v w m n e. laws.one_form v w;
+    core_null = λ s t v m e. absurd (leaf_not_null (make v) (laws.not_null v) e);
     formless = λ s t v m e. absurd (laws.has_form v (ap form (sym m.0) ∙ e));
     nested = λ s t u v m. primitive_nested t u v;
     leaf_alike = λ s t u v m r h. subst IsLeaf (sym (reads_leaf (make v) u r)) tt;
@@ -81,7 +92,6 @@ module _ {A : Type 0} (make : A → Primitive) (range : A → Type 0) (laws : Is
     least = λ _ b t v i n e m. primitive_least b t v i e m.0;
     is_blind = λ _ s z t v m. m;
     is_plain = λ _ v. tt;
-    fault_elsewhere = λ source failed st e. primitive_fault source failed;
   }
 
 boolean_form : (b : Bool) → primitive_form (boolean b) ≡ primitive_form (boolean true)

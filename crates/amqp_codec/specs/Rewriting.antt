@@ -10,10 +10,11 @@ use Rattle.amqp_wire.specs.Refusals.{error_of}
 use Rattle.amqp_wire.specs.declared.error.Error.{Error}
 use Rattle.amqp_wire.specs.declared.error.Error.TheVariants.{TooLarge}
 use Rattle.amqp_encoder.specs.Passes.{row_text}
+use Rattle.amqp_encoder.specs.Refused.{TermHasCause}
 use Rattle.amqp_codec.specs.TermType.{TermType}
 use Rattle.amqp_codec.specs.Reading.{Reading, IsRead, reading_of, reads_terms}
 use Rattle.amqp_codec.specs.Written.{AreProper, AreWritable, AreUnwritable}
-use Rattle.amqp_codec.specs.Spelled.{IsSpelled, written, IsRefusal}
+use Rattle.amqp_codec.specs.Spelled.{IsSpelled, written}
 use Rattle.amqp_codec.specs.Spelling.{read_spelled, spelled_read}
 use Rattle.amqp_codec.specs.TermLaws.{spelled_again, spelled_value, spelled_own, spelled_writable, text_unchanged, text_least}
 use Rattle.amqp_codec.specs.Reasons.{tied_text, tied_writable, tied_refused}
@@ -23,21 +24,23 @@ use Rattle.amqp_codec.specs.Ties.{Tied}
 abbrev pub HoldNoArray : List Term → Type 0
 HoldNoArray ts = EverywhereIn IsNoArray (terms_of ts)
 
--- follows: what may stand behind a text; again: what the text of a value is read as; kept: that is the value
-pub record Rewriting {T : Type 0} (r : Reading T) (canons : T → List Term) (is_value : T → Type 0) (follows : List ℕ → Type 0) (again : T → T) (kept : T → Type 0) (is_least : Bool) : Type 0 where
+-- follows: what may stand behind a text; again: what the text of a value is read as; kept: that is the value;
+-- lasts: the text is read at all
+pub record Rewriting {T : Type 0} (r : Reading T) (canons : T → List Term) (is_value : T → Type 0) (follows : List ℕ → Type 0) (again : T → T) (kept lasts : T → Type 0) (is_least : Bool) : Type 0 where
   -- a text may end an input
   pub alone : follows []
   -- one value has one canonical text, which is read again, as a value with the same text
   pub canons_same : (v w : T) → r.same v w → canons v ≡ canons w
-  pub reads_again : (v : T) (more : List ℕ) → is_value v → AreWritable (canons v) → follows more → IsRead r (row_text (canons v) ++ more) (again v) (length (row_text (canons v)))
+  pub reads_again : (v : T) (more : List ℕ) → is_value v → lasts v → AreWritable (canons v) → follows more → IsRead r (row_text (canons v) ++ more) (again v) (length (row_text (canons v)))
   pub text_again : (v : T) → is_value v → AreWritable (canons v) → row_text (canons (again v)) ≡ row_text (canons v)
-  -- what was read is a value, is read again as itself, is written but for its size, and in no more bytes
+  -- what was read is a value, is read again, as itself, is written but for its size, and in no more bytes
   pub value : (input : List ℕ) (v : T) (n : ℕ) → IsRead r input v n → is_value v
+  pub lasting : (input : List ℕ) (v : T) (n : ℕ) → IsRead r input v n → lasts v
   pub own : (input : List ℕ) (v : T) (n : ℕ) → IsRead r input v n → kept v → r.same (again v) v
   pub large : (input : List ℕ) (v : T) (n : ℕ) (e : Error) → IsRead r input v n → AreUnwritable (canons v) e → e ≡ TooLarge
   pub least : is_least ≡ true → (input : List ℕ) (v : T) (n : ℕ) → IsBytes input → HoldNoArray (canons v) → IsRead r input v n → length (row_text (canons v)) ≤ n
 
-module _ {T : Type 0} {u : TermType T} {canons : T → List Term} {is_value : T → Type 0} {follows : List ℕ → Type 0} {kept : T → Type 0} {is_least : Bool} (tie : Tied u canons is_value follows kept is_least) (proper : (v : T) → is_value v → AreProper (canons v)) where
+module _ {T : Type 0} {u : TermType T} {canons : T → List Term} {is_value : T → Type 0} {follows : List ℕ → Type 0} {kept lasts : T → Type 0} {is_least : Bool} (tie : Tied u canons is_value follows kept lasts is_least) (proper : (v : T) → is_value v → AreProper (canons v)) where
   spelling : (input : List ℕ) (v : T) (n : ℕ) → IsRead (reading_of u) input v n → (n ≤ length input) × IsSpelled u (take n input) v
   spelling = read_spelled u (reading_of u) (reads_terms u)
 
@@ -58,9 +61,9 @@ module _ {T : Type 0} {u : TermType T} {canons : T → List Term} {is_value : T 
   term_large : (input : List ℕ) (v : T) (n : ℕ) (e : Error) → IsRead (reading_of u) input v n → AreUnwritable (canons v) e → e ≡ TooLarge
   term_large input v n e h x = by_reason (tied_refused tie proper v e (term_value input v n h) x)
     where
-      by_reason : IsRefusal (u.canon v) e → e ≡ TooLarge
-      by_reason (inl i) = i
-      by_reason (inr (r, i, j)) = i ∙ ap error_of (spelled_writable u (take n input) v r (spelling input v n h).1 j)
+      by_reason : TermHasCause (u.canon v) e → e ≡ TooLarge
+      by_reason (inl (r, i, j)) = i ∙ ap error_of (spelled_writable u (take n input) v r (spelling input v n h).1 j)
+      by_reason (inr (i, l)) = i
 
   term_least : is_least ≡ true → (input : List ℕ) (v : T) (n : ℕ) → IsBytes input → HoldNoArray (canons v) → IsRead (reading_of u) input v n → length (row_text (canons v)) ≤ n
   term_least l input v n bytes none h =
@@ -69,13 +72,14 @@ module _ {T : Type 0} {u : TermType T} {canons : T → List Term} {is_value : T 
       omega (arith, ap length (tied_text tie v), text_least u (sym tie.least_is ∙ l) (take n input) v front alone (spelling input v n h).1, length-take-le n input (spelling input v n h).0)
 
   -- what a type of terms shows to be `Canonical`
-  pub rewrites : Rewriting (reading_of u) canons is_value follows (normal u.norm) kept is_least
+  pub rewrites : Rewriting (reading_of u) canons is_value follows (normal u.norm) kept lasts is_least
   rewrites = record {
     alone = tie.any_follows [];
     canons_same = λ v w h. tie.canons_is v ∙ (ap (λ t. t ∷ []) (u.same_canon v w h) ∙ sym (tie.canons_is w));
-    reads_again = λ v more i f _. term_again v more i f;
+    reads_again = λ v more i _ f _. term_again v more i f;
     text_again = term_text;
     value = term_value;
+    lasting = λ input v n _. tie.all_last v;
     own = λ input v n h _. spelled_own u (take n input) v (spelling input v n h).1;
     large = term_large;
     least = term_least;

@@ -41,6 +41,12 @@ abbrev pub IsShortest : {T : Type 0} → Reading T → (T → List Term) → Lis
 IsShortest {T} r canons input text n =
     (v w : T) (other : List ℕ) (m : ℕ) → IsRead r input v n → IsRead r other w m → r.same v w → IsBytes other → HoldNoArray (canons w) → length text ≤ m
 
+-- The canonical text of every value that can be written is read to its end, before whatever may follow, as what the text of
+-- that value is read as; and this has the same canonical text.
+pub record AreReadAgain {T : Type 0} (r : Reading T) (canons : T → List Term) (is_value : T → Type 0) (follows : List ℕ → Type 0) (again : T → T) (lasts : T → Type 0) : Type 0 where
+  pub read : (v : T) (more : List ℕ) → is_value v → lasts v → AreWritable (canons v) → follows more → IsRead r (row_text (canons v) ++ more) (again v) (length (row_text (canons v)))
+  pub text : (v : T) → is_value v → AreWritable (canons v) → row_text (canons (again v)) ≡ row_text (canons v)
+
 -- What the input is read as is too large to be written.
 pub record Unwritten {T : Type 0} (r : Reading T) (canons : T → List Term) (input : List ℕ) (e : Error) : Type 0 where
   pub value : T

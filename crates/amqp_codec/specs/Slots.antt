@@ -16,10 +16,7 @@ use Rattle.amqp_model.specs.Slot as slot
 use Rattle.amqp_model.specs.OptionLaws.{option_meaning}
 use Rattle.amqp_model.specs.DefaultLaws.{default_meaning}
 use Rattle.amqp_model.proofs.Lengths.{spelling_length}
-use Rattle.amqp_wire.specs.declared.error.Error.{Error}
-use Rattle.amqp_decoder.specs.State.{State}
-use Rattle.amqp_wire.specs.declared.error.Error.TheVariants.{Memory}
-use Rattle.amqp_decoder.specs.Elsewhere.{elsewhere}
+use Rattle.amqp_codec.specs.Faults.{Faults}
 use Rattle.amqp_codec.specs.TermType.{TermType, IsPlain}
 use Rattle.amqp_codec.specs.Leaves.{null_writable}
 use Rattle.amqp_codec.specs.FieldTypes.{anywhere, FieldLaws, field_type, type_laws}
@@ -30,11 +27,9 @@ pub record Field (T : Type 0) : Type 1 where
   pub takes_memory : Bool
   -- what a term that isn't null means, standing so, and the faults in reading it
   pub reads : Standing → Term → T → Type 0
-  pub fault : State → Error → Type 0
-  pub not_memory : (st : State) → fault st Memory → ⊥
+  pub faults : Faults
   pub fits : (s : Standing) (t : Term) (v : T) → reads s t v → slot.meaning.means t v
   pub is_read : (s : Standing) (t : Term) (v : T) → is_null t ≡ false → slot.meaning.means t v → reads s t v
-  pub fault_elsewhere : (source : ℕ) (failed : Bool) (st : State) (e : Error) → fault st e → fault (elsewhere source failed st) e
 
 abbrev pub mandatory : {T : Type 0} (u : TermType T) → u.solid ≡ true → u.blind ≡ true → Field T
 mandatory u solid blind = record {
@@ -42,11 +37,9 @@ mandatory u solid blind = record {
   laws = type_laws u solid blind;
   takes_memory = u.takes_memory;
   reads = u.means;
-  fault = u.fault;
-  not_memory = u.not_memory;
+  faults = u.faults;
   fits = λ s t v m. u.is_blind blind s anywhere t v m;
   is_read = λ s t v n m. u.is_blind blind anywhere s t v m;
-  fault_elsewhere = u.fault_elsewhere;
 }
 
 null_least : (b : List ℕ) (t : Term) → enc b t → length (text (leaf null) Plain) ≤ length b
@@ -120,11 +113,9 @@ optional u solid blind =
       laws = option_laws f.meaning f.never_null (type_laws u solid blind);
       takes_memory = u.takes_memory;
       reads = λ s t. MeansSome (u.means s t);
-      fault = u.fault;
-      not_memory = u.not_memory;
+      faults = u.faults;
       fits = some_fits u solid blind;
       is_read = some_read u solid blind;
-      fault_elsewhere = u.fault_elsewhere;
     }
 
 module _ {T : Type 0} (m : Meaning T) (never_null : NeverNull m) (l : FieldLaws m) (d : DefaultValue m) where
@@ -189,9 +180,7 @@ default u solid blind d =
       laws = default_laws f.meaning f.never_null (type_laws u solid blind) d;
       takes_memory = u.takes_memory;
       reads = u.means;
-      fault = u.fault;
-      not_memory = u.not_memory;
+      faults = u.faults;
       fits = λ s t v m. inl (u.is_blind blind s anywhere t v m);
       is_read = other_read u solid blind d;
-      fault_elsewhere = u.fault_elsewhere;
     }

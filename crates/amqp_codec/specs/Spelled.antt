@@ -1,14 +1,10 @@
 -- Bytes that spell a value of a type.
-use Rattle.std.specs.Prelude.{◌≡◌, ◌⊎◌, ℕ, ◌≤◌, List}
-use Rattle.amqp_model.specs.Term.{Refusal, Term}
+use Rattle.std.specs.Prelude.{ℕ, ◌≤◌, List}
+use Rattle.amqp_model.specs.Term.{Term}
 use Rattle.amqp_model.specs.Spelling.{enc}
 use Rattle.amqp_model.specs.Standing.{whole}
 use Rattle.amqp_model.specs.Text.{Plain, text}
 use Rattle.amqp_model.specs.Measures.{nest}
-use Rattle.amqp_model.specs.Refusals.{Refuses}
-use Rattle.amqp_wire.specs.Refusals.{error_of}
-use Rattle.amqp_wire.specs.declared.error.Error.{Error}
-use Rattle.amqp_wire.specs.declared.error.Error.TheVariants.{TooLarge}
 use Rattle.amqp_codec.specs.TermType.{TermType, IsUnrefused}
 
 -- The bytes are a term, nested no deeper than 128, that means the value.
@@ -25,7 +21,3 @@ written u v = text (u.canon v) Plain
 -- Nothing speaks against writing the value.
 abbrev pub IsWritable : {T : Type 0} → TermType T → T → Type 0
 IsWritable u v = IsUnrefused (u.canon v)
-
--- The error says why the canonical term isn't written: a refusal speaks against it, or a count or the whole is too large.
-abbrev pub IsRefusal : Term → Error → Type 0
-IsRefusal t e = (e ≡ TooLarge) ⊎ ((r : Refusal) × (e ≡ error_of r) × Refuses r t)

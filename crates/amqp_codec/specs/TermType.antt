@@ -1,7 +1,7 @@
 -- What a type of terms is: which terms mean its values, which one is canonical, and the laws of both.
-use Rattle.std.specs.Prelude.{◌≡◌, ℕ, ◌≤◌, Bool, true, false, List, length, Some, None}
-use Rattle.amqp_model.specs.Term.{Refusal, too_large, Term, Terms, leaf, holder, described, kept, barred, none, more, Descriptor}
-use Rattle.amqp_model.specs.Spelling.{data_of, enc}
+use Rattle.std.specs.Prelude.{◌≡◌, ℕ, ◌≤◌, Bool, true, false, List, [], ◌∷◌, length, Some, None}
+use Rattle.amqp_model.specs.Term.{null, Refusal, too_large, Term, Terms, leaf, holder, described, kept, barred, none, more, Descriptor}
+use Rattle.amqp_model.specs.Spelling.{IsValid, descriptor_value, data_of, enc}
 use Rattle.amqp_model.specs.Standing.{Standing, whole, part}
 use Rattle.amqp_model.specs.Text.{Plain, Later, text, form}
 use Rattle.amqp_model.specs.Measures.{nest, nodes}
@@ -10,28 +10,32 @@ use Rattle.amqp_model.specs.Refusals.{Somewhere, IsRefused, Refuses, core}
 use Rattle.amqp_model.specs.Kept.{Reads}
 use Rattle.amqp_model.specs.Items.{is_null, IsFree}
 use Rattle.amqp_model.specs.FieldType.{Norm, normal}
-use Rattle.amqp_wire.specs.declared.error.Error.{Error}
-use Rattle.amqp_decoder.specs.State.{State}
-use Rattle.amqp_wire.specs.declared.error.Error.TheVariants.{Memory}
-use Rattle.amqp_decoder.specs.Elsewhere.{elsewhere}
+use Rattle.amqp_codec.specs.Faults.{Faults}
 use Rattle.amqp_codec.specs.Tidy.{tidy}
 
 abbrev pub IsUnrefused : Term → Type 0
 IsUnrefused u = (r : Refusal) → Refuses r u → ⊥
 
--- The term is spelled by what it stands as.
+-- Part 1, section 1.6.21: a descriptor that is a name is ASCII.
+abbrev pub AreNamed : List Descriptor → Type 0
+AreNamed [] = Unit {0}
+AreNamed (d ∷ ds) = IsValid (descriptor_value d) × AreNamed ds
+
+-- The term is spelled by what it stands as; the descriptors that it shares are ones that can be spelled.
 abbrev pub Spells : Standing → Term → Type 0
 Spells (whole b) t = enc b t
-Spells (part ds c b) t = data_of t ds c b
+Spells (part ds c b) t = AreNamed ds × data_of t ds c b
 
 -- A canonical term stands as its text, or as its data in a canonical array.
 abbrev pub StandsCanonically : Standing → Term → Type 0
 StandsCanonically (whole b) u = b ≡ text u Plain
 StandsCanonically (part ds c b) u = (form u ≡ Some (ds, c)) × (b ≡ text u Later)
 
+-- It holds no other term.
 abbrev pub IsLeaf : Term → Type 0
-IsLeaf (leaf p) = Unit {0}
-IsLeaf _ = ⊥
+IsLeaf (holder k ts) = ⊥
+IsLeaf (described d t) = ⊥
+IsLeaf _ = Unit {0}
 
 abbrev pub IsKept : Term → Type 0
 IsKept (kept b) = Unit {0}
@@ -55,9 +59,8 @@ pub record TermType (T : Type 0) : Type 1 where
   pub is_value : T → Type 0
   -- the term, standing so, means the value
   pub means : Standing → Term → T → Type 0
-  -- the error names a fault of what stands before a decoder; it isn't want of memory
-  pub fault : State → Error → Type 0
-  pub not_memory : (st : State) → fault st Memory → ⊥
+  -- why none of its values is read
+  pub faults : Faults
   -- the canonical term, in which a refusal stands if the value has none
   pub canon : T → Term
   pub norm : Norm T
@@ -97,10 +100,11 @@ pub record TermType (T : Type 0) : Type 1 where
   pub free : (s : Standing) (t : Term) (v : T) → means s t v → IsFree (canon v)
   pub writable : (s : Standing) (t : Term) (v : T) → Spells s t → means s t v → (r : Refusal) → Somewhere (IsRefused r) (canon v) → r ≡ too_large
   pub bare_data : (ds : List Descriptor) (c : ℕ) (b : List ℕ) (t : Term) (v : T) → means (part ds c b) t v → IsKept (core (canon v)) → ⊥
-  -- it is null exactly if its canonical term is, and has one form for one form
+  -- it is null exactly if its canonical term is, also under its descriptors, and has one form for one form
   pub null_alike : (s : Standing) (t : Term) (v : T) → means s t v → is_null (canon v) ≡ is_null t
   pub is_solid : solid ≡ true → (v : T) → is_null (canon v) ≡ false
   pub formed : (s z : Standing) (t u : Term) (v w : T) → means s t v → means z u w → form t ≡ form u → form (canon v) ≡ form (canon w)
+  pub core_null : (s : Standing) (t : Term) (v : T) → means s t v → core (canon v) ≡ leaf null → form t ≡ None
   pub formless : (s : Standing) (t : Term) (v : T) → means s t v → form t ≡ None → form (canon v) ≡ None
   -- it nests no deeper, is no container where the term is none, and counts no more
   pub nested : (s : Standing) (t u : Term) (v : T) → means s t v → Reads (canon v) u → nest u ≤ nest t
@@ -111,5 +115,3 @@ pub record TermType (T : Type 0) : Type 1 where
   -- a type that doesn't look at standings keeps no bytes
   pub is_blind : blind ≡ true → (s z : Standing) (t : Term) (v : T) → means s t v → means z t v
   pub is_plain : blind ≡ true → (v : T) → IsPlain (canon v)
-  -- what faults stand before a decoder doesn't hang on its source
-  pub fault_elsewhere : (source : ℕ) (failed : Bool) (st : State) (e : Error) → fault st e → fault (elsewhere source failed st) e

@@ -8,23 +8,24 @@ use Rattle.amqp_codec.specs.OptionType.{option_of}
 use Rattle.amqp_codec.specs.Wrappers.{boxed}
 use Rattle.amqp_codec.specs.Written.{IsProper, AreProper}
 
--- The canonical terms and the values of the traits are those of the record; anything may follow a text, each value is
--- read from its text again, and it is least where the record says so.
-pub record Tied {T : Type 0} (u : TermType T) (canons : T → List Term) (is_value : T → Type 0) (follows : List ℕ → Type 0) (stays : T → Type 0) (is_least : Bool) : Type 0 where
+-- The canonical terms and the values of the traits are those of the record; anything may follow a text, each text is read,
+-- as its value again, and the type is least where the record says so.
+pub record Tied {T : Type 0} (u : TermType T) (canons : T → List Term) (is_value : T → Type 0) (follows : List ℕ → Type 0) (kept lasts : T → Type 0) (is_least : Bool) : Type 0 where
   pub canons_is : (v : T) → canons v ≡ u.canon v ∷ []
   pub value_to : (v : T) → is_value v → u.is_value v
   pub value_from : (v : T) → u.is_value v → is_value v
   pub any_follows : (more : List ℕ) → follows more
-  pub all_stay : (v : T) → stays v
+  pub all_kept : (v : T) → kept v
+  pub all_last : (v : T) → lasts v
   pub least_is : is_least ≡ u.is_least
 
 -- where the terms and the values are so by their names
 pub tied_by : {T : Type 0} (u : TermType T) (canons : T → List Term) (is_value : T → Type 0) → ((v : T) → canons v ≡ u.canon v ∷ []) → ((v : T) → is_value v → u.is_value v) → ((v : T) → u.is_value v → is_value v)
-    → Tied u canons is_value (λ _. Unit {0}) (λ _. Unit {0}) u.is_least
-tied_by u canons is_value c i j = record { canons_is = c; value_to = i; value_from = j; any_follows = λ _. tt; all_stay = λ _. tt; least_is = refl }
+    → Tied u canons is_value (λ _. Unit {0}) (λ _. Unit {0}) (λ _. Unit {0}) u.is_least
+tied_by u canons is_value c i j = record { canons_is = c; value_to = i; value_from = j; any_follows = λ _. tt; all_kept = λ _. tt; all_last = λ _. tt; least_is = refl }
 
 -- where they are named by the record
-pub tied : {T : Type 0} (u : TermType T) → Tied u (λ v. u.canon v ∷ []) u.is_value (λ _. Unit {0}) (λ _. Unit {0}) u.is_least
+pub tied : {T : Type 0} (u : TermType T) → Tied u (λ v. u.canon v ∷ []) u.is_value (λ _. Unit {0}) (λ _. Unit {0}) (λ _. Unit {0}) u.is_least
 tied u = tied_by u (λ v. u.canon v ∷ []) u.is_value (λ v. refl) (λ v h. h) (λ v h. h)
 
 -- where no bytes are kept
@@ -61,12 +62,12 @@ some_as P Q h None i = tt
 some_as P Q h (Some v) i = h v i
 
 -- the ties of the generic types
-pub option_tied : {T : Type 0} {u : TermType T} {canons : T → List Term} {is_value : T → Type 0} {follows : List ℕ → Type 0} {stays : T → Type 0} {is_least : Bool} → Tied u canons is_value follows stays is_least
-    → Tied (option_of u) (option_canons canons) (λ v. IfSome v is_value) (λ _. Unit {0}) (λ _. Unit {0}) (option_of u).is_least
+pub option_tied : {T : Type 0} {u : TermType T} {canons : T → List Term} {is_value : T → Type 0} {follows : List ℕ → Type 0} {kept lasts : T → Type 0} {is_least : Bool} → Tied u canons is_value follows kept lasts is_least
+    → Tied (option_of u) (option_canons canons) (λ v. IfSome v is_value) (λ _. Unit {0}) (λ _. Unit {0}) (λ _. Unit {0}) (option_of u).is_least
 option_tied {u = u} {canons = canons} {is_value = is_value} t =
     tied_by (option_of u) (option_canons canons) (λ v. IfSome v is_value) (option_is_term canons u.canon t.canons_is) (some_as is_value u.is_value t.value_to) (some_as u.is_value is_value t.value_from)
 
-pub box_tied : {T Z : Type 0} {u : TermType T} {canons : T → List Term} {is_value : T → Type 0} {follows : List ℕ → Type 0} {stays : T → Type 0} {is_least : Bool} → Tied u canons is_value follows stays is_least
-    → Tied (boxed {Z = Z} u) (λ b. canons b.value) (λ b. is_value b.value) (λ _. Unit {0}) (λ _. Unit {0}) (boxed {Z = Z} u).is_least
+pub box_tied : {T Z : Type 0} {u : TermType T} {canons : T → List Term} {is_value : T → Type 0} {follows : List ℕ → Type 0} {kept lasts : T → Type 0} {is_least : Bool} → Tied u canons is_value follows kept lasts is_least
+    → Tied (boxed {Z = Z} u) (λ b. canons b.value) (λ b. is_value b.value) (λ _. Unit {0}) (λ _. Unit {0}) (λ _. Unit {0}) (boxed {Z = Z} u).is_least
 box_tied {Z = Z} {u = u} {canons = canons} {is_value = is_value} t =
     tied_by (boxed {Z = Z} u) (λ b. canons b.value) (λ b. is_value b.value) (λ b. t.canons_is b.value) (λ b. t.value_to b.value) (λ b. t.value_from b.value)

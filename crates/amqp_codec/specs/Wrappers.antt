@@ -30,8 +30,7 @@ abbrev pub via : {V T : Type 0} (u : TermType T) (to : V → T) (n : Norm V) →
 via u to n is = record {
   is_value = λ v. u.is_value (to v);
   means = λ s t v. u.means s t (to v);
-  fault = u.fault;
-  not_memory = u.not_memory;
+  faults = u.faults;
   canon = λ v. u.canon (to v);
   norm = n;
   same = λ v w. u.same (to v) (to w);
@@ -61,6 +60,7 @@ via u to n is = record {
   null_alike = λ s t v. u.null_alike s t (to v);
   is_solid = λ e v. u.is_solid e (to v);
   formed = λ s z t r v w. u.formed s z t r (to v) (to w);
+  core_null = λ s t v. u.core_null s t (to v);
   formless = λ s t v. u.formless s t (to v);
   nested = λ s t r v. u.nested s t r (to v);
   leaf_alike = λ s t r v. u.leaf_alike s t r (to v);
@@ -68,7 +68,6 @@ via u to n is = record {
   least = λ l b t v. u.least l b t (to v);
   is_blind = λ e s z t v. u.is_blind e s z t (to v);
   is_plain = λ e v. u.is_plain e (to v);
-  fault_elsewhere = u.fault_elsewhere;
 }
 
 abbrev pub norm_box : {T Z : Type 0} → Norm T → Norm (Box T Z)

@@ -3,7 +3,7 @@ ghost use Rattle.std.specs.Prelude.{◌≡◌, ◌≤◌, ◌⊎◌, ◌++◌, �
 ghost use Rattle.amqp_wire.specs.declared.error.Error.TheVariants.{Memory};
 ghost use Rattle.amqp_encoder.specs.Passes.{row_text};
 ghost use Rattle.amqp_codec.specs.Reading.{IsRead, Unreadable};
-ghost use Rattle.amqp_codec.specs.Rewritten.{IsRewritten, IsReadAgain, IsOneText, IsOfNoOther, IsUnchanged, IsShortest, Unwritten};
+ghost use Rattle.amqp_codec.specs.Rewritten.{IsRewritten, IsReadAgain, AreReadAgain, IsOneText, IsOfNoOther, IsUnchanged, IsShortest, Unwritten};
 ghost use Rattle.amqp_codec.specs.Written.{AreMeasured, AreUnwritable, AreWritable};
 
 use crate::{Canonical, Deserialize, Serialize};
@@ -102,6 +102,7 @@ pub fn canonical_text<T: Canonical>(input: &[u8], alloc: Global) -> Result<(Vec<
     ensures read_again { IfOk result (λ r. IsReadAgain T.reading T.follows T.again T.kept input.now r.0.items r.1) }
     ensures one_text { IfOk result (λ r. IsOneText T.reading T.canons input.now r.0.items r.1) }
     ensures no_other { IfOk result (λ r. IsOfNoOther T.reading T.canons T.kept input.now r.0.items r.1) }
+    ensures every_text { AreReadAgain T.reading T.canons T.is_value T.follows T.again T.lasts }
     ensures unchanged { IfOk result (λ r. IsUnchanged T.reading T.canons r.0.items) }
     ensures shortest { T.is_least ≡ true → IfOk result (λ r. IsShortest T.reading T.canons input.now r.0.items r.1) }
     ensures refused { IfErr result (λ e. (e ≡ Memory) ⊎ (Unreadable T.reading input.now e ⊎ Unwritten T.reading T.canons input.now e)) }

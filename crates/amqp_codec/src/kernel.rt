@@ -3,7 +3,6 @@
 ghost use Rattle.std.specs.Prelude.{◌≡◌, ◌<◌, ◌≤◌, false, [], ◌∷◌, length, map, take, Ok};
 ghost use Rattle.amqp_model.specs.Term.{list, holder};
 ghost use Rattle.amqp_model.specs.Items.{is_null};
-ghost use Rattle.amqp_model.specs.Slot.{is_required};
 ghost use Rattle.amqp_model.specs.Fields.{kinds_of, canonical_terms, canonical_items};
 ghost use Rattle.amqp_model.specs.Composite.{MeansComposite, canonical_term};
 ghost use Rattle.amqp_encoder.specs.Passes.{answer_of};
@@ -15,7 +14,7 @@ ghost use Rattle.amqp_decoder.specs.Reading.{Reads};
 ghost use Rattle.amqp_decoder.specs.Primitives.{Value};
 ghost use Rattle.amqp_input.specs.Members.{as_name};
 ghost use Rattle.amqp_codec.specs.Members.{MemberFault};
-ghost use Rattle.amqp_codec.specs.FieldReading.{FieldsRead, FieldsFault, Fills, FillsField, IsBlank, ReadsItem, kind_at};
+ghost use Rattle.amqp_codec.specs.FieldReading.{FieldsRead, FieldsFault, Fills, FillsField, IsBlank, ReadsItem, absence, kind_at};
 
 use crate::DeserializeTerm;
 use amqp_decoder::Decoder;
@@ -24,13 +23,14 @@ pub use amqp_model::tables::FieldKind;
 use amqp_wire::{ByteSource, Descriptor, Error, format_code};
 use std::alloc::Global;
 
-// Whether null is refused.
-fn is_required(kind: FieldKind) -> bool
-    ensures { result ≡ is_required kind }
+// The error for a field that is null or left out, where it must be there.
+fn absence(kind: FieldKind) -> Option<Error>
+    ensures { result ≡ absence kind }
 {
     match kind {
-        FieldKind::Mandatory | FieldKind::MandatoryMultiple => true,
-        FieldKind::Optional | FieldKind::Default | FieldKind::Multiple => false,
+        FieldKind::Mandatory => Some(Error::Missing),
+        FieldKind::MandatoryMultiple => Some(Error::EmptyMultiple),
+        FieldKind::Optional | FieldKind::Default | FieldKind::Multiple => None,
     }
 }
 
@@ -95,7 +95,7 @@ pub fn fill<T: DeserializeTerm, R: ByteSource>(
     decoder: &mut Decoder<R>,
     alloc: Global,
 ) -> Result<(), Error>
-    ensures { Tells R.remaining → Fills T.term.takes_memory T.term.means T.term.fault decoder.old place.new result decoder.new }
+    ensures { Tells R.remaining → Fills T.term.takes_memory T.term.means T.term.faults.fault decoder.old place.new result decoder.new }
 {
     *place = T::deserialize(decoder, alloc)?;
     Ok(())
@@ -130,7 +130,7 @@ pub trait Sum: Sized + Drop {
         decoder: &mut Decoder<R>,
         alloc: Global,
     ) -> Result<Self, Error>
-        ensures { place < length members.names → Tells R.remaining → Reads members.takes_memory (members.reads place) (members.fault place) decoder.old result decoder.new };
+        ensures { place < length members.names → Tells R.remaining → Reads members.takes_memory (members.reads place) (members.faults place).fault decoder.old result decoder.new };
 
     // The values are the members.
     ghost is_sum: { IsSum members means };
@@ -158,8 +158,8 @@ pub fn read_fields<C: Composite, R: ByteSource>(
     for (index, kind) in C::table().fields.iter().enumerate() {
         if index < count {
             read_item(&mut value, index, *kind, decoder, alloc)?;
-        } else if is_required(*kind) {
-            return Err(decoder.refuse(Error::Missing));
+        } else if let Some(error) = absence(*kind) {
+            return Err(decoder.refuse(error));
         }
     }
     decoder.end_list()?;
@@ -182,10 +182,10 @@ fn read_item<C: Composite, R: ByteSource>(
         return value.fill_field(index, decoder, alloc);
     }
     decoder.read_null()?;
-    if is_required(kind) {
-        return Err(decoder.refuse(Error::Missing));
+    match absence(kind) {
+        Some(error) => Err(decoder.refuse(error)),
+        None => Ok(()),
     }
-    Ok(())
 }
 
 // Writes the list of a composite's fields, without the nulls at its end.

@@ -1,40 +1,46 @@
 //! The laws of every type of terms, over the bytes that spell its values.
-ghost use Rattle.std.specs.Prelude.{◌≡◌, ◌≤◌, ℕ, true, false, List, ◌++◌, length};
+ghost use Rattle.std.specs.Prelude.{◌≡◌, ◌≤◌, ℕ, Bool, true, false, List, ◌++◌, length};
 ghost use Rattle.amqp_model.specs.Term.{Refusal, too_large};
 ghost use Rattle.amqp_model.specs.Ranges.{Everywhere, IsNoArray, IsBytes};
 ghost use Rattle.amqp_model.specs.Refusals.{Refuses};
 ghost use Rattle.amqp_model.specs.FieldType.{normal};
 ghost use Rattle.amqp_wire.specs.declared.error.Error.{Error};
 ghost use Rattle.amqp_encoder.specs.Passes.{row_text};
-ghost use Rattle.amqp_codec.specs.Spelled.{IsSpelled, IsWritable, IsRefusal, written};
+ghost use Rattle.amqp_encoder.specs.Refused.{TermHasCause};
+ghost use Rattle.amqp_codec.specs.Spelled.{IsSpelled, IsWritable, written};
 ghost use Rattle.amqp_codec.specs.Written.{AreWritable, AreUnwritable};
 ghost use Rattle.std.specs.Prelude.{take};
+ghost use Rattle.amqp_decoder.specs.State.{State};
+ghost use Rattle.amqp_decoder.specs.Reading.{Peeked};
+ghost use Rattle.amqp_codec.specs.EitherType.{EitherFault};
 ghost use Rattle.amqp_codec.specs.Reading.{IsRead};
 
 use crate::DeserializeTerm;
 
 /// What is read from the front of an input is what that front spells, whatever stands behind it; and nothing behind it
-/// is looked at.
+/// is looked at. So an error that says of bytes that they are no term is answered only of such (`Unreadable::unspelled`).
 pub fn reading_is_spelling<T: DeserializeTerm>()
     ensures spelled { (input : List ℕ) (v : T) (n : ℕ) → IsRead T.reading input v n → (n ≤ length input) × IsSpelled T.term (take n input) v }
     ensures read { (b more : List ℕ) (v : T) → IsSpelled T.term b v → IsRead T.reading (b ++ more) v (length b) }
     ensures no_more { T.reading.looks_on ≡ false }
+    ensures one_term { T.reading.one_term ≡ true }
 {}
 
 /// What `to_vec`, `encoded_len` and `append_to_vec` say of a value's canonical terms, they say of the canonical term
-/// and text that the laws below speak of.
+/// and text that the laws below speak of. It can't be written only where it is refused, or is longer than the machine counts.
 pub fn one_term_is_written<T: DeserializeTerm>()
     ensures is_value { (v : T) → T.is_value v → T.term.is_value v }
     ensures text { (v : T) → row_text (T.canons v) ≡ written T.term v }
     ensures writable { (v : T) → AreWritable (T.canons v) → IsWritable T.term v }
-    ensures refused { (v : T) (e : Error) → T.is_value v → AreUnwritable (T.canons v) e → IsRefusal (T.term.canon v) e }
+    ensures refused { (v : T) (e : Error) → T.is_value v → AreUnwritable (T.canons v) e → TermHasCause (T.term.canon v) e }
 {}
 
-/// What `canonical_text` promises holds of a type of terms without a condition: anything may follow a text, each value is
-/// read from its text again, and the text is the shortest where the type is least.
+/// What `canonical_text` promises holds of a type of terms without a condition: anything may follow a text, each text is
+/// read, as its value again, and it is the shortest where the type is least.
 pub fn terms_are_read_again<T: DeserializeTerm>()
     ensures follows { (more : List ℕ) → T.follows more }
     ensures kept { (v : T) → T.kept v }
+    ensures lasts { (v : T) → T.lasts v }
     ensures least { T.is_least ≡ T.term.is_least }
 {}
 
@@ -68,6 +74,13 @@ pub fn one_text_for_one_value<T: DeserializeTerm>()
 /// No spelling of a value of a least type is shorter than its canonical text, where its term holds no array.
 pub fn canonical_text_is_least<T: DeserializeTerm>()
     ensures { T.term.is_least ≡ true → (b : List ℕ) (v : T) → IsBytes b → Everywhere IsNoArray (T.term.canon v) → IsSpelled T.term b v → length (written T.term v) ≤ length b }
+{}
+
+/// A sum of two types that are told from each other by the first code names a fault of the type that the code tells, and no
+/// other's.
+pub fn faults_of_a_sum<A: DeserializeTerm, B: DeserializeTerm>()
+    ensures first { (is_first : ℕ → Bool) (st mid : State) (c : ℕ) (e : Error) → Peeked st c mid → is_first c ≡ true → EitherFault is_first A.term.faults B.term.faults st e → A.term.faults.fault mid e }
+    ensures second { (is_first : ℕ → Bool) (st mid : State) (c : ℕ) (e : Error) → Peeked st c mid → is_first c ≡ false → EitherFault is_first A.term.faults B.term.faults st e → B.term.faults.fault mid e }
 {}
 
 /// A value has no more values in it than the bytes that spell it.

@@ -57,11 +57,14 @@ pub trait Canonical: Deserialize + Serialize {
     // That is the value: always, unless an impl says less.
     ghost kept: { Self → Type 0 } = { λ _. Unit {0} };
 
+    // Its text is read at all: always, unless an impl says less.
+    ghost lasts: { Self → Type 0 } = { λ _. Unit {0} };
+
     // No spelling of a value without arrays is shorter than its text.
     ghost is_least: { Bool };
 
     // The laws.
-    ghost rewrites: { Rewriting Self.reading Self.canons Self.is_value follows again kept is_least };
+    ghost rewrites: { Rewriting Self.reading Self.canons Self.is_value follows again kept lasts is_least };
 }
 
 /// What is written as one term, which may be an item of a list, a map or an array.
@@ -81,7 +84,7 @@ pub trait DeserializeTerm: Canonical + SerializeTerm {
     // Which terms mean the values, which one is canonical, and the laws of both.
     ghost term: { TermType Self };
 
-    ghost tied: { Tied term Self.canons Self.is_value Self.follows Self.kept Self.is_least };
+    ghost tied: { Tied term Self.canons Self.is_value Self.follows Self.kept Self.lasts Self.is_least };
 
     // It reads as its terms say.
     ghost reads_terms: { ReadsTerms term Self.reading };

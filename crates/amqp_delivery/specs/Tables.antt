@@ -1,22 +1,21 @@
 -- The tables of the delivery states (Part 3, section 3.4).
 use Rattle.std.proofs.Common.{◌≡◌, ◌⊎◌, ◌<◌, inl, inr, codes, ℕ, zero, suc, Bool, true, ◌||◌, [], ◌∷◌, Some, get_or, refl, arith}
 use Rattle.std.proofs.lemmas.List.Quantifiers.{position-Some}
-use Rattle.amqp_model.specs.Term.{Descriptor, name, code, Term}
+use Rattle.amqp_model.specs.Term.{Descriptor, Term}
 use Rattle.amqp_model.specs.Standing.{Standing}
-use Rattle.amqp_wire.specs.declared.error.Error.{Error}
 use Rattle.amqp_decoder.specs.State.{State}
-use Rattle.amqp_decoder.specs.Elsewhere.{elsewhere}
+use Rattle.amqp_decoder.specs.Elsewhere.{Setting, under}
 use Rattle.amqp_model.specs.FieldType.{plain}
-use Rattle.amqp_wire.specs.declared.error.Error.TheVariants.{Memory}
+use Rattle.amqp_codec.specs.Faults.{Faults}
 use Rattle.amqp_codec.specs.TermType.{TermType}
 use Rattle.amqp_codec.specs.PrimitiveTypes.{uint_type, ulong_type}
 use Rattle.amqp_codec.specs.Slots.{mandatory}
 use Rattle.amqp_codec.specs.Fields.{none, field, take_memory}
-use Rattle.amqp_codec.specs.FieldReading.{fields_not_memory, FieldsRead, FieldsFault}
+use Rattle.amqp_codec.specs.FieldReading.{FieldsRead}
 use Rattle.amqp_codec.specs.Refused.{NoneStands}
-use Rattle.amqp_codec.specs.Elsewhere.{fields_read, fields_fault, member_fault}
+use Rattle.amqp_codec.specs.Elsewhere.{fields_read, fields_faults, member_faults}
 use Rattle.amqp_input.specs.Members.{is_named, name_place}
-use Rattle.amqp_codec.specs.Members.{member_not_memory, Members, MemberFault, TermRead, TermMeant, IsSum}
+use Rattle.amqp_codec.specs.Members.{Members, TermRead, TermMeant, IsSum}
 use Rattle.amqp_codec.specs.Composite.{Table, composite, fields_to_member, member_to_fields, described_place}
 use Rattle.amqp_codec.specs.EitherType.{either_of}
 use Rattle.amqp_codec.specs.Wrappers.{via}
@@ -53,9 +52,6 @@ abbrev pub member : DeliveryState → Received ⊎ Accepted
 member (state.Received v) = inl v
 member (state.Accepted v) = inr v
 
-abbrev pub either : TermType (Received ⊎ Accepted)
-either = either_of (composite received) (composite accepted) (composites_apart received accepted refl)
-
 -- What stands behind the descriptor of each state is the list of its fields.
 abbrev pub StateRead : ℕ → State → DeliveryState → State → Type 0
 StateRead zero st (state.Received v) b = FieldsRead received.fields st v b
@@ -63,41 +59,29 @@ StateRead zero st (state.Accepted v) b = ⊥
 StateRead (suc i) st (state.Received v) b = ⊥
 StateRead (suc i) st (state.Accepted v) b = FieldsRead accepted.fields st v b
 
-abbrev pub StateFault : ℕ → State → Error → Type 0
-StateFault zero st e = FieldsFault received.fields st e
-StateFault (suc i) st e = FieldsFault accepted.fields st e
+-- Why none is read there.
+abbrev pub state_faults : ℕ → Faults
+state_faults zero = fields_faults received.fields
+state_faults (suc i) = fields_faults accepted.fields
 
-pub state_elsewhere : (source : ℕ) (failed : Bool) (i : ℕ) (st : State) (v : DeliveryState) (b : State) → StateRead i st v b → StateRead i (elsewhere source failed st) v (elsewhere source failed b)
-state_elsewhere source failed zero st (state.Received v) b h = fields_read source failed received.fields st v b h
-state_elsewhere source failed zero st (state.Accepted v) b h = h
-state_elsewhere source failed (suc i) st (state.Received v) b h = h
-state_elsewhere source failed (suc i) st (state.Accepted v) b h = fields_read source failed accepted.fields st v b h
-
-pub state_fault_elsewhere : (source : ℕ) (failed : Bool) (i : ℕ) (st : State) (e : Error) → StateFault i st e → StateFault i (elsewhere source failed st) e
-state_fault_elsewhere source failed zero st e h = fields_fault source failed received.fields st e h
-state_fault_elsewhere source failed (suc i) st e h = fields_fault source failed accepted.fields st e h
-
-pub state_not_memory : (i : ℕ) (st : State) → StateFault i st Memory → ⊥
-state_not_memory zero st f = fields_not_memory received.fields st f
-state_not_memory (suc i) st f = fields_not_memory accepted.fields st f
+pub state_elsewhere : (s : Setting) (i : ℕ) (st : State) (v : DeliveryState) (b : State) → StateRead i st v b → StateRead i (under s st) v (under s b)
+state_elsewhere s zero st (state.Received v) b h = fields_read s received.fields st v b h
+state_elsewhere s zero st (state.Accepted v) b h = h
+state_elsewhere s (suc i) st (state.Received v) b h = h
+state_elsewhere s (suc i) st (state.Accepted v) b h = fields_read s accepted.fields st v b h
 
 abbrev pub state_members : Members DeliveryState
 state_members = record {
   names = (received.code, received.name) ∷ (accepted.code, accepted.name) ∷ [];
   reads = StateRead;
-  fault = StateFault;
+  faults = state_faults;
   takes_memory = take_memory received.fields || take_memory accepted.fields;
   reads_elsewhere = state_elsewhere;
-  fault_elsewhere = state_fault_elsewhere;
 }
 
 -- Part 3, section 3.4: a state is the member whose descriptor stands there
 abbrev pub delivery_state : TermType DeliveryState
-delivery_state = record (via either member plain (λ v. refl)) {
-  fault = MemberFault state_members;
-  not_memory = member_not_memory state_members state_not_memory;
-  fault_elsewhere = λ source failed. member_fault source failed state_members;
-}
+delivery_state = via (either_of (composite received) (composite accepted) (composites_apart received accepted refl) (member_faults state_members)) member plain (λ v. refl)
 
 first_or_second : (d : Descriptor) (i : ℕ) → name_place state_members.names d ≡ Some i → ((i ≡ 0) × (is_named d (received.code, received.name) ≡ true)) ⊎ ((i ≡ 1) × (is_named d (accepted.code, accepted.name) ≡ true))
 first_or_second d i h =

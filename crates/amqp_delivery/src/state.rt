@@ -1,4 +1,4 @@
-//! The state of a delivery (Part 2, section 2.8.7, and Part 3, section 3.4).
+//! The state of a delivery (Part 3, section 3.4).
 ghost use Rattle.std.specs.Prelude.{◌≡◌, [], ◌∷◌, refl};
 ghost use Rattle.amqp_model.specs.FieldType.{normal};
 ghost use Rattle.amqp_codec.specs.Reading.{reading_of, reads_terms};

@@ -1,5 +1,5 @@
 use Rattle.std.proofs.lemmas.Result.{err_from_is_err_and}
-use Rattle.amqp_codec.proofs.Rewrites.{read_again, one_text, no_other, unchanged, shortest, unwritten}
+use Rattle.amqp_codec.proofs.Rewrites.{read_again, one_text, no_other, every_text, unchanged, shortest, unwritten}
 use Rattle.amqp_codec.proofs.calls.canonical_text.Goals as goal
 
 pub returns-clause-text : goal.returns-clause-text
@@ -20,6 +20,9 @@ returns-clause-one_text g c = one_text g.met.T.Canonical.rewrites _ _ _ (returns
 
 pub returns-clause-no_other : goal.returns-clause-no_other
 returns-clause-no_other g c = no_other g.met.T.Canonical.rewrites _ _ _ (returns-clause-text g c)
+
+pub returns-clause-every_text : goal.returns-clause-every_text
+returns-clause-every_text g c = every_text g.met.T.Canonical.rewrites
 
 pub returns-clause-unchanged : goal.returns-clause-unchanged
 returns-clause-unchanged g c = unchanged g.met.T.Canonical.rewrites _ _ _ (returns-clause-text g c)

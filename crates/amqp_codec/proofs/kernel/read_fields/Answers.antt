@@ -1,13 +1,13 @@
-use Rattle.std.proofs.Common.{arith, add-one, ap, sym, ◌∙◌, ◌≡◌, ◌<◌, length, get_or}
+use Rattle.std.proofs.Common.{Some, arith, add-one, ap, sym, ◌∙◌, ◌≡◌, ◌<◌, length, get_or}
 use Rattle.std.proofs.lemmas.Result.{err_from_is_err_and}
-use Rattle.amqp_model.specs.Slot.{is_required}
 use Rattle.amqp_model.specs.Fields.{kinds_of}
 use Rattle.amqp_model.specs.declared.tables.FieldKind.TheVariants.{Mandatory}
 use Rattle.amqp_decoder.proofs.Steps.{answered}
 use Rattle.amqp_codec.specs.Fields.{slots}
+use Rattle.amqp_codec.specs.FieldReading.{absence, not_absent}
 use Rattle.amqp_codec.proofs.FieldSteps.{open_refused, none_so_far, item_refused, left_out_refused, one_more, one_less, end_refused, all_read, so_far_still}
 use Rattle.amqp_codec.proofs.kernel.read_fields.Goals as goal
-use Rattle.amqp_codec.proofs.kernel.read_fields.Goals.{then-index-count+in_ok-read_item, else-index-count+else-is_required}
+use Rattle.amqp_codec.proofs.kernel.read_fields.Goals.{then-index-count+in_ok-read_item, else-index-count+in_default}
 
 pub returns-in_err-count : goal.returns-in_err-count
 returns-in_err-count g c tells =
@@ -25,14 +25,13 @@ returns-in_err-read_item g c tells =
     let p = err_from_is_err_and c.from_residual-in_err-read_item.result c.from_residual-in_err-read_item.ensures.1 in
     rw (p.1, p.2) (item_refused fs _ _ _ _ _ _ _ c.if-index-count.true within (so_far_still fs _ _ _ _ _ h) h (c.in_err-read_item.ensures tells))
 
-pub returns-then-is_required : goal.returns-then-is_required
-returns-then-is_required g c tells =
+pub returns-in-Some : goal.returns-in-Some
+returns-in-Some g c tells =
     let fs = g.C.Composite.table.fields in
     let i = c.loop-index.index in
     let within : i < length (kinds_of (slots fs)) = omega (arith, ap length c.table.ensures.kinds, c.loop-index-test.true) in
     left_out_refused fs _ _ _ _ _ _ _ c.if-index-count.false within
-    (ap (λ l. is_required (get_or l i Mandatory)) (sym c.table.ensures.kinds) ∙ sym c.is_required.ensures ∙ c.if-is_required.true)
-    c.refuse.ensures.answer (answered _ _ _ _ c.refuse.ensures.kept c.refuse.ensures.answer) (c.loop-index.invariant tells)
+    (ap (λ l. absence (get_or l i Mandatory)) (sym c.table.ensures.kinds) ∙ sym c.in-Some.ensures ∙ ap Some (sym c.refuse.ensures.answer)) (answered _ _ _ _ c.refuse.ensures.kept c.refuse.ensures.answer) (c.loop-index.invariant tells)
 
 pub loop-index-preserved : goal.loop-index-preserved
 loop-index-preserved g c tells =
@@ -42,8 +41,8 @@ loop-index-preserved g c tells =
     let h = c.loop-index.invariant tells in
     elim c.if-index-count.branch [
       | then-index-count+in_ok-read_item w ↦ rw (w.decoder-is, w.value-is, add-one) (one_more fs _ _ _ _ _ _ _ w.if-index-count.true within h (w.in_ok-read_item.ensures tells))
-      | else-index-count+else-is_required w ↦ rw (w.decoder-is, w.value-is, add-one) (one_less fs _ _ _ _ _ w.if-index-count.false within
-          (ap (λ l. is_required (get_or l i Mandatory)) (sym c.table.ensures.kinds) ∙ sym w.is_required.ensures ∙ w.if-is_required.false) h)
+      | else-index-count+in_default w ↦ rw (w.decoder-is, w.value-is, add-one) (one_less fs _ _ _ _ _ w.if-index-count.false within
+          (not_absent _ (ap (λ l. absence (get_or l i Mandatory)) (sym c.table.ensures.kinds) ∙ sym w.in_default.ensures)) h)
     ]
 
 pub returns-in_err-end_list : goal.returns-in_err-end_list

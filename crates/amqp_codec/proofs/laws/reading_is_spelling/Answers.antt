@@ -9,3 +9,6 @@ returns-clause-read g c = spelled_read g.T.DeserializeTerm.term g.T.Deserialize.
 
 pub returns-clause-no_more : goal.returns-clause-no_more
 returns-clause-no_more g c = g.met.T.DeserializeTerm.reads_terms.looks_on
+
+pub returns-clause-one_term : goal.returns-clause-one_term
+returns-clause-one_term g c = g.met.T.DeserializeTerm.reads_terms.one_term

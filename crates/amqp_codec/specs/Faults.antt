@@ -1,0 +1,17 @@
+-- Which errors a read may answer of what stands before a decoder.
+use Rattle.amqp_wire.specs.declared.error.Error.{Error}
+use Rattle.amqp_wire.specs.declared.error.Error.TheVariants.{Memory}
+use Rattle.amqp_decoder.specs.State.{State}
+use Rattle.amqp_decoder.specs.Elsewhere.{Setting, under, KeepsError}
+use Rattle.amqp_decoder.specs.Rooms.{HasRoom}
+use Rattle.amqp_decoder.specs.Misspelled.{IsMisspelling, NothingStands}
+
+pub record Faults : Type 1 where
+  -- the error names a fault of what stands there
+  pub fault : State → Error → Type 0
+  -- it isn't want of memory
+  pub not_memory : (st : State) → fault st Memory → ⊥
+  -- it hangs neither on the source nor, unless it is `Depth`, on how deep values may nest
+  pub fault_elsewhere : (c : Setting) (st : State) (e : Error) → KeepsError c e → fault st e → fault (under c st) e
+  -- where it says of bytes that they are no term, none stands there
+  pub misspelled : (st : State) (e : Error) → HasRoom st → IsMisspelling e → fault st e → NothingStands st
