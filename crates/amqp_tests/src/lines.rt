@@ -48,6 +48,8 @@ fn refusals_and_digits(rt: HostRuntime) -> Result<(), Fail> {
         ("accepted -\n", "no 1 Cut\n"),
         ("accepted 005324C00000\n", "ok 00532445 0\n"),
         ("accepted 005324c0020140", "no 7 Surplus\n"),
+        ("accepted 005324c0020040", "no 4 Size\n"),
+        ("received 005323c0020140", "no 8 Missing\n"),
         (
             "accepted 00532400532445\n\n",
             "no 27 WrongType\nno 0 Line\n",

@@ -134,6 +134,46 @@ fn begins_and_ends_that_do_not_match(rt: HostRuntime) -> Result<(), Fail> {
     Ok(())
 }
 
+// Where a container has no value left, every call that reads one answers that it is missing, whatever stands behind it.
+#[test]
+fn no_value_is_left(rt: HostRuntime) -> Result<(), Fail> {
+    // an empty list before the code of a float, both in a list of two
+    let input: &[u8] = &[0xc0, 0x05, 0x02, 0xc0, 0x01, 0x00, 0x72];
+    for call in 0..6u8 {
+        let mut decoder = Decoder::new(input, rt.alloc());
+        decoder.begin_list()?;
+        assert_eq!(rt; decoder.begin_list()?, 0);
+        let error = match call {
+            0 => decoder.peek_code().err(),
+            1 => decoder.read_null().err(),
+            2 => decoder.begin_list().err(),
+            3 => decoder.begin_array(rt.alloc()).err(),
+            4 => decoder.begin_one_of(&[]).err(),
+            _ => decoder.read_term(rt.alloc()).err(),
+        };
+        assert_eq!(rt; error, Some(Error::Missing), "of call {call}");
+    }
+    Ok(())
+}
+
+// A wrong size is answered where the items of the open container end, and nowhere before.
+#[test]
+fn wrong_sizes_are_named_at_the_end(rt: HostRuntime) -> Result<(), Fail> {
+    let input: &[u8] = &[0xc0, 0x03, 0x01, 0x40, 0x40];
+    let mut decoder = Decoder::new(input, rt.alloc());
+    decoder.begin_list()?;
+    assert_eq!(rt; decoder.end_list(), Err(Error::Surplus));
+    let mut decoder = Decoder::new(input, rt.alloc());
+    decoder.begin_list()?;
+    decoder.read_null()?;
+    assert_eq!(rt; decoder.end_map(), Err(Error::InvalidValue));
+    let mut decoder = Decoder::new(input, rt.alloc());
+    decoder.begin_list()?;
+    decoder.read_null()?;
+    assert_eq!(rt; decoder.end_list(), Err(Error::Size));
+    Ok(())
+}
+
 #[test]
 fn the_same_error_again(rt: HostRuntime) -> Result<(), Fail> {
     let input: &[u8] = &[0x00, 0x53, 0x24, 0x45];
