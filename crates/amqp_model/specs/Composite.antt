@@ -19,15 +19,24 @@ abbrev pub Describes : {V : Type 0} → Table V → Descriptor → Type 0
 Describes c (code n) = n ≡ c.code
 Describes c (name s) = s ≡ c.name
 
-abbrev pub ListFits : {V : Type 0} → Table V → Term → V → Type 0
-ListFits c (holder list ts) v = Fits c.fields (items_of ts) v
-ListFits c _ v = ⊥
+-- The term is a list of items that fit.
+abbrev pub MeansList : {V : Type 0} → Fields V → Term → V → Type 0
+MeansList fs (holder list ts) v = Fits fs (items_of ts) v
+MeansList fs _ v = ⊥
+
+-- the canonical list of a value
+abbrev pub canonical_list : {V : Type 0} → Fields V → V → Term
+canonical_list fs v = holder list (terms_of (canonical_items fs v))
+
+-- Part 1, section 1.5: the term is described by one of the descriptors, and what it describes means the value.
+abbrev pub MeansDescribed : {V : Type 0} → (Descriptor → Type 0) → (Term → V → Type 0) → Term → V → Type 0
+MeansDescribed describes means (described d t) v = describes d × means t v
+MeansDescribed describes means _ v = ⊥
 
 -- The term is a described list of items that fit.
 abbrev pub MeansComposite : {V : Type 0} → Table V → Term → V → Type 0
-MeansComposite c (described d t) v = Describes c d × ListFits c t v
-MeansComposite c _ v = ⊥
+MeansComposite c = MeansDescribed (Describes c) (MeansList c.fields)
 
 -- the canonical term has the code
 abbrev pub canonical_term : {V : Type 0} → Table V → V → Term
-canonical_term c v = described (code c.code) (holder list (terms_of (canonical_items c.fields v)))
+canonical_term c v = described (code c.code) (canonical_list c.fields v)

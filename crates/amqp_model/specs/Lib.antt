@@ -19,4 +19,6 @@ pub mod Slot
 pub mod Fields
 pub mod FieldLaws
 pub mod Composite
+pub mod ListLaws
+pub mod DescribedLaws
 pub mod CompositeLaws

@@ -1,6 +1,6 @@
 use Rattle.amqp_model.specs.FieldType.{normal}
 use Rattle.amqp_model.specs.FieldLaws.{normal_canonical_items}
-use Rattle.amqp_model.specs.CompositeLaws.{composite_norm_norm}
+use Rattle.amqp_model.specs.CompositeLaws.{composite}
 use Rattle.amqp_model.proofs.tables.normal_values.Goals as goal
 
 pub returns : goal.returns
@@ -8,5 +8,5 @@ returns g c =
     let table = g.C.HasTable.table in
     record {
       items = λ v. normal_canonical_items table.fields v (normal table.norm v) (table.norm_is v);
-      once = composite_norm_norm table;
+      once = (composite table).meaning.norm_norm;
     }
