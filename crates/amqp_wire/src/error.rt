@@ -1,110 +1,115 @@
-//! Why a value was not read or not written.
+//! Why a value is not read or not written.
 ghost use Rattle.std.specs.Prelude.{◌≡◌};
 ghost use Rattle.amqp_wire.specs.Error.{number_of, name_of};
 
 use std::alloc::{AllocError, AllocFailed};
 use std::io::ErrorKind;
 
-/// Why a value was refused, in reading or in writing.
+/// Why a value is refused, in reading or in writing. Where an input has several faults, nothing says which of them is named.
 #[derive(Clone, Copy, Debug, PartialEq, Eq, thiserror::Error)]
 pub enum Error {
-    /// The input ends where a constructor must stand, or a width or a size asks for more than follows.
+    /// The input ends where a constructor must stand, or before all of the data that a width or a size announces.
     #[error("the input ends within a value")]
     Cut,
-    /// No constructor has this format code (Part 1, section 1.2).
+    /// A constructor has this format code, which is none of Part 1, section 1.6.
     #[error("no constructor has the code 0x{0:02x}")]
     UnknownCode(u8),
-    /// The code of a float or a double (Part 1, sections 1.6.11 and 1.6.12), which are not supported.
+    /// The code of a float (0x72) or a double (0x82), which are not supported (Part 1, sections 1.6.11 and 1.6.12).
     #[error("floating point numbers, as of the code 0x{0:02x}, are not supported")]
     FloatCode(u8),
-    /// A size differs from what its content takes.
+    /// The size of a list, a map or an array is not what its count and its items take, or a value reaches past the end of the
+    /// container that it stands in (Part 1, sections 1.2.3 and 1.2.4). Where not all is there that the outermost size
+    /// announces, the input is cut, and the error is `Cut`.
     #[error("a size differs from its content")]
     Size,
-    /// The count of a map is odd (Part 1, section 1.6.23).
+    /// A map has a key without a value: its count is odd (Part 1, section 1.6.23).
     #[error("a map has a key without a value")]
     OddCount,
     /// Two keys of a map are equal (Part 1, section 1.6.23).
     #[error("a map has a key twice")]
     DuplicateKey,
-    /// There are more items than the type has.
+    /// A composite has more items than its type has fields, or a container is ended before all of its items were read.
     #[error("there are more items than the type has")]
     Surplus,
-    /// A mandatory field is null or omitted, or no value is left to read.
+    /// A mandatory field is null or omitted, or a value is asked for where none is left in the open container.
     #[error("a mandatory value is missing")]
     Missing,
-    /// The descriptor is none of the type's.
+    /// A described value stands there, and its descriptor is none of the type's.
     #[error("the descriptor is none of the type's")]
     WrongDescriptor,
-    /// More than 128 nodes that count are nested, or a constructor has more than 128 descriptors.
+    /// Values are nested more than 128 deep (described values, lists, maps, and arrays of such count), or a constructor has more
+    /// than 128 descriptors. Part 1 sets no bound; this one is the project's.
     #[error("values are nested too deep")]
     Depth,
-    /// The items of an array have no bytes of their own.
+    /// The items of an array would have no bytes: the code of their constructor is one of 0x40 to 0x45.
     #[error("the items of an array have no bytes")]
     ZeroWidthItems,
     /// The byte of a boolean is neither 0 nor 1 (Part 1, section 1.6.2).
     #[error("a boolean's byte is neither 0 nor 1")]
     BadBool,
-    /// No Unicode scalar value (Part 1, section 1.6.16).
+    /// The four bytes of a char are no Unicode scalar value (Part 1, section 1.6.16).
     #[error("a char is no Unicode scalar value")]
     BadChar,
-    /// A string is not UTF-8 (Part 1, section 1.6.20).
+    /// The bytes of a string are not UTF-8 (Part 1, section 1.6.20).
     #[error("a string is not UTF-8")]
     BadUtf8,
-    /// A symbol is not ASCII (Part 1, section 1.6.21).
+    /// A symbol, or the name of a descriptor, has a byte above 0x7f (Part 1, section 1.6.21).
     #[error("a symbol is not ASCII")]
     NonAscii,
-    /// A symbol is not among the texts of a restricted type.
+    /// A symbol is read as a restricted type, and is none of its texts.
     #[error("a symbol is not among the type's texts")]
     UnknownText,
-    /// A number is not among those of a restricted type.
+    /// A number is read as a restricted type, and is none of its numbers.
     #[error("a number is not among the type's numbers")]
     UnknownNumber,
-    /// A mandatory field of several values has none.
+    /// A field that holds several values and must have one has none: it is null, omitted or without items.
     #[error("a mandatory field of several values has none")]
     EmptyMultiple,
-    /// A message has no body, and its body type has no empty value.
+    /// A message has no body section, and its body type has no value for that.
     #[error("a message has no body")]
     EmptyBody,
-    /// What stands where a section must begin is none.
+    /// What stands where a section of a message must begin is none.
     #[error("what stands here is no section")]
     NotSection,
-    /// A growth was refused for want of memory.
+    /// An allocation was refused, in a call that takes memory.
     #[error("out of memory")]
     Memory,
-    /// The reader failed, or the writer of a program.
+    /// The reader has failed with this kind of error; in `run` of the program's engine the reader or the writer.
     #[error("the reader or writer failed: {0}")]
     Read(ErrorKind),
-    /// The items of an array need different constructors.
+    /// The items of an array that is written need different constructors (Part 1, section 1.2.4).
     #[error("the items of an array need different constructors")]
     MixedArray,
-    /// A size passes 4294967295, or a text the greatest length of a buffer.
+    /// A size or a count that is written passes 4,294,967,295, or the whole text is longer than the machine counts.
     #[error("a size passes 32 bits")]
     TooLarge,
-    /// A value of another kind, or begins, values and ends that don't match.
+    /// A value or an end stands where it may not: an end that doesn't match what is open, a described value without its one value,
+    /// or a value of a kind that the type doesn't hold.
     #[error("a value does not stand where it may")]
     InvalidValue,
-    /// The constructor of an array's items would be that of a lazy value.
+    /// The item of an array would need a constructor of its own: a value that keeps the bytes it was read from is written in an
+    /// array, or is read there.
     #[error("a lazy value is the item of an array")]
     LazyInArray,
-    /// The format code (0x00 of a described value) of a kind that isn't the type's.
+    /// A constructor stands there whose first code, 0x00 of a described value, is known and not the type's.
     #[error("the code 0x{0:02x} is not the type's")]
     WrongType(u8),
     /// A descriptor is neither a symbol nor a ulong.
     #[error("a descriptor is neither a symbol nor a ulong")]
     BadDescriptor,
-    /// The refusal of a user's own type.
+    /// A user's own type refuses the value, for a reason that it numbers.
     #[error("refused by the type, for reason {0}")]
     Custom(u32),
-    /// Sections of a message stand in another order than the strict one (Part 3, section 3.2).
+    /// The sections of a message stand in another order than Part 3, section 3.2, has them, where that order is asked for.
     #[error("a section is misplaced")]
     Misplaced,
-    /// A limit of the caller was passed.
+    /// A limit that the caller has set was passed.
     #[error("a limit was passed")]
     Limit,
 }
 
 impl Error {
-    /// The number of the error, from 1 to 31.
+    /// The number of the error, from 1 to 31, in the order of the variants.
     pub fn number(&self) -> u8
         ensures { result ≡ number_of self.now }
     {

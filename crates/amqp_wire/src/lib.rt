@@ -1,5 +1,5 @@
-//! What every layer of the AMQP 1.0 codec speaks of: its errors, the sources of bytes, symbols,
-//! descriptors and the format codes of constructors.
+//! What every layer of the AMQP 1.0 codec speaks of: errors, the sources that bytes are read from, symbols, descriptors, and the
+//! format codes of constructors (Part 1, sections 1.2 and 1.6).
 #![tactic(auto)]
 
 pub mod descriptor;

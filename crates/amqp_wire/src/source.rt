@@ -1,23 +1,25 @@
-//! Where bytes come from.
+//! Sources: where the bytes come from that are read.
 ghost use Rattle.std.specs.Prelude.{◌≡◌, ℕ, ◌≤◌, ◌<◌, List, [], ◌++◌, length, take, Bool, true, false, Option, Some, IfOk, OnErr, IsErr, ◌⊎◌};
 ghost use Rattle.std.specs.Io.KnownBytes.{Consumes, IsAtEnd};
 ghost use Rattle.amqp_wire.specs.Sources.{known, Tells};
 
 use std::io::ErrorKind;
 
-/// A reader of bytes that says once and for all that it has failed.
+/// A source of bytes. It gives them in order and each once, in pieces of any length. Where it has failed, it has failed for good,
+/// and `failed` says so. `&[u8]` is a source that never fails, `&mut R` of a source is one, and `ReadSource` makes one of any reader.
 pub trait ByteSource {
-    // The bytes that it still has, or None where it doesn't tell.
+    // The bytes that it still has, or None where it doesn't tell, as a file doesn't.
     ghost remaining: { Self → Option (List ℕ) };
 
     // It has failed.
     ghost broken: { Self → Bool };
 
-    // The borrow that it is, where it is one.
+    // A number that tells one borrowed source from another; 0 of what isn't borrowed.
     ghost name: { Self → ℕ };
 
-    /// Fills the front of the buffer and answers with how many bytes: at least one, unless the source
-    /// is at its end or the buffer is empty. After an `Err` every pull is an `Err`.
+    /// Moves the source's next bytes to the front of the buffer, and answers how many: at most as many as the buffer holds, and at
+    /// least one, unless the source is at its end or the buffer is empty. An `Err` is the kind of a failure; then the source has
+    /// failed, and from there on every pull is an `Err`.
     fn pull(&mut self, buffer: &mut [u8]) -> Result<usize, ErrorKind>
         ensures fits { IfOk result (λ n. n ≤ length buffer.old) }
         ensures bytes { IfOk result (λ n. Consumes (remaining self.old) (remaining self.new) (take n buffer.new)) }
@@ -27,13 +29,13 @@ pub trait ByteSource {
         ensures stays { broken self.old ≡ true → IsErr result }
         ensures named { name self.new ≡ name self.old };
 
-    /// Whether it has failed.
+    /// Whether a pull has failed.
     fn failed(&self) -> bool
         ensures { result ≡ broken self.now };
 }
 
-/// Fills the buffer, however the source cuts its bytes, and answers with how many bytes: fewer than it holds only at
-/// the end of the source.
+/// Fills the buffer with the source's next bytes, however the source cuts them, and answers how many: fewer than the buffer holds
+/// only at the end of the source. An `Err` is the source's, which has failed; how many bytes it gave before isn't said.
 #[inline]
 pub fn fill<R: ByteSource>(source: &mut R, buffer: &mut [u8]) -> Result<usize, ErrorKind>
     ensures fits { IfOk result (λ n. n ≤ length buffer.old) }

@@ -1,19 +1,20 @@
-//! Symbols: ASCII texts from a constrained domain (Part 1, section 1.6.21).
+//! Symbols: values of a constrained domain, written in ASCII (Part 1, section 1.6.21).
 ghost use Rattle.std.specs.Prelude.{◌≡◌, string_bytes};
 
-/// A symbol. What is not ASCII is refused in writing, by `Error::NonAscii`.
+/// A symbol. What is read is ASCII. A symbol may be made of any text, but one that isn't ASCII is refused in writing, by
+/// `Error::NonAscii`.
 #[derive(Clone, Debug, PartialEq, Eq, PartialOrd, Ord, Hash, Drop)]
 pub struct Symbol(pub String);
 
 impl Symbol {
-    /// The text.
+    /// The text of the symbol, borrowed.
     pub fn as_str(&self) -> &str
         ensures { result.now ≡ string_bytes self.now.0 }
     {
         self.0.as_str()
     }
 
-    /// The text, owned.
+    /// The text of the symbol, which is moved out of it.
     pub fn into_inner(self) -> String
         ensures { result ≡ self.0 }
     {
