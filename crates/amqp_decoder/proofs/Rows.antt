@@ -219,6 +219,16 @@ added_front ds es l n h is = ap (take n) is ∙ take_at (take n ds) es n (length
 pub added_shared : (ds es l : DescriptorValues) (n c last : ℕ) → (c ≡ 0 → ⊥) → n ≤ length ds → l ≡ take n ds ++ es → last ≡ n + length es → shared_of l c n last ≡ Some (map descriptor_of es, c)
 added_shared ds es l n c last some h is end_ = some_shared l c n last es some (ap (λ x. take (last - n) (drop n x)) is ∙ part_added (take n ds) es n last (length-take-le n ds h) end_)
 
+-- what is put behind the descriptors of the frames, of which there are n: the constructor that it makes, and those frames as before
+pub put_behind : (ds es l : DescriptorValues) (d : ℕ) (fs : List Frame) (m n c last : ℕ) → Nested d fs m → m ≤ length ds → d ≤ length fs → n ≡ shared_in (length (take d fs)) (take d fs) → l ≡ take n ds ++ es → 0 < c → last ≡ n + length es
+    → (n ≡ shared_in d fs) × (shared_of l c n last ≡ Some (map descriptor_of es, c)) × (stack l d fs ≡ stack ds d fs)
+put_behind ds es l d fs m n c last nested within rows is put some end_ =
+    let first : n ≡ shared_in d fs = is ∙ shared_front d fs rows in
+    let among = shared_among d fs m nested in
+    let few : n ≤ length ds = omega (arith, among, first) in
+    let front : Nested d fs n = nested_last d fs m n nested (omega (arith, first)) (omega (arith, first)) in
+    (first, added_shared ds es l n c last (λ z. omega (arith, some, z)) few put end_, stack_kept l ds n d fs n front (omega arith) (added_front ds es l n few put))
+
 abbrev state_of : List ℕ → ℕ → ℕ → ℕ → Option Error → Bool → Open → List Open → State
 state_of r a s n e f t ts = record { rest = r; ahead = a; source = s; top = t; saved = ts; nesting = n; error = e; failed = f }
 

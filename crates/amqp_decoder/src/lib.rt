@@ -8,7 +8,6 @@ mod described;
 mod frame;
 pub mod laws;
 mod primitives;
-mod sections;
 mod terms;
 mod texts;
 

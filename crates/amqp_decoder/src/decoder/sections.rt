@@ -1,13 +1,39 @@
 //! What stands at the top level: the end of the input, or the next section of a message (Part 3, section 3.2).
-ghost use Rattle.std.specs.Prelude.{false};
+ghost use Rattle.std.specs.Prelude.{◌≡◌, ℕ, [], Some, IfOk, IfErr, ◌↔◌, IsTrue, false};
 ghost use Rattle.amqp_wire.specs.Sources.{Tells};
+ghost use Rattle.amqp_input.specs.Sections.{IsSectionAhead};
+ghost use Rattle.amqp_decoder.specs.State.{top_level};
+ghost use Rattle.amqp_decoder.specs.declared.frame.Place.TheVariants.{Top};
+ghost use Rattle.amqp_decoder.specs.Sections.{LooksOn};
+ghost use Rattle.amqp_decoder.specs.Steps.{Answered, SourceFailed};
 ghost use Rattle.amqp_decoder.specs.Reading.{Reads};
 ghost use Rattle.amqp_decoder.specs.Sections.{IsTop, NotTop, Ends, PeeksSection};
 
-use crate::Decoder;
+use super::Decoder;
+use crate::frame::Place;
 use amqp_wire::{ByteSource, Error};
 
 impl<R: ByteSource> Decoder<R> {
+    // Nothing is open.
+    fn is_top(&self) -> bool
+        ensures is { IsTrue result ↔ ((self.now.top.place ≡ Top) × (self.now.saved ≡ [])) }
+        ensures level { self.now.top.place ≡ Top → self.now.top ≡ top_level }
+    {
+        self.top.place == Place::Top && self.depth == 0
+    }
+
+    // The code of the section whose descriptor stands next.
+    fn section_ahead(&mut self) -> Result<Option<u8>, Error>
+        ensures looks { Tells R.remaining → IfOk result (λ _. LooksOn self.old self.new) }
+        ensures ok { Tells R.remaining → IfOk result (λ section. (c : ℕ) → (section ≡ Some c) ↔ IsSectionAhead self.old.rest c) }
+        ensures err { IfErr result (λ e. Answered self.old e self.new × SourceFailed e self.new) }
+    {
+        match self.input.section_ahead() {
+            Ok(section) => Ok(section),
+            Err(kind) => Err(self.refuse(Error::Read(kind))),
+        }
+    }
+
     // Nothing is open.
     fn check_top(&mut self) -> Result<(), Error>
         ensures { Reads false IsTop NotTop self.old result self.new }

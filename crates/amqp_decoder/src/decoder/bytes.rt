@@ -1,0 +1,155 @@
+//! How bytes are taken, within those that the open container has left.
+ghost use Rattle.std.specs.Prelude.{◌≤◌, ◌≡◌, ◌<◌, [], ◌∷◌, length, false, Some, None, IfOk, IfErr, cond, ◌^◌};
+ghost use Rattle.std.specs.Int.{bytes_high_first};
+ghost use Rattle.amqp_wire.specs.Codes.{refusal_of};
+ghost use Rattle.amqp_wire.specs.Sources.{Tells};
+ghost use Rattle.amqp_decoder.specs.State.{moved, announced, Has, lower};
+ghost use Rattle.amqp_decoder.specs.Steps.{Pulled, Missed, Took, Short, SizeRefused, NoRoom, Stopped};
+
+use super::Decoder;
+use amqp_wire::{ByteSource, Error, format_code};
+
+/// The most bytes of skipped content that are pulled at once.
+const SKIP: usize = 256;
+
+impl<R: ByteSource> Decoder<R> {
+    // How many bytes are left in the open container.
+    #[inline]
+    pub(crate) fn left(&self) -> Option<u32>
+        ensures { result ≡ self.now.top.left }
+    {
+        self.top.left
+    }
+
+    // So many bytes are left in the open container.
+    #[inline]
+    fn set_left(&mut self, left: Option<u32>)
+        requires { self.old.top.left ≡ None → left ≡ None }
+        ensures { self.new ≡ record self.old { top = record self.old.top { left = left } } }
+    {
+        self.top.left = left;
+    }
+
+    // The bytes of the outermost container that are left.
+    fn announced(&self) -> u64
+        ensures { result ≡ announced self.now }
+    {
+        let mut sum = u64::from(self.top.left.unwrap_or(0));
+        for frame in &self.frames[..self.depth] {
+            sum += u64::from(frame.left.unwrap_or(0));
+        }
+        sum
+    }
+
+    // Fills the whole buffer with the next bytes.
+    #[inline]
+    pub(crate) fn pull_all(&mut self, buffer: &mut [u8]) -> Result<(), Error>
+        ensures ok { Tells R.remaining → IfOk result (λ _. Pulled self.old buffer.new self.new) }
+        ensures err { Tells R.remaining → IfErr result (λ e. Missed false (length buffer.old) self.old e self.new) }
+    {
+        let count = match self.input.pull(buffer) {
+            Ok(count) => count,
+            Err(kind) => return Err(self.refuse(Error::Read(kind))),
+        };
+        if count < buffer.len() {
+            return Err(self.refuse(Error::Cut));
+        }
+        Ok(())
+    }
+
+    // Takes and drops so many bytes.
+    fn skip(&mut self, count: u64) -> Result<(), Error>
+        ensures ok { Tells R.remaining → IfOk result (λ _. count ≤ length self.old.rest) }
+        ensures new { Tells R.remaining → IfOk result (λ _. self.new ≡ moved count self.old) }
+        ensures err { Tells R.remaining → IfErr result (λ e. Missed false count self.old e self.new) }
+    {
+        let mut buffer = [0; SKIP];
+        let mut left = count;
+        while left > 0 {
+            let n = left.min(SKIP as u64);
+            self.pull_all(&mut buffer[..n as usize])?;
+            left -= n;
+        }
+        Ok(())
+    }
+
+    // A size is wrong: all that the outermost size announces has to be there, else the input is cut. Outside
+    // of a container it is the value's own size, of which `own` bytes are left.
+    #[cold]
+    pub(crate) fn refuse_size(&mut self, own: u32) -> Error
+        ensures { Tells R.remaining → SizeRefused own self.old result self.new }
+    {
+        let count = match self.left() {
+            Some(_) => self.announced(),
+            None => u64::from(own),
+        };
+        match self.skip(count) {
+            Ok(()) => self.refuse(Error::Size),
+            Err(error) => error,
+        }
+    }
+
+    // A code that is none of the kind that is read.
+    #[cold]
+    pub(crate) fn refuse_code(&mut self, code: u8) -> Error
+        ensures answer { result ≡ refusal_of code }
+        ensures kept { self.new ≡ record self.old { error = Some result } }
+    {
+        self.refuse(format_code::refusal(code))
+    }
+
+    // So many bytes of the open container are taken.
+    #[inline]
+    pub(crate) fn lower(&mut self, count: u32) -> Result<(), Error>
+        ensures room { IfOk result (λ _. Has self.old.top.left count) }
+        ensures new { IfOk result (λ _. self.new ≡ record self.old { top = record self.old.top { left = lower self.old.top.left count } }) }
+        ensures err { Tells R.remaining → IfErr result (λ e. Short count self.old e self.new) }
+        ensures full { Tells R.remaining → IfErr result (λ e. Stopped false (NoRoom count self.old) self.old e self.new) }
+    {
+        let Some(left) = self.left() else {
+            return Ok(());
+        };
+        if count > left {
+            return Err(self.refuse_size(count));
+        }
+        self.set_left(Some(left - count));
+        Ok(())
+    }
+
+    // The next bytes of a value.
+    #[inline]
+    pub(crate) fn take<const N: usize>(&mut self) -> Result<[u8; N], Error>
+        requires { N < 256 }
+        ensures ok { Tells R.remaining → IfOk result (λ bytes. Took self.old bytes self.new) }
+        ensures err { Tells R.remaining → IfErr result (λ e. Short N self.old e self.new) }
+    {
+        let mut bytes = [0; N];
+        self.lower(N as u32)?;
+        self.pull_all(&mut bytes)?;
+        Ok(bytes)
+    }
+
+    // The next byte of a value.
+    #[inline]
+    pub(crate) fn byte(&mut self) -> Result<u8, Error>
+        ensures ok { Tells R.remaining → IfOk result (λ b. Took self.old (b ∷ []) self.new) }
+        ensures err { Tells R.remaining → IfErr result (λ e. Short 1 self.old e self.new) }
+    {
+        let byte = self.take::<1>()?;
+        Ok(byte[0])
+    }
+
+    // A number of one byte, or of four.
+    #[inline]
+    pub(crate) fn number(&mut self, wide: bool) -> Result<u32, Error>
+        ensures ok { Tells R.remaining → IfOk result (λ n. Took self.old (bytes_high_first (cond wide 4 1) n) self.new) }
+        ensures err { Tells R.remaining → IfErr result (λ e. Short (cond wide 4 1) self.old e self.new) }
+        ensures fits { IfOk result (λ n. n < 256 ^ cond wide 4 1) }
+    {
+        if wide {
+            Ok(u32::from_be_bytes(self.take()?))
+        } else {
+            Ok(u32::from(self.byte()?))
+        }
+    }
+}

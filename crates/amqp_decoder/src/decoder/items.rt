@@ -1,0 +1,90 @@
+//! The items of the open container, and the code that the next one begins with.
+ghost use Rattle.std.specs.Prelude.{◌≡◌, ◌<◌, length, min, false, Some, IfOk, IfErr, ◌↔◌, IsTrue};
+ghost use Rattle.amqp_wire.specs.Sources.{Tells};
+ghost use Rattle.amqp_decoder.specs.State.{looked, lower};
+ghost use Rattle.amqp_decoder.specs.Reading.{Reads, Begun, BeginFault, Peeked, IsLeft};
+ghost use Rattle.amqp_decoder.specs.Steps.{Answered, SourceFailed};
+
+use super::Decoder;
+use amqp_wire::{ByteSource, Error};
+
+impl<R: ByteSource> Decoder<R> {
+    // No item is left in the open container.
+    #[inline]
+    pub(crate) fn is_done(&self) -> bool
+        ensures { IsTrue result ↔ (self.now.top.items ≡ Some 0) }
+    {
+        self.top.is_done()
+    }
+
+    // A value is left.
+    #[inline]
+    pub(crate) fn check_item(&mut self) -> Result<(), Error>
+        ensures { Reads false IsLeft (λ st e. (st.top.items ≡ Some 0) × (e ≡ Error.Missing)) self.old result self.new }
+    {
+        self.check()?;
+        if self.is_done() {
+            return Err(self.refuse(Error::Missing));
+        }
+        Ok(())
+    }
+
+    // An item of the open container is taken.
+    #[inline]
+    pub(crate) fn take_item(&mut self)
+        ensures { self.new ≡ record self.old { top = record self.old.top { items = lower self.old.top.items 1 } } }
+    {
+        self.top.items = self.top.items.saturating_sub(1);
+    }
+
+    // Looks at the next byte, if there is one.
+    #[inline]
+    pub(crate) fn look_next(&mut self) -> Result<bool, Error>
+        ensures found { Tells R.remaining → IfOk result (λ b. IsTrue b ↔ (0 < length self.old.rest)) }
+        ensures new { Tells R.remaining → IfOk result (λ b. self.new ≡ looked (min 1 (length self.old.rest)) self.old) }
+        ensures err { IfErr result (λ e. Answered self.old e self.new × SourceFailed e self.new) }
+    {
+        if self.input.ahead() > 0 {
+            return Ok(true);
+        }
+        match self.input.look(1) {
+            Ok(ahead) => Ok(ahead > 0),
+            Err(kind) => Err(self.refuse(Error::Read(kind))),
+        }
+    }
+
+    // The next value's first code, which is taken.
+    #[inline]
+    pub(crate) fn begin(&mut self) -> Result<u8, Error>
+        ensures { Tells R.remaining → Reads false Begun BeginFault self.old result self.new }
+    {
+        self.check_item()?;
+        if let Some(code) = self.shared_code() {
+            self.take_item();
+            return Ok(code);
+        }
+        let code = self.byte()?;
+        self.take_item();
+        Ok(code)
+    }
+
+    /// The first code of the next value's constructor, 0 for a described value; `Missing` where no value is left.
+    /// Nothing is taken.
+    #[inline]
+    pub fn peek_code(&mut self) -> Result<u8, Error>
+        ensures { Tells R.remaining → Reads false Peeked BeginFault self.old result self.new }
+    {
+        self.check_item()?;
+        if let Some(code) = self.shared_code() {
+            return Ok(code);
+        }
+        if self.left() == Some(0) {
+            return Err(self.refuse_size(1));
+        }
+        self.look_next()?;
+        match self.input.looked().first() {
+            Some(code) => Ok(*code),
+            None => Err(self.refuse(Error::Cut)),
+        }
+    }
+}

@@ -1,0 +1,185 @@
+//! How containers and described values are entered and left.
+ghost use Rattle.std.specs.Prelude.{◌≤◌, ◌≡◌, ◌<◌, ◌-◌, List, ◌∷◌, length, false, Some, IfOk, IfErr, ◌↔◌, ◌⊎◌, true, IsTrue};
+ghost use Rattle.amqp_wire.specs.Sources.{Tells};
+ghost use Rattle.amqp_decoder.specs.Containers.{AtEnd, EndFault};
+ghost use Rattle.amqp_wire.specs.declared.error.Error.TheVariants.{Depth};
+ghost use Rattle.amqp_decoder.specs.Described.{entered};
+ghost use Rattle.amqp_decoder.specs.State.{Open, IsHolder, unshared};
+ghost use Rattle.amqp_decoder.specs.declared.frame.Place.TheVariants.{InDescribed};
+ghost use Rattle.amqp_decoder.specs.Reading.{Reads};
+ghost use Rattle.amqp_decoder.specs.Rooms.{HasRoom};
+ghost use Rattle.amqp_decoder.specs.Steps.{SizeRefused};
+
+use super::Decoder;
+use crate::frame::{Frame, Place, ROW};
+use amqp_lengths::NESTING;
+use amqp_wire::{ByteSource, Error};
+
+impl<R: ByteSource> Decoder<R> {
+    // No more containers are open than may be nested.
+    #[inline]
+    pub(crate) fn room(&self)
+        ensures { HasRoom self.now }
+    {
+        let _depth = &self.depth;
+    }
+
+    /// How many containers and described values are open.
+    #[inline]
+    pub(crate) fn depth(&self) -> usize
+        ensures { result ≡ length self.now.saved }
+    {
+        self.depth
+    }
+
+    /// How deep a value that begins here may nest.
+    #[inline]
+    pub(crate) fn nesting_left(&self) -> usize
+        ensures { result ≡ self.now.nesting - length self.now.saved }
+    {
+        NESTING.saturating_sub(self.depth)
+    }
+
+    // Opens a container whose items share nothing.
+    #[inline]
+    pub(crate) fn enter(&mut self, inner: Frame) -> Result<(), Error>
+        requires holder { IsHolder inner.place }
+        requires room { (length self.old.saved < self.old.nesting) ⊎ (inner.items ≡ 0) }
+        ensures limit { self.old.nesting ≡ 128 }
+        ensures ok { IfOk result (λ _. (length self.old.saved < 129) × (self.new ≡ record self.old { top = unshared inner; saved = self.old.top ∷ self.old.saved })) }
+        ensures err { IfErr result (λ e. (e ≡ Depth) × (129 ≤ length self.old.saved) × (self.new ≡ record self.old { error = Some Depth })) }
+    {
+        if self.depth >= ROW {
+            return Err(self.refuse(Error::Depth));
+        }
+        let last = self.top.last;
+        self.frames[self.depth] = self.top;
+        self.depth += 1;
+        self.top = Frame {
+            code: 0,
+            first: last,
+            last,
+            ..inner
+        };
+        Ok(())
+    }
+
+    // Opens a container that counts in nesting.
+    #[inline]
+    pub(crate) fn enter_counted(&mut self, inner: Frame) -> Result<(), Error>
+        requires { IsHolder inner.place }
+        ensures limit { self.old.nesting ≡ 128 }
+        ensures ok { IfOk result (λ _. (length self.old.saved < 128) × (self.new ≡ record self.old { top = unshared inner; saved = self.old.top ∷ self.old.saved })) }
+        ensures err { IfErr result (λ e. (e ≡ Depth) × (128 ≤ length self.old.saved) × (self.new ≡ record self.old { error = Some Depth })) }
+    {
+        if self.depth >= NESTING {
+            return Err(self.refuse(Error::Depth));
+        }
+        self.enter(inner)
+    }
+
+    // An array's items that hold others, or are described, count in nesting.
+    #[inline]
+    pub(crate) fn check_items(&mut self, is_flat: bool) -> Result<(), Error>
+        ensures ok { IfOk result (λ _. ((is_flat ≡ true) ⊎ (length self.old.saved ≤ self.old.nesting)) × (self.new ≡ self.old)) }
+        ensures err { IfErr result (λ e. (is_flat ≡ false) × (e ≡ Depth) × (self.old.nesting < length self.old.saved) × (self.new ≡ record self.old { error = Some Depth })) }
+    {
+        if is_flat {
+            return Ok(());
+        }
+        if self.depth > NESTING {
+            return Err(self.refuse(Error::Depth));
+        }
+        Ok(())
+    }
+
+    // Opens what a descriptor describes, which has the bytes of what it stands in, and the rest of a constructor
+    // that is shared.
+    #[inline]
+    pub(crate) fn enter_described(&mut self) -> Result<(), Error>
+        ensures ok { IfOk result (λ _. (length self.old.saved < self.old.nesting) × (self.new ≡ entered self.old)) }
+        ensures err { IfErr result (λ e. (e ≡ Depth) × (self.old.nesting ≤ length self.old.saved) × (self.new ≡ record self.old { error = Some Depth })) }
+        ensures nesting { self.old.nesting ≡ 128 }
+    {
+        if self.depth < NESTING {
+            let outer = self.top;
+            self.frames[self.depth] = Frame {
+                left: outer.left.and(Some(0)),
+                ..outer
+            };
+            self.depth += 1;
+            self.top = Frame {
+                items: 1,
+                place: Place::InDescribed,
+                first: outer.first.saturating_add(1),
+                ..outer
+            };
+            return Ok(());
+        }
+        Err(self.refuse(Error::Depth))
+    }
+
+    // The open container is of this kind.
+    #[inline]
+    pub(crate) fn is_in(&self, place: Place) -> bool
+        ensures { IsTrue result ↔ (self.now.top.place ≡ place) }
+    {
+        self.top.place == place
+    }
+
+    // The open container is of this kind, and no item of it is left.
+    #[inline]
+    pub(crate) fn check_end(&mut self, place: Place) -> Result<(), Error>
+        ensures { Reads false (λ st _ st'. AtEnd place st st') (EndFault place) self.old result self.new }
+    {
+        self.check()?;
+        if !self.is_in(place) {
+            return Err(self.refuse(Error::InvalidValue));
+        }
+        if self.depth() == 0 {
+            return Err(self.refuse(Error::InvalidValue));
+        }
+        if !self.is_done() {
+            return Err(self.refuse(Error::Surplus));
+        }
+        Ok(())
+    }
+
+    // No byte of the open container is left.
+    #[inline]
+    pub(crate) fn check_bytes(&mut self) -> Result<(), Error>
+        ensures ok { IfOk result (λ _. (self.old.top.left ≡ Some 0) × (self.new ≡ self.old)) }
+        ensures err { Tells R.remaining → IfErr result (λ e. (self.old.top.left ≡ Some 0 → ⊥) × SizeRefused 0 self.old e self.new) }
+    {
+        if self.left() != Some(0) {
+            return Err(self.refuse_size(0));
+        }
+        Ok(())
+    }
+
+    // Leaves the open container.
+    #[inline]
+    pub(crate) fn leave(&mut self)
+        ensures { (outer : Open) (others : List Open) → self.old.saved ≡ outer ∷ others → self.new ≡ record self.old { top = outer; saved = others } }
+    {
+        if self.depth > 0 {
+            self.depth -= 1;
+            self.top = self.frames[self.depth];
+        }
+    }
+
+    // Leaves a described value, whose bytes are those of what it stands in.
+    #[inline]
+    pub(crate) fn leave_described(&mut self)
+        requires { self.old.top.place ≡ InDescribed }
+        ensures { (outer : Open) (others : List Open) → self.old.saved ≡ outer ∷ others → self.new ≡ record self.old { top = record outer { left = self.old.top.left }; saved = others } }
+    {
+        if self.depth > 0 {
+            self.depth -= 1;
+            self.top = Frame {
+                left: self.top.left,
+                ..self.frames[self.depth]
+            };
+        }
+    }
+}
