@@ -7,3 +7,6 @@ pub mod Options
 pub mod FieldSteps
 pub mod Rewrites
 pub mod FromReader
+pub mod SumMembers
+mod ListReads
+pub mod RestrictedReads

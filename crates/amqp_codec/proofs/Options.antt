@@ -11,7 +11,6 @@ use Rattle.amqp_decoder.proofs.Steps.{answered_later}
 use Rattle.amqp_decoder.proofs.Peeks.{value-peeked}
 use Rattle.amqp_codec.specs.TermType.{TermType}
 use Rattle.amqp_codec.specs.OptionType.{MeansOption, OptionFault}
-use Rattle.amqp_codec.specs.Reading.{Reading, ReadsTerms}
 use Rattle.amqp_codec.specs.Refused.{excused_as, no_memory, NoneStands, refused_later}
 use Rattle.amqp_codec.specs.Peeks.{peeked_failed, peeked_going, null_there, not_null}
 
@@ -23,25 +22,30 @@ null_refused q g st c mid e new p is h =
     let excused = excused_as e new no_memory (null_there st mid e new at (h.named going.1)) in
     record { kept = answered_later (peeked_failed st 0x40 mid at) h.kept; again = λ d x. absurd (let y = going.0 in cc); named = λ _. inl excused; none = inl excused }
 
-module _ {T : Type 0} (u : TermType T) (r : Reading T) (reads : ReadsTerms u r) where
+module _ {T : Type 0} (u : TermType T) where
   pub none_read : (st : State) (c : ℕ) (mid b : State) → Peeked st c mid → Value (Means (λ (_ : Unit {0}). null)) mid tt b → Value (MeansOption u.means) st None b
   none_read st c mid b p h =
       let k = (value-peeked (Means (λ (_ : Unit {0}). null)) st mid b c tt p).0 h in
       record { bytes = k.bytes; term = k.term; stands = k.stands; moved = k.moved; meant = ap is_null k.meant }
 
-  pub some_read : (st : State) (c : ℕ) (mid : State) (v : T) (b : State) → Peeked st c mid → (c ≡ 0x40 → ⊥) → r.reads mid v b → Value (MeansOption u.means) st (Some v) b
+  pub some_read : (st : State) (c : ℕ) (mid : State) (v : T) (b : State) → Peeked st c mid → (c ≡ 0x40 → ⊥) → Value u.means mid v b
+      → Value (MeansOption u.means) st (Some v) b
   some_read st c mid v b p other h =
-      let k = (value-peeked u.means st mid b c v p).0 (reads.to_value mid v b h) in
+      let k = (value-peeked u.means st mid b c v p).0 h in
       record { bytes = k.bytes; term = k.term; stands = k.stands; moved = k.moved; meant = (not_null u.means st c mid v b p other k, k.meant) }
 
-  none_stands : (st : State) (c : ℕ) (mid : State) → Peeked st c mid → (c ≡ 0x40 → ⊥) → NoneStands r.reads mid → NoneStands (Value (MeansOption u.means)) st
+  none_stands : (st : State) (c : ℕ) (mid : State) → Peeked st c mid → (c ≡ 0x40 → ⊥) → NoneStands (Value u.means) mid
+      → NoneStands (Value (MeansOption u.means)) st
   none_stands st c mid p other none None b h = clash h.meant (not_null (MeansOption u.means) st c mid None b p other h)
   none_stands st c mid p other none (Some v) b h =
       let k : Value u.means st v b = record { bytes = h.bytes; term = h.term; stands = h.stands; moved = h.moved; meant = h.meant.1 } in
-      none v b (reads.from_value mid v b ((value-peeked u.means st mid b c v p).1 k))
+      none v b ((value-peeked u.means st mid b c v p).1 k)
 
-  pub some_refused : (st : State) (c : ℕ) (mid : State) (e : Error) (new : State) → Peeked st c mid → (c ≡ 0x40 → ⊥) → Refused r.takes_memory r.reads r.fault mid e new → Refused u.takes_memory (Value (MeansOption u.means)) (OptionFault u.faults.fault) st e new
+  pub some_refused : (st : State) (c : ℕ) (mid : State) (e : Error) (new : State) → Peeked st c mid → (c ≡ 0x40 → ⊥)
+      → Refused u.takes_memory (Value u.means) u.faults.fault mid e new
+      → Refused u.takes_memory (Value (MeansOption u.means)) (OptionFault u.faults.fault) st e new
   some_refused st c mid e new p other h =
       let going = peeked_going st c mid p in
-      refused_later r.reads r.fault (Value (MeansOption u.means)) (OptionFault u.faults.fault) st mid e new reads.to_memory (peeked_failed st c mid p) going.0 going.1
-      (λ f. inr (c, mid, p, other, reads.to_fault mid e f)) (none_stands st c mid p other) h
+      refused_later (Value u.means) u.faults.fault (Value (MeansOption u.means)) (OptionFault u.faults.fault) st mid e new (λ t. t)
+      (peeked_failed st c mid p) going.0 going.1
+      (λ f. inr (c, mid, p, other, f)) (none_stands st c mid p other) h

@@ -32,7 +32,7 @@ both_hold false false h = (refl, refl)
 
 module _ {V W : Type 0} (c : Table V) (d : Table W) (h : differ c d ≡ true) where
   -- no descriptor describes both
-  one_table : (x : Descriptor) → Describes (table_of c) x → Describes (table_of d) x → ⊥
+  pub one_table : (x : Descriptor) → Describes (table_of c) x → Describes (table_of d) x → ⊥
   one_table (code n) p q = clash (eq-eqb c.code d.code (sym p ∙ q)) (both_hold (eqb c.code d.code) (same_text c.name d.name) h).0
   one_table (name s) p q = clash (subst (λ z. same_text c.name z ≡ true) (sym p ∙ q) (text_is_itself c.name)) (both_hold (eqb c.code d.code) (same_text c.name d.name) h).1
 

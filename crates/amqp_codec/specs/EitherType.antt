@@ -1,17 +1,11 @@
 -- A value of one type or of another, whose terms have other forms.
-use Rattle.std.proofs.Common.{◌≡◌, ◌⊎◌, inl, inr, ℕ, ◌≤◌, Bool, true, false, ◌&&◌, ◌||◌, List, None, length, refl, sym, ap, ◌∙◌, subst}
+use Rattle.std.proofs.Common.{◌≡◌, ◌⊎◌, inl, inr, ℕ, Bool, true, false, ◌&&◌, ◌||◌, List, refl, sym, ap, ◌∙◌, subst}
 use Rattle.std.specs.Cmp.{first_so, second_so}
-use Rattle.amqp_model.specs.Term.{null, Refusal, too_large, Term, leaf, Descriptor}
-use Rattle.amqp_model.specs.Spelling.{enc}
-use Rattle.amqp_model.specs.Standing.{Standing, whole, part}
-use Rattle.amqp_model.specs.Text.{Plain, text, form}
-use Rattle.amqp_model.specs.Measures.{nest, nodes}
-use Rattle.amqp_model.specs.Ranges.{Everywhere, IsValue, IsNoArray, IsBytes}
-use Rattle.amqp_model.specs.Refusals.{Somewhere, IsRefused, core}
-use Rattle.amqp_model.specs.Kept.{Reads}
-use Rattle.amqp_model.specs.Items.{is_null, IsFree}
+use Rattle.amqp_model.specs.Term.{Term}
+use Rattle.amqp_model.specs.Standing.{Standing, whole}
+use Rattle.amqp_model.specs.Text.{form}
+use Rattle.amqp_model.specs.Items.{is_null}
 use Rattle.amqp_model.specs.FieldType.{Norm, normal, plain, by_norm}
-use Rattle.amqp_codec.specs.Tidy.{tidy}
 use Rattle.amqp_wire.specs.declared.error.Error.{Error}
 use Rattle.amqp_wire.specs.declared.error.Error.TheVariants.{Memory}
 use Rattle.amqp_decoder.specs.State.{State}
@@ -26,7 +20,7 @@ use Rattle.amqp_decoder.proofs.NotMemory.{begin_not_memory}
 use Rattle.amqp_decoder.proofs.Leaves.{begun_same, fault_not_begun}
 use Rattle.amqp_model.specs.ItemLaws.{clash}
 use Rattle.amqp_codec.specs.Faults.{Faults}
-use Rattle.amqp_codec.specs.TermType.{TermType, Spells, StandsCanonically, IsUnrefused, IsLeaf, IsKept, IsPlain}
+use Rattle.amqp_codec.specs.TermType.{TermType, View, view_of, Agrees, Rewrites, IgnoresStanding, Meant, IsNoShorter}
 
 -- what the one or the other says of a value
 abbrev pub either : {A B C : Type 0} → (A → C) → (B → C) → A ⊎ B → C
@@ -75,137 +69,85 @@ module _ {A B : Type 0} (u : TermType A) (w : TermType B) where
   abbrev pub either_same : A ⊎ B → A ⊎ B → Type 0
   either_same = SameEither u.same w.same
 
+  abbrev pub either_view : A ⊎ B → View
+  either_view = view_of (IsEither u.is_value w.is_value) MeansEither either_canon
+
   pub either_refl : (v : A ⊎ B) → either_same v v
-  either_refl (inl a) = u.same_refl a
-  either_refl (inr b) = w.same_refl b
+  either_refl (inl a) = u.sameness.refl a
+  either_refl (inr b) = w.sameness.refl b
 
   pub either_sym : (v x : A ⊎ B) → either_same v x → either_same x v
-  either_sym (inl a) (inl c) h = u.same_sym a c h
-  either_sym (inr b) (inr d) h = w.same_sym b d h
+  either_sym (inl a) (inl c) h = u.sameness.sym a c h
+  either_sym (inr b) (inr d) h = w.sameness.sym b d h
   either_sym (inl a) (inr d) h = h
   either_sym (inr b) (inl c) h = h
 
   pub either_trans : (v x y : A ⊎ B) → either_same v x → either_same x y → either_same v y
-  either_trans (inl a) (inl c) (inl e) h k = u.same_trans a c e h k
-  either_trans (inr b) (inr d) (inr f) h k = w.same_trans b d f h k
+  either_trans (inl a) (inl c) (inl e) h k = u.sameness.trans a c e h k
+  either_trans (inr b) (inr d) (inr f) h k = w.sameness.trans b d f h k
   either_trans (inl a) (inr d) y h k = absurd h
   either_trans (inr b) (inl c) y h k = absurd h
   either_trans (inl a) (inl c) (inr f) h k = k
   either_trans (inr b) (inr d) (inl e) h k = k
 
-  pub either_same_value : (v x : A ⊎ B) → either_same v x → IsEither u.is_value w.is_value v → IsEither u.is_value w.is_value x
-  either_same_value (inl a) (inl c) h = u.same_value a c h
-  either_same_value (inr b) (inr d) h = w.same_value b d h
-  either_same_value (inl a) (inr d) h = absurd h
-  either_same_value (inr b) (inl c) h = absurd h
-
-  pub either_same_means : (s : Standing) (t : Term) (v x : A ⊎ B) → either_same v x → MeansEither s t v → MeansEither s t x
-  either_same_means s t (inl a) (inl c) h = u.same_means s t a c h
-  either_same_means s t (inr b) (inr d) h = w.same_means s t b d h
-  either_same_means s t (inl a) (inr d) h = absurd h
-  either_same_means s t (inr b) (inl c) h = absurd h
-
-  pub either_same_canon : (v x : A ⊎ B) → either_same v x → either_canon v ≡ either_canon x
-  either_same_canon (inl a) (inl c) h = u.same_canon a c h
-  either_same_canon (inr b) (inr d) h = w.same_canon b d h
-  either_same_canon (inl a) (inr d) h = absurd h
-  either_same_canon (inr b) (inl c) h = absurd h
+  pub either_agrees : (v x : A ⊎ B) → either_same v x → Agrees (either_view v) (either_view x)
+  either_agrees (inl a) (inl c) h = u.sameness.agrees a c h
+  either_agrees (inr b) (inr d) h = w.sameness.agrees b d h
+  either_agrees (inl a) (inr d) h = absurd h
+  either_agrees (inr b) (inl c) h = absurd h
 
   pub either_one : FormsApart → (s : Standing) (t : Term) (v x : A ⊎ B) → MeansEither s t v → MeansEither s t x → either_same v x
-  either_one apart s t (inl a) (inl c) h k = u.one s t a c h k
-  either_one apart s t (inr b) (inr d) h k = w.one s t b d h k
+  either_one apart s t (inl a) (inl c) h k = u.sameness.one s t a c h k
+  either_one apart s t (inr b) (inr d) h k = w.sameness.one s t b d h k
   either_one apart s t (inl a) (inr d) h k = apart s s t t a d h k refl
   either_one apart s t (inr b) (inl c) h k = apart s s t t c b k h refl
 
-  pub either_reads : (v : A ⊎ B) → IsEither u.is_value w.is_value v → IsFree (either_canon v) → (t : Term) × Reads (either_canon v) t
-  either_reads (inl a) = u.reads a
-  either_reads (inr b) = w.reads b
+  -- what holds of each one's normal value holds of the sum's
+  either_normally : (P : A ⊎ B → Type 0) (v : A ⊎ B) → P (each_normal u.norm w.norm v) → P (normal either_norm v)
+  either_normally P v = subst P (sym (either_normal u.norm w.norm v))
 
-  pub either_canon_means : (s : Standing) (t : Term) (v : A ⊎ B) → IsEither u.is_value w.is_value v → IsUnrefused (either_canon v) → StandsCanonically s (either_canon v) → Reads (either_canon v) t → MeansEither s t (normal either_norm v)
-  either_canon_means s t (inl a) i f c r = rw (either_normal u.norm w.norm (inl a)) (u.canon_means s t a i f c r)
-  either_canon_means s t (inr b) i f c r = rw (either_normal u.norm w.norm (inr b)) (w.canon_means s t b i f c r)
+  each_rewrites : (v : A ⊎ B) → Rewrites (either_view v) (either_view (each_normal u.norm w.norm v))
+  each_rewrites (inl a) = u.rewrites a
+  each_rewrites (inr b) = w.rewrites b
 
-  pub either_blind_means : (u.blind && w.blind) ≡ true → (s : Standing) (v : A ⊎ B) → IsEither u.is_value w.is_value v → IsFree (either_canon v) → MeansEither s (either_canon v) (normal either_norm v)
-  either_blind_means l s (inl a) i f = rw (either_normal u.norm w.norm (inl a)) (u.blind_means (first_so u.blind w.blind l) s a i f)
-  either_blind_means l s (inr b) i f = rw (either_normal u.norm w.norm (inr b)) (w.blind_means (second_so u.blind w.blind l) s b i f)
-
-  pub either_norm_canon : (v : A ⊎ B) → tidy (either_canon (normal either_norm v)) ≡ tidy (either_canon v)
-  either_norm_canon (inl a) = rw (either_normal u.norm w.norm (inl a)) (u.norm_canon a)
-  either_norm_canon (inr b) = rw (either_normal u.norm w.norm (inr b)) (w.norm_canon b)
+  pub either_rewrites : (v : A ⊎ B) → Rewrites (either_view v) (either_view (normal either_norm v))
+  either_rewrites v = either_normally (λ x. Rewrites (either_view v) (either_view x)) v (each_rewrites v)
 
   pub either_norm_norm : (v : A ⊎ B) → either_same (normal either_norm (normal either_norm v)) (normal either_norm v)
   either_norm_norm (inl a) = rw (either_normal u.norm w.norm (inl a), either_normal u.norm w.norm (inl (normal u.norm a))) (u.norm_norm a)
   either_norm_norm (inr b) = rw (either_normal u.norm w.norm (inr b), either_normal u.norm w.norm (inr (normal w.norm b))) (w.norm_norm b)
 
-  pub either_valued : (v : A ⊎ B) → IsEither u.is_value w.is_value v → Everywhere IsValue (either_canon v)
-  either_valued (inl a) = u.valued a
-  either_valued (inr b) = w.valued b
-
-  pub either_value : (s : Standing) (t : Term) (v : A ⊎ B) → MeansEither s t v → IsEither u.is_value w.is_value v
-  either_value s t (inl a) = u.value s t a
-  either_value s t (inr b) = w.value s t b
+  pub either_meant : (s : Standing) (t : Term) (v : A ⊎ B) → MeansEither s t v
+      → Meant s t (either_view v).is_value (either_canon v) (either u.count w.count v)
+  either_meant s t (inl a) = u.meant s t a
+  either_meant s t (inr b) = w.meant s t b
 
   pub either_own : (s : Standing) (t : Term) (v : A ⊎ B) → MeansEither s t v → either_same (normal either_norm v) v
   either_own s t (inl a) m = rw (either_normal u.norm w.norm (inl a)) (u.own s t a m)
   either_own s t (inr b) m = rw (either_normal u.norm w.norm (inr b)) (w.own s t b m)
 
-  pub either_free : (s : Standing) (t : Term) (v : A ⊎ B) → MeansEither s t v → IsFree (either_canon v)
-  either_free s t (inl a) = u.free s t a
-  either_free s t (inr b) = w.free s t b
-
-  pub either_writable : (s : Standing) (t : Term) (v : A ⊎ B) → Spells s t → MeansEither s t v → (r : Refusal) → Somewhere (IsRefused r) (either_canon v) → r ≡ too_large
-  either_writable s t (inl a) = u.writable s t a
-  either_writable s t (inr b) = w.writable s t b
-
-  pub either_bare_data : (ds : List Descriptor) (c : ℕ) (b : List ℕ) (t : Term) (v : A ⊎ B) → MeansEither (part ds c b) t v → IsKept (core (either_canon v)) → ⊥
-  either_bare_data ds c b t (inl a) = u.bare_data ds c b t a
-  either_bare_data ds c b t (inr x) = w.bare_data ds c b t x
-
-  pub either_null_alike : (s : Standing) (t : Term) (v : A ⊎ B) → MeansEither s t v → is_null (either_canon v) ≡ is_null t
-  either_null_alike s t (inl a) = u.null_alike s t a
-  either_null_alike s t (inr b) = w.null_alike s t b
-
   pub either_is_solid : (u.solid && w.solid) ≡ true → (v : A ⊎ B) → is_null (either_canon v) ≡ false
   either_is_solid l (inl a) = u.is_solid (first_so u.solid w.solid l) a
   either_is_solid l (inr b) = w.is_solid (second_so u.solid w.solid l) b
 
-  pub either_formed : FormsApart → (s z : Standing) (t r : Term) (v x : A ⊎ B) → MeansEither s t v → MeansEither z r x → form t ≡ form r → form (either_canon v) ≡ form (either_canon x)
+  pub either_formed : FormsApart → (s z : Standing) (t r : Term) (v x : A ⊎ B) → MeansEither s t v → MeansEither z r x
+      → form t ≡ form r → form (either_canon v) ≡ form (either_canon x)
   either_formed apart s z t r (inl a) (inl c) h k e = u.formed s z t r a c h k e
   either_formed apart s z t r (inr b) (inr d) h k e = w.formed s z t r b d h k e
   either_formed apart s z t r (inl a) (inr d) h k e = absurd (apart s z t r a d h k e)
   either_formed apart s z t r (inr b) (inl c) h k e = absurd (apart z s r t c b k h (sym e))
 
-  pub either_core_null : (s : Standing) (t : Term) (v : A ⊎ B) → MeansEither s t v → core (either_canon v) ≡ leaf null → form t ≡ None
-  either_core_null s t (inl a) = u.core_null s t a
-  either_core_null s t (inr b) = w.core_null s t b
+  each_ignores : (u.blind && w.blind) ≡ true → (v : A ⊎ B) → IgnoresStanding (either_view v) (either_view (each_normal u.norm w.norm v))
+  each_ignores l (inl a) = u.is_blind (first_so u.blind w.blind l) a
+  each_ignores l (inr b) = w.is_blind (second_so u.blind w.blind l) b
 
-  pub either_formless : (s : Standing) (t : Term) (v : A ⊎ B) → MeansEither s t v → form t ≡ None → form (either_canon v) ≡ None
-  either_formless s t (inl a) = u.formless s t a
-  either_formless s t (inr b) = w.formless s t b
+  pub either_ignores : (u.blind && w.blind) ≡ true → (v : A ⊎ B) → IgnoresStanding (either_view v) (either_view (normal either_norm v))
+  either_ignores l v = either_normally (λ x. IgnoresStanding (either_view v) (either_view x)) v (each_ignores l v)
 
-  pub either_nested : (s : Standing) (t r : Term) (v : A ⊎ B) → MeansEither s t v → Reads (either_canon v) r → nest r ≤ nest t
-  either_nested s t r (inl a) = u.nested s t r a
-  either_nested s t r (inr b) = w.nested s t r b
-
-  pub either_leaf_alike : (s : Standing) (t r : Term) (v : A ⊎ B) → MeansEither s t v → Reads (either_canon v) r → IsLeaf t → IsLeaf r
-  either_leaf_alike s t r (inl a) = u.leaf_alike s t r a
-  either_leaf_alike s t r (inr b) = w.leaf_alike s t r b
-
-  pub either_counted : (s : Standing) (t : Term) (v : A ⊎ B) → MeansEither s t v → either u.count w.count v ≤ nodes t
-  either_counted s t (inl a) = u.counted s t a
-  either_counted s t (inr b) = w.counted s t b
-
-  pub either_least : (u.is_least && w.is_least) ≡ true → (b : List ℕ) (t : Term) (v : A ⊎ B) → IsBytes b → Everywhere IsNoArray (either_canon v) → enc b t → MeansEither (whole b) t v → length (text (either_canon v) Plain) ≤ length b
+  pub either_least : (u.is_least && w.is_least) ≡ true → (b : List ℕ) (t : Term) (v : A ⊎ B) → MeansEither (whole b) t v
+      → IsNoShorter b t (either_canon v)
   either_least l b t (inl a) = u.least (first_so u.is_least w.is_least l) b t a
   either_least l b t (inr x) = w.least (second_so u.is_least w.is_least l) b t x
-
-  pub either_is_blind : (u.blind && w.blind) ≡ true → (s z : Standing) (t : Term) (v : A ⊎ B) → MeansEither s t v → MeansEither z t v
-  either_is_blind l s z t (inl a) = u.is_blind (first_so u.blind w.blind l) s z t a
-  either_is_blind l s z t (inr b) = w.is_blind (second_so u.blind w.blind l) s z t b
-
-  pub either_is_plain : (u.blind && w.blind) ≡ true → (v : A ⊎ B) → IsPlain (either_canon v)
-  either_is_plain l (inl a) = u.is_plain (first_so u.blind w.blind l) a
-  either_is_plain l (inr b) = w.is_plain (second_so u.blind w.blind l) b
 
 -- Why no value of two types that are told from each other by the first code is read: none begins, or what begins by a
 -- code of the first type has a fault of that one, and what begins by another code a fault of the second.
@@ -220,28 +162,40 @@ module _ (is_first : ℕ → Bool) (f g : Faults) where
   either_not_memory st (in_first {c} {mid} p is h) = f.not_memory mid h
   either_not_memory st (in_second {c} {mid} p is h) = g.not_memory mid h
 
-  pub either_elsewhere : (s : Setting) (st : State) (e : Error) → KeepsError s e → EitherFault is_first f g st e → EitherFault is_first f g (under s st) e
+  pub either_elsewhere : (s : Setting) (st : State) (e : Error) → KeepsError s e → EitherFault is_first f g st e
+      → EitherFault is_first f g (under s st) e
   either_elsewhere s st e k (no_value h) = no_value (begin_fault s k h)
   either_elsewhere s st e k (in_first {c} {mid} p is h) = in_first (peeked s p) is (f.fault_elsewhere s mid e k h)
   either_elsewhere s st e k (in_second {c} {mid} p is h) = in_second (peeked s p) is (g.fault_elsewhere s mid e k h)
 
   pub either_misspelled : (st : State) (e : Error) → HasRoom st → IsMisspelling e → EitherFault is_first f g st e → NothingStands st
   either_misspelled st e room i (no_value h) = begin_misspelled st e i h
-  either_misspelled st e room i (in_first {c} {mid} p is h) = nothing_peeked st c mid p (f.misspelled mid e (room_peeked st c mid p room) i h)
-  either_misspelled st e room i (in_second {c} {mid} p is h) = nothing_peeked st c mid p (g.misspelled mid e (room_peeked st c mid p room) i h)
+  either_misspelled st e room i (in_first {c} {mid} p is h) =
+      nothing_peeked st c mid p (f.misspelled mid e (room_peeked st c mid p room) i h)
+  either_misspelled st e room i (in_second {c} {mid} p is h) =
+      nothing_peeked st c mid p (g.misspelled mid e (room_peeked st c mid p room) i h)
 
   abbrev pub either_faults : Faults
-  either_faults = record { fault = EitherFault is_first f g; not_memory = either_not_memory; fault_elsewhere = either_elsewhere; misspelled = either_misspelled }
+  either_faults = record {
+    fault = EitherFault is_first f g;
+    not_memory = either_not_memory;
+    fault_elsewhere = either_elsewhere;
+    misspelled = either_misspelled;
+  }
 
   -- where a code was looked at, a fault is of the type that it tells, and of no other
-  pub first_fault : (st mid : State) (c : ℕ) (e : Error) → Peeked st c mid → is_first c ≡ true → EitherFault is_first f g st e → f.fault mid e
+  pub first_fault : (st mid : State) (c : ℕ) (e : Error) → Peeked st c mid → is_first c ≡ true → EitherFault is_first f g st e
+      → f.fault mid e
   first_fault st mid c e p is (no_value h) = absurd (fault_not_begun st e c p.after h p.begun)
   first_fault st mid c e p is (in_first {c = d} {mid = seen} q k h) = subst (λ (x : State). f.fault x e) (q.kept ∙ sym p.kept) h
-  first_fault st mid c e p is (in_second {c = d} {mid = seen} q k h) = absurd (clash (ap is_first (sym (begun_same st c d p.after q.after p.begun q.begun).0) ∙ is) k)
+  first_fault st mid c e p is (in_second {c = d} {mid = seen} q k h) =
+      absurd (clash (ap is_first (sym (begun_same st c d p.after q.after p.begun q.begun).0) ∙ is) k)
 
-  pub second_fault : (st mid : State) (c : ℕ) (e : Error) → Peeked st c mid → is_first c ≡ false → EitherFault is_first f g st e → g.fault mid e
+  pub second_fault : (st mid : State) (c : ℕ) (e : Error) → Peeked st c mid → is_first c ≡ false → EitherFault is_first f g st e
+      → g.fault mid e
   second_fault st mid c e p is (no_value h) = absurd (fault_not_begun st e c p.after h p.begun)
-  second_fault st mid c e p is (in_first {c = d} {mid = seen} q k h) = absurd (clash k (ap is_first (sym (begun_same st c d p.after q.after p.begun q.begun).0) ∙ is))
+  second_fault st mid c e p is (in_first {c = d} {mid = seen} q k h) =
+      absurd (clash k (ap is_first (sym (begun_same st c d p.after q.after p.begun q.begun).0) ∙ is))
   second_fault st mid c e p is (in_second {c = d} {mid = seen} q k h) = subst (λ (x : State). g.fault x e) (q.kept ∙ sym p.kept) h
 
 -- A sum of two types: which errors its reading may answer hangs on how the one is told from the other.
@@ -258,33 +212,19 @@ either_of u w apart faults = record {
   blind = u.blind && w.blind;
   takes_memory = u.takes_memory || w.takes_memory;
   is_least = u.is_least && w.is_least;
-  same_refl = either_refl u w;
-  same_sym = either_sym u w;
-  same_trans = either_trans u w;
-  same_value = either_same_value u w;
-  same_means = either_same_means u w;
-  same_canon = either_same_canon u w;
-  one = either_one u w apart;
-  reads = either_reads u w;
-  canon_means = either_canon_means u w;
-  blind_means = either_blind_means u w;
-  norm_canon = either_norm_canon u w;
-  norm_norm = either_norm_norm u w;
-  valued = either_valued u w;
-  value = either_value u w;
+  sameness = record {
+    refl = either_refl u w;
+    sym = either_sym u w;
+    trans = either_trans u w;
+    agrees = either_agrees u w;
+    one = either_one u w apart;
+  };
+  rewrites = either_rewrites u w;
+  meant = either_meant u w;
   own = either_own u w;
-  free = either_free u w;
-  writable = either_writable u w;
-  bare_data = either_bare_data u w;
-  null_alike = either_null_alike u w;
-  is_solid = either_is_solid u w;
+  norm_norm = either_norm_norm u w;
   formed = either_formed u w apart;
-  core_null = either_core_null u w;
-  formless = either_formless u w;
-  nested = either_nested u w;
-  leaf_alike = either_leaf_alike u w;
-  counted = either_counted u w;
+  is_solid = either_is_solid u w;
+  is_blind = either_ignores u w;
   least = either_least u w;
-  is_blind = either_is_blind u w;
-  is_plain = either_is_plain u w;
 }

@@ -1,82 +1,95 @@
 -- Types of fields: no null means a value, and they don't look at how a term stands.
-use Rattle.std.proofs.Common.{◌≡◌, ℕ, ◌≤◌, Bool, true, false, List, [], length, refl, sym, ◌∙◌}
-use Rattle.amqp_model.specs.Term.{Refusal, too_large, null, Term, leaf}
+use Rattle.std.proofs.Common.{◌≡◌, ℕ, ◌≤◌, Bool, true, false, List, [], sym, ◌∙◌}
+use Rattle.amqp_model.specs.Term.{Term}
 use Rattle.amqp_model.specs.Spelling.{enc}
 use Rattle.amqp_model.specs.Standing.{Standing, whole}
-use Rattle.amqp_model.specs.Text.{Plain, text}
 use Rattle.amqp_model.specs.Measures.{nest, nodes}
-use Rattle.amqp_model.specs.Ranges.{Everywhere, IsValue, IsNoArray, IsBytes}
-use Rattle.amqp_model.specs.Refusals.{Somewhere, IsRefused}
+use Rattle.amqp_model.specs.Ranges.{Everywhere, IsValue}
 use Rattle.amqp_model.specs.Items.{is_null}
 use Rattle.amqp_model.specs.ItemLaws.{clash}
 use Rattle.amqp_model.specs.FieldType.{normal, Meaning, FieldType}
-use Rattle.amqp_codec.specs.TermType.{TermType, IsPlain}
+use Rattle.amqp_codec.specs.TermType.{TermType, IsPlain, IsNoShorter, IsRefusedForSize}
 use Rattle.amqp_codec.specs.Plain.{reads_itself, plain_tidy}
 
 -- the one standing that serves for all
 abbrev pub anywhere : Standing
 anywhere = whole []
 
+-- The term t means a value whose canonical term is c, and in which so many values are; in a missing item are none.
+pub record FieldMeant (t c : Term) (count : ℕ) : Type 0 where
+  pub missing : is_null t ≡ true → count ≡ 0
+  pub writable : (b : List ℕ) → enc b t → IsRefusedForSize c
+  pub nested : nest c ≤ nest t
+  pub counted : count ≤ nodes t
+
 -- What the meaning of a field has beside the laws of the model.
 pub record FieldLaws {T : Type 0} (m : Meaning T) : Type 0 where
-  -- the values that count; those of a missing item are none
+  -- the values that count
   pub count : T → ℕ
   pub is_least : Bool
-  pub missing : (v : T) → m.means (leaf null) v → count v ≡ 0
   pub valued : (v : T) → m.is_value v → Everywhere IsValue (m.canon v)
   pub is_plain : (v : T) → IsPlain (m.canon v)
-  pub writable : (b : List ℕ) (t : Term) (v : T) → enc b t → m.means t v → (r : Refusal) → Somewhere (IsRefused r) (m.canon v) → r ≡ too_large
-  pub nested : (t : Term) (v : T) → m.means t v → nest (m.canon v) ≤ nest t
-  pub counted : (t : Term) (v : T) → m.means t v → count v ≤ nodes t
-  pub least : is_least ≡ true → (b : List ℕ) (t : Term) (v : T) → IsBytes b → Everywhere IsNoArray (m.canon v) → enc b t → m.means t v → length (text (m.canon v) Plain) ≤ length b
+  pub meant : (t : Term) (v : T) → m.means t v → FieldMeant t (m.canon v) (count v)
+  pub least : is_least ≡ true → (b : List ℕ) (t : Term) (v : T) → m.means t v → IsNoShorter b t (m.canon v)
 
-module _ {T : Type 0} (u : TermType T) (solid : u.solid ≡ true) (blind : u.blind ≡ true) where
+-- A type that doesn't look at how a term stands.
+module _ {T : Type 0} (u : TermType T) (blind : u.blind ≡ true) where
+  pub field_plain : (v : T) → IsPlain (u.canon v)
+  field_plain v = (u.is_blind blind v).plain
+
+  -- how a term stands is nothing to the value
+  pub standing_so : (s z : Standing) (t : Term) (v : T) → u.means s t v → u.means z t v
+  standing_so s z t v = (u.is_blind blind v).means s z t
+
   pub field_norm_canon : (v : T) → u.canon (normal u.norm v) ≡ u.canon v
-  field_norm_canon v = sym (plain_tidy (u.canon (normal u.norm v)) (u.is_plain blind (normal u.norm v))) ∙ u.norm_canon v ∙ plain_tidy (u.canon v) (u.is_plain blind v)
+  field_norm_canon v =
+      sym (plain_tidy (u.canon (normal u.norm v)) (field_plain (normal u.norm v)))
+      ∙ (u.rewrites v).canon ∙ plain_tidy (u.canon v) (field_plain v)
 
-  pub field_never_null : (t : Term) (v : T) → u.means anywhere t v → is_null t ≡ false
-  field_never_null t v m = sym (u.null_alike anywhere t v m) ∙ u.is_solid solid v
-
-  abbrev pub field_type : FieldType T
-  field_type = record {
-    meaning = record {
-      is_value = u.is_value;
-      means = u.means anywhere;
-      canon = u.canon;
-      norm = u.norm;
-      same = u.same;
-      same_refl = u.same_refl;
-      same_sym = u.same_sym;
-      same_trans = u.same_trans;
-      same_value = u.same_value;
-      same_means = u.same_means anywhere;
-      same_canon = u.same_canon;
-      one = u.one anywhere;
-      canon_means = u.blind_means blind anywhere;
-      norm_canon = field_norm_canon;
-      norm_norm = u.norm_norm;
-      value = u.value anywhere;
-      own = u.own anywhere;
-      free = u.free anywhere;
-    };
-    never_null = field_never_null;
+  -- What its terms mean.
+  abbrev pub meaning_of : Meaning T
+  meaning_of = record {
+    is_value = u.is_value;
+    means = u.means anywhere;
+    canon = u.canon;
+    norm = u.norm;
+    same = u.same;
+    same_refl = u.sameness.refl;
+    same_sym = u.sameness.sym;
+    same_trans = u.sameness.trans;
+    same_value = λ v w h. (u.sameness.agrees v w h).value;
+    same_means = λ t v w h. (u.sameness.agrees v w h).means anywhere t;
+    same_canon = λ v w h. (u.sameness.agrees v w h).canon;
+    one = u.sameness.one anywhere;
+    canon_means = λ v. (u.is_blind blind v).canon_means anywhere;
+    norm_canon = field_norm_canon;
+    norm_norm = u.norm_norm;
+    value = λ t v m. (u.meant anywhere t v m).value;
+    own = u.own anywhere;
+    free = λ t v m. (u.meant anywhere t v m).free;
   }
 
-  pub field_missing : (v : T) → u.means anywhere (leaf null) v → u.count v ≡ 0
-  field_missing v m = absurd (clash refl (field_never_null (leaf null) v m))
+module _ {T : Type 0} (u : TermType T) (solid : u.solid ≡ true) (blind : u.blind ≡ true) where
+  pub field_never_null : (t : Term) (v : T) → u.means anywhere t v → is_null t ≡ false
+  field_never_null t v m = sym (u.meant anywhere t v m).null_alike ∙ u.is_solid solid v
 
-  pub field_nested : (t : Term) (v : T) → u.means anywhere t v → nest (u.canon v) ≤ nest t
-  field_nested t v m = u.nested anywhere t (u.canon v) v m (reads_itself (u.canon v) (u.is_plain blind v))
+  abbrev pub field_type : FieldType T
+  field_type = record { meaning = meaning_of u blind; never_null = field_never_null }
+
+  pub field_meant : (t : Term) (v : T) → u.means anywhere t v → FieldMeant t (u.canon v) (u.count v)
+  field_meant t v m = record {
+    missing = λ n. absurd (clash n (field_never_null t v m));
+    writable = λ b e. (u.meant (whole b) t v (standing_so u blind anywhere (whole b) t v m)).writable e;
+    nested = (u.meant anywhere t v m).nested (u.canon v) (reads_itself (u.canon v) (field_plain u blind v));
+    counted = (u.meant anywhere t v m).counted;
+  }
 
   abbrev pub type_laws : FieldLaws field_type.meaning
   type_laws = record {
     count = u.count;
     is_least = u.is_least;
-    missing = field_missing;
-    valued = u.valued;
-    is_plain = u.is_plain blind;
-    writable = λ b t v e m. u.writable (whole b) t v e (u.is_blind blind anywhere (whole b) t v m);
-    nested = field_nested;
-    counted = u.counted anywhere;
-    least = λ l b t v i n e m. u.least l b t v i n e (u.is_blind blind anywhere (whole b) t v m);
+    valued = λ v. (u.rewrites v).valued;
+    is_plain = field_plain u blind;
+    meant = field_meant;
+    least = λ l b t v m. u.least l b t v (standing_so u blind anywhere (whole b) t v m);
   }

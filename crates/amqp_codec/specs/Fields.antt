@@ -81,15 +81,15 @@ pub items_nested : {V : Type 0} (fs : Fields V) (ts : Terms) (v : V) → Fits (s
 unfolding Fits canonical_items
 items_nested none ts v h = omega arith
 items_nested (field get f fs) term.none v h =
-    before_each (λ us. nests us ≤ 0) (f.slot.meaning.canon (get v)) (canonical_items (slots fs) v) (omega arith) (omega (arith, f.laws.nested (leaf null) (get v) h.0, items_nested fs term.none v h.1))
+    before_each (λ us. nests us ≤ 0) (f.slot.meaning.canon (get v)) (canonical_items (slots fs) v) (omega arith) (omega (arith, (f.laws.meant (leaf null) (get v) h.0).nested, items_nested fs term.none v h.1))
 items_nested (field get f fs) (term.more t ts) v h =
-    before_each (λ us. nests us ≤ max (nest t) (nests ts)) (f.slot.meaning.canon (get v)) (canonical_items (slots fs) v) (omega arith) (omega (arith, f.laws.nested t (get v) h.0, items_nested fs ts v h.1))
+    before_each (λ us. nests us ≤ max (nest t) (nests ts)) (f.slot.meaning.canon (get v)) (canonical_items (slots fs) v) (omega arith) (omega (arith, (f.laws.meant t (get v) h.0).nested, items_nested fs ts v h.1))
 
 pub items_counted : {V : Type 0} (fs : Fields V) (ts : Terms) (v : V) → Fits (slots fs) (items_of ts) v → count_of fs v ≤ all_nodes ts
 unfolding Fits
 items_counted none ts v h = omega arith
-items_counted (field get f fs) term.none v h = omega (arith, f.laws.missing (get v) h.0, items_counted fs term.none v h.1)
-items_counted (field get f fs) (term.more t ts) v h = omega (arith, f.laws.counted t (get v) h.0, items_counted fs ts v h.1)
+items_counted (field get f fs) term.none v h = omega (arith, (f.laws.meant (leaf null) (get v) h.0).missing refl, items_counted fs term.none v h.1)
+items_counted (field get f fs) (term.more t ts) v h = omega (arith, (f.laws.meant t (get v) h.0).counted, items_counted fs ts v h.1)
 
 pub null_spelled : enc (0x40 ∷ []) (leaf null)
 unfolding enc
@@ -106,10 +106,10 @@ unfolding Fits canonical_items enc
 items_writable none ts b v s h = λ r i. absurd i
 items_writable (field get f fs) term.none b v s h =
     before_each OnlyLarge (f.slot.meaning.canon (get v)) (canonical_items (slots fs) v) (λ r i. absurd i)
-    (one_more (f.slot.meaning.canon (get v)) (items fs v) (f.laws.writable (0x40 ∷ []) (leaf null) (get v) null_spelled h.0) (items_writable fs term.none b v s h.1))
+    (one_more (f.slot.meaning.canon (get v)) (items fs v) ((f.laws.meant (leaf null) (get v) h.0).writable (0x40 ∷ []) null_spelled) (items_writable fs term.none b v s h.1))
 items_writable (field get f fs) (term.more t ts) b v (first, second, e, s, rest) h =
     before_each OnlyLarge (f.slot.meaning.canon (get v)) (canonical_items (slots fs) v) (λ r i. absurd i)
-    (one_more (f.slot.meaning.canon (get v)) (items fs v) (f.laws.writable first t (get v) s h.0) (items_writable fs ts second v rest h.1))
+    (one_more (f.slot.meaning.canon (get v)) (items fs v) ((f.laws.meant t (get v) h.0).writable first s) (items_writable fs ts second v rest h.1))
 
 length_items : (ts : Terms) → length (items_of ts) ≡ count ts
 length_items term.none = refl
@@ -139,7 +139,7 @@ items_least (field get f fs) (term.more t ts) b v l i n (first, second, e, s, re
       arith,
       long,
       length-append (text canon Plain) (texts (items fs v) Plain),
-      f.laws.least (first_so f.laws.is_least (are_least fs) l) first t (get v) (bytes_left first second bytes) k.0 s h.0,
+      f.laws.least (first_so f.laws.is_least (are_least fs) l) first t (get v) h.0 (bytes_left first second bytes) k.0 s,
       items_least fs ts second v (second_so f.laws.is_least (are_least fs) l) (bytes_right first second bytes) k.1 rest h.1,
     ))
     n

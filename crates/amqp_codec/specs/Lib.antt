@@ -4,7 +4,9 @@ pub mod TermType
 pub mod Flaws
 pub mod Leaves
 pub mod Nulls
+pub mod ExactType
 pub mod PrimitiveTypes
+pub mod Restricted
 pub mod OptionType
 pub mod Wrappers
 pub mod Plain
@@ -13,11 +15,15 @@ pub mod Slots
 pub mod Fields
 pub mod Misspelled
 pub mod Elsewhere
+pub mod MeaningLaws
+pub mod ListType
+pub mod DescribedType
 pub mod Composite
 pub mod EitherType
 pub mod TidyText
 pub mod Spelled
 pub mod Apart
+pub mod NeverType
 pub mod Written
 pub mod Proper
 pub mod Ties
@@ -26,8 +32,10 @@ pub mod Refused
 pub mod FieldReading
 pub mod Peeks
 pub mod Members
+pub mod Choices
 pub mod Rewritten
 pub mod TermLaws
 pub mod Spelling
 pub mod Reasons
 pub mod Rewriting
+pub mod Types

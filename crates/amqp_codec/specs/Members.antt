@@ -1,5 +1,5 @@
 -- A value that is one of several composites is read by the descriptor that stands there (Part 1, section 1.4).
-use Rattle.std.proofs.Common.{◌≡◌, ℕ, ◌+◌, ◌<◌, Bool, false, List, [], ◌∷◌, ◌++◌, length, map, drop, Option, Some, None, refl, sym, ap, ◌∙◌, subst, arith}
+use Rattle.std.proofs.Common.{◌≡◌, ℕ, ◌<◌, Bool, true, false, List, [], length, map, Option, Some, None, refl, sym, ap, ◌∙◌, subst, arith}
 use Rattle.std.proofs.lemmas.List.Quantifiers.{position-Some}
 use Rattle.amqp_model.specs.Term.{Descriptor, Term, described}
 use Rattle.amqp_model.specs.Standing.{Standing}
@@ -27,8 +27,10 @@ pub record Members (V : Type 0) : Type 1 where
   pub names : List (ℕ × List ℕ)
   pub reads : ℕ → State → V → State → Type 0
   pub faults : ℕ → Faults
-  -- reading one of them takes memory
+  -- reading the one of a place takes memory, and so does reading one of them
+  pub takes_at : ℕ → Bool
   pub takes_memory : Bool
+  pub takes : (i : ℕ) → takes_at i ≡ true → takes_memory ≡ true
   -- what is read hangs neither on the source nor on how deep values may nest
   pub reads_elsewhere : (c : Setting) (i : ℕ) (st : State) (v : V) (b : State) → reads i st v b → reads i (under c st) v (under c b)
 
@@ -121,11 +123,14 @@ module _ {V : Type 0} (m : Members V) (means : Standing → Term → V → Type 
   opened_failed ms st i inner o = ap (λ (x : State). x.failed) o.opens.opened ∙ ap (λ (x : State). x.failed) o.opens.descriptor.took.moved ∙ ap (λ (x : State). x.failed) o.opens.begun.moved
 
   -- what a member describes isn't read
-  pub unread : (ms : List Member) (st : State) (i : ℕ) (inner : State) (e : Error) (new : State) → map as_name ms ≡ m.names → OpensOneOf ms st i inner → Refused m.takes_memory (m.reads i) (m.faults i).fault inner e new → Refused m.takes_memory (Value means) (MemberFault m) st e new
+  pub unread : (ms : List Member) (st : State) (i : ℕ) (inner : State) (e : Error) (new : State) → map as_name ms ≡ m.names
+      → OpensOneOf ms st i inner → Refused (m.takes_at i) (m.reads i) (m.faults i).fault inner e new
+      → Refused m.takes_memory (Value means) (MemberFault m) st e new
   unread ms st i inner e new names o r =
       let going = opened_going ms st i inner o in
       let at = opened_place ms st i inner names o in
-      refused_later (m.reads i) (m.faults i).fault (Value means) (MemberFault m) st inner e new (λ t. t) (opened_failed ms st i inner o) going.0 going.1 (in_member o.opens at)
+      refused_later (m.reads i) (m.faults i).fault (Value means) (MemberFault m) st inner e new
+      (m.takes i) (opened_failed ms st i inner o) going.0 going.1 (in_member o.opens at)
       (λ none v b h.
       let k = from_value st v b h in
       let s = opens_described_same st k.descriptor o.descriptor k.inner inner k.opens o.opens in

@@ -1,10 +1,15 @@
 -- Facts about null.
-use Rattle.std.proofs.Common.{◌≡◌, ℕ, ◌≤◌, Bool, true, false, cond, eqb, [], ◌∷◌, None, refl, ap, arith}
+use Rattle.std.proofs.Common.{◌≡◌, ℕ, ◌≤◌, Bool, true, false, cond, eqb, List, [], ◌∷◌, None, length, refl, sym, ap, subst, arith}
 use Rattle.amqp_model.specs.Term.{Primitive, null, Term, leaf, holder, described, kept, barred}
-use Rattle.amqp_model.specs.Text.{form, primitive_form}
+use Rattle.amqp_model.specs.Spelling.{enc}
+use Rattle.amqp_model.specs.Standing.{Standing}
+use Rattle.amqp_model.specs.Text.{Plain, text, form, primitive_form}
 use Rattle.amqp_model.specs.Measures.{nodes}
 use Rattle.amqp_model.specs.Items.{is_null, is_null_primitive}
 use Rattle.amqp_model.specs.ItemLaws.{clash}
+use Rattle.amqp_model.proofs.Lengths.{spelling_length}
+use Rattle.amqp_codec.specs.Leaves.{reads_leaf, null_writable}
+use Rattle.amqp_codec.specs.TermType.{IsLeaf, Meant}
 use Rattle.amqp_codec.specs.Tidy.{tidy, tidy_kept}
 
 pub null_primitive : (p : Primitive) → is_null_primitive p ≡ true → p ≡ null
@@ -50,3 +55,23 @@ null_nodes (holder k ts) h = absurd (clash h refl)
 null_nodes (described d t) h = absurd (clash h refl)
 null_nodes (kept b) h = omega arith
 null_nodes (barred r) h = omega arith
+
+-- null means none of an optional value
+pub null_meant : (s : Standing) (t : Term) → is_null t ≡ true → Meant s t (Unit {0}) (leaf null) 1
+null_meant s t m = record {
+  value = tt;
+  free = λ r h. h;
+  writable = λ h. null_writable;
+  bare_data = λ p h. h;
+  null_alike = sym m;
+  core_null = λ e. null_form t m;
+  formless = λ e. refl;
+  nested = λ u r. rw (reads_leaf null u r) (omega arith);
+  leaf_alike = λ u r i. subst IsLeaf (sym (reads_leaf null u r)) tt;
+  counted = null_nodes t m;
+}
+
+-- no term is spelled by fewer bytes than null
+pub null_least : (b : List ℕ) (t : Term) → enc b t → length (text (leaf null) Plain) ≤ length b
+unfolding text
+null_least b t e = spelling_length b t e

@@ -1,9 +1,13 @@
 -- Terms in which no bytes are kept read as themselves.
-use Rattle.std.proofs.Common.{◌≡◌, refl, ap, ap₂, sym}
-use Rattle.amqp_model.specs.Term.{Term, Terms, leaf, holder, described, kept, barred, none, more}
+use Rattle.std.proofs.Common.{◌≡◌, ◌∷◌, None, option_map, refl, ap, ap₂, sym, subst}
+use Rattle.amqp_model.specs.Term.{null, Term, Terms, leaf, holder, described, kept, barred, none, more}
+use Rattle.amqp_model.specs.Text.{form}
+use Rattle.amqp_model.specs.Ranges.{Everywhere, IsValue}
+use Rattle.amqp_model.specs.Refusals.{core}
 use Rattle.amqp_model.specs.Kept.{Reads, ReadsEach}
 use Rattle.amqp_codec.specs.Tidy.{tidy, tidy_all}
-use Rattle.amqp_codec.specs.TermType.{IsPlain, ArePlain}
+use Rattle.amqp_model.proofs.Barred.{unrefused_free}
+use Rattle.amqp_codec.specs.TermType.{IsPlain, ArePlain, IsKept, View, IgnoresStanding, Rewrites}
 
 mutual
   pub reads_itself : (u : Term) → IsPlain u → Reads u u
@@ -58,3 +62,28 @@ mutual
   plain_tidy_all : (us : Terms) → ArePlain us → tidy_all us ≡ us
   plain_tidy_all none h = refl
   plain_tidy_all (more u us) h = ap₂ more (plain_tidy u h.0) (plain_tidy_all us h.1)
+
+pub plain_core : (u : Term) → IsPlain u → IsKept (core u) → ⊥
+plain_core (leaf p) h k = k
+plain_core (holder k us) h l = l
+plain_core (described d u) h k = plain_core u h k
+plain_core (kept b) h k = h
+plain_core (barred r) h k = k
+
+-- what is null under its descriptors has no form in an array
+pub null_core : (u : Term) → core u ≡ leaf null → form u ≡ None
+null_core (leaf p) e = ap form e
+null_core (holder k us) e = absurd (cc)
+null_core (described d u) e = ap (option_map (λ f. (d ∷ f.0, f.1))) (null_core u e)
+null_core (kept b) e = absurd (cc)
+null_core (barred r) e = absurd (cc)
+
+-- what keeps no bytes is read again as it is meant
+pub rewrites_plainly : {v n : View} → IgnoresStanding v n → (v.is_value → Everywhere IsValue v.canon) → tidy n.canon ≡ tidy v.canon
+    → Rewrites v n
+rewrites_plainly {v} {n} h valued canon = record {
+  valued = valued;
+  reads = λ i f. (v.canon, reads_itself v.canon h.plain);
+  means = λ s t i f c r. subst (n.means s) (sym (plain_reads v.canon t h.plain r)) (h.canon_means s i (unrefused_free v.canon f));
+  canon = canon;
+}

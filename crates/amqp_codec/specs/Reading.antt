@@ -97,7 +97,7 @@ value_counted u st v b n h =
     omega (
       arith,
       value_left u.means st v b h,
-      u.counted (standing st.top.shared h.bytes) h.term v h.meant,
+      (u.meant (standing st.top.shared h.bytes) h.term v h.meant).counted,
       nodes_bounded h.bytes h.term (subst (λ o. SpellsAs (standing o h.bytes) h.term) n h.stands.spelled),
     )
 
@@ -172,9 +172,9 @@ reading_of u = record {
   not_memory = u.faults.not_memory;
   takes_memory = u.takes_memory;
   count = u.count;
-  same_sym = u.same_sym;
-  same_trans = u.same_trans;
-  one = value_alike u.same u.means u.one;
+  same_sym = u.sameness.sym;
+  same_trans = u.sameness.trans;
+  one = value_alike u.same u.means u.sameness.one;
   going = λ st v b h. h.stands.going;
   counted = value_counted u;
   looks_on = false;
@@ -186,19 +186,6 @@ reading_of u = record {
   reads_elsewhere = λ source failed st v b. value (another source failed) u.means;
   fault_elsewhere = λ source failed st e. u.faults.fault_elsewhere (another source failed) st e (keeps_another source failed e);
 }
-
--- A type reads as its terms say.
-pub record ReadsTerms {T : Type 0} (u : TermType T) (r : Reading T) : Type 0 where
-  pub to_value : (st : State) (v : T) (b : State) → r.reads st v b → Value u.means st v b
-  pub from_value : (st : State) (v : T) (b : State) → Value u.means st v b → r.reads st v b
-  pub to_fault : (st : State) (e : Error) → r.fault st e → u.faults.fault st e
-  pub to_same : (v w : T) → r.same v w → u.same v w
-  pub to_memory : r.takes_memory ≡ true → u.takes_memory ≡ true
-  pub looks_on : r.looks_on ≡ false
-  pub one_term : r.one_term ≡ true
-
-pub reads_terms : {T : Type 0} (u : TermType T) → ReadsTerms u (reading_of u)
-reads_terms u = record { to_value = λ st v b h. h; from_value = λ st v b h. h; to_fault = λ st e h. h; to_same = λ v w h. h; to_memory = λ t. t; looks_on = refl; one_term = refl }
 
 -- The input begins with n bytes that are read as the value.
 pub record IsRead {T : Type 0} (r : Reading T) (input : List ℕ) (v : T) (n : ℕ) : Type 0 where

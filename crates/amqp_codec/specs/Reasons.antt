@@ -1,5 +1,5 @@
 -- Why terms aren't written, in the words of the record of their type.
-use Rattle.std.proofs.Common.{◌≡◌, inl, inr, ℕ, Bool, ◌<◌, List, [], ◌∷◌, refl, ap, ◌∙◌, subst, arith, length}
+use Rattle.std.proofs.Common.{◌≡◌, inl, inr, ◌<◌, [], ◌∷◌, refl, ap, ◌∙◌, subst, arith, length}
 use Rattle.amqp_model.specs.Term.{Refusal, depth, Term, Terms, none, more}
 use Rattle.amqp_model.specs.Measures.{nests}
 use Rattle.amqp_model.specs.Refusals.{Somewhere, IsRefused, Refuses}
@@ -13,7 +13,7 @@ use Rattle.amqp_encoder.proofs.Rows.{somewhere_as}
 use Rattle.amqp_encoder.proofs.Refused.{one_text, has_reason, reason_named}
 use Rattle.amqp_codec.specs.TermType.{TermType, IsUnrefused}
 use Rattle.amqp_codec.specs.Spelled.{written, IsWritable}
-use Rattle.amqp_codec.specs.Written.{AreProper, AreUnwritable, AreWritable}
+use Rattle.amqp_codec.specs.Written.{AreProper, AreUnwritable, AreWritable, Writing}
 use Rattle.amqp_codec.specs.Proper.{proper_values, proper_reads}
 use Rattle.amqp_codec.specs.Ties.{Tied}
 
@@ -42,12 +42,13 @@ one_refused t e i (inr (inr (d, inl l))) = inr (d, omega (arith, l, ap length (o
 one_refused t e i (inr (inr (d, inr l))) = absurd (omega (arith, l))
 
 -- a type of terms
-module _ {T : Type 0} {u : TermType T} {canons : T → List Term} {is_value : T → Type 0} {follows : List ℕ → Type 0} {kept lasts : T → Type 0} {is_least : Bool} (tie : Tied u canons is_value follows kept lasts is_least) where
-  pub tied_text : (v : T) → row_text (canons v) ≡ written u v
+module _ {T : Type 0} {u : TermType T} {w : Writing T} (tie : Tied u w) where
+  pub tied_text : (v : T) → row_text (w.canons v) ≡ written u v
   tied_text v = ap row_text (tie.canons_is v) ∙ one_text (u.canon v)
 
-  pub tied_writable : (v : T) → AreWritable (canons v) → IsWritable u v
+  pub tied_writable : (v : T) → AreWritable (w.canons v) → IsWritable u v
   tied_writable v h = one_writable (u.canon v) (subst AreWritable (tie.canons_is v) h)
 
-  pub tied_refused : ((v : T) → is_value v → AreProper (canons v)) → (v : T) (e : Error) → is_value v → AreUnwritable (canons v) e → TermHasCause (u.canon v) e
-  tied_refused proper v e i h = one_refused (u.canon v) e (subst AreProper (tie.canons_is v) (proper v i)) (subst (λ ts. AreUnwritable ts e) (tie.canons_is v) h)
+  pub tied_refused : (v : T) (e : Error) → w.is_value v → AreUnwritable (w.canons v) e → TermHasCause (u.canon v) e
+  tied_refused v e i h =
+      one_refused (u.canon v) e (subst AreProper (tie.canons_is v) (w.proper v i)) (subst (λ ts. AreUnwritable ts e) (tie.canons_is v) h)

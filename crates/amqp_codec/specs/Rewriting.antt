@@ -12,9 +12,9 @@ use Rattle.amqp_wire.specs.declared.error.Error.TheVariants.{TooLarge}
 use Rattle.amqp_encoder.specs.Passes.{row_text}
 use Rattle.amqp_encoder.specs.Refused.{TermHasCause}
 use Rattle.amqp_codec.specs.TermType.{TermType}
-use Rattle.amqp_codec.specs.Reading.{Reading, IsRead, reading_of, reads_terms}
-use Rattle.amqp_codec.specs.Written.{AreProper, AreWritable, AreUnwritable}
-use Rattle.amqp_codec.specs.Spelled.{IsSpelled, written}
+use Rattle.amqp_codec.specs.Reading.{Reading, IsRead, reading_of}
+use Rattle.amqp_codec.specs.Written.{AreWritable, AreUnwritable, Writing}
+use Rattle.amqp_codec.specs.Spelled.{written}
 use Rattle.amqp_codec.specs.Spelling.{read_spelled, spelled_read}
 use Rattle.amqp_codec.specs.TermLaws.{spelled_again, spelled_value, spelled_own, spelled_writable, text_unchanged, text_least}
 use Rattle.amqp_codec.specs.Reasons.{tied_text, tied_writable, tied_refused}
@@ -40,47 +40,48 @@ pub record Rewriting {T : Type 0} (r : Reading T) (canons : T → List Term) (is
   pub large : (input : List ℕ) (v : T) (n : ℕ) (e : Error) → IsRead r input v n → AreUnwritable (canons v) e → e ≡ TooLarge
   pub least : is_least ≡ true → (input : List ℕ) (v : T) (n : ℕ) → IsBytes input → HoldNoArray (canons v) → IsRead r input v n → length (row_text (canons v)) ≤ n
 
-module _ {T : Type 0} {u : TermType T} {canons : T → List Term} {is_value : T → Type 0} {follows : List ℕ → Type 0} {kept lasts : T → Type 0} {is_least : Bool} (tie : Tied u canons is_value follows kept lasts is_least) (proper : (v : T) → is_value v → AreProper (canons v)) where
-  spelling : (input : List ℕ) (v : T) (n : ℕ) → IsRead (reading_of u) input v n → (n ≤ length input) × IsSpelled u (take n input) v
-  spelling = read_spelled u (reading_of u) (reads_terms u)
-
-  term_again : (v : T) (more : List ℕ) → is_value v → AreWritable (canons v) → IsRead (reading_of u) (row_text (canons v) ++ more) (normal u.norm v) (length (row_text (canons v)))
+module _ {T : Type 0} {u : TermType T} {w : Writing T} (tie : Tied u w) where
+  term_again : (v : T) (more : List ℕ) → w.is_value v → AreWritable (w.canons v)
+      → IsRead (reading_of u) (row_text (w.canons v) ++ more) (normal u.norm v) (length (row_text (w.canons v)))
   term_again v more i f =
       subst (λ b. IsRead (reading_of u) (b ++ more) (normal u.norm v) (length b)) (sym (tied_text tie v))
-      (spelled_read u (reading_of u) (reads_terms u) (written u v) more (normal u.norm v) (spelled_again u v (tie.value_to v i) (tied_writable tie v f)))
+      (spelled_read u (written u v) more (normal u.norm v) (spelled_again u v (tie.value_to v i) (tied_writable tie v f)))
 
-  term_text : (v : T) → is_value v → AreWritable (canons v) → row_text (canons (normal u.norm v)) ≡ row_text (canons v)
+  term_text : (v : T) → w.is_value v → AreWritable (w.canons v) → row_text (w.canons (normal u.norm v)) ≡ row_text (w.canons v)
   term_text v i f =
       let j = tie.value_to v i in
       let g = tied_writable tie v f in
       tied_text tie (normal u.norm v) ∙ (text_unchanged u v (normal u.norm v) j g (spelled_again u v j g) ∙ sym (tied_text tie v))
 
-  term_value : (input : List ℕ) (v : T) (n : ℕ) → IsRead (reading_of u) input v n → is_value v
-  term_value input v n h = tie.value_from v (spelled_value u (take n input) v (spelling input v n h).1)
+  term_value : (input : List ℕ) (v : T) (n : ℕ) → IsRead (reading_of u) input v n → w.is_value v
+  term_value input v n h = tie.value_from v (spelled_value u (take n input) v (read_spelled u input v n h).1)
 
-  term_large : (input : List ℕ) (v : T) (n : ℕ) (e : Error) → IsRead (reading_of u) input v n → AreUnwritable (canons v) e → e ≡ TooLarge
-  term_large input v n e h x = by_reason (tied_refused tie proper v e (term_value input v n h) x)
+  term_large : (input : List ℕ) (v : T) (n : ℕ) (e : Error)
+      → IsRead (reading_of u) input v n → AreUnwritable (w.canons v) e → e ≡ TooLarge
+  term_large input v n e h x = by_reason (tied_refused tie v e (term_value input v n h) x)
     where
       by_reason : TermHasCause (u.canon v) e → e ≡ TooLarge
-      by_reason (inl (r, i, j)) = i ∙ ap error_of (spelled_writable u (take n input) v r (spelling input v n h).1 j)
+      by_reason (inl (r, i, j)) = i ∙ ap error_of (spelled_writable u (take n input) v r (read_spelled u input v n h).1 j)
       by_reason (inr (i, l)) = i
 
-  term_least : is_least ≡ true → (input : List ℕ) (v : T) (n : ℕ) → IsBytes input → HoldNoArray (canons v) → IsRead (reading_of u) input v n → length (row_text (canons v)) ≤ n
+  term_least : u.is_least ≡ true → (input : List ℕ) (v : T) (n : ℕ) → IsBytes input → HoldNoArray (w.canons v)
+      → IsRead (reading_of u) input v n → length (row_text (w.canons v)) ≤ n
   term_least l input v n bytes none h =
       let front : IsBytes (take n input) = bytes_left (take n input) (drop n input) (subst IsBytes (sym (take-append-drop n input)) bytes) in
       let alone : Everywhere IsNoArray (u.canon v) = (subst HoldNoArray (tie.canons_is v) none).0 in
-      omega (arith, ap length (tied_text tie v), text_least u (sym tie.least_is ∙ l) (take n input) v front alone (spelling input v n h).1, length-take-le n input (spelling input v n h).0)
+      let s = read_spelled u input v n h in
+      omega (arith, ap length (tied_text tie v), text_least u l (take n input) v front alone s.1, length-take-le n input s.0)
 
   -- what a type of terms shows to be `Canonical`
-  pub rewrites : Rewriting (reading_of u) canons is_value follows (normal u.norm) kept lasts is_least
+  pub rewrites : Rewriting (reading_of u) w.canons w.is_value (λ _. Unit {0}) (normal u.norm) (λ _. Unit {0}) (λ _. Unit {0}) u.is_least
   rewrites = record {
-    alone = tie.any_follows [];
-    canons_same = λ v w h. tie.canons_is v ∙ (ap (λ t. t ∷ []) (u.same_canon v w h) ∙ sym (tie.canons_is w));
+    alone = tt;
+    canons_same = λ v x h. tie.canons_is v ∙ (ap (λ t. t ∷ []) (u.sameness.agrees v x h).canon ∙ sym (tie.canons_is x));
     reads_again = λ v more i _ f _. term_again v more i f;
     text_again = term_text;
     value = term_value;
-    lasting = λ input v n _. tie.all_last v;
-    own = λ input v n h _. spelled_own u (take n input) v (spelling input v n h).1;
+    lasting = λ input v n _. tt;
+    own = λ input v n h _. spelled_own u (take n input) v (read_spelled u input v n h).1;
     large = term_large;
     least = term_least;
   }

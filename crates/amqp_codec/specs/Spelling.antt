@@ -4,12 +4,12 @@ use Rattle.std.proofs.lemmas.List.{length-drop, take_at}
 use Rattle.amqp_decoder.specs.State.{State, past}
 use Rattle.amqp_codec.specs.TermType.{TermType}
 use Rattle.amqp_codec.specs.Spelled.{IsSpelled}
-use Rattle.amqp_codec.specs.Reading.{Reading, ReadsTerms, IsRead, start}
+use Rattle.amqp_codec.specs.Reading.{IsRead, reading_of, start}
 
-module _ {T : Type 0} (u : TermType T) (r : Reading T) (reads : ReadsTerms u r) where
-  pub read_spelled : (input : List ℕ) (v : T) (n : ℕ) → IsRead r input v n → (n ≤ length input) × IsSpelled u (take n input) v
+module _ {T : Type 0} (u : TermType T) where
+  pub read_spelled : (input : List ℕ) (v : T) (n : ℕ) → IsRead (reading_of u) input v n → (n ≤ length input) × IsSpelled u (take n input) v
   read_spelled input v n h =
-      let k = reads.to_value (start input) v h.after h.read in
+      let k = h.read in
       let s = k.bytes in
       let long : length input ≡ length s + length k.stands.after = ap length k.stands.rest ∙ length-append s k.stands.after in
       let left : length h.after.rest ≡ length input - length s = ap (λ (x : State). length x.rest) k.moved ∙ length-drop (length s) input in
@@ -19,15 +19,15 @@ module _ {T : Type 0} (u : TermType T) (r : Reading T) (reads : ReadsTerms u r) 
         subst (λ b. IsSpelled u b v) front (record { term = k.term; spelled = k.stands.spelled; nested = (let x = k.stands.nested in omega (arith, x)); meant = k.meant }),
       )
 
-  pub spelled_read : (b more : List ℕ) (v : T) → IsSpelled u b v → IsRead r (b ++ more) v (length b)
+  pub spelled_read : (b more : List ℕ) (v : T) → IsSpelled u b v → IsRead (reading_of u) (b ++ more) v (length b)
   spelled_read b more v h = record {
     after = past (length b) (start (b ++ more));
-    read = reads.from_value (start (b ++ more)) v (past (length b) (start (b ++ more))) (record {
+    read = record {
       bytes = b;
       term = h.term;
       stands = record { going = refl; item = tt; room = tt; after = more; rest = refl; spelled = h.spelled; nested = (let x = h.nested in omega (arith, x)) };
       moved = refl;
       meant = h.meant;
-    });
+    };
     left = omega (arith, length-drop (length b) (b ++ more), length-append b more);
   }

@@ -1,5 +1,5 @@
--- What a type of terms is: which terms mean its values, which one is canonical, and the laws of both.
-use Rattle.std.specs.Prelude.{◌≡◌, ℕ, ◌≤◌, Bool, true, false, List, [], ◌∷◌, length, Some, None}
+-- What a type of terms is: which terms mean its values, which one is canonical, and the laws of both, in groups.
+use Rattle.std.proofs.Common.{◌≡◌, ℕ, ◌≤◌, Bool, true, false, List, [], ◌∷◌, length, Some, None, refl, sym, ◌∙◌, subst}
 use Rattle.amqp_model.specs.Term.{null, Refusal, too_large, Term, Terms, leaf, holder, described, kept, barred, none, more, Descriptor}
 use Rattle.amqp_model.specs.Spelling.{IsValid, descriptor_value, data_of, enc}
 use Rattle.amqp_model.specs.Standing.{Standing, whole, part}
@@ -15,6 +15,10 @@ use Rattle.amqp_codec.specs.Tidy.{tidy}
 
 abbrev pub IsUnrefused : Term → Type 0
 IsUnrefused u = (r : Refusal) → Refuses r u → ⊥
+
+-- Nothing but its size refuses it.
+abbrev pub IsRefusedForSize : Term → Type 0
+IsRefusedForSize u = (r : Refusal) → Somewhere (IsRefused r) u → r ≡ too_large
 
 -- Part 1, section 1.6.21: a descriptor that is a name is ASCII.
 abbrev pub AreNamed : List Descriptor → Type 0
@@ -54,6 +58,72 @@ abbrev mutual
   ArePlain none = Unit {0}
   ArePlain (more t ts) = IsPlain t × ArePlain ts
 
+abbrev pub IsPart : Standing → Type 0
+IsPart (whole b) = ⊥
+IsPart (part ds c b) = Unit {0}
+
+-- What a type says of one value: that it is one of its own (its numbers are in their ranges, and so on), which terms mean
+-- it, standing so, and which term is canonical.
+pub record View : Type 1 where
+  pub is_value : Type 0
+  pub means : Standing → Term → Type 0
+  pub canon : Term
+
+abbrev pub view_of : {T : Type 0} → (T → Type 0) → (Standing → Term → T → Type 0) → (T → Term) → T → View
+view_of is_value means canon v = record { is_value = is_value v; means = λ s t. means s t v; canon = canon v }
+
+-- Of two values that are the same, what is said of the one is said of the other.
+pub record Agrees (v w : View) : Type 0 where
+  pub value : v.is_value → w.is_value
+  pub means : (s : Standing) (t : Term) → v.means s t → w.means s t
+  pub canon : v.canon ≡ w.canon
+
+-- To be the same is an equivalence, under which a type says one thing.
+pub record Sameness {T : Type 0} (same : T → T → Type 0) (at : T → View) : Type 0 where
+  pub refl : (v : T) → same v v
+  pub sym : (v w : T) → same v w → same w v
+  pub trans : (v w x : T) → same v w → same w x → same v x
+  pub agrees : (v w : T) → same v w → Agrees (at v) (at w)
+  -- a term on one standing means one value at most
+  pub one : (s : Standing) (t : Term) (v w : T) → (at v).means s t → (at w).means s t → same v w
+
+-- What is written is read again, as n, which is v normalised.
+pub record Rewrites (v n : View) : Type 0 where
+  -- the canonical term is of its type
+  pub valued : v.is_value → Everywhere IsValue v.canon
+  -- it reads as a term, which means the normal value
+  pub reads : v.is_value → IsFree v.canon → (t : Term) × Reads v.canon t
+  pub means : (s : Standing) (t : Term) → v.is_value → IsUnrefused v.canon → StandsCanonically s v.canon → Reads v.canon t
+      → n.means s t
+  -- and is written as the same text
+  pub canon : tidy n.canon ≡ tidy v.canon
+
+-- How a term stands is not looked at: it means v on every standing, and no bytes are kept. n is v normalised.
+pub record IgnoresStanding (v n : View) : Type 0 where
+  pub plain : IsPlain v.canon
+  pub means : (s z : Standing) (t : Term) → v.means s t → v.means z t
+  pub canon_means : (s : Standing) → v.is_value → IsFree v.canon → n.means s v.canon
+
+-- The term t, standing so, means a value whose canonical term is c, and in which so many values are.
+pub record Meant (s : Standing) (t : Term) (is_value : Type 0) (c : Term) (count : ℕ) : Type 0 where
+  pub value : is_value
+  -- the value can be written, but where it is too large
+  pub free : IsFree c
+  pub writable : Spells s t → IsRefusedForSize c
+  pub bare_data : IsPart s → IsKept (core c) → ⊥
+  -- it is null exactly if its canonical term is, and has no form in an array where that is null under its descriptors
+  pub null_alike : is_null c ≡ is_null t
+  pub core_null : core c ≡ leaf null → form t ≡ None
+  pub formless : form t ≡ None → form c ≡ None
+  -- the value nests no deeper, is no container where the term is none, and counts no more
+  pub nested : (u : Term) → Reads c u → nest u ≤ nest t
+  pub leaf_alike : (u : Term) → Reads c u → IsLeaf t → IsLeaf u
+  pub counted : count ≤ nodes t
+
+-- If the bytes spell t and the canonical term c holds no array, its text is no longer than they are.
+abbrev pub IsNoShorter : List ℕ → Term → Term → Type 0
+IsNoShorter b t c = IsBytes b → Everywhere IsNoArray c → enc b t → length (text c Plain) ≤ length b
+
 pub record TermType (T : Type 0) : Type 1 where
   -- a value of the type: its numbers are in their ranges, and so on
   pub is_value : T → Type 0
@@ -76,42 +146,29 @@ pub record TermType (T : Type 0) : Type 1 where
   pub takes_memory : Bool
   -- no spelling of a value is shorter than its canonical text, where that holds no array
   pub is_least : Bool
-  -- the laws of sameness
-  pub same_refl : (v : T) → same v v
-  pub same_sym : (v w : T) → same v w → same w v
-  pub same_trans : (v w x : T) → same v w → same w x → same v x
-  pub same_value : (v w : T) → same v w → is_value v → is_value w
-  pub same_means : (s : Standing) (t : Term) (v w : T) → same v w → means s t v → means s t w
-  pub same_canon : (v w : T) → same v w → canon v ≡ canon w
-  -- a term on one standing means one value at most
-  pub one : (s : Standing) (t : Term) (v w : T) → means s t v → means s t w → same v w
-  -- the canonical term reads as a term, which means the value, normalised
-  pub reads : (v : T) → is_value v → IsFree (canon v) → (t : Term) × Reads (canon v) t
-  pub canon_means : (s : Standing) (t : Term) (v : T) → is_value v → IsUnrefused (canon v) → StandsCanonically s (canon v) → Reads (canon v) t → means s t (normal norm v)
-  pub blind_means : blind ≡ true → (s : Standing) (v : T) → is_value v → IsFree (canon v) → means s (canon v) (normal norm v)
-  -- normalising keeps the canonical text, and once is enough
-  pub norm_canon : (v : T) → tidy (canon (normal norm v)) ≡ tidy (canon v)
-  pub norm_norm : (v : T) → same (normal norm (normal norm v)) (normal norm v)
-  -- a value's canonical term is of its type
-  pub valued : (v : T) → is_value v → Everywhere IsValue (canon v)
-  -- what is meant is a value and its own normal value, and nothing but its size refuses it
-  pub value : (s : Standing) (t : Term) (v : T) → means s t v → is_value v
+  -- the laws
+  pub sameness : Sameness same (view_of is_value means canon)
+  pub rewrites : (v : T) → Rewrites (view_of is_value means canon v) (view_of is_value means canon (normal norm v))
+  pub meant : (s : Standing) (t : Term) (v : T) → means s t v → Meant s t (is_value v) (canon v) (count v)
+  -- what is meant is its own normal value, and to normalise once is enough
   pub own : (s : Standing) (t : Term) (v : T) → means s t v → same (normal norm v) v
-  pub free : (s : Standing) (t : Term) (v : T) → means s t v → IsFree (canon v)
-  pub writable : (s : Standing) (t : Term) (v : T) → Spells s t → means s t v → (r : Refusal) → Somewhere (IsRefused r) (canon v) → r ≡ too_large
-  pub bare_data : (ds : List Descriptor) (c : ℕ) (b : List ℕ) (t : Term) (v : T) → means (part ds c b) t v → IsKept (core (canon v)) → ⊥
-  -- it is null exactly if its canonical term is, also under its descriptors, and has one form for one form
-  pub null_alike : (s : Standing) (t : Term) (v : T) → means s t v → is_null (canon v) ≡ is_null t
-  pub is_solid : solid ≡ true → (v : T) → is_null (canon v) ≡ false
+  pub norm_norm : (v : T) → same (normal norm (normal norm v)) (normal norm v)
+  -- it has one form for one form
   pub formed : (s z : Standing) (t u : Term) (v w : T) → means s t v → means z u w → form t ≡ form u → form (canon v) ≡ form (canon w)
-  pub core_null : (s : Standing) (t : Term) (v : T) → means s t v → core (canon v) ≡ leaf null → form t ≡ None
-  pub formless : (s : Standing) (t : Term) (v : T) → means s t v → form t ≡ None → form (canon v) ≡ None
-  -- it nests no deeper, is no container where the term is none, and counts no more
-  pub nested : (s : Standing) (t u : Term) (v : T) → means s t v → Reads (canon v) u → nest u ≤ nest t
-  pub leaf_alike : (s : Standing) (t u : Term) (v : T) → means s t v → Reads (canon v) u → IsLeaf t → IsLeaf u
-  pub counted : (s : Standing) (t : Term) (v : T) → means s t v → count v ≤ nodes t
-  -- it has no longer canonical text than its bytes
-  pub least : is_least ≡ true → (b : List ℕ) (t : Term) (v : T) → IsBytes b → Everywhere IsNoArray (canon v) → enc b t → means (whole b) t v → length (text (canon v) Plain) ≤ length b
-  -- a type that doesn't look at standings keeps no bytes
-  pub is_blind : blind ≡ true → (s z : Standing) (t : Term) (v : T) → means s t v → means z t v
-  pub is_plain : blind ≡ true → (v : T) → IsPlain (canon v)
+  pub is_solid : solid ≡ true → (v : T) → is_null (canon v) ≡ false
+  pub is_blind : blind ≡ true → (v : T) → IgnoresStanding (view_of is_value means canon v) (view_of is_value means canon (normal norm v))
+  pub least : is_least ≡ true → (b : List ℕ) (t : Term) (v : T) → means (whole b) t v → IsNoShorter b t (canon v)
+
+abbrev pub view_in : {T : Type 0} → TermType T → T → View
+view_in u = view_of u.is_value u.means u.canon
+
+-- where values are the same only if they are equal
+pub equality : {T : Type 0} (at : T → View) → ((s : Standing) (t : Term) (v w : T) → (at v).means s t → (at w).means s t → v ≡ w)
+    → Sameness (λ v w. v ≡ w) at
+equality at one = record {
+  refl = λ v. refl;
+  sym = λ v w h. sym h;
+  trans = λ v w x h k. h ∙ k;
+  agrees = λ v w h. subst (λ x. Agrees (at v) (at x)) h (record { value = λ i. i; means = λ s t m. m; canon = refl });
+  one = one;
+}

@@ -1,6 +1,6 @@
 -- What writing a value is, in the terms that it is written as.
-use Rattle.std.specs.Prelude.{◌≡◌, ◌⊎◌, ℕ, ◌<◌, List, length, Result, Ok, Err}
-use Rattle.amqp_model.specs.Term.{Term, Terms, kept, count}
+use Rattle.std.specs.Prelude.{◌≡◌, ◌⊎◌, ℕ, ◌<◌, List, [], ◌∷◌, length, Result, Ok, Err}
+use Rattle.amqp_model.specs.Term.{null, Term, Terms, leaf, kept, count}
 use Rattle.amqp_model.specs.Spelling.{enc}
 use Rattle.amqp_model.specs.Measures.{nests}
 use Rattle.amqp_model.specs.Ranges.{EverywhereIn, IsValue}
@@ -55,3 +55,25 @@ AreWritable ts = (e : Error) → AreUnwritable ts e → ⊥
 -- The terms can be written, and take so many bytes and these sizes.
 abbrev pub AreMeasured : List Term → ℕ → List Size → Type 0
 AreMeasured ts len sizes = (deep : List ℕ → ℕ) → KnowDepths deep ts → IsMeasured deep ts len sizes
+
+-- How the values of a type are written.
+pub record Writing (T : Type 0) : Type 1 where
+  -- the canonical terms, one for each section
+  pub canons : T → List Term
+  -- a value of the type: its numbers are in their ranges, and so on
+  pub is_value : T → Type 0
+  -- each number and text in a value's canonical terms is of its type, and bytes that are kept spell a term
+  pub proper : (v : T) → is_value v → AreProper (canons v)
+
+-- The first of some terms, null where there is none.
+abbrev pub first_term : List Term → Term
+first_term [] = leaf null
+first_term (t ∷ ts) = t
+
+-- The canonical term of a value that is written as one, in which a refusal stands if the value has none.
+abbrev pub canon_of : {T : Type 0} → Writing T → T → Term
+canon_of w v = first_term (w.canons v)
+
+-- Each value is written as one term.
+abbrev pub IsOneTerm : {T : Type 0} → Writing T → Type 0
+IsOneTerm {T} w = (v : T) → w.canons v ≡ canon_of w v ∷ []

@@ -42,10 +42,10 @@ pub fn from_slice_counted<T: Deserialize>(input: &[u8], alloc: Global) -> Result
 /// It is measured first, so that its bytes are reserved once and exactly. An error is a reason why the terms
 /// can't be written, or `Memory`.
 pub fn to_vec<T: Serialize>(value: &T, alloc: Global) -> Result<Vec<u8>, Error>
-    ensures is_value { T.is_value value.now }
-    ensures text { IfOk result (λ text. text.items ≡ row_text (T.canons value.now)) }
-    ensures writable { OnOk result (AreWritable (T.canons value.now)) }
-    ensures refused { IfErr result (λ e. (e ≡ Memory) ⊎ AreUnwritable (T.canons value.now) e) }
+    ensures is_value { T.writing.is_value value.now }
+    ensures text { IfOk result (λ text. text.items ≡ row_text (T.writing.canons value.now)) }
+    ensures writable { OnOk result (AreWritable (T.writing.canons value.now)) }
+    ensures refused { IfErr result (λ e. (e ≡ Memory) ⊎ AreUnwritable (T.writing.canons value.now) e) }
 {
     let Measurement { len, sizes } = measure(value, alloc)?;
     let buffer = Vec::with_capacity(alloc, len)?;
@@ -56,10 +56,10 @@ pub fn to_vec<T: Serialize>(value: &T, alloc: Global) -> Result<Vec<u8>, Error>
 
 /// The length in bytes of the value's canonical text, refused as `to_vec` is.
 pub fn encoded_len<T: Serialize>(value: &T, alloc: Global) -> Result<usize, Error>
-    ensures is_value { T.is_value value.now }
-    ensures len { IfOk result (λ len. len ≡ length (row_text (T.canons value.now))) }
-    ensures writable { OnOk result (AreWritable (T.canons value.now)) }
-    ensures refused { IfErr result (λ e. (e ≡ Memory) ⊎ AreUnwritable (T.canons value.now) e) }
+    ensures is_value { T.writing.is_value value.now }
+    ensures len { IfOk result (λ len. len ≡ length (row_text (T.writing.canons value.now))) }
+    ensures writable { OnOk result (AreWritable (T.writing.canons value.now)) }
+    ensures refused { IfErr result (λ e. (e ≡ Memory) ⊎ AreUnwritable (T.writing.canons value.now) e) }
 {
     let measurement = measure(value, alloc)?;
     Ok(measurement.len)
@@ -72,11 +72,11 @@ pub fn append_to_vec<T: Serialize>(
     buffer: &mut Vec<u8>,
     alloc: Global,
 ) -> Result<usize, Error>
-    ensures is_value { T.is_value value.now }
-    ensures text { OnOk result (buffer.new.items ≡ buffer.old.items ++ row_text (T.canons value.now)) }
-    ensures len { IfOk result (λ len. len ≡ length (row_text (T.canons value.now))) }
-    ensures writable { OnOk result (AreWritable (T.canons value.now)) }
-    ensures refused { IfErr result (λ e. (e ≡ Memory) ⊎ AreUnwritable (T.canons value.now) e) }
+    ensures is_value { T.writing.is_value value.now }
+    ensures text { OnOk result (buffer.new.items ≡ buffer.old.items ++ row_text (T.writing.canons value.now)) }
+    ensures len { IfOk result (λ len. len ≡ length (row_text (T.writing.canons value.now))) }
+    ensures writable { OnOk result (AreWritable (T.writing.canons value.now)) }
+    ensures refused { IfErr result (λ e. (e ≡ Memory) ⊎ AreUnwritable (T.writing.canons value.now) e) }
     ensures kept { OnErr result (buffer.new.items ≡ buffer.old.items) }
 {
     let Measurement { len, sizes } = measure(value, alloc)?;
@@ -98,14 +98,15 @@ pub fn append_to_vec<T: Serialize>(
 /// The canonical text of the value that the input begins with, and how many bytes that value takes there.
 /// An error is `Memory`, a fault of an input that begins with no value, or `TooLarge`.
 pub fn canonical_text<T: Canonical>(input: &[u8], alloc: Global) -> Result<(Vec<u8>, usize), Error>
-    ensures text { IfOk result (λ r. IsRewritten T.reading T.canons input.now r.0.items r.1) }
+    ensures text { IfOk result (λ r. IsRewritten T.reading T.writing.canons input.now r.0.items r.1) }
     ensures read_again { IfOk result (λ r. IsReadAgain T.reading T.follows T.again T.kept input.now r.0.items r.1) }
-    ensures one_text { IfOk result (λ r. IsOneText T.reading T.canons input.now r.0.items r.1) }
-    ensures no_other { IfOk result (λ r. IsOfNoOther T.reading T.canons T.kept input.now r.0.items r.1) }
-    ensures every_text { AreReadAgain T.reading T.canons T.is_value T.follows T.again T.lasts }
-    ensures unchanged { IfOk result (λ r. IsUnchanged T.reading T.canons r.0.items) }
-    ensures shortest { T.is_least ≡ true → IfOk result (λ r. IsShortest T.reading T.canons input.now r.0.items r.1) }
-    ensures refused { IfErr result (λ e. (e ≡ Memory) ⊎ (Unreadable T.reading input.now e ⊎ Unwritten T.reading T.canons input.now e)) }
+    ensures one_text { IfOk result (λ r. IsOneText T.reading T.writing.canons input.now r.0.items r.1) }
+    ensures no_other { IfOk result (λ r. IsOfNoOther T.reading T.writing.canons T.kept input.now r.0.items r.1) }
+    ensures every_text { AreReadAgain T.reading T.writing.canons T.writing.is_value T.follows T.again T.lasts }
+    ensures unchanged { IfOk result (λ r. IsUnchanged T.reading T.writing.canons r.0.items) }
+    ensures shortest { T.is_least ≡ true → IfOk result (λ r. IsShortest T.reading T.writing.canons input.now r.0.items r.1) }
+    ensures refused { IfErr result (λ e.
+        (e ≡ Memory) ⊎ (Unreadable T.reading input.now e ⊎ Unwritten T.reading T.writing.canons input.now e)) }
 {
     let (value, len) = from_slice_counted::<T>(input, alloc)?;
     let text = to_vec(&value, alloc)?;
@@ -114,9 +115,9 @@ pub fn canonical_text<T: Canonical>(input: &[u8], alloc: Global) -> Result<(Vec<
 
 // The length and the sizes of the canonical text, or why there is none.
 fn measure<T: Serialize>(value: &T, alloc: Global) -> Result<Measurement, Error>
-    ensures is_value { T.is_value value.now }
-    ensures measured { IfOk result (λ m. AreMeasured (T.canons value.now) m.len m.sizes.items) }
-    ensures refused { IfErr result (λ e. (e ≡ Memory) ⊎ AreUnwritable (T.canons value.now) e) }
+    ensures is_value { T.writing.is_value value.now }
+    ensures measured { IfOk result (λ m. AreMeasured (T.writing.canons value.now) m.len m.sizes.items) }
+    ensures refused { IfErr result (λ e. (e ≡ Memory) ⊎ AreUnwritable (T.writing.canons value.now) e) }
 {
     value.in_type();
     let mut encoder = Encoder::measuring(alloc);

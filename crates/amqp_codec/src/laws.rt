@@ -15,33 +15,34 @@ ghost use Rattle.amqp_decoder.specs.Reading.{Peeked};
 ghost use Rattle.amqp_codec.specs.EitherType.{EitherFault};
 ghost use Rattle.amqp_codec.specs.Reading.{IsRead};
 
-use crate::DeserializeTerm;
+use crate::{Canonical, Deserialize, DeserializeTerm};
 
 /// What is read from the front of an input is what that front spells, whatever stands behind it; and nothing behind it
 /// is looked at. So an error that says of bytes that they are no term is answered only of such (`Unreadable::unspelled`).
 pub fn reading_is_spelling<T: DeserializeTerm>()
-    ensures spelled { (input : List ℕ) (v : T) (n : ℕ) → IsRead T.reading input v n → (n ≤ length input) × IsSpelled T.term (take n input) v }
-    ensures read { (b more : List ℕ) (v : T) → IsSpelled T.term b v → IsRead T.reading (b ++ more) v (length b) }
-    ensures no_more { T.reading.looks_on ≡ false }
-    ensures one_term { T.reading.one_term ≡ true }
+    ensures spelled { (input : List ℕ) (v : T) (n : ℕ) → IsRead ⟦<T as Deserialize>⟧.reading input v n
+        → (n ≤ length input) × IsSpelled T.term (take n input) v }
+    ensures read { (b more : List ℕ) (v : T) → IsSpelled T.term b v → IsRead ⟦<T as Deserialize>⟧.reading (b ++ more) v (length b) }
+    ensures no_more { ⟦<T as Deserialize>⟧.reading.looks_on ≡ false }
+    ensures one_term { ⟦<T as Deserialize>⟧.reading.one_term ≡ true }
 {}
 
 /// What `to_vec`, `encoded_len` and `append_to_vec` say of a value's canonical terms, they say of the canonical term
 /// and text that the laws below speak of. It can't be written only where it is refused, or is longer than the machine counts.
 pub fn one_term_is_written<T: DeserializeTerm>()
-    ensures is_value { (v : T) → T.is_value v → T.term.is_value v }
-    ensures text { (v : T) → row_text (T.canons v) ≡ written T.term v }
-    ensures writable { (v : T) → AreWritable (T.canons v) → IsWritable T.term v }
-    ensures refused { (v : T) (e : Error) → T.is_value v → AreUnwritable (T.canons v) e → TermHasCause (T.term.canon v) e }
+    ensures is_value { (v : T) → T.writing.is_value v → T.term.is_value v }
+    ensures text { (v : T) → row_text (T.writing.canons v) ≡ written T.term v }
+    ensures writable { (v : T) → AreWritable (T.writing.canons v) → IsWritable T.term v }
+    ensures refused { (v : T) (e : Error) → T.writing.is_value v → AreUnwritable (T.writing.canons v) e → TermHasCause (T.term.canon v) e }
 {}
 
 /// What `canonical_text` promises holds of a type of terms without a condition: anything may follow a text, each text is
 /// read, as its value again, and it is the shortest where the type is least.
 pub fn terms_are_read_again<T: DeserializeTerm>()
-    ensures follows { (more : List ℕ) → T.follows more }
-    ensures kept { (v : T) → T.kept v }
-    ensures lasts { (v : T) → T.lasts v }
-    ensures least { T.is_least ≡ T.term.is_least }
+    ensures follows { (more : List ℕ) → ⟦<T as Canonical>⟧.follows more }
+    ensures kept { (v : T) → ⟦<T as Canonical>⟧.kept v }
+    ensures lasts { (v : T) → ⟦<T as Canonical>⟧.lasts v }
+    ensures least { ⟦<T as Canonical>⟧.is_least ≡ T.term.is_least }
 {}
 
 /// No input has two fronts that spell values, and no front spells two values.

@@ -1,12 +1,16 @@
-//! Reading and writing of whole values: the traits of a type, the kernel of all composites, and the calls.
+//! Reading and writing of whole values: the traits of a type, the kernel of all lists of fields and composites, and the calls.
 #![tactic(auto)]
 
 mod calls;
+mod composite;
 mod containers;
+mod fields;
 pub mod kernel;
 pub mod laws;
 mod primitives;
 mod reader;
+pub mod restricted;
+mod sums;
 mod traits;
 
 pub use amqp_decoder::Decoder;

@@ -1,14 +1,15 @@
 //! What can be read, written, or both.
-ghost use Rattle.std.specs.Prelude.{◌≡◌, ℕ, Bool, List, [], ◌∷◌};
-ghost use Rattle.amqp_model.specs.Term.{Term};
+ghost use Rattle.std.specs.Prelude.{◌≡◌, ℕ, Bool, List};
+ghost use Rattle.amqp_model.specs.FieldType.{normal};
 ghost use Rattle.amqp_model.specs.Items.{is_null};
 ghost use Rattle.amqp_codec.specs.TermType.{TermType};
-ghost use Rattle.amqp_codec.specs.Written.{WritesTerms, AreProper};
+ghost use Rattle.amqp_codec.specs.Written.{WritesTerms, Writing, IsOneTerm, canon_of};
 ghost use Rattle.amqp_codec.specs.Ties.{Tied};
 ghost use Rattle.amqp_wire.specs.Sources.{Tells};
 ghost use Rattle.amqp_decoder.specs.Reading.{Reads};
-ghost use Rattle.amqp_codec.specs.Reading.{Reading, ReadsTerms};
-ghost use Rattle.amqp_codec.specs.Rewriting.{Rewriting};
+ghost use Rattle.amqp_decoder.specs.Primitives.{Value};
+ghost use Rattle.amqp_codec.specs.Reading.{Reading, reading_of};
+ghost use Rattle.amqp_codec.specs.Rewriting.{Rewriting, rewrites};
 
 use amqp_decoder::Decoder;
 use amqp_encoder::Encoder;
@@ -17,26 +18,20 @@ use std::alloc::Global;
 
 /// What can be written.
 pub trait Serialize {
-    // The canonical terms, one for each section.
-    ghost canons: { Self → List Term };
-
-    // A value of the type: its numbers are in their ranges, and so on.
-    ghost is_value: { Self → Type 0 };
+    // The canonical terms, one for each section, and what a value of the type is.
+    ghost writing: { Writing Self };
 
     /// Writes the value to an encoder that measures, and again to one that fills. A type that takes memory of its
     /// own for this may refuse its value for want of it, by `Encoder::refuse`.
     fn serialize(&self, encoder: &mut Encoder) -> Result<(), Error>
-        ensures { WritesTerms (canons self.now) encoder.old result encoder.new };
+        ensures { WritesTerms (writing.canons self.now) encoder.old result encoder.new };
 
     /// Promises that the value is one of its type. Takes no memory.
     fn in_type(&self)
-        ensures { is_value self.now };
-
-    // Each number and text in a value's canonical terms is of its type, and bytes that are kept spell a term.
-    ghost proper: { (v : Self) → is_value v → AreProper (canons v) };
+        ensures { writing.is_value self.now };
 }
 
-/// What can be read.
+/// What can be read. A type that is one term has this by `DeserializeTerm`; what is no term writes it by hand.
 pub trait Deserialize: Sized + Drop {
     // From which state of a decoder a value is read, and the laws.
     ghost reading: { Reading Self };
@@ -46,7 +41,8 @@ pub trait Deserialize: Sized + Drop {
         ensures { Tells R.remaining → Reads reading.takes_memory reading.reads reading.fault decoder.old result decoder.new };
 }
 
-/// What can be both read and written, so that each value has one canonical text, which is read as that value again.
+/// What can be both read and written, so that each value has one canonical text, which is read as that value again. A type
+/// that is one term has this by `DeserializeTerm`; what is no term writes it by hand.
 pub trait Canonical: Deserialize + Serialize {
     // What may stand behind a text: anything, unless an impl says less.
     ghost follows: { List ℕ → Type 0 } = { λ _. Unit {0} };
@@ -64,28 +60,45 @@ pub trait Canonical: Deserialize + Serialize {
     ghost is_least: { Bool };
 
     // The laws.
-    ghost rewrites: { Rewriting Self.reading Self.canons Self.is_value follows again kept lasts is_least };
+    ghost rewrites: { Rewriting Self.reading Self.writing.canons Self.writing.is_value follows again kept lasts is_least };
 }
 
 /// What is written as one term, which may be an item of a list, a map or an array.
 pub trait SerializeTerm: Serialize {
-    // The canonical term, in which a refusal stands if the value has none.
-    ghost canon: { Self → Term };
-
     /// Whether the value's canonical term is null.
     fn is_null(&self) -> bool
-        ensures { result ≡ is_null (canon self.now) };
+        ensures { result ≡ is_null (canon_of Self.writing self.now) };
 
-    ghost is_term: { (v : Self) → Self.canons v ≡ canon v ∷ [] };
+    // The canonical terms are one.
+    ghost is_term: { IsOneTerm Self.writing };
 }
 
-/// What is read and written as one term.
-pub trait DeserializeTerm: Canonical + SerializeTerm {
+/// What is read and written as one term. From the record `term` it is `Deserialize` and `Canonical` too, so what is generic
+/// in such a type is bounded by this trait alone, and reads by `read_value`.
+pub trait DeserializeTerm: SerializeTerm + Sized + Drop {
     // Which terms mean the values, which one is canonical, and the laws of both.
     ghost term: { TermType Self };
 
-    ghost tied: { Tied term Self.canons Self.is_value Self.follows Self.kept Self.lasts Self.is_least };
+    /// Reads a value from what the decoder stands before.
+    fn read_value<R: ByteSource>(decoder: &mut Decoder<R>, alloc: Global) -> Result<Self, Error>
+        ensures { Tells R.remaining → Reads term.takes_memory (Value term.means) term.faults.fault decoder.old result decoder.new };
 
-    // It reads as its terms say.
-    ghost reads_terms: { ReadsTerms term Self.reading };
+    // It is written as its record says.
+    ghost tied: { Tied term Self.writing };
+}
+
+impl<T: DeserializeTerm> Deserialize for T {
+    ghost reading = { reading_of T.term };
+
+    fn deserialize<R: ByteSource>(decoder: &mut Decoder<R>, alloc: Global) -> Result<T, Error> {
+        T::read_value(decoder, alloc)
+    }
+}
+
+impl<T: DeserializeTerm> Canonical for T {
+    ghost again = { normal T.term.norm };
+
+    ghost is_least = { T.term.is_least };
+
+    ghost rewrites = { rewrites T.tied };
 }

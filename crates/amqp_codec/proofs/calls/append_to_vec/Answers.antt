@@ -5,26 +5,39 @@ use Rattle.amqp_codec.proofs.calls.append_to_vec.Goals as goal
 
 pub returns-in-Ok-clause-text : goal.returns-in-Ok-clause-text
 returns-in-Ok-clause-text g c =
+    let ts = g.T.Serialize.writing.canons c.args.value.now in
+    let proper = g.T.Serialize.writing.proper _ c.measure.ensures.is_value in
     let b : c.replace-room.result.items ≡ c.args.buffer.now.items = ap (λ v. v.items) c.replace-room.ensures.value ∙ c.reserve_exact.ensures.items in
     c.into_buffer.ensures
-    ∙ (filled (g.T.Serialize.canons c.args.value.now) (g.met.T.Serialize.proper _ c.measure.ensures.is_value) _ _ _ _ _ _ _ c.in_ok-len.ensures.measured (omega (arith, ap length b)) c.filling-encoder.ensures c.serialize-outcome.ensures c.in-Ok.is
-    ∙ ap (λ bs. bs ++ row_text (g.T.Serialize.canons c.args.value.now)) b)
+    ∙ (filled ts proper _ _ _ _ _ _ _ c.in_ok-len.ensures.measured (omega (arith, ap length b)) c.filling-encoder.ensures
+    c.serialize-outcome.ensures c.in-Ok.is
+    ∙ ap (λ bs. bs ++ row_text ts) b)
 
 pub returns-in-Ok-clause-len : goal.returns-in-Ok-clause-len
-returns-in-Ok-clause-len g c = measured_length (g.T.Serialize.canons c.args.value.now) (g.met.T.Serialize.proper _ c.measure.ensures.is_value) _ _ c.in_ok-len.ensures.measured
+returns-in-Ok-clause-len g c =
+    let w = g.T.Serialize.writing in
+    measured_length (w.canons c.args.value.now) (w.proper _ c.measure.ensures.is_value) _ _ c.in_ok-len.ensures.measured
 
 pub returns-in-Ok-clause-writable : goal.returns-in-Ok-clause-writable
-returns-in-Ok-clause-writable g c = measured_writable (g.T.Serialize.canons c.args.value.now) (g.met.T.Serialize.proper _ c.measure.ensures.is_value) _ _ c.in_ok-len.ensures.measured
+returns-in-Ok-clause-writable g c =
+    let w = g.T.Serialize.writing in
+    measured_writable (w.canons c.args.value.now) (w.proper _ c.measure.ensures.is_value) _ _ c.in_ok-len.ensures.measured
 
 pub returns-in-Err-clause-refused : goal.returns-in-Err-clause-refused
 returns-in-Err-clause-refused g c =
+    let ts = g.T.Serialize.writing.canons c.args.value.now in
+    let proper = g.T.Serialize.writing.proper _ c.measure.ensures.is_value in
     let b : c.replace-room.result.items ≡ c.args.buffer.now.items = ap (λ v. v.items) c.replace-room.ensures.value ∙ c.reserve_exact.ensures.items in
-    inl (filling_refused (g.T.Serialize.canons c.args.value.now) (g.met.T.Serialize.proper _ c.measure.ensures.is_value) _ _ _ _ _ _ _ c.in_ok-len.ensures.measured (omega (arith, ap length b)) c.filling-encoder.ensures c.serialize-outcome.ensures _ c.in-Err.is)
+    inl (filling_refused ts proper _ _ _ _ _ _ _ c.in_ok-len.ensures.measured (omega (arith, ap length b)) c.filling-encoder.ensures
+    c.serialize-outcome.ensures _ c.in-Err.is)
 
 pub returns-in-Err-clause-kept : goal.returns-in-Err-clause-kept
 returns-in-Err-clause-kept g c =
+    let ts = g.T.Serialize.writing.canons c.args.value.now in
+    let proper = g.T.Serialize.writing.proper _ c.measure.ensures.is_value in
     let b : c.replace-room.result.items ≡ c.args.buffer.now.items = ap (λ v. v.items) c.replace-room.ensures.value ∙ c.reserve_exact.ensures.items in
     c.truncate.ensures.items
     ∙ (ap (take c.len-before.result) c.into_buffer.ensures
-    ∙ (front_kept (g.T.Serialize.canons c.args.value.now) (g.met.T.Serialize.proper _ c.measure.ensures.is_value) _ _ _ _ _ _ _ c.in_ok-len.ensures.measured (omega (arith, ap length b)) c.filling-encoder.ensures c.serialize-outcome.ensures _ (omega (arith, ap length b))
+    ∙ (front_kept ts proper _ _ _ _ _ _ _ c.in_ok-len.ensures.measured (omega (arith, ap length b)) c.filling-encoder.ensures
+    c.serialize-outcome.ensures _ (omega (arith, ap length b))
     ∙ b))

@@ -11,4 +11,4 @@ pub returns-clause-writable : goal.returns-clause-writable
 returns-clause-writable g c = tied_writable g.met.T.DeserializeTerm.tied
 
 pub returns-clause-refused : goal.returns-clause-refused
-returns-clause-refused g c = tied_refused g.met.T.DeserializeTerm.tied g.met.T.Serialize.proper
+returns-clause-refused g c = tied_refused g.met.T.DeserializeTerm.tied

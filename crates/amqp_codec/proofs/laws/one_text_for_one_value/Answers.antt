@@ -7,3 +7,6 @@ returns-clause-apart g c = laws.apart g.T.DeserializeTerm.term
 
 pub returns-clause-unchanged : goal.returns-clause-unchanged
 returns-clause-unchanged g c = text_unchanged g.T.DeserializeTerm.term
+
+pub returns-clause-same : goal.returns-clause-same
+returns-clause-same g c = laws.same_text g.T.DeserializeTerm.term

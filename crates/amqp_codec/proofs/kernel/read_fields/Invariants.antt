@@ -1,6 +1,0 @@
-use Rattle.amqp_wire.specs.Sources.{Tells}
-use Rattle.amqp_codec.specs.FieldReading.{FieldsSoFar}
-use Rattle.amqp_codec.proofs.kernel.read_fields.Given as goal
-
-abbrev pub invariant-loop-index : goal.invariant-loop-index
-invariant-loop-index g l = Tells g.R.ByteSource.remaining → FieldsSoFar g.C.Composite.table.fields l.fn.decoder l.count l.index l.value l.decoder

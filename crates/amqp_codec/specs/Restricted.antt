@@ -1,0 +1,128 @@
+-- Restricted types: each value is one of a primitive type's, a number or a text, and the table of a type says which.
+use Rattle.std.proofs.Common.{◌≡◌, ℕ, ◌<◌, ◌^◌, Bool, true, false, List, Result, Ok, Err, sym, subst}
+use Rattle.amqp_model.specs.Term.{Primitive, boolean, ubyte, ushort, uint, symbol, Term, leaf}
+use Rattle.amqp_model.specs.Standing.{Standing}
+use Rattle.amqp_wire.specs.declared.error.Error.{Error}
+use Rattle.amqp_wire.specs.declared.error.Error.TheVariants.{Memory, UnknownText, UnknownNumber}
+use Rattle.amqp_input.specs.Kinds.{booleans, ubytes, ushorts, uints, symbols}
+use Rattle.amqp_decoder.specs.State.{State}
+use Rattle.amqp_decoder.specs.Misspelled.{IsMisspelling, NothingStands}
+use Rattle.amqp_decoder.specs.Reading.{Reads}
+use Rattle.amqp_decoder.specs.Primitives.{Value, Means, PrimitiveFault}
+use Rattle.amqp_decoder.specs.Elsewhere.{Setting, under, KeepsError, value, primitive_fault}
+use Rattle.amqp_decoder.proofs.NotMemory.{primitive_not_memory}
+use Rattle.amqp_decoder.proofs.Misspelled.{primitive_misspelled}
+use Rattle.amqp_codec.specs.ExactType.{MeansExactly, exact}
+use Rattle.amqp_codec.specs.Faults.{Faults}
+use Rattle.amqp_codec.specs.TermType.{TermType}
+use Rattle.amqp_codec.specs.PrimitiveTypes.{IsKind, primitive_exact, boolean_kind, ubyte_kind, ushort_kind, uint_kind, symbol_kind}
+
+-- A primitive type, some values of which are those of a restricted type.
+pub record Base (A : Type 0) : Type 1 where
+  pub make : A → Primitive
+  pub range : A → Type 0
+  pub is_kind : IsKind make range
+  -- of those of Part 1, section 1.6
+  pub kind : ℕ
+
+-- Part 1, section 1.6.2
+abbrev pub boolean_base : Base Bool
+boolean_base = record { make = boolean; range = λ _. Unit {0}; is_kind = boolean_kind; kind = booleans }
+
+-- Part 1, section 1.6.3
+abbrev pub ubyte_base : Base ℕ
+ubyte_base = record { make = ubyte; range = λ n. n < 2 ^ 8; is_kind = ubyte_kind; kind = ubytes }
+
+-- Part 1, section 1.6.4
+abbrev pub ushort_base : Base ℕ
+ushort_base = record { make = ushort; range = λ n. n < 2 ^ 16; is_kind = ushort_kind; kind = ushorts }
+
+-- Part 1, section 1.6.5
+abbrev pub uint_base : Base ℕ
+uint_base = record { make = uint; range = λ n. n < 2 ^ 32; is_kind = uint_kind; kind = uints }
+
+-- Part 1, section 1.6.21
+abbrev pub symbol_base : Base (List ℕ)
+symbol_base = record { make = symbol; range = λ _. Unit {0}; is_kind = symbol_kind; kind = symbols }
+
+-- No value has this number or text.
+abbrev pub IsUnknown : {A V : Type 0} → (V → A) → A → Type 0
+IsUnknown {V = V} table a = (v : V) → table v ≡ a → ⊥
+
+-- A conversion of a text: the value that has it, or else, where there is none, what was given.
+abbrev pub Converts : {V G : Type 0} → (V → List ℕ) → List ℕ → G → Result V G → Type 0
+Converts table text given (Ok v) = table v ≡ text
+Converts table text given (Err g) = (g ≡ given) × IsUnknown table text
+
+-- The errors for a number or a text of no value.
+abbrev pub IsUnknownError : Error → Type 0
+IsUnknownError UnknownNumber = Unit {0}
+IsUnknownError UnknownText = Unit {0}
+IsUnknownError _ = ⊥
+
+unknown_not_misspelled : (e : Error) → IsUnknownError e → IsMisspelling e → ⊥
+unknown_not_misspelled UnknownNumber h i = i
+unknown_not_misspelled UnknownText h i = i
+unknown_not_misspelled _ h i = absurd h
+
+-- The term is the value's number or text.
+abbrev pub MeansRestricted : {A V : Type 0} → Base A → (V → A) → Standing → Term → V → Type 0
+MeansRestricted base table = MeansExactly (λ _. Unit {0}) (λ v. leaf (base.make (table v)))
+
+module _ {A V : Type 0} (base : Base A) (unknown : Error) (table : V → A) where
+  -- Why no value is read: no primitive of the base stands there, or one that is no value's.
+  pub data RestrictedFault (st : State) (e : Error) : Type 0 where
+    no_primitive : PrimitiveFault base.kind st e → RestrictedFault st e
+    of_no_value : {a : A} {b : State} → Value (Means base.make) st a b → IsUnknown table a → e ≡ unknown → RestrictedFault st e
+
+  -- What a call promises that reads a value.
+  abbrev pub ReadsRestricted : (takes_memory : Bool) → State → Result V Error → State → Type 0
+  ReadsRestricted takes_memory = Reads takes_memory (Value (MeansRestricted base table)) RestrictedFault
+
+  module _ (is : IsUnknownError unknown) where
+    pub restricted_not_memory : (st : State) → RestrictedFault st Memory → ⊥
+    restricted_not_memory st (no_primitive h) = primitive_not_memory base.kind st h
+    restricted_not_memory st (of_no_value h none e) = subst IsUnknownError (sym e) is
+
+    pub restricted_elsewhere : (c : Setting) (st : State) (e : Error) → KeepsError c e → RestrictedFault st e
+        → RestrictedFault (under c st) e
+    restricted_elsewhere c st e keeps (no_primitive h) = no_primitive (primitive_fault c keeps h)
+    restricted_elsewhere c st e keeps (of_no_value h none i) = of_no_value (value c (Means base.make) h) none i
+
+    pub restricted_misspelled : (st : State) (e : Error) → IsMisspelling e → RestrictedFault st e → NothingStands st
+    restricted_misspelled st e i (no_primitive h) = primitive_misspelled base.kind st e i h
+    restricted_misspelled st e i (of_no_value h none j) = absurd (unknown_not_misspelled e (subst IsUnknownError (sym j) is) i)
+
+    abbrev pub restricted_faults : Faults
+    restricted_faults = record {
+      fault = RestrictedFault;
+      not_memory = restricted_not_memory;
+      fault_elsewhere = restricted_elsewhere;
+      misspelled = λ st e _. restricted_misspelled st e;
+    }
+
+-- No two values have one number or text.
+abbrev pub IsDistinct : {A V : Type 0} → (V → A) → Type 0
+IsDistinct {V = V} table = (v w : V) → table v ≡ table w → v ≡ w
+
+module _ {A V : Type 0} (base : Base A) (table : V → A) (distinct : IsDistinct table) (in_range : (v : V) → base.range (table v)) where
+  pub restricted_kind : IsKind (λ v. base.make (table v)) (λ _. Unit {0})
+  restricted_kind = record {
+    injective = λ v w e. distinct v w (base.is_kind.injective (table v) (table w) e);
+    in_range = λ v _. base.is_kind.in_range (table v) (in_range v);
+    not_null = λ v. base.is_kind.not_null (table v);
+  }
+
+  -- The type of a table, the error for all else, and whether reading it takes memory.
+  abbrev pub restricted : (unknown : Error) → IsUnknownError unknown → Bool → TermType V
+  restricted unknown is takes_memory =
+      let faults = restricted_faults base unknown table is in
+      exact (primitive_exact (λ v. base.make (table v)) (λ _. Unit {0}) restricted_kind) faults takes_memory
+
+  -- Each value is its number.
+  abbrev pub restricted_number : TermType V
+  restricted_number = restricted UnknownNumber tt false
+
+-- Each value is its text, a symbol.
+abbrev pub restricted_text : {V : Type 0} (table : V → List ℕ) → IsDistinct table → TermType V
+restricted_text table distinct = restricted symbol_base table distinct (λ v. tt) UnknownText tt true

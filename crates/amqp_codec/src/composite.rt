@@ -1,0 +1,135 @@
+//! Composites, which are described lists of fields (Part 1, section 1.4).
+ghost use Rattle.std.specs.Prelude.{◌≡◌, ◌<◌, false, [], ◌∷◌, length};
+ghost use Rattle.amqp_model.specs.Items.{is_null};
+ghost use Rattle.amqp_model.specs.Fields.{kinds_of};
+ghost use Rattle.amqp_model.specs.Composite.{MeansComposite, canonical_term};
+ghost use Rattle.amqp_codec.specs.Fields.{slots, canon_at, take_memory};
+ghost use Rattle.amqp_codec.specs.Composite.{table_of, fields_of, composite_members};
+ghost use Rattle.amqp_codec.specs.Written.{WritesTerms};
+ghost use Rattle.amqp_wire.specs.Sources.{Tells};
+ghost use Rattle.amqp_decoder.specs.Reading.{Reads};
+ghost use Rattle.amqp_decoder.specs.Primitives.{Value};
+ghost use Rattle.amqp_codec.specs.Members.{MemberFault};
+ghost use Rattle.amqp_codec.specs.FieldReading.{FillsField, IsBlank};
+
+use crate::fields::{FieldKind, FieldList, read_fields, write_list};
+use crate::{DeserializeTerm, SerializeTerm};
+use amqp_decoder::Decoder;
+use amqp_encoder::Encoder;
+use amqp_wire::{ByteSource, Descriptor, Error};
+use std::alloc::Global;
+
+/// The table of a composite: the code and the name of its descriptor, and the kinds of its fields in order.
+#[derive(Clone, Copy)]
+pub struct Table {
+    pub descriptor: (u64, &'static str),
+    pub fields: &'static [FieldKind],
+}
+
+/// A composite type: its table, and its fields by their numbers.
+pub trait Composite: Sized + Drop {
+    ghost use Rattle.amqp_codec.specs.Composite.{Table};
+
+    ghost table: { Table Self };
+
+    /// The table as data.
+    fn table() -> Table
+        ensures code { result.descriptor.0 ≡ table.code }
+        ensures name { result.descriptor.1.now ≡ table.name }
+        ensures kinds { result.fields.now ≡ kinds_of (slots table.fields) };
+
+    /// A value whose optional fields are absent and whose default fields hold their defaults; a mandatory
+    /// field holds anything.
+    fn blank(alloc: Global) -> Self
+        ensures { IsBlank table.fields result };
+
+    /// Reads a field that is there and isn't null.
+    fn fill_field<R: ByteSource>(
+        &mut self,
+        index: usize,
+        decoder: &mut Decoder<R>,
+        alloc: Global,
+    ) -> Result<(), Error>
+        ensures { Tells R.remaining → index < length (kinds_of (slots table.fields)) → FillsField table.fields index self.old self.new decoder.old result decoder.new };
+
+    /// Whether a field is written as null.
+    fn is_null_field(&self, index: usize) -> bool
+        ensures { index < length (kinds_of (slots table.fields)) → result ≡ is_null (canon_at table.fields index self.now) };
+
+    /// Writes a field that isn't null.
+    fn write_field(&self, index: usize, encoder: &mut Encoder) -> Result<(), Error>
+        ensures { index < length (kinds_of (slots table.fields)) → is_null (canon_at table.fields index self.now) ≡ false → WritesTerms (canon_at table.fields index self.now ∷ []) encoder.old result encoder.new };
+}
+
+// Behind its descriptor stands the list of its fields.
+impl<C: Composite> FieldList for C {
+    ghost list = { fields_of C.table };
+
+    fn kinds() -> &'static [FieldKind] {
+        C::table().fields
+    }
+
+    fn blank(alloc: Global) -> C {
+        <C as Composite>::blank(alloc)
+    }
+
+    fn fill_field<R: ByteSource>(
+        &mut self,
+        index: usize,
+        decoder: &mut Decoder<R>,
+        alloc: Global,
+    ) -> Result<(), Error> {
+        <C as Composite>::fill_field(self, index, decoder, alloc)
+    }
+
+    fn is_null_field(&self, index: usize) -> bool {
+        <C as Composite>::is_null_field(self, index)
+    }
+
+    fn write_field(&self, index: usize, encoder: &mut Encoder) -> Result<(), Error> {
+        <C as Composite>::write_field(self, index, encoder)
+    }
+}
+
+/// A composite type that is written as its table says, from which it is read as its table says too, as one term. It stands
+/// apart from `Composite`, since `serialize` calls `write_composite`, which takes that trait.
+pub trait CompositeTerm: Composite + SerializeTerm {
+    ghost use Rattle.amqp_codec.specs.Composite.{composite};
+    ghost use Rattle.amqp_codec.specs.Ties.{Tied};
+
+    ghost agrees: { Tied (composite Self.table) Self.writing };
+}
+
+impl<C: CompositeTerm> DeserializeTerm for C {
+    ghost use Rattle.amqp_codec.specs.Composite.{composite};
+
+    ghost term = { composite C.table };
+
+    fn read_value<R: ByteSource>(decoder: &mut Decoder<R>, alloc: Global) -> Result<C, Error> {
+        read_composite(decoder, alloc)
+    }
+
+    ghost tied = { C.agrees };
+}
+
+/// Reads a composite: a described list under the code or the name of its table.
+pub fn read_composite<C: Composite, R: ByteSource>(
+    decoder: &mut Decoder<R>,
+    alloc: Global,
+) -> Result<C, Error>
+    ensures { Tells R.remaining → Reads (take_memory C.table.fields) (Value (λ s. MeansComposite (table_of C.table))) (MemberFault (composite_members C.table)) decoder.old result decoder.new }
+{
+    decoder.begin_one_of(&[C::table().descriptor])?;
+    let value = read_fields(decoder, alloc)?;
+    decoder.end_described()?;
+    Ok(value)
+}
+
+/// Writes a composite under its table's code.
+pub fn write_composite<C: Composite>(value: &C, encoder: &mut Encoder) -> Result<(), Error>
+    ensures { WritesTerms (canonical_term (table_of C.table) value.now ∷ []) encoder.old result encoder.new }
+{
+    encoder.begin_described(&Descriptor::Code(C::table().descriptor.0))?;
+    write_list(value, encoder)?;
+    encoder.end_described()
+}

@@ -1,0 +1,176 @@
+//! Lists of fields (Part 1, section 1.4): one reader and one writer for all. They alone know of omitted ends, surplus
+//! items, defaults and trailing nulls.
+ghost use Rattle.std.specs.Prelude.{◌≡◌, ◌<◌, ◌≤◌, false, [], ◌∷◌, length, take, Ok};
+ghost use Rattle.amqp_model.specs.Items.{is_null};
+ghost use Rattle.amqp_model.specs.Fields.{kinds_of, canonical_terms, canonical_items};
+ghost use Rattle.amqp_model.specs.Composite.{MeansList, canonical_list};
+ghost use Rattle.amqp_encoder.specs.Passes.{answer_of};
+ghost use Rattle.amqp_codec.specs.Fields.{slots, canon_at, take_memory};
+ghost use Rattle.amqp_codec.specs.Written.{WritesTerms};
+ghost use Rattle.amqp_wire.specs.Sources.{Tells};
+ghost use Rattle.amqp_decoder.specs.Reading.{Reads};
+ghost use Rattle.amqp_decoder.specs.Primitives.{Value};
+ghost use Rattle.amqp_codec.specs.FieldReading.{FieldsRead, FieldsFault, Fills, FillsField, IsBlank, ReadsItem, absence, kind_at};
+
+use crate::DeserializeTerm;
+use amqp_decoder::Decoder;
+use amqp_encoder::Encoder;
+pub use amqp_model::tables::FieldKind;
+use amqp_wire::{ByteSource, Error, format_code};
+use std::alloc::Global;
+
+/// A value that is a list of fields: its fields by their numbers, for which `read_list` and `write_list` do the rest. Each
+/// composite is one, behind its descriptor; a type of a user's own may be one by itself.
+pub trait FieldList: Sized + Drop {
+    ghost use Rattle.amqp_codec.specs.ListType.{ListTable};
+
+    ghost list: { ListTable Self };
+
+    /// The kinds of the fields, in order.
+    fn kinds() -> &'static [FieldKind]
+        ensures { result.now ≡ kinds_of (slots list.fields) };
+
+    /// A value whose optional fields are absent and whose default fields hold their defaults; a mandatory
+    /// field holds anything.
+    fn blank(alloc: Global) -> Self
+        ensures { IsBlank list.fields result };
+
+    /// Reads a field that is there and isn't null.
+    fn fill_field<R: ByteSource>(
+        &mut self,
+        index: usize,
+        decoder: &mut Decoder<R>,
+        alloc: Global,
+    ) -> Result<(), Error>
+        ensures { Tells R.remaining → index < length (kinds_of (slots list.fields)) → FillsField list.fields index self.old self.new decoder.old result decoder.new };
+
+    /// Whether a field is written as null.
+    fn is_null_field(&self, index: usize) -> bool
+        ensures { index < length (kinds_of (slots list.fields)) → result ≡ is_null (canon_at list.fields index self.now) };
+
+    /// Writes a field that isn't null.
+    fn write_field(&self, index: usize, encoder: &mut Encoder) -> Result<(), Error>
+        ensures { index < length (kinds_of (slots list.fields)) → is_null (canon_at list.fields index self.now) ≡ false → WritesTerms (canon_at list.fields index self.now ∷ []) encoder.old result encoder.new };
+}
+
+/// Reads a value into its place.
+pub fn fill<T: DeserializeTerm, R: ByteSource>(
+    place: &mut T,
+    decoder: &mut Decoder<R>,
+    alloc: Global,
+) -> Result<(), Error>
+    ensures { Tells R.remaining → Fills T.term.takes_memory T.term.means T.term.faults.fault decoder.old place.new result decoder.new }
+{
+    *place = T::read_value(decoder, alloc)?;
+    Ok(())
+}
+
+// The error for a field that is null or left out, where it must be there.
+fn absence(kind: FieldKind) -> Option<Error>
+    ensures { result ≡ absence kind }
+{
+    match kind {
+        FieldKind::Mandatory => Some(Error::Missing),
+        FieldKind::MandatoryMultiple => Some(Error::EmptyMultiple),
+        FieldKind::Optional | FieldKind::Default | FieldKind::Multiple => None,
+    }
+}
+
+/// Reads a list of fields, which may stand behind a descriptor that was read.
+pub fn read_fields<L: FieldList, R: ByteSource>(
+    decoder: &mut Decoder<R>,
+    alloc: Global,
+) -> Result<L, Error>
+    ensures { Tells R.remaining → Reads (take_memory L.list.fields) (FieldsRead L.list.fields) (FieldsFault L.list.fields) decoder.old result decoder.new }
+{
+    let count = decoder.begin_list()? as usize;
+    let mut value = L::blank(alloc);
+    for (index, kind) in L::kinds().iter().enumerate() {
+        if index < count {
+            read_item(&mut value, index, *kind, decoder, alloc)?;
+        } else if let Some(error) = absence(*kind) {
+            return Err(decoder.refuse(error));
+        }
+    }
+    decoder.end_list()?;
+    Ok(value)
+}
+
+/// Reads a value that is a list of fields by itself, without a descriptor: `Missing` and `EmptyMultiple` where a required
+/// field is null or left out, `Surplus` where items are left behind the last field, and else what a field's type answers.
+pub fn read_list<L: FieldList, R: ByteSource>(
+    decoder: &mut Decoder<R>,
+    alloc: Global,
+) -> Result<L, Error>
+    ensures { Tells R.remaining → Reads (take_memory L.list.fields) (Value (λ s. MeansList (slots L.list.fields))) (FieldsFault L.list.fields) decoder.old result decoder.new }
+{
+    read_fields(decoder, alloc)
+}
+
+// Reads an item into its field.
+fn read_item<L: FieldList, R: ByteSource>(
+    value: &mut L,
+    index: usize,
+    kind: FieldKind,
+    decoder: &mut Decoder<R>,
+    alloc: Global,
+) -> Result<(), Error>
+    requires within { index < length (kinds_of (slots L.list.fields)) }
+    requires its_kind { kind ≡ kind_at L.list.fields index }
+    ensures { Tells R.remaining → ReadsItem L.list.fields index value.old value.new decoder.old result decoder.new }
+{
+    if decoder.peek_code()? != format_code::NULL {
+        return value.fill_field(index, decoder, alloc);
+    }
+    decoder.read_null()?;
+    match absence(kind) {
+        Some(error) => Err(decoder.refuse(error)),
+        None => Ok(()),
+    }
+}
+
+/// Writes a value as the list of its fields, without the nulls at its end.
+pub fn write_list<L: FieldList>(value: &L, encoder: &mut Encoder) -> Result<(), Error>
+    ensures { WritesTerms (canonical_list (slots L.list.fields) value.now ∷ []) encoder.old result encoder.new }
+{
+    let count = count_items(value);
+    encoder.begin_list()?;
+    write_items(value, count, encoder)?;
+    encoder.end_list()
+}
+
+// How many fields there are without the nulls at the end.
+fn count_items<L: FieldList>(value: &L) -> usize
+    ensures within { result ≤ length (kinds_of (slots L.list.fields)) }
+    ensures trimmed { take result (canonical_terms (slots L.list.fields) value.now) ≡ canonical_items (slots L.list.fields) value.now }
+{
+    let mut count = L::kinds().len();
+    while count > 0 && value.is_null_field(count - 1) {
+        count -= 1;
+    }
+    count
+}
+
+// Writes the first fields, so many of them.
+fn write_items<L: FieldList>(value: &L, count: usize, encoder: &mut Encoder) -> Result<(), Error>
+    requires within { count ≤ length (kinds_of (slots L.list.fields)) }
+    requires going { answer_of encoder.now ≡ Ok tt }
+    ensures { WritesTerms (take count (canonical_terms (slots L.list.fields) value.now)) encoder.old result encoder.new }
+{
+    for index in 0..count {
+        write_item(value, index, encoder)?;
+    }
+    Ok(())
+}
+
+// Writes a field.
+#[tactic(auto, using(crate::proofs::Trimming::null_written))]
+fn write_item<L: FieldList>(value: &L, index: usize, encoder: &mut Encoder) -> Result<(), Error>
+    ensures { index < length (kinds_of (slots L.list.fields)) → WritesTerms (canon_at L.list.fields index value.now ∷ []) encoder.old result encoder.new }
+{
+    if value.is_null_field(index) {
+        encoder.write_null()
+    } else {
+        value.write_field(index, encoder)
+    }
+}
