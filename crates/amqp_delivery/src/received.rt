@@ -1,17 +1,9 @@
 //! The received state (Part 3, section 3.4.1).
-ghost use Rattle.std.specs.Prelude.{[], ◌∷◌, refl};
-ghost use Rattle.amqp_model.specs.FieldType.{normal};
-ghost use Rattle.amqp_codec.specs.Composite.{composite};
-ghost use Rattle.amqp_codec.specs.Reading.{reading_of, reads_terms};
-ghost use Rattle.amqp_codec.specs.Rewriting.{rewrites};
-ghost use Rattle.amqp_codec.specs.Ties.{tied, proper};
+ghost use Rattle.amqp_codec.specs.Types.{composite, one_term, refl, tied, writing_of};
 ghost use Rattle.amqp_delivery.specs.Tables.{received};
 
-use amqp_codec::kernel::{Composite, FieldKind, Table, fill, read_composite, write_composite};
-use amqp_codec::{
-    ByteSource, Canonical, Decoder, Deserialize, DeserializeTerm, Encoder, Error, Serialize,
-    SerializeTerm,
-};
+use amqp_codec::kernel::{Composite, CompositeTerm, FieldKind, Table, fill, write_composite};
+use amqp_codec::{ByteSource, Decoder, Encoder, Error, Serialize, SerializeTerm};
 use std::alloc::Global;
 
 /// How far a message was received: the section and the byte in it with which the sender may go on.
@@ -75,9 +67,7 @@ impl Composite for Received {
 }
 
 impl Serialize for Received {
-    ghost canons = { λ v. (composite received).canon v ∷ [] };
-
-    ghost is_value = { (composite received).is_value };
+    ghost writing = { writing_of (composite received) refl };
 
     fn serialize(&self, encoder: &mut Encoder) -> Result<(), Error> {
         write_composite(self, encoder)
@@ -87,43 +77,16 @@ impl Serialize for Received {
         self.section_number.in_type();
         self.section_offset.in_type();
     }
-
-    ghost proper = { proper (composite received) refl };
-}
-
-impl Deserialize for Received {
-    ghost reading = { reading_of (composite received) };
-
-    fn deserialize<R: ByteSource>(
-        decoder: &mut Decoder<R>,
-        alloc: Global,
-    ) -> Result<Received, Error> {
-        read_composite(decoder, alloc)
-    }
-}
-
-impl Canonical for Received {
-    ghost again = { normal (composite received).norm };
-
-    ghost is_least = { (composite received).is_least };
-
-    ghost rewrites = { rewrites (tied (composite received)) (proper (composite received) refl) };
 }
 
 impl SerializeTerm for Received {
-    ghost canon = { (composite received).canon };
-
     fn is_null(&self) -> bool {
         false
     }
 
-    ghost is_term = { λ v. refl };
+    ghost is_term = { one_term (composite received) refl };
 }
 
-impl DeserializeTerm for Received {
-    ghost term = { composite received };
-
-    ghost tied = { tied (composite received) };
-
-    ghost reads_terms = { reads_terms (composite received) };
+impl CompositeTerm for Received {
+    ghost agrees = { tied (composite received) refl };
 }

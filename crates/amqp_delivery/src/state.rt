@@ -1,17 +1,11 @@
 //! The state of a delivery (Part 3, section 3.4).
-ghost use Rattle.std.specs.Prelude.{◌≡◌, [], ◌∷◌, refl};
-ghost use Rattle.amqp_model.specs.FieldType.{normal};
-ghost use Rattle.amqp_codec.specs.Reading.{reading_of, reads_terms};
-ghost use Rattle.amqp_codec.specs.Rewriting.{rewrites};
-ghost use Rattle.amqp_codec.specs.Ties.{tied, proper};
-ghost use Rattle.amqp_delivery.specs.Tables.{delivery_state};
+ghost use Rattle.std.specs.Prelude.{◌≡◌};
+ghost use Rattle.amqp_codec.specs.Choices.{sum_one, sum_tied, sum_writing};
+ghost use Rattle.amqp_delivery.specs.Tables.{delivery_state, delivery_states};
 
-use crate::{Accepted, Received};
-use amqp_codec::kernel::{Sum, read_fields, read_sum};
-use amqp_codec::{
-    ByteSource, Canonical, Decoder, Deserialize, DeserializeTerm, Encoder, Error, Serialize,
-    SerializeTerm,
-};
+use crate::{Accepted, Received, Released};
+use amqp_codec::kernel::{Sum, is_null_sum, read_as, read_sum};
+use amqp_codec::{ByteSource, Decoder, DeserializeTerm, Encoder, Error, Serialize, SerializeTerm};
 use std::alloc::Global;
 
 /// The state of a delivery. Any other descriptor is refused by `WrongDescriptor`.
@@ -19,6 +13,7 @@ use std::alloc::Global;
 pub enum DeliveryState {
     Received(Received),
     Accepted(Accepted),
+    Released(Released),
 }
 
 impl From<Received> for DeliveryState {
@@ -41,17 +36,25 @@ impl From<Accepted> for DeliveryState {
     }
 }
 
+impl From<Released> for DeliveryState {
+    ghost use Rattle.amqp_delivery.specs.declared.state.DeliveryState.TheVariants as state;
+
+    ghost from_gives = { λ member sum. sum ≡ state.Released member };
+
+    fn from(released: Released) -> DeliveryState {
+        DeliveryState::Released(released)
+    }
+}
+
 impl Sum for DeliveryState {
-    ghost use Rattle.amqp_delivery.specs.Tables.{state_members, states_are_members};
-
-    ghost members = { state_members };
-
-    ghost means = { delivery_state.means };
-
-    ghost is_sum = { states_are_members };
+    ghost sum = { delivery_states };
 
     fn descriptors() -> &'static [(u64, &'static str)] {
-        &[Received::DESCRIPTOR, Accepted::DESCRIPTOR]
+        &[
+            Received::DESCRIPTOR,
+            Accepted::DESCRIPTOR,
+            Released::DESCRIPTOR,
+        ]
     }
 
     fn read_member<R: ByteSource>(
@@ -60,22 +63,22 @@ impl Sum for DeliveryState {
         alloc: Global,
     ) -> Result<DeliveryState, Error> {
         match place {
-            0 => Ok(DeliveryState::Received(read_fields(decoder, alloc)?)),
-            1 => Ok(DeliveryState::Accepted(read_fields(decoder, alloc)?)),
+            0 => read_as::<Received, _, _>(decoder, alloc),
+            1 => read_as::<Accepted, _, _>(decoder, alloc),
+            2 => read_as::<Released, _, _>(decoder, alloc),
             _ => Err(decoder.refuse(Error::WrongDescriptor)),
         }
     }
 }
 
 impl Serialize for DeliveryState {
-    ghost canons = { λ v. delivery_state.canon v ∷ [] };
-
-    ghost is_value = { delivery_state.is_value };
+    ghost writing = { sum_writing delivery_states };
 
     fn serialize(&self, encoder: &mut Encoder) -> Result<(), Error> {
         match self {
             DeliveryState::Received(received) => received.serialize(encoder),
             DeliveryState::Accepted(accepted) => accepted.serialize(encoder),
+            DeliveryState::Released(released) => released.serialize(encoder),
         }
     }
 
@@ -83,45 +86,28 @@ impl Serialize for DeliveryState {
         match self {
             DeliveryState::Received(received) => received.in_type(),
             DeliveryState::Accepted(accepted) => accepted.in_type(),
+            DeliveryState::Released(released) => released.in_type(),
         }
     }
-
-    ghost proper = { proper delivery_state refl };
-}
-
-impl Deserialize for DeliveryState {
-    ghost reading = { reading_of delivery_state };
-
-    fn deserialize<R: ByteSource>(
-        decoder: &mut Decoder<R>,
-        alloc: Global,
-    ) -> Result<DeliveryState, Error> {
-        read_sum(decoder, alloc)
-    }
-}
-
-impl Canonical for DeliveryState {
-    ghost again = { normal delivery_state.norm };
-
-    ghost is_least = { delivery_state.is_least };
-
-    ghost rewrites = { rewrites (tied delivery_state) (proper delivery_state refl) };
 }
 
 impl SerializeTerm for DeliveryState {
-    ghost canon = { delivery_state.canon };
-
     fn is_null(&self) -> bool {
-        false
+        is_null_sum(self)
     }
 
-    ghost is_term = { λ v. refl };
+    ghost is_term = { sum_one delivery_states };
 }
 
 impl DeserializeTerm for DeliveryState {
     ghost term = { delivery_state };
 
-    ghost tied = { tied delivery_state };
+    fn read_value<R: ByteSource>(
+        decoder: &mut Decoder<R>,
+        alloc: Global,
+    ) -> Result<DeliveryState, Error> {
+        read_sum(decoder, alloc)
+    }
 
-    ghost reads_terms = { reads_terms delivery_state };
+    ghost tied = { sum_tied delivery_states };
 }

@@ -7,7 +7,7 @@ use Rattle.memchr.specs.Find.{IsFirstByte, is_byte}
 use Rattle.amqp_lines.specs.Lines.{HasNo}
 use Rattle.amqp_lines.specs.Answers.{type_name, Asks, StandsFor}
 use Rattle.amqp_lines.specs.declared.request.TypeName.{TypeName}
-use Rattle.amqp_lines.specs.declared.request.TypeName.TheVariants.{Accepted, DeliveryState, Received}
+use Rattle.amqp_lines.specs.declared.request.TypeName.TheVariants.{Accepted, DeliveryState, Received, Released}
 use Rattle.amqp_lines.proofs.Pieces.{first_none, first_some}
 
 all_differ : ℕ → List ℕ → Bool
@@ -32,6 +32,7 @@ unfolding all_differ
 no_space Accepted = tested 32 (type_name Accepted) refl
 no_space DeliveryState = tested 32 (type_name DeliveryState) refl
 no_space Received = tested 32 (type_name Received) refl
+no_space Released = tested 32 (type_name Released) refl
 
 -- what stands before the first c
 split_once : (c : ℕ) (a b x y : List ℕ) → HasNo c a → HasNo c b → a ++ (c ∷ x) ≡ b ++ (c ∷ y) → (a ≡ b) × (x ≡ y)

@@ -8,13 +8,13 @@ use Rattle.amqp_codec.specs.TermType.{TermType}
 use Rattle.amqp_codec.specs.Composite.{composite}
 use Rattle.amqp_codec.specs.Reading.{reading_of, Unreadable}
 use Rattle.amqp_codec.specs.Rewritten.{IsRewritten, Unwritten}
-use Rattle.amqp_delivery.specs.Tables.{accepted, received, delivery_state}
+use Rattle.amqp_delivery.specs.Tables.{accepted, received, released, delivery_state}
 use Rattle.amqp_wire.specs.Error.{number_of, name_of}
 use Rattle.amqp_lines.specs.Lines.{TakesLine}
 use Rattle.amqp_lines.specs.declared.answer.Answer.{Answer}
 use Rattle.amqp_lines.specs.declared.answer.Answer.TheVariants.{Rewritten, Refused, NoRequest}
 use Rattle.amqp_lines.specs.declared.request.TypeName.{TypeName}
-use Rattle.amqp_lines.specs.declared.request.TypeName.TheVariants.{Accepted, DeliveryState, Received}
+use Rattle.amqp_lines.specs.declared.request.TypeName.TheVariants.{Accepted, DeliveryState, Received, Released}
 
 -- Memory ran out, or the reader or the writer failed.
 abbrev pub IsOutside : Error → Type 0
@@ -31,6 +31,7 @@ abbrev pub type_name : TypeName → List ℕ
 type_name Accepted = codes "accepted"
 type_name DeliveryState = codes "delivery-state"
 type_name Received = codes "received"
+type_name Released = codes "released"
 
 -- The digits stand for the bytes: an even, positive number of them, or `-` for none.
 abbrev pub StandsFor : List ℕ → List ℕ → Type 0
@@ -68,11 +69,13 @@ abbrev pub IsText : TypeName → List ℕ → List ℕ → ℕ → Type 0
 IsText Accepted = TextOf (composite accepted)
 IsText DeliveryState = TextOf delivery_state
 IsText Received = TextOf (composite received)
+IsText Released = TextOf (composite released)
 
 abbrev pub HasNoText : TypeName → List ℕ → Error → Type 0
 HasNoText Accepted = NoTextOf (composite accepted)
 HasNoText DeliveryState = NoTextOf delivery_state
 HasNoText Received = NoTextOf (composite received)
+HasNoText Released = NoTextOf (composite released)
 
 -- The line is answered so, and this says whether that is `ok`: by the canonical text and the number of the bytes behind
 -- the value, or by why there is none, which may be want of memory.

@@ -10,11 +10,11 @@ use std::alloc::Global;
 /// What a line is answered.
 #[derive(Drop)]
 pub(crate) enum Answer {
-    /// The canonical text, and how many bytes of the line's were left.
+    /// The value's canonical text, and how many of the line's bytes stand behind the value.
     Rewritten { text: Vec<u8>, left: usize },
-    /// Why there is no canonical text.
+    /// Why no value is read, or why it can't be written.
     Refused(Error),
-    /// The line has another form.
+    /// The line isn't of the form `<type> <hex>`.
     NoRequest,
 }
 
@@ -37,6 +37,7 @@ impl Answer {
         }
     }
 
+    /// Whether it begins with `ok`.
     pub(crate) fn is_ok(&self) -> bool
         ensures { result ≡ is_good self.now }
     {
@@ -46,7 +47,7 @@ impl Answer {
         }
     }
 
-    /// The answer as a line, with its line feed. The only error is want of memory.
+    /// The answer as it is printed, with its line feed. The only error is want of memory.
     pub(crate) fn printed(&self, alloc: Global) -> Result<String, Error>
         ensures printed { IfOk result (λ text. string_bytes text ≡ printed_of self.now) }
         ensures err { IfErr result (λ e. e ≡ Memory) }

@@ -1,4 +1,4 @@
-//! All lines of a reader.
+//! All lines of a reader, answered in order.
 ghost use Rattle.std.specs.Prelude.{◌≡◌, ◌<◌, ◌⊎◌, ℕ, List, length, take, IfOk, IfErr, IfSome, OnOk, OnErr};
 ghost use Rattle.std.specs.Io.KnownBytes.{Appends, Keeps};
 ghost use Rattle.amqp_lines.specs.Answers.{AreAnswers, IsAnswer, IsOutside, IsOverfull};
@@ -10,8 +10,15 @@ use fe2o3_amqp_types::codec::{Error, ReadSource};
 use std::alloc::Global;
 use std::io::{ErrorKind, Read, Write};
 
-/// Answers each line of the reader by a line to the writer, and answers whether all of them were `ok`.
-/// `Memory` where a line or its answer can't be held, `Read` where the reader or the writer fails, `TooLarge` past
+/// Answers each line of the reader by a line to the writer, in order, and answers whether every one of them is `ok`, as where
+/// there are no lines.
+///
+/// A line is `<type> <hex>`: the name of a type, one space, and an even, positive number of hexadecimal digits of either case, or
+/// `-` for no bytes. Lines end with a line feed, which the last may lack. The answer is `ok <hex> <left>`, with the canonical text of
+/// the type's value that the bytes begin with, in digits of lower case, and the number of bytes behind that value; or
+/// `no <number> <name>` of the error by which it isn't read or not written; or `no 0 Line` of a line of another form.
+///
+/// An error is `Memory` where a line or its answer can't be held, `Read` where the reader or the writer fails, or `TooLarge` past
 /// 2^64 - 1 lines; then nothing is said of what was written.
 pub fn run<R: Read + Drop, W: Write>(
     reader: R,
@@ -44,7 +51,7 @@ fn answer_line<W: Write>(line: &[u8], writer: &mut W, alloc: Global) -> Result<b
     Ok(answer.is_ok())
 }
 
-// Flushes the writer, which keeps what was written.
+// Flushes the writer. What was written stays as it is.
 fn flush<W: Write>(writer: &mut W) -> Result<(), Error>
     ensures kept { Keeps (W.contents writer.old) (W.contents writer.new) }
     ensures err { IfErr result IsOutside }
@@ -55,7 +62,7 @@ fn flush<W: Write>(writer: &mut W) -> Result<(), Error>
     }
 }
 
-// Writes all of the bytes. No kind of failure is tried again; a front of them was written then, and not all.
+// Writes all of the bytes. No kind of failure is tried again: after one, a front of the bytes was written, and not all.
 fn write_whole<W: Write>(writer: &mut W, bytes: &[u8]) -> Result<(), Error>
     ensures written { OnOk result (Appends (W.contents writer.old) (W.contents writer.new) bytes.now) }
     ensures part { OnErr result ((n : ℕ) × (n < length bytes.now) × Appends (W.contents writer.old) (W.contents writer.new) (take n bytes.now)) }

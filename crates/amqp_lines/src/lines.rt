@@ -1,4 +1,4 @@
-//! The lines of a source.
+//! The lines of a source, one after another.
 ghost use Rattle.std.specs.Prelude.{◌≡◌, ◌≤◌, ◌++◌, ◌∷◌, [], List, ℕ, false, true, length, IfOk, IfErr, IfSome, MatchOption, ◌<◌, ◌+◌, take};
 ghost use Rattle.std.specs.Io.KnownBytes.{Consumes, Keeps, IsAtEnd};
 ghost use Rattle.amqp_wire.specs.declared.error.Error.TheVariants.{Memory};
@@ -13,7 +13,7 @@ use std::marker::Model;
 /// The most bytes that are pulled at once.
 const PIECE: usize = 4096;
 
-/// The lines of a source, each ended by a line feed, which the last may lack.
+/// The lines of a source that are still to come, each ended by a line feed, which the last may lack.
 #[derive(Drop)]
 pub(crate) struct Lines<R: ByteSource> {
     source: R,
@@ -34,6 +34,7 @@ impl<R: ByteSource> Model for Lines<R> {
 }
 
 impl<R: ByteSource> Lines<R> {
+    /// The lines of what the source gives from here on.
     pub(crate) fn new(source: R) -> Self
         ensures { Keeps (R.remaining source) result }
     {
@@ -76,7 +77,7 @@ impl<R: ByteSource> Lines<R> {
         Ok(ended)
     }
 
-    /// The next line without its line feed, or `None` at the end of the source.
+    /// The next line, without its line feed, or `None` where the source has ended. An error is want of memory or the source's.
     pub(crate) fn next_line(&mut self, alloc: Global) -> Result<Option<Vec<u8>>, Error>
         ensures line { IfOk result (λ o. IfSome self.old (λ input. MatchOption self.new ⊥ (λ rest. MatchOption o (input ≡ []) (λ line. TakesLine input line.items rest)))) }
         ensures err { IfErr result IsOutside }

@@ -1,23 +1,25 @@
-//! One line that asks for the canonical text of a value.
+//! What a line asks for: the canonical text of a value of a type.
 ghost use Rattle.std.specs.Prelude.{◌≡◌, ◌≤◌, ◌⊎◌, ℕ, List, length, IfOk, IfErr, MatchOption};
 ghost use Rattle.amqp_wire.specs.declared.error.Error.TheVariants.{Memory};
 ghost use Rattle.amqp_lines.specs.Answers.{type_name, StandsFor, Asks, IsText, HasNoText};
 ghost use Rattle.amqp_lines.specs.declared.request.TypeName.{TypeName};
 
 use fe2o3_amqp_types::codec::{Error, canonical_text};
-use fe2o3_amqp_types::messaging::{Accepted, DeliveryState, Received};
+use fe2o3_amqp_types::messaging::{Accepted, DeliveryState, Received, Released};
 use memchr::memchr;
 use std::alloc::Global;
 
-/// A type by its name in a line.
+/// The types that a line may name.
 #[derive(Clone, Copy, Debug, PartialEq, Eq)]
 pub(crate) enum TypeName {
     Accepted,
     DeliveryState,
     Received,
+    Released,
 }
 
 impl TypeName {
+    /// The type that has this name in a line.
     fn from_bytes(name: &[u8]) -> Option<TypeName>
         ensures { MatchOption result ((named : TypeName) → type_name named ≡ name.now → ⊥) (λ named. type_name named ≡ name.now) }
     {
@@ -25,6 +27,7 @@ impl TypeName {
             b"accepted" => Some(TypeName::Accepted),
             b"delivery-state" => Some(TypeName::DeliveryState),
             b"received" => Some(TypeName::Received),
+            b"released" => Some(TypeName::Released),
             _ => None,
         }
     }
@@ -42,11 +45,12 @@ impl TypeName {
             TypeName::Accepted => canonical_text::<Accepted>(input, alloc),
             TypeName::DeliveryState => canonical_text::<DeliveryState>(input, alloc),
             TypeName::Received => canonical_text::<Received>(input, alloc),
+            TypeName::Released => canonical_text::<Released>(input, alloc),
         }
     }
 }
 
-/// A line `<type> <hex>`: the type, and the bytes.
+/// A line `<type> <hex>`: the type that it names, and the bytes that its digits stand for.
 #[derive(Drop)]
 pub(crate) struct Request {
     pub type_name: TypeName,

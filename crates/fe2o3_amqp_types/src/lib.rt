@@ -7,7 +7,7 @@ pub mod codec {
     pub use amqp_codec::{
         ByteSource, Canonical, Decoder, Descriptor, Deserialize, DeserializeTerm, Encoder, Error,
         ReadSource, Serialize, SerializeTerm, Symbol, append_to_vec, canonical_text, encoded_len,
-        from_reader, from_slice, from_slice_counted, to_vec,
+        from_reader, from_slice, from_slice_counted, kernel, to_vec,
     };
 }
 
@@ -22,7 +22,13 @@ pub mod primitives {
     pub type Ulong = u64;
 }
 
+/// The types of links and sessions (Part 2).
+pub mod definitions {
+    pub use amqp_definitions::{ReceiverSettleMode, Role, SenderSettleMode};
+}
+
 /// The types of messaging (Part 3).
 pub mod messaging {
-    pub use amqp_delivery::{Accepted, DeliveryState, Received};
+    pub use amqp_definitions::{TerminusDurability, TerminusExpiryPolicy};
+    pub use amqp_delivery::{Accepted, DeliveryState, Received, Released};
 }

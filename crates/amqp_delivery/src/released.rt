@@ -1,0 +1,70 @@
+//! The released outcome (Part 3, section 3.4.4).
+ghost use Rattle.amqp_codec.specs.Types.{composite, one_term, refl, tied, writing_of};
+ghost use Rattle.amqp_delivery.specs.Tables.{released};
+
+use amqp_codec::kernel::{Composite, CompositeTerm, Table, write_composite};
+use amqp_codec::{ByteSource, Decoder, Encoder, Error, Serialize, SerializeTerm};
+use std::alloc::Global;
+
+/// The delivery was not and will not be processed. Its message may be delivered again.
+#[derive(Clone, Debug, PartialEq, Eq, Drop)]
+pub struct Released {}
+
+impl Released {
+    /// The code and the name of its descriptor.
+    pub const DESCRIPTOR: (u64, &'static str) = (0x26, "amqp:released:list");
+}
+
+impl Composite for Released {
+    ghost table = { released };
+
+    fn table() -> Table {
+        Table {
+            descriptor: Released::DESCRIPTOR,
+            fields: &[],
+        }
+    }
+
+    fn blank(_alloc: Global) -> Released {
+        Released {}
+    }
+
+    fn fill_field<R: ByteSource>(
+        &mut self,
+        _index: usize,
+        decoder: &mut Decoder<R>,
+        _alloc: Global,
+    ) -> Result<(), Error> {
+        Err(decoder.refuse(Error::Surplus))
+    }
+
+    fn is_null_field(&self, _index: usize) -> bool {
+        true
+    }
+
+    fn write_field(&self, _index: usize, encoder: &mut Encoder) -> Result<(), Error> {
+        encoder.check()
+    }
+}
+
+impl Serialize for Released {
+    ghost writing = { writing_of (composite released) refl };
+
+    fn serialize(&self, encoder: &mut Encoder) -> Result<(), Error> {
+        write_composite(self, encoder)
+    }
+
+    fn in_type(&self) {}
+}
+
+impl SerializeTerm for Released {
+    fn is_null(&self) -> bool {
+        false
+    }
+
+    ghost is_term = { one_term (composite released) refl };
+}
+
+impl CompositeTerm for Released {
+    ghost agrees = { tied (composite released) refl };
+}
