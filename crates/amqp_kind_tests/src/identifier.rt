@@ -1,15 +1,11 @@
 //! A type of a user's own, which is a sum by kind: an identifier, which is a ulong or a symbol.
-ghost use Rattle.std.specs.Prelude.{[], ◌∷◌, refl};
-ghost use Rattle.amqp_model.specs.FieldType.{normal};
-ghost use Rattle.amqp_codec.specs.Reading.{reading_of, reads_terms};
-ghost use Rattle.amqp_codec.specs.Rewriting.{rewrites};
-ghost use Rattle.amqp_codec.specs.Ties.{tied, proper};
+ghost use Rattle.std.specs.Prelude.{refl};
+ghost use Rattle.amqp_codec.specs.Ties.{one_term, tied, writing_of};
 ghost use Rattle.amqp_kind_tests.specs.IdentifierType.{identifier_type};
 
 use amqp_wire::format_code;
 use fe2o3_amqp_types::codec::{
-    ByteSource, Canonical, Decoder, Deserialize, DeserializeTerm, Encoder, Error, Serialize,
-    SerializeTerm, Symbol,
+    ByteSource, Decoder, DeserializeTerm, Encoder, Error, Serialize, SerializeTerm, Symbol,
 };
 use std::alloc::Global;
 
@@ -21,9 +17,7 @@ pub enum Identifier {
 }
 
 impl Serialize for Identifier {
-    ghost canons = { λ v. identifier_type.canon v ∷ [] };
-
-    ghost is_value = { identifier_type.is_value };
+    ghost writing = { writing_of identifier_type refl };
 
     fn serialize(&self, encoder: &mut Encoder) -> Result<(), Error> {
         match self {
@@ -38,50 +32,32 @@ impl Serialize for Identifier {
             Identifier::Name(name) => name.in_type(),
         }
     }
-
-    ghost proper = { proper identifier_type refl };
-}
-
-impl Deserialize for Identifier {
-    ghost reading = { reading_of identifier_type };
-
-    fn deserialize<R: ByteSource>(
-        decoder: &mut Decoder<R>,
-        alloc: Global,
-    ) -> Result<Identifier, Error> {
-        match decoder.peek_code()? {
-            format_code::ULONG_0 | format_code::SMALL_ULONG | format_code::ULONG => {
-                Ok(Identifier::Number(u64::deserialize(decoder, alloc)?))
-            }
-            _ => Ok(Identifier::Name(Symbol::deserialize(decoder, alloc)?)),
-        }
-    }
-}
-
-impl Canonical for Identifier {
-    ghost again = { normal identifier_type.norm };
-
-    ghost is_least = { identifier_type.is_least };
-
-    ghost rewrites = { rewrites (tied identifier_type) (proper identifier_type refl) };
 }
 
 impl SerializeTerm for Identifier {
-    ghost canon = { identifier_type.canon };
-
     fn is_null(&self) -> bool {
         false
     }
 
-    ghost is_term = { λ v. refl };
+    ghost is_term = { one_term identifier_type refl };
 }
 
 impl DeserializeTerm for Identifier {
     ghost term = { identifier_type };
 
-    ghost tied = { tied identifier_type };
+    fn read_value<R: ByteSource>(
+        decoder: &mut Decoder<R>,
+        alloc: Global,
+    ) -> Result<Identifier, Error> {
+        match decoder.peek_code()? {
+            format_code::ULONG_0 | format_code::SMALL_ULONG | format_code::ULONG => {
+                Ok(Identifier::Number(u64::read_value(decoder, alloc)?))
+            }
+            _ => Ok(Identifier::Name(Symbol::read_value(decoder, alloc)?)),
+        }
+    }
 
-    ghost reads_terms = { reads_terms identifier_type };
+    ghost tied = { tied identifier_type refl };
 }
 
 #[cfg(test)]

@@ -1,15 +1,9 @@
-//! Worked rows of the delivery states.
-use fe2o3_amqp_types::codec::{Canonical, Deserialize, Error, canonical_text, from_slice, to_vec};
-use fe2o3_amqp_types::messaging::{Accepted, DeliveryState, Received};
+//! Worked rows of the delivery states: values and codes in errors by calls, and the rest as lines of the program.
+use amqp_lines::run;
+use fe2o3_amqp_types::codec::{Deserialize, Error, from_slice, to_vec};
+use fe2o3_amqp_types::messaging::{Accepted, DeliveryState, Received, Released};
 use std::alloc::Global;
 use std::test::Fail;
-
-// Reads the bytes as a value of T, and answers what they are rewritten as.
-fn rewritten<T: Canonical>(digits: &str, alloc: Global) -> Result<(String, usize), Fail> {
-    let input = hex::decode(alloc, digits)?;
-    let (text, len) = canonical_text::<T>(input.as_slice(), alloc)?;
-    Ok((hex::encode(alloc, text)?, len))
-}
 
 fn refusal<T: Deserialize>(digits: &str, alloc: Global) -> Result<Option<Error>, Fail> {
     let input = hex::decode(alloc, digits)?;
@@ -17,20 +11,71 @@ fn refusal<T: Deserialize>(digits: &str, alloc: Global) -> Result<Option<Error>,
     Ok(read.err())
 }
 
+/// Inputs of the program.
+const LINES: &str = "\
+    accepted 005324c00000\n\
+    accepted 005324d00000000000000000\n\
+    accepted 0080000000000000002445\n\
+    accepted 00a312616d71703a61636365707465643a6c697374c00100\n\
+    accepted 00b300000012616d71703a61636365707465643a6c69737445\n\
+    accepted 00532445\n\
+    accepted -\n\
+    accepted 00532545\n\
+    accepted 004145\n\
+    accepted 005324c0020140\n\
+    accepted 00a302c3a945\n\
+    accepted 00a303616d7145\n\
+    accepted 00a313616d71703a61636365707465643a6c697374\n\
+    accepted 005324c00001\n\
+    accepted 005324d00000000300\n\
+    accepted 005324d000000003000000\n\
+    accepted 005324d00000000200000000\n\
+    accepted 005324d0ffffffff00000000\n\
+    received 005323c00502520953\n\
+    received 005323c006025209530d40\n\
+    received 005323c003015209\n\
+    received 005323c00402405309\n\
+    received 00532345\n\
+    delivery-state 00532545\n";
+
+/// What it answers to each in turn.
+const ANSWERS: &str = "\
+    ok 00532445 0\n\
+    ok 00532445 0\n\
+    ok 00532445 0\n\
+    ok 00532445 0\n\
+    ok 00532445 0\n\
+    ok 00532445 0\n\
+    no 1 Cut\n\
+    no 9 WrongDescriptor\n\
+    no 28 BadDescriptor\n\
+    no 7 Surplus\n\
+    no 15 NonAscii\n\
+    no 9 WrongDescriptor\n\
+    no 1 Cut\n\
+    no 4 Size\n\
+    no 1 Cut\n\
+    no 4 Size\n\
+    no 4 Size\n\
+    no 1 Cut\n\
+    no 1 Cut\n\
+    no 4 Size\n\
+    no 8 Missing\n\
+    no 8 Missing\n\
+    no 8 Missing\n\
+    no 9 WrongDescriptor\n";
+
 #[test]
-fn accepted_in_every_spelling(rt: HostRuntime) -> Result<(), Fail> {
-    for digits in [
-        "005324c00000",
-        "005324d00000000000000000",
-        "0080000000000000002445",
-        "00a312616d71703a61636365707465643a6c697374c00100",
-        "00b300000012616d71703a61636365707465643a6c69737445",
-        "00532445",
-    ] {
-        let (text, len) = rewritten::<Accepted>(digits, rt.alloc())?;
-        assert_eq!(rt; text.as_str(), "00532445", "of {digits}");
-        assert_eq!(rt; len, digits.len() / 2, "of {digits}");
-    }
+fn lines_of_the_program(rt: HostRuntime) -> Result<(), Fail> {
+    let mut output = Vec::new(rt.alloc());
+    run(LINES.as_bytes(), &mut output, rt.alloc())?;
+    let output = String::from_utf8(output)?;
+    assert_eq!(rt; output.as_str(), ANSWERS);
+    Ok(())
+}
+
+#[test]
+fn accepted_is_written(rt: HostRuntime) -> Result<(), Fail> {
     let text = to_vec(&Accepted {}, rt.alloc())?;
     assert_eq!(rt; text.as_slice(), [0x00, 0x53, 0x24, 0x45].as_slice());
     Ok(())
@@ -56,42 +101,32 @@ fn received_both_ways(rt: HostRuntime) -> Result<(), Fail> {
 }
 
 #[test]
-fn refusals(rt: HostRuntime) -> Result<(), Fail> {
+fn released_both_ways(rt: HostRuntime) -> Result<(), Fail> {
+    let text = to_vec(&Released {}, rt.alloc())?;
+    assert_eq!(rt; text.as_slice(), [0x00, 0x53, 0x26, 0x45].as_slice());
+    let read: Released = from_slice(text.as_slice(), rt.alloc())?;
+    assert_eq!(rt; read, Released {});
+    let state: DeliveryState = from_slice(text.as_slice(), rt.alloc())?;
+    assert_eq!(rt; state, DeliveryState::from(Released {}));
+    let again = to_vec(&state, rt.alloc())?;
+    assert_eq!(rt; again, text);
+    Ok(())
+}
+
+#[test]
+fn refused_codes(rt: HostRuntime) -> Result<(), Fail> {
     for (digits, error) in [
-        ("", Error::Cut),
         ("00532400532445", Error::WrongType(0)),
-        ("00532545", Error::WrongDescriptor),
-        ("004145", Error::BadDescriptor),
-        ("005324c0020140", Error::Surplus),
         ("40", Error::WrongType(0x40)),
         ("99", Error::UnknownCode(0x99)),
         ("7200000000", Error::FloatCode(0x72)),
         ("008245", Error::FloatCode(0x82)),
         ("009945", Error::UnknownCode(0x99)),
-        ("00a302c3a945", Error::NonAscii),
-        ("00a303616d7145", Error::WrongDescriptor),
-        ("00a313616d71703a61636365707465643a6c697374", Error::Cut),
-        ("005324c00001", Error::Size),
-        ("005324d00000000300", Error::Cut),
-        ("005324d000000003000000", Error::Size),
-        ("005324d00000000200000000", Error::Size),
-        ("005324d0ffffffff00000000", Error::Cut),
     ] {
         let refused = refusal::<Accepted>(digits, rt.alloc())?;
         assert_eq!(rt; refused, Some(error), "of {digits}");
     }
-    for (digits, error) in [
-        ("005323c00502520953", Error::Cut),
-        ("005323c006025209530d40", Error::Size),
-        ("005323c003015209", Error::Missing),
-        ("005323c00402405309", Error::Missing),
-        ("00532345", Error::Missing),
-        ("005323c0050253095209", Error::WrongType(0x53)),
-    ] {
-        let refused = refusal::<Received>(digits, rt.alloc())?;
-        assert_eq!(rt; refused, Some(error), "of {digits}");
-    }
-    let refused = refusal::<DeliveryState>("00532545", rt.alloc())?;
-    assert_eq!(rt; refused, Some(Error::WrongDescriptor));
+    let refused = refusal::<Received>("005323c0050253095209", rt.alloc())?;
+    assert_eq!(rt; refused, Some(Error::WrongType(0x53)));
     Ok(())
 }

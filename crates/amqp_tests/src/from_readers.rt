@@ -1,6 +1,6 @@
 //! Values from readers: over a slice, over a reader that gives one byte a call, and over one that fails at its k-th call
 //! for every k.
-use crate::reading::Dripping;
+use amqp_reading_tests::Dripping;
 use fe2o3_amqp_types::codec::{Deserialize, Error, from_reader};
 use fe2o3_amqp_types::messaging::{Accepted, DeliveryState, Received};
 use std::alloc::Global;

@@ -1,4 +1,4 @@
-//! Tests that cross crates: worked rows, and the program's engine over readers and writers.
+//! Tests that cross crates: worked rows of the types, and the program's engine over readers and writers.
 #![tactic(auto)]
 
 #[cfg(test)]
@@ -6,15 +6,11 @@ mod appending;
 #[cfg(test)]
 mod delivery;
 #[cfg(test)]
+mod first_look;
+#[cfg(test)]
 mod from_readers;
 #[cfg(test)]
 mod lines;
-#[cfg(test)]
-mod reading;
-#[cfg(test)]
-mod reading_calls;
 pub mod user_type;
 #[cfg(test)]
 mod wire;
-#[cfg(test)]
-mod writing;

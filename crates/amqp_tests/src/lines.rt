@@ -66,6 +66,45 @@ fn refusals_and_digits(rt: HostRuntime) -> Result<(), Fail> {
     Ok(())
 }
 
+#[test]
+fn released_by_code_and_by_name(rt: HostRuntime) -> Result<(), Fail> {
+    for (input, want) in [
+        ("released 005326c00000", "ok 00532645 0\n"),
+        ("released 00532645ff\n", "ok 00532645 1\n"),
+        (
+            "released 0080000000000000002645\nreleased 00a312616d71703a72656c65617365643a6c697374c00100",
+            "ok 00532645 0\nok 00532645 0\n",
+        ),
+        (
+            "delivery-state 005326d00000000400000000\ndelivery-state 00532645",
+            "ok 00532645 0\nok 00532645 0\n",
+        ),
+        (
+            "delivery-state 00a312616d71703a72656c65617365643a6c69737445",
+            "ok 00532645 0\n",
+        ),
+        (
+            "delivery-state 00b300000012616d71703a72656c65617365643a6c69737445",
+            "ok 00532645 0\n",
+        ),
+        ("released 005326c0020140", "no 7 Surplus\n"),
+        ("delivery-state 005326c0020140", "no 7 Surplus\n"),
+        (
+            "released 00532445\naccepted 00532645",
+            "no 9 WrongDescriptor\nno 9 WrongDescriptor\n",
+        ),
+        (
+            "delivery-state 00a312616d71703a52656c65617365643a6c69737445",
+            "no 9 WrongDescriptor\n",
+        ),
+    ] {
+        let mut output = Vec::new(rt.alloc());
+        run(input.as_bytes(), &mut output, rt.alloc())?;
+        assert_eq!(rt; output.as_slice(), want.as_bytes(), "of {input}");
+    }
+    Ok(())
+}
+
 // Gives one byte a call, and fails once none is left.
 #[derive(Drop)]
 struct OneByOne<'a> {

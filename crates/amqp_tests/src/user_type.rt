@@ -1,13 +1,9 @@
-//! A type of a user's own, by hand against the calls: a duration, which is written as a list of one uint.
-ghost use Rattle.std.specs.Prelude.{[], ◌∷◌, refl};
-ghost use Rattle.amqp_codec.specs.Reading.{reading_of, reads_terms};
-ghost use Rattle.amqp_codec.specs.Rewriting.{rewrites};
-ghost use Rattle.amqp_codec.specs.Ties.{tied, proper};
-ghost use Rattle.amqp_tests.specs.SecondsType.{seconds_type};
+//! A type of a user's own: a duration, which is written as a list of one uint.
+ghost use Rattle.amqp_codec.specs.Types.{field, list_of, mandatory, none, one_term, plain, refl, tied, uint_type, writing_of};
 
+use fe2o3_amqp_types::codec::kernel::{FieldKind, FieldList, fill, read_list, write_list};
 use fe2o3_amqp_types::codec::{
-    ByteSource, Canonical, Decoder, Deserialize, DeserializeTerm, Encoder, Error, Serialize,
-    SerializeTerm,
+    ByteSource, Decoder, DeserializeTerm, Encoder, Error, Serialize, SerializeTerm,
 };
 use std::alloc::Global;
 
@@ -17,62 +13,63 @@ pub struct Seconds {
     pub count: u32,
 }
 
-impl Serialize for Seconds {
-    ghost canons = { λ v. seconds_type.canon v ∷ [] };
+impl FieldList for Seconds {
+    ghost list = { record { fields = field (λ v. v.count) (mandatory uint_type refl refl) none; norm = plain; norm_is = λ v. (refl, tt) } };
 
-    ghost is_value = { seconds_type.is_value };
+    fn kinds() -> &'static [FieldKind] {
+        &[FieldKind::Mandatory]
+    }
+
+    fn blank(_alloc: Global) -> Seconds {
+        Seconds { count: 0 }
+    }
+
+    fn fill_field<R: ByteSource>(
+        &mut self,
+        _index: usize,
+        decoder: &mut Decoder<R>,
+        alloc: Global,
+    ) -> Result<(), Error> {
+        fill(&mut self.count, decoder, alloc)
+    }
+
+    fn is_null_field(&self, _index: usize) -> bool {
+        false
+    }
+
+    fn write_field(&self, _index: usize, encoder: &mut Encoder) -> Result<(), Error> {
+        self.count.serialize(encoder)
+    }
+}
+
+impl Serialize for Seconds {
+    ghost writing = { writing_of (list_of ⟦<Seconds as FieldList>⟧.list) refl };
 
     fn serialize(&self, encoder: &mut Encoder) -> Result<(), Error> {
-        encoder.begin_list()?;
-        encoder.write_uint(self.count)?;
-        encoder.end_list()
+        write_list(self, encoder)
     }
 
     fn in_type(&self) {
-        let _count = self.count;
+        self.count.in_type();
     }
-
-    ghost proper = { proper seconds_type refl };
-}
-
-impl Deserialize for Seconds {
-    ghost reading = { reading_of seconds_type };
-
-    fn deserialize<R: ByteSource>(
-        decoder: &mut Decoder<R>,
-        _alloc: Global,
-    ) -> Result<Seconds, Error> {
-        decoder.begin_list()?;
-        let count = decoder.read_uint()?;
-        decoder.end_list()?;
-        Ok(Seconds { count })
-    }
-}
-
-impl Canonical for Seconds {
-    ghost again = { λ v. v };
-
-    ghost is_least = { seconds_type.is_least };
-
-    ghost rewrites = { rewrites (tied seconds_type) (proper seconds_type refl) };
 }
 
 impl SerializeTerm for Seconds {
-    ghost canon = { seconds_type.canon };
-
     fn is_null(&self) -> bool {
         false
     }
 
-    ghost is_term = { λ v. refl };
+    ghost is_term = { one_term (list_of ⟦<Seconds as FieldList>⟧.list) refl };
 }
 
 impl DeserializeTerm for Seconds {
-    ghost term = { seconds_type };
+    ghost term = { list_of ⟦<Seconds as FieldList>⟧.list };
 
-    ghost tied = { tied seconds_type };
+    fn read_value<R: ByteSource>(decoder: &mut Decoder<R>, alloc: Global) -> Result<Self, Error> {
+        read_list(decoder, alloc)
+    }
 
-    ghost reads_terms = { reads_terms seconds_type };
+    ghost tied = { tied (list_of ⟦<Seconds as FieldList>⟧.list) refl };
 }
 
 #[cfg(test)]

@@ -1,0 +1,12 @@
+//! Tests of the decoder: worked rows, each over several sources, and each call that reads.
+#![tactic(auto)]
+
+mod dripping;
+#[cfg(test)]
+mod reading;
+#[cfg(test)]
+mod reading_calls;
+#[cfg(test)]
+mod steps;
+
+pub use dripping::Dripping;

@@ -1,0 +1,109 @@
+//! The calls of a decoder, and what each answers, as steps.
+use amqp_decoder::Decoder;
+use amqp_wire::Error;
+use std::alloc::Global;
+use std::test::Fail;
+
+/// One call of a decoder, and what it answers.
+#[derive(Clone, Copy)]
+pub(crate) enum Step {
+    Null,
+    Bool(bool),
+    Ubyte(u8),
+    Ushort(u16),
+    Uint(u32),
+    Ulong(u64),
+    Byte(i8),
+    Short(i16),
+    Int(i32),
+    Long(i64),
+    Dec32([u8; 4]),
+    Dec64([u8; 8]),
+    Dec128([u8; 16]),
+    Char(char),
+    Timestamp(i64),
+    Uuid([u8; 16]),
+    Term,
+    BeginList(u32),
+    EndList,
+    EndMap,
+    BeginArray(u32),
+    /// A value that this code describes.
+    BeginDescribed(u64),
+    EndDescribed,
+    PeekCode(u8),
+    PeekSection(Option<u8>),
+    AtEnd(bool),
+    Check,
+}
+
+// Whether the step's number is read.
+fn is_number(decoder: &mut Decoder<&[u8]>, step: Step) -> Result<bool, Error> {
+    match step {
+        Step::Ubyte(value) => Ok(decoder.read_ubyte()? == value),
+        Step::Ushort(value) => Ok(decoder.read_ushort()? == value),
+        Step::Uint(value) => Ok(decoder.read_uint()? == value),
+        Step::Ulong(value) => Ok(decoder.read_ulong()? == value),
+        Step::Byte(value) => Ok(decoder.read_byte()? == value),
+        Step::Short(value) => Ok(decoder.read_short()? == value),
+        Step::Int(value) => Ok(decoder.read_int()? == value),
+        Step::Long(value) => Ok(decoder.read_long()? == value),
+        Step::Timestamp(value) => Ok(decoder.read_timestamp()? == value),
+        _ => Ok(false),
+    }
+}
+
+// Whether the step's other primitive is read.
+fn is_primitive(decoder: &mut Decoder<&[u8]>, step: Step) -> Result<bool, Error> {
+    match step {
+        Step::Null => decoder.read_null().map(|()| true),
+        Step::Bool(value) => Ok(decoder.read_bool()? == value),
+        Step::Dec32(value) => Ok(decoder.read_dec32()? == value),
+        Step::Dec64(value) => Ok(decoder.read_dec64()? == value),
+        Step::Dec128(value) => Ok(decoder.read_dec128()? == value),
+        Step::Char(value) => Ok(decoder.read_char()? == value),
+        Step::Uuid(value) => Ok(decoder.read_uuid()? == value),
+        _ => is_number(decoder, step),
+    }
+}
+
+// Whether the step is answered so.
+fn is_answered(decoder: &mut Decoder<&[u8]>, step: Step, alloc: Global) -> Result<bool, Error> {
+    match step {
+        Step::Term => Ok(!decoder.read_term(alloc)?.is_empty()),
+        Step::BeginList(count) => Ok(decoder.begin_list()? == count),
+        Step::EndList => decoder.end_list().map(|()| true),
+        Step::EndMap => decoder.end_map().map(|()| true),
+        Step::BeginArray(count) => Ok(decoder.begin_array(alloc)? == count),
+        Step::BeginDescribed(code) => Ok(decoder.begin_one_of(&[(code, "of no name")])? == 0),
+        Step::EndDescribed => decoder.end_described().map(|()| true),
+        Step::PeekCode(code) => Ok(decoder.peek_code()? == code),
+        Step::PeekSection(section) => Ok(decoder.peek_section()? == section),
+        Step::AtEnd(ends) => Ok(decoder.at_end()? == ends),
+        Step::Check => decoder.check().map(|()| true),
+        _ => is_primitive(decoder, step),
+    }
+}
+
+/// Over these bytes the steps are answered in turn, and then each of the others is refused by this error.
+pub(crate) fn check(
+    digits: &str,
+    steps: &[Step],
+    refused: &[Step],
+    error: Error,
+    alloc: Global,
+) -> Result<(), Fail> {
+    let input = hex::decode(alloc, digits)?;
+    let mut decoder = Decoder::new(input.as_slice(), alloc);
+    for (index, step) in steps.iter().enumerate() {
+        if is_answered(&mut decoder, *step, alloc) != Ok(true) {
+            return Err(Fail::new(format_args!("step {index} over {digits}")));
+        }
+    }
+    for (index, step) in refused.iter().enumerate() {
+        if is_answered(&mut decoder, *step, alloc) != Err(error) {
+            return Err(Fail::new(format_args!("refusal {index} over {digits}")));
+        }
+    }
+    Ok(())
+}
