@@ -2,12 +2,12 @@
 use Rattle.std.proofs.Common.{◌≡◌, inl, inr, ℕ, ◌≤◌, max, Bool, true, false, cond, List, [], refl, ap, subst, arith}
 use Rattle.std.specs.Str.{bytes_eq}
 use Rattle.std.proofs.lemmas.Slice.Eq.{bytes_eq-Decides}
-use Rattle.amqp_model.specs.Term.{lazy_in_array, Term, Terms, leaf, holder, described, kept, barred, none, more}
+use Rattle.amqp_model.specs.Term.{lazy_in_array, Term, Terms, leaf, container, described, kept, barred, none, more}
 use Rattle.amqp_model.specs.Spelling.{enc}
 use Rattle.amqp_model.specs.Measures.{nest, nests}
 use Rattle.amqp_model.specs.Ranges.{Everywhere, EverywhereIn}
 use Rattle.amqp_model.specs.Refusals.{SomewhereIn, HasKeptItem, IsRefused}
-use Rattle.amqp_model.specs.Kept.{ReadsEach}
+use Rattle.amqp_model.specs.Kept.{EachExpandsTo}
 use Rattle.amqp_model.specs.Items.{terms_of}
 use Rattle.amqp_model.proofs.Unique.{one_term}
 use Rattle.amqp_wire.specs.declared.error.Error.{Error}
@@ -18,7 +18,7 @@ use Rattle.amqp_encoder.specs.Refused.{KnowsDepth, KnowDepths}
 use Rattle.amqp_encoder.proofs.Rows.{somewhere_in_as}
 use Rattle.amqp_encoder.proofs.Refused.{none_deeper, all_as_deep}
 use Rattle.amqp_codec.specs.Written.{IsProper, AreProper, AreUnwritable, AreWritable}
-use Rattle.amqp_codec.specs.Proper.{everywhere_as, everywhere_in_as, proper_reads_each}
+use Rattle.amqp_codec.specs.ProperLaws.{everywhere_as, everywhere_in_as, proper_reads_each}
 
 -- no depth is too great
 abbrev IsSafe : (List ℕ → ℕ) → Type 0
@@ -26,7 +26,7 @@ IsSafe deep = (b : List ℕ) (t : Term) → enc b t → deep b ≤ nest t
 
 raised : (f g : List ℕ → ℕ) → ((b : List ℕ) → f b ≤ g b) → IsSafe g → (t : Term) → KnowsDepth f t → KnowsDepth g t
 raised f g l s (leaf p) h = tt
-raised f g l s (holder k ts) h = tt
+raised f g l s (container k ts) h = tt
 raised f g l s (described d t) h = tt
 raised f g l s (kept b) h = λ t e. omega (arith, h t e, l b, s b t e)
 raised f g l s (barred r) h = tt
@@ -48,7 +48,7 @@ at_itself b t u h k = rw ((bytes_eq-Decides b b).1 refl) (ap nest (same_term b t
 mutual
   depth : (t : Term) → Everywhere IsProper t → (deep : List ℕ → ℕ) × IsSafe deep × Everywhere (KnowsDepth deep) t
   depth (leaf p) h = (λ b. 0, (λ b t e. omega arith), tt)
-  depth (holder k ts) h = let d = depths_in ts h.1 in (d.0, d.1, (tt, d.2))
+  depth (container k ts) h = let d = depths_in ts h.1 in (d.0, d.1, (tt, d.2))
   depth (described d t) h = let x = depth t h.1 in (x.0, x.1, (tt, x.2))
   depth (kept b) h = (depth_at b (nest h.0), (λ c u e. at_least b c h.0 u (bytes_eq b c) refl h.1 e), λ u e. at_itself b h.0 u h.1 e)
   depth (barred r) h = (λ b. 0, (λ b t e. omega arith), tt)
@@ -76,7 +76,7 @@ is_lazy t h = inr h
 
 module _ (deep : List ℕ → ℕ) where
   -- terms are as deep as what they read as, where no array has an item that is kept
-  read_nests : (us ts : Terms) → ReadsEach us ts → EverywhereIn (KnowsDepth deep) us → (SomewhereIn (IsRefused lazy_in_array) us → ⊥) → nests ts ≤ nests_by deep us
+  read_nests : (us ts : Terms) → EachExpandsTo us ts → EverywhereIn (KnowsDepth deep) us → (SomewhereIn (IsRefused lazy_in_array) us → ⊥) → nests ts ≤ nests_by deep us
   read_nests us ts r h f = elim (all_as_deep deep us ts h r) [ inl l ↦ l | inr k ↦ absurd (f (somewhere_in_as HasKeptItem (IsRefused lazy_in_array) is_lazy us k)) ]
 
   -- an encoder's reasons are those of the terms

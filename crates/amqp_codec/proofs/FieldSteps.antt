@@ -7,23 +7,23 @@ use Rattle.amqp_model.specs.Slot.{is_required}
 use Rattle.amqp_model.specs.Fields.{Fits, kinds_of}
 use Rattle.amqp_model.specs.declared.tables.FieldKind.TheVariants.{Mandatory}
 use Rattle.amqp_wire.specs.declared.error.Error.{Error}
-use Rattle.amqp_decoder.specs.declared.frame.Place.TheVariants.{InList}
-use Rattle.amqp_decoder.specs.State.{State, past}
+use Rattle.amqp_decoder.specs.declared.frame.OpenKind.TheVariants.{InList}
+use Rattle.amqp_decoder.specs.State.{State, after_value}
 use Rattle.amqp_decoder.specs.Items.{Row}
-use Rattle.amqp_decoder.proofs.Holders.{Together, together, used_up, row_joined, row_of_one}
+use Rattle.amqp_decoder.proofs.ContainerTerms.{Together, together, used_up, row_joined, row_of_one}
 use Rattle.amqp_decoder.proofs.OneReading.{stands_same, row_front}
 use Rattle.amqp_decoder.proofs.Opening.{opens_same}
 use Rattle.amqp_decoder.proofs.Peeks.{value-peeked}
-use Rattle.amqp_decoder.specs.Reading.{Refused, BeginFault, Peeked}
-use Rattle.amqp_decoder.specs.Primitives.{standing, Value, Means}
+use Rattle.amqp_decoder.specs.Reading.{RefusesRead, BeginFault, PeeksCode}
+use Rattle.amqp_decoder.specs.Primitives.{standing, ReadsValue, Means}
 use Rattle.amqp_decoder.specs.Containers.{Opens, OpenFault, Closes, CloseFault}
 use Rattle.amqp_decoder.proofs.Steps.{answered_later}
-use Rattle.amqp_decoder.specs.Steps.{Answered}
+use Rattle.amqp_decoder.specs.Steps.{Answers}
 use Rattle.amqp_encoder.proofs.Refused.{count_of}
 use Rattle.amqp_codec.specs.Fields.{Fields, slots, take_memory}
 use Rattle.amqp_codec.specs.FieldReading.{absence, absent, MeansAt, FaultAt, FitsFront, KeepsBut, FitsAt, ItemRead, ItemFault, no_item, null_item, in_item, FieldsSoFar, FieldsRead, FieldsFault, FillsField, ReadsItem, filled_at, unfilled_at, no_list, at_item, left_out, not_ended, kind_at, front_null, front_filled, front_missing, front_end, front_start, fits_value, fits_null, fits_few, IsBlank}
-use Rattle.amqp_codec.specs.Refused.{no_memory, opened_going, opened_sound, refused_first, refused_later}
-use Rattle.amqp_codec.specs.Peeks.{peeked_failed, peeked_going, not_null, value_peeked}
+use Rattle.amqp_codec.specs.RefusalLaws.{no_memory, opened_going, opened_sound, refused_first, refused_later}
+use Rattle.amqp_codec.specs.PeekLaws.{peeked_failed, peeked_going, not_null, value_peeked}
 
 the_item : (ts us : List Term) (t : Term) (rest : List Term) (n : ℕ) → length ts ≡ n → us ≡ ts ++ t ∷ rest → get_or us n (leaf null) ≡ t
 the_item [] us t rest n e f = ap (λ l. get_or l n (leaf null)) f ∙ ap (λ k. get_or (t ∷ rest) k (leaf null)) (sym e)
@@ -99,11 +99,11 @@ module _ {V : Type 0} (fs : Fields V) where
       let r = row_front h.terms k.terms h.first mid c.last h.bytes c.bytes h.each (subst (λ (x : State). Row x k.terms c.bytes c.last) o.1 c.items) (omega (arith, h.long, long)) in
       record { last = c.last; b = b; count = long; others = r.0; bytes = r.1; each = r.3; front = r.2; closes = c.closed }
 
-  next_fits : (i : ℕ) (terms ts rest : List Term) (mid last : State) (z : List ℕ) (w : V) → length terms ≡ i → i < length ts → i < length (kinds_of (slots fs)) → Row mid rest z last → ts ≡ terms ++ rest → Fits (slots fs) ts w → (b : State) × Value (FitsAt fs i) mid w b
+  next_fits : (i : ℕ) (terms ts rest : List Term) (mid last : State) (z : List ℕ) (w : V) → length terms ≡ i → i < length ts → i < length (kinds_of (slots fs)) → Row mid rest z last → ts ≡ terms ++ rest → Fits (slots fs) ts w → (b : State) × ReadsValue (FitsAt fs i) mid w b
   next_fits i terms ts [] mid last z w e l k r f m = absurd (omega (arith, ap length f, length-append terms [], e, l))
   next_fits i terms ts (t ∷ rest) mid last z w e l k (s, others, j, h, hs) f m =
       let at : get_or ts i (leaf null) ≡ t = the_item terms ts t rest i e f in
-      (past (length s) mid, record { bytes = s; term = t; stands = h; moved = refl; meant = by_null (is_null t) refl at })
+      (after_value (length s) mid, record { bytes = s; term = t; stands = h; moved = refl; meant = by_null (is_null t) refl at })
     where
       at_required : (r : Bool) → is_required (kind_at fs i) ≡ r → is_null (get_or ts i (leaf null)) ≡ true → is_required (kind_at fs i) ≡ false
       at_required false x z = x
@@ -114,9 +114,9 @@ module _ {V : Type 0} (fs : Fields V) where
       by_null false z at = inr (z, subst (λ x. MeansAt fs i (standing mid.top.shared s) x w) at (fits_value fs i ts w (standing mid.top.shared s) m l (ap is_null at ∙ z)))
 
   -- an item couldn't be read
-  pub item_refused : (st : State) (n i : ℕ) (v : V) (mid : State) (e : Error) (new : State) → i < n → i < length (kinds_of (slots fs)) → mid.error ≡ None → FieldsSoFar fs st n i v mid → Refused (take_memory fs) (Value (FitsAt fs i)) (ItemFault fs i) mid e new → Refused (take_memory fs) (FieldsRead fs) (FieldsFault fs) st e new
+  pub item_refused : (st : State) (n i : ℕ) (v : V) (mid : State) (e : Error) (new : State) → i < n → i < length (kinds_of (slots fs)) → mid.error ≡ None → FieldsSoFar fs st n i v mid → RefusesRead (take_memory fs) (ReadsValue (FitsAt fs i)) (ItemFault fs i) mid e new → RefusesRead (take_memory fs) (FieldsRead fs) (FieldsFault fs) st e new
   item_refused st n i v mid e new l k going h r =
-      refused_later (Value (FitsAt fs i)) (ItemFault fs i) (FieldsRead fs) (FieldsFault fs) st mid e new (λ t. t) (so_far_failed st n i v mid h) (so_far_going st n i v mid h) going
+      refused_later (ReadsValue (FitsAt fs i)) (ItemFault fs i) (FieldsRead fs) (FieldsFault fs) st mid e new (λ t. t) (so_far_failed st n i v mid h) (so_far_going st n i v mid h) going
       (λ f. at_item h l k f)
       (λ none w b q.
       let g = further st n i v w mid b h q in
@@ -125,7 +125,7 @@ module _ {V : Type 0} (fs : Fields V) where
       r
 
   -- a required item is left out
-  pub left_out_refused : (st : State) (n i : ℕ) (v : V) (mid : State) (e : Error) (new : State) → n ≤ i → i < length (kinds_of (slots fs)) → absence (kind_at fs i) ≡ Some e → Answered mid e new → FieldsSoFar fs st n i v mid → Refused (take_memory fs) (FieldsRead fs) (FieldsFault fs) st e new
+  pub left_out_refused : (st : State) (n i : ℕ) (v : V) (mid : State) (e : Error) (new : State) → n ≤ i → i < length (kinds_of (slots fs)) → absence (kind_at fs i) ≡ Some e → Answers mid e new → FieldsSoFar fs st n i v mid → RefusesRead (take_memory fs) (FieldsRead fs) (FieldsFault fs) st e new
   left_out_refused st n i v mid e new l k is kept h = record {
     kept = answered_later (so_far_failed st n i v mid h) kept;
     again = λ d x. absurd (let y = so_far_going st n i v mid h in cc);
@@ -140,7 +140,7 @@ module _ {V : Type 0} (fs : Fields V) where
   nothing_taken (t ∷ ts) mid last s l h = absurd (omega arith)
 
   -- the list couldn't be closed
-  pub end_refused : (st : State) (n i : ℕ) (v : V) (mid : State) (e : Error) (new : State) → i ≡ length (kinds_of (slots fs)) → mid.error ≡ None → FieldsSoFar fs st n i v mid → Refused false (λ st (_ : Unit {0}) b. Closes InList st b) (CloseFault InList) mid e new → Refused (take_memory fs) (FieldsRead fs) (FieldsFault fs) st e new
+  pub end_refused : (st : State) (n i : ℕ) (v : V) (mid : State) (e : Error) (new : State) → i ≡ length (kinds_of (slots fs)) → mid.error ≡ None → FieldsSoFar fs st n i v mid → RefusesRead false (λ st (_ : Unit {0}) b. Closes InList st b) (CloseFault InList) mid e new → RefusesRead (take_memory fs) (FieldsRead fs) (FieldsFault fs) st e new
   end_refused st n i v mid e new all going h r =
       refused_later (λ st (_ : Unit {0}) b. Closes InList st b) (CloseFault InList) (FieldsRead fs) (FieldsFault fs) st mid e new no_memory (so_far_failed st n i v mid h) (so_far_going st n i v mid h) going
       (λ f. not_ended (subst (λ k. FieldsSoFar fs st n k v mid) all h) f)
@@ -160,7 +160,7 @@ module _ {V : Type 0} (fs : Fields V) where
   }
 
   -- the list couldn't be opened
-  pub open_refused : (st : State) (e : Error) (new : State) → Refused false (Opens list) (OpenFault list) st e new → Refused (take_memory fs) (FieldsRead fs) (FieldsFault fs) st e new
+  pub open_refused : (st : State) (e : Error) (new : State) → RefusesRead false (Opens list) (OpenFault list) st e new → RefusesRead (take_memory fs) (FieldsRead fs) (FieldsFault fs) st e new
   open_refused st e new r = refused_first (Opens list) (OpenFault list) (FieldsRead fs) (FieldsFault fs) st e new no_memory no_list (λ none w b q. none q.stand.count q.stand.mid q.stand.opened) r
 
   pub none_so_far : (st : State) (n : ℕ) (v : V) (first : State) → Opens list st n first → IsBlank fs v → FieldsSoFar fs st n 0 v first
@@ -171,15 +171,15 @@ module _ {V : Type 0} (fs : Fields V) where
 
 -- Steps of one item.
 module _ {V : Type 0} (fs : Fields V) (i : ℕ) where
-  pub item_unbegun : (st : State) (e : Error) (new : State) → Refused false Peeked BeginFault st e new → Refused (take_memory fs) (Value (FitsAt fs i)) (ItemFault fs i) st e new
-  item_unbegun st e new r = refused_first Peeked BeginFault (Value (FitsAt fs i)) (ItemFault fs i) st e new no_memory no_item (value_peeked (FitsAt fs i) st) r
+  pub item_unbegun : (st : State) (e : Error) (new : State) → RefusesRead false PeeksCode BeginFault st e new → RefusesRead (take_memory fs) (ReadsValue (FitsAt fs i)) (ItemFault fs i) st e new
+  item_unbegun st e new r = refused_first PeeksCode BeginFault (ReadsValue (FitsAt fs i)) (ItemFault fs i) st e new no_memory no_item (value_peeked (FitsAt fs i) st) r
 
   -- null was taken, and fits
-  pub null_read : (v : V) (st b : State) → is_required (kind_at fs i) ≡ false → Value (Means (λ (_ : Unit {0}). null)) st tt b → ItemRead fs i v v st b
+  pub null_read : (v : V) (st b : State) → is_required (kind_at fs i) ≡ false → ReadsValue (Means (λ (_ : Unit {0}). null)) st tt b → ItemRead fs i v v st b
   null_read v st b r h = record { bytes = h.bytes; term = h.term; stands = h.stands; moved = h.moved; fits = inl (h.meant, r, refl) }
 
   -- null was taken, and doesn't fit
-  pub null_unfit : (st b : State) (e : Error) (new : State) → st.error ≡ None → absence (kind_at fs i) ≡ Some e → Answered b e new → Value (Means (λ (_ : Unit {0}). null)) st tt b → Refused (take_memory fs) (Value (FitsAt fs i)) (ItemFault fs i) st e new
+  pub null_unfit : (st b : State) (e : Error) (new : State) → st.error ≡ None → absence (kind_at fs i) ≡ Some e → Answers b e new → ReadsValue (Means (λ (_ : Unit {0}). null)) st tt b → RefusesRead (take_memory fs) (ReadsValue (FitsAt fs i)) (ItemFault fs i) st e new
   null_unfit st b e new going is kept h = record {
     kept = answered_later (ap (λ (x : State). x.failed) h.moved) kept;
     again = λ d x. absurd (cc);
@@ -191,16 +191,16 @@ module _ {V : Type 0} (fs : Fields V) (i : ℕ) where
   }
 
   -- the field was filled
-  pub value_read : (v w : V) (st mid b : State) (c : ℕ) → Peeked st c mid → Value (MeansAt fs i) mid w b → KeepsBut fs i v w → ItemRead fs i v w st b
+  pub value_read : (v w : V) (st mid b : State) (c : ℕ) → PeeksCode st c mid → ReadsValue (MeansAt fs i) mid w b → KeepsBut fs i v w → ItemRead fs i v w st b
   value_read v w st mid b c p h k =
       let x = (value-peeked (MeansAt fs i) st mid b c w p).0 h in
       record { bytes = x.bytes; term = x.term; stands = x.stands; moved = x.moved; fits = inr (x.meant, k) }
 
   -- the field wasn't filled
-  pub value_refused : (st mid : State) (c : ℕ) (e : Error) (new : State) → Peeked st c mid → (c ≡ 0x40 → ⊥) → Refused (take_memory fs) (Value (MeansAt fs i)) (FaultAt fs i) mid e new → Refused (take_memory fs) (Value (FitsAt fs i)) (ItemFault fs i) st e new
+  pub value_refused : (st mid : State) (c : ℕ) (e : Error) (new : State) → PeeksCode st c mid → (c ≡ 0x40 → ⊥) → RefusesRead (take_memory fs) (ReadsValue (MeansAt fs i)) (FaultAt fs i) mid e new → RefusesRead (take_memory fs) (ReadsValue (FitsAt fs i)) (ItemFault fs i) st e new
   value_refused st mid c e new p other r =
       let going = peeked_going st c mid p in
-      refused_later (Value (MeansAt fs i)) (FaultAt fs i) (Value (FitsAt fs i)) (ItemFault fs i) st mid e new (λ t. t) (peeked_failed st c mid p) going.0 going.1 (in_item p other)
+      refused_later (ReadsValue (MeansAt fs i)) (FaultAt fs i) (ReadsValue (FitsAt fs i)) (ItemFault fs i) st mid e new (λ t. t) (peeked_failed st c mid p) going.0 going.1 (in_item p other)
       (λ none w b h.
       let n = not_null (FitsAt fs i) st c mid w b p other h in
       elim h.meant [
@@ -209,6 +209,6 @@ module _ {V : Type 0} (fs : Fields V) (i : ℕ) where
       ])
       r
 
-  pub filled_step : (v w : V) (st mid : State) (c : ℕ) (r : Result (Unit {0}) Error) (b : State) → i < length (kinds_of (slots fs)) → Peeked st c mid → (c ≡ 0x40 → ⊥) → FillsField fs i v w mid r b → ReadsItem fs i v w st r b
+  pub filled_step : (v w : V) (st mid : State) (c : ℕ) (r : Result (Unit {0}) Error) (b : State) → i < length (kinds_of (slots fs)) → PeeksCode st c mid → (c ≡ 0x40 → ⊥) → FillsField fs i v w mid r b → ReadsItem fs i v w st r b
   filled_step v w st mid c (Ok u) b k p other h = let x = filled_at fs i v w mid b k h in value_read v w st mid b c p x.0 x.1
   filled_step v w st mid c (Err e) b k p other h = value_refused st mid c e b p other (unfilled_at fs i v w mid e b k h)

@@ -3,7 +3,7 @@ use Rattle.std.proofs.Common.{◌≡◌, ℕ, List, [], ◌∷◌, ◌++◌, ref
 use Rattle.std.specs.Prelude.{Result, Ok, Err}
 use Rattle.std.proofs.lemmas.List.{append-nil}
 use Rattle.std.proofs.lemmas.Grind.{flat_map-append}
-use Rattle.amqp_model.specs.Term.{Container, Term, holder, described, Descriptor}
+use Rattle.amqp_model.specs.Term.{Container, Term, container, described, Descriptor}
 use Rattle.amqp_model.specs.Items.{terms_of}
 use Rattle.amqp_wire.specs.declared.error.Error.{Error}
 use Rattle.amqp_wire.specs.declared.error.Error.TheVariants.{Memory}
@@ -16,7 +16,7 @@ use Rattle.amqp_encoder.specs.Writes.{Runs, Writes, IsGoing, AnyMayRunOut, steps
 use Rattle.amqp_encoder.proofs.Rows.{row_calls}
 use Rattle.amqp_encoder.proofs.Joined.{steps_stopped, nothing, join, cut, on, was_going}
 use Rattle.amqp_encoder.specs.Refused.{KnowDepths}
-use Rattle.amqp_codec.specs.Written.{GaveUp, WritesTerms}
+use Rattle.amqp_codec.specs.Written.{GivesUp, WritesTerms}
 
 known_first : (deep : List ℕ → ℕ) (ts us : List Term) → KnowDepths deep (ts ++ us) → KnowDepths deep ts
 known_first deep [] us h = tt
@@ -28,7 +28,7 @@ known_second deep (t ∷ ts) us h = known_second deep ts us h.1
 
 -- The calls, or a type that ran out of memory of its own.
 abbrev Up : Encoder → List Token → Result (Unit {0}) Error → Encoder → Type 0
-Up a xs r b = Writes a xs r b ⊎ GaveUp a r b
+Up a xs r b = Writes a xs r b ⊎ GivesUp a r b
 
 join_up : (a : Encoder) (xs : List Token) (q : Result (Unit {0}) Error) (b : Encoder) (ys : List Token) (r : Result (Unit {0}) Error) (c : Encoder) → q ≡ Ok tt → Up a xs q b → Up b ys r c → Up a (xs ++ ys) r c
 join_up a xs q b ys r c o (inl w) (inl x) = inl (join a xs q b ys r c o w x)
@@ -76,7 +76,7 @@ pub record Wraps (t : Term) (x : Token) (ts : List Term) (y : Token) : Type 0 wh
   pub is : (deep : List ℕ → ℕ) → row_tokens deep (t ∷ []) ≡ x ∷ (row_tokens deep ts ++ y ∷ [])
   pub knows : (deep : List ℕ → ℕ) → KnowDepths deep (t ∷ []) → KnowDepths deep ts
 
-pub container_wraps : (k : Container) (ts : List Term) → Wraps (holder k (terms_of ts)) (begin k) ts (end k)
+pub container_wraps : (k : Container) (ts : List Term) → Wraps (container k (terms_of ts)) (begin k) ts (end k)
 container_wraps k ts = record {
   is = λ deep. ap (λ r. begin k ∷ r) (append-nil (all_tokens deep (terms_of ts) ++ end k ∷ []) ∙ ap (λ r. r ++ end k ∷ []) (sym (row_calls deep ts)));
   knows = λ deep h. h.0.1;

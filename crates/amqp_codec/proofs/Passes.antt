@@ -17,8 +17,8 @@ use Rattle.amqp_encoder.specs.Passes.{row_text, as_size, answer_of, BeginsMeasur
 use Rattle.amqp_encoder.proofs.Rows.{HasFound, HasFilled}
 use Rattle.amqp_encoder.proofs.Rows as rows
 use Rattle.amqp_encoder.specs.Refused.{KnowDepths}
-use Rattle.amqp_codec.specs.Written.{GaveUp, WritesTerms, AreProper, AreUnwritable, AreWritable, AreMeasured}
-use Rattle.amqp_codec.specs.Proper.{proper_values}
+use Rattle.amqp_codec.specs.Written.{GivesUp, WritesTerms, AreProper, AreUnwritable, AreWritable, AreMeasured}
+use Rattle.amqp_codec.specs.ProperLaws.{proper_values}
 use Rattle.amqp_codec.proofs.Depths.{depths, unwritable}
 use Rattle.amqp_codec.proofs.Depths as depth
 
@@ -73,7 +73,7 @@ module _ (ts : List Term) (proper : AreProper ts) where
   measured_length len sizes m = let d = depths ts proper in (m d.0 d.1).exact
 
   module _ (len : ℕ) (sizes : List Size) (out : List ℕ) (limit : ℕ) (old new : Encoder) (r : Result (Unit {0}) Error) (measured : AreMeasured ts len sizes) (room : length out + len ≤ limit) (begins : BeginsFilling old sizes out limit) (wrote : WritesTerms ts old r new) where
-    filled_by : HasFilled (depths ts proper).0 (out ++ row_text ts) new.pass new.kept.items r ⊎ GaveUp old r new
+    filled_by : HasFilled (depths ts proper).0 (out ++ row_text ts) new.pass new.kept.items r ⊎ GivesUp old r new
     filled_by = let d = depths ts proper in elim (wrote.calls d.0 d.1) [ inl c ↦ inl (rows.written d.0 ts len sizes out limit old r new (measured d.0 d.1) room begins c) | inr g ↦ inr g ]
 
     -- the filling pass wrote the text

@@ -6,9 +6,9 @@ use Rattle.amqp_wire.specs.declared.error.Error.{Error}
 use Rattle.amqp_encoder.specs.declared.encoder.Encoder.{Encoder}
 use Rattle.amqp_encoder.specs.Tokens.{put}
 use Rattle.amqp_encoder.specs.Writes.{Writes}
-use Rattle.amqp_codec.specs.TermType.{IsPlain}
-use Rattle.amqp_codec.specs.Nulls.{tidy_null}
-use Rattle.amqp_codec.specs.Plain.{plain_tidy}
+use Rattle.amqp_codec.specs.TermType.{KeepsNoBytes}
+use Rattle.amqp_codec.specs.NullLaws.{nulls_alike-null}
+use Rattle.amqp_codec.specs.KeptBytesLaws.{nulls_alike-none_kept}
 use Rattle.amqp_codec.specs.Written.{WritesTerms}
 use Rattle.amqp_codec.proofs.Joining.{terms_join, terms_cut}
 use Rattle.amqp_model.specs.Items.{is_null, before_nulls, without_last_nulls}
@@ -79,14 +79,14 @@ pub item_written : {V : Type 0} (fs : Fields V) (n : ℕ) (v : V) (a b c : Encod
     WritesTerms (take n (canonical_terms (slots fs) v)) a (Ok tt) b → WritesTerms (canon_at fs n v ∷ []) b q c → WritesTerms (take (n + 1) (canonical_terms (slots fs) v)) a (Ok tt) c
 item_written fs n v a b c q l o w x = rw (take_next fs n v l) (terms_join (take n (canonical_terms (slots fs) v)) (canon_at fs n v ∷ []) a b c (Ok tt) (Ok tt) refl w (rw o at x))
 
-field_plain : {V : Type 0} (fs : Fields V) (n : ℕ) (v : V) → IsPlain (canon_at fs n v)
-field_plain none n v = tt
-field_plain (field get f fs) zero v = f.laws.is_plain (get v)
-field_plain (field get f fs) (suc n) v = field_plain fs n v
+field_keeps_no_bytes : {V : Type 0} (fs : Fields V) (n : ℕ) (v : V) → KeepsNoBytes (canon_at fs n v)
+field_keeps_no_bytes none n v = tt
+field_keeps_no_bytes (field get f fs) zero v = f.laws.keeps_no_bytes (get v)
+field_keeps_no_bytes (field get f fs) (suc n) v = field_keeps_no_bytes fs n v
 
-plain_null : (t : Term) → IsPlain t → is_null t ≡ true → t ≡ leaf null
-plain_null t h z = sym (plain_tidy t h) ∙ tidy_null t z
+plain_null : (t : Term) → KeepsNoBytes t → is_null t ≡ true → t ≡ leaf null
+plain_null t h z = sym (nulls_alike-none_kept t h) ∙ nulls_alike-null t z
 
 -- null is written for a field that is null
 pub null_written : {V : Type 0} (fs : Fields V) (n : ℕ) (v : V) (a b : Encoder) (r : Result (Unit {0}) Error) → true ≡ is_null (canon_at fs n v) → Writes a (put null ∷ []) r b → WritesTerms (canon_at fs n v ∷ []) a r b
-null_written fs n v a b r z w = rw (plain_null (canon_at fs n v) (field_plain fs n v) (sym z)) (record { calls = λ deep k. inl w })
+null_written fs n v a b r z w = rw (plain_null (canon_at fs n v) (field_keeps_no_bytes fs n v) (sym z)) (record { calls = λ deep k. inl w })

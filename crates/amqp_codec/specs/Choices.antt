@@ -4,12 +4,12 @@ use Rattle.std.specs.Cmp.{first_so, second_so}
 use Rattle.amqp_model.specs.Term.{Term}
 use Rattle.amqp_model.specs.Standing.{Standing, whole}
 use Rattle.amqp_model.specs.Text.{form}
-use Rattle.amqp_model.specs.FieldType.{Norm, normal, plain, by_norm}
+use Rattle.amqp_model.specs.FieldType.{Norm, normal, unchanged, by_norm}
 use Rattle.amqp_model.specs.Items.{is_null}
 use Rattle.amqp_model.specs.Fields.{AreValues}
 use Rattle.amqp_model.specs.Composite.{MeansComposite, canonical_term}
 use Rattle.amqp_decoder.specs.State.{State}
-use Rattle.amqp_decoder.specs.Elsewhere.{Setting, under}
+use Rattle.amqp_decoder.specs.OtherSource.{Setting, under}
 use Rattle.amqp_codec.specs.Faults.{Faults}
 use Rattle.amqp_codec.specs.TermType.{TermType}
 use Rattle.amqp_codec.specs.EitherType.{either, IsEither, norm_either, either_of}
@@ -17,12 +17,12 @@ use Rattle.amqp_codec.specs.NeverType.{never_faults, never_type}
 use Rattle.amqp_codec.specs.Wrappers.{via}
 use Rattle.amqp_codec.specs.Fields.{slots, take_memory, either_first, either_second}
 use Rattle.amqp_codec.specs.FieldReading.{FieldsRead}
-use Rattle.amqp_codec.specs.Elsewhere.{fields_read, fields_faults, member_faults}
+use Rattle.amqp_codec.specs.OtherSource.{fields_read, fields_faults, member_faults}
 use Rattle.amqp_codec.specs.Members.{Members}
 use Rattle.amqp_codec.specs.Written.{AreProper, Writing, IsOneTerm}
-use Rattle.amqp_codec.specs.Ties.{Tied, proper}
+use Rattle.amqp_codec.specs.Agreement.{Agreement, proper}
 use Rattle.amqp_codec.specs.Composite.{Table, table_of, composite}
-use Rattle.amqp_codec.specs.Apart.{differ, composites_apart}
+use Rattle.amqp_codec.specs.DistinctDescriptorLaws.{differ, composites_apart}
 
 -- The members of V in their order: the table of each, and the constructor of V that holds it.
 pub data Choices (V : Type 0) : Type 1 where
@@ -83,7 +83,7 @@ IsChoiceValue no_more = λ w. ⊥
 IsChoiceValue (member c make cs) = IsEither (AreValues (slots c.fields)) (IsChoiceValue cs)
 
 abbrev pub norm_choice : {V : Type 0} (cs : Choices V) → Norm (Choice cs)
-norm_choice no_more = plain
+norm_choice no_more = unchanged
 norm_choice (member c make cs) = norm_either c.norm (norm_choice cs)
 
 pub choice_apart : {M V : Type 0} (c : Table M) (cs : Choices V) → differs_from c cs ≡ true → (t r : Term) (a : M) (w : Choice cs)
@@ -190,12 +190,12 @@ pub record SumOf (V : Type 0) : Type 1 where
 
 -- A value is normalised as its member is.
 abbrev pub norm_made : {V W : Type 0} → (V → W) → (W → V) → Norm W → Norm V
-norm_made to make plain = plain
+norm_made to make unchanged = unchanged
 norm_made to make (by_norm f) = by_norm (λ v. make (f (to v)))
 
 pub made_normal : {V W : Type 0} (to : V → W) (make : W → V) → ((w : W) → to (make w) ≡ w) → (n : Norm W) (v : V)
     → to (normal (norm_made to make n) v) ≡ normal n (to v)
-made_normal to make is plain v = refl
+made_normal to make is unchanged v = refl
 made_normal to make is (by_norm f) v = is (f (to v))
 
 module _ {V : Type 0} (sum : SumOf V) where
@@ -228,8 +228,8 @@ module _ {V : Type 0} (sum : SumOf V) where
   pub sum_one : IsOneTerm sum_writing
   sum_one v = refl
 
-  pub sum_tied : Tied sum_of sum_writing
-  sum_tied =
+  pub sum_agreement : Agreement sum_of sum_writing
+  sum_agreement =
       let u = typed sum.choices sum.apart in
       record {
         canons_is = λ v. ap (λ canon. canon (choice_of v) ∷ []) (sym u.canon_is);

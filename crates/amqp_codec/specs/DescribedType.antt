@@ -4,7 +4,7 @@ use Rattle.std.proofs.Common.{Option, Some, None, option_map, drop, length, leng
 use Rattle.amqp_model.specs.Term.{Refusal, too_large, Descriptor, code, ulong, Term, described}
 use Rattle.amqp_model.specs.Spelling.{enc, Names}
 use Rattle.amqp_model.specs.Standing.{Standing, whole, part}
-use Rattle.amqp_model.specs.Text.{Plain, text, form, shortest, spell}
+use Rattle.amqp_model.specs.Text.{Alone, text, form, shortest, spell}
 use Rattle.amqp_model.specs.Measures.{nest}
 use Rattle.amqp_model.specs.Ranges.{IsBytes}
 use Rattle.amqp_model.specs.Refusals.{Somewhere, IsRefused}
@@ -16,9 +16,9 @@ use Rattle.amqp_model.proofs.Lengths.{joined_length}
 use Rattle.amqp_codec.specs.Faults.{Faults}
 use Rattle.amqp_codec.specs.TermType.{TermType, Spells, Meant, IsNoShorter}
 use Rattle.amqp_codec.specs.MeaningLaws.{meaning_sameness, meaning_ignores, meaning_rewrites}
-use Rattle.amqp_codec.specs.Plain.{reads_itself, plain_reads, plain_core}
-use Rattle.amqp_codec.specs.Flaws.{size_alone, code_flawless}
-use Rattle.amqp_codec.specs.FieldTypes.{anywhere, meaning_of, field_plain, standing_so}
+use Rattle.amqp_codec.specs.KeptBytesLaws.{reads_itself, plain_reads, plain_core}
+use Rattle.amqp_codec.specs.OnlySizeLaws.{size_alone, code_flawless}
+use Rattle.amqp_codec.specs.FieldTypes.{anywhere, meaning_of, field_keeps_no_bytes, standing_so}
 
 -- Descriptors that mean one type. Of them a code is the canonical one, and no other takes fewer bytes.
 pub record Descriptors : Type 1 where
@@ -64,9 +64,9 @@ inner_standing (whole b) d t (f ∷ ds, c, few, (h, x, e, (first, second, e', na
 inner_standing (part [] c b) d t h = absurd h.1
 inner_standing (part (f ∷ ds) c b) d t h = (part ds c b, (h.0.1, h.1.1))
 
-module _ {T : Type 0} (k : Descriptors) (u : TermType T) (blind : u.blind ≡ true) where
+module _ {T : Type 0} (k : Descriptors) (u : TermType T) (ignores_standing : u.ignores_standing ≡ true) where
   abbrev pub described_meaning : Meaning T
-  described_meaning = (described_type k.describes k.number k.by_code (meaning_of u blind)).meaning
+  described_meaning = (described_type k.describes k.number k.by_code (meaning_of u ignores_standing)).meaning
 
   abbrev Described : Term → T → Type 0
   Described = MeansDescribed k.describes (u.means anywhere)
@@ -82,12 +82,12 @@ module _ {T : Type 0} (k : Descriptors) (u : TermType T) (blind : u.blind ≡ tr
       → Somewhere (IsRefused r) (canonical v) → r ≡ too_large
   inner_writable s d x v i h r (inl j) = size_alone (code_flawless k.number (u.canon v)) r j
   inner_writable s d x v i h r (inr j) =
-      let z = inner_standing s d x h in (u.meant z.0 x v (standing_so u blind anywhere z.0 x v i)).writable z.1 r j
+      let z = inner_standing s d x h in (u.meant z.0 x v (standing_so u ignores_standing anywhere z.0 x v i)).writable z.1 r j
 
   inner_meant : (s : Standing) (d : Descriptor) (x : Term) (v : T) → k.describes d → u.means anywhere x v
       → Meant s (described d x) (u.is_value v) (canonical v) (u.count v)
   inner_meant s d x v q i =
-      let own = field_plain u blind v in
+      let own = field_keeps_no_bytes u ignores_standing v in
       let inner = u.meant anywhere x v i in
       record {
         value = inner.value;
@@ -131,9 +131,9 @@ module _ {T : Type 0} (k : Descriptors) (u : TermType T) (blind : u.blind ≡ tr
         ap length e',
         length-append first second,
         length-append second y,
-        length-append (spell (shortest (ulong k.number))) (text (u.canon v) Plain),
+        length-append (spell (shortest (ulong k.number))) (text (u.canon v) Alone),
         k.shortest_code d first q (subst (λ z. Names z first) (sym s.0) names) (bytes_left first second front.1),
-        u.least l (second ++ y) x v (standing_so u blind anywhere (whole (second ++ y)) x v i) rest n.1 content,
+        u.least l (second ++ y) x v (standing_so u ignores_standing anywhere (whole (second ++ y)) x v i) rest n.1 content,
       )
 
   pub described_least : u.is_least ≡ true → (b : List ℕ) (t : Term) (v : T) → Described t v
@@ -150,17 +150,17 @@ module _ {T : Type 0} (k : Descriptors) (u : TermType T) (blind : u.blind ≡ tr
     norm = u.norm;
     same = u.same;
     count = u.count;
-    solid = true;
-    blind = true;
+    is_never_null = true;
+    ignores_standing = true;
     takes_memory = u.takes_memory;
     is_least = u.is_least;
     sameness = meaning_sameness described_meaning;
-    rewrites = λ v. meaning_rewrites described_meaning v (field_plain u blind v) (λ i. (k.in_range, (u.rewrites v).valued i));
+    rewrites = λ v. meaning_rewrites described_meaning v (field_keeps_no_bytes u ignores_standing v) (λ i. (k.in_range, (u.rewrites v).valued i));
     meant = described_meant;
     own = λ s. described_meaning.own;
     norm_norm = u.norm_norm;
     formed = described_formed;
-    is_solid = λ _ v. refl;
-    is_blind = λ _ v. meaning_ignores described_meaning v (field_plain u blind v);
+    never_null = λ _ v. refl;
+    standing_ignored = λ _ v. meaning_ignores described_meaning v (field_keeps_no_bytes u ignores_standing v);
     least = described_least;
   }

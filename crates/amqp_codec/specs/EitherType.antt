@@ -5,19 +5,19 @@ use Rattle.amqp_model.specs.Term.{Term}
 use Rattle.amqp_model.specs.Standing.{Standing, whole}
 use Rattle.amqp_model.specs.Text.{form}
 use Rattle.amqp_model.specs.Items.{is_null}
-use Rattle.amqp_model.specs.FieldType.{Norm, normal, plain, by_norm}
+use Rattle.amqp_model.specs.FieldType.{Norm, normal, unchanged, by_norm}
 use Rattle.amqp_wire.specs.declared.error.Error.{Error}
 use Rattle.amqp_wire.specs.declared.error.Error.TheVariants.{Memory}
 use Rattle.amqp_decoder.specs.State.{State}
-use Rattle.amqp_decoder.specs.Reading.{BeginFault, Peeked}
+use Rattle.amqp_decoder.specs.Reading.{BeginFault, PeeksCode}
 use Rattle.amqp_decoder.specs.Rooms.{HasRoom}
 use Rattle.amqp_decoder.specs.Misspelled.{IsMisspelling, NothingStands}
 use Rattle.amqp_decoder.proofs.Misspelled.{begin_misspelled}
 use Rattle.amqp_decoder.proofs.NothingInside.{nothing_peeked}
 use Rattle.amqp_decoder.proofs.Rooms.{room_peeked}
-use Rattle.amqp_decoder.specs.Elsewhere.{Setting, under, KeepsError, begin_fault, peeked}
+use Rattle.amqp_decoder.specs.OtherSource.{Setting, under, KeepsError, begin_fault, peeked}
 use Rattle.amqp_decoder.proofs.NotMemory.{begin_not_memory}
-use Rattle.amqp_decoder.proofs.Leaves.{begun_same, fault_not_begun}
+use Rattle.amqp_decoder.proofs.ReadPrimitives.{begun_same, fault_not_begun}
 use Rattle.amqp_model.specs.ItemLaws.{clash}
 use Rattle.amqp_codec.specs.Faults.{Faults}
 use Rattle.amqp_codec.specs.TermType.{TermType, View, view_of, Agrees, Rewrites, IgnoresStanding, Meant, IsNoShorter}
@@ -42,14 +42,14 @@ each_normal m n (inl a) = inl (normal m a)
 each_normal m n (inr b) = inr (normal n b)
 
 abbrev pub norm_either : {A B : Type 0} → Norm A → Norm B → Norm (A ⊎ B)
-norm_either plain plain = plain
+norm_either unchanged unchanged = unchanged
 norm_either m n = by_norm (each_normal m n)
 
 either_normal : {A B : Type 0} (m : Norm A) (n : Norm B) (v : A ⊎ B) → normal (norm_either m n) v ≡ each_normal m n v
-either_normal plain plain (inl a) = refl
-either_normal plain plain (inr b) = refl
-either_normal plain (by_norm g) v = refl
-either_normal (by_norm f) plain v = refl
+either_normal unchanged unchanged (inl a) = refl
+either_normal unchanged unchanged (inr b) = refl
+either_normal unchanged (by_norm g) v = refl
+either_normal (by_norm f) unchanged v = refl
 either_normal (by_norm f) (by_norm g) v = refl
 
 module _ {A B : Type 0} (u : TermType A) (w : TermType B) where
@@ -126,9 +126,9 @@ module _ {A B : Type 0} (u : TermType A) (w : TermType B) where
   either_own s t (inl a) m = rw (either_normal u.norm w.norm (inl a)) (u.own s t a m)
   either_own s t (inr b) m = rw (either_normal u.norm w.norm (inr b)) (w.own s t b m)
 
-  pub either_is_solid : (u.solid && w.solid) ≡ true → (v : A ⊎ B) → is_null (either_canon v) ≡ false
-  either_is_solid l (inl a) = u.is_solid (first_so u.solid w.solid l) a
-  either_is_solid l (inr b) = w.is_solid (second_so u.solid w.solid l) b
+  pub either_never_null : (u.is_never_null && w.is_never_null) ≡ true → (v : A ⊎ B) → is_null (either_canon v) ≡ false
+  either_never_null l (inl a) = u.never_null (first_so u.is_never_null w.is_never_null l) a
+  either_never_null l (inr b) = w.never_null (second_so u.is_never_null w.is_never_null l) b
 
   pub either_formed : FormsApart → (s z : Standing) (t r : Term) (v x : A ⊎ B) → MeansEither s t v → MeansEither z r x
       → form t ≡ form r → form (either_canon v) ≡ form (either_canon x)
@@ -137,11 +137,11 @@ module _ {A B : Type 0} (u : TermType A) (w : TermType B) where
   either_formed apart s z t r (inl a) (inr d) h k e = absurd (apart s z t r a d h k e)
   either_formed apart s z t r (inr b) (inl c) h k e = absurd (apart z s r t c b k h (sym e))
 
-  each_ignores : (u.blind && w.blind) ≡ true → (v : A ⊎ B) → IgnoresStanding (either_view v) (either_view (each_normal u.norm w.norm v))
-  each_ignores l (inl a) = u.is_blind (first_so u.blind w.blind l) a
-  each_ignores l (inr b) = w.is_blind (second_so u.blind w.blind l) b
+  each_ignores : (u.ignores_standing && w.ignores_standing) ≡ true → (v : A ⊎ B) → IgnoresStanding (either_view v) (either_view (each_normal u.norm w.norm v))
+  each_ignores l (inl a) = u.standing_ignored (first_so u.ignores_standing w.ignores_standing l) a
+  each_ignores l (inr b) = w.standing_ignored (second_so u.ignores_standing w.ignores_standing l) b
 
-  pub either_ignores : (u.blind && w.blind) ≡ true → (v : A ⊎ B) → IgnoresStanding (either_view v) (either_view (normal either_norm v))
+  pub either_ignores : (u.ignores_standing && w.ignores_standing) ≡ true → (v : A ⊎ B) → IgnoresStanding (either_view v) (either_view (normal either_norm v))
   either_ignores l v = either_normally (λ x. IgnoresStanding (either_view v) (either_view x)) v (each_ignores l v)
 
   pub either_least : (u.is_least && w.is_least) ≡ true → (b : List ℕ) (t : Term) (v : A ⊎ B) → MeansEither (whole b) t v
@@ -153,8 +153,8 @@ module _ {A B : Type 0} (u : TermType A) (w : TermType B) where
 -- code of the first type has a fault of that one, and what begins by another code a fault of the second.
 pub data EitherFault (is_first : ℕ → Bool) (f g : Faults) (st : State) (e : Error) : Type 0 where
   no_value : BeginFault st e → EitherFault is_first f g st e
-  in_first : {c : ℕ} {mid : State} → Peeked st c mid → is_first c ≡ true → f.fault mid e → EitherFault is_first f g st e
-  in_second : {c : ℕ} {mid : State} → Peeked st c mid → is_first c ≡ false → g.fault mid e → EitherFault is_first f g st e
+  in_first : {c : ℕ} {mid : State} → PeeksCode st c mid → is_first c ≡ true → f.fault mid e → EitherFault is_first f g st e
+  in_second : {c : ℕ} {mid : State} → PeeksCode st c mid → is_first c ≡ false → g.fault mid e → EitherFault is_first f g st e
 
 module _ (is_first : ℕ → Bool) (f g : Faults) where
   pub either_not_memory : (st : State) → EitherFault is_first f g st Memory → ⊥
@@ -184,14 +184,14 @@ module _ (is_first : ℕ → Bool) (f g : Faults) where
   }
 
   -- where a code was looked at, a fault is of the type that it tells, and of no other
-  pub first_fault : (st mid : State) (c : ℕ) (e : Error) → Peeked st c mid → is_first c ≡ true → EitherFault is_first f g st e
+  pub first_fault : (st mid : State) (c : ℕ) (e : Error) → PeeksCode st c mid → is_first c ≡ true → EitherFault is_first f g st e
       → f.fault mid e
   first_fault st mid c e p is (no_value h) = absurd (fault_not_begun st e c p.after h p.begun)
   first_fault st mid c e p is (in_first {c = d} {mid = seen} q k h) = subst (λ (x : State). f.fault x e) (q.kept ∙ sym p.kept) h
   first_fault st mid c e p is (in_second {c = d} {mid = seen} q k h) =
       absurd (clash (ap is_first (sym (begun_same st c d p.after q.after p.begun q.begun).0) ∙ is) k)
 
-  pub second_fault : (st mid : State) (c : ℕ) (e : Error) → Peeked st c mid → is_first c ≡ false → EitherFault is_first f g st e
+  pub second_fault : (st mid : State) (c : ℕ) (e : Error) → PeeksCode st c mid → is_first c ≡ false → EitherFault is_first f g st e
       → g.fault mid e
   second_fault st mid c e p is (no_value h) = absurd (fault_not_begun st e c p.after h p.begun)
   second_fault st mid c e p is (in_first {c = d} {mid = seen} q k h) =
@@ -208,8 +208,8 @@ either_of u w apart faults = record {
   norm = either_norm u w;
   same = either_same u w;
   count = either u.count w.count;
-  solid = u.solid && w.solid;
-  blind = u.blind && w.blind;
+  is_never_null = u.is_never_null && w.is_never_null;
+  ignores_standing = u.ignores_standing && w.ignores_standing;
   takes_memory = u.takes_memory || w.takes_memory;
   is_least = u.is_least && w.is_least;
   sameness = record {
@@ -224,7 +224,7 @@ either_of u w apart faults = record {
   own = either_own u w;
   norm_norm = either_norm_norm u w;
   formed = either_formed u w apart;
-  is_solid = either_is_solid u w;
-  is_blind = either_ignores u w;
+  never_null = either_never_null u w;
+  standing_ignored = either_ignores u w;
   least = either_least u w;
 }

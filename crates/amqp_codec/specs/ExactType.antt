@@ -6,34 +6,34 @@ use Rattle.amqp_model.specs.Standing.{Standing}
 use Rattle.amqp_model.specs.Text.{form}
 use Rattle.amqp_model.specs.Measures.{nest, nodes}
 use Rattle.amqp_model.specs.Ranges.{Everywhere, IsValue}
-use Rattle.amqp_model.specs.Kept.{Reads}
+use Rattle.amqp_model.specs.Kept.{ExpandsTo}
 use Rattle.amqp_model.specs.Items.{is_null, IsFree}
-use Rattle.amqp_model.specs.FieldType.{plain}
+use Rattle.amqp_model.specs.FieldType.{unchanged}
 use Rattle.amqp_model.proofs.Least.{text_is_least}
 use Rattle.amqp_codec.specs.Faults.{Faults}
-use Rattle.amqp_codec.specs.Plain.{plain_reads, plain_core, rewrites_plainly, null_core}
-use Rattle.amqp_codec.specs.TermType.{TermType, Spells, IsLeaf, IsPlain, view_of, IsRefusedForSize, Sameness, IgnoresStanding, Meant}
+use Rattle.amqp_codec.specs.KeptBytesLaws.{plain_reads, plain_core, rewrites_plainly, null_core}
+use Rattle.amqp_codec.specs.TermType.{TermType, Spells, IsLeaf, KeepsNoBytes, view_of, IsRefusedForSize, Sameness, IgnoresStanding, Meant}
 
 abbrev pub MeansExactly : {V : Type 0} → (V → Type 0) → (V → Term) → Standing → Term → V → Type 0
 MeansExactly is_value canon s t v = (t ≡ canon v) × is_value v
 
 -- What such a type has to show.
-pub record IsExact {V : Type 0} (is_value : V → Type 0) (canon : V → Term) (same : V → V → Type 0) (count : V → ℕ) (solid : Bool)
+pub record IsExact {V : Type 0} (is_value : V → Type 0) (canon : V → Term) (same : V → V → Type 0) (count : V → ℕ) (is_never_null : Bool)
     : Type 0 where
   pub sameness : Sameness same (view_of is_value (MeansExactly is_value canon) canon)
-  pub plain : (v : V) → IsPlain (canon v)
-  pub not_null : solid ≡ true → (v : V) → is_null (canon v) ≡ false
+  pub plain : (v : V) → KeepsNoBytes (canon v)
+  pub not_null : is_never_null ≡ true → (v : V) → is_null (canon v) ≡ false
   pub valued : (v : V) → is_value v → Everywhere IsValue (canon v)
   pub free : (v : V) → is_value v → IsFree (canon v)
   pub writable : (v : V) (s : Standing) → is_value v → Spells s (canon v) → IsRefusedForSize (canon v)
   pub counted : (v : V) → count v ≤ nodes (canon v)
 
-module _ {V : Type 0} {is_value : V → Type 0} {canon : V → Term} {same : V → V → Type 0} {count : V → ℕ} {solid : Bool}
-    (laws : IsExact is_value canon same count solid) where
+module _ {V : Type 0} {is_value : V → Type 0} {canon : V → Term} {same : V → V → Type 0} {count : V → ℕ} {is_never_null : Bool}
+    (laws : IsExact is_value canon same count is_never_null) where
   pub exact_ignores : (v : V) → (let x = view_of is_value (MeansExactly is_value canon) canon v in IgnoresStanding x x)
   exact_ignores v = record { plain = laws.plain v; means = λ s z t m. m; canon_means = λ s i f. (refl, i) }
 
-  exact_nested : (v : V) (u : Term) → Reads (canon v) u → nest u ≤ nest (canon v)
+  exact_nested : (v : V) (u : Term) → ExpandsTo (canon v) u → nest u ≤ nest (canon v)
   exact_nested v u r = rw (plain_reads (canon v) u (laws.plain v) r) (omega arith)
 
   pub exact_meant : (s : Standing) (t : Term) (v : V) → MeansExactly is_value canon s t v → Meant s t (is_value v) (canon v) (count v)
@@ -56,11 +56,11 @@ module _ {V : Type 0} {is_value : V → Type 0} {canon : V → Term} {same : V �
     means = MeansExactly is_value canon;
     faults = faults;
     canon = canon;
-    norm = plain;
+    norm = unchanged;
     same = same;
     count = count;
-    solid = solid;
-    blind = true;
+    is_never_null = is_never_null;
+    ignores_standing = true;
     takes_memory = takes_memory;
     is_least = true;
     sameness = laws.sameness;
@@ -69,7 +69,7 @@ module _ {V : Type 0} {is_value : V → Type 0} {canon : V → Term} {same : V �
     own = λ s t v m. laws.sameness.refl v;
     norm_norm = laws.sameness.refl;
     formed = λ s z t u v w m n e. ap form (sym m.0) ∙ e ∙ ap form n.0;
-    is_solid = laws.not_null;
-    is_blind = λ _. exact_ignores;
+    never_null = laws.not_null;
+    standing_ignored = λ _. exact_ignores;
     least = λ _ b t v m bytes none e. text_is_least b (canon v) none bytes (subst (enc b) m.0 e);
   }

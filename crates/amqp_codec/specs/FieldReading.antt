@@ -9,14 +9,14 @@ use Rattle.amqp_model.specs.declared.tables.FieldKind.{FieldKind}
 use Rattle.amqp_wire.specs.declared.error.Error.{Error}
 use Rattle.amqp_wire.specs.declared.error.Error.TheVariants.{Memory, Missing, EmptyMultiple}
 use Rattle.amqp_model.specs.declared.tables.FieldKind.TheVariants.{Mandatory, Optional, Default, Multiple, MandatoryMultiple}
-use Rattle.amqp_decoder.specs.declared.frame.Place.TheVariants.{InList}
-use Rattle.amqp_decoder.specs.State.{State, past}
-use Rattle.amqp_decoder.specs.Reading.{Refused, BeginFault, Peeked}
-use Rattle.amqp_decoder.specs.Primitives.{standing, Stands, Value, Means}
+use Rattle.amqp_decoder.specs.declared.frame.OpenKind.TheVariants.{InList}
+use Rattle.amqp_decoder.specs.State.{State, after_value}
+use Rattle.amqp_decoder.specs.Reading.{RefusesRead, BeginFault, PeeksCode}
+use Rattle.amqp_decoder.specs.Primitives.{standing, Stands, ReadsValue, Means}
 use Rattle.amqp_decoder.specs.Containers.{Opens, OpenFault, CloseFault}
 use Rattle.amqp_decoder.specs.Items.{Row, Contains}
 use Rattle.amqp_decoder.proofs.NotMemory.{begin_not_memory, open_not_memory, close_not_memory}
-use Rattle.amqp_codec.specs.Refused.{refused_first}
+use Rattle.amqp_codec.specs.RefusalLaws.{refused_first}
 use Rattle.amqp_codec.specs.Fields.{Fields, none, field, slots, take_memory, either_first, either_second}
 
 -- all fields are equal
@@ -37,8 +37,8 @@ IsBlank (field get f fs) v = (is_required f.slot.kind ≡ false → f.slot.meani
 
 -- A value was read into its place.
 abbrev pub Fills : {T : Type 0} → Bool → (Standing → Term → T → Type 0) → (State → Error → Type 0) → State → T → Result (Unit {0}) Error → State → Type 0
-Fills takes reads fault st x (Ok u) b = Value reads st x b
-Fills takes reads fault st x (Err e) b = Refused takes (Value reads) fault st e b
+Fills takes reads fault st x (Ok u) b = ReadsValue reads st x b
+Fills takes reads fault st x (Err e) b = RefusesRead takes (ReadsValue reads) fault st e b
 
 -- A value that isn't null was read into the field of this number, and then the others stay.
 abbrev pub FillsField : {V : Type 0} → Fields V → ℕ → V → V → State → Result (Unit {0}) Error → State → Type 0
@@ -130,7 +130,7 @@ fits_few (field get f fs) [] v m = omega arith
 fits_few (field get f fs) (t ∷ ts) v m = omega (arith, fits_few fs ts v m.1)
 
 -- What was read into a field, by its number.
-pub filled_at : {V : Type 0} (fs : Fields V) (n : ℕ) (v w : V) (st b : State) → n < length (kinds_of (slots fs)) → FillsField fs n v w st (Ok tt) b → Value (MeansAt fs n) st w b × KeepsBut fs n v w
+pub filled_at : {V : Type 0} (fs : Fields V) (n : ℕ) (v w : V) (st b : State) → n < length (kinds_of (slots fs)) → FillsField fs n v w st (Ok tt) b → ReadsValue (MeansAt fs n) st w b × KeepsBut fs n v w
 filled_at none n v w st b l h = absurd (omega arith)
 filled_at (field get f fs) zero v w st b l h = (record { bytes = h.0.bytes; term = h.0.term; stands = h.0.stands; moved = h.0.moved; meant = h.0.meant }, h.1 refl)
 filled_at (field get f fs) (suc n) v w st b l h =
@@ -138,13 +138,13 @@ filled_at (field get f fs) (suc n) v w st b l h =
     (record { bytes = r.0.bytes; term = r.0.term; stands = r.0.stands; moved = r.0.moved; meant = r.0.meant }, (h.0 refl, r.1))
 
 -- why none was
-pub unfilled_at : {V : Type 0} (fs : Fields V) (n : ℕ) (v w : V) (st : State) (e : Error) (b : State) → n < length (kinds_of (slots fs)) → FillsField fs n v w st (Err e) b → Refused (take_memory fs) (Value (MeansAt fs n)) (FaultAt fs n) st e b
+pub unfilled_at : {V : Type 0} (fs : Fields V) (n : ℕ) (v w : V) (st : State) (e : Error) (b : State) → n < length (kinds_of (slots fs)) → FillsField fs n v w st (Err e) b → RefusesRead (take_memory fs) (ReadsValue (MeansAt fs n)) (FaultAt fs n) st e b
 unfilled_at none n v w st e b l h = absurd (omega arith)
 unfilled_at (field get f fs) zero v w st e b l h =
-    refused_first (Value f.reads) f.faults.fault (Value (MeansAt (field get f fs) zero)) (FaultAt (field get f fs) zero) st e b (either_first f.takes_memory (take_memory fs)) (λ x. x)
+    refused_first (ReadsValue f.reads) f.faults.fault (ReadsValue (MeansAt (field get f fs) zero)) (FaultAt (field get f fs) zero) st e b (either_first f.takes_memory (take_memory fs)) (λ x. x)
     (λ none x c r. none (get x) c (record { bytes = r.bytes; term = r.term; stands = r.stands; moved = r.moved; meant = r.meant })) h.0
 unfilled_at (field get f fs) (suc n) v w st e b l h =
-    refused_first (Value (MeansAt fs n)) (FaultAt fs n) (Value (MeansAt (field get f fs) (suc n))) (FaultAt (field get f fs) (suc n)) st e b (either_second f.takes_memory (take_memory fs)) (λ x. x)
+    refused_first (ReadsValue (MeansAt fs n)) (FaultAt fs n) (ReadsValue (MeansAt (field get f fs) (suc n))) (FaultAt (field get f fs) (suc n)) st e b (either_second f.takes_memory (take_memory fs)) (λ x. x)
     (λ none x c r. none x c (record { bytes = r.bytes; term = r.term; stands = r.stands; moved = r.moved; meant = r.meant })) (unfilled_at fs n v w st e b (omega arith) h.1)
 
 -- The kind of a field by its number, mandatory past the last one.
@@ -160,7 +160,7 @@ pub record ItemRead {V : Type 0} (fs : Fields V) (i : ℕ) (v w : V) (st b : Sta
   pub bytes : List ℕ
   pub term : Term
   pub stands : Stands st bytes term
-  pub moved : b ≡ past (length bytes) st
+  pub moved : b ≡ after_value (length bytes) st
   pub fits : ((term ≡ leaf null) × (is_required (kind_at fs i) ≡ false) × (w ≡ v)) ⊎ (MeansAt fs i (standing st.top.shared bytes) term w × KeepsBut fs i v w)
 
 -- Part 1, section 1.4: the error for a field that is null or left out, where it must be there.
@@ -187,12 +187,12 @@ not_absent Multiple h = refl
 -- field says.
 pub data ItemFault {V : Type 0} (fs : Fields V) (i : ℕ) (st : State) (e : Error) : Type 0 where
   no_item : BeginFault st e → ItemFault fs i st e
-  null_item : {b : State} → Value (Means (λ (_ : Unit {0}). null)) st tt b → absence (kind_at fs i) ≡ Some e → ItemFault fs i st e
-  in_item : {c : ℕ} {mid : State} → Peeked st c mid → (c ≡ 0x40 → ⊥) → FaultAt fs i mid e → ItemFault fs i st e
+  null_item : {b : State} → ReadsValue (Means (λ (_ : Unit {0}). null)) st tt b → absence (kind_at fs i) ≡ Some e → ItemFault fs i st e
+  in_item : {c : ℕ} {mid : State} → PeeksCode st c mid → (c ≡ 0x40 → ⊥) → FaultAt fs i mid e → ItemFault fs i st e
 
 abbrev pub ReadsItem : {V : Type 0} → Fields V → ℕ → V → V → State → Result (Unit {0}) Error → State → Type 0
 ReadsItem fs i v w st (Ok u) b = ItemRead fs i v w st b
-ReadsItem fs i v w st (Err e) b = Refused (take_memory fs) (Value (FitsAt fs i)) (ItemFault fs i) st e b
+ReadsItem fs i v w st (Err e) b = RefusesRead (take_memory fs) (ReadsValue (FitsAt fs i)) (ItemFault fs i) st e b
 
 -- The fields up to number i were read from a list of n items.
 pub record FieldsSoFar {V : Type 0} (fs : Fields V) (st : State) (n i : ℕ) (v : V) (now_ : State) : Type 0 where

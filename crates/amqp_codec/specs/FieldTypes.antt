@@ -8,8 +8,8 @@ use Rattle.amqp_model.specs.Ranges.{Everywhere, IsValue}
 use Rattle.amqp_model.specs.Items.{is_null}
 use Rattle.amqp_model.specs.ItemLaws.{clash}
 use Rattle.amqp_model.specs.FieldType.{normal, Meaning, FieldType}
-use Rattle.amqp_codec.specs.TermType.{TermType, IsPlain, IsNoShorter, IsRefusedForSize}
-use Rattle.amqp_codec.specs.Plain.{reads_itself, plain_tidy}
+use Rattle.amqp_codec.specs.TermType.{TermType, KeepsNoBytes, IsNoShorter, IsRefusedForSize}
+use Rattle.amqp_codec.specs.KeptBytesLaws.{reads_itself, nulls_alike-none_kept}
 
 -- the one standing that serves for all
 abbrev pub anywhere : Standing
@@ -28,23 +28,23 @@ pub record FieldLaws {T : Type 0} (m : Meaning T) : Type 0 where
   pub count : T → ℕ
   pub is_least : Bool
   pub valued : (v : T) → m.is_value v → Everywhere IsValue (m.canon v)
-  pub is_plain : (v : T) → IsPlain (m.canon v)
+  pub keeps_no_bytes : (v : T) → KeepsNoBytes (m.canon v)
   pub meant : (t : Term) (v : T) → m.means t v → FieldMeant t (m.canon v) (count v)
   pub least : is_least ≡ true → (b : List ℕ) (t : Term) (v : T) → m.means t v → IsNoShorter b t (m.canon v)
 
 -- A type that doesn't look at how a term stands.
-module _ {T : Type 0} (u : TermType T) (blind : u.blind ≡ true) where
-  pub field_plain : (v : T) → IsPlain (u.canon v)
-  field_plain v = (u.is_blind blind v).plain
+module _ {T : Type 0} (u : TermType T) (ignores_standing : u.ignores_standing ≡ true) where
+  pub field_keeps_no_bytes : (v : T) → KeepsNoBytes (u.canon v)
+  field_keeps_no_bytes v = (u.standing_ignored ignores_standing v).plain
 
   -- how a term stands is nothing to the value
   pub standing_so : (s z : Standing) (t : Term) (v : T) → u.means s t v → u.means z t v
-  standing_so s z t v = (u.is_blind blind v).means s z t
+  standing_so s z t v = (u.standing_ignored ignores_standing v).means s z t
 
   pub field_norm_canon : (v : T) → u.canon (normal u.norm v) ≡ u.canon v
   field_norm_canon v =
-      sym (plain_tidy (u.canon (normal u.norm v)) (field_plain (normal u.norm v)))
-      ∙ (u.rewrites v).canon ∙ plain_tidy (u.canon v) (field_plain v)
+      sym (nulls_alike-none_kept (u.canon (normal u.norm v)) (field_keeps_no_bytes (normal u.norm v)))
+      ∙ (u.rewrites v).canon ∙ nulls_alike-none_kept (u.canon v) (field_keeps_no_bytes v)
 
   -- What its terms mean.
   abbrev pub meaning_of : Meaning T
@@ -61,7 +61,7 @@ module _ {T : Type 0} (u : TermType T) (blind : u.blind ≡ true) where
     same_means = λ t v w h. (u.sameness.agrees v w h).means anywhere t;
     same_canon = λ v w h. (u.sameness.agrees v w h).canon;
     one = u.sameness.one anywhere;
-    canon_means = λ v. (u.is_blind blind v).canon_means anywhere;
+    canon_means = λ v. (u.standing_ignored ignores_standing v).canon_means anywhere;
     norm_canon = field_norm_canon;
     norm_norm = u.norm_norm;
     value = λ t v m. (u.meant anywhere t v m).value;
@@ -69,18 +69,18 @@ module _ {T : Type 0} (u : TermType T) (blind : u.blind ≡ true) where
     free = λ t v m. (u.meant anywhere t v m).free;
   }
 
-module _ {T : Type 0} (u : TermType T) (solid : u.solid ≡ true) (blind : u.blind ≡ true) where
+module _ {T : Type 0} (u : TermType T) (is_never_null : u.is_never_null ≡ true) (ignores_standing : u.ignores_standing ≡ true) where
   pub field_never_null : (t : Term) (v : T) → u.means anywhere t v → is_null t ≡ false
-  field_never_null t v m = sym (u.meant anywhere t v m).null_alike ∙ u.is_solid solid v
+  field_never_null t v m = sym (u.meant anywhere t v m).null_alike ∙ u.never_null is_never_null v
 
   abbrev pub field_type : FieldType T
-  field_type = record { meaning = meaning_of u blind; never_null = field_never_null }
+  field_type = record { meaning = meaning_of u ignores_standing; never_null = field_never_null }
 
   pub field_meant : (t : Term) (v : T) → u.means anywhere t v → FieldMeant t (u.canon v) (u.count v)
   field_meant t v m = record {
     missing = λ n. absurd (clash n (field_never_null t v m));
-    writable = λ b e. (u.meant (whole b) t v (standing_so u blind anywhere (whole b) t v m)).writable e;
-    nested = (u.meant anywhere t v m).nested (u.canon v) (reads_itself (u.canon v) (field_plain u blind v));
+    writable = λ b e. (u.meant (whole b) t v (standing_so u ignores_standing anywhere (whole b) t v m)).writable e;
+    nested = (u.meant anywhere t v m).nested (u.canon v) (reads_itself (u.canon v) (field_keeps_no_bytes u ignores_standing v));
     counted = (u.meant anywhere t v m).counted;
   }
 
@@ -89,7 +89,7 @@ module _ {T : Type 0} (u : TermType T) (solid : u.solid ≡ true) (blind : u.bli
     count = u.count;
     is_least = u.is_least;
     valued = λ v. (u.rewrites v).valued;
-    is_plain = field_plain u blind;
+    keeps_no_bytes = field_keeps_no_bytes u ignores_standing;
     meant = field_meant;
-    least = λ l b t v m. u.least l b t v (standing_so u blind anywhere (whole b) t v m);
+    least = λ l b t v m. u.least l b t v (standing_so u ignores_standing anywhere (whole b) t v m);
   }

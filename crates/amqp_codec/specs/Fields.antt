@@ -4,7 +4,7 @@ use Rattle.std.specs.Cmp.{first_so, second_so}
 use Rattle.amqp_model.specs.Term.{Refusal, too_large, null, Term, Terms, leaf, count}
 use Rattle.amqp_model.specs.Term as term
 use Rattle.amqp_model.specs.Spelling.{enc, items_of as ItemsStand}
-use Rattle.amqp_model.specs.Text.{Plain, text, texts}
+use Rattle.amqp_model.specs.Text.{Alone, text, texts}
 use Rattle.amqp_model.specs.Measures.{nest, nests, all_nodes}
 use Rattle.amqp_model.specs.Ranges.{EverywhereIn, IsValue, IsNoArray, IsBytes}
 use Rattle.amqp_model.specs.Refusals.{Somewhere, SomewhereIn, IsRefused}
@@ -15,7 +15,7 @@ use Rattle.amqp_model.specs.Fields as table
 use Rattle.amqp_model.proofs.Least.{bytes_left, bytes_right}
 use Rattle.amqp_model.proofs.ItemCounts.{canonical_fewest}
 use Rattle.amqp_encoder.proofs.Refused.{count_of as count_terms}
-use Rattle.amqp_codec.specs.TermType.{ArePlain}
+use Rattle.amqp_codec.specs.TermType.{KeepNoBytes}
 use Rattle.amqp_codec.specs.Slots.{Field}
 
 -- The fields of V in their order: for each, how it is got from the value, and its kind and type.
@@ -67,10 +67,10 @@ before_each : (E : Terms → Type 0) (t : Term) (us : List Term) → E term.none
 before_each E t [] e h = left_out E t (is_left_out t) e h
 before_each E t (u ∷ us) e h = h
 
-pub items_plain : {V : Type 0} (fs : Fields V) (v : V) → ArePlain (items fs v)
+pub items_keeps_no_bytes : {V : Type 0} (fs : Fields V) (v : V) → KeepNoBytes (items fs v)
 unfolding canonical_items
-items_plain none v = tt
-items_plain (field get f fs) v = before_each ArePlain (f.slot.meaning.canon (get v)) (canonical_items (slots fs) v) tt (f.laws.is_plain (get v), items_plain fs v)
+items_keeps_no_bytes none v = tt
+items_keeps_no_bytes (field get f fs) v = before_each KeepNoBytes (f.slot.meaning.canon (get v)) (canonical_items (slots fs) v) tt (f.laws.keeps_no_bytes (get v), items_keeps_no_bytes fs v)
 
 pub items_valued : {V : Type 0} (fs : Fields V) (v : V) → AreValues (slots fs) v → EverywhereIn IsValue (items fs v)
 unfolding canonical_items
@@ -119,13 +119,13 @@ length_items (term.more t ts) = ap suc (length_items ts)
 pub items_fewest : {V : Type 0} (fs : Fields V) (ts : Terms) (v : V) → Fits (slots fs) (items_of ts) v → count (items fs v) ≤ count ts
 items_fewest fs ts v h = omega (arith, count_terms (canonical_items (slots fs) v), length_items ts, canonical_fewest (slots fs) (items_of ts) v h)
 
-none_left : (us : List Term) → length us ≤ 0 → length (texts (terms_of us) Plain) ≤ 0
+none_left : (us : List Term) → length us ≤ 0 → length (texts (terms_of us) Alone) ≤ 0
 unfolding texts
 none_left [] h = omega arith
 none_left (u ∷ us) h = absurd (omega arith)
 
 -- their text is no longer than the items' bytes
-pub items_least : {V : Type 0} (fs : Fields V) (ts : Terms) (b : List ℕ) (v : V) → are_least fs ≡ true → IsBytes b → EverywhereIn IsNoArray (items fs v) → ItemsStand ts b → Fits (slots fs) (items_of ts) v → length (texts (items fs v) Plain) ≤ length b
+pub items_least : {V : Type 0} (fs : Fields V) (ts : Terms) (b : List ℕ) (v : V) → are_least fs ≡ true → IsBytes b → EverywhereIn IsNoArray (items fs v) → ItemsStand ts b → Fits (slots fs) (items_of ts) v → length (texts (items fs v) Alone) ≤ length b
 unfolding Fits canonical_items enc texts
 items_least none ts b v l i n s h = omega arith
 items_least (field get f fs) term.none b v l i n s h =
@@ -134,11 +134,11 @@ items_least (field get f fs) (term.more t ts) b v l i n (first, second, e, s, re
     let bytes : IsBytes (first ++ second) = subst IsBytes e i in
     let long : length b ≡ length first + length second = ap length e ∙ length-append first second in
     let canon = f.slot.meaning.canon (get v) in
-    before_each (λ us. EverywhereIn IsNoArray us → length (texts us Plain) ≤ length b) canon (canonical_items (slots fs) v) (λ _. omega arith)
+    before_each (λ us. EverywhereIn IsNoArray us → length (texts us Alone) ≤ length b) canon (canonical_items (slots fs) v) (λ _. omega arith)
     (λ k. omega (
       arith,
       long,
-      length-append (text canon Plain) (texts (items fs v) Plain),
+      length-append (text canon Alone) (texts (items fs v) Alone),
       f.laws.least (first_so f.laws.is_least (are_least fs) l) first t (get v) h.0 (bytes_left first second bytes) k.0 s,
       items_least fs ts second v (second_so f.laws.is_least (are_least fs) l) (bytes_right first second bytes) k.1 rest h.1,
     ))

@@ -2,9 +2,9 @@
 use Rattle.std.proofs.Common.{ap}
 use Rattle.amqp_model.specs.Ranges.{Everywhere, IsValue}
 use Rattle.amqp_model.specs.FieldType.{normal, Meaning}
-use Rattle.amqp_codec.specs.Tidy.{tidy}
-use Rattle.amqp_codec.specs.TermType.{IsPlain, View, view_of, Sameness, IgnoresStanding, Rewrites}
-use Rattle.amqp_codec.specs.Plain.{rewrites_plainly}
+use Rattle.amqp_codec.specs.NullsAlike.{nulls_alike}
+use Rattle.amqp_codec.specs.TermType.{KeepsNoBytes, View, view_of, Sameness, IgnoresStanding, Rewrites}
+use Rattle.amqp_codec.specs.KeptBytesLaws.{rewrites_plainly}
 
 module _ {V : Type 0} (m : Meaning V) where
   abbrev pub meaning_view : V → View
@@ -19,9 +19,9 @@ module _ {V : Type 0} (m : Meaning V) where
     one = λ s. m.one;
   }
 
-  pub meaning_ignores : (v : V) → IsPlain (m.canon v) → IgnoresStanding (meaning_view v) (meaning_view (normal m.norm v))
+  pub meaning_ignores : (v : V) → KeepsNoBytes (m.canon v) → IgnoresStanding (meaning_view v) (meaning_view (normal m.norm v))
   meaning_ignores v plain = record { plain = plain; means = λ s z t h. h; canon_means = λ s. m.canon_means v }
 
-  pub meaning_rewrites : (v : V) → IsPlain (m.canon v) → (m.is_value v → Everywhere IsValue (m.canon v))
+  pub meaning_rewrites : (v : V) → KeepsNoBytes (m.canon v) → (m.is_value v → Everywhere IsValue (m.canon v))
       → Rewrites (meaning_view v) (meaning_view (normal m.norm v))
-  meaning_rewrites v plain valued = rewrites_plainly (meaning_ignores v plain) valued (ap tidy (m.norm_canon v))
+  meaning_rewrites v plain valued = rewrites_plainly (meaning_ignores v plain) valued (ap nulls_alike (m.norm_canon v))

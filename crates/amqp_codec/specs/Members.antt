@@ -4,11 +4,11 @@ use Rattle.std.proofs.lemmas.List.Quantifiers.{position-Some}
 use Rattle.amqp_model.specs.Term.{Descriptor, Term, described}
 use Rattle.amqp_model.specs.Standing.{Standing}
 use Rattle.amqp_wire.specs.declared.error.Error.{Error}
-use Rattle.amqp_decoder.specs.declared.frame.Place.TheVariants.{InDescribed}
-use Rattle.amqp_decoder.specs.State.{State, past}
-use Rattle.amqp_decoder.specs.Elsewhere.{Setting, under}
-use Rattle.amqp_decoder.specs.Reading.{Refused}
-use Rattle.amqp_decoder.specs.Primitives.{standing, Stands, Value}
+use Rattle.amqp_decoder.specs.declared.frame.OpenKind.TheVariants.{InDescribed}
+use Rattle.amqp_decoder.specs.State.{State, after_value}
+use Rattle.amqp_decoder.specs.OtherSource.{Setting, under}
+use Rattle.amqp_decoder.specs.Reading.{RefusesRead}
+use Rattle.amqp_decoder.specs.Primitives.{standing, Stands, ReadsValue}
 use Rattle.amqp_decoder.specs.Containers.{ClosesDescribed, EndFault}
 use Rattle.amqp_input.specs.Members.{Member, as_name, is_named, name_place}
 use Rattle.amqp_decoder.specs.Described.{OpensDescribed, OpensOneOf, OneOfFault}
@@ -20,7 +20,7 @@ use Rattle.amqp_decoder.proofs.OneReading.{next_same}
 use Rattle.amqp_decoder.proofs.NotMemory.{one_of_not_memory, end_not_memory}
 use Rattle.amqp_wire.specs.declared.error.Error.TheVariants.{Memory}
 use Rattle.amqp_codec.specs.Faults.{Faults}
-use Rattle.amqp_codec.specs.Refused.{no_memory, refused_first, refused_later}
+use Rattle.amqp_codec.specs.RefusalLaws.{no_memory, refused_first, refused_later}
 
 -- The members: their codes and names in order, and how what each describes is read.
 pub record Members (V : Type 0) : Type 1 where
@@ -80,14 +80,14 @@ one_place : {i j : ℕ} {o p : Option ℕ} → o ≡ p → o ≡ Some i → p �
 one_place {i} {j} e f g = ap (λ x. Rattle.std.proofs.Common.unwrap_or x i) (sym f ∙ e ∙ g)
 
 module _ {V : Type 0} (m : Members V) (means : Standing → Term → V → Type 0) (sum : IsSum m means) where
-  pub to_value : (st : State) (v : V) (b : State) → st.nesting ≡ 128 → MemberRead m st v b → Value means st v b
+  pub to_value : (st : State) (v : V) (b : State) → st.nesting ≡ 128 → MemberRead m st v b → ReadsValue means st v b
   to_value st v b bound h =
       let t = sum.to_term h.place h.inner v h.last h.read in
-      let closes : ClosesDescribed InDescribed (past (length t.taken.bytes) h.inner) b = subst (λ (x : State). ClosesDescribed InDescribed x b) t.taken.moved h.closes in
+      let closes : ClosesDescribed InDescribed (after_value (length t.taken.bytes) h.inner) b = subst (λ (x : State). ClosesDescribed InDescribed x b) t.taken.moved h.closes in
       let r = described_term st h.descriptor t.term b (omega (arith, bound)) (record { inner = h.inner; opens = h.opens; bytes = t.taken.bytes; stands = t.taken.stands; closes = closes }) in
       record { bytes = r.bytes; term = described h.descriptor t.term; stands = r.stands; moved = r.moved; meant = t.meant h.descriptor (standing st.top.shared r.bytes) h.is }
 
-  pub from_value : (st : State) (v : V) (b : State) → Value means st v b → MemberRead m st v b
+  pub from_value : (st : State) (v : V) (b : State) → ReadsValue means st v b → MemberRead m st v b
   from_value st v b h =
       let t = sum.from_term (standing st.top.shared h.bytes) h.term v h.meant in
       let k = term_described st t.descriptor t.described_ b (record { bytes = h.bytes; stands = subst (λ x. Stands st h.bytes x) t.is h.stands; moved = h.moved }) in
@@ -97,15 +97,15 @@ module _ {V : Type 0} (m : Members V) (means : Standing → Term → V → Type 
         is = t.named;
         inner = k.inner;
         opens = k.opens;
-        last = past (length k.bytes) k.inner;
-        read = t.read k.inner (past (length k.bytes) k.inner) (record { bytes = k.bytes; stands = k.stands; moved = refl });
+        last = after_value (length k.bytes) k.inner;
+        read = t.read k.inner (after_value (length k.bytes) k.inner) (record { bytes = k.bytes; stands = k.stands; moved = refl });
         closes = k.closes;
       }
 
   -- none of the members is opened
-  pub unopened : (ms : List Member) (st : State) (e : Error) (new : State) → map as_name ms ≡ m.names → Refused false (OpensOneOf ms) (OneOfFault ms) st e new → Refused m.takes_memory (Value means) (MemberFault m) st e new
+  pub unopened : (ms : List Member) (st : State) (e : Error) (new : State) → map as_name ms ≡ m.names → RefusesRead false (OpensOneOf ms) (OneOfFault ms) st e new → RefusesRead m.takes_memory (ReadsValue means) (MemberFault m) st e new
   unopened ms st e new names r =
-      refused_first (OpensOneOf ms) (OneOfFault ms) (Value means) (MemberFault m) st e new no_memory (no_member names)
+      refused_first (OpensOneOf ms) (OneOfFault ms) (ReadsValue means) (MemberFault m) st e new no_memory (no_member names)
       (λ none v b h.
       let k = from_value st v b h in
       none k.place k.inner (record { descriptor = k.descriptor; place = place_is k.descriptor ms ∙ ap (λ ns. name_place ns k.descriptor) names ∙ k.is; opens = k.opens }))
@@ -124,12 +124,12 @@ module _ {V : Type 0} (m : Members V) (means : Standing → Term → V → Type 
 
   -- what a member describes isn't read
   pub unread : (ms : List Member) (st : State) (i : ℕ) (inner : State) (e : Error) (new : State) → map as_name ms ≡ m.names
-      → OpensOneOf ms st i inner → Refused (m.takes_at i) (m.reads i) (m.faults i).fault inner e new
-      → Refused m.takes_memory (Value means) (MemberFault m) st e new
+      → OpensOneOf ms st i inner → RefusesRead (m.takes_at i) (m.reads i) (m.faults i).fault inner e new
+      → RefusesRead m.takes_memory (ReadsValue means) (MemberFault m) st e new
   unread ms st i inner e new names o r =
       let going = opened_going ms st i inner o in
       let at = opened_place ms st i inner names o in
-      refused_later (m.reads i) (m.faults i).fault (Value means) (MemberFault m) st inner e new
+      refused_later (m.reads i) (m.faults i).fault (ReadsValue means) (MemberFault m) st inner e new
       (m.takes i) (opened_failed ms st i inner o) going.0 going.1 (in_member o.opens at)
       (λ none v b h.
       let k = from_value st v b h in
@@ -140,12 +140,12 @@ module _ {V : Type 0} (m : Members V) (means : Standing → Term → V → Type 
 
   -- the described value isn't ended
   pub unended : (ms : List Member) (st : State) (i : ℕ) (inner last : State) (v : V) (e : Error) (new : State) → map as_name ms ≡ m.names → OpensOneOf ms st i inner → m.reads i inner v last
-      → Refused false (λ st (_ : Unit {0}) b. ClosesDescribed InDescribed st b) (EndFault InDescribed) last e new → Refused m.takes_memory (Value means) (MemberFault m) st e new
+      → RefusesRead false (λ st (_ : Unit {0}) b. ClosesDescribed InDescribed st b) (EndFault InDescribed) last e new → RefusesRead m.takes_memory (ReadsValue means) (MemberFault m) st e new
   unended ms st i inner last v e new names o q r =
       let going = opened_going ms st i inner o in
       let at = opened_place ms st i inner names o in
       let t = sum.to_term i inner v last q in
-      refused_later (λ st (_ : Unit {0}) b. ClosesDescribed InDescribed st b) (EndFault InDescribed) (Value means) (MemberFault m) st last e new no_memory (ap (λ (x : State). x.failed) t.taken.moved ∙ opened_failed ms st i inner o) going.0 (ap (λ (x : State). x.error) t.taken.moved ∙ going.1) (not_ended o.opens at q)
+      refused_later (λ st (_ : Unit {0}) b. ClosesDescribed InDescribed st b) (EndFault InDescribed) (ReadsValue means) (MemberFault m) st last e new no_memory (ap (λ (x : State). x.failed) t.taken.moved ∙ opened_failed ms st i inner o) going.0 (ap (λ (x : State). x.error) t.taken.moved ∙ going.1) (not_ended o.opens at q)
       (λ none w b h.
       let k = from_value st w b h in
       let s = opens_described_same st k.descriptor o.descriptor k.inner inner k.opens o.opens in
@@ -155,7 +155,7 @@ module _ {V : Type 0} (m : Members V) (means : Standing → Term → V → Type 
       r
 
   -- a member was read
-  pub read_whole : (ms : List Member) (st : State) (i : ℕ) (inner last : State) (v : V) (b : State) → map as_name ms ≡ m.names → st.nesting ≡ 128 → OpensOneOf ms st i inner → m.reads i inner v last → ClosesDescribed InDescribed last b → Value means st v b
+  pub read_whole : (ms : List Member) (st : State) (i : ℕ) (inner last : State) (v : V) (b : State) → map as_name ms ≡ m.names → st.nesting ≡ 128 → OpensOneOf ms st i inner → m.reads i inner v last → ClosesDescribed InDescribed last b → ReadsValue means st v b
   read_whole ms st i inner last v b names bound o q c =
       to_value st v b bound (record { descriptor = o.descriptor; place = i; is = opened_place ms st i inner names o; inner = inner; opens = o.opens; last = last; read = q; closes = c })
 

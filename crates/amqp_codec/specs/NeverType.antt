@@ -1,6 +1,6 @@
 -- The type of no values, with which the list of a sum's members ends.
 use Rattle.std.proofs.Common.{◌≡◌, true, false, refl}
-use Rattle.amqp_model.specs.FieldType.{plain}
+use Rattle.amqp_model.specs.FieldType.{unchanged}
 use Rattle.amqp_codec.specs.Faults.{Faults}
 use Rattle.amqp_codec.specs.TermType.{TermType, view_of, equality}
 
@@ -18,11 +18,11 @@ never_type = record {
   means = λ s t v. ⊥;
   faults = never_faults;
   canon = λ v. absurd v;
-  norm = plain;
+  norm = unchanged;
   same = λ v w. v ≡ w;
   count = λ v. 0;
-  solid = true;
-  blind = true;
+  is_never_null = true;
+  ignores_standing = true;
   takes_memory = false;
   is_least = true;
   sameness = equality (view_of (λ v. ⊥) (λ s t v. ⊥) (λ v. absurd v)) (λ s t v w m n. absurd m);
@@ -31,7 +31,7 @@ never_type = record {
   own = λ s t v m. refl;
   norm_norm = λ v. refl;
   formed = λ s z t u v w m n e. absurd m;
-  is_solid = λ l v. absurd v;
-  is_blind = λ l v. absurd v;
+  never_null = λ l v. absurd v;
+  standing_ignored = λ l v. absurd v;
   least = λ l b t v m. absurd m;
 }

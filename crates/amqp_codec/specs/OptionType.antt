@@ -5,13 +5,13 @@ use Rattle.amqp_model.specs.Standing.{Standing, whole}
 use Rattle.amqp_model.specs.Text.{form}
 use Rattle.amqp_model.specs.Items.{is_null}
 use Rattle.amqp_model.specs.ItemLaws.{clash}
-use Rattle.amqp_model.specs.FieldType.{Norm, normal, plain, by_norm}
+use Rattle.amqp_model.specs.FieldType.{Norm, normal, unchanged, by_norm}
 use Rattle.amqp_model.specs.Kinds.{option_canon, SameOption}
 use Rattle.amqp_model.specs.OptionLaws.{option_refl, option_sym, option_trans}
 use Rattle.amqp_wire.specs.declared.error.Error.{Error}
 use Rattle.amqp_decoder.specs.State.{State}
-use Rattle.amqp_decoder.specs.Elsewhere.{Setting, under, KeepsError, begin_fault, peeked}
-use Rattle.amqp_decoder.specs.Reading.{BeginFault, Peeked}
+use Rattle.amqp_decoder.specs.OtherSource.{Setting, under, KeepsError, begin_fault, peeked}
+use Rattle.amqp_decoder.specs.Reading.{BeginFault, PeeksCode}
 use Rattle.amqp_decoder.specs.Rooms.{HasRoom}
 use Rattle.amqp_decoder.specs.Misspelled.{IsMisspelling, NothingStands}
 use Rattle.amqp_decoder.proofs.Misspelled.{begin_misspelled}
@@ -19,11 +19,11 @@ use Rattle.amqp_decoder.proofs.NothingInside.{nothing_peeked}
 use Rattle.amqp_decoder.proofs.Rooms.{room_peeked}
 use Rattle.amqp_decoder.proofs.NotMemory.{begin_not_memory}
 use Rattle.amqp_wire.specs.declared.error.Error.TheVariants.{Memory}
-use Rattle.amqp_codec.specs.Tidy.{tidy}
+use Rattle.amqp_codec.specs.NullsAlike.{nulls_alike}
 use Rattle.amqp_codec.specs.Faults.{Faults}
 use Rattle.amqp_codec.specs.TermType.{TermType, View, view_of, view_in, Agrees, Rewrites, IgnoresStanding, Meant, IsNoShorter}
-use Rattle.amqp_codec.specs.Leaves.{reads_leaf}
-use Rattle.amqp_codec.specs.Nulls.{tidy_null, null_tidy, null_form, null_meant, null_least}
+use Rattle.amqp_codec.specs.PrimitiveTermLaws.{reads_leaf}
+use Rattle.amqp_codec.specs.NullLaws.{nulls_alike-null, is_null-nulls_alike, null_form, null_meant, null_least}
 
 -- Null means none, and another term what the type takes.
 abbrev pub MeansOption : {T : Type 0} → (Standing → Term → T → Type 0) → Standing → Term → Option T → Type 0
@@ -32,7 +32,7 @@ MeansOption means s t (Some v) = (is_null t ≡ false) × means s t v
 
 -- No value begins, or what begins there isn't null and has the fault.
 abbrev pub OptionFault : (State → Error → Type 0) → State → Error → Type 0
-OptionFault fault st e = BeginFault st e ⊎ ((c : ℕ) × (mid : State) × Peeked st c mid × (c ≡ 0x40 → ⊥) × fault mid e)
+OptionFault fault st e = BeginFault st e ⊎ ((c : ℕ) × (mid : State) × PeeksCode st c mid × (c ≡ 0x40 → ⊥) × fault mid e)
 
 pub option_not_memory : (f : Faults) (st : State) → OptionFault f.fault st Memory → ⊥
 option_not_memory f st (inl h) = begin_not_memory st h
@@ -65,34 +65,34 @@ norm_some f canon None = None
 norm_some f canon (Some v) = keep (is_null (canon v)) (f v)
 
 abbrev pub norm_option : {T : Type 0} → Norm T → Bool → (T → Term) → Norm (Option T)
-norm_option plain true canon = plain
-norm_option plain false canon = by_norm (norm_some (λ v. v) canon)
-norm_option (by_norm f) solid canon = by_norm (norm_some f canon)
+norm_option unchanged true canon = unchanged
+norm_option unchanged false canon = by_norm (norm_some (λ v. v) canon)
+norm_option (by_norm f) is_never_null canon = by_norm (norm_some f canon)
 
 abbrev pub count_option : {T : Type 0} → (T → ℕ) → Option T → ℕ
 count_option count None = 1
 count_option count (Some v) = count v
 
 none_at : {T : Type 0} (n : Norm T) (b : Bool) (canon : T → Term) → normal (norm_option n b canon) None ≡ None
-none_at plain true canon = refl
-none_at plain false canon = refl
+none_at unchanged true canon = refl
+none_at unchanged false canon = refl
 none_at (by_norm f) b canon = refl
 
 some_at : {T : Type 0} (n : Norm T) (b : Bool) (canon : T → Term) (v : T) → (b ≡ true → is_null (canon v) ≡ false)
     → normal (norm_option n b canon) (Some v) ≡ keep (is_null (canon v)) (normal n v)
-some_at plain true canon v h = rw (h refl) refl
-some_at plain false canon v h = refl
+some_at unchanged true canon v h = rw (h refl) refl
+some_at unchanged false canon v h = refl
 some_at (by_norm f) b canon v h = refl
 
 module _ {T : Type 0} (u : TermType T) where
   abbrev pub option_normal : Option T → Option T
-  option_normal v = normal (norm_option u.norm u.solid u.canon) v
+  option_normal v = normal (norm_option u.norm u.is_never_null u.canon) v
 
   pub option_none : option_normal None ≡ None
-  option_none = none_at u.norm u.solid u.canon
+  option_none = none_at u.norm u.is_never_null u.canon
 
   pub option_some : (v : T) → option_normal (Some v) ≡ keep (is_null (u.canon v)) (normal u.norm v)
-  option_some v = some_at u.norm u.solid u.canon v (λ e. u.is_solid e v)
+  option_some v = some_at u.norm u.is_never_null u.canon v (λ e. u.never_null e v)
 
   abbrev pub option_view : Option T → View
   option_view = view_of (λ v. IfSome v u.is_value) (MeansOption u.means) (option_canon u.canon)
@@ -116,15 +116,15 @@ module _ {T : Type 0} (u : TermType T) where
 
   -- null is alike in the normal value
   null_normal : (v : T) → is_null (u.canon (normal u.norm v)) ≡ is_null (u.canon v)
-  null_normal v = sym (null_tidy (u.canon (normal u.norm v))) ∙ ap is_null (u.rewrites v).canon ∙ null_tidy (u.canon v)
+  null_normal v = sym (is_null-nulls_alike (u.canon (normal u.norm v))) ∙ ap is_null (u.rewrites v).canon ∙ is_null-nulls_alike (u.canon v)
 
   kept_means : (s : Standing) (t : Term) (v : T) (b : Bool) → is_null (u.canon v) ≡ b → u.means s t (normal u.norm v)
       → MeansOption u.means s t (keep b (normal u.norm v))
   kept_means s t v true e m = sym (u.meant s t (normal u.norm v) m).null_alike ∙ null_normal v ∙ e
   kept_means s t v false e m = (sym (u.meant s t (normal u.norm v) m).null_alike ∙ null_normal v ∙ e, m)
 
-  kept_canon : (v : T) (b : Bool) → is_null (u.canon v) ≡ b → tidy (option_canon u.canon (keep b (normal u.norm v))) ≡ tidy (u.canon v)
-  kept_canon v true e = sym (tidy_null (u.canon v) e)
+  kept_canon : (v : T) (b : Bool) → is_null (u.canon v) ≡ b → nulls_alike (option_canon u.canon (keep b (normal u.norm v))) ≡ nulls_alike (u.canon v)
+  kept_canon v true e = sym (nulls_alike-null (u.canon v) e)
   kept_canon v false e = (u.rewrites v).canon
 
   -- what holds of the normal value, or of none where it is null, holds of the option's
@@ -180,11 +180,11 @@ module _ {T : Type 0} (u : TermType T) where
     canon_means = λ s i f. kept_means s (u.canon v) v (is_null (u.canon v)) refl (h.canon_means s i f);
   }
 
-  pub option_ignores : u.blind ≡ true → (v : Option T) → IgnoresStanding (option_view v) (option_view (option_normal v))
+  pub option_ignores : u.ignores_standing ≡ true → (v : Option T) → IgnoresStanding (option_view v) (option_view (option_normal v))
   option_ignores l None = none_normally (λ x. IgnoresStanding (option_view None) (option_view x))
       (record { plain = tt; means = λ s z t m. m; canon_means = λ s i f. refl })
   option_ignores l (Some v) =
-      some_normally (λ x. IgnoresStanding (option_view (Some v)) (option_view x)) v (some_ignores v (u.is_blind l v))
+      some_normally (λ x. IgnoresStanding (option_view (Some v)) (option_view x)) v (some_ignores v (u.standing_ignored l v))
 
   pub option_least : u.is_least ≡ true → (b : List ℕ) (t : Term) (v : Option T) → MeansOption u.means (whole b) t v
       → IsNoShorter b t (option_canon u.canon v)
@@ -197,11 +197,11 @@ option_of u = record {
   means = MeansOption u.means;
   faults = option_faults u.faults;
   canon = option_canon u.canon;
-  norm = norm_option u.norm u.solid u.canon;
+  norm = norm_option u.norm u.is_never_null u.canon;
   same = SameOption u.same;
   count = count_option u.count;
-  solid = false;
-  blind = u.blind;
+  is_never_null = false;
+  ignores_standing = u.ignores_standing;
   takes_memory = u.takes_memory;
   is_least = u.is_least;
   sameness = record {
@@ -216,7 +216,7 @@ option_of u = record {
   own = option_own u;
   norm_norm = option_norm_norm u;
   formed = option_formed u;
-  is_solid = λ e v. absurd (clash e refl);
-  is_blind = option_ignores u;
+  never_null = λ e v. absurd (clash e refl);
+  standing_ignored = option_ignores u;
   least = option_least u;
 }

@@ -7,10 +7,10 @@ use Rattle.amqp_input.specs.Kinds.{booleans, uints, ulongs, symbols}
 use Rattle.amqp_decoder.specs.Primitives.{PrimitiveFault}
 use Rattle.amqp_decoder.proofs.NotMemory.{primitive_not_memory}
 use Rattle.amqp_decoder.proofs.Misspelled.{primitive_misspelled}
-use Rattle.amqp_decoder.specs.Elsewhere.{primitive_fault}
+use Rattle.amqp_decoder.specs.OtherSource.{primitive_fault}
 use Rattle.amqp_codec.specs.ExactType.{MeansExactly, IsExact, exact}
 use Rattle.amqp_codec.specs.Faults.{Faults}
-use Rattle.amqp_codec.specs.Leaves.{leaf_injective, leaf_writable}
+use Rattle.amqp_codec.specs.PrimitiveTermLaws.{leaf_injective, leaf_writable}
 use Rattle.amqp_codec.specs.TermType.{TermType, view_of, equality}
 
 -- The values of A are the primitives of one kind.

@@ -10,9 +10,9 @@ use Rattle.amqp_model.proofs.Count.{nodes_bounded}
 use Rattle.amqp_wire.specs.declared.error.Error.{Error}
 use Rattle.amqp_wire.specs.declared.error.Error.TheVariants.{Memory, Depth}
 use Rattle.amqp_decoder.specs.State.{Open, State, top_level, lower}
-use Rattle.amqp_decoder.specs.Elsewhere.{Setting, under, another, keeps_another, elsewhere, value}
+use Rattle.amqp_decoder.specs.OtherSource.{Setting, under, another, keeps_another, elsewhere, value}
 use Rattle.amqp_decoder.specs.Misspelled.{IsMisspelling}
-use Rattle.amqp_decoder.specs.Primitives.{standing, SpellsAs, Value}
+use Rattle.amqp_decoder.specs.Primitives.{standing, SpellsAs, ReadsValue}
 use Rattle.amqp_decoder.proofs.OneReading.{value_same}
 use Rattle.amqp_codec.specs.TermType.{TermType}
 
@@ -40,8 +40,8 @@ abbrev pub looking : ℕ → State → State
 looking n st = record st { ahead = n }
 
 -- The two differ at most in how far was looked.
-abbrev pub Alike : State → State → Type 0
-Alike a b = b ≡ looking b.ahead a
+abbrev pub AreAlike : State → State → Type 0
+AreAlike a b = b ≡ looking b.ahead a
 
 -- A decoder at the start of an input.
 abbrev pub start : List ℕ → State
@@ -69,7 +69,7 @@ pub record Reading (T : Type 0) : Type 1 where
   pub one_term : Bool
   pub same_sym : (v w : T) → same v w → same w v
   pub same_trans : (v w x : T) → same v w → same w x → same v x
-  pub one : (st : State) (v w : T) (a b : State) → reads st v a → reads st w b → same v w × Alike a b
+  pub one : (st : State) (v w : T) (a b : State) → reads st v a → reads st w b → same v w × AreAlike a b
   pub going : (st : State) (v : T) (b : State) → reads st v b → st.error ≡ None
   pub counted : (st : State) (v : T) (b : State) → st.top.shared ≡ None → reads st v b → count v + length b.rest ≤ length st.rest
   pub taken : (st : State) (v : T) (b : State) → reads st v b → Taken looks_on st b
@@ -84,15 +84,15 @@ pub record Reading (T : Type 0) : Type 1 where
 
 -- what is read is one value, and leaves one state
 pub value_one : {T : Type 0} (same : T → T → Type 0) (means : Standing → Term → T → Type 0) → ((s : Standing) (t : Term) (v w : T) → means s t v → means s t w → same v w)
-    → (st : State) (v w : T) (a b : State) → Value means st v a → Value means st w b → same v w × (a ≡ b)
+    → (st : State) (v w : T) (a b : State) → ReadsValue means st v a → ReadsValue means st w b → same v w × (a ≡ b)
 value_one same means one st v w a b h k =
     let r = value_same means st a b v w h k in (one r.0 r.1 v w r.2 r.3, r.4)
 
-value_left : {T : Type 0} (means : Standing → Term → T → Type 0) (st : State) (v : T) (b : State) (h : Value means st v b) → length h.bytes + length b.rest ≡ length st.rest
+value_left : {T : Type 0} (means : Standing → Term → T → Type 0) (st : State) (v : T) (b : State) (h : ReadsValue means st v b) → length h.bytes + length b.rest ≡ length st.rest
 value_left means st v b h =
     omega (arith, ap (λ (x : State). length x.rest) h.moved, length-drop (length h.bytes) st.rest, ap length h.stands.rest, length-append h.bytes h.stands.after)
 
-pub value_counted : {T : Type 0} (u : TermType T) (st : State) (v : T) (b : State) → st.top.shared ≡ None → Value u.means st v b → u.count v + length b.rest ≤ length st.rest
+pub value_counted : {T : Type 0} (u : TermType T) (st : State) (v : T) (b : State) → st.top.shared ≡ None → ReadsValue u.means st v b → u.count v + length b.rest ≤ length st.rest
 value_counted u st v b n h =
     omega (
       arith,
@@ -101,7 +101,7 @@ value_counted u st v b n h =
       nodes_bounded h.bytes h.term (subst (λ o. SpellsAs (standing o h.bytes) h.term) n h.stands.spelled),
     )
 
-pub value_taken : {T : Type 0} (means : Standing → Term → T → Type 0) (st : State) (v : T) (b : State) → Value means st v b → Taken false st b
+pub value_taken : {T : Type 0} (means : Standing → Term → T → Type 0) (st : State) (v : T) (b : State) → ReadsValue means st v b → Taken false st b
 value_taken means st v b h = record {
   count = length h.bytes;
   within = omega (arith, value_left means st v b h);
@@ -112,7 +112,7 @@ value_taken means st v b h = record {
 top_past : (n : ℕ) (o : Open) → o ≡ top_level → record o { items = lower o.items 1; left = lower o.left n } ≡ top_level
 top_past n o e = rw e refl
 
-pub value_stays : {T : Type 0} (means : Standing → Term → T → Type 0) (st : State) (v : T) (b : State) → Value means st v b → Stays st b
+pub value_stays : {T : Type 0} (means : Standing → Term → T → Type 0) (st : State) (v : T) (b : State) → ReadsValue means st v b → Stays st b
 value_stays means st v b h = record {
   error = ap (λ (x : State). x.error) h.moved;
   place = ap (λ (x : State). x.top.place) h.moved;
@@ -124,7 +124,7 @@ value_stays means st v b h = record {
   top = λ e. ap (λ (x : State). x.top) h.moved ∙ top_past (length h.bytes) st.top e;
 }
 
-pub value_looked : {T : Type 0} (means : Standing → Term → T → Type 0) (n : ℕ) (st : State) (v : T) (b : State) → Value means st v b → (m : ℕ) × Value means (looking n st) v (looking m b)
+pub value_looked : {T : Type 0} (means : Standing → Term → T → Type 0) (n : ℕ) (st : State) (v : T) (b : State) → ReadsValue means st v b → (m : ℕ) × ReadsValue means (looking n st) v (looking m b)
 value_looked means n st v b h =
     let s = h.stands in (
       n - length h.bytes,
@@ -138,9 +138,9 @@ value_looked means n st v b h =
     )
 
 pub value_alike : {T : Type 0} (same : T → T → Type 0) (means : Standing → Term → T → Type 0) → ((s : Standing) (t : Term) (v w : T) → means s t v → means s t w → same v w)
-    → (st : State) (v w : T) (a b : State) → Value means st v a → Value means st w b → same v w × Alike a b
+    → (st : State) (v w : T) (a b : State) → ReadsValue means st v a → ReadsValue means st w b → same v w × AreAlike a b
 value_alike same means one st v w a b h k =
-    let r = value_one same means one st v w a b h k in (r.0, subst (Alike a) r.1 refl)
+    let r = value_one same means one st v w a b h k in (r.0, subst (AreAlike a) r.1 refl)
 
 abbrev is_depth : Error → Bool
 is_depth Depth = true
@@ -167,7 +167,7 @@ term_unspelled u input e i f b more t is s bound = by_depth (is_depth e) refl
 abbrev pub reading_of : {T : Type 0} → TermType T → Reading T
 reading_of u = record {
   same = u.same;
-  reads = Value u.means;
+  reads = ReadsValue u.means;
   fault = u.faults.fault;
   not_memory = u.faults.not_memory;
   takes_memory = u.takes_memory;
@@ -188,20 +188,20 @@ reading_of u = record {
 }
 
 -- The input begins with n bytes that are read as the value.
-pub record IsRead {T : Type 0} (r : Reading T) (input : List ℕ) (v : T) (n : ℕ) : Type 0 where
+pub record BeginsWith {T : Type 0} (r : Reading T) (input : List ℕ) (v : T) (n : ℕ) : Type 0 where
   pub after : State
   pub read : r.reads (start input) v after
   pub left : length after.rest + n ≡ length input
 
 -- The input begins with no value, and has the fault.
-pub record Unreadable {T : Type 0} (r : Reading T) (input : List ℕ) (e : Error) : Type 0 where
+pub record IsUnreadable {T : Type 0} (r : Reading T) (input : List ℕ) (e : Error) : Type 0 where
   pub fault : r.fault (start input) e
-  pub none : (v : T) (n : ℕ) → IsRead r input v n → ⊥
+  pub none : (v : T) (n : ℕ) → BeginsWith r input v n → ⊥
   -- of a type of terms: the error says that no term stands there only where none does
   pub unspelled : r.one_term ≡ true → IsMisspelling e → IsUnspelled e input
 
 -- one value at most, and its length
-pub read_one : {T : Type 0} (r : Reading T) (input : List ℕ) (v w : T) (n m : ℕ) → IsRead r input v n → IsRead r input w m → r.same v w × (n ≡ m)
+pub read_one : {T : Type 0} (r : Reading T) (input : List ℕ) (v w : T) (n m : ℕ) → BeginsWith r input v n → BeginsWith r input w m → r.same v w × (n ≡ m)
 read_one r input v w n m h k =
     let u = r.one (start input) v w h.after k.after h.read k.read in
     (u.0, omega (arith, h.left, k.left, ap (λ (x : State). length x.rest) u.1))
@@ -209,10 +209,10 @@ read_one r input v w n m h k =
 pub read_bounded : {T : Type 0} (r : Reading T) (input : List ℕ) (v : T) (b : State) → r.reads (start input) v b → r.count v + length b.rest ≤ length input
 read_bounded r input v b h = r.counted (start input) v b refl h
 
-pub is_read : {T : Type 0} (r : Reading T) (input : List ℕ) (v : T) (b : State) (n : ℕ) → r.reads (start input) v b → n ≡ length input - length b.rest → IsRead r input v n
+pub is_read : {T : Type 0} (r : Reading T) (input : List ℕ) (v : T) (b : State) (n : ℕ) → r.reads (start input) v b → n ≡ length input - length b.rest → BeginsWith r input v n
 is_read r input v b n h e = record { after = b; read = h; left = omega (arith, e, read_bounded r input v b h) }
 
 -- memory is wanted only where it is taken
-pub memory_wanted : {T : Type 0} (r : Reading T) (input : List ℕ) (e : Error) → ((r.takes_memory ≡ true) × (e ≡ Memory)) ⊎ Unreadable r input e → e ≡ Memory → r.takes_memory ≡ true
+pub memory_wanted : {T : Type 0} (r : Reading T) (input : List ℕ) (e : Error) → ((r.takes_memory ≡ true) × (e ≡ Memory)) ⊎ IsUnreadable r input e → e ≡ Memory → r.takes_memory ≡ true
 memory_wanted r input e (inl x) is = x.0
 memory_wanted r input e (inr x) is = absurd (r.not_memory (start input) (subst (r.fault (start input)) is x.fault))

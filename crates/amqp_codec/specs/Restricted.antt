@@ -7,9 +7,9 @@ use Rattle.amqp_wire.specs.declared.error.Error.TheVariants.{Memory, UnknownText
 use Rattle.amqp_input.specs.Kinds.{booleans, ubytes, ushorts, uints, symbols}
 use Rattle.amqp_decoder.specs.State.{State}
 use Rattle.amqp_decoder.specs.Misspelled.{IsMisspelling, NothingStands}
-use Rattle.amqp_decoder.specs.Reading.{Reads}
-use Rattle.amqp_decoder.specs.Primitives.{Value, Means, PrimitiveFault}
-use Rattle.amqp_decoder.specs.Elsewhere.{Setting, under, KeepsError, value, primitive_fault}
+use Rattle.amqp_decoder.specs.Reading.{AnswersRead}
+use Rattle.amqp_decoder.specs.Primitives.{ReadsValue, Means, PrimitiveFault}
+use Rattle.amqp_decoder.specs.OtherSource.{Setting, under, KeepsError, value, primitive_fault}
 use Rattle.amqp_decoder.proofs.NotMemory.{primitive_not_memory}
 use Rattle.amqp_decoder.proofs.Misspelled.{primitive_misspelled}
 use Rattle.amqp_codec.specs.ExactType.{MeansExactly, exact}
@@ -73,11 +73,11 @@ module _ {A V : Type 0} (base : Base A) (unknown : Error) (table : V → A) wher
   -- Why no value is read: no primitive of the base stands there, or one that is no value's.
   pub data RestrictedFault (st : State) (e : Error) : Type 0 where
     no_primitive : PrimitiveFault base.kind st e → RestrictedFault st e
-    of_no_value : {a : A} {b : State} → Value (Means base.make) st a b → IsUnknown table a → e ≡ unknown → RestrictedFault st e
+    of_no_value : {a : A} {b : State} → ReadsValue (Means base.make) st a b → IsUnknown table a → e ≡ unknown → RestrictedFault st e
 
   -- What a call promises that reads a value.
   abbrev pub ReadsRestricted : (takes_memory : Bool) → State → Result V Error → State → Type 0
-  ReadsRestricted takes_memory = Reads takes_memory (Value (MeansRestricted base table)) RestrictedFault
+  ReadsRestricted takes_memory = AnswersRead takes_memory (ReadsValue (MeansRestricted base table)) RestrictedFault
 
   module _ (is : IsUnknownError unknown) where
     pub restricted_not_memory : (st : State) → RestrictedFault st Memory → ⊥

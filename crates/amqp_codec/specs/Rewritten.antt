@@ -5,52 +5,52 @@ use Rattle.amqp_model.specs.Ranges.{IsBytes}
 use Rattle.amqp_wire.specs.declared.error.Error.{Error}
 use Rattle.amqp_wire.specs.declared.error.Error.TheVariants.{TooLarge}
 use Rattle.amqp_encoder.specs.Passes.{row_text}
-use Rattle.amqp_codec.specs.Reading.{Reading, IsRead}
+use Rattle.amqp_codec.specs.Reading.{Reading, BeginsWith}
 use Rattle.amqp_codec.specs.Rewriting.{HoldNoArray}
 use Rattle.amqp_codec.specs.Written.{AreWritable, AreUnwritable}
 
 -- The bytes are the canonical text of the one value that the first n bytes of the input are read as.
 pub record IsRewritten {T : Type 0} (r : Reading T) (canons : T → List Term) (input text : List ℕ) (n : ℕ) : Type 0 where
   pub value : T
-  pub read : IsRead r input value n
-  pub one : (w : T) (m : ℕ) → IsRead r input w m → r.same value w
+  pub read : BeginsWith r input value n
+  pub one : (w : T) (m : ℕ) → BeginsWith r input w m → r.same value w
   pub bounded : r.count value ≤ n
   pub writable : AreWritable (canons value)
   pub text_is : text ≡ row_text (canons value)
 
 -- Before whatever may follow, the text is read to its end, as the value that the first n bytes of the input are read as.
 pub record IsReadAgain {T : Type 0} (r : Reading T) (follows : List ℕ → Type 0) (again : T → T) (kept : T → Type 0) (input text : List ℕ) (n : ℕ) : Type 0 where
-  pub read : (v : T) (more : List ℕ) → IsRead r input v n → follows more → IsRead r (text ++ more) (again v) (length text)
-  pub itself : (v : T) → IsRead r input v n → kept v → r.same (again v) v
+  pub read : (v : T) (more : List ℕ) → BeginsWith r input v n → follows more → BeginsWith r (text ++ more) (again v) (length text)
+  pub itself : (v : T) → BeginsWith r input v n → kept v → r.same (again v) v
 
 -- It is the canonical text of that value however any input spells it.
 abbrev pub IsOneText : {T : Type 0} → Reading T → (T → List Term) → List ℕ → List ℕ → ℕ → Type 0
-IsOneText {T} r canons input text n = (v w : T) (other : List ℕ) (m : ℕ) → IsRead r input v n → IsRead r other w m → r.same v w → row_text (canons w) ≡ text
+IsOneText {T} r canons input text n = (v w : T) (other : List ℕ) (m : ℕ) → BeginsWith r input v n → BeginsWith r other w m → r.same v w → row_text (canons w) ≡ text
 
 -- It is the canonical text of no other value.
 abbrev pub IsOfNoOther : {T : Type 0} → Reading T → (T → List Term) → (T → Type 0) → List ℕ → List ℕ → ℕ → Type 0
 IsOfNoOther {T} r canons kept input text n =
-    (v w : T) (other : List ℕ) (m : ℕ) → IsRead r input v n → IsRead r other w m → kept v → kept w → AreWritable (canons w) → row_text (canons w) ≡ text → r.same v w
+    (v w : T) (other : List ℕ) (m : ℕ) → BeginsWith r input v n → BeginsWith r other w m → kept v → kept w → AreWritable (canons w) → row_text (canons w) ≡ text → r.same v w
 
 -- What it is read as has it as its canonical text.
 abbrev pub IsUnchanged : {T : Type 0} → Reading T → (T → List Term) → List ℕ → Type 0
-IsUnchanged {T} r canons text = (w : T) (m : ℕ) → IsRead r text w m → (row_text (canons w) ≡ text) × (m ≡ length text)
+IsUnchanged {T} r canons text = (w : T) (m : ℕ) → BeginsWith r text w m → (row_text (canons w) ≡ text) × (m ≡ length text)
 
 -- No spelling of that value is shorter, where no array stands in its canonical terms.
 abbrev pub IsShortest : {T : Type 0} → Reading T → (T → List Term) → List ℕ → List ℕ → ℕ → Type 0
 IsShortest {T} r canons input text n =
-    (v w : T) (other : List ℕ) (m : ℕ) → IsRead r input v n → IsRead r other w m → r.same v w → IsBytes other → HoldNoArray (canons w) → length text ≤ m
+    (v w : T) (other : List ℕ) (m : ℕ) → BeginsWith r input v n → BeginsWith r other w m → r.same v w → IsBytes other → HoldNoArray (canons w) → length text ≤ m
 
 -- The canonical text of every value that can be written is read to its end, before whatever may follow, as what the text of
 -- that value is read as; and this has the same canonical text.
 pub record AreReadAgain {T : Type 0} (r : Reading T) (canons : T → List Term) (is_value : T → Type 0) (follows : List ℕ → Type 0) (again : T → T) (lasts : T → Type 0) : Type 0 where
-  pub read : (v : T) (more : List ℕ) → is_value v → lasts v → AreWritable (canons v) → follows more → IsRead r (row_text (canons v) ++ more) (again v) (length (row_text (canons v)))
+  pub read : (v : T) (more : List ℕ) → is_value v → lasts v → AreWritable (canons v) → follows more → BeginsWith r (row_text (canons v) ++ more) (again v) (length (row_text (canons v)))
   pub text : (v : T) → is_value v → AreWritable (canons v) → row_text (canons (again v)) ≡ row_text (canons v)
 
 -- What the input is read as is too large to be written.
-pub record Unwritten {T : Type 0} (r : Reading T) (canons : T → List Term) (input : List ℕ) (e : Error) : Type 0 where
+pub record IsUnwritten {T : Type 0} (r : Reading T) (canons : T → List Term) (input : List ℕ) (e : Error) : Type 0 where
   pub value : T
   pub length : ℕ
-  pub read : IsRead r input value length
+  pub read : BeginsWith r input value length
   pub unwritable : AreUnwritable (canons value) e
   pub large : e ≡ TooLarge

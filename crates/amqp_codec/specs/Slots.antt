@@ -12,9 +12,9 @@ use Rattle.amqp_model.specs.Slot as slot
 use Rattle.amqp_model.specs.OptionLaws.{option_meaning}
 use Rattle.amqp_model.specs.DefaultLaws.{default_meaning}
 use Rattle.amqp_codec.specs.Faults.{Faults}
-use Rattle.amqp_codec.specs.TermType.{TermType, IsPlain, IsNoShorter}
-use Rattle.amqp_codec.specs.Leaves.{null_writable}
-use Rattle.amqp_codec.specs.Nulls.{null_least}
+use Rattle.amqp_codec.specs.TermType.{TermType, KeepsNoBytes, IsNoShorter}
+use Rattle.amqp_codec.specs.PrimitiveTermLaws.{null_writable}
+use Rattle.amqp_codec.specs.NullLaws.{null_least}
 use Rattle.amqp_codec.specs.FieldTypes.{anywhere, FieldMeant, FieldLaws, field_type, type_laws, standing_so}
 
 pub record Field (T : Type 0) : Type 1 where
@@ -27,15 +27,15 @@ pub record Field (T : Type 0) : Type 1 where
   pub fits : (s : Standing) (t : Term) (v : T) → reads s t v → slot.meaning.means t v
   pub is_read : (s : Standing) (t : Term) (v : T) → is_null t ≡ false → slot.meaning.means t v → reads s t v
 
-abbrev pub mandatory : {T : Type 0} (u : TermType T) → u.solid ≡ true → u.blind ≡ true → Field T
-mandatory u solid blind = record {
-  slot = slot.mandatory (field_type u solid blind);
-  laws = type_laws u solid blind;
+abbrev pub mandatory : {T : Type 0} (u : TermType T) → u.is_never_null ≡ true → u.ignores_standing ≡ true → Field T
+mandatory u is_never_null ignores_standing = record {
+  slot = slot.mandatory (field_type u is_never_null ignores_standing);
+  laws = type_laws u is_never_null ignores_standing;
   takes_memory = u.takes_memory;
   reads = u.means;
   faults = u.faults;
-  fits = λ s t v m. standing_so u blind s anywhere t v m;
-  is_read = λ s t v n m. standing_so u blind anywhere s t v m;
+  fits = λ s t v m. standing_so u ignores_standing s anywhere t v m;
+  is_read = λ s t v n m. standing_so u ignores_standing anywhere s t v m;
 }
 
 -- null as the canonical term of a field
@@ -51,9 +51,9 @@ module _ {T : Type 0} (m : Meaning T) (never_null : NeverNull m) (l : FieldLaws 
   some_valued None i = tt
   some_valued (Some v) i = l.valued v i
 
-  pub some_is_plain : (v : Option T) → IsPlain (option_canon m.canon v)
-  some_is_plain None = tt
-  some_is_plain (Some v) = l.is_plain v
+  pub some_keeps_no_bytes : (v : Option T) → KeepsNoBytes (option_canon m.canon v)
+  some_keeps_no_bytes None = tt
+  some_keeps_no_bytes (Some v) = l.keeps_no_bytes v
 
   pub some_meant : (t : Term) (v : Option T) → OptionMeans m.means t v → FieldMeant t (option_canon m.canon v) (some_count l.count v)
   some_meant t None h = null_field t
@@ -69,7 +69,7 @@ module _ {T : Type 0} (m : Meaning T) (never_null : NeverNull m) (l : FieldLaws 
     count = some_count l.count;
     is_least = l.is_least;
     valued = some_valued;
-    is_plain = some_is_plain;
+    keeps_no_bytes = some_keeps_no_bytes;
     meant = some_meant;
     least = some_least;
   }
@@ -79,27 +79,27 @@ abbrev pub MeansSome : {T : Type 0} → (T → Type 0) → Option T → Type 0
 MeansSome P None = ⊥
 MeansSome P (Some v) = P v
 
-module _ {T : Type 0} (u : TermType T) (solid : u.solid ≡ true) (blind : u.blind ≡ true) where
+module _ {T : Type 0} (u : TermType T) (is_never_null : u.is_never_null ≡ true) (ignores_standing : u.ignores_standing ≡ true) where
   pub some_fits : (s : Standing) (t : Term) (v : Option T) → MeansSome (u.means s t) v → OptionMeans (u.means anywhere) t v
   some_fits s t None m = absurd m
-  some_fits s t (Some v) m = standing_so u blind s anywhere t v m
+  some_fits s t (Some v) m = standing_so u ignores_standing s anywhere t v m
 
   pub some_read : (s : Standing) (t : Term) (v : Option T) → is_null t ≡ false → OptionMeans (u.means anywhere) t v
       → MeansSome (u.means s t) v
   some_read s t None n m = clash m n
-  some_read s t (Some v) n m = standing_so u blind anywhere s t v m
+  some_read s t (Some v) n m = standing_so u ignores_standing anywhere s t v m
 
-abbrev pub optional : {T : Type 0} (u : TermType T) → u.solid ≡ true → u.blind ≡ true → Field (Option T)
-optional u solid blind =
-    let f = field_type u solid blind in
+abbrev pub optional : {T : Type 0} (u : TermType T) → u.is_never_null ≡ true → u.ignores_standing ≡ true → Field (Option T)
+optional u is_never_null ignores_standing =
+    let f = field_type u is_never_null ignores_standing in
     record {
       slot = slot.optional f;
-      laws = option_laws f.meaning f.never_null (type_laws u solid blind);
+      laws = option_laws f.meaning f.never_null (type_laws u is_never_null ignores_standing);
       takes_memory = u.takes_memory;
       reads = λ s t. MeansSome (u.means s t);
       faults = u.faults;
-      fits = some_fits u solid blind;
-      is_read = some_read u solid blind;
+      fits = some_fits u is_never_null ignores_standing;
+      is_read = some_read u is_never_null ignores_standing;
     }
 
 module _ {T : Type 0} (m : Meaning T) (never_null : NeverNull m) (l : FieldLaws m) (d : DefaultValue m) where
@@ -114,8 +114,8 @@ module _ {T : Type 0} (m : Meaning T) (never_null : NeverNull m) (l : FieldLaws 
   pub other_valued : (v : T) → m.is_value v → Everywhere IsValue (default_canon m d v)
   other_valued v i = by_test (λ b. Everywhere IsValue (cond b (leaf null) (m.canon v))) (d.test v) tt (l.valued v i)
 
-  pub other_is_plain : (v : T) → IsPlain (default_canon m d v)
-  other_is_plain v = by_test (λ b. IsPlain (cond b (leaf null) (m.canon v))) (d.test v) tt (l.is_plain v)
+  pub other_keeps_no_bytes : (v : T) → KeepsNoBytes (default_canon m d v)
+  other_keeps_no_bytes v = by_test (λ b. KeepsNoBytes (cond b (leaf null) (m.canon v))) (d.test v) tt (l.keeps_no_bytes v)
 
   pub other_meant : (t : Term) (v : T) → DefaultMeans m d t v → FieldMeant t (default_canon m d v) (other_count v)
   other_meant t v (inl h) =
@@ -132,27 +132,27 @@ module _ {T : Type 0} (m : Meaning T) (never_null : NeverNull m) (l : FieldLaws 
     count = other_count;
     is_least = l.is_least;
     valued = other_valued;
-    is_plain = other_is_plain;
+    keeps_no_bytes = other_keeps_no_bytes;
     meant = other_meant;
     least = other_least;
   }
 
-pub other_read : {T : Type 0} (u : TermType T) (solid : u.solid ≡ true) (blind : u.blind ≡ true)
-    (d : DefaultValue (field_type u solid blind).meaning) (s : Standing) (t : Term) (v : T)
-    → is_null t ≡ false → DefaultMeans (field_type u solid blind).meaning d t v → u.means s t v
-other_read u solid blind d s t v n (inl m) = standing_so u blind anywhere s t v m
-other_read u solid blind d s t v n (inr m) = absurd (clash m.0 n)
+pub other_read : {T : Type 0} (u : TermType T) (is_never_null : u.is_never_null ≡ true) (ignores_standing : u.ignores_standing ≡ true)
+    (d : DefaultValue (field_type u is_never_null ignores_standing).meaning) (s : Standing) (t : Term) (v : T)
+    → is_null t ≡ false → DefaultMeans (field_type u is_never_null ignores_standing).meaning d t v → u.means s t v
+other_read u is_never_null ignores_standing d s t v n (inl m) = standing_so u ignores_standing anywhere s t v m
+other_read u is_never_null ignores_standing d s t v n (inr m) = absurd (clash m.0 n)
 
-abbrev pub default : {T : Type 0} (u : TermType T) (solid : u.solid ≡ true) (blind : u.blind ≡ true)
-    → DefaultValue (field_type u solid blind).meaning → Field T
-default u solid blind d =
-    let f = field_type u solid blind in
+abbrev pub default : {T : Type 0} (u : TermType T) (is_never_null : u.is_never_null ≡ true) (ignores_standing : u.ignores_standing ≡ true)
+    → DefaultValue (field_type u is_never_null ignores_standing).meaning → Field T
+default u is_never_null ignores_standing d =
+    let f = field_type u is_never_null ignores_standing in
     record {
       slot = slot.default f d;
-      laws = default_laws f.meaning f.never_null (type_laws u solid blind) d;
+      laws = default_laws f.meaning f.never_null (type_laws u is_never_null ignores_standing) d;
       takes_memory = u.takes_memory;
       reads = u.means;
       faults = u.faults;
-      fits = λ s t v m. inl (standing_so u blind s anywhere t v m);
-      is_read = other_read u solid blind d;
+      fits = λ s t v m. inl (standing_so u ignores_standing s anywhere t v m);
+      is_read = other_read u is_never_null ignores_standing d;
     }

@@ -3,7 +3,7 @@ use Rattle.std.specs.Prelude.{ℕ, ◌≤◌, List}
 use Rattle.amqp_model.specs.Term.{Term}
 use Rattle.amqp_model.specs.Spelling.{enc}
 use Rattle.amqp_model.specs.Standing.{whole}
-use Rattle.amqp_model.specs.Text.{Plain, text}
+use Rattle.amqp_model.specs.Text.{Alone, text}
 use Rattle.amqp_model.specs.Measures.{nest}
 use Rattle.amqp_codec.specs.TermType.{TermType, IsUnrefused}
 
@@ -16,7 +16,7 @@ pub record IsSpelled {T : Type 0} (u : TermType T) (b : List ℕ) (v : T) : Type
 
 -- The canonical text of a value.
 abbrev pub written : {T : Type 0} → TermType T → T → List ℕ
-written u v = text (u.canon v) Plain
+written u v = text (u.canon v) Alone
 
 -- Nothing speaks against writing the value.
 abbrev pub IsWritable : {T : Type 0} → TermType T → T → Type 0

@@ -3,19 +3,19 @@ use Rattle.std.proofs.Common.{◌≡◌, inl, inr, ℕ, ◌≤◌, true, List, [
 use Rattle.std.proofs.Common.{subst, arith, lt_of_not-le, le_of_suc-le-suc}
 use Rattle.amqp_model.specs.Term.{Refusal, depth, too_large, lazy_in_array, Term}
 use Rattle.amqp_model.specs.Standing.{whole}
-use Rattle.amqp_model.specs.Text.{Plain, text}
+use Rattle.amqp_model.specs.Text.{Alone, text}
 use Rattle.amqp_model.specs.Measures.{nest}
 use Rattle.amqp_model.specs.Ranges.{Everywhere, IsNoArray, IsBytes}
 use Rattle.amqp_model.specs.Refusals.{Refuses}
-use Rattle.amqp_model.specs.Kept.{Reads}
+use Rattle.amqp_model.specs.Kept.{ExpandsTo}
 use Rattle.amqp_model.specs.FieldType.{normal}
 use Rattle.amqp_model.proofs.Barred.{unrefused_free}
 use Rattle.amqp_model.proofs.Count.{nodes_bounded}
 use Rattle.amqp_model.proofs.Unique.{one_front, one_term}
 use Rattle.amqp_model.proofs.Unrefused.{unrefused_spells}
-use Rattle.amqp_codec.specs.Tidy.{tidy}
+use Rattle.amqp_codec.specs.NullsAlike.{nulls_alike}
 use Rattle.amqp_codec.specs.TermType.{TermType, IsUnrefused}
-use Rattle.amqp_codec.specs.TidyText.{NoneKept, alike_texts}
+use Rattle.amqp_codec.specs.NullTextLaws.{NoneKept, alike_texts}
 use Rattle.amqp_codec.specs.Spelled.{IsSpelled, written, IsWritable}
 
 module _ {T : Type 0} (u : TermType T) where
@@ -33,7 +33,7 @@ module _ {T : Type 0} (u : TermType T) where
   spelled_writable b v r h (inl i) = (u.meant (whole b) h.term v h.meant).writable h.spelled r i
   spelled_writable b v r h (inr (e, (t, i, l))) = absurd (omega (arith, l, h.nested, (u.meant (whole b) h.term v h.meant).nested t i))
 
-  unrefused_nested : (v : T) (t : Term) → IsUnrefused (u.canon v) → Reads (u.canon v) t → nest t ≤ 128
+  unrefused_nested : (v : T) (t : Term) → IsUnrefused (u.canon v) → ExpandsTo (u.canon v) t → nest t ≤ 128
   unfolding Refuses
   unrefused_nested v t f r = le_of_suc-le-suc (lt_of_not-le (λ l. f depth (inr (refl, (t, r, l)))))
 
@@ -70,7 +70,7 @@ module _ {T : Type 0} (u : TermType T) where
 
   -- one text for all spellings
   pub same_text : (v w : T) → u.same v w → written u v ≡ written u w
-  same_text v w s = ap (λ t. text t Plain) (u.sameness.agrees v w s).canon
+  same_text v w s = ap (λ t. text t Alone) (u.sameness.agrees v w s).canon
 
   -- what a text spells is written as that text
   pub text_unchanged : (v w : T) → u.is_value v → IsWritable u v → IsSpelled u (written u v) w → written u w ≡ written u v
@@ -78,7 +78,7 @@ module _ {T : Type 0} (u : TermType T) where
   text_unchanged v w i f h =
       let (s, _) = one_value (written u v) (written u v) [] [] w (normal u.norm v) h (spelled_again v i f) refl in
       alike_texts (u.canon w) (u.canon v) (none_kept (written u v) w h) (λ k. f lazy_in_array (inl k))
-      (ap tidy (u.sameness.agrees w (normal u.norm v) s).canon ∙ (u.rewrites v).canon)
+      (ap nulls_alike (u.sameness.agrees w (normal u.norm v) s).canon ∙ (u.rewrites v).canon)
 
   -- different values have different texts
   pub apart : (b c : List ℕ) (v w : T) → IsSpelled u b v → IsSpelled u c w → IsWritable u v → IsWritable u w

@@ -1,17 +1,17 @@
 -- What a type of terms is: which terms mean its values, which one is canonical, and the laws of both, in groups.
 use Rattle.std.proofs.Common.{◌≡◌, ℕ, ◌≤◌, Bool, true, false, List, [], ◌∷◌, length, Some, None, refl, sym, ◌∙◌, subst}
-use Rattle.amqp_model.specs.Term.{null, Refusal, too_large, Term, Terms, leaf, holder, described, kept, barred, none, more, Descriptor}
+use Rattle.amqp_model.specs.Term.{null, Refusal, too_large, Term, Terms, leaf, container, described, kept, barred, none, more, Descriptor}
 use Rattle.amqp_model.specs.Spelling.{IsValid, descriptor_value, data_of, enc}
 use Rattle.amqp_model.specs.Standing.{Standing, whole, part}
-use Rattle.amqp_model.specs.Text.{Plain, Later, text, form}
+use Rattle.amqp_model.specs.Text.{Alone, Later, text, form}
 use Rattle.amqp_model.specs.Measures.{nest, nodes}
 use Rattle.amqp_model.specs.Ranges.{Everywhere, IsValue, IsNoArray, IsBytes}
 use Rattle.amqp_model.specs.Refusals.{Somewhere, IsRefused, Refuses, core}
-use Rattle.amqp_model.specs.Kept.{Reads}
+use Rattle.amqp_model.specs.Kept.{ExpandsTo}
 use Rattle.amqp_model.specs.Items.{is_null, IsFree}
 use Rattle.amqp_model.specs.FieldType.{Norm, normal}
 use Rattle.amqp_codec.specs.Faults.{Faults}
-use Rattle.amqp_codec.specs.Tidy.{tidy}
+use Rattle.amqp_codec.specs.NullsAlike.{nulls_alike}
 
 abbrev pub IsUnrefused : Term → Type 0
 IsUnrefused u = (r : Refusal) → Refuses r u → ⊥
@@ -32,12 +32,12 @@ Spells (part ds c b) t = AreNamed ds × data_of t ds c b
 
 -- A canonical term stands as its text, or as its data in a canonical array.
 abbrev pub StandsCanonically : Standing → Term → Type 0
-StandsCanonically (whole b) u = b ≡ text u Plain
+StandsCanonically (whole b) u = b ≡ text u Alone
 StandsCanonically (part ds c b) u = (form u ≡ Some (ds, c)) × (b ≡ text u Later)
 
 -- It holds no other term.
 abbrev pub IsLeaf : Term → Type 0
-IsLeaf (holder k ts) = ⊥
+IsLeaf (container k ts) = ⊥
 IsLeaf (described d t) = ⊥
 IsLeaf _ = Unit {0}
 
@@ -47,16 +47,16 @@ IsKept _ = ⊥
 
 -- no bytes are kept in the term
 abbrev mutual
-  pub IsPlain : Term → Type 0
-  IsPlain (leaf p) = Unit {0}
-  IsPlain (holder k ts) = ArePlain ts
-  IsPlain (described d t) = IsPlain t
-  IsPlain (kept b) = ⊥
-  IsPlain (barred r) = Unit {0}
+  pub KeepsNoBytes : Term → Type 0
+  KeepsNoBytes (leaf p) = Unit {0}
+  KeepsNoBytes (container k ts) = KeepNoBytes ts
+  KeepsNoBytes (described d t) = KeepsNoBytes t
+  KeepsNoBytes (kept b) = ⊥
+  KeepsNoBytes (barred r) = Unit {0}
 
-  pub ArePlain : Terms → Type 0
-  ArePlain none = Unit {0}
-  ArePlain (more t ts) = IsPlain t × ArePlain ts
+  pub KeepNoBytes : Terms → Type 0
+  KeepNoBytes none = Unit {0}
+  KeepNoBytes (more t ts) = KeepsNoBytes t × KeepNoBytes ts
 
 abbrev pub IsPart : Standing → Type 0
 IsPart (whole b) = ⊥
@@ -92,15 +92,15 @@ pub record Rewrites (v n : View) : Type 0 where
   -- the canonical term is of its type
   pub valued : v.is_value → Everywhere IsValue v.canon
   -- it reads as a term, which means the normal value
-  pub reads : v.is_value → IsFree v.canon → (t : Term) × Reads v.canon t
-  pub means : (s : Standing) (t : Term) → v.is_value → IsUnrefused v.canon → StandsCanonically s v.canon → Reads v.canon t
+  pub reads : v.is_value → IsFree v.canon → (t : Term) × ExpandsTo v.canon t
+  pub means : (s : Standing) (t : Term) → v.is_value → IsUnrefused v.canon → StandsCanonically s v.canon → ExpandsTo v.canon t
       → n.means s t
   -- and is written as the same text
-  pub canon : tidy n.canon ≡ tidy v.canon
+  pub canon : nulls_alike n.canon ≡ nulls_alike v.canon
 
 -- How a term stands is not looked at: it means v on every standing, and no bytes are kept. n is v normalised.
 pub record IgnoresStanding (v n : View) : Type 0 where
-  pub plain : IsPlain v.canon
+  pub plain : KeepsNoBytes v.canon
   pub means : (s z : Standing) (t : Term) → v.means s t → v.means z t
   pub canon_means : (s : Standing) → v.is_value → IsFree v.canon → n.means s v.canon
 
@@ -116,13 +116,13 @@ pub record Meant (s : Standing) (t : Term) (is_value : Type 0) (c : Term) (count
   pub core_null : core c ≡ leaf null → form t ≡ None
   pub formless : form t ≡ None → form c ≡ None
   -- the value nests no deeper, is no container where the term is none, and counts no more
-  pub nested : (u : Term) → Reads c u → nest u ≤ nest t
-  pub leaf_alike : (u : Term) → Reads c u → IsLeaf t → IsLeaf u
+  pub nested : (u : Term) → ExpandsTo c u → nest u ≤ nest t
+  pub leaf_alike : (u : Term) → ExpandsTo c u → IsLeaf t → IsLeaf u
   pub counted : count ≤ nodes t
 
 -- If the bytes spell t and the canonical term c holds no array, its text is no longer than they are.
 abbrev pub IsNoShorter : List ℕ → Term → Term → Type 0
-IsNoShorter b t c = IsBytes b → Everywhere IsNoArray c → enc b t → length (text c Plain) ≤ length b
+IsNoShorter b t c = IsBytes b → Everywhere IsNoArray c → enc b t → length (text c Alone) ≤ length b
 
 pub record TermType (T : Type 0) : Type 1 where
   -- a value of the type: its numbers are in their ranges, and so on
@@ -139,9 +139,9 @@ pub record TermType (T : Type 0) : Type 1 where
   -- the values in it: primitives, containers, and nulls that stand as items
   pub count : T → ℕ
   -- no canonical term is null
-  pub solid : Bool
+  pub is_never_null : Bool
   -- it doesn't look at how a term stands
-  pub blind : Bool
+  pub ignores_standing : Bool
   -- reading it takes memory
   pub takes_memory : Bool
   -- no spelling of a value is shorter than its canonical text, where that holds no array
@@ -155,8 +155,8 @@ pub record TermType (T : Type 0) : Type 1 where
   pub norm_norm : (v : T) → same (normal norm (normal norm v)) (normal norm v)
   -- it has one form for one form
   pub formed : (s z : Standing) (t u : Term) (v w : T) → means s t v → means z u w → form t ≡ form u → form (canon v) ≡ form (canon w)
-  pub is_solid : solid ≡ true → (v : T) → is_null (canon v) ≡ false
-  pub is_blind : blind ≡ true → (v : T) → IgnoresStanding (view_of is_value means canon v) (view_of is_value means canon (normal norm v))
+  pub never_null : is_never_null ≡ true → (v : T) → is_null (canon v) ≡ false
+  pub standing_ignored : ignores_standing ≡ true → (v : T) → IgnoresStanding (view_of is_value means canon v) (view_of is_value means canon (normal norm v))
   pub least : is_least ≡ true → (b : List ℕ) (t : Term) (v : T) → means (whole b) t v → IsNoShorter b t (canon v)
 
 abbrev pub view_in : {T : Type 0} → TermType T → T → View

@@ -1,6 +1,6 @@
 -- The words in which the tables of types are told, passed on from one place. It defines nothing.
 pub use Rattle.std.proofs.Common.{inl, inr, codes, refl, rules}
-pub use Rattle.amqp_model.specs.FieldType.{plain, by_norm}
+pub use Rattle.amqp_model.specs.FieldType.{unchanged, by_norm}
 pub use Rattle.amqp_codec.specs.TermType.{TermType}
 pub use Rattle.amqp_codec.specs.PrimitiveTypes.{boolean_type, uint_type, ulong_type}
 pub use Rattle.amqp_codec.specs.Wrappers.{via, boxed, symbol_type}
@@ -9,6 +9,6 @@ pub use Rattle.amqp_codec.specs.Slots.{mandatory, optional, default}
 pub use Rattle.amqp_codec.specs.Fields.{Fields, none, field}
 pub use Rattle.amqp_codec.specs.ListType.{ListTable, list_of}
 pub use Rattle.amqp_codec.specs.Composite.{Table, composite}
-pub use Rattle.amqp_codec.specs.Choices.{Choices, no_more, member, Chosen, SumOf, sum_of, sum_writing, sum_one, sum_tied}
+pub use Rattle.amqp_codec.specs.Choices.{Choices, no_more, member, Chosen, SumOf, sum_of, sum_writing, sum_one, sum_agreement}
 pub use Rattle.amqp_codec.specs.Restricted.{IsDistinct, boolean_base, ubyte_base, ushort_base, uint_base, restricted_number, restricted_text}
-pub use Rattle.amqp_codec.specs.Ties.{writing_of, one_term, tied}
+pub use Rattle.amqp_codec.specs.Agreement.{writing_of, one_term, agreement}

@@ -2,7 +2,7 @@
 use Rattle.std.proofs.Common.{◌≡◌, true, refl, subst, sym}
 use Rattle.std.specs.Prelude.{string_bytes}
 use Rattle.std.specs.declared.boxed.Box.{Box}
-use Rattle.amqp_model.specs.FieldType.{Norm, normal, plain, by_norm}
+use Rattle.amqp_model.specs.FieldType.{Norm, normal, unchanged, by_norm}
 use Rattle.amqp_wire.specs.declared.symbol.Symbol.{Symbol}
 use Rattle.amqp_codec.specs.TermType.{TermType, Sameness, Rewrites, IgnoresStanding, view_in}
 use Rattle.amqp_codec.specs.PrimitiveTypes.{symbol_bytes_type}
@@ -35,8 +35,8 @@ via u to n is = record {
   norm = n;
   same = λ v w. u.same (to v) (to w);
   count = λ v. u.count (to v);
-  solid = u.solid;
-  blind = u.blind;
+  is_never_null = u.is_never_null;
+  ignores_standing = u.ignores_standing;
   takes_memory = u.takes_memory;
   is_least = u.is_least;
   sameness = via_sameness u to n is;
@@ -45,17 +45,17 @@ via u to n is = record {
   own = λ s t v m. via_normal u to n is (λ x. u.same x (to v)) v (u.own s t (to v) m);
   norm_norm = via_norm_norm u to n is;
   formed = λ s z t r v w. u.formed s z t r (to v) (to w);
-  is_solid = λ l v. u.is_solid l (to v);
-  is_blind = λ l v. via_normal u to n is (λ x. IgnoresStanding (view_in u (to v)) (view_in u x)) v (u.is_blind l (to v));
+  never_null = λ l v. u.never_null l (to v);
+  standing_ignored = λ l v. via_normal u to n is (λ x. IgnoresStanding (view_in u (to v)) (view_in u x)) v (u.standing_ignored l (to v));
   least = λ l b t v. u.least l b t (to v);
 }
 
 abbrev pub norm_box : {T Z : Type 0} → Norm T → Norm (Box T Z)
-norm_box plain = plain
+norm_box unchanged = unchanged
 norm_box (by_norm f) = by_norm (λ b. record b { value = f b.value })
 
 pub box_normal : {T Z : Type 0} (n : Norm T) (b : Box T Z) → (normal (norm_box n) b).value ≡ normal n b.value
-box_normal plain b = refl
+box_normal unchanged b = refl
 box_normal (by_norm f) b = refl
 
 -- A box is as its value.
@@ -64,4 +64,4 @@ boxed u = record (via u (λ b. b.value) (norm_box u.norm) (box_normal u.norm)) {
 
 -- Part 1, section 1.6.21
 abbrev pub symbol_type : TermType Symbol
-symbol_type = via symbol_bytes_type (λ v. string_bytes v.0) plain (λ v. refl)
+symbol_type = via symbol_bytes_type (λ v. string_bytes v.0) unchanged (λ v. refl)

@@ -5,7 +5,7 @@ use Rattle.amqp_model.specs.Spelling.{enc}
 use Rattle.amqp_model.specs.Measures.{nests}
 use Rattle.amqp_model.specs.Ranges.{EverywhereIn, IsValue}
 use Rattle.amqp_model.specs.Refusals.{SomewhereIn}
-use Rattle.amqp_model.specs.Kept.{ReadsEach}
+use Rattle.amqp_model.specs.Kept.{EachExpandsTo}
 use Rattle.amqp_model.specs.Items.{terms_of}
 use Rattle.amqp_wire.specs.declared.error.Error.{Error}
 use Rattle.amqp_wire.specs.declared.error.Error.TheVariants.{Memory, Depth, TooLarge}
@@ -19,7 +19,7 @@ use Rattle.amqp_encoder.specs.Refused.{KnowDepths}
 use Rattle.amqp_encoder.specs.Writes.{Writes, Follows, bytes_of}
 
 -- The type of a value ran out of memory of its own, and refused the value for that.
-pub record GaveUp (old : Encoder) (result : Result (Unit {0}) Error) (new : Encoder) : Type 0 where
+pub record GivesUp (old : Encoder) (result : Result (Unit {0}) Error) (new : Encoder) : Type 0 where
   pub was_going : answer_of old ≡ Ok tt
   pub answer : result ≡ Err Memory
   pub state : new.pass ≡ Stopped Memory
@@ -27,7 +27,7 @@ pub record GaveUp (old : Encoder) (result : Result (Unit {0}) Error) (new : Enco
 
 -- The calls for the terms were made in their order, up to a refusal; or a type ran out of memory of its own.
 pub record WritesTerms (ts : List Term) (old : Encoder) (result : Result (Unit {0}) Error) (new : Encoder) : Type 0 where
-  pub calls : (deep : List ℕ → ℕ) → KnowDepths deep ts → Writes old (row_tokens deep ts) result new ⊎ GaveUp old result new
+  pub calls : (deep : List ℕ → ℕ) → KnowDepths deep ts → Writes old (row_tokens deep ts) result new ⊎ GivesUp old result new
 
 -- What a canonical term itself needs, its parts aside: a number or text of its type, a value for each key of a map;
 -- and bytes that are kept spell a term.
@@ -40,7 +40,7 @@ AreProper ts = EverywhereIn IsProper (terms_of ts)
 
 -- they read as terms that nest deeper than 128
 abbrev pub AreTooDeep : List Term → Type 0
-AreTooDeep ts = (us : Terms) × ReadsEach (terms_of ts) us × (128 < nests us)
+AreTooDeep ts = (us : Terms) × EachExpandsTo (terms_of ts) us × (128 < nests us)
 
 -- Why terms in a row aren't written: a term in them is refused for the reason, or they nest too deep,
 -- or are too long or too many.

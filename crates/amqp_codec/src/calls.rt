@@ -2,8 +2,8 @@
 ghost use Rattle.std.specs.Prelude.{◌≡◌, ◌≤◌, ◌⊎◌, ◌++◌, ℕ, true, length, IfOk, IfErr, OnOk, OnErr};
 ghost use Rattle.amqp_wire.specs.declared.error.Error.TheVariants.{Memory};
 ghost use Rattle.amqp_encoder.specs.Passes.{row_text};
-ghost use Rattle.amqp_codec.specs.Reading.{IsRead, Unreadable};
-ghost use Rattle.amqp_codec.specs.Rewritten.{IsRewritten, IsReadAgain, AreReadAgain, IsOneText, IsOfNoOther, IsUnchanged, IsShortest, Unwritten};
+ghost use Rattle.amqp_codec.specs.Reading.{BeginsWith, IsUnreadable};
+ghost use Rattle.amqp_codec.specs.Rewritten.{IsRewritten, IsReadAgain, AreReadAgain, IsOneText, IsOfNoOther, IsUnchanged, IsShortest, IsUnwritten};
 ghost use Rattle.amqp_codec.specs.Written.{AreMeasured, AreUnwritable, AreWritable};
 
 use crate::{Canonical, Deserialize, Serialize};
@@ -14,9 +14,9 @@ use std::alloc::Global;
 
 /// The value that the input begins with. What follows it is left.
 pub fn from_slice<T: Deserialize>(input: &[u8], alloc: Global) -> Result<T, Error>
-    ensures found { IfOk result (λ v. (n : ℕ) × IsRead T.reading input.now v n) }
-    ensures one { IfOk result (λ v. (w : _) (m : ℕ) → IsRead T.reading input.now w m → T.reading.same v w) }
-    ensures refused { IfErr result (λ e. ((T.reading.takes_memory ≡ true) × (e ≡ Memory)) ⊎ Unreadable T.reading input.now e) }
+    ensures found { IfOk result (λ v. (n : ℕ) × BeginsWith T.reading input.now v n) }
+    ensures one { IfOk result (λ v. (w : _) (m : ℕ) → BeginsWith T.reading input.now w m → T.reading.same v w) }
+    ensures refused { IfErr result (λ e. ((T.reading.takes_memory ≡ true) × (e ≡ Memory)) ⊎ IsUnreadable T.reading input.now e) }
     ensures memory { IfErr result (λ e. e ≡ Memory → T.reading.takes_memory ≡ true) }
 {
     let (value, _) = from_slice_counted(input, alloc)?;
@@ -25,10 +25,10 @@ pub fn from_slice<T: Deserialize>(input: &[u8], alloc: Global) -> Result<T, Erro
 
 /// The value that the input begins with, and how many bytes it takes.
 pub fn from_slice_counted<T: Deserialize>(input: &[u8], alloc: Global) -> Result<(T, usize), Error>
-    ensures found { IfOk result (λ r. IsRead T.reading input.now r.0 r.1) }
-    ensures one { IfOk result (λ r. (w : _) (m : ℕ) → IsRead T.reading input.now w m → T.reading.same r.0 w × (r.1 ≡ m)) }
+    ensures found { IfOk result (λ r. BeginsWith T.reading input.now r.0 r.1) }
+    ensures one { IfOk result (λ r. (w : _) (m : ℕ) → BeginsWith T.reading input.now w m → T.reading.same r.0 w × (r.1 ≡ m)) }
     ensures bounded { IfOk result (λ r. T.reading.count r.0 ≤ r.1) }
-    ensures refused { IfErr result (λ e. ((T.reading.takes_memory ≡ true) × (e ≡ Memory)) ⊎ Unreadable T.reading input.now e) }
+    ensures refused { IfErr result (λ e. ((T.reading.takes_memory ≡ true) × (e ≡ Memory)) ⊎ IsUnreadable T.reading input.now e) }
     ensures memory { IfErr result (λ e. e ≡ Memory → T.reading.takes_memory ≡ true) }
 {
     let mut decoder = Decoder::new(input, alloc);
@@ -106,7 +106,7 @@ pub fn canonical_text<T: Canonical>(input: &[u8], alloc: Global) -> Result<(Vec<
     ensures unchanged { IfOk result (λ r. IsUnchanged T.reading T.writing.canons r.0.items) }
     ensures shortest { T.is_least ≡ true → IfOk result (λ r. IsShortest T.reading T.writing.canons input.now r.0.items r.1) }
     ensures refused { IfErr result (λ e.
-        (e ≡ Memory) ⊎ (Unreadable T.reading input.now e ⊎ Unwritten T.reading T.writing.canons input.now e)) }
+        (e ≡ Memory) ⊎ (IsUnreadable T.reading input.now e ⊎ IsUnwritten T.reading T.writing.canons input.now e)) }
 {
     let (value, len) = from_slice_counted::<T>(input, alloc)?;
     let text = to_vec(&value, alloc)?;

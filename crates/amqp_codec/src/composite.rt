@@ -7,8 +7,8 @@ ghost use Rattle.amqp_codec.specs.Fields.{slots, canon_at, take_memory};
 ghost use Rattle.amqp_codec.specs.Composite.{table_of, fields_of, composite_members};
 ghost use Rattle.amqp_codec.specs.Written.{WritesTerms};
 ghost use Rattle.amqp_wire.specs.Sources.{Tells};
-ghost use Rattle.amqp_decoder.specs.Reading.{Reads};
-ghost use Rattle.amqp_decoder.specs.Primitives.{Value};
+ghost use Rattle.amqp_decoder.specs.Reading.{AnswersRead};
+ghost use Rattle.amqp_decoder.specs.Primitives.{ReadsValue};
 ghost use Rattle.amqp_codec.specs.Members.{MemberFault};
 ghost use Rattle.amqp_codec.specs.FieldReading.{FillsField, IsBlank};
 
@@ -95,9 +95,9 @@ impl<C: Composite> FieldList for C {
 /// apart from `Composite`, since `serialize` calls `write_composite`, which takes that trait.
 pub trait CompositeTerm: Composite + SerializeTerm {
     ghost use Rattle.amqp_codec.specs.Composite.{composite};
-    ghost use Rattle.amqp_codec.specs.Ties.{Tied};
+    ghost use Rattle.amqp_codec.specs.Agreement.{Agreement};
 
-    ghost agrees: { Tied (composite Self.table) Self.writing };
+    ghost agrees: { Agreement (composite Self.table) Self.writing };
 }
 
 impl<C: CompositeTerm> DeserializeTerm for C {
@@ -109,7 +109,7 @@ impl<C: CompositeTerm> DeserializeTerm for C {
         read_composite(decoder, alloc)
     }
 
-    ghost tied = { C.agrees };
+    ghost agreement = { C.agrees };
 }
 
 /// Reads a composite: a described list under the code or the name of its table.
@@ -117,7 +117,7 @@ pub fn read_composite<C: Composite, R: ByteSource>(
     decoder: &mut Decoder<R>,
     alloc: Global,
 ) -> Result<C, Error>
-    ensures { Tells R.remaining → Reads (take_memory C.table.fields) (Value (λ s. MeansComposite (table_of C.table))) (MemberFault (composite_members C.table)) decoder.old result decoder.new }
+    ensures { Tells R.remaining → AnswersRead (take_memory C.table.fields) (ReadsValue (λ s. MeansComposite (table_of C.table))) (MemberFault (composite_members C.table)) decoder.old result decoder.new }
 {
     decoder.begin_one_of(&[C::table().descriptor])?;
     let value = read_fields(decoder, alloc)?;

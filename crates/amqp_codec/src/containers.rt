@@ -1,7 +1,7 @@
 //! Optional values, boxes, and references, which are written only.
 ghost use Rattle.amqp_codec.specs.OptionType.{option_of};
 ghost use Rattle.amqp_codec.specs.Wrappers.{boxed};
-ghost use Rattle.amqp_codec.specs.Ties.{box_tied, option_one, option_tied, option_writing, via_writing};
+ghost use Rattle.amqp_codec.specs.Agreement.{box_agreement, option_one, option_agreement, option_writing, via_writing};
 
 use crate::{DeserializeTerm, Serialize, SerializeTerm};
 use amqp_decoder::Decoder;
@@ -52,7 +52,7 @@ impl<T: DeserializeTerm> DeserializeTerm for Option<T> {
         Ok(Some(T::read_value(decoder, alloc)?))
     }
 
-    ghost tied = { option_tied T.tied };
+    ghost agreement = { option_agreement T.agreement };
 }
 
 impl<T: Serialize> Serialize for Box<T> {
@@ -86,7 +86,7 @@ impl<T: DeserializeTerm> DeserializeTerm for Box<T> {
         }
     }
 
-    ghost tied = { box_tied T.tied };
+    ghost agreement = { box_agreement T.agreement };
 }
 
 impl<T: Serialize> Serialize for &T {

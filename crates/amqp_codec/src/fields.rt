@@ -8,8 +8,8 @@ ghost use Rattle.amqp_encoder.specs.Passes.{answer_of};
 ghost use Rattle.amqp_codec.specs.Fields.{slots, canon_at, take_memory};
 ghost use Rattle.amqp_codec.specs.Written.{WritesTerms};
 ghost use Rattle.amqp_wire.specs.Sources.{Tells};
-ghost use Rattle.amqp_decoder.specs.Reading.{Reads};
-ghost use Rattle.amqp_decoder.specs.Primitives.{Value};
+ghost use Rattle.amqp_decoder.specs.Reading.{AnswersRead};
+ghost use Rattle.amqp_decoder.specs.Primitives.{ReadsValue};
 ghost use Rattle.amqp_codec.specs.FieldReading.{FieldsRead, FieldsFault, Fills, FillsField, IsBlank, ReadsItem, absence, kind_at};
 
 use crate::DeserializeTerm;
@@ -54,7 +54,7 @@ pub trait FieldList: Sized + Drop {
 }
 
 /// Reads a value into its place.
-pub fn fill<T: DeserializeTerm, R: ByteSource>(
+pub fn read_into<T: DeserializeTerm, R: ByteSource>(
     place: &mut T,
     decoder: &mut Decoder<R>,
     alloc: Global,
@@ -81,7 +81,7 @@ pub fn read_fields<L: FieldList, R: ByteSource>(
     decoder: &mut Decoder<R>,
     alloc: Global,
 ) -> Result<L, Error>
-    ensures { Tells R.remaining → Reads (take_memory L.list.fields) (FieldsRead L.list.fields) (FieldsFault L.list.fields) decoder.old result decoder.new }
+    ensures { Tells R.remaining → AnswersRead (take_memory L.list.fields) (FieldsRead L.list.fields) (FieldsFault L.list.fields) decoder.old result decoder.new }
 {
     let count = decoder.begin_list()? as usize;
     let mut value = L::blank(alloc);
@@ -102,7 +102,7 @@ pub fn read_list<L: FieldList, R: ByteSource>(
     decoder: &mut Decoder<R>,
     alloc: Global,
 ) -> Result<L, Error>
-    ensures { Tells R.remaining → Reads (take_memory L.list.fields) (Value (λ s. MeansList (slots L.list.fields))) (FieldsFault L.list.fields) decoder.old result decoder.new }
+    ensures { Tells R.remaining → AnswersRead (take_memory L.list.fields) (ReadsValue (λ s. MeansList (slots L.list.fields))) (FieldsFault L.list.fields) decoder.old result decoder.new }
 {
     read_fields(decoder, alloc)
 }

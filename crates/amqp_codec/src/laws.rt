@@ -11,18 +11,18 @@ ghost use Rattle.amqp_codec.specs.Spelled.{IsSpelled, IsWritable, written};
 ghost use Rattle.amqp_codec.specs.Written.{AreWritable, AreUnwritable};
 ghost use Rattle.std.specs.Prelude.{take};
 ghost use Rattle.amqp_decoder.specs.State.{State};
-ghost use Rattle.amqp_decoder.specs.Reading.{Peeked};
+ghost use Rattle.amqp_decoder.specs.Reading.{PeeksCode};
 ghost use Rattle.amqp_codec.specs.EitherType.{EitherFault};
-ghost use Rattle.amqp_codec.specs.Reading.{IsRead};
+ghost use Rattle.amqp_codec.specs.Reading.{BeginsWith};
 
 use crate::{Canonical, Deserialize, DeserializeTerm};
 
 /// What is read from the front of an input is what that front spells, whatever stands behind it; and nothing behind it
-/// is looked at. So an error that says of bytes that they are no term is answered only of such (`Unreadable::unspelled`).
+/// is looked at. So an error that says of bytes that they are no term is answered only of such (`IsUnreadable::unspelled`).
 pub fn reading_is_spelling<T: DeserializeTerm>()
-    ensures spelled { (input : List ℕ) (v : T) (n : ℕ) → IsRead ⟦<T as Deserialize>⟧.reading input v n
+    ensures spelled { (input : List ℕ) (v : T) (n : ℕ) → BeginsWith ⟦<T as Deserialize>⟧.reading input v n
         → (n ≤ length input) × IsSpelled T.term (take n input) v }
-    ensures read { (b more : List ℕ) (v : T) → IsSpelled T.term b v → IsRead ⟦<T as Deserialize>⟧.reading (b ++ more) v (length b) }
+    ensures read { (b more : List ℕ) (v : T) → IsSpelled T.term b v → BeginsWith ⟦<T as Deserialize>⟧.reading (b ++ more) v (length b) }
     ensures no_more { ⟦<T as Deserialize>⟧.reading.looks_on ≡ false }
     ensures one_term { ⟦<T as Deserialize>⟧.reading.one_term ≡ true }
 {}
@@ -80,8 +80,8 @@ pub fn canonical_text_is_least<T: DeserializeTerm>()
 /// A sum of two types that are told from each other by the first code names a fault of the type that the code tells, and no
 /// other's.
 pub fn faults_of_a_sum<A: DeserializeTerm, B: DeserializeTerm>()
-    ensures first { (is_first : ℕ → Bool) (st mid : State) (c : ℕ) (e : Error) → Peeked st c mid → is_first c ≡ true → EitherFault is_first A.term.faults B.term.faults st e → A.term.faults.fault mid e }
-    ensures second { (is_first : ℕ → Bool) (st mid : State) (c : ℕ) (e : Error) → Peeked st c mid → is_first c ≡ false → EitherFault is_first A.term.faults B.term.faults st e → B.term.faults.fault mid e }
+    ensures first { (is_first : ℕ → Bool) (st mid : State) (c : ℕ) (e : Error) → PeeksCode st c mid → is_first c ≡ true → EitherFault is_first A.term.faults B.term.faults st e → A.term.faults.fault mid e }
+    ensures second { (is_first : ℕ → Bool) (st mid : State) (c : ℕ) (e : Error) → PeeksCode st c mid → is_first c ≡ false → EitherFault is_first A.term.faults B.term.faults st e → B.term.faults.fault mid e }
 {}
 
 /// A value has no more values in it than the bytes that spell it.

@@ -2,7 +2,7 @@
 ghost use Rattle.std.specs.Prelude.{refl};
 ghost use Rattle.amqp_codec.specs.PrimitiveTypes.{boolean_type, uint_type, ulong_type};
 ghost use Rattle.amqp_codec.specs.Wrappers.{symbol_type};
-ghost use Rattle.amqp_codec.specs.Ties.{one_term, tied, writing_of};
+ghost use Rattle.amqp_codec.specs.Agreement.{one_term, agreement, writing_of};
 
 use crate::{DeserializeTerm, Serialize, SerializeTerm};
 use amqp_decoder::Decoder;
@@ -35,7 +35,7 @@ impl DeserializeTerm for bool {
         decoder.read_bool()
     }
 
-    ghost tied = { tied boolean_type refl };
+    ghost agreement = { agreement boolean_type refl };
 }
 
 impl Serialize for u32 {
@@ -65,7 +65,7 @@ impl DeserializeTerm for u32 {
         decoder.read_uint()
     }
 
-    ghost tied = { tied uint_type refl };
+    ghost agreement = { agreement uint_type refl };
 }
 
 impl Serialize for u64 {
@@ -95,7 +95,7 @@ impl DeserializeTerm for u64 {
         decoder.read_ulong()
     }
 
-    ghost tied = { tied ulong_type refl };
+    ghost agreement = { agreement ulong_type refl };
 }
 
 impl Serialize for Symbol {
@@ -123,5 +123,5 @@ impl DeserializeTerm for Symbol {
         decoder.read_symbol(alloc)
     }
 
-    ghost tied = { tied symbol_type refl };
+    ghost agreement = { agreement symbol_type refl };
 }

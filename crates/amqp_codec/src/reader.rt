@@ -2,8 +2,8 @@
 ghost use Rattle.std.specs.Prelude.{◌≡◌, ◌⊎◌, ℕ, true, false, drop, IfOk, IfErr, MatchResult};
 ghost use Rattle.amqp_wire.specs.declared.error.Error.TheVariants.{Memory};
 ghost use Rattle.amqp_wire.specs.Sources.{known, Tells};
-ghost use Rattle.amqp_decoder.specs.Steps.{IsRead as IsReadError};
-ghost use Rattle.amqp_codec.specs.Reading.{IsRead, Unreadable};
+ghost use Rattle.amqp_decoder.specs.Steps.{IsReadError};
+ghost use Rattle.amqp_codec.specs.Reading.{BeginsWith, IsUnreadable};
 
 use crate::Deserialize;
 use amqp_decoder::Decoder;
@@ -16,11 +16,11 @@ use std::marker::{Brand, PhantomData};
 /// An error is `Memory`, where reading the type takes memory, `Read` of a reader that has failed, and always where it
 /// begins to fail, or a fault of bytes that begin with no value; how many bytes were taken then isn't said.
 pub fn from_reader<T: Deserialize, R: ByteSource>(reader: &mut R, alloc: Global) -> Result<T, Error>
-    ensures found { Tells R.remaining → IfOk result (λ v. (n : ℕ) × IsRead T.reading (known (R.remaining reader.old)) v n) }
-    ensures one { Tells R.remaining → IfOk result (λ v. (w : _) (m : ℕ) → IsRead T.reading (known (R.remaining reader.old)) w m → T.reading.same v w) }
-    ensures behind { Tells R.remaining → T.reading.looks_on ≡ false → IfOk result (λ v. (w : _) (n : ℕ) → IsRead T.reading (known (R.remaining reader.old)) w n → known (R.remaining reader.new) ≡ drop n (known (R.remaining reader.old))) }
-    ensures refused { Tells R.remaining → IfErr result (λ e. ((T.reading.takes_memory ≡ true) × (e ≡ Memory)) ⊎ ((IsReadError e × (R.broken reader.new ≡ true)) ⊎ Unreadable T.reading (known (R.remaining reader.old)) e)) }
-    ensures failing { Tells R.remaining → MatchResult result (λ _. R.broken reader.new ≡ R.broken reader.old) (λ e. (R.broken reader.new ≡ R.broken reader.old) ⊎ IsReadError e) }
+    ensures found { Tells R.remaining → IfOk result (λ v. (n : ℕ) × BeginsWith T.reading (known (R.remaining reader.old)) v n) }
+    ensures one { Tells R.remaining → IfOk result (λ v. (w : _) (m : ℕ) → BeginsWith T.reading (known (R.remaining reader.old)) w m → T.reading.same v w) }
+    ensures behind { Tells R.remaining → T.reading.looks_on ≡ false → IfOk result (λ v. (w : _) (n : ℕ) → BeginsWith T.reading (known (R.remaining reader.old)) w n → known (R.remaining reader.new) ≡ drop n (known (R.remaining reader.old))) }
+    ensures refused { Tells R.remaining → IfErr result (λ e. ((T.reading.takes_memory ≡ true) × (e ≡ Memory)) ⊎ ((IsReadError e × (R.failed reader.new ≡ true)) ⊎ IsUnreadable T.reading (known (R.remaining reader.old)) e)) }
+    ensures failing { Tells R.remaining → MatchResult result (λ _. R.failed reader.new ≡ R.failed reader.old) (λ e. (R.failed reader.new ≡ R.failed reader.old) ⊎ IsReadError e) }
 {
     let (read, _reader) = read_named::<T, _, Brand>(reader, alloc);
     read
@@ -46,7 +46,7 @@ struct Named<S: ByteSource, N: Name> {
 impl<S: ByteSource, N: Name> ByteSource for Named<S, N> {
     ghost remaining = { λ s. S.remaining s.source };
 
-    ghost broken = { λ s. S.broken s.source };
+    ghost failed = { λ s. S.failed s.source };
 
     ghost name = { λ s. S.name s.source };
 
@@ -66,11 +66,11 @@ fn read_named<T: Deserialize, S: ByteSource, N: Name>(
 ) -> (Result<T, Error>, S)
     requires { S.name source ≡ N.name }
     ensures named { S.name result.1 ≡ S.name source }
-    ensures found { Tells S.remaining → IfOk result.0 (λ v. (n : ℕ) × IsRead T.reading (known (S.remaining source)) v n) }
-    ensures one { Tells S.remaining → IfOk result.0 (λ v. (w : _) (m : ℕ) → IsRead T.reading (known (S.remaining source)) w m → T.reading.same v w) }
-    ensures behind { Tells S.remaining → T.reading.looks_on ≡ false → IfOk result.0 (λ v. (w : _) (n : ℕ) → IsRead T.reading (known (S.remaining source)) w n → known (S.remaining result.1) ≡ drop n (known (S.remaining source))) }
-    ensures refused { Tells S.remaining → IfErr result.0 (λ e. ((T.reading.takes_memory ≡ true) × (e ≡ Memory)) ⊎ ((IsReadError e × (S.broken result.1 ≡ true)) ⊎ Unreadable T.reading (known (S.remaining source)) e)) }
-    ensures failing { Tells S.remaining → MatchResult result.0 (λ _. S.broken result.1 ≡ S.broken source) (λ e. (S.broken result.1 ≡ S.broken source) ⊎ IsReadError e) }
+    ensures found { Tells S.remaining → IfOk result.0 (λ v. (n : ℕ) × BeginsWith T.reading (known (S.remaining source)) v n) }
+    ensures one { Tells S.remaining → IfOk result.0 (λ v. (w : _) (m : ℕ) → BeginsWith T.reading (known (S.remaining source)) w m → T.reading.same v w) }
+    ensures behind { Tells S.remaining → T.reading.looks_on ≡ false → IfOk result.0 (λ v. (w : _) (n : ℕ) → BeginsWith T.reading (known (S.remaining source)) w n → known (S.remaining result.1) ≡ drop n (known (S.remaining source))) }
+    ensures refused { Tells S.remaining → IfErr result.0 (λ e. ((T.reading.takes_memory ≡ true) × (e ≡ Memory)) ⊎ ((IsReadError e × (S.failed result.1 ≡ true)) ⊎ IsUnreadable T.reading (known (S.remaining source)) e)) }
+    ensures failing { Tells S.remaining → MatchResult result.0 (λ _. S.failed result.1 ≡ S.failed source) (λ e. (S.failed result.1 ≡ S.failed source) ⊎ IsReadError e) }
 {
     let named = Named::<S, N> {
         source,

@@ -3,8 +3,8 @@ ghost use Rattle.std.specs.Prelude.{◌≡◌, ◌∷◌, [], IfErr, IfOk, false
 ghost use Rattle.amqp_model.specs.Term.{leaf};
 ghost use Rattle.amqp_wire.specs.declared.error.Error.TheVariants.{Memory, UnknownNumber, UnknownText};
 ghost use Rattle.amqp_wire.specs.Sources.{Tells};
-ghost use Rattle.amqp_decoder.specs.Reading.{Reads};
-ghost use Rattle.amqp_decoder.specs.Primitives.{Value, Means, PrimitiveFault};
+ghost use Rattle.amqp_decoder.specs.Reading.{AnswersRead};
+ghost use Rattle.amqp_decoder.specs.Primitives.{ReadsValue, Means, PrimitiveFault};
 ghost use Rattle.amqp_codec.specs.Written.{WritesTerms};
 ghost use Rattle.amqp_codec.specs.Restricted.{boolean_base, ubyte_base, ushort_base, uint_base, symbol_base};
 ghost use Rattle.amqp_codec.specs.Restricted.{ReadsRestricted, IsUnknown, Converts};
@@ -22,7 +22,7 @@ pub trait Base: Sized + Drop {
 
     /// Reads a number.
     fn read<R: ByteSource>(decoder: &mut Decoder<R>) -> Result<Self, Error>
-        ensures { Tells R.remaining → Reads false (Value (Means base.make)) (PrimitiveFault base.kind) decoder.old result decoder.new };
+        ensures { Tells R.remaining → AnswersRead false (ReadsValue (Means base.make)) (PrimitiveFault base.kind) decoder.old result decoder.new };
 
     /// Writes the number.
     fn write(self, encoder: &mut Encoder) -> Result<(), Error>

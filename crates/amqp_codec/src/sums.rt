@@ -4,8 +4,8 @@ ghost use Rattle.std.specs.Prelude.{◌≡◌, ◌<◌, length, map};
 ghost use Rattle.amqp_model.specs.Items.{is_null};
 ghost use Rattle.amqp_wire.specs.Sources.{Tells};
 ghost use Rattle.amqp_input.specs.Members.{as_name};
-ghost use Rattle.amqp_decoder.specs.Reading.{Reads};
-ghost use Rattle.amqp_decoder.specs.Primitives.{Value};
+ghost use Rattle.amqp_decoder.specs.Reading.{AnswersRead};
+ghost use Rattle.amqp_decoder.specs.Primitives.{ReadsValue};
 ghost use Rattle.amqp_codec.specs.Fields.{take_memory};
 ghost use Rattle.amqp_codec.specs.FieldReading.{FieldsFault};
 ghost use Rattle.amqp_codec.specs.Written.{canon_of};
@@ -33,14 +33,14 @@ pub trait Sum: Sized + Drop {
         alloc: Global,
     ) -> Result<Self, Error>
         ensures { place < length (names_of sum.choices) → Tells R.remaining →
-            Reads (takes_at sum.choices place) (reads_at sum.choices place) (faults_at sum.choices place).fault
+            AnswersRead (takes_at sum.choices place) (reads_at sum.choices place) (faults_at sum.choices place).fault
             decoder.old result decoder.new };
 }
 
 /// Reads a sum of composites.
 pub fn read_sum<S: Sum, R: ByteSource>(decoder: &mut Decoder<R>, alloc: Global) -> Result<S, Error>
     ensures { Tells R.remaining →
-        Reads (sum_of S.sum).takes_memory (Value (sum_of S.sum).means) (sum_of S.sum).faults.fault decoder.old result decoder.new }
+        AnswersRead (sum_of S.sum).takes_memory (ReadsValue (sum_of S.sum).means) (sum_of S.sum).faults.fault decoder.old result decoder.new }
 {
     let place = decoder.begin_one_of(S::descriptors())?;
     let value = S::read_member(place, decoder, alloc)?;
@@ -54,7 +54,7 @@ pub fn read_as<C: Composite, S: From<C> + Drop, R: ByteSource>(
     alloc: Global,
 ) -> Result<S, Error>
     ensures { Tells R.remaining →
-        Reads (take_memory C.table.fields) (ChoiceRead C.table S.from_gives) (FieldsFault C.table.fields) decoder.old result decoder.new }
+        AnswersRead (take_memory C.table.fields) (ChoiceRead C.table S.from_gives) (FieldsFault C.table.fields) decoder.old result decoder.new }
 {
     let member: C = read_fields(decoder, alloc)?;
     Ok(S::from(member))

@@ -4,10 +4,10 @@ ghost use Rattle.amqp_model.specs.FieldType.{normal};
 ghost use Rattle.amqp_model.specs.Items.{is_null};
 ghost use Rattle.amqp_codec.specs.TermType.{TermType};
 ghost use Rattle.amqp_codec.specs.Written.{WritesTerms, Writing, IsOneTerm, canon_of};
-ghost use Rattle.amqp_codec.specs.Ties.{Tied};
+ghost use Rattle.amqp_codec.specs.Agreement.{Agreement};
 ghost use Rattle.amqp_wire.specs.Sources.{Tells};
-ghost use Rattle.amqp_decoder.specs.Reading.{Reads};
-ghost use Rattle.amqp_decoder.specs.Primitives.{Value};
+ghost use Rattle.amqp_decoder.specs.Reading.{AnswersRead};
+ghost use Rattle.amqp_decoder.specs.Primitives.{ReadsValue};
 ghost use Rattle.amqp_codec.specs.Reading.{Reading, reading_of};
 ghost use Rattle.amqp_codec.specs.Rewriting.{Rewriting, rewrites};
 
@@ -38,7 +38,7 @@ pub trait Deserialize: Sized + Drop {
 
     /// Reads a value from what the decoder stands before.
     fn deserialize<R: ByteSource>(decoder: &mut Decoder<R>, alloc: Global) -> Result<Self, Error>
-        ensures { Tells R.remaining → Reads reading.takes_memory reading.reads reading.fault decoder.old result decoder.new };
+        ensures { Tells R.remaining → AnswersRead reading.takes_memory reading.reads reading.fault decoder.old result decoder.new };
 }
 
 /// What can be both read and written, so that each value has one canonical text, which is read as that value again. A type
@@ -81,10 +81,10 @@ pub trait DeserializeTerm: SerializeTerm + Sized + Drop {
 
     /// Reads a value from what the decoder stands before.
     fn read_value<R: ByteSource>(decoder: &mut Decoder<R>, alloc: Global) -> Result<Self, Error>
-        ensures { Tells R.remaining → Reads term.takes_memory (Value term.means) term.faults.fault decoder.old result decoder.new };
+        ensures { Tells R.remaining → AnswersRead term.takes_memory (ReadsValue term.means) term.faults.fault decoder.old result decoder.new };
 
     // It is written as its record says.
-    ghost tied: { Tied term Self.writing };
+    ghost agreement: { Agreement term Self.writing };
 }
 
 impl<T: DeserializeTerm> Deserialize for T {
@@ -100,5 +100,5 @@ impl<T: DeserializeTerm> Canonical for T {
 
     ghost is_least = { T.term.is_least };
 
-    ghost rewrites = { rewrites T.tied };
+    ghost rewrites = { rewrites T.agreement };
 }

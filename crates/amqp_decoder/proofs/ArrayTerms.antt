@@ -2,24 +2,24 @@
 use Rattle.std.proofs.Common.{◌≡◌, ◌≤◌, ◌<◌, ℕ, suc, ◌+◌, ◌-◌, ◌⊎◌, inl, inr, max, false, Option, Some, None, List, [], ◌∷◌, ◌++◌, length, drop, get_or, refl, sym, ap, ap₂, ◌∙◌, subst, arith, append_assoc, drop-drop, length-append}
 use Rattle.std.proofs.lemmas.List.{drop_at}
 use Rattle.std.specs.Int.{bytes_high_first}
-use Rattle.amqp_model.specs.Term.{Primitive, list, map, array, Container, Term, Terms, leaf, holder, described, kept, barred, none, more, count, Descriptor}
+use Rattle.amqp_model.specs.Term.{Primitive, list, map, array, Container, Term, Terms, leaf, container, described, kept, barred, none, more, count, Descriptor}
 use Rattle.amqp_model.specs.Items.{items_of}
 use Rattle.amqp_model.specs.Constructors.{Format, fixed, variable, compound, unknown, format}
 use Rattle.amqp_model.specs.Spelling.{Constructor, PrimitiveData, ContainerData, data_of, elements_of, shared_data_of}
 use Rattle.amqp_model.specs.Measures.{nest, nests, array_nest}
 use Rattle.amqp_model.specs.Standing.{Standing, StandInArray}
-use Rattle.amqp_decoder.specs.declared.frame.Place.TheVariants.{InArray}
-use Rattle.amqp_decoder.specs.State.{Open, State, Has, lower, on, past, inside}
-use Rattle.amqp_decoder.specs.Steps.{Took}
-use Rattle.amqp_decoder.specs.Containers.{Header}
-use Rattle.amqp_decoder.specs.Arrays.{TookConstructor, IsFlat, Shares, no_items, shared_by, Starts, EntersArray, OpensArray}
+use Rattle.amqp_decoder.specs.declared.frame.OpenKind.TheVariants.{InArray}
+use Rattle.amqp_decoder.specs.State.{Open, State, Has, lower, after_data, after_value, in_container}
+use Rattle.amqp_decoder.specs.Steps.{Takes}
+use Rattle.amqp_decoder.specs.Containers.{ReadsHeader}
+use Rattle.amqp_decoder.specs.Arrays.{TakesConstructor, IsFlat, Shares, no_items, shared_by, Starts, EntersArray, OpensArray}
 use Rattle.amqp_decoder.specs.Items.{Next, row_standings, NextWithParts, ContainsArray}
 use Rattle.amqp_input.proofs.Looks.{front_is}
-use Rattle.amqp_decoder.proofs.Leaves.{minus-minus, begun_same}
+use Rattle.amqp_decoder.proofs.ReadPrimitives.{minus-minus, begun_same}
 use Rattle.amqp_decoder.proofs.Peeks.{constructor_some}
 use Rattle.amqp_decoder.proofs.Opening.{header_same, one_width, took_both}
 use Rattle.amqp_decoder.proofs.Constructed.{one_constructor}
-use Rattle.amqp_decoder.proofs.Holders.{many, together, AllSpelled, row_spelled, row_of, StandUnder, row_stands, container_split, split_container, first_spelled, first_parts, front_of, holder_bare, known, used_up, closed_at, three, took_parts}
+use Rattle.amqp_decoder.proofs.ContainerTerms.{many, together, AllSpelled, row_spelled, row_of, StandUnder, row_stands, container_split, split_container, first_spelled, first_parts, front_of, container_bare, known, used_up, closed_at, three, took_parts}
 
 -- what a row of terms under one constructor is as data
 all_data : (us : Terms) (ds : List Descriptor) (c : ℕ) (b : List ℕ) → AllSpelled (Some (ds, c)) us b → shared_data_of us ds c b
@@ -36,7 +36,7 @@ flat_holds (variable w f) k n C b flat h = h
 flat_holds (compound j w) k n C b flat h = flat
 flat_holds unknown k n C b flat h = h
 
-pub flat_array : (us : Terms) (ds : List Descriptor) (c : ℕ) (b : List ℕ) → IsFlat ds (format c) → data_of (holder array us) ds c b → ⊥
+pub flat_array : (us : Terms) (ds : List Descriptor) (c : ℕ) (b : List ℕ) → IsFlat ds (format c) → data_of (container array us) ds c b → ⊥
 flat_array us [] c b flat h = flat_holds (format c) array _ _ b flat h
 flat_array us (e ∷ ds) c b flat h = flat
 
@@ -44,9 +44,9 @@ flat_array us (e ∷ ds) c b flat h = flat
 flat_leaf : (t : Term) (ds : List Descriptor) (c : ℕ) (b : List ℕ) → IsFlat ds (format c) → data_of t ds c b → (nest t ≡ 0) × ((us : Terms) → array_nest (more t us) ≡ array_nest us)
 flat_leaf t (e ∷ ds) c b flat h = absurd flat
 flat_leaf (leaf p) [] c b flat h = (refl, λ us. refl)
-flat_leaf (holder list ts) [] c b flat h = absurd (flat_holds (format c) list _ _ b flat h)
-flat_leaf (holder map ts) [] c b flat h = absurd (flat_holds (format c) map _ _ b flat h.1)
-flat_leaf (holder array ts) [] c b flat h = absurd (flat_array ts [] c b flat h)
+flat_leaf (container list ts) [] c b flat h = absurd (flat_holds (format c) list _ _ b flat h)
+flat_leaf (container map ts) [] c b flat h = absurd (flat_holds (format c) map _ _ b flat h.1)
+flat_leaf (container array ts) [] c b flat h = absurd (flat_array ts [] c b flat h)
 flat_leaf (described d t) [] c b flat h = absurd h
 flat_leaf (kept k) [] c b flat h = absurd h
 flat_leaf (barred r) [] c b flat h = absurd h
@@ -60,7 +60,7 @@ flat_rows (more t us) ds c b flat (s, r, e, h, hs) =
 
 array_nest_most : (us : Terms) → array_nest us ≤ suc (nests us)
 array_nest_most none = omega arith
-array_nest_most (more (holder k vs) us) = omega arith
+array_nest_most (more (container k vs) us) = omega arith
 array_nest_most (more (described d t) us) = omega arith
 array_nest_most (more (leaf p) us) = omega (arith, array_nest_most us)
 array_nest_most (more (kept k) us) = omega (arith, array_nest_most us)
@@ -76,7 +76,7 @@ flat_format unknown p b h = tt
 flat_or_deep : (t : Term) (us : Terms) (ds : List Descriptor) (c : ℕ) (b : List ℕ) → data_of t ds c b → IsFlat ds (format c) ⊎ (array_nest (more t us) ≡ suc (nests (more t us)))
 flat_or_deep (leaf p) us [] c b h = inl (flat_format (format c) p b h)
 flat_or_deep (leaf p) us (e ∷ ds) c b h = absurd h
-flat_or_deep (holder k ts) us ds c b h = inr refl
+flat_or_deep (container k ts) us ds c b h = inr refl
 flat_or_deep (described d t) us ds c b h = inr refl
 flat_or_deep (kept k) us [] c b h = absurd h
 flat_or_deep (kept k) us (e ∷ ds) c b h = absurd h
@@ -85,30 +85,30 @@ flat_or_deep (barred r) us (e ∷ ds) c b h = absurd h
 
 -- the items of an array stand, behind a constructor of x bytes
 abbrev within : ℕ → Option (List Descriptor × ℕ) → ℕ → ℕ → State → State
-within x o n content at = record (on x (inside InArray n content at)) { top = record (on x (inside InArray n content at)).top { shared = o } }
+within x o n content at = record (after_data x (in_container InArray n content at)) { top = record (after_data x (in_container InArray n content at)).top { shared = o } }
 
 -- the first item of an array stands next
 record Started (us : Terms) (n content : ℕ) (at mid : State) : Type 0 where
   pub own : List ℕ
   pub shared : Option (List Descriptor × ℕ)
   pub is : mid ≡ within (length own) shared n content at
-  pub took : Took (inside InArray 0 content at) own (on (length own) (inside InArray 0 content at))
+  pub took : Takes (in_container InArray 0 content at) own (after_data (length own) (in_container InArray 0 content at))
   pub elements : (b : List ℕ) → AllSpelled shared us b → elements_of us (own ++ b)
   pub stands : (ss : List Standing) (b : List ℕ) → StandUnder shared us ss b → StandInArray us ss (own ++ b)
   pub nested : (b : List ℕ) → AllSpelled shared us b → nests us ≤ at.nesting - suc (length at.saved) → array_nest us ≤ at.nesting - length at.saved
 
-on_none : (st : State) (l : ℕ) → st.top.left ≡ Some l → st ≡ on 0 st
+on_none : (st : State) (l : ℕ) → st.top.left ≡ Some l → st ≡ after_data 0 st
 on_none st l e =
     let a : st.ahead ≡ st.ahead - 0 = omega arith in
     let n : l ≡ l - 0 = omega arith in
     let same : st.top.left ≡ lower st.top.left 0 = e ∙ ap Some n ∙ ap (λ o. lower o 0) (sym e) in
     ap (λ k. record st { ahead = k }) a ∙ ap (λ o. record st { ahead = st.ahead - 0; top = record st.top { left = o } }) same
 
-started : (us : Terms) (n content : ℕ) (at mid : State) → n ≡ count us → Starts n content (inside InArray 0 content at) mid → Started us n content at mid
+started : (us : Terms) (n content : ℕ) (at mid : State) → n ≡ count us → Starts n content (in_container InArray 0 content at) mid → Started us n content at mid
 started none n content at mid len (inl (e, is)) = record {
   own = [];
   shared = None;
-  is = is ∙ on_none (inside InArray 0 content at) content refl ∙ ap (λ k. within 0 None k content at) (sym len);
+  is = is ∙ on_none (in_container InArray 0 content at) content refl ∙ ap (λ k. within 0 None k content at) (sym len);
   took = record { room = omega arith; rest = refl; moved = refl };
   elements = λ b h. inl h;
   stands = λ ss b h. h.1;
@@ -118,7 +118,7 @@ started none n content at mid len (inr (some, no_items ds c empty t)) = record {
   own = t.own;
   shared = None;
   is = t.took.moved ∙ ap (λ k. within (length t.own) None k content at) (sym len);
-  took = subst (Took (inside InArray 0 content at) t.own) t.took.moved t.took;
+  took = subst (Takes (in_container InArray 0 content at) t.own) t.took.moved t.took;
   elements = λ b h. inr (ds, c, t.few, (t.own, b, refl, t.spelled, h));
   stands = λ ss b h. h.1;
   nested = λ b h k. omega arith;
@@ -130,7 +130,7 @@ started (more t us) n content at mid len (inr (some, shared_by ds c m full k wid
   own = k.own;
   shared = Some (ds, c);
   is = is ∙ ap (λ (z : State). record z { top = record z.top { items = Some n; shared = Some (ds, c) } }) k.took.moved;
-  took = subst (Took (inside InArray 0 content at) k.own) k.took.moved k.took;
+  took = subst (Takes (in_container InArray 0 content at) k.own) k.took.moved k.took;
   elements = λ b (s, r, e, h, hs). (ds, c, k.few, (k.own, b, refl, k.spelled, (wide, (s, r, e, h, all_data us ds c r hs))));
   stands = λ ss b h. (ds, c, k.few, (k.own, b, refl, k.spelled, h));
   nested = λ b h few. elim fits [
@@ -154,14 +154,14 @@ pub opened_items : (st : State) (n : ℕ) (st' : State) → OpensArray st n st' 
 opened_items st n st' o = let d = o.data_ in (starts_place n d.content _ st' d.starts, starts_items n d.content _ st' refl d.starts)
 
 -- the container around an array that was left
-array_left : (x b n content : ℕ) (o : Option (List Descriptor × ℕ)) (at : State) → content ≡ x + b → record (many n b (within x o n content at)) { top = record at.top { left = lower at.top.left content }; saved = at.saved } ≡ on (x + b) at
+array_left : (x b n content : ℕ) (o : Option (List Descriptor × ℕ)) (at : State) → content ≡ x + b → record (many n b (within x o n content at)) { top = record at.top { left = lower at.top.left content }; saved = at.saved } ≡ after_data (x + b) at
 array_left x b n content o at e = rw (minus-minus at.ahead x b, drop-drop b x at.rest, e) refl
 
 four : (own h x b : List ℕ) → length (own ++ (h ++ (x ++ b))) ≡ length own + length h + (length x + length b)
 four own h x b = three own h (x ++ b) ∙ ap (λ n. length own + length h + n) (length-append x b)
 
 -- the items of an array stand in it as they were taken
-pub whole_array_with_parts : (st : State) (us : Terms) (new : State) (c : ContainsArray st (items_of us) new) → NextWithParts st (holder array us) (row_standings c.mid (items_of us) c.bytes c.last c.items) new
+pub whole_array_with_parts : (st : State) (us : Terms) (new : State) (c : ContainsArray st (items_of us) new) → NextWithParts st (container array us) (row_standings c.mid (items_of us) c.bytes c.last c.items) new
 whole_array_with_parts st us new c =
     let o = c.opened in
     let d = o.data_ in
@@ -175,15 +175,15 @@ whole_array_with_parts st us new c =
     let over : d.content - length x ≡ length b = used_up c.mid.top.left (d.content - length x) (length b) (ap (λ (z : State). z.top.left) s.is) t.room (sym (ap (λ (z : State). z.top.left) t.moved) ∙ c.closed.left) in
     let few : length x ≤ d.content = s.took.room in
     let k_is : d.content ≡ length x + length b = omega (arith, over, few) in
-    let h : Header false o.width o.mid (count us) d.content d.mid = subst (λ n. Header false o.width o.mid n d.content d.mid) n_is d.header in
+    let h : ReadsHeader false o.width o.mid (count us) d.content d.mid = subst (λ n. ReadsHeader false o.width o.mid n d.content d.mid) n_is d.header in
     let head = bytes_high_first o.width h.size ++ bytes_high_first o.width (count us) in
-    let at : State = on (length head) (past (length own) st) in
-    let at_is : d.mid ≡ at = h.took.moved ∙ ap (on (length head)) g.moved in
-    let tk = subst (λ z. Took z head d.mid) g.moved h.took in
-    let first : Took st own (on (length own) st) = record { room = g.room; rest = g.rest; moved = refl } in
-    let second : Took (on (length own) st) head (on (length head) (on (length own) st)) = record { room = tk.room; rest = tk.rest; moved = refl } in
+    let at : State = after_data (length head) (after_value (length own) st) in
+    let at_is : d.mid ≡ at = h.took.moved ∙ ap (after_data (length head)) g.moved in
+    let tk = subst (λ z. Takes z head d.mid) g.moved h.took in
+    let first : Takes st own (after_data (length own) st) = record { room = g.room; rest = g.rest; moved = refl } in
+    let second : Takes (after_data (length own) st) head (after_data (length head) (after_data (length own) st)) = record { room = tk.room; rest = tk.rest; moved = refl } in
     let long : length (x ++ b) ≡ length x + length b = length-append x b in
-    let third : Took (on (length head) (on (length own) st)) (x ++ b) (on (length (x ++ b)) (on (length head) (on (length own) st))) = record {
+    let third : Takes (after_data (length head) (after_data (length own) st)) (x ++ b) (after_data (length (x ++ b)) (after_data (length head) (after_data (length own) st))) = record {
       room = subst (Has at.top.left) (k_is ∙ sym long) (subst (λ (z : State). Has z.top.left d.content) at_is d.room);
       rest = subst (λ (z : State). z.rest ≡ (x ++ b) ++ drop (length (x ++ b)) z.rest) at_is (front_is (x ++ b) d.mid.rest (drop (length b) (drop (length x) d.mid.rest)) (length (x ++ b)) refl
           (s.took.rest ∙ ap (λ l. x ++ l) (subst (λ (z : State). z.rest ≡ b ++ drop (length b) z.rest) s.is t.rest) ∙ sym (append_assoc x b (drop (length b) (drop (length x) d.mid.rest)))));
@@ -212,7 +212,7 @@ whole_array_with_parts st us new c =
     let deep : array_nest us ≤ d.mid.nesting - length d.mid.saved = s.nested b rows (let m = t.nested in omega (arith, m, levels, limit)) in
     let left : new ≡ record (many (count us) (length b) (within (length x) s.shared c.count d.content d.mid)) { top = c.closed.outer; saved = c.closed.others } = c.closed.moved ∙ ap (λ (z : State). record z { top = c.closed.outer; saved = c.closed.others }) (t.moved ∙ ap (many (count us) (length b)) s.is) in
     let saved : (record d.mid.top { left = lower d.mid.top.left d.content }) ∷ d.mid.saved ≡ c.closed.outer ∷ c.closed.others = sym (ap (λ (z : State). z.saved) (t.moved ∙ ap (many (count us) (length b)) s.is)) ∙ c.closed.saved in
-    let out : new ≡ on (length x + length b) d.mid = left
+    let out : new ≡ after_data (length x + length b) d.mid = left
     ∙ ap₂ (λ (f : Open) (l : List Open). record (many (count us) (length b) (within (length x) s.shared c.count d.content d.mid)) { top = f; saved = l }) (sym (ap (λ l. get_or l 0 d.mid.top) saved)) (sym (ap (drop 1) saved))
     ∙ ap (λ n. record (many (count us) (length b) (within (length x) s.shared n d.content d.mid)) { top = record d.mid.top { left = lower d.mid.top.left d.content }; saved = d.mid.saved }) n_is
     ∙ array_left (length x) (length b) (count us) d.content s.shared d.mid k_is in
@@ -225,15 +225,15 @@ whole_array_with_parts st us new c =
           room = all.room;
           after = drop (length (own ++ (head ++ (x ++ b)))) st.rest;
           rest = all.rest;
-          spelled = first_spelled st.top.shared o.code own (head ++ (x ++ b)) (holder array us) g.first code_is data_is;
+          spelled = first_spelled st.top.shared o.code own (head ++ (x ++ b)) (container array us) g.first code_is data_is;
           nested = subst (λ (z : State). array_nest us ≤ z.nesting - length z.saved) at_is deep;
         };
-        moved = out ∙ ap (on (length x + length b)) at_is ∙ closed_at st (past (length own) st) at (length own) (length head) (length x + length b) refl refl ∙ ap (λ k. past k st) (sym (four own head x b));
+        moved = out ∙ ap (after_data (length x + length b)) at_is ∙ closed_at st (after_value (length own) st) at (length own) (length head) (length x + length b) refl refl ∙ ap (λ k. after_value k st) (sym (four own head x b));
       };
       parts = first_parts st.top.shared o.code own (head ++ (x ++ b)) array us ss g.first code_is parts_are;
     }
 
-pub whole_array : (st : State) (us : Terms) (new : State) → ContainsArray st (items_of us) new → Next st (holder array us) new
+pub whole_array : (st : State) (us : Terms) (new : State) → ContainsArray st (items_of us) new → Next st (container array us) new
 whole_array st us new c = let h = whole_array_with_parts st us new c in h.next
 
 -- how an array that stands there is begun
@@ -243,12 +243,12 @@ record Beginning (us : Terms) (content : List ℕ) (at : State) : Type 0 where
   pub shared : Option (List Descriptor × ℕ)
   pub split : content ≡ own ++ items
   pub spelled : AllSpelled shared us items
-  pub starts : Starts (count us) (length content) (inside InArray 0 (length content) at) (within (length own) shared (count us) (length content) at)
+  pub starts : Starts (count us) (length content) (in_container InArray 0 (length content) at) (within (length own) shared (count us) (length content) at)
   pub nested : nests us ≤ at.nesting - suc (length at.saved)
 
 -- the constructor of the items is there
 constructed : (content own items after : List ℕ) (ds : List Descriptor) (c : ℕ) (at : State) → content ≡ own ++ items → at.rest ≡ content ++ after → length ds ≤ 128 → Constructor ds c own
-    → TookConstructor (inside InArray 0 (length content) at) ds c (on (length own) (inside InArray 0 (length content) at))
+    → TakesConstructor (in_container InArray 0 (length content) at) ds c (after_data (length own) (in_container InArray 0 (length content) at))
 constructed content own items after ds c at e rest few k = record {
   own = own;
   few = few;
@@ -270,7 +270,7 @@ beginning none content after at (inl e) rest deep = record {
   shared = None;
   split = e;
   spelled = refl;
-  starts = inl (omega (arith, ap length e), sym (on_none (inside InArray 0 (length content) at) (length content) refl));
+  starts = inl (omega (arith, ap length e), sym (on_none (in_container InArray 0 (length content) at) (length content) refl));
   nested = omega arith;
 }
 beginning none content after at (inr (ds, c, few, (own, items, e, k, h))) rest deep = record {
@@ -296,24 +296,24 @@ beginning (more t us) content after at (ds, c, few, (own, items, e, k, (wide, (s
     }
 
 -- an array that stands there is opened, its items are taken and it is closed
-pub array_parts : (st : State) (us : Terms) (new : State) → length st.saved ≤ st.nesting → Next st (holder array us) new → ContainsArray st (items_of us) new
+pub array_parts : (st : State) (us : Terms) (new : State) → length st.saved ≤ st.nesting → Next st (container array us) new → ContainsArray st (items_of us) new
 array_parts st us new few next =
     let k = next.stands in
-    let f = front_of st.top.shared (holder array us) next.bytes (holder_bare array us) k.spelled in
+    let f = front_of st.top.shared (container array us) next.bytes (container_bare array us) k.spelled in
     let y = container_split (format f.code) array (count us) (elements_of us) f.data_ f.spelled in
     let own = f.own in
     let content = y.content in
     let n = count us in
     let head = bytes_high_first y.width y.size ++ bytes_high_first y.width n in
     let s_is : next.bytes ≡ own ++ (head ++ content) = f.whole ∙ ap (λ l. own ++ l) (y.whole ∙ sym (append_assoc (bytes_high_first y.width y.size) (bytes_high_first y.width n) content)) in
-    let all : Took st (own ++ (head ++ content)) (on (length (own ++ (head ++ content))) st) = record {
+    let all : Takes st (own ++ (head ++ content)) (after_data (length (own ++ (head ++ content))) st) = record {
       room = subst (λ l. Has st.top.left (length l)) s_is k.room;
       rest = front_is (own ++ (head ++ content)) st.rest k.after (length (own ++ (head ++ content))) refl (k.rest ∙ ap (λ l. l ++ k.after) s_is);
       moved = refl;
     } in
     let one = took_parts st _ own (head ++ content) all in
     let two = took_parts _ _ head content one.1 in
-    let at : State = on (length head) (past (length own) st) in
+    let at : State = after_data (length head) (after_value (length own) st) in
     let start = beginning us content (drop (length content) at.rest) at y.inner two.1.rest k.nested in
     let x = start.own in
     let b = start.items in
@@ -328,7 +328,7 @@ array_parts st us new few next =
       opened = record {
         code = f.code;
         width = y.width;
-        mid = past (length own) st;
+        mid = after_value (length own) st;
         begun = record { going = k.going; item = k.item; own = own; first = f.first; room = one.0.room; rest = one.0.rest; moved = refl };
         announced = y.announced;
         data_ = record {
@@ -351,8 +351,8 @@ array_parts st us new few next =
         outer = record at.top { left = lower at.top.left (length content) };
         others = at.saved;
         saved = refl;
-        moved = next.moved ∙ ap (λ l. past (length l) st) (s_is ∙ ap (λ l. own ++ (head ++ l)) start.split) ∙ ap (λ m. past m st) (four own head x b)
-            ∙ sym (closed_at st (past (length own) st) at (length own) (length head) (length x + length b) refl refl) ∙ sym (array_left (length x) (length b) n (length content) start.shared at long);
+        moved = next.moved ∙ ap (λ l. after_value (length l) st) (s_is ∙ ap (λ l. own ++ (head ++ l)) start.split) ∙ ap (λ m. after_value m st) (four own head x b)
+            ∙ sym (closed_at st (after_value (length own) st) at (length own) (length head) (length x + length b) refl refl) ∙ sym (array_left (length x) (length b) n (length content) start.shared at long);
       };
     }
 
@@ -373,10 +373,10 @@ starts_same n content st a b (inr (e, f)) (inr (g, h)) = shares_same n st a b f 
 enters_same : (w : ℕ) (st : State) (n n' : ℕ) (a b : State) → EntersArray w st n a → EntersArray w st n' b → (n ≡ n') × (a ≡ b)
 enters_same w st n n' a b d d' =
     let s = header_same false w st n d.content n' d'.content d.mid d'.mid d.header d'.header in
-    let one = subst (λ k. Starts k d.content (inside InArray 0 d.content d.mid) a) s.0 d.starts in
-    let two = subst (λ k. Starts n' k (inside InArray 0 k d.mid) a) s.1 one in
-    let all = subst (λ z. Starts n' d'.content (inside InArray 0 d'.content z) a) s.2 two in
-    (s.0, starts_same n' d'.content (inside InArray 0 d'.content d'.mid) a b all d'.starts)
+    let one = subst (λ k. Starts k d.content (in_container InArray 0 d.content d.mid) a) s.0 d.starts in
+    let two = subst (λ k. Starts n' k (in_container InArray 0 k d.mid) a) s.1 one in
+    let all = subst (λ z. Starts n' d'.content (in_container InArray 0 d'.content z) a) s.2 two in
+    (s.0, starts_same n' d'.content (in_container InArray 0 d'.content d'.mid) a b all d'.starts)
 
 -- an array is opened in one way
 pub opens_array_same : (st : State) (n n' : ℕ) (a b : State) → OpensArray st n a → OpensArray st n' b → (n ≡ n') × (a ≡ b)

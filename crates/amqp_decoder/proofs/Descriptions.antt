@@ -2,28 +2,28 @@
 -- section 1.2).
 use Rattle.std.proofs.Common.{◌≡◌, ℕ, ◌+◌, ◌<◌, ◌≤◌, List, [], ◌∷◌, ◌++◌, length, drop, get_or, Option, Some, None, option_map, refl, sym, ap, ap₂, ◌∙◌, subst, arith, append_assoc, length-append, drop-drop}
 use Rattle.std.proofs.lemmas.List.{drop_at}
-use Rattle.amqp_model.specs.Term.{list, map, array, Descriptor, Term, leaf, holder, described, kept, barred}
+use Rattle.amqp_model.specs.Term.{list, map, array, Descriptor, Term, leaf, container, described, kept, barred}
 use Rattle.amqp_model.specs.Spelling.{Names, enc, data_of}
 use Rattle.amqp_model.specs.Measures.{nest}
 use Rattle.amqp_model.specs.Standing.{part, Parts}
-use Rattle.amqp_decoder.specs.declared.frame.Place.TheVariants.{InDescribed}
-use Rattle.amqp_decoder.specs.State.{State, Open, Has, lower, on, past}
-use Rattle.amqp_decoder.specs.Steps.{Took}
+use Rattle.amqp_decoder.specs.declared.frame.OpenKind.TheVariants.{InDescribed}
+use Rattle.amqp_decoder.specs.State.{State, Open, Has, lower, after_data, after_value}
+use Rattle.amqp_decoder.specs.Steps.{Takes}
 use Rattle.amqp_decoder.specs.Reading.{IsFirst}
 use Rattle.amqp_decoder.specs.Primitives.{standing, SpellsAs, Stands}
 use Rattle.amqp_decoder.specs.Containers.{ClosesDescribed}
-use Rattle.amqp_decoder.specs.Described.{IsDescriptor, behind, entered}
+use Rattle.amqp_decoder.specs.Described.{IsDescriptor, behind, in_described}
 use Rattle.amqp_decoder.specs.Items.{Next, NextWithParts, DescribedStands}
-use Rattle.amqp_decoder.proofs.Leaves.{has_add, has_front, has_rest, lower-lower, minus-minus}
+use Rattle.amqp_decoder.proofs.ReadPrimitives.{has_add, has_front, has_rest, lower-lower, minus-minus}
 
 -- a term nests at least as deep as it is described
 marks_nest : (t : Term) (ds : List Descriptor) (c : ℕ) (b : List ℕ) → data_of t ds c b → length ds ≤ nest t
 marks_nest t [] c b h = omega arith
 marks_nest (described d t) (e ∷ ds) c b h = omega (arith, marks_nest t ds c b h.1)
 marks_nest (leaf p) (e ∷ ds) c b h = absurd h
-marks_nest (holder list ts) (e ∷ ds) c b h = absurd h
-marks_nest (holder map ts) (e ∷ ds) c b h = absurd h
-marks_nest (holder array ts) (e ∷ ds) c b h = absurd h
+marks_nest (container list ts) (e ∷ ds) c b h = absurd h
+marks_nest (container map ts) (e ∷ ds) c b h = absurd h
+marks_nest (container array ts) (e ∷ ds) c b h = absurd h
 marks_nest (kept k) (e ∷ ds) c b h = absurd h
 marks_nest (barred r) (e ∷ ds) c b h = absurd h
 
@@ -54,20 +54,20 @@ sum a b c = omega arith
 
 -- the state in which what is described stands
 abbrev inside_described : ℕ → ℕ → State → State
-inside_described first own st = entered (on own (past first st))
+inside_described first own st = in_described (after_data own (after_value first st))
 
 -- the state behind it
-back : (first own s : ℕ) (st : State) → past (first + (own + s)) st ≡ record (past s (inside_described first own st)) { top = record (on own (past first st)).top { left = lower (on own (past first st)).top.left s }; saved = st.saved }
-back first own s st = ap (λ z. past z st) (sum first own s)
+back : (first own s : ℕ) (st : State) → after_value (first + (own + s)) st ≡ record (after_value s (inside_described first own st)) { top = record (after_data own (after_value first st)).top { left = lower (after_data own (after_value first st)).top.left s }; saved = st.saved }
+back first own s st = ap (λ z. after_value z st) (sum first own s)
     ∙ sym (rw (minus-minus st.ahead first own, minus-minus st.ahead (first + own) s, drop-drop own first st.rest, drop-drop s (first + own) st.rest, lower-lower st.top.left first own, lower-lower st.top.left (first + own) s) refl)
 
-left_described : (first own s : ℕ) (st b : State) → ClosesDescribed InDescribed (past s (inside_described first own st)) b → b ≡ past (first + (own + s)) st
+left_described : (first own s : ℕ) (st b : State) → ClosesDescribed InDescribed (after_value s (inside_described first own st)) b → b ≡ after_value (first + (own + s)) st
 left_described first own s st b c =
-    let mid = on own (past first st) in
+    let mid = after_data own (after_value first st) in
     let kept_ = record mid.top { left = option_map (λ l. 0) mid.top.left } in
     let outer : kept_ ≡ c.outer = ap (λ l. get_or l 0 st.top) c.saved in
     let others : st.saved ≡ c.others = ap (λ l. drop 1 l) c.saved in
-    c.moved ∙ ap₂ (λ (t : Open) l. record (past s (inside_described first own st)) { top = record t { left = lower mid.top.left s }; saved = l }) (sym outer) (sym others) ∙ sym (back first own s st)
+    c.moved ∙ ap₂ (λ (t : Open) l. record (after_value s (inside_described first own st)) { top = record t { left = lower mid.top.left s }; saved = l }) (sym outer) (sym others) ∙ sym (back first own s st)
 
 -- What was opened, taken and closed is one term, in which what is described stands as it was taken.
 pub described_with_parts : (st : State) (d : Descriptor) (t : Term) (b : State) → st.nesting ≤ 128 → (h : DescribedStands st d t b) → NextWithParts st (described d t) (standing h.inner.top.shared h.bytes ∷ []) b
@@ -75,11 +75,11 @@ described_with_parts st d t b bound h =
     let o = h.opens in
     let first = o.begun.own in
     let own = o.descriptor.own in
-    let took : Took (past (length first) st) own o.named = subst (λ (m : State). Took m own o.named) o.begun.moved o.descriptor.took in
+    let took : Takes (after_value (length first) st) own o.named = subst (λ (m : State). Takes m own o.named) o.begun.moved o.descriptor.took in
     let descriptor : IsDescriptor st.top.shared d own = subst (λ (m : State). IsDescriptor m.top.shared d own) o.begun.moved o.descriptor.descriptor in
-    let inner : h.inner ≡ inside_described (length first) (length own) st = o.opened ∙ ap entered took.moved in
+    let inner : h.inner ≡ inside_described (length first) (length own) st = o.opened ∙ ap in_described took.moved in
     let stands = subst (λ (i : State). Stands i h.bytes t) inner h.stands in
-    let closes = subst (λ (i : State). ClosesDescribed InDescribed (past (length h.bytes) i) b) inner h.closes in
+    let closes = subst (λ (i : State). ClosesDescribed InDescribed (after_value (length h.bytes) i) b) inner h.closes in
     let long : length (first ++ (own ++ h.bytes)) ≡ length first + (length own + length h.bytes) = length-append first (own ++ h.bytes) ∙ ap (λ k. length first + k) (length-append own h.bytes) in
     let all : Has st.top.left (length first + (length own + length h.bytes)) =
     has_add st.top.left (length first) (length own + length h.bytes) o.begun.room (has_add (lower st.top.left (length first)) (length own) (length h.bytes) took.room stands.room) in
@@ -95,7 +95,7 @@ described_with_parts st d t b bound h =
           spelled = described_spelled st.top.shared first own h.bytes d t (let x = stands.nested in let y = o.nested in omega (arith, x, y, bound)) o.begun.first descriptor stands.spelled;
           nested = let x = stands.nested in let y = o.nested in omega (arith, x, y);
         };
-        moved = left_described (length first) (length own) (length h.bytes) st b closes ∙ ap (λ k. past k st) (sym long);
+        moved = left_described (length first) (length own) (length h.bytes) st b closes ∙ ap (λ k. after_value k st) (sym long);
       };
       parts = subst (λ (i : State). Parts (standing st.top.shared (first ++ (own ++ h.bytes))) (described d t) (standing i.top.shared h.bytes ∷ [])) (sym inner)
           (described_parts st.top.shared first own h.bytes d t o.begun.first descriptor);
@@ -136,11 +136,11 @@ term_described st d t b next =
     h.rest ∙ ap (λ y. y ++ h.after) f.5 ∙ append_assoc first (own ++ s) h.after ∙ ap (λ y. first ++ y) (append_assoc own s h.after) in
     let second : drop (length first) st.rest ≡ own ++ (s ++ h.after) = ap (drop (length first)) whole ∙ drop_at first (own ++ (s ++ h.after)) (length first) refl in
     let third : drop (length own) (drop (length first) st.rest) ≡ s ++ h.after = ap (drop (length own)) second ∙ drop_at own (s ++ h.after) (length own) refl in
-    let mid = on (length own) (past (length first) st) in
+    let mid = after_data (length own) (after_value (length first) st) in
     record {
       inner = inside_described (length first) (length own) st;
       opens = record {
-        coded = past (length first) st;
+        coded = after_value (length first) st;
         named = mid;
         begun = record { going = h.going; item = h.item; own = first; first = f.3; room = has_front st.top.left (length first) (length own + length s) room; rest = whole ∙ ap (λ y. first ++ y) (sym second); moved = refl };
         nested = let y = h.nested in omega (arith, y);
@@ -164,6 +164,6 @@ term_described st d t b next =
         outer = record mid.top { left = option_map (λ l. 0) mid.top.left };
         others = st.saved;
         saved = refl;
-        moved = next.moved ∙ ap (λ k. past k st) long ∙ back (length first) (length own) (length s) st;
+        moved = next.moved ∙ ap (λ k. after_value k st) long ∙ back (length first) (length own) (length s) st;
       };
     }

@@ -7,8 +7,8 @@ use Rattle.std.specs.Int.{bytes_high_first}
 use Rattle.amqp_wire.specs.declared.error.Error.{Error}
 use Rattle.amqp_wire.specs.declared.error.Error.TheVariants.{NonAscii}
 use Rattle.amqp_lengths.specs.Pieces.{IsSized}
-use Rattle.amqp_decoder.specs.State.{State, Has, lower, moved}
-use Rattle.amqp_decoder.specs.Steps.{Pulled, Took, Lacks, Stopped}
+use Rattle.amqp_decoder.specs.State.{State, Has, lower, after_bytes}
+use Rattle.amqp_decoder.specs.Steps.{Pulls, Takes, Lacks, Stops}
 use Rattle.amqp_decoder.specs.Terms.{Keeps, IsSymbol, SymbolFault, no_text, no_ascii}
 use Rattle.amqp_decoder.proofs.Steps.{answered, answered_took, stopped_as, stopped_later, took_pulled}
 use Rattle.amqp_decoder.proofs.Opening.{took_both}
@@ -25,23 +25,23 @@ pub keeps_as : (P Q : List ℕ → Type 0) (a b : List ℕ) (st new : State) →
 keeps_as P Q a b st new f h = record { own = h.own; is = f h.own h.is; took = h.took; added = h.added }
 
 -- a byte that was taken is added
-pub keeps_code : (c : ℕ) (before after : List ℕ) (st m new : State) → Took st (c ∷ []) m → after ≡ before ++ (c ∷ []) → new ≡ m → Keeps (λ s. s ≡ c ∷ []) before st after new
-keeps_code c before after st m new t added same = record { own = c ∷ []; is = refl; took = subst (Took st (c ∷ [])) (sym same) t; added = added }
+pub keeps_code : (c : ℕ) (before after : List ℕ) (st m new : State) → Takes st (c ∷ []) m → after ≡ before ++ (c ∷ []) → new ≡ m → Keeps (λ s. s ≡ c ∷ []) before st after new
+keeps_code c before after st m new t added same = record { own = c ∷ []; is = refl; took = subst (Takes st (c ∷ [])) (sym same) t; added = added }
 
 pub keeps_next : (n : ℕ) (before after : List ℕ) (st m new : State) → Has st.top.left n → m ≡ record st { top = record st.top { left = lower st.top.left n } }
-    → (n ≤ length m.rest) × (after ≡ before ++ take n m.rest) × (new ≡ moved n m) → Keeps (λ s. length s ≡ n) before st after new
+    → (n ≤ length m.rest) × (after ≡ before ++ take n m.rest) × (new ≡ after_bytes n m) → Keeps (λ s. length s ≡ n) before st after new
 keeps_next n before after st m new room is (few, added, went) =
     let s = take n m.rest in
     let long : length s ≡ n = length-take-le n m.rest few in
     let whole : m.rest ≡ s ++ drop (length s) m.rest = sym (take-append-drop n m.rest) ∙ ap (λ k. s ++ drop k m.rest) (sym long) in
-    let pulled : Pulled m s new = record { rest = whole; moved = went ∙ ap (λ k. moved k m) (sym long) } in
+    let pulled : Pulls m s new = record { rest = whole; moved = went ∙ ap (λ k. after_bytes k m) (sym long) } in
     record { own = s; is = long; took = took_pulled n st m s new long room is pulled; added = added }
 
 digits : (wide : Bool) (n : ℕ) → drop (4 - cond wide 4 1) (bytes_high_first 4 n) ≡ bytes_high_first (cond wide 4 1) n
 digits true n = refl
 digits false n = refl
 
-pub keeps_number : (wide : Bool) (n k : ℕ) (before after bytes : List ℕ) (st new : State) → Took st (bytes_high_first (cond wide 4 1) n) new → bytes ≡ bytes_high_first 4 n → k ≡ 4 - cond wide 4 1 → after ≡ before ++ drop k bytes
+pub keeps_number : (wide : Bool) (n k : ℕ) (before after bytes : List ℕ) (st new : State) → Takes st (bytes_high_first (cond wide 4 1) n) new → bytes ≡ bytes_high_first 4 n → k ≡ 4 - cond wide 4 1 → after ≡ before ++ drop k bytes
     → Keeps (λ s. s ≡ bytes_high_first (cond wide 4 1) n) before st after new
 keeps_number wide n k before after bytes st new t is skip added = record {
   own = bytes_high_first (cond wide 4 1) n;
@@ -74,18 +74,18 @@ keeps_symbol w n a b c st m new fits good h k = record {
   added = k.added ∙ ap (λ l. l ++ k.own) h.added ∙ append_assoc a h.own k.own;
 }
 
-pub stopped_size : (w : ℕ) (st : State) (e : Error) (new : State) → Stopped true (Lacks w st) st e new → Stopped true (SymbolFault w st) st e new
+pub stopped_size : (w : ℕ) (st : State) (e : Error) (new : State) → Stops true (Lacks w st) st e new → Stops true (SymbolFault w st) st e new
 stopped_size w st e new s = stopped_as (Lacks w st) (SymbolFault w st) st e new (λ d x. no_text (inl x)) s
 
-pub stopped_text : (w n : ℕ) (a b : List ℕ) (st m : State) (e : Error) (new : State) → n < 256 ^ w → Keeps (λ s. s ≡ bytes_high_first w n) a st b m → Stopped true (Lacks n m) m e new → Stopped true (SymbolFault w st) st e new
-stopped_text w n a b st m e new fits h s = stopped_later (Lacks n m) (SymbolFault w st) st m h.own e new h.took (λ d x. no_text (inr (n, m, fits, subst (λ l. Took st l m) h.is h.took, x))) s
+pub stopped_text : (w n : ℕ) (a b : List ℕ) (st m : State) (e : Error) (new : State) → n < 256 ^ w → Keeps (λ s. s ≡ bytes_high_first w n) a st b m → Stops true (Lacks n m) m e new → Stops true (SymbolFault w st) st e new
+stopped_text w n a b st m e new fits h s = stopped_later (Lacks n m) (SymbolFault w st) st m h.own e new h.took (λ d x. no_text (inr (n, m, fits, subst (λ l. Takes st l m) h.is h.took, x))) s
 
 pub stopped_ascii : (w n : ℕ) (a b c : List ℕ) (st m m' : State) (e : Error) (new : State) → n < 256 ^ w → ((y : List ℕ) → c ≡ b ++ y → IsAscii y → ⊥)
-    → Keeps (λ s. s ≡ bytes_high_first w n) a st b m → Keeps (λ s. length s ≡ n) b m c m' → e ≡ NonAscii → new ≡ record m' { error = Some NonAscii } → Stopped true (SymbolFault w st) st e new
+    → Keeps (λ s. s ≡ bytes_high_first w n) a st b m → Keeps (λ s. length s ≡ n) b m c m' → e ≡ NonAscii → new ≡ record m' { error = Some NonAscii } → Stops true (SymbolFault w st) st e new
 stopped_ascii w n a b c st m m' e new fits bad h k named kept =
     let sized = sized_own w n h.own k.own fits h.is k.is in
-    let took : Took st (h.own ++ k.own) m' = took_both st m m' h.own k.own h.took k.took in
+    let took : Takes st (h.own ++ k.own) m' = took_both st m m' h.own k.own h.took k.took in
     record {
       kept = answered_took took (answered m' new e NonAscii kept named);
-      why = inr (no_ascii (record { fits = sized.0; took = subst (λ l. Took st l m') sized.1 took }) (bad k.own k.added) named);
+      why = inr (no_ascii (record { fits = sized.0; took = subst (λ l. Takes st l m') sized.1 took }) (bad k.own k.added) named);
     }

@@ -11,11 +11,11 @@ use Rattle.amqp_lengths.specs.Pieces.{NamesAny}
 use Rattle.amqp_lengths.specs.Lengths.{Marks}
 use Rattle.amqp_lengths.proofs.Descriptors.{marks_more, marks_done}
 use Rattle.amqp_decoder.specs.State.{State}
-use Rattle.amqp_decoder.specs.Steps.{Answered, Took, Lacks, Stopped}
+use Rattle.amqp_decoder.specs.Steps.{Answers, Takes, Lacks, Stops}
 use Rattle.amqp_input.specs.Kinds.{kind_at}
 use Rattle.amqp_decoder.specs.Primitives.{LacksData, IsWhole}
 use Rattle.amqp_decoder.specs.Described.{other_kind, DescriptorFault, no_code, no_kind, no_data, non_ascii}
-use Rattle.amqp_decoder.specs.Arrays.{TookMarks, ConstructorFault}
+use Rattle.amqp_decoder.specs.Arrays.{TakesMarks, ConstructorFault}
 use Rattle.amqp_decoder.specs.Terms.{Keeps, IsSymbol, SymbolFault, no_text, no_ascii, IsConstructor}
 use Rattle.amqp_input.proofs.KindsOfCodes.{not_two, not_three}
 use Rattle.amqp_decoder.proofs.SizedTexts.{no_text_value}
@@ -45,33 +45,33 @@ pub symbol_32_means : (x : List ℕ) → IsSymbol 4 x → (d : Descriptor) × Pr
 symbol_32_means x (s, ascii, (fits, is)) = (name s, (s, fits, is, refl, ascii))
 
 -- why no descriptor is kept
-pub unnamed_code : (st : State) (e : Error) (new : State) → Stopped true (Lacks 1 st) st e new → Stopped true (DescriptorFault st) st e new
+pub unnamed_code : (st : State) (e : Error) (new : State) → Stops true (Lacks 1 st) st e new → Stops true (DescriptorFault st) st e new
 unnamed_code st e new s = stopped_as (Lacks 1 st) (DescriptorFault st) st e new (λ d x. no_code x) s
 
-code_took : (c : ℕ) (a b : List ℕ) (st m : State) → Keeps (λ s. s ≡ c ∷ []) a st b m → Took st (c ∷ []) m
-code_took c a b st m h = subst (λ l. Took st l m) h.is h.took
+code_took : (c : ℕ) (a b : List ℕ) (st m : State) → Keeps (λ s. s ≡ c ∷ []) a st b m → Takes st (c ∷ []) m
+code_took c a b st m h = subst (λ l. Takes st l m) h.is h.took
 
-at_code : (c k : ℕ) (a b : List ℕ) (st m : State) → c ≡ k → Keeps (λ s. s ≡ c ∷ []) a st b m → Took st (k ∷ []) m
-at_code c k a b st m is h = subst (λ n. Took st (n ∷ []) m) is (code_took c a b st m h)
+at_code : (c k : ℕ) (a b : List ℕ) (st m : State) → c ≡ k → Keeps (λ s. s ≡ c ∷ []) a st b m → Takes st (k ∷ []) m
+at_code c k a b st m is h = subst (λ n. Takes st (n ∷ []) m) is (code_took c a b st m h)
 
-pub unnamed_ulong : (c k n : ℕ) (a b : List ℕ) (st m : State) (e : Error) (new : State) → c ≡ k → kind_at k ≡ Some 5 → ((d : Error) → Lacks n m d → LacksData (format k) m d) → Keeps (λ s. s ≡ c ∷ []) a st b m → Stopped true (Lacks n m) m e new → Stopped true (DescriptorFault st) st e new
+pub unnamed_ulong : (c k n : ℕ) (a b : List ℕ) (st m : State) (e : Error) (new : State) → c ≡ k → kind_at k ≡ Some 5 → ((d : Error) → Lacks n m d → LacksData (format k) m d) → Keeps (λ s. s ≡ c ∷ []) a st b m → Stops true (Lacks n m) m e new → Stops true (DescriptorFault st) st e new
 unnamed_ulong c k n a b st m e new is kind f h s =
     let t = at_code c k a b st m is h in
     stopped_later (Lacks n m) (DescriptorFault st) st m (k ∷ []) e new t (λ d x. no_data t (inl kind) (f d x)) s
 
-symbol_fault : (k w : ℕ) (st m : State) (e : Error) → format k ≡ variable w (λ b. Some (symbol b)) → kind_at k ≡ Some 18 → Took st (k ∷ []) m → SymbolFault w m e → DescriptorFault st e
+symbol_fault : (k w : ℕ) (st m : State) (e : Error) → format k ≡ variable w (λ b. Some (symbol b)) → kind_at k ≡ Some 18 → Takes st (k ∷ []) m → SymbolFault w m e → DescriptorFault st e
 symbol_fault k w st m e F kind t (no_text l) = no_data t (inr kind) (subst (λ G. LacksData G m e) (sym F) l)
 symbol_fault k w st m e F kind t (no_ascii {s} {m = m'} z bad is) =
     let b : List ℕ = bytes_high_first w (length s) ++ s in
     non_ascii t kind z.took (subst (λ G. IsWhole G b) (sym F) (s, z.fits, refl)) (λ d h. no_text_value w symbol s (descriptor_value d) z.fits bad (subst (λ G. PrimitiveData G (descriptor_value d) b) F h)) is
 
-pub unnamed_symbol : (c k w : ℕ) (a b : List ℕ) (st m : State) (e : Error) (new : State) → c ≡ k → format k ≡ variable w (λ b. Some (symbol b)) → kind_at k ≡ Some 18 → Keeps (λ s. s ≡ c ∷ []) a st b m → Stopped true (SymbolFault w m) m e new → Stopped true (DescriptorFault st) st e new
+pub unnamed_symbol : (c k w : ℕ) (a b : List ℕ) (st m : State) (e : Error) (new : State) → c ≡ k → format k ≡ variable w (λ b. Some (symbol b)) → kind_at k ≡ Some 18 → Keeps (λ s. s ≡ c ∷ []) a st b m → Stops true (SymbolFault w m) m e new → Stops true (DescriptorFault st) st e new
 unnamed_symbol c k w a b st m e new is F kind h s =
     let t = at_code c k a b st m is h in
     stopped_later (SymbolFault w m) (DescriptorFault st) st m (k ∷ []) e new t (λ d x. symbol_fault k w st m d F kind t x) s
 
 pub unnamed_other : (c : ℕ) (a b : List ℕ) (st m : State) (e : Error) (new : State) → (c ≡ 0x44 → ⊥) → (c ≡ 0x53 → ⊥) → (c ≡ 0x80 → ⊥) → (c ≡ 0xa3 → ⊥) → (c ≡ 0xb3 → ⊥) → Keeps (λ s. s ≡ c ∷ []) a st b m
-    → e ≡ other_kind (refusal_of c) → new ≡ record m { error = Some e } → Stopped true (DescriptorFault st) st e new
+    → e ≡ other_kind (refusal_of c) → new ≡ record m { error = Some e } → Stops true (DescriptorFault st) st e new
 unnamed_other c a b st m e new zero_ small long narrow wide h is kept =
     let t = code_took c a b st m h in
     record {
@@ -104,8 +104,8 @@ pub marks_code : (n c : ℕ) (a b l : List ℕ) (st m new : State) → Keeps (Is
 marks_code n c a b l st m new h k =
     keeps_both (IsNamed n) (λ s. s ≡ c ∷ []) (IsMarked n c) a b l st m new (λ x y p e. (p.0, p.1, x, p.2, ap (λ z. x ++ z) e)) h k
 
-marked_took : (n c : ℕ) (a b : List ℕ) (st m : State) (h : Keeps (IsMarked n c) a st b m) → TookMarks st h.is.0 c m
-marked_took n c a b st m h = record { own = h.is.2; marks = h.is.3; took = subst (λ l. Took st l m) h.is.4 h.took }
+marked_took : (n c : ℕ) (a b : List ℕ) (st m : State) (h : Keeps (IsMarked n c) a st b m) → TakesMarks st h.is.0 c m
+marked_took n c a b st m h = record { own = h.is.2; marks = h.is.3; took = subst (λ l. Takes st l m) h.is.4 h.took }
 
 named_took : (n : ℕ) (a b : List ℕ) (st m : State) (h : Keeps (IsNamed n) a st b m) → TookNamed st h.is.0 m
 named_took n a b st m h = record { own = h.own; marks = h.is.2; took = h.took }
@@ -119,16 +119,16 @@ constructor_kept n c a b st m new few some h (known, same) =
     ends x (ds, count, own, marks, is) = (ds, omega arith, subst (Constructor ds c) (sym is) (marks_done ds c own marks (ends_known c some known)))
 
 -- why no constructor is kept
-pub unmarked_deep : (n : ℕ) (a b : List ℕ) (st m : State) (e : Error) (new : State) → n ≡ 128 → Keeps (IsMarked n 0) a st b m → e ≡ Depth → new ≡ record m { error = Some Depth } → Stopped true (ConstructorFault st) st e new
+pub unmarked_deep : (n : ℕ) (a b : List ℕ) (st m : State) (e : Error) (new : State) → n ≡ 128 → Keeps (IsMarked n 0) a st b m → e ≡ Depth → new ≡ record m { error = Some Depth } → Stops true (ConstructorFault st) st e new
 unmarked_deep n a b st m e new many h is kept =
     stopped_mark st h.is.0 n m e new (sym h.is.1) (marked_took n 0 a b st m h) (record { kept = answered m new e Depth kept is; why = inr (inl (is, omega arith)) })
 
-pub unmarked_name : (n : ℕ) (a b : List ℕ) (st m : State) (e : Error) (new : State) → Keeps (IsMarked n 0) a st b m → Stopped true (DescriptorFault m) m e new → Stopped true (ConstructorFault st) st e new
+pub unmarked_name : (n : ℕ) (a b : List ℕ) (st m : State) (e : Error) (new : State) → Keeps (IsMarked n 0) a st b m → Stops true (DescriptorFault m) m e new → Stops true (ConstructorFault st) st e new
 unmarked_name n a b st m e new h s =
     stopped_mark st h.is.0 n m e new (sym h.is.1) (marked_took n 0 a b st m h) (stopped_as (DescriptorFault m) (λ d. ((d ≡ Depth) × (128 ≤ n)) ⊎ DescriptorFault m d) m e new (λ d x. inr x) s)
 
-pub unmarked_code : (n : ℕ) (a b : List ℕ) (st m : State) (e : Error) (new : State) → Keeps (IsNamed n) a st b m → Stopped true (Lacks 1 m) m e new → Stopped true (ConstructorFault st) st e new
+pub unmarked_code : (n : ℕ) (a b : List ℕ) (st m : State) (e : Error) (new : State) → Keeps (IsNamed n) a st b m → Stops true (Lacks 1 m) m e new → Stops true (ConstructorFault st) st e new
 unmarked_code n a b st m e new h s = stopped_code st h.is.0 m e new (named_took n a b st m h) s
 
-pub unmarked_unknown : (n c : ℕ) (a b : List ℕ) (st m : State) (e : Error) (new : State) → Keeps (IsMarked n c) a st b m → (c ≡ 0 → ⊥) × (IsKnown (format c) → ⊥) × (e ≡ refusal_of c) × Answered m e new → Stopped true (ConstructorFault st) st e new
+pub unmarked_unknown : (n c : ℕ) (a b : List ℕ) (st m : State) (e : Error) (new : State) → Keeps (IsMarked n c) a st b m → (c ≡ 0 → ⊥) × (IsKnown (format c) → ⊥) × (e ≡ refusal_of c) × Answers m e new → Stops true (ConstructorFault st) st e new
 unmarked_unknown n c a b st m e new h s = stopped_unknown st h.is.0 c m e new (marked_took n c a b st m h) s

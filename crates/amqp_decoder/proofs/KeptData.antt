@@ -7,7 +7,7 @@ use Rattle.amqp_wire.specs.declared.error.Error.{Error}
 use Rattle.amqp_lengths.specs.Announced.{content_size, IsAnnounced}
 use Rattle.amqp_decoder.specs.declared.terms.Data.TheVariants.{Fixed as of_width, Sized as of_size}
 use Rattle.amqp_decoder.specs.State.{State}
-use Rattle.amqp_decoder.specs.Steps.{Took, Lacks, Stopped}
+use Rattle.amqp_decoder.specs.Steps.{Takes, Lacks, Stops}
 use Rattle.amqp_decoder.specs.Terms.{Keeps, Announces, LacksAnnounced}
 use Rattle.amqp_decoder.proofs.Steps.{stopped_as, stopped_later}
 use Rattle.amqp_decoder.proofs.KeptBytes.{keeps_both}
@@ -19,7 +19,7 @@ fixed_lacks (variable w value) n st e is l = absurd is
 fixed_lacks (compound kind w) n st e (none, is) l = inl (subst (λ k. Lacks k st e) (none ∙ sym is) l)
 fixed_lacks unknown n st e is l = absurd is
 
-pub fixed_stopped : (F : Format) (n : ℕ) (st : State) (e : Error) (new : State) → Announces F (of_width n) → Stopped true (Lacks n st) st e new → Stopped true (LacksAnnounced F st) st e new
+pub fixed_stopped : (F : Format) (n : ℕ) (st : State) (e : Error) (new : State) → Announces F (of_width n) → Stops true (Lacks n st) st e new → Stops true (LacksAnnounced F st) st e new
 fixed_stopped F n st e new is s = stopped_as (Lacks n st) (LacksAnnounced F st) st e new (λ d l. fixed_lacks F n st d is l) s
 
 -- a size, and what belongs behind it
@@ -55,17 +55,17 @@ size_lacks (variable w value) wide listed st e (width, is) l = inl (subst (λ k.
 size_lacks (compound kind w) wide listed st e (width, is) l = inl (subst (λ k. Lacks k st e) (sym width) l)
 size_lacks unknown wide listed st e is l = absurd is
 
-pub size_stopped : (F : Format) (wide listed : Bool) (st : State) (e : Error) (new : State) → Announces F (of_size wide listed) → Stopped true (Lacks (cond wide 4 1) st) st e new → Stopped true (LacksAnnounced F st) st e new
+pub size_stopped : (F : Format) (wide listed : Bool) (st : State) (e : Error) (new : State) → Announces F (of_size wide listed) → Stops true (Lacks (cond wide 4 1) st) st e new → Stops true (LacksAnnounced F st) st e new
 size_stopped F wide listed st e new is s = stopped_as (Lacks (cond wide 4 1) st) (LacksAnnounced F st) st e new (λ d l. size_lacks F wide listed st d is l) s
 
-behind_lacks : (F : Format) (wide listed : Bool) (n : ℕ) (st m : State) (e : Error) → Announces F (of_size wide listed) → n < 256 ^ cond wide 4 1 → Took st (bytes_high_first (cond wide 4 1) n) m → Lacks (behind F n) m e → LacksAnnounced F st e
+behind_lacks : (F : Format) (wide listed : Bool) (n : ℕ) (st m : State) (e : Error) → Announces F (of_size wide listed) → n < 256 ^ cond wide 4 1 → Takes st (bytes_high_first (cond wide 4 1) n) m → Lacks (behind F n) m e → LacksAnnounced F st e
 behind_lacks (fixed w value) wide listed n st m e is fits t l = absurd is
-behind_lacks (variable w value) wide listed n st m e (width, is) fits t l = inr (n, m, subst (λ k. n < 256 ^ k) (sym width) fits, subst (λ k. Took st (bytes_high_first k n) m) (sym width) t, l)
-behind_lacks (compound kind w) wide listed n st m e (width, is) fits t l = inr (n, m, subst (λ k. n < 256 ^ k) (sym width) fits, subst (λ k. Took st (bytes_high_first k n) m) (sym width) t, l)
+behind_lacks (variable w value) wide listed n st m e (width, is) fits t l = inr (n, m, subst (λ k. n < 256 ^ k) (sym width) fits, subst (λ k. Takes st (bytes_high_first k n) m) (sym width) t, l)
+behind_lacks (compound kind w) wide listed n st m e (width, is) fits t l = inr (n, m, subst (λ k. n < 256 ^ k) (sym width) fits, subst (λ k. Takes st (bytes_high_first k n) m) (sym width) t, l)
 behind_lacks unknown wide listed n st m e is fits t l = absurd is
 
 pub behind_stopped : (F : Format) (wide listed : Bool) (n k : ℕ) (a b : List ℕ) (st m : State) (e : Error) (new : State) → Announces F (of_size wide listed) → n < 256 ^ cond wide 4 1 → behind F n ≡ k
-    → Keeps (λ s. s ≡ bytes_high_first (cond wide 4 1) n) a st b m → Stopped true (Lacks k m) m e new → Stopped true (LacksAnnounced F st) st e new
+    → Keeps (λ s. s ≡ bytes_high_first (cond wide 4 1) n) a st b m → Stops true (Lacks k m) m e new → Stops true (LacksAnnounced F st) st e new
 behind_stopped F wide listed n k a b st m e new is fits own h s =
-    let t = subst (λ l. Took st l m) h.is h.took in
+    let t = subst (λ l. Takes st l m) h.is h.took in
     stopped_later (Lacks k m) (LacksAnnounced F st) st m (bytes_high_first (cond wide 4 1) n) e new t (λ d l. behind_lacks F wide listed n st m d is fits t (subst (λ j. Lacks j m d) (sym own) l)) s

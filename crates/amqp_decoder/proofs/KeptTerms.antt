@@ -14,19 +14,19 @@ use Rattle.amqp_lengths.specs.Fronts.{IsFront, Refuses}
 use Rattle.amqp_lengths.specs.Lengths.{IsTerm}
 use Rattle.amqp_lengths.specs.Announced.{SizeThen, content_size, IsAnnounced}
 use Rattle.amqp_lengths.proofs.Announced.{announced_data, announced_once}
-use Rattle.amqp_decoder.specs.State.{State, Has, on}
-use Rattle.amqp_decoder.specs.Steps.{Answered, Excused, Took, Lacks, Stopped}
-use Rattle.amqp_decoder.specs.Reading.{Refused}
+use Rattle.amqp_decoder.specs.State.{State, Has, after_data}
+use Rattle.amqp_decoder.specs.Steps.{Answers, IsExcused, Takes, Lacks, Stops}
+use Rattle.amqp_decoder.specs.Reading.{RefusesRead}
 use Rattle.amqp_decoder.specs.Primitives.{standing, SpellsAs}
-use Rattle.amqp_decoder.specs.Arrays.{TookConstructor, ConstructorFault}
+use Rattle.amqp_decoder.specs.Arrays.{TakesConstructor, ConstructorFault}
 use Rattle.amqp_decoder.specs.Terms.{Keeps, IsConstructor, LacksAnnounced, NoTerm, wrong_size, wrong_term, SpellingFault, no_constructor, no_data, no_term, TakesTerm, TermFault, missing, in_array, misspelled}
 use Rattle.amqp_decoder.proofs.Constructed.{code_known, constructor_not, one_constructor, took_parts}
 use Rattle.amqp_decoder.proofs.Opening.{took_both}
 use Rattle.amqp_decoder.proofs.Steps.{answered_took, excused_by_source, not_lacking, stopped_as, stopped_later}
 
 -- announced data that stands there isn't lacking
-sized_there : (w : ℕ) (size_of : ℕ → ℕ) (m m' : State) (e : Error) (b : List ℕ) → SizeThen w (λ n behind. length behind ≡ size_of n) b → Took m b m'
-    → Lacks w m e ⊎ ((n : ℕ) × (st' : State) × (n < 256 ^ w) × Took m (bytes_high_first w n) st' × Lacks (size_of n) st' e) → ⊥
+sized_there : (w : ℕ) (size_of : ℕ → ℕ) (m m' : State) (e : Error) (b : List ℕ) → SizeThen w (λ n behind. length behind ≡ size_of n) b → Takes m b m'
+    → Lacks w m e ⊎ ((n : ℕ) × (st' : State) × (n < 256 ^ w) × Takes m (bytes_high_first w n) st' × Lacks (size_of n) st' e) → ⊥
 sized_there w size_of m m' e b (size, behind, fits, is, long) t (inl l) =
     not_lacking w m e b (drop (length b) m.rest) l (omega (arith, ap length is, length-append (bytes_high_first w size) behind, length-bytes w size)) t.room t.rest
 sized_there w size_of m m' e b (size, behind, fits, is, long) t (inr (n, st', few, u, l)) =
@@ -34,11 +34,11 @@ sized_there w size_of m m' e b (size, behind, fits, is, long) t (inr (n, st', fe
     let after = drop (length b) m.rest in
     let whole : m.rest ≡ bytes_high_first w size ++ (behind ++ after) = t.rest ∙ ap (λ z. z ++ after) is ∙ append_assoc (bytes_high_first w size) behind after in
     let same : n ≡ size = (field w n size (drop (length head) m.rest) (behind ++ after) few fits (sym u.rest ∙ whole)).0 in
-    let parts = took_parts m m' head behind (subst (λ l. Took m l m') (is ∙ ap (λ k. bytes_high_first w k ++ behind) (sym same)) t) in
-    let l_ : Lacks (size_of n) (on (length head) m) e = subst (λ (z : State). Lacks (size_of n) z e) u.moved l in
-    not_lacking (size_of n) (on (length head) m) e behind (drop (length behind) (drop (length head) m.rest)) l_ (omega (arith, long ∙ ap size_of (sym same))) parts.1.room parts.1.rest
+    let parts = took_parts m m' head behind (subst (λ l. Takes m l m') (is ∙ ap (λ k. bytes_high_first w k ++ behind) (sym same)) t) in
+    let l_ : Lacks (size_of n) (after_data (length head) m) e = subst (λ (z : State). Lacks (size_of n) z e) u.moved l in
+    not_lacking (size_of n) (after_data (length head) m) e behind (drop (length behind) (drop (length head) m.rest)) l_ (omega (arith, long ∙ ap size_of (sym same))) parts.1.room parts.1.rest
 
-announced_there : (F : Format) (m m' : State) (e : Error) (b : List ℕ) → IsAnnounced F b → Took m b m' → LacksAnnounced F m e → ⊥
+announced_there : (F : Format) (m m' : State) (e : Error) (b : List ℕ) → IsAnnounced F b → Takes m b m' → LacksAnnounced F m e → ⊥
 announced_there (fixed w value) m m' e b long t l = not_lacking w m e b (drop (length b) m.rest) l (omega arith) t.room t.rest
 announced_there (variable w value) m m' e b h t l = sized_there w (λ n. n) m m' e b h t l
 announced_there (compound kind w) m m' e b h t l = sized_there w (content_size kind w) m m' e b h t l
@@ -85,7 +85,7 @@ not_term : (k : ℕ) (b : List ℕ) (st : State) (e : Error) → NoTerm k b st e
 not_term k b st e (wrong_size r f s) h = refused_whole (IsTerm k) b Size r h
 not_term k b st e (wrong_term r f o) h = refused_whole (IsTerm k) b e r h
 
-whole_of : (st m m' : State) (ds : List Descriptor) (c : ℕ) (d : List ℕ) (t : TookConstructor st ds c m) → Took m d m' → IsAnnounced (format c) d → Whole c t.own d (t.own ++ d)
+whole_of : (st m m' : State) (ds : List Descriptor) (c : ℕ) (d : List ℕ) (t : TakesConstructor st ds c m) → Takes m d m' → IsAnnounced (format c) d → Whole c t.own d (t.own ++ d)
 whole_of st m m' ds c d t u h = record { descriptors = ds; few = t.few; constructor = t.spelled; announced = h; is = refl }
 
 -- where a fault stands, no term does
@@ -95,20 +95,20 @@ misspelled_not st e s after t f room is spelled nested = not f
     w : Spelling s
     w = spelling s t spelled
 
-    took : Took st s (on (length s) st)
+    took : Takes st s (after_data (length s) st)
     took = record { room = room; rest = is ∙ ap (λ l. s ++ l) (sym (ap (drop (length s)) is ∙ drop_at s after (length s) refl)); moved = refl }
 
-    parts : Took st w.own (on (length w.own) st) × Took (on (length w.own) st) w.data_ (on (length s) st)
-    parts = took_parts st (on (length s) st) w.own w.data_ (subst (λ l. Took st l (on (length s) st)) w.whole.is took)
+    parts : Takes st w.own (after_data (length w.own) st) × Takes (after_data (length w.own) st) w.data_ (after_data (length s) st)
+    parts = took_parts st (after_data (length s) st) w.own w.data_ (subst (λ l. Takes st l (after_data (length s) st)) w.whole.is took)
 
-    constructor : TookConstructor st w.whole.descriptors w.code (on (length w.own) st)
+    constructor : TakesConstructor st w.whole.descriptors w.code (after_data (length w.own) st)
     constructor = record { own = w.own; few = w.whole.few; spelled = w.whole.constructor; took = parts.0 }
 
     not : SpellingFault st e → ⊥
-    not (no_constructor g) = constructor_not st e w.whole.descriptors w.code (on (length w.own) st) g constructor
+    not (no_constructor g) = constructor_not st e w.whole.descriptors w.code (after_data (length w.own) st) g constructor
     not (no_data {ds} {c} {m} k l) =
-        let same = one_constructor st w.whole.descriptors ds w.code c (on (length w.own) st) m constructor k in
-        announced_there (format c) m (on (length s) st) e w.data_ (subst (λ n. IsAnnounced (format n) w.data_) same.1 w.whole.announced) (subst (λ z. Took z w.data_ (on (length s) st)) same.2 parts.1) l
+        let same = one_constructor st w.whole.descriptors ds w.code c (after_data (length w.own) st) m constructor k in
+        announced_there (format c) m (after_data (length s) st) e w.data_ (subst (λ n. IsAnnounced (format n) w.data_) same.1 w.whole.announced) (subst (λ z. Takes z w.data_ (after_data (length s) st)) same.2 parts.1) l
     not (no_term {ds} {c} {m} {b} {m'} k u h bad) =
         let both = took_both st m m' k.own b k.took u in
         let same : s ≡ k.own ++ b = one_whole w.code c w.own k.own w.data_ b s (k.own ++ b) after (drop (length (k.own ++ b)) st.rest) w.whole (whole_of st m m' ds c b k u h) (sym is ∙ both.rest) in
@@ -124,9 +124,9 @@ fault_not_takes st e s st' (misspelled item none f) h =
 record Parts (c : ℕ) (st m' : State) (l : List ℕ) : Type 0 where
   pub descriptors : List Descriptor
   pub mid : State
-  pub constructor : TookConstructor st descriptors c mid
+  pub constructor : TakesConstructor st descriptors c mid
   pub data_ : List ℕ
-  pub took : Took mid data_ m'
+  pub took : Takes mid data_ m'
   pub announced : IsAnnounced (format c) data_
   pub is : l ≡ constructor.own ++ data_
   pub nesting : m'.nesting - length m'.saved ≡ st.nesting - length st.saved
@@ -144,27 +144,27 @@ parts_of c a b l st m m' empty h k = record {
 }
 
 pub term_kept : (c n : ℕ) (a b l : List ℕ) (st m m' new : State) → a ≡ [] → Keeps (IsConstructor c) a st b m → Keeps (IsAnnounced (format c)) b m l m' → IsFront (IsTerm (m'.nesting - length m'.saved)) l n → new ≡ m'
-    → Took st l new × IsTerm (st.nesting - length st.saved) l
+    → Takes st l new × IsTerm (st.nesting - length st.saved) l
 term_kept c n a b l st m m' new empty h k f same =
     let p = parts_of c a b l st m m' empty h k in
-    let both : Took st (p.constructor.own ++ p.data_) m' = took_both st p.mid m' p.constructor.own p.data_ p.constructor.took p.took in
+    let both : Takes st (p.constructor.own ++ p.data_) m' = took_both st p.mid m' p.constructor.own p.data_ p.constructor.took p.took in
     let w : Whole c p.constructor.own p.data_ l = record { descriptors = p.descriptors; few = p.constructor.few; constructor = p.constructor.spelled; announced = p.announced; is = p.is } in (
-      subst (Took st l) (sym same) (subst (λ z. Took st z m') (sym p.is) both),
+      subst (Takes st l) (sym same) (subst (λ z. Takes st z m') (sym p.is) both),
       subst (λ j. IsTerm j l) p.nesting (whole_front (m'.nesting - length m'.saved) c n p.constructor.own p.data_ l w f),
     )
 
 pub known_code : (c : ℕ) (b : List ℕ) → IsConstructor c b → IsKnown (format c)
 known_code c b (ds, few, h) = code_known ds c b h
 
-pub no_constructor_kept : (st : State) (e : Error) (new : State) → Stopped true (ConstructorFault st) st e new → Stopped true (SpellingFault st) st e new
+pub no_constructor_kept : (st : State) (e : Error) (new : State) → Stops true (ConstructorFault st) st e new → Stops true (SpellingFault st) st e new
 no_constructor_kept st e new s = stopped_as (ConstructorFault st) (SpellingFault st) st e new (λ d x. no_constructor x) s
 
-pub no_data_kept : (c : ℕ) (a b : List ℕ) (st m : State) (e : Error) (new : State) → Keeps (IsConstructor c) a st b m → Stopped true (LacksAnnounced (format c) m) m e new → Stopped true (SpellingFault st) st e new
+pub no_data_kept : (c : ℕ) (a b : List ℕ) (st m : State) (e : Error) (new : State) → Keeps (IsConstructor c) a st b m → Stops true (LacksAnnounced (format c) m) m e new → Stops true (SpellingFault st) st e new
 no_data_kept c a b st m e new h s =
-    let t : TookConstructor st h.is.0 c m = record { own = h.own; few = h.is.1; spelled = h.is.2; took = h.took } in
+    let t : TakesConstructor st h.is.0 c m = record { own = h.own; few = h.is.1; spelled = h.is.2; took = h.took } in
     stopped_later (LacksAnnounced (format c) m) (SpellingFault st) st m h.own e new h.took (λ d l. no_data t l) s
 
-pub no_term_kept : (c : ℕ) (a b l : List ℕ) (st m m' : State) (e : Error) (new : State) → a ≡ [] → Keeps (IsConstructor c) a st b m → Keeps (IsAnnounced (format c)) b m l m' → Stopped false (NoTerm (m'.nesting - length m'.saved) l m') m' e new → Stopped true (SpellingFault st) st e new
+pub no_term_kept : (c : ℕ) (a b l : List ℕ) (st m m' : State) (e : Error) (new : State) → a ≡ [] → Keeps (IsConstructor c) a st b m → Keeps (IsAnnounced (format c)) b m l m' → Stops false (NoTerm (m'.nesting - length m'.saved) l m') m' e new → Stops true (SpellingFault st) st e new
 no_term_kept c a b l st m m' e new empty h k s =
     let p = parts_of c a b l st m m' empty h k in
     let moved = λ (x : NoTerm (m'.nesting - length m'.saved) l m' e). subst (λ j. NoTerm j (p.constructor.own ++ p.data_) m' e) p.nesting (subst (λ z. NoTerm (m'.nesting - length m'.saved) z m' e) p.is x) in
@@ -177,7 +177,7 @@ no_term_kept c a b l st m m' e new empty h k s =
 abbrev Any : {A : Type 0} → (A → List ℕ) → State → A → State → Type 0
 Any items st v st' = TakesTerm st (items v) st'
 
-term_refused : {A : Type 0} (items : A → List ℕ) (st : State) (e : Error) (new : State) → st.error ≡ None → Answered st e new → Excused true e new ⊎ TermFault st e → Refused true (Any items) TermFault st e new
+term_refused : {A : Type 0} (items : A → List ℕ) (st : State) (e : Error) (new : State) → st.error ≡ None → Answers st e new → IsExcused true e new ⊎ TermFault st e → RefusesRead true (Any items) TermFault st e new
 term_refused items st e new going kept why = record {
   kept = kept;
   again = λ d x. absurd (cc);
@@ -185,5 +185,5 @@ term_refused items st e new going kept why = record {
   none = elim why [ inl x ↦ inl x | inr x ↦ inr (λ v b h. fault_not_takes st e (items v) b x h) ];
 }
 
-pub term_misspelled : {A : Type 0} (items : A → List ℕ) (st : State) (e : Error) (new : State) → st.error ≡ None → Has st.top.items 1 → st.top.shared ≡ None → Stopped true (SpellingFault st) st e new → Refused true (Any items) TermFault st e new
+pub term_misspelled : {A : Type 0} (items : A → List ℕ) (st : State) (e : Error) (new : State) → st.error ≡ None → Has st.top.items 1 → st.top.shared ≡ None → Stops true (SpellingFault st) st e new → RefusesRead true (Any items) TermFault st e new
 term_misspelled items st e new going item none s = term_refused items st e new going s.kept (elim s.why [ inl x ↦ inl x | inr x ↦ inr (misspelled item none x) ])

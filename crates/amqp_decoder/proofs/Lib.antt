@@ -1,5 +1,5 @@
-pub mod Holders
-pub mod Leaves
+pub mod ContainerTerms
+pub mod ReadPrimitives
 pub mod OneReading
 pub mod Opening
 pub mod Closing

@@ -4,9 +4,9 @@ use Rattle.amqp_model.specs.Term.{Container}
 use Rattle.amqp_model.specs.Constructors.{Format, fixed, variable, compound, unknown, format}
 use Rattle.amqp_wire.specs.Codes.{is_known, refusal_of}
 use Rattle.amqp_wire.specs.declared.error.Error.TheVariants.{Memory, UnknownCode, FloatCode, WrongType, BadBool, BadChar, BadUtf8, NonAscii, InvalidValue}
-use Rattle.amqp_decoder.specs.declared.frame.Place.{Place}
-use Rattle.amqp_decoder.specs.declared.frame.Place.TheVariants.{InArray}
-use Rattle.amqp_decoder.specs.State.{State, inside}
+use Rattle.amqp_decoder.specs.declared.frame.OpenKind.{OpenKind}
+use Rattle.amqp_decoder.specs.declared.frame.OpenKind.TheVariants.{InArray}
+use Rattle.amqp_decoder.specs.State.{State, in_container}
 use Rattle.amqp_decoder.specs.Steps.{Lacks, cut_open, cut_inside, too_long, SizeError, cut, wrong}
 use Rattle.amqp_decoder.specs.Reading.{BeginFault, missing, no_code}
 use Rattle.amqp_decoder.specs.Primitives.{LacksData, PrimitiveFault, not_begun, wrong_code, no_data, bad_data}
@@ -76,12 +76,12 @@ primitive_not_memory k st (wrong_code {c} {m} g other is) = refusal_not_memory c
 primitive_not_memory k st (no_data {c} {m} g kind l) = data_not_memory (format c) m l
 primitive_not_memory k st (bad_data g kind t h none is) = bad_by (eqb k 1) (eqb k 13) (eqb k 17) (eqb k 18) is
 
-pub end_not_memory : (place : Place) (st : State) → EndFault place st Memory → ⊥
+pub end_not_memory : (place : OpenKind) (st : State) → EndFault place st Memory → ⊥
 end_not_memory place st (other_place f is) = cc
 end_not_memory place st (nothing_open f is) = cc
 end_not_memory place st (items_left open_ f is) = cc
 
-pub close_not_memory : (place : Place) (st : State) → CloseFault place st Memory → ⊥
+pub close_not_memory : (place : OpenKind) (st : State) → CloseFault place st Memory → ⊥
 close_not_memory place st (not_at_end f) = end_not_memory place st f
 close_not_memory place st (bytes_left_over open_ none f s) = size_not_memory 0 st s
 
@@ -137,7 +137,7 @@ enter_array_not_memory : (w : ℕ) (st : State) → EnterArrayFault w st Memory 
 enter_array_not_memory w st (arrays.no_header f) = header_not_memory false w st f
 enter_array_not_memory w st (arrays.no_room n content m h r) = size_not_memory content m r.why
 enter_array_not_memory w st (arrays.too_deep n content m h deep is) = cc
-enter_array_not_memory w st (no_start n content m h some f) = shares_not_memory n (inside InArray 0 content m) f
+enter_array_not_memory w st (no_start n content m h some f) = shares_not_memory n (in_container InArray 0 content m) f
 
 pub array_not_memory : (st : State) → ArrayFault st Memory → ⊥
 array_not_memory st (arrays.not_begun f) = begin_not_memory st f

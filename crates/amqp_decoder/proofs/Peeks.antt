@@ -7,18 +7,18 @@ use Rattle.amqp_model.specs.Spelling.{Constructor, enc}
 use Rattle.amqp_model.specs.Standing.{Standing}
 use Rattle.amqp_wire.specs.declared.error.Error.{Error}
 use Rattle.amqp_wire.specs.declared.error.Error.TheVariants.{Cut}
-use Rattle.amqp_decoder.specs.State.{State, Has, looked, moved, on, past}
-use Rattle.amqp_decoder.specs.Steps.{Answered, Took, SizeRefused}
-use Rattle.amqp_decoder.specs.Reading.{Refused, IsFirst, IsFirstShared, Begun, BeginFault, Peeked, looked_under}
-use Rattle.amqp_decoder.specs.Primitives.{standing, SpellsAs, Stands, Value}
+use Rattle.amqp_decoder.specs.State.{State, Has, after_look, after_bytes, after_data, after_value}
+use Rattle.amqp_decoder.specs.Steps.{Answers, Takes, RefusesSize}
+use Rattle.amqp_decoder.specs.Reading.{RefusesRead, IsFirst, IsFirstShared, ReadsCode, BeginFault, PeeksCode, after_peek}
+use Rattle.amqp_decoder.specs.Primitives.{standing, SpellsAs, Stands, ReadsValue}
 use Rattle.amqp_decoder.proofs.Steps.{begun_own, begun_shared, begin_short, short_of_size, missed_lacks, has_item}
 
-under_shared : (o : Option (List Descriptor × ℕ)) (c : ℕ) (st : State) → IsFirstShared o c → st ≡ looked_under o st
+under_shared : (o : Option (List Descriptor × ℕ)) (c : ℕ) (st : State) → IsFirstShared o c → st ≡ after_peek o st
 under_shared None c st h = absurd h
 under_shared (Some s) c st h = refl
 
 -- a constructor is shared
-pub peeked_shared : (st : State) (c : ℕ) → st.error ≡ None → Has st.top.items 1 → IsFirstShared st.top.shared c → Peeked st c st
+pub peeked_shared : (st : State) (c : ℕ) → st.error ≡ None → Has st.top.items 1 → IsFirstShared st.top.shared c → PeeksCode st c st
 peeked_shared st c going item h = record { after = _; begun = begun_shared st c going item h; kept = under_shared st.top.shared c st h }
 
 -- the first of the bytes that are looked at
@@ -28,14 +28,14 @@ first_is (suc n) c row [] is at = let e : Some c ≡ None = at ∙ ap (λ l. sli
 first_is (suc n) c row (x ∷ r) is at = ap (λ b. b ∷ r) (sym (ap (λ l. get_or l 0 0) is) ∙ get_or_from_slice_get row 0 c 0 (sym at))
 
 -- a byte stands there, and is looked at
-pub peeked_own : (st : State) (c : ℕ) (new : State) (row : List ℕ) → st.error ≡ None → Has st.top.items 1 → st.top.shared ≡ None → Has st.top.left 1 → new ≡ looked (min 1 (length st.rest)) st → row ≡ take new.ahead new.rest → Some c ≡ slice_get row 0 → Peeked st c new
+pub peeked_own : (st : State) (c : ℕ) (new : State) (row : List ℕ) → st.error ≡ None → Has st.top.items 1 → st.top.shared ≡ None → Has st.top.left 1 → new ≡ after_look (min 1 (length st.rest)) st → row ≡ take new.ahead new.rest → Some c ≡ slice_get row 0 → PeeksCode st c new
 peeked_own st c new row going item none room is front at =
     let byte : st.rest ≡ c ∷ drop 1 st.rest = first_is _ c row st.rest (front ∙ ap (λ (x : State). take x.ahead x.rest) is) at in
     let one : min 1 (length st.rest) ≡ 1 = omega (arith, ap length byte) in
-    let took : Took st (c ∷ []) (on 1 st) = record { room = room; rest = byte; moved = refl } in
-    record { after = _; begun = begun_own st c (on 1 st) going item none took; kept = is ∙ ap (λ n. looked n st) one ∙ ap (λ o. looked_under o st) (sym none) }
+    let took : Takes st (c ∷ []) (after_data 1 st) = record { room = room; rest = byte; moved = refl } in
+    record { after = _; begun = begun_own st c (after_data 1 st) going item none took; kept = is ∙ ap (λ n. after_look n st) one ∙ ap (λ o. after_peek o st) (sym none) }
 
-pub peek_refused : (st : State) (e : Error) (new : State) → Refused false Begun BeginFault st e new → Refused false Peeked BeginFault st e new
+pub peek_refused : (st : State) (e : Error) (new : State) → RefusesRead false ReadsCode BeginFault st e new → RefusesRead false PeeksCode BeginFault st e new
 peek_refused st e new r = record {
   kept = r.kept;
   again = r.again;
@@ -44,19 +44,19 @@ peek_refused st e new r = record {
 }
 
 -- the container has no byte left
-pub peek_size : (st : State) (e : Error) (new : State) → st.error ≡ None → Has st.top.items 1 → st.top.shared ≡ None → st.top.left ≡ Some 0 → SizeRefused 1 st e new → Refused false Peeked BeginFault st e new
+pub peek_size : (st : State) (e : Error) (new : State) → st.error ≡ None → Has st.top.items 1 → st.top.shared ≡ None → st.top.left ≡ Some 0 → RefusesSize 1 st e new → RefusesRead false PeeksCode BeginFault st e new
 peek_size st e new going item none left r = peek_refused st e new (begin_short st e new going item none (short_of_size 1 1 0 st e new left (omega arith) r))
 
 nothing_at : (row : List ℕ) → None ≡ slice_get row 0 → length row ≡ 0
 nothing_at [] e = refl
 nothing_at (x ∷ row) e = absurd (cc)
 
-pub none_there : (st new : State) (row : List ℕ) → new ≡ looked (min 1 (length st.rest)) st → row ≡ take new.ahead new.rest → None ≡ slice_get row 0 → length st.rest < 1
+pub none_there : (st new : State) (row : List ℕ) → new ≡ after_look (min 1 (length st.rest)) st → row ≡ take new.ahead new.rest → None ≡ slice_get row 0 → length st.rest < 1
 none_there st new row is front at =
     omega (arith, nothing_at row at, ap length (front ∙ ap (λ (x : State). take x.ahead x.rest) is), length-take (max st.ahead (min 1 (length st.rest))) st.rest)
 
 -- the input ends
-pub peek_cut : (st : State) (e : Error) (new : State) → st.error ≡ None → Has st.top.items 1 → st.top.shared ≡ None → (st.top.left ≡ Some 0 → ⊥) → length st.rest < 1 → e ≡ Cut → Answered st e new → Refused false Peeked BeginFault st e new
+pub peek_cut : (st : State) (e : Error) (new : State) → st.error ≡ None → Has st.top.items 1 → st.top.shared ≡ None → (st.top.left ≡ Some 0 → ⊥) → length st.rest < 1 → e ≡ Cut → Answers st e new → RefusesRead false PeeksCode BeginFault st e new
 peek_cut st e new going item none left short is kept =
     peek_refused st e new (begin_short st e new going item none (record { kept = kept; why = inr (missed_lacks 1 st st.top.left e refl (has_item st.top.left left) is short) }))
 
@@ -64,22 +64,22 @@ max-minus : (a n k : ℕ) → n ≤ k → max a n - k ≡ a - k
 max-minus a n k h = omega (arith, h)
 
 -- what is taken after a look is what is taken without it
-pub moved-looked : (n k : ℕ) (st : State) → n ≤ k → moved k (looked n st) ≡ moved k st
-moved-looked n k st h = ap (λ a. record st { rest = drop k st.rest; ahead = a }) (max-minus st.ahead n k h)
+pub after_bytes-after_look : (n k : ℕ) (st : State) → n ≤ k → after_bytes k (after_look n st) ≡ after_bytes k st
+after_bytes-after_look n k st h = ap (λ a. record st { rest = drop k st.rest; ahead = a }) (max-minus st.ahead n k h)
 
-pub on-looked : (n k : ℕ) (st : State) → n ≤ k → on k (looked n st) ≡ on k st
-on-looked n k st h = ap (λ a. record (on k st) { ahead = a }) (max-minus st.ahead n k h)
+pub after_data-after_look : (n k : ℕ) (st : State) → n ≤ k → after_data k (after_look n st) ≡ after_data k st
+after_data-after_look n k st h = ap (λ a. record (after_data k st) { ahead = a }) (max-minus st.ahead n k h)
 
-pub past-looked : (n k : ℕ) (st : State) → n ≤ k → past k (looked n st) ≡ past k st
-past-looked n k st h = ap (λ a. record (past k st) { ahead = a }) (max-minus st.ahead n k h)
+pub after_value-after_look : (n k : ℕ) (st : State) → n ≤ k → after_value k (after_look n st) ≡ after_value k st
+after_value-after_look n k st h = ap (λ a. record (after_value k st) { ahead = a }) (max-minus st.ahead n k h)
 
-pub took-looked : (n : ℕ) (st after : State) (s : List ℕ) → n ≤ length s → Took (looked n st) s after ↔ Took st s after
+pub took-looked : (n : ℕ) (st after : State) (s : List ℕ) → n ≤ length s → Takes (after_look n st) s after ↔ Takes st s after
 took-looked n st after s h = (
-  λ t. record { room = t.room; rest = t.rest; moved = t.moved ∙ on-looked n (length s) st h },
-  λ t. record { room = t.room; rest = t.rest; moved = t.moved ∙ sym (on-looked n (length s) st h) },
+  λ t. record { room = t.room; rest = t.rest; moved = t.moved ∙ after_data-after_look n (length s) st h },
+  λ t. record { room = t.room; rest = t.rest; moved = t.moved ∙ sym (after_data-after_look n (length s) st h) },
 )
 
-pub stands-looked : (n : ℕ) (st : State) (s : List ℕ) (t : Term) → Stands (looked n st) s t ↔ Stands st s t
+pub stands-looked : (n : ℕ) (st : State) (s : List ℕ) (t : Term) → Stands (after_look n st) s t ↔ Stands st s t
 stands-looked n st s t = (
   λ k. record { going = k.going; item = k.item; room = k.room; after = k.after; rest = k.rest; spelled = k.spelled; nested = k.nested },
   λ k. record { going = k.going; item = k.item; room = k.room; after = k.after; rest = k.rest; spelled = k.spelled; nested = k.nested },
@@ -100,26 +100,26 @@ stands_some st s t none k = enc_some s t (subst (λ o. SpellsAs (standing o s) t
 first_some : (o : Option (List Descriptor × ℕ)) (c : ℕ) (own : List ℕ) → o ≡ None → IsFirst o c own → 1 ≤ length own
 first_some o c own none h = let e : own ≡ c ∷ [] = subst (λ x. IsFirst x c own) none h in omega (arith, ap length e)
 
-begun_after : (st after : State) (d : ℕ) (o : Option (List Descriptor × ℕ)) → st.top.shared ≡ o → Begun (looked_under o st) d after ↔ Begun st d after
+begun_after : (st after : State) (d : ℕ) (o : Option (List Descriptor × ℕ)) → st.top.shared ≡ o → ReadsCode (after_peek o st) d after ↔ ReadsCode st d after
 begun_after st after d None e = (
-  λ g. record { going = g.going; item = g.item; own = g.own; first = g.first; room = g.room; rest = g.rest; moved = g.moved ∙ past-looked 1 (length g.own) st (first_some st.top.shared d g.own e g.first) },
-  λ g. record { going = g.going; item = g.item; own = g.own; first = g.first; room = g.room; rest = g.rest; moved = g.moved ∙ sym (past-looked 1 (length g.own) st (first_some st.top.shared d g.own e g.first)) },
+  λ g. record { going = g.going; item = g.item; own = g.own; first = g.first; room = g.room; rest = g.rest; moved = g.moved ∙ after_value-after_look 1 (length g.own) st (first_some st.top.shared d g.own e g.first) },
+  λ g. record { going = g.going; item = g.item; own = g.own; first = g.first; room = g.room; rest = g.rest; moved = g.moved ∙ sym (after_value-after_look 1 (length g.own) st (first_some st.top.shared d g.own e g.first)) },
 )
 begun_after st after d (Some s) e = (λ g. g, λ g. g)
 
-pub begun-peeked : (st seen after : State) (c d : ℕ) → Peeked st c seen → Begun seen d after ↔ Begun st d after
-begun-peeked st seen after c d p = subst (λ (x : State). Begun x d after ↔ Begun st d after) (sym p.kept) (begun_after st after d st.top.shared refl)
+pub begun-peeked : (st seen after : State) (c d : ℕ) → PeeksCode st c seen → ReadsCode seen d after ↔ ReadsCode st d after
+begun-peeked st seen after c d p = subst (λ (x : State). ReadsCode x d after ↔ ReadsCode st d after) (sym p.kept) (begun_after st after d st.top.shared refl)
 
-value_after : {A : Type 0} (means : Standing → Term → A → Type 0) (st after : State) (v : A) (o : Option (List Descriptor × ℕ)) → st.top.shared ≡ o → Value means (looked_under o st) v after ↔ Value means st v after
+value_after : {A : Type 0} (means : Standing → Term → A → Type 0) (st after : State) (v : A) (o : Option (List Descriptor × ℕ)) → st.top.shared ≡ o → ReadsValue means (after_peek o st) v after ↔ ReadsValue means st v after
 value_after means st after v None e = (
-  λ x. let k = (stands-looked 1 st x.bytes x.term).0 x.stands in record { bytes = x.bytes; term = x.term; stands = k; moved = x.moved ∙ past-looked 1 (length x.bytes) st (stands_some st x.bytes x.term e k); meant = x.meant },
-  λ x. record { bytes = x.bytes; term = x.term; stands = (stands-looked 1 st x.bytes x.term).1 x.stands; moved = x.moved ∙ sym (past-looked 1 (length x.bytes) st (stands_some st x.bytes x.term e x.stands)); meant = x.meant },
+  λ x. let k = (stands-looked 1 st x.bytes x.term).0 x.stands in record { bytes = x.bytes; term = x.term; stands = k; moved = x.moved ∙ after_value-after_look 1 (length x.bytes) st (stands_some st x.bytes x.term e k); meant = x.meant },
+  λ x. record { bytes = x.bytes; term = x.term; stands = (stands-looked 1 st x.bytes x.term).1 x.stands; moved = x.moved ∙ sym (after_value-after_look 1 (length x.bytes) st (stands_some st x.bytes x.term e x.stands)); meant = x.meant },
 )
 value_after means st after v (Some s) e = (λ x. x, λ x. x)
 
 -- a value that is read after a look is the value that is read without it
-pub value-peeked : {A : Type 0} (means : Standing → Term → A → Type 0) (st seen after : State) (c : ℕ) (v : A) → Peeked st c seen → Value means seen v after ↔ Value means st v after
-value-peeked means st seen after c v p = subst (λ (x : State). Value means x v after ↔ Value means st v after) (sym p.kept) (value_after means st after v st.top.shared refl)
+pub value-peeked : {A : Type 0} (means : Standing → Term → A → Type 0) (st seen after : State) (c : ℕ) (v : A) → PeeksCode st c seen → ReadsValue means seen v after ↔ ReadsValue means st v after
+value-peeked means st seen after c v p = subst (λ (x : State). ReadsValue means x v after ↔ ReadsValue means st v after) (sym p.kept) (value_after means st after v st.top.shared refl)
 
 -- no code is shared
 pub no_code_shared : (o : Option ℕ) (shared : Option (List Descriptor × ℕ)) → MatchOption o (shared ≡ None) (λ c. IsFirstShared shared c) → is_some o ≡ false → shared ≡ None

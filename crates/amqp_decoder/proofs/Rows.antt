@@ -9,18 +9,18 @@ use Rattle.std.specs.List.{sum_by}
 use Rattle.std.specs.Borrow.{Bor}
 use Rattle.std.specs.Option.{option_and}
 use Rattle.amqp_wire.specs.declared.error.Error.{Error}
-use Rattle.amqp_decoder.specs.declared.frame.Frame.{Frame}
-use Rattle.amqp_decoder.specs.declared.frame.Place.{Place}
-use Rattle.amqp_decoder.specs.declared.frame.Place.TheVariants.{Top, InList, InMap, InArray, InDescribed}
-use Rattle.amqp_decoder.specs.State.{DescriptorValues, Open, open_of, items_of, shared_of, descriptor_of, State, stack, unused, bytes_left, shared_in, Nested, top_level, IsLevel, Bounded, IsHolder}
+use Rattle.amqp_decoder.specs.declared.frame.OpenContainer.{OpenContainer}
+use Rattle.amqp_decoder.specs.declared.frame.OpenKind.{OpenKind}
+use Rattle.amqp_decoder.specs.declared.frame.OpenKind.TheVariants.{Top, InList, InMap, InArray, InDescribed}
+use Rattle.amqp_decoder.specs.State.{DescriptorValues, Open, open_of, items_of, shared_of, descriptor_of, State, stack, unused, bytes_left, shared_in, AreNested, top_level, IsLevel, AreBounded, IsContainer}
 use Rattle.amqp_decoder.specs.Rooms.{IsRoomy}
 use Rattle.amqp_decoder.specs.Described.{IsMark, IsUnmarked, behind}
 use Rattle.amqp_wire.specs.declared.descriptor.Descriptor.{Descriptor as DescriptorValue}
 
-abbrev left_of : Frame → ℕ
+abbrev left_of : OpenContainer → ℕ
 left_of f = unwrap_or f.left 0
 
-sum_take_more : (n : ℕ) (fs : List Frame) (b : Bool) → ltb n (length fs) ≡ b → sum_by left_of (take (n + 1) fs) ≡ sum_by left_of (take n fs) + left_of (get_or fs n unused)
+sum_take_more : (n : ℕ) (fs : List OpenContainer) (b : Bool) → ltb n (length fs) ≡ b → sum_by left_of (take (n + 1) fs) ≡ sum_by left_of (take n fs) + left_of (get_or fs n unused)
 sum_take_more n fs true e = sum_by_more left_of fs n unused (ltb-true n (length fs) e)
 sum_take_more n fs false e =
     let h : length fs ≤ n = ltb-false n (length fs) e in
@@ -28,109 +28,109 @@ sum_take_more n fs false e =
     let none : left_of (get_or fs n unused) ≡ 0 = ap left_of (get_or-eq_default fs unused h) in
     ap (sum_by left_of) whole ∙ (omega (arith, none))
 
-pub stack_left : (ds : DescriptorValues) (n : ℕ) (fs : List Frame) → sum_by (λ (f : Frame). unwrap_or f.left 0) (take n fs) ≡ bytes_left (stack ds n fs)
+pub stack_left : (ds : DescriptorValues) (n : ℕ) (fs : List OpenContainer) → sum_by (λ (f : OpenContainer). unwrap_or f.left 0) (take n fs) ≡ bytes_left (stack ds n fs)
 stack_left ds zero fs = refl
 stack_left ds (suc n) fs =
     let i = stack_left ds n fs in
     let e = sum_take_more n fs (ltb n (length fs)) refl in
     ap (λ k. sum_by left_of (take k fs)) (sym (add-one n)) ∙ e ∙ (omega (arith, i))
 
-pub stack-set : (ds : DescriptorValues) (d i : ℕ) (fs : List Frame) (f : Frame) → d ≤ i → stack ds d (set fs i f) ≡ stack ds d fs
+pub stack-set : (ds : DescriptorValues) (d i : ℕ) (fs : List OpenContainer) (f : OpenContainer) → d ≤ i → stack ds d (set fs i f) ≡ stack ds d fs
 stack-set ds zero i fs f h = refl
 stack-set ds (suc d) i fs f h =
     let ne : ◌≢◌ d i = omega arith in
     rw (get_or-set_other fs i d f unused ne, stack-set ds d i fs f (omega arith)) refl
 
-pub length-stack : (ds : DescriptorValues) (d : ℕ) (fs : List Frame) → length (stack ds d fs) ≡ d
+pub length-stack : (ds : DescriptorValues) (d : ℕ) (fs : List OpenContainer) → length (stack ds d fs) ≡ d
 length-stack ds zero fs = refl
 length-stack ds (suc d) fs = ap suc (length-stack ds d fs)
 
-pub stack-push : (ds : DescriptorValues) (d : ℕ) (fs : List Frame) (f : Frame) → d < length fs → stack ds (d + 1) (set fs d f) ≡ open_of ds f ∷ stack ds d fs
+pub stack-push : (ds : DescriptorValues) (d : ℕ) (fs : List OpenContainer) (f : OpenContainer) → d < length fs → stack ds (d + 1) (set fs d f) ≡ open_of ds f ∷ stack ds d fs
 stack-push ds d fs f h = rw (add-one, get_or-set_same fs d f unused h, stack-set ds d d fs f (omega arith)) refl
 
 pub split_saved : (l : List Open) → (length l ≡ 0 → ⊥) → (outer : Open) × (others : List Open) × (l ≡ outer ∷ others)
 split_saved [] h = absurd (h refl)
 split_saved (f ∷ fs) h = (f, fs, refl)
 
-nested_set : (d i : ℕ) (fs : List Frame) (f : Frame) (m : ℕ) → d ≤ i → Nested d fs m → Nested d (set fs i f) m
+nested_set : (d i : ℕ) (fs : List OpenContainer) (f : OpenContainer) (m : ℕ) → d ≤ i → AreNested d fs m → AreNested d (set fs i f) m
 nested_set zero i fs f m h n = n
 nested_set (suc d) i fs f m h n =
     let ne : ◌≢◌ d i = omega arith in
     rw (get_or-set_other fs i d f unused ne) (n.0, n.1, nested_set d i fs f (get_or fs d unused).last (omega arith) n.2)
 
-pub nested_push : (d : ℕ) (fs : List Frame) (f : Frame) → d < length fs → Nested d fs f.last → Nested (d + 1) (set fs d f) f.last
+pub nested_push : (d : ℕ) (fs : List OpenContainer) (f : OpenContainer) → d < length fs → AreNested d fs f.last → AreNested (d + 1) (set fs d f) f.last
 nested_push d fs f h n = rw (add-one, get_or-set_same fs d f unused h) (omega arith, omega arith, nested_set d d fs f f.last (omega arith) n)
 
-bounded_set : (d i : ℕ) (fs : List Frame) (f : Frame) (p : Place) (l : Option ℕ) → d ≤ i → Bounded d fs p l → Bounded d (set fs i f) p l
+bounded_set : (d i : ℕ) (fs : List OpenContainer) (f : OpenContainer) (p : OpenKind) (l : Option ℕ) → d ≤ i → AreBounded d fs p l → AreBounded d (set fs i f) p l
 bounded_set zero i fs f p l h b = tt
 bounded_set (suc d) i fs f p l h b =
     let ne : ◌≢◌ d i = omega arith in
     rw (get_or-set_other fs i d f unused ne) (b.0, b.1, bounded_set d i fs f (get_or fs d unused).place (get_or fs d unused).left (omega arith) b.2)
 
-pub bounded_push : (d : ℕ) (fs : List Frame) (f : Frame) (p : Place) (l : Option ℕ) → d < length fs → (p ≡ InDescribed → f.left ≡ None → l ≡ None) → IsLevel f → Bounded d fs f.place f.left → Bounded (d + 1) (set fs d f) p l
+pub bounded_push : (d : ℕ) (fs : List OpenContainer) (f : OpenContainer) (p : OpenKind) (l : Option ℕ) → d < length fs → (p ≡ InDescribed → f.left ≡ None → l ≡ None) → IsLevel f → AreBounded d fs f.place f.left → AreBounded (d + 1) (set fs d f) p l
 bounded_push d fs f p l h open_ level b = rw (add-one, get_or-set_same fs d f unused h) (open_, level, bounded_set d d fs f f.place f.left (omega arith) b)
 
 -- the last frame of those has other bytes left, or stands elsewhere
-pub bounded_as : (d : ℕ) (fs : List Frame) (p q : Place) (l k : Option ℕ) → (q ≡ InDescribed → (p ≡ InDescribed) × (l ≡ None → k ≡ None)) → Bounded d fs p l → Bounded d fs q k
+pub bounded_as : (d : ℕ) (fs : List OpenContainer) (p q : OpenKind) (l k : Option ℕ) → (q ≡ InDescribed → (p ≡ InDescribed) × (l ≡ None → k ≡ None)) → AreBounded d fs p l → AreBounded d fs q k
 bounded_as zero fs p q l k h b = tt
 bounded_as (suc d) fs p q l k h b = (λ e n. (h e).1 (b.0 (h e).0 n), b.1, b.2)
 
 -- the frame around the last one
-pub outer_frame : (d k : ℕ) (fs : List Frame) (m : ℕ) (p : Place) (l : Option ℕ) → d ≡ suc k → Nested d fs m → Bounded d fs p l → Nested (suc k) fs m × Bounded (suc k) fs p l
-outer_frame d k fs m p l e n b = (subst (λ i. Nested i fs m) e n, subst (λ i. Bounded i fs p l) e b)
+pub outer_frame : (d k : ℕ) (fs : List OpenContainer) (m : ℕ) (p : OpenKind) (l : Option ℕ) → d ≡ suc k → AreNested d fs m → AreBounded d fs p l → AreNested (suc k) fs m × AreBounded (suc k) fs p l
+outer_frame d k fs m p l e n b = (subst (λ i. AreNested i fs m) e n, subst (λ i. AreBounded i fs p l) e b)
 
-holder_items : (p : Place) (n : ℕ) → IsHolder p → items_of p n ≡ Some n
-holder_items InList n h = refl
-holder_items InMap n h = refl
-holder_items InArray n h = refl
-holder_items Top n h = absurd h
-holder_items InDescribed n h = absurd h
+container_items : (p : OpenKind) (n : ℕ) → IsContainer p → items_of p n ≡ Some n
+container_items InList n h = refl
+container_items InMap n h = refl
+container_items InArray n h = refl
+container_items Top n h = absurd h
+container_items InDescribed n h = absurd h
 
 -- a container that is entered counts in nesting, or has no items
-pub room_inside : (o : Open) (d depth nesting : ℕ) (p : Place) (n : ℕ) → o.items ≡ items_of p n → depth ≡ d → nesting ≡ 128 → IsHolder p → (depth < nesting) ⊎ (n ≡ 0) → IsRoomy 128 (d + 1) o
+pub room_inside : (o : Open) (d depth nesting : ℕ) (p : OpenKind) (n : ℕ) → o.items ≡ items_of p n → depth ≡ d → nesting ≡ 128 → IsContainer p → (depth < nesting) ⊎ (n ≡ 0) → IsRoomy 128 (d + 1) o
 room_inside o d depth nesting p n is e f h (inl few) = inl (omega arith)
-room_inside o d depth nesting p n is e f h (inr none) = inr (inl (is ∙ holder_items p n h ∙ ap Some none))
+room_inside o d depth nesting p n is e f h (inr none) = inr (inl (is ∙ container_items p n h ∙ ap Some none))
 
-none_less : (p : Place) (i k : ℕ) → k ≡ i - 1 → items_of p i ≡ Some 0 → items_of p k ≡ Some 0
+none_less : (p : OpenKind) (i k : ℕ) → k ≡ i - 1 → items_of p i ≡ Some 0 → items_of p k ≡ Some 0
 none_less Top i k less e = absurd (cc)
 none_less InList i k less e = ap Some (omega (arith, ap (λ o. unwrap_or o 0) e))
 none_less InMap i k less e = ap Some (omega (arith, ap (λ o. unwrap_or o 0) e))
 none_less InArray i k less e = ap Some (omega (arith, ap (λ o. unwrap_or o 0) e))
 none_less InDescribed i k less e = ap Some (omega (arith, ap (λ o. unwrap_or o 0) e))
 
-pub room_less : (ds : DescriptorValues) (d : ℕ) (f : Frame) (k : ℕ) → k ≡ f.items - 1 → IsRoomy 128 d (open_of ds f) → IsRoomy 128 d (open_of ds (record f { items = k }))
+pub room_less : (ds : DescriptorValues) (d : ℕ) (f : OpenContainer) (k : ℕ) → k ≡ f.items - 1 → IsRoomy 128 d (open_of ds f) → IsRoomy 128 d (open_of ds (record f { items = k }))
 room_less ds d f k less (inl few) = inl few
 room_less ds d f k less (inr (inl none)) = inr (inl (none_less f.place f.items k less none))
 room_less ds d f k less (inr (inr flat)) = inr (inr flat)
 
-level_of : (p : Place) (i : ℕ) (l : Option ℕ) (c : ℕ) (part : DescriptorValues) → p ≡ Top → l ≡ None → c ≡ 0
+level_of : (p : OpenKind) (i : ℕ) (l : Option ℕ) (c : ℕ) (part : DescriptorValues) → p ≡ Top → l ≡ None → c ≡ 0
     → ◌≡◌ {A = Open} (record { place = p; items = items_of p i; left = l; shared = cond (eqb c 0) None (Some (map descriptor_of part, c)) }) top_level
 level_of p i l c part e f g = rw (e, f, g) refl
 
-pub level : (ds : DescriptorValues) (f : Frame) → IsLevel f → f.place ≡ Top → open_of ds f ≡ top_level
+pub level : (ds : DescriptorValues) (f : OpenContainer) → IsLevel f → f.place ≡ Top → open_of ds f ≡ top_level
 level ds f h e = level_of f.place f.items f.left f.code (take (f.last - f.first) (drop f.first ds)) e (h e).0 (h e).1
 
 -- at most 128 descriptors for each frame
-few_nested : (d : ℕ) (fs : List Frame) (m : ℕ) → Nested d fs m → m ≤ 128 * d + 128
+few_nested : (d : ℕ) (fs : List OpenContainer) (m : ℕ) → AreNested d fs m → m ≤ 128 * d + 128
 few_nested zero fs m n = omega arith
 few_nested (suc d) fs m n = let few = few_nested d fs (get_or fs d unused).last n.2 in omega (arith, few, n.1)
 
-pub few_shared : (d : ℕ) (fs : List Frame) (m : ℕ) → Nested d fs m → shared_in d fs ≤ 128 * d
+pub few_shared : (d : ℕ) (fs : List OpenContainer) (m : ℕ) → AreNested d fs m → shared_in d fs ≤ 128 * d
 few_shared zero fs m n = omega arith
 few_shared (suc d) fs m n = let few = few_nested d fs (get_or fs d unused).last n.2 in omega (arith, few)
 
-pub shared_among : (d : ℕ) (fs : List Frame) (m : ℕ) → Nested d fs m → shared_in d fs ≤ m
+pub shared_among : (d : ℕ) (fs : List OpenContainer) (m : ℕ) → AreNested d fs m → shared_in d fs ≤ m
 shared_among zero fs m n = omega arith
 shared_among (suc d) fs m n = n.0
 
 -- the descriptors of a frame behind the others
-pub nested_last : (d : ℕ) (fs : List Frame) (m k : ℕ) → Nested d fs m → shared_in d fs ≤ k → k ≤ shared_in d fs + 128 → Nested d fs k
+pub nested_last : (d : ℕ) (fs : List OpenContainer) (m k : ℕ) → AreNested d fs m → shared_in d fs ≤ k → k ≤ shared_in d fs + 128 → AreNested d fs k
 nested_last zero fs m k n low high = omega (arith, high)
 nested_last (suc d) fs m k n low high = (low, high, n.2)
 
-pub shared_front : (d : ℕ) (fs : List Frame) → d ≤ length fs → shared_in (length (take d fs)) (take d fs) ≡ shared_in d fs
+pub shared_front : (d : ℕ) (fs : List OpenContainer) → d ≤ length fs → shared_in (length (take d fs)) (take d fs) ≡ shared_in d fs
 shared_front zero fs few = refl
-shared_front (suc d) fs few = ap (λ k. shared_in k (take (suc d) fs)) (length-take-le (suc d) fs few) ∙ ap (λ (f : Frame). f.last) (get_or-take (suc d) fs d unused (omega arith))
+shared_front (suc d) fs few = ap (λ k. shared_in k (take (suc d) fs)) (length-take-le (suc d) fs few) ∙ ap (λ (f : OpenContainer). f.last) (get_or-take (suc d) fs d unused (omega arith))
 
 front_kept : (k n : ℕ) (ds es : DescriptorValues) → k ≤ n → take n ds ≡ take n es → take k ds ≡ take k es
 front_kept k n ds es h e = sym (take-take k n ds h) ∙ ap (take k) e ∙ take-take k n es h
@@ -142,12 +142,12 @@ part_kept ds es n first (suc k) last is few e =
     sym (drop-take first (suc k) ds) ∙ ap (drop first) (front_kept (first + suc k) n ds es within e) ∙ drop-take first (suc k) es
 
 -- descriptors behind those of a frame don't count in it
-pub open_kept : (ds es : DescriptorValues) (n : ℕ) (f : Frame) → f.last ≤ n → take n ds ≡ take n es → open_of ds f ≡ open_of es f
+pub open_kept : (ds es : DescriptorValues) (n : ℕ) (f : OpenContainer) → f.last ≤ n → take n ds ≡ take n es → open_of ds f ≡ open_of es f
 open_kept ds es n f few e =
     ap (λ part. record { place = f.place; items = items_of f.place f.items; left = f.left; shared = cond (eqb f.code 0) None (Some (map descriptor_of part, f.code)) })
     (part_kept ds es n f.first (f.last - f.first) f.last refl few e)
 
-pub stack_kept : (ds es : DescriptorValues) (n d : ℕ) (fs : List Frame) (m : ℕ) → Nested d fs m → m ≤ n → take n ds ≡ take n es → stack ds d fs ≡ stack es d fs
+pub stack_kept : (ds es : DescriptorValues) (n d : ℕ) (fs : List OpenContainer) (m : ℕ) → AreNested d fs m → m ≤ n → take n ds ≡ take n es → stack ds d fs ≡ stack es d fs
 stack_kept ds es n zero fs m h few e = refl
 stack_kept ds es n (suc d) fs m h few e =
     ap₂ (λ o l. o ∷ l) (open_kept ds es n (get_or fs d unused) (omega (arith, h.0)) e) (stack_kept ds es n d fs (get_or fs d unused).last h.2 (omega (arith, h.0)) e)
@@ -220,13 +220,13 @@ pub added_shared : (ds es l : DescriptorValues) (n c last : ℕ) → (c ≡ 0 �
 added_shared ds es l n c last some h is end_ = some_shared l c n last es some (ap (λ x. take (last - n) (drop n x)) is ∙ part_added (take n ds) es n last (length-take-le n ds h) end_)
 
 -- what is put behind the descriptors of the frames, of which there are n: the constructor that it makes, and those frames as before
-pub put_behind : (ds es l : DescriptorValues) (d : ℕ) (fs : List Frame) (m n c last : ℕ) → Nested d fs m → m ≤ length ds → d ≤ length fs → n ≡ shared_in (length (take d fs)) (take d fs) → l ≡ take n ds ++ es → 0 < c → last ≡ n + length es
+pub put_behind : (ds es l : DescriptorValues) (d : ℕ) (fs : List OpenContainer) (m n c last : ℕ) → AreNested d fs m → m ≤ length ds → d ≤ length fs → n ≡ shared_in (length (take d fs)) (take d fs) → l ≡ take n ds ++ es → 0 < c → last ≡ n + length es
     → (n ≡ shared_in d fs) × (shared_of l c n last ≡ Some (map descriptor_of es, c)) × (stack l d fs ≡ stack ds d fs)
 put_behind ds es l d fs m n c last nested within rows is put some end_ =
     let first : n ≡ shared_in d fs = is ∙ shared_front d fs rows in
     let among = shared_among d fs m nested in
     let few : n ≤ length ds = omega (arith, among, first) in
-    let front : Nested d fs n = nested_last d fs m n nested (omega (arith, first)) (omega (arith, first)) in
+    let front : AreNested d fs n = nested_last d fs m n nested (omega (arith, first)) (omega (arith, first)) in
     (first, added_shared ds es l n c last (λ z. omega (arith, some, z)) few put end_, stack_kept l ds n d fs n front (omega arith) (added_front ds es l n few put))
 
 abbrev state_of : List ℕ → ℕ → ℕ → ℕ → Option Error → Bool → Open → List Open → State

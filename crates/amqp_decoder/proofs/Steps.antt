@@ -4,33 +4,33 @@ use Rattle.std.proofs.lemmas.List.{length-append}
 use Rattle.amqp_model.specs.Term.{Descriptor}
 use Rattle.amqp_wire.specs.declared.error.Error.{Error}
 use Rattle.amqp_wire.specs.declared.error.Error.TheVariants.{Cut, Missing}
-use Rattle.amqp_decoder.specs.State.{State, Has, lower, past, announced}
-use Rattle.amqp_decoder.specs.Steps.{Answered, SourceFailed, Excused, Pulled, Missed, Took, Lacks, cut_open, cut_inside, too_long, Short, Stopped, asked_in, SizeError, cut, wrong, SizeRefused}
-use Rattle.amqp_decoder.specs.Reading.{Refused, IsLeft, IsFirst, IsFirstShared, Begun, BeginFault, missing, no_code}
+use Rattle.amqp_decoder.specs.State.{State, Has, lower, after_value, announced}
+use Rattle.amqp_decoder.specs.Steps.{Answers, SourceFailed, IsExcused, Pulls, Misses, Takes, Lacks, cut_open, cut_inside, too_long, FallsShort, Stops, asked_in, SizeError, cut, wrong, RefusesSize}
+use Rattle.amqp_decoder.specs.Reading.{RefusesRead, IsLeft, IsFirst, IsFirstShared, ReadsCode, BeginFault, missing, no_code}
 
 -- a call that takes no memory is excused by its source alone
-pub source_failed : (e : Error) (st : State) → Excused false e st → SourceFailed e st
+pub source_failed : (e : Error) (st : State) → IsExcused false e st → SourceFailed e st
 source_failed e st (inl (x, y)) = absurd (cc)
 source_failed e st (inr x) = x
 
-pub excused_by_source : (takes : Bool) (e : Error) (st : State) → Excused false e st → Excused takes e st
+pub excused_by_source : (takes : Bool) (e : Error) (st : State) → IsExcused false e st → IsExcused takes e st
 excused_by_source takes e st x = inr (source_failed e st x)
 
 -- the error was kept
-pub answered : (st new : State) (e d : Error) → new ≡ record st { error = Some d } → e ≡ d → Answered st e new
+pub answered : (st new : State) (e d : Error) → new ≡ record st { error = Some d } → e ≡ d → Answers st e new
 answered st new e d h is = record { error = ap (λ (x : State). x.error) h ∙ ap Some (sym is); source = inl (ap (λ (x : State). x.failed) h) }
 
-pub answered_so : (st new : State) (e : Error) → new ≡ record st { error = Some e } → Answered st e new
+pub answered_so : (st new : State) (e : Error) → new ≡ record st { error = Some e } → Answers st e new
 answered_so st new e h = answered st new e e h refl
 
 -- the refused call came after others
-pub answered_later : {st m : State} {e : Error} {new : State} → m.failed ≡ st.failed → Answered m e new → Answered st e new
+pub answered_later : {st m : State} {e : Error} {new : State} → m.failed ≡ st.failed → Answers m e new → Answers st e new
 answered_later same a = record { error = a.error; source = elim a.source [ inl x ↦ inl (x ∙ same) | inr x ↦ inr x ] }
 
-pub answered_took : {st : State} {s : List ℕ} {m : State} {e : Error} {new : State} → Took st s m → Answered m e new → Answered st e new
+pub answered_took : {st : State} {s : List ℕ} {m : State} {e : Error} {new : State} → Takes st s m → Answers m e new → Answers st e new
 answered_took t a = answered_later (ap (λ (x : State). x.failed) t.moved) a
 
-pub answered_begun : {st : State} {c : ℕ} {m : State} {e : Error} {new : State} → Begun st c m → Answered m e new → Answered st e new
+pub answered_begun : {st : State} {c : ℕ} {m : State} {e : Error} {new : State} → ReadsCode st c m → Answers m e new → Answers st e new
 answered_begun g a = answered_later (ap (λ (x : State). x.failed) g.moved) a
 
 -- the open container's bytes are lowered by n
@@ -42,7 +42,7 @@ size_lacks own n l st e h less (cut short is) = cut_inside h (inl less) (subst (
 size_lacks own n l st e h less (wrong there is) = too_long h less (subst (λ o. asked_in o own (announced st) ≤ length st.rest) h there) is
 
 -- a size was refused in a container that has no room
-pub short_of_size : (own n l : ℕ) (st : State) (e : Error) (new : State) → st.top.left ≡ Some l → l < n → SizeRefused own st e new → Short n st e new
+pub short_of_size : (own n l : ℕ) (st : State) (e : Error) (new : State) → st.top.left ≡ Some l → l < n → RefusesSize own st e new → FallsShort n st e new
 short_of_size own n l st e new h less r = record {
   kept = r.kept;
   why = elim r.why [ inl x ↦ inl x | inr x ↦ inr (size_lacks own n l st e h less x) ];
@@ -53,7 +53,7 @@ missed_lacks n st None e h room is short = cut_open h short is
 missed_lacks n st (Some l) e h room is short = cut_inside h (inr short) (omega (arith, ap (λ o. unwrap_or o 0) h)) is
 
 -- too few bytes stood behind those that the container has room for
-pub short_of_missed : (n k : ℕ) (st : State) (m : State) (e : Error) (new : State) → k ≡ n → Has st.top.left n → m ≡ lowered n st → Missed false k m e new → Short n st e new
+pub short_of_missed : (n k : ℕ) (st : State) (m : State) (e : Error) (new : State) → k ≡ n → Has st.top.left n → m ≡ lowered n st → Misses false k m e new → FallsShort n st e new
 short_of_missed n k st m e new same room is r = record {
   kept = answered_later (ap (λ (x : State). x.failed) is) r.kept;
   why = elim r.why [
@@ -62,11 +62,11 @@ short_of_missed n k st m e new same room is r = record {
   ];
 }
 
-pub took_pulled : (n : ℕ) (st : State) (m : State) (s : List ℕ) (new : State) → length s ≡ n → Has st.top.left n → m ≡ lowered n st → Pulled m s new → Took st s new
+pub took_pulled : (n : ℕ) (st : State) (m : State) (s : List ℕ) (new : State) → length s ≡ n → Has st.top.left n → m ≡ lowered n st → Pulls m s new → Takes st s new
 took_pulled n st m s new l room is p =
     let room_ : Has st.top.left (length s) = subst (Has st.top.left) (sym l) room in
     let is_ : m ≡ lowered (length s) st = is ∙ ap (λ k. lowered k st) (sym l) in
-    let q : Pulled (lowered (length s) st) s new = subst (λ z. Pulled z s new) is_ p in
+    let q : Pulls (lowered (length s) st) s new = subst (λ z. Pulls z s new) is_ p in
     record { room = room_; rest = q.rest; moved = q.moved }
 
 pub one_byte : (s : List ℕ) → length s ≡ 1 → s ≡ get_or s 0 0 ∷ []
@@ -88,7 +88,7 @@ not_lacking n st e s x (too_long {l} h less there is) few room r =
     let fits : length s ≤ l = subst (λ o. Has o (length s)) h room in omega arith
 
 -- a value begins, by its first byte or by a shared constructor
-pub begun_own : (st : State) (c : ℕ) (m : State) → st.error ≡ None → Has st.top.items 1 → st.top.shared ≡ None → Took st (c ∷ []) m → Begun st c (record m { top = record m.top { items = lower m.top.items 1 } })
+pub begun_own : (st : State) (c : ℕ) (m : State) → st.error ≡ None → Has st.top.items 1 → st.top.shared ≡ None → Takes st (c ∷ []) m → ReadsCode st c (record m { top = record m.top { items = lower m.top.items 1 } })
 begun_own st c m going item none t = record {
   going = going;
   item = item;
@@ -112,13 +112,13 @@ pub lower_none : (o : Option ℕ) → lower o 0 ≡ o
 lower_none None = refl
 lower_none (Some l) = ap Some (omega arith)
 
-past_none : (st : State) → record st { top = record st.top { items = lower st.top.items 1 } } ≡ past 0 st
+past_none : (st : State) → record st { top = record st.top { items = lower st.top.items 1 } } ≡ after_value 0 st
 past_none st =
     let a : st.ahead ≡ st.ahead - 0 = omega arith in
     ap (λ x. record st { ahead = x; top = record st.top { items = lower st.top.items 1 } }) a
     ∙ ap (λ x. record st { ahead = st.ahead - 0; top = record st.top { items = lower st.top.items 1; left = x } }) (sym (lower_none st.top.left))
 
-pub begun_shared : (st : State) (c : ℕ) → st.error ≡ None → Has st.top.items 1 → IsFirstShared st.top.shared c → Begun st c (record st { top = record st.top { items = lower st.top.items 1 } })
+pub begun_shared : (st : State) (c : ℕ) → st.error ≡ None → Has st.top.items 1 → IsFirstShared st.top.shared c → ReadsCode st c (record st { top = record st.top { items = lower st.top.items 1 } })
 begun_shared st c going item h = record {
   going = going;
   item = item;
@@ -134,16 +134,16 @@ has_item None h = tt
 has_item (Some zero) h = absurd (h refl)
 has_item (Some (suc n)) h = omega arith
 
-pub not_begun_done : (st : State) (c : ℕ) (b : State) → st.top.items ≡ Some 0 → Begun st c b → ⊥
+pub not_begun_done : (st : State) (c : ℕ) (b : State) → st.top.items ≡ Some 0 → ReadsCode st c b → ⊥
 not_begun_done st c b e h = let x : 1 ≤ 0 = subst (λ o. Has o 1) e h.item in omega arith
 
-pub not_begun_lacking : (st : State) (e : Error) (c : ℕ) (b : State) → st.top.shared ≡ None → Lacks 1 st e → Begun st c b → ⊥
+pub not_begun_lacking : (st : State) (e : Error) (c : ℕ) (b : State) → st.top.shared ≡ None → Lacks 1 st e → ReadsCode st c b → ⊥
 not_begun_lacking st e c b none l h =
     let own : h.own ≡ c ∷ [] = subst (λ o. IsFirst o c h.own) none h.first in
     not_lacking 1 st e h.own (drop (length h.own) st.rest) l (omega (arith, ap length own)) h.room h.rest
 
 -- no value is left
-pub begin_done : (st : State) (e : Error) (new : State) → Refused false IsLeft (λ st e. (st.top.items ≡ Some 0) × (e ≡ Missing)) st e new → Refused false Begun BeginFault st e new
+pub begin_done : (st : State) (e : Error) (new : State) → RefusesRead false IsLeft (λ st e. (st.top.items ≡ Some 0) × (e ≡ Missing)) st e new → RefusesRead false ReadsCode BeginFault st e new
 begin_done st e new r = record {
   kept = r.kept;
   again = r.again;
@@ -155,7 +155,7 @@ begin_done st e new r = record {
 }
 
 -- its first byte can't be taken
-pub begin_short : (st : State) (e : Error) (new : State) → st.error ≡ None → Has st.top.items 1 → st.top.shared ≡ None → Short 1 st e new → Refused false Begun BeginFault st e new
+pub begin_short : (st : State) (e : Error) (new : State) → st.error ≡ None → Has st.top.items 1 → st.top.shared ≡ None → FallsShort 1 st e new → RefusesRead false ReadsCode BeginFault st e new
 begin_short st e new going item none r = record {
   kept = r.kept;
   again = λ d x. absurd (cc);
@@ -164,18 +164,18 @@ begin_short st e new going item none r = record {
 }
 
 -- why a call stopped
-pub stopped_short : {takes : Bool} (n : ℕ) (st : State) (e : Error) (new : State) → Short n st e new → Stopped takes (Lacks n st) st e new
+pub stopped_short : {takes : Bool} (n : ℕ) (st : State) (e : Error) (new : State) → FallsShort n st e new → Stops takes (Lacks n st) st e new
 stopped_short n st e new s = record { kept = s.kept; why = elim s.why [ inl x ↦ inl (inr x) | inr x ↦ inr x ] }
 
-pub stopped_missed : {takes : Bool} (n : ℕ) (st m : State) (e : Error) (new : State) → Has st.top.left n → m ≡ record st { top = record st.top { left = lower st.top.left n } } → Missed takes n m e new → Stopped takes (Lacks n st) st e new
+pub stopped_missed : {takes : Bool} (n : ℕ) (st m : State) (e : Error) (new : State) → Has st.top.left n → m ≡ record st { top = record st.top { left = lower st.top.left n } } → Misses takes n m e new → Stops takes (Lacks n st) st e new
 stopped_missed n st m e new room is s = record {
   kept = answered_later (ap (λ (x : State). x.failed) is) s.kept;
   why = elim s.why [ inl x ↦ inl x | inr (x, y) ↦ inr (missed_lacks n st st.top.left e refl room x (subst (λ (z : State). length z.rest < n) is y)) ];
 }
 
-pub stopped_as : {takes : Bool} (P Q : Error → Type 0) (st : State) (e : Error) (new : State) → ((d : Error) → P d → Q d) → Stopped takes P st e new → Stopped takes Q st e new
+pub stopped_as : {takes : Bool} (P Q : Error → Type 0) (st : State) (e : Error) (new : State) → ((d : Error) → P d → Q d) → Stops takes P st e new → Stops takes Q st e new
 stopped_as P Q st e new f s = record { kept = s.kept; why = elim s.why [ inl x ↦ inl x | inr x ↦ inr (f e x) ] }
 
 -- after bytes that were taken
-pub stopped_later : {takes : Bool} (P Q : Error → Type 0) (st m : State) (s : List ℕ) (e : Error) (new : State) → Took st s m → ((d : Error) → P d → Q d) → Stopped takes P m e new → Stopped takes Q st e new
+pub stopped_later : {takes : Bool} (P Q : Error → Type 0) (st m : State) (s : List ℕ) (e : Error) (new : State) → Takes st s m → ((d : Error) → P d → Q d) → Stops takes P m e new → Stops takes Q st e new
 stopped_later P Q st m s e new t f r = record { kept = answered_took t r.kept; why = elim r.why [ inl x ↦ inl x | inr x ↦ inr (f e x) ] }

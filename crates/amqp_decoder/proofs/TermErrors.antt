@@ -8,7 +8,7 @@ use Rattle.amqp_wire.specs.declared.error.Error.{Error}
 use Rattle.amqp_wire.specs.declared.error.Error.TheVariants.{Cut, UnknownCode, FloatCode, WrongType}
 use Rattle.amqp_wire.specs.Codes.{is_known, refusal_of}
 use Rattle.amqp_lengths.specs.Pieces.{value_of}
-use Rattle.amqp_lengths.specs.Faults.{ValueFault, PrimitiveFault, primitive_wanting, primitive_no_value, DescriptorFault, descriptor_missing, descriptor_other, descriptor_unknown, descriptor_data, ConstructorFault, constructor_ends, constructor_unknown, constructor_long, constructor_descriptor, ContentFault, content_wanting, content_small, content_counted, inside, TermFault, term_constructor, term_nests, term_data, DataFault, data_of_primitive, data_of_holder, data_of_array, HolderFault, holder_content, holder_deep, holder_unpaired, holder_items, ItemsFault, items_fault, items_over, ArrayFault, array_content, array_elements, ElementsFault, elements_missing, elements_constructor, elements_over, elements_empty, elements_deep, elements_data, SharedFault, shared_fault, shared_over}
+use Rattle.amqp_lengths.specs.Faults.{ValueFault, PrimitiveFault, primitive_wanting, primitive_no_value, DescriptorFault, descriptor_missing, descriptor_other, descriptor_unknown, descriptor_data, ConstructorFault, constructor_ends, constructor_unknown, constructor_long, constructor_descriptor, ContentFault, content_wanting, content_small, content_counted, inside, TermFault, term_constructor, term_nests, term_data, DataFault, data_of_primitive, data_of_container, data_of_array, ContainerFault, container_content, container_deep, container_unpaired, container_items, ItemsFault, items_fault, items_over, ArrayFault, array_content, array_elements, ElementsFault, elements_missing, elements_constructor, elements_over, elements_empty, elements_deep, elements_data, SharedFault, shared_fault, shared_over}
 use Rattle.amqp_decoder.specs.Misspelled.{IsMisspelling}
 
 yes_no : (b : Bool) → b ≡ true → b ≡ false → ⊥
@@ -102,14 +102,14 @@ mutual
 
   of_data : (code nesting : ℕ) (input : List ℕ) (e : Error) → DataFault code nesting input e → IsOfTerms e
   of_data code nesting input e (data_of_primitive c k b x h) = of_primitive (format c) b x h
-  of_data code nesting input e (data_of_holder c k b x kind w is some h) = of_holder kind w k b x h
+  of_data code nesting input e (data_of_container c k b x kind w is some h) = of_container kind w k b x h
   of_data code nesting input e (data_of_array c k b x w is h) = of_array w k b x h
 
-  of_holder : (kind : Container) (w nesting : ℕ) (input : List ℕ) (e : Error) → HolderFault kind w nesting input e → IsOfTerms e
-  of_holder kind w nesting input e (holder_content k v m b x h) = of_content k v b x h
-  of_holder kind w nesting input e (holder_deep k v m b after there is) = inr tt
-  of_holder kind w nesting input e (holder_unpaired k v m b n items after there odd) = inr tt
-  of_holder kind w nesting input e (holder_items k v m b x n left items after there is h) = inr (of_items left n items x h)
+  of_container : (kind : Container) (w nesting : ℕ) (input : List ℕ) (e : Error) → ContainerFault kind w nesting input e → IsOfTerms e
+  of_container kind w nesting input e (container_content k v m b x h) = of_content k v b x h
+  of_container kind w nesting input e (container_deep k v m b after there is) = inr tt
+  of_container kind w nesting input e (container_unpaired k v m b n items after there odd) = inr tt
+  of_container kind w nesting input e (container_items k v m b x n left items after there is h) = inr (of_items left n items x h)
 
   of_items : (nesting n : ℕ) (content : List ℕ) (e : Error) → ItemsFault nesting n content e → IsMisspelling e
   of_items nesting n content e (items_fault k m b x done after less there h) = of_inside x (of_term k after x h)

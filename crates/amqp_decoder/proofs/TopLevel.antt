@@ -3,12 +3,12 @@ use Rattle.std.proofs.Common.{◌≡◌, ℕ, false, inl, inr, Option, Some, Res
 use Rattle.amqp_wire.specs.declared.error.Error.{Error}
 use Rattle.amqp_input.specs.Sections.{IsSectionAhead}
 use Rattle.amqp_decoder.specs.State.{State}
-use Rattle.amqp_decoder.specs.Steps.{Answered, SourceFailed}
-use Rattle.amqp_decoder.specs.Reading.{Reads}
+use Rattle.amqp_decoder.specs.Steps.{Answers, SourceFailed}
+use Rattle.amqp_decoder.specs.Reading.{AnswersRead}
 use Rattle.amqp_decoder.specs.Sections.{IsTop, NotTop, LooksOn, PeeksSection}
 
 -- the section that stands next
-pub peeked : (r : Result (Option ℕ) Error) (st m new : State) → IsTop st tt m → IfOk r (λ _. LooksOn m new) → IfOk r (λ o. (c : ℕ) → (o ≡ Some c) ↔ IsSectionAhead m.rest c) → IfErr r (λ e. Answered m e new × SourceFailed e new) → Reads false PeeksSection NotTop st r new
+pub peeked : (r : Result (Option ℕ) Error) (st m new : State) → IsTop st tt m → IfOk r (λ _. LooksOn m new) → IfOk r (λ o. (c : ℕ) → (o ≡ Some c) ↔ IsSectionAhead m.rest c) → IfErr r (λ e. Answers m e new × SourceFailed e new) → AnswersRead false PeeksSection NotTop st r new
 peeked (Ok o) st m new t looks is f = record {
   going = t.going;
   place = t.place;

@@ -6,14 +6,14 @@ use Rattle.amqp_model.specs.Constructors.{compound, format}
 use Rattle.amqp_wire.specs.Codes.{refusal_of}
 use Rattle.amqp_wire.specs.declared.error.Error.{Error}
 use Rattle.amqp_wire.specs.declared.error.Error.TheVariants.{Surplus, InvalidValue, OddCount, Depth}
-use Rattle.amqp_decoder.specs.declared.frame.Place.{Place}
-use Rattle.amqp_decoder.specs.declared.frame.Place.TheVariants.{InList, InMap, InArray}
-use Rattle.amqp_decoder.specs.State.{Open, State, Has, inside}
-use Rattle.amqp_decoder.specs.Steps.{SizeError, Took, Lacks, NoRoom}
-use Rattle.amqp_decoder.specs.Reading.{Begun, BeginFault}
+use Rattle.amqp_decoder.specs.declared.frame.OpenKind.{OpenKind}
+use Rattle.amqp_decoder.specs.declared.frame.OpenKind.TheVariants.{InList, InMap, InArray}
+use Rattle.amqp_decoder.specs.State.{Open, State, Has, in_container}
+use Rattle.amqp_decoder.specs.Steps.{SizeError, Takes, Lacks, NoRoom}
+use Rattle.amqp_decoder.specs.Reading.{ReadsCode, BeginFault}
 
 -- A container of this kind is open, and no item of it is left.
-pub record AtEnd (place : Place) (st : State) (st' : State) : Type 0 where
+pub record AtEnd (place : OpenKind) (st : State) (st' : State) : Type 0 where
   pub going : st.error ≡ None
   pub here : st.top.place ≡ place
   pub items : st.top.items ≡ Some 0
@@ -23,20 +23,20 @@ pub record AtEnd (place : Place) (st : State) (st' : State) : Type 0 where
   pub kept : st' ≡ st
 
 -- A container of this kind is open.
-pub record IsOpen (place : Place) (st : State) : Type 0 where
+pub record IsOpen (place : OpenKind) (st : State) : Type 0 where
   pub here : st.top.place ≡ place
   pub outer : Open
   pub others : List Open
   pub saved : st.saved ≡ outer ∷ others
 
 -- Why it isn't at its end: another kind is open or none, or items of it are left.
-pub data EndFault (place : Place) (st : State) (e : Error) : Type 0 where
+pub data EndFault (place : OpenKind) (st : State) (e : Error) : Type 0 where
   other_place : (st.top.place ≡ place → ⊥) → e ≡ InvalidValue → EndFault place st e
   nothing_open : st.saved ≡ [] → e ≡ InvalidValue → EndFault place st e
   items_left : IsOpen place st → (st.top.items ≡ Some 0 → ⊥) → e ≡ Surplus → EndFault place st e
 
 -- A container of this kind, of which nothing is left, was left.
-pub record Closes (place : Place) (st : State) (st' : State) : Type 0 where
+pub record Closes (place : OpenKind) (st : State) (st' : State) : Type 0 where
   pub going : st.error ≡ None
   pub here : st.top.place ≡ place
   pub items : st.top.items ≡ Some 0
@@ -47,12 +47,12 @@ pub record Closes (place : Place) (st : State) (st' : State) : Type 0 where
   pub moved : st' ≡ record st { top = outer; saved = others }
 
 -- Why none is left: it isn't at its end, or it is, and bytes of it are left.
-pub data CloseFault (place : Place) (st : State) (e : Error) : Type 0 where
+pub data CloseFault (place : OpenKind) (st : State) (e : Error) : Type 0 where
   not_at_end : EndFault place st e → CloseFault place st e
   bytes_left_over : IsOpen place st → st.top.items ≡ Some 0 → (st.top.left ≡ Some 0 → ⊥) → SizeError 0 st e → CloseFault place st e
 
 -- The value behind a descriptor was taken: what it stands in has the bytes that are left.
-pub record ClosesDescribed (place : Place) (st : State) (st' : State) : Type 0 where
+pub record ClosesDescribed (place : OpenKind) (st : State) (st' : State) : Type 0 where
   pub going : st.error ≡ None
   pub here : st.top.place ≡ place
   pub items : st.top.items ≡ Some 0
@@ -62,7 +62,7 @@ pub record ClosesDescribed (place : Place) (st : State) (st' : State) : Type 0 w
   pub moved : st' ≡ record st { top = record outer { left = st.top.left }; saved = others }
 
 -- Where the items of a container stand.
-abbrev pub place_of : Container → Place
+abbrev pub place_of : Container → OpenKind
 place_of list = InList
 place_of map = InMap
 place_of array = InArray
@@ -87,52 +87,52 @@ abbrev pub IsPossible : Bool → ℕ → ℕ → Type 0
 IsPossible listed width size = (width ≤ size) ⊎ ((listed ≡ true) × (size ≡ 0))
 
 -- A size and a count stood next: of n items, which have so many bytes.
-pub record Header (listed : Bool) (width : ℕ) (st : State) (n content : ℕ) (st' : State) : Type 0 where
+pub record ReadsHeader (listed : Bool) (width : ℕ) (st : State) (n content : ℕ) (st' : State) : Type 0 where
   pub size : ℕ
   pub fits : size < 256 ^ width
   pub few : n < 256 ^ width
-  pub took : Took st (bytes_high_first width size ++ bytes_high_first width n) st'
+  pub took : Takes st (bytes_high_first width size ++ bytes_high_first width n) st'
   pub counts : Counts listed width n content size
 
 -- Why there is no such size and count.
 pub data HeaderFault (listed : Bool) (width : ℕ) (st : State) (e : Error) : Type 0 where
   no_size : Lacks width st e → HeaderFault listed width st e
-  impossible : {size : ℕ} {m : State} → size < 256 ^ width → Took st (bytes_high_first width size) m → (IsPossible listed width size → ⊥) → SizeError size m e → HeaderFault listed width st e
-  no_count : {size : ℕ} {m : State} → size < 256 ^ width → Took st (bytes_high_first width size) m → IsPossible listed width size → Lacks width m e → HeaderFault listed width st e
-  no_content : {n : ℕ} {m : State} → 0 < n → n < 256 ^ width → Took st (bytes_high_first width 0 ++ bytes_high_first width n) m → SizeError 0 m e → HeaderFault listed width st e
+  impossible : {size : ℕ} {m : State} → size < 256 ^ width → Takes st (bytes_high_first width size) m → (IsPossible listed width size → ⊥) → SizeError size m e → HeaderFault listed width st e
+  no_count : {size : ℕ} {m : State} → size < 256 ^ width → Takes st (bytes_high_first width size) m → IsPossible listed width size → Lacks width m e → HeaderFault listed width st e
+  no_content : {n : ℕ} {m : State} → 0 < n → n < 256 ^ width → Takes st (bytes_high_first width 0 ++ bytes_high_first width n) m → SizeError 0 m e → HeaderFault listed width st e
 
 -- Why a container of so many bytes can't be opened.
 abbrev pub Unopened : ℕ → State → Error → Type 0
 Unopened content st e = NoRoom content st e ⊎ (Has st.top.left content × (st.nesting ≤ length st.saved) × (e ≡ Depth))
 
 -- The data of a container of n items stood next, as far as its items, and it was entered.
-pub record Entered (kind : Container) (width : ℕ) (st : State) (n : ℕ) (st' : State) : Type 0 where
+pub record Enters (kind : Container) (width : ℕ) (st : State) (n : ℕ) (st' : State) : Type 0 where
   pub content : ℕ
   pub mid : State
-  pub header : Header (is_list kind) width st n content mid
+  pub header : ReadsHeader (is_list kind) width st n content mid
   pub count : IsCount kind n
   pub room : Has mid.top.left content
   pub few : length st.saved < st.nesting
-  pub entered : st' ≡ inside (place_of kind) n content mid
+  pub entered : st' ≡ in_container (place_of kind) n content mid
 
 -- Why none is entered.
 pub data EnterFault (kind : Container) (width : ℕ) (st : State) (e : Error) : Type 0 where
   no_header : HeaderFault (is_list kind) width st e → EnterFault kind width st e
-  odd_count : {n content : ℕ} {m : State} → Header (is_list kind) width st n content m → (IsCount kind n → ⊥) → e ≡ OddCount → EnterFault kind width st e
-  no_room : {n content : ℕ} {m : State} → Header (is_list kind) width st n content m → IsCount kind n → NoRoom content m e → EnterFault kind width st e
-  too_deep : {n content : ℕ} {m : State} → Header (is_list kind) width st n content m → IsCount kind n → Has m.top.left content → st.nesting ≤ length st.saved → e ≡ Depth → EnterFault kind width st e
+  odd_count : {n content : ℕ} {m : State} → ReadsHeader (is_list kind) width st n content m → (IsCount kind n → ⊥) → e ≡ OddCount → EnterFault kind width st e
+  no_room : {n content : ℕ} {m : State} → ReadsHeader (is_list kind) width st n content m → IsCount kind n → NoRoom content m e → EnterFault kind width st e
+  too_deep : {n content : ℕ} {m : State} → ReadsHeader (is_list kind) width st n content m → IsCount kind n → Has m.top.left content → st.nesting ≤ length st.saved → e ≡ Depth → EnterFault kind width st e
 
 -- A container of this kind and of n items stood next, as far as its items, and it was entered.
 pub record Opens (kind : Container) (st : State) (n : ℕ) (st' : State) : Type 0 where
   pub code : ℕ
   pub width : ℕ
   pub mid : State
-  pub begun : Begun st code mid
+  pub begun : ReadsCode st code mid
   pub announced : format code ≡ compound kind width
-  pub data_ : Entered kind width mid n st'
+  pub data_ : Enters kind width mid n st'
 
 -- Why none of this kind is.
 pub data OpenFault (kind : Container) (st : State) (e : Error) : Type 0 where
   not_begun : BeginFault st e → OpenFault kind st e
-  wrong_code : {c : ℕ} {m : State} → Begun st c m → ((width : ℕ) → format c ≡ compound kind width → ⊥) → e ≡ refusal_of c → OpenFault kind st e
-  no_data : {c width : ℕ} {m : State} → Begun st c m → format c ≡ compound kind width → EnterFault kind width m e → OpenFault kind st e
+  wrong_code : {c : ℕ} {m : State} → ReadsCode st c m → ((width : ℕ) → format c ≡ compound kind width → ⊥) → e ≡ refusal_of c → OpenFault kind st e
+  no_data : {c width : ℕ} {m : State} → ReadsCode st c m → format c ≡ compound kind width → EnterFault kind width m e → OpenFault kind st e

@@ -6,10 +6,10 @@ use Rattle.amqp_model.specs.Spelling.{PrimitiveData, Names, descriptor_value}
 use Rattle.amqp_wire.specs.declared.error.Error.{Error}
 use Rattle.amqp_wire.specs.declared.error.Error.TheVariants.{Cut, Depth, BadDescriptor, NonAscii, WrongType, WrongDescriptor}
 use Rattle.amqp_wire.specs.Codes.{refusal_of}
-use Rattle.amqp_decoder.specs.declared.frame.Place.TheVariants.{InDescribed}
+use Rattle.amqp_decoder.specs.declared.frame.OpenKind.TheVariants.{InDescribed}
 use Rattle.amqp_decoder.specs.State.{State}
-use Rattle.amqp_decoder.specs.Steps.{Answered, Excused, SourceFailed, Took, Lacks}
-use Rattle.amqp_decoder.specs.Reading.{Begun, BeginFault}
+use Rattle.amqp_decoder.specs.Steps.{Answers, IsExcused, SourceFailed, Takes, Lacks}
+use Rattle.amqp_decoder.specs.Reading.{ReadsCode, BeginFault}
 use Rattle.amqp_input.specs.Kinds.{kind_at, ulongs, symbols}
 use Rattle.amqp_input.specs.Members.{Member, place_of}
 use Rattle.amqp_decoder.specs.Primitives.{LacksData, IsWhole}
@@ -38,8 +38,8 @@ behind o = option_map (λ shared. (drop 1 shared.0, shared.1)) o
 
 -- What a descriptor describes is open: one value, with the bytes of what it stands in, which has none left until it
 -- ends.
-abbrev pub entered : State → State
-entered st = record st {
+abbrev pub in_described : State → State
+in_described st = record st {
   top = record { place = InDescribed; items = Some 1; left = st.top.left; shared = behind st.top.shared };
   saved = (record st.top { left = option_map (λ l. 0) st.top.left }) ∷ st.saved;
 }
@@ -51,19 +51,19 @@ IsDescribable (Some ([], c)) = c ≡ 0
 IsDescribable (Some (e ∷ ds, c)) = Unit {0}
 
 -- A descriptor stood next, and was taken.
-pub record TookDescriptor (st : State) (d : Descriptor) (st' : State) : Type 0 where
+pub record TakesDescriptor (st : State) (d : Descriptor) (st' : State) : Type 0 where
   pub own : List ℕ
   pub descriptor : IsDescriptor st.top.shared d own
-  pub took : Took st own st'
+  pub took : Takes st own st'
 
 -- A described value stood next, and what its descriptor describes was opened.
 pub record OpensDescribed (st : State) (d : Descriptor) (st' : State) : Type 0 where
   pub coded : State
   pub named : State
-  pub begun : Begun st 0 coded
+  pub begun : ReadsCode st 0 coded
   pub nested : length st.saved < st.nesting
-  pub descriptor : TookDescriptor coded d named
-  pub opened : st' ≡ entered named
+  pub descriptor : TakesDescriptor coded d named
+  pub opened : st' ≡ in_described named
 
 -- A described value with the descriptor of this member stood next, and was opened.
 pub record OpensOneOf (members : List Member) (st : State) (i : ℕ) (st' : State) : Type 0 where
@@ -74,8 +74,8 @@ pub record OpensOneOf (members : List Member) (st : State) (i : ℕ) (st' : Stat
 -- Why no described value begins.
 pub data DescribedFault (st : State) (e : Error) : Type 0 where
   not_begun : BeginFault st e → DescribedFault st e
-  other_code : {c : ℕ} {m : State} → Begun st c m → (c ≡ 0 → ⊥) → e ≡ refusal_of c → DescribedFault st e
-  too_deep : {m : State} → Begun st 0 m → st.nesting ≤ length st.saved → e ≡ Depth → DescribedFault st e
+  other_code : {c : ℕ} {m : State} → ReadsCode st c m → (c ≡ 0 → ⊥) → e ≡ refusal_of c → DescribedFault st e
+  too_deep : {m : State} → ReadsCode st 0 m → st.nesting ≤ length st.saved → e ≡ Depth → DescribedFault st e
 
 -- The error for a code that is neither a ulong's nor a symbol's.
 abbrev pub other_kind : Error → Error
@@ -93,34 +93,34 @@ IsDescriptorKind k = (k ≡ Some ulongs) ⊎ (k ≡ Some symbols)
 -- Why no descriptor is read.
 pub data DescriptorFault (st : State) (e : Error) : Type 0 where
   no_code : Lacks 1 st e → DescriptorFault st e
-  no_kind : {c : ℕ} {m : State} → Took st (c ∷ []) m → (IsDescriptorKind (kind_at c) → ⊥) → e ≡ other_kind (refusal_of c) → DescriptorFault st e
-  no_data : {c : ℕ} {m : State} → Took st (c ∷ []) m → IsDescriptorKind (kind_at c) → LacksData (format c) m e → DescriptorFault st e
-  non_ascii : {c : ℕ} {m : State} {b : List ℕ} {m' : State} → Took st (c ∷ []) m → kind_at c ≡ Some symbols → Took m b m' → IsWhole (format c) b
+  no_kind : {c : ℕ} {m : State} → Takes st (c ∷ []) m → (IsDescriptorKind (kind_at c) → ⊥) → e ≡ other_kind (refusal_of c) → DescriptorFault st e
+  no_data : {c : ℕ} {m : State} → Takes st (c ∷ []) m → IsDescriptorKind (kind_at c) → LacksData (format c) m e → DescriptorFault st e
+  non_ascii : {c : ℕ} {m : State} {b : List ℕ} {m' : State} → Takes st (c ∷ []) m → kind_at c ≡ Some symbols → Takes m b m' → IsWhole (format c) b
       → ((d : Descriptor) → PrimitiveData (format c) (descriptor_value d) b → ⊥) → e ≡ NonAscii → DescriptorFault st e
 
 -- No descriptor was taken.
-pub record DescriptorMissed (takes : Bool) (st : State) (e : Error) (st' : State) : Type 0 where
-  pub kept : Answered st e st'
-  pub why : Excused takes e st' ⊎ ((st.top.shared ≡ None) × DescriptorFault st e)
+pub record MissesDescriptor (takes : Bool) (st : State) (e : Error) (st' : State) : Type 0 where
+  pub kept : Answers st e st'
+  pub why : IsExcused takes e st' ⊎ ((st.top.shared ≡ None) × DescriptorFault st e)
 
 -- A descriptor stood next, and the first member that it is stands at this place.
-pub record TookPlace (members : List Member) (st : State) (place : Option ℕ) (st' : State) : Type 0 where
+pub record TakesPlace (members : List Member) (st : State) (place : Option ℕ) (st' : State) : Type 0 where
   pub descriptor : Descriptor
-  pub took : TookDescriptor st descriptor st'
+  pub took : TakesDescriptor st descriptor st'
   pub is : place_of members descriptor ≡ place
 
 -- No name of n bytes was taken.
-pub record NameMissed (n : ℕ) (st : State) (e : Error) (st' : State) : Type 0 where
-  pub kept : Answered st e st'
+pub record MissesName (n : ℕ) (st : State) (e : Error) (st' : State) : Type 0 where
+  pub kept : Answers st e st'
   pub why : SourceFailed e st' ⊎ ((e ≡ Cut) × (length st.rest < n)) ⊎ ((e ≡ NonAscii) × (n ≤ length st.rest) × (IsAscii (take n st.rest) → ⊥))
 
 -- Why no described value is opened.
 pub data OpenFault (st : State) (e : Error) : Type 0 where
   not_open : DescribedFault st e → OpenFault st e
-  nameless : {m : State} → Begun st 0 m → m.top.shared ≡ None → DescriptorFault m e → OpenFault st e
+  nameless : {m : State} → ReadsCode st 0 m → m.top.shared ≡ None → DescriptorFault m e → OpenFault st e
 
 -- Why no value with the descriptor of a member is opened.
 pub data OneOfFault (members : List Member) (st : State) (e : Error) : Type 0 where
   not_described : DescribedFault st e → OneOfFault members st e
-  no_descriptor : {m : State} → Begun st 0 m → m.top.shared ≡ None → DescriptorFault m e → OneOfFault members st e
-  no_member : {m : State} {m' : State} → Begun st 0 m → TookPlace members m None m' → e ≡ WrongDescriptor → OneOfFault members st e
+  no_descriptor : {m : State} → ReadsCode st 0 m → m.top.shared ≡ None → DescriptorFault m e → OneOfFault members st e
+  no_member : {m : State} {m' : State} → ReadsCode st 0 m → TakesPlace members m None m' → e ≡ WrongDescriptor → OneOfFault members st e

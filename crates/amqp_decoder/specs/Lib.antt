@@ -10,4 +10,4 @@ pub mod Rooms
 pub mod Terms
 pub mod Misspelled
 pub mod Sections
-pub mod Elsewhere
+pub mod OtherSource

@@ -9,9 +9,9 @@ use Rattle.amqp_model.specs.Standing.{Standing, whole, part}
 use Rattle.amqp_wire.specs.declared.error.Error.{Error}
 use Rattle.amqp_wire.specs.declared.error.Error.TheVariants.{BadBool, BadChar, BadUtf8, NonAscii, InvalidValue}
 use Rattle.amqp_wire.specs.Codes.{refusal_of}
-use Rattle.amqp_decoder.specs.State.{State, Has, lower, past}
-use Rattle.amqp_decoder.specs.Steps.{Answered, Excused, SourceFailed, Took, Lacks}
-use Rattle.amqp_decoder.specs.Reading.{Begun, BeginFault}
+use Rattle.amqp_decoder.specs.State.{State, Has, lower, after_value}
+use Rattle.amqp_decoder.specs.Steps.{Answers, IsExcused, SourceFailed, Takes, Lacks}
+use Rattle.amqp_decoder.specs.Reading.{ReadsCode, BeginFault}
 use Rattle.amqp_input.specs.Kinds.{kind_at, booleans, chars, strings, symbols}
 
 -- How a value stands: as bytes of its own, or as the data of an array's item under the constructor that is shared.
@@ -34,11 +34,11 @@ pub record Stands (st : State) (s : List ℕ) (t : Term) : Type 0 where
   pub nested : nest t ≤ st.nesting - length st.saved
 
 -- A term that means the value stood next, and was taken.
-pub record Value {A : Type 0} (means : Standing → Term → A → Type 0) (st : State) (v : A) (st' : State) : Type 0 where
+pub record ReadsValue {A : Type 0} (means : Standing → Term → A → Type 0) (st : State) (v : A) (st' : State) : Type 0 where
   pub bytes : List ℕ
   pub term : Term
   pub stands : Stands st bytes term
-  pub moved : st' ≡ past (length bytes) st
+  pub moved : st' ≡ after_value (length bytes) st
   pub meant : means (standing st.top.shared bytes) term v
 
 -- The term is the primitive that is made of the value.
@@ -46,31 +46,31 @@ abbrev pub Means : {A : Type 0} → (A → Primitive) → Standing → Term → 
 Means make s t v = t ≡ leaf (make v)
 
 -- The primitive stood next: a code, and its data.
-pub record Leaf (st : State) (p : Primitive) (st' : State) : Type 0 where
+pub record ReadsPrimitive (st : State) (p : Primitive) (st' : State) : Type 0 where
   pub code : ℕ
   pub mid : State
   pub data_ : List ℕ
-  pub begun : Begun st code mid
+  pub begun : ReadsCode st code mid
   pub spelled : PrimitiveData (format code) p data_
-  pub took : Took mid data_ st'
+  pub took : Takes mid data_ st'
 
 -- The data that a format announces can't be taken.
 abbrev pub LacksData : Format → State → Error → Type 0
 LacksData (fixed width value) st e = Lacks width st e
 LacksData (variable width value) st e =
-    Lacks width st e ⊎ ((n : ℕ) × (st' : State) × (n < 256 ^ width) × Took st (bytes_high_first width n) st' × Lacks n st' e)
+    Lacks width st e ⊎ ((n : ℕ) × (st' : State) × (n < 256 ^ width) × Takes st (bytes_high_first width n) st' × Lacks n st' e)
 LacksData (compound kind width) st e = ⊥
 LacksData unknown st e = ⊥
 
 -- The data of the primitive under the code stood next.
-pub record HasData (code : ℕ) (p : Primitive) (st : State) (st' : State) : Type 0 where
+pub record ReadsData (code : ℕ) (p : Primitive) (st : State) (st' : State) : Type 0 where
   pub data_ : List ℕ
   pub spelled : PrimitiveData (format code) p data_
-  pub took : Took st data_ st'
+  pub took : Takes st data_ st'
 
 -- The data of a kind under a code of it can't be taken.
 pub record LacksDataOf (k code : ℕ) (st : State) (e : Error) (st' : State) : Type 0 where
-  pub kept : Answered st e st'
+  pub kept : Answers st e st'
   pub kind : kind_at code ≡ Some k
   pub why : SourceFailed e st' ⊎ LacksData (format code) st e
 
@@ -88,60 +88,60 @@ bad k = cond (eqb k booleans) BadBool (cond (eqb k chars) BadChar (cond (eqb k s
 -- Why no primitive of a kind is read.
 pub data PrimitiveFault (k : ℕ) (st : State) (e : Error) : Type 0 where
   not_begun : BeginFault st e → PrimitiveFault k st e
-  wrong_code : {c : ℕ} {m : State} → Begun st c m → (kind_at c ≡ Some k → ⊥) → e ≡ refusal_of c → PrimitiveFault k st e
-  no_data : {c : ℕ} {m : State} → Begun st c m → kind_at c ≡ Some k → LacksData (format c) m e → PrimitiveFault k st e
-  bad_data : {c : ℕ} {m : State} {b : List ℕ} {m' : State} → Begun st c m → kind_at c ≡ Some k → Took m b m' → IsWhole (format c) b → ((p : Primitive) → PrimitiveData (format c) p b → ⊥) → e ≡ bad k → PrimitiveFault k st e
+  wrong_code : {c : ℕ} {m : State} → ReadsCode st c m → (kind_at c ≡ Some k → ⊥) → e ≡ refusal_of c → PrimitiveFault k st e
+  no_data : {c : ℕ} {m : State} → ReadsCode st c m → kind_at c ≡ Some k → LacksData (format c) m e → PrimitiveFault k st e
+  bad_data : {c : ℕ} {m : State} {b : List ℕ} {m' : State} → ReadsCode st c m → kind_at c ≡ Some k → Takes m b m' → IsWhole (format c) b → ((p : Primitive) → PrimitiveData (format c) p b → ⊥) → e ≡ bad k → PrimitiveFault k st e
 
 -- Why no data of n bytes is read under this code.
 pub data FixedFault (code n : ℕ) (st : State) (e : Error) : Type 0 where
   unbegun : BeginFault st e → FixedFault code n st e
-  other_code : {c : ℕ} {m : State} → Begun st c m → (c ≡ code → ⊥) → e ≡ refusal_of c → FixedFault code n st e
-  too_few : {m : State} → Begun st code m → Lacks n m e → FixedFault code n st e
+  other_code : {c : ℕ} {m : State} → ReadsCode st c m → (c ≡ code → ⊥) → e ≡ refusal_of c → FixedFault code n st e
+  too_few : {m : State} → ReadsCode st code m → Lacks n m e → FixedFault code n st e
 
 -- The code and n bytes of data stood next.
-pub record Fixed (code n : ℕ) (st : State) (b : List ℕ) (st' : State) : Type 0 where
+pub record ReadsFixed (code n : ℕ) (st : State) (b : List ℕ) (st' : State) : Type 0 where
   pub mid : State
-  pub begun : Begun st code mid
-  pub took : Took mid b st'
+  pub begun : ReadsCode st code mid
+  pub took : Takes mid b st'
   pub width : length b ≡ n
 
 -- The error is kept for each later call, and names a fault that stands there.
-pub record Failed (takes : Bool) (fault : State → Error → Type 0) (old : State) (e : Error) (new : State) : Type 0 where
-  pub kept : Answered old e new
+pub record AnswersFault (takes : Bool) (fault : State → Error → Type 0) (old : State) (e : Error) (new : State) : Type 0 where
+  pub kept : Answers old e new
   pub again : (d : Error) → old.error ≡ Some d → (d ≡ e) × (new ≡ old)
-  pub named : old.error ≡ None → Excused takes e new ⊎ fault old e
+  pub named : old.error ≡ None → IsExcused takes e new ⊎ fault old e
 
 -- A size stood next, and as many bytes have room in the open container.
-pub record Announced (w : ℕ) (st : State) (n : ℕ) (st' : State) : Type 0 where
+pub record ReadsSize (w : ℕ) (st : State) (n : ℕ) (st' : State) : Type 0 where
   pub mid : State
   pub fits : n < 256 ^ w
-  pub took : Took st (bytes_high_first w n) mid
+  pub took : Takes st (bytes_high_first w n) mid
   pub room : Has mid.top.left n
   pub lowered : st' ≡ record mid { top = record mid.top { left = lower mid.top.left n } }
 
 -- A size and as many bytes stood next.
-pub record Sized (w : ℕ) (st : State) (s : List ℕ) (st' : State) : Type 0 where
+pub record ReadsSized (w : ℕ) (st : State) (s : List ℕ) (st' : State) : Type 0 where
   pub fits : length s < 256 ^ w
-  pub took : Took st (bytes_high_first w (length s) ++ s) st'
+  pub took : Takes st (bytes_high_first w (length s) ++ s) st'
 
 -- A size or as many bytes can't be taken.
 abbrev pub LacksSized : ℕ → State → Error → Type 0
-LacksSized w st e = Lacks w st e ⊎ ((n : ℕ) × (st' : State) × (n < 256 ^ w) × Took st (bytes_high_first w n) st' × Lacks n st' e)
+LacksSized w st e = Lacks w st e ⊎ ((n : ℕ) × (st' : State) × (n < 256 ^ w) × Takes st (bytes_high_first w n) st' × Lacks n st' e)
 
 pub record SizedFault (takes : Bool) (w : ℕ) (st : State) (e : Error) (st' : State) : Type 0 where
-  pub kept : Answered st e st'
-  pub why : Excused takes e st' ⊎ LacksSized w st e
+  pub kept : Answers st e st'
+  pub why : IsExcused takes e st' ⊎ LacksSized w st e
 
 -- One of the two codes, a size of one byte or of four, and as many bytes stood next.
-pub record Text (narrow wide : ℕ) (st : State) (s : List ℕ) (st' : State) : Type 0 where
+pub record ReadsText (narrow wide : ℕ) (st : State) (s : List ℕ) (st' : State) : Type 0 where
   pub code : ℕ
   pub mid : State
-  pub begun : Begun st code mid
-  pub sized : ((code ≡ narrow) × Sized 1 mid s st') ⊎ ((code ≡ wide) × Sized 4 mid s st')
+  pub begun : ReadsCode st code mid
+  pub sized : ((code ≡ narrow) × ReadsSized 1 mid s st') ⊎ ((code ≡ wide) × ReadsSized 4 mid s st')
 
 -- Why no such bytes are read.
 pub data TextFault (narrow wide : ℕ) (st : State) (e : Error) : Type 0 where
   no_text : BeginFault st e → TextFault narrow wide st e
-  no_text_code : {c : ℕ} {m : State} → Begun st c m → (c ≡ narrow → ⊥) → (c ≡ wide → ⊥) → e ≡ refusal_of c → TextFault narrow wide st e
-  narrow_short : {m : State} → Begun st narrow m → LacksSized 1 m e → TextFault narrow wide st e
-  wide_short : {m : State} → Begun st wide m → LacksSized 4 m e → TextFault narrow wide st e
+  no_text_code : {c : ℕ} {m : State} → ReadsCode st c m → (c ≡ narrow → ⊥) → (c ≡ wide → ⊥) → e ≡ refusal_of c → TextFault narrow wide st e
+  narrow_short : {m : State} → ReadsCode st narrow m → LacksSized 1 m e → TextFault narrow wide st e
+  wide_short : {m : State} → ReadsCode st wide m → LacksSized 4 m e → TextFault narrow wide st e

@@ -3,8 +3,8 @@ use Rattle.std.specs.Prelude.{◌≡◌, ◌≤◌, ◌↔◌, ℕ, Bool, IsTrue
 use Rattle.amqp_wire.specs.declared.error.Error.{Error}
 use Rattle.amqp_wire.specs.declared.error.Error.TheVariants.{InvalidValue}
 use Rattle.amqp_input.specs.Sections.{IsSectionAhead}
-use Rattle.amqp_decoder.specs.declared.frame.Place.TheVariants.{Top}
-use Rattle.amqp_decoder.specs.State.{State, top_level, looked}
+use Rattle.amqp_decoder.specs.declared.frame.OpenKind.TheVariants.{Top}
+use Rattle.amqp_decoder.specs.State.{State, top_level, after_look}
 
 -- Nothing is open.
 pub record IsTop (st : State) (v : Unit {0}) (st' : State) : Type 0 where
@@ -25,11 +25,11 @@ pub record Ends (st : State) (b : Bool) (st' : State) : Type 0 where
   pub top : st.top ≡ top_level
   pub saved : st.saved ≡ []
   pub answer : IsTrue b ↔ (st.rest ≡ [])
-  pub kept : st' ≡ looked (min 1 (length st.rest)) st
+  pub kept : st' ≡ after_look (min 1 (length st.rest)) st
 
 -- Some of the next bytes were looked at, at most 64.
 abbrev pub LooksOn : State → State → Type 0
-LooksOn st st' = (n : ℕ) × (n ≤ 64) × (n ≤ length st.rest) × (st' ≡ looked n st)
+LooksOn st st' = (n : ℕ) × (n ≤ 64) × (n ≤ length st.rest) × (st' ≡ after_look n st)
 
 -- Nothing is open; the answer is the code of the section that stands next, if one does, and at most some bytes were
 -- looked at.

@@ -4,15 +4,15 @@ use Rattle.amqp_model.specs.Term.{Descriptor}
 use Rattle.amqp_wire.specs.declared.error.Error.{Error}
 use Rattle.amqp_wire.specs.declared.descriptor.Descriptor.{Descriptor as DescriptorValue}
 pub use Rattle.amqp_input.specs.Members.{descriptor_of}
-use Rattle.amqp_decoder.specs.declared.frame.Frame.{Frame}
-use Rattle.amqp_decoder.specs.declared.frame.Place.{Place}
-use Rattle.amqp_decoder.specs.declared.frame.Place.TheVariants.{Top, InArray, InDescribed, InList, InMap}
+use Rattle.amqp_decoder.specs.declared.frame.OpenContainer.{OpenContainer}
+use Rattle.amqp_decoder.specs.declared.frame.OpenKind.{OpenKind}
+use Rattle.amqp_decoder.specs.declared.frame.OpenKind.TheVariants.{Top, InArray, InDescribed, InList, InMap}
 
 -- An open container: where its values stand, and how many items and how many bytes are left of it, without what
 -- stands in the containers that are open in it (at the top level neither is bounded). The items of an array share a
 -- constructor (Part 1, section 1.2.4): the descriptors that are still to be begun, and the code.
 pub record Open : Type 0 where
-  pub place : Place
+  pub place : OpenKind
   pub items : Option ℕ
   pub left : Option ℕ
   pub shared : Option (List Descriptor × ℕ)
@@ -39,7 +39,7 @@ pub record State : Type 0 where
 abbrev pub top_level : Open
 top_level = record { place = Top; items = None; left = None; shared = None }
 
-abbrev pub items_of : Place → ℕ → Option ℕ
+abbrev pub items_of : OpenKind → ℕ → Option ℕ
 items_of Top n = None
 items_of p n = Some n
 
@@ -50,50 +50,50 @@ DescriptorValues = List DescriptorValue
 abbrev pub shared_of : List DescriptorValue → ℕ → ℕ → ℕ → Option (List Descriptor × ℕ)
 shared_of ds c first last = cond (eqb c 0) None (Some (map descriptor_of (take (last - first) (drop first ds)), c))
 
-abbrev pub open_of : List DescriptorValue → Frame → Open
+abbrev pub open_of : List DescriptorValue → OpenContainer → Open
 open_of ds f = record { place = f.place; items = items_of f.place f.items; left = f.left; shared = shared_of ds f.code f.first f.last }
 
 -- What stands in the row behind the frames that are in use.
-abbrev pub unused : Frame
+abbrev pub unused : OpenContainer
 unused = record { items = 0; left = None; place = Top; code = 0; first = 0; last = 0 }
 
 -- The first n frames of the row, the last of them first.
-abbrev pub stack : List DescriptorValue → ℕ → List Frame → List Open
+abbrev pub stack : List DescriptorValue → ℕ → List OpenContainer → List Open
 stack ds zero fs = []
 stack ds (suc n) fs = open_of ds (get_or fs n unused) ∷ stack ds n fs
 
 -- A container whose items share nothing.
-abbrev pub unshared : Frame → Open
+abbrev pub unshared : OpenContainer → Open
 unshared f = record { place = f.place; items = items_of f.place f.items; left = f.left; shared = None }
 
 -- How many descriptors the first n frames share together.
-abbrev pub shared_in : ℕ → List Frame → ℕ
+abbrev pub shared_in : ℕ → List OpenContainer → ℕ
 shared_in zero fs = 0
 shared_in (suc n) fs = (get_or fs n unused).last
 
 -- The descriptors that each of the first n frames has, and one behind them that has m: those of the frame around it, and
 -- at most 128 more.
-abbrev pub Nested : ℕ → List Frame → ℕ → Type 0
-Nested zero fs m = m ≤ 128
-Nested (suc n) fs m = ((get_or fs n unused).last ≤ m) × (m ≤ (get_or fs n unused).last + 128) × Nested n fs (get_or fs n unused).last
+abbrev pub AreNested : ℕ → List OpenContainer → ℕ → Type 0
+AreNested zero fs m = m ≤ 128
+AreNested (suc n) fs m = ((get_or fs n unused).last ≤ m) × (m ≤ (get_or fs n unused).last + 128) × AreNested n fs (get_or fs n unused).last
 
 -- At the top level nothing is bounded, and nothing shared.
-abbrev pub IsLevel : Frame → Type 0
+abbrev pub IsLevel : OpenContainer → Type 0
 IsLevel f = f.place ≡ Top → (f.left ≡ None) × (f.code ≡ 0)
 
 -- Each of the first n frames is so, and what is described in one of them, or stands behind them at this place and has so many
 -- bytes left, has no bound where the frame around it has none.
-abbrev pub Bounded : ℕ → List Frame → Place → Option ℕ → Type 0
-Bounded zero fs p l = Unit {0}
-Bounded (suc n) fs p l = (p ≡ InDescribed → (get_or fs n unused).left ≡ None → l ≡ None) × IsLevel (get_or fs n unused) × Bounded n fs (get_or fs n unused).place (get_or fs n unused).left
+abbrev pub AreBounded : ℕ → List OpenContainer → OpenKind → Option ℕ → Type 0
+AreBounded zero fs p l = Unit {0}
+AreBounded (suc n) fs p l = (p ≡ InDescribed → (get_or fs n unused).left ≡ None → l ≡ None) × IsLevel (get_or fs n unused) × AreBounded n fs (get_or fs n unused).place (get_or fs n unused).left
 
 -- Where the items of a container stand.
-abbrev pub IsHolder : Place → Type 0
-IsHolder Top = ⊥
-IsHolder InList = Unit {0}
-IsHolder InMap = Unit {0}
-IsHolder InArray = Unit {0}
-IsHolder InDescribed = ⊥
+abbrev pub IsContainer : OpenKind → Type 0
+IsContainer Top = ⊥
+IsContainer InList = Unit {0}
+IsContainer InMap = Unit {0}
+IsContainer InArray = Unit {0}
+IsContainer InDescribed = ⊥
 
 -- A bound that may be absent has room for n.
 abbrev pub Has : Option ℕ → ℕ → Type 0
@@ -113,21 +113,21 @@ abbrev pub announced : State → ℕ
 announced st = bytes_left (st.top ∷ st.saved)
 
 -- The next n bytes were looked at: none of them is taken.
-abbrev pub looked : ℕ → State → State
-looked n st = record st { ahead = max st.ahead n }
+abbrev pub after_look : ℕ → State → State
+after_look n st = record st { ahead = max st.ahead n }
 
 -- n bytes are taken.
-abbrev pub moved : ℕ → State → State
-moved n st = record st { rest = drop n st.rest; ahead = st.ahead - n }
+abbrev pub after_bytes : ℕ → State → State
+after_bytes n st = record st { rest = drop n st.rest; ahead = st.ahead - n }
 
 -- n bytes of the open container are taken.
-abbrev pub on : ℕ → State → State
-on n st = record st { rest = drop n st.rest; ahead = st.ahead - n; top = record st.top { left = lower st.top.left n } }
+abbrev pub after_data : ℕ → State → State
+after_data n st = record st { rest = drop n st.rest; ahead = st.ahead - n; top = record st.top { left = lower st.top.left n } }
 
 -- A value of n bytes is taken.
-abbrev pub past : ℕ → State → State
-past n st = record st { rest = drop n st.rest; ahead = st.ahead - n; top = record st.top { items = lower st.top.items 1; left = lower st.top.left n } }
+abbrev pub after_value : ℕ → State → State
+after_value n st = record st { rest = drop n st.rest; ahead = st.ahead - n; top = record st.top { items = lower st.top.items 1; left = lower st.top.left n } }
 
 -- A container of n items in so many bytes is entered, and they are taken off the one around it.
-abbrev pub inside : Place → ℕ → ℕ → State → State
-inside place n content st = record st { top = record { place = place; items = items_of place n; left = Some content; shared = None }; saved = (record st.top { left = lower st.top.left content }) ∷ st.saved }
+abbrev pub in_container : OpenKind → ℕ → ℕ → State → State
+in_container place n content st = record st { top = record { place = place; items = items_of place n; left = Some content; shared = None }; saved = (record st.top { left = lower st.top.left content }) ∷ st.saved }

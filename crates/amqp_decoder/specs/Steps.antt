@@ -2,40 +2,40 @@
 use Rattle.std.specs.Prelude.{◌≡◌, ℕ, ◌<◌, ◌≤◌, ◌⊎◌, Bool, true, List, ◌++◌, length, drop, Option, Some, None}
 use Rattle.amqp_wire.specs.declared.error.Error.{Error}
 use Rattle.amqp_wire.specs.declared.error.Error.TheVariants.{Memory, Read, Cut, Size}
-use Rattle.amqp_decoder.specs.State.{State, Has, on, moved, announced}
+use Rattle.amqp_decoder.specs.State.{State, Has, after_data, after_bytes, announced}
 
-abbrev pub IsRead : Error → Type 0
-IsRead (Read k) = Unit {0}
-IsRead _ = ⊥
+abbrev pub IsReadError : Error → Type 0
+IsReadError (Read k) = Unit {0}
+IsReadError _ = ⊥
 
 -- The error is kept for each later call, and it is the source's where that began to fail.
-pub record Answered (st : State) (e : Error) (st' : State) : Type 0 where
+pub record Answers (st : State) (e : Error) (st' : State) : Type 0 where
   pub error : st'.error ≡ Some e
-  pub source : (st'.failed ≡ st.failed) ⊎ IsRead e
+  pub source : (st'.failed ≡ st.failed) ⊎ IsReadError e
 
 -- The source has failed.
 abbrev pub SourceFailed : Error → State → Type 0
-SourceFailed e st = IsRead e × (st.failed ≡ true)
+SourceFailed e st = IsReadError e × (st.failed ≡ true)
 
 -- A growth was refused, where the call takes memory, or the source has failed.
-abbrev pub Excused : Bool → Error → State → Type 0
-Excused takes e st = ((takes ≡ true) × (e ≡ Memory)) ⊎ SourceFailed e st
+abbrev pub IsExcused : Bool → Error → State → Type 0
+IsExcused takes e st = ((takes ≡ true) × (e ≡ Memory)) ⊎ SourceFailed e st
 
 -- These bytes stood next, and were taken, whatever container is open.
-pub record Pulled (st : State) (s : List ℕ) (st' : State) : Type 0 where
+pub record Pulls (st : State) (s : List ℕ) (st' : State) : Type 0 where
   pub rest : st.rest ≡ s ++ drop (length s) st.rest
-  pub moved : st' ≡ moved (length s) st
+  pub moved : st' ≡ after_bytes (length s) st
 
 -- Fewer than n bytes stood there, or memory to keep them was wanted where it is taken.
-pub record Missed (takes : Bool) (n : ℕ) (st : State) (e : Error) (st' : State) : Type 0 where
-  pub kept : Answered st e st'
-  pub why : Excused takes e st' ⊎ ((e ≡ Cut) × (length st.rest < n))
+pub record Misses (takes : Bool) (n : ℕ) (st : State) (e : Error) (st' : State) : Type 0 where
+  pub kept : Answers st e st'
+  pub why : IsExcused takes e st' ⊎ ((e ≡ Cut) × (length st.rest < n))
 
 -- These bytes of a value stood next, and were taken.
-pub record Took (st : State) (s : List ℕ) (st' : State) : Type 0 where
+pub record Takes (st : State) (s : List ℕ) (st' : State) : Type 0 where
   pub room : Has st.top.left (length s)
   pub rest : st.rest ≡ s ++ drop (length s) st.rest
-  pub moved : st' ≡ on (length s) st
+  pub moved : st' ≡ after_data (length s) st
 
 -- Why n bytes of a value can't be taken: the input ends, where nothing is bounded in them, and otherwise in what the
 -- open containers announce; or that is there, and the innermost container ends.
@@ -45,8 +45,8 @@ pub data Lacks (n : ℕ) (st : State) (e : Error) : Type 0 where
   too_long : {l : ℕ} → st.top.left ≡ Some l → l < n → announced st ≤ length st.rest → e ≡ Size → Lacks n st e
 
 -- n bytes of a value could not be taken.
-pub record Short (n : ℕ) (st : State) (e : Error) (st' : State) : Type 0 where
-  pub kept : Answered st e st'
+pub record FallsShort (n : ℕ) (st : State) (e : Error) (st' : State) : Type 0 where
+  pub kept : Answers st e st'
   pub why : SourceFailed e st' ⊎ Lacks n st e
 
 -- How much has to be there before a size is refused: what the open containers announce, and where nothing is bounded
@@ -69,11 +69,11 @@ pub record NoRoom (n : ℕ) (st : State) (e : Error) : Type 0 where
   pub why : SizeError n st e
 
 -- A size was refused.
-pub record SizeRefused (own : ℕ) (st : State) (e : Error) (st' : State) : Type 0 where
-  pub kept : Answered st e st'
+pub record RefusesSize (own : ℕ) (st : State) (e : Error) (st' : State) : Type 0 where
+  pub kept : Answers st e st'
   pub why : SourceFailed e st' ⊎ SizeError own st e
 
 -- The error is kept, and names a fault, unless it says of memory or of the source.
-pub record Stopped (takes : Bool) (fault : Error → Type 0) (st : State) (e : Error) (st' : State) : Type 0 where
-  pub kept : Answered st e st'
-  pub why : Excused takes e st' ⊎ fault e
+pub record Stops (takes : Bool) (fault : Error → Type 0) (st : State) (e : Error) (st' : State) : Type 0 where
+  pub kept : Answers st e st'
+  pub why : IsExcused takes e st' ⊎ fault e

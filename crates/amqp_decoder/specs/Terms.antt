@@ -13,17 +13,17 @@ use Rattle.amqp_lengths.specs.Lengths.{IsTerm}
 use Rattle.amqp_lengths.specs.Announced.{content_size, IsAnnounced}
 use Rattle.amqp_decoder.specs.declared.terms.Data.{Data}
 use Rattle.amqp_decoder.specs.declared.terms.Data.TheVariants.{Fixed as of_width, Sized as of_size}
-use Rattle.amqp_decoder.specs.State.{State, Has, past}
-use Rattle.amqp_decoder.specs.Steps.{Took, Lacks, SizeError}
-use Rattle.amqp_decoder.specs.Primitives.{Stands, LacksData, LacksSized, Sized}
+use Rattle.amqp_decoder.specs.State.{State, Has, after_value}
+use Rattle.amqp_decoder.specs.Steps.{Takes, Lacks, SizeError}
+use Rattle.amqp_decoder.specs.Primitives.{Stands, LacksData, LacksSized, ReadsSized}
 use Rattle.amqp_decoder.specs.Containers.{is_list}
-use Rattle.amqp_decoder.specs.Arrays.{TookConstructor, ConstructorFault}
+use Rattle.amqp_decoder.specs.Arrays.{TakesConstructor, ConstructorFault}
 
 -- Bytes that are P were taken, and added to those before.
 pub record Keeps (P : List ℕ → Type 0) (before : List ℕ) (st : State) (after : List ℕ) (st' : State) : Type 0 where
   pub own : List ℕ
   pub is : P own
-  pub took : Took st own st'
+  pub took : Takes st own st'
   pub added : after ≡ before ++ own
 
 -- The bytes are a size and the ASCII text that it announces.
@@ -33,7 +33,7 @@ IsSymbol w b = (s : List ℕ) × IsAscii s × IsSized w s b
 -- Why no such bytes are taken.
 pub data SymbolFault (w : ℕ) (st : State) (e : Error) : Type 0 where
   no_text : LacksSized w st e → SymbolFault w st e
-  no_ascii : {s : List ℕ} {m : State} → Sized w st s m → (IsAscii s → ⊥) → e ≡ NonAscii → SymbolFault w st e
+  no_ascii : {s : List ℕ} {m : State} → ReadsSized w st s m → (IsAscii s → ⊥) → e ≡ NonAscii → SymbolFault w st e
 
 -- The bytes are a constructor of at most 128 descriptors and this code.
 abbrev pub IsConstructor : ℕ → List ℕ → Type 0
@@ -51,7 +51,7 @@ Announces _ _ = ⊥
 -- The data that a format announces can't be taken: a primitive's, or a container's size or as many bytes as belong behind it.
 abbrev pub LacksAnnounced : Format → State → Error → Type 0
 LacksAnnounced (compound kind w) st e =
-    Lacks w st e ⊎ ((n : ℕ) × (st' : State) × (n < 256 ^ w) × Took st (bytes_high_first w n) st' × Lacks (content_size kind w n) st' e)
+    Lacks w st e ⊎ ((n : ℕ) × (st' : State) × (n < 256 ^ w) × Takes st (bytes_high_first w n) st' × Lacks (content_size kind w n) st' e)
 LacksAnnounced F st e = LacksData F st e
 
 -- The bytes, which were taken in front of the state, are no term that nests at most so deep: no bytes that begin so begin with
@@ -63,8 +63,8 @@ pub data NoTerm (nesting : ℕ) (b : List ℕ) (st : State) (e : Error) : Type 0
 -- Why no bytes of a term are taken.
 pub data SpellingFault (st : State) (e : Error) : Type 0 where
   no_constructor : ConstructorFault st e → SpellingFault st e
-  no_data : {ds : List Descriptor} {c : ℕ} {m : State} → TookConstructor st ds c m → LacksAnnounced (format c) m e → SpellingFault st e
-  no_term : {ds : List Descriptor} {c : ℕ} {m : State} {b : List ℕ} {m' : State} (t : TookConstructor st ds c m) → Took m b m' → IsAnnounced (format c) b
+  no_data : {ds : List Descriptor} {c : ℕ} {m : State} → TakesConstructor st ds c m → LacksAnnounced (format c) m e → SpellingFault st e
+  no_term : {ds : List Descriptor} {c : ℕ} {m : State} {b : List ℕ} {m' : State} (t : TakesConstructor st ds c m) → Takes m b m' → IsAnnounced (format c) b
       → NoTerm (st.nesting - length st.saved) (t.own ++ b) m' e → SpellingFault st e
 
 -- A term stood next as these bytes, a constructor of its own among them, and was taken.
@@ -72,7 +72,7 @@ pub record TakesTerm (st : State) (s : List ℕ) (st' : State) : Type 0 where
   pub term : Term
   pub stands : Stands st s term
   pub unshared : st.top.shared ≡ None
-  pub moved : st' ≡ past (length s) st
+  pub moved : st' ≡ after_value (length s) st
 
 -- Why no term is read.
 pub data TermFault (st : State) (e : Error) : Type 0 where

@@ -6,17 +6,17 @@ ghost use Rattle.amqp_wire.specs.Codes.{refusal_of};
 ghost use Rattle.amqp_wire.specs.Sources.{Tells};
 ghost use Rattle.amqp_wire.specs.declared.descriptor.Descriptor.{Descriptor as DescriptorValue};
 ghost use Rattle.amqp_wire.specs.declared.error.Error.TheVariants.{Depth};
-ghost use Rattle.amqp_decoder.specs.declared.frame.Place.TheVariants.{InArray};
-ghost use Rattle.amqp_decoder.specs.State.{State, Has, descriptor_of, inside};
-ghost use Rattle.amqp_decoder.specs.Steps.{Answered, NoRoom, Stopped};
-ghost use Rattle.amqp_decoder.specs.Reading.{Reads};
+ghost use Rattle.amqp_decoder.specs.declared.frame.OpenKind.TheVariants.{InArray};
+ghost use Rattle.amqp_decoder.specs.State.{State, Has, descriptor_of, in_container};
+ghost use Rattle.amqp_decoder.specs.Steps.{Answers, NoRoom, Stops};
+ghost use Rattle.amqp_decoder.specs.Reading.{AnswersRead};
 ghost use Rattle.amqp_decoder.specs.Containers.{Closes, CloseFault};
-ghost use Rattle.amqp_decoder.specs.Described.{TookDescriptor, DescriptorFault};
+ghost use Rattle.amqp_decoder.specs.Described.{TakesDescriptor, DescriptorFault};
 ghost use Rattle.amqp_decoder.specs.Rooms.{HasRoom};
-ghost use Rattle.amqp_decoder.specs.Arrays.{TookConstructor, ConstructorFault, IsFlat, Shares, SharesFault, EntersArray, EnterArrayFault, OpensArray, ArrayFault};
+ghost use Rattle.amqp_decoder.specs.Arrays.{TakesConstructor, ConstructorFault, IsFlat, Shares, SharesFault, EntersArray, EnterArrayFault, OpensArray, ArrayFault};
 
 use crate::Decoder;
-use crate::frame::{Frame, Place};
+use crate::frame::{OpenContainer, OpenKind};
 use amqp_lengths::NESTING;
 use amqp_wire::{ByteSource, Descriptor, Error, format_code};
 use std::alloc::Global;
@@ -37,8 +37,8 @@ impl<R: ByteSource> Decoder<R> {
         alloc: Global,
     ) -> Result<(), Error>
         ensures few { OnOk result ((vec_len descriptors.old < 128) × (vec_len descriptors.new ≡ vec_len descriptors.old + 1)) }
-        ensures ok { Tells R.remaining → self.old.top.shared ≡ None → IfOk result (λ _. (d : DescriptorValue) × TookDescriptor self.old (descriptor_of d) self.new × (descriptors.new.items ≡ descriptors.old.items ++ (d ∷ []))) }
-        ensures err { Tells R.remaining → self.old.top.shared ≡ None → IfErr result (λ e. Stopped true (λ e. ((e ≡ Depth) × (128 ≤ length descriptors.old.items)) ⊎ DescriptorFault self.old e) self.old e self.new) }
+        ensures ok { Tells R.remaining → self.old.top.shared ≡ None → IfOk result (λ _. (d : DescriptorValue) × TakesDescriptor self.old (descriptor_of d) self.new × (descriptors.new.items ≡ descriptors.old.items ++ (d ∷ []))) }
+        ensures err { Tells R.remaining → self.old.top.shared ≡ None → IfErr result (λ e. Stops true (λ e. ((e ≡ Depth) × (128 ≤ length descriptors.old.items)) ⊎ DescriptorFault self.old e) self.old e self.new) }
     {
         if descriptors.len() >= NESTING {
             return Err(self.refuse(Error::Depth));
@@ -52,7 +52,7 @@ impl<R: ByteSource> Decoder<R> {
     // A code that ends a constructor is known.
     pub(crate) fn check_known(&mut self, code: u8) -> Result<(), Error>
         ensures ok { IfOk result (λ _. ((code ≡ 0) ⊎ IsKnown (format code)) × (self.new ≡ self.old)) }
-        ensures err { IfErr result (λ e. (code ≡ 0 → ⊥) × (IsKnown (format code) → ⊥) × (e ≡ refusal_of code) × Answered self.old e self.new) }
+        ensures err { IfErr result (λ e. (code ≡ 0 → ⊥) × (IsKnown (format code) → ⊥) × (e ≡ refusal_of code) × Answers self.old e self.new) }
     {
         match format_code::unknown(code) {
             None => Ok(()),
@@ -64,8 +64,8 @@ impl<R: ByteSource> Decoder<R> {
     fn constructor(&mut self, alloc: Global) -> Result<(Vec<Descriptor>, u8), Error>
         ensures code { IfOk result (λ found. 0 < found.1) }
         ensures few { IfOk result (λ found. vec_len found.0 ≤ 128) }
-        ensures ok { Tells R.remaining → self.old.top.shared ≡ None → IfOk result (λ found. TookConstructor self.old (map descriptor_of found.0.items) found.1 self.new) }
-        ensures err { Tells R.remaining → self.old.top.shared ≡ None → IfErr result (λ e. Stopped true (ConstructorFault self.old) self.old e self.new) }
+        ensures ok { Tells R.remaining → self.old.top.shared ≡ None → IfOk result (λ found. TakesConstructor self.old (map descriptor_of found.0.items) found.1 self.new) }
+        ensures err { Tells R.remaining → self.old.top.shared ≡ None → IfErr result (λ e. Stops true (ConstructorFault self.old) self.old e self.new) }
     {
         let mut descriptors = Vec::new(alloc);
         let mut code = self.byte()?;
@@ -80,7 +80,7 @@ impl<R: ByteSource> Decoder<R> {
     // So many items of the open array share the constructor that stands next.
     fn take_constructor(&mut self, count: u32, alloc: Global) -> Result<(), Error>
         ensures ok { Tells R.remaining → self.old.top.shared ≡ None → self.old.top.place ≡ InArray → IfOk result (λ _. Shares count self.old self.new) }
-        ensures err { Tells R.remaining → self.old.top.shared ≡ None → IfErr result (λ e. Stopped true (SharesFault count self.old) self.old e self.new) }
+        ensures err { Tells R.remaining → self.old.top.shared ≡ None → IfErr result (λ e. Stops true (SharesFault count self.old) self.old e self.new) }
     {
         let (descriptors, code) = self.constructor(alloc)?;
         if count == 0 {
@@ -95,15 +95,15 @@ impl<R: ByteSource> Decoder<R> {
 
     // Opens an array of so many bytes, whose constructor isn't known yet: none of its items is left.
     fn open_items(&mut self, content: u32) -> Result<(), Error>
-        ensures ok { IfOk result (λ _. Has self.old.top.left content × (length self.old.saved ≤ self.old.nesting) × (self.new ≡ inside InArray 0 content self.old)) }
-        ensures err { Tells R.remaining → IfErr result (λ e. Stopped false (λ e. NoRoom content self.old e ⊎ ((self.old.nesting < length self.old.saved) × (e ≡ Depth))) self.old e self.new) }
+        ensures ok { IfOk result (λ _. Has self.old.top.left content × (length self.old.saved ≤ self.old.nesting) × (self.new ≡ in_container InArray 0 content self.old)) }
+        ensures err { Tells R.remaining → IfErr result (λ e. Stops false (λ e. NoRoom content self.old e ⊎ ((self.old.nesting < length self.old.saved) × (e ≡ Depth))) self.old e self.new) }
     {
         self.lower(content)?;
-        let inner = Frame {
+        let inner = OpenContainer {
             items: 0,
             left: Some(content),
-            place: Place::InArray,
-            ..Frame::TOP
+            place: OpenKind::InArray,
+            ..OpenContainer::TOP
         };
         self.enter(inner)
     }
@@ -111,7 +111,7 @@ impl<R: ByteSource> Decoder<R> {
     // Opens an array whose code was taken.
     fn open_array(&mut self, wide: bool, alloc: Global) -> Result<u32, Error>
         ensures ok { Tells R.remaining → IfOk result (λ n. EntersArray (cond wide 4 1) self.old n self.new) }
-        ensures err { Tells R.remaining → IfErr result (λ e. Stopped true (EnterArrayFault (cond wide 4 1) self.old) self.old e self.new) }
+        ensures err { Tells R.remaining → IfErr result (λ e. Stops true (EnterArrayFault (cond wide 4 1) self.old) self.old e self.new) }
     {
         let (count, content) = self.header(wide, false)?;
         self.open_items(content)?;
@@ -126,7 +126,7 @@ impl<R: ByteSource> Decoder<R> {
     /// stands for each of them in turn; `ZeroWidthItems` where its code has no data, `BadDescriptor` and `NonAscii`
     /// as of `begin_described`, `Depth` past 128 descriptors or 128 nested values.
     pub fn begin_array(&mut self, alloc: Global) -> Result<u32, Error>
-        ensures opened { Tells R.remaining → Reads true OpensArray ArrayFault self.old result self.new }
+        ensures opened { Tells R.remaining → AnswersRead true OpensArray ArrayFault self.old result self.new }
         ensures room { HasRoom self.old }
     {
         self.room();
@@ -139,9 +139,9 @@ impl<R: ByteSource> Decoder<R> {
 
     /// Ends the array that is open: `Surplus` where items are left, `InvalidValue` where none is open.
     pub fn end_array(&mut self) -> Result<(), Error>
-        ensures { Tells R.remaining → Reads false (λ st _ st'. Closes InArray st st') (CloseFault InArray) self.old result self.new }
+        ensures { Tells R.remaining → AnswersRead false (λ st _ st'. Closes InArray st st') (CloseFault InArray) self.old result self.new }
     {
-        self.check_end(Place::InArray)?;
+        self.check_end(OpenKind::InArray)?;
         self.check_bytes()?;
         self.leave();
         self.drop_descriptors();

@@ -2,14 +2,14 @@
 ghost use Rattle.std.specs.Prelude.{◌≡◌, ◌<◌, ◌↔◌, IsTrue, cond, length, IfOk, IfErr, false};
 ghost use Rattle.amqp_model.specs.Term.{list, map};
 ghost use Rattle.amqp_wire.specs.Sources.{Tells};
-ghost use Rattle.amqp_decoder.specs.State.{Has, IsHolder, inside};
-ghost use Rattle.amqp_decoder.specs.Steps.{Stopped};
-ghost use Rattle.amqp_decoder.specs.declared.frame.Place.TheVariants.{InList, InMap};
-ghost use Rattle.amqp_decoder.specs.Reading.{Reads};
-ghost use Rattle.amqp_decoder.specs.Containers.{Closes, CloseFault, IsPossible, Header, HeaderFault, Unopened, Entered, EnterFault, Opens, OpenFault};
+ghost use Rattle.amqp_decoder.specs.State.{Has, IsContainer, in_container};
+ghost use Rattle.amqp_decoder.specs.Steps.{Stops};
+ghost use Rattle.amqp_decoder.specs.declared.frame.OpenKind.TheVariants.{InList, InMap};
+ghost use Rattle.amqp_decoder.specs.Reading.{AnswersRead};
+ghost use Rattle.amqp_decoder.specs.Containers.{Closes, CloseFault, IsPossible, ReadsHeader, HeaderFault, Unopened, Enters, EnterFault, Opens, OpenFault};
 
 use crate::Decoder;
-use crate::frame::{Frame, Place};
+use crate::frame::{OpenContainer, OpenKind};
 use amqp_wire::{ByteSource, Error, format_code};
 
 // How many bytes a size or a count has.
@@ -33,8 +33,8 @@ impl<R: ByteSource> Decoder<R> {
     // of a list without items.
     #[inline]
     pub(crate) fn header(&mut self, wide: bool, is_list: bool) -> Result<(u32, u32), Error>
-        ensures ok { Tells R.remaining → IfOk result (λ h. Header is_list (cond wide 4 1) self.old h.0 h.1 self.new) }
-        ensures err { Tells R.remaining → IfErr result (λ e. Stopped false (HeaderFault is_list (cond wide 4 1) self.old) self.old e self.new) }
+        ensures ok { Tells R.remaining → IfOk result (λ h. ReadsHeader is_list (cond wide 4 1) self.old h.0 h.1 self.new) }
+        ensures err { Tells R.remaining → IfErr result (λ e. Stops false (HeaderFault is_list (cond wide 4 1) self.old) self.old e self.new) }
     {
         let width = width(wide);
         let size = self.number(wide)?;
@@ -53,17 +53,17 @@ impl<R: ByteSource> Decoder<R> {
 
     // Opens a list or a map of so many items in so many bytes.
     #[inline]
-    fn open(&mut self, place: Place, count: u32, content: u32) -> Result<u32, Error>
-        requires { IsHolder place }
-        ensures ok { IfOk result (λ n. (n ≡ count) × Has self.old.top.left content × (length self.old.saved < self.old.nesting) × (self.new ≡ inside place count content self.old)) }
-        ensures err { Tells R.remaining → IfErr result (λ e. Stopped false (Unopened content self.old) self.old e self.new) }
+    fn open(&mut self, place: OpenKind, count: u32, content: u32) -> Result<u32, Error>
+        requires { IsContainer place }
+        ensures ok { IfOk result (λ n. (n ≡ count) × Has self.old.top.left content × (length self.old.saved < self.old.nesting) × (self.new ≡ in_container place count content self.old)) }
+        ensures err { Tells R.remaining → IfErr result (λ e. Stops false (Unopened content self.old) self.old e self.new) }
     {
         self.lower(content)?;
-        let inner = Frame {
+        let inner = OpenContainer {
             items: count,
             left: Some(content),
             place,
-            ..Frame::TOP
+            ..OpenContainer::TOP
         };
         self.enter_counted(inner)?;
         Ok(count)
@@ -72,34 +72,34 @@ impl<R: ByteSource> Decoder<R> {
     // Opens a list whose code was taken.
     #[inline]
     fn open_list(&mut self, wide: bool) -> Result<u32, Error>
-        ensures ok { Tells R.remaining → IfOk result (λ n. Entered list (cond wide 4 1) self.old n self.new) }
-        ensures err { Tells R.remaining → IfErr result (λ e. Stopped false (EnterFault list (cond wide 4 1) self.old) self.old e self.new) }
+        ensures ok { Tells R.remaining → IfOk result (λ n. Enters list (cond wide 4 1) self.old n self.new) }
+        ensures err { Tells R.remaining → IfErr result (λ e. Stops false (EnterFault list (cond wide 4 1) self.old) self.old e self.new) }
     {
         let (count, content) = self.header(wide, true)?;
-        self.open(Place::InList, count, content)
+        self.open(OpenKind::InList, count, content)
     }
 
     // Opens a map whose code was taken.
     #[inline]
     fn open_map(&mut self, wide: bool) -> Result<u32, Error>
-        ensures ok { Tells R.remaining → IfOk result (λ n. Entered map (cond wide 4 1) self.old n self.new) }
-        ensures err { Tells R.remaining → IfErr result (λ e. Stopped false (EnterFault map (cond wide 4 1) self.old) self.old e self.new) }
+        ensures ok { Tells R.remaining → IfOk result (λ n. Enters map (cond wide 4 1) self.old n self.new) }
+        ensures err { Tells R.remaining → IfErr result (λ e. Stops false (EnterFault map (cond wide 4 1) self.old) self.old e self.new) }
     {
         let (count, content) = self.header(wide, false)?;
         if count % 2 == 1 {
             return Err(self.refuse(Error::OddCount));
         }
-        self.open(Place::InMap, count, content)
+        self.open(OpenKind::InMap, count, content)
     }
 
     /// Begins a list (Part 1, section 1.6.22), and answers how many values it holds; `Depth` past 128 nested
     /// values.
     #[inline]
     pub fn begin_list(&mut self) -> Result<u32, Error>
-        ensures { Tells R.remaining → Reads false (Opens list) (OpenFault list) self.old result self.new }
+        ensures { Tells R.remaining → AnswersRead false (Opens list) (OpenFault list) self.old result self.new }
     {
         match self.begin()? {
-            format_code::LIST_0 => self.open(Place::InList, 0, 0),
+            format_code::LIST_0 => self.open(OpenKind::InList, 0, 0),
             format_code::LIST_8 => self.open_list(false),
             format_code::LIST_32 => self.open_list(true),
             code => Err(self.refuse_code(code)),
@@ -110,7 +110,7 @@ impl<R: ByteSource> Decoder<R> {
     /// `OddCount` where the number is odd.
     #[inline]
     pub fn begin_map(&mut self) -> Result<u32, Error>
-        ensures { Tells R.remaining → Reads false (Opens map) (OpenFault map) self.old result self.new }
+        ensures { Tells R.remaining → AnswersRead false (Opens map) (OpenFault map) self.old result self.new }
     {
         match self.begin()? {
             format_code::MAP_8 => self.open_map(false),
@@ -121,8 +121,8 @@ impl<R: ByteSource> Decoder<R> {
 
     // Ends the list or map that is open.
     #[inline]
-    fn close(&mut self, place: Place) -> Result<(), Error>
-        ensures { Tells R.remaining → Reads false (λ st _ st'. Closes place st st') (CloseFault place) self.old result self.new }
+    fn close(&mut self, place: OpenKind) -> Result<(), Error>
+        ensures { Tells R.remaining → AnswersRead false (λ st _ st'. Closes place st st') (CloseFault place) self.old result self.new }
     {
         self.check_end(place)?;
         self.check_bytes()?;
@@ -133,16 +133,16 @@ impl<R: ByteSource> Decoder<R> {
     /// Ends the list that is open: `Surplus` where values are left, `InvalidValue` where none is open.
     #[inline]
     pub fn end_list(&mut self) -> Result<(), Error>
-        ensures { Tells R.remaining → Reads false (λ st _ st'. Closes InList st st') (CloseFault InList) self.old result self.new }
+        ensures { Tells R.remaining → AnswersRead false (λ st _ st'. Closes InList st st') (CloseFault InList) self.old result self.new }
     {
-        self.close(Place::InList)
+        self.close(OpenKind::InList)
     }
 
     /// Ends the map that is open: `Surplus` where values are left, `InvalidValue` where none is open.
     #[inline]
     pub fn end_map(&mut self) -> Result<(), Error>
-        ensures { Tells R.remaining → Reads false (λ st _ st'. Closes InMap st st') (CloseFault InMap) self.old result self.new }
+        ensures { Tells R.remaining → AnswersRead false (λ st _ st'. Closes InMap st st') (CloseFault InMap) self.old result self.new }
     {
-        self.close(Place::InMap)
+        self.close(OpenKind::InMap)
     }
 }

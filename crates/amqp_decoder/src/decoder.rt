@@ -10,7 +10,7 @@ mod nesting;
 mod sections;
 mod shared;
 
-use crate::frame::{Frame, ROW};
+use crate::frame::{OpenContainer, ROW};
 use amqp_input::Input;
 use amqp_wire::{ByteSource, Descriptor, Error};
 use std::alloc::Global;
@@ -25,37 +25,37 @@ use std::marker::Model;
 #[derive(Drop)]
 pub struct Decoder<R: ByteSource> {
     input: Input<R>,
-    top: Frame,
+    top: OpenContainer,
     error: Option<Error>,
     depth: usize,
     descriptors: Vec<Descriptor>,
-    frames: [Frame; ROW],
+    frames: [OpenContainer; ROW],
 }
 
 impl<R: ByteSource> Model for Decoder<R> {
     ghost use Rattle.std.specs.Prelude.{◌≤◌, vec_len};
-    ghost use Rattle.amqp_decoder.specs.State.{State, stack, open_of, Nested, IsLevel, Bounded};
+    ghost use Rattle.amqp_decoder.specs.State.{State, stack, open_of, AreNested, IsLevel, AreBounded};
     ghost use Rattle.amqp_decoder.specs.Rooms.{IsRoomy};
 
     ghost Value = { State };
 
     ghost view = { λ d. record { rest = d.input.rest; ahead = d.input.ahead; source = d.input.source; top = open_of d.descriptors.items d.top; saved = stack d.descriptors.items d.depth d.frames; nesting = 128; error = d.error; failed = d.input.failed } };
 
-    ghost invariant = { λ d. (d.depth ≤ 129) × Nested d.depth d.frames d.top.last × (d.top.last ≤ vec_len d.descriptors) × IsLevel d.top × Bounded d.depth d.frames d.top.place d.top.left × IsRoomy 128 d.depth (open_of d.descriptors.items d.top) };
+    ghost invariant = { λ d. (d.depth ≤ 129) × AreNested d.depth d.frames d.top.last × (d.top.last ≤ vec_len d.descriptors) × IsLevel d.top × AreBounded d.depth d.frames d.top.place d.top.left × IsRoomy 128 d.depth (open_of d.descriptors.items d.top) };
 }
 
 impl<R: ByteSource> Decoder<R> {
     /// A decoder of the source's bytes, at the top level.
     pub fn new(source: R, alloc: Global) -> Self
-        ensures { result ≡ record { rest = known (R.remaining source); ahead = 0; source = R.name source; top = top_level; saved = []; nesting = 128; error = None; failed = R.broken source } }
+        ensures { result ≡ record { rest = known (R.remaining source); ahead = 0; source = R.name source; top = top_level; saved = []; nesting = 128; error = None; failed = R.failed source } }
     {
         Decoder {
             input: Input::new(source),
-            top: Frame::TOP,
+            top: OpenContainer::TOP,
             error: None,
             depth: 0,
             descriptors: Vec::new(alloc),
-            frames: [Frame::TOP; ROW],
+            frames: [OpenContainer::TOP; ROW],
         }
     }
 
@@ -63,7 +63,7 @@ impl<R: ByteSource> Decoder<R> {
     pub fn into_source(self) -> R
         ensures named { R.name result ≡ self.source }
         ensures rest { known (R.remaining result) ≡ drop self.ahead self.rest }
-        ensures failed { R.broken result ≡ self.failed }
+        ensures failed { R.failed result ≡ self.failed }
     {
         let Decoder { input, .. } = self;
         input.into_source()

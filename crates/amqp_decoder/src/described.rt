@@ -1,6 +1,6 @@
 //! Described values (Part 1, section 1.2).
-ghost use Rattle.amqp_decoder.specs.declared.frame.Place.TheVariants.{InDescribed};
-ghost use Rattle.amqp_decoder.specs.Reading.{Reads};
+ghost use Rattle.amqp_decoder.specs.declared.frame.OpenKind.TheVariants.{InDescribed};
+ghost use Rattle.amqp_decoder.specs.Reading.{AnswersRead};
 ghost use Rattle.amqp_decoder.specs.Containers.{ClosesDescribed, EndFault};
 ghost use Rattle.std.specs.Prelude.{◌≡◌, ◌≤◌, ◌<◌, length, take, Some, None, IfOk, IfErr, MatchOption, IsAscii, true, false};
 ghost use Rattle.amqp_wire.specs.declared.error.Error.TheVariants.{Memory};
@@ -8,15 +8,15 @@ ghost use Rattle.amqp_model.specs.Term.{name as of_name};
 ghost use Rattle.amqp_wire.specs.Sources.{Tells};
 ghost use Rattle.amqp_wire.specs.Codes.{refusal_of};
 ghost use Rattle.amqp_input.specs.Members.{place_of as place_in};
-ghost use Rattle.amqp_decoder.specs.State.{moved, descriptor_of};
-ghost use Rattle.amqp_decoder.specs.Steps.{Answered};
-ghost use Rattle.amqp_decoder.specs.Reading.{Begun};
-ghost use Rattle.amqp_decoder.specs.Primitives.{Failed};
+ghost use Rattle.amqp_decoder.specs.State.{after_bytes, descriptor_of};
+ghost use Rattle.amqp_decoder.specs.Steps.{Answers};
+ghost use Rattle.amqp_decoder.specs.Reading.{ReadsCode};
+ghost use Rattle.amqp_decoder.specs.Primitives.{AnswersFault};
 ghost use Rattle.amqp_decoder.specs.Rooms.{HasRoom};
-ghost use Rattle.amqp_decoder.specs.Described.{IsUnmarked, IsMark, TookDescriptor, OpensDescribed, OpenFault, other_kind, symbol_code, IsDescribable, DescribedFault, DescriptorMissed, TookPlace, NameMissed, OpensOneOf, OneOfFault};
+ghost use Rattle.amqp_decoder.specs.Described.{IsUnmarked, IsMark, TakesDescriptor, OpensDescribed, OpenFault, other_kind, symbol_code, IsDescribable, DescribedFault, MissesDescriptor, TakesPlace, MissesName, OpensOneOf, OneOfFault};
 
 use crate::Decoder;
-use crate::frame::Place;
+use crate::frame::OpenKind;
 use amqp_input::names::{Members, next_front, place_of, place_of_code, place_of_name};
 use amqp_wire::{ByteSource, Descriptor, Error, format_code};
 use std::alloc::Global;
@@ -28,8 +28,8 @@ impl<R: ByteSource> Decoder<R> {
     // Takes the code of a described value.
     #[inline]
     fn begin_descriptor(&mut self) -> Result<(), Error>
-        ensures ok { Tells R.remaining → IfOk result (λ _. Begun self.old 0 self.new) }
-        ensures err { Tells R.remaining → IfErr result (λ e. Failed false DescribedFault self.old e self.new) }
+        ensures ok { Tells R.remaining → IfOk result (λ _. ReadsCode self.old 0 self.new) }
+        ensures err { Tells R.remaining → IfErr result (λ e. AnswersFault false DescribedFault self.old e self.new) }
     {
         let code = self.begin()?;
         if code != format_code::DESCRIBED {
@@ -57,7 +57,7 @@ impl<R: ByteSource> Decoder<R> {
     #[inline]
     fn is_wide_symbol(&mut self, code: u8) -> Result<bool, Error>
         ensures ok { IfOk result (λ wide. (code ≡ symbol_code wide) × (self.new ≡ self.old)) }
-        ensures err { IfErr result (λ e. (code ≡ 0xa3 → ⊥) × (code ≡ 0xb3 → ⊥) × (e ≡ other_kind (refusal_of code)) × Answered self.old e self.new) }
+        ensures err { IfErr result (λ e. (code ≡ 0xa3 → ⊥) × (code ≡ 0xb3 → ⊥) × (e ≡ other_kind (refusal_of code)) × Answers self.old e self.new) }
     {
         match code {
             format_code::SYMBOL_8 => Ok(false),
@@ -68,8 +68,8 @@ impl<R: ByteSource> Decoder<R> {
 
     // A descriptor.
     pub(crate) fn descriptor(&mut self, alloc: Global) -> Result<Descriptor, Error>
-        ensures ok { Tells R.remaining → self.old.top.shared ≡ None → IfOk result (λ d. TookDescriptor self.old (descriptor_of d) self.new) }
-        ensures err { Tells R.remaining → self.old.top.shared ≡ None → IfErr result (λ e. DescriptorMissed true self.old e self.new) }
+        ensures ok { Tells R.remaining → self.old.top.shared ≡ None → IfOk result (λ d. TakesDescriptor self.old (descriptor_of d) self.new) }
+        ensures err { Tells R.remaining → self.old.top.shared ≡ None → IfErr result (λ e. MissesDescriptor true self.old e self.new) }
     {
         let code = self.byte()?;
         if let Some(value) = self.ulong_data(code)? {
@@ -82,8 +82,8 @@ impl<R: ByteSource> Decoder<R> {
 
     // The descriptor that stands next, or is shared.
     fn next_descriptor(&mut self, alloc: Global) -> Result<Descriptor, Error>
-        ensures ok { Tells R.remaining → IsDescribable self.old.top.shared → IfOk result (λ d. TookDescriptor self.old (descriptor_of d) self.new) }
-        ensures err { Tells R.remaining → IsDescribable self.old.top.shared → IfErr result (λ e. DescriptorMissed true self.old e self.new) }
+        ensures ok { Tells R.remaining → IsDescribable self.old.top.shared → IfOk result (λ d. TakesDescriptor self.old (descriptor_of d) self.new) }
+        ensures err { Tells R.remaining → IsDescribable self.old.top.shared → IfErr result (λ e. MissesDescriptor true self.old e self.new) }
     {
         let Some(descriptor) = self.shared_descriptor() else {
             return self.descriptor(alloc);
@@ -98,7 +98,7 @@ impl<R: ByteSource> Decoder<R> {
     /// that is neither a symbol nor a ulong, `NonAscii` where it is a symbol with a byte above 0x7f, and `Depth` past
     /// 128 nested values.
     pub fn begin_described(&mut self, alloc: Global) -> Result<Descriptor, Error>
-        ensures { Tells R.remaining → Reads true (λ st d st'. OpensDescribed st (descriptor_of d) st') OpenFault self.old result self.new }
+        ensures { Tells R.remaining → AnswersRead true (λ st d st'. OpensDescribed st (descriptor_of d) st') OpenFault self.old result self.new }
     {
         self.begin_descriptor()?;
         let descriptor = self.next_descriptor(alloc)?;
@@ -110,8 +110,8 @@ impl<R: ByteSource> Decoder<R> {
 
     // The place of the member whose name the next so many bytes are.
     fn place_of_text(&mut self, members: Members<'_>, len: u32) -> Result<Option<usize>, Error>
-        ensures ok { Tells R.remaining → IfOk result (λ place. (len ≤ length self.old.rest) × IsAscii (take len self.old.rest) × (place ≡ place_in members.now (of_name (take len self.old.rest))) × (self.new ≡ moved len self.old)) }
-        ensures err { Tells R.remaining → IfErr result (λ e. NameMissed len self.old e self.new) }
+        ensures ok { Tells R.remaining → IfOk result (λ place. (len ≤ length self.old.rest) × IsAscii (take len self.old.rest) × (place ≡ place_in members.now (of_name (take len self.old.rest))) × (self.new ≡ after_bytes len self.old)) }
+        ensures err { Tells R.remaining → IfErr result (λ e. MissesName len self.old e self.new) }
     {
         let mut buffer = [0; PIECE];
         let mut known: Option<&[u8]> = Some(&[]);
@@ -136,8 +136,8 @@ impl<R: ByteSource> Decoder<R> {
 
     // The place of the member whose descriptor stands next.
     fn place_of_next(&mut self, members: Members<'_>) -> Result<Option<usize>, Error>
-        ensures ok { Tells R.remaining → IsDescribable self.old.top.shared → IfOk result (λ place. TookPlace members.now self.old place self.new) }
-        ensures err { Tells R.remaining → IsDescribable self.old.top.shared → IfErr result (λ e. DescriptorMissed false self.old e self.new) }
+        ensures ok { Tells R.remaining → IsDescribable self.old.top.shared → IfOk result (λ place. TakesPlace members.now self.old place self.new) }
+        ensures err { Tells R.remaining → IsDescribable self.old.top.shared → IfErr result (λ e. MissesDescriptor false self.old e self.new) }
     {
         if let Some(descriptor) = self.shared_descriptor() {
             return Ok(place_of(members, descriptor));
@@ -154,7 +154,7 @@ impl<R: ByteSource> Decoder<R> {
     /// Begins a described value, and answers the place of the pair whose code or name its descriptor is;
     /// `WrongDescriptor` where it is none of them, and otherwise as `begin_described`. Takes no memory.
     pub fn begin_one_of(&mut self, members: &[(u64, &str)]) -> Result<usize, Error>
-        ensures opened { Tells R.remaining → Reads false (OpensOneOf members.now) (OneOfFault members.now) self.old result self.new }
+        ensures opened { Tells R.remaining → AnswersRead false (OpensOneOf members.now) (OneOfFault members.now) self.old result self.new }
         ensures nesting { Tells R.remaining → IfOk result (λ _. self.old.nesting ≡ 128) }
         ensures room { HasRoom self.old }
     {
@@ -171,9 +171,9 @@ impl<R: ByteSource> Decoder<R> {
     /// open.
     #[inline]
     pub fn end_described(&mut self) -> Result<(), Error>
-        ensures { Reads false (λ st _ st'. ClosesDescribed InDescribed st st') (EndFault InDescribed) self.old result self.new }
+        ensures { AnswersRead false (λ st _ st'. ClosesDescribed InDescribed st st') (EndFault InDescribed) self.old result self.new }
     {
-        self.check_end(Place::InDescribed)?;
+        self.check_end(OpenKind::InDescribed)?;
         self.leave_described();
         Ok(())
     }

@@ -9,7 +9,7 @@ pub(crate) const ROW: usize = 129;
 /// Where a value stands.
 #[derive(Clone, Copy, PartialEq, Eq)]
 #[repr(u8)]
-pub(crate) enum Place {
+pub(crate) enum OpenKind {
     Top,
     InList,
     InMap,
@@ -22,21 +22,21 @@ pub(crate) enum Place {
 /// stands in, which has none left until it ends. The code, which isn't 0, and the descriptors from `first` to `last`
 /// of the decoder's row are the constructor that the items share.
 #[derive(Clone, Copy)]
-pub(crate) struct Frame {
+pub(crate) struct OpenContainer {
     pub items: u32,
     pub left: Option<u32>,
-    pub place: Place,
+    pub place: OpenKind,
     pub code: u8,
     pub first: u16,
     pub last: u16,
 }
 
-impl Frame {
+impl OpenContainer {
     /// The top level.
-    pub(crate) const TOP: Frame = Frame {
+    pub(crate) const TOP: OpenContainer = OpenContainer {
         items: 0,
         left: None,
-        place: Place::Top,
+        place: OpenKind::Top,
         code: 0,
         first: 0,
         last: 0,
@@ -47,12 +47,12 @@ impl Frame {
     pub(crate) fn is_done(&self) -> bool
         ensures { IsTrue result ↔ (items_of self.now.place self.now.items ≡ Some 0) }
     {
-        self.items == 0 && self.place != Place::Top
+        self.items == 0 && self.place != OpenKind::Top
     }
 }
 
 /// How many descriptors the frames of a row share together.
-pub(crate) fn descriptors_in(frames: &[Frame]) -> u16
+pub(crate) fn descriptors_in(frames: &[OpenContainer]) -> u16
     ensures { result ≡ shared_in (length frames.now) frames.now }
 {
     match frames.last() {

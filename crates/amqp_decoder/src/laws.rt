@@ -1,18 +1,18 @@
 //! The laws of what the calls of a decoder read. The functions do nothing; their contracts are proved.
 ghost use Rattle.std.specs.Prelude.{◌≡◌, ◌<◌, ◌≤◌, ◌↔◌, ℕ, List, [], ◌∷◌, ◌++◌, length, Some, None};
-ghost use Rattle.amqp_model.specs.Term.{Container, Descriptor, Term, Terms, holder, described, list, map, array};
+ghost use Rattle.amqp_model.specs.Term.{Container, Descriptor, Term, Terms, container, described, list, map, array};
 ghost use Rattle.amqp_model.specs.Items.{items_of};
 ghost use Rattle.amqp_model.specs.Standing.{Standing};
-ghost use Rattle.amqp_decoder.specs.declared.frame.Place.{Place};
-ghost use Rattle.amqp_decoder.specs.declared.frame.Place.TheVariants.{InArray};
-ghost use Rattle.amqp_decoder.specs.State.{State, Has, looked, moved, on, past};
-ghost use Rattle.amqp_decoder.specs.Steps.{Took};
-ghost use Rattle.amqp_decoder.specs.Reading.{Begun, Peeked};
-ghost use Rattle.amqp_decoder.specs.Primitives.{standing, Stands, Value, PrimitiveFault};
+ghost use Rattle.amqp_decoder.specs.declared.frame.OpenKind.{OpenKind};
+ghost use Rattle.amqp_decoder.specs.declared.frame.OpenKind.TheVariants.{InArray};
+ghost use Rattle.amqp_decoder.specs.State.{State, Has, after_look, after_bytes, after_data, after_value};
+ghost use Rattle.amqp_decoder.specs.Steps.{Takes};
+ghost use Rattle.amqp_decoder.specs.Reading.{ReadsCode, PeeksCode};
+ghost use Rattle.amqp_decoder.specs.Primitives.{standing, Stands, ReadsValue, PrimitiveFault};
 ghost use Rattle.amqp_input.specs.Members.{Member};
 ghost use Rattle.amqp_wire.specs.declared.error.Error.{Error};
 ghost use Rattle.amqp_wire.specs.declared.error.Error.TheVariants.{Memory};
-ghost use Rattle.amqp_decoder.specs.Elsewhere.{Setting, under, KeepsError};
+ghost use Rattle.amqp_decoder.specs.OtherSource.{Setting, under, KeepsError};
 ghost use Rattle.amqp_decoder.specs.Misspelled.{IsMisspelling, NothingStands};
 ghost use Rattle.amqp_decoder.specs.Terms.{TermFault};
 ghost use Rattle.amqp_decoder.specs.Containers.{Opens, OpenFault, Closes, CloseFault};
@@ -23,35 +23,35 @@ ghost use Rattle.amqp_decoder.specs.Items.{Next, NextWithParts, Row, row_standin
 
 /// What is read after a look is what is read without it.
 pub fn looks()
-    ensures moved { (n k : ℕ) (st : State) → n ≤ k → moved k (looked n st) ≡ moved k st }
-    ensures on { (n k : ℕ) (st : State) → n ≤ k → on k (looked n st) ≡ on k st }
-    ensures past { (n k : ℕ) (st : State) → n ≤ k → past k (looked n st) ≡ past k st }
-    ensures took { (n : ℕ) (st after : State) (s : List ℕ) → n ≤ length s → (Took (looked n st) s after ↔ Took st s after) }
-    ensures stands { (n : ℕ) (st : State) (s : List ℕ) (t : Term) → Stands (looked n st) s t ↔ Stands st s t }
+    ensures moved { (n k : ℕ) (st : State) → n ≤ k → after_bytes k (after_look n st) ≡ after_bytes k st }
+    ensures on { (n k : ℕ) (st : State) → n ≤ k → after_data k (after_look n st) ≡ after_data k st }
+    ensures past { (n k : ℕ) (st : State) → n ≤ k → after_value k (after_look n st) ≡ after_value k st }
+    ensures took { (n : ℕ) (st after : State) (s : List ℕ) → n ≤ length s → (Takes (after_look n st) s after ↔ Takes st s after) }
+    ensures stands { (n : ℕ) (st : State) (s : List ℕ) (t : Term) → Stands (after_look n st) s t ↔ Stands st s t }
     ensures some { (st : State) (s : List ℕ) (t : Term) → st.top.shared ≡ None → Stands st s t → 1 ≤ length s }
-    ensures begun { (st looked after : State) (c d : ℕ) → Peeked st c looked → (Begun looked d after ↔ Begun st d after) }
+    ensures begun { (st looked after : State) (c d : ℕ) → PeeksCode st c looked → (ReadsCode looked d after ↔ ReadsCode st d after) }
 {}
 
 /// A list that is opened, whose items are taken in turn, and that is closed is a term that stood there and is taken, with
 /// the items as its parts; and where a list stands, this is how it is taken (Part 1, sections 1.2.3 and 1.6.22).
 pub fn lists()
-    ensures taken { (st after : State) (items : Terms) → Contains list st (items_of items) after ↔ Next st (holder list items) after }
-    ensures stands { (st after : State) (items : Terms) (c : Contains list st (items_of items) after) → NextWithParts st (holder list items) (row_standings c.mid (items_of items) c.bytes c.last c.items) after }
+    ensures taken { (st after : State) (items : Terms) → Contains list st (items_of items) after ↔ Next st (container list items) after }
+    ensures stands { (st after : State) (items : Terms) (c : Contains list st (items_of items) after) → NextWithParts st (container list items) (row_standings c.mid (items_of items) c.bytes c.last c.items) after }
 {}
 
 /// The same of a map, whose items are its keys and what they lead to in turn (Part 1, section 1.6.23).
 pub fn maps()
-    ensures taken { (st after : State) (items : Terms) → Contains map st (items_of items) after ↔ Next st (holder map items) after }
-    ensures stands { (st after : State) (items : Terms) (c : Contains map st (items_of items) after) → NextWithParts st (holder map items) (row_standings c.mid (items_of items) c.bytes c.last c.items) after }
+    ensures taken { (st after : State) (items : Terms) → Contains map st (items_of items) after ↔ Next st (container map items) after }
+    ensures stands { (st after : State) (items : Terms) (c : Contains map st (items_of items) after) → NextWithParts st (container map items) (row_standings c.mid (items_of items) c.bytes c.last c.items) after }
 {}
 
 /// The same of an array, whose items stand under the constructor that they share (Part 1, sections 1.2.4 and 1.6.24); where
 /// it stands, it is taken so where containers have room, as they do in every decoder.
 pub fn arrays()
     ensures opened { (st after : State) (n : ℕ) → OpensArray st n after → (after.top.place ≡ InArray) × (after.top.items ≡ Some n) }
-    ensures whole { (st after : State) (items : Terms) → ContainsArray st (items_of items) after → Next st (holder array items) after }
-    ensures stands { (st after : State) (items : Terms) (c : ContainsArray st (items_of items) after) → NextWithParts st (holder array items) (row_standings c.mid (items_of items) c.bytes c.last c.items) after }
-    ensures parts { (st after : State) (items : Terms) → HasRoom st → Next st (holder array items) after → ContainsArray st (items_of items) after }
+    ensures whole { (st after : State) (items : Terms) → ContainsArray st (items_of items) after → Next st (container array items) after }
+    ensures stands { (st after : State) (items : Terms) (c : ContainsArray st (items_of items) after) → NextWithParts st (container array items) (row_standings c.mid (items_of items) c.bytes c.last c.items) after }
+    ensures parts { (st after : State) (items : Terms) → HasRoom st → Next st (container array items) after → ContainsArray st (items_of items) after }
 {}
 
 /// A described value that is opened, whose value is taken, and that is closed is a term that stood there and is taken, with
@@ -66,7 +66,7 @@ pub fn described_values()
 pub fn rooms()
     ensures top { (st : State) → st.saved ≡ [] → HasRoom st }
     ensures fits { (st : State) → HasRoom st → Has st.top.items 1 → (HasFlatItems st.top.shared → ⊥) → length st.saved ≤ st.nesting }
-    ensures looked { (n : ℕ) (st : State) → HasRoom st → HasRoom (looked n st) }
+    ensures looked { (n : ℕ) (st : State) → HasRoom st → HasRoom (after_look n st) }
     ensures next { (st after : State) (t : Term) → Next st t after → HasRoom st → HasRoom after }
     ensures row { (ts : List Term) (st after : State) (b : List ℕ) → Row st ts b after → HasRoom st → HasRoom after }
     ensures opened { (kind : Container) (st after : State) (n : ℕ) → Opens kind st n after → HasRoom after }
@@ -82,7 +82,7 @@ pub fn one_reading()
     ensures row { (ts us : List Term) (st mid after : State) (b c : List ℕ) → Row st ts b mid → Row st us c after → length ts ≤ length us → (others : List Term) × (d : List ℕ) × (us ≡ ts ++ others) × Row mid others d after }
     ensures opens { (kind : Container) (st after other : State) (n m : ℕ) → Opens kind st n after → Opens kind st m other → (n ≡ m) × (after ≡ other) }
     ensures opens_array { (st after other : State) (n m : ℕ) → OpensArray st n after → OpensArray st m other → (n ≡ m) × (after ≡ other) }
-    ensures closes { (place : Place) (st after other : State) → Closes place st after → Closes place st other → after ≡ other }
+    ensures closes { (place : OpenKind) (st after other : State) → Closes place st after → Closes place st other → after ≡ other }
 {}
 
 /// A type whose values terms mean, as they stand.
@@ -96,8 +96,8 @@ pub trait HasMeaning {
 /// Two values that are read at one state are meant by one term, and leave one state; and a look at the next code changes
 /// nothing of what is read.
 pub fn one_value<T: HasMeaning>()
-    ensures one { (st after other : State) (v w : T) → Value T.means st v after → Value T.means st w other → (s : Standing) × (t : Term) × T.means s t v × T.means s t w × (after ≡ other) }
-    ensures looked { (st looked after : State) (c : ℕ) (v : T) → Peeked st c looked → (Value T.means looked v after ↔ Value T.means st v after) }
+    ensures one { (st after other : State) (v w : T) → ReadsValue T.means st v after → ReadsValue T.means st w other → (s : Standing) × (t : Term) × T.means s t v × T.means s t w × (after ≡ other) }
+    ensures looked { (st looked after : State) (c : ℕ) (v : T) → PeeksCode st c looked → (ReadsValue T.means looked v after ↔ ReadsValue T.means st v after) }
 {}
 
 /// Terms that are taken in a row, and then others, are taken in a row.
@@ -127,6 +127,6 @@ pub fn misspellings()
     ensures members { (members : List Member) (st : State) (e : Error) → IsMisspelling e → OneOfFault members st e → NothingStands st }
     ensures terms { (st : State) (e : Error) → IsMisspelling e → TermFault st e → NothingStands st }
     ensures in_array { (st first mid : State) (n : ℕ) (ts : List Term) (b : List ℕ) → HasRoom st → OpensArray st n first → Row first ts b mid → length ts < n → NothingStands mid → NothingStands st }
-    ensures at_array_end { (place : Place) (st first last : State) (n : ℕ) (ts : List Term) (b : List ℕ) (e : Error) → HasRoom st → OpensArray st n first → Row first ts b last → IsMisspelling e → CloseFault place last e → NothingStands st }
+    ensures at_array_end { (place : OpenKind) (st first last : State) (n : ℕ) (ts : List Term) (b : List ℕ) (e : Error) → HasRoom st → OpensArray st n first → Row first ts b last → IsMisspelling e → CloseFault place last e → NothingStands st }
     ensures in_described { (st inner : State) (d : Descriptor) → OpensDescribed st d inner → NothingStands inner → NothingStands st }
 {}

@@ -2,8 +2,8 @@
 ghost use Rattle.std.specs.Prelude.{◌<◌, ◌≡◌, Some, MatchOption, IfOk, IfErr, false};
 ghost use Rattle.amqp_model.specs.Term.{null, boolean, ubyte, ushort, uint, ulong, byte, short, int, long, char, timestamp, decimal32, decimal64, decimal128, uuid};
 ghost use Rattle.amqp_wire.specs.Sources.{Tells};
-ghost use Rattle.amqp_decoder.specs.Reading.{Reads};
-ghost use Rattle.amqp_decoder.specs.Primitives.{Fixed, FixedFault, Failed, Value, Means, PrimitiveFault, HasData, LacksDataOf};
+ghost use Rattle.amqp_decoder.specs.Reading.{AnswersRead};
+ghost use Rattle.amqp_decoder.specs.Primitives.{ReadsFixed, FixedFault, AnswersFault, ReadsValue, Means, PrimitiveFault, ReadsData, LacksDataOf};
 ghost use Rattle.amqp_input.specs.Kinds.{kind_at, nulls, booleans, ubytes, ushorts, uints, ulongs, bytes, shorts, ints, longs, decimals32, decimals64, decimals128, chars, timestamps, uuids};
 
 use crate::Decoder;
@@ -14,8 +14,8 @@ impl<R: ByteSource> Decoder<R> {
     #[inline]
     fn fixed<const N: usize>(&mut self, code: u8) -> Result<[u8; N], Error>
         requires { N < 256 }
-        ensures ok { Tells R.remaining → IfOk result (λ b. Fixed code N self.old b self.new) }
-        ensures err { Tells R.remaining → IfErr result (λ e. Failed false (FixedFault code N) self.old e self.new) }
+        ensures ok { Tells R.remaining → IfOk result (λ b. ReadsFixed code N self.old b self.new) }
+        ensures err { Tells R.remaining → IfErr result (λ e. AnswersFault false (FixedFault code N) self.old e self.new) }
     {
         let found = self.begin()?;
         if found != code {
@@ -27,7 +27,7 @@ impl<R: ByteSource> Decoder<R> {
     /// Null (Part 1, section 1.6.1).
     #[inline]
     pub fn read_null(&mut self) -> Result<(), Error>
-        ensures { Tells R.remaining → Reads false (Value (Means (λ _. null))) (PrimitiveFault nulls) self.old result self.new }
+        ensures { Tells R.remaining → AnswersRead false (ReadsValue (Means (λ _. null))) (PrimitiveFault nulls) self.old result self.new }
     {
         let _data = self.fixed::<0>(format_code::NULL)?;
         Ok(())
@@ -36,7 +36,7 @@ impl<R: ByteSource> Decoder<R> {
     /// A boolean (Part 1, section 1.6.2); `BadBool` where its byte is above 1.
     #[inline]
     pub fn read_bool(&mut self) -> Result<bool, Error>
-        ensures { Tells R.remaining → Reads false (Value (Means boolean)) (PrimitiveFault booleans) self.old result self.new }
+        ensures { Tells R.remaining → AnswersRead false (ReadsValue (Means boolean)) (PrimitiveFault booleans) self.old result self.new }
     {
         match self.begin()? {
             format_code::BOOLEAN_TRUE => Ok(true),
@@ -53,7 +53,7 @@ impl<R: ByteSource> Decoder<R> {
     /// An unsigned integer of 8 bits (Part 1, section 1.6.3).
     #[inline]
     pub fn read_ubyte(&mut self) -> Result<u8, Error>
-        ensures { Tells R.remaining → Reads false (Value (Means ubyte)) (PrimitiveFault ubytes) self.old result self.new }
+        ensures { Tells R.remaining → AnswersRead false (ReadsValue (Means ubyte)) (PrimitiveFault ubytes) self.old result self.new }
     {
         Ok(u8::from_be_bytes(self.fixed(format_code::UBYTE)?))
     }
@@ -61,7 +61,7 @@ impl<R: ByteSource> Decoder<R> {
     /// An unsigned integer of 16 bits (Part 1, section 1.6.4).
     #[inline]
     pub fn read_ushort(&mut self) -> Result<u16, Error>
-        ensures { Tells R.remaining → Reads false (Value (Means ushort)) (PrimitiveFault ushorts) self.old result self.new }
+        ensures { Tells R.remaining → AnswersRead false (ReadsValue (Means ushort)) (PrimitiveFault ushorts) self.old result self.new }
     {
         Ok(u16::from_be_bytes(self.fixed(format_code::USHORT)?))
     }
@@ -69,7 +69,7 @@ impl<R: ByteSource> Decoder<R> {
     /// An unsigned integer of 32 bits (Part 1, section 1.6.5).
     #[inline]
     pub fn read_uint(&mut self) -> Result<u32, Error>
-        ensures { Tells R.remaining → Reads false (Value (Means uint)) (PrimitiveFault uints) self.old result self.new }
+        ensures { Tells R.remaining → AnswersRead false (ReadsValue (Means uint)) (PrimitiveFault uints) self.old result self.new }
     {
         match self.begin()? {
             format_code::UINT_0 => Ok(0),
@@ -82,7 +82,7 @@ impl<R: ByteSource> Decoder<R> {
     // The data of a ulong under its code, or `None` where the code is another kind's.
     #[inline]
     pub(crate) fn ulong_data(&mut self, code: u8) -> Result<Option<u64>, Error>
-        ensures ok { Tells R.remaining → IfOk result (λ o. MatchOption o ((kind_at code ≡ Some ulongs → ⊥) × (self.new ≡ self.old)) (λ v. HasData code (ulong v) self.old self.new)) }
+        ensures ok { Tells R.remaining → IfOk result (λ o. MatchOption o ((kind_at code ≡ Some ulongs → ⊥) × (self.new ≡ self.old)) (λ v. ReadsData code (ulong v) self.old self.new)) }
         ensures err { Tells R.remaining → IfErr result (λ e. LacksDataOf ulongs code self.old e self.new) }
     {
         match code {
@@ -96,7 +96,7 @@ impl<R: ByteSource> Decoder<R> {
     /// An unsigned integer of 64 bits (Part 1, section 1.6.6).
     #[inline]
     pub fn read_ulong(&mut self) -> Result<u64, Error>
-        ensures { Tells R.remaining → Reads false (Value (Means ulong)) (PrimitiveFault ulongs) self.old result self.new }
+        ensures { Tells R.remaining → AnswersRead false (ReadsValue (Means ulong)) (PrimitiveFault ulongs) self.old result self.new }
     {
         let code = self.begin()?;
         match self.ulong_data(code)? {
@@ -108,7 +108,7 @@ impl<R: ByteSource> Decoder<R> {
     /// A signed integer of 8 bits (Part 1, section 1.6.7).
     #[inline]
     pub fn read_byte(&mut self) -> Result<i8, Error>
-        ensures { Tells R.remaining → Reads false (Value (Means byte)) (PrimitiveFault bytes) self.old result self.new }
+        ensures { Tells R.remaining → AnswersRead false (ReadsValue (Means byte)) (PrimitiveFault bytes) self.old result self.new }
     {
         Ok(i8::from_be_bytes(self.fixed(format_code::BYTE)?))
     }
@@ -116,7 +116,7 @@ impl<R: ByteSource> Decoder<R> {
     /// A signed integer of 16 bits (Part 1, section 1.6.8).
     #[inline]
     pub fn read_short(&mut self) -> Result<i16, Error>
-        ensures { Tells R.remaining → Reads false (Value (Means short)) (PrimitiveFault shorts) self.old result self.new }
+        ensures { Tells R.remaining → AnswersRead false (ReadsValue (Means short)) (PrimitiveFault shorts) self.old result self.new }
     {
         Ok(i16::from_be_bytes(self.fixed(format_code::SHORT)?))
     }
@@ -124,7 +124,7 @@ impl<R: ByteSource> Decoder<R> {
     /// A signed integer of 32 bits (Part 1, section 1.6.9).
     #[inline]
     pub fn read_int(&mut self) -> Result<i32, Error>
-        ensures { Tells R.remaining → Reads false (Value (Means int)) (PrimitiveFault ints) self.old result self.new }
+        ensures { Tells R.remaining → AnswersRead false (ReadsValue (Means int)) (PrimitiveFault ints) self.old result self.new }
     {
         match self.begin()? {
             format_code::SMALL_INT => Ok(i32::from(i8::from_be_bytes(self.take()?))),
@@ -136,7 +136,7 @@ impl<R: ByteSource> Decoder<R> {
     /// A signed integer of 64 bits (Part 1, section 1.6.10).
     #[inline]
     pub fn read_long(&mut self) -> Result<i64, Error>
-        ensures { Tells R.remaining → Reads false (Value (Means long)) (PrimitiveFault longs) self.old result self.new }
+        ensures { Tells R.remaining → AnswersRead false (ReadsValue (Means long)) (PrimitiveFault longs) self.old result self.new }
     {
         match self.begin()? {
             format_code::SMALL_LONG => Ok(i64::from(i8::from_be_bytes(self.take()?))),
@@ -148,7 +148,7 @@ impl<R: ByteSource> Decoder<R> {
     /// The bytes of a decimal of 32 bits (Part 1, section 1.6.13).
     #[inline]
     pub fn read_dec32(&mut self) -> Result<[u8; 4], Error>
-        ensures { Tells R.remaining → Reads false (Value (Means decimal32)) (PrimitiveFault decimals32) self.old result self.new }
+        ensures { Tells R.remaining → AnswersRead false (ReadsValue (Means decimal32)) (PrimitiveFault decimals32) self.old result self.new }
     {
         self.fixed(format_code::DECIMAL_32)
     }
@@ -156,7 +156,7 @@ impl<R: ByteSource> Decoder<R> {
     /// The bytes of a decimal of 64 bits (Part 1, section 1.6.14).
     #[inline]
     pub fn read_dec64(&mut self) -> Result<[u8; 8], Error>
-        ensures { Tells R.remaining → Reads false (Value (Means decimal64)) (PrimitiveFault decimals64) self.old result self.new }
+        ensures { Tells R.remaining → AnswersRead false (ReadsValue (Means decimal64)) (PrimitiveFault decimals64) self.old result self.new }
     {
         self.fixed(format_code::DECIMAL_64)
     }
@@ -164,7 +164,7 @@ impl<R: ByteSource> Decoder<R> {
     /// The bytes of a decimal of 128 bits (Part 1, section 1.6.15).
     #[inline]
     pub fn read_dec128(&mut self) -> Result<[u8; 16], Error>
-        ensures { Tells R.remaining → Reads false (Value (Means decimal128)) (PrimitiveFault decimals128) self.old result self.new }
+        ensures { Tells R.remaining → AnswersRead false (ReadsValue (Means decimal128)) (PrimitiveFault decimals128) self.old result self.new }
     {
         self.fixed(format_code::DECIMAL_128)
     }
@@ -172,7 +172,7 @@ impl<R: ByteSource> Decoder<R> {
     /// A character (Part 1, section 1.6.16); `BadChar` where it is no Unicode scalar value.
     #[inline]
     pub fn read_char(&mut self) -> Result<char, Error>
-        ensures { Tells R.remaining → Reads false (Value (Means char)) (PrimitiveFault chars) self.old result self.new }
+        ensures { Tells R.remaining → AnswersRead false (ReadsValue (Means char)) (PrimitiveFault chars) self.old result self.new }
     {
         let number = u32::from_be_bytes(self.fixed(format_code::CHAR)?);
         match char::from_u32(number) {
@@ -184,7 +184,7 @@ impl<R: ByteSource> Decoder<R> {
     /// The milliseconds of a timestamp (Part 1, section 1.6.17).
     #[inline]
     pub fn read_timestamp(&mut self) -> Result<i64, Error>
-        ensures { Tells R.remaining → Reads false (Value (Means timestamp)) (PrimitiveFault timestamps) self.old result self.new }
+        ensures { Tells R.remaining → AnswersRead false (ReadsValue (Means timestamp)) (PrimitiveFault timestamps) self.old result self.new }
     {
         Ok(i64::from_be_bytes(self.fixed(format_code::TIMESTAMP)?))
     }
@@ -192,7 +192,7 @@ impl<R: ByteSource> Decoder<R> {
     /// The bytes of a UUID (Part 1, section 1.6.18).
     #[inline]
     pub fn read_uuid(&mut self) -> Result<[u8; 16], Error>
-        ensures { Tells R.remaining → Reads false (Value (Means uuid)) (PrimitiveFault uuids) self.old result self.new }
+        ensures { Tells R.remaining → AnswersRead false (ReadsValue (Means uuid)) (PrimitiveFault uuids) self.old result self.new }
     {
         self.fixed(format_code::UUID)
     }

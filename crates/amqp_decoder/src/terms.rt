@@ -9,8 +9,8 @@ ghost use Rattle.amqp_lengths.specs.Fronts.{IsFront};
 ghost use Rattle.amqp_lengths.specs.Pieces.{NamesAny};
 ghost use Rattle.amqp_lengths.specs.Lengths.{IsTerm};
 ghost use Rattle.amqp_lengths.specs.Announced.{IsAnnounced};
-ghost use Rattle.amqp_decoder.specs.Steps.{Took, Lacks, Stopped};
-ghost use Rattle.amqp_decoder.specs.Reading.{Reads};
+ghost use Rattle.amqp_decoder.specs.Steps.{Takes, Lacks, Stops};
+ghost use Rattle.amqp_decoder.specs.Reading.{AnswersRead};
 ghost use Rattle.amqp_decoder.specs.Described.{DescriptorFault};
 ghost use Rattle.amqp_decoder.specs.Arrays.{ConstructorFault};
 ghost use Rattle.amqp_decoder.specs.Terms.{Keeps, IsSymbol, SymbolFault, IsConstructor, Announces, LacksAnnounced, NoTerm, SpellingFault, TakesTerm, TermFault};
@@ -61,7 +61,7 @@ impl<R: ByteSource> Decoder<R> {
     // Takes the next byte, and adds it.
     fn keep_code(&mut self, bytes: &mut Vec<u8>) -> Result<u8, Error>
         ensures ok { Tells R.remaining → IfOk result (λ code. Keeps (λ s. s ≡ code ∷ []) bytes.old.items self.old bytes.new.items self.new) }
-        ensures err { Tells R.remaining → IfErr result (λ e. Stopped true (Lacks 1 self.old) self.old e self.new) }
+        ensures err { Tells R.remaining → IfErr result (λ e. Stops true (Lacks 1 self.old) self.old e self.new) }
     {
         let code = self.byte()?;
         match bytes.push(code) {
@@ -73,7 +73,7 @@ impl<R: ByteSource> Decoder<R> {
     // Adds the next so many bytes of the open container.
     fn keep_next(&mut self, len: u32, bytes: &mut Vec<u8>) -> Result<(), Error>
         ensures ok { Tells R.remaining → IfOk result (λ _. Keeps (λ s. length s ≡ len) bytes.old.items self.old bytes.new.items self.new) }
-        ensures err { Tells R.remaining → IfErr result (λ e. Stopped true (Lacks len self.old) self.old e self.new) }
+        ensures err { Tells R.remaining → IfErr result (λ e. Stops true (Lacks len self.old) self.old e self.new) }
     {
         self.lower(len)?;
         self.keep(len, bytes)
@@ -82,7 +82,7 @@ impl<R: ByteSource> Decoder<R> {
     // Adds a number of one byte or of four, and answers it.
     fn keep_number(&mut self, wide: bool, bytes: &mut Vec<u8>) -> Result<u32, Error>
         ensures ok { Tells R.remaining → IfOk result (λ n. Keeps (λ s. s ≡ bytes_high_first (cond wide 4 1) n) bytes.old.items self.old bytes.new.items self.new) }
-        ensures err { Tells R.remaining → IfErr result (λ e. Stopped true (Lacks (cond wide 4 1) self.old) self.old e self.new) }
+        ensures err { Tells R.remaining → IfErr result (λ e. Stops true (Lacks (cond wide 4 1) self.old) self.old e self.new) }
         ensures fits { IfOk result (λ n. n < 256 ^ cond wide 4 1) }
     {
         let number = self.number(wide)?;
@@ -96,7 +96,7 @@ impl<R: ByteSource> Decoder<R> {
     // Adds a size of one byte or of four and the text that it announces.
     fn keep_symbol(&mut self, wide: bool, bytes: &mut Vec<u8>) -> Result<(), Error>
         ensures ok { Tells R.remaining → IfOk result (λ _. Keeps (IsSymbol (cond wide 4 1)) bytes.old.items self.old bytes.new.items self.new) }
-        ensures err { Tells R.remaining → IfErr result (λ e. Stopped true (SymbolFault (cond wide 4 1) self.old) self.old e self.new) }
+        ensures err { Tells R.remaining → IfErr result (λ e. Stops true (SymbolFault (cond wide 4 1) self.old) self.old e self.new) }
     {
         let len = self.keep_number(wide, bytes)?;
         let start = bytes.len();
@@ -110,7 +110,7 @@ impl<R: ByteSource> Decoder<R> {
     // Adds a descriptor.
     fn keep_descriptor_bytes(&mut self, bytes: &mut Vec<u8>) -> Result<(), Error>
         ensures ok { Tells R.remaining → IfOk result (λ _. Keeps NamesAny bytes.old.items self.old bytes.new.items self.new) }
-        ensures err { Tells R.remaining → IfErr result (λ e. Stopped true (DescriptorFault self.old) self.old e self.new) }
+        ensures err { Tells R.remaining → IfErr result (λ e. Stops true (DescriptorFault self.old) self.old e self.new) }
     {
         let code = self.keep_code(bytes)?;
         match code {
@@ -126,7 +126,7 @@ impl<R: ByteSource> Decoder<R> {
     // Adds the constructor that stands next, and answers its code.
     fn keep_constructor(&mut self, bytes: &mut Vec<u8>) -> Result<u8, Error>
         ensures ok { Tells R.remaining → IfOk result (λ code. Keeps (IsConstructor code) bytes.old.items self.old bytes.new.items self.new) }
-        ensures err { Tells R.remaining → IfErr result (λ e. Stopped true (ConstructorFault self.old) self.old e self.new) }
+        ensures err { Tells R.remaining → IfErr result (λ e. Stops true (ConstructorFault self.old) self.old e self.new) }
     {
         let mut code = self.keep_code(bytes)?;
         let mut count = 0;
@@ -145,7 +145,7 @@ impl<R: ByteSource> Decoder<R> {
     // Adds the data under a known code.
     fn keep_data(&mut self, code: u8, bytes: &mut Vec<u8>) -> Result<(), Error>
         ensures ok { Tells R.remaining → IsKnown (format code) → IfOk result (λ _. Keeps (IsAnnounced (format code)) bytes.old.items self.old bytes.new.items self.new) }
-        ensures err { Tells R.remaining → IsKnown (format code) → IfErr result (λ e. Stopped true (LacksAnnounced (format code) self.old) self.old e self.new) }
+        ensures err { Tells R.remaining → IsKnown (format code) → IfErr result (λ e. Stops true (LacksAnnounced (format code) self.old) self.old e self.new) }
     {
         match data_of(code) {
             Data::Fixed(width) => self.keep_next(width, bytes),
@@ -160,7 +160,7 @@ impl<R: ByteSource> Decoder<R> {
     // them.
     fn check_term(&mut self, bytes: &[u8]) -> Result<(), Error>
         ensures ok { IfOk result (λ _. (n : ℕ) × IsFront (IsTerm (self.old.nesting - length self.old.saved)) bytes.now n × (self.new ≡ self.old)) }
-        ensures err { Tells R.remaining → IfErr result (λ e. Stopped false (NoTerm (self.old.nesting - length self.old.saved) bytes.now self.old) self.old e self.new) }
+        ensures err { Tells R.remaining → IfErr result (λ e. Stops false (NoTerm (self.old.nesting - length self.old.saved) bytes.now self.old) self.old e self.new) }
     {
         match len_of_term(bytes, self.nesting_left()) {
             Ok(_) => Ok(()),
@@ -171,8 +171,8 @@ impl<R: ByteSource> Decoder<R> {
 
     // The bytes of the next term, which are taken.
     fn term_bytes(&mut self, alloc: Global) -> Result<Vec<u8>, Error>
-        ensures ok { Tells R.remaining → IfOk result (λ bytes. Took self.old bytes.items self.new × IsTerm (self.old.nesting - length self.old.saved) bytes.items) }
-        ensures err { Tells R.remaining → IfErr result (λ e. Stopped true (SpellingFault self.old) self.old e self.new) }
+        ensures ok { Tells R.remaining → IfOk result (λ bytes. Takes self.old bytes.items self.new × IsTerm (self.old.nesting - length self.old.saved) bytes.items) }
+        ensures err { Tells R.remaining → IfErr result (λ e. Stops true (SpellingFault self.old) self.old e self.new) }
     {
         let mut bytes = Vec::new(alloc);
         let code = self.keep_constructor(&mut bytes)?;
@@ -185,7 +185,7 @@ impl<R: ByteSource> Decoder<R> {
     /// where it is the item of an array, whose constructor is none of its own, and otherwise the errors of `term_len`. In
     /// an open container `Size` is answered once all is there that the outermost one announces, and `Cut` before that.
     pub fn read_term(&mut self, alloc: Global) -> Result<Vec<u8>, Error>
-        ensures read { Tells R.remaining → Reads true (λ st bytes st'. TakesTerm st bytes.items st') TermFault self.old result self.new }
+        ensures read { Tells R.remaining → AnswersRead true (λ st bytes st'. TakesTerm st bytes.items st') TermFault self.old result self.new }
         ensures again { (e : Error) → self.old.error ≡ Some e → (result ≡ Err e) × (self.new ≡ self.old) }
     {
         self.check_item()?;

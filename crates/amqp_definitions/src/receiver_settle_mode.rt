@@ -1,6 +1,6 @@
 //! How a receiver settles deliveries (Part 2, section 2.8.3).
 ghost use Rattle.std.specs.Prelude.{◌≡◌, refl};
-ghost use Rattle.amqp_codec.specs.Ties.{one_term, tied, writing_of};
+ghost use Rattle.amqp_codec.specs.Agreement.{one_term, agreement, writing_of};
 ghost use Rattle.amqp_definitions.specs.Transport.{receiver_settle_mode_numbers, receiver_settle_mode_type};
 
 use amqp_codec::restricted::{RestrictedNumber, read_number, write_number};
@@ -82,5 +82,5 @@ impl DeserializeTerm for ReceiverSettleMode {
         read_number(decoder)
     }
 
-    ghost tied = { tied receiver_settle_mode_type refl };
+    ghost agreement = { agreement receiver_settle_mode_type refl };
 }

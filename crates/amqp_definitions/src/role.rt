@@ -1,6 +1,6 @@
 //! Roles (Part 2, section 2.8.1).
 ghost use Rattle.std.specs.Prelude.{◌≡◌, refl};
-ghost use Rattle.amqp_codec.specs.Ties.{one_term, tied, writing_of};
+ghost use Rattle.amqp_codec.specs.Agreement.{one_term, agreement, writing_of};
 ghost use Rattle.amqp_definitions.specs.Transport.{role_numbers, role_type};
 
 use amqp_codec::restricted::{RestrictedNumber, read_number, write_number};
@@ -85,5 +85,5 @@ impl DeserializeTerm for Role {
         read_number(decoder)
     }
 
-    ghost tied = { tied role_type refl };
+    ghost agreement = { agreement role_type refl };
 }

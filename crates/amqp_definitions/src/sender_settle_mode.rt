@@ -1,6 +1,6 @@
 //! How a sender settles deliveries (Part 2, section 2.8.2).
 ghost use Rattle.std.specs.Prelude.{◌≡◌, refl};
-ghost use Rattle.amqp_codec.specs.Ties.{one_term, tied, writing_of};
+ghost use Rattle.amqp_codec.specs.Agreement.{one_term, agreement, writing_of};
 ghost use Rattle.amqp_definitions.specs.Transport.{sender_settle_mode_numbers, sender_settle_mode_type};
 
 use amqp_codec::restricted::{RestrictedNumber, read_number, write_number};
@@ -86,5 +86,5 @@ impl DeserializeTerm for SenderSettleMode {
         read_number(decoder)
     }
 
-    ghost tied = { tied sender_settle_mode_type refl };
+    ghost agreement = { agreement sender_settle_mode_type refl };
 }

@@ -1,6 +1,6 @@
 //! What of a terminus is durable (Part 3, section 3.5.5).
 ghost use Rattle.std.specs.Prelude.{refl};
-ghost use Rattle.amqp_codec.specs.Ties.{one_term, tied, writing_of};
+ghost use Rattle.amqp_codec.specs.Agreement.{one_term, agreement, writing_of};
 ghost use Rattle.amqp_definitions.specs.Termini.{terminus_durability_numbers, terminus_durability_type};
 
 use amqp_codec::restricted::{RestrictedNumber, read_number, write_number};
@@ -70,5 +70,5 @@ impl DeserializeTerm for TerminusDurability {
         read_number(decoder)
     }
 
-    ghost tied = { tied terminus_durability_type refl };
+    ghost agreement = { agreement terminus_durability_type refl };
 }

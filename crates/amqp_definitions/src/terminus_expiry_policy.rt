@@ -2,7 +2,7 @@
 ghost use Rattle.std.specs.Prelude.{◌≡◌, IfErr, IfOk, refl, string_bytes};
 ghost use Rattle.amqp_wire.specs.declared.error.Error.TheVariants.{Memory};
 ghost use Rattle.amqp_codec.specs.Restricted.{Converts};
-ghost use Rattle.amqp_codec.specs.Ties.{one_term, tied, writing_of};
+ghost use Rattle.amqp_codec.specs.Agreement.{one_term, agreement, writing_of};
 ghost use Rattle.amqp_definitions.specs.Termini.{terminus_expiry_policy_texts, terminus_expiry_policy_type};
 
 use amqp_codec::restricted::{RestrictedText, from_symbol, read_text, symbol_of, write_text};
@@ -115,5 +115,5 @@ impl DeserializeTerm for TerminusExpiryPolicy {
         read_text(decoder, alloc)
     }
 
-    ghost tied = { tied terminus_expiry_policy_type refl };
+    ghost agreement = { agreement terminus_expiry_policy_type refl };
 }

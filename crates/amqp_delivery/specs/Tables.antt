@@ -1,5 +1,5 @@
 -- The tables of the delivery states (Part 3, section 3.4).
-use Rattle.amqp_codec.specs.Types.{inl, inr, codes, refl, plain, TermType, uint_type, ulong_type, mandatory, none, field}
+use Rattle.amqp_codec.specs.Types.{inl, inr, codes, refl, unchanged, TermType, uint_type, ulong_type, mandatory, none, field}
 use Rattle.amqp_codec.specs.Types.{Table, Choices, no_more, member, Chosen, SumOf, sum_of}
 use Rattle.amqp_delivery.specs.declared.accepted.Accepted.{Accepted}
 use Rattle.amqp_delivery.specs.declared.received.Received.{Received}
@@ -13,7 +13,7 @@ accepted = record {
   code = 0x24;
   name = codes "amqp:accepted:list";
   fields = none;
-  norm = plain;
+  norm = unchanged;
   norm_is = λ v. tt;
   is_small = refl;
 }
@@ -24,7 +24,7 @@ received = record {
   code = 0x23;
   name = codes "amqp:received:list";
   fields = field (λ v. v.section_number) (mandatory uint_type refl refl) (field (λ v. v.section_offset) (mandatory ulong_type refl refl) none);
-  norm = plain;
+  norm = unchanged;
   norm_is = λ v. (refl, (refl, tt));
   is_small = refl;
 }
@@ -35,7 +35,7 @@ released = record {
   code = 0x26;
   name = codes "amqp:released:list";
   fields = none;
-  norm = plain;
+  norm = unchanged;
   norm_is = λ v. tt;
   is_small = refl;
 }

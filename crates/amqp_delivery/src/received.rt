@@ -1,8 +1,8 @@
 //! The received state (Part 3, section 3.4.1).
-ghost use Rattle.amqp_codec.specs.Types.{composite, one_term, refl, tied, writing_of};
+ghost use Rattle.amqp_codec.specs.Types.{composite, one_term, refl, agreement, writing_of};
 ghost use Rattle.amqp_delivery.specs.Tables.{received};
 
-use amqp_codec::kernel::{Composite, CompositeTerm, FieldKind, Table, fill, write_composite};
+use amqp_codec::kernel::{Composite, CompositeTerm, FieldKind, Table, read_into, write_composite};
 use amqp_codec::{ByteSource, Decoder, Encoder, Error, Serialize, SerializeTerm};
 use std::alloc::Global;
 
@@ -44,8 +44,8 @@ impl Composite for Received {
         alloc: Global,
     ) -> Result<(), Error> {
         match index {
-            0 => fill(&mut self.section_number, decoder, alloc),
-            1 => fill(&mut self.section_offset, decoder, alloc),
+            0 => read_into(&mut self.section_number, decoder, alloc),
+            1 => read_into(&mut self.section_offset, decoder, alloc),
             _ => Err(decoder.refuse(Error::Surplus)),
         }
     }
@@ -88,5 +88,5 @@ impl SerializeTerm for Received {
 }
 
 impl CompositeTerm for Received {
-    ghost agrees = { tied (composite received) refl };
+    ghost agrees = { agreement (composite received) refl };
 }

@@ -1,6 +1,6 @@
 //! The state of a delivery (Part 3, section 3.4).
 ghost use Rattle.std.specs.Prelude.{◌≡◌};
-ghost use Rattle.amqp_codec.specs.Choices.{sum_one, sum_tied, sum_writing};
+ghost use Rattle.amqp_codec.specs.Choices.{sum_one, sum_agreement, sum_writing};
 ghost use Rattle.amqp_delivery.specs.Tables.{delivery_state, delivery_states};
 
 use crate::{Accepted, Received, Released};
@@ -109,5 +109,5 @@ impl DeserializeTerm for DeliveryState {
         read_sum(decoder, alloc)
     }
 
-    ghost tied = { sum_tied delivery_states };
+    ghost agreement = { sum_agreement delivery_states };
 }

@@ -1,13 +1,13 @@
 -- A term's constructor in an array, as bytes.
 use Rattle.std.proofs.Common.{◌≡◌, ℕ, List, [], ◌∷◌, ◌++◌, drop, refl, sym, ◌∙◌, ap, ap₂, Some, None, option_map}
 use Rattle.std.proofs.lemmas.List.{append_cancel_left}
-use Rattle.amqp_model.specs.Term.{null, Term, leaf, holder, described, kept, barred, Descriptor}
+use Rattle.amqp_model.specs.Term.{null, Term, leaf, container, described, kept, barred, Descriptor}
 use Rattle.amqp_model.specs.Spelling.{descriptor_value}
 use Rattle.amqp_model.specs.Text.{wide, wide_code, shortest, spell, form}
 use Rattle.amqp_model.specs.Ranges.{IsInRange}
 use Rattle.amqp_model.specs.Refusals.{core, HasForm, Differ}
 use Rattle.amqp_model.proofs.Primitives.{IsWritten}
-use Rattle.amqp_model.proofs.Forms.{Form, under, names, primitive_form_at, holder_form_at}
+use Rattle.amqp_model.proofs.Forms.{Form, under, names, primitive_form_at, container_form_at}
 use Rattle.amqp_model.proofs.Same.{names_same}
 use Rattle.amqp_encoder.specs.Measuring.{descriptor_bytes}
 use Rattle.amqp_encoder.proofs.Measured.{descs, core_code, Chain, IsOther}
@@ -23,7 +23,7 @@ AllNamed (d ∷ ds) = IsInRange (descriptor_value d) × IsWritten (descriptor_va
 -- the form says the bytes
 form_bytes : (t : Term) (f : Form) → form t ≡ Some f → (descs t ≡ bytes_of f.0) × (core_code t ≡ f.1)
 form_bytes (leaf p) f e = primitive_form_at (λ f. ([] ≡ bytes_of f.0) × ((wide p).0 ≡ f.1)) p f e (refl, refl)
-form_bytes (holder k ts) f e = holder_form_at (λ f. ([] ≡ bytes_of f.0) × (wide_code k ≡ f.1)) k ts f e (refl, refl)
+form_bytes (container k ts) f e = container_form_at (λ f. ([] ≡ bytes_of f.0) × (wide_code k ≡ f.1)) k ts f e (refl, refl)
 form_bytes (described d t) f e =
     let i = under d (form t) f e in
     let j = form_bytes t i.0 i.1 in
@@ -33,7 +33,7 @@ form_bytes (barred r) f e = cc
 
 form_named : (t : Term) (f : Form) → form t ≡ Some f → Chain t → AllNamed f.0
 form_named (leaf p) f e c = primitive_form_at (λ f. AllNamed f.0) p f e tt
-form_named (holder k ts) f e c = holder_form_at (λ f. AllNamed f.0) k ts f e tt
+form_named (container k ts) f e c = container_form_at (λ f. AllNamed f.0) k ts f e tt
 form_named (described d t) f e c =
     let i = under d (form t) f e in
     let j : AllNamed (d ∷ i.0.0) = (c.0, c.1, form_named t i.0 i.1 c.2) in
@@ -80,14 +80,14 @@ other_differs t u h n = (h, n.0, λ e. n.1 (refl, (form_alike t u h e).1))
 -- null and kept bytes have no form
 pub null_form : (t : Term) → core t ≡ leaf null → form t ≡ None
 null_form (leaf p) h = let e : form (leaf p) ≡ form (leaf null) = ap form h in e
-null_form (holder k ts) h = cc
+null_form (container k ts) h = cc
 null_form (described d t) h = ap (option_map (λ f. (d ∷ f.0, f.1))) (null_form t h)
 null_form (kept b) h = refl
 null_form (barred r) h = refl
 
 pub kept_form : (t : Term) (b : List ℕ) → core t ≡ kept b → form t ≡ None
 kept_form (leaf p) b h = cc
-kept_form (holder k ts) b h = cc
+kept_form (container k ts) b h = cc
 kept_form (described d t) b h = ap (option_map (λ f. (d ∷ f.0, f.1))) (kept_form t b h)
 kept_form (kept c) b h = refl
 kept_form (barred r) b h = refl

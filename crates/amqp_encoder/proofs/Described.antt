@@ -4,7 +4,7 @@ use Rattle.std.specs.Prelude.{Result, Ok, Err}
 use Rattle.std.proofs.lemmas.Bool.{le-ltb}
 use Rattle.amqp_model.specs.Term.{Descriptor}
 use Rattle.amqp_model.specs.Spelling.{descriptor_value}
-use Rattle.amqp_model.specs.Text.{Place, Plain, First, Later}
+use Rattle.amqp_model.specs.Text.{Place, Alone, First, Later}
 use Rattle.amqp_wire.specs.declared.error.Error.{Error}
 use Rattle.amqp_encoder.specs.Tokens.{TakesMemory, begin_described}
 use Rattle.amqp_encoder.specs.State.{Measured}
@@ -16,7 +16,7 @@ passes (Ok tt) l len h = refl
 passes (Err e) l len h = cc
 
 at_later : (p : Place) (b : List ℕ) (m : Measured) (e : Error) → p ≡ Later → form_after b m ≡ Err e → describe_at p b m ≡ Err e
-at_later Plain b m e h other = cc
+at_later Alone b m e h other = cc
 at_later First b m e h other = cc
 at_later Later b m e h other = ap (λ r. r >>= λ form. Ok (describe m 0 form m.descriptors)) other
 

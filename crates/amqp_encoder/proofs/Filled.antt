@@ -3,9 +3,9 @@ use Rattle.std.proofs.Common.{◌≡◌, ℕ, ◌+◌, ◌<◌, ◌≤◌, ◌^�
 use Rattle.std.specs.Prelude.{Ok}
 use Rattle.std.proofs.lemmas.List.{append-nil, map-append}
 use Rattle.std.proofs.lemmas.Bool.{le-ltb}
-use Rattle.amqp_model.specs.Term.{Primitive, null, Container, Term, Terms, leaf, holder, described, kept, barred, none, more, Descriptor, count}
+use Rattle.amqp_model.specs.Term.{Primitive, null, Container, Term, Terms, leaf, container, described, kept, barred, none, more, Descriptor, count}
 use Rattle.amqp_model.specs.Spelling.{descriptor_value}
-use Rattle.amqp_model.specs.Text.{Place, Plain, First, Later, next, first_place, primitive_text, descriptor_text, text, texts, sizes_of, all_sizes}
+use Rattle.amqp_model.specs.Text.{Place, Alone, First, Later, next, first_place, primitive_text, descriptor_text, text, texts, sizes_of, all_sizes}
 use Rattle.amqp_encoder.specs.declared.size.Size.{Size}
 use Rattle.amqp_encoder.specs.declared.encoder.Pass.TheVariants.{Filling}
 use Rattle.amqp_encoder.specs.Tokens.{Token, put, keep, begin, end, begin_described, end_described, tokens, all_tokens}
@@ -15,7 +15,7 @@ use Rattle.amqp_encoder.specs.Measuring.{◌>>=◌}
 use Rattle.amqp_encoder.specs.Filling.{emit, sized, fill_value, fill_sized, fill_put, fill_keep, fill_open, fill_begin, fill_begin_described, fill_end}
 use Rattle.amqp_encoder.specs.Writes.{fill, filling, steps}
 use Rattle.amqp_encoder.specs.Passes.{as_size}
-use Rattle.amqp_encoder.specs.Sound.{MayStand, Sound, AllSound, IsPlain, levels, all_levels}
+use Rattle.amqp_encoder.specs.Sound.{MayStand, IsSound, AreSound, IsAlone, levels, all_levels}
 use Rattle.amqp_encoder.proofs.Openings.{opened_text}
 
 abbrev pub filled : Place → List Place → List Size → List ℕ → ℕ → Filled
@@ -42,7 +42,7 @@ fills_value bs p outer sizes out limit h =
 
 sized_value : (p : Primitive) (place : Place) (outer : List Place) (sizes : List Size) (out : List ℕ) (limit : ℕ) → MayStand p place →
     fill_sized p (filled place outer sizes out limit) ≡ fill_value (primitive_text place p) (filled place outer sizes out limit)
-sized_value null Plain outer sizes out limit h = refl
+sized_value null Alone outer sizes out limit h = refl
 sized_value null First outer sizes out limit h = absurd h
 sized_value null Later outer sizes out limit h = absurd h
 sized_value p place outer sizes out limit h = refl
@@ -83,15 +83,15 @@ begins k items n p outer rest out limit s low h =
 describes : (d : Descriptor) (p : Place) (outer : List Place) (sizes : List Size) (out : List ℕ) (limit : ℕ) → sized (descriptor_value d) ≡ Ok tt → length outer + 1 ≤ 129 →
     length out + length (descriptor_text p d) ≤ limit →
     fill_begin_described d (filled p outer sizes out limit) ≡ Ok (filled p (p ∷ outer) sizes (out ++ descriptor_text p d) limit)
-describes d Plain outer sizes out limit s low h =
-    ap (λ r. r >>= λ _. fill_open (descriptor_text Plain d) Plain (filled Plain outer sizes out limit)) s ∙ opens (descriptor_text Plain d) Plain Plain outer sizes out limit low h
+describes d Alone outer sizes out limit s low h =
+    ap (λ r. r >>= λ _. fill_open (descriptor_text Alone d) Alone (filled Alone outer sizes out limit)) s ∙ opens (descriptor_text Alone d) Alone Alone outer sizes out limit low h
 describes d First outer sizes out limit s low h =
     ap (λ r. r >>= λ _. fill_open (descriptor_text First d) First (filled First outer sizes out limit)) s ∙ opens (descriptor_text First d) First First outer sizes out limit low h
 describes d Later outer sizes out limit s low h = opens [] Later Later outer sizes out limit low h
 
-keeps : (b : List ℕ) (p : Place) (outer : List Place) (sizes : List Size) (out : List ℕ) (limit : ℕ) → IsPlain p → length out + length b ≤ limit →
+keeps : (b : List ℕ) (p : Place) (outer : List Place) (sizes : List Size) (out : List ℕ) (limit : ℕ) → IsAlone p → length out + length b ≤ limit →
     fill_keep b (filled p outer sizes out limit) ≡ Ok (filled (next p) outer sizes (out ++ b) limit)
-keeps b Plain outer sizes out limit s h = fills_value b Plain outer sizes out limit h
+keeps b Alone outer sizes out limit s h = fills_value b Alone outer sizes out limit h
 keeps b First outer sizes out limit s h = absurd s
 keeps b Later outer sizes out limit s h = absurd s
 
@@ -100,11 +100,11 @@ module _ (deep : List ℕ → ℕ) where
     unfolding text sizes_of
 
     pub fill_term : (t : Term) (p : Place) (outer : List Place) (rest : List Size) (out : List ℕ) (limit : ℕ) (others : List Token) →
-        Sound t p → length outer + levels t ≤ 129 → length out + length (text t p) ≤ limit →
+        IsSound t p → length outer + levels t ≤ 129 → length out + length (text t p) ≤ limit →
         steps (Filling (filled p outer (map as_size (sizes_of t) ++ rest) out limit)) (tokens deep t ++ others) ≡ steps (Filling (filled (next p) outer rest (out ++ text t p) limit)) others
     fill_term (leaf x) p outer rest out limit others s low h = first_step _ _ (put x) others (fills_put x p outer rest out limit s.0 s.1 h)
     fill_term (kept b) p outer rest out limit others s low h = first_step _ _ (keep b (deep b)) others (keeps b p outer rest out limit s h)
-    fill_term (holder k ts) p outer rest out limit others s low h =
+    fill_term (container k ts) p outer rest out limit others s low h =
         let front = opening p k (count ts) (length (texts ts (first_place k))) in
         let body = texts ts (first_place k) in
         let whole = opened_text p k ts (first_place k) in
@@ -123,7 +123,7 @@ module _ (deep : List ℕ → ℕ) where
     fill_term (barred r) p outer rest out limit others s low h = absurd s
 
     pub fill_terms : (ts : Terms) (p : Place) (outer : List Place) (rest : List Size) (out : List ℕ) (limit : ℕ) (others : List Token) →
-        AllSound ts p → length outer + all_levels ts ≤ 129 → length out + length (texts ts p) ≤ limit →
+        AreSound ts p → length outer + all_levels ts ≤ 129 → length out + length (texts ts p) ≤ limit →
         steps (Filling (filled p outer (map as_size (all_sizes ts) ++ rest) out limit)) (all_tokens deep ts ++ others) ≡ steps (Filling (filled (last ts p) outer rest (out ++ texts ts p) limit)) others
     fill_terms none p outer rest out limit others s low h = rw append-nil refl
     fill_terms (more t ts) p outer rest out limit others s low h =

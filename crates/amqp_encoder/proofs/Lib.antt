@@ -2,7 +2,7 @@ pub mod Constructors
 pub mod Described
 pub mod Exactly
 pub mod Filled
-pub mod Holders
+pub mod ContainerTerms
 pub mod Joined
 pub mod Lifted
 pub mod Measured

@@ -3,9 +3,9 @@ use Rattle.std.proofs.Common.{◌≡◌, ℕ, suc, zero, ◌+◌, ◌%◌, ◌<�
 use Rattle.std.specs.Prelude.{Ok, eqb, not}
 use Rattle.std.proofs.lemmas.Bool.{eqb-true}
 use Rattle.std.proofs.lemmas.List.{drop_at, drop-drop, take-append-drop}
-use Rattle.amqp_model.specs.Term.{Primitive, Refusal, zero_width_items, mixed_array, too_large, lazy_in_array, non_ascii, Container, list, map, array, Term, Terms, leaf, holder, described, kept, barred, none, more, Descriptor, count}
+use Rattle.amqp_model.specs.Term.{Primitive, Refusal, zero_width_items, mixed_array, too_large, lazy_in_array, non_ascii, Container, list, map, array, Term, Terms, leaf, container, described, kept, barred, none, more, Descriptor, count}
 use Rattle.amqp_model.specs.Spelling.{descriptor_value}
-use Rattle.amqp_model.specs.Text.{Place, Plain, First, Later, next, first_place, wide_code, form, text, texts, content_of, descriptor_text}
+use Rattle.amqp_model.specs.Text.{Place, Alone, First, Later, next, first_place, wide_code, form, text, texts, content_of, descriptor_text}
 use Rattle.amqp_model.specs.Ranges.{IsInRange}
 use Rattle.amqp_model.specs.Refusals.{Somewhere, SomewhereIn, IsItem, HasForm, IsNonAscii, IsLong, HasFlaw}
 use Rattle.amqp_model.proofs.Primitives.{IsWritten}
@@ -27,18 +27,18 @@ pub record Tested (p : Primitive) : Type 0 where
   pub is_written : IsWritten p
 
 abbrev pub form_in : Place → ℕ → List ℕ → List ℕ → ℕ
-form_in Plain s D b = 0
+form_in Alone s D b = 0
 form_in First s D b = length (D ++ b)
 form_in Later s D b = s + length b
 
 abbrev pub descs_in : Place → List ℕ → List ℕ → List ℕ
-descs_in Plain D b = D
+descs_in Alone D b = D
 descs_in First D b = D ++ b
 descs_in Later D b = D
 
 -- the descriptor goes on where it must
 abbrev pub GoesOn : Place → ℕ → List ℕ → List ℕ → Type 0
-GoesOn Plain s D b = Unit {0}
+GoesOn Alone s D b = Unit {0}
 GoesOn First s D b = Unit {0}
 GoesOn Later s D b = take (length b) (drop s D) ≡ b
 
@@ -46,7 +46,7 @@ seam : (s : ℕ) (D b : List ℕ) → take (length b) (drop s D) ≡ b → drop 
 seam s D b h = sym (take-append-drop (length b) (drop s D)) ∙ ap (λ l. l ++ drop (length b) (drop s D)) h ∙ ap (λ l. b ++ l) (drop-drop (length b) s D)
 
 same_on : (p : Place) (s : ℕ) (D : List ℕ) (cd : ℕ) (b ds : List ℕ) (x : ℕ) → GoesOn p s D b → Same p (form_in p s D b) (descs_in p D b) cd ds x → Same p s D cd (b ++ ds) x
-same_on Plain s D cd b ds x g h = tt
+same_on Alone s D cd b ds x g h = tt
 same_on First s D cd b ds x g h = tt
 same_on Later s D cd b ds x g h = (seam s D b g ∙ ap (λ l. b ++ l) h.0, h.1)
 
@@ -55,7 +55,7 @@ rest_of s D b ds h = sym (drop-drop (length b) s D) ∙ ap (drop (length b)) h �
 
 other_on : (p : Place) (s : ℕ) (D : List ℕ) (cd : ℕ) (x : Descriptor) (t : Term) → Other p (form_in p s D (descriptor_bytes x)) (descs_in p D (descriptor_bytes x)) cd t
     → Other p s D cd (described x t)
-other_on Plain s D cd x t h = h
+other_on Alone s D cd x t h = h
 other_on First s D cd x t h = h
 other_on Later s D cd x t h = λ rest e. subst (λ ds. IsOther ds cd t) (rest_of s D (descriptor_bytes x) rest e) h
 
@@ -87,7 +87,7 @@ even_of n h = eqb-true n 0 (not_false (eqb n 0) h)
 module _ (deep : List ℕ → ℕ) where
   within_at : (d : ℕ) (t : Term) → d ≤ 128 → IsWithin deep d t → d + nest_by deep t ≤ 128
   within_at d (leaf p) l h = omega arith
-  within_at d (holder k ts) l h = h
+  within_at d (container k ts) l h = h
   within_at d (described x t) l h = h
   within_at d (kept b) l h = h
   within_at d (barred r) l h = omega arith
@@ -101,8 +101,8 @@ module _ (deep : List ℕ → ℕ) where
   array_at d (more (leaf p) ts) l h = array_at d ts l h.1
   array_at d (more (kept b) ts) l h = array_at d ts l h.1
   array_at d (more (barred r) ts) l h = array_at d ts l h.1
-  array_at d (more (holder k us) ts) l h =
-      let one : (d + 1) + nest_by deep (holder k us) ≤ 128 = h.0 in
+  array_at d (more (container k us) ts) l h =
+      let one : (d + 1) + nest_by deep (container k us) ≤ 128 = h.0 in
       let low : d + 1 ≤ 128 = omega arith in
       let two : (d + 1) + nests_by deep ts ≤ 128 = alls_at (d + 1) ts low h.1 in
       omega arith
@@ -114,9 +114,9 @@ module _ (deep : List ℕ → ℕ) where
 
   past_at : (p : Place) (d : ℕ) (t : Term) → IsPast deep p d t → 128 < d + nest_by deep t
   past_at p d (leaf x) h = absurd h
-  past_at p d (holder k ts) h = h
+  past_at p d (container k ts) h = h
   past_at p d (described x t) h = h
-  past_at Plain d (kept b) h = h
+  past_at Alone d (kept b) h = h
   past_at First d (kept b) h = absurd h
   past_at Later d (kept b) h = absurd h
   past_at p d (barred r) h = absurd h
@@ -127,12 +127,12 @@ module _ (deep : List ℕ → ℕ) where
   any_past p d (more t ts) (inr h) = omega (arith, any_past (next p) d ts h)
 
   no_kept : (p : Place) (d : ℕ) (b : List ℕ) → InArray p → IsPast deep p d (kept b) → ⊥
-  no_kept Plain d b a h = a
+  no_kept Alone d b a h = a
   no_kept First d b a h = h
   no_kept Later d b a h = h
 
   still : (p : Place) → InArray p → InArray (next p)
-  still Plain h = h
+  still Alone h = h
   still First h = tt
   still Later h = tt
 
@@ -144,8 +144,8 @@ module _ (deep : List ℕ → ℕ) where
   array_past p d (more (kept b) ts) a (inr h) = array_past (next p) d ts (still p a) h
   array_past p d (more (barred r) ts) a (inl h) = absurd h
   array_past p d (more (barred r) ts) a (inr h) = array_past (next p) d ts (still p a) h
-  array_past p d (more (holder k us) ts) a (inl h) = let f : 128 < (d + 1) + nest_by deep (holder k us) = h in omega arith
-  array_past p d (more (holder k us) ts) a (inr h) = omega (arith, any_past (next p) (d + 1) ts h)
+  array_past p d (more (container k us) ts) a (inl h) = let f : 128 < (d + 1) + nest_by deep (container k us) = h in omega arith
+  array_past p d (more (container k us) ts) a (inr h) = omega (arith, any_past (next p) (d + 1) ts h)
   array_past p d (more (described x t) ts) a (inl h) = let f : 128 < (d + 1) + nest_by deep (described x t) = h in omega arith
   array_past p d (more (described x t) ts) a (inr h) = omega (arith, any_past (next p) (d + 1) ts h)
 
@@ -209,7 +209,7 @@ module _ (deep : List ℕ → ℕ) where
   content_fits array zero items h l = omega arith
   content_fits array (suc n) items h l = omega (arith, h.0)
 
-  array_flawless : (ts : Terms) (s cd : ℕ) (D : List ℕ) → AllFormed deep ts → Uniform deep First s D cd ts → HasSize (length (texts ts First)) (count ts) → (r : Refusal) → HasFlaw r (holder array ts) → ⊥
+  array_flawless : (ts : Terms) (s cd : ℕ) (D : List ℕ) → AllFormed deep ts → Uniform deep First s D cd ts → HasSize (length (texts ts First)) (count ts) → (r : Refusal) → HasFlaw r (container array ts) → ⊥
   array_flawless ts s cd D f a z mixed_array (t, u, i, j, n) = one_form_shared t u (item_formed t ts i f).0 (unmixed ts s cd D f a t u i j) n
   array_flawless ts s cd D f a z zero_width_items (t, i, h) = formless t (item_formed t ts i f).0 (null_form t h)
   array_flawless ts s cd D f a z lazy_in_array (t, b, i, h) = formless t (item_formed t ts i f).0 (kept_form t b h)
@@ -217,46 +217,46 @@ module _ (deep : List ℕ → ℕ) where
   array_flawless ts s cd D f a z too_large h = content_fits array (count ts) (texts ts First) z h
   array_flawless ts s cd D f a z _ h = h
 
-  holder_flawless : (k : Container) (ts : Terms) (s cd : ℕ) (D : List ℕ) → (InArray (first_place k) → AllFormed deep ts) → Uniform deep (first_place k) s D cd ts → HasSize (length (texts ts (first_place k))) (count ts) → (r : Refusal) → HasFlaw r (holder k ts) → ⊥
-  holder_flawless array ts s cd D f a z r h = array_flawless ts s cd D (f tt) a z r h
-  holder_flawless list ts s cd D f a z mixed_array h = h
-  holder_flawless list ts s cd D f a z zero_width_items h = h
-  holder_flawless list ts s cd D f a z lazy_in_array h = h
-  holder_flawless list ts s cd D f a z non_ascii h = h
-  holder_flawless list ts s cd D f a z too_large h = content_fits list (count ts) (texts ts Plain) z h
-  holder_flawless list ts s cd D f a z _ h = h
-  holder_flawless map ts s cd D f a z mixed_array h = h
-  holder_flawless map ts s cd D f a z zero_width_items h = h
-  holder_flawless map ts s cd D f a z lazy_in_array h = h
-  holder_flawless map ts s cd D f a z non_ascii h = h
-  holder_flawless map ts s cd D f a z too_large h = content_fits map (count ts) (texts ts Plain) z h
-  holder_flawless map ts s cd D f a z _ h = h
+  container_flawless : (k : Container) (ts : Terms) (s cd : ℕ) (D : List ℕ) → (InArray (first_place k) → AllFormed deep ts) → Uniform deep (first_place k) s D cd ts → HasSize (length (texts ts (first_place k))) (count ts) → (r : Refusal) → HasFlaw r (container k ts) → ⊥
+  container_flawless array ts s cd D f a z r h = array_flawless ts s cd D (f tt) a z r h
+  container_flawless list ts s cd D f a z mixed_array h = h
+  container_flawless list ts s cd D f a z zero_width_items h = h
+  container_flawless list ts s cd D f a z lazy_in_array h = h
+  container_flawless list ts s cd D f a z non_ascii h = h
+  container_flawless list ts s cd D f a z too_large h = content_fits list (count ts) (texts ts Alone) z h
+  container_flawless list ts s cd D f a z _ h = h
+  container_flawless map ts s cd D f a z mixed_array h = h
+  container_flawless map ts s cd D f a z zero_width_items h = h
+  container_flawless map ts s cd D f a z lazy_in_array h = h
+  container_flawless map ts s cd D f a z non_ascii h = h
+  container_flawless map ts s cd D f a z too_large h = content_fits map (count ts) (texts ts Alone) z h
+  container_flawless map ts s cd D f a z _ h = h
 
-  even_map : (k : Container) (ts : Terms) → is_odd_map k (count ts) ≡ false → IsOddMap (holder k ts) → ⊥
+  even_map : (k : Container) (ts : Terms) → is_odd_map k (count ts) ≡ false → IsOddMap (container k ts) → ⊥
   even_map list ts e h = h
   even_map array ts e h = h
   even_map map ts e h = h (even_of (count ts % 2) e)
 
-  holder_clean : (k : Container) (ts : Terms) (s cd : ℕ) (D : List ℕ) → is_odd_map k (count ts) ≡ false → HasSize (length (texts ts (first_place k))) (count ts) → (InArray (first_place k) → AllFormed deep ts) → Uniform deep (first_place k) s D cd ts
-      → ((e : Error) → SomewhereIn (HasReason e) ts → ⊥) → (e : Error) → Somewhere (HasReason e) (holder k ts) → ⊥
-  holder_clean k ts s cd D o z f a h e (inl (inl (r, i, inl q))) = cc
-  holder_clean k ts s cd D o z f a h e (inl (inl (r, i, inr w))) = holder_flawless k ts s cd D f a z r w
-  holder_clean k ts s cd D o z f a h e (inl (inr (inl c))) = let x : 2 ^ 32 ≤ count ts = c.1.0 in omega (arith, z.1)
-  holder_clean k ts s cd D o z f a h e (inl (inr (inr c))) = even_map k ts o c.1
-  holder_clean k ts s cd D o z f a h e (inr w) = h e w
+  container_clean : (k : Container) (ts : Terms) (s cd : ℕ) (D : List ℕ) → is_odd_map k (count ts) ≡ false → HasSize (length (texts ts (first_place k))) (count ts) → (InArray (first_place k) → AllFormed deep ts) → Uniform deep (first_place k) s D cd ts
+      → ((e : Error) → SomewhereIn (HasReason e) ts → ⊥) → (e : Error) → Somewhere (HasReason e) (container k ts) → ⊥
+  container_clean k ts s cd D o z f a h e (inl (inl (r, i, inl q))) = cc
+  container_clean k ts s cd D o z f a h e (inl (inl (r, i, inr w))) = container_flawless k ts s cd D f a z r w
+  container_clean k ts s cd D o z f a h e (inl (inr (inl c))) = let x : 2 ^ 32 ≤ count ts = c.1.0 in omega (arith, z.1)
+  container_clean k ts s cd D o z f a h e (inl (inr (inr c))) = even_map k ts o c.1
+  container_clean k ts s cd D o z f a h e (inr w) = h e w
 
-  holder_within : (k : Container) (d : ℕ) (ts : Terms) → d ≤ around k → AllWithin deep (d + 1) ts → d + nest_by deep (holder k ts) ≤ 128
-  holder_within list d ts l h = let f : (d + 1) + nests_by deep ts ≤ 128 = alls_at (d + 1) ts (omega arith) h in omega arith
-  holder_within map d ts l h = let f : (d + 1) + nests_by deep ts ≤ 128 = alls_at (d + 1) ts (omega arith) h in omega arith
-  holder_within array d ts l h = array_at d ts l h
+  container_within : (k : Container) (d : ℕ) (ts : Terms) → d ≤ around k → AllWithin deep (d + 1) ts → d + nest_by deep (container k ts) ≤ 128
+  container_within list d ts l h = let f : (d + 1) + nests_by deep ts ≤ 128 = alls_at (d + 1) ts (omega arith) h in omega arith
+  container_within map d ts l h = let f : (d + 1) + nests_by deep ts ≤ 128 = alls_at (d + 1) ts (omega arith) h in omega arith
+  container_within array d ts l h = array_at d ts l h
 
-  pub accepted_holder : (k : Container) (ts : Terms) (p : Place) (c n d s cd : ℕ) (D : List ℕ) → d ≤ around k → is_odd_map k (count ts) ≡ false → HasSize (length (texts ts (first_place k))) (count ts)
+  pub accepted_container : (k : Container) (ts : Terms) (p : Place) (c n d s cd : ℕ) (D : List ℕ) → d ≤ around k → is_odd_map k (count ts) ≡ false → HasSize (length (texts ts (first_place k))) (count ts)
       → Same p s D cd [] (wide_code k) → AcceptedAll deep ts (first_place k) 0 0 (d + 1) (length D) 0 D
-      → c + length (text (holder k ts) p) ≤ MAX → n + 1 ≤ MAX → AcceptedAt deep (holder k ts) p c n d s cd D
-  accepted_holder k ts p c n d s cd D low o z same_ a l m = record {
+      → c + length (text (container k ts) p) ≤ MAX → n + 1 ≤ MAX → AcceptedAt deep (container k ts) p c n d s cd D
+  accepted_container k ts p c n d s cd D low o z same_ a l m = record {
     sound = (z, a.all_sound);
-    clean = holder_clean k ts (length D) 0 D o z a.all_formed a.uniform a.all_clean;
-    within = holder_within k d ts low a.all_within;
+    clean = container_clean k ts (length D) 0 D o z a.all_formed a.uniform a.all_clean;
+    within = container_within k d ts low a.all_within;
     long = l;
     many = m;
     formed = (λ i. (([], wide_code k), refl));
@@ -264,10 +264,10 @@ module _ (deep : List ℕ → ℕ) where
     same = same_;
   }
 
-  holder_past : (k : Container) (d : ℕ) (ts : Terms) → AnyPast deep (first_place k) (d + 1) ts → 128 < d + nest_by deep (holder k ts)
-  holder_past list d ts h = omega (arith, any_past Plain (d + 1) ts h)
-  holder_past map d ts h = omega (arith, any_past Plain (d + 1) ts h)
-  holder_past array d ts h = array_past First d ts tt h
+  container_past : (k : Container) (d : ℕ) (ts : Terms) → AnyPast deep (first_place k) (d + 1) ts → 128 < d + nest_by deep (container k ts)
+  container_past list d ts h = omega (arith, any_past Alone (d + 1) ts h)
+  container_past map d ts h = omega (arith, any_past Alone (d + 1) ts h)
+  container_past array d ts h = array_past First d ts tt h
 
   long_content : (k : Container) (ts : Terms) → 2 ^ 32 ≤ 4 + length (texts ts (first_place k)) → 2 ^ 32 ≤ 4 + length (content_of k (count ts) (texts ts (first_place k)))
   unfolding texts
@@ -276,27 +276,27 @@ module _ (deep : List ℕ → ℕ) where
   long_content array none h = absurd (omega arith)
   long_content array (more t ts) h = h
 
-  pub refused_size : (k : Container) (ts : Terms) (e : Error) → e ≡ TooLarge → (2 ^ 32 ≤ 4 + length (texts ts (first_place k))) ⊎ ((2 ^ 32 ≤ count ts) × IsItem (kept []) ts) → Somewhere (HasReason e) (holder k ts)
+  pub refused_size : (k : Container) (ts : Terms) (e : Error) → e ≡ TooLarge → (2 ^ 32 ≤ 4 + length (texts ts (first_place k))) ⊎ ((2 ^ 32 ≤ count ts) × IsItem (kept []) ts) → Somewhere (HasReason e) (container k ts)
   refused_size k ts e i (inl h) = inl (inl (too_large, i, inr (long_content k ts h)))
   refused_size k ts e i (inr h) = inl (inr (inl (i, h)))
 
-  mixed_holder : (ts : Terms) (s cd : ℕ) (D : List ℕ) → MixedAt deep First s D cd ts → HasFlaw mixed_array (holder array ts)
-  mixed_holder none s cd D h = absurd h
-  mixed_holder (more t ts) s cd D (g, (u, i, n)) = (t, u, inl refl, inr i, other_differs t u g n)
+  mixed_container : (ts : Terms) (s cd : ℕ) (D : List ℕ) → MixedAt deep First s D cd ts → HasFlaw mixed_array (container array ts)
+  mixed_container none s cd D h = absurd h
+  mixed_container (more t ts) s cd D (g, (u, i, n)) = (t, u, inl refl, inr i, other_differs t u g n)
 
-  pub refused_holder : (k : Container) (ts : Terms) (p : Place) (c n d s cd : ℕ) (D : List ℕ) (e : Error)
-      → RefusedAll deep ts (first_place k) 0 0 (d + 1) (length D) 0 D e → RefusedAt deep (holder k ts) p c n d s cd D e
-  refused_holder k ts p c n d s cd D e (some_inside r) = inside (inr r)
-  refused_holder k ts p c n d s cd D e (some_past i h) = past i (holder_past k d ts h)
-  refused_holder k ts p c n d s cd D e (all_too_long i h) = inside (refused_size k ts e i (inl (omega arith)))
-  refused_holder k ts p c n d s cd D e (all_too_many i h (inl m)) = inside (refused_size k ts e i (inl (omega arith)))
-  refused_holder k ts p c n d s cd D e (all_too_many i h (inr m)) = inside (refused_size k ts e i (inr (omega arith, m)))
-  refused_holder list ts p c n d s cd D e (some_null i a t j h) = absurd a
-  refused_holder map ts p c n d s cd D e (some_null i a t j h) = absurd a
-  refused_holder array ts p c n d s cd D e (some_null i a t j h) = inside (inl (inl (zero_width_items, i, inr (t, j, h))))
-  refused_holder list ts p c n d s cd D e (some_kept i a t b j h) = absurd a
-  refused_holder map ts p c n d s cd D e (some_kept i a t b j h) = absurd a
-  refused_holder array ts p c n d s cd D e (some_kept i a t b j h) = inside (inl (inl (lazy_in_array, i, inr (t, b, j, h))))
-  refused_holder list ts p c n d s cd D e (some_other i h) = absurd h
-  refused_holder map ts p c n d s cd D e (some_other i h) = absurd h
-  refused_holder array ts p c n d s cd D e (some_other i h) = inside (inl (inl (mixed_array, i, inr (mixed_holder ts (length D) 0 D h))))
+  pub refused_container : (k : Container) (ts : Terms) (p : Place) (c n d s cd : ℕ) (D : List ℕ) (e : Error)
+      → RefusedAll deep ts (first_place k) 0 0 (d + 1) (length D) 0 D e → RefusedAt deep (container k ts) p c n d s cd D e
+  refused_container k ts p c n d s cd D e (some_inside r) = inside (inr r)
+  refused_container k ts p c n d s cd D e (some_past i h) = past i (container_past k d ts h)
+  refused_container k ts p c n d s cd D e (all_too_long i h) = inside (refused_size k ts e i (inl (omega arith)))
+  refused_container k ts p c n d s cd D e (all_too_many i h (inl m)) = inside (refused_size k ts e i (inl (omega arith)))
+  refused_container k ts p c n d s cd D e (all_too_many i h (inr m)) = inside (refused_size k ts e i (inr (omega arith, m)))
+  refused_container list ts p c n d s cd D e (some_null i a t j h) = absurd a
+  refused_container map ts p c n d s cd D e (some_null i a t j h) = absurd a
+  refused_container array ts p c n d s cd D e (some_null i a t j h) = inside (inl (inl (zero_width_items, i, inr (t, j, h))))
+  refused_container list ts p c n d s cd D e (some_kept i a t b j h) = absurd a
+  refused_container map ts p c n d s cd D e (some_kept i a t b j h) = absurd a
+  refused_container array ts p c n d s cd D e (some_kept i a t b j h) = inside (inl (inl (lazy_in_array, i, inr (t, b, j, h))))
+  refused_container list ts p c n d s cd D e (some_other i h) = absurd h
+  refused_container map ts p c n d s cd D e (some_other i h) = absurd h
+  refused_container array ts p c n d s cd D e (some_other i h) = inside (inl (inl (mixed_array, i, inr (mixed_container ts (length D) 0 D h))))

@@ -1,9 +1,9 @@
 -- What holds of a term that the measuring pass takes, and of one that it refuses.
 use Rattle.std.proofs.Common.{◌≡◌, ℕ, ◌+◌, ◌<◌, ◌≤◌, List, [], ◌++◌, length, drop, refl, sym, inl, inr, ◌⊎◌, arith, length-append}
 use Rattle.std.proofs.lemmas.List.{drop_at}
-use Rattle.amqp_model.specs.Term.{null, Term, Terms, leaf, holder, described, kept, none, more, count}
+use Rattle.amqp_model.specs.Term.{null, Term, Terms, leaf, container, described, kept, none, more, count}
 use Rattle.amqp_model.specs.Spelling.{descriptor_value}
-use Rattle.amqp_model.specs.Text.{Place, Plain, First, Later, next, wide, wide_code, text, texts}
+use Rattle.amqp_model.specs.Text.{Place, Alone, First, Later, next, wide, wide_code, text, texts}
 use Rattle.amqp_model.specs.Ranges.{IsInRange}
 use Rattle.amqp_model.specs.Refusals.{Somewhere, SomewhereIn, IsItem, core, HasForm}
 use Rattle.amqp_model.proofs.Primitives.{IsWritten}
@@ -11,10 +11,10 @@ use Rattle.amqp_wire.specs.declared.error.Error.{Error}
 use Rattle.amqp_wire.specs.declared.error.Error.TheVariants.{Depth, ZeroWidthItems, MixedArray, TooLarge, LazyInArray}
 use Rattle.amqp_encoder.specs.Measuring.{MAX, descriptor_bytes}
 use Rattle.amqp_encoder.specs.Reasons.{HasReason, nest_by}
-use Rattle.amqp_encoder.specs.Sound.{Sound, AllSound}
+use Rattle.amqp_encoder.specs.Sound.{IsSound, AreSound}
 
 abbrev pub InArray : Place → Type 0
-InArray Plain = ⊥
+InArray Alone = ⊥
 InArray First = Unit {0}
 InArray Later = Unit {0}
 
@@ -25,35 +25,35 @@ descs _ = []
 
 abbrev pub core_code : Term → ℕ
 core_code (leaf p) = (wide p).0
-core_code (holder k ts) = wide_code k
+core_code (container k ts) = wide_code k
 core_code (described d t) = core_code t
 core_code _ = 0
 
 abbrev pub code_after : Place → ℕ → ℕ → ℕ
-code_after Plain cd x = cd
+code_after Alone cd x = cd
 code_after First cd x = x
 code_after Later cd x = cd
 
 abbrev pub descs_after : Place → List ℕ → List ℕ → List ℕ
-descs_after Plain D ds = D
+descs_after Alone D ds = D
 descs_after First D ds = D ++ ds
 descs_after Later D ds = D
 
 -- where the constructor of the next value goes on
 abbrev pub Fit : Place → ℕ → List ℕ → Type 0
-Fit Plain s D = Unit {0}
+Fit Alone s D = Unit {0}
 Fit First s D = s ≡ length D
 Fit Later s D = s ≤ length D
 
 -- the same constructor, or another one
 abbrev pub Same : Place → ℕ → List ℕ → ℕ → List ℕ → ℕ → Type 0
-Same Plain s D cd ds x = Unit {0}
+Same Alone s D cd ds x = Unit {0}
 Same First s D cd ds x = Unit {0}
 Same Later s D cd ds x = (drop s D ≡ ds) × (cd ≡ x)
 
 -- no descriptor is left and the code is this one, which isn't so
 abbrev pub OtherCode : Place → ℕ → List ℕ → ℕ → ℕ → Type 0
-OtherCode Plain s D cd x = ⊥
+OtherCode Alone s D cd x = ⊥
 OtherCode First s D cd x = ⊥
 OtherCode Later s D cd x = (drop s D ≡ []) × (cd ≡ x) → ⊥
 
@@ -63,7 +63,7 @@ IsOther ds x (described d t) = (rest : List ℕ) → ds ≡ descriptor_bytes d +
 IsOther ds x t = HasForm t × ((ds ≡ []) × (x ≡ core_code t) → ⊥)
 
 abbrev pub Other : Place → ℕ → List ℕ → ℕ → Term → Type 0
-Other Plain s D cd t = ⊥
+Other Alone s D cd t = ⊥
 Other First s D cd t = ⊥
 Other Later s D cd t = IsOther (drop s D) cd t
 
@@ -78,7 +78,7 @@ TakesBytes t p = (1 ≤ length (text t p)) ⊎ (kept [] ≡ t)
 
 module _ (deep : List ℕ → ℕ) where
   abbrev pub IsWithin : ℕ → Term → Type 0
-  IsWithin d (holder k ts) = d + nest_by deep (holder k ts) ≤ 128
+  IsWithin d (container k ts) = d + nest_by deep (container k ts) ≤ 128
   IsWithin d (described e t) = d + nest_by deep (described e t) ≤ 128
   IsWithin d (kept b) = d + deep b ≤ 128
   IsWithin d _ = Unit {0}
@@ -88,9 +88,9 @@ module _ (deep : List ℕ → ℕ) where
   AllWithin d (more t ts) = IsWithin d t × AllWithin d ts
 
   abbrev pub IsPast : Place → ℕ → Term → Type 0
-  IsPast p d (holder k ts) = 128 < d + nest_by deep (holder k ts)
+  IsPast p d (container k ts) = 128 < d + nest_by deep (container k ts)
   IsPast p d (described e t) = 128 < d + nest_by deep (described e t)
-  IsPast Plain d (kept b) = 128 < d + deep b
+  IsPast Alone d (kept b) = 128 < d + deep b
   IsPast p d _ = ⊥
 
   abbrev pub AnyPast : Place → ℕ → Terms → Type 0
@@ -98,7 +98,7 @@ module _ (deep : List ℕ → ℕ) where
   AnyPast p d (more t ts) = IsPast p d t ⊎ AnyPast (next p) d ts
 
   pub record AcceptedAt (t : Term) (p : Place) (c n d s cd : ℕ) (D : List ℕ) : Type 0 where
-    pub sound : Sound t p
+    pub sound : IsSound t p
     pub clean : (e : Error) → Somewhere (HasReason e) t → ⊥
     pub within : IsWithin d t
     pub long : c + length (text t p) ≤ MAX
@@ -122,7 +122,7 @@ module _ (deep : List ℕ → ℕ) where
   AllAlike ds x (more t ts) = (ds ≡ descs t) × (x ≡ core_code t) × AllAlike ds x ts
 
   abbrev pub Uniform : Place → ℕ → List ℕ → ℕ → Terms → Type 0
-  Uniform Plain s D cd ts = Unit {0}
+  Uniform Alone s D cd ts = Unit {0}
   Uniform First s D cd none = Unit {0}
   Uniform First s D cd (more t ts) = AllAlike (descs t) (core_code t) ts
   Uniform Later s D cd ts = AllAlike (drop s D) cd ts
@@ -132,7 +132,7 @@ module _ (deep : List ℕ → ℕ) where
   Unlike ds x ts = (u : Term) × IsItem u ts × IsOther ds x u
 
   abbrev pub MixedAt : Place → ℕ → List ℕ → ℕ → Terms → Type 0
-  MixedAt Plain s D cd ts = ⊥
+  MixedAt Alone s D cd ts = ⊥
   MixedAt First s D cd none = ⊥
   MixedAt First s D cd (more t ts) = HasForm t × Unlike (descs t) (core_code t) ts
   MixedAt Later s D cd ts = Unlike (drop s D) cd ts
@@ -142,7 +142,7 @@ module _ (deep : List ℕ → ℕ) where
   AllFormed (more t ts) = HasForm t × Chain t × AllFormed ts
 
   pub record AcceptedAll (ts : Terms) (p : Place) (c n d s cd : ℕ) (D : List ℕ) : Type 0 where
-    pub all_sound : AllSound ts p
+    pub all_sound : AreSound ts p
     pub all_clean : (e : Error) → SomewhereIn (HasReason e) ts → ⊥
     pub all_within : AllWithin d ts
     pub all_long : c + length (texts ts p) ≤ MAX
@@ -162,29 +162,29 @@ module _ (deep : List ℕ → ℕ) where
   -- one more term
 
   in_array_on : (p : Place) → InArray p → InArray (next p)
-  in_array_on Plain h = h
+  in_array_on Alone h = h
   in_array_on First h = tt
   in_array_on Later h = tt
 
   in_array_back : (p : Place) → InArray (next p) → InArray p
-  in_array_back Plain h = h
+  in_array_back Alone h = h
   in_array_back First h = tt
   in_array_back Later h = tt
 
   uniform_on : (p : Place) (t : Term) (ts : Terms) (s cd : ℕ) (D : List ℕ) → Fit p s D → Same p s D cd (descs t) (core_code t)
       → Uniform (next p) s (descs_after p D (descs t)) (code_after p cd (core_code t)) ts → Uniform p s D cd (more t ts)
-  uniform_on Plain t ts s cd D f a b = tt
+  uniform_on Alone t ts s cd D f a b = tt
   uniform_on First t ts s cd D f a b = rw (← drop_at D (descs t) s (sym f)) b
   uniform_on Later t ts s cd D f a b = (a.0, a.1, b)
 
   mixed_on : (p : Place) (t : Term) (ts : Terms) (s cd : ℕ) (D : List ℕ) → Fit p s D → (InArray p → HasForm t)
       → MixedAt (next p) s (descs_after p D (descs t)) (code_after p cd (core_code t)) ts → MixedAt p s D cd (more t ts)
-  mixed_on Plain t ts s cd D f g m = m
+  mixed_on Alone t ts s cd D f g m = m
   mixed_on First t ts s cd D f g m = (g tt, rw (← drop_at D (descs t) s (sym f)) m)
   mixed_on Later t ts s cd D f g m = (m.0, inr m.1, m.2)
 
   mixed_here : (p : Place) (t : Term) (ts : Terms) (s cd : ℕ) (D : List ℕ) → Other p s D cd t → MixedAt p s D cd (more t ts)
-  mixed_here Plain t ts s cd D m = m
+  mixed_here Alone t ts s cd D m = m
   mixed_here First t ts s cd D m = absurd m
   mixed_here Later t ts s cd D m = (t, inl refl, m)
 

@@ -6,9 +6,9 @@ use Rattle.std.proofs.lemmas.Bool.{lt-ltb}
 use Rattle.std.proofs.lemmas.List.{append-nil, map-append, take_at, take_all, length-take, length-drop}
 use Rattle.std.proofs.Math.Seq.{set-append_seam}
 use Rattle.amqp_model.specs.Term as model
-use Rattle.amqp_model.specs.Term.{Primitive, null, Refusal, non_ascii, too_large, Container, array, Term, Terms, leaf, holder, described, kept, barred, none, more, Descriptor, count}
+use Rattle.amqp_model.specs.Term.{Primitive, null, Refusal, non_ascii, too_large, Container, array, Term, Terms, leaf, container, described, kept, barred, none, more, Descriptor, count}
 use Rattle.amqp_model.specs.Spelling.{descriptor_value}
-use Rattle.amqp_model.specs.Text.{Place, Plain, First, Later, next, first_place, wide, wide_code, descriptor_text, text, texts, sizes_of, all_sizes}
+use Rattle.amqp_model.specs.Text.{Place, Alone, First, Later, next, first_place, wide, wide_code, descriptor_text, text, texts, sizes_of, all_sizes}
 use Rattle.amqp_model.specs.Ranges.{Everywhere, EverywhereIn, IsValue, IsInRange}
 use Rattle.amqp_wire.specs.Refusals.{error_of}
 use Rattle.amqp_wire.specs.declared.error.Error.TheVariants.{OddCount, Depth, ZeroWidthItems, NonAscii, MixedArray, TooLarge, LazyInArray}
@@ -25,9 +25,9 @@ use Rattle.amqp_encoder.proofs.Openings.{opened_text}
 use Rattle.amqp_encoder.specs.Passes.{as_size}
 use Rattle.amqp_encoder.proofs.Filled.{last}
 use Rattle.amqp_encoder.proofs.Measured.{descs, core_code, code_after, descs_after, Fit, Same, Other, AcceptedAt, RefusedAt, inside, past, too_long, too_many, null_item, kept_item, other, Uniform, AcceptedAll, RefusedAll, accepted_more, refused_here, refused_later}
-use Rattle.amqp_encoder.proofs.Lifted.{Tested, form_in, descs_in, GoesOn, accepted_described, refused_described, accepted_holder, refused_holder, refused_size}
+use Rattle.amqp_encoder.proofs.Lifted.{Tested, form_in, descs_in, GoesOn, accepted_described, refused_described, accepted_container, refused_container, refused_size}
 use Rattle.amqp_encoder.proofs.TakenBytes.{takes_bytes, unfit}
-use Rattle.amqp_encoder.proofs.Measuring.{fr, mk, goes, stops, first_step, stop_step, lt_cases, bool_cases, leave_case, enter_case, no_descs, tested, foreign, overlong, check_of, kept_clean, is_one, TermGoes, TermsGo, other_holder, leaf_goes, codes_after, all_descs}
+use Rattle.amqp_encoder.proofs.Measuring.{fr, mk, goes, stops, first_step, stop_step, lt_cases, bool_cases, leave_case, enter_case, no_descs, tested, foreign, overlong, check_of, kept_clean, is_one, TermGoes, TermsGo, other_container, leaf_goes, codes_after, all_descs}
 
 -- kept bytes
 
@@ -66,12 +66,12 @@ describe_case : (x : Descriptor) (k : Option Container) (p : Place) (cd c n i s 
     × GoesOn p s D (descriptor_bytes x) × Fit p (form_in p s D (descriptor_bytes x)) (descs_in p D (descriptor_bytes x)))
     ⊎ ((describe_at p (descriptor_bytes x) (mk (fr k p cd c n i s) outer sizes D) ≡ Err MixedArray)
     × ((t : Term) → Other p s D cd (described x t)))
-describe_case x k Plain cd c n i s outer sizes D f = inl (refl, tt, tt)
+describe_case x k Alone cd c n i s outer sizes D f = inl (refl, tt, tt)
 describe_case x k First cd c n i s outer sizes D f = inl (refl, tt, refl)
 describe_case x k Later cd c n i s outer sizes D f = later_descriptor x k cd c n i s outer sizes D f (goes_on (descriptor_bytes x) s D) refl
 
 joined_descs : (p : Place) (D b ds : List ℕ) → descs_after p (descs_in p D b) ds ≡ descs_after p D (b ++ ds)
-joined_descs Plain D b ds = refl
+joined_descs Alone D b ds = refl
 joined_descs First D b ds = append_assoc D b ds
 joined_descs Later D b ds = refl
 
@@ -82,7 +82,7 @@ holds_itself model.list = refl
 holds_itself model.map = refl
 holds_itself model.array = refl
 
-odd_of : (k : Container) (ts : Terms) → is_odd_map k (count ts) ≡ true → IsOddMap (holder k ts)
+odd_of : (k : Container) (ts : Terms) → is_odd_map k (count ts) ≡ true → IsOddMap (container k ts)
 odd_of model.list ts h = cc
 odd_of model.array ts h = cc
 odd_of model.map ts h = λ e. let q : eqb (count ts % 2) 0 ≡ true = rw e refl in let z : not true ≡ true = ap not (sym q) ∙ h in cc
@@ -95,15 +95,15 @@ fits_itself model.array ts p D = refl
 within_sizes : (sizes all : List Size) (z : Size) → ltb (length sizes) (length ((sizes ++ z ∷ []) ++ all)) ≡ true
 within_sizes sizes all z = lt-ltb (length sizes) (length ((sizes ++ z ∷ []) ++ all)) (rw (length-append (sizes ++ z ∷ []) all, length-append sizes (z ∷ [])) (omega arith))
 
-deep_holder : (deep : List ℕ → ℕ) (k : Container) (d : ℕ) (ts : Terms) → around k < d → 128 < d + nest_by deep (holder k ts)
-deep_holder deep model.list d ts h = omega arith
-deep_holder deep model.map d ts h = omega arith
-deep_holder deep model.array d ts h = omega arith
+deep_container : (deep : List ℕ → ℕ) (k : Container) (d : ℕ) (ts : Terms) → around k < d → 128 < d + nest_by deep (container k ts)
+deep_container deep model.list d ts h = omega arith
+deep_container deep model.map d ts h = omega arith
+deep_container deep model.array d ts h = omega arith
 
-low_holder : (k : Container) (d : ℕ) → d ≤ around k → d ≤ 128
-low_holder model.list d h = omega arith
-low_holder model.map d h = omega arith
-low_holder model.array d h = omega arith
+low_container : (k : Container) (d : ℕ) → d ≤ around k → d ≤ 128
+low_container model.list d h = omega arith
+low_container model.map d h = omega arith
+low_container model.array d h = omega arith
 
 kept_size : (sizes all : List Size) (z s : Size) → set ((sizes ++ z ∷ []) ++ all) (length sizes) s ≡ sizes ++ (s ∷ all)
 kept_size sizes all z s = rw (append_assoc sizes (z ∷ []) all) (set-append_seam sizes z all s)
@@ -126,7 +126,7 @@ trimmed_later : (ts : Terms) (deep : List ℕ → ℕ) (D : List ℕ) → all_de
 trimmed_later none deep D = refl
 trimmed_later (more t ts) deep D = trimmed_later ts deep D
 
-trimmed_plain : (ts : Terms) (deep : List ℕ → ℕ) (D : List ℕ) → all_descs deep ts Plain D ≡ D
+trimmed_plain : (ts : Terms) (deep : List ℕ → ℕ) (D : List ℕ) → all_descs deep ts Alone D ≡ D
 trimmed_plain none deep D = refl
 trimmed_plain (more t ts) deep D = trimmed_plain ts deep D
 
@@ -140,13 +140,13 @@ trimmed model.map ts deep D = ap (take (length D)) (trimmed_plain ts deep D) ∙
 trimmed model.array ts deep D = trimmed_first ts deep D
 
 fit_on : (p : Place) (s : ℕ) (D ds : List ℕ) → Fit p s D → Fit (next p) s (descs_after p D ds)
-fit_on Plain s D ds f = tt
+fit_on Alone s D ds f = tt
 fit_on First s D ds f = omega (arith, length-append D ds)
 fit_on Later s D ds f = f
 
 module _ (deep : List ℕ → ℕ) where
-  keep_goes : (b : List ℕ) (k : Option Container) (cd c n i s : ℕ) (outer : List Open) (sizes : List Size) (D : List ℕ) (others : List Token) → is_full (fr k Plain cd c n i s) ≡ false →
-      TermGoes deep (kept b) k Plain cd c n i s outer sizes D others
+  keep_goes : (b : List ℕ) (k : Option Container) (cd c n i s : ℕ) (outer : List Open) (sizes : List Size) (D : List ℕ) (others : List Token) → is_full (fr k Alone cd c n i s) ≡ false →
+      TermGoes deep (kept b) k Alone cd c n i s outer sizes D others
   unfolding text sizes_of
   keep_goes b k cd c n i s outer sizes D others r =
       rw (append-nil sizes)
@@ -154,7 +154,7 @@ module _ (deep : List ℕ → ℕ) where
         | inl a ↦ stops Depth (past refl (too_deep (deep b) (length outer) (inl a.1))) (stop_step _ Depth (keep b (deep b)) others (rw (a.0) refl))
         | inr a ↦ elim (lt_cases (128 - deep b) (length outer)) [
           | inl q ↦ stops Depth (past refl (too_deep (deep b) (length outer) (inr q.1))) (stop_step _ Depth (keep b (deep b)) others (rw (a.0, q.0) refl))
-          | inr q ↦ elim (leave_case (length b) k Plain cd c n i s outer sizes D) [
+          | inr q ↦ elim (leave_case (length b) k Alone cd c n i s outer sizes D) [
             | inl l ↦ goes (record { sound = tt; clean = kept_clean b; within = (let low : deep b ≤ 128 = a.1 in let room : length outer ≤ 128 - deep b = q.1 in omega arith); long = l.1; many = l.2; formed = (λ o. absurd o); chain = tt; same = tt })
                 (first_step _ _ (keep b (deep b)) others (rw (a.0, q.0, r) (l.0)))
             | inr l ↦ stops TooLarge (elim l.1 [ inl u ↦ too_long refl u | inr u ↦ too_many refl u ])
@@ -199,13 +199,13 @@ module _ (deep : List ℕ → ℕ) where
   unsized_case k kd p q cd cd' c n m s u count_ outer sizes all D' i odd z = rw (holds_itself k, within_sizes sizes all no_size, odd, z) refl
 
   -- once its values are there
-  holder_ends : (k : Container) (ts : Terms) (kd : Option Container) (p : Place) (cd c n i s : ℕ) (outer : List Open) (sizes : List Size) (D : List ℕ) (others : List Token) →
+  container_ends : (k : Container) (ts : Terms) (kd : Option Container) (p : Place) (cd c n i s : ℕ) (outer : List Open) (sizes : List Size) (D : List ℕ) (others : List Token) →
       length outer ≤ around k → EverywhereIn IsValue ts → Same p s D cd [] (wide_code k) → AcceptedAll deep ts (first_place k) 0 0 (length outer + 1) (length D) 0 D →
-      steps (Measuring (mk (fr kd p cd c n i s) outer sizes D)) (tokens deep (holder k ts) ++ others)
+      steps (Measuring (mk (fr kd p cd c n i s) outer sizes D)) (tokens deep (container k ts) ++ others)
       ≡ steps (Measuring (mk (fr (Some k) (last ts (first_place k)) (codes_after deep ts (first_place k) 0) (length (texts ts (first_place k))) (count ts) (length sizes) (length D)) (fr kd p (code_after p cd (wide_code k)) c n i s ∷ outer) ((sizes ++ no_size ∷ []) ++ map as_size (all_sizes ts)) (all_descs deep ts (first_place k) D))) (end k ∷ others) →
-      TermGoes deep (holder k ts) kd p cd c n i s outer sizes D others
+      TermGoes deep (container k ts) kd p cd c n i s outer sizes D others
   unfolding text sizes_of
-  holder_ends k ts kd p cd c n i s outer sizes D others low v same_ a first =
+  container_ends k ts kd p cd c n i s outer sizes D others low v same_ a first =
       let m = length (texts ts (first_place k)) in
       let l = ap length (opened_text p k ts (first_place k)) ∙ length-append (opening p k (count ts) m) (texts ts (first_place k)) in
       elim (bool_cases (is_odd_map k (count ts))) [
@@ -218,22 +218,22 @@ module _ (deep : List ℕ → ℕ) where
               let e = end_case k kd p (last ts (first_place k)) (code_after p cd (wide_code k)) (codes_after deep ts (first_place k) 0) c n m s (length D) (count ts) outer sizes (map as_size (all_sizes ts)) D (all_descs deep ts (first_place k) D) i o z (trimmed k ts deep D) in
               rw (no_descs p D, l)
               (elim (leave_case (length (opening p k (count ts) m) + m) kd p (code_after p cd (wide_code k)) c n i s outer (sizes ++ (as_size (m, count ts) ∷ map as_size (all_sizes ts))) D) [
-                | inl b ↦ goes (accepted_holder deep k ts p c n (length outer) s cd D low o w same_ a (rw l b.1) b.2) (first ∙ first_step _ _ (end k) others (e ∙ b.0))
+                | inl b ↦ goes (accepted_container deep k ts p c n (length outer) s cd D low o w same_ a (rw l b.1) b.2) (first ∙ first_step _ _ (end k) others (e ∙ b.0))
                 | inr b ↦ stops TooLarge (elim b.1 [ inl u ↦ too_long refl (rw l u) | inr u ↦ too_many refl u ]) (first ∙ stop_step _ TooLarge (end k) others (e ∙ b.0))
               ])
         ]
       ]
 
-  holder_goes : (k : Container) (ts : Terms) (kd : Option Container) (p : Place) (cd c n i s : ℕ) (outer : List Open) (sizes : List Size) (D : List ℕ) (others : List Token) →
+  container_goes : (k : Container) (ts : Terms) (kd : Option Container) (p : Place) (cd c n i s : ℕ) (outer : List Open) (sizes : List Size) (D : List ℕ) (others : List Token) →
       length outer ≤ around k → EverywhereIn IsValue ts → Same p s D cd [] (wide_code k) →
-      steps (Measuring (mk (fr kd p cd c n i s) outer sizes D)) (tokens deep (holder k ts) ++ others)
+      steps (Measuring (mk (fr kd p cd c n i s) outer sizes D)) (tokens deep (container k ts) ++ others)
       ≡ steps (Measuring (mk (fr (Some k) (first_place k) 0 0 0 (length sizes) (length D)) (fr kd p (code_after p cd (wide_code k)) c n i s ∷ outer) (sizes ++ no_size ∷ []) D)) (all_tokens deep ts ++ end k ∷ others) →
       TermsGo deep ts (Some k) (first_place k) 0 0 0 (length sizes) (length D) (fr kd p (code_after p cd (wide_code k)) c n i s ∷ outer) (sizes ++ no_size ∷ []) D (end k ∷ others) →
-      TermGoes deep (holder k ts) kd p cd c n i s outer sizes D others
-  holder_goes k ts kd p cd c n i s outer sizes D others low v same_ first (stops e w q) =
-      stops e (refused_holder deep k ts p c n (length outer) s cd D e (subst (λ z. RefusedAll deep ts (first_place k) 0 0 z (length D) 0 D e) (is_one (length outer)) w)) (first ∙ q)
-  holder_goes k ts kd p cd c n i s outer sizes D others low v same_ first (goes a q) =
-      holder_ends k ts kd p cd c n i s outer sizes D others low v same_
+      TermGoes deep (container k ts) kd p cd c n i s outer sizes D others
+  container_goes k ts kd p cd c n i s outer sizes D others low v same_ first (stops e w q) =
+      stops e (refused_container deep k ts p c n (length outer) s cd D e (subst (λ z. RefusedAll deep ts (first_place k) 0 0 z (length D) 0 D e) (is_one (length outer)) w)) (first ∙ q)
+  container_goes k ts kd p cd c n i s outer sizes D others low v same_ first (goes a q) =
+      container_ends k ts kd p cd c n i s outer sizes D others low v same_
       (subst (λ z. AcceptedAll deep ts (first_place k) 0 0 z (length D) 0 D) (is_one (length outer)) a)
       (first ∙ (rw (zero-add, zero-add) at q))
 
@@ -255,7 +255,7 @@ module _ (deep : List ℕ → ℕ) where
       ]
 
   uniform_none : (p : Place) (s : ℕ) (D : List ℕ) (cd : ℕ) → Uniform deep p s D cd none
-  uniform_none Plain s D cd = tt
+  uniform_none Alone s D cd = tt
   uniform_none First s D cd = tt
   uniform_none Later s D cd = tt
 
@@ -264,8 +264,8 @@ module _ (deep : List ℕ → ℕ) where
 
     pub measure_term : (t : Term) (k : Option Container) (p : Place) (cd c n i s : ℕ) (outer : List Open) (sizes : List Size) (D : List ℕ) (others : List Token) →
         is_full (fr k p cd c n i s) ≡ false → Fit p s D → Everywhere IsValue t → TermGoes deep t k p cd c n i s outer sizes D others
-    measure_term (leaf null) k Plain cd c n i s outer sizes D others r f v =
-        leaf_goes deep null k Plain cd c n i s outer sizes D others r f (record { fits = refl; is_ascii = (λ h. h); is_short = (λ h. h); is_written = tt }) tt (λ o. absurd o) refl
+    measure_term (leaf null) k Alone cd c n i s outer sizes D others r f v =
+        leaf_goes deep null k Alone cd c n i s outer sizes D others r f (record { fits = refl; is_ascii = (λ h. h); is_short = (λ h. h); is_written = tt }) tt (λ o. absurd o) refl
     measure_term (leaf null) k First cd c n i s outer sizes D others r f v = stops ZeroWidthItems (null_item refl tt refl) (stop_step _ ZeroWidthItems (put null) others refl)
     measure_term (leaf null) k Later cd c n i s outer sizes D others r f v = stops ZeroWidthItems (null_item refl tt refl) (stop_step _ ZeroWidthItems (put null) others refl)
     measure_term (leaf x) k p cd c n i s outer sizes D others r f v = elim (check_of x) [
@@ -273,7 +273,7 @@ module _ (deep : List ℕ → ℕ) where
       | overlong e h ↦ stops TooLarge (inside (inl (too_large, refl, inr h))) (stop_step _ TooLarge (put x) others (ap (λ r. r >>= λ _. measure_checked x (mk (fr k p cd c n i s) outer sizes D)) e))
       | tested e g ↦ leaf_goes deep x k p cd c n i s outer sizes D others r f g tt (λ o. (([], (wide x).0), refl)) (ap (λ r. r >>= λ _. measure_checked x (mk (fr k p cd c n i s) outer sizes D)) e)
     ]
-    measure_term (kept b) k Plain cd c n i s outer sizes D others r f v = keep_goes b k cd c n i s outer sizes D others r
+    measure_term (kept b) k Alone cd c n i s outer sizes D others r f v = keep_goes b k cd c n i s outer sizes D others r
     measure_term (kept b) k First cd c n i s outer sizes D others r f v = stops LazyInArray (kept_item refl tt b refl) (stop_step _ LazyInArray (keep b (deep b)) others refl)
     measure_term (kept b) k Later cd c n i s outer sizes D others r f v = stops LazyInArray (kept_item refl tt b refl) (stop_step _ LazyInArray (keep b (deep b)) others refl)
     measure_term (barred e) k p cd c n i s outer sizes D others r f v = stops (error_of e) (inside (inl (e, refl, inl refl))) (stop_step _ (error_of e) (refuse (error_of e)) others refl)
@@ -292,12 +292,12 @@ module _ (deep : List ℕ → ℕ) where
             ]
           ]
         ]
-    measure_term (holder h ts) k p cd c n i s outer sizes D others r f v =
+    measure_term (container h ts) k p cd c n i s outer sizes D others r f v =
         elim (lt_cases (around h) (length outer)) [
-          | inl a ↦ stops Depth (past refl (deep_holder deep h (length outer) ts a.1)) (stop_step _ Depth (begin h) _ (rw (a.0) refl))
+          | inl a ↦ stops Depth (past refl (deep_container deep h (length outer) ts a.1)) (stop_step _ Depth (begin h) _ (rw (a.0) refl))
           | inr a ↦ elim (enter_case (wide_code h) k p cd c n i s outer sizes D r f) [
-            | inr b ↦ stops MixedArray (other refl (other_holder h ts p s cd D b.1)) (stop_step _ MixedArray (begin h) _ (rw (a.0) (ap (λ r. r >>= λ n. Ok (opened h n)) (b.0))))
-            | inl b ↦ holder_goes h ts k p cd c n i s outer sizes D others a.1 v.1 b.1
+            | inr b ↦ stops MixedArray (other refl (other_container h ts p s cd D b.1)) (stop_step _ MixedArray (begin h) _ (rw (a.0) (ap (λ r. r >>= λ n. Ok (opened h n)) (b.0))))
+            | inl b ↦ container_goes h ts k p cd c n i s outer sizes D others a.1 v.1 b.1
                 (first_step _ _ (begin h) ((all_tokens deep ts ++ end h ∷ []) ++ others) (rw (a.0) (ap (λ r. r >>= λ n. Ok (opened h n)) (b.0))) ∙ ap (steps _) (append_assoc (all_tokens deep ts) (end h ∷ []) others))
                 (measure_terms ts h (first_place h) 0 0 0 (length sizes) (length D) (fr k p (code_after p cd (wide_code h)) c n i s ∷ outer) (sizes ++ no_size ∷ []) D (end h ∷ others) (fits_itself h ts p D) (omega arith) (omega arith) v.1)
           ]

@@ -3,8 +3,8 @@ use Rattle.std.proofs.Common.{◌≡◌, ℕ, suc, ◌+◌, ◌-◌, ◌<◌, �
 use Rattle.std.specs.Prelude.{Ok, Err, ltb, eqb}
 use Rattle.std.proofs.lemmas.Bool.{ltb-true, ltb-false, eqb-true, eqb-false}
 use Rattle.std.proofs.lemmas.List.{append-nil, drop_all, length-drop}
-use Rattle.amqp_model.specs.Term.{Primitive, null, binary, string, symbol, Refusal, non_ascii, too_large, mixed_array, zero_width_items, lazy_in_array, Container, Term, Terms, leaf, holder, kept, none, more, count}
-use Rattle.amqp_model.specs.Text.{Place, Plain, First, Later, next, wide, wide_code, primitive_text, text, texts, sizes_of, all_sizes}
+use Rattle.amqp_model.specs.Term.{Primitive, null, binary, string, symbol, Refusal, non_ascii, too_large, mixed_array, zero_width_items, lazy_in_array, Container, Term, Terms, leaf, container, kept, none, more, count}
+use Rattle.amqp_model.specs.Text.{Place, Alone, First, Later, next, wide, wide_code, primitive_text, text, texts, sizes_of, all_sizes}
 use Rattle.amqp_model.specs.Refusals.{HasForm, IsNonAscii, IsLong, HasFlaw}
 use Rattle.amqp_wire.specs.declared.error.Error.{Error}
 use Rattle.amqp_wire.specs.declared.error.Error.TheVariants.{NonAscii, MixedArray, TooLarge}
@@ -86,7 +86,7 @@ later_case x k cd c n i s outer sizes D f =
 form_case : (x : ℕ) (k : Option Container) (p : Place) (cd c n i s : ℕ) (outer : List Open) (sizes : List Size) (D : List ℕ) → Fit p s D →
     ((take_form p x (mk (fr k p cd c n i s) outer sizes D) ≡ Ok (mk (fr k p (code_after p cd x) c n i s) outer sizes D)) × Same p s D cd [] x)
     ⊎ ((take_form p x (mk (fr k p cd c n i s) outer sizes D) ≡ Err MixedArray) × OtherCode p s D cd x)
-form_case x k Plain cd c n i s outer sizes D f = inl (refl, tt)
+form_case x k Alone cd c n i s outer sizes D f = inl (refl, tt)
 form_case x k First cd c n i s outer sizes D f = inl (refl, tt)
 form_case x k Later cd c n i s outer sizes D f = later_case x k cd c n i s outer sizes D f
 
@@ -96,7 +96,7 @@ pub enter_case : (x : ℕ) (k : Option Container) (p : Place) (cd c n i s : ℕ)
 enter_case x k p cd c n i s outer sizes D r f = rw r (form_case x k p cd c n i s outer sizes D f)
 
 pub no_descs : (p : Place) (D : List ℕ) → descs_after p D [] ≡ D
-no_descs Plain D = refl
+no_descs Alone D = refl
 no_descs First D = append-nil D
 no_descs Later D = refl
 
@@ -177,14 +177,14 @@ is_one d = sym (add-one d)
 
 -- where a constructor's code is another one
 pub other_leaf : (x : Primitive) (p : Place) (s cd : ℕ) (D : List ℕ) → (InArray p → HasForm (leaf x)) → OtherCode p s D cd (wide x).0 → Other p s D cd (leaf x)
-other_leaf x Plain s cd D h n = n
+other_leaf x Alone s cd D h n = n
 other_leaf x First s cd D h n = n
 other_leaf x Later s cd D h n = (h tt, n)
 
-pub other_holder : (k : Container) (ts : Terms) (p : Place) (s cd : ℕ) (D : List ℕ) → OtherCode p s D cd (wide_code k) → Other p s D cd (holder k ts)
-other_holder k ts Plain s cd D n = n
-other_holder k ts First s cd D n = n
-other_holder k ts Later s cd D n = ((([], wide_code k), refl), n)
+pub other_container : (k : Container) (ts : Terms) (p : Place) (s cd : ℕ) (D : List ℕ) → OtherCode p s D cd (wide_code k) → Other p s D cd (container k ts)
+other_container k ts Alone s cd D n = n
+other_container k ts First s cd D n = n
+other_container k ts Later s cd D n = ((([], wide_code k), refl), n)
 
 module _ (deep : List ℕ → ℕ) where
   abbrev pub TermGoes : Term → Option Container → Place → ℕ → ℕ → ℕ → ℕ → ℕ → List Open → List Size → List ℕ → List Token → Type 0

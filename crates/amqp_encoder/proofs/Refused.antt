@@ -2,12 +2,12 @@
 use Rattle.std.proofs.Common.{◌≡◌, ℕ, zero, suc, ◌<◌, ◌≤◌, List, [], ◌∷◌, length, refl, sym, ap, subst, le_trans, inl, inr, ◌⊎◌, arith, length-append}
 use Rattle.std.specs.Prelude.{Any}
 use Rattle.std.proofs.lemmas.List.{append-nil}
-use Rattle.amqp_model.specs.Term.{Refusal, depth, lazy_in_array, Container, list, map, array, Term, Terms, leaf, holder, described, kept, barred, none, more, count}
+use Rattle.amqp_model.specs.Term.{Refusal, depth, lazy_in_array, Container, list, map, array, Term, Terms, leaf, container, described, kept, barred, none, more, count}
 use Rattle.amqp_model.specs.Items.{terms_of}
-use Rattle.amqp_model.specs.Text.{Plain, text, texts}
+use Rattle.amqp_model.specs.Text.{Alone, text, texts}
 use Rattle.amqp_model.specs.Measures.{nest, nests, array_nest}
 use Rattle.amqp_model.specs.Ranges.{Everywhere, EverywhereIn, IsValue}
-use Rattle.amqp_model.specs.Kept.{Reads, ReadsEach}
+use Rattle.amqp_model.specs.Kept.{ExpandsTo, EachExpandsTo}
 use Rattle.amqp_model.specs.Refusals.{Somewhere, SomewhereIn, IsItem, core, HasKeptItem, IsRefused, IsTooDeep, Refuses}
 use Rattle.amqp_model.proofs.Lengths.{spelling_length}
 use Rattle.amqp_wire.specs.Refusals.{error_of}
@@ -38,14 +38,14 @@ any_none P (k, y, l, e, h) = omega arith
 array_most : (ts : Terms) → array_nest ts ≤ suc (nests ts)
 array_most none = omega arith
 array_most (more (leaf p) ts) = omega (arith, array_most ts)
-array_most (more (holder k us) ts) = omega arith
+array_most (more (container k us) ts) = omega arith
 array_most (more (described d t) ts) = omega arith
 array_most (more (kept b) ts) = omega (arith, array_most ts)
 array_most (more (barred r) ts) = omega (arith, array_most ts)
 
 array_later : (t : Term) (ts : Terms) → array_nest ts ≤ array_nest (more t ts)
 array_later (leaf p) ts = omega arith
-array_later (holder k us) ts = omega (arith, array_most ts)
+array_later (container k us) ts = omega (arith, array_most ts)
 array_later (described d t) ts = omega (arith, array_most ts)
 array_later (kept b) ts = omega arith
 array_later (barred r) ts = omega arith
@@ -62,13 +62,13 @@ more_items u us m n (inr (inl h)) = inr (inl (one_more u us h))
 more_items u us m n (inr (inr h)) = inr (inr (inr h))
 
 -- no bytes spell no term
-no_empty : (us ts : Terms) → ReadsEach us ts → IsItem (kept []) us → ⊥
+no_empty : (us ts : Terms) → EachExpandsTo us ts → IsItem (kept []) us → ⊥
 no_empty none ts h i = i
 no_empty (more u us) none h i = h
-no_empty (more u us) (more t ts) h (inl i) = let l : 1 ≤ 0 = spelling_length [] t (subst (λ z. Reads z t) (sym i) h.0) in omega arith
+no_empty (more u us) (more t ts) h (inl i) = let l : 1 ≤ 0 = spelling_length [] t (subst (λ z. ExpandsTo z t) (sym i) h.0) in omega arith
 no_empty (more u us) (more t ts) h (inr i) = no_empty us ts h.1 i
 
-no_odd : (k : Container) (us : Terms) → IsValue (holder k us) → IsOddMap (holder k us) → ⊥
+no_odd : (k : Container) (us : Terms) → IsValue (container k us) → IsOddMap (container k us) → ⊥
 no_odd list us v h = h
 no_odd map us v h = h v
 no_odd array us v h = h
@@ -82,23 +82,23 @@ uncounted us (inl h) = inl h
 uncounted us (inr h) = inr (omega (arith, count_of us))
 
 -- the bytes of a term are those of a row of one
-pub one_text : (u : Term) → row_text (u ∷ []) ≡ text u Plain
+pub one_text : (u : Term) → row_text (u ∷ []) ≡ text u Alone
 unfolding text
-one_text u = append-nil (text u Plain)
+one_text u = append-nil (text u Alone)
 
 pub has_reason : (r : Refusal) (t : Term) → IsRefused r t → HasReason (error_of r) t
 has_reason r t h = inl (r, refl, h)
 
 -- an encoder's reason that lies in a term is one of the model
 mutual
-  pub reason_named : (e : Error) (u t : Term) → Everywhere IsValue u → Reads u t → Somewhere (HasReason e) u → (r : Refusal) × (e ≡ error_of r) × Somewhere (IsRefused r) u
+  pub reason_named : (e : Error) (u t : Term) → Everywhere IsValue u → ExpandsTo u t → Somewhere (HasReason e) u → (r : Refusal) × (e ≡ error_of r) × Somewhere (IsRefused r) u
   reason_named e (leaf p) t v h (inl w) = w
   reason_named e (leaf p) t v h (inr (inl c)) = absurd c.1
   reason_named e (leaf p) t v h (inr (inr c)) = absurd c.1
-  reason_named e (holder k us) (holder l ts) v h (inl (inl w)) = (w.0, w.1, inl w.2)
-  reason_named e (holder k us) (holder l ts) v h (inl (inr (inl c))) = absurd (no_empty us ts h.1 c.1.1)
-  reason_named e (holder k us) (holder l ts) v h (inl (inr (inr c))) = absurd (no_odd k us v.0 c.1)
-  reason_named e (holder k us) (holder l ts) v h (inr w) = let n = some_reason_named e us ts v.1 h.1 w in (n.0, n.1, inr n.2)
+  reason_named e (container k us) (container l ts) v h (inl (inl w)) = (w.0, w.1, inl w.2)
+  reason_named e (container k us) (container l ts) v h (inl (inr (inl c))) = absurd (no_empty us ts h.1 c.1.1)
+  reason_named e (container k us) (container l ts) v h (inl (inr (inr c))) = absurd (no_odd k us v.0 c.1)
+  reason_named e (container k us) (container l ts) v h (inr w) = let n = some_reason_named e us ts v.1 h.1 w in (n.0, n.1, inr n.2)
   reason_named e (described d u) (described f t) v h (inl (inl w)) = (w.0, w.1, inl w.2)
   reason_named e (described d u) (described f t) v h (inl (inr (inl c))) = absurd c.1
   reason_named e (described d u) (described f t) v h (inl (inr (inr c))) = absurd c.1
@@ -111,7 +111,7 @@ mutual
   reason_named e (barred r) t v h (inr (inr c)) = absurd c.1
   reason_named e u t v h w = let no_way : ⊥ = grind arith in absurd no_way
 
-  pub some_reason_named : (e : Error) (us ts : Terms) → EverywhereIn IsValue us → ReadsEach us ts → SomewhereIn (HasReason e) us → (r : Refusal) × (e ≡ error_of r) × SomewhereIn (IsRefused r) us
+  pub some_reason_named : (e : Error) (us ts : Terms) → EverywhereIn IsValue us → EachExpandsTo us ts → SomewhereIn (HasReason e) us → (r : Refusal) × (e ≡ error_of r) × SomewhereIn (IsRefused r) us
   some_reason_named e none ts v h w = absurd w
   some_reason_named e (more u us) none v h w = absurd h
   some_reason_named e (more u us) (more t ts) v h (inl w) = let n = reason_named e u t v.0 h.0 w in (n.0, n.1, inl n.2)
@@ -121,7 +121,7 @@ module _ (deep : List ℕ → ℕ) where
   mutual
     knows : IsNesting deep → (u : Term) → Everywhere (KnowsDepth deep) u
     knows exact (leaf p) = tt
-    knows exact (holder k us) = (tt, all_know exact us)
+    knows exact (container k us) = (tt, all_know exact us)
     knows exact (described d u) = (tt, knows exact u)
     knows exact (kept b) = exact b
     knows exact (barred r) = tt
@@ -135,45 +135,45 @@ module _ (deep : List ℕ → ℕ) where
 
   mutual
     -- a term nests no deeper than it reads, and as deep unless bytes are kept in an array
-    no_deeper : (u t : Term) → Everywhere (KnowsDepth deep) u → Reads u t → nest_by deep u ≤ nest t
+    no_deeper : (u t : Term) → Everywhere (KnowsDepth deep) u → ExpandsTo u t → nest_by deep u ≤ nest t
     no_deeper (leaf p) (leaf q) x h = omega arith
-    no_deeper (holder list us) (holder list ts) x h = omega (arith, none_deeper us ts x.1 h.1)
-    no_deeper (holder map us) (holder map ts) x h = omega (arith, none_deeper us ts x.1 h.1)
-    no_deeper (holder array us) (holder array ts) x h = items_no_deeper us ts x.1 h.1
+    no_deeper (container list us) (container list ts) x h = omega (arith, none_deeper us ts x.1 h.1)
+    no_deeper (container map us) (container map ts) x h = omega (arith, none_deeper us ts x.1 h.1)
+    no_deeper (container array us) (container array ts) x h = items_no_deeper us ts x.1 h.1
     no_deeper (described d u) (described e t) x h = omega (arith, no_deeper u t x.1 h.1)
     no_deeper (kept b) t x h = omega (arith, x t h)
     no_deeper (barred r) (barred s) x h = omega arith
     no_deeper u t x h = let no_way : ⊥ = grind arith in absurd no_way
 
-    pub none_deeper : (us ts : Terms) → EverywhereIn (KnowsDepth deep) us → ReadsEach us ts → nests_by deep us ≤ nests ts
+    pub none_deeper : (us ts : Terms) → EverywhereIn (KnowsDepth deep) us → EachExpandsTo us ts → nests_by deep us ≤ nests ts
     none_deeper none none x h = omega arith
     none_deeper none (more t ts) x h = absurd h
     none_deeper (more u us) none x h = absurd h
     none_deeper (more u us) (more t ts) x h = omega (arith, no_deeper u t x.0 h.0, none_deeper us ts x.1 h.1)
 
-    items_no_deeper : (us ts : Terms) → EverywhereIn (KnowsDepth deep) us → ReadsEach us ts → array_nest_by deep us ≤ array_nest ts
+    items_no_deeper : (us ts : Terms) → EverywhereIn (KnowsDepth deep) us → EachExpandsTo us ts → array_nest_by deep us ≤ array_nest ts
     items_no_deeper none none x h = omega arith
     items_no_deeper none (more t ts) x h = absurd h
     items_no_deeper (more u us) none x h = absurd h
     items_no_deeper (more (leaf p) us) (more (leaf q) ts) x h = items_no_deeper us ts x.1 h.1
     items_no_deeper (more (barred r) us) (more (barred s) ts) x h = items_no_deeper us ts x.1 h.1
-    items_no_deeper (more (holder k us') us) (more (holder l ts') ts) x h = omega (arith, no_deeper (holder k us') (holder l ts') x.0 h.0, none_deeper us ts x.1 h.1)
+    items_no_deeper (more (container k us') us) (more (container l ts') ts) x h = omega (arith, no_deeper (container k us') (container l ts') x.0 h.0, none_deeper us ts x.1 h.1)
     items_no_deeper (more (described d u) us) (more (described e t) ts) x h = omega (arith, no_deeper (described d u) (described e t) x.0 h.0, none_deeper us ts x.1 h.1)
     items_no_deeper (more (kept b) us) (more t ts) x h = le_trans (items_no_deeper us ts x.1 h.1) (array_later t ts)
     items_no_deeper (more u us) (more t ts) x h = let no_way : ⊥ = grind arith in absurd no_way
 
   mutual
-    as_deep : (u t : Term) → Everywhere (KnowsDepth deep) u → Reads u t → (nest t ≤ nest_by deep u) ⊎ Somewhere HasKeptItem u
+    as_deep : (u t : Term) → Everywhere (KnowsDepth deep) u → ExpandsTo u t → (nest t ≤ nest_by deep u) ⊎ Somewhere HasKeptItem u
     as_deep (leaf p) (leaf q) x h = inl (omega arith)
-    as_deep (holder list us) (holder list ts) x h = elim (all_as_deep us ts x.1 h.1) [ inl l ↦ inl (omega arith) | inr s ↦ inr (inr s) ]
-    as_deep (holder map us) (holder map ts) x h = elim (all_as_deep us ts x.1 h.1) [ inl l ↦ inl (omega arith) | inr s ↦ inr (inr s) ]
-    as_deep (holder array us) (holder array ts) x h = elim (items_as_deep us ts x.1 h.1) [ inl l ↦ inl l | inr s ↦ elim s [ inl i ↦ inr (inl i) | inr w ↦ inr (inr w) ] ]
+    as_deep (container list us) (container list ts) x h = elim (all_as_deep us ts x.1 h.1) [ inl l ↦ inl (omega arith) | inr s ↦ inr (inr s) ]
+    as_deep (container map us) (container map ts) x h = elim (all_as_deep us ts x.1 h.1) [ inl l ↦ inl (omega arith) | inr s ↦ inr (inr s) ]
+    as_deep (container array us) (container array ts) x h = elim (items_as_deep us ts x.1 h.1) [ inl l ↦ inl l | inr s ↦ elim s [ inl i ↦ inr (inl i) | inr w ↦ inr (inr w) ] ]
     as_deep (described d u) (described e t) x h = elim (as_deep u t x.1 h.1) [ inl l ↦ inl (omega arith) | inr s ↦ inr (inr s) ]
     as_deep (kept b) t x h = inl (omega (arith, x t h))
     as_deep (barred r) (barred s) x h = inl (omega arith)
     as_deep u t x h = let no_way : ⊥ = grind arith in absurd no_way
 
-    pub all_as_deep : (us ts : Terms) → EverywhereIn (KnowsDepth deep) us → ReadsEach us ts → (nests ts ≤ nests_by deep us) ⊎ SomewhereIn HasKeptItem us
+    pub all_as_deep : (us ts : Terms) → EverywhereIn (KnowsDepth deep) us → EachExpandsTo us ts → (nests ts ≤ nests_by deep us) ⊎ SomewhereIn HasKeptItem us
     all_as_deep none none x h = inl (omega arith)
     all_as_deep none (more t ts) x h = absurd h
     all_as_deep (more u us) none x h = absurd h
@@ -182,13 +182,13 @@ module _ (deep : List ℕ → ℕ) where
       | inl l ↦ elim (all_as_deep us ts x.1 h.1) [ inr s ↦ inr (inr s) | inl m ↦ inl (omega arith) ]
     ]
 
-    items_as_deep : (us ts : Terms) → EverywhereIn (KnowsDepth deep) us → ReadsEach us ts → (array_nest ts ≤ array_nest_by deep us) ⊎ (SomeKept us ⊎ SomewhereIn HasKeptItem us)
+    items_as_deep : (us ts : Terms) → EverywhereIn (KnowsDepth deep) us → EachExpandsTo us ts → (array_nest ts ≤ array_nest_by deep us) ⊎ (SomeKept us ⊎ SomewhereIn HasKeptItem us)
     items_as_deep none none x h = inl (omega arith)
     items_as_deep none (more t ts) x h = absurd h
     items_as_deep (more u us) none x h = absurd h
     items_as_deep (more (leaf p) us) (more (leaf q) ts) x h = more_items (leaf p) us (array_nest ts) (array_nest_by deep us) (items_as_deep us ts x.1 h.1)
     items_as_deep (more (barred r) us) (more (barred s) ts) x h = more_items (barred r) us (array_nest ts) (array_nest_by deep us) (items_as_deep us ts x.1 h.1)
-    items_as_deep (more (holder k us') us) (more (holder l ts') ts) x h = elim (as_deep (holder k us') (holder l ts') x.0 h.0) [
+    items_as_deep (more (container k us') us) (more (container l ts') ts) x h = elim (as_deep (container k us') (container l ts') x.0 h.0) [
       | inr s ↦ inr (inr (inl s))
       | inl l ↦ elim (all_as_deep us ts x.1 h.1) [ inr s ↦ inr (inr (inr s)) | inl m ↦ inl (omega arith) ]
     ]
@@ -206,7 +206,7 @@ module _ (deep : List ℕ → ℕ) where
   unfolding text
   refused_more u us e (inl w) = inl (inr w)
   refused_more u us e (inr (inl w)) = inr (inl (w.0, omega (arith, w.1)))
-  refused_more u us e (inr (inr (i, inl w))) = inr (inr (i, inl (omega (arith, length-append (text u Plain) (texts (terms_of us) Plain)))))
+  refused_more u us e (inr (inr (i, inl w))) = inr (inr (i, inl (omega (arith, length-append (text u Alone) (texts (terms_of us) Alone)))))
   refused_more u us e (inr (inr (i, inr w))) = inr (inr (i, inr (omega arith)))
 
   too_deep : (u : Term) (us : List Term) → Everywhere (KnowsDepth deep) u → IsTooDeep u → AreRefused deep (u ∷ us) Depth ⊎ AreRefused deep (u ∷ us) LazyInArray
@@ -256,7 +256,7 @@ module _ (deep : List ℕ → ℕ) where
   has_cause us ts e x v h (inr (inr (i, inl w))) = inr (i, inl w)
   has_cause us ts e x v h (inr (inr (i, inr w))) = inr (i, inr (omega (arith, count_of us)))
 
-  pub term_has_cause : (u t : Term) (e : Error) → KnowDepths deep (u ∷ []) → AreValues (u ∷ []) → Reads u t → AreRefused deep (u ∷ []) e → TermHasCause u e
+  pub term_has_cause : (u t : Term) (e : Error) → KnowDepths deep (u ∷ []) → AreValues (u ∷ []) → ExpandsTo u t → AreRefused deep (u ∷ []) e → TermHasCause u e
   term_has_cause u t e x v h w = elim (has_cause (u ∷ []) (t ∷ []) e x v (h, tt) w) [
     | inl n ↦ elim (any_cases (Refuses n.0) u [] n.2) [ inl x ↦ inl (n.0, n.1, x) | inr x ↦ absurd (any_none (Refuses n.0) x) ]
     | inr x ↦ elim x.1 [ inl l ↦ inr (x.0, (omega (arith, ap length (one_text u)))) | inr l ↦ absurd (omega arith) ]

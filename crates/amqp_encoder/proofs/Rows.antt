@@ -2,9 +2,9 @@
 use Rattle.std.proofs.Common.{◌≡◌, ℕ, ◌+◌, ◌<◌, ◌≤◌, List, [], ◌∷◌, ◌++◌, length, map, refl, ◌∙◌, ap, inl, inr, ◌⊎◌, arith, zero-add}
 use Rattle.std.specs.Prelude.{Result, Ok, MatchResult, Some}
 use Rattle.std.proofs.lemmas.List.{append-nil}
-use Rattle.amqp_model.specs.Term.{list, map as map_, array, Term, Terms, leaf, holder, described, kept, barred, none, more, count}
+use Rattle.amqp_model.specs.Term.{list, map as map_, array, Term, Terms, leaf, container, described, kept, barred, none, more, count}
 use Rattle.amqp_model.specs.Items.{terms_of}
-use Rattle.amqp_model.specs.Text.{Plain, all_sizes}
+use Rattle.amqp_model.specs.Text.{Alone, all_sizes}
 use Rattle.amqp_model.specs.Refusals.{Somewhere, SomewhereIn, IsRefused}
 use Rattle.amqp_wire.specs.Refusals.{error_of}
 use Rattle.amqp_wire.specs.declared.error.Error.{Error}
@@ -19,7 +19,7 @@ use Rattle.amqp_encoder.specs.Sound.{levels, all_levels}
 use Rattle.amqp_encoder.specs.Reasons.{HasReason, nest_by, nests_by, array_nest_by, RowRefused}
 use Rattle.amqp_encoder.specs.Writes.{steps, outcome, Runs, Writes, bytes_in, Found}
 use Rattle.amqp_encoder.specs.Passes.{row_text, row_tokens, AreValues, HoldOthers, AreRefused, as_size, IsMeasured, BeginsMeasuring, BeginsFilling}
-use Rattle.amqp_encoder.proofs.Holders.{holds}
+use Rattle.amqp_encoder.proofs.ContainerTerms.{holds}
 use Rattle.amqp_encoder.proofs.Joined.{filling_never, going_before, steps-append}
 use Rattle.amqp_encoder.proofs.Filled.{fill_terms, filled, last}
 use Rattle.amqp_encoder.proofs.Measured.{AcceptedAll, RefusedAll, some_inside, some_past, all_too_long, all_too_many, some_null, some_kept, some_other}
@@ -39,8 +39,8 @@ steps_none s = refl
 mutual
   pub somewhere_as : (P Q : Term → Type 0) → ((t : Term) → P t → Q t) → (t : Term) → Somewhere P t → Somewhere Q t
   somewhere_as P Q h (leaf p) s = h (leaf p) s
-  somewhere_as P Q h (holder k ts) (inl s) = inl (h (holder k ts) s)
-  somewhere_as P Q h (holder k ts) (inr s) = inr (somewhere_in_as P Q h ts s)
+  somewhere_as P Q h (container k ts) (inl s) = inl (h (container k ts) s)
+  somewhere_as P Q h (container k ts) (inr s) = inr (somewhere_in_as P Q h ts s)
   somewhere_as P Q h (described d t) (inl s) = inl (h (described d t) s)
   somewhere_as P Q h (described d t) (inr s) = inr (somewhere_as P Q h t s)
   somewhere_as P Q h (kept b) s = h (kept b) s
@@ -55,9 +55,9 @@ module _ (deep : List ℕ → ℕ) where
   mutual
     levels_le : (t : Term) → levels t ≤ nest_by deep t + 1
     levels_le (leaf p) = omega arith
-    levels_le (holder list ts) = omega (arith, all_levels_le ts)
-    levels_le (holder map_ ts) = omega (arith, all_levels_le ts)
-    levels_le (holder array ts) = omega (arith, array_levels_le ts)
+    levels_le (container list ts) = omega (arith, all_levels_le ts)
+    levels_le (container map_ ts) = omega (arith, all_levels_le ts)
+    levels_le (container array ts) = omega (arith, array_levels_le ts)
     levels_le (described d t) = omega (arith, levels_le t)
     levels_le (kept b) = omega arith
     levels_le (barred r) = omega arith
@@ -71,28 +71,28 @@ module _ (deep : List ℕ → ℕ) where
     array_levels_le (more (leaf p) ts) = omega (arith, array_levels_le ts)
     array_levels_le (more (kept b) ts) = omega (arith, array_levels_le ts)
     array_levels_le (more (barred r) ts) = omega (arith, array_levels_le ts)
-    array_levels_le (more (holder k us) ts) = omega (arith, levels_le (holder k us), all_levels_le ts)
+    array_levels_le (more (container k us) ts) = omega (arith, levels_le (container k us), all_levels_le ts)
     array_levels_le (more (described d t) ts) = omega (arith, levels_le (described d t), all_levels_le ts)
 
-  row_refused : (ts : Terms) (e : Error) → RefusedAll deep ts Plain 0 0 0 0 0 [] e → RowRefused deep ts e
+  row_refused : (ts : Terms) (e : Error) → RefusedAll deep ts Alone 0 0 0 0 0 [] e → RowRefused deep ts e
   row_refused ts e (some_inside r) = inl r
-  row_refused ts e (some_past i h) = inr (inl (i, let f : 128 < 0 + nests_by deep ts = any_past deep Plain 0 ts h in omega arith))
+  row_refused ts e (some_past i h) = inr (inl (i, let f : 128 < 0 + nests_by deep ts = any_past deep Alone 0 ts h in omega arith))
   row_refused ts e (all_too_long i h) = inr (inr (i, inl (omega arith)))
   row_refused ts e (all_too_many i h m) = inr (inr (i, inr (omega arith)))
   row_refused ts e (some_null i a t j h) = absurd a
   row_refused ts e (some_kept i a t b j h) = absurd a
   row_refused ts e (some_other i h) = absurd h
 
-  row_nested : (ts : Terms) → AcceptedAll deep ts Plain 0 0 0 0 0 [] → nests_by deep ts ≤ 128
+  row_nested : (ts : Terms) → AcceptedAll deep ts Alone 0 0 0 0 0 [] → nests_by deep ts ≤ 128
   row_nested ts a = let f : 0 + nests_by deep ts ≤ 128 = alls_at deep 0 ts (omega arith) a.all_within in omega arith
 
-  row_unrefused : (ts : Terms) → AcceptedAll deep ts Plain 0 0 0 0 0 [] → (e : Error) → RowRefused deep ts e → ⊥
+  row_unrefused : (ts : Terms) → AcceptedAll deep ts Alone 0 0 0 0 0 [] → (e : Error) → RowRefused deep ts e → ⊥
   row_unrefused ts a e (inl r) = a.all_clean e r
   row_unrefused ts a e (inr (inl r)) = omega (arith, row_nested ts a, r.1)
   row_unrefused ts a e (inr (inr (i, inl r))) = let f = a.all_long in omega arith
   row_unrefused ts a e (inr (inr (i, inr r))) = let f = a.all_many in omega arith
 
-  measured_is : (ts : List Term) → AcceptedAll deep (terms_of ts) Plain 0 0 0 0 0 [] → IsMeasured deep ts (length (row_text ts)) (map as_size (all_sizes (terms_of ts)))
+  measured_is : (ts : List Term) → AcceptedAll deep (terms_of ts) Alone 0 0 0 0 0 [] → IsMeasured deep ts (length (row_text ts)) (map as_size (all_sizes (terms_of ts)))
   measured_is ts a = record {
     exact = refl;
     kept = refl;
@@ -104,16 +104,16 @@ module _ (deep : List ℕ → ℕ) where
   }
 
   abbrev row_end : List Term → Pass
-  row_end ts = Measuring (mk (fr (Some list) (last (terms_of ts) Plain) (codes_after deep (terms_of ts) Plain 0) (0 + length (row_text ts)) (0 + count (terms_of ts)) 0 0) [] (map as_size (all_sizes (terms_of ts))) (all_descs deep (terms_of ts) Plain []))
+  row_end ts = Measuring (mk (fr (Some list) (last (terms_of ts) Alone) (codes_after deep (terms_of ts) Alone 0) (0 + length (row_text ts)) (0 + count (terms_of ts)) 0 0) [] (map as_size (all_sizes (terms_of ts))) (all_descs deep (terms_of ts) Alone []))
 
-  measured_row : (ts : List Term) → AreValues ts → Goes (Measuring at_start) (row_tokens deep ts) (row_end ts) [] (AcceptedAll deep (terms_of ts) Plain 0 0 0 0 0 []) (RefusedAll deep (terms_of ts) Plain 0 0 0 0 0 [])
-  measured_row ts v = rw (row_calls deep ts, ← append-nil (all_tokens deep (terms_of ts))) (measure_terms deep (terms_of ts) list Plain 0 0 0 0 0 [] [] [] [] tt (omega arith) (omega arith) v)
+  measured_row : (ts : List Term) → AreValues ts → Goes (Measuring at_start) (row_tokens deep ts) (row_end ts) [] (AcceptedAll deep (terms_of ts) Alone 0 0 0 0 0 []) (RefusedAll deep (terms_of ts) Alone 0 0 0 0 0 [])
+  measured_row ts v = rw (row_calls deep ts, ← append-nil (all_tokens deep (terms_of ts))) (measure_terms deep (terms_of ts) list Alone 0 0 0 0 0 [] [] [] [] tt (omega arith) (omega arith) v)
 
   -- what a measuring pass found: the terms' length and sizes, or why they are refused
   abbrev pub HasFound : List Term → Pass → Result (Unit {0}) Error → Type 0
   HasFound ts new r = MatchResult r (λ _. Found new (length (row_text ts)) (map as_size (all_sizes (terms_of ts))) × IsMeasured deep ts (length (row_text ts)) (map as_size (all_sizes (terms_of ts)))) (λ e. ((e ≡ Memory) × HoldOthers ts) ⊎ AreRefused deep ts e)
 
-  found_goes : (ts : List Term) (new : Pass) (r : Result (Unit {0}) Error) → AcceptedAll deep (terms_of ts) Plain 0 0 0 0 0 [] → new ≡ row_end ts → r ≡ outcome new → HasFound ts new r
+  found_goes : (ts : List Term) (new : Pass) (r : Result (Unit {0}) Error) → AcceptedAll deep (terms_of ts) Alone 0 0 0 0 0 [] → new ≡ row_end ts → r ≡ outcome new → HasFound ts new r
   found_goes ts new r a i h = rw (h, i) ((refl, zero-add (length (row_text ts)), refl), measured_is ts a)
 
   found_stops : (ts : List Term) (new : Pass) (r : Result (Unit {0}) Error) (e : Error) → AreRefused deep ts e → new ≡ Stopped e → r ≡ outcome new → HasFound ts new r
@@ -136,10 +136,10 @@ module _ (deep : List ℕ → ℕ) where
   measured ts old r new v i w = found ts r new.pass v (rw i at w.runs)
 
   filled_row : (ts : List Term) (out : List ℕ) (limit len : ℕ) (sizes : List Size) → IsMeasured deep ts len sizes → length out + len ≤ limit →
-      steps (Filling (to_fill sizes out limit)) (row_tokens deep ts) ≡ Filling (filled (last (terms_of ts) Plain) [] [] (out ++ row_text ts) limit)
+      steps (Filling (to_fill sizes out limit)) (row_tokens deep ts) ≡ Filling (filled (last (terms_of ts) Alone) [] [] (out ++ row_text ts) limit)
   filled_row ts out limit len sizes m h =
       rw (m.kept, row_calls deep ts, ← append-nil (all_tokens deep (terms_of ts)), ← append-nil (map as_size (all_sizes (terms_of ts))))
-      (fill_terms deep (terms_of ts) Plain [] [] out limit [] m.fits (omega (arith, m.levels)) (omega (arith, m.exact)) ∙ steps_none _)
+      (fill_terms deep (terms_of ts) Alone [] [] out limit [] m.fits (omega (arith, m.levels)) (omega (arith, m.exact)) ∙ steps_none _)
 
   -- what a filling pass wrote
   abbrev pub HasFilled : List ℕ → Pass → List ℕ → Result (Unit {0}) Error → Type 0

@@ -3,7 +3,7 @@ use Rattle.std.proofs.Common.{◌≡◌, ℕ, ◌+◌, List, length, drop, get_o
 use Rattle.std.specs.Prelude.{if◌then◌else◌, ltb, Ok, Err}
 use Rattle.amqp_wire.specs.declared.error.Error.TheVariants.{TooLarge}
 use Rattle.amqp_model.specs.Term.{Primitive, binary, string, symbol}
-use Rattle.amqp_model.specs.Text.{Place, Plain, First, Later, wide, spell, with_size, primitive_text}
+use Rattle.amqp_model.specs.Text.{Place, Alone, First, Later, wide, spell, with_size, primitive_text}
 use Rattle.amqp_encoder.specs.declared.kinds.Shortest.{Shortest}
 use Rattle.amqp_encoder.specs.State.{Measured, Filled}
 use Rattle.amqp_encoder.specs.Measuring.{◌>>=◌, short_enough, checked, measure_value, measure_put}
@@ -14,7 +14,7 @@ use Rattle.amqp_encoder.specs.Spelled.{IsFixed, IsVariable}
 -- fixed width
 
 fixed_is : (place : Place) (p : Primitive) (s : Shortest) (w : List ℕ) → IsFixed p s w → primitive_text place p ≡ fixed_text place s w
-fixed_is Plain p s w h = h.plain
+fixed_is Alone p s w h = h.alone
 fixed_is First p s w h = h.in_array
 fixed_is Later p s w h = ap (drop 1) h.in_array
 
@@ -34,22 +34,22 @@ plain_length true short wide_ s = omega arith
 plain_length false short wide_ s = omega arith
 
 text_length : (place : Place) (short wide_ : ℕ) (s : List ℕ) → length (variable_text place short wide_ s) ≡ variable_length place (length s)
-text_length Plain short wide_ s = plain_length (ltb (length s) 256) short wide_ s
+text_length Alone short wide_ s = plain_length (ltb (length s) 256) short wide_ s
 text_length First short wide_ s = omega arith
 text_length Later short wide_ s = omega arith
 
 binary_text : (s : List ℕ) (place : Place) → primitive_text place (binary s) ≡ variable_text place 0xa0 0xb0 s
-binary_text s Plain = refl
+binary_text s Alone = refl
 binary_text s First = refl
 binary_text s Later = refl
 
 string_text : (s : List ℕ) (place : Place) → primitive_text place (string s) ≡ variable_text place 0xa1 0xb1 s
-string_text s Plain = refl
+string_text s Alone = refl
 string_text s First = refl
 string_text s Later = refl
 
 symbol_text : (s : List ℕ) (place : Place) → primitive_text place (symbol s) ≡ variable_text place 0xa3 0xb3 s
-symbol_text s Plain = refl
+symbol_text s Alone = refl
 symbol_text s First = refl
 symbol_text s Later = refl
 

@@ -2,7 +2,7 @@
 use Rattle.std.specs.Prelude.{ℕ, ◌+◌, List, [], ◌∷◌, ◌++◌, length, ltb, if◌then◌else◌, Result, Ok, Err}
 use Rattle.amqp_model.specs.Term.{Primitive, null, binary, string, symbol, Container, Descriptor}
 use Rattle.amqp_model.specs.Spelling.{descriptor_value}
-use Rattle.amqp_model.specs.Text.{Place, Plain, First, Later, next, first_place, primitive_text, descriptor_text}
+use Rattle.amqp_model.specs.Text.{Place, Alone, First, Later, next, first_place, primitive_text, descriptor_text}
 use Rattle.amqp_wire.specs.declared.error.Error.{Error}
 use Rattle.amqp_wire.specs.declared.error.Error.TheVariants.{Depth, ZeroWidthItems, TooLarge, InvalidValue, LazyInArray}
 use Rattle.amqp_encoder.specs.declared.size.Size.{Size}
@@ -24,7 +24,7 @@ sized (symbol s) = short_enough s
 sized p = Ok tt
 
 abbrev pub fill_null_at : Place → Filled → Result Filled Error
-fill_null_at Plain f = fill_value (0x40 ∷ []) f
+fill_null_at Alone f = fill_value (0x40 ∷ []) f
 fill_null_at First f = Err ZeroWidthItems
 fill_null_at Later f = Err ZeroWidthItems
 
@@ -36,7 +36,7 @@ abbrev pub fill_put : Primitive → Filled → Result Filled Error
 fill_put p f = sized p >>= λ _. fill_sized p f
 
 abbrev pub fill_keep_at : Place → List ℕ → Filled → Result Filled Error
-fill_keep_at Plain b f = fill_value b f
+fill_keep_at Alone b f = fill_value b f
 fill_keep_at First b f = Err LazyInArray
 fill_keep_at Later b f = Err LazyInArray
 

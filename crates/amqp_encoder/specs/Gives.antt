@@ -1,11 +1,11 @@
 -- What a call of one pass did, and the bytes and lengths that its parts speak of.
 use Rattle.std.specs.Prelude.{◌≡◌, ℕ, ◌+◌, List, [], ◌∷◌, length, drop, ltb, cond, if◌then◌else◌, Result, Ok, Err, IsOk, ◌⊎◌}
 use Rattle.amqp_model.specs.Term.{Descriptor, name, code, symbol}
-use Rattle.amqp_model.specs.Text.{Place, Plain, First, Later, spell, with_size}
+use Rattle.amqp_model.specs.Text.{Place, Alone, First, Later, spell, with_size}
 use Rattle.amqp_wire.specs.declared.error.Error.{Error}
 use Rattle.amqp_wire.specs.declared.error.Error.TheVariants.{Memory, TooLarge, InvalidValue}
 use Rattle.amqp_encoder.specs.declared.kinds.Shortest.{Shortest}
-use Rattle.amqp_encoder.specs.declared.frame.Frame.{Frame}
+use Rattle.amqp_encoder.specs.declared.frame.MeasuredContainer.{MeasuredContainer}
 use Rattle.amqp_encoder.specs.Values.{shortest_text}
 use Rattle.amqp_encoder.specs.State.{Open, Measured, Filled, seen}
 use Rattle.amqp_encoder.specs.Measuring.{◌>>=◌, short_enough, checked, measure_value}
@@ -23,13 +23,13 @@ Does r (Err e) new = r ≡ Err e
 
 -- A primitive of fixed width, whose code and data in an array are w.
 abbrev pub fixed_text : Place → Shortest → List ℕ → List ℕ
-fixed_text Plain s w = shortest_text s w
+fixed_text Alone s w = shortest_text s w
 fixed_text First s w = w
 fixed_text Later s w = drop 1 w
 
 -- Bytes behind their length, which has one byte or four.
 abbrev pub variable_text : Place → ℕ → ℕ → List ℕ → List ℕ
-variable_text Plain short wide s = spell (cond (ltb (length s) 256) (short, with_size 1 s) (wide, with_size 4 s))
+variable_text Alone short wide s = spell (cond (ltb (length s) 256) (short, with_size 1 s) (wide, with_size 4 s))
 variable_text First short wide s = spell (wide, with_size 4 s)
 variable_text Later short wide s = with_size 4 s
 
@@ -37,7 +37,7 @@ abbrev pub fill_bytes : ℕ → ℕ → List ℕ → Filled → Result Filled Er
 fill_bytes short wide s f = short_enough s >>= λ _. fill_value (variable_text f.place short wide s) f
 
 abbrev pub variable_length : Place → ℕ → ℕ
-variable_length Plain n = if ltb n 256 then 2 + n else 5 + n
+variable_length Alone n = if ltb n 256 then 2 + n else 5 + n
 variable_length First n = 5 + n
 variable_length Later n = 4 + n
 
@@ -53,7 +53,7 @@ tail_of (name s) = s
 tail_of (code n) = []
 
 -- The container around is open again.
-abbrev pub Closes : Measured → List Open → Result Frame Error → Measured → Type 0
+abbrev pub Closes : Measured → List Open → Result MeasuredContainer Error → Measured → Type 0
 Closes old [] r new = r ≡ Err InvalidValue
 Closes old (f ∷ fs) (Ok inner) new = (seen inner ≡ old.frame) × (new ≡ record { frame = f; outer = fs; sizes = old.sizes; descriptors = old.descriptors })
 Closes old (f ∷ fs) (Err e) new = ⊥

@@ -4,7 +4,7 @@ use Rattle.std.specs.Char.{is_ascii}
 use Rattle.std.specs.Cmp.Lexicographic.{pointwise}
 use Rattle.amqp_model.specs.Term.{Primitive, null, binary, string, symbol, Container, list, map, array, Descriptor}
 use Rattle.amqp_model.specs.Spelling.{descriptor_value}
-use Rattle.amqp_model.specs.Text.{Place, Plain, First, Later, next, wide, wide_code, primitive_text, descriptor_text}
+use Rattle.amqp_model.specs.Text.{Place, Alone, First, Later, next, wide, wide_code, primitive_text, descriptor_text}
 use Rattle.amqp_wire.specs.declared.error.Error.{Error}
 use Rattle.amqp_wire.specs.declared.error.Error.TheVariants.{OddCount, Depth, ZeroWidthItems, NonAscii, MixedArray, TooLarge, InvalidValue, LazyInArray}
 use Rattle.amqp_encoder.specs.declared.size.Size.{Size}
@@ -29,7 +29,7 @@ is_full o = is_none o.kind && not (eqb o.count 0)
 
 -- the items of an array share one constructor, of which this code is the end
 abbrev pub take_form : Place → ℕ → Measured → Result Measured Error
-take_form Plain code m = Ok m
+take_form Alone code m = Ok m
 take_form First code m = Ok (record m { frame = record m.frame { code = code } })
 take_form Later code m = if eqb m.frame.code code && eqb m.frame.form (length m.descriptors) then Ok m else Err MixedArray
 
@@ -60,7 +60,7 @@ abbrev pub measure_value : ℕ → ℕ → Measured → Result Measured Error
 measure_value code len m = enter code m >>= leave len
 
 abbrev pub measure_null_at : Place → Measured → Result Measured Error
-measure_null_at Plain m = measure_value 0x40 1 m
+measure_null_at Alone m = measure_value 0x40 1 m
 measure_null_at First m = Err ZeroWidthItems
 measure_null_at Later m = Err ZeroWidthItems
 
@@ -72,7 +72,7 @@ abbrev pub measure_put : Primitive → Measured → Result Measured Error
 measure_put p m = checked p >>= λ _. measure_checked p m
 
 abbrev pub measure_keep_at : Place → ℕ → ℕ → Measured → Result Measured Error
-measure_keep_at Plain len nesting m = if ltb 128 nesting || ltb (128 - nesting) (length m.outer) then Err Depth else measure_value 0 len m
+measure_keep_at Alone len nesting m = if ltb 128 nesting || ltb (128 - nesting) (length m.outer) then Err Depth else measure_value 0 len m
 measure_keep_at First len nesting m = Err LazyInArray
 measure_keep_at Later len nesting m = Err LazyInArray
 
@@ -130,7 +130,7 @@ measure_end k m = end_in m.outer k m
 
 -- the bytes of a descriptor in a constructor
 abbrev pub descriptor_bytes : Descriptor → List ℕ
-descriptor_bytes d = descriptor_text Plain d
+descriptor_bytes d = descriptor_text Alone d
 
 abbrev pub descriptor_length : Descriptor → Result ℕ Error
 descriptor_length d = checked (descriptor_value d) >>= λ _. Ok (length (descriptor_bytes d))
@@ -145,7 +145,7 @@ abbrev pub form_after : List ℕ → Measured → Result ℕ Error
 form_after bytes m = if goes_on bytes m.frame.form m.descriptors then Ok (m.frame.form + length bytes) else Err MixedArray
 
 abbrev pub describe_at : Place → List ℕ → Measured → Result Measured Error
-describe_at Plain bytes m = Ok (describe m (length bytes) 0 m.descriptors)
+describe_at Alone bytes m = Ok (describe m (length bytes) 0 m.descriptors)
 describe_at First bytes m = Ok (describe m (length bytes) (length (m.descriptors ++ bytes)) (m.descriptors ++ bytes))
 describe_at Later bytes m = form_after bytes m >>= λ form. Ok (describe m 0 form m.descriptors)
 

@@ -1,8 +1,8 @@
 -- Whole passes over some terms in a row, as the sections of a message are.
 use Rattle.std.specs.Prelude.{◌≡◌, ◌≤◌, ℕ, List, length, map, flat_map, Result}
-use Rattle.amqp_model.specs.Term.{Refusal, Term, holder}
+use Rattle.amqp_model.specs.Term.{Refusal, Term, container}
 use Rattle.amqp_model.specs.Items.{terms_of}
-use Rattle.amqp_model.specs.Text.{Plain, texts, all_sizes}
+use Rattle.amqp_model.specs.Text.{Alone, texts, all_sizes}
 use Rattle.amqp_model.specs.Ranges.{EverywhereIn, IsValue}
 use Rattle.amqp_model.specs.Refusals.{SomewhereIn, IsRefused}
 use Rattle.amqp_wire.specs.declared.error.Error.{Error}
@@ -11,13 +11,13 @@ use Rattle.amqp_encoder.specs.declared.encoder.Encoder.{Encoder}
 use Rattle.amqp_encoder.specs.declared.encoder.Pass.TheVariants.{Measuring, Filling}
 use Rattle.amqp_encoder.specs.Tokens.{Token, tokens}
 use Rattle.amqp_encoder.specs.State.{at_start, to_fill}
-use Rattle.amqp_encoder.specs.Sound.{AllSound, all_levels}
+use Rattle.amqp_encoder.specs.Sound.{AreSound, all_levels}
 use Rattle.amqp_encoder.specs.Reasons.{nests_by, RowRefused}
 use Rattle.amqp_encoder.specs.Writes.{outcome, Found}
 
 -- the bytes of the terms, one after another
 abbrev pub row_text : List Term → List ℕ
-row_text ts = texts (terms_of ts) Plain
+row_text ts = texts (terms_of ts) Alone
 
 -- the calls that write them, where kept bytes nest so deep
 abbrev pub row_tokens : (List ℕ → ℕ) → List Term → List Token
@@ -28,12 +28,12 @@ abbrev pub AreValues : List Term → Type 0
 AreValues ts = EverywhereIn IsValue (terms_of ts)
 
 -- it is a list, a map or an array
-abbrev pub IsHolder : Term → Type 0
-IsHolder (holder k ts) = Unit {0}
-IsHolder _ = ⊥
+abbrev pub IsContainer : Term → Type 0
+IsContainer (container k ts) = Unit {0}
+IsContainer _ = ⊥
 
 abbrev pub HoldOthers : List Term → Type 0
-HoldOthers ts = SomewhereIn IsHolder (terms_of ts)
+HoldOthers ts = SomewhereIn IsContainer (terms_of ts)
 
 -- why they aren't written
 abbrev pub AreRefused : (List ℕ → ℕ) → List Term → Error → Type 0
@@ -47,7 +47,7 @@ as_size s = record { content = s.0; count = s.1 }
 pub record IsMeasured (deep : List ℕ → ℕ) (ts : List Term) (len : ℕ) (sizes : List Size) : Type 0 where
   pub exact : len ≡ length (row_text ts)
   pub kept : sizes ≡ map as_size (all_sizes (terms_of ts))
-  pub fits : AllSound (terms_of ts) Plain
+  pub fits : AreSound (terms_of ts) Alone
   pub levels : all_levels (terms_of ts) ≤ 129
   pub nested : nests_by deep (terms_of ts) ≤ 128
   pub free : (r : Refusal) → SomewhereIn (IsRefused r) (terms_of ts) → ⊥

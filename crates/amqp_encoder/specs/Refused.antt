@@ -3,10 +3,10 @@ use Rattle.std.specs.Prelude.{◌≡◌, ◌<◌, ◌⊎◌, ℕ, List, length, 
 use Rattle.amqp_model.specs.Term.{Refusal, Term, kept}
 use Rattle.amqp_model.specs.Items.{terms_of}
 use Rattle.amqp_model.specs.Spelling.{enc}
-use Rattle.amqp_model.specs.Text.{Plain, text}
+use Rattle.amqp_model.specs.Text.{Alone, text}
 use Rattle.amqp_model.specs.Measures.{nest}
 use Rattle.amqp_model.specs.Ranges.{EverywhereIn}
-use Rattle.amqp_model.specs.Kept.{ReadsEach}
+use Rattle.amqp_model.specs.Kept.{EachExpandsTo}
 use Rattle.amqp_model.specs.Refusals.{Refuses}
 use Rattle.amqp_wire.specs.Refusals.{error_of}
 use Rattle.amqp_wire.specs.declared.error.Error.{Error}
@@ -28,7 +28,7 @@ KnowDepths deep us = EverywhereIn (KnowsDepth deep) (terms_of us)
 
 -- The terms read as those, one by one.
 abbrev pub AllRead : List Term → List Term → Type 0
-AllRead us ts = ReadsEach (terms_of us) (terms_of ts)
+AllRead us ts = EachExpandsTo (terms_of us) (terms_of ts)
 
 -- The model refuses one of the terms for a reason that has this error.
 abbrev pub IsNamed : List Term → Error → Type 0
@@ -44,4 +44,4 @@ HasCause us e = IsNamed us e ⊎ ((e ≡ TooLarge) × IsUncounted us)
 
 -- The model refuses the term for a reason that has this error, or it has more bytes than the machine counts.
 abbrev pub TermHasCause : Term → Error → Type 0
-TermHasCause u e = ((r : Refusal) × (e ≡ error_of r) × Refuses r u) ⊎ ((e ≡ TooLarge) × (MAX < length (text u Plain)))
+TermHasCause u e = ((r : Refusal) × (e ≡ error_of r) × Refuses r u) ⊎ ((e ≡ TooLarge) × (MAX < length (text u Alone)))

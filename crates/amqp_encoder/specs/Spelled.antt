@@ -1,7 +1,7 @@
 -- Which bytes a call for a primitive is given.
 use Rattle.std.specs.Prelude.{◌≡◌, ℕ, List}
 use Rattle.amqp_model.specs.Term.{Primitive}
-use Rattle.amqp_model.specs.Text.{Place, Plain, wide, spell, primitive_text}
+use Rattle.amqp_model.specs.Text.{Place, Alone, wide, spell, primitive_text}
 use Rattle.amqp_encoder.specs.declared.kinds.Shortest.{Shortest}
 use Rattle.amqp_encoder.specs.State.{Measured, Filled}
 use Rattle.amqp_encoder.specs.Values.{shortest_text}
@@ -12,7 +12,7 @@ use Rattle.std.specs.Prelude.{length}
 
 -- A primitive of fixed width: how it stands by itself, and its code and its data in an array.
 pub record IsFixed (p : Primitive) (s : Shortest) (w : List ℕ) : Type 0 where
-  pub plain : primitive_text Plain p ≡ shortest_text s w
+  pub alone : primitive_text Alone p ≡ shortest_text s w
   pub in_array : spell (wide p) ≡ w
   pub measured : (m : Measured) → measure_put p m ≡ measure_value (wide p).0 (length (primitive_text m.frame.place p)) m
   pub filled : (f : Filled) → fill_put p f ≡ fill_value (primitive_text f.place p) f

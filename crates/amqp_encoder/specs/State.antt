@@ -3,7 +3,7 @@ use Rattle.std.specs.Prelude.{ℕ, List, [], Option, Some, None}
 use Rattle.amqp_model.specs.Term.{Container, list}
 use Rattle.amqp_model.specs.Text.{Place, first_place}
 use Rattle.amqp_encoder.specs.declared.size.Size.{Size}
-use Rattle.amqp_encoder.specs.declared.frame.Frame.{Frame}
+use Rattle.amqp_encoder.specs.declared.frame.MeasuredContainer.{MeasuredContainer}
 use Rattle.amqp_encoder.specs.Values.{kind_of, place_of}
 
 -- An open container, or a described value (of no kind): where its next value stands, the code of the items of the array
@@ -18,7 +18,7 @@ pub record Open : Type 0 where
   pub index : ℕ
   pub form : ℕ
 
-abbrev pub seen : Frame → Open
+abbrev pub seen : MeasuredContainer → Open
 seen f = record { kind = kind_of f.kind; place = place_of f.place; code = f.code; content = f.content; count = f.count; index = f.index; form = f.form }
 
 abbrev pub holding : Container → ℕ → ℕ → Open

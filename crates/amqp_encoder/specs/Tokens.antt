@@ -1,6 +1,6 @@
 -- The calls that write a term.
 use Rattle.std.specs.Prelude.{ℕ, List, [], ◌∷◌, ◌++◌}
-use Rattle.amqp_model.specs.Term.{Primitive, Container, Descriptor, Term, Terms, leaf, holder, described, kept, barred, none, more}
+use Rattle.amqp_model.specs.Term.{Primitive, Container, Descriptor, Term, Terms, leaf, container, described, kept, barred, none, more}
 use Rattle.amqp_model.specs.Text.{Place, First}
 use Rattle.amqp_wire.specs.Refusals.{error_of}
 use Rattle.amqp_wire.specs.declared.error.Error.{Error}
@@ -26,7 +26,7 @@ TakesMemory place t = ⊥
 abbrev mutual
   pub tokens : (List ℕ → ℕ) → Term → List Token
   tokens deep (leaf p) = put p ∷ []
-  tokens deep (holder k ts) = begin k ∷ (all_tokens deep ts ++ end k ∷ [])
+  tokens deep (container k ts) = begin k ∷ (all_tokens deep ts ++ end k ∷ [])
   tokens deep (described d t) = begin_described d ∷ (tokens deep t ++ end_described ∷ [])
   tokens deep (kept b) = keep b (deep b) ∷ []
   tokens deep (barred r) = refuse (error_of r) ∷ []

@@ -6,7 +6,7 @@ use Rattle.amqp_model.specs.Text as model_place
 use Rattle.amqp_wire.specs.declared.descriptor.Descriptor.{Descriptor}
 use Rattle.amqp_wire.specs.declared.descriptor.Descriptor.TheVariants.{Name, Code}
 use Rattle.amqp_encoder.specs.declared.kinds.Place.{Place}
-use Rattle.amqp_encoder.specs.declared.kinds.Place.TheVariants.{Plain, First, Later}
+use Rattle.amqp_encoder.specs.declared.kinds.Place.TheVariants.{Alone, First, Later}
 use Rattle.amqp_encoder.specs.declared.kinds.Container.{Container}
 use Rattle.amqp_encoder.specs.declared.kinds.Container.TheVariants as container
 use Rattle.amqp_encoder.specs.declared.kinds.Kind.{Kind}
@@ -19,7 +19,7 @@ descriptor_of (Name s) = name (string_bytes s.0)
 descriptor_of (Code n) = code n
 
 abbrev pub place_of : Place → model_place.Place
-place_of Plain = model_place.Plain
+place_of Alone = model_place.Alone
 place_of First = model_place.First
 place_of Later = model_place.Later
 
@@ -30,7 +30,7 @@ container_of container.Array = array
 
 -- none for a described value
 abbrev pub kind_of : Kind → Option model.Container
-kind_of (kind.Holder k) = Some (container_of k)
+kind_of (kind.Container k) = Some (container_of k)
 kind_of kind.Described = None
 
 -- where a primitive takes w in an array

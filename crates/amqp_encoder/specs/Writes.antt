@@ -67,13 +67,13 @@ unfoldable pub AnyMayRunOut : Pass → List Token → Type 0
 AnyMayRunOut s [] = ⊥
 AnyMayRunOut s (t ∷ ts) = MayRunOut s t ⊎ AnyMayRunOut (step s t) ts
 
-abbrev pub RanOut : Pass → List Token → Pass → Type 0
-RanOut old ts new = AnyMayRunOut old ts × (new ≡ Stopped Memory)
+abbrev pub RunsOut : Pass → List Token → Pass → Type 0
+RunsOut old ts new = AnyMayRunOut old ts × (new ≡ Stopped Memory)
 
 -- The calls were made in this order, up to a refusal; or memory ran out at one that takes memory.
 pub record Runs (old : Pass) (ts : List Token) (result : Result (Unit {0}) Error) (new : Pass) : Type 0 where
   pub answer : result ≡ outcome new
-  pub state : (new ≡ steps old ts) ⊎ RanOut old ts new
+  pub state : (new ≡ steps old ts) ⊎ RunsOut old ts new
 
 -- the buffer's bytes: those that a filling pass has written behind what was there
 abbrev pub bytes_in : Pass → List ℕ → List ℕ

@@ -2,7 +2,7 @@
 ghost use Rattle.std.specs.Prelude.{◌≡◌, ◌≤◌, ◌<◌, ◌+◌, ◌++◌, [], ◌∷◌, ◌^◌, ℕ, List, length, take, drop};
 ghost use Rattle.std.specs.Vec.{vec_capacity, vec_len};
 ghost use Rattle.amqp_model.specs.Term.{array};
-ghost use Rattle.amqp_model.specs.Text.{Plain, head, first_place};
+ghost use Rattle.amqp_model.specs.Text.{Alone, head, first_place};
 ghost use Rattle.amqp_encoder.specs.Opening.{opening};
 ghost use Rattle.amqp_encoder.specs.Values.{place_of, container_of, descriptor_of, shortest_text};
 ghost use Rattle.amqp_encoder.specs.State.{to_fill};
@@ -48,8 +48,8 @@ impl Fill {
         ensures { result ≡ to_fill sizes.items out.items limit }
     {
         Fill {
-            place: Place::Plain,
-            places: [Place::Plain; ROW],
+            place: Place::Alone,
+            places: [Place::Alone; ROW],
             depth: 0,
             sizes,
             next: 0,
@@ -156,7 +156,7 @@ impl Fill {
         ensures kept { take (length self.old.out) self.new.out ≡ self.old.out }
     {
         match self.place {
-            Place::Plain => match shortest {
+            Place::Alone => match shortest {
                 Shortest::Code(code) => self.emit_byte(code),
                 Shortest::Byte(code, byte) => self.emit_two(code, byte),
                 Shortest::Wide => self.emit_each(&wide),
@@ -174,7 +174,7 @@ impl Fill {
     {
         let bytes = &wide[..];
         match self.place {
-            Place::Plain | Place::First => self.emit_value(bytes, &[]),
+            Place::Alone | Place::First => self.emit_value(bytes, &[]),
             Place::Later => self.emit_value(&bytes[1..], &[]),
         }
     }
@@ -189,7 +189,7 @@ impl Fill {
         }
         let [a, b, c, d] = (bytes.len() as u32).to_be_bytes();
         match self.place {
-            Place::Plain => {
+            Place::Alone => {
                 if bytes.len() < 256 {
                     self.emit(&[short, bytes.len() as u8], bytes)
                 } else {
@@ -206,7 +206,7 @@ impl Fill {
         ensures kept { take (length self.old.out) self.new.out ≡ self.old.out }
     {
         match self.place {
-            Place::Plain => self.emit(&[format_code::NULL], &[]),
+            Place::Alone => self.emit(&[format_code::NULL], &[]),
             Place::First | Place::Later => Err(Error::ZeroWidthItems),
         }
     }
@@ -216,7 +216,7 @@ impl Fill {
         ensures kept { take (length self.old.out) self.new.out ≡ self.old.out }
     {
         match self.place {
-            Place::Plain => self.emit(bytes, &[]),
+            Place::Alone => self.emit(bytes, &[]),
             Place::First | Place::Later => Err(Error::LazyInArray),
         }
     }
@@ -261,7 +261,7 @@ impl Fill {
             return self.open_empty_array(first);
         }
         match self.place {
-            Place::Plain => self.open_plain(container, size),
+            Place::Alone => self.open_alone(container, size),
             Place::First => {
                 let [a, b, c, d] = (4 + size.content).to_be_bytes();
                 let [e, f, g, h] = size.count.to_be_bytes();
@@ -275,9 +275,9 @@ impl Fill {
         }
     }
 
-    fn open_plain(&mut self, container: Container, size: Size) -> Result<(), Error>
+    fn open_alone(&mut self, container: Container, size: Size) -> Result<(), Error>
         requires fits { size.content < 0xffff_fffc }
-        ensures does { Does (fill_open (head Plain (container_of container) size.count size.content) (first_place (container_of container)) self.old) result self.new }
+        ensures does { Does (fill_open (head Alone (container_of container) size.count size.content) (first_place (container_of container)) self.old) result self.new }
         ensures kept { take (length self.old.out) self.new.out ≡ self.old.out }
     {
         let first = container.first_place();
@@ -303,7 +303,7 @@ impl Fill {
         ensures kept { take (length self.old.out) self.new.out ≡ self.old.out }
     {
         match self.place {
-            Place::Plain => self.open(&[format_code::ARRAY_8, 2, 0, format_code::NULL], &[], first),
+            Place::Alone => self.open(&[format_code::ARRAY_8, 2, 0, format_code::NULL], &[], first),
             Place::First => self.open(
                 &[
                     format_code::ARRAY_32,
@@ -329,7 +329,7 @@ impl Fill {
         ensures kept { take (length self.old.out) self.new.out ≡ self.old.out }
     {
         match self.place {
-            Place::Plain | Place::First => {
+            Place::Alone | Place::First => {
                 let text = text_of(descriptor);
                 if text.len() > 0xffff_ffff {
                     return Err(Error::TooLarge);

@@ -14,7 +14,7 @@ use amqp_wire::Error;
 
 /// An open container, or the row of values that stand in none.
 #[derive(Clone, Copy)]
-pub(crate) struct Frame {
+pub(crate) struct MeasuredContainer {
     pub(crate) kind: Kind,
     /// Where its next value stands.
     pub(crate) place: Place,
@@ -29,19 +29,19 @@ pub(crate) struct Frame {
     pub(crate) form: usize,
 }
 
-impl Frame {
+impl MeasuredContainer {
     /// The row of values that stand in no container.
-    pub(crate) fn outermost() -> Frame
+    pub(crate) fn outermost() -> MeasuredContainer
         ensures { seen result ≡ holding list 0 0 }
     {
-        Frame::of_holder(Container::List, 0, 0)
+        MeasuredContainer::of_container(Container::List, 0, 0)
     }
 
-    pub(crate) fn of_holder(container: Container, index: usize, form: usize) -> Frame
+    pub(crate) fn of_container(container: Container, index: usize, form: usize) -> MeasuredContainer
         ensures { seen result ≡ holding (container_of container) index form }
     {
-        Frame {
-            kind: Kind::Holder(container),
+        MeasuredContainer {
+            kind: Kind::Container(container),
             place: container.first_place(),
             code: 0,
             content: 0,
@@ -52,10 +52,10 @@ impl Frame {
     }
 
     /// A described value that stands where the next value does, under so many bytes of descriptor.
-    pub(crate) fn of_described(self, content: usize, form: usize) -> Frame
+    pub(crate) fn of_described(self, content: usize, form: usize) -> MeasuredContainer
         ensures { seen result ≡ describing (seen self) content form }
     {
-        Frame {
+        MeasuredContainer {
             kind: Kind::Described,
             place: self.place,
             code: self.code,
@@ -106,8 +106,8 @@ pub(crate) fn opening_len(place: Place, container: Container, size: Size) -> usi
 {
     let filler = if is_filled_up(container, size) { 1 } else { 0 };
     match (place, container) {
-        (Place::Plain, Container::List) if size.count == 0 => 1,
-        (Place::Plain, _) => {
+        (Place::Alone, Container::List) if size.count == 0 => 1,
+        (Place::Alone, _) => {
             if filler == 1 || (size.content < 255 && size.count < 256) {
                 3 + filler
             } else {

@@ -11,7 +11,7 @@ use amqp_wire::format_code;
 /// all, or as a later one, which is data alone (Part 1, section 1.2.4).
 #[derive(Clone, Copy)]
 pub(crate) enum Place {
-    Plain,
+    Alone,
     First,
     Later,
 }
@@ -22,7 +22,7 @@ impl Place {
         ensures { place_of result ≡ next (place_of self) }
     {
         match self {
-            Place::Plain => Place::Plain,
+            Place::Alone => Place::Alone,
             Place::First | Place::Later => Place::Later,
         }
     }
@@ -73,7 +73,7 @@ impl Container {
         ensures { place_of result ≡ first_place (container_of self) }
     {
         match self {
-            Container::List | Container::Map => Place::Plain,
+            Container::List | Container::Map => Place::Alone,
             Container::Array => Place::First,
         }
     }
@@ -104,7 +104,7 @@ impl Container {
 /// What is open.
 #[derive(Clone, Copy)]
 pub(crate) enum Kind {
-    Holder(Container),
+    Container(Container),
     Described,
 }
 
@@ -113,18 +113,18 @@ impl Kind {
         ensures { result ≡ is_none (kind_of self) }
     {
         match self {
-            Kind::Holder(_) => false,
+            Kind::Container(_) => false,
             Kind::Described => true,
         }
     }
 
-    pub(crate) fn is_holder(self, container: Container) -> bool
+    pub(crate) fn is_container(self, container: Container) -> bool
         ensures { result ≡ holds (kind_of self) (container_of container) }
     {
         match (self, container) {
-            (Kind::Holder(Container::List), Container::List) => true,
-            (Kind::Holder(Container::Map), Container::Map) => true,
-            (Kind::Holder(Container::Array), Container::Array) => true,
+            (Kind::Container(Container::List), Container::List) => true,
+            (Kind::Container(Container::Map), Container::Map) => true,
+            (Kind::Container(Container::Array), Container::Array) => true,
             _ => false,
         }
     }

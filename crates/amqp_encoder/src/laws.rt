@@ -2,8 +2,8 @@
 ghost use Rattle.std.specs.Prelude.{◌≡◌, ◌≤◌, ◌⊎◌, ◌+◌, ◌++◌, ℕ, List, [], ◌∷◌, length, map, Any, Result, Ok, Err};
 ghost use Rattle.amqp_model.specs.Term.{Refusal, Term, depth};
 ghost use Rattle.amqp_model.specs.Items.{terms_of};
-ghost use Rattle.amqp_model.specs.Text.{Plain, text, all_sizes};
-ghost use Rattle.amqp_model.specs.Kept.{Reads};
+ghost use Rattle.amqp_model.specs.Text.{Alone, text, all_sizes};
+ghost use Rattle.amqp_model.specs.Kept.{ExpandsTo};
 ghost use Rattle.amqp_model.specs.Refusals.{Refuses};
 ghost use Rattle.amqp_wire.specs.Refusals.{error_of};
 ghost use Rattle.amqp_wire.specs.declared.error.Error.{Error};
@@ -48,18 +48,18 @@ pub fn refusals_are_complete()
 /// the machine counts. A count that doesn't fit in four bytes is of items whose size doesn't fit either.
 pub fn refusals_are_sound()
     ensures sound { (deep : List ℕ → ℕ) (us ts : List Term) (e : Error) → KnowDepths deep us → AreValues us → AllRead us ts → AreRefused deep us e → HasCause us e }
-    ensures of_one { (deep : List ℕ → ℕ) (u t : Term) (e : Error) → KnowDepths deep (u ∷ []) → AreValues (u ∷ []) → Reads u t → AreRefused deep (u ∷ []) e → TermHasCause u e }
+    ensures of_one { (deep : List ℕ → ℕ) (u t : Term) (e : Error) → KnowDepths deep (u ∷ []) → AreValues (u ∷ []) → ExpandsTo u t → AreRefused deep (u ∷ []) e → TermHasCause u e }
 {}
 
 /// An encoder that measures answers Ok exactly where the model refuses nothing and the machine counts the bytes; else it
 /// answers the named reason. It may run out of memory in either case.
 pub fn accepted_exactly()
     ensures accepted { (deep : List ℕ → ℕ) (u : Term) (old new : Encoder) → KnowDepths deep (u ∷ []) → AreValues (u ∷ []) → BeginsMeasuring old → Writes old (tokens deep u) (Ok tt) new
-        → ((r : Refusal) → Refuses r u → ⊥) × (length (text u Plain) ≤ MAX) }
-    ensures refused { (deep : List ℕ → ℕ) (u t : Term) (old new : Encoder) (e : Error) → KnowDepths deep (u ∷ []) → AreValues (u ∷ []) → Reads u t → BeginsMeasuring old → Writes old (tokens deep u) (Err e) new
+        → ((r : Refusal) → Refuses r u → ⊥) × (length (text u Alone) ≤ MAX) }
+    ensures refused { (deep : List ℕ → ℕ) (u t : Term) (old new : Encoder) (e : Error) → KnowDepths deep (u ∷ []) → AreValues (u ∷ []) → ExpandsTo u t → BeginsMeasuring old → Writes old (tokens deep u) (Err e) new
         → (e ≡ Memory) ⊎ TermHasCause u e }
-    ensures exactly { (deep : List ℕ → ℕ) (u t : Term) (old new : Encoder) (answer : Result (Unit {0}) Error) → KnowDepths deep (u ∷ []) → AreValues (u ∷ []) → Reads u t → BeginsMeasuring old → Writes old (tokens deep u) answer new
-        → ((r : Refusal) → Refuses r u → ⊥) → length (text u Plain) ≤ MAX → (answer ≡ Ok tt) ⊎ (answer ≡ Err Memory) }
+    ensures exactly { (deep : List ℕ → ℕ) (u t : Term) (old new : Encoder) (answer : Result (Unit {0}) Error) → KnowDepths deep (u ∷ []) → AreValues (u ∷ []) → ExpandsTo u t → BeginsMeasuring old → Writes old (tokens deep u) answer new
+        → ((r : Refusal) → Refuses r u → ⊥) → length (text u Alone) ≤ MAX → (answer ≡ Ok tt) ⊎ (answer ≡ Err Memory) }
 {}
 
 /// The same of terms in a row.

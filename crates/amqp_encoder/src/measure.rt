@@ -12,7 +12,7 @@ ghost use Rattle.amqp_encoder.specs.Gives.{Gives, Does, fixed_text, variable_len
 
 use crate::Size;
 use crate::descriptors::{check_symbol, head_of, len_of, text_of};
-use crate::frame::{Frame, opening_len};
+use crate::frame::{MeasuredContainer, opening_len};
 use crate::kinds::{Container, Place, Shortest};
 use crate::size::{NESTING, ROW};
 use amqp_wire::{Descriptor, Error};
@@ -21,8 +21,8 @@ use std::marker::Model;
 
 #[derive(Drop)]
 pub(crate) struct Measure {
-    top: Frame,
-    frames: [Frame; ROW],
+    top: MeasuredContainer,
+    frames: [MeasuredContainer; ROW],
     depth: usize,
     sizes: Vec<Size>,
     /// The descriptors of the items of the arrays that are open, in canonical form, outermost array first.
@@ -44,7 +44,7 @@ impl Measure {
     pub(crate) fn new(alloc: Global) -> Measure
         ensures { result ≡ at_start }
     {
-        let top = Frame::outermost();
+        let top = MeasuredContainer::outermost();
         Measure {
             top,
             frames: [top; ROW],
@@ -88,7 +88,7 @@ impl Measure {
             return Err(Error::InvalidValue);
         }
         match self.top.place {
-            Place::Plain => {}
+            Place::Alone => {}
             Place::First => self.top.code = code,
             Place::Later => {
                 if self.top.code != code || self.top.form != self.descriptors.len() {
@@ -122,7 +122,7 @@ impl Measure {
         ensures { Does (measure_value (slice_index wide.now 0) (length (fixed_text self.old.frame.place shortest wide.now)) self.old) result self.new }
     {
         let len = match self.top.place {
-            Place::Plain => shortest.len(wide.len()),
+            Place::Alone => shortest.len(wide.len()),
             Place::First => wide.len(),
             Place::Later => wide.len() - 1,
         };
@@ -145,8 +145,8 @@ impl Measure {
         ensures { Does (measure_value code (variable_length self.old.frame.place len) self.old) result self.new }
     {
         let head = match self.top.place {
-            Place::Plain if len < 256 => 2,
-            Place::Plain | Place::First => 5,
+            Place::Alone if len < 256 => 2,
+            Place::Alone | Place::First => 5,
             Place::Later => 4,
         };
         self.enter(code)?;
@@ -165,7 +165,7 @@ impl Measure {
         ensures { Does (measure_null_at self.old.frame.place self.old) result self.new }
     {
         match self.top.place {
-            Place::Plain => {
+            Place::Alone => {
                 self.enter(0x40)?;
                 self.leave(1)
             }
@@ -178,7 +178,7 @@ impl Measure {
         ensures { Does (measure_keep len nesting self.old) result self.new }
     {
         match self.top.place {
-            Place::Plain => {
+            Place::Alone => {
                 if nesting > NESTING || self.depth > NESTING - nesting {
                     return Err(Error::Depth);
                 }
@@ -189,7 +189,7 @@ impl Measure {
         }
     }
 
-    fn open(&mut self, frame: Frame)
+    fn open(&mut self, frame: MeasuredContainer)
         requires { length self.old.outer < 129 }
         ensures { self.new ≡ record { frame = seen frame; outer = self.old.frame ∷ self.old.outer; sizes = self.old.sizes; descriptors = self.old.descriptors } }
     {
@@ -199,7 +199,7 @@ impl Measure {
     }
 
     /// Leaves the open container for the one around it.
-    fn close(&mut self) -> Result<Frame, Error>
+    fn close(&mut self) -> Result<MeasuredContainer, Error>
         ensures { Closes self.old self.old.outer result self.new }
     {
         if self.depth == 0 {
@@ -224,7 +224,7 @@ impl Measure {
             count: 0,
         })?;
         let form = self.descriptors.len();
-        self.open(Frame::of_holder(container, index, form));
+        self.open(MeasuredContainer::of_container(container, index, form));
         Ok(())
     }
 
@@ -232,7 +232,7 @@ impl Measure {
         ensures { Does (measure_end (container_of container) self.old) result self.new }
     {
         let inner = self.close()?;
-        if !inner.kind.is_holder(container) || inner.index >= self.sizes.len() {
+        if !inner.kind.is_container(container) || inner.index >= self.sizes.len() {
             return Err(Error::InvalidValue);
         }
         if container.is_odd(inner.count) {
@@ -246,7 +246,7 @@ impl Measure {
     fn leave_container(
         &mut self,
         container: Container,
-        inner: Frame,
+        inner: MeasuredContainer,
         size: Size,
     ) -> Result<(), Error>
         requires known { inner.index < length self.old.sizes }
@@ -269,7 +269,7 @@ impl Measure {
         }
         let len = len_of(descriptor)?;
         match self.top.place {
-            Place::Plain => self.open(self.top.of_described(len, 0)),
+            Place::Alone => self.open(self.top.of_described(len, 0)),
             Place::First => {
                 self.descriptors
                     .extend_from_slice(head_of(descriptor).as_slice())?;

@@ -7,7 +7,7 @@ use Rattle.std.proofs.Math.Nat.{eq-or-lt_of_le}
 use Rattle.std.proofs.Math.Seq.{take-add, take-append-add}
 use borrow.Rule.Slice.PartMut.{put_mid}
 use Rattle.amqp_wire.proofs.Sources.{pulled}
-use Rattle.amqp_input.specs.State.{State, looked, moved, pending}
+use Rattle.amqp_input.specs.State.{State, after_look, after_bytes, pending}
 
 -- what stands in front of a list
 pub front_is : (s r x : List ℕ) (n : ℕ) → length s ≡ n → r ≡ s ++ x → r ≡ s ++ drop n r
@@ -61,18 +61,18 @@ filled_all p K L b n e h f g = omega (arith, ap length e, ap length f, ap length
 
 -- a state behind n bytes, by its parts
 pub moved_is : (st : State) (r : List ℕ) (a s : ℕ) (f : Bool) (n : ℕ) → r ≡ drop n st.rest → a ≡ st.ahead - n → s ≡ st.source → f ≡ st.failed
-    → record st { rest = r; ahead = a; source = s; failed = f } ≡ moved n st
+    → record st { rest = r; ahead = a; source = s; failed = f } ≡ after_bytes n st
 moved_is st r a s f n hr ha hs hf =
     ap (λ x. record st { rest = x; ahead = a; source = s; failed = f }) hr
     ∙ ap (λ x. record st { rest = drop n st.rest; ahead = x; source = s; failed = f }) ha
     ∙ ap (λ x. record st { rest = drop n st.rest; ahead = st.ahead - n; source = x; failed = f }) hs
     ∙ ap (λ x. record st { rest = drop n st.rest; ahead = st.ahead - n; failed = x }) hf
 
-pub moved_none : (st : State) (n : ℕ) → n ≡ 0 → st ≡ moved n st
-moved_none st n e = let a : st.ahead ≡ st.ahead - 0 = omega arith in ap (λ x. record st { ahead = x }) a ∙ ap (λ k. moved k st) (sym e)
+pub moved_none : (st : State) (n : ℕ) → n ≡ 0 → st ≡ after_bytes n st
+moved_none st n e = let a : st.ahead ≡ st.ahead - 0 = omega arith in ap (λ x. record st { ahead = x }) a ∙ ap (λ k. after_bytes k st) (sym e)
 
 -- what was looked at, and then what the source gave behind it
-pub pulled_behind : (st m : State) (d n k : ℕ) (b f : List ℕ) → d ≤ length b → n ≤ length f → st.rest ≡ take d b ++ drop d st.rest → m ≡ moved d st → m.rest ≡ take n f ++ drop n m.rest
+pub pulled_behind : (st m : State) (d n k : ℕ) (b f : List ℕ) → d ≤ length b → n ≤ length f → st.rest ≡ take d b ++ drop d st.rest → m ≡ after_bytes d st → m.rest ≡ take n f ++ drop n m.rest
     → st.rest ≡ take (d + n) (put_mid d k b f) ++ drop (d + n) st.rest
 pulled_behind st m d n k b f h w front is behind =
     let rest : m.rest ≡ drop d st.rest = ap (λ (x : State). x.rest) is in
@@ -110,7 +110,7 @@ looked_count start end_ a n count l b K L is w less room few f all =
     ]
 
 -- a state after a look, by its parts
-pub looked_is : (st : State) (r : List ℕ) (a s : ℕ) (f : Bool) (n : ℕ) → r ≡ st.rest → a ≡ max st.ahead n → s ≡ st.source → f ≡ st.failed → record st { rest = r; ahead = a; source = s; failed = f } ≡ looked n st
+pub looked_is : (st : State) (r : List ℕ) (a s : ℕ) (f : Bool) (n : ℕ) → r ≡ st.rest → a ≡ max st.ahead n → s ≡ st.source → f ≡ st.failed → record st { rest = r; ahead = a; source = s; failed = f } ≡ after_look n st
 looked_is st r a s f n hr ha hs hf =
     ap (λ x. record st { rest = x; ahead = a; source = s; failed = f }) hr
     ∙ ap (λ x. record st { ahead = x; source = s; failed = f }) ha

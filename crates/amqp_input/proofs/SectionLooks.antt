@@ -1,9 +1,9 @@
 -- Looks at a section's descriptor.
 use Rattle.std.proofs.Common.{◌≡◌, ◌≤◌, ℕ, length, min, max, ap, ◌∙◌, arith}
-use Rattle.amqp_input.specs.State.{State, looked}
+use Rattle.amqp_input.specs.State.{State, after_look}
 use Rattle.amqp_input.specs.Sections.{LooksOn}
 
-pub looks_once : (n : ℕ) (st m : State) → n ≤ 64 → m ≡ looked (min n (length st.rest)) st → LooksOn st m
+pub looks_once : (n : ℕ) (st m : State) → n ≤ 64 → m ≡ after_look (min n (length st.rest)) st → LooksOn st m
 looks_once n st m few is = (min n (length st.rest), omega (arith, few), omega arith, is)
 
 -- a look, and another
@@ -13,5 +13,5 @@ looks_more st m z (n, few, there, is) (k, few', there', is') =
       max n k,
       omega (arith, few, few'),
       omega (arith, there, there', rest),
-      is' ∙ ap (looked k) is ∙ ap (λ a. record st { ahead = a }) (omega arith),
+      is' ∙ ap (after_look k) is ∙ ap (λ a. record st { ahead = a }) (omega arith),
     )

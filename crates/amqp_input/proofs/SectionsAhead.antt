@@ -10,7 +10,7 @@ use Rattle.amqp_model.specs.Constructors.{fixed, variable, format}
 use Rattle.amqp_model.specs.Spelling.{PrimitiveData, descriptor_value}
 use Rattle.amqp_model.proofs.Bytes.{length-bytes, field}
 use Rattle.amqp_model.proofs.Same.{names_same}
-use Rattle.amqp_input.specs.State.{State, looked}
+use Rattle.amqp_input.specs.State.{State, after_look}
 use Rattle.amqp_input.specs.Members.{Member, place_of, as_name, is_named, name_place}
 use Rattle.amqp_input.specs.Sections.{LooksOn, sections, IsOfSection, IsSectionAhead, IsNameAhead, IsLongNameAhead, IsLongCodeAhead}
 use Rattle.amqp_input.proofs.KindsOfCodes.{kind_data, not_two, not_three}
@@ -270,7 +270,7 @@ first_three (x ∷ y ∷ []) h = absurd (omega (arith, h))
 first_three (x ∷ y ∷ z ∷ r) h = (r, refl)
 
 -- what was looked at stands at the front
-pub looked_front : (st m : State) (n : ℕ) (l : List ℕ) → m ≡ looked n st → l ≡ take m.ahead m.rest → st.rest ≡ l ++ drop m.ahead st.rest
+pub looked_front : (st m : State) (n : ℕ) (l : List ℕ) → m ≡ after_look n st → l ≡ take m.ahead m.rest → st.rest ≡ l ++ drop m.ahead st.rest
 looked_front st m n l is e =
     let same : m.rest ≡ st.rest = ap (λ (z : State). z.rest) is in
     sym (take-append-drop m.ahead st.rest) ∙ ap (λ x. x ++ drop m.ahead st.rest) (ap (take m.ahead) (sym same) ∙ sym e)
@@ -281,7 +281,7 @@ pub record Shows (st m : State) (y z : ℕ) : Type 0 where
   pub rest : st.rest ≡ 0 ∷ y ∷ z ∷ more
   pub same : m.rest ≡ st.rest
 
-pub shows : (st m : State) (n y : ℕ) (l : List ℕ) → m ≡ looked n st → l ≡ take m.ahead m.rest → 3 ≤ length l → get_or l 0 0 ≡ 0 → get_or l 1 0 ≡ y → Shows st m y (get_or l 2 0)
+pub shows : (st m : State) (n y : ℕ) (l : List ℕ) → m ≡ after_look n st → l ≡ take m.ahead m.rest → 3 ≤ length l → get_or l 0 0 ≡ 0 → get_or l 1 0 ≡ y → Shows st m y (get_or l 2 0)
 shows st m n y l is e long first second =
     let t = first_three l long in
     record {
@@ -336,7 +336,7 @@ none_ahead st m y z c f g h k s a =
 part_front : (n i : ℕ) (l x : List ℕ) → i + n ≤ length l → take n (drop i (l ++ x)) ≡ take n (drop i l)
 part_front n i l x h = ap (take n) (drop-append-le i l x (omega (arith, h))) ∙ take-append-le n (drop i l) x (omega (arith, h, length-drop i l))
 
-pub named_front : (st m : State) (n start len : ℕ) (l s : List ℕ) (o : Option ℕ) → m ≡ looked n st → l ≡ take m.ahead m.rest → start + len ≤ 64 → start + len ≤ length l → s ≡ take (start + len - start) (drop start l)
+pub named_front : (st m : State) (n start len : ℕ) (l s : List ℕ) (o : Option ℕ) → m ≡ after_look n st → l ≡ take m.ahead m.rest → start + len ≤ 64 → start + len ≤ length l → s ≡ take (start + len - start) (drop start l)
     → ((c : ℕ) → (o ≡ Some c) ↔ IsOfSection c (name s)) → (c : ℕ) → (o ≡ Some c) ↔ IsNameAhead start len st.rest c
 named_front st m n start len l s o is e few there at_ f c =
     let x = drop m.ahead st.rest in
@@ -357,10 +357,10 @@ bytes_are : (n i : ℕ) (l : List ℕ) → i + n ≤ length l → take n (drop i
 bytes_are zero i l h = refl
 bytes_are (suc n) i l h = ap (take (suc n)) (drop-cons l i 0 (omega (arith, h))) ∙ ap (λ x. get_or l i 0 ∷ x) (bytes_are n (suc i) l (omega (arith, h)))
 
-shown : (st m : State) (n k i : ℕ) (l : List ℕ) → m ≡ looked n st → l ≡ take m.ahead m.rest → i + k ≤ length l → take k (drop i st.rest) ≡ bytes_at k i l
+shown : (st m : State) (n k i : ℕ) (l : List ℕ) → m ≡ after_look n st → l ≡ take m.ahead m.rest → i + k ≤ length l → take k (drop i st.rest) ≡ bytes_at k i l
 shown st m n k i l is e few = ap (λ r. take k (drop i r)) (looked_front st m n l is e) ∙ part_front k i l (drop m.ahead st.rest) few ∙ bytes_are k i l few
 
-pub large_shown : (st m : State) (n v : ℕ) (l : List ℕ) (o : Option ℕ) → m ≡ looked n st → l ≡ take m.ahead m.rest → 10 ≤ length l → v ≡ from_be_bytes w64 (bytes_at 8 2 l) → ((c : ℕ) → (o ≡ Some c) ↔ IsOfSection c (code v)) → (c : ℕ) → (o ≡ Some c) ↔ IsLongCodeAhead st.rest c
+pub large_shown : (st m : State) (n v : ℕ) (l : List ℕ) (o : Option ℕ) → m ≡ after_look n st → l ≡ take m.ahead m.rest → 10 ≤ length l → v ≡ from_be_bytes w64 (bytes_at 8 2 l) → ((c : ℕ) → (o ≡ Some c) ↔ IsOfSection c (code v)) → (c : ℕ) → (o ≡ Some c) ↔ IsLongCodeAhead st.rest c
 large_shown st m n v l o is e few at_ f c =
     let value : v ≡ from_be_bytes w64 (take 8 (drop 2 st.rest)) = at_ ∙ ap (from_be_bytes w64) (sym (shown st m n 8 2 l is e few)) in
     through (
@@ -368,7 +368,7 @@ large_shown st m n v l o is e few at_ f c =
       λ h. subst (λ k. IsOfSection c (code k)) (sym value) h.1,
     ) (f c)
 
-pub size_shown : (st m : State) (n v : ℕ) (l : List ℕ) → m ≡ looked n st → l ≡ take m.ahead m.rest → 6 ≤ length l → v < 256 ^ 4 → bytes_high_first 4 v ≡ bytes_at 4 2 l → (c : ℕ) → IsNameAhead 6 v m.rest c ↔ IsLongNameAhead st.rest c
+pub size_shown : (st m : State) (n v : ℕ) (l : List ℕ) → m ≡ after_look n st → l ≡ take m.ahead m.rest → 6 ≤ length l → v < 256 ^ 4 → bytes_high_first 4 v ≡ bytes_at 4 2 l → (c : ℕ) → IsNameAhead 6 v m.rest c ↔ IsLongNameAhead st.rest c
 size_shown st m n v l is e few fits at_ c =
     let same : m.rest ≡ st.rest = ap (λ (z : State). z.rest) is in
     let sized : take 4 (drop 2 st.rest) ≡ bytes_high_first 4 v = shown st m n 4 2 l is e few ∙ sym at_ in (

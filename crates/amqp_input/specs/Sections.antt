@@ -5,11 +5,11 @@ use Rattle.std.specs.List.{Contains}
 use Rattle.std.proofs.Common.{codes}
 use Rattle.amqp_model.specs.Term.{Descriptor, name, code}
 use Rattle.amqp_model.specs.Spelling.{Names}
-use Rattle.amqp_input.specs.State.{State, looked}
+use Rattle.amqp_input.specs.State.{State, after_look}
 
 -- Some of the next bytes were looked at, at most 64.
 abbrev pub LooksOn : State → State → Type 0
-LooksOn st st' = (n : ℕ) × (n ≤ 64) × (n ≤ length st.rest) × (st' ≡ looked n st)
+LooksOn st st' = (n : ℕ) × (n ≤ 64) × (n ≤ length st.rest) × (st' ≡ after_look n st)
 
 -- The sections of a message, by the codes and the names of their descriptors.
 abbrev pub sections : List (ℕ × List ℕ)

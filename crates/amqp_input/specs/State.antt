@@ -16,9 +16,9 @@ abbrev pub pending : ℕ → ℕ → List ℕ → List ℕ
 pending start end_ looked = take (end_ - start) (drop start looked)
 
 -- The next n bytes were looked at: none of them is taken.
-abbrev pub looked : ℕ → State → State
-looked n st = record st { ahead = max st.ahead n }
+abbrev pub after_look : ℕ → State → State
+after_look n st = record st { ahead = max st.ahead n }
 
 -- n bytes are taken.
-abbrev pub moved : ℕ → State → State
-moved n st = record st { rest = drop n st.rest; ahead = st.ahead - n }
+abbrev pub after_bytes : ℕ → State → State
+after_bytes n st = record st { rest = drop n st.rest; ahead = st.ahead - n }

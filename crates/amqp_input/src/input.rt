@@ -1,9 +1,9 @@
 //! The bytes of a source, which are looked at before they are taken.
 ghost use Rattle.std.specs.Prelude.{◌≤◌, ◌≡◌, ◌<◌, ◌++◌, length, take, drop, min, max, false, true, IfOk, OnErr};
 ghost use Rattle.amqp_wire.specs.Sources.{known, Tells};
-ghost use Rattle.amqp_input.specs.State.{looked, moved};
+ghost use Rattle.amqp_input.specs.State.{after_look, after_bytes};
 
-use amqp_wire::{ByteSource, fill};
+use amqp_wire::{ByteSource, pull_full};
 use std::io::ErrorKind;
 use std::marker::Model;
 
@@ -26,7 +26,7 @@ impl<R: ByteSource> Model for Input<R> {
 
     ghost Value = { State };
 
-    ghost view = { λ i. record { rest = pending i.start i.end i.looked ++ known (R.remaining i.source); ahead = i.end - i.start; source = R.name i.source; failed = R.broken i.source } };
+    ghost view = { λ i. record { rest = pending i.start i.end i.looked ++ known (R.remaining i.source); ahead = i.end - i.start; source = R.name i.source; failed = R.failed i.source } };
 
     ghost invariant = { λ i. (i.start ≤ i.end) × (i.end ≤ 64) };
 }
@@ -34,7 +34,7 @@ impl<R: ByteSource> Model for Input<R> {
 impl<R: ByteSource> Input<R> {
     /// The source's bytes, of which none was looked at.
     pub fn new(source: R) -> Self
-        ensures { result ≡ record { rest = known (R.remaining source); ahead = 0; source = R.name source; failed = R.broken source } }
+        ensures { result ≡ record { rest = known (R.remaining source); ahead = 0; source = R.name source; failed = R.failed source } }
     {
         Input {
             source,
@@ -48,7 +48,7 @@ impl<R: ByteSource> Input<R> {
     pub fn into_source(self) -> R
         ensures named { R.name result ≡ self.source }
         ensures rest { known (R.remaining result) ≡ drop self.ahead self.rest }
-        ensures failed { R.broken result ≡ self.failed }
+        ensures failed { R.failed result ≡ self.failed }
     {
         let Input { source, .. } = self;
         source
@@ -58,7 +58,7 @@ impl<R: ByteSource> Input<R> {
     fn take_looked(&mut self, buffer: &mut [u8]) -> usize
         ensures count { result ≡ min (length buffer.old) self.old.ahead }
         ensures bytes { self.old.rest ≡ take result buffer.new ++ drop result self.old.rest }
-        ensures new { self.new ≡ moved result self.old }
+        ensures new { self.new ≡ after_bytes result self.old }
     {
         let count = buffer.len().min(self.end - self.start);
         let end = self.start + count;
@@ -73,10 +73,10 @@ impl<R: ByteSource> Input<R> {
         ensures fits { IfOk result (λ n. n ≤ length buffer.old) }
         ensures bytes { Tells R.remaining → self.old.ahead ≡ 0 → IfOk result (λ n. self.old.rest ≡ take n buffer.new ++ drop n self.old.rest) }
         ensures all { Tells R.remaining → self.old.ahead ≡ 0 → IfOk result (λ n. n < length buffer.old → length self.old.rest ≡ n) }
-        ensures new { Tells R.remaining → self.old.ahead ≡ 0 → IfOk result (λ n. self.new ≡ moved n self.old) }
+        ensures new { Tells R.remaining → self.old.ahead ≡ 0 → IfOk result (λ n. self.new ≡ after_bytes n self.old) }
         ensures fails { OnErr result (self.new.failed ≡ true) }
     {
-        fill(&mut self.source, buffer)
+        pull_full(&mut self.source, buffer)
     }
 
     /// Fills the buffer with the next bytes, which are taken, and answers with how many: fewer than it holds only at the
@@ -86,7 +86,7 @@ impl<R: ByteSource> Input<R> {
         ensures fits { IfOk result (λ n. n ≤ length buffer.old) }
         ensures bytes { Tells R.remaining → IfOk result (λ n. self.old.rest ≡ take n buffer.new ++ drop n self.old.rest) }
         ensures all { Tells R.remaining → IfOk result (λ n. n < length buffer.old → length self.old.rest ≡ n) }
-        ensures new { Tells R.remaining → IfOk result (λ n. self.new ≡ moved n self.old) }
+        ensures new { Tells R.remaining → IfOk result (λ n. self.new ≡ after_bytes n self.old) }
         ensures fails { OnErr result (self.new.failed ≡ true) }
     {
         let mut done = 0;
@@ -115,7 +115,7 @@ impl<R: ByteSource> Input<R> {
         requires { count ≤ 64 }
         ensures few { IfOk result (λ n. n ≤ 64) }
         ensures count { Tells R.remaining → IfOk result (λ n. n ≡ max self.old.ahead (min count (length self.old.rest))) }
-        ensures new { Tells R.remaining → IfOk result (λ _. self.new ≡ looked (min count (length self.old.rest)) self.old) }
+        ensures new { Tells R.remaining → IfOk result (λ _. self.new ≡ after_look (min count (length self.old.rest)) self.old) }
         ensures fails { OnErr result (self.new.failed ≡ true) }
     {
         let ahead = self.ahead();
@@ -125,7 +125,7 @@ impl<R: ByteSource> Input<R> {
         self.looked.copy_within(self.start..self.end, 0);
         self.start = 0;
         self.end = ahead;
-        let more = fill(&mut self.source, &mut self.looked[ahead..count])?;
+        let more = pull_full(&mut self.source, &mut self.looked[ahead..count])?;
         self.end += more;
         Ok(self.end)
     }
@@ -143,7 +143,7 @@ impl<R: ByteSource> Input<R> {
     fn parts(&self) -> (&[u8], &R)
         ensures few { length result.0.now ≤ 64 }
         ensures bytes { self.now.rest ≡ result.0.now ++ known (R.remaining result.1.now) }
-        ensures failed { self.now.failed ≡ R.broken result.1.now }
+        ensures failed { self.now.failed ≡ R.failed result.1.now }
     {
         (&self.looked[self.start..self.end], &self.source)
     }

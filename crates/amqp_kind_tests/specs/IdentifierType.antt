@@ -2,7 +2,7 @@
 use Rattle.std.proofs.Common.{◌≡◌, ◌⊎◌, inl, inr, ℕ, Bool, ◌||◌, eqb, Option, Some, None, List, refl, sym, ap, ◌∙◌, arith}
 use Rattle.amqp_model.specs.Term.{Descriptor}
 use Rattle.amqp_model.specs.Text.{form}
-use Rattle.amqp_model.specs.FieldType.{plain}
+use Rattle.amqp_model.specs.FieldType.{unchanged}
 use Rattle.amqp_wire.specs.declared.symbol.Symbol.{Symbol}
 use Rattle.amqp_codec.specs.TermType.{TermType}
 use Rattle.amqp_codec.specs.PrimitiveTypes.{ulong_type}
@@ -30,4 +30,4 @@ unfolding form_code
 kinds_apart s z t r n v h k e = let f : 0x80 ≡ 0xb3 = ap form_code (ap form (sym h.0) ∙ e ∙ ap form k.0) in absurd (omega (arith, f))
 
 abbrev pub identifier_type : TermType Identifier
-identifier_type = via (either_of ulong_type symbol_type kinds_apart (either_faults is_number ulong_type.faults symbol_type.faults)) member plain (λ v. refl)
+identifier_type = via (either_of ulong_type symbol_type kinds_apart (either_faults is_number ulong_type.faults symbol_type.faults)) member unchanged (λ v. refl)

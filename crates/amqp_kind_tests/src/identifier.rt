@@ -1,6 +1,6 @@
 //! A type of a user's own, which is a sum by kind: an identifier, which is a ulong or a symbol.
 ghost use Rattle.std.specs.Prelude.{refl};
-ghost use Rattle.amqp_codec.specs.Ties.{one_term, tied, writing_of};
+ghost use Rattle.amqp_codec.specs.Agreement.{one_term, agreement, writing_of};
 ghost use Rattle.amqp_kind_tests.specs.IdentifierType.{identifier_type};
 
 use amqp_wire::format_code;
@@ -57,7 +57,7 @@ impl DeserializeTerm for Identifier {
         }
     }
 
-    ghost tied = { tied identifier_type refl };
+    ghost agreement = { agreement identifier_type refl };
 }
 
 #[cfg(test)]

@@ -51,16 +51,16 @@ pub free_at : (c : ℕ) → IsFree c → IsPrimitive (format c) → (b : List �
 free_at c = at_rows FreeRow c (λ n k b. absurd k) constructors free_rows
 
 -- none of the codes of lists, maps and arrays
-abbrev pub IsNoHolder : ℕ → Type 0
-IsNoHolder c = (c ≡ 0x45 → ⊥) × (c ≡ 0xc0 → ⊥) × (c ≡ 0xd0 → ⊥) × (c ≡ 0xc1 → ⊥) × (c ≡ 0xd1 → ⊥) × (c ≡ 0xe0 → ⊥) × (c ≡ 0xf0 → ⊥)
+abbrev pub IsNoContainer : ℕ → Type 0
+IsNoContainer c = (c ≡ 0x45 → ⊥) × (c ≡ 0xc0 → ⊥) × (c ≡ 0xd0 → ⊥) × (c ≡ 0xc1 → ⊥) × (c ≡ 0xd1 → ⊥) × (c ≡ 0xe0 → ⊥) × (c ≡ 0xf0 → ⊥)
 
 abbrev PrimitiveRow : ℕ → Format → Type 0
-PrimitiveRow c F = IsKnown F → IsNoHolder c → IsPrimitive F
+PrimitiveRow c F = IsKnown F → IsNoContainer c → IsPrimitive F
 
 primitive_rows : EachRow PrimitiveRow constructors
 primitive_rows = (λ k n. tt, (λ k n. tt, (λ k n. tt, (λ k n. tt, (λ k n. tt, (λ k n. absurd (n.0 refl), (λ k n. tt, (λ k n. tt, (λ k n. tt, (λ k n. tt, (λ k n. tt, (λ k n. tt, (λ k n. tt, (λ k n. tt, (λ k n. tt, (λ k n. tt, (λ k n. tt, (λ k n. tt, (λ k n. tt, (λ k n. tt, (λ k n. tt, (λ k n. tt, (λ k n. tt, (λ k n. tt, (λ k n. tt, (λ k n. tt, (λ k n. tt, (λ k n. tt, (λ k n. tt, (λ k n. tt, (λ k n. tt, (λ k n. absurd (n.1 refl), (λ k n. absurd (n.3 refl), (λ k n. absurd (n.2 refl), (λ k n. absurd (n.4 refl), (λ k n. absurd (n.5 refl), (λ k n. absurd (n.6 refl), tt)))))))))))))))))))))))))))))))))))))
 
-pub primitive_at : (c : ℕ) → IsKnown (format c) → IsNoHolder c → IsPrimitive (format c)
+pub primitive_at : (c : ℕ) → IsKnown (format c) → IsNoContainer c → IsPrimitive (format c)
 primitive_at c = at_rows PrimitiveRow c (λ k n. k) constructors primitive_rows
 
 abbrev ZeroRow : ℕ → Format → Type 0
@@ -73,20 +73,20 @@ pub zero_at : (c : ℕ) → (HasWidthZero (format c) → (0x40 ≤ c) × (c ≤ 
 zero_at c = at_rows ZeroRow c (λ h. absurd h, λ h k. absurd k) constructors zero_rows
 
 -- the code of a list, map or array
-abbrev pub is_holder : ℕ → Bool
-is_holder c = eqb c 0x45 || leb 0xc0 c
+abbrev pub is_container : ℕ → Bool
+is_container c = eqb c 0x45 || leb 0xc0 c
 
 abbrev pub Divided : ℕ → Format → Type 0
-Divided c F = (IsPrimitive F × (is_holder c ≡ false)) ⊎ ((kind : Container) × (w : ℕ) × (F ≡ compound kind w) × (is_holder c ≡ true))
+Divided c F = (IsPrimitive F × (is_container c ≡ false)) ⊎ ((kind : Container) × (w : ℕ) × (F ≡ compound kind w) × (is_container c ≡ true))
 
-abbrev HolderRow : ℕ → Format → Type 0
-HolderRow c F = IsKnown F → Divided c F
+abbrev ContainerRow : ℕ → Format → Type 0
+ContainerRow c F = IsKnown F → Divided c F
 
-holder_rows : EachRow HolderRow constructors
-holder_rows = (λ k. inl (tt, refl), (λ k. inl (tt, refl), (λ k. inl (tt, refl), (λ k. inl (tt, refl), (λ k. inl (tt, refl), (λ k. inr (_, _, refl, refl), (λ k. inl (tt, refl), (λ k. inl (tt, refl), (λ k. inl (tt, refl), (λ k. inl (tt, refl), (λ k. inl (tt, refl), (λ k. inl (tt, refl), (λ k. inl (tt, refl), (λ k. inl (tt, refl), (λ k. inl (tt, refl), (λ k. inl (tt, refl), (λ k. inl (tt, refl), (λ k. inl (tt, refl), (λ k. inl (tt, refl), (λ k. inl (tt, refl), (λ k. inl (tt, refl), (λ k. inl (tt, refl), (λ k. inl (tt, refl), (λ k. inl (tt, refl), (λ k. inl (tt, refl), (λ k. inl (tt, refl), (λ k. inl (tt, refl), (λ k. inl (tt, refl), (λ k. inl (tt, refl), (λ k. inl (tt, refl), (λ k. inl (tt, refl), (λ k. inr (_, _, refl, refl), (λ k. inr (_, _, refl, refl), (λ k. inr (_, _, refl, refl), (λ k. inr (_, _, refl, refl), (λ k. inr (_, _, refl, refl), (λ k. inr (_, _, refl, refl), tt)))))))))))))))))))))))))))))))))))))
+container_rows : EachRow ContainerRow constructors
+container_rows = (λ k. inl (tt, refl), (λ k. inl (tt, refl), (λ k. inl (tt, refl), (λ k. inl (tt, refl), (λ k. inl (tt, refl), (λ k. inr (_, _, refl, refl), (λ k. inl (tt, refl), (λ k. inl (tt, refl), (λ k. inl (tt, refl), (λ k. inl (tt, refl), (λ k. inl (tt, refl), (λ k. inl (tt, refl), (λ k. inl (tt, refl), (λ k. inl (tt, refl), (λ k. inl (tt, refl), (λ k. inl (tt, refl), (λ k. inl (tt, refl), (λ k. inl (tt, refl), (λ k. inl (tt, refl), (λ k. inl (tt, refl), (λ k. inl (tt, refl), (λ k. inl (tt, refl), (λ k. inl (tt, refl), (λ k. inl (tt, refl), (λ k. inl (tt, refl), (λ k. inl (tt, refl), (λ k. inl (tt, refl), (λ k. inl (tt, refl), (λ k. inl (tt, refl), (λ k. inl (tt, refl), (λ k. inl (tt, refl), (λ k. inr (_, _, refl, refl), (λ k. inr (_, _, refl, refl), (λ k. inr (_, _, refl, refl), (λ k. inr (_, _, refl, refl), (λ k. inr (_, _, refl, refl), (λ k. inr (_, _, refl, refl), tt)))))))))))))))))))))))))))))))))))))
 
-pub holder_at : (c : ℕ) → IsKnown (format c) → Divided c (format c)
-holder_at c = at_rows HolderRow c (λ k. absurd k) constructors holder_rows
+pub container_at : (c : ℕ) → IsKnown (format c) → Divided c (format c)
+container_at c = at_rows ContainerRow c (λ k. absurd k) constructors container_rows
 
 -- what may be a descriptor
 abbrev is_mark : Option Primitive → Bool

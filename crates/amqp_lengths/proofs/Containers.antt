@@ -1,7 +1,7 @@
 -- The data of containers, and what stands under a code.
 use Rattle.std.proofs.Common.{◌≡◌, ℕ, suc, ◌<◌, inl, Bool, true, false, Result, Ok, Err, IfOk, IfErr, List, [], ◌++◌, length, take, refl, sym, ap, ◌∙◌, subst, arith}
 use Rattle.amqp_wire.specs.declared.error.Error.{Error}
-use Rattle.amqp_model.specs.Term.{Container, list, map, array, leaf, holder, described, kept, barred, none, count}
+use Rattle.amqp_model.specs.Term.{Container, list, map, array, leaf, container, described, kept, barred, none, count}
 use Rattle.amqp_model.specs.Constructors.{Format, fixed, variable, compound, unknown, format}
 use Rattle.amqp_model.specs.Spelling.{PrimitiveData, ContainerData, items_of, elements_of}
 use Rattle.amqp_model.proofs.Same.{container_same}
@@ -11,7 +11,7 @@ use Rattle.std.specs.Int.{bytes_high_first}
 use Rattle.amqp_lengths.specs.Fronts.{IsFront, Refuses}
 use Rattle.amqp_lengths.specs.Pieces.{width_of, IsPrimitive, PrimitiveOf}
 use Rattle.amqp_lengths.specs.Contents.{IsContent, HasContent}
-use Rattle.amqp_lengths.specs.Lengths.{IsTerm, IsData, Row, HasPairs, IsHolder, HasElements, IsArray}
+use Rattle.amqp_lengths.specs.Lengths.{IsTerm, IsData, Row, HasPairs, IsContainer, HasElements, IsArray}
 use Rattle.amqp_lengths.proofs.Fronts.{refuses_part, refuses_never}
 use Rattle.amqp_lengths.proofs.Rows.{rows_items, items_rows}
 
@@ -63,22 +63,22 @@ content_holds kind w n items C b (k, size, content, is, same, fits, room, s) c =
 data_content : (kind : Container) (w n : ℕ) (C : List ℕ → Type 0) (b : List ℕ) → ContainerData (compound kind w) kind n C b → HasContent kind w b
 data_content kind w n C b (k, size, content, is, c, fits, room, s) = (n, content, (k, size, content, is, refl, fits, room, s))
 
-pub holder_unbegun : (kind : Container) (w k : ℕ) (input : List ℕ) (e : Error) → Refuses (HasContent kind w) input e → Refuses (IsHolder kind w k) input e
-holder_unbegun kind w k input e h = refuses_part (IsHolder kind w k) (HasContent kind w) input e (λ b (ts, deep, pairs, d). data_content kind w (count ts) (items_of ts) b d) h
+pub container_unbegun : (kind : Container) (w k : ℕ) (input : List ℕ) (e : Error) → Refuses (HasContent kind w) input e → Refuses (IsContainer kind w k) input e
+container_unbegun kind w k input e h = refuses_part (IsContainer kind w k) (HasContent kind w) input e (λ b (ts, deep, pairs, d). data_content kind w (count ts) (items_of ts) b d) h
 
-pub holder_odd : (kind : Container) (w k n len : ℕ) (items input : List ℕ) (e : Error) → IsContent kind w n items (take len input) → (HasPairs kind n → ⊥) → Refuses (IsHolder kind w k) input e
-holder_odd kind w k n len items input e h odd =
-    refuses_never (IsHolder kind w k) input len e (λ b x y (ts, deep, pairs, d) s.
+pub container_odd : (kind : Container) (w k n len : ℕ) (items input : List ℕ) (e : Error) → IsContent kind w n items (take len input) → (HasPairs kind n → ⊥) → Refuses (IsContainer kind w k) input e
+container_odd kind w k n len items input e h odd =
+    refuses_never (IsContainer kind w k) input len e (λ b x y (ts, deep, pairs, d) s.
     odd (subst (HasPairs kind) (sym (content_same kind w n (count ts) items (items_of ts) (take len input) b x y h d s).0) pairs))
 
-pub holder_bad : (kind : Container) (w k m n len : ℕ) (items input : List ℕ) (e : Error) → IsContent kind w n items (take len input) → k ≡ suc m → (Row (IsTerm m) n items → ⊥) → Refuses (IsHolder kind w k) input e
-holder_bad kind w k m n len items input e h is bad =
-    refuses_never (IsHolder kind w k) input len e (λ b x y (ts, deep, pairs, d) s.
+pub container_bad : (kind : Container) (w k m n len : ℕ) (items input : List ℕ) (e : Error) → IsContent kind w n items (take len input) → k ≡ suc m → (Row (IsTerm m) n items → ⊥) → Refuses (IsContainer kind w k) input e
+container_bad kind w k m n len items input e h is bad =
+    refuses_never (IsContainer kind w k) input len e (λ b x y (ts, deep, pairs, d) s.
     let (same, i) = content_same kind w n (count ts) items (items_of ts) (take len input) b x y h d s in
     bad (subst (λ j. Row (IsTerm m) j items) (sym same) (items_rows m ts items (omega (arith, deep, is)) i)))
 
-pub holder_found : (kind : Container) (w k m n len : ℕ) (items input : List ℕ) → IsFront (IsContent kind w n items) input len → k ≡ suc m → HasPairs kind n → Row (IsTerm m) n items → IsFront (IsHolder kind w k) input len
-holder_found kind w k m n len items input h is pairs r =
+pub container_found : (kind : Container) (w k m n len : ℕ) (items input : List ℕ) → IsFront (IsContent kind w n items) input len → k ≡ suc m → HasPairs kind n → Row (IsTerm m) n items → IsFront (IsContainer kind w k) input len
+container_found kind w k m n len items input h is pairs r =
     let (ts, l, deep, i) = rows_items m n items r in
     record {
       within = h.within;
@@ -106,49 +106,49 @@ array_found w k n len items input h (ts, l, i, deep) = record {
 }
 
 -- under the code of a list
-pub list_data : (c w k : ℕ) (b : List ℕ) → format c ≡ compound list w → IsHolder list w k b → IsData c k b
-list_data c w k b is (ts, deep, pairs, d) = (holder list ts, subst (λ F. ContainerData F list (count ts) (items_of ts) b) (sym is) d, omega (arith, deep))
+pub list_data : (c w k : ℕ) (b : List ℕ) → format c ≡ compound list w → IsContainer list w k b → IsData c k b
+list_data c w k b is (ts, deep, pairs, d) = (container list ts, subst (λ F. ContainerData F list (count ts) (items_of ts) b) (sym is) d, omega (arith, deep))
 
-pub data_list : (c w k : ℕ) (b : List ℕ) → format c ≡ compound list w → IsData c k b → IsHolder list w k b
+pub data_list : (c w k : ℕ) (b : List ℕ) → format c ≡ compound list w → IsData c k b → IsContainer list w k b
 data_list c w k b is (leaf p, h, deep) = absurd (subst (λ F. PrimitiveData F p b) is h)
-data_list c w k b is (holder list ts, h, deep) = (ts, deep, tt, subst (λ F. ContainerData F list (count ts) (items_of ts) b) is h)
-data_list c w k b is (holder map ts, h, deep) = let e : list ≡ map = (subst (λ F. ContainerData F map (count ts) (items_of ts) b) is h.1).0 in cc
-data_list c w k b is (holder array ts, h, deep) = let e : list ≡ array = (subst (λ F. ContainerData F array (count ts) (elements_of ts) b) is h).0 in cc
+data_list c w k b is (container list ts, h, deep) = (ts, deep, tt, subst (λ F. ContainerData F list (count ts) (items_of ts) b) is h)
+data_list c w k b is (container map ts, h, deep) = let e : list ≡ map = (subst (λ F. ContainerData F map (count ts) (items_of ts) b) is h.1).0 in cc
+data_list c w k b is (container array ts, h, deep) = let e : list ≡ array = (subst (λ F. ContainerData F array (count ts) (elements_of ts) b) is h).0 in cc
 data_list c w k b is (described d t, h, deep) = absurd h
 data_list c w k b is (kept x, h, deep) = absurd h
 data_list c w k b is (barred r, h, deep) = absurd h
 
 -- under the code of a map
-pub map_data : (c w k : ℕ) (b : List ℕ) → format c ≡ compound map w → IsHolder map w k b → IsData c k b
-map_data c w k b is (ts, deep, pairs, d) = (holder map ts, (pairs, subst (λ F. ContainerData F map (count ts) (items_of ts) b) (sym is) d), omega (arith, deep))
+pub map_data : (c w k : ℕ) (b : List ℕ) → format c ≡ compound map w → IsContainer map w k b → IsData c k b
+map_data c w k b is (ts, deep, pairs, d) = (container map ts, (pairs, subst (λ F. ContainerData F map (count ts) (items_of ts) b) (sym is) d), omega (arith, deep))
 
-pub data_map : (c w k : ℕ) (b : List ℕ) → format c ≡ compound map w → IsData c k b → IsHolder map w k b
+pub data_map : (c w k : ℕ) (b : List ℕ) → format c ≡ compound map w → IsData c k b → IsContainer map w k b
 data_map c w k b is (leaf p, h, deep) = absurd (subst (λ F. PrimitiveData F p b) is h)
-data_map c w k b is (holder list ts, h, deep) = let e : map ≡ list = (subst (λ F. ContainerData F list (count ts) (items_of ts) b) is h).0 in cc
-data_map c w k b is (holder map ts, h, deep) = (ts, deep, h.0, subst (λ F. ContainerData F map (count ts) (items_of ts) b) is h.1)
-data_map c w k b is (holder array ts, h, deep) = let e : map ≡ array = (subst (λ F. ContainerData F array (count ts) (elements_of ts) b) is h).0 in cc
+data_map c w k b is (container list ts, h, deep) = let e : map ≡ list = (subst (λ F. ContainerData F list (count ts) (items_of ts) b) is h).0 in cc
+data_map c w k b is (container map ts, h, deep) = (ts, deep, h.0, subst (λ F. ContainerData F map (count ts) (items_of ts) b) is h.1)
+data_map c w k b is (container array ts, h, deep) = let e : map ≡ array = (subst (λ F. ContainerData F array (count ts) (elements_of ts) b) is h).0 in cc
 data_map c w k b is (described d t, h, deep) = absurd h
 data_map c w k b is (kept x, h, deep) = absurd h
 data_map c w k b is (barred r, h, deep) = absurd h
 
 -- under the code of an array
 pub array_data : (c w k : ℕ) (b : List ℕ) → format c ≡ compound array w → IsArray w k b → IsData c k b
-array_data c w k b is (ts, deep, d) = (holder array ts, subst (λ F. ContainerData F array (count ts) (elements_of ts) b) (sym is) d, deep)
+array_data c w k b is (ts, deep, d) = (container array ts, subst (λ F. ContainerData F array (count ts) (elements_of ts) b) (sym is) d, deep)
 
 pub data_array : (c w k : ℕ) (b : List ℕ) → format c ≡ compound array w → IsData c k b → IsArray w k b
 data_array c w k b is (leaf p, h, deep) = absurd (subst (λ F. PrimitiveData F p b) is h)
-data_array c w k b is (holder list ts, h, deep) = let e : array ≡ list = (subst (λ F. ContainerData F list (count ts) (items_of ts) b) is h).0 in cc
-data_array c w k b is (holder map ts, h, deep) = let e : array ≡ map = (subst (λ F. ContainerData F map (count ts) (items_of ts) b) is h.1).0 in cc
-data_array c w k b is (holder array ts, h, deep) = (ts, deep, subst (λ F. ContainerData F array (count ts) (elements_of ts) b) is h)
+data_array c w k b is (container list ts, h, deep) = let e : array ≡ list = (subst (λ F. ContainerData F list (count ts) (items_of ts) b) is h).0 in cc
+data_array c w k b is (container map ts, h, deep) = let e : array ≡ map = (subst (λ F. ContainerData F map (count ts) (items_of ts) b) is h.1).0 in cc
+data_array c w k b is (container array ts, h, deep) = (ts, deep, subst (λ F. ContainerData F array (count ts) (elements_of ts) b) is h)
 data_array c w k b is (described d t, h, deep) = absurd h
 data_array c w k b is (kept x, h, deep) = absurd h
 data_array c w k b is (barred r, h, deep) = absurd h
 
-pub no_holder : (F : Format) (kind : Container) (n : ℕ) (C : List ℕ → Type 0) (b : List ℕ) → IsPrimitive F → ContainerData F kind n C b → ⊥
-no_holder (fixed w v) kind n C b p h = h
-no_holder (variable w v) kind n C b p h = h
-no_holder (compound k w) kind n C b p h = p
-no_holder unknown kind n C b p h = p
+pub no_container : (F : Format) (kind : Container) (n : ℕ) (C : List ℕ → Type 0) (b : List ℕ) → IsPrimitive F → ContainerData F kind n C b → ⊥
+no_container (fixed w v) kind n C b p h = h
+no_container (variable w v) kind n C b p h = h
+no_container (compound k w) kind n C b p h = p
+no_container unknown kind n C b p h = p
 
 -- under the code of a primitive
 pub primitive_data : (c k : ℕ) (b : List ℕ) → PrimitiveOf c b → IsData c k b
@@ -156,9 +156,9 @@ primitive_data c k b (p, h) = (leaf p, h, omega arith)
 
 pub data_primitive : (c k : ℕ) (b : List ℕ) → IsPrimitive (format c) → IsData c k b → PrimitiveOf c b
 data_primitive c k b is (leaf p, h, deep) = (p, h)
-data_primitive c k b is (holder list ts, h, deep) = absurd (no_holder (format c) list (count ts) (items_of ts) b is h)
-data_primitive c k b is (holder map ts, h, deep) = absurd (no_holder (format c) map (count ts) (items_of ts) b is h.1)
-data_primitive c k b is (holder array ts, h, deep) = absurd (no_holder (format c) array (count ts) (elements_of ts) b is h)
+data_primitive c k b is (container list ts, h, deep) = absurd (no_container (format c) list (count ts) (items_of ts) b is h)
+data_primitive c k b is (container map ts, h, deep) = absurd (no_container (format c) map (count ts) (items_of ts) b is h.1)
+data_primitive c k b is (container array ts, h, deep) = absurd (no_container (format c) array (count ts) (elements_of ts) b is h)
 data_primitive c k b is (described d t, h, deep) = absurd h
 data_primitive c k b is (kept x, h, deep) = absurd h
 data_primitive c k b is (barred r, h, deep) = absurd h
@@ -166,5 +166,5 @@ data_primitive c k b is (barred r, h, deep) = absurd h
 -- the code of the empty list
 pub empty_data : (c k : ℕ) (input : List ℕ) → c ≡ 0x45 → (k ≡ 0 → ⊥) → IsFront (IsData c k) input 0
 empty_data c k input is some =
-    let empty : IsData 0x45 k [] = (holder list none, (refl, 0, [], inl refl, refl, omega arith, omega arith, refl), omega arith) in
+    let empty : IsData 0x45 k [] = (container list none, (refl, 0, [], inl refl, refl, omega arith, omega arith, refl), omega arith) in
     record { within = omega arith; spelled = subst (λ n. IsData n k []) (sym is) empty }

@@ -13,7 +13,7 @@ use Rattle.amqp_lengths.specs.Fronts.{Behind}
 use Rattle.amqp_lengths.specs.Pieces.{value_of}
 use Rattle.amqp_lengths.specs.Announced.{IsAnnounced, Wants}
 use Rattle.amqp_lengths.specs.Lengths.{HasMarks}
-use Rattle.amqp_lengths.specs.Faults.{ValueFault, PrimitiveFault, primitive_wanting, primitive_no_value, DescriptorFault, descriptor_missing, descriptor_other, descriptor_unknown, descriptor_data, ConstructorFault, constructor_ends, constructor_unknown, constructor_long, constructor_descriptor, ContentFault, content_wanting, content_small, content_counted, inside, TermFault, term_constructor, term_nests, term_data, DataFault, data_of_primitive, data_of_holder, data_of_array, HolderFault, holder_content, holder_deep, holder_unpaired, holder_items, ItemsFault, items_fault, items_over, ArrayFault, array_content, array_elements, ElementsFault, elements_missing, elements_constructor, elements_over, elements_empty, elements_deep, elements_data, SharedFault, shared_fault, shared_over, AsksMore, for_code, for_descriptor, for_descriptor_data, for_data}
+use Rattle.amqp_lengths.specs.Faults.{ValueFault, PrimitiveFault, primitive_wanting, primitive_no_value, DescriptorFault, descriptor_missing, descriptor_other, descriptor_unknown, descriptor_data, ConstructorFault, constructor_ends, constructor_unknown, constructor_long, constructor_descriptor, ContentFault, content_wanting, content_small, content_counted, inside, TermFault, term_constructor, term_nests, term_data, DataFault, data_of_primitive, data_of_container, data_of_array, ContainerFault, container_content, container_deep, container_unpaired, container_items, ItemsFault, items_fault, items_over, ArrayFault, array_content, array_elements, ElementsFault, elements_missing, elements_constructor, elements_over, elements_empty, elements_deep, elements_data, SharedFault, shared_fault, shared_over, AsksMore, for_code, for_descriptor, for_descriptor_data, for_data}
 use Rattle.amqp_lengths.proofs.Announced.{primitive_announced, announced_wants}
 use Rattle.amqp_lengths.proofs.Descriptors.{heads, marks_front}
 
@@ -79,11 +79,11 @@ elements_not nesting n content e (elements_empty k j b m z after there some h) c
 elements_not nesting n content e (elements_deep k j b m z after there some h) c = cc
 elements_not nesting n content e (elements_data k j b x m z left after there some is h) c = shared_not z left j after x h c
 
-holder_asks : (kind : Container) (w nesting : ℕ) (input : List ℕ) (e : Error) → HolderFault kind w nesting input e → e ≡ Cut → Wants (compound kind w) input
-holder_asks kind w nesting input e (holder_content k v m b x h) c = content_asks k v b x h c
-holder_asks kind w nesting input e (holder_deep k v m b after there is) c = absurd (cc)
-holder_asks kind w nesting input e (holder_unpaired k v m b n items after there odd) c = absurd (cc)
-holder_asks kind w nesting input e (holder_items k v m b x n left items after there is h) c = absurd (items_not left n items x h c)
+container_asks : (kind : Container) (w nesting : ℕ) (input : List ℕ) (e : Error) → ContainerFault kind w nesting input e → e ≡ Cut → Wants (compound kind w) input
+container_asks kind w nesting input e (container_content k v m b x h) c = content_asks k v b x h c
+container_asks kind w nesting input e (container_deep k v m b after there is) c = absurd (cc)
+container_asks kind w nesting input e (container_unpaired k v m b n items after there odd) c = absurd (cc)
+container_asks kind w nesting input e (container_items k v m b x n left items after there is h) c = absurd (items_not left n items x h c)
 
 array_asks : (w nesting : ℕ) (input : List ℕ) (e : Error) → ArrayFault w nesting input e → e ≡ Cut → Wants (compound array w) input
 array_asks w nesting input e (array_content v m b x h) c = content_asks array v b x h c
@@ -91,7 +91,7 @@ array_asks w nesting input e (array_elements v m b x n items after there h) c = 
 
 data_asks : (code nesting : ℕ) (input : List ℕ) (e : Error) → DataFault code nesting input e → e ≡ Cut → Wants (format code) input
 data_asks code nesting input e (data_of_primitive z k b x h) c = primitive_asks (format z) b x h c
-data_asks code nesting input e (data_of_holder z k b x kind w is some h) c = subst (λ F. Wants F b) (sym is) (holder_asks kind w k b x h c)
+data_asks code nesting input e (data_of_container z k b x kind w is some h) c = subst (λ F. Wants F b) (sym is) (container_asks kind w k b x h c)
 data_asks code nesting input e (data_of_array z k b x w is h) c = subst (λ F. Wants F b) (sym is) (array_asks w k b x h c)
 
 term_asks : (nesting : ℕ) (input : List ℕ) (e : Error) → TermFault nesting input e → e ≡ Cut → AsksMore input

@@ -5,7 +5,7 @@ use Rattle.amqp_wire.specs.declared.error.Error.TheVariants.{Depth}
 use Rattle.amqp_model.specs.Term.{Container}
 use Rattle.amqp_lengths.specs.Fronts.{Behind}
 use Rattle.amqp_lengths.specs.Lengths.{IsTerm, IsData, Row}
-use Rattle.amqp_lengths.specs.Faults.{inside, TermFault, term_constructor, term_nests, term_data, DataFault, data_of_primitive, data_of_holder, data_of_array, HolderFault, holder_content, holder_deep, holder_unpaired, holder_items, ItemsFault, items_fault, items_over, ArrayFault, array_content, array_elements, ElementsFault, elements_missing, elements_constructor, elements_over, elements_empty, elements_deep, elements_data, SharedFault, shared_fault, shared_over}
+use Rattle.amqp_lengths.specs.Faults.{inside, TermFault, term_constructor, term_nests, term_data, DataFault, data_of_primitive, data_of_container, data_of_array, ContainerFault, container_content, container_deep, container_unpaired, container_items, ItemsFault, items_fault, items_over, ArrayFault, array_content, array_elements, ElementsFault, elements_missing, elements_constructor, elements_over, elements_empty, elements_deep, elements_data, SharedFault, shared_fault, shared_over}
 
 row_part : (P Q : List ℕ → Type 0) → ((b : List ℕ) → P b → Q b) → (n : ℕ) (b : List ℕ) → Row P n b → Row Q n b
 row_part P Q f zero b r = r
@@ -36,21 +36,21 @@ mutual
 
   data_deeper : (c k l : ℕ) (b : List ℕ) (e : Error) → k ≤ l → (e ≡ Depth → k ≡ l) → DataFault c k b e → DataFault c l b e
   data_deeper c k l b e more same (data_of_primitive z j a x h) = data_of_primitive z l a x h
-  data_deeper c k l b e more same (data_of_holder z j a x kind w is other h) =
-      data_of_holder z l a x kind w is other (holder_deeper kind w j l a x more same h)
+  data_deeper c k l b e more same (data_of_container z j a x kind w is other h) =
+      data_of_container z l a x kind w is other (container_deeper kind w j l a x more same h)
   data_deeper c k l b e more same (data_of_array z j a x w is h) = data_of_array z l a x w is (array_deeper w j l a x more same h)
 
-  holder_deeper : (kind : Container) (w k l : ℕ) (b : List ℕ) (e : Error) → k ≤ l → (e ≡ Depth → k ≡ l) → HolderFault kind w k b e
-      → HolderFault kind w l b e
-  holder_deeper kind w k l b e more same (holder_content i v j a x h) = holder_content i v l a x h
-  holder_deeper kind w k l b e more same (holder_deep i v j a after h none) =
+  container_deeper : (kind : Container) (w k l : ℕ) (b : List ℕ) (e : Error) → k ≤ l → (e ≡ Depth → k ≡ l) → ContainerFault kind w k b e
+      → ContainerFault kind w l b e
+  container_deeper kind w k l b e more same (container_content i v j a x h) = container_content i v l a x h
+  container_deeper kind w k l b e more same (container_deep i v j a after h none) =
       let s = same refl in
-      holder_deep i v l a after h (omega (arith, s, none))
-  holder_deeper kind w k l b e more same (holder_unpaired i v j a n items after h odd) = holder_unpaired i v l a n items after h odd
-  holder_deeper kind w k l b e more same (holder_items i v j a x n left items after h is f) =
+      container_deep i v l a after h (omega (arith, s, none))
+  container_deeper kind w k l b e more same (container_unpaired i v j a n items after h odd) = container_unpaired i v l a n items after h odd
+  container_deeper kind w k l b e more same (container_items i v j a x n left items after h is f) =
       let most = left + (l - j) in
       let g = items_deeper left most n items x (omega arith) (λ d. let s = same d in omega (arith, s)) f in
-      holder_items i v l a x n most items after h (omega (arith, is, more)) g
+      container_items i v l a x n most items after h (omega (arith, is, more)) g
 
   items_deeper : (k l n : ℕ) (content : List ℕ) (e : Error) → k ≤ l → (e ≡ Depth → k ≡ l) → ItemsFault k n content e
       → ItemsFault l n content e

@@ -3,15 +3,15 @@ use Rattle.std.proofs.Common.{◌≡◌, ℕ, suc, ◌+◌, ◌-◌, ◌≤◌, 
 use Rattle.std.proofs.lemmas.List.{take-append-drop}
 use Rattle.std.proofs.lemmas.Bool.{lt-ltb}
 use Rattle.amqp_wire.specs.declared.error.Error.{Error}
-use Rattle.amqp_model.specs.Term.{Container, list, map, array, Term, Terms, leaf, holder, described, kept, barred, none, more, Descriptor, count}
+use Rattle.amqp_model.specs.Term.{Container, list, map, array, Term, Terms, leaf, container, described, kept, barred, none, more, Descriptor, count}
 use Rattle.amqp_model.specs.Constructors.{compound, format}
 use Rattle.amqp_model.specs.Spelling.{PrimitiveData, HasWidthZero, Constructor, Spelled, data_of, elements_of, shared_data_of}
 use Rattle.amqp_model.specs.Measures.{nest, nests, array_nest}
 use Rattle.amqp_lengths.specs.Fronts.{Refuses}
 use Rattle.amqp_lengths.specs.Pieces.{IsPrimitive}
 use Rattle.amqp_lengths.specs.Lengths.{Constructs, HasConstructor, IsData, Row, levels_of, HasElements}
-use Rattle.amqp_lengths.proofs.Codes.{is_holder, Divided, holder_at}
-use Rattle.amqp_lengths.proofs.Containers.{no_holder}
+use Rattle.amqp_lengths.proofs.Codes.{is_container, Divided, container_at}
+use Rattle.amqp_lengths.proofs.Containers.{no_container}
 use Rattle.amqp_lengths.proofs.Terms.{behind_constructor, constructs_known}
 use Rattle.amqp_lengths.proofs.Rows.{rows_data, data_rows}
 
@@ -76,12 +76,12 @@ elements_surplus k n c len b some h more_ (more t ts, l, s, deep) = absurd (omeg
 
 -- items that count as levels of their own
 abbrev Counts : Term → Type 0
-Counts (holder k ts) = Unit {0}
+Counts (container k ts) = Unit {0}
 Counts (described d t) = Unit {0}
 Counts _ = ⊥
 
 counted : (t : Term) (ts : Terms) → Counts t → array_nest (more t ts) ≡ suc (max (nest t) (nests ts))
-counted (holder k us) ts h = refl
+counted (container k us) ts h = refl
 counted (described d t) ts h = refl
 counted (leaf p) ts h = absurd h
 counted (kept b) ts h = absurd h
@@ -89,14 +89,14 @@ counted (barred r) ts h = absurd h
 
 held_counts : (t : Term) (kind : Container) (w c : ℕ) (b : List ℕ) → format c ≡ compound kind w → data_of t [] c b → Counts t
 held_counts (leaf p) kind w c b is h = absurd (subst (λ F. PrimitiveData F p b) is h)
-held_counts (holder k ts) kind w c b is h = tt
+held_counts (container k ts) kind w c b is h = tt
 held_counts (described d t) kind w c b is h = absurd h
 held_counts (kept x) kind w c b is h = absurd h
 held_counts (barred r) kind w c b is h = absurd h
 
 described_counts : (t : Term) (d : Descriptor) (ds : List Descriptor) (c : ℕ) (b : List ℕ) → data_of t (d ∷ ds) c b → Counts t
 described_counts (described e t) d ds c b h = tt
-described_counts (holder k ts) d ds c b h = tt
+described_counts (container k ts) d ds c b h = tt
 described_counts (leaf p) d ds c b h = absurd h
 described_counts (kept x) d ds c b h = absurd h
 described_counts (barred r) d ds c b h = absurd h
@@ -105,9 +105,9 @@ described_counts (barred r) d ds c b h = absurd h
 flat : (ts : Terms) (c : ℕ) (b : List ℕ) → IsPrimitive (format c) → shared_data_of ts [] c b → (nests ts ≡ 0) × (array_nest ts ≡ 0)
 flat none c b is h = (refl, refl)
 flat (more (leaf p) ts) c b is (first, second, e, h, r) = let (m, n) = flat ts c second is r in (omega (arith, m), n)
-flat (more (holder list us) ts) c b is (first, second, e, h, r) = absurd (no_holder (format c) list (count us) _ first is h)
-flat (more (holder map us) ts) c b is (first, second, e, h, r) = absurd (no_holder (format c) map (count us) _ first is h.1)
-flat (more (holder array us) ts) c b is (first, second, e, h, r) = absurd (no_holder (format c) array (count us) _ first is h)
+flat (more (container list us) ts) c b is (first, second, e, h, r) = absurd (no_container (format c) list (count us) _ first is h)
+flat (more (container map us) ts) c b is (first, second, e, h, r) = absurd (no_container (format c) map (count us) _ first is h.1)
+flat (more (container array us) ts) c b is (first, second, e, h, r) = absurd (no_container (format c) array (count us) _ first is h)
 flat (more (described d t) ts) c b is (first, second, e, h, r) = absurd h
 flat (more (kept x) ts) c b is (first, second, e, h, r) = absurd h
 flat (more (barred x) ts) c b is (first, second, e, h, r) = absurd h
@@ -132,9 +132,9 @@ deep_enough : (t : Term) (ds : List Descriptor) (c : ℕ) (b : List ℕ) → dat
 deep_enough t [] c b h = omega arith
 deep_enough (described d t) (e ∷ ds) c b h = omega (arith, deep_enough t ds c b h.1)
 deep_enough (leaf p) (e ∷ ds) c b h = absurd h
-deep_enough (holder list ts) (e ∷ ds) c b h = absurd h
-deep_enough (holder map ts) (e ∷ ds) c b h = absurd h
-deep_enough (holder array ts) (e ∷ ds) c b h = absurd h
+deep_enough (container list ts) (e ∷ ds) c b h = absurd h
+deep_enough (container map ts) (e ∷ ds) c b h = absurd h
+deep_enough (container array ts) (e ∷ ds) c b h = absurd h
 deep_enough (kept k) (e ∷ ds) c b h = absurd h
 deep_enough (barred r) (e ∷ ds) c b h = absurd h
 
@@ -151,7 +151,7 @@ some_test n = lt-ltb 0 (suc n) (omega arith)
 level : (ds : List Descriptor) (c : ℕ) (t : Term) (ts : Terms) (b : List ℕ) → Divided c (format c) → shared_data_of (more t ts) ds c b → IsLevel (length ds) c t ts
 level [] c t ts b v h = level_bare c t ts b v h
 level (d ∷ ds) c t ts b v (first, second, s, h, r) =
-    level_counted (length (d ∷ ds)) c t ts (described_counts t d ds c first h) (ap (λ x. length (d ∷ ds) + cond (x || is_holder c) 1 0) (some_test (length ds))) (deep_enough t (d ∷ ds) c first h)
+    level_counted (length (d ∷ ds)) c t ts (described_counts t d ds c first h) (ap (λ x. length (d ∷ ds) + cond (x || is_container c) 1 0) (some_test (length ds))) (deep_enough t (d ∷ ds) c first h)
 
 -- the items are the data behind the constructor
 pub elements_rows : (k n c j len : ℕ) (b : List ℕ) → (b ≡ [] → ⊥) → Constructs n c (take len b) → (j ≡ 0 → ⊥) → HasElements k j b
@@ -159,7 +159,7 @@ pub elements_rows : (k n c j len : ℕ) (b : List ℕ) → (b ≡ [] → ⊥) �
 elements_rows k n c j len b some h more_ (none, l, s, deep) = absurd (more_ (sym l))
 elements_rows k n c j len b some h more_ (more t ts, l, s, deep) =
     let (ds, m, (wide, v)) = elements_behind n c (take len b) (drop len b) (more t ts) b some h s (take-append-drop len b) in
-    let e = subst (λ i. IsLevel i c t ts) m (level ds c t ts (drop len b) (holder_at c (constructs_known n c (take len b) h)) v) in
+    let e = subst (λ i. IsLevel i c t ts) m (level ds c t ts (drop len b) (container_at c (constructs_known n c (take len b) h)) v) in
     let (few, low) = e.most k deep in (
       wide,
       few,
@@ -171,7 +171,7 @@ found_items : (k n c len : ℕ) (b : List ℕ) (ds : List Descriptor) (ts : Term
     → levels_of n c ≤ k → nests ts ≤ length ds + (k - levels_of n c) → shared_data_of ts ds c (drop len b) → HasElements k j b
 found_items k n c len b ds none j h m short q wide some l few low v = absurd (some (sym l))
 found_items k n c len b ds (more t ts) j h m short q wide some l few low v =
-    let e = subst (λ i. IsLevel i c t ts) m (level ds c t ts (drop len b) (holder_at c (constructs_known n c (take len b) h)) v) in
+    let e = subst (λ i. IsLevel i c t ts) m (level ds c t ts (drop len b) (container_at c (constructs_known n c (take len b) h)) v) in
     let deep = e.least k few (subst (λ i. nests (more t ts) ≤ i + (k - levels_of n c)) m low) in
     (more t ts, l, (ds, c, short, (take len b, drop len b, sym (take-append-drop len b), q, (wide, v))), deep)
 

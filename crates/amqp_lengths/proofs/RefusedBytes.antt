@@ -10,15 +10,15 @@ use Rattle.amqp_model.proofs.Bytes.{front, rest}
 use Rattle.amqp_lengths.specs.Fronts.{Behind, Refuses}
 use Rattle.amqp_lengths.specs.Pieces.{value_of, IsPrimitive, HoldsBytes, PrimitiveOf, NamesAny, IsDescriptorCode}
 use Rattle.amqp_lengths.specs.Contents.{IsContent, HasContent}
-use Rattle.amqp_lengths.specs.Lengths.{HasMarks, Constructs, HasConstructor, IsTerm, IsData, Row, IsHolder, IsArray, HasElements, levels_of}
-use Rattle.amqp_lengths.specs.Faults.{ValueFault, PrimitiveFault, primitive_wanting, primitive_no_value, DescriptorFault, descriptor_missing, descriptor_other, descriptor_unknown, descriptor_data, ConstructorFault, constructor_ends, constructor_unknown, constructor_long, constructor_descriptor, ContentFault, content_wanting, content_small, content_counted, TermFault, term_constructor, term_nests, term_data, DataFault, data_of_primitive, data_of_holder, data_of_array, HolderFault, holder_content, holder_deep, holder_unpaired, holder_items, ItemsFault, items_fault, items_over, ArrayFault, array_content, array_elements, ElementsFault, elements_missing, elements_constructor, elements_over, elements_empty, elements_deep, elements_data, SharedFault, shared_fault, shared_over}
+use Rattle.amqp_lengths.specs.Lengths.{HasMarks, Constructs, HasConstructor, IsTerm, IsData, Row, IsContainer, IsArray, HasElements, levels_of}
+use Rattle.amqp_lengths.specs.Faults.{ValueFault, PrimitiveFault, primitive_wanting, primitive_no_value, DescriptorFault, descriptor_missing, descriptor_other, descriptor_unknown, descriptor_data, ConstructorFault, constructor_ends, constructor_unknown, constructor_long, constructor_descriptor, ContentFault, content_wanting, content_small, content_counted, TermFault, term_constructor, term_nests, term_data, DataFault, data_of_primitive, data_of_container, data_of_array, ContainerFault, container_content, container_deep, container_unpaired, container_items, ItemsFault, items_fault, items_over, ArrayFault, array_content, array_elements, ElementsFault, elements_missing, elements_constructor, elements_over, elements_empty, elements_deep, elements_data, SharedFault, shared_fault, shared_over}
 use Rattle.amqp_lengths.proofs.Announced.{primitive_announced, container_announced, size_same, announced_wants}
 use Rattle.amqp_lengths.proofs.Values.{AnyData, same_content}
 use Rattle.amqp_lengths.proofs.Fronts.{refuses_part}
 use Rattle.amqp_lengths.proofs.Rows.{Once}
 use Rattle.amqp_lengths.proofs.Descriptors.{mark_short, mark_other, marks_refuse, no_code, too_many, no_name, no_end}
 use Rattle.amqp_lengths.proofs.Terms.{term_unbegun, term_deep, term_short, term_once, data_once}
-use Rattle.amqp_lengths.proofs.Containers.{holder_unbegun, holder_odd, holder_bad, array_unbegun, array_bad, data_list, data_map, data_array, data_primitive}
+use Rattle.amqp_lengths.proofs.Containers.{container_unbegun, container_odd, container_bad, array_unbegun, array_bad, data_list, data_map, data_array, data_primitive}
 use Rattle.amqp_lengths.proofs.Elements.{elements_unbegun, elements_some, elements_surplus, elements_rows}
 
 -- what stands in front, by how many bytes it is
@@ -160,11 +160,11 @@ row_over P once n content after h some r =
     let none : after ≡ [] = row_behind P once n n 0 h.front after (omega arith) h.spelled (subst (Row P n) h.is r) in
     omega (arith, ap length none)
 
-data_holder : (kind : Container) (c w k : ℕ) (b : List ℕ) → (kind ≡ array → ⊥) → format c ≡ compound kind w → IsData c k b
-    → IsHolder kind w k b
-data_holder list c w k b other is h = data_list c w k b is h
-data_holder map c w k b other is h = data_map c w k b is h
-data_holder array c w k b other is h = absurd (other refl)
+data_container : (kind : Container) (c w k : ℕ) (b : List ℕ) → (kind ≡ array → ⊥) → format c ≡ compound kind w → IsData c k b
+    → IsContainer kind w k b
+data_container list c w k b other is h = data_list c w k b is h
+data_container map c w k b other is h = data_map c w k b is h
+data_container array c w k b other is h = absurd (other refl)
 
 fault_primitive : (F : Format) (input : List ℕ) (e : Error) → PrimitiveFault F input e → IsPrimitive F
 fault_primitive F input e (primitive_wanting p h) = p
@@ -204,22 +204,22 @@ mutual
   data_refuses c k input e (data_of_primitive c' k' b x h) =
       refuses_part (IsData c' k') (PrimitiveOf c') b x (λ l d. data_primitive c' k' l (fault_primitive (format c') b x h) d)
       (primitive_refuses (format c') b x h)
-  data_refuses c k input e (data_of_holder c' k' b x kind w is other h) =
-      refuses_part (IsData c' k') (IsHolder kind w k') b x (λ l d. data_holder kind c' w k' l other is d) (holder_refuses kind w k' b x h)
+  data_refuses c k input e (data_of_container c' k' b x kind w is other h) =
+      refuses_part (IsData c' k') (IsContainer kind w k') b x (λ l d. data_container kind c' w k' l other is d) (container_refuses kind w k' b x h)
   data_refuses c k input e (data_of_array c' k' b x w is h) =
       refuses_part (IsData c' k') (IsArray w k') b x (λ l d. data_array c' w k' l is d) (array_refuses w k' b x h)
 
-  holder_refuses : (kind : Container) (w k : ℕ) (input : List ℕ) (e : Error) → HolderFault kind w k input e
-      → Refuses (IsHolder kind w k) input e
-  holder_refuses kind w k input e (holder_content j v m b x h) = holder_unbegun j v m b x (content_refuses j v b x h)
-  holder_refuses kind w k input e (holder_deep j v m b after h none) =
+  container_refuses : (kind : Container) (w k : ℕ) (input : List ℕ) (e : Error) → ContainerFault kind w k input e
+      → Refuses (IsContainer kind w k) input e
+  container_refuses kind w k input e (container_content j v m b x h) = container_unbegun j v m b x (content_refuses j v b x h)
+  container_refuses kind w k input e (container_deep j v m b after h none) =
       record { none = λ more f l y is (ts, deep, pairs, d). omega (arith, deep, none) }
-  holder_refuses kind w k input e (holder_unpaired j v m b n items after h odd) =
+  container_refuses kind w k input e (container_unpaired j v m b n items after h odd) =
       let t = taken (IsContent j v n items) b after h in
-      holder_odd j v m n t.len items b e t.spelled odd
-  holder_refuses kind w k input e (holder_items j v m b x n left items after h is f) =
+      container_odd j v m n t.len items b e t.spelled odd
+  container_refuses kind w k input e (container_items j v m b x n left items after h is f) =
       let t = taken (IsContent j v n items) b after h in
-      holder_bad j v m left n t.len items b x t.spelled is (items_refused left n items x f)
+      container_bad j v m left n t.len items b x t.spelled is (items_refused left n items x f)
 
   items_refused : (k n : ℕ) (content : List ℕ) (e : Error) → ItemsFault k n content e → Row (IsTerm k) n content → ⊥
   items_refused k n content e (items_fault k' m b x done after less h f) r =

@@ -3,7 +3,7 @@ use Rattle.std.proofs.Common.{◌≡◌, ℕ, ◌+◌, ◌<◌, ◌≤◌, List,
 use Rattle.std.proofs.Math.Seq.{take-add}
 use Rattle.std.proofs.lemmas.List.{length-drop}
 use Rattle.amqp_wire.specs.declared.error.Error.{Error}
-use Rattle.amqp_model.specs.Term.{Term, leaf, holder, described, kept, barred, list, map, array, Descriptor}
+use Rattle.amqp_model.specs.Term.{Term, leaf, container, described, kept, barred, list, map, array, Descriptor}
 use Rattle.amqp_model.specs.Constructors.{format}
 use Rattle.amqp_model.specs.Spelling.{IsKnown, Constructor, data_of, enc}
 use Rattle.amqp_model.specs.Measures.{nest}
@@ -19,9 +19,9 @@ pub bare : (t : Term) (ds : List Descriptor) (c : ℕ) (b : List ℕ) → data_o
 bare t [] c b h = (t, h, omega arith)
 bare (described d t) (e ∷ ds) c b (s, h) = let (u, k, n) = bare t ds c b h in (u, k, omega (arith, n))
 bare (leaf p) (e ∷ ds) c b h = absurd h
-bare (holder list ts) (e ∷ ds) c b h = absurd h
-bare (holder map ts) (e ∷ ds) c b h = absurd h
-bare (holder array ts) (e ∷ ds) c b h = absurd h
+bare (container list ts) (e ∷ ds) c b h = absurd h
+bare (container map ts) (e ∷ ds) c b h = absurd h
+bare (container array ts) (e ∷ ds) c b h = absurd h
 bare (kept k) (e ∷ ds) c b h = absurd h
 bare (barred r) (e ∷ ds) c b h = absurd h
 

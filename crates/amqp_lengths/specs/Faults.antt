@@ -61,15 +61,15 @@ mutual
   -- The data under a code is faulty.
   pub data DataFault : ℕ → ℕ → List ℕ → Error → Type 0 where
     data_of_primitive : (c nesting : ℕ) (input : List ℕ) (e : Error) → PrimitiveFault (format c) input e → DataFault c nesting input e
-    data_of_holder : (c nesting : ℕ) (input : List ℕ) (e : Error) (kind : Container) (w : ℕ) → format c ≡ compound kind w → (kind ≡ array → ⊥) → HolderFault kind w nesting input e → DataFault c nesting input e
+    data_of_container : (c nesting : ℕ) (input : List ℕ) (e : Error) (kind : Container) (w : ℕ) → format c ≡ compound kind w → (kind ≡ array → ⊥) → ContainerFault kind w nesting input e → DataFault c nesting input e
     data_of_array : (c nesting : ℕ) (input : List ℕ) (e : Error) (w : ℕ) → format c ≡ compound array w → ArrayFault w nesting input e → DataFault c nesting input e
 
   -- A list or map: its content isn't there, or it may not nest at all, or a map's count is odd, or its items are faulty.
-  pub data HolderFault : Container → ℕ → ℕ → List ℕ → Error → Type 0 where
-    holder_content : (kind : Container) (w nesting : ℕ) (input : List ℕ) (e : Error) → ContentFault kind w input e → HolderFault kind w nesting input e
-    holder_deep : (kind : Container) (w nesting : ℕ) (input after : List ℕ) → Behind (HasContent kind w) input after → nesting ≡ 0 → HolderFault kind w nesting input Depth
-    holder_unpaired : (kind : Container) (w nesting : ℕ) (input : List ℕ) (n : ℕ) (items after : List ℕ) → Behind (IsContent kind w n items) input after → (HasPairs kind n → ⊥) → HolderFault kind w nesting input OddCount
-    holder_items : (kind : Container) (w nesting : ℕ) (input : List ℕ) (e : Error) (n left : ℕ) (items after : List ℕ) → Behind (IsContent kind w n items) input after → nesting ≡ suc left → ItemsFault left n items e → HolderFault kind w nesting input e
+  pub data ContainerFault : Container → ℕ → ℕ → List ℕ → Error → Type 0 where
+    container_content : (kind : Container) (w nesting : ℕ) (input : List ℕ) (e : Error) → ContentFault kind w input e → ContainerFault kind w nesting input e
+    container_deep : (kind : Container) (w nesting : ℕ) (input after : List ℕ) → Behind (HasContent kind w) input after → nesting ≡ 0 → ContainerFault kind w nesting input Depth
+    container_unpaired : (kind : Container) (w nesting : ℕ) (input : List ℕ) (n : ℕ) (items after : List ℕ) → Behind (IsContent kind w n items) input after → (HasPairs kind n → ⊥) → ContainerFault kind w nesting input OddCount
+    container_items : (kind : Container) (w nesting : ℕ) (input : List ℕ) (e : Error) (n left : ℕ) (items after : List ℕ) → Behind (IsContent kind w n items) input after → nesting ≡ suc left → ItemsFault left n items e → ContainerFault kind w nesting input e
 
   -- Of so many terms, one is faulty behind some whole ones, or bytes are left over behind them all.
   pub data ItemsFault : ℕ → ℕ → List ℕ → Error → Type 0 where

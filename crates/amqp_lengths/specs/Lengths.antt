@@ -41,8 +41,8 @@ HasPairs list n = Unit {0}
 HasPairs array n = Unit {0}
 
 -- The data of a list or map of a width whose items nest below so deep.
-abbrev pub IsHolder : Container → ℕ → ℕ → List ℕ → Type 0
-IsHolder kind w nesting b =
+abbrev pub IsContainer : Container → ℕ → ℕ → List ℕ → Type 0
+IsContainer kind w nesting b =
     (ts : Terms) × (nests ts < nesting) × HasPairs kind (count ts) × ContainerData (compound kind w) kind (count ts) (items_of ts) b
 
 -- The content of an array of n items.

@@ -6,9 +6,9 @@ ghost use Rattle.amqp_wire.specs.declared.error.Error.TheVariants.{Cut};
 ghost use Rattle.amqp_lengths.specs.Fronts.{IsFront, Refuses, NoFront};
 ghost use Rattle.amqp_lengths.specs.Pieces.{width_of};
 ghost use Rattle.amqp_lengths.specs.Contents.{container_of};
-ghost use Rattle.amqp_lengths.specs.Lengths.{levels_of, Row, IsTerm, IsData, IsHolder, IsArray, HasElements, HasPairs, IsCutTerm};
+ghost use Rattle.amqp_lengths.specs.Lengths.{levels_of, Row, IsTerm, IsData, IsContainer, IsArray, HasElements, HasPairs, IsCutTerm};
 ghost use Rattle.amqp_wire.specs.declared.error.Error.{Error};
-ghost use Rattle.amqp_lengths.specs.Faults.{inside, TermFault, DataFault, HolderFault, ItemsFault, ArrayFault, ElementsFault, SharedFault, AsksMore};
+ghost use Rattle.amqp_lengths.specs.Faults.{inside, TermFault, DataFault, ContainerFault, ItemsFault, ArrayFault, ElementsFault, SharedFault, AsksMore};
 
 use crate::constructors::{Constructor, read_constructor};
 use crate::contents::{Kind, read_content};
@@ -137,9 +137,9 @@ fn has_pairs(kind: Kind, count: usize) -> bool
 // The length of the data of a list or map.
 #[cycle(term)]
 fn list_len(input: &[u8], wide: bool, kind: Kind, nesting: usize) -> Result<usize, Error>
-    ensures found { IfOk result (λ n. IsFront (IsHolder (container_of kind) (width_of wide) nesting) input.now n) }
-    ensures refused { IfErr result (λ e. Refuses (IsHolder (container_of kind) (width_of wide) nesting) input.now e) }
-    ensures fault { IfErr result (λ e. HolderFault (container_of kind) (width_of wide) nesting input.now e) }
+    ensures found { IfOk result (λ n. IsFront (IsContainer (container_of kind) (width_of wide) nesting) input.now n) }
+    ensures refused { IfErr result (λ e. Refuses (IsContainer (container_of kind) (width_of wide) nesting) input.now e) }
+    ensures fault { IfErr result (λ e. ContainerFault (container_of kind) (width_of wide) nesting input.now e) }
 {
     let parts = read_content(input, wide, kind)?;
     let Some(nesting) = nesting.checked_sub(1) else {

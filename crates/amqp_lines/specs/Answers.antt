@@ -6,8 +6,8 @@ use Rattle.amqp_wire.specs.declared.error.Error.{Error}
 use Rattle.amqp_wire.specs.declared.error.Error.TheVariants.{Memory, Read}
 use Rattle.amqp_codec.specs.TermType.{TermType}
 use Rattle.amqp_codec.specs.Composite.{composite}
-use Rattle.amqp_codec.specs.Reading.{reading_of, Unreadable}
-use Rattle.amqp_codec.specs.Rewritten.{IsRewritten, Unwritten}
+use Rattle.amqp_codec.specs.Reading.{reading_of, IsUnreadable}
+use Rattle.amqp_codec.specs.Rewritten.{IsRewritten, IsUnwritten}
 use Rattle.amqp_delivery.specs.Tables.{accepted, received, released, delivery_state}
 use Rattle.amqp_wire.specs.Error.{number_of, name_of}
 use Rattle.amqp_lines.specs.Lines.{TakesLine}
@@ -62,7 +62,7 @@ TextOf u input text n = IsRewritten (reading_of u) (λ v. u.canon v ∷ []) inpu
 
 -- No value can be read there, and the input has the fault; or what is read can't be written.
 abbrev pub NoTextOf : {T : Type 0} → TermType T → List ℕ → Error → Type 0
-NoTextOf u input e = Unreadable (reading_of u) input e ⊎ Unwritten (reading_of u) (λ v. u.canon v ∷ []) input e
+NoTextOf u input e = IsUnreadable (reading_of u) input e ⊎ IsUnwritten (reading_of u) (λ v. u.canon v ∷ []) input e
 
 -- The same of the type with that name.
 abbrev pub IsText : TypeName → List ℕ → List ℕ → ℕ → Type 0

@@ -1,13 +1,13 @@
 -- A refusal that stands in a term refuses it.
 use Rattle.std.proofs.Common.{refl, inl, inr}
-use Rattle.amqp_model.specs.Term.{Refusal, Term, Terms, leaf, holder, described, kept, barred, none, more}
+use Rattle.amqp_model.specs.Term.{Refusal, Term, Terms, leaf, container, described, kept, barred, none, more}
 use Rattle.amqp_model.specs.Items.{Bars, BarsAny, IsFree}
 use Rattle.amqp_model.specs.Refusals.{Somewhere, SomewhereIn, IsRefused, Refuses}
 
 mutual
   bars_somewhere : (r : Refusal) (t : Term) → Bars r t → Somewhere (IsRefused r) t
   bars_somewhere r (leaf p) h = absurd h
-  bars_somewhere r (holder k ts) h = inr (bars_in r ts h)
+  bars_somewhere r (container k ts) h = inr (bars_in r ts h)
   bars_somewhere r (described d t) h = inr (bars_somewhere r t h)
   bars_somewhere r (kept b) h = absurd h
   bars_somewhere r (barred s) h = inl (rw h refl)

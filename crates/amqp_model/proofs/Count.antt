@@ -1,6 +1,6 @@
 -- No spelling has fewer bytes than its term has values.
 use Rattle.std.proofs.Common.{ℕ, ◌≤◌, List, [], ◌∷◌, length, arith, suc, zero}
-use Rattle.amqp_model.specs.Term.{Primitive, Container, list, map, array, Term, Terms, leaf, holder, described, kept, barred, none, more, Descriptor, count}
+use Rattle.amqp_model.specs.Term.{Primitive, Container, list, map, array, Term, Terms, leaf, container, described, kept, barred, none, more, Descriptor, count}
 use Rattle.amqp_model.specs.Constructors.{Format, fixed, variable, compound, unknown, format}
 use Rattle.amqp_model.specs.Spelling.{PrimitiveData, ContainerData, HasWidthZero, data_of, items_of, elements_of, shared_data_of, enc}
 use Rattle.amqp_model.specs.Measures.{nodes, all_nodes}
@@ -32,15 +32,15 @@ mutual
   data_nodes : (t : Term) (ds : List Descriptor) (c : ℕ) (d : List ℕ) → data_of t ds c d → (nodes t ≤ suc (length d)) × ((HasWidthZero (format c) → ⊥) → nodes t ≤ length d)
   data_nodes (leaf p) [] c d h = (omega arith, primitive_length (format c) p d h)
   data_nodes (leaf p) (e ∷ ds) c d h = absurd h
-  data_nodes (holder list ts) [] c d h =
+  data_nodes (container list ts) [] c d h =
       let r = container_length (format c) list (count ts) (all_nodes ts) (items_of ts) d h (λ b i. items_nodes ts b i) in (omega (arith, r.0), r.1)
-  data_nodes (holder list ts) (e ∷ ds) c d h = absurd h
-  data_nodes (holder map ts) [] c d h =
+  data_nodes (container list ts) (e ∷ ds) c d h = absurd h
+  data_nodes (container map ts) [] c d h =
       let r = container_length (format c) map (count ts) (all_nodes ts) (items_of ts) d h.1 (λ b i. items_nodes ts b i) in (omega (arith, r.0), r.1)
-  data_nodes (holder map ts) (e ∷ ds) c d h = absurd h
-  data_nodes (holder array ts) [] c d h =
+  data_nodes (container map ts) (e ∷ ds) c d h = absurd h
+  data_nodes (container array ts) [] c d h =
       let r = container_length (format c) array (count ts) (all_nodes ts) (elements_of ts) d h (λ b i. elements_nodes ts b i) in (omega (arith, r.0), r.1)
-  data_nodes (holder array ts) (e ∷ ds) c d h = absurd h
+  data_nodes (container array ts) (e ∷ ds) c d h = absurd h
   data_nodes (described f t) [] c d h = absurd h
   data_nodes (described f t) (e ∷ ds) c d h = data_nodes t ds c d h.1
   data_nodes (kept b) ds c d h = absurd h

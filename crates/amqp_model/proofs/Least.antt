@@ -2,10 +2,10 @@
 use Rattle.std.proofs.Common.{◌≡◌, ℕ, ◌+◌, ◌^◌, ◌<◌, ◌≤◌, ◌⊎◌, ◌≢◌, inl, inr, List, [], ◌∷◌, ◌++◌, length, sym, ap, ◌∙◌, subst, arith, suc}
 use Rattle.std.proofs.lemmas.List.{length-append}
 use Rattle.std.specs.Int.{bytes_high_first}
-use Rattle.amqp_model.specs.Term.{Container, list, map, array, Term, Terms, leaf, holder, described, kept, barred, none, more, Descriptor, count}
+use Rattle.amqp_model.specs.Term.{Container, list, map, array, Term, Terms, leaf, container, described, kept, barred, none, more, Descriptor, count}
 use Rattle.amqp_model.specs.Constructors.{Format, fixed, variable, compound, unknown, format}
 use Rattle.amqp_model.specs.Spelling.{IsSize, ContainerData, descriptor_value, Names, Constructor, data_of, items_of, enc}
-use Rattle.amqp_model.specs.Text.{Plain, shortest, spell, compact_head, text, texts}
+use Rattle.amqp_model.specs.Text.{Alone, shortest, spell, compact_head, text, texts}
 use Rattle.amqp_model.specs.Ranges.{Everywhere, EverywhereIn, IsBytes, IsNoArray}
 use Rattle.amqp_model.proofs.Lengths.{joined_length, frame_length, compact_cases}
 use Rattle.amqp_model.proofs.Shortest.{IsLeast, format_least, shortest_least}
@@ -69,42 +69,42 @@ descriptor_least f e h same (c, d, s, p) b =
 mutual
   unfolding text
 
-  least : (t : Term) (ds : List Descriptor) (c : ℕ) (h d : List ℕ) → Everywhere IsNoArray t → Constructor ds c h → data_of t ds c d → IsBytes h → IsBytes d → length (text t Plain) ≤ length h + length d
+  least : (t : Term) (ds : List Descriptor) (c : ℕ) (h d : List ℕ) → Everywhere IsNoArray t → Constructor ds c h → data_of t ds c d → IsBytes h → IsBytes d → length (text t Alone) ≤ length h + length d
   least (leaf p) [] c h d g k s b b' =
       let one : length h ≡ 1 = ap length k.0 in omega (arith, shortest_least c p d b' s)
   least (leaf p) (e ∷ ds) c h d g k s b b' = absurd s
-  least (holder list none) [] c h d g k s b b' = let one : length h ≡ 1 = ap length k.0 in omega arith
-  least (holder list none) (e ∷ ds) c h d g k s b b' = absurd s
-  least (holder list (more t ts)) [] c h d g k s b b' =
+  least (container list none) [] c h d g k s b b' = let one : length h ≡ 1 = ap length k.0 in omega arith
+  least (container list none) (e ∷ ds) c h d g k s b b' = absurd s
+  least (container list (more t ts)) [] c h d g k s b b' =
       let one : length h ≡ 1 = ap length k.0 in
-      omega (arith, container_least (format c) list (suc (count ts)) (suc (count ts)) (items_of (more t ts)) (texts (more t ts) Plain) d (format_least c) (omega arith) (inl (omega arith)) s b' (λ content b i. items_least (more t ts) content g.1 i b))
-  least (holder list (more t ts)) (e ∷ ds) c h d g k s b b' = absurd s
-  least (holder map ts) [] c h d g k s b b' =
+      omega (arith, container_least (format c) list (suc (count ts)) (suc (count ts)) (items_of (more t ts)) (texts (more t ts) Alone) d (format_least c) (omega arith) (inl (omega arith)) s b' (λ content b i. items_least (more t ts) content g.1 i b))
+  least (container list (more t ts)) (e ∷ ds) c h d g k s b b' = absurd s
+  least (container map ts) [] c h d g k s b b' =
       let one : length h ≡ 1 = ap length k.0 in
-      omega (arith, container_least (format c) map (count ts) (count ts) (items_of ts) (texts ts Plain) d (format_least c) (omega arith) (inr map_list) s.1 b' (λ content b i. items_least ts content g.1 i b))
-  least (holder map ts) (e ∷ ds) c h d g k s b b' = absurd s
-  least (holder array ts) ds c h d g k s b b' = absurd g.0
+      omega (arith, container_least (format c) map (count ts) (count ts) (items_of ts) (texts ts Alone) d (format_least c) (omega arith) (inr map_list) s.1 b' (λ content b i. items_least ts content g.1 i b))
+  least (container map ts) (e ∷ ds) c h d g k s b b' = absurd s
+  least (container array ts) ds c h d g k s b b' = absurd g.0
   least (described f t) [] c h d g k s b b' = absurd s
   least (described f t) (e ∷ ds) c h d g (first, second, e', names, k) s b b' =
       let bytes : IsBytes (first ++ second) = (subst IsBytes e' b).1 in
       let all : length h ≡ suc (length first + length second) = ap length e' ∙ ap suc (length-append first second) in
       let l = descriptor_least f e first s.0 names (bytes_left first second bytes) in
       let m = least t ds c second d g.1 k s.1 (bytes_right first second bytes) b' in
-      let n : length (text (described f t) Plain) ≡ suc (length (spell (shortest (descriptor_value f))) + length (text t Plain)) = ap suc (length-append (spell (shortest (descriptor_value f))) (text t Plain)) in
+      let n : length (text (described f t) Alone) ≡ suc (length (spell (shortest (descriptor_value f))) + length (text t Alone)) = ap suc (length-append (spell (shortest (descriptor_value f))) (text t Alone)) in
       omega arith
   least (kept l) ds c h d g k s b b' = absurd s
   least (barred r) ds c h d g k s b b' = absurd s
 
-  items_least : (ts : Terms) (b : List ℕ) → EverywhereIn IsNoArray ts → items_of ts b → IsBytes b → length (texts ts Plain) ≤ length b
+  items_least : (ts : Terms) (b : List ℕ) → EverywhereIn IsNoArray ts → items_of ts b → IsBytes b → length (texts ts Alone) ≤ length b
   items_least none b g i h = omega arith
   items_least (more t ts) b g (first, second, e, (ds, c, few, (h, d, e', k, s)), rest) bytes =
       let b' : IsBytes (first ++ second) = subst IsBytes e bytes in
       let b'' : IsBytes (h ++ d) = subst IsBytes e' (bytes_left first second b') in
       let l = least t ds c h d g.0 k s (bytes_left h d b'') (bytes_right h d b'') in
       let m = items_least ts second g.1 rest (bytes_right first second b') in
-      omega (arith, joined_length b first second e, joined_length first h d e', length-append (text t Plain) (texts ts Plain))
+      omega (arith, joined_length b first second e, joined_length first h d e', length-append (text t Alone) (texts ts Alone))
 
-pub text_is_least : (b : List ℕ) (t : Term) → Everywhere IsNoArray t → IsBytes b → enc b t → length (text t Plain) ≤ length b
+pub text_is_least : (b : List ℕ) (t : Term) → Everywhere IsNoArray t → IsBytes b → enc b t → length (text t Alone) ≤ length b
 unfolding enc
 text_is_least b t g bytes (ds, c, few, (h, d, e, k, s)) =
     let b' : IsBytes (h ++ d) = subst IsBytes e bytes in

@@ -1,9 +1,9 @@
 -- Items of an array that can share a constructor have one form, and those of one form can.
 use Rattle.std.proofs.Common.{◌≡◌, ℕ, List, [], ◌∷◌, refl, sym, ap, ap₂, ◌∙◌, arith, Option, Some, None, option_map, unwrap_or, lt_of_not-le, le_antisymm, le_of_suc-le-suc, drop, get_or}
-use Rattle.amqp_model.specs.Term.{Term, leaf, holder, described, kept, barred, Descriptor, name, code}
+use Rattle.amqp_model.specs.Term.{Term, leaf, container, described, kept, barred, Descriptor, name, code}
 use Rattle.amqp_model.specs.Text.{form}
 use Rattle.amqp_model.specs.Refusals.{HasForm, Differ}
-use Rattle.amqp_model.proofs.Forms.{Form, under, primitive_form_at, holder_form_at}
+use Rattle.amqp_model.proofs.Forms.{Form, under, primitive_form_at, container_form_at}
 
 -- forms that can't differ are equal
 abbrev Stable : {A : Type 0} → A → A → Type 0
@@ -51,7 +51,7 @@ IsBare t = Unit {0}
 
 bare_form : (t : Term) (f : Form) → IsBare t → form t ≡ Some f → f.0 ≡ []
 bare_form (leaf p) f b e = primitive_form_at (λ f. f.0 ≡ []) p f e refl
-bare_form (holder k ts) f b e = holder_form_at (λ f. f.0 ≡ []) k ts f e refl
+bare_form (container k ts) f b e = container_form_at (λ f. f.0 ≡ []) k ts f e refl
 bare_form (described d t) f b e = absurd b
 bare_form (kept b) f c e = cc
 bare_form (barred r) f b e = cc

@@ -1,6 +1,6 @@
 -- The parts of a term stand in one way.
 use Rattle.std.proofs.Common.{◌≡◌, ℕ, List, [], ◌∷◌, ◌++◌, length, refl, sym, ap, ap₂, ◌∙◌, subst, subst₂, drop}
-use Rattle.amqp_model.specs.Term.{Container, list, map, array, Term, Terms, leaf, holder, described, kept, barred, none, more, Descriptor, count}
+use Rattle.amqp_model.specs.Term.{Container, list, map, array, Term, Terms, leaf, container, described, kept, barred, none, more, Descriptor, count}
 use Rattle.amqp_model.specs.Constructors.{Format, format}
 use Rattle.amqp_model.specs.Spelling.{ContainerData, Spelled}
 use Rattle.amqp_model.specs.Standing.{Standing, whole, part, StandWhole, StandAsData, StandInArray, StandIn, Parts}
@@ -37,9 +37,9 @@ array_one (more t ts) ss ss' b h h' = spelled_one (StandAsData (more t ts) ss) (
 
 stand_one : (t : Term) (ss ss' : List Standing) (ds : List Descriptor) (c : ℕ) → One (StandIn t ss ds c) (StandIn t ss' ds c) (ss ≡ ss')
 stand_one (leaf p) ss ss' ds c b h h' = h ∙ sym h'
-stand_one (holder list ts) ss ss' ds c b h h' = container_one (format c) list (count ts) (StandWhole ts ss) (StandWhole ts ss') (ss ≡ ss') (whole_one ts ss ss') b h h'
-stand_one (holder map ts) ss ss' ds c b h h' = container_one (format c) map (count ts) (StandWhole ts ss) (StandWhole ts ss') (ss ≡ ss') (whole_one ts ss ss') b h h'
-stand_one (holder array ts) ss ss' ds c b h h' = container_one (format c) array (count ts) (StandInArray ts ss) (StandInArray ts ss') (ss ≡ ss') (array_one ts ss ss') b h h'
+stand_one (container list ts) ss ss' ds c b h h' = container_one (format c) list (count ts) (StandWhole ts ss) (StandWhole ts ss') (ss ≡ ss') (whole_one ts ss ss') b h h'
+stand_one (container map ts) ss ss' ds c b h h' = container_one (format c) map (count ts) (StandWhole ts ss) (StandWhole ts ss') (ss ≡ ss') (whole_one ts ss ss') b h h'
+stand_one (container array ts) ss ss' ds c b h h' = container_one (format c) array (count ts) (StandInArray ts ss) (StandInArray ts ss') (ss ≡ ss') (array_one ts ss ss') b h h'
 stand_one (described d t) ss ss' [] c b h h' = absurd h
 stand_one (described d t) ss ss' (e ∷ ds) c b h h' = h ∙ sym h'
 stand_one (kept b) ss ss' ds c d h h' = absurd h
@@ -52,6 +52,6 @@ parts_one (whole b) (described d t) ss ss' (first, second, e, n, s) (first', sec
     let u = names_same d d first first' second second' n n' all in
     s ∙ ap (λ z. whole z ∷ []) (rest first first' second second' (ap length u.0) all) ∙ sym s'
 parts_one (whole b) (leaf p) ss ss' h h' = spelled_one (StandIn (leaf p) ss) (StandIn (leaf p) ss') (ss ≡ ss') (stand_one (leaf p) ss ss') b h h'
-parts_one (whole b) (holder k ts) ss ss' h h' = spelled_one (StandIn (holder k ts) ss) (StandIn (holder k ts) ss') (ss ≡ ss') (stand_one (holder k ts) ss ss') b h h'
+parts_one (whole b) (container k ts) ss ss' h h' = spelled_one (StandIn (container k ts) ss) (StandIn (container k ts) ss') (ss ≡ ss') (stand_one (container k ts) ss ss') b h h'
 parts_one (whole b) (kept l) ss ss' h h' = spelled_one (StandIn (kept l) ss) (StandIn (kept l) ss') (ss ≡ ss') (stand_one (kept l) ss ss') b h h'
 parts_one (whole b) (barred r) ss ss' h h' = spelled_one (StandIn (barred r) ss) (StandIn (barred r) ss') (ss ≡ ss') (stand_one (barred r) ss ss') b h h'

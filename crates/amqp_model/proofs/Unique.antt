@@ -1,7 +1,7 @@
 -- No bytes spell two terms.
 use Rattle.std.proofs.Common.{◌≡◌, ℕ, ◌≤◌, List, [], ◌∷◌, ◌++◌, refl, sym, ap, ap₂, ◌∙◌, arith, append-nil}
 use Rattle.std.proofs.Math.Nat.{suc_inj}
-use Rattle.amqp_model.specs.Term.{Primitive, Container, Term, Terms, Descriptor, leaf, holder, described, kept, barred, none, more, list, map, array, count}
+use Rattle.amqp_model.specs.Term.{Primitive, Container, Term, Terms, Descriptor, leaf, container, described, kept, barred, none, more, list, map, array, count}
 use Rattle.amqp_model.specs.Constructors.{Format, fixed, variable, compound, unknown, format}
 use Rattle.amqp_model.specs.Spelling.{Joined, PrimitiveData, ContainerData, Spelled, HasWidthZero, data_of, items_of, elements_of, shared_data_of, enc}
 use Rattle.amqp_model.proofs.Bytes.{rest}
@@ -43,25 +43,25 @@ container_sort unknown k n C b h = absurd h
 
 abbrev sort_of : Term → ℕ
 sort_of (leaf p) = 0
-sort_of (holder k ts) = kind k
+sort_of (container k ts) = kind k
 sort_of (described d t) = 5
 sort_of (kept b) = 6
 sort_of (barred r) = 7
 
 bare_sort : (t : Term) (c : ℕ) (b : List ℕ) → data_of t [] c b → sort (format c) ≡ sort_of t
 bare_sort (leaf p) c b h = primitive_sort (format c) p b h
-bare_sort (holder list ts) c b h = container_sort (format c) list (count ts) (items_of ts) b h
-bare_sort (holder map ts) c b h = container_sort (format c) map (count ts) (items_of ts) b h.1
-bare_sort (holder array ts) c b h = container_sort (format c) array (count ts) (elements_of ts) b h
+bare_sort (container list ts) c b h = container_sort (format c) list (count ts) (items_of ts) b h
+bare_sort (container map ts) c b h = container_sort (format c) map (count ts) (items_of ts) b h.1
+bare_sort (container array ts) c b h = container_sort (format c) array (count ts) (elements_of ts) b h
 bare_sort (described d t) c b h = absurd h
 bare_sort (kept k) c b h = absurd h
 bare_sort (barred r) c b h = absurd h
 
 described_sort : (t : Term) (f : Descriptor) (ds : List Descriptor) (c : ℕ) (b : List ℕ) → data_of t (f ∷ ds) c b → sort_of t ≡ 5
 described_sort (leaf p) f ds c b h = absurd h
-described_sort (holder list ts) f ds c b h = absurd h
-described_sort (holder map ts) f ds c b h = absurd h
-described_sort (holder array ts) f ds c b h = absurd h
+described_sort (container list ts) f ds c b h = absurd h
+described_sort (container map ts) f ds c b h = absurd h
+described_sort (container array ts) f ds c b h = absurd h
 described_sort (described d t) f ds c b h = refl
 described_sort (kept k) f ds c b h = absurd h
 described_sort (barred r) f ds c b h = absurd h
@@ -75,21 +75,21 @@ mutual
   pub data_same : (t t' : Term) (ds : List Descriptor) (c : ℕ) → Same (data_of t ds c) (data_of t' ds c) (t ≡ t')
   data_same (leaf p) (leaf p') [] c b b' x y h h' e =
       let r = primitive_same (format c) p p' b b' x y h h' e in (r.0, ap leaf r.1)
-  data_same (holder list ts) (holder list ts') [] c b b' x y h h' e =
+  data_same (container list ts) (container list ts') [] c b b' x y h h' e =
       container_same (format c) list (count ts) (count ts') (items_of ts) (items_of ts') _
-      (λ n. one (items_of ts) (items_of ts') _ (λ m m' x y i i' e. let r = items_same ts ts' n m m' x y i i' e in (r.0, ap (holder list) r.1))) b b' x y h h' e
-  data_same (holder map ts) (holder map ts') [] c b b' x y h h' e =
+      (λ n. one (items_of ts) (items_of ts') _ (λ m m' x y i i' e. let r = items_same ts ts' n m m' x y i i' e in (r.0, ap (container list) r.1))) b b' x y h h' e
+  data_same (container map ts) (container map ts') [] c b b' x y h h' e =
       container_same (format c) map (count ts) (count ts') (items_of ts) (items_of ts') _
-      (λ n. one (items_of ts) (items_of ts') _ (λ m m' x y i i' e. let r = items_same ts ts' n m m' x y i i' e in (r.0, ap (holder map) r.1))) b b' x y h.1 h'.1 e
-  data_same (holder array ts) (holder array ts') [] c b b' x y h h' e =
+      (λ n. one (items_of ts) (items_of ts') _ (λ m m' x y i i' e. let r = items_same ts ts' n m m' x y i i' e in (r.0, ap (container map) r.1))) b b' x y h.1 h'.1 e
+  data_same (container array ts) (container array ts') [] c b b' x y h h' e =
       container_same (format c) array (count ts) (count ts') (elements_of ts) (elements_of ts') _
-      (λ n m i i'. ap (holder array) (elements_same ts ts' n m i i')) b b' x y h h' e
+      (λ n m i i'. ap (container array) (elements_same ts ts' n m i i')) b b' x y h h' e
   data_same (described d t) (described d' t') (f ∷ ds) c b b' x y h h' e =
       let r = data_same t t' ds c b b' x y h.1 h'.1 e in (r.0, ap₂ described (h.0 ∙ sym h'.0) r.1)
   data_same (leaf p) t' (f ∷ ds) c b b' x y h h' e = absurd h
-  data_same (holder list ts) t' (f ∷ ds) c b b' x y h h' e = absurd h
-  data_same (holder map ts) t' (f ∷ ds) c b b' x y h h' e = absurd h
-  data_same (holder array ts) t' (f ∷ ds) c b b' x y h h' e = absurd h
+  data_same (container list ts) t' (f ∷ ds) c b b' x y h h' e = absurd h
+  data_same (container map ts) t' (f ∷ ds) c b b' x y h h' e = absurd h
+  data_same (container array ts) t' (f ∷ ds) c b b' x y h h' e = absurd h
   data_same (kept k) t' ds c b b' x y h h' e = absurd h
   data_same (barred r) t' ds c b b' x y h h' e = absurd h
   data_same (described d t) t' [] c b b' x y h h' e = absurd h

@@ -1,11 +1,11 @@
 -- What nothing refuses can be written.
 use Rattle.std.proofs.Common.{◌≡◌, ℕ, ◌<◌, ◌≤◌, ◌^◌, inl, inr, List, [], ◌∷◌, ◌++◌, length, refl, ap, ◌∙◌, subst, arith, Some, option_map, sym, lt_of_not-le, le_of_suc-le-suc, IsAscii, slice_index}
-use Rattle.amqp_model.specs.Term.{Primitive, null, binary, string, symbol, Refusal, depth, zero_width_items, non_ascii, mixed_array, too_large, lazy_in_array, list, map, array, Term, Terms, leaf, holder, described, kept, barred, none, more}
+use Rattle.amqp_model.specs.Term.{Primitive, null, binary, string, symbol, Refusal, depth, zero_width_items, non_ascii, mixed_array, too_large, lazy_in_array, list, map, array, Term, Terms, leaf, container, described, kept, barred, none, more}
 use Rattle.amqp_model.specs.Spelling.{descriptor_value, enc}
-use Rattle.amqp_model.specs.Text.{Plain, wide, wide_code, form, text}
+use Rattle.amqp_model.specs.Text.{Alone, wide, wide_code, form, text}
 use Rattle.amqp_model.specs.Measures.{nest}
 use Rattle.amqp_model.specs.Ranges.{IsValue, Everywhere, EverywhereIn}
-use Rattle.amqp_model.specs.Kept.{Reads}
+use Rattle.amqp_model.specs.Kept.{ExpandsTo}
 use Rattle.amqp_model.specs.Refusals.{Somewhere, SomewhereIn, IsItem, core, HasForm, IsNonAscii, IsLong, IsRefused, Refuses}
 use Rattle.amqp_model.proofs.Unique.{one_term}
 use Rattle.amqp_model.proofs.Primitives.{IsWritten}
@@ -17,7 +17,7 @@ use Rattle.amqp_model.proofs.Written.{text_spells}
 mutual
   pub holds_nowhere : {I : Type 0} (Q : I → Term → Type 0) (u : Term) → ((i : I) → Somewhere (Q i) u → ⊥) → Everywhere (λ v. (i : I) → Q i v → ⊥) u
   holds_nowhere Q (leaf p) h = h
-  holds_nowhere Q (holder k us) h = (λ i q. h i (inl q), holds_nowhere_in Q us (λ i s. h i (inr s)))
+  holds_nowhere Q (container k us) h = (λ i q. h i (inl q), holds_nowhere_in Q us (λ i s. h i (inr s)))
   holds_nowhere Q (described d u) h = (λ i q. h i (inl q), holds_nowhere Q u (λ i s. h i (inr s)))
   holds_nowhere Q (kept b) h = h
   holds_nowhere Q (barred r) h = h
@@ -37,7 +37,7 @@ primitive_formed p some = (([], (wide p).0), refl)
 -- an item that is neither null nor kept nor barred has a form
 pub safe_has_form : (t : Term) → Everywhere IsSafe t → (core t ≡ leaf null → ⊥) → ((b : List ℕ) → core t ≡ kept b → ⊥) → HasForm t
 safe_has_form (leaf p) g no_null no_kept = primitive_formed p no_null
-safe_has_form (holder k ts) g no_null no_kept = (([], wide_code k), refl)
+safe_has_form (container k ts) g no_null no_kept = (([], wide_code k), refl)
 safe_has_form (described d t) g no_null no_kept =
     let i = safe_has_form t g.1 no_null no_kept in ((d ∷ i.0.0, i.0.1), ap (option_map (λ f. (d ∷ f.0, f.1))) i.1)
 safe_has_form (kept b) g no_null no_kept = absurd (no_kept b refl)
@@ -52,10 +52,10 @@ item_safe t none i g = absurd i
 item_safe t (more u us) (inl i) g = subst (Everywhere IsSafe) (sym i) g.0
 item_safe t (more u us) (inr i) g = item_safe t us i g.1
 
-pub item_formed : (t : Term) (us : Terms) → IsItem t us → EverywhereIn IsSafe us → IsSafe (holder array us) → HasForm t
+pub item_formed : (t : Term) (us : Terms) → IsItem t us → EverywhereIn IsSafe us → IsSafe (container array us) → HasForm t
 item_formed t us i g h = safe_has_form t (item_safe t us i g) (λ e. h zero_width_items (inr (t, i, e))) (λ b e. h lazy_in_array (inr (t, b, i, e)))
 
-pub array_form : (us : Terms) → EverywhereIn IsSafe us → IsSafe (holder array us) → (f : Form) × HaveForm f us
+pub array_form : (us : Terms) → EverywhereIn IsSafe us → IsSafe (container array us) → (f : Form) × HaveForm f us
 array_form none g h = (([], 0x40), tt)
 array_form (more u us) g h =
     let has : (v : Term) → IsItem v (more u us) → HasForm v = λ v i. item_formed v (more u us) i g h in
@@ -77,9 +77,9 @@ primitive_written p a l = tt
 mutual
   pub safe_is_good : (u : Term) → Everywhere IsValue u → Everywhere IsSafe u → Everywhere Good u
   safe_is_good (leaf p) v s = ((v, primitive_written p (λ a. s non_ascii (inr a)) (λ l. s too_large (inr l))), tt)
-  safe_is_good (holder list us) v s = ((tt, below _ (2 ^ 32) (λ l. s.0 too_large (inr l))), safe_are_good us v.1 s.1)
-  safe_is_good (holder map us) v s = ((v.0, below _ (2 ^ 32) (λ l. s.0 too_large (inr l))), safe_are_good us v.1 s.1)
-  safe_is_good (holder array us) v s = ((array_form us s.1 s.0, below _ (2 ^ 32) (λ l. s.0 too_large (inr l))), safe_are_good us v.1 s.1)
+  safe_is_good (container list us) v s = ((tt, below _ (2 ^ 32) (λ l. s.0 too_large (inr l))), safe_are_good us v.1 s.1)
+  safe_is_good (container map us) v s = ((v.0, below _ (2 ^ 32) (λ l. s.0 too_large (inr l))), safe_are_good us v.1 s.1)
+  safe_is_good (container array us) v s = ((array_form us s.1 s.0, below _ (2 ^ 32) (λ l. s.0 too_large (inr l))), safe_are_good us v.1 s.1)
   safe_is_good (described d u) v s = (((v.0, primitive_written (descriptor_value d) (λ a. s.0 non_ascii (inr a)) (λ l. s.0 too_large (inr l))), tt), safe_is_good u v.1 s.1)
   safe_is_good (kept b) v s = (tt, tt)
   safe_is_good (barred r) v s = absurd (s r (inl refl))
@@ -95,13 +95,13 @@ pub unrefused_safe : (u : Term) → IsUnrefused u → Everywhere IsSafe u
 unfolding Refuses
 unrefused_safe u h = holds_nowhere IsRefused u (λ r s. h r (inl s))
 
-pub unrefused_nests : (u t : Term) → IsUnrefused u → Reads u t → nest t ≤ 128
+pub unrefused_nests : (u t : Term) → IsUnrefused u → ExpandsTo u t → nest t ≤ 128
 unfolding Refuses
 unrefused_nests u t h r = le_of_suc-le-suc (below (nest t) 129 (λ l. h depth (inr (refl, (t, r, l)))))
 
-pub unrefused_spells : (u t : Term) → IsUnrefused u → Everywhere IsValue u → Reads u t → enc (text u Plain) t
+pub unrefused_spells : (u t : Term) → IsUnrefused u → Everywhere IsValue u → ExpandsTo u t → enc (text u Alone) t
 unrefused_spells u t h v r = text_spells u t (safe_is_good u v (unrefused_safe u h)) r (unrefused_nests u t h r)
 
-pub one_text : (u v t w : Term) → IsUnrefused u → Everywhere IsValue u → Reads u t → IsUnrefused v → Everywhere IsValue v → Reads v w → text u Plain ≡ text v Plain → t ≡ w
+pub one_text : (u v t w : Term) → IsUnrefused u → Everywhere IsValue u → ExpandsTo u t → IsUnrefused v → Everywhere IsValue v → ExpandsTo v w → text u Alone ≡ text v Alone → t ≡ w
 one_text u v t w h g r h' g' r' e =
-    one_term (text u Plain) (text v Plain) [] [] t w (unrefused_spells u t h g r) (unrefused_spells v w h' g' r') (ap (λ l. l ++ []) e)
+    one_term (text u Alone) (text v Alone) [] [] t w (unrefused_spells u t h g r) (unrefused_spells v w h' g' r') (ap (λ l. l ++ []) e)

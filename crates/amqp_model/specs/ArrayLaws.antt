@@ -4,7 +4,7 @@ use Rattle.std.specs.List.{AllZip}
 use Rattle.std.proofs.lemmas.List.Elements.{All-head, All-tail, All-cons, All-nil}
 use Rattle.amqp_model.specs.Term.{Term}
 use Rattle.amqp_model.specs.ItemLaws.{AreFree, free_items}
-use Rattle.amqp_model.specs.FieldType.{normal, plain, Meaning}
+use Rattle.amqp_model.specs.FieldType.{normal, unchanged, Meaning}
 
 module _ {T : Type 0} (m : Meaning T) where
   pub each_refl : (vs : List T) → AllZip m.same vs vs
@@ -81,6 +81,6 @@ module _ {T : Type 0} (m : Meaning T) where
   each_free (t ∷ ts) (v ∷ vs) h = free_items (m.canon v) (map m.canon vs) (m.free t v h.0) (each_free ts vs h.1)
 
 -- items that aren't normalised
-pub map_plain : {T : Type 0} (vs : List T) → vs ≡ map (normal plain) vs
+pub map_plain : {T : Type 0} (vs : List T) → vs ≡ map (normal unchanged) vs
 map_plain [] = refl
 map_plain (v ∷ vs) = ap (λ ws. v ∷ ws) (map_plain vs)

@@ -1,6 +1,6 @@
 -- Composite values: described lists whose items fit a table of fields (Part 1, sections 1.4 and 1.5).
 use Rattle.std.specs.Prelude.{◌≡◌, ℕ, List}
-use Rattle.amqp_model.specs.Term.{Descriptor, name, code, list, Term, holder, described}
+use Rattle.amqp_model.specs.Term.{Descriptor, name, code, list, Term, container, described}
 use Rattle.amqp_model.specs.Items.{terms_of, items_of}
 use Rattle.amqp_model.specs.FieldType.{Norm, normal}
 use Rattle.amqp_model.specs.Fields.{Fields, Fits, canonical_items, IsNormal}
@@ -21,12 +21,12 @@ Describes c (name s) = s ≡ c.name
 
 -- The term is a list of items that fit.
 abbrev pub MeansList : {V : Type 0} → Fields V → Term → V → Type 0
-MeansList fs (holder list ts) v = Fits fs (items_of ts) v
+MeansList fs (container list ts) v = Fits fs (items_of ts) v
 MeansList fs _ v = ⊥
 
 -- the canonical list of a value
 abbrev pub canonical_list : {V : Type 0} → Fields V → V → Term
-canonical_list fs v = holder list (terms_of (canonical_items fs v))
+canonical_list fs v = container list (terms_of (canonical_items fs v))
 
 -- Part 1, section 1.5: the term is described by one of the descriptors, and what it describes means the value.
 abbrev pub MeansDescribed : {V : Type 0} → (Descriptor → Type 0) → (Term → V → Type 0) → Term → V → Type 0

@@ -1,6 +1,6 @@
 -- What is described is a type of fields, whatever it describes.
 use Rattle.std.proofs.Common.{◌≡◌, ℕ, false, refl, ap}
-use Rattle.amqp_model.specs.Term.{Descriptor, code, Term, leaf, holder, described, kept, barred}
+use Rattle.amqp_model.specs.Term.{Descriptor, code, Term, leaf, container, described, kept, barred}
 use Rattle.amqp_model.specs.Items.{is_null, IsFree}
 use Rattle.amqp_model.specs.FieldType.{normal, Meaning, FieldType}
 use Rattle.amqp_model.specs.Composite.{MeansDescribed}
@@ -10,7 +10,7 @@ pub described_cases : {V : Type 0} (describes : Descriptor → Type 0) (means : 
     → ((d : Descriptor) (u : Term) → describes d → means u v → P (described d u)) → MeansDescribed describes means t v → P t
 described_cases describes means P (described d u) v f m = f d u m.0 m.1
 described_cases describes means P (leaf p) v f m = absurd m
-described_cases describes means P (holder k ts) v f m = absurd m
+described_cases describes means P (container k ts) v f m = absurd m
 described_cases describes means P (kept b) v f m = absurd m
 described_cases describes means P (barred r) v f m = absurd m
 

@@ -5,11 +5,11 @@ use Rattle.amqp_model.specs.Items.{is_null, IsFree}
 
 -- How a value is normalised: not at all, or by a function.
 pub data Norm (T : Type 0) : Type 0 where
-  plain : Norm T
+  unchanged : Norm T
   by_norm : (T → T) → Norm T
 
 abbrev pub normal : {T : Type 0} → Norm T → T → T
-normal plain v = v
+normal unchanged v = v
 normal (by_norm f) v = f v
 
 pub record Meaning (T : Type 0) : Type 1 where

@@ -1,6 +1,6 @@
 -- Facts about the items of a composite value.
 use Rattle.std.proofs.Common.{◌≡◌, Bool, true, false, cond, List, [], ◌∷◌, refl, ap, inl, inr}
-use Rattle.amqp_model.specs.Term.{Term, Refusal, leaf, holder, described, kept, barred}
+use Rattle.amqp_model.specs.Term.{Term, Refusal, leaf, container, described, kept, barred}
 use Rattle.amqp_model.specs.Items.{terms_of, items_of, is_null, several, is_left_out, BarsAny, IsFree, before_nulls}
 
 pub clash : {b : Bool} → b ≡ true → b ≡ false → ⊥
@@ -12,7 +12,7 @@ items_of-terms_of (t ∷ ts) = ap (λ us. t ∷ us) (items_of-terms_of ts)
 
 pub several_null : (t : Term) → is_null t ≡ true → several t ≡ []
 several_null (leaf p) h = rw h refl
-several_null (holder k ts) h = absurd (clash h refl)
+several_null (container k ts) h = absurd (clash h refl)
 several_null (described d t) h = absurd (clash h refl)
 several_null (kept b) h = rw h refl
 several_null (barred r) h = absurd (clash h refl)
@@ -27,7 +27,7 @@ free_items t ts f g r (inr h) = g r h
 
 null_free : (t : Term) → is_null t ≡ true → IsFree t
 null_free (leaf p) e r h = h
-null_free (holder k ts) e r h = clash e refl
+null_free (container k ts) e r h = clash e refl
 null_free (described d t) e r h = clash e refl
 null_free (kept b) e r h = h
 null_free (barred s) e r h = clash e refl

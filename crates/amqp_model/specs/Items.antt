@@ -1,6 +1,6 @@
 -- The items of a composite value, a list of terms.
 use Rattle.std.specs.Prelude.{◌≡◌, ◌⊎◌, Bool, true, false, cond, eqb, List, [], ◌∷◌}
-use Rattle.amqp_model.specs.Term.{Primitive, null, array, Refusal, Term, Terms, leaf, holder, described, kept, barred, none, more}
+use Rattle.amqp_model.specs.Term.{Primitive, null, array, Refusal, Term, Terms, leaf, container, described, kept, barred, none, more}
 
 -- the terms of a list, as another term holds them
 abbrev pub terms_of : List Term → Terms
@@ -24,14 +24,14 @@ is_null _ = false
 
 -- Part 1, section 1.4: the terms that stand in a multiple field are an array's items, none for null, and any other term alone
 abbrev pub several : Term → List Term
-several (holder array ts) = items_of ts
+several (container array ts) = items_of ts
 several t = cond (is_null t) [] (t ∷ [])
 
 -- The refusal stands somewhere in the term.
 abbrev mutual
   pub Bars : Refusal → Term → Type 0
   Bars r (leaf p) = ⊥
-  Bars r (holder k ts) = BarsAny r ts
+  Bars r (container k ts) = BarsAny r ts
   Bars r (described d t) = Bars r t
   Bars r (kept b) = ⊥
   Bars r (barred s) = r ≡ s

@@ -1,9 +1,9 @@
 -- What the kinds of field make of the type of a field (Part 1, section 1.4).
 use Rattle.std.specs.Prelude.{◌≡◌, ◌⊎◌, Bool, true, cond, List, [], ◌∷◌, map, Option, Some, None, option_map}
 use Rattle.std.specs.List.{AllZip}
-use Rattle.amqp_model.specs.Term.{null, array, Term, leaf, holder}
+use Rattle.amqp_model.specs.Term.{null, array, Term, leaf, container}
 use Rattle.amqp_model.specs.Items.{terms_of, is_null}
-use Rattle.amqp_model.specs.FieldType.{Norm, normal, plain, by_norm, Meaning}
+use Rattle.amqp_model.specs.FieldType.{Norm, normal, unchanged, by_norm, Meaning}
 
 -- Optional: null is None, and another term is Some of what it means.
 abbrev pub OptionMeans : {T : Type 0} → (Term → T → Type 0) → Term → Option T → Type 0
@@ -15,7 +15,7 @@ option_canon canon None = leaf null
 option_canon canon (Some v) = canon v
 
 abbrev pub option_norm : {T : Type 0} → Norm T → Norm (Option T)
-option_norm plain = plain
+option_norm unchanged = unchanged
 option_norm (by_norm f) = by_norm (option_map f)
 
 abbrev pub SameOption : {T : Type 0} → (T → T → Type 0) → Option T → Option T → Type 0
@@ -59,7 +59,7 @@ MultipleMeans m c ts (Some v) = SomeMean m.means ts (c.contents v)
 -- an array of the items, or the term t where there is none
 abbrev pub array_or : Term → List Term → Term
 array_or t [] = t
-array_or t (u ∷ us) = holder array (terms_of (u ∷ us))
+array_or t (u ∷ us) = container array (terms_of (u ∷ us))
 
 abbrev pub multiple_canon : {A V : Type 0} (m : Meaning A) → ArrayOf m V → Option V → Term
 multiple_canon m c None = leaf null

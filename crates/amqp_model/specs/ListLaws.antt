@@ -1,6 +1,6 @@
 -- A list of fields is a type of fields itself.
 use Rattle.std.proofs.Common.{◌≡◌, false, refl, sym, ap, subst}
-use Rattle.amqp_model.specs.Term.{list, map, array, Term, Terms, leaf, holder, described, kept, barred}
+use Rattle.amqp_model.specs.Term.{list, map, array, Term, Terms, leaf, container, described, kept, barred}
 use Rattle.amqp_model.specs.Items.{terms_of, items_of, is_null, IsFree}
 use Rattle.amqp_model.specs.ItemLaws.{items_of-terms_of}
 use Rattle.amqp_model.specs.FieldType.{Norm, normal, FieldType}
@@ -12,10 +12,10 @@ use Rattle.amqp_model.specs.Composite.{MeansList, canonical_list}
 
 -- what holds of each list that fits, holds of all that is meant
 pub list_cases : {V : Type 0} (fs : Fields V) (P : Term → Type 0) (t : Term) (v : V)
-    → ((ts : Terms) → Fits fs (items_of ts) v → P (holder list ts)) → MeansList fs t v → P t
-list_cases fs P (holder list ts) v f m = f ts m
-list_cases fs P (holder map ts) v f m = absurd m
-list_cases fs P (holder array ts) v f m = absurd m
+    → ((ts : Terms) → Fits fs (items_of ts) v → P (container list ts)) → MeansList fs t v → P t
+list_cases fs P (container list ts) v f m = f ts m
+list_cases fs P (container map ts) v f m = absurd m
+list_cases fs P (container array ts) v f m = absurd m
 list_cases fs P (leaf p) v f m = absurd m
 list_cases fs P (described d t) v f m = absurd m
 list_cases fs P (kept b) v f m = absurd m
@@ -47,10 +47,10 @@ module _ {V : Type 0} (fs : Fields V) (norm : Norm V) (norm_is : (v : V) → IsN
       same_trans = same_fields_trans fs;
       same_value = same_are_values fs;
       same_means = list_same_means;
-      same_canon = λ v w s. ap (λ ts. holder list (terms_of ts)) (same_canonical_items fs v w s);
+      same_canon = λ v w s. ap (λ ts. container list (terms_of ts)) (same_canonical_items fs v w s);
       one = list_one;
       canon_means = list_canon_means;
-      norm_canon = λ v. ap (λ ts. holder list (terms_of ts)) (normal_canonical_items fs v (normal norm v) (norm_is v));
+      norm_canon = λ v. ap (λ ts. container list (terms_of ts)) (normal_canonical_items fs v (normal norm v) (norm_is v));
       norm_norm = λ v. normal_twice fs v (normal norm v) (normal norm (normal norm v)) (norm_is v) (norm_is (normal norm v));
       value = λ t v. list_cases fs (λ _. AreValues fs v) t v (λ ts. fitting_values fs (items_of ts) v);
       own = λ t v. list_cases fs (λ _. Same fs (normal norm v) v) t v

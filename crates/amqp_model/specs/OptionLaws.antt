@@ -3,15 +3,15 @@ use Rattle.std.proofs.Common.{◌≡◌, true, Option, Some, None, IfSome, refl}
 use Rattle.amqp_model.specs.Term.{Term, null, leaf}
 use Rattle.amqp_model.specs.Items.{is_null, IsFree}
 use Rattle.amqp_model.specs.ItemLaws.{clash}
-use Rattle.amqp_model.specs.FieldType.{Norm, normal, plain, by_norm, Meaning, NeverNull}
+use Rattle.amqp_model.specs.FieldType.{Norm, normal, unchanged, by_norm, Meaning, NeverNull}
 use Rattle.amqp_model.specs.Kinds.{OptionMeans, option_canon, option_norm, SameOption}
 
 none_normal : {T : Type 0} (n : Norm T) → normal (option_norm n) None ≡ None
-none_normal plain = refl
+none_normal unchanged = refl
 none_normal (by_norm f) = refl
 
 some_normal : {T : Type 0} (n : Norm T) (v : T) → normal (option_norm n) (Some v) ≡ Some (normal n v)
-some_normal plain v = refl
+some_normal unchanged v = refl
 some_normal (by_norm f) v = refl
 
 module _ {T : Type 0} (same : T → T → Type 0) where

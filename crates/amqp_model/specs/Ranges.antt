@@ -2,13 +2,13 @@
 use Rattle.std.specs.Prelude.{◌≡◌, ℕ, ◌%◌, ◌^◌, ◌<◌, List, [], ◌∷◌, length, FitsSigned, IsUtf8}
 use Rattle.std.specs.Int.{w8, w16, w32, w64}
 use Rattle.std.specs.Char.{IsScalar}
-use Rattle.amqp_model.specs.Term.{Primitive, ubyte, ushort, uint, ulong, byte, short, int, long, char, timestamp, decimal32, decimal64, decimal128, uuid, string, map, array, Term, Terms, leaf, holder, described, none, more, count}
+use Rattle.amqp_model.specs.Term.{Primitive, ubyte, ushort, uint, ulong, byte, short, int, long, char, timestamp, decimal32, decimal64, decimal128, uuid, string, map, array, Term, Terms, leaf, container, described, none, more, count}
 use Rattle.amqp_model.specs.Spelling.{descriptor_value}
 
 -- P holds of each term in a term.
 abbrev mutual
   pub Everywhere : (Term → Type 0) → Term → Type 0
-  Everywhere P (holder k ts) = P (holder k ts) × EverywhereIn P ts
+  Everywhere P (container k ts) = P (container k ts) × EverywhereIn P ts
   Everywhere P (described d t) = P (described d t) × Everywhere P t
   Everywhere P t = P t
 
@@ -38,12 +38,12 @@ IsInRange _ = Unit {0}
 -- Part 1, section 1.6.23: what a term itself needs, its parts aside. A map has a value for each key.
 abbrev pub IsValue : Term → Type 0
 IsValue (leaf p) = IsInRange p
-IsValue (holder map ts) = count ts % 2 ≡ 0
+IsValue (container map ts) = count ts % 2 ≡ 0
 IsValue (described d t) = IsInRange (descriptor_value d)
 IsValue _ = Unit {0}
 
 abbrev pub IsNoArray : Term → Type 0
-IsNoArray (holder array ts) = ⊥
+IsNoArray (container array ts) = ⊥
 IsNoArray _ = Unit {0}
 
 -- The numbers are bytes.

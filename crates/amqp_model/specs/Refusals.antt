@@ -1,15 +1,15 @@
 -- Why a canonical term isn't written: what Part 1 forbids, and what this project refuses.
 use Rattle.std.specs.Prelude.{◌≡◌, ℕ, ◌+◌, ◌<◌, ◌≤◌, ◌^◌, ◌⊎◌, List, length, Some, IsAscii}
-use Rattle.amqp_model.specs.Term.{Primitive, null, binary, string, symbol, Refusal, depth, zero_width_items, non_ascii, mixed_array, too_large, lazy_in_array, array, Term, Terms, leaf, holder, described, kept, barred, none, more, count, Descriptor}
+use Rattle.amqp_model.specs.Term.{Primitive, null, binary, string, symbol, Refusal, depth, zero_width_items, non_ascii, mixed_array, too_large, lazy_in_array, array, Term, Terms, leaf, container, described, kept, barred, none, more, count, Descriptor}
 use Rattle.amqp_model.specs.Spelling.{descriptor_value}
 use Rattle.amqp_model.specs.Text.{form, texts, content_of, first_place}
 use Rattle.amqp_model.specs.Measures.{nest}
-use Rattle.amqp_model.specs.Kept.{Reads}
+use Rattle.amqp_model.specs.Kept.{ExpandsTo}
 
 -- P holds of some term in a term.
 abbrev mutual
   pub Somewhere : (Term → Type 0) → Term → Type 0
-  Somewhere P (holder k ts) = P (holder k ts) ⊎ SomewhereIn P ts
+  Somewhere P (container k ts) = P (container k ts) ⊎ SomewhereIn P ts
   Somewhere P (described d t) = P (described d t) ⊎ Somewhere P t
   Somewhere P t = P t
 
@@ -42,17 +42,17 @@ Differ t u = HasForm t × HasForm u × (form t ≡ form u → ⊥)
 -- Part 1, section 1.2.4: an array with two items that can't share a constructor. That an item is refused for a reason of its own
 -- (a null, kept bytes, what is barred) doesn't make it one.
 abbrev pub HasMixedItems : Term → Type 0
-HasMixedItems (holder array ts) = (t : Term) × (u : Term) × IsItem t ts × IsItem u ts × Differ t u
+HasMixedItems (container array ts) = (t : Term) × (u : Term) × IsItem t ts × IsItem u ts × Differ t u
 HasMixedItems _ = ⊥
 
 -- An array with a null, whose data is of width zero.
 abbrev pub HasNullItem : Term → Type 0
-HasNullItem (holder array ts) = (t : Term) × IsItem t ts × (core t ≡ leaf null)
+HasNullItem (container array ts) = (t : Term) × IsItem t ts × (core t ≡ leaf null)
 HasNullItem _ = ⊥
 
 -- An array with an item that brings a constructor of its own.
 abbrev pub HasKeptItem : Term → Type 0
-HasKeptItem (holder array ts) = (t : Term) × (b : List ℕ) × IsItem t ts × (core t ≡ kept b)
+HasKeptItem (container array ts) = (t : Term) × (b : List ℕ) × IsItem t ts × (core t ≡ kept b)
 HasKeptItem _ = ⊥
 
 abbrev pub IsNonAscii : Primitive → Type 0
@@ -74,7 +74,7 @@ IsLong _ = ⊥
 -- Part 1, sections 1.2.2 to 1.2.4: a size that doesn't fit in four bytes.
 abbrev pub IsTooLarge : Term → Type 0
 IsTooLarge (leaf p) = IsLong p
-IsTooLarge (holder k ts) = 2 ^ 32 ≤ 4 + length (content_of k (count ts) (texts ts (first_place k)))
+IsTooLarge (container k ts) = 2 ^ 32 ≤ 4 + length (content_of k (count ts) (texts ts (first_place k)))
 IsTooLarge (described d t) = IsLong (descriptor_value d)
 IsTooLarge _ = ⊥
 
@@ -93,7 +93,7 @@ IsRefused r u = (u ≡ barred r) ⊎ HasFlaw r u
 
 -- It reads as a term that nests deeper than 128.
 abbrev pub IsTooDeep : Term → Type 0
-IsTooDeep u = (t : Term) × Reads u t × (128 < nest t)
+IsTooDeep u = (t : Term) × ExpandsTo u t × (128 < nest t)
 
 -- Why a canonical term isn't written: some part is refused for that reason, or it nests too deep.
 unfoldable pub Refuses : Refusal → Term → Type 0

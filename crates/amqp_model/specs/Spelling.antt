@@ -2,7 +2,7 @@
 use Rattle.std.specs.Prelude.{◌≡◌, ℕ, zero, ◌+◌, ◌^◌, ◌%◌, ◌<◌, ◌≤◌, ◌⊎◌, List, [], ◌∷◌, ◌++◌, length, Some, IsUtf8, IsAscii}
 use Rattle.std.specs.Int.{bytes_high_first}
 use Rattle.std.specs.Char.{IsScalar}
-use Rattle.amqp_model.specs.Term.{Primitive, ulong, char, string, symbol, Container, list, map, array, Term, Terms, leaf, holder, described, none, more, Descriptor, name, code, count}
+use Rattle.amqp_model.specs.Term.{Primitive, ulong, char, string, symbol, Container, list, map, array, Term, Terms, leaf, container, described, none, more, Descriptor, name, code, count}
 use Rattle.amqp_model.specs.Constructors.{Format, fixed, variable, compound, unknown, format}
 
 -- Bytes of the one kind, and then bytes of the other.
@@ -74,9 +74,9 @@ Spelled Data b =
 abbrev mutual
   pub data_of : Term → List Descriptor → ℕ → List ℕ → Type 0
   data_of (leaf p) [] c b = PrimitiveData (format c) p b
-  data_of (holder list ts) [] c b = ContainerData (format c) list (count ts) (items_of ts) b
-  data_of (holder map ts) [] c b = (count ts % 2 ≡ 0) × ContainerData (format c) map (count ts) (items_of ts) b
-  data_of (holder array ts) [] c b = ContainerData (format c) array (count ts) (elements_of ts) b
+  data_of (container list ts) [] c b = ContainerData (format c) list (count ts) (items_of ts) b
+  data_of (container map ts) [] c b = (count ts % 2 ≡ 0) × ContainerData (format c) map (count ts) (items_of ts) b
+  data_of (container array ts) [] c b = ContainerData (format c) array (count ts) (elements_of ts) b
   data_of (described d t) (e ∷ ds) c b = (d ≡ e) × data_of t ds c b
   data_of _ _ c b = ⊥
 

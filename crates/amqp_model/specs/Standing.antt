@@ -1,6 +1,6 @@
 -- In which bytes the parts of a term stand, for values that keep their bytes.
 use Rattle.std.specs.Prelude.{◌≡◌, ℕ, List, [], ◌∷◌, ◌++◌}
-use Rattle.amqp_model.specs.Term.{list, map, array, Term, Terms, leaf, holder, described, none, more, Descriptor, count}
+use Rattle.amqp_model.specs.Term.{list, map, array, Term, Terms, leaf, container, described, none, more, Descriptor, count}
 use Rattle.amqp_model.specs.Constructors.{format}
 use Rattle.amqp_model.specs.Spelling.{ContainerData, Names, Spelled, data_of, enc}
 
@@ -28,9 +28,9 @@ StandInArray (more t ts) ss b = Spelled (StandAsData (more t ts) ss) b
 -- The parts of a term stand so in its data. What is described stands as data too.
 abbrev pub StandIn : Term → List Standing → List Descriptor → ℕ → List ℕ → Type 0
 StandIn (leaf p) ss ds c b = ss ≡ []
-StandIn (holder list ts) ss ds c b = ContainerData (format c) list (count ts) (StandWhole ts ss) b
-StandIn (holder map ts) ss ds c b = ContainerData (format c) map (count ts) (StandWhole ts ss) b
-StandIn (holder array ts) ss ds c b = ContainerData (format c) array (count ts) (StandInArray ts ss) b
+StandIn (container list ts) ss ds c b = ContainerData (format c) list (count ts) (StandWhole ts ss) b
+StandIn (container map ts) ss ds c b = ContainerData (format c) map (count ts) (StandWhole ts ss) b
+StandIn (container array ts) ss ds c b = ContainerData (format c) array (count ts) (StandInArray ts ss) b
 StandIn (described d t) ss (e ∷ ds) c b = ss ≡ part ds c b ∷ []
 StandIn _ ss ds c b = ⊥
 

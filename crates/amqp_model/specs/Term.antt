@@ -33,7 +33,7 @@ pub data Refusal : Type 0 where
 mutual
   pub data Term : Type 0 where
     leaf : Primitive → Term
-    holder : Container → Terms → Term
+    container : Container → Terms → Term
     described : Descriptor → Term → Term
     kept : List ℕ → Term
     barred : Refusal → Term

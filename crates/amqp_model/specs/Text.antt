@@ -1,24 +1,24 @@
 -- The canonical text of a term: of all spellings that Part 1 allows, one that this project chooses.
 use Rattle.std.specs.Prelude.{ℕ, zero, ◌+◌, Bool, true, false, ◌&&◌, cond, eqb, ltb, ℤ, pos, negsuc, List, [], ◌∷◌, ◌++◌, length, Option, Some, None, option_map}
 use Rattle.std.specs.Int.{Width, w8, w16, w32, w64, bytes_high_first, to_be_bytes, cast_unsigned}
-use Rattle.amqp_model.specs.Term.{Primitive, null, boolean, ubyte, ushort, uint, ulong, byte, short, int, long, char, timestamp, decimal32, decimal64, decimal128, uuid, binary, string, symbol, Container, list, map, array, Term, Terms, leaf, holder, described, kept, barred, none, more, Descriptor, count}
+use Rattle.amqp_model.specs.Term.{Primitive, null, boolean, ubyte, ushort, uint, ulong, byte, short, int, long, char, timestamp, decimal32, decimal64, decimal128, uuid, binary, string, symbol, Container, list, map, array, Term, Terms, leaf, container, described, kept, barred, none, more, Descriptor, count}
 use Rattle.amqp_model.specs.Spelling.{descriptor_value}
 
 -- Part 1, section 1.2.4: where a value stands: by itself, or as the first item of an array, which brings the constructor of all,
 -- or as a later one, which is data alone.
 pub data Place : Type 0 where
-  Plain First Later : Place
+  Alone First Later : Place
 
 -- Where the item stands that follows.
 abbrev pub next : Place → Place
-next Plain = Plain
+next Alone = Alone
 next First = Later
 next Later = Later
 
 -- Where the first item of a container stands.
 abbrev pub first_place : Container → Place
-first_place list = Plain
-first_place map = Plain
+first_place list = Alone
+first_place map = Alone
 first_place array = First
 
 -- A number from -128 to 127.
@@ -73,7 +73,7 @@ abbrev pub spell : ℕ × List ℕ → List ℕ
 spell s = s.0 ∷ s.1
 
 abbrev pub primitive_text : Place → Primitive → List ℕ
-primitive_text Plain p = spell (shortest p)
+primitive_text Alone p = spell (shortest p)
 primitive_text First p = spell (wide p)
 primitive_text Later p = (wide p).1
 
@@ -109,8 +109,8 @@ compact_head k n content = cond (is_short n content) (short_code k ∷ size_and_
 abbrev pub head : Place → Container → ℕ → ℕ → List ℕ
 head First k n content = wide_code k ∷ size_and_count 4 n content
 head Later k n content = size_and_count 4 n content
-head Plain list zero content = 0x45 ∷ []
-head Plain k n content = compact_head k n content
+head Alone list zero content = 0x45 ∷ []
+head Alone k n content = compact_head k n content
 
 -- Part 1, section 1.2.4: the content of a container of n items: the items, or for an array without items null's constructor.
 abbrev pub content_of : Container → ℕ → List ℕ → List ℕ
@@ -124,7 +124,7 @@ container_text place k n content = head place k n (length content) ++ content
 unfoldable mutual
   pub text : Term → Place → List ℕ
   text (leaf p) place = primitive_text place p
-  text (holder k ts) place = container_text place k (count ts) (content_of k (count ts) (texts ts (first_place k)))
+  text (container k ts) place = container_text place k (count ts) (content_of k (count ts) (texts ts (first_place k)))
   text (described d t) place = descriptor_text place d ++ text t place
   text (kept b) place = b
   text (barred r) place = []
@@ -136,7 +136,7 @@ unfoldable mutual
 -- The bytes that its items take, and how many they are, of each list, map and array, in the order in which they begin.
 unfoldable mutual
   pub sizes_of : Term → List (ℕ × ℕ)
-  sizes_of (holder k ts) = (length (texts ts (first_place k)), count ts) ∷ all_sizes ts
+  sizes_of (container k ts) = (length (texts ts (first_place k)), count ts) ∷ all_sizes ts
   sizes_of (described d t) = sizes_of t
   sizes_of _ = []
 
@@ -152,7 +152,7 @@ primitive_form p = Some ([], (wide p).0)
 -- Null has none, nor has what brings a constructor of its own.
 abbrev pub form : Term → Option (List Descriptor × ℕ)
 form (leaf p) = primitive_form p
-form (holder k ts) = Some ([], wide_code k)
+form (container k ts) = Some ([], wide_code k)
 form (described d t) = option_map (λ f. (d ∷ f.0, f.1)) (form t)
 form (kept b) = None
 form (barred r) = None

@@ -3,12 +3,12 @@
 #![tactic(auto)]
 
 ghost use Rattle.std.specs.Prelude.{◌≡◌, ℕ, true, pos, negsuc, List, [], ◌∷◌, ◌++◌, ◌^◌, ◌≤◌, length, take};
-ghost use Rattle.amqp_model.specs.Term.{Term, Refusal, depth, zero_width_items, non_ascii, mixed_array, too_large, lazy_in_array, leaf, null, boolean, uint, int, binary, symbol, kept, barred, Descriptor, holder, list, map, array, described, code, none, more};
+ghost use Rattle.amqp_model.specs.Term.{Term, Refusal, depth, zero_width_items, non_ascii, mixed_array, too_large, lazy_in_array, leaf, null, boolean, uint, int, binary, symbol, kept, barred, Descriptor, container, list, map, array, described, code, none, more};
 ghost use Rattle.amqp_model.specs.Spelling.{enc};
-ghost use Rattle.amqp_model.specs.Text.{text, Plain};
+ghost use Rattle.amqp_model.specs.Text.{text, Alone};
 ghost use Rattle.amqp_model.specs.Measures.{nest, nodes};
 ghost use Rattle.amqp_model.specs.Ranges.{Everywhere, IsValue, IsNoArray, IsBytes};
-ghost use Rattle.amqp_model.specs.Kept.{Reads};
+ghost use Rattle.amqp_model.specs.Kept.{ExpandsTo};
 ghost use Rattle.amqp_model.specs.Refusals.{Refuses};
 ghost use Rattle.amqp_model.specs.Standing.{Standing, Parts};
 
@@ -24,20 +24,20 @@ pub fn one_reading()
 /// The canonical text of a term that nothing refuses spells the term that it reads as (Part 1, sections 1.2 and 1.6).
 /// The numbers and texts of the term are of their types, and its maps have a value for each key.
 pub fn canonical_text_spells()
-    ensures spelled { (u t : Term) → ((r : Refusal) → Refuses r u → ⊥) → Everywhere IsValue u → Reads u t → enc (text u Plain) t }
+    ensures spelled { (u t : Term) → ((r : Refusal) → Refuses r u → ⊥) → Everywhere IsValue u → ExpandsTo u t → enc (text u Alone) t }
 {}
 
 /// Two such terms with one canonical text read as one term.
 pub fn one_text()
-    ensures one_term { (u v t w : Term) → ((r : Refusal) → Refuses r u → ⊥) → Everywhere IsValue u → Reads u t
-        → ((r : Refusal) → Refuses r v → ⊥) → Everywhere IsValue v → Reads v w
-        → text u Plain ≡ text v Plain → t ≡ w }
+    ensures one_term { (u v t w : Term) → ((r : Refusal) → Refuses r u → ⊥) → Everywhere IsValue u → ExpandsTo u t
+        → ((r : Refusal) → Refuses r v → ⊥) → Everywhere IsValue v → ExpandsTo v w
+        → text u Alone ≡ text v Alone → t ≡ w }
 {}
 
 /// No spelling of a term without arrays is shorter than its canonical text (Part 1, section 1.6: each type has
 /// shorter and longer codes).
 pub fn canonical_text_is_least()
-    ensures no_longer { (b : List ℕ) (t : Term) → Everywhere IsNoArray t → IsBytes b → enc b t → length (text t Plain) ≤ length b }
+    ensures no_longer { (b : List ℕ) (t : Term) → Everywhere IsNoArray t → IsBytes b → enc b t → length (text t Alone) ≤ length b }
 {}
 
 /// A term has at most as many values as each of its spellings has bytes, whatever the counts of its arrays
@@ -59,39 +59,39 @@ pub fn parts_stand_in_one_way()
 
 /// Worked rows: canonical texts, and spellings that are terms or none (Part 1, section 1.6).
 pub fn worked_rows()
-    ensures uint_0 { text (leaf (uint 0)) Plain ≡ 0x43 ∷ [] }
-    ensures uint_255 { text (leaf (uint 255)) Plain ≡ 0x52 ∷ 0xff ∷ [] }
-    ensures uint_256 { text (leaf (uint 256)) Plain ≡ 0x70 ∷ 0 ∷ 0 ∷ 1 ∷ 0 ∷ [] }
-    ensures int_least { text (leaf (int (negsuc 127))) Plain ≡ 0x54 ∷ 0x80 ∷ [] }
-    ensures int_128 { text (leaf (int (pos 128))) Plain ≡ 0x71 ∷ 0 ∷ 0 ∷ 0 ∷ 0x80 ∷ [] }
-    ensures list_of_252 { (s : List ℕ) → length s ≡ 252 → take 5 (text (holder list (more (leaf (binary s)) none)) Plain) ≡ 0xc0 ∷ 0xff ∷ 1 ∷ 0xa0 ∷ 0xfc ∷ [] }
-    ensures list_of_253 { (s : List ℕ) → length s ≡ 253 → take 11 (text (holder list (more (leaf (binary s)) none)) Plain) ≡ 0xd0 ∷ 0 ∷ 0 ∷ 1 ∷ 3 ∷ 0 ∷ 0 ∷ 0 ∷ 1 ∷ 0xa0 ∷ 0xfd ∷ [] }
-    ensures array_of_uints { text (holder array (more (leaf (uint 1)) (more (leaf (uint 2)) none))) Plain ≡ 0xe0 ∷ 0x0a ∷ 2 ∷ 0x70 ∷ 0 ∷ 0 ∷ 0 ∷ 1 ∷ 0 ∷ 0 ∷ 0 ∷ 2 ∷ [] }
-    ensures array_of_accepted { text (holder array (more (described (code 0x24) (holder list none)) none)) Plain ≡ 0xe0 ∷ 0x0d ∷ 1 ∷ 0 ∷ 0x53 ∷ 0x24 ∷ 0xd0 ∷ 0 ∷ 0 ∷ 0 ∷ 4 ∷ 0 ∷ 0 ∷ 0 ∷ 0 ∷ [] }
-    ensures array_of_list { text (holder array (more (holder list none) none)) Plain ≡ 0xe0 ∷ 0x0a ∷ 1 ∷ 0xd0 ∷ 0 ∷ 0 ∷ 0 ∷ 4 ∷ 0 ∷ 0 ∷ 0 ∷ 0 ∷ [] }
-    ensures empty_map { text (holder map none) Plain ≡ 0xc1 ∷ 1 ∷ 0 ∷ [] }
-    ensures empty_array { text (holder array none) Plain ≡ 0xe0 ∷ 2 ∷ 0 ∷ 0x40 ∷ [] }
-    ensures empty_array_bare { enc (0xe0 ∷ 1 ∷ 0 ∷ []) (holder array none) }
-    ensures empty_array_typed { enc (0xe0 ∷ 2 ∷ 0 ∷ 0x40 ∷ []) (holder array none) }
+    ensures uint_0 { text (leaf (uint 0)) Alone ≡ 0x43 ∷ [] }
+    ensures uint_255 { text (leaf (uint 255)) Alone ≡ 0x52 ∷ 0xff ∷ [] }
+    ensures uint_256 { text (leaf (uint 256)) Alone ≡ 0x70 ∷ 0 ∷ 0 ∷ 1 ∷ 0 ∷ [] }
+    ensures int_least { text (leaf (int (negsuc 127))) Alone ≡ 0x54 ∷ 0x80 ∷ [] }
+    ensures int_128 { text (leaf (int (pos 128))) Alone ≡ 0x71 ∷ 0 ∷ 0 ∷ 0 ∷ 0x80 ∷ [] }
+    ensures list_of_252 { (s : List ℕ) → length s ≡ 252 → take 5 (text (container list (more (leaf (binary s)) none)) Alone) ≡ 0xc0 ∷ 0xff ∷ 1 ∷ 0xa0 ∷ 0xfc ∷ [] }
+    ensures list_of_253 { (s : List ℕ) → length s ≡ 253 → take 11 (text (container list (more (leaf (binary s)) none)) Alone) ≡ 0xd0 ∷ 0 ∷ 0 ∷ 1 ∷ 3 ∷ 0 ∷ 0 ∷ 0 ∷ 1 ∷ 0xa0 ∷ 0xfd ∷ [] }
+    ensures array_of_uints { text (container array (more (leaf (uint 1)) (more (leaf (uint 2)) none))) Alone ≡ 0xe0 ∷ 0x0a ∷ 2 ∷ 0x70 ∷ 0 ∷ 0 ∷ 0 ∷ 1 ∷ 0 ∷ 0 ∷ 0 ∷ 2 ∷ [] }
+    ensures array_of_accepted { text (container array (more (described (code 0x24) (container list none)) none)) Alone ≡ 0xe0 ∷ 0x0d ∷ 1 ∷ 0 ∷ 0x53 ∷ 0x24 ∷ 0xd0 ∷ 0 ∷ 0 ∷ 0 ∷ 4 ∷ 0 ∷ 0 ∷ 0 ∷ 0 ∷ [] }
+    ensures array_of_list { text (container array (more (container list none) none)) Alone ≡ 0xe0 ∷ 0x0a ∷ 1 ∷ 0xd0 ∷ 0 ∷ 0 ∷ 0 ∷ 4 ∷ 0 ∷ 0 ∷ 0 ∷ 0 ∷ [] }
+    ensures empty_map { text (container map none) Alone ≡ 0xc1 ∷ 1 ∷ 0 ∷ [] }
+    ensures empty_array { text (container array none) Alone ≡ 0xe0 ∷ 2 ∷ 0 ∷ 0x40 ∷ [] }
+    ensures empty_array_bare { enc (0xe0 ∷ 1 ∷ 0 ∷ []) (container array none) }
+    ensures empty_array_typed { enc (0xe0 ∷ 2 ∷ 0 ∷ 0x40 ∷ []) (container array none) }
     ensures no_items_of_width_zero { (t : Term) → enc (0xe0 ∷ 2 ∷ 0xff ∷ 0x41 ∷ []) t → ⊥ }
-    ensures empty_list_sized { enc (0xc0 ∷ 0 ∷ 0 ∷ []) (holder list none) }
+    ensures empty_list_sized { enc (0xc0 ∷ 0 ∷ 0 ∷ []) (container list none) }
     ensures no_map_of_size_zero { (t : Term) → enc (0xc1 ∷ 0 ∷ 0 ∷ []) t → ⊥ }
 {}
 
 /// Worked refusals: one for each reason that a term itself can give, a term that nothing refuses, and arrays that an item with a
 /// reason of its own doesn't make mixed, but where it is the only one that is described (Part 1, section 1.2.4).
 pub fn worked_refusals()
-    ensures mixed_items { Refuses mixed_array (holder array (more (leaf (uint 1)) (more (leaf (boolean true)) none))) }
-    ensures null_item { Refuses zero_width_items (holder array (more (leaf null) none)) }
-    ensures kept_item { (b : List ℕ) → Refuses lazy_in_array (holder array (more (kept b) none)) }
+    ensures mixed_items { Refuses mixed_array (container array (more (leaf (uint 1)) (more (leaf (boolean true)) none))) }
+    ensures null_item { Refuses zero_width_items (container array (more (leaf null) none)) }
+    ensures kept_item { (b : List ℕ) → Refuses lazy_in_array (container array (more (kept b) none)) }
     ensures symbol_of_two_bytes { Refuses non_ascii (leaf (symbol (0xc3 ∷ 0xa9 ∷ []))) }
     ensures long_binary { (s : List ℕ) → 2 ^ 32 ≤ length s → Refuses too_large (leaf (binary s)) }
-    ensures below_128_levels { (d : Descriptor) (t : Term) → Reads t t → nest t ≡ 128 → Refuses depth (described d t) }
-    ensures barred_item { (r : Refusal) → Refuses r (holder list (more (barred r) none)) }
-    ensures array_of_uints { (r : Refusal) → Refuses r (holder array (more (leaf (uint 1)) (more (leaf (uint 2)) none))) → ⊥ }
-    ensures null_behind_uint { (r : Refusal) → Refuses r (holder array (more (leaf (uint 1)) (more (leaf null) none))) → r ≡ zero_width_items }
-    ensures kept_behind_uint { (b : List ℕ) → Refuses mixed_array (holder array (more (leaf (uint 1)) (more (kept b) none))) → ⊥ }
-    ensures barred_behind_uint { (q r : Refusal) → Refuses r (holder array (more (leaf (uint 1)) (more (barred q) none))) → r ≡ q }
-    ensures null_under_the_descriptor { (d : Descriptor) → Refuses mixed_array (holder array (more (described d (leaf (uint 1))) (more (described d (leaf null)) none))) → ⊥ }
-    ensures null_under_a_descriptor { (d : Descriptor) → Refuses mixed_array (holder array (more (leaf (uint 1)) (more (described d (leaf null)) none))) }
+    ensures below_128_levels { (d : Descriptor) (t : Term) → ExpandsTo t t → nest t ≡ 128 → Refuses depth (described d t) }
+    ensures barred_item { (r : Refusal) → Refuses r (container list (more (barred r) none)) }
+    ensures array_of_uints { (r : Refusal) → Refuses r (container array (more (leaf (uint 1)) (more (leaf (uint 2)) none))) → ⊥ }
+    ensures null_behind_uint { (r : Refusal) → Refuses r (container array (more (leaf (uint 1)) (more (leaf null) none))) → r ≡ zero_width_items }
+    ensures kept_behind_uint { (b : List ℕ) → Refuses mixed_array (container array (more (leaf (uint 1)) (more (kept b) none))) → ⊥ }
+    ensures barred_behind_uint { (q r : Refusal) → Refuses r (container array (more (leaf (uint 1)) (more (barred q) none))) → r ≡ q }
+    ensures null_under_the_descriptor { (d : Descriptor) → Refuses mixed_array (container array (more (described d (leaf (uint 1))) (more (described d (leaf null)) none))) → ⊥ }
+    ensures null_under_a_descriptor { (d : Descriptor) → Refuses mixed_array (container array (more (leaf (uint 1)) (more (described d (leaf null)) none))) }
 {}

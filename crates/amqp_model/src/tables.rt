@@ -1,7 +1,7 @@
 //! The tables of fields by which composite values are written, and the laws of all tables.
 ghost use Rattle.std.specs.Prelude.{◌≡◌, ◌↔◌, ◌≤◌, ◌<◌, ℕ, List, [], ◌∷◌, ◌++◌, true, false, length, get_or, Some, None};
 ghost use Rattle.std.specs.List.{AllZip};
-ghost use Rattle.amqp_model.specs.Term.{null, code, name, list, array, empty_multiple, Term, leaf, described, holder, barred, Terms, none, more};
+ghost use Rattle.amqp_model.specs.Term.{null, code, name, list, array, empty_multiple, Term, leaf, described, container, barred, Terms, none, more};
 ghost use Rattle.amqp_model.specs.Items.{items_of, is_null, IsFree};
 ghost use Rattle.amqp_model.specs.ItemLaws.{AreFree};
 ghost use Rattle.amqp_model.specs.Ranges.{IsNoArray};
@@ -80,8 +80,8 @@ pub fn missing_items<C: HasTable>()
 
 /// A composite is a described list whose items fit; its descriptor is the code or the name, and the canonical one is the code.
 pub fn composite_terms<C: HasTable>()
-    ensures by_code { (items : Terms) (v : C) → MeansComposite C.table (described (code C.table.code) (holder list items)) v ↔ Fits C.table.fields (items_of items) v }
-    ensures by_name { (items : Terms) (v : C) → MeansComposite C.table (described (name C.table.name) (holder list items)) v ↔ Fits C.table.fields (items_of items) v }
+    ensures by_code { (items : Terms) (v : C) → MeansComposite C.table (described (code C.table.code) (container list items)) v ↔ Fits C.table.fields (items_of items) v }
+    ensures by_name { (items : Terms) (v : C) → MeansComposite C.table (described (name C.table.name) (container list items)) v ↔ Fits C.table.fields (items_of items) v }
     ensures canonical { (v : C) → AreValues C.table.fields v → IsFree (canonical_term C.table v) → MeansComposite C.table (canonical_term C.table v) (normal C.table.norm v) }
     ensures one_value { (t : Term) (v w : C) → MeansComposite C.table t v → MeansComposite C.table t w → Same C.table.fields v w }
     ensures never_null { (t : Term) (v : C) → MeansComposite C.table t v → is_null t ≡ false }
@@ -134,10 +134,10 @@ pub trait HasItems<A> {
 /// an array of one; an array is written also for one item, and null for none.
 pub fn multiple_fields<A, V: HasItems<A>>()
     ensures null { (t : Term) → is_null t ≡ true → (multiple V.item V.array).meaning.means t None }
-    ensures no_items { (multiple V.item V.array).meaning.means (holder array none) None }
-    ensures items { (t : Term) (more_items : Terms) (v : V) → AllZip V.item.meaning.means (t ∷ items_of more_items) (V.array.contents v) → (multiple V.item V.array).meaning.means (holder array (more t more_items)) (Some v) }
+    ensures no_items { (multiple V.item V.array).meaning.means (container array none) None }
+    ensures items { (t : Term) (more_items : Terms) (v : V) → AllZip V.item.meaning.means (t ∷ items_of more_items) (V.array.contents v) → (multiple V.item V.array).meaning.means (container array (more t more_items)) (Some v) }
     ensures one_item { (t : Term) (item : A) (v : V) → IsNoArray t → V.item.meaning.means t item → V.array.contents v ≡ item ∷ [] → (multiple V.item V.array).meaning.means t (Some v) }
-    ensures canonical_one { (item : A) (v : V) → V.array.contents v ≡ item ∷ [] → (multiple V.item V.array).meaning.canon (Some v) ≡ holder array (more (V.item.meaning.canon item) none) }
+    ensures canonical_one { (item : A) (v : V) → V.array.contents v ≡ item ∷ [] → (multiple V.item V.array).meaning.canon (Some v) ≡ container array (more (V.item.meaning.canon item) none) }
     ensures canonical_none { (v : V) → V.array.contents v ≡ [] → (multiple V.item V.array).meaning.canon (Some v) ≡ leaf null }
 {}
 
@@ -145,7 +145,7 @@ pub fn multiple_fields<A, V: HasItems<A>>()
 pub fn mandatory_multiple_fields<A, V: HasItems<A>>()
     ensures same_terms { (t : Term) (v : V) → (mandatory_multiple V.item V.array).meaning.means t v ↔ (multiple V.item V.array).meaning.means t (Some v) }
     ensures null { (t : Term) (v : V) → is_null t ≡ true → (mandatory_multiple V.item V.array).meaning.means t v → ⊥ }
-    ensures no_items { (v : V) → (mandatory_multiple V.item V.array).meaning.means (holder array none) v → ⊥ }
-    ensures canonical_one { (item : A) (v : V) → V.array.contents v ≡ item ∷ [] → (mandatory_multiple V.item V.array).meaning.canon v ≡ holder array (more (V.item.meaning.canon item) none) }
+    ensures no_items { (v : V) → (mandatory_multiple V.item V.array).meaning.means (container array none) v → ⊥ }
+    ensures canonical_one { (item : A) (v : V) → V.array.contents v ≡ item ∷ [] → (mandatory_multiple V.item V.array).meaning.canon v ≡ container array (more (V.item.meaning.canon item) none) }
     ensures canonical_none { (v : V) → V.array.contents v ≡ [] → (mandatory_multiple V.item V.array).meaning.canon v ≡ barred empty_multiple }
 {}

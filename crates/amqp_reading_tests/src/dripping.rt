@@ -28,7 +28,7 @@ impl<'a> ByteSource for Dripping<'a> {
 
     ghost remaining = { λ _. None };
 
-    ghost broken = { λ s. s.failed };
+    ghost failed = { λ s. s.failed };
 
     ghost name = { λ _. 0 };
 

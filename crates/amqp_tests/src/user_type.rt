@@ -1,5 +1,5 @@
 //! A type of a user's own: a duration, which is written as a list of one uint.
-ghost use Rattle.amqp_codec.specs.Types.{field, list_of, mandatory, none, one_term, plain, refl, tied, uint_type, writing_of};
+ghost use Rattle.amqp_codec.specs.Types.{field, list_of, mandatory, none, one_term, unchanged, refl, agreement, uint_type, writing_of};
 
 use fe2o3_amqp_types::codec::kernel::{FieldKind, FieldList, fill, read_list, write_list};
 use fe2o3_amqp_types::codec::{
@@ -14,7 +14,7 @@ pub struct Seconds {
 }
 
 impl FieldList for Seconds {
-    ghost list = { record { fields = field (λ v. v.count) (mandatory uint_type refl refl) none; norm = plain; norm_is = λ v. (refl, tt) } };
+    ghost list = { record { fields = field (λ v. v.count) (mandatory uint_type refl refl) none; norm = unchanged; norm_is = λ v. (refl, tt) } };
 
     fn kinds() -> &'static [FieldKind] {
         &[FieldKind::Mandatory]
@@ -69,7 +69,7 @@ impl DeserializeTerm for Seconds {
         read_list(decoder, alloc)
     }
 
-    ghost tied = { tied (list_of ⟦<Seconds as FieldList>⟧.list) refl };
+    ghost agreement = { agreement (list_of ⟦<Seconds as FieldList>⟧.list) refl };
 }
 
 #[cfg(test)]

@@ -12,5 +12,5 @@ pub mod symbol;
 pub use descriptor::Descriptor;
 pub use error::Error;
 pub use read_source::ReadSource;
-pub use source::{ByteSource, fill};
+pub use source::{ByteSource, pull_full};
 pub use symbol::Symbol;

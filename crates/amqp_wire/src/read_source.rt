@@ -11,18 +11,18 @@ pub struct ReadSource<R: Read> {
     /// The reader. What a pull takes is gone from it.
     pub reader: R,
     /// The kind of the first failure, or `None` as long as the reader hasn't failed.
-    pub failure: Option<ErrorKind>,
+    pub failed: Option<ErrorKind>,
 }
 
 impl<R: Read> ReadSource<R> {
     /// A source of the bytes that the reader gives from here on. It hasn't failed.
     pub fn new(reader: R) -> Self
         ensures reader { result.reader ≡ reader }
-        ensures whole { result.failure ≡ None }
+        ensures whole { result.failed ≡ None }
     {
         ReadSource {
             reader,
-            failure: None,
+            failed: None,
         }
     }
 }
@@ -30,25 +30,25 @@ impl<R: Read> ReadSource<R> {
 impl<R: Read> ByteSource for ReadSource<R> {
     ghost remaining = { λ s. R.remaining s.reader };
 
-    ghost broken = { λ s. is_some s.failure };
+    ghost failed = { λ s. is_some s.failed };
 
     ghost name = { λ _. 0 };
 
     fn pull(&mut self, buffer: &mut [u8]) -> Result<usize, ErrorKind> {
-        if let Some(kind) = self.failure {
+        if let Some(kind) = self.failed {
             return Err(kind);
         }
         match self.reader.read(buffer) {
             Ok(n) => Ok(n),
             Err(error) => {
                 let kind = error.kind();
-                self.failure = Some(kind);
+                self.failed = Some(kind);
                 Err(kind)
             }
         }
     }
 
     fn failed(&self) -> bool {
-        self.failure.is_some()
+        self.failed.is_some()
     }
 }

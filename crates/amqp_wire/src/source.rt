@@ -12,7 +12,7 @@ pub trait ByteSource {
     ghost remaining: { Self → Option (List ℕ) };
 
     // It has failed.
-    ghost broken: { Self → Bool };
+    ghost failed: { Self → Bool };
 
     // A number that tells one borrowed source from another; 0 of what isn't borrowed.
     ghost name: { Self → ℕ };
@@ -24,25 +24,25 @@ pub trait ByteSource {
         ensures fits { IfOk result (λ n. n ≤ length buffer.old) }
         ensures bytes { IfOk result (λ n. Consumes (remaining self.old) (remaining self.new) (take n buffer.new)) }
         ensures some { IfOk result (λ n. n ≡ 0 → (length buffer.old ≡ 0) ⊎ IsAtEnd (remaining self.old)) }
-        ensures kept { IfOk result (λ _. broken self.new ≡ broken self.old) }
-        ensures fails { OnErr result (broken self.new ≡ true) }
-        ensures stays { broken self.old ≡ true → IsErr result }
+        ensures kept { IfOk result (λ _. failed self.new ≡ failed self.old) }
+        ensures fails { OnErr result (failed self.new ≡ true) }
+        ensures stays { failed self.old ≡ true → IsErr result }
         ensures named { name self.new ≡ name self.old };
 
     /// Whether a pull has failed.
     fn failed(&self) -> bool
-        ensures { result ≡ broken self.now };
+        ensures { result ≡ failed self.now };
 }
 
 /// Fills the buffer with the source's next bytes, however the source cuts them, and answers how many: fewer than the buffer holds
 /// only at the end of the source. An `Err` is the source's, which has failed; how many bytes it gave before isn't said.
 #[inline]
-pub fn fill<R: ByteSource>(source: &mut R, buffer: &mut [u8]) -> Result<usize, ErrorKind>
+pub fn pull_full<R: ByteSource>(source: &mut R, buffer: &mut [u8]) -> Result<usize, ErrorKind>
     ensures fits { IfOk result (λ n. n ≤ length buffer.old) }
     ensures bytes { Tells R.remaining → IfOk result (λ n. known (R.remaining source.old) ≡ take n buffer.new ++ known (R.remaining source.new)) }
     ensures all { Tells R.remaining → IfOk result (λ n. n < length buffer.old → known (R.remaining source.new) ≡ []) }
-    ensures kept { IfOk result (λ _. R.broken source.new ≡ R.broken source.old) }
-    ensures fails { OnErr result (R.broken source.new ≡ true) }
+    ensures kept { IfOk result (λ _. R.failed source.new ≡ R.failed source.old) }
+    ensures fails { OnErr result (R.failed source.new ≡ true) }
     ensures named { R.name source.new ≡ R.name source.old }
 {
     let mut done = 0;
@@ -59,7 +59,7 @@ pub fn fill<R: ByteSource>(source: &mut R, buffer: &mut [u8]) -> Result<usize, E
 impl ByteSource for &[u8] {
     ghost remaining = { λ s. Some s.now };
 
-    ghost broken = { λ _. false };
+    ghost failed = { λ _. false };
 
     ghost name = { λ _. 0 };
 
@@ -85,7 +85,7 @@ impl ByteSource for &[u8] {
 impl<R: ByteSource> ByteSource for &mut R {
     ghost remaining = { λ r. R.remaining r.now };
 
-    ghost broken = { λ r. R.broken r.now };
+    ghost failed = { λ r. R.failed r.now };
 
     ghost name = { λ r. r.ghost_name };
 

@@ -3,8 +3,8 @@ ghost use Rattle.std.specs.Prelude.{◌≤◌, ◌≡◌, ◌<◌, [], ◌∷◌
 ghost use Rattle.std.specs.Int.{bytes_high_first};
 ghost use Rattle.amqp_wire.specs.Codes.{refusal_of};
 ghost use Rattle.amqp_wire.specs.Sources.{Tells};
-ghost use Rattle.amqp_decoder.specs.State.{moved, announced, Has, lower};
-ghost use Rattle.amqp_decoder.specs.Steps.{Pulled, Missed, Took, Short, SizeRefused, NoRoom, Stopped};
+ghost use Rattle.amqp_decoder.specs.State.{after_bytes, announced, Has, lower};
+ghost use Rattle.amqp_decoder.specs.Steps.{Pulls, Misses, Takes, FallsShort, RefusesSize, NoRoom, Stops};
 
 use super::Decoder;
 use amqp_wire::{ByteSource, Error, format_code};
@@ -44,8 +44,8 @@ impl<R: ByteSource> Decoder<R> {
     // Fills the whole buffer with the next bytes.
     #[inline]
     pub(crate) fn pull_all(&mut self, buffer: &mut [u8]) -> Result<(), Error>
-        ensures ok { Tells R.remaining → IfOk result (λ _. Pulled self.old buffer.new self.new) }
-        ensures err { Tells R.remaining → IfErr result (λ e. Missed false (length buffer.old) self.old e self.new) }
+        ensures ok { Tells R.remaining → IfOk result (λ _. Pulls self.old buffer.new self.new) }
+        ensures err { Tells R.remaining → IfErr result (λ e. Misses false (length buffer.old) self.old e self.new) }
     {
         let count = match self.input.pull(buffer) {
             Ok(count) => count,
@@ -60,8 +60,8 @@ impl<R: ByteSource> Decoder<R> {
     // Takes and drops so many bytes.
     fn skip(&mut self, count: u64) -> Result<(), Error>
         ensures ok { Tells R.remaining → IfOk result (λ _. count ≤ length self.old.rest) }
-        ensures new { Tells R.remaining → IfOk result (λ _. self.new ≡ moved count self.old) }
-        ensures err { Tells R.remaining → IfErr result (λ e. Missed false count self.old e self.new) }
+        ensures new { Tells R.remaining → IfOk result (λ _. self.new ≡ after_bytes count self.old) }
+        ensures err { Tells R.remaining → IfErr result (λ e. Misses false count self.old e self.new) }
     {
         let mut buffer = [0; SKIP];
         let mut left = count;
@@ -77,7 +77,7 @@ impl<R: ByteSource> Decoder<R> {
     // of a container it is the value's own size, of which `own` bytes are left.
     #[cold]
     pub(crate) fn refuse_size(&mut self, own: u32) -> Error
-        ensures { Tells R.remaining → SizeRefused own self.old result self.new }
+        ensures { Tells R.remaining → RefusesSize own self.old result self.new }
     {
         let count = match self.left() {
             Some(_) => self.announced(),
@@ -103,8 +103,8 @@ impl<R: ByteSource> Decoder<R> {
     pub(crate) fn lower(&mut self, count: u32) -> Result<(), Error>
         ensures room { IfOk result (λ _. Has self.old.top.left count) }
         ensures new { IfOk result (λ _. self.new ≡ record self.old { top = record self.old.top { left = lower self.old.top.left count } }) }
-        ensures err { Tells R.remaining → IfErr result (λ e. Short count self.old e self.new) }
-        ensures full { Tells R.remaining → IfErr result (λ e. Stopped false (NoRoom count self.old) self.old e self.new) }
+        ensures err { Tells R.remaining → IfErr result (λ e. FallsShort count self.old e self.new) }
+        ensures full { Tells R.remaining → IfErr result (λ e. Stops false (NoRoom count self.old) self.old e self.new) }
     {
         let Some(left) = self.left() else {
             return Ok(());
@@ -120,8 +120,8 @@ impl<R: ByteSource> Decoder<R> {
     #[inline]
     pub(crate) fn take<const N: usize>(&mut self) -> Result<[u8; N], Error>
         requires { N < 256 }
-        ensures ok { Tells R.remaining → IfOk result (λ bytes. Took self.old bytes self.new) }
-        ensures err { Tells R.remaining → IfErr result (λ e. Short N self.old e self.new) }
+        ensures ok { Tells R.remaining → IfOk result (λ bytes. Takes self.old bytes self.new) }
+        ensures err { Tells R.remaining → IfErr result (λ e. FallsShort N self.old e self.new) }
     {
         let mut bytes = [0; N];
         self.lower(N as u32)?;
@@ -132,8 +132,8 @@ impl<R: ByteSource> Decoder<R> {
     // The next byte of a value.
     #[inline]
     pub(crate) fn byte(&mut self) -> Result<u8, Error>
-        ensures ok { Tells R.remaining → IfOk result (λ b. Took self.old (b ∷ []) self.new) }
-        ensures err { Tells R.remaining → IfErr result (λ e. Short 1 self.old e self.new) }
+        ensures ok { Tells R.remaining → IfOk result (λ b. Takes self.old (b ∷ []) self.new) }
+        ensures err { Tells R.remaining → IfErr result (λ e. FallsShort 1 self.old e self.new) }
     {
         let byte = self.take::<1>()?;
         Ok(byte[0])
@@ -142,8 +142,8 @@ impl<R: ByteSource> Decoder<R> {
     // A number of one byte, or of four.
     #[inline]
     pub(crate) fn number(&mut self, wide: bool) -> Result<u32, Error>
-        ensures ok { Tells R.remaining → IfOk result (λ n. Took self.old (bytes_high_first (cond wide 4 1) n) self.new) }
-        ensures err { Tells R.remaining → IfErr result (λ e. Short (cond wide 4 1) self.old e self.new) }
+        ensures ok { Tells R.remaining → IfOk result (λ n. Takes self.old (bytes_high_first (cond wide 4 1) n) self.new) }
+        ensures err { Tells R.remaining → IfErr result (λ e. FallsShort (cond wide 4 1) self.old e self.new) }
         ensures fits { IfOk result (λ n. n < 256 ^ cond wide 4 1) }
     {
         if wide {

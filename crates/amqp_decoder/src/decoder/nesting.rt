@@ -3,15 +3,15 @@ ghost use Rattle.std.specs.Prelude.{◌≤◌, ◌≡◌, ◌<◌, ◌-◌, List
 ghost use Rattle.amqp_wire.specs.Sources.{Tells};
 ghost use Rattle.amqp_decoder.specs.Containers.{AtEnd, EndFault};
 ghost use Rattle.amqp_wire.specs.declared.error.Error.TheVariants.{Depth};
-ghost use Rattle.amqp_decoder.specs.Described.{entered};
-ghost use Rattle.amqp_decoder.specs.State.{Open, IsHolder, unshared};
-ghost use Rattle.amqp_decoder.specs.declared.frame.Place.TheVariants.{InDescribed};
-ghost use Rattle.amqp_decoder.specs.Reading.{Reads};
+ghost use Rattle.amqp_decoder.specs.Described.{in_described};
+ghost use Rattle.amqp_decoder.specs.State.{Open, IsContainer, unshared};
+ghost use Rattle.amqp_decoder.specs.declared.frame.OpenKind.TheVariants.{InDescribed};
+ghost use Rattle.amqp_decoder.specs.Reading.{AnswersRead};
 ghost use Rattle.amqp_decoder.specs.Rooms.{HasRoom};
-ghost use Rattle.amqp_decoder.specs.Steps.{SizeRefused};
+ghost use Rattle.amqp_decoder.specs.Steps.{RefusesSize};
 
 use super::Decoder;
-use crate::frame::{Frame, Place, ROW};
+use crate::frame::{OpenContainer, OpenKind, ROW};
 use amqp_lengths::NESTING;
 use amqp_wire::{ByteSource, Error};
 
@@ -42,8 +42,8 @@ impl<R: ByteSource> Decoder<R> {
 
     // Opens a container whose items share nothing.
     #[inline]
-    pub(crate) fn enter(&mut self, inner: Frame) -> Result<(), Error>
-        requires holder { IsHolder inner.place }
+    pub(crate) fn enter(&mut self, inner: OpenContainer) -> Result<(), Error>
+        requires container { IsContainer inner.place }
         requires room { (length self.old.saved < self.old.nesting) ⊎ (inner.items ≡ 0) }
         ensures limit { self.old.nesting ≡ 128 }
         ensures ok { IfOk result (λ _. (length self.old.saved < 129) × (self.new ≡ record self.old { top = unshared inner; saved = self.old.top ∷ self.old.saved })) }
@@ -55,7 +55,7 @@ impl<R: ByteSource> Decoder<R> {
         let last = self.top.last;
         self.frames[self.depth] = self.top;
         self.depth += 1;
-        self.top = Frame {
+        self.top = OpenContainer {
             code: 0,
             first: last,
             last,
@@ -66,8 +66,8 @@ impl<R: ByteSource> Decoder<R> {
 
     // Opens a container that counts in nesting.
     #[inline]
-    pub(crate) fn enter_counted(&mut self, inner: Frame) -> Result<(), Error>
-        requires { IsHolder inner.place }
+    pub(crate) fn enter_counted(&mut self, inner: OpenContainer) -> Result<(), Error>
+        requires { IsContainer inner.place }
         ensures limit { self.old.nesting ≡ 128 }
         ensures ok { IfOk result (λ _. (length self.old.saved < 128) × (self.new ≡ record self.old { top = unshared inner; saved = self.old.top ∷ self.old.saved })) }
         ensures err { IfErr result (λ e. (e ≡ Depth) × (128 ≤ length self.old.saved) × (self.new ≡ record self.old { error = Some Depth })) }
@@ -97,20 +97,20 @@ impl<R: ByteSource> Decoder<R> {
     // that is shared.
     #[inline]
     pub(crate) fn enter_described(&mut self) -> Result<(), Error>
-        ensures ok { IfOk result (λ _. (length self.old.saved < self.old.nesting) × (self.new ≡ entered self.old)) }
+        ensures ok { IfOk result (λ _. (length self.old.saved < self.old.nesting) × (self.new ≡ in_described self.old)) }
         ensures err { IfErr result (λ e. (e ≡ Depth) × (self.old.nesting ≤ length self.old.saved) × (self.new ≡ record self.old { error = Some Depth })) }
         ensures nesting { self.old.nesting ≡ 128 }
     {
         if self.depth < NESTING {
             let outer = self.top;
-            self.frames[self.depth] = Frame {
+            self.frames[self.depth] = OpenContainer {
                 left: outer.left.and(Some(0)),
                 ..outer
             };
             self.depth += 1;
-            self.top = Frame {
+            self.top = OpenContainer {
                 items: 1,
-                place: Place::InDescribed,
+                place: OpenKind::InDescribed,
                 first: outer.first.saturating_add(1),
                 ..outer
             };
@@ -121,7 +121,7 @@ impl<R: ByteSource> Decoder<R> {
 
     // The open container is of this kind.
     #[inline]
-    pub(crate) fn is_in(&self, place: Place) -> bool
+    pub(crate) fn is_in(&self, place: OpenKind) -> bool
         ensures { IsTrue result ↔ (self.now.top.place ≡ place) }
     {
         self.top.place == place
@@ -129,8 +129,8 @@ impl<R: ByteSource> Decoder<R> {
 
     // The open container is of this kind, and no item of it is left.
     #[inline]
-    pub(crate) fn check_end(&mut self, place: Place) -> Result<(), Error>
-        ensures { Reads false (λ st _ st'. AtEnd place st st') (EndFault place) self.old result self.new }
+    pub(crate) fn check_end(&mut self, place: OpenKind) -> Result<(), Error>
+        ensures { AnswersRead false (λ st _ st'. AtEnd place st st') (EndFault place) self.old result self.new }
     {
         self.check()?;
         if !self.is_in(place) {
@@ -149,7 +149,7 @@ impl<R: ByteSource> Decoder<R> {
     #[inline]
     pub(crate) fn check_bytes(&mut self) -> Result<(), Error>
         ensures ok { IfOk result (λ _. (self.old.top.left ≡ Some 0) × (self.new ≡ self.old)) }
-        ensures err { Tells R.remaining → IfErr result (λ e. (self.old.top.left ≡ Some 0 → ⊥) × SizeRefused 0 self.old e self.new) }
+        ensures err { Tells R.remaining → IfErr result (λ e. (self.old.top.left ≡ Some 0 → ⊥) × RefusesSize 0 self.old e self.new) }
     {
         if self.left() != Some(0) {
             return Err(self.refuse_size(0));
@@ -176,7 +176,7 @@ impl<R: ByteSource> Decoder<R> {
     {
         if self.depth > 0 {
             self.depth -= 1;
-            self.top = Frame {
+            self.top = OpenContainer {
                 left: self.top.left,
                 ..self.frames[self.depth]
             };

@@ -3,14 +3,14 @@ ghost use Rattle.std.specs.Prelude.{◌≡◌, ℕ, [], Some, IfOk, IfErr, ◌�
 ghost use Rattle.amqp_wire.specs.Sources.{Tells};
 ghost use Rattle.amqp_input.specs.Sections.{IsSectionAhead};
 ghost use Rattle.amqp_decoder.specs.State.{top_level};
-ghost use Rattle.amqp_decoder.specs.declared.frame.Place.TheVariants.{Top};
+ghost use Rattle.amqp_decoder.specs.declared.frame.OpenKind.TheVariants.{Top};
 ghost use Rattle.amqp_decoder.specs.Sections.{LooksOn};
-ghost use Rattle.amqp_decoder.specs.Steps.{Answered, SourceFailed};
-ghost use Rattle.amqp_decoder.specs.Reading.{Reads};
+ghost use Rattle.amqp_decoder.specs.Steps.{Answers, SourceFailed};
+ghost use Rattle.amqp_decoder.specs.Reading.{AnswersRead};
 ghost use Rattle.amqp_decoder.specs.Sections.{IsTop, NotTop, Ends, PeeksSection};
 
 use super::Decoder;
-use crate::frame::Place;
+use crate::frame::OpenKind;
 use amqp_wire::{ByteSource, Error};
 
 impl<R: ByteSource> Decoder<R> {
@@ -19,14 +19,14 @@ impl<R: ByteSource> Decoder<R> {
         ensures is { IsTrue result ↔ ((self.now.top.place ≡ Top) × (self.now.saved ≡ [])) }
         ensures level { self.now.top.place ≡ Top → self.now.top ≡ top_level }
     {
-        self.top.place == Place::Top && self.depth == 0
+        self.top.place == OpenKind::Top && self.depth == 0
     }
 
     // The code of the section whose descriptor stands next.
     fn section_ahead(&mut self) -> Result<Option<u8>, Error>
         ensures looks { Tells R.remaining → IfOk result (λ _. LooksOn self.old self.new) }
         ensures ok { Tells R.remaining → IfOk result (λ section. (c : ℕ) → (section ≡ Some c) ↔ IsSectionAhead self.old.rest c) }
-        ensures err { IfErr result (λ e. Answered self.old e self.new × SourceFailed e self.new) }
+        ensures err { IfErr result (λ e. Answers self.old e self.new × SourceFailed e self.new) }
     {
         match self.input.section_ahead() {
             Ok(section) => Ok(section),
@@ -36,7 +36,7 @@ impl<R: ByteSource> Decoder<R> {
 
     // Nothing is open.
     fn check_top(&mut self) -> Result<(), Error>
-        ensures { Reads false IsTop NotTop self.old result self.new }
+        ensures { AnswersRead false IsTop NotTop self.old result self.new }
     {
         self.check()?;
         if !self.is_top() {
@@ -47,7 +47,7 @@ impl<R: ByteSource> Decoder<R> {
 
     /// Whether the input ends here, at the top level. Nothing is taken; `InvalidValue` in a container.
     pub fn at_end(&mut self) -> Result<bool, Error>
-        ensures { Tells R.remaining → Reads false Ends NotTop self.old result self.new }
+        ensures { Tells R.remaining → AnswersRead false Ends NotTop self.old result self.new }
     {
         self.check_top()?;
         Ok(!self.look_next()?)
@@ -57,7 +57,7 @@ impl<R: ByteSource> Decoder<R> {
     /// bytes; `None` where none does. Nothing is taken, and at most 64 bytes are looked at; `InvalidValue` in a
     /// container.
     pub fn peek_section(&mut self) -> Result<Option<u8>, Error>
-        ensures { Tells R.remaining → Reads false PeeksSection NotTop self.old result self.new }
+        ensures { Tells R.remaining → AnswersRead false PeeksSection NotTop self.old result self.new }
     {
         self.check_top()?;
         self.section_ahead()

@@ -3,14 +3,14 @@ ghost use Rattle.std.specs.Prelude.{◌≤◌, ◌≡◌, ◌<◌, length, map, 
 ghost use Rattle.amqp_wire.specs.declared.error.Error.TheVariants.{Memory};
 ghost use Rattle.amqp_decoder.specs.Described.{IsUnmarked, IsMark};
 ghost use Rattle.amqp_decoder.specs.State.{descriptor_of};
-ghost use Rattle.amqp_decoder.specs.declared.frame.Place.TheVariants.{InArray};
+ghost use Rattle.amqp_decoder.specs.declared.frame.OpenKind.TheVariants.{InArray};
 ghost use Rattle.amqp_decoder.specs.Reading.{IsFirstShared};
 ghost use Rattle.amqp_model.specs.Constructors.{format};
 ghost use Rattle.amqp_decoder.specs.Arrays.{IsFlat};
-ghost use Rattle.amqp_decoder.specs.Steps.{Answered};
+ghost use Rattle.amqp_decoder.specs.Steps.{Answers};
 
 use super::Decoder;
-use crate::frame::{Frame, Place, descriptors_in};
+use crate::frame::{OpenContainer, OpenKind, descriptors_in};
 use amqp_wire::{ByteSource, Descriptor, Error, format_code};
 
 impl<R: ByteSource> Decoder<R> {
@@ -19,7 +19,7 @@ impl<R: ByteSource> Decoder<R> {
     pub(crate) fn shared_code(&self) -> Option<u8>
         ensures { MatchOption result (self.now.top.shared ≡ None) (λ c. IsFirstShared self.now.top.shared c) }
     {
-        let Frame {
+        let OpenContainer {
             code,
             first,
             last,
@@ -56,11 +56,11 @@ impl<R: ByteSource> Decoder<R> {
         requires few { vec_len descriptors ≤ 128 }
         requires room { IsFlat (map descriptor_of descriptors.items) (format code) ⊎ (length self.old.saved ≤ self.old.nesting) }
         ensures ok { IfOk result (λ _. self.new ≡ record self.old { top = record self.old.top { place = InArray; items = Some count; shared = Some (map descriptor_of descriptors.items, code) } }) }
-        ensures err { IfErr result (λ e. (e ≡ Memory) × Answered self.old e self.new) }
+        ensures err { IfErr result (λ e. (e ≡ Memory) × Answers self.old e self.new) }
     {
         let first = descriptors_in(&self.frames[..self.depth]);
         let last = first + descriptors.len() as u16;
-        self.top.place = Place::InArray;
+        self.top.place = OpenKind::InArray;
         self.top.items = 0;
         self.top.last = first;
         self.descriptors.truncate(usize::from(first));

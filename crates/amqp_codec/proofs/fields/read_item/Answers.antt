@@ -5,7 +5,7 @@ use Rattle.amqp_decoder.specs.Primitives.{Means}
 use Rattle.amqp_decoder.proofs.Steps.{answered}
 use Rattle.amqp_decoder.proofs.Peeks.{value-peeked}
 use Rattle.amqp_codec.specs.FieldReading.{absence, not_absent}
-use Rattle.amqp_codec.specs.Peeks.{peeked_going}
+use Rattle.amqp_codec.specs.PeekLaws.{peeked_going}
 use Rattle.amqp_codec.proofs.Options.{null_refused}
 use Rattle.amqp_codec.proofs.FieldSteps.{item_unbegun, filled_step, null_unfit, null_read}
 use Rattle.amqp_codec.proofs.fields.read_item.Goals as goal

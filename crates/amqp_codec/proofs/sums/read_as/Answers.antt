@@ -1,7 +1,7 @@
 use Rattle.std.proofs.lemmas.Result.{err_from_is_err_and}
 use Rattle.amqp_codec.specs.Choices.{ChoiceRead}
 use Rattle.amqp_codec.specs.FieldReading.{FieldsRead, FieldsFault}
-use Rattle.amqp_codec.specs.Refused.{refused_first}
+use Rattle.amqp_codec.specs.RefusalLaws.{refused_first}
 use Rattle.amqp_codec.proofs.sums.read_as.Goals as goal
 
 pub returns-in_err-member : goal.returns-in_err-member

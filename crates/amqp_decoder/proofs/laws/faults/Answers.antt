@@ -1,4 +1,4 @@
-use Rattle.amqp_decoder.specs.Elsewhere.{array_fault, open_described_fault, term_fault}
+use Rattle.amqp_decoder.specs.OtherSource.{array_fault, open_described_fault, term_fault}
 use Rattle.amqp_decoder.proofs.NotMemory.{array_not_memory, open_described_not_memory, term_not_memory}
 use Rattle.amqp_decoder.proofs.laws.faults.Goals as goal
 

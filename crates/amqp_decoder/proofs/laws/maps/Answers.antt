@@ -1,5 +1,5 @@
 use Rattle.amqp_model.specs.Term.{map}
-use Rattle.amqp_decoder.proofs.Holders.{whole, whole_with_parts, parts}
+use Rattle.amqp_decoder.proofs.ContainerTerms.{whole, whole_with_parts, parts}
 use Rattle.amqp_decoder.proofs.laws.maps.Goals as goal
 
 pub returns : goal.returns

@@ -1,4 +1,4 @@
-use Rattle.amqp_decoder.proofs.Holders.{row_of_one, row_joined}
+use Rattle.amqp_decoder.proofs.ContainerTerms.{row_of_one, row_joined}
 use Rattle.amqp_decoder.proofs.laws.rows.Goals as goal
 
 pub returns : goal.returns

@@ -8,14 +8,14 @@ use Rattle.amqp_lengths.specs.Fronts.{IsFront, Refuses}
 use Rattle.amqp_lengths.specs.Pieces.{width_of, PrimitiveOf}
 use Rattle.amqp_lengths.specs.declared.constructors.Constructor.{Constructor}
 use Rattle.amqp_lengths.specs.Contents.{container_of}
-use Rattle.amqp_lengths.specs.Lengths.{levels_of, Constructs, Row, IsTerm, IsData, IsHolder, IsArray, HasElements}
+use Rattle.amqp_lengths.specs.Lengths.{levels_of, Constructs, Row, IsTerm, IsData, IsContainer, IsArray, HasElements}
 use Rattle.amqp_lengths.proofs.Fronts.{tail_all}
-use Rattle.amqp_lengths.proofs.Codes.{IsNoHolder, primitive_at, zero_at}
+use Rattle.amqp_lengths.proofs.Codes.{IsNoContainer, primitive_at, zero_at}
 use Rattle.amqp_lengths.proofs.Terms.{constructs_known, term_unbegun, term_deep, term_short, term_found, term_once, data_once}
 use Rattle.amqp_lengths.proofs.Rows.{begins_none, piece_more, piece_not, begins_all, begins_less, no_bytes}
-use Rattle.amqp_lengths.proofs.Containers.{found_part, ok_part, err_part, any_err, ok_at, content_length, width_some, refused_part, holder_unbegun, holder_odd, holder_bad, holder_found, array_unbegun, array_bad, array_found, list_data, data_list, map_data, data_map, array_data, data_array, primitive_data, data_primitive, empty_data}
+use Rattle.amqp_lengths.proofs.Containers.{found_part, ok_part, err_part, any_err, ok_at, content_length, width_some, refused_part, container_unbegun, container_odd, container_bad, container_found, array_unbegun, array_bad, array_found, list_data, data_list, map_data, data_map, array_data, data_array, primitive_data, data_primitive, empty_data}
 use Rattle.amqp_lengths.proofs.Elements.{elements_unread, elements_none, elements_bare, elements_surplus, elements_rows, elements_found}
-use Rattle.amqp_lengths.specs.Faults.{DataFault, ElementsFault, SharedFault, term_constructor, term_nests, term_data, data_of_primitive, data_of_holder, data_of_array, holder_content, holder_deep, holder_unpaired, holder_items, array_content, array_elements, elements_missing, elements_over, elements_empty, elements_deep, elements_data}
+use Rattle.amqp_lengths.specs.Faults.{DataFault, ElementsFault, SharedFault, term_constructor, term_nests, term_data, data_of_primitive, data_of_container, data_of_array, container_content, container_deep, container_unpaired, container_items, array_content, array_elements, elements_missing, elements_over, elements_empty, elements_deep, elements_data}
 use Rattle.amqp_lengths.proofs.Faults.{behind_front, behind_content, behind_empty, err_map, items_bad, items_left, shared_bad, shared_left, elements_unreadable}
 use Rattle.amqp_lengths.proofs.lengths.+term.Goals as goal
 
@@ -107,12 +107,12 @@ len_of_term-returns-in-None-clause-refused t c =
 pub list_len-returns-in_err-parts-clause-refused : goal.list_len-returns-in_err-parts-clause-refused
 list_len-returns-in_err-parts-clause-refused t c =
     let p = err_from_is_err_and c.from_residual.result c.from_residual.ensures.1 in
-    rw (p.1, p.2) (holder_unbegun (container_of c.args.kind) (width_of c.args.wide) c.args.nesting c.args.input.now _ c.in_err-parts.ensures.refused)
+    rw (p.1, p.2) (container_unbegun (container_of c.args.kind) (width_of c.args.wide) c.args.nesting c.args.input.now _ c.in_err-parts.ensures.refused)
 
 pub list_len-returns-then-not-has_pairs-clause-refused : goal.list_len-returns-then-not-has_pairs-clause-refused
 list_len-returns-then-not-has_pairs-clause-refused t c =
     let parts = c.in_ok-parts.parts in
-    holder_odd (container_of c.args.kind) (width_of c.args.wide) c.args.nesting parts.count parts.len parts.items.now c.args.input.now _ c.in_ok-parts.ensures.found.spelled
+    container_odd (container_of c.args.kind) (width_of c.args.wide) c.args.nesting parts.count parts.len parts.items.now c.args.input.now _ c.in_ok-parts.ensures.found.spelled
     (λ h. let e = c.has_pairs.ensures.1 h in absurd (cc))
 
 pub list_len-check_items-requires : goal.list_len-check_items-requires
@@ -125,47 +125,47 @@ pub list_len-returns-in_err-check_items-clause-refused : goal.list_len-returns-i
 list_len-returns-in_err-check_items-clause-refused t c =
     let p = err_from_is_err_and c.from_residual-in_err-check_items.result c.from_residual-in_err-check_items.ensures.1 in
     let parts = c.in_ok-parts.parts in
-    rw (p.1, p.2) (holder_bad (container_of c.args.kind) (width_of c.args.wide) c.args.nesting c.in-Some.nesting parts.count parts.len parts.items.now c.args.input.now _ c.in_ok-parts.ensures.found.spelled (omega arith) c.in_err-check_items.ensures.refused)
+    rw (p.1, p.2) (container_bad (container_of c.args.kind) (width_of c.args.wide) c.args.nesting c.in-Some.nesting parts.count parts.len parts.items.now c.args.input.now _ c.in_ok-parts.ensures.found.spelled (omega arith) c.in_err-check_items.ensures.refused)
 
 pub list_len-returns-clause-found : goal.list_len-returns-clause-found
 list_len-returns-clause-found t c =
     let parts = c.in_ok-parts.parts in
-    holder_found (container_of c.args.kind) (width_of c.args.wide) c.args.nesting c.in-Some.nesting parts.count parts.len parts.items.now c.args.input.now c.in_ok-parts.ensures.found (omega arith) (c.has_pairs.ensures.0 (search rules)) c.in_ok-check_items.ensures.found
+    container_found (container_of c.args.kind) (width_of c.args.wide) c.args.nesting c.in-Some.nesting parts.count parts.len parts.items.now c.args.input.now c.in_ok-parts.ensures.found (omega arith) (c.has_pairs.ensures.0 (search rules)) c.in_ok-check_items.ensures.found
 
 pub data_len-returns-in-69-2-clause-found : goal.data_len-returns-in-69-2-clause-found
 data_len-returns-in-69-2-clause-found t c = empty_data c.args.code c.args.nesting c.args.input.now c.in-69.is c.if-nesting-eq0.false
 
 pub data_len-returns-in-192-clause-found : goal.data_len-returns-in-192-clause-found
 data_len-returns-in-192-clause-found t c =
-    found_part (IsHolder list 1 c.args.nesting) (IsData c.args.code c.args.nesting) c.args.input.now c.list_len.result (λ b. list_data c.args.code 1 c.args.nesting b (ap format c.in-192.is)) c.list_len.ensures.found
+    found_part (IsContainer list 1 c.args.nesting) (IsData c.args.code c.args.nesting) c.args.input.now c.list_len.result (λ b. list_data c.args.code 1 c.args.nesting b (ap format c.in-192.is)) c.list_len.ensures.found
 
 pub data_len-returns-in-192-clause-refused : goal.data_len-returns-in-192-clause-refused
 data_len-returns-in-192-clause-refused t c =
-    refused_part (IsHolder list 1 c.args.nesting) (IsData c.args.code c.args.nesting) c.args.input.now c.list_len.result (λ b. data_list c.args.code 1 c.args.nesting b (ap format c.in-192.is)) c.list_len.ensures.refused
+    refused_part (IsContainer list 1 c.args.nesting) (IsData c.args.code c.args.nesting) c.args.input.now c.list_len.result (λ b. data_list c.args.code 1 c.args.nesting b (ap format c.in-192.is)) c.list_len.ensures.refused
 
 pub data_len-returns-in-208-clause-found : goal.data_len-returns-in-208-clause-found
 data_len-returns-in-208-clause-found t c =
-    found_part (IsHolder list 4 c.args.nesting) (IsData c.args.code c.args.nesting) c.args.input.now c.list_len-in-208.result (λ b. list_data c.args.code 4 c.args.nesting b (ap format c.in-208.is)) c.list_len-in-208.ensures.found
+    found_part (IsContainer list 4 c.args.nesting) (IsData c.args.code c.args.nesting) c.args.input.now c.list_len-in-208.result (λ b. list_data c.args.code 4 c.args.nesting b (ap format c.in-208.is)) c.list_len-in-208.ensures.found
 
 pub data_len-returns-in-208-clause-refused : goal.data_len-returns-in-208-clause-refused
 data_len-returns-in-208-clause-refused t c =
-    refused_part (IsHolder list 4 c.args.nesting) (IsData c.args.code c.args.nesting) c.args.input.now c.list_len-in-208.result (λ b. data_list c.args.code 4 c.args.nesting b (ap format c.in-208.is)) c.list_len-in-208.ensures.refused
+    refused_part (IsContainer list 4 c.args.nesting) (IsData c.args.code c.args.nesting) c.args.input.now c.list_len-in-208.result (λ b. data_list c.args.code 4 c.args.nesting b (ap format c.in-208.is)) c.list_len-in-208.ensures.refused
 
 pub data_len-returns-in-193-clause-found : goal.data_len-returns-in-193-clause-found
 data_len-returns-in-193-clause-found t c =
-    found_part (IsHolder map 1 c.args.nesting) (IsData c.args.code c.args.nesting) c.args.input.now c.list_len-in-193.result (λ b. map_data c.args.code 1 c.args.nesting b (ap format c.in-193.is)) c.list_len-in-193.ensures.found
+    found_part (IsContainer map 1 c.args.nesting) (IsData c.args.code c.args.nesting) c.args.input.now c.list_len-in-193.result (λ b. map_data c.args.code 1 c.args.nesting b (ap format c.in-193.is)) c.list_len-in-193.ensures.found
 
 pub data_len-returns-in-193-clause-refused : goal.data_len-returns-in-193-clause-refused
 data_len-returns-in-193-clause-refused t c =
-    refused_part (IsHolder map 1 c.args.nesting) (IsData c.args.code c.args.nesting) c.args.input.now c.list_len-in-193.result (λ b. data_map c.args.code 1 c.args.nesting b (ap format c.in-193.is)) c.list_len-in-193.ensures.refused
+    refused_part (IsContainer map 1 c.args.nesting) (IsData c.args.code c.args.nesting) c.args.input.now c.list_len-in-193.result (λ b. data_map c.args.code 1 c.args.nesting b (ap format c.in-193.is)) c.list_len-in-193.ensures.refused
 
 pub data_len-returns-in-209-clause-found : goal.data_len-returns-in-209-clause-found
 data_len-returns-in-209-clause-found t c =
-    found_part (IsHolder map 4 c.args.nesting) (IsData c.args.code c.args.nesting) c.args.input.now c.list_len-in-209.result (λ b. map_data c.args.code 4 c.args.nesting b (ap format c.in-209.is)) c.list_len-in-209.ensures.found
+    found_part (IsContainer map 4 c.args.nesting) (IsData c.args.code c.args.nesting) c.args.input.now c.list_len-in-209.result (λ b. map_data c.args.code 4 c.args.nesting b (ap format c.in-209.is)) c.list_len-in-209.ensures.found
 
 pub data_len-returns-in-209-clause-refused : goal.data_len-returns-in-209-clause-refused
 data_len-returns-in-209-clause-refused t c =
-    refused_part (IsHolder map 4 c.args.nesting) (IsData c.args.code c.args.nesting) c.args.input.now c.list_len-in-209.result (λ b. data_map c.args.code 4 c.args.nesting b (ap format c.in-209.is)) c.list_len-in-209.ensures.refused
+    refused_part (IsContainer map 4 c.args.nesting) (IsData c.args.code c.args.nesting) c.args.input.now c.list_len-in-209.result (λ b. data_map c.args.code 4 c.args.nesting b (ap format c.in-209.is)) c.list_len-in-209.ensures.refused
 
 pub data_len-returns-in-224-clause-found : goal.data_len-returns-in-224-clause-found
 data_len-returns-in-224-clause-found t c =
@@ -189,7 +189,7 @@ data_len-returns-in_default-clause-found t c =
 
 pub data_len-returns-in_default-clause-refused : goal.data_len-returns-in_default-clause-refused
 data_len-returns-in_default-clause-refused t c =
-    let other : IsNoHolder c.args.code = (λ e. omega arith, λ e. omega arith, λ e. omega arith, λ e. omega arith, λ e. omega arith, λ e. omega arith, λ e. omega arith) in
+    let other : IsNoContainer c.args.code = (λ e. omega arith, λ e. omega arith, λ e. omega arith, λ e. omega arith, λ e. omega arith, λ e. omega arith, λ e. omega arith) in
     refused_part (PrimitiveOf c.args.code) (IsData c.args.code c.args.nesting) c.args.input.now c.primitive_len.result (λ b. data_primitive c.args.code c.args.nesting b (primitive_at c.args.code c.requires other)) c.primitive_len.ensures.refused
 
 pub check_elements-returns-then-count-eq0-clause-found : goal.check_elements-returns-then-count-eq0-clause-found
@@ -314,42 +314,42 @@ len_of_term-returns-in-None-clause-fault t c =
 pub list_len-returns-in_err-parts-clause-fault : goal.list_len-returns-in_err-parts-clause-fault
 list_len-returns-in_err-parts-clause-fault t c =
     let p = err_from_is_err_and c.from_residual.result c.from_residual.ensures.1 in
-    rw (p.1, p.2) (holder_content (container_of c.args.kind) (width_of c.args.wide) c.args.nesting c.args.input.now _ c.in_err-parts.ensures.fault)
+    rw (p.1, p.2) (container_content (container_of c.args.kind) (width_of c.args.wide) c.args.nesting c.args.input.now _ c.in_err-parts.ensures.fault)
 
 pub list_len-returns-in_default-clause-fault : goal.list_len-returns-in_default-clause-fault
 list_len-returns-in_default-clause-fault t c =
     let parts = c.in_ok-parts.parts in
     let kind = container_of c.args.kind in
-    holder_deep kind (width_of c.args.wide) c.args.nesting c.args.input.now _ (behind_content kind (width_of c.args.wide) parts.count parts.len parts.items.now c.args.input.now c.in_ok-parts.ensures.found) (omega arith)
+    container_deep kind (width_of c.args.wide) c.args.nesting c.args.input.now _ (behind_content kind (width_of c.args.wide) parts.count parts.len parts.items.now c.args.input.now c.in_ok-parts.ensures.found) (omega arith)
 
 pub list_len-returns-then-not-has_pairs-clause-fault : goal.list_len-returns-then-not-has_pairs-clause-fault
 list_len-returns-then-not-has_pairs-clause-fault t c =
-    holder_unpaired (container_of c.args.kind) (width_of c.args.wide) c.args.nesting c.args.input.now _ _ _ (behind_front _ _ _ c.in_ok-parts.ensures.found) (λ h. let e = c.has_pairs.ensures.1 h in absurd (cc))
+    container_unpaired (container_of c.args.kind) (width_of c.args.wide) c.args.nesting c.args.input.now _ _ _ (behind_front _ _ _ c.in_ok-parts.ensures.found) (λ h. let e = c.has_pairs.ensures.1 h in absurd (cc))
 
 pub list_len-returns-in_err-check_items-clause-fault : goal.list_len-returns-in_err-check_items-clause-fault
 list_len-returns-in_err-check_items-clause-fault t c =
     let p = err_from_is_err_and c.from_residual-in_err-check_items.result c.from_residual-in_err-check_items.ensures.1 in
-    rw (p.1, p.2) (holder_items (container_of c.args.kind) (width_of c.args.wide) c.args.nesting c.args.input.now _ _ c.in-Some.nesting _ _ (behind_front _ _ _ c.in_ok-parts.ensures.found) (omega arith) c.in_err-check_items.ensures.fault)
+    rw (p.1, p.2) (container_items (container_of c.args.kind) (width_of c.args.wide) c.args.nesting c.args.input.now _ _ c.in-Some.nesting _ _ (behind_front _ _ _ c.in_ok-parts.ensures.found) (omega arith) c.in_err-check_items.ensures.fault)
 
 pub data_len-returns-in-69-clause-fault : goal.data_len-returns-in-69-clause-fault
 data_len-returns-in-69-clause-fault t c =
-    data_of_holder c.args.code c.args.nesting c.args.input.now _ list 0 (ap format c.in-69.is) (λ e. cc) (holder_deep list 0 c.args.nesting c.args.input.now _ (behind_empty c.args.input.now) c.if-nesting-eq0.true)
+    data_of_container c.args.code c.args.nesting c.args.input.now _ list 0 (ap format c.in-69.is) (λ e. cc) (container_deep list 0 c.args.nesting c.args.input.now _ (behind_empty c.args.input.now) c.if-nesting-eq0.true)
 
 pub data_len-returns-in-192-clause-fault : goal.data_len-returns-in-192-clause-fault
 data_len-returns-in-192-clause-fault t c =
-    err_map _ (DataFault c.args.code c.args.nesting c.args.input.now) c.list_len.result (λ e h. data_of_holder c.args.code c.args.nesting c.args.input.now e list 1 (ap format c.in-192.is) (λ k. cc) h) c.list_len.ensures.fault
+    err_map _ (DataFault c.args.code c.args.nesting c.args.input.now) c.list_len.result (λ e h. data_of_container c.args.code c.args.nesting c.args.input.now e list 1 (ap format c.in-192.is) (λ k. cc) h) c.list_len.ensures.fault
 
 pub data_len-returns-in-208-clause-fault : goal.data_len-returns-in-208-clause-fault
 data_len-returns-in-208-clause-fault t c =
-    err_map _ (DataFault c.args.code c.args.nesting c.args.input.now) c.list_len-in-208.result (λ e h. data_of_holder c.args.code c.args.nesting c.args.input.now e list 4 (ap format c.in-208.is) (λ k. cc) h) c.list_len-in-208.ensures.fault
+    err_map _ (DataFault c.args.code c.args.nesting c.args.input.now) c.list_len-in-208.result (λ e h. data_of_container c.args.code c.args.nesting c.args.input.now e list 4 (ap format c.in-208.is) (λ k. cc) h) c.list_len-in-208.ensures.fault
 
 pub data_len-returns-in-193-clause-fault : goal.data_len-returns-in-193-clause-fault
 data_len-returns-in-193-clause-fault t c =
-    err_map _ (DataFault c.args.code c.args.nesting c.args.input.now) c.list_len-in-193.result (λ e h. data_of_holder c.args.code c.args.nesting c.args.input.now e map 1 (ap format c.in-193.is) (λ k. cc) h) c.list_len-in-193.ensures.fault
+    err_map _ (DataFault c.args.code c.args.nesting c.args.input.now) c.list_len-in-193.result (λ e h. data_of_container c.args.code c.args.nesting c.args.input.now e map 1 (ap format c.in-193.is) (λ k. cc) h) c.list_len-in-193.ensures.fault
 
 pub data_len-returns-in-209-clause-fault : goal.data_len-returns-in-209-clause-fault
 data_len-returns-in-209-clause-fault t c =
-    err_map _ (DataFault c.args.code c.args.nesting c.args.input.now) c.list_len-in-209.result (λ e h. data_of_holder c.args.code c.args.nesting c.args.input.now e map 4 (ap format c.in-209.is) (λ k. cc) h) c.list_len-in-209.ensures.fault
+    err_map _ (DataFault c.args.code c.args.nesting c.args.input.now) c.list_len-in-209.result (λ e h. data_of_container c.args.code c.args.nesting c.args.input.now e map 4 (ap format c.in-209.is) (λ k. cc) h) c.list_len-in-209.ensures.fault
 
 pub data_len-returns-in-224-clause-fault : goal.data_len-returns-in-224-clause-fault
 data_len-returns-in-224-clause-fault t c =

@@ -1,7 +1,7 @@
 use Rattle.std.proofs.Common.{arith, take, unwrap_or, ap}
 use Rattle.amqp_decoder.specs.State.{State}
 use Rattle.std.proofs.lemmas.List.{take_all}
-use Rattle.amqp_decoder.specs.declared.frame.Frame.{Frame}
+use Rattle.amqp_decoder.specs.declared.frame.OpenContainer.{OpenContainer}
 use Rattle.std.specs.List.{sum_by}
 use Rattle.amqp_decoder.proofs.Rows.{stack_left}
 use Rattle.amqp_decoder.proofs.decoder.Decoder.announced.Goals as goal
@@ -9,6 +9,6 @@ use Rattle.amqp_decoder.proofs.decoder.Decoder.announced.Goals as goal
 pub returns : goal.returns
 returns g c =
     let items = take c.self.inside.depth c.self.inside.frames in
-    let whole = ap (sum_by (λ (f : Frame). unwrap_or f.left 0)) (take_all c.loop-frame.frame-index items c.loop-frame-test.false) in
+    let whole = ap (sum_by (λ (f : OpenContainer). unwrap_or f.left 0)) (take_all c.loop-frame.frame-index items c.loop-frame-test.false) in
     let top = ap (λ (x : State). unwrap_or x.top.left 0) c.self.view_is in
     rw (← c.self.view_is) (omega (arith, c.loop-frame.invariant.0, whole, top, stack_left c.self.inside.descriptors.items c.self.inside.depth c.self.inside.frames))

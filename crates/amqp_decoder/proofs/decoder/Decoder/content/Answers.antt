@@ -1,6 +1,6 @@
 use Rattle.std.proofs.Common.{rules}
 use Rattle.std.proofs.lemmas.Result.{err_from_is_err_and}
-use Rattle.amqp_decoder.proofs.Leaves.{err_map}
+use Rattle.amqp_decoder.proofs.ReadPrimitives.{err_map}
 use Rattle.amqp_decoder.proofs.SizedTexts.{text_unbegun, text_other, text_narrow, text_wide}
 use Rattle.amqp_decoder.proofs.Steps.{answered_so}
 use Rattle.amqp_decoder.proofs.decoder.Decoder.content.Goals as goal

@@ -1,7 +1,7 @@
 use Rattle.std.proofs.Common.{ap, sym, ◌∙◌, subst}
 use Rattle.std.proofs.lemmas.Result.{err_from_is_err_and}
 use Rattle.amqp_model.specs.Term.{name}
-use Rattle.amqp_decoder.specs.Described.{TookDescriptor}
+use Rattle.amqp_decoder.specs.Described.{TakesDescriptor}
 use Rattle.amqp_decoder.specs.State.{State}
 use Rattle.amqp_decoder.proofs.Steps.{answered_later}
 use Rattle.amqp_decoder.proofs.Descriptors.{code_took, text_took, missed_code, missed_ulong, missed_kind, missed_size, missed_text}
@@ -51,4 +51,4 @@ returns-clause-ok g c = λ told none.
     let same = wide.1 ∙ other.1 in
     let text = c.in_ok-ascii.ensures.ok in
     let took = text_took _ _ _ _ _ _ none wide.0 (c.in_ok-code.ensures.ok told) (rw same at (c.in_ok-text.ensures.ok told)) text.0 in
-    subst (λ s. TookDescriptor c.args.self.now (name s) c.ascii.new.self) (sym text.1) (rw text.2 took)
+    subst (λ s. TakesDescriptor c.args.self.now (name s) c.ascii.new.self) (sym text.1) (rw text.2 took)

@@ -1,19 +1,19 @@
 use Rattle.std.proofs.Common.{arith, ◌<◌, ◌≡◌, length, refl, subst, ap, sym, ◌∙◌}
-use Rattle.amqp_decoder.specs.State.{State, IsHolder, unshared}
+use Rattle.amqp_decoder.specs.State.{State, IsContainer, unshared}
 use Rattle.amqp_decoder.proofs.Rows.{length-stack, stack-push, nested_push, bounded_push, room_inside}
 use Rattle.amqp_decoder.proofs.decoder.Decoder.enter.Goals as goal
 
 pub invariant_of-self : goal.invariant_of-self
 invariant_of-self g c =
     let few : c.self.inside.depth < length c.self.inside.frames = omega arith in
-    let inner : IsHolder c.args.inner.place = c.requires.holder in
+    let inner : IsContainer c.args.inner.place = c.requires.container in
     let deep : length c.args.self.now.saved ≡ c.self.inside.depth = ap (λ (st : State). length st.saved) (sym c.self.view_is) ∙ length-stack _ _ _ in
     let limit : c.args.self.now.nesting ≡ 128 = ap (λ (st : State). st.nesting) (sym c.self.view_is) in (
       omega arith,
       nested_push _ _ _ few c.self.invariant.1,
       c.self.invariant.2,
-      λ e. absurd (subst IsHolder e inner),
-      bounded_push _ _ _ _ _ few (λ e. absurd (subst IsHolder e inner)) c.self.invariant.3 c.self.invariant.4,
+      λ e. absurd (subst IsContainer e inner),
+      bounded_push _ _ _ _ _ few (λ e. absurd (subst IsContainer e inner)) c.self.invariant.3 c.self.invariant.4,
       room_inside (unshared c.args.inner) _ _ _ c.args.inner.place c.args.inner.items refl deep limit inner c.requires.room,
     )
 

@@ -1,7 +1,7 @@
 use Rattle.std.proofs.Common.{rules, arith, ◌≡◌, ◌≤◌, ◌<◌, length, ap, sym, ◌∙◌, inl}
 use Rattle.amqp_decoder.specs.State.{State}
 use Rattle.amqp_decoder.proofs.Rows.{length-stack}
-use Rattle.amqp_decoder.proofs.Leaves.{ok_map}
+use Rattle.amqp_decoder.proofs.ReadPrimitives.{ok_map}
 use Rattle.amqp_decoder.proofs.decoder.Decoder.enter_counted.Goals as goal
 
 pub returns-then-self-ge-NESTING-clause-err : goal.returns-then-self-ge-NESTING-clause-err

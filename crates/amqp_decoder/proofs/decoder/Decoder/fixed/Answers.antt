@@ -1,6 +1,6 @@
 use Rattle.std.proofs.Common.{rules}
 use Rattle.std.proofs.lemmas.Result.{err_from_is_err_and}
-use Rattle.amqp_decoder.proofs.Leaves.{err_map, fixed_unbegun, fixed_other, fixed_short}
+use Rattle.amqp_decoder.proofs.ReadPrimitives.{err_map, fixed_unbegun, fixed_other, fixed_short}
 use Rattle.amqp_decoder.proofs.Steps.{answered_so}
 use Rattle.amqp_decoder.proofs.decoder.Decoder.fixed.Goals as goal
 

@@ -1,6 +1,6 @@
 use Rattle.std.proofs.lemmas.Result.{err_from_is_err_and}
 use Rattle.amqp_model.specs.Constructors.{format}
-use Rattle.amqp_decoder.proofs.Leaves.{ok_map, err_map}
+use Rattle.amqp_decoder.proofs.ReadPrimitives.{ok_map, err_map}
 use Rattle.amqp_decoder.proofs.KeptData.{fixed_stopped, behind_is, sized_kept, size_stopped, behind_stopped}
 use Rattle.amqp_decoder.proofs.decoder.Decoder.keep_data.Goals as goal
 

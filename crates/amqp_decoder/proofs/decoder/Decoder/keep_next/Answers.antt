@@ -1,5 +1,5 @@
 use Rattle.std.proofs.lemmas.Result.{err_from_is_err_and}
-use Rattle.amqp_decoder.proofs.Leaves.{ok_map, err_map}
+use Rattle.amqp_decoder.proofs.ReadPrimitives.{ok_map, err_map}
 use Rattle.amqp_decoder.proofs.KeptBytes.{keeps_next}
 use Rattle.amqp_decoder.proofs.Steps.{stopped_short, stopped_missed}
 use Rattle.amqp_decoder.proofs.decoder.Decoder.keep_next.Goals as goal

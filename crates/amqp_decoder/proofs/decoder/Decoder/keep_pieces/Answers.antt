@@ -1,7 +1,7 @@
 use Rattle.std.proofs.Common.{rules, arith, ◌≡◌, ◌≤◌, ◌+◌, ◌-◌, length, take, ◌++◌, ap, ◌∙◌, subst}
 use Rattle.amqp_decoder.proofs.SizedTexts.{kept_more}
 use Rattle.amqp_wire.specs.Sources.{Tells}
-use Rattle.amqp_decoder.specs.State.{moved}
+use Rattle.amqp_decoder.specs.State.{after_bytes}
 use Rattle.amqp_decoder.proofs.decoder.Decoder.keep_pieces.Goals as goal
 
 pub loop-left-preserved : goal.loop-left-preserved
@@ -14,5 +14,5 @@ loop-left-preserved g c =
       omega (arith, c.loop-left.invariant.0),
       λ told. subst (λ j. j ≤ length c.args.self.now.rest) next (more told).0,
       λ told. (more told).1 ∙ ap (λ j. c.args.text.now.items ++ take j c.args.self.now.rest) next,
-      λ told. (more told).2 ∙ ap (λ j. moved j c.args.self.now) next,
+      λ told. (more told).2 ∙ ap (λ j. after_bytes j c.args.self.now) next,
     )

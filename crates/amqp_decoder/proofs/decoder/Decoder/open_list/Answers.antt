@@ -1,6 +1,6 @@
 use Rattle.std.proofs.lemmas.Result.{err_from_is_err_and}
 use Rattle.amqp_model.specs.Term.{list}
-use Rattle.amqp_decoder.proofs.Leaves.{err_map}
+use Rattle.amqp_decoder.proofs.ReadPrimitives.{err_map}
 use Rattle.amqp_decoder.proofs.Opening.{enter_unheaded, enter_unopened}
 use Rattle.amqp_decoder.proofs.decoder.Decoder.open_list.Goals as goal
 

@@ -1,7 +1,7 @@
 use Rattle.std.proofs.Common.{rules, arith, ◌≡◌, ◌%◌}
 use Rattle.std.proofs.lemmas.Result.{err_from_is_err_and}
 use Rattle.amqp_model.specs.Term.{map}
-use Rattle.amqp_decoder.proofs.Leaves.{err_map}
+use Rattle.amqp_decoder.proofs.ReadPrimitives.{err_map}
 use Rattle.amqp_decoder.proofs.Opening.{enter_unheaded, enter_unopened, enter_odd}
 use Rattle.amqp_decoder.proofs.Steps.{answered}
 use Rattle.amqp_decoder.proofs.decoder.Decoder.open_map.Goals as goal

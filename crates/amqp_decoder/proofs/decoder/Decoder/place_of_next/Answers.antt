@@ -3,7 +3,7 @@ use Rattle.std.proofs.lemmas.Result.{err_from_is_err_and}
 use Rattle.amqp_model.specs.Term.{code}
 use Rattle.amqp_decoder.specs.State.{State}
 use Rattle.amqp_decoder.proofs.Steps.{answered_later}
-use Rattle.amqp_decoder.proofs.Leaves.{err_map, ok_map}
+use Rattle.amqp_decoder.proofs.ReadPrimitives.{err_map, ok_map}
 use Rattle.amqp_decoder.proofs.Descriptors.{unmarked, code_took, name_place, missed_code, missed_ulong, missed_kind, missed_size, missed_name}
 use Rattle.amqp_decoder.proofs.decoder.Decoder.place_of_next.Goals as goal
 

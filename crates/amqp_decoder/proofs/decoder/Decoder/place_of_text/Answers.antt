@@ -1,7 +1,7 @@
 use Rattle.std.proofs.Common.{rules, ◌≡◌, ◌≤◌, ◌+◌, ◌-◌, ◌++◌, ◌&&◌, ◌↔◌, IsTrue, IfSome, IsAscii, [], length, take, ap, sym, ◌∙◌, subst, arith, refl}
 use Rattle.std.proofs.lemmas.List.{length-take-le}
 use Rattle.amqp_wire.specs.Sources.{Tells}
-use Rattle.amqp_decoder.specs.State.{moved}
+use Rattle.amqp_decoder.specs.State.{after_bytes}
 use Rattle.amqp_input.specs.Members.{FrontIs}
 use Rattle.amqp_decoder.proofs.SizedTexts.{kept_more}
 use Rattle.amqp_input.proofs.Fronts.{ascii_both, no_place}
@@ -23,7 +23,7 @@ loop-left-preserved g c =
       few = omega (arith, i.few);
       long = subst (λ j. IfSome c.next_front-known.result (λ front. length front.now ≡ j)) (ap (λ j. k + j) long ∙ next) (c.next_front-known.ensures.long k i.long);
       there = λ told. subst (λ j. j ≤ length r) next (more told).0;
-      moved_ = λ told. (more told).2 ∙ ap (λ j. moved j c.args.self.now) next;
+      moved_ = λ told. (more told).2 ∙ ap (λ j. after_bytes j c.args.self.now) next;
       ascii = λ told. subst (λ s. IsTrue (c.loop-left.is_ascii && c.is_ascii-is_ascii.result) ↔ IsAscii s) (taken told) (ascii_both (take k r) piece _ _ (i.ascii told) c.is_ascii-is_ascii.ensures.cases);
       front = λ told. subst (λ s. FrontIs c.args.members.now c.args.len s c.next_front-known.result) (taken told) (c.next_front-known.ensures.front (take k r) (i.front told));
     }
@@ -39,5 +39,5 @@ returns-in-None-clause-ok g c = λ told.
       few,
       subst (λ j. IsAscii (take j r)) whole ascii,
       sym (no_place c.args.members.now c.args.len (take c.args.len r) (length-take-le c.args.len r few) (rw whole at front)),
-      i.moved_ told ∙ ap (λ j. moved j c.args.self.now) whole,
+      i.moved_ told ∙ ap (λ j. after_bytes j c.args.self.now) whole,
     )

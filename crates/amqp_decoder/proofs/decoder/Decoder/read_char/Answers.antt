@@ -1,7 +1,7 @@
 use Rattle.std.proofs.Common.{Some, refl, ap, sym, ◌∙◌}
 use Rattle.std.proofs.lemmas.Result.{err_from_is_err_and}
 use Rattle.amqp_model.specs.Term.{char}
-use Rattle.amqp_decoder.proofs.Leaves.{not_char, bad_refused, fixed_refused, fixed_value}
+use Rattle.amqp_decoder.proofs.ReadPrimitives.{not_char, bad_refused, fixed_refused, fixed_value}
 use Rattle.amqp_decoder.proofs.Steps.{answered}
 use Rattle.amqp_decoder.proofs.decoder.Decoder.read_char.Goals as goal
 

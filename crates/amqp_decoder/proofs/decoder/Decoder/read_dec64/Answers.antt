@@ -1,6 +1,6 @@
 use Rattle.std.proofs.Common.{refl}
 use Rattle.amqp_model.specs.Term.{decimal64}
-use Rattle.amqp_decoder.proofs.Leaves.{fixed_reads}
+use Rattle.amqp_decoder.proofs.ReadPrimitives.{fixed_reads}
 use Rattle.amqp_decoder.proofs.decoder.Decoder.read_dec64.Goals as goal
 
 pub returns : goal.returns

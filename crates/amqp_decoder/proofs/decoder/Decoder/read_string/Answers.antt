@@ -3,7 +3,7 @@ use Rattle.std.proofs.lemmas.Result.{err_from_is_err_and}
 use Rattle.amqp_model.specs.Term.{string}
 use Rattle.std.proofs.lemmas.Str.{IsUtf8-string_bytes}
 use Rattle.std.proofs.Common.{String, Vec, Global, ℕ}
-use Rattle.amqp_decoder.specs.Primitives.{Text}
+use Rattle.amqp_decoder.specs.Primitives.{ReadsText}
 use Rattle.amqp_decoder.proofs.SizedTexts.{text_value, text_refused, text_bad}
 use Rattle.amqp_decoder.proofs.Steps.{answered}
 use Rattle.amqp_decoder.proofs.decoder.Decoder.read_string.Goals as goal
@@ -16,7 +16,7 @@ returns-in_err-text g c = λ told.
 pub returns-in-Ok : goal.returns-in-Ok
 returns-in-Ok g c = λ told.
     let same = ap (λ (v : Vec ℕ Global). v.items) (sym c.in-Ok.ensures.ok) in
-    text_value (λ (v : String Global). string_bytes v) 17 0xa1 0xb1 string _ _ _ (record { short_code = refl; long_code = refl; kind = λ s. refl; codes = refl }) (IsUtf8-string_bytes c.in-Ok.text) (subst (λ s. Text 0xa1 0xb1 c.args.self.now s c.content.new.self) same (c.in_ok-text.ensures.ok told))
+    text_value (λ (v : String Global). string_bytes v) 17 0xa1 0xb1 string _ _ _ (record { short_code = refl; long_code = refl; kind = λ s. refl; codes = refl }) (IsUtf8-string_bytes c.in-Ok.text) (subst (λ s. ReadsText 0xa1 0xb1 c.args.self.now s c.content.new.self) same (c.in_ok-text.ensures.ok told))
 
 pub returns : goal.returns
 returns g c = λ told.

@@ -1,7 +1,7 @@
 use Rattle.std.proofs.Common.{rules, Some, refl, ap, sym, ◌∙◌}
 use Rattle.std.proofs.lemmas.Result.{err_from_is_err_and}
 use Rattle.amqp_model.specs.Term.{timestamp}
-use Rattle.amqp_decoder.proofs.Leaves.{fixed_refused, fixed_value}
+use Rattle.amqp_decoder.proofs.ReadPrimitives.{fixed_refused, fixed_value}
 use Rattle.std.specs.Int.{w64}
 use Rattle.std.proofs.lemmas.Int.{to_z-of_z}
 use Rattle.amqp_decoder.proofs.decoder.Decoder.read_timestamp.Goals as goal

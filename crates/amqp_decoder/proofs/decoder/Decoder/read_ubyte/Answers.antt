@@ -1,7 +1,7 @@
 use Rattle.std.proofs.Common.{Some, refl, ap, sym}
 use Rattle.std.proofs.lemmas.Result.{err_from_is_err_and}
 use Rattle.amqp_model.specs.Term.{ubyte}
-use Rattle.amqp_decoder.proofs.Leaves.{fixed_refused, fixed_value}
+use Rattle.amqp_decoder.proofs.ReadPrimitives.{fixed_refused, fixed_value}
 use Rattle.amqp_decoder.proofs.decoder.Decoder.read_ubyte.Goals as goal
 
 pub returns-in_err-fixed : goal.returns-in_err-fixed

@@ -2,7 +2,7 @@ use Rattle.std.proofs.Common.{refl, ap}
 use Rattle.std.proofs.lemmas.Result.{err_from_is_err_and}
 use Rattle.amqp_model.specs.Term.{ulong}
 use Rattle.amqp_decoder.specs.State.{State}
-use Rattle.amqp_decoder.proofs.Leaves.{refused_first, lacking_refused, other_refused, data_value}
+use Rattle.amqp_decoder.proofs.ReadPrimitives.{refused_first, lacking_refused, other_refused, data_value}
 use Rattle.amqp_decoder.proofs.Steps.{answered_later, answered_so}
 use Rattle.amqp_decoder.proofs.decoder.Decoder.read_ulong.Goals as goal
 

@@ -1,6 +1,6 @@
 use Rattle.std.proofs.Common.{refl}
 use Rattle.amqp_model.specs.Term.{uuid}
-use Rattle.amqp_decoder.proofs.Leaves.{fixed_reads}
+use Rattle.amqp_decoder.proofs.ReadPrimitives.{fixed_reads}
 use Rattle.amqp_decoder.proofs.decoder.Decoder.read_uuid.Goals as goal
 
 pub returns : goal.returns

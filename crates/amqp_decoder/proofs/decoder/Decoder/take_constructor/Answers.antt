@@ -1,7 +1,7 @@
 use Rattle.std.proofs.Common.{◌≤◌, inl, inr, length, subst, sym}
 use Rattle.std.proofs.lemmas.Result.{err_from_is_err_and}
 use Rattle.amqp_decoder.specs.State.{State}
-use Rattle.amqp_decoder.proofs.Leaves.{ok_map}
+use Rattle.amqp_decoder.proofs.ReadPrimitives.{ok_map}
 use Rattle.amqp_decoder.proofs.Constructed.{known_zero}
 use Rattle.amqp_decoder.specs.Arrays.{no_items}
 use Rattle.amqp_decoder.proofs.OpenedArrays.{shares_all, stopped_unconstructed, stopped_zero, stopped_nested}

@@ -1,7 +1,7 @@
 use Rattle.std.proofs.Common.{rules, refl}
 use Rattle.std.proofs.lemmas.Result.{err_from_is_err_and}
 use Rattle.amqp_input.proofs.KindsOfCodes.{not_three}
-use Rattle.amqp_decoder.proofs.Leaves.{short_data}
+use Rattle.amqp_decoder.proofs.ReadPrimitives.{short_data}
 use Rattle.amqp_decoder.proofs.decoder.Decoder.ulong_data.Goals as goal
 
 pub returns-in_err-byte-in-83-clause-err : goal.returns-in_err-byte-in-83-clause-err

@@ -1,8 +1,8 @@
 use Rattle.std.proofs.Common.{rules}
 use Rattle.std.proofs.lemmas.Result.{err_from_is_err_and}
-use Rattle.amqp_decoder.specs.Reading.{Peeked, BeginFault}
-use Rattle.amqp_codec.specs.Refused.{no_memory, refused_first}
-use Rattle.amqp_codec.specs.Peeks.{value_peeked}
+use Rattle.amqp_decoder.specs.Reading.{PeeksCode, BeginFault}
+use Rattle.amqp_codec.specs.RefusalLaws.{no_memory, refused_first}
+use Rattle.amqp_codec.specs.PeekLaws.{value_peeked}
 use Rattle.amqp_codec.specs.EitherType.{no_value}
 use Rattle.amqp_kind_tests.proofs.IdentifierReads.{number_read, name_read, number_refused, name_refused, tests_number, tests_name}
 use Rattle.amqp_kind_tests.proofs.identifier.IdentifierDeserializeTerm.read_value.Goals as goal
@@ -10,7 +10,7 @@ use Rattle.amqp_kind_tests.proofs.identifier.IdentifierDeserializeTerm.read_valu
 pub returns-in_err-peek_code : goal.returns-in_err-peek_code
 returns-in_err-peek_code g c tells =
     let p = err_from_is_err_and c.from_residual.result c.from_residual.ensures.1 in
-    rw (p.1, p.2) (refused_first Peeked BeginFault _ _ _ _ _ no_memory no_value (value_peeked _ _) (c.in_err-peek_code.ensures tells))
+    rw (p.1, p.2) (refused_first PeeksCode BeginFault _ _ _ _ _ no_memory no_value (value_peeked _ _) (c.in_err-peek_code.ensures tells))
 
 pub returns-in_err-read_value-in-68 : goal.returns-in_err-read_value-in-68
 returns-in_err-read_value-in-68 g c tells =

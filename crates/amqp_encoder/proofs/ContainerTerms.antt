@@ -1,9 +1,9 @@
 -- Terms that hold no list, map or array are measured without memory.
 use Rattle.std.proofs.Common.{◌≡◌, ℕ, ◌+◌, ◌-◌, List, [], ◌∷◌, ◌++◌, length, take, refl, ap, inl, inr, ◌⊎◌, Bool, true, false, ◌&&◌}
 use Rattle.std.specs.Prelude.{Result, Ok, Err, if◌then◌else◌, ltb, eqb, not, ◌||◌, set}
-use Rattle.amqp_model.specs.Term.{Primitive, null, Container, Term, leaf, holder, described, kept, barred}
+use Rattle.amqp_model.specs.Term.{Primitive, null, Container, Term, leaf, container, described, kept, barred}
 use Rattle.amqp_model.specs.Spelling.{descriptor_value}
-use Rattle.amqp_model.specs.Text.{Place, Plain, First, Later, next, wide, primitive_text}
+use Rattle.amqp_model.specs.Text.{Place, Alone, First, Later, next, wide, primitive_text}
 use Rattle.amqp_model.specs.Refusals.{Somewhere}
 use Rattle.amqp_wire.specs.declared.error.Error.{Error}
 use Rattle.amqp_wire.specs.declared.error.Error.TheVariants.{OddCount, Depth, TooLarge, InvalidValue}
@@ -13,16 +13,16 @@ use Rattle.amqp_encoder.specs.declared.encoder.Pass.TheVariants.{Measuring, Fill
 use Rattle.amqp_encoder.specs.Tokens.{Token, put, keep, begin, end, begin_described, end_described, refuse, TakesMemory, tokens}
 use Rattle.amqp_encoder.specs.State.{Open, Measured, Filled, at_start}
 use Rattle.amqp_encoder.specs.Measuring.{◌>>=◌, checked, enter, take_form, leave, measure_value, measure_null_at, measure_checked, measure_keep_at, MAX, is_full, is_none, is_odd_map, holds as holds_, describe_at, descriptor_bytes, end_in, end_described_in, closed, size_of}
-use Rattle.amqp_encoder.specs.Passes.{row_tokens, IsHolder, HoldOthers}
+use Rattle.amqp_encoder.specs.Passes.{row_tokens, IsContainer, HoldOthers}
 use Rattle.amqp_encoder.specs.Writes.{measure, fill, measuring, filling, step, MayRunOut, AnyMayRunOut}
 
 -- no open value stands in an array
 abbrev AllPlain : List Open → Type 0
 AllPlain [] = Unit {0}
-AllPlain (o ∷ os) = (o.place ≡ Plain) × AllPlain os
+AllPlain (o ∷ os) = (o.place ≡ Alone) × AllPlain os
 
 abbrev Plainly : Measured → Type 0
-Plainly m = (m.frame.place ≡ Plain) × AllPlain m.outer
+Plainly m = (m.frame.place ≡ Alone) × AllPlain m.outer
 
 abbrev Stays : Result Measured Error → Type 0
 Stays (Ok m) = Plainly m
@@ -45,8 +45,8 @@ leaves n m h =
     either (ltb MAX (m.frame.content + n) || ltb MAX (m.frame.count + 1)) (Err TooLarge)
     (Ok (record m { frame = record m.frame { content = m.frame.content + n; count = m.frame.count + 1; place = next m.frame.place } })) tt (ap next h.0, h.1)
 
-takes : (p : Place) (code : ℕ) (m : Measured) → p ≡ Plain → Plainly m → Stays (take_form p code m)
-takes Plain code m i h = h
+takes : (p : Place) (code : ℕ) (m : Measured) → p ≡ Alone → Plainly m → Stays (take_form p code m)
+takes Alone code m i h = h
 takes First code m i h = cc
 takes Later code m i h = cc
 
@@ -54,7 +54,7 @@ values : (code len : ℕ) (m : Measured) → Plainly m → Stays (measure_value 
 values code len m h = after (enter code m) (leave len) (either (is_full m.frame) (Err InvalidValue) (take_form m.frame.place code m) tt (takes m.frame.place code m h.0 h)) (λ n k. leaves len n k)
 
 nulls : (p : Place) (m : Measured) → Plainly m → Stays (measure_null_at p m)
-nulls Plain m h = values 0x40 1 m h
+nulls Alone m h = values 0x40 1 m h
 nulls First m h = tt
 nulls Later m h = tt
 
@@ -63,12 +63,12 @@ primitives null m h = nulls m.frame.place m h
 primitives p m h = values (wide p).0 (length (primitive_text m.frame.place p)) m h
 
 keeps : (p : Place) (len nesting : ℕ) (m : Measured) → Plainly m → Stays (measure_keep_at p len nesting m)
-keeps Plain len nesting m h = either (ltb 128 nesting || ltb (128 - nesting) (length m.outer)) (Err Depth) (measure_value 0 len m) tt (values 0 len m h)
+keeps Alone len nesting m h = either (ltb 128 nesting || ltb (128 - nesting) (length m.outer)) (Err Depth) (measure_value 0 len m) tt (values 0 len m h)
 keeps First len nesting m h = tt
 keeps Later len nesting m h = tt
 
-describes : (p : Place) (bytes : List ℕ) (m : Measured) → p ≡ Plain → Plainly m → Stays (describe_at p bytes m)
-describes Plain bytes m i h = (h.0, (h.0, h.1))
+describes : (p : Place) (bytes : List ℕ) (m : Measured) → p ≡ Alone → Plainly m → Stays (describe_at p bytes m)
+describes Alone bytes m i h = (h.0, (h.0, h.1))
 describes First bytes m i h = cc
 describes Later bytes m i h = cc
 
@@ -119,14 +119,14 @@ next_plain (Measuring m) t b h = plain_pass (measure t m) (stays t m b h)
 next_plain (Filling f) t b h = plain_filled (fill t f)
 next_plain (Stopped e) t b h = tt
 
-plain_takes : (p : Place) (t : Token) → p ≡ Plain → BeginsNone t → TakesMemory p t → ⊥
-plain_takes Plain (put x) i b h = h
-plain_takes Plain (keep bytes nesting) i b h = h
-plain_takes Plain (begin k) i b h = b
-plain_takes Plain (end k) i b h = h
-plain_takes Plain (begin_described d) i b h = h
-plain_takes Plain end_described i b h = h
-plain_takes Plain (refuse e) i b h = h
+plain_takes : (p : Place) (t : Token) → p ≡ Alone → BeginsNone t → TakesMemory p t → ⊥
+plain_takes Alone (put x) i b h = h
+plain_takes Alone (keep bytes nesting) i b h = h
+plain_takes Alone (begin k) i b h = b
+plain_takes Alone (end k) i b h = h
+plain_takes Alone (begin_described d) i b h = h
+plain_takes Alone end_described i b h = h
+plain_takes Alone (refuse e) i b h = h
 plain_takes First t i b h = cc
 plain_takes Later t i b h = cc
 
@@ -150,9 +150,9 @@ joined [] ys h k = k
 joined (x ∷ xs) ys h k = (h.0, joined xs ys h.1 k)
 
 module _ (deep : List ℕ → ℕ) where
-  of_term : (t : Term) → AllBeginNone (tokens deep t) ⊎ Somewhere IsHolder t
+  of_term : (t : Term) → AllBeginNone (tokens deep t) ⊎ Somewhere IsContainer t
   of_term (leaf p) = inl (tt, tt)
-  of_term (holder k ts) = inr (inl tt)
+  of_term (container k ts) = inr (inl tt)
   of_term (described d t) = elim (of_term t) [ inl h ↦ inl (tt, joined (tokens deep t) (end_described ∷ []) h (tt, tt)) | inr h ↦ inr (inr h) ]
   of_term (kept b) = inl (tt, tt)
   of_term (barred r) = inl (tt, tt)

@@ -1,15 +1,15 @@
 -- Facts about terms that are one primitive.
 use Rattle.std.proofs.Common.{◌≡◌, ℕ, false, List, [], ◌∷◌, sym, ap, subst}
-use Rattle.amqp_model.specs.Term.{Primitive, null, Refusal, too_large, Container, Term, Terms, leaf, holder, described, kept, barred, Descriptor}
+use Rattle.amqp_model.specs.Term.{Primitive, null, Refusal, too_large, Container, Term, Terms, leaf, container, described, kept, barred, Descriptor}
 use Rattle.amqp_model.specs.Constructors.{Format, fixed, variable, compound, unknown, format}
 use Rattle.amqp_model.specs.Spelling.{PrimitiveData, IsValid, data_of, enc}
 use Rattle.amqp_model.specs.Standing.{Standing, whole, part}
 use Rattle.amqp_model.specs.Refusals.{IsRefused}
-use Rattle.amqp_model.specs.Kept.{Reads}
+use Rattle.amqp_model.specs.Kept.{ExpandsTo}
 use Rattle.amqp_model.specs.Items.{is_null_primitive}
 use Rattle.amqp_model.specs.ItemLaws.{clash}
 use Rattle.amqp_codec.specs.TermType.{Spells}
-use Rattle.amqp_codec.specs.Flaws.{size_alone, leaf_flawless}
+use Rattle.amqp_codec.specs.OnlySizeLaws.{size_alone, leaf_flawless}
 
 pub leaf_injective : (p q : Primitive) → leaf p ≡ leaf q → p ≡ q
 leaf_injective p q e = cc
@@ -17,12 +17,12 @@ leaf_injective p q e = cc
 pub leaf_not_null : (p : Primitive) → is_null_primitive p ≡ false → leaf p ≡ leaf null → ⊥
 leaf_not_null p n e = clash (ap is_null_primitive (leaf_injective p null e)) n
 
-pub holder_not_null : (k : Container) (ts : Terms) → holder k ts ≡ leaf null → ⊥
-holder_not_null k ts e = cc
+pub container_not_null : (k : Container) (ts : Terms) → container k ts ≡ leaf null → ⊥
+container_not_null k ts e = cc
 
-pub reads_leaf : (p : Primitive) (t : Term) → Reads (leaf p) t → t ≡ leaf p
+pub reads_leaf : (p : Primitive) (t : Term) → ExpandsTo (leaf p) t → t ≡ leaf p
 reads_leaf p (leaf q) h = ap leaf (sym h)
-reads_leaf p (holder k ts) h = absurd h
+reads_leaf p (container k ts) h = absurd h
 reads_leaf p (described d t) h = absurd h
 reads_leaf p (kept b) h = absurd h
 reads_leaf p (barred r) h = absurd h

@@ -3,7 +3,7 @@ use Rattle.std.proofs.Common.{◌≡◌, inl, inr, ◌<◌, [], ◌∷◌, refl,
 use Rattle.amqp_model.specs.Term.{Refusal, depth, Term, Terms, none, more}
 use Rattle.amqp_model.specs.Measures.{nests}
 use Rattle.amqp_model.specs.Refusals.{Somewhere, IsRefused, Refuses}
-use Rattle.amqp_model.specs.Kept.{ReadsEach}
+use Rattle.amqp_model.specs.Kept.{EachExpandsTo}
 use Rattle.amqp_wire.specs.Refusals.{error_of}
 use Rattle.amqp_wire.specs.declared.error.Error.{Error}
 use Rattle.amqp_encoder.specs.Reasons.{HasReason}
@@ -14,15 +14,15 @@ use Rattle.amqp_encoder.proofs.Refused.{one_text, has_reason, reason_named}
 use Rattle.amqp_codec.specs.TermType.{TermType, IsUnrefused}
 use Rattle.amqp_codec.specs.Spelled.{written, IsWritable}
 use Rattle.amqp_codec.specs.Written.{AreProper, AreUnwritable, AreWritable, Writing}
-use Rattle.amqp_codec.specs.Proper.{proper_values, proper_reads}
-use Rattle.amqp_codec.specs.Ties.{Tied}
+use Rattle.amqp_codec.specs.ProperLaws.{proper_values, proper_reads}
+use Rattle.amqp_codec.specs.Agreement.{Agreement}
 
 one_writable : (t : Term) → AreWritable (t ∷ []) → IsUnrefused t
 unfolding Refuses
 one_writable t h r (inl s) = h (error_of r) (inl (inl (somewhere_as (IsRefused r) (HasReason (error_of r)) (has_reason r) t s)))
 one_writable t h r (inr (i, (u, reads, l))) = h (error_of r) (inr (inl (ap error_of i, (more u none, (reads, tt), omega (arith, l)))))
 
-one_deep : (t : Term) (us : Terms) → ReadsEach (more t none) us → 128 < nests us → Refuses depth t
+one_deep : (t : Term) (us : Terms) → EachExpandsTo (more t none) us → 128 < nests us → Refuses depth t
 unfolding Refuses
 one_deep t none r l = absurd r
 one_deep t (more u none) r l = inr (refl, (u, r.0, omega (arith, l)))
@@ -42,13 +42,13 @@ one_refused t e i (inr (inr (d, inl l))) = inr (d, omega (arith, l, ap length (o
 one_refused t e i (inr (inr (d, inr l))) = absurd (omega (arith, l))
 
 -- a type of terms
-module _ {T : Type 0} {u : TermType T} {w : Writing T} (tie : Tied u w) where
-  pub tied_text : (v : T) → row_text (w.canons v) ≡ written u v
-  tied_text v = ap row_text (tie.canons_is v) ∙ one_text (u.canon v)
+module _ {T : Type 0} {u : TermType T} {w : Writing T} (tie : Agreement u w) where
+  pub agreed_text : (v : T) → row_text (w.canons v) ≡ written u v
+  agreed_text v = ap row_text (tie.canons_is v) ∙ one_text (u.canon v)
 
-  pub tied_writable : (v : T) → AreWritable (w.canons v) → IsWritable u v
-  tied_writable v h = one_writable (u.canon v) (subst AreWritable (tie.canons_is v) h)
+  pub agreed_writable : (v : T) → AreWritable (w.canons v) → IsWritable u v
+  agreed_writable v h = one_writable (u.canon v) (subst AreWritable (tie.canons_is v) h)
 
-  pub tied_refused : (v : T) (e : Error) → w.is_value v → AreUnwritable (w.canons v) e → TermHasCause (u.canon v) e
-  tied_refused v e i h =
+  pub agreed_refused : (v : T) (e : Error) → w.is_value v → AreUnwritable (w.canons v) e → TermHasCause (u.canon v) e
+  agreed_refused v e i h =
       one_refused (u.canon v) e (subst AreProper (tie.canons_is v) (w.proper v i)) (subst (λ ts. AreUnwritable ts e) (tie.canons_is v) h)

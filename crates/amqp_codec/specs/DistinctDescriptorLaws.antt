@@ -1,6 +1,6 @@
 -- Composites with different descriptors have terms of different forms.
 use Rattle.std.proofs.Common.{◌≡◌, inl, inr, ℕ, Bool, true, false, ◌&&◌, not, eqb, eq-eqb, List, [], ◌∷◌, Option, Some, None, refl, sym, ap, ◌∙◌, subst, get_or}
-use Rattle.amqp_model.specs.Term.{list, Descriptor, name, code, Terms, holder, described}
+use Rattle.amqp_model.specs.Term.{list, Descriptor, name, code, Terms, container, described}
 use Rattle.amqp_model.specs.Text.{form}
 use Rattle.amqp_model.specs.Composite.{Describes}
 use Rattle.amqp_model.specs.ItemLaws.{clash}
@@ -40,14 +40,14 @@ module _ {V W : Type 0} (c : Table V) (d : Table W) (h : differ c d ≡ true) wh
   first_of x None = x
   first_of x (Some f) = get_or f.0 0 x
 
-  lists_apart : (x y : Descriptor) (ts us : Terms) → Describes (table_of c) x → Describes (table_of d) y → form (described x (holder list ts)) ≡ form (described y (holder list us)) → ⊥
+  lists_apart : (x y : Descriptor) (ts us : Terms) → Describes (table_of c) x → Describes (table_of d) y → form (described x (container list ts)) ≡ form (described y (container list us)) → ⊥
   unfolding first_of
   lists_apart x y ts us p q e = one_table x p (subst (Describes (table_of d)) (sym (ap (first_of x) e)) q)
 
   pub composites_apart : FormsApart (composite c) (composite d)
   composites_apart s z t r a b m n =
       by_cases (table_of c) (λ t. form t ≡ form r → ⊥) t a
-      (λ x ts p f. by_cases (table_of d) (λ r. form (described x (holder list ts)) ≡ form r → ⊥) r b (λ y us q g. lists_apart x y ts us p q) n)
+      (λ x ts p f. by_cases (table_of d) (λ r. form (described x (container list ts)) ≡ form r → ⊥) r b (λ y us q g. lists_apart x y ts us p q) n)
       m
 
 -- what is apart from two types is apart from their sum

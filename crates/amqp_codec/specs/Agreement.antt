@@ -1,45 +1,45 @@
 -- How what a type's traits say of writing is tied to its record.
 use Rattle.std.proofs.Common.{◌≡◌, true, List, [], ◌∷◌, Option, Some, None, IfSome, Box, refl}
-use Rattle.amqp_model.specs.Term.{null, Term, Terms, leaf, holder, described, kept, barred, none, more}
+use Rattle.amqp_model.specs.Term.{null, Term, Terms, leaf, container, described, kept, barred, none, more}
 use Rattle.amqp_model.specs.Ranges.{Everywhere, EverywhereIn, IsValue}
 use Rattle.amqp_model.specs.Kinds.{option_canon}
-use Rattle.amqp_codec.specs.TermType.{TermType, IsPlain, ArePlain}
+use Rattle.amqp_codec.specs.TermType.{TermType, KeepsNoBytes, KeepNoBytes}
 use Rattle.amqp_codec.specs.OptionType.{option_of}
 use Rattle.amqp_codec.specs.Wrappers.{boxed}
 use Rattle.amqp_codec.specs.Written.{IsProper, AreProper, Writing, IsOneTerm}
 
 -- The canonical terms and the values of the traits are those of the record.
-pub record Tied {T : Type 0} (u : TermType T) (w : Writing T) : Type 0 where
+pub record Agreement {T : Type 0} (u : TermType T) (w : Writing T) : Type 0 where
   pub canons_is : (v : T) → w.canons v ≡ u.canon v ∷ []
   pub value_to : (v : T) → w.is_value v → u.is_value v
   pub value_from : (v : T) → u.is_value v → w.is_value v
 
 -- where no bytes are kept
 mutual
-  pub plain_proper : (t : Term) → IsPlain t → Everywhere IsValue t → Everywhere IsProper t
+  pub plain_proper : (t : Term) → KeepsNoBytes t → Everywhere IsValue t → Everywhere IsProper t
   plain_proper (leaf p) h i = i
-  plain_proper (holder k ts) h i = (i.0, plain_all_proper ts h i.1)
+  plain_proper (container k ts) h i = (i.0, plain_all_proper ts h i.1)
   plain_proper (described d t) h i = (i.0, plain_proper t h i.1)
   plain_proper (kept b) h i = absurd h
   plain_proper (barred r) h i = i
 
-  plain_all_proper : (ts : Terms) → ArePlain ts → EverywhereIn IsValue ts → EverywhereIn IsProper ts
+  plain_all_proper : (ts : Terms) → KeepNoBytes ts → EverywhereIn IsValue ts → EverywhereIn IsProper ts
   plain_all_proper none h i = i
   plain_all_proper (more t ts) h i = (plain_proper t h.0 i.0, plain_all_proper ts h.1 i.1)
 
 -- the canonical term of a type that keeps no bytes
-pub proper : {T : Type 0} (u : TermType T) → u.blind ≡ true → (v : T) → u.is_value v → AreProper (u.canon v ∷ [])
-proper u blind v i = (plain_proper (u.canon v) (u.is_blind blind v).plain ((u.rewrites v).valued i), tt)
+pub proper : {T : Type 0} (u : TermType T) → u.ignores_standing ≡ true → (v : T) → u.is_value v → AreProper (u.canon v ∷ [])
+proper u ignores_standing v i = (plain_proper (u.canon v) (u.standing_ignored ignores_standing v).plain ((u.rewrites v).valued i), tt)
 
 -- How a type that keeps no bytes is written, by its record.
-abbrev pub writing_of : {T : Type 0} (u : TermType T) → u.blind ≡ true → Writing T
-writing_of u blind = record { canons = λ v. u.canon v ∷ []; is_value = u.is_value; proper = proper u blind }
+abbrev pub writing_of : {T : Type 0} (u : TermType T) → u.ignores_standing ≡ true → Writing T
+writing_of u ignores_standing = record { canons = λ v. u.canon v ∷ []; is_value = u.is_value; proper = proper u ignores_standing }
 
-pub one_term : {T : Type 0} (u : TermType T) (blind : u.blind ≡ true) → IsOneTerm (writing_of u blind)
-one_term u blind v = refl
+pub one_term : {T : Type 0} (u : TermType T) (ignores_standing : u.ignores_standing ≡ true) → IsOneTerm (writing_of u ignores_standing)
+one_term u ignores_standing v = refl
 
-pub tied : {T : Type 0} (u : TermType T) (blind : u.blind ≡ true) → Tied u (writing_of u blind)
-tied u blind = record { canons_is = λ v. refl; value_to = λ v i. i; value_from = λ v i. i }
+pub agreement : {T : Type 0} (u : TermType T) (ignores_standing : u.ignores_standing ≡ true) → Agreement u (writing_of u ignores_standing)
+agreement u ignores_standing = record { canons_is = λ v. refl; value_to = λ v i. i; value_from = λ v i. i }
 
 -- Written as what stands in it is.
 abbrev pub via_writing : {V T : Type 0} → (V → T) → Writing T → Writing V
@@ -71,13 +71,13 @@ option_canons_is canons canon e None = refl
 option_canons_is canons canon e (Some v) = e v
 
 -- the ties of the generic types
-pub option_tied : {T : Type 0} {u : TermType T} {w : Writing T} → Tied u w → Tied (option_of u) (option_writing w)
-option_tied {u = u} {w = w} t = record {
+pub option_agreement : {T : Type 0} {u : TermType T} {w : Writing T} → Agreement u w → Agreement (option_of u) (option_writing w)
+option_agreement {u = u} {w = w} t = record {
   canons_is = option_canons_is w.canons u.canon t.canons_is;
   value_to = some_as w.is_value u.is_value t.value_to;
   value_from = some_as u.is_value w.is_value t.value_from;
 }
 
-pub box_tied : {T Z : Type 0} {u : TermType T} {w : Writing T} → Tied u w
-    → Tied (boxed {Z = Z} u) (via_writing (λ (b : Box T Z). b.value) w)
-box_tied t = record { canons_is = λ b. t.canons_is b.value; value_to = λ b. t.value_to b.value; value_from = λ b. t.value_from b.value }
+pub box_agreement : {T Z : Type 0} {u : TermType T} {w : Writing T} → Agreement u w
+    → Agreement (boxed {Z = Z} u) (via_writing (λ (b : Box T Z). b.value) w)
+box_agreement t = record { canons_is = λ b. t.canons_is b.value; value_to = λ b. t.value_to b.value; value_from = λ b. t.value_from b.value }

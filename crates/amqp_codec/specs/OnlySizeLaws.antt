@@ -1,6 +1,6 @@
 -- Terms that nothing but their size refuses.
 use Rattle.std.proofs.Common.{◌≡◌, ℕ, inl, inr, refl}
-use Rattle.amqp_model.specs.Term.{Primitive, symbol, Refusal, too_large, non_ascii, zero_width_items, mixed_array, lazy_in_array, list, Terms, Term, leaf, holder, described, barred, code}
+use Rattle.amqp_model.specs.Term.{Primitive, symbol, Refusal, too_large, non_ascii, zero_width_items, mixed_array, lazy_in_array, list, Terms, Term, leaf, container, described, barred, code}
 use Rattle.amqp_model.specs.Spelling.{IsValid}
 use Rattle.amqp_model.specs.Refusals.{HasMixedItems, HasNullItem, HasKeptItem, IsNonAscii, HasNonAscii, IsRefused}
 
@@ -28,7 +28,7 @@ valid_ascii p v h = h
 pub leaf_flawless : (p : Primitive) → IsValid p → IsFlawless (leaf p)
 leaf_flawless p v = record { unbarred = λ r e. cc; unmixed = λ h. h; no_null = λ h. h; no_kept = λ h. h; ascii = valid_ascii p v }
 
-pub list_flawless : (ts : Terms) → IsFlawless (holder list ts)
+pub list_flawless : (ts : Terms) → IsFlawless (container list ts)
 list_flawless ts = record { unbarred = λ r e. cc; unmixed = λ h. h; no_null = λ h. h; no_kept = λ h. h; ascii = λ h. h }
 
 -- a value that is described by a code

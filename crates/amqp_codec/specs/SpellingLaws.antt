@@ -1,13 +1,13 @@
 -- What is read from an input is what its front spells.
 use Rattle.std.proofs.Common.{◌≡◌, ℕ, ◌+◌, ◌-◌, ◌≤◌, List, ◌++◌, length, take, refl, sym, ap, ◌∙◌, subst, arith, length-append}
 use Rattle.std.proofs.lemmas.List.{length-drop, take_at}
-use Rattle.amqp_decoder.specs.State.{State, past}
+use Rattle.amqp_decoder.specs.State.{State, after_value}
 use Rattle.amqp_codec.specs.TermType.{TermType}
 use Rattle.amqp_codec.specs.Spelled.{IsSpelled}
-use Rattle.amqp_codec.specs.Reading.{IsRead, reading_of, start}
+use Rattle.amqp_codec.specs.Reading.{BeginsWith, reading_of, start}
 
 module _ {T : Type 0} (u : TermType T) where
-  pub read_spelled : (input : List ℕ) (v : T) (n : ℕ) → IsRead (reading_of u) input v n → (n ≤ length input) × IsSpelled u (take n input) v
+  pub read_spelled : (input : List ℕ) (v : T) (n : ℕ) → BeginsWith (reading_of u) input v n → (n ≤ length input) × IsSpelled u (take n input) v
   read_spelled input v n h =
       let k = h.read in
       let s = k.bytes in
@@ -19,9 +19,9 @@ module _ {T : Type 0} (u : TermType T) where
         subst (λ b. IsSpelled u b v) front (record { term = k.term; spelled = k.stands.spelled; nested = (let x = k.stands.nested in omega (arith, x)); meant = k.meant }),
       )
 
-  pub spelled_read : (b more : List ℕ) (v : T) → IsSpelled u b v → IsRead (reading_of u) (b ++ more) v (length b)
+  pub spelled_read : (b more : List ℕ) (v : T) → IsSpelled u b v → BeginsWith (reading_of u) (b ++ more) v (length b)
   spelled_read b more v h = record {
-    after = past (length b) (start (b ++ more));
+    after = after_value (length b) (start (b ++ more));
     read = record {
       bytes = b;
       term = h.term;

@@ -3,13 +3,13 @@ use Rattle.std.proofs.Common.{◌≡◌, inl, inr, ℕ, Bool, true, false, None,
 use Rattle.amqp_model.specs.Term.{Container}
 use Rattle.amqp_wire.specs.declared.error.Error.{Error}
 use Rattle.amqp_decoder.specs.State.{State}
-use Rattle.amqp_decoder.specs.Steps.{Excused}
-use Rattle.amqp_decoder.specs.Reading.{Refused}
+use Rattle.amqp_decoder.specs.Steps.{IsExcused}
+use Rattle.amqp_decoder.specs.Reading.{RefusesRead}
 use Rattle.amqp_decoder.specs.Containers.{Opens}
 use Rattle.amqp_decoder.proofs.Steps.{answered_later}
 
 -- a call that takes memory at most where another does
-pub excused_as : {a b : Bool} (e : Error) (st : State) → (a ≡ true → b ≡ true) → Excused a e st → Excused b e st
+pub excused_as : {a b : Bool} (e : Error) (st : State) → (a ≡ true → b ≡ true) → IsExcused a e st → IsExcused b e st
 excused_as e st may (inl x) = inl (may x.0, x.1)
 excused_as e st may (inr x) = inr x
 
@@ -34,7 +34,7 @@ or_else g f (inr y) = inr (f y)
 
 -- the first call was refused
 pub refused_first : {A B : Type 0} {a b : Bool} (p : State → A → State → Type 0) (f : State → Error → Type 0) (q : State → B → State → Type 0) (g : State → Error → Type 0) (old : State) (e : Error) (new : State)
-    → (a ≡ true → b ≡ true) → (f old e → g old e) → (NoneStands p old → NoneStands q old) → Refused a p f old e new → Refused b q g old e new
+    → (a ≡ true → b ≡ true) → (f old e → g old e) → (NoneStands p old → NoneStands q old) → RefusesRead a p f old e new → RefusesRead b q g old e new
 refused_first p f q g old e new may named none h = record {
   kept = h.kept;
   again = h.again;
@@ -44,7 +44,7 @@ refused_first p f q g old e new may named none h = record {
 
 -- a later call was refused
 pub refused_later : {A B : Type 0} {a b : Bool} (p : State → A → State → Type 0) (f : State → Error → Type 0) (q : State → B → State → Type 0) (g : State → Error → Type 0) (old mid : State) (e : Error) (new : State)
-    → (a ≡ true → b ≡ true) → mid.failed ≡ old.failed → old.error ≡ None → mid.error ≡ None → (f mid e → g old e) → (NoneStands p mid → NoneStands q old) → Refused a p f mid e new → Refused b q g old e new
+    → (a ≡ true → b ≡ true) → mid.failed ≡ old.failed → old.error ≡ None → mid.error ≡ None → (f mid e → g old e) → (NoneStands p mid → NoneStands q old) → RefusesRead a p f mid e new → RefusesRead b q g old e new
 refused_later p f q g old mid e new may sound going still named none h = record {
   kept = answered_later sound h.kept;
   again = λ d x. absurd (cc);

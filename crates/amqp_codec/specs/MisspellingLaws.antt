@@ -5,12 +5,12 @@ use Rattle.amqp_model.specs.declared.tables.FieldKind.{FieldKind}
 use Rattle.amqp_model.specs.declared.tables.FieldKind.TheVariants.{Mandatory, Optional, Default, Multiple, MandatoryMultiple}
 use Rattle.amqp_wire.specs.declared.error.Error.{Error}
 use Rattle.amqp_wire.specs.declared.error.Error.TheVariants.{Missing, EmptyMultiple}
-use Rattle.amqp_decoder.specs.declared.frame.Place.TheVariants.{InList, InDescribed}
+use Rattle.amqp_decoder.specs.declared.frame.OpenKind.TheVariants.{InList, InDescribed}
 use Rattle.amqp_decoder.specs.State.{State}
 use Rattle.amqp_decoder.specs.Rooms.{HasRoom}
 use Rattle.amqp_decoder.specs.Misspelled.{IsMisspelling, NothingStands}
 use Rattle.amqp_decoder.proofs.Misspelled.{begin_misspelled, open_misspelled, one_of_misspelled, end_misspelled}
-use Rattle.amqp_decoder.proofs.NothingInside.{nothing_in_holder, nothing_at_end, nothing_described, nothing_peeked}
+use Rattle.amqp_decoder.proofs.NothingInside.{nothing_in_container, nothing_at_end, nothing_described, nothing_peeked}
 use Rattle.amqp_decoder.proofs.Rooms.{room_row, room_peeked, room_inside, room_in_described}
 use Rattle.amqp_codec.specs.Fields.{Fields, none, field}
 use Rattle.amqp_codec.specs.FieldReading.{absence, kind_at, FaultAt, ItemFault, no_item, null_item, in_item, FieldsFault, no_list, at_item, left_out, not_ended}
@@ -47,7 +47,7 @@ module _ (e : Error) (is : IsMisspelling e) where
   fields_named : {V : Type 0} (fs : Fields V) (st : State) → FieldsFault fs st e → NothingStands st
   fields_named fs st (no_list h) = open_misspelled list tt st e is h
   fields_named fs st (at_item {n} {i} {v} {mid} s l k h) =
-      nothing_in_holder list tt st n s.first mid s.terms s.bytes s.opens s.each (omega (arith, s.long, l))
+      nothing_in_container list tt st n s.first mid s.terms s.bytes s.opens s.each (omega (arith, s.long, l))
       (item_misspelled fs i mid (room_row s.terms s.first s.bytes mid s.each (room_inside list st n s.first s.opens)) h)
   fields_named fs st (left_out {n} {i} s l k h) = absurd (absence_spelled (kind_at fs i) e h is)
   fields_named fs st (not_ended {n} {v} {mid} s h) = nothing_at_end list tt InList st n s.first mid s.terms s.bytes e s.opens s.each is h

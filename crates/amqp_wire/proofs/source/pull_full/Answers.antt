@@ -1,7 +1,7 @@
 use Rattle.std.proofs.Common.{◌≤◌, ◌-◌, ◌∙◌, arith, length, drop}
 use Rattle.std.proofs.lemmas.List.{length-take-le, length-drop}
 use Rattle.amqp_wire.proofs.Sources.{consumed_known, pulled, pulled_none, ended}
-use Rattle.amqp_wire.proofs.source.fill.Goals as goal
+use Rattle.amqp_wire.proofs.source.pull_full.Goals as goal
 
 pub returns-then-count-eq0-clause-bytes : goal.returns-then-count-eq0-clause-bytes
 returns-then-count-eq0-clause-bytes g c = λ told.

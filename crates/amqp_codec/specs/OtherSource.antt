@@ -3,11 +3,11 @@
 use Rattle.std.proofs.Common.{ℕ, zero, suc, List, [], ◌∷◌, length, ap}
 use Rattle.amqp_model.specs.Term.{Term}
 use Rattle.amqp_wire.specs.declared.error.Error.{Error}
-use Rattle.amqp_decoder.specs.State.{State, past}
+use Rattle.amqp_decoder.specs.State.{State, after_value}
 use Rattle.amqp_decoder.specs.Items.{Row}
-use Rattle.amqp_decoder.specs.Elsewhere.{Setting, under, KeepsError, begin_fault, peeked, value, stands, opens, open_fault, end_fault, closes, close_fault, opens_described, one_of_fault}
+use Rattle.amqp_decoder.specs.OtherSource.{Setting, under, KeepsError, begin_fault, peeked, value, stands, opens, open_fault, end_fault, closes, close_fault, opens_described, one_of_fault}
 use Rattle.amqp_codec.specs.Faults.{Faults}
-use Rattle.amqp_codec.specs.Misspelled.{fields_misspelled, member_misspelled}
+use Rattle.amqp_codec.specs.MisspellingLaws.{fields_misspelled, member_misspelled}
 use Rattle.amqp_codec.specs.Fields.{Fields, none, field}
 use Rattle.amqp_codec.specs.FieldReading.{FaultAt, ItemFault, no_item, null_item, in_item, FieldsSoFar, FieldsRead, FieldsFault, fields_not_memory, no_list, at_item, left_out, not_ended}
 use Rattle.amqp_codec.specs.Members as members
@@ -19,7 +19,7 @@ module _ (c : Setting) where
 
   row : (ts : List Term) (st : State) (s : List ℕ) (b : State) → Row st ts s b → Row (at st) ts s (at b)
   row [] st s b (e, h) = (e, ap at h)
-  row (t ∷ ts) st s b (first, others, e, h, k) = (first, others, e, stands c h, row ts (past (length first) st) others b k)
+  row (t ∷ ts) st s b (first, others, e, h, k) = (first, others, e, stands c h, row ts (after_value (length first) st) others b k)
 
   pub fields_read : {V : Type 0} (fs : Fields V) (st : State) (v : V) (b : State) → FieldsRead fs st v b → FieldsRead fs (at st) v (at b)
   fields_read fs st v b h =

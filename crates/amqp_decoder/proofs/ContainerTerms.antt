@@ -2,30 +2,30 @@
 use Rattle.std.proofs.Common.{◌≡◌, ◌≤◌, ◌<◌, ℕ, suc, ◌+◌, ◌-◌, ◌^◌, inl, inr, Option, Some, None, List, [], ◌∷◌, ◌++◌, length, drop, get_or, unwrap_or, refl, sym, ap, ◌∙◌, subst, arith, append_assoc, append-nil, drop-drop, length-append}
 use Rattle.std.proofs.lemmas.List.{drop_at}
 use Rattle.std.specs.Int.{bytes_high_first}
-use Rattle.amqp_model.specs.Term.{Container, list, map, array, Term, Terms, holder, none, more, count, Descriptor}
+use Rattle.amqp_model.specs.Term.{Container, list, map, array, Term, Terms, container, none, more, count, Descriptor}
 use Rattle.amqp_model.specs.Items.{items_of}
 use Rattle.amqp_model.specs.Constructors.{Format, fixed, variable, compound, unknown, format}
 use Rattle.amqp_model.specs.Spelling.{IsSize, ContainerData, IsKnown, Constructor, data_of, enc, items_of as items_spelled}
 use Rattle.amqp_model.specs.Measures.{nest, nests}
 use Rattle.amqp_model.specs.Standing.{Standing, StandWhole, StandAsData, StandIn, Parts}
-use Rattle.amqp_decoder.specs.declared.frame.Place.{Place}
-use Rattle.amqp_decoder.specs.State.{Open, State, Has, lower, on, past, inside, items_of as items_at}
-use Rattle.amqp_decoder.specs.Steps.{Took}
+use Rattle.amqp_decoder.specs.declared.frame.OpenKind.{OpenKind}
+use Rattle.amqp_decoder.specs.State.{Open, State, Has, lower, after_data, after_value, in_container, items_of as items_at}
+use Rattle.amqp_decoder.specs.Steps.{Takes}
 use Rattle.amqp_decoder.specs.Reading.{IsFirst}
 use Rattle.amqp_decoder.specs.Primitives.{standing, SpellsAs}
-use Rattle.amqp_decoder.specs.Containers.{place_of, is_list, IsCount, Counts, Header}
+use Rattle.amqp_decoder.specs.Containers.{place_of, is_list, IsCount, Counts, ReadsHeader}
 use Rattle.amqp_decoder.specs.Items.{Row, Next, row_standings, NextWithParts, Contains}
 use Rattle.amqp_input.proofs.Looks.{front_is}
 use Rattle.amqp_decoder.proofs.Steps.{has_none, lower_none}
-use Rattle.amqp_decoder.proofs.Leaves.{has_add, has_front, has_rest, lower-lower, minus-minus, after_code, on-past}
-use Rattle.amqp_decoder.proofs.Opening.{on-on, took_both}
+use Rattle.amqp_decoder.proofs.ReadPrimitives.{has_add, has_front, has_rest, lower-lower, minus-minus, after_code, after_data-after_value}
+use Rattle.amqp_decoder.proofs.Opening.{after_data-after_data, took_both}
 
 -- k values of n bytes are taken
 abbrev pub many : ℕ → ℕ → State → State
 many k n st = record st { rest = drop n st.rest; ahead = st.ahead - n; top = record st.top { items = lower st.top.items k; left = lower st.top.left n } }
 
-many-past : (k m n : ℕ) (st : State) → many k n (past m st) ≡ many (suc k) (m + n) st
-many-past k m n st =
+many-after_value : (k m n : ℕ) (st : State) → many k n (after_value m st) ≡ many (suc k) (m + n) st
+many-after_value k m n st =
     let one : 1 + k ≡ suc k = omega arith in
     rw (minus-minus st.ahead m n, drop-drop n m st.rest, lower-lower st.top.left m n, lower-lower st.top.items 1 k, one) refl
 
@@ -59,12 +59,12 @@ together none st b st' (e, f) =
       nested = omega arith;
     }
 together (more t us) st b st' (s, r, e, k, row) =
-    let i = together us (past (length s) st) r st' row in
+    let i = together us (after_value (length s) st) r st' row in
     let n : length b ≡ length s + length r = ap length e ∙ length-append s r in
     let behind : drop (length s) st.rest ≡ k.after = ap (drop (length s)) k.rest ∙ drop_at s k.after (length s) refl in
     let here : st.rest ≡ s ++ drop (length s) st.rest = k.rest ∙ ap (λ x. s ++ x) (sym behind) in
     record {
-      moved = i.moved ∙ many-past (count us) (length s) (length r) st ∙ ap (λ x. many (suc (count us)) x st) (sym n);
+      moved = i.moved ∙ many-after_value (count us) (length s) (length r) st ∙ ap (λ x. many (suc (count us)) x st) (sym n);
       rest = front_is b st.rest (drop (length r) (drop (length s) st.rest)) (length b) refl (after_code s r st.rest here i.rest ∙ ap (λ x. x ++ drop (length r) (drop (length s) st.rest)) (sym e));
       room = subst (Has st.top.left) (sym n) (has_add st.top.left (length s) (length r) k.room i.room);
       items = has_one_more st.top.items (count us) k.item i.items;
@@ -79,7 +79,7 @@ AllSpelled o (more t us) b = (first others : List ℕ) × (b ≡ first ++ others
 pub row_spelled : (o : Option (List Descriptor × ℕ)) (us : Terms) (st : State) (b : List ℕ) (st' : State) → st.top.shared ≡ o → Row st (items_of us) b st' → AllSpelled o us b
 row_spelled o none st b st' shared row = row.0
 row_spelled o (more t us) st b st' shared (s, r, e, k, row) =
-    (s, r, e, subst (λ x. SpellsAs (standing x s) t) shared k.spelled, row_spelled o us (past (length s) st) r st' shared row)
+    (s, r, e, subst (λ x. SpellsAs (standing x s) t) shared k.spelled, row_spelled o us (after_value (length s) st) r st' shared row)
 
 -- terms that are spelled there can be taken in a row
 pub row_of : (o : Option (List Descriptor × ℕ)) (us : Terms) (st : State) (b x : List ℕ) → st.error ≡ None → st.top.shared ≡ o → Has st.top.items (count us) → Has st.top.left (length b) → st.rest ≡ b ++ x → AllSpelled o us b → nests us ≤ st.nesting - length st.saved → Row st (items_of us) b (many (count us) (length b) st)
@@ -91,12 +91,12 @@ row_of o (more t us) st b x going shared items room rest (s, r, e, h, hs) nested
     let behind : drop (length s) st.rest ≡ r ++ x = ap (drop (length s)) here ∙ drop_at s (r ++ x) (length s) refl in
     let one : 1 + count us ≡ suc (count us) = omega arith in
     let items_ : Has st.top.items (1 + count us) = subst (Has st.top.items) (sym one) items in
-    let i = row_of o us (past (length s) st) r x going shared (has_rest st.top.items 1 (count us) items_) (has_rest st.top.left (length s) (length r) room_) behind hs (omega (arith, nested)) in (
+    let i = row_of o us (after_value (length s) st) r x going shared (has_rest st.top.items 1 (count us) items_) (has_rest st.top.left (length s) (length r) room_) behind hs (omega (arith, nested)) in (
       s,
       r,
       e,
       record { going = going; item = has_front st.top.items 1 (count us) items_; room = has_front st.top.left (length s) (length r) room_; after = r ++ x; rest = here; spelled = subst (λ y. SpellsAs (standing y s) t) (sym shared) h; nested = omega (arith, nested) },
-      subst (Row (past (length s) st) (items_of us) r) (many-past (count us) (length s) (length r) st ∙ ap (λ k. many (suc (count us)) k st) (sym n)) i,
+      subst (Row (after_value (length s) st) (items_of us) r) (many-after_value (count us) (length s) (length r) st ∙ ap (λ k. many (suc (count us)) k st) (sym n)) i,
     )
 
 -- some terms stand one after another, and how each does
@@ -108,11 +108,11 @@ pub row_stands : (o : Option (List Descriptor × ℕ)) (us : Terms) (st : State)
 row_stands None none st b st' e row = (row.0, refl)
 row_stands (Some (ds, c)) none st b st' e row = (row.0, refl)
 row_stands None (more t us) st b st' e (s, r, f, k, row) =
-    let others = row_standings (past (length s) st) (items_of us) r st' row in
-    (s, r, others, f, subst (λ x. SpellsAs (standing x s) t) e k.spelled, row_stands None us (past (length s) st) r st' e row, ap (λ x. standing x s ∷ others) e)
+    let others = row_standings (after_value (length s) st) (items_of us) r st' row in
+    (s, r, others, f, subst (λ x. SpellsAs (standing x s) t) e k.spelled, row_stands None us (after_value (length s) st) r st' e row, ap (λ x. standing x s ∷ others) e)
 row_stands (Some (ds, c)) (more t us) st b st' e (s, r, f, k, row) =
-    let others = row_standings (past (length s) st) (items_of us) r st' row in
-    (s, r, others, f, subst (λ x. SpellsAs (standing x s) t) e k.spelled, row_stands (Some (ds, c)) us (past (length s) st) r st' e row, ap (λ x. standing x s ∷ others) e)
+    let others = row_standings (after_value (length s) st) (items_of us) r st' row in
+    (s, r, others, f, subst (λ x. SpellsAs (standing x s) t) e k.spelled, row_stands (Some (ds, c)) us (after_value (length s) st) r st' e row, ap (λ x. standing x s ∷ others) e)
 
 -- the items of a list or a map
 all_items : (us : Terms) (b : List ℕ) → AllSpelled None us b → items_spelled us b
@@ -131,25 +131,25 @@ IsRow list = Unit {0}
 IsRow map = Unit {0}
 IsRow array = ⊥
 
-holder_data : (kind : Container) (us : Terms) (c : ℕ) (b : List ℕ) → IsRow kind → IsCount kind (count us) → ContainerData (format c) kind (count us) (items_spelled us) b → data_of (holder kind us) [] c b
-holder_data list us c b is n d = d
-holder_data map us c b is n d = (n, d)
-holder_data array us c b is n d = absurd is
+container_data : (kind : Container) (us : Terms) (c : ℕ) (b : List ℕ) → IsRow kind → IsCount kind (count us) → ContainerData (format c) kind (count us) (items_spelled us) b → data_of (container kind us) [] c b
+container_data list us c b is n d = d
+container_data map us c b is n d = (n, d)
+container_data array us c b is n d = absurd is
 
-data_holder : (kind : Container) (us : Terms) (c : ℕ) (b : List ℕ) → IsRow kind → data_of (holder kind us) [] c b → IsCount kind (count us) × ContainerData (format c) kind (count us) (items_spelled us) b
-data_holder list us c b is d = (tt, d)
-data_holder map us c b is d = d
-data_holder array us c b is d = absurd is
+data_container : (kind : Container) (us : Terms) (c : ℕ) (b : List ℕ) → IsRow kind → data_of (container kind us) [] c b → IsCount kind (count us) × ContainerData (format c) kind (count us) (items_spelled us) b
+data_container list us c b is d = (tt, d)
+data_container map us c b is d = d
+data_container array us c b is d = absurd is
 
-pub holder_bare : (kind : Container) (us : Terms) (f : Descriptor) (ds : List Descriptor) (c : ℕ) (b : List ℕ) → data_of (holder kind us) (f ∷ ds) c b → ⊥
-holder_bare list us f ds c b d = d
-holder_bare map us f ds c b d = d
-holder_bare array us f ds c b d = d
+pub container_bare : (kind : Container) (us : Terms) (f : Descriptor) (ds : List Descriptor) (c : ℕ) (b : List ℕ) → data_of (container kind us) (f ∷ ds) c b → ⊥
+container_bare list us f ds c b d = d
+container_bare map us f ds c b d = d
+container_bare array us f ds c b d = d
 
-nest_holder : (kind : Container) (us : Terms) → IsRow kind → nest (holder kind us) ≡ suc (nests us)
-nest_holder list us is = refl
-nest_holder map us is = refl
-nest_holder array us is = absurd is
+nest_container : (kind : Container) (us : Terms) → IsRow kind → nest (container kind us) ≡ suc (nests us)
+nest_container list us is = refl
+nest_container map us is = refl
+nest_container array us is = absurd is
 
 pub place_items : (kind : Container) (n : ℕ) → items_at (place_of kind) n ≡ Some n
 place_items list n = refl
@@ -194,12 +194,12 @@ first_spelled None c own b t first known d = ([], c, omega arith, (c ∷ [], b, 
 first_spelled (Some ([], k)) c own b t (e, f) known d = subst (λ x. data_of t [] k (x ++ b)) (sym e) (subst (λ x. data_of t [] x b) f d)
 first_spelled (Some (e ∷ ds, k)) c own b t (f, g) known d = absurd (subst (λ x. IsKnown (format x)) g known)
 
-pub first_parts : (o : Option (List Descriptor × ℕ)) (c : ℕ) (own b : List ℕ) (kind : Container) (us : Terms) (ss : List Standing) → IsFirst o c own → IsKnown (format c) → StandIn (holder kind us) ss [] c b → Parts (standing o (own ++ b)) (holder kind us) ss
+pub first_parts : (o : Option (List Descriptor × ℕ)) (c : ℕ) (own b : List ℕ) (kind : Container) (us : Terms) (ss : List Standing) → IsFirst o c own → IsKnown (format c) → StandIn (container kind us) ss [] c b → Parts (standing o (own ++ b)) (container kind us) ss
 first_parts None c own b kind us ss first known d = ([], c, omega arith, (c ∷ [], b, ap (λ l. l ++ b) first, (refl, known), d))
-first_parts (Some ([], k)) c own b kind us ss (e, f) known d = subst (λ x. StandIn (holder kind us) ss [] k (x ++ b)) (sym e) (subst (λ x. StandIn (holder kind us) ss [] x b) f d)
+first_parts (Some ([], k)) c own b kind us ss (e, f) known d = subst (λ x. StandIn (container kind us) ss [] k (x ++ b)) (sym e) (subst (λ x. StandIn (container kind us) ss [] x b) f d)
 first_parts (Some (e ∷ ds, k)) c own b kind us ss (f, g) known d = absurd (subst (λ x. IsKnown (format x)) g known)
 
-parts_in : (kind : Container) (us : Terms) (ss : List Standing) (c : ℕ) (b : List ℕ) → IsRow kind → ContainerData (format c) kind (count us) (StandWhole us ss) b → StandIn (holder kind us) ss [] c b
+parts_in : (kind : Container) (us : Terms) (ss : List Standing) (c : ℕ) (b : List ℕ) → IsRow kind → ContainerData (format c) kind (count us) (StandWhole us ss) b → StandIn (container kind us) ss [] c b
 parts_in list us ss c b is d = d
 parts_in map us ss c b is d = d
 parts_in array us ss c b is d = absurd is
@@ -227,9 +227,9 @@ pub known : (F : Format) (kind : Container) (w : ℕ) → F ≡ compound kind w 
 known F kind w e = subst IsKnown (sym e) tt
 
 -- the states on the way through a container of n bytes behind a header of h and the code's own bytes
-pub closed_at : (st m after : State) (own h n : ℕ) → m ≡ past own st → after ≡ on h m → on n after ≡ past (own + h + n) st
+pub closed_at : (st m after : State) (own h n : ℕ) → m ≡ after_value own st → after ≡ after_data h m → after_data n after ≡ after_value (own + h + n) st
 closed_at st m after own h n e f =
-    ap (on n) f ∙ on-on h n m ∙ ap (on (h + n)) e ∙ on-past own (h + n) st ∙ ap (λ k. past k st) (omega arith)
+    ap (after_data n) f ∙ after_data-after_data h n m ∙ ap (after_data (h + n)) e ∙ after_data-after_value own (h + n) st ∙ ap (λ k. after_value k st) (omega arith)
 
 -- an inner bound that is used up
 pub used_up : (o : Option ℕ) (n k : ℕ) → o ≡ Some n → Has o k → lower o k ≡ Some 0 → n ≡ k
@@ -237,21 +237,21 @@ used_up None n k e h f = absurd (cc)
 used_up (Some l) n k e h f = omega (arith, ap (λ o. unwrap_or o 0) e, ap (λ o. unwrap_or o 0) f)
 
 -- the container around one that was left
-left_is : (p : Place) (n k b content : ℕ) (last at new : State) (outer : Open) (others : List Open) → last ≡ many k b (inside p n content at) → last.saved ≡ outer ∷ others → new ≡ record last { top = outer; saved = others } → content ≡ b → new ≡ on b at
+left_is : (p : OpenKind) (n k b content : ℕ) (last at new : State) (outer : Open) (others : List Open) → last ≡ many k b (in_container p n content at) → last.saved ≡ outer ∷ others → new ≡ record last { top = outer; saved = others } → content ≡ b → new ≡ after_data b at
 left_is p n k b content last at new outer others is saved moved same =
     let e = sym (ap (λ (z : State). z.saved) is) ∙ saved in
     let head : record at.top { left = lower at.top.left content } ≡ outer = ap (λ l. get_or l 0 at.top) e in
     let tail : at.saved ≡ others = ap (drop 1) e in
     moved ∙ ap (λ (z : State). record z { top = outer; saved = others }) is
-    ∙ ap (λ o. record (many k b (inside p n content at)) { top = o; saved = others }) (sym head)
-    ∙ ap (λ l. record (many k b (inside p n content at)) { top = record at.top { left = lower at.top.left content }; saved = l }) (sym tail)
+    ∙ ap (λ o. record (many k b (in_container p n content at)) { top = o; saved = others }) (sym head)
+    ∙ ap (λ l. record (many k b (in_container p n content at)) { top = record at.top { left = lower at.top.left content }; saved = l }) (sym tail)
     ∙ ap (λ c. record at { rest = drop b at.rest; ahead = at.ahead - b; top = record at.top { left = lower at.top.left c } }) same
 
 pub three : (own h b : List ℕ) → length (own ++ (h ++ b)) ≡ length own + length h + length b
 three own h b = length-append own (h ++ b) ∙ ap (λ n. length own + n) (length-append h b) ∙ (omega arith)
 
 -- the items of a container stand in it as they were taken
-pub whole_with_parts : (kind : Container) → IsRow kind → (st : State) (us : Terms) (new : State) (c : Contains kind st (items_of us) new) → NextWithParts st (holder kind us) (row_standings c.mid (items_of us) c.bytes c.last c.items) new
+pub whole_with_parts : (kind : Container) → IsRow kind → (st : State) (us : Terms) (new : State) (c : Contains kind st (items_of us) new) → NextWithParts st (container kind us) (row_standings c.mid (items_of us) c.bytes c.last c.items) new
 whole_with_parts kind is st us new c =
     let o = c.opened in
     let d = o.data_ in
@@ -261,15 +261,15 @@ whole_with_parts kind is st us new c =
     let t = together us c.mid b c.last c.items in
     let n_is : c.count ≡ count us = used_up c.mid.top.items c.count (count us) (ap (λ (z : State). z.top.items) d.entered ∙ place_items kind c.count) t.items (sym (ap (λ (z : State). z.top.items) t.moved) ∙ c.closed.items) in
     let k_is : d.content ≡ length b = used_up c.mid.top.left d.content (length b) (ap (λ (z : State). z.top.left) d.entered) t.room (sym (ap (λ (z : State). z.top.left) t.moved) ∙ c.closed.left) in
-    let h : Header (is_list kind) o.width o.mid (count us) d.content d.mid = subst (λ n. Header (is_list kind) o.width o.mid n d.content d.mid) n_is d.header in
+    let h : ReadsHeader (is_list kind) o.width o.mid (count us) d.content d.mid = subst (λ n. ReadsHeader (is_list kind) o.width o.mid n d.content d.mid) n_is d.header in
     let head = bytes_high_first o.width h.size ++ bytes_high_first o.width (count us) in
-    let at : State = on (length head) (past (length own) st) in
-    let at_is : d.mid ≡ at = h.took.moved ∙ ap (on (length head)) g.moved in
-    let mid_is : c.mid ≡ inside (place_of kind) c.count d.content at = d.entered ∙ ap (inside (place_of kind) c.count d.content) at_is in
-    let tk = subst (λ z. Took z head d.mid) g.moved h.took in
-    let first : Took st own (on (length own) st) = record { room = g.room; rest = g.rest; moved = refl } in
-    let second : Took (on (length own) st) head (on (length head) (on (length own) st)) = record { room = tk.room; rest = tk.rest; moved = refl } in
-    let third : Took (on (length head) (on (length own) st)) b (on (length b) (on (length head) (on (length own) st))) = record {
+    let at : State = after_data (length head) (after_value (length own) st) in
+    let at_is : d.mid ≡ at = h.took.moved ∙ ap (after_data (length head)) g.moved in
+    let mid_is : c.mid ≡ in_container (place_of kind) c.count d.content at = d.entered ∙ ap (in_container (place_of kind) c.count d.content) at_is in
+    let tk = subst (λ z. Takes z head d.mid) g.moved h.took in
+    let first : Takes st own (after_data (length own) st) = record { room = g.room; rest = g.rest; moved = refl } in
+    let second : Takes (after_data (length own) st) head (after_data (length head) (after_data (length own) st)) = record { room = tk.room; rest = tk.rest; moved = refl } in
+    let third : Takes (after_data (length head) (after_data (length own) st)) b (after_data (length b) (after_data (length head) (after_data (length own) st))) = record {
       room = subst (Has at.top.left) k_is (subst (λ (z : State). Has z.top.left d.content) at_is d.room);
       rest = subst (λ (z : State). z.rest ≡ b ++ drop (length b) z.rest) mid_is t.rest;
       moved = refl;
@@ -289,7 +289,7 @@ whole_with_parts kind is st us new c =
     let unshared : c.mid.top.shared ≡ None = ap (λ (z : State). z.top.shared) d.entered in
     let ss = row_standings c.mid (items_of us) b c.last c.items in
     let items_in = data_of_content (items_spelled us) (all_items us b (row_spelled None us c.mid b c.last unshared c.items)) in
-    let data_is = holder_data kind us o.code (head ++ b) is (subst (IsCount kind) n_is d.count) items_in in
+    let data_is = container_data kind us o.code (head ++ b) is (subst (IsCount kind) n_is d.count) items_in in
     let parts_are = parts_in kind us ss o.code (head ++ b) is (data_of_content (StandWhole us ss) (row_stands None us c.mid b c.last unshared c.items)) in
     let code_is = known (format o.code) kind o.width o.announced in
     let levels : length c.mid.saved ≡ suc (length st.saved) = ap (λ (z : State). length z.saved) mid_is in
@@ -304,19 +304,19 @@ whole_with_parts kind is st us new c =
           room = all.room;
           after = drop (length (own ++ (head ++ b))) st.rest;
           rest = all.rest;
-          spelled = first_spelled st.top.shared o.code own (head ++ b) (holder kind us) g.first code_is data_is;
-          nested = omega (arith, t.nested, levels, limit, few, nest_holder kind us is);
+          spelled = first_spelled st.top.shared o.code own (head ++ b) (container kind us) g.first code_is data_is;
+          nested = omega (arith, t.nested, levels, limit, few, nest_container kind us is);
         };
         moved = left_is (place_of kind) c.count (count us) (length b) d.content c.last at new c.closed.outer c.closed.others (t.moved ∙ ap (many (count us) (length b)) mid_is) c.closed.saved c.closed.moved k_is
-            ∙ closed_at st (past (length own) st) at (length own) (length head) (length b) refl refl ∙ ap (λ k. past k st) (sym (three own head b));
+            ∙ closed_at st (after_value (length own) st) at (length own) (length head) (length b) refl refl ∙ ap (λ k. after_value k st) (sym (three own head b));
       };
       parts = first_parts st.top.shared o.code own (head ++ b) kind us ss g.first code_is parts_are;
     }
 
-pub whole : (kind : Container) → IsRow kind → (st : State) (us : Terms) (new : State) → Contains kind st (items_of us) new → Next st (holder kind us) new
+pub whole : (kind : Container) → IsRow kind → (st : State) (us : Terms) (new : State) → Contains kind st (items_of us) new → Next st (container kind us) new
 whole kind is st us new c = let h = whole_with_parts kind is st us new c in h.next
 
-pub took_parts : (st m : State) (a b : List ℕ) → Took st (a ++ b) m → Took st a (on (length a) st) × Took (on (length a) st) b (on (length b) (on (length a) st))
+pub took_parts : (st m : State) (a b : List ℕ) → Takes st (a ++ b) m → Takes st a (after_data (length a) st) × Takes (after_data (length a) st) b (after_data (length b) (after_data (length a) st))
 took_parts st m a b t =
     let x = drop (length (a ++ b)) st.rest in
     let r : st.rest ≡ a ++ (b ++ x) = t.rest ∙ append_assoc a b x in
@@ -326,27 +326,27 @@ took_parts st m a b t =
       record { room = has_rest st.top.left (length a) (length b) room; rest = front_is b (drop (length a) st.rest) x (length b) refl behind; moved = refl },
     )
 
-pub parts : (kind : Container) → IsRow kind → (st : State) (us : Terms) (new : State) → Next st (holder kind us) new → Contains kind st (items_of us) new
+pub parts : (kind : Container) → IsRow kind → (st : State) (us : Terms) (new : State) → Next st (container kind us) new → Contains kind st (items_of us) new
 parts kind is st us new next =
     let k = next.stands in
-    let f = front_of st.top.shared (holder kind us) next.bytes (holder_bare kind us) k.spelled in
-    let c = data_holder kind us f.code f.data_ is f.spelled in
+    let f = front_of st.top.shared (container kind us) next.bytes (container_bare kind us) k.spelled in
+    let c = data_container kind us f.code f.data_ is f.spelled in
     let x = container_split (format f.code) kind (count us) (items_spelled us) f.data_ c.1 in
     let own = f.own in
     let b = x.content in
     let n = count us in
     let head = bytes_high_first x.width x.size ++ bytes_high_first x.width n in
     let s_is : next.bytes ≡ own ++ (head ++ b) = f.whole ∙ ap (λ l. own ++ l) (x.whole ∙ sym (append_assoc (bytes_high_first x.width x.size) (bytes_high_first x.width n) b)) in
-    let all : Took st (own ++ (head ++ b)) (on (length (own ++ (head ++ b))) st) = record {
+    let all : Takes st (own ++ (head ++ b)) (after_data (length (own ++ (head ++ b))) st) = record {
       room = subst (λ l. Has st.top.left (length l)) s_is k.room;
       rest = front_is (own ++ (head ++ b)) st.rest k.after (length (own ++ (head ++ b))) refl (k.rest ∙ ap (λ l. l ++ k.after) s_is);
       moved = refl;
     } in
     let one = took_parts st _ own (head ++ b) all in
     let two = took_parts _ _ head b one.1 in
-    let at : State = on (length head) (past (length own) st) in
-    let mid : State = inside (place_of kind) n (length b) at in
-    let deep : suc (nests us) ≤ st.nesting - length st.saved = subst (λ m. m ≤ st.nesting - length st.saved) (nest_holder kind us is) k.nested in
+    let at : State = after_data (length head) (after_value (length own) st) in
+    let mid : State = in_container (place_of kind) n (length b) at in
+    let deep : suc (nests us) ≤ st.nesting - length st.saved = subst (λ m. m ≤ st.nesting - length st.saved) (nest_container kind us is) k.nested in
     let items_are : items_at (place_of kind) n ≡ Some n = place_items kind n in
     let whole_count : Has (Some n) n = omega arith in
     let all_bytes : Has (Some (length b)) (length b) = omega arith in
@@ -358,7 +358,7 @@ parts kind is st us new next =
       opened = record {
         code = f.code;
         width = x.width;
-        mid = past (length own) st;
+        mid = after_value (length own) st;
         begun = record { going = k.going; item = k.item; own = own; first = f.first; room = one.0.room; rest = one.0.rest; moved = refl };
         announced = x.announced;
         data_ = record {
@@ -382,7 +382,7 @@ parts kind is st us new next =
         outer = record at.top { left = lower at.top.left (length b) };
         others = at.saved;
         saved = refl;
-        moved = next.moved ∙ ap (λ l. past (length l) st) s_is ∙ ap (λ m. past m st) (three own head b) ∙ sym (closed_at st (past (length own) st) at (length own) (length head) (length b) refl refl);
+        moved = next.moved ∙ ap (λ l. after_value (length l) st) s_is ∙ ap (λ m. after_value m st) (three own head b) ∙ sym (closed_at st (after_value (length own) st) at (length own) (length head) (length b) refl refl);
       };
     }
 
@@ -390,7 +390,7 @@ parts kind is st us new next =
 pub row_joined : (ts us : List Term) (a m z : State) (b c : List ℕ) → Row a ts b m → Row m us c z → Row a (ts ++ us) (b ++ c) z
 row_joined [] us a m z b c (e, f) r = subst (λ x. Row a us (x ++ c) z) (sym e) (subst (λ x. Row x us c z) f r)
 row_joined (t ∷ ts) us a m z b c (s, o, e, k, row) r =
-    (s, o ++ c, ap (λ x. x ++ c) e ∙ append_assoc s o c, k, row_joined ts us (past (length s) a) m z o c row r)
+    (s, o ++ c, ap (λ x. x ++ c) e ∙ append_assoc s o c, k, row_joined ts us (after_value (length s) a) m z o c row r)
 
 pub row_of_one : (t : Term) (a z : State) (h : Next a t z) → Row a (t ∷ []) h.bytes z
 row_of_one t a z h = (h.bytes, [], sym (append-nil h.bytes), h.stands, (refl, h.moved))

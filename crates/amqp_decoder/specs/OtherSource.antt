@@ -7,18 +7,18 @@ use Rattle.amqp_model.specs.Standing.{Standing}
 use Rattle.amqp_wire.specs.declared.error.Error.{Error}
 use Rattle.amqp_wire.specs.declared.error.Error.TheVariants.{Size, Depth}
 use Rattle.amqp_input.specs.Members.{Member}
-use Rattle.amqp_decoder.specs.declared.frame.Place.{Place}
-use Rattle.amqp_decoder.specs.declared.frame.Place.TheVariants.{InArray}
-use Rattle.amqp_decoder.specs.State.{State, inside}
-use Rattle.amqp_decoder.specs.Steps.{Took, Lacks, cut_open, cut_inside, too_long, SizeError, cut, wrong, NoRoom}
-use Rattle.amqp_decoder.specs.Reading.{Begun, BeginFault, missing, no_code, looked_under, Peeked}
-use Rattle.amqp_decoder.specs.Primitives.{Stands, Value, LacksData, PrimitiveFault, not_begun, wrong_code, no_data, bad_data}
+use Rattle.amqp_decoder.specs.declared.frame.OpenKind.{OpenKind}
+use Rattle.amqp_decoder.specs.declared.frame.OpenKind.TheVariants.{InArray}
+use Rattle.amqp_decoder.specs.State.{State, in_container}
+use Rattle.amqp_decoder.specs.Steps.{Takes, Lacks, cut_open, cut_inside, too_long, SizeError, cut, wrong, NoRoom}
+use Rattle.amqp_decoder.specs.Reading.{ReadsCode, BeginFault, missing, no_code, after_peek, PeeksCode}
+use Rattle.amqp_decoder.specs.Primitives.{Stands, ReadsValue, LacksData, PrimitiveFault, not_begun, wrong_code, no_data, bad_data}
 use Rattle.amqp_decoder.specs.Containers as containers
-use Rattle.amqp_decoder.specs.Containers.{IsOpen, EndFault, other_place, nothing_open, items_left, Closes, CloseFault, not_at_end, bytes_left_over, ClosesDescribed, Header, HeaderFault, no_size, impossible, no_count, no_content, Entered, EnterFault, no_header, odd_count, no_room, too_deep, Opens, OpenFault}
+use Rattle.amqp_decoder.specs.Containers.{IsOpen, EndFault, other_place, nothing_open, items_left, Closes, CloseFault, not_at_end, bytes_left_over, ClosesDescribed, ReadsHeader, HeaderFault, no_size, impossible, no_count, no_content, Enters, EnterFault, no_header, odd_count, no_room, too_deep, Opens, OpenFault}
 use Rattle.amqp_decoder.specs.Described as described
-use Rattle.amqp_decoder.specs.Described.{TookDescriptor, OpensDescribed, TookPlace, DescribedFault, other_code, DescriptorFault, no_kind, non_ascii, not_open, nameless, OneOfFault, not_described, no_descriptor, no_member}
+use Rattle.amqp_decoder.specs.Described.{TakesDescriptor, OpensDescribed, TakesPlace, DescribedFault, other_code, DescriptorFault, no_kind, non_ascii, not_open, nameless, OneOfFault, not_described, no_descriptor, no_member}
 use Rattle.amqp_decoder.specs.Arrays as arrays
-use Rattle.amqp_decoder.specs.Arrays.{IsFlat, TookMarks, TookConstructor, ConstructorFault, no_mark, too_many, no_known_code, Shares, no_items, shared_by, SharesFault, no_constructor, zero_width, too_nested, Starts, EntersArray, EnterArrayFault, no_start, OpensArray, ArrayFault}
+use Rattle.amqp_decoder.specs.Arrays.{IsFlat, TakesMarks, TakesConstructor, ConstructorFault, no_mark, too_many, no_known_code, Shares, no_items, shared_by, SharesFault, no_constructor, zero_width, too_nested, Starts, EntersArray, EnterArrayFault, no_start, OpensArray, ArrayFault}
 use Rattle.amqp_decoder.specs.Rooms.{HasRoom}
 use Rattle.amqp_decoder.specs.Terms as terms
 use Rattle.amqp_decoder.specs.Terms.{LacksAnnounced, NoTerm, wrong_size, wrong_term, SpellingFault, no_term, TakesTerm, TermFault, in_array, misspelled}
@@ -57,17 +57,17 @@ module _ (c : Setting) where
   abbrev at : State → State
   at = under c
 
-  took : {st st' : State} {s : List ℕ} → Took st s st' → Took (at st) s (at st')
+  took : {st st' : State} {s : List ℕ} → Takes st s st' → Takes (at st) s (at st')
   took h = record { room = h.room; rest = h.rest; moved = ap at h.moved }
 
-  pub begun : {st st' : State} {k : ℕ} → Begun st k st' → Begun (at st) k (at st')
+  pub begun : {st st' : State} {k : ℕ} → ReadsCode st k st' → ReadsCode (at st) k (at st')
   begun h = record { going = h.going; item = h.item; own = h.own; first = h.first; room = h.room; rest = h.rest; moved = ap at h.moved }
 
-  looked_at : (o : Option (List Descriptor × ℕ)) (st : State) → at (looked_under o st) ≡ looked_under o (at st)
+  looked_at : (o : Option (List Descriptor × ℕ)) (st : State) → at (after_peek o st) ≡ after_peek o (at st)
   looked_at None st = refl
   looked_at (Some s) st = refl
 
-  pub peeked : {st st' : State} {k : ℕ} → Peeked st k st' → Peeked (at st) k (at st')
+  pub peeked : {st st' : State} {k : ℕ} → PeeksCode st k st' → PeeksCode (at st) k (at st')
   peeked {st} h = record { after = at h.after; begun = begun h.begun; kept = ap at h.kept ∙ looked_at st.top.shared st }
 
   pub stands : {st : State} {s : List ℕ} {t : Term} → Stands st s t → Stands (at st) s t
@@ -81,7 +81,7 @@ module _ (c : Setting) where
     nested = let n = h.nested in let g = c.grows st.nesting in omega (arith, n, g);
   }
 
-  pub value : {A : Type 0} (means : Standing → Term → A → Type 0) {st st' : State} {v : A} → Value means st v st' → Value means (at st) v (at st')
+  pub value : {A : Type 0} (means : Standing → Term → A → Type 0) {st st' : State} {v : A} → ReadsValue means st v st' → ReadsValue means (at st) v (at st')
   value means h = record { bytes = h.bytes; term = h.term; stands = stands h.stands; moved = ap at h.moved; meant = h.meant }
 
   lacks : {n : ℕ} {st : State} {e : Error} → Lacks n st e → Lacks n (at st) e
@@ -121,7 +121,7 @@ module _ (c : Setting) where
   deeper keeps n l is = let same = keeps is n in omega (arith, l, same)
 
   -- containers
-  header : {listed : Bool} {w n content : ℕ} {st st' : State} → Header listed w st n content st' → Header listed w (at st) n content (at st')
+  header : {listed : Bool} {w n content : ℕ} {st st' : State} → ReadsHeader listed w st n content st' → ReadsHeader listed w (at st) n content (at st')
   header h = record { size = h.size; fits = h.fits; few = h.few; took = took h.took; counts = h.counts }
 
   header_fault : {listed : Bool} {w : ℕ} {st : State} {e : Error} → HeaderFault listed w st e → HeaderFault listed w (at st) e
@@ -130,7 +130,7 @@ module _ (c : Setting) where
   header_fault (no_count l t p h) = no_count l (took t) p (lacks h)
   header_fault (no_content l m t h) = no_content l m (took t) (size_error h)
 
-  entered : {kind : Container} {w n : ℕ} {st st' : State} → Entered kind w st n st' → Entered kind w (at st) n (at st')
+  entered : {kind : Container} {w n : ℕ} {st st' : State} → Enters kind w st n st' → Enters kind w (at st) n (at st')
   entered {st} h = record {
     content = h.content;
     mid = at h.mid;
@@ -155,23 +155,23 @@ module _ (c : Setting) where
   open_fault keeps (containers.wrong_code b n e) = containers.wrong_code (begun b) n e
   open_fault keeps (containers.no_data b f h) = containers.no_data (begun b) f (enter_fault keeps h)
 
-  is_open : {place : Place} {st : State} → IsOpen place st → IsOpen place (at st)
+  is_open : {place : OpenKind} {st : State} → IsOpen place st → IsOpen place (at st)
   is_open h = record { here = h.here; outer = h.outer; others = h.others; saved = h.saved }
 
-  pub end_fault : {place : Place} {st : State} {e : Error} → KeepsError c e → EndFault place st e → EndFault place (at st) e
+  pub end_fault : {place : OpenKind} {st : State} {e : Error} → KeepsError c e → EndFault place st e → EndFault place (at st) e
   end_fault keeps (other_place n e) = other_place n e
   end_fault keeps (nothing_open s e) = nothing_open s e
   end_fault keeps (items_left o n e) = items_left (is_open o) n e
 
-  pub closes : {place : Place} {st st' : State} → Closes place st st' → Closes place (at st) (at st')
+  pub closes : {place : OpenKind} {st st' : State} → Closes place st st' → Closes place (at st) (at st')
   closes h = record { going = h.going; here = h.here; items = h.items; left = h.left; outer = h.outer; others = h.others; saved = h.saved; moved = ap at h.moved }
 
-  pub close_fault : {place : Place} {st : State} {e : Error} → KeepsError c e → CloseFault place st e → CloseFault place (at st) e
+  pub close_fault : {place : OpenKind} {st : State} {e : Error} → KeepsError c e → CloseFault place st e → CloseFault place (at st) e
   close_fault keeps (not_at_end h) = not_at_end (end_fault keeps h)
   close_fault keeps (bytes_left_over o i n h) = bytes_left_over (is_open o) i n (size_error h)
 
   -- described values
-  took_descriptor : {st st' : State} {d : Descriptor} → TookDescriptor st d st' → TookDescriptor (at st) d (at st')
+  took_descriptor : {st st' : State} {d : Descriptor} → TakesDescriptor st d st' → TakesDescriptor (at st) d (at st')
   took_descriptor h = record { own = h.own; descriptor = h.descriptor; took = took h.took }
 
   pub opens_described : {st st' : State} {d : Descriptor} → OpensDescribed st d st' → OpensDescribed (at st) d (at st')
@@ -184,7 +184,7 @@ module _ (c : Setting) where
     opened = ap at h.opened;
   }
 
-  pub closes_described : {place : Place} {st st' : State} → ClosesDescribed place st st' → ClosesDescribed place (at st) (at st')
+  pub closes_described : {place : OpenKind} {st st' : State} → ClosesDescribed place st st' → ClosesDescribed place (at st) (at st')
   closes_described h = record { going = h.going; here = h.here; items = h.items; outer = h.outer; others = h.others; saved = h.saved; moved = ap at h.moved }
 
   described_fault : {st : State} {e : Error} → KeepsError c e → DescribedFault st e → DescribedFault (at st) e
@@ -198,7 +198,7 @@ module _ (c : Setting) where
   descriptor_fault (described.no_data {c = n} {m} t k h) = described.no_data (took t) k (data_fault (format n) m _ h)
   descriptor_fault (non_ascii t k u w n e) = non_ascii (took t) k (took u) w n e
 
-  took_place : {members : List Member} {o : Option ℕ} {st st' : State} → TookPlace members st o st' → TookPlace members (at st) o (at st')
+  took_place : {members : List Member} {o : Option ℕ} {st st' : State} → TakesPlace members st o st' → TakesPlace members (at st) o (at st')
   took_place h = record { descriptor = h.descriptor; took = took_descriptor h.took; is = h.is }
 
   pub one_of_fault : {members : List Member} {st : State} {e : Error} → KeepsError c e → OneOfFault members st e → OneOfFault members (at st) e
@@ -211,10 +211,10 @@ module _ (c : Setting) where
   open_described_fault keeps (nameless b s h) = nameless (begun b) s (descriptor_fault h)
 
   -- arrays
-  took_constructor : {st st' : State} {ds : List Descriptor} {k : ℕ} → TookConstructor st ds k st' → TookConstructor (at st) ds k (at st')
+  took_constructor : {st st' : State} {ds : List Descriptor} {k : ℕ} → TakesConstructor st ds k st' → TakesConstructor (at st) ds k (at st')
   took_constructor h = record { own = h.own; few = h.few; spelled = h.spelled; took = took h.took }
 
-  took_marks : {st st' : State} {ds : List Descriptor} {k : ℕ} → TookMarks st ds k st' → TookMarks (at st) ds k (at st')
+  took_marks : {st st' : State} {ds : List Descriptor} {k : ℕ} → TakesMarks st ds k st' → TakesMarks (at st) ds k (at st')
   took_marks h = record { own = h.own; marks = h.marks; took = took h.took }
 
   fits : {F : Type 0} (n m : ℕ) → F ⊎ (m ≤ n) → F ⊎ (m ≤ c.deepen n)
@@ -236,7 +236,7 @@ module _ (c : Setting) where
     header = header h.header;
     room = h.room;
     few = let f = h.few in let g = c.grows st.nesting in omega (arith, f, g);
-    starts = starts n h.content (inside InArray 0 h.content h.mid) st' h.starts;
+    starts = starts n h.content (in_container InArray 0 h.content h.mid) st' h.starts;
   }
 
   pub opens_array : {n : ℕ} {st st' : State} → OpensArray st n st' → OpensArray (at st) n (at st')
