@@ -38,7 +38,8 @@ abbrev depth_at : List ℕ → ℕ → List ℕ → ℕ
 depth_at b n c = cond (bytes_eq b c) n 0
 
 at_least : (b c : List ℕ) (t u : Term) (test : Bool) → bytes_eq b c ≡ test → enc b t → enc c u → cond test (nest t) 0 ≤ nest u
-at_least b c t u true e h k = let i : b ≡ c = (bytes_eq-Decides b c).0 e in let j : t ≡ u = same_term c t u (subst (λ x. enc x t) i h) k in omega (arith, ap nest j)
+at_least b c t u true e h k = let i : b ≡ c = (bytes_eq-Decides b c).0 e in let j : t ≡ u = same_term c t u (subst (λ x. enc x t) i h) k in
+    omega (arith, ap nest j)
 at_least b c t u false e h k = omega arith
 
 at_itself : (b : List ℕ) (t u : Term) → enc b t → enc b u → depth_at b (nest t) b ≡ nest u
@@ -76,17 +77,24 @@ is_lazy t h = inr h
 
 module _ (deep : List ℕ → ℕ) where
   -- terms are as deep as what they read as, where no array has an item that is kept
-  read_nests : (us ts : Terms) → EachExpandsTo us ts → EverywhereIn (KnowsDepth deep) us → (SomewhereIn (IsRefused lazy_in_array) us → ⊥) → nests ts ≤ nests_by deep us
-  read_nests us ts r h f = elim (all_as_deep deep us ts h r) [ inl l ↦ l | inr k ↦ absurd (f (somewhere_in_as HasKeptItem (IsRefused lazy_in_array) is_lazy us k)) ]
+  read_nests : (us ts : Terms) → EachExpandsTo us ts → EverywhereIn (KnowsDepth deep) us → (SomewhereIn (IsRefused lazy_in_array) us → ⊥)
+      → nests ts ≤ nests_by deep us
+  read_nests us ts r h f =
+      elim (all_as_deep deep us ts h r) [
+        | inl l ↦ l
+        | inr k ↦ absurd (f (somewhere_in_as HasKeptItem (IsRefused lazy_in_array) is_lazy us k))
+      ]
 
   -- an encoder's reasons are those of the terms
   pub unwritable : (ts : List Term) (e : Error) → AreProper ts → KnowDepths deep ts → AreRefused deep ts e → AreUnwritable ts e
   unwritable ts e i h (inl s) = inl s
-  unwritable ts e i h (inr (inl (d, l))) = let r = proper_reads_each (terms_of ts) i in inr (inl (d, (r.0, r.1, omega (arith, l, none_deeper deep (terms_of ts) r.0 h r.1))))
+  unwritable ts e i h (inr (inl (d, l))) = let r = proper_reads_each (terms_of ts) i in
+      inr (inl (d, (r.0, r.1, omega (arith, l, none_deeper deep (terms_of ts) r.0 h r.1))))
   unwritable ts e i h (inr (inr x)) = inr (inr x)
 
   -- and there are none where they were measured
   pub writable : (ts : List Term) (len : ℕ) (sizes : List Size) → KnowDepths deep ts → IsMeasured deep ts len sizes → AreWritable ts
   writable ts len sizes h m e (inl s) = m.unrefused e (inl s)
-  writable ts len sizes h m e (inr (inl (d, (us, r, l)))) = omega (arith, l, m.nested, read_nests (terms_of ts) us r h (m.free lazy_in_array))
+  writable ts len sizes h m e (inr (inl (d, (us, r, l)))) =
+      omega (arith, l, m.nested, read_nests (terms_of ts) us r h (m.free lazy_in_array))
   writable ts len sizes h m e (inr (inr x)) = m.unrefused e (inr (inr x))

@@ -1,5 +1,6 @@
 -- The fields of a composite are read one after another.
-use Rattle.std.proofs.Common.{◌≡◌, inl, inr, ℕ, zero, suc, ◌<◌, ◌≤◌, Bool, true, false, List, [], ◌∷◌, ◌++◌, length, get_or, None, Result, Ok, Err, refl, sym, ap, ◌∙◌, subst, arith, length-append, Some}
+use Rattle.std.proofs.Common.{◌≡◌, inl, inr, ℕ, zero, suc, ◌<◌, ◌≤◌, Bool, true, false, List, [], ◌∷◌, ◌++◌, length, get_or, None, Result}
+use Rattle.std.proofs.Common.{Ok, Err, refl, sym, ap, ◌∙◌, subst, arith, length-append, Some}
 use Rattle.amqp_model.specs.Term.{null, list, Term, leaf, count}
 use Rattle.amqp_model.specs.Items.{is_null, terms_of}
 use Rattle.amqp_model.specs.ItemLaws.{clash, items_of-terms_of}
@@ -21,13 +22,17 @@ use Rattle.amqp_decoder.proofs.Steps.{answered_later}
 use Rattle.amqp_decoder.specs.Steps.{Answers}
 use Rattle.amqp_encoder.proofs.Refused.{count_of}
 use Rattle.amqp_codec.specs.Fields.{Fields, slots, take_memory}
-use Rattle.amqp_codec.specs.FieldReading.{absence, absent, MeansAt, FaultAt, FitsFront, KeepsBut, FitsAt, ItemRead, ItemFault, no_item, null_item, in_item, FieldsSoFar, FieldsRead, FieldsFault, FillsField, ReadsItem, filled_at, unfilled_at, no_list, at_item, left_out, not_ended, kind_at, front_null, front_filled, front_missing, front_end, front_start, fits_value, fits_null, fits_few, IsBlank}
+use Rattle.amqp_codec.specs.FieldReading.{absence, absent, MeansAt, FaultAt, FitsFront, KeepsBut, FitsAt, ItemRead, ItemFault, no_item}
+use Rattle.amqp_codec.specs.FieldReading.{null_item, in_item, FieldsSoFar, FieldsRead, FieldsFault, FillsField, ReadsItem, filled_at}
+use Rattle.amqp_codec.specs.FieldReading.{unfilled_at, no_list, at_item, left_out, not_ended, kind_at, front_null, front_filled}
+use Rattle.amqp_codec.specs.FieldReading.{front_missing, front_end, front_start, fits_value, fits_null, fits_few, IsBlank}
 use Rattle.amqp_codec.specs.RefusalLaws.{no_memory, opened_going, opened_sound, refused_first, refused_later}
 use Rattle.amqp_codec.specs.PeekLaws.{peeked_failed, peeked_going, not_null, value_peeked}
 
 the_item : (ts us : List Term) (t : Term) (rest : List Term) (n : ℕ) → length ts ≡ n → us ≡ ts ++ t ∷ rest → get_or us n (leaf null) ≡ t
 the_item [] us t rest n e f = ap (λ l. get_or l n (leaf null)) f ∙ ap (λ k. get_or (t ∷ rest) k (leaf null)) (sym e)
-the_item (x ∷ ts) us t rest n e f = ap (λ l. get_or l n (leaf null)) f ∙ ap (λ k. get_or (x ∷ (ts ++ t ∷ rest)) k (leaf null)) (sym e) ∙ the_item ts (ts ++ t ∷ rest) t rest (length ts) refl refl
+the_item (x ∷ ts) us t rest n e f = ap (λ l. get_or l n (leaf null)) f ∙ ap (λ k. get_or (x ∷ (ts ++ t ∷ rest)) k (leaf null)) (sym e)
+    ∙ the_item ts (ts ++ t ∷ rest) t rest (length ts) refl refl
 
 past_end : (us : List Term) (n : ℕ) → length us ≤ n → get_or us n (leaf null) ≡ leaf null
 past_end [] n l = refl
@@ -39,10 +44,12 @@ row_together : (st : State) (ts : List Term) (s : List ℕ) (b : State) → Row 
 row_together st ts s b h = together (terms_of ts) st s b (subst (λ us. Row st us s b) (sym (items_of-terms_of ts)) h)
 
 -- a list that is closed had as many items as were taken
-all_taken : (st first mid b : State) (n : ℕ) (ts : List Term) (s : List ℕ) → Opens list st n first → Row first ts s mid → Closes InList mid b → length ts ≡ n
+all_taken : (st first mid b : State) (n : ℕ) (ts : List Term) (s : List ℕ) → Opens list st n first → Row first ts s mid
+    → Closes InList mid b → length ts ≡ n
 all_taken st first mid b n ts s o h c =
     let t = row_together first ts s mid h in
-    sym (used_up first.top.items n (count (terms_of ts)) (ap (λ (x : State). x.top.items) o.data_.entered) t.items (sym (ap (λ (x : State). x.top.items) t.moved) ∙ c.items) ∙ count_of ts)
+    sym (used_up first.top.items n (count (terms_of ts)) (ap (λ (x : State). x.top.items) o.data_.entered) t.items
+    (sym (ap (λ (x : State). x.top.items) t.moved) ∙ c.items) ∙ count_of ts)
 
 module _ {V : Type 0} (fs : Fields V) where
   so_far_failed : (st : State) (n i : ℕ) (v : V) (mid : State) → FieldsSoFar fs st n i v mid → mid.failed ≡ st.failed
@@ -52,7 +59,8 @@ module _ {V : Type 0} (fs : Fields V) where
   so_far_going st n i v mid h = h.opens.begun.going
 
   -- an item was read
-  pub one_more : (st : State) (n i : ℕ) (v w : V) (mid b : State) → i < n → i < length (kinds_of (slots fs)) → FieldsSoFar fs st n i v mid → ItemRead fs i v w mid b → FieldsSoFar fs st n (suc i) w b
+  pub one_more : (st : State) (n i : ℕ) (v w : V) (mid b : State) → i < n → i < length (kinds_of (slots fs)) → FieldsSoFar fs st n i v mid
+      → ItemRead fs i v w mid b → FieldsSoFar fs st n (suc i) w b
   one_more st n i v w mid b l k h r =
       let long : length h.terms ≡ i = h.long ∙ omega (arith, l) in
       record {
@@ -60,16 +68,19 @@ module _ {V : Type 0} (fs : Fields V) where
         opens = h.opens;
         terms = h.terms ++ r.term ∷ [];
         bytes = h.bytes ++ r.bytes;
-        each = row_joined h.terms (r.term ∷ []) h.first mid b h.bytes r.bytes h.each (row_of_one r.term mid b (record { bytes = r.bytes; stands = r.stands; moved = r.moved }));
+        each = row_joined h.terms (r.term ∷ []) h.first mid b h.bytes r.bytes h.each
+            (row_of_one r.term mid b (record { bytes = r.bytes; stands = r.stands; moved = r.moved }));
         long = length-append h.terms (r.term ∷ []) ∙ omega (arith, long, l);
         front = elim r.fits [
-          | inl x ↦ subst (FitsFront fs (suc i) (h.terms ++ r.term ∷ [])) (sym x.2) (subst (λ t. FitsFront fs (suc i) (h.terms ++ t ∷ []) v) (sym x.0) (front_null fs i h.terms v Mandatory k long x.1 h.front))
+          | inl x ↦ subst (FitsFront fs (suc i) (h.terms ++ r.term ∷ [])) (sym x.2)
+              (subst (λ t. FitsFront fs (suc i) (h.terms ++ t ∷ []) v) (sym x.0) (front_null fs i h.terms v Mandatory k long x.1 h.front))
           | inr x ↦ front_filled fs i h.terms v w (standing mid.top.shared r.bytes) r.term long x.0 x.1 h.front
         ];
       }
 
   -- an item is left out
-  pub one_less : (st : State) (n i : ℕ) (v : V) (mid : State) → n ≤ i → i < length (kinds_of (slots fs)) → is_required (kind_at fs i) ≡ false → FieldsSoFar fs st n i v mid → FieldsSoFar fs st n (suc i) v mid
+  pub one_less : (st : State) (n i : ℕ) (v : V) (mid : State) → n ≤ i → i < length (kinds_of (slots fs))
+      → is_required (kind_at fs i) ≡ false → FieldsSoFar fs st n i v mid → FieldsSoFar fs st n (suc i) v mid
   one_less st n i v mid l k r h = record {
     first = h.first;
     opens = h.opens;
@@ -91,48 +102,65 @@ module _ {V : Type 0} (fs : Fields V) where
     front : ts ≡ terms ++ others
     closes : Closes InList last b
 
-  further : (st : State) (n i : ℕ) (v w : V) (mid b : State) → (h : FieldsSoFar fs st n i v mid) → (k : FieldsRead fs st w b) → Further n i h.terms mid k.terms
+  further : (st : State) (n i : ℕ) (v w : V) (mid b : State) → (h : FieldsSoFar fs st n i v mid) → (k : FieldsRead fs st w b)
+      → Further n i h.terms mid k.terms
   further st n i v w mid b h k =
       let c = k.stand in
       let o = opens_same list st c.count n c.mid h.first c.opened h.opens in
       let long : length k.terms ≡ n = all_taken st c.mid c.last b c.count k.terms c.bytes c.opened c.items c.closed ∙ o.0 in
-      let r = row_front h.terms k.terms h.first mid c.last h.bytes c.bytes h.each (subst (λ (x : State). Row x k.terms c.bytes c.last) o.1 c.items) (omega (arith, h.long, long)) in
+      let r = row_front h.terms k.terms h.first mid c.last h.bytes c.bytes h.each
+      (subst (λ (x : State). Row x k.terms c.bytes c.last) o.1 c.items) (omega (arith, h.long, long)) in
       record { last = c.last; b = b; count = long; others = r.0; bytes = r.1; each = r.3; front = r.2; closes = c.closed }
 
-  next_fits : (i : ℕ) (terms ts rest : List Term) (mid last : State) (z : List ℕ) (w : V) → length terms ≡ i → i < length ts → i < length (kinds_of (slots fs)) → Row mid rest z last → ts ≡ terms ++ rest → Fits (slots fs) ts w → (b : State) × ReadsValue (FitsAt fs i) mid w b
+  next_fits : (i : ℕ) (terms ts rest : List Term) (mid last : State) (z : List ℕ) (w : V) → length terms ≡ i → i < length ts
+      → i < length (kinds_of (slots fs)) → Row mid rest z last → ts ≡ terms ++ rest → Fits (slots fs) ts w
+      → (b : State) × ReadsValue (FitsAt fs i) mid w b
   next_fits i terms ts [] mid last z w e l k r f m = absurd (omega (arith, ap length f, length-append terms [], e, l))
   next_fits i terms ts (t ∷ rest) mid last z w e l k (s, others, j, h, hs) f m =
       let at : get_or ts i (leaf null) ≡ t = the_item terms ts t rest i e f in
       (after_value (length s) mid, record { bytes = s; term = t; stands = h; moved = refl; meant = by_null (is_null t) refl at })
     where
-      at_required : (r : Bool) → is_required (kind_at fs i) ≡ r → is_null (get_or ts i (leaf null)) ≡ true → is_required (kind_at fs i) ≡ false
+      at_required : (r : Bool) → is_required (kind_at fs i) ≡ r → is_null (get_or ts i (leaf null)) ≡ true
+          → is_required (kind_at fs i) ≡ false
       at_required false x z = x
       at_required true x z = absurd (fits_null fs i ts w Mandatory m k x z)
 
       by_null : (z : Bool) → is_null t ≡ z → get_or ts i (leaf null) ≡ t → FitsAt fs i (standing mid.top.shared s) t w
       by_null true z at = inl (z, at_required (is_required (kind_at fs i)) refl (ap is_null at ∙ z))
-      by_null false z at = inr (z, subst (λ x. MeansAt fs i (standing mid.top.shared s) x w) at (fits_value fs i ts w (standing mid.top.shared s) m l (ap is_null at ∙ z)))
+      by_null false z at =
+          inr (
+            z,
+            subst (λ x. MeansAt fs i (standing mid.top.shared s) x w) at
+                (fits_value fs i ts w (standing mid.top.shared s) m l (ap is_null at ∙ z)),
+          )
 
   -- an item couldn't be read
-  pub item_refused : (st : State) (n i : ℕ) (v : V) (mid : State) (e : Error) (new : State) → i < n → i < length (kinds_of (slots fs)) → mid.error ≡ None → FieldsSoFar fs st n i v mid → RefusesRead (take_memory fs) (ReadsValue (FitsAt fs i)) (ItemFault fs i) mid e new → RefusesRead (take_memory fs) (FieldsRead fs) (FieldsFault fs) st e new
+  pub item_refused : (st : State) (n i : ℕ) (v : V) (mid : State) (e : Error) (new : State) → i < n → i < length (kinds_of (slots fs))
+      → mid.error ≡ None → FieldsSoFar fs st n i v mid → RefusesRead (take_memory fs) (ReadsValue (FitsAt fs i)) (ItemFault fs i) mid e new
+      → RefusesRead (take_memory fs) (FieldsRead fs) (FieldsFault fs) st e new
   item_refused st n i v mid e new l k going h r =
-      refused_later (ReadsValue (FitsAt fs i)) (ItemFault fs i) (FieldsRead fs) (FieldsFault fs) st mid e new (λ t. t) (so_far_failed st n i v mid h) (so_far_going st n i v mid h) going
+      refused_later (ReadsValue (FitsAt fs i)) (ItemFault fs i) (FieldsRead fs) (FieldsFault fs) st mid e new (λ t. t)
+      (so_far_failed st n i v mid h) (so_far_going st n i v mid h) going
       (λ f. at_item h l k f)
       (λ none w b q.
       let g = further st n i v w mid b h q in
-      let x = next_fits i h.terms q.terms g.others mid g.last g.bytes w (h.long ∙ omega (arith, l)) (omega (arith, g.count, l)) k g.each g.front q.fits in
+      let x = next_fits i h.terms q.terms g.others mid g.last g.bytes w (h.long ∙ omega (arith, l)) (omega (arith, g.count, l)) k
+      g.each g.front q.fits in
       none w x.0 x.1)
       r
 
   -- a required item is left out
-  pub left_out_refused : (st : State) (n i : ℕ) (v : V) (mid : State) (e : Error) (new : State) → n ≤ i → i < length (kinds_of (slots fs)) → absence (kind_at fs i) ≡ Some e → Answers mid e new → FieldsSoFar fs st n i v mid → RefusesRead (take_memory fs) (FieldsRead fs) (FieldsFault fs) st e new
+  pub left_out_refused : (st : State) (n i : ℕ) (v : V) (mid : State) (e : Error) (new : State) → n ≤ i → i < length (kinds_of (slots fs))
+      → absence (kind_at fs i) ≡ Some e → Answers mid e new → FieldsSoFar fs st n i v mid
+      → RefusesRead (take_memory fs) (FieldsRead fs) (FieldsFault fs) st e new
   left_out_refused st n i v mid e new l k is kept h = record {
     kept = answered_later (so_far_failed st n i v mid h) kept;
     again = λ d x. absurd (let y = so_far_going st n i v mid h in cc);
     named = λ _. inr (left_out h l k is);
     none = inr (λ w b q.
         let g = further st n i v w mid b h q in
-        fits_null fs i q.terms w Mandatory q.fits k (absent (kind_at fs i) e is) (ap is_null (past_end q.terms i (omega (arith, g.count, l)))));
+        fits_null fs i q.terms w Mandatory q.fits k (absent (kind_at fs i) e is)
+        (ap is_null (past_end q.terms i (omega (arith, g.count, l)))));
   }
 
   nothing_taken : (ts : List Term) (mid last : State) (s : List ℕ) → length ts ≡ 0 → Row mid ts s last → last ≡ mid
@@ -140,19 +168,25 @@ module _ {V : Type 0} (fs : Fields V) where
   nothing_taken (t ∷ ts) mid last s l h = absurd (omega arith)
 
   -- the list couldn't be closed
-  pub end_refused : (st : State) (n i : ℕ) (v : V) (mid : State) (e : Error) (new : State) → i ≡ length (kinds_of (slots fs)) → mid.error ≡ None → FieldsSoFar fs st n i v mid → RefusesRead false (λ st (_ : Unit {0}) b. Closes InList st b) (CloseFault InList) mid e new → RefusesRead (take_memory fs) (FieldsRead fs) (FieldsFault fs) st e new
+  pub end_refused : (st : State) (n i : ℕ) (v : V) (mid : State) (e : Error) (new : State) → i ≡ length (kinds_of (slots fs))
+      → mid.error ≡ None → FieldsSoFar fs st n i v mid
+      → RefusesRead false (λ st (_ : Unit {0}) b. Closes InList st b) (CloseFault InList) mid e new
+      → RefusesRead (take_memory fs) (FieldsRead fs) (FieldsFault fs) st e new
   end_refused st n i v mid e new all going h r =
-      refused_later (λ st (_ : Unit {0}) b. Closes InList st b) (CloseFault InList) (FieldsRead fs) (FieldsFault fs) st mid e new no_memory (so_far_failed st n i v mid h) (so_far_going st n i v mid h) going
+      refused_later (λ st (_ : Unit {0}) b. Closes InList st b) (CloseFault InList) (FieldsRead fs) (FieldsFault fs) st mid e new no_memory
+      (so_far_failed st n i v mid h) (so_far_going st n i v mid h) going
       (λ f. not_ended (subst (λ k. FieldsSoFar fs st n k v mid) all h) f)
       (λ none w b q.
       let g = further st n i v w mid b h q in
       let few = fits_few fs q.terms w q.fits in
-      let same = nothing_taken g.others mid g.last g.bytes (omega (arith, h.long, g.count, few, all, ap length g.front, length-append h.terms g.others)) g.each in
+      let same = nothing_taken g.others mid g.last g.bytes
+      (omega (arith, h.long, g.count, few, all, ap length g.front, length-append h.terms g.others)) g.each in
       none tt g.b (subst (λ (x : State). Closes InList x g.b) same g.closes))
       r
 
   -- the list was closed: these are the fields
-  pub all_read : (st : State) (n i : ℕ) (v : V) (mid b : State) → i ≡ length (kinds_of (slots fs)) → FieldsSoFar fs st n i v mid → Closes InList mid b → FieldsRead fs st v b
+  pub all_read : (st : State) (n i : ℕ) (v : V) (mid b : State) → i ≡ length (kinds_of (slots fs)) → FieldsSoFar fs st n i v mid
+      → Closes InList mid b → FieldsRead fs st v b
   all_read st n i v mid b all h c = record {
     terms = h.terms;
     stand = record { count = n; mid = h.first; opened = h.opens; bytes = h.bytes; last = mid; items = h.each; closed = c };
@@ -160,26 +194,36 @@ module _ {V : Type 0} (fs : Fields V) where
   }
 
   -- the list couldn't be opened
-  pub open_refused : (st : State) (e : Error) (new : State) → RefusesRead false (Opens list) (OpenFault list) st e new → RefusesRead (take_memory fs) (FieldsRead fs) (FieldsFault fs) st e new
-  open_refused st e new r = refused_first (Opens list) (OpenFault list) (FieldsRead fs) (FieldsFault fs) st e new no_memory no_list (λ none w b q. none q.stand.count q.stand.mid q.stand.opened) r
+  pub open_refused : (st : State) (e : Error) (new : State) → RefusesRead false (Opens list) (OpenFault list) st e new
+      → RefusesRead (take_memory fs) (FieldsRead fs) (FieldsFault fs) st e new
+  open_refused st e new r =
+      refused_first (Opens list) (OpenFault list) (FieldsRead fs) (FieldsFault fs) st e new no_memory no_list
+      (λ none w b q. none q.stand.count q.stand.mid q.stand.opened) r
 
   pub none_so_far : (st : State) (n : ℕ) (v : V) (first : State) → Opens list st n first → IsBlank fs v → FieldsSoFar fs st n 0 v first
-  none_so_far st n v first o b = record { first = first; opens = o; terms = []; bytes = []; each = (refl, refl); long = omega arith; front = front_start fs [] v b }
+  none_so_far st n v first o b =
+      record { first = first; opens = o; terms = []; bytes = []; each = (refl, refl); long = omega arith; front = front_start fs [] v b }
 
   pub so_far_still : (st : State) (n i : ℕ) (v : V) (mid : State) → FieldsSoFar fs st n i v mid → mid.error ≡ None
   so_far_still st n i v mid h = ap (λ (x : State). x.error) (row_together h.first h.terms h.bytes mid h.each).moved ∙ opened_going h.opens
 
 -- Steps of one item.
 module _ {V : Type 0} (fs : Fields V) (i : ℕ) where
-  pub item_unbegun : (st : State) (e : Error) (new : State) → RefusesRead false PeeksCode BeginFault st e new → RefusesRead (take_memory fs) (ReadsValue (FitsAt fs i)) (ItemFault fs i) st e new
-  item_unbegun st e new r = refused_first PeeksCode BeginFault (ReadsValue (FitsAt fs i)) (ItemFault fs i) st e new no_memory no_item (value_peeked (FitsAt fs i) st) r
+  pub item_unbegun : (st : State) (e : Error) (new : State) → RefusesRead false PeeksCode BeginFault st e new
+      → RefusesRead (take_memory fs) (ReadsValue (FitsAt fs i)) (ItemFault fs i) st e new
+  item_unbegun st e new r =
+      refused_first PeeksCode BeginFault (ReadsValue (FitsAt fs i)) (ItemFault fs i) st e new no_memory no_item
+      (value_peeked (FitsAt fs i) st) r
 
   -- null was taken, and fits
-  pub null_read : (v : V) (st b : State) → is_required (kind_at fs i) ≡ false → ReadsValue (Means (λ (_ : Unit {0}). null)) st tt b → ItemRead fs i v v st b
+  pub null_read : (v : V) (st b : State) → is_required (kind_at fs i) ≡ false → ReadsValue (Means (λ (_ : Unit {0}). null)) st tt b
+      → ItemRead fs i v v st b
   null_read v st b r h = record { bytes = h.bytes; term = h.term; stands = h.stands; moved = h.moved; fits = inl (h.meant, r, refl) }
 
   -- null was taken, and doesn't fit
-  pub null_unfit : (st b : State) (e : Error) (new : State) → st.error ≡ None → absence (kind_at fs i) ≡ Some e → Answers b e new → ReadsValue (Means (λ (_ : Unit {0}). null)) st tt b → RefusesRead (take_memory fs) (ReadsValue (FitsAt fs i)) (ItemFault fs i) st e new
+  pub null_unfit : (st b : State) (e : Error) (new : State) → st.error ≡ None → absence (kind_at fs i) ≡ Some e → Answers b e new
+      → ReadsValue (Means (λ (_ : Unit {0}). null)) st tt b
+      → RefusesRead (take_memory fs) (ReadsValue (FitsAt fs i)) (ItemFault fs i) st e new
   null_unfit st b e new going is kept h = record {
     kept = answered_later (ap (λ (x : State). x.failed) h.moved) kept;
     again = λ d x. absurd (cc);
@@ -191,24 +235,30 @@ module _ {V : Type 0} (fs : Fields V) (i : ℕ) where
   }
 
   -- the field was filled
-  pub value_read : (v w : V) (st mid b : State) (c : ℕ) → PeeksCode st c mid → ReadsValue (MeansAt fs i) mid w b → KeepsBut fs i v w → ItemRead fs i v w st b
+  pub value_read : (v w : V) (st mid b : State) (c : ℕ) → PeeksCode st c mid → ReadsValue (MeansAt fs i) mid w b → KeepsBut fs i v w
+      → ItemRead fs i v w st b
   value_read v w st mid b c p h k =
       let x = (value-peeked (MeansAt fs i) st mid b c w p).0 h in
       record { bytes = x.bytes; term = x.term; stands = x.stands; moved = x.moved; fits = inr (x.meant, k) }
 
   -- the field wasn't filled
-  pub value_refused : (st mid : State) (c : ℕ) (e : Error) (new : State) → PeeksCode st c mid → (c ≡ 0x40 → ⊥) → RefusesRead (take_memory fs) (ReadsValue (MeansAt fs i)) (FaultAt fs i) mid e new → RefusesRead (take_memory fs) (ReadsValue (FitsAt fs i)) (ItemFault fs i) st e new
+  pub value_refused : (st mid : State) (c : ℕ) (e : Error) (new : State) → PeeksCode st c mid → (c ≡ 0x40 → ⊥)
+      → RefusesRead (take_memory fs) (ReadsValue (MeansAt fs i)) (FaultAt fs i) mid e new
+      → RefusesRead (take_memory fs) (ReadsValue (FitsAt fs i)) (ItemFault fs i) st e new
   value_refused st mid c e new p other r =
       let going = peeked_going st c mid p in
-      refused_later (ReadsValue (MeansAt fs i)) (FaultAt fs i) (ReadsValue (FitsAt fs i)) (ItemFault fs i) st mid e new (λ t. t) (peeked_failed st c mid p) going.0 going.1 (in_item p other)
+      refused_later (ReadsValue (MeansAt fs i)) (FaultAt fs i) (ReadsValue (FitsAt fs i)) (ItemFault fs i) st mid e new (λ t. t)
+      (peeked_failed st c mid p) going.0 going.1 (in_item p other)
       (λ none w b h.
       let n = not_null (FitsAt fs i) st c mid w b p other h in
       elim h.meant [
         | inl x ↦ clash x.0 n
-        | inr x ↦ none w b ((value-peeked (MeansAt fs i) st mid b c w p).1 (record { bytes = h.bytes; term = h.term; stands = h.stands; moved = h.moved; meant = x.1 }))
+        | inr x ↦ none w b ((value-peeked (MeansAt fs i) st mid b c w p).1
+            (record { bytes = h.bytes; term = h.term; stands = h.stands; moved = h.moved; meant = x.1 }))
       ])
       r
 
-  pub filled_step : (v w : V) (st mid : State) (c : ℕ) (r : Result (Unit {0}) Error) (b : State) → i < length (kinds_of (slots fs)) → PeeksCode st c mid → (c ≡ 0x40 → ⊥) → FillsField fs i v w mid r b → ReadsItem fs i v w st r b
+  pub filled_step : (v w : V) (st mid : State) (c : ℕ) (r : Result (Unit {0}) Error) (b : State) → i < length (kinds_of (slots fs))
+      → PeeksCode st c mid → (c ≡ 0x40 → ⊥) → FillsField fs i v w mid r b → ReadsItem fs i v w st r b
   filled_step v w st mid c (Ok u) b k p other h = let x = filled_at fs i v w mid b k h in value_read v w st mid b c p x.0 x.1
   filled_step v w st mid c (Err e) b k p other h = value_refused st mid c e b p other (unfilled_at fs i v w mid e b k h)

@@ -1,5 +1,6 @@
 -- What is read from a reader is what is read from its bytes.
-use Rattle.std.proofs.Common.{◌≡◌, ◌⊎◌, inl, inr, ℕ, ◌-◌, Bool, true, false, List, length, drop, Result, Ok, Err, IfOk, IfErr, MatchResult, refl, sym, ap, ◌∙◌, arith}
+use Rattle.std.proofs.Common.{◌≡◌, ◌⊎◌, inl, inr, ℕ, ◌-◌, Bool, true, false, List, length, drop, Result, Ok, Err, IfOk, IfErr, MatchResult}
+use Rattle.std.proofs.Common.{refl, sym, ap, ◌∙◌, arith}
 use Rattle.std.proofs.lemmas.List.{length-drop}
 use Rattle.amqp_wire.specs.declared.error.Error.{Error}
 use Rattle.amqp_wire.specs.declared.error.Error.TheVariants.{Memory}
@@ -16,51 +17,74 @@ module _ {T : Type 0} (r : Reading T) (input : List ℕ) (source : ℕ) (failed 
   read_here : (v : T) (b : State) → r.reads begin v b → BeginsWith r input v (length input - length b.rest)
   read_here v b h = is_read r input v (elsewhere 0 false b) (length input - length b.rest) (r.reads_elsewhere 0 false begin v b h) refl
 
-  behind_here : r.looks_on ≡ false → (v : T) (b : State) → r.reads begin v b → (w : T) (n : ℕ) → BeginsWith r input w n → drop b.ahead b.rest ≡ drop n input
+  behind_here : r.looks_on ≡ false → (v : T) (b : State) → r.reads begin v b → (w : T) (n : ℕ) → BeginsWith r input w n
+      → drop b.ahead b.rest ≡ drop n input
   behind_here own v b h w n k =
       let t = r.taken begin v b h in
       let ahead : b.ahead ≡ 0 = t.ahead own ∙ omega arith in
-      let n_is : t.count ≡ n = omega (arith, (read_one r input v w (length input - length b.rest) n (read_here v b h) k).1, ap length t.rest, length-drop t.count input, t.within) in
+      let n_is : t.count ≡ n =
+      omega (
+        arith,
+        (read_one r input v w (length input - length b.rest) n (read_here v b h) k).1,
+        ap length t.rest,
+        length-drop t.count input,
+        t.within,
+      ) in
       ap (λ i. drop i b.rest) ahead ∙ (t.rest ∙ ap (λ i. drop i input) n_is)
 
-  refused_here : (e : Error) (b : State) → RefusesRead r.takes_memory r.reads r.fault begin e b → ((r.takes_memory ≡ true) × (e ≡ Memory)) ⊎ ((IsReadError e × (b.failed ≡ true)) ⊎ IsUnreadable r input e)
+  refused_here : (e : Error) (b : State) → RefusesRead r.takes_memory r.reads r.fault begin e b → ((r.takes_memory ≡ true) × (e ≡ Memory))
+      ⊎ ((IsReadError e × (b.failed ≡ true)) ⊎ IsUnreadable r input e)
   refused_here e b h = go (h.named refl) h.none
     where
-      go : IsExcused r.takes_memory e b ⊎ r.fault begin e → IsExcused r.takes_memory e b ⊎ ((v : T) (st : State) → r.reads begin v st → ⊥) → ((r.takes_memory ≡ true) × (e ≡ Memory)) ⊎ ((IsReadError e × (b.failed ≡ true)) ⊎ IsUnreadable r input e)
+      go : IsExcused r.takes_memory e b ⊎ r.fault begin e → IsExcused r.takes_memory e b ⊎ ((v : T) (st : State) → r.reads begin v st → ⊥)
+          → ((r.takes_memory ≡ true) × (e ≡ Memory)) ⊎ ((IsReadError e × (b.failed ≡ true)) ⊎ IsUnreadable r input e)
       go (inl (inl x)) n = inl x
       go (inl (inr x)) n = inr (inl x)
       go (inr f) (inl (inl x)) = inl x
       go (inr f) (inl (inr x)) = inr (inl x)
-      go (inr f) (inr n) = inr (inr (record { fault = r.fault_elsewhere 0 false begin e f; none = λ v m k. n v (elsewhere source failed k.after) (r.reads_elsewhere source failed (start input) v k.after k.read); unspelled = λ one i. r.misspelled one input e i (r.fault_elsewhere 0 false begin e f) }))
+      go (inr f) (inr n) =
+          inr (inr (record {
+            fault = r.fault_elsewhere 0 false begin e f;
+            none = λ v m k. n v (elsewhere source failed k.after) (r.reads_elsewhere source failed (start input) v k.after k.read);
+            unspelled = λ one i. r.misspelled one input e i (r.fault_elsewhere 0 false begin e f);
+          }))
 
-  pub found : (res : Result T Error) (b : State) → AnswersRead r.takes_memory r.reads r.fault begin res b → IfOk res (λ v. (n : ℕ) × BeginsWith r input v n)
+  pub found : (res : Result T Error) (b : State) → AnswersRead r.takes_memory r.reads r.fault begin res b
+      → IfOk res (λ v. (n : ℕ) × BeginsWith r input v n)
   found (Ok v) b h = (length input - length b.rest, read_here v b h)
   found (Err e) b h = tt
 
-  pub one : (res : Result T Error) (b : State) → AnswersRead r.takes_memory r.reads r.fault begin res b → IfOk res (λ v. (w : T) (m : ℕ) → BeginsWith r input w m → r.same v w)
+  pub one : (res : Result T Error) (b : State) → AnswersRead r.takes_memory r.reads r.fault begin res b
+      → IfOk res (λ v. (w : T) (m : ℕ) → BeginsWith r input w m → r.same v w)
   one (Ok v) b h = λ w m k. (read_one r input v w (length input - length b.rest) m (read_here v b h) k).0
   one (Err e) b h = tt
 
-  pub behind : (res : Result T Error) (b : State) → AnswersRead r.takes_memory r.reads r.fault begin res b → r.looks_on ≡ false → (left : List ℕ) → left ≡ drop b.ahead b.rest → IfOk res (λ v. (w : T) (n : ℕ) → BeginsWith r input w n → left ≡ drop n input)
+  pub behind : (res : Result T Error) (b : State) → AnswersRead r.takes_memory r.reads r.fault begin res b → r.looks_on ≡ false
+      → (left : List ℕ) → left ≡ drop b.ahead b.rest → IfOk res (λ v. (w : T) (n : ℕ) → BeginsWith r input w n → left ≡ drop n input)
   behind (Ok v) b h own left e = λ w n k. e ∙ behind_here own v b h w n k
   behind (Err x) b h own left e = tt
 
-  pub refused : (res : Result T Error) (b : State) → AnswersRead r.takes_memory r.reads r.fault begin res b → (broken : Bool) → broken ≡ b.failed → IfErr res (λ e. ((r.takes_memory ≡ true) × (e ≡ Memory)) ⊎ ((IsReadError e × (broken ≡ true)) ⊎ IsUnreadable r input e))
+  pub refused : (res : Result T Error) (b : State) → AnswersRead r.takes_memory r.reads r.fault begin res b → (broken : Bool)
+      → broken ≡ b.failed → IfErr res (λ e. ((r.takes_memory ≡ true) × (e ≡ Memory))
+      ⊎ ((IsReadError e × (broken ≡ true)) ⊎ IsUnreadable r input e))
   refused (Ok v) b h broken e = tt
   refused (Err x) b h broken e = go (refused_here x b h)
     where
-      go : ((r.takes_memory ≡ true) × (x ≡ Memory)) ⊎ ((IsReadError x × (b.failed ≡ true)) ⊎ IsUnreadable r input x) → ((r.takes_memory ≡ true) × (x ≡ Memory)) ⊎ ((IsReadError x × (broken ≡ true)) ⊎ IsUnreadable r input x)
+      go : ((r.takes_memory ≡ true) × (x ≡ Memory)) ⊎ ((IsReadError x × (b.failed ≡ true)) ⊎ IsUnreadable r input x)
+          → ((r.takes_memory ≡ true) × (x ≡ Memory)) ⊎ ((IsReadError x × (broken ≡ true)) ⊎ IsUnreadable r input x)
       go (inl m) = inl m
       go (inr (inl (i, f))) = inr (inl (i, e ∙ f))
       go (inr (inr u)) = inr (inr u)
 
   -- a source that begins to fail is never hidden behind another error
-  pub failing : (res : Result T Error) (b : State) → AnswersRead r.takes_memory r.reads r.fault begin res b → (broken before : Bool) → broken ≡ b.failed → before ≡ failed → MatchResult res (λ _. broken ≡ before) (λ e. (broken ≡ before) ⊎ IsReadError e)
+  pub failing : (res : Result T Error) (b : State) → AnswersRead r.takes_memory r.reads r.fault begin res b → (broken before : Bool)
+      → broken ≡ b.failed → before ≡ failed → MatchResult res (λ _. broken ≡ before) (λ e. (broken ≡ before) ⊎ IsReadError e)
   failing (Ok v) b h broken before e f = e ∙ (r.stays begin v b h).sound ∙ sym f
   failing (Err x) b h broken before e f = elim h.kept.source [ inl s ↦ inl (e ∙ s ∙ sym f) | inr i ↦ inr i ]
 
 -- a source that never fails is no reason
-pub refused_whole : {T : Type 0} (r : Reading T) (input : List ℕ) (e : Error) (b : State) → b.failed ≡ false → RefusesRead r.takes_memory r.reads r.fault (start input) e b → ((r.takes_memory ≡ true) × (e ≡ Memory)) ⊎ IsUnreadable r input e
+pub refused_whole : {T : Type 0} (r : Reading T) (input : List ℕ) (e : Error) (b : State) → b.failed ≡ false
+    → RefusesRead r.takes_memory r.reads r.fault (start input) e b → ((r.takes_memory ≡ true) × (e ≡ Memory)) ⊎ IsUnreadable r input e
 refused_whole r input e b sound h = elim (refused_here r input 0 false e b h) [
   | inl m ↦ inl m
   | inr x ↦ elim x [ inl (i, f) ↦ absurd (cc) | inr u ↦ inr u ]

@@ -30,19 +30,32 @@ known_second deep (t ∷ ts) us h = known_second deep ts us h.1
 abbrev Up : Encoder → List Token → Result (Unit {0}) Error → Encoder → Type 0
 Up a xs r b = Writes a xs r b ⊎ GivesUp a r b
 
-join_up : (a : Encoder) (xs : List Token) (q : Result (Unit {0}) Error) (b : Encoder) (ys : List Token) (r : Result (Unit {0}) Error) (c : Encoder) → q ≡ Ok tt → Up a xs q b → Up b ys r c → Up a (xs ++ ys) r c
+join_up : (a : Encoder) (xs : List Token) (q : Result (Unit {0}) Error) (b : Encoder) (ys : List Token) (r : Result (Unit {0}) Error)
+    (c : Encoder) → q ≡ Ok tt → Up a xs q b → Up b ys r c → Up a (xs ++ ys) r c
 join_up a xs q b ys r c o (inl w) (inl x) = inl (join a xs q b ys r c o w x)
 join_up a xs q b ys r c o (inl w) (inr g) =
-    inr (record { was_going = was_going a xs q b o w; answer = g.answer; state = g.state; kept = on (bytes_of a) (bytes_of b) (bytes_of c) w.kept g.kept })
+    inr (record {
+      was_going = was_going a xs q b o w;
+      answer = g.answer;
+      state = g.state;
+      kept = on (bytes_of a) (bytes_of b) (bytes_of c) w.kept g.kept;
+    })
 join_up a xs q b ys r c o (inr g) x = let e : Err Memory ≡ Ok tt = sym g.answer ∙ o in cc
 
-cut_up : (a : Encoder) (xs : List Token) (q : Result (Unit {0}) Error) (b : Encoder) (ys : List Token) (r : Result (Unit {0}) Error) (e y : Error) → q ≡ Err e → r ≡ Err y → y ≡ e → Up a xs q b → Up a (xs ++ ys) r b
+cut_up : (a : Encoder) (xs : List Token) (q : Result (Unit {0}) Error) (b : Encoder) (ys : List Token) (r : Result (Unit {0}) Error)
+    (e y : Error) → q ≡ Err e → r ≡ Err y → y ≡ e → Up a xs q b → Up a (xs ++ ys) r b
 cut_up a xs q b ys r e y i j k (inl w) = inl (cut a xs q b ys r e y i j k w)
-cut_up a xs q b ys r e y i j k (inr g) = inr (record { was_going = g.was_going; answer = j ∙ (ap Err k ∙ (sym i ∙ g.answer)); state = g.state; kept = g.kept })
+cut_up a xs q b ys r e y i j k (inr g) =
+    inr (record { was_going = g.was_going; answer = j ∙ (ap Err k ∙ (sym i ∙ g.answer)); state = g.state; kept = g.kept })
 
-has_refused : (s new : Pass) (ts : List Token) (r : Result (Unit {0}) Error) → Runs s (refuse Memory ∷ []) r new → (IsGoing s × (new ≡ Stopped Memory)) ⊎ Runs s ts r new
+has_refused : (s new : Pass) (ts : List Token) (r : Result (Unit {0}) Error) → Runs s (refuse Memory ∷ []) r new
+    → (IsGoing s × (new ≡ Stopped Memory)) ⊎ Runs s ts r new
 unfolding steps AnyMayRunOut
-has_refused (Stopped e) new ts r w = inr (record { answer = w.answer; state = elim w.state [ inl h ↦ inl (h ∙ sym (steps_stopped e ts)) | inr h ↦ absurd (elim h.0 [ inl k ↦ k | inr k ↦ k ]) ] })
+has_refused (Stopped e) new ts r w =
+    inr (record {
+      answer = w.answer;
+      state = elim w.state [ inl h ↦ inl (h ∙ sym (steps_stopped e ts)) | inr h ↦ absurd (elim h.0 [ inl k ↦ k | inr k ↦ k ]) ];
+    })
 has_refused (Measuring m) new ts r w = inl (refl, elim w.state [ inl h ↦ h | inr h ↦ h.1 ])
 has_refused (Filling f) new ts r w = inl (refl, elim w.state [ inl h ↦ h | inr h ↦ h.1 ])
 
@@ -60,15 +73,20 @@ pub no_terms : (s : Encoder) (r : Result (Unit {0}) Error) → r ≡ outcome s.p
 no_terms s r h = record { calls = λ deep k. inl (nothing s r h) }
 
 -- some terms and then others
-pub terms_join : (ts us : List Term) (a b c : Encoder) (q r : Result (Unit {0}) Error) → q ≡ Ok tt → WritesTerms ts a q b → WritesTerms us b r c → WritesTerms (ts ++ us) a r c
+pub terms_join : (ts us : List Term) (a b c : Encoder) (q r : Result (Unit {0}) Error) → q ≡ Ok tt → WritesTerms ts a q b
+    → WritesTerms us b r c → WritesTerms (ts ++ us) a r c
 terms_join ts us a b c q r o w x = record {
-  calls = λ deep k. (rw (flat_map-append (tokens deep) ts us) (join_up a (row_tokens deep ts) q b (row_tokens deep us) r c o (w.calls deep (known_first deep ts us k)) (x.calls deep (known_second deep ts us k))));
+  calls = λ deep k. (rw (flat_map-append (tokens deep) ts us)
+      (join_up a (row_tokens deep ts) q b (row_tokens deep us) r c o (w.calls deep (known_first deep ts us k))
+      (x.calls deep (known_second deep ts us k))));
 }
 
 -- after a refusal nothing more is written
-pub terms_cut : (ts us : List Term) (a b : Encoder) (q r : Result (Unit {0}) Error) (e : Error) → q ≡ Err e → (y : Error) × (r ≡ Err y) × (y ≡ e) → WritesTerms ts a q b → WritesTerms (ts ++ us) a r b
+pub terms_cut : (ts us : List Term) (a b : Encoder) (q r : Result (Unit {0}) Error) (e : Error) → q ≡ Err e → (y : Error) × (r ≡ Err y)
+    × (y ≡ e) → WritesTerms ts a q b → WritesTerms (ts ++ us) a r b
 terms_cut ts us a b q r e o p w = record {
-  calls = λ deep k. (rw (flat_map-append (tokens deep) ts us) (cut_up a (row_tokens deep ts) q b (row_tokens deep us) r e p.0 o p.1 p.2 (w.calls deep (known_first deep ts us k))));
+  calls = λ deep k. (rw (flat_map-append (tokens deep) ts us)
+      (cut_up a (row_tokens deep ts) q b (row_tokens deep us) r e p.0 o p.1 p.2 (w.calls deep (known_first deep ts us k))));
 }
 
 -- The calls for a term are one that opens it, those for the terms in it, and one that closes it.
@@ -78,28 +96,37 @@ pub record Wraps (t : Term) (x : Token) (ts : List Term) (y : Token) : Type 0 wh
 
 pub container_wraps : (k : Container) (ts : List Term) → Wraps (container k (terms_of ts)) (begin k) ts (end k)
 container_wraps k ts = record {
-  is = λ deep. ap (λ r. begin k ∷ r) (append-nil (all_tokens deep (terms_of ts) ++ end k ∷ []) ∙ ap (λ r. r ++ end k ∷ []) (sym (row_calls deep ts)));
+  is = λ deep. ap (λ r. begin k ∷ r) (append-nil (all_tokens deep (terms_of ts) ++ end k ∷ [])
+      ∙ ap (λ r. r ++ end k ∷ []) (sym (row_calls deep ts)));
   knows = λ deep h. h.0.1;
 }
 
 pub described_wraps : (d : Descriptor) (t : Term) → Wraps (described d t) (begin_described d) (t ∷ []) end_described
 described_wraps d t = record {
-  is = λ deep. ap (λ r. begin_described d ∷ r) (append-nil (tokens deep t ++ end_described ∷ []) ∙ ap (λ r. r ++ end_described ∷ []) (sym (append-nil (tokens deep t))));
+  is = λ deep. ap (λ r. begin_described d ∷ r) (append-nil (tokens deep t ++ end_described ∷ [])
+      ∙ ap (λ r. r ++ end_described ∷ []) (sym (append-nil (tokens deep t))));
   knows = λ deep h. (h.0.1, tt);
 }
 
 module _ {t : Term} {x y : Token} {ts : List Term} (wraps : Wraps t x ts y) where
-  pub open_refused : (a b : Encoder) (q r : Result (Unit {0}) Error) (e : Error) → q ≡ Err e → (z : Error) × (r ≡ Err z) × (z ≡ e) → Writes a (x ∷ []) q b → WritesTerms (t ∷ []) a r b
+  pub open_refused : (a b : Encoder) (q r : Result (Unit {0}) Error) (e : Error) → q ≡ Err e → (z : Error) × (r ≡ Err z) × (z ≡ e)
+      → Writes a (x ∷ []) q b → WritesTerms (t ∷ []) a r b
   open_refused a b q r e o p w = record {
     calls = λ deep k. (rw (wraps.is deep) (cut_up a (x ∷ []) q b (row_tokens deep ts ++ y ∷ []) r e p.0 o p.1 p.2 (inl w)));
   }
 
-  pub inner_refused : (a b c : Encoder) (q r s : Result (Unit {0}) Error) (e : Error) → q ≡ Ok tt → r ≡ Err e → (z : Error) × (s ≡ Err z) × (z ≡ e) → Writes a (x ∷ []) q b → WritesTerms ts b r c → WritesTerms (t ∷ []) a s c
+  pub inner_refused : (a b c : Encoder) (q r s : Result (Unit {0}) Error) (e : Error) → q ≡ Ok tt → r ≡ Err e → (z : Error) × (s ≡ Err z)
+      × (z ≡ e) → Writes a (x ∷ []) q b → WritesTerms ts b r c → WritesTerms (t ∷ []) a s c
   inner_refused a b c q r s e o i p w h = record {
-    calls = λ deep k. (rw (wraps.is deep) (cut_up a (x ∷ row_tokens deep ts) r c (y ∷ []) s e p.0 i p.1 p.2 (join_up a (x ∷ []) q b (row_tokens deep ts) r c o (inl w) (h.calls deep (wraps.knows deep k)))));
+    calls = λ deep k. (rw (wraps.is deep)
+        (cut_up a (x ∷ row_tokens deep ts) r c (y ∷ []) s e p.0 i p.1 p.2
+        (join_up a (x ∷ []) q b (row_tokens deep ts) r c o (inl w) (h.calls deep (wraps.knows deep k)))));
   }
 
-  pub all_written : (a b c d : Encoder) (q r s : Result (Unit {0}) Error) → q ≡ Ok tt → r ≡ Ok tt → Writes a (x ∷ []) q b → WritesTerms ts b r c → Writes c (y ∷ []) s d → WritesTerms (t ∷ []) a s d
+  pub all_written : (a b c d : Encoder) (q r s : Result (Unit {0}) Error) → q ≡ Ok tt → r ≡ Ok tt → Writes a (x ∷ []) q b
+      → WritesTerms ts b r c → Writes c (y ∷ []) s d → WritesTerms (t ∷ []) a s d
   all_written a b c d q r s o i w h l = record {
-    calls = λ deep k. (rw (wraps.is deep) (join_up a (x ∷ row_tokens deep ts) r c (y ∷ []) s d i (join_up a (x ∷ []) q b (row_tokens deep ts) r c o (inl w) (h.calls deep (wraps.knows deep k))) (inl l)));
+    calls = λ deep k. (rw (wraps.is deep)
+        (join_up a (x ∷ row_tokens deep ts) r c (y ∷ []) s d i
+        (join_up a (x ∷ []) q b (row_tokens deep ts) r c o (inl w) (h.calls deep (wraps.knows deep k))) (inl l)));
   }

@@ -38,7 +38,8 @@ not_refused r e h k = let i : Err e ≡ Ok tt = sym h ∙ k in cc
 
 module _ (ts : List Term) (proper : AreProper ts) where
   -- the measuring pass is refused
-  pub measuring_refused : (old new : Encoder) (r : Result (Unit {0}) Error) (e : Error) → BeginsMeasuring old → r ≡ Err e → WritesTerms ts old r new → (e ≡ Memory) ⊎ AreUnwritable ts e
+  pub measuring_refused : (old new : Encoder) (r : Result (Unit {0}) Error) (e : Error) → BeginsMeasuring old → r ≡ Err e
+      → WritesTerms ts old r new → (e ≡ Memory) ⊎ AreUnwritable ts e
   measuring_refused old new r e b i w =
       let d = depths ts proper in
       elim (w.calls d.0 d.1) [
@@ -48,20 +49,39 @@ module _ (ts : List Term) (proper : AreProper ts) where
             elim f [ inl m ↦ inl m.0 | inr u ↦ inr (unwritable d.0 ts e proper d.1 u) ]
       ]
 
-  module _ (old new : Encoder) (r : Result (Unit {0}) Error) (begins : BeginsMeasuring old) (went : r ≡ Ok tt) (wrote : WritesTerms ts old r new) where
+  module _ (old new : Encoder) (r : Result (Unit {0}) Error) (begins : BeginsMeasuring old) (went : r ≡ Ok tt)
+      (wrote : WritesTerms ts old r new) where
     found_by : (deep : List ℕ → ℕ) → KnowDepths deep ts → HasFound deep ts new.pass (Ok tt)
-    found_by deep k = elim (wrote.calls deep k) [ inr g ↦ absurd (not_memory r went g.answer) | inl c ↦ rw went at (rows.measured deep ts old r new (proper_values ts proper) begins c) ]
+    found_by deep k =
+        elim (wrote.calls deep k) [
+          | inr g ↦ absurd (not_memory r went g.answer)
+          | inl c ↦ rw went at (rows.measured deep ts old r new (proper_values ts proper) begins c)
+        ]
 
-    ended : (m : Result Measurement Error) → MatchResult m (λ m. Finds new m.len m.sizes.items) (λ e. (answer_of new ≡ Err e) ⊎ ((e ≡ InvalidValue) × ((len : ℕ) (sizes : List Size) → Finds new len sizes → ⊥) × (answer_of new ≡ Ok tt))) → MatchResult m (λ m. AreMeasured ts m.len m.sizes.items) (λ e. ⊥)
-    ended (Ok m) h = λ deep k. (let f = found_by deep k in let q = found_same new.pass (length (row_text ts)) m.len (map as_size (all_sizes (terms_of ts))) m.sizes.items f.0 h in rw (q.0, q.1) f.1)
-    ended (Err e) (inl h) = let d = depths ts proper in elim (wrote.calls d.0 d.1) [ inr g ↦ absurd (not_memory r went g.answer) | inl c ↦ let a = c.runs.answer in cc ]
-    ended (Err e) (inr h) = let d = depths ts proper in h.1 (length (row_text ts)) (map as_size (all_sizes (terms_of ts))) (found_by d.0 d.1).0
+    ended : (m : Result Measurement Error)
+        → MatchResult m (λ m. Finds new m.len m.sizes.items) (λ e. (answer_of new ≡ Err e)
+        ⊎ ((e ≡ InvalidValue) × ((len : ℕ) (sizes : List Size) → Finds new len sizes → ⊥) × (answer_of new ≡ Ok tt)))
+        → MatchResult m (λ m. AreMeasured ts m.len m.sizes.items) (λ e. ⊥)
+    ended (Ok m) h =
+        λ deep k. (let f = found_by deep k in
+        let q = found_same new.pass (length (row_text ts)) m.len (map as_size (all_sizes (terms_of ts))) m.sizes.items f.0 h in
+        rw (q.0, q.1) f.1)
+    ended (Err e) (inl h) = let d = depths ts proper in
+        elim (wrote.calls d.0 d.1) [ inr g ↦ absurd (not_memory r went g.answer) | inl c ↦ let a = c.runs.answer in cc ]
+    ended (Err e) (inr h) = let d = depths ts proper in
+        h.1 (length (row_text ts)) (map as_size (all_sizes (terms_of ts))) (found_by d.0 d.1).0
 
-    pub measured : (m : Result Measurement Error) → MatchResult m (λ m. Finds new m.len m.sizes.items) (λ e. (answer_of new ≡ Err e) ⊎ ((e ≡ InvalidValue) × ((len : ℕ) (sizes : List Size) → Finds new len sizes → ⊥) × (answer_of new ≡ Ok tt))) → IfOk m (λ m. AreMeasured ts m.len m.sizes.items)
+    pub measured : (m : Result Measurement Error)
+        → MatchResult m (λ m. Finds new m.len m.sizes.items) (λ e. (answer_of new ≡ Err e)
+        ⊎ ((e ≡ InvalidValue) × ((len : ℕ) (sizes : List Size) → Finds new len sizes → ⊥) × (answer_of new ≡ Ok tt)))
+        → IfOk m (λ m. AreMeasured ts m.len m.sizes.items)
     measured (Ok m) h = ended (Ok m) h
     measured (Err e) h = tt
 
-    pub never_refused : (m : Result Measurement Error) → MatchResult m (λ m. Finds new m.len m.sizes.items) (λ e. (answer_of new ≡ Err e) ⊎ ((e ≡ InvalidValue) × ((len : ℕ) (sizes : List Size) → Finds new len sizes → ⊥) × (answer_of new ≡ Ok tt))) → IfErr m (λ e. (e ≡ Memory) ⊎ AreUnwritable ts e)
+    pub never_refused : (m : Result Measurement Error)
+        → MatchResult m (λ m. Finds new m.len m.sizes.items) (λ e. (answer_of new ≡ Err e)
+        ⊎ ((e ≡ InvalidValue) × ((len : ℕ) (sizes : List Size) → Finds new len sizes → ⊥) × (answer_of new ≡ Ok tt)))
+        → IfErr m (λ e. (e ≡ Memory) ⊎ AreUnwritable ts e)
     never_refused (Ok m) h = tt
     never_refused (Err e) h = absurd (ended (Err e) h)
 
@@ -72,9 +92,15 @@ module _ (ts : List Term) (proper : AreProper ts) where
   pub measured_length : (len : ℕ) (sizes : List Size) → AreMeasured ts len sizes → len ≡ length (row_text ts)
   measured_length len sizes m = let d = depths ts proper in (m d.0 d.1).exact
 
-  module _ (len : ℕ) (sizes : List Size) (out : List ℕ) (limit : ℕ) (old new : Encoder) (r : Result (Unit {0}) Error) (measured : AreMeasured ts len sizes) (room : length out + len ≤ limit) (begins : BeginsFilling old sizes out limit) (wrote : WritesTerms ts old r new) where
+  module _ (len : ℕ) (sizes : List Size) (out : List ℕ) (limit : ℕ) (old new : Encoder) (r : Result (Unit {0}) Error)
+      (measured : AreMeasured ts len sizes) (room : length out + len ≤ limit) (begins : BeginsFilling old sizes out limit)
+      (wrote : WritesTerms ts old r new) where
     filled_by : HasFilled (depths ts proper).0 (out ++ row_text ts) new.pass new.kept.items r ⊎ GivesUp old r new
-    filled_by = let d = depths ts proper in elim (wrote.calls d.0 d.1) [ inl c ↦ inl (rows.written d.0 ts len sizes out limit old r new (measured d.0 d.1) room begins c) | inr g ↦ inr g ]
+    filled_by = let d = depths ts proper in
+        elim (wrote.calls d.0 d.1) [
+          | inl c ↦ inl (rows.written d.0 ts len sizes out limit old r new (measured d.0 d.1) room begins c)
+          | inr g ↦ inr g
+        ]
 
     -- the filling pass wrote the text
     pub filled : r ≡ Ok tt → bytes_of new ≡ out ++ row_text ts

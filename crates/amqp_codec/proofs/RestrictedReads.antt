@@ -30,7 +30,8 @@ module _ {A V : Type 0} (base : Base A) (unknown : Error) (table : V → A) wher
   as_primitive : (st : State) (v : V) (b : State) → ReadsValue means st v b → ReadsValue (Means base.make) st (table v) b
   as_primitive st v b h = record { bytes = h.bytes; term = h.term; stands = h.stands; moved = h.moved; meant = h.meant.0 }
 
-  pub restricted_read : (st : State) (a : A) (v : V) (b : State) → ReadsValue (Means base.make) st a b → table v ≡ a → ReadsValue means st v b
+  pub restricted_read : (st : State) (a : A) (v : V) (b : State) → ReadsValue (Means base.make) st a b → table v ≡ a
+      → ReadsValue means st v b
   restricted_read st a v b h e = record {
     bytes = h.bytes;
     term = h.term;
@@ -41,7 +42,8 @@ module _ {A V : Type 0} (base : Base A) (unknown : Error) (table : V → A) wher
 
   pub restricted_refused : {takes : Bool} (st : State) (e : Error) (new : State) → NoPrimitive takes st e new → NoValue takes st e new
   restricted_refused st e new h =
-      refused_first (ReadsValue (Means base.make)) (PrimitiveFault base.kind) (ReadsValue means) (RestrictedFault base unknown table) st e new
+      refused_first (ReadsValue (Means base.make)) (PrimitiveFault base.kind) (ReadsValue means)
+      (RestrictedFault base unknown table) st e new
       (λ t. t) no_primitive (λ none v b x. none (table v) b (as_primitive st v b x)) h
 
   one_primitive : (s : Standing) (t : Term) (a b : A) → t ≡ leaf (base.make a) → t ≡ leaf (base.make b) → a ≡ b
@@ -66,9 +68,11 @@ module _ {A V : Type 0} (base : Base A) (unknown : Error) (table : V → A) wher
 abbrev of_symbol : Symbol → Primitive
 of_symbol text = symbol (string_bytes text.0)
 
-pub symbol_read : (st : State) (v : Symbol) (b : State) → ReadsValue (Means of_symbol) st v b → ReadsValue (Means symbol) st (string_bytes v.0) b
+pub symbol_read : (st : State) (v : Symbol) (b : State) → ReadsValue (Means of_symbol) st v b
+    → ReadsValue (Means symbol) st (string_bytes v.0) b
 symbol_read st v b h = record { bytes = h.bytes; term = h.term; stands = h.stands; moved = h.moved; meant = h.meant }
 
-pub symbol_refused : (st : State) (e : Error) (new : State) → RefusesRead true (ReadsValue (Means of_symbol)) (PrimitiveFault symbols) st e new
+pub symbol_refused : (st : State) (e : Error) (new : State)
+    → RefusesRead true (ReadsValue (Means of_symbol)) (PrimitiveFault symbols) st e new
     → RefusesRead true (ReadsValue (Means symbol)) (PrimitiveFault symbols) st e new
 symbol_refused st e new h = kind_failed symbol symbols st e new (λ _. refl) h.kept h.again h.named

@@ -10,11 +10,14 @@ use Rattle.amqp_codec.specs.Rewriting.{Rewriting}
 use Rattle.amqp_codec.specs.Rewritten.{IsRewritten, IsReadAgain, AreReadAgain, IsOneText, IsOfNoOther, IsUnchanged, IsShortest, IsUnwritten}
 use Rattle.amqp_codec.specs.Written.{AreWritable, AreUnwritable}
 
-module _ {T : Type 0} {r : Reading T} {canons : T → List Term} {is_value : T → Type 0} {follows : List ℕ → Type 0} {again : T → T} {kept lasts : T → Type 0} {is_least : Bool} (laws : Rewriting r canons is_value follows again kept lasts is_least) where
-  own_text : (input : List ℕ) (v : T) (n : ℕ) → BeginsWith r input v n → AreWritable (canons v) → BeginsWith r (row_text (canons v)) (again v) (length (row_text (canons v)))
+module _ {T : Type 0} {r : Reading T} {canons : T → List Term} {is_value : T → Type 0} {follows : List ℕ → Type 0} {again : T → T}
+    {kept lasts : T → Type 0} {is_least : Bool} (laws : Rewriting r canons is_value follows again kept lasts is_least) where
+  own_text : (input : List ℕ) (v : T) (n : ℕ) → BeginsWith r input v n → AreWritable (canons v)
+      → BeginsWith r (row_text (canons v)) (again v) (length (row_text (canons v)))
   own_text input v n h f =
       let text = row_text (canons v) in
-      subst (λ b. BeginsWith r b (again v) (length text)) (append-nil text) (laws.reads_again v [] (laws.value input v n h) (laws.lasting input v n h) f laws.alone)
+      subst (λ b. BeginsWith r b (again v) (length text)) (append-nil text)
+      (laws.reads_again v [] (laws.value input v n h) (laws.lasting input v n h) f laws.alone)
 
   pub every_text : AreReadAgain r canons is_value follows again lasts
   every_text = record { read = laws.reads_again; text = laws.text_again }
@@ -31,7 +34,8 @@ module _ {T : Type 0} {r : Reading T} {canons : T → List Term} {is_value : T �
 
     pub read_again : IsReadAgain r follows again kept input text n
     read_again = record {
-      read = λ v more k f. subst (λ b. BeginsWith r (b ++ more) (again v) (length b)) (sym (text_is v k)) (laws.reads_again v more (laws.value input v n k) (laws.lasting input v n k) (writable v k) f);
+      read = λ v more k f. subst (λ b. BeginsWith r (b ++ more) (again v) (length b)) (sym (text_is v k))
+          (laws.reads_again v more (laws.value input v n k) (laws.lasting input v n k) (writable v k) f);
       itself = λ v k s. laws.own input v n k s;
     }
 
@@ -42,8 +46,10 @@ module _ {T : Type 0} {r : Reading T} {canons : T → List Term} {is_value : T �
     no_other v w other m k l kv kw f e =
         let a = own_text input v n k (writable v k) in
         let b = subst (λ x. BeginsWith r x (again w) (length x)) (e ∙ text_is v k) (own_text other w m l f) in
-        let s = (read_one r (row_text (canons v)) (again v) (again w) (length (row_text (canons v))) (length (row_text (canons v))) a b).0 in
-        r.same_trans v (again v) w (r.same_sym (again v) v (laws.own input v n k kv)) (r.same_trans (again v) (again w) w s (laws.own other w m l kw))
+        let s = (read_one r (row_text (canons v)) (again v) (again w) (length (row_text (canons v)))
+        (length (row_text (canons v))) a b).0 in
+        r.same_trans v (again v) w (r.same_sym (again v) v (laws.own input v n k kv))
+        (r.same_trans (again v) (again w) w s (laws.own other w m l kw))
 
     pub unchanged : IsUnchanged r canons text
     unchanged w m k =
@@ -57,6 +63,8 @@ module _ {T : Type 0} {r : Reading T} {canons : T → List Term} {is_value : T �
     shortest l v w other m k j s bytes none = subst (λ b. length b ≤ m) (one_text v w other m k j s) (laws.least l other w m bytes none j)
 
   -- what was read is refused for its size
-  pub unwritten : (input : List ℕ) (v : T) (n : ℕ) (e : Error) → BeginsWith r input v n → (e ≡ Memory) ⊎ AreUnwritable (canons v) e → (e ≡ Memory) ⊎ (IsUnreadable r input e ⊎ IsUnwritten r canons input e)
+  pub unwritten : (input : List ℕ) (v : T) (n : ℕ) (e : Error) → BeginsWith r input v n → (e ≡ Memory) ⊎ AreUnwritable (canons v) e
+      → (e ≡ Memory) ⊎ (IsUnreadable r input e ⊎ IsUnwritten r canons input e)
   unwritten input v n e h (inl m) = inl m
-  unwritten input v n e h (inr u) = inr (inr (record { value = v; length = n; read = h; unwritable = u; large = laws.large input v n e h u }))
+  unwritten input v n e h (inr u) =
+      inr (inr (record { value = v; length = n; read = h; unwritable = u; large = laws.large input v n e h u }))

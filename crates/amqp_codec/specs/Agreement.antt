@@ -80,4 +80,5 @@ option_agreement {u = u} {w = w} t = record {
 
 pub box_agreement : {T Z : Type 0} {u : TermType T} {w : Writing T} → Agreement u w
     → Agreement (boxed {Z = Z} u) (via_writing (λ (b : Box T Z). b.value) w)
-box_agreement t = record { canons_is = λ b. t.canons_is b.value; value_to = λ b. t.value_to b.value; value_from = λ b. t.value_from b.value }
+box_agreement t =
+    record { canons_is = λ b. t.canons_is b.value; value_to = λ b. t.value_to b.value; value_from = λ b. t.value_from b.value }

@@ -1,5 +1,6 @@
 -- The type of a composite: a described list whose items fit its table (Part 1, sections 1.4 and 1.5).
-use Rattle.std.proofs.Common.{◌≡◌, ℕ, ◌+◌, ◌<◌, ◌≤◌, true, List, [], ◌∷◌, Some, get_or, length, length-append, refl, sym, ap, ◌∙◌, subst, arith, cond, eqb, ltb}
+use Rattle.std.proofs.Common.{◌≡◌, ℕ, ◌+◌, ◌<◌, ◌≤◌, true, List, [], ◌∷◌, Some, get_or, length, length-append, refl, sym, ap, ◌∙◌, subst}
+use Rattle.std.proofs.Common.{arith, cond, eqb, ltb}
 use Rattle.amqp_model.specs.Term.{Descriptor, name, code, ulong, symbol, Term, described}
 use Rattle.amqp_model.specs.Spelling.{Names}
 use Rattle.amqp_model.specs.Standing.{Standing}
@@ -49,14 +50,19 @@ fields_of c = record { fields = c.fields; norm = c.norm; norm_is = c.norm_is }
 
 -- a code below 256 takes two bytes at most, and a name at least two
 code_length : (n : ℕ) → n < 256 → length (spell (shortest (ulong n))) ≤ 2
-code_length n h = cond_both (eqb n 0) (0x44, []) (cond (ltb n 256) (0x53, to_be_bytes w8 n) (wide (ulong n))) (λ x. length (spell x) ≤ 2) (λ _. omega arith)
-    (λ _. cond_both (ltb n 256) (0x53, to_be_bytes w8 n) (wide (ulong n)) (λ x. length (spell x) ≤ 2) (λ _. omega arith) (λ e. absurd (let l = ltb-false n 256 e in omega arith)))
+code_length n h =
+    cond_both (eqb n 0) (0x44, []) (cond (ltb n 256) (0x53, to_be_bytes w8 n) (wide (ulong n)))
+    (λ x. length (spell x) ≤ 2) (λ _. omega arith)
+    (λ _. cond_both (ltb n 256) (0x53, to_be_bytes w8 n) (wide (ulong n)) (λ x. length (spell x) ≤ 2) (λ _. omega arith)
+    (λ e. absurd (let l = ltb-false n 256 e in omega arith)))
 
 sized : (w : ℕ) (s : List ℕ) → length (with_size w s) ≡ w + length s
 sized w s = length-append (bytes_high_first w (length s)) s ∙ ap (λ k. k + length s) (length-bytes w (length s))
 
 name_length : (s : List ℕ) → 2 ≤ length (spell (shortest (symbol s)))
-name_length s = cond_both (ltb (length s) 256) (0xa3, with_size 1 s) (wide (symbol s)) (λ x. 2 ≤ length (spell x)) (λ _. omega (arith, sized 1 s)) (λ _. omega (arith, sized 4 s))
+name_length s =
+    cond_both (ltb (length s) 256) (0xa3, with_size 1 s) (wide (symbol s)) (λ x. 2 ≤ length (spell x)) (λ _. omega (arith, sized 1 s))
+    (λ _. omega (arith, sized 4 s))
 
 pub descriptor_short : {V : Type 0} (c : Table V) (d : Descriptor) (first : List ℕ) → Describes (table_of c) d → Names d first
     → IsBytes first → length (spell (shortest (ulong c.code))) ≤ length first
@@ -120,7 +126,8 @@ module _ {V : Type 0} (c : Table V) where
 
   -- and any that the value means are read
   member_to_fields : (s : Standing) (t : Term) (v : V) → MeansComposite (table_of c) t v → TermMeant (composite_members c) t v
-  member_to_fields s t v h = described_cases (Describes (table_of c)) (MeansList (slots c.fields)) (λ t. TermMeant (composite_members c) t v) t v
+  member_to_fields s t v h =
+      described_cases (Describes (table_of c)) (MeansList (slots c.fields)) (λ t. TermMeant (composite_members c) t v) t v
       (λ d x e f. record {
         descriptor = d;
         described_ = x;

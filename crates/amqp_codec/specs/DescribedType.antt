@@ -155,7 +155,8 @@ module _ {T : Type 0} (k : Descriptors) (u : TermType T) (ignores_standing : u.i
     takes_memory = u.takes_memory;
     is_least = u.is_least;
     sameness = meaning_sameness described_meaning;
-    rewrites = λ v. meaning_rewrites described_meaning v (field_keeps_no_bytes u ignores_standing v) (λ i. (k.in_range, (u.rewrites v).valued i));
+    rewrites = λ v. meaning_rewrites described_meaning v (field_keeps_no_bytes u ignores_standing v)
+        (λ i. (k.in_range, (u.rewrites v).valued i));
     meant = described_meant;
     own = λ s. described_meaning.own;
     norm_norm = u.norm_norm;

@@ -1,5 +1,6 @@
 -- Composites with different descriptors have terms of different forms.
-use Rattle.std.proofs.Common.{◌≡◌, inl, inr, ℕ, Bool, true, false, ◌&&◌, not, eqb, eq-eqb, List, [], ◌∷◌, Option, Some, None, refl, sym, ap, ◌∙◌, subst, get_or}
+use Rattle.std.proofs.Common.{◌≡◌, inl, inr, ℕ, Bool, true, false, ◌&&◌, not, eqb, eq-eqb, List, [], ◌∷◌, Option, Some, None, refl, sym, ap}
+use Rattle.std.proofs.Common.{◌∙◌, subst, get_or}
 use Rattle.amqp_model.specs.Term.{list, Descriptor, name, code, Terms, container, described}
 use Rattle.amqp_model.specs.Text.{form}
 use Rattle.amqp_model.specs.Composite.{Describes}
@@ -34,23 +35,28 @@ module _ {V W : Type 0} (c : Table V) (d : Table W) (h : differ c d ≡ true) wh
   -- no descriptor describes both
   pub one_table : (x : Descriptor) → Describes (table_of c) x → Describes (table_of d) x → ⊥
   one_table (code n) p q = clash (eq-eqb c.code d.code (sym p ∙ q)) (both_hold (eqb c.code d.code) (same_text c.name d.name) h).0
-  one_table (name s) p q = clash (subst (λ z. same_text c.name z ≡ true) (sym p ∙ q) (text_is_itself c.name)) (both_hold (eqb c.code d.code) (same_text c.name d.name) h).1
+  one_table (name s) p q =
+      clash (subst (λ z. same_text c.name z ≡ true) (sym p ∙ q) (text_is_itself c.name))
+      (both_hold (eqb c.code d.code) (same_text c.name d.name) h).1
 
   first_of : Descriptor → Option (List Descriptor × ℕ) → Descriptor
   first_of x None = x
   first_of x (Some f) = get_or f.0 0 x
 
-  lists_apart : (x y : Descriptor) (ts us : Terms) → Describes (table_of c) x → Describes (table_of d) y → form (described x (container list ts)) ≡ form (described y (container list us)) → ⊥
+  lists_apart : (x y : Descriptor) (ts us : Terms) → Describes (table_of c) x → Describes (table_of d) y
+      → form (described x (container list ts)) ≡ form (described y (container list us)) → ⊥
   unfolding first_of
   lists_apart x y ts us p q e = one_table x p (subst (Describes (table_of d)) (sym (ap (first_of x) e)) q)
 
   pub composites_apart : FormsApart (composite c) (composite d)
   composites_apart s z t r a b m n =
       by_cases (table_of c) (λ t. form t ≡ form r → ⊥) t a
-      (λ x ts p f. by_cases (table_of d) (λ r. form (described x (container list ts)) ≡ form r → ⊥) r b (λ y us q g. lists_apart x y ts us p q) n)
+      (λ x ts p f. by_cases (table_of d) (λ r. form (described x (container list ts)) ≡ form r
+      → ⊥) r b (λ y us q g. lists_apart x y ts us p q) n)
       m
 
 -- what is apart from two types is apart from their sum
-pub apart_from_sum : {A B C : Type 0} (u : TermType A) (v : TermType B) (w : TermType C) (h : FormsApart v w) (faults : Faults) → FormsApart u v → FormsApart u w → FormsApart u (either_of v w h faults)
+pub apart_from_sum : {A B C : Type 0} (u : TermType A) (v : TermType B) (w : TermType C) (h : FormsApart v w) (faults : Faults)
+    → FormsApart u v → FormsApart u w → FormsApart u (either_of v w h faults)
 apart_from_sum u v w h faults f g s z t r a (inl b) m n = f s z t r a b m n
 apart_from_sum u v w h faults f g s z t r a (inr x) m n = g s z t r a x m n

@@ -137,11 +137,13 @@ module _ {A B : Type 0} (u : TermType A) (w : TermType B) where
   either_formed apart s z t r (inl a) (inr d) h k e = absurd (apart s z t r a d h k e)
   either_formed apart s z t r (inr b) (inl c) h k e = absurd (apart z s r t c b k h (sym e))
 
-  each_ignores : (u.ignores_standing && w.ignores_standing) ≡ true → (v : A ⊎ B) → IgnoresStanding (either_view v) (either_view (each_normal u.norm w.norm v))
+  each_ignores : (u.ignores_standing && w.ignores_standing) ≡ true → (v : A ⊎ B)
+      → IgnoresStanding (either_view v) (either_view (each_normal u.norm w.norm v))
   each_ignores l (inl a) = u.standing_ignored (first_so u.ignores_standing w.ignores_standing l) a
   each_ignores l (inr b) = w.standing_ignored (second_so u.ignores_standing w.ignores_standing l) b
 
-  pub either_ignores : (u.ignores_standing && w.ignores_standing) ≡ true → (v : A ⊎ B) → IgnoresStanding (either_view v) (either_view (normal either_norm v))
+  pub either_ignores : (u.ignores_standing && w.ignores_standing) ≡ true → (v : A ⊎ B)
+      → IgnoresStanding (either_view v) (either_view (normal either_norm v))
   either_ignores l v = either_normally (λ x. IgnoresStanding (either_view v) (either_view x)) v (each_ignores l v)
 
   pub either_least : (u.is_least && w.is_least) ≡ true → (b : List ℕ) (t : Term) (v : A ⊎ B) → MeansEither (whole b) t v

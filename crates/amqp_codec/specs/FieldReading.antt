@@ -1,5 +1,6 @@
 -- How the fields of a composite are read, one after another.
-use Rattle.std.proofs.Common.{◌≡◌, ◌⊎◌, min, ℕ, zero, suc, ◌<◌, ◌≤◌, Bool, true, false, List, [], ◌∷◌, ◌++◌, length, get_or, Option, Some, None, Result, Ok, Err, refl, arith}
+use Rattle.std.proofs.Common.{◌≡◌, ◌⊎◌, min, ℕ, zero, suc, ◌<◌, ◌≤◌, Bool, true, false, List, [], ◌∷◌, ◌++◌, length, get_or, Option, Some}
+use Rattle.std.proofs.Common.{None, Result, Ok, Err, refl, arith}
 use Rattle.amqp_model.specs.Term.{null, list, Term, leaf}
 use Rattle.amqp_model.specs.Standing.{Standing}
 use Rattle.amqp_model.specs.Items.{is_null}
@@ -36,7 +37,8 @@ IsBlank none v = Unit {0}
 IsBlank (field get f fs) v = (is_required f.slot.kind ≡ false → f.slot.meaning.means (leaf null) (get v)) × IsBlank fs v
 
 -- A value was read into its place.
-abbrev pub Fills : {T : Type 0} → Bool → (Standing → Term → T → Type 0) → (State → Error → Type 0) → State → T → Result (Unit {0}) Error → State → Type 0
+abbrev pub Fills : {T : Type 0} → Bool → (Standing → Term → T → Type 0) → (State → Error → Type 0) → State → T
+    → Result (Unit {0}) Error → State → Type 0
 Fills takes reads fault st x (Ok u) b = ReadsValue reads st x b
 Fills takes reads fault st x (Err e) b = RefusesRead takes (ReadsValue reads) fault st e b
 
@@ -69,7 +71,8 @@ front_start none ts v b = tt
 front_start (field get f fs) ts v b = b
 
 -- a field without an item
-pub front_missing : {V : Type 0} (fs : Fields V) (n : ℕ) (ts : List Term) (v : V) (k : FieldKind) → n < length (kinds_of (slots fs)) → length ts ≤ n → is_required (get_or (kinds_of (slots fs)) n k) ≡ false → FitsFront fs n ts v → FitsFront fs (suc n) ts v
+pub front_missing : {V : Type 0} (fs : Fields V) (n : ℕ) (ts : List Term) (v : V) (k : FieldKind) → n < length (kinds_of (slots fs))
+    → length ts ≤ n → is_required (get_or (kinds_of (slots fs)) n k) ≡ false → FitsFront fs n ts v → FitsFront fs (suc n) ts v
 front_missing none n ts v k l few r m = tt
 front_missing (field get f fs) zero [] v k l few r m = (m.0 r, front_start fs [] v m.1)
 front_missing (field get f fs) zero (t ∷ ts) v k l few r m = absurd (omega arith)
@@ -77,7 +80,9 @@ front_missing (field get f fs) (suc n) [] v k l few r m = (m.0, front_missing fs
 front_missing (field get f fs) (suc n) (t ∷ ts) v k l few r m = (m.0, front_missing fs n ts v k (omega arith) (omega arith) r m.1)
 
 -- the next item is null
-pub front_null : {V : Type 0} (fs : Fields V) (n : ℕ) (ts : List Term) (v : V) (k : FieldKind) → n < length (kinds_of (slots fs)) → length ts ≡ n → is_required (get_or (kinds_of (slots fs)) n k) ≡ false → FitsFront fs n ts v → FitsFront fs (suc n) (ts ++ leaf null ∷ []) v
+pub front_null : {V : Type 0} (fs : Fields V) (n : ℕ) (ts : List Term) (v : V) (k : FieldKind) → n < length (kinds_of (slots fs))
+    → length ts ≡ n → is_required (get_or (kinds_of (slots fs)) n k) ≡ false → FitsFront fs n ts v
+    → FitsFront fs (suc n) (ts ++ leaf null ∷ []) v
 front_null none n ts v k l e r m = tt
 front_null (field get f fs) zero [] v k l e r m = (m.0 r, front_start fs [] v m.1)
 front_null (field get f fs) zero (t ∷ ts) v k l e r m = absurd (omega arith)
@@ -89,7 +94,8 @@ blank_kept none v w k b = tt
 blank_kept (field get f fs) v w k b = ((λ r. rw k.0 (b.0 r)), blank_kept fs v w k.1 b.1)
 
 -- the next item was read into its field
-pub front_filled : {V : Type 0} (fs : Fields V) (n : ℕ) (ts : List Term) (v w : V) (s : Standing) (t : Term) → length ts ≡ n → MeansAt fs n s t w → KeepsBut fs n v w → FitsFront fs n ts v → FitsFront fs (suc n) (ts ++ t ∷ []) w
+pub front_filled : {V : Type 0} (fs : Fields V) (n : ℕ) (ts : List Term) (v w : V) (s : Standing) (t : Term) → length ts ≡ n
+    → MeansAt fs n s t w → KeepsBut fs n v w → FitsFront fs n ts v → FitsFront fs (suc n) (ts ++ t ∷ []) w
 front_filled none n ts v w s t e a k m = absurd a
 front_filled (field get f fs) zero [] v w s t e a k m = (f.fits s t (get w) a, front_start fs [] w (blank_kept fs v w k m.1))
 front_filled (field get f fs) zero (u ∷ ts) v w s t e a k m = absurd (omega arith)
@@ -97,7 +103,8 @@ front_filled (field get f fs) (suc n) [] v w s t e a k m = absurd (omega arith)
 front_filled (field get f fs) (suc n) (u ∷ ts) v w s t e a k m = ((rw k.0 m.0), front_filled fs n ts v w s t (omega arith) a k.1 m.1)
 
 -- all fields were gone through
-pub front_end : {V : Type 0} (fs : Fields V) (n : ℕ) (ts : List Term) (v : V) → n ≡ length (kinds_of (slots fs)) → length ts ≤ n → FitsFront fs n ts v → Fits (slots fs) ts v
+pub front_end : {V : Type 0} (fs : Fields V) (n : ℕ) (ts : List Term) (v : V) → n ≡ length (kinds_of (slots fs)) → length ts ≤ n
+    → FitsFront fs n ts v → Fits (slots fs) ts v
 unfolding Fits
 front_end none n [] v e few m = tt
 front_end none n (t ∷ ts) v e few m = absurd (omega (arith, e))
@@ -106,7 +113,8 @@ front_end (field get f fs) (suc n) [] v e few m = (m.0, front_end fs n [] v (ome
 front_end (field get f fs) (suc n) (t ∷ ts) v e few m = (m.0, front_end fs n ts v (omega (arith, e)) (omega arith) m.1)
 
 -- Of any value that the terms mean: what each field is.
-pub fits_value : {V : Type 0} (fs : Fields V) (n : ℕ) (ts : List Term) (v : V) (s : Standing) → Fits (slots fs) ts v → n < length ts → is_null (get_or ts n (leaf null)) ≡ false → MeansAt fs n s (get_or ts n (leaf null)) v
+pub fits_value : {V : Type 0} (fs : Fields V) (n : ℕ) (ts : List Term) (v : V) (s : Standing) → Fits (slots fs) ts v → n < length ts
+    → is_null (get_or ts n (leaf null)) ≡ false → MeansAt fs n s (get_or ts n (leaf null)) v
 unfolding Fits
 fits_value none n [] v s m l z = absurd (omega arith)
 fits_value none n (t ∷ ts) v s m l z = absurd m
@@ -114,7 +122,9 @@ fits_value (field get f fs) n [] v s m l z = absurd (omega arith)
 fits_value (field get f fs) zero (t ∷ ts) v s m l z = f.is_read s t (get v) z m.0
 fits_value (field get f fs) (suc n) (t ∷ ts) v s m l z = fits_value fs n ts v s m.1 (omega arith) z
 
-pub fits_null : {V : Type 0} (fs : Fields V) (n : ℕ) (ts : List Term) (v : V) (k : FieldKind) → Fits (slots fs) ts v → n < length (kinds_of (slots fs)) → is_required (get_or (kinds_of (slots fs)) n k) ≡ true → is_null (get_or ts n (leaf null)) ≡ true → ⊥
+pub fits_null : {V : Type 0} (fs : Fields V) (n : ℕ) (ts : List Term) (v : V) (k : FieldKind) → Fits (slots fs) ts v
+    → n < length (kinds_of (slots fs)) → is_required (get_or (kinds_of (slots fs)) n k) ≡ true
+    → is_null (get_or ts n (leaf null)) ≡ true → ⊥
 unfolding Fits
 fits_null none n ts v k m l r z = absurd (omega arith)
 fits_null (field get f fs) zero [] v k m l r z = f.slot.required (get v) r m.0
@@ -130,22 +140,28 @@ fits_few (field get f fs) [] v m = omega arith
 fits_few (field get f fs) (t ∷ ts) v m = omega (arith, fits_few fs ts v m.1)
 
 -- What was read into a field, by its number.
-pub filled_at : {V : Type 0} (fs : Fields V) (n : ℕ) (v w : V) (st b : State) → n < length (kinds_of (slots fs)) → FillsField fs n v w st (Ok tt) b → ReadsValue (MeansAt fs n) st w b × KeepsBut fs n v w
+pub filled_at : {V : Type 0} (fs : Fields V) (n : ℕ) (v w : V) (st b : State) → n < length (kinds_of (slots fs))
+    → FillsField fs n v w st (Ok tt) b → ReadsValue (MeansAt fs n) st w b × KeepsBut fs n v w
 filled_at none n v w st b l h = absurd (omega arith)
-filled_at (field get f fs) zero v w st b l h = (record { bytes = h.0.bytes; term = h.0.term; stands = h.0.stands; moved = h.0.moved; meant = h.0.meant }, h.1 refl)
+filled_at (field get f fs) zero v w st b l h =
+    (record { bytes = h.0.bytes; term = h.0.term; stands = h.0.stands; moved = h.0.moved; meant = h.0.meant }, h.1 refl)
 filled_at (field get f fs) (suc n) v w st b l h =
     let r = filled_at fs n v w st b (omega arith) h.1 in
     (record { bytes = r.0.bytes; term = r.0.term; stands = r.0.stands; moved = r.0.moved; meant = r.0.meant }, (h.0 refl, r.1))
 
 -- why none was
-pub unfilled_at : {V : Type 0} (fs : Fields V) (n : ℕ) (v w : V) (st : State) (e : Error) (b : State) → n < length (kinds_of (slots fs)) → FillsField fs n v w st (Err e) b → RefusesRead (take_memory fs) (ReadsValue (MeansAt fs n)) (FaultAt fs n) st e b
+pub unfilled_at : {V : Type 0} (fs : Fields V) (n : ℕ) (v w : V) (st : State) (e : Error) (b : State) → n < length (kinds_of (slots fs))
+    → FillsField fs n v w st (Err e) b → RefusesRead (take_memory fs) (ReadsValue (MeansAt fs n)) (FaultAt fs n) st e b
 unfilled_at none n v w st e b l h = absurd (omega arith)
 unfilled_at (field get f fs) zero v w st e b l h =
-    refused_first (ReadsValue f.reads) f.faults.fault (ReadsValue (MeansAt (field get f fs) zero)) (FaultAt (field get f fs) zero) st e b (either_first f.takes_memory (take_memory fs)) (λ x. x)
+    refused_first (ReadsValue f.reads) f.faults.fault (ReadsValue (MeansAt (field get f fs) zero)) (FaultAt (field get f fs) zero) st e b
+    (either_first f.takes_memory (take_memory fs)) (λ x. x)
     (λ none x c r. none (get x) c (record { bytes = r.bytes; term = r.term; stands = r.stands; moved = r.moved; meant = r.meant })) h.0
 unfilled_at (field get f fs) (suc n) v w st e b l h =
-    refused_first (ReadsValue (MeansAt fs n)) (FaultAt fs n) (ReadsValue (MeansAt (field get f fs) (suc n))) (FaultAt (field get f fs) (suc n)) st e b (either_second f.takes_memory (take_memory fs)) (λ x. x)
-    (λ none x c r. none x c (record { bytes = r.bytes; term = r.term; stands = r.stands; moved = r.moved; meant = r.meant })) (unfilled_at fs n v w st e b (omega arith) h.1)
+    refused_first (ReadsValue (MeansAt fs n)) (FaultAt fs n) (ReadsValue (MeansAt (field get f fs) (suc n)))
+    (FaultAt (field get f fs) (suc n)) st e b (either_second f.takes_memory (take_memory fs)) (λ x. x)
+    (λ none x c r. none x c (record { bytes = r.bytes; term = r.term; stands = r.stands; moved = r.moved; meant = r.meant }))
+    (unfilled_at fs n v w st e b (omega arith) h.1)
 
 -- The kind of a field by its number, mandatory past the last one.
 abbrev pub kind_at : {V : Type 0} → Fields V → ℕ → FieldKind
@@ -161,7 +177,8 @@ pub record ItemRead {V : Type 0} (fs : Fields V) (i : ℕ) (v w : V) (st b : Sta
   pub term : Term
   pub stands : Stands st bytes term
   pub moved : b ≡ after_value (length bytes) st
-  pub fits : ((term ≡ leaf null) × (is_required (kind_at fs i) ≡ false) × (w ≡ v)) ⊎ (MeansAt fs i (standing st.top.shared bytes) term w × KeepsBut fs i v w)
+  pub fits : ((term ≡ leaf null) × (is_required (kind_at fs i) ≡ false) × (w ≡ v))
+      ⊎ (MeansAt fs i (standing st.top.shared bytes) term w × KeepsBut fs i v w)
 
 -- Part 1, section 1.4: the error for a field that is null or left out, where it must be there.
 abbrev pub absence : FieldKind → Option Error
@@ -213,9 +230,12 @@ pub record FieldsRead {V : Type 0} (fs : Fields V) (st : State) (v : V) (b : Sta
 -- Why no fields are read.
 pub data FieldsFault {V : Type 0} (fs : Fields V) (st : State) (e : Error) : Type 0 where
   no_list : OpenFault list st e → FieldsFault fs st e
-  at_item : {n i : ℕ} {v : V} {mid : State} → FieldsSoFar fs st n i v mid → i < n → i < length (kinds_of (slots fs)) → ItemFault fs i mid e → FieldsFault fs st e
-  left_out : {n i : ℕ} {v : V} {mid : State} → FieldsSoFar fs st n i v mid → n ≤ i → i < length (kinds_of (slots fs)) → absence (kind_at fs i) ≡ Some e → FieldsFault fs st e
-  not_ended : {n : ℕ} {v : V} {mid : State} → FieldsSoFar fs st n (length (kinds_of (slots fs))) v mid → CloseFault InList mid e → FieldsFault fs st e
+  at_item : {n i : ℕ} {v : V} {mid : State} → FieldsSoFar fs st n i v mid → i < n → i < length (kinds_of (slots fs))
+      → ItemFault fs i mid e → FieldsFault fs st e
+  left_out : {n i : ℕ} {v : V} {mid : State} → FieldsSoFar fs st n i v mid → n ≤ i → i < length (kinds_of (slots fs))
+      → absence (kind_at fs i) ≡ Some e → FieldsFault fs st e
+  not_ended : {n : ℕ} {v : V} {mid : State} → FieldsSoFar fs st n (length (kinds_of (slots fs))) v mid
+      → CloseFault InList mid e → FieldsFault fs st e
 
 -- No fault of a field is want of memory.
 fault_at_not_memory : {V : Type 0} (fs : Fields V) (i : ℕ) (st : State) → FaultAt fs i st Memory → ⊥

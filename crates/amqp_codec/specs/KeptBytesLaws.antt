@@ -79,7 +79,8 @@ null_core (kept b) e = absurd (cc)
 null_core (barred r) e = absurd (cc)
 
 -- what keeps no bytes is read again as it is meant
-pub rewrites_plainly : {v n : View} → IgnoresStanding v n → (v.is_value → Everywhere IsValue v.canon) → nulls_alike n.canon ≡ nulls_alike v.canon
+pub rewrites_plainly : {v n : View} → IgnoresStanding v n → (v.is_value → Everywhere IsValue v.canon)
+    → nulls_alike n.canon ≡ nulls_alike v.canon
     → Rewrites v n
 rewrites_plainly {v} {n} h valued canon = record {
   valued = valued;

@@ -48,8 +48,10 @@ pub record MemberRead {V : Type 0} (m : Members V) (st : State) (v : V) (b : Sta
 -- Why none is read.
 pub data MemberFault {V : Type 0} (m : Members V) (st : State) (e : Error) : Type 0 where
   no_member : {ms : List Member} → map as_name ms ≡ m.names → OneOfFault ms st e → MemberFault m st e
-  in_member : {d : Descriptor} {i : ℕ} {inner : State} → OpensDescribed st d inner → name_place m.names d ≡ Some i → (m.faults i).fault inner e → MemberFault m st e
-  not_ended : {d : Descriptor} {i : ℕ} {inner last : State} {v : V} → OpensDescribed st d inner → name_place m.names d ≡ Some i → m.reads i inner v last → EndFault InDescribed last e → MemberFault m st e
+  in_member : {d : Descriptor} {i : ℕ} {inner : State} → OpensDescribed st d inner → name_place m.names d ≡ Some i
+      → (m.faults i).fault inner e → MemberFault m st e
+  not_ended : {d : Descriptor} {i : ℕ} {inner last : State} {v : V} → OpensDescribed st d inner → name_place m.names d ≡ Some i
+      → m.reads i inner v last → EndFault InDescribed last e → MemberFault m st e
 
 pub member_not_memory : {V : Type 0} (m : Members V) (st : State) → MemberFault m st Memory → ⊥
 member_not_memory m st (no_member {ms} names f) = one_of_not_memory ms st f
@@ -57,7 +59,8 @@ member_not_memory m st (in_member {d} {i} {inner} o at f) = (m.faults i).not_mem
 member_not_memory m st (not_ended {d} {i} {inner} {last} {v} o at q f) = end_not_memory InDescribed last f
 
 -- What was read behind the descriptor of a member is one term.
-pub record TermRead {V : Type 0} (m : Members V) (means : Standing → Term → V → Type 0) (i : ℕ) (inner : State) (v : V) (last : State) : Type 0 where
+pub record TermRead {V : Type 0} (m : Members V) (means : Standing → Term → V → Type 0) (i : ℕ) (inner : State) (v : V)
+    (last : State) : Type 0 where
   pub term : Term
   pub taken : Next inner term last
   pub meant : (d : Descriptor) (s : Standing) → name_place m.names d ≡ Some i → means s (described d term) v
@@ -83,14 +86,23 @@ module _ {V : Type 0} (m : Members V) (means : Standing → Term → V → Type 
   pub to_value : (st : State) (v : V) (b : State) → st.nesting ≡ 128 → MemberRead m st v b → ReadsValue means st v b
   to_value st v b bound h =
       let t = sum.to_term h.place h.inner v h.last h.read in
-      let closes : ClosesDescribed InDescribed (after_value (length t.taken.bytes) h.inner) b = subst (λ (x : State). ClosesDescribed InDescribed x b) t.taken.moved h.closes in
-      let r = described_term st h.descriptor t.term b (omega (arith, bound)) (record { inner = h.inner; opens = h.opens; bytes = t.taken.bytes; stands = t.taken.stands; closes = closes }) in
-      record { bytes = r.bytes; term = described h.descriptor t.term; stands = r.stands; moved = r.moved; meant = t.meant h.descriptor (standing st.top.shared r.bytes) h.is }
+      let closes : ClosesDescribed InDescribed (after_value (length t.taken.bytes) h.inner) b =
+      subst (λ (x : State). ClosesDescribed InDescribed x b) t.taken.moved h.closes in
+      let r = described_term st h.descriptor t.term b (omega (arith, bound))
+      (record { inner = h.inner; opens = h.opens; bytes = t.taken.bytes; stands = t.taken.stands; closes = closes }) in
+      record {
+        bytes = r.bytes;
+        term = described h.descriptor t.term;
+        stands = r.stands;
+        moved = r.moved;
+        meant = t.meant h.descriptor (standing st.top.shared r.bytes) h.is;
+      }
 
   pub from_value : (st : State) (v : V) (b : State) → ReadsValue means st v b → MemberRead m st v b
   from_value st v b h =
       let t = sum.from_term (standing st.top.shared h.bytes) h.term v h.meant in
-      let k = term_described st t.descriptor t.described_ b (record { bytes = h.bytes; stands = subst (λ x. Stands st h.bytes x) t.is h.stands; moved = h.moved }) in
+      let k = term_described st t.descriptor t.described_ b
+      (record { bytes = h.bytes; stands = subst (λ x. Stands st h.bytes x) t.is h.stands; moved = h.moved }) in
       record {
         descriptor = t.descriptor;
         place = t.place;
@@ -103,24 +115,35 @@ module _ {V : Type 0} (m : Members V) (means : Standing → Term → V → Type 
       }
 
   -- none of the members is opened
-  pub unopened : (ms : List Member) (st : State) (e : Error) (new : State) → map as_name ms ≡ m.names → RefusesRead false (OpensOneOf ms) (OneOfFault ms) st e new → RefusesRead m.takes_memory (ReadsValue means) (MemberFault m) st e new
+  pub unopened : (ms : List Member) (st : State) (e : Error) (new : State) → map as_name ms ≡ m.names
+      → RefusesRead false (OpensOneOf ms) (OneOfFault ms) st e new → RefusesRead m.takes_memory (ReadsValue means) (MemberFault m) st e new
   unopened ms st e new names r =
       refused_first (OpensOneOf ms) (OneOfFault ms) (ReadsValue means) (MemberFault m) st e new no_memory (no_member names)
       (λ none v b h.
       let k = from_value st v b h in
-      none k.place k.inner (record { descriptor = k.descriptor; place = place_is k.descriptor ms ∙ ap (λ ns. name_place ns k.descriptor) names ∙ k.is; opens = k.opens }))
+      none k.place k.inner (record {
+        descriptor = k.descriptor;
+        place = place_is k.descriptor ms ∙ ap (λ ns. name_place ns k.descriptor) names ∙ k.is;
+        opens = k.opens;
+      }))
       r
 
-  pub opened_place : (ms : List Member) (st : State) (i : ℕ) (inner : State) → map as_name ms ≡ m.names → (o : OpensOneOf ms st i inner) → name_place m.names o.descriptor ≡ Some i
+  pub opened_place : (ms : List Member) (st : State) (i : ℕ) (inner : State) → map as_name ms ≡ m.names → (o : OpensOneOf ms st i inner)
+      → name_place m.names o.descriptor ≡ Some i
   opened_place ms st i inner names o = sym (place_is o.descriptor ms ∙ ap (λ ns. name_place ns o.descriptor) names) ∙ o.place
 
-  pub opened_going : (ms : List Member) (st : State) (i : ℕ) (inner : State) → OpensOneOf ms st i inner → (st.error ≡ None) × (inner.error ≡ None)
+  pub opened_going : (ms : List Member) (st : State) (i : ℕ) (inner : State) → OpensOneOf ms st i inner
+      → (st.error ≡ None) × (inner.error ≡ None)
   opened_going ms st i inner o =
-      let going = o.opens.begun.going in
-      (going, ap (λ (x : State). x.error) o.opens.opened ∙ ap (λ (x : State). x.error) o.opens.descriptor.took.moved ∙ ap (λ (x : State). x.error) o.opens.begun.moved ∙ going)
+      let going = o.opens.begun.going in (
+        going,
+        ap (λ (x : State). x.error) o.opens.opened ∙ ap (λ (x : State). x.error) o.opens.descriptor.took.moved
+            ∙ ap (λ (x : State). x.error) o.opens.begun.moved ∙ going,
+      )
 
   pub opened_failed : (ms : List Member) (st : State) (i : ℕ) (inner : State) → OpensOneOf ms st i inner → inner.failed ≡ st.failed
-  opened_failed ms st i inner o = ap (λ (x : State). x.failed) o.opens.opened ∙ ap (λ (x : State). x.failed) o.opens.descriptor.took.moved ∙ ap (λ (x : State). x.failed) o.opens.begun.moved
+  opened_failed ms st i inner o = ap (λ (x : State). x.failed) o.opens.opened ∙ ap (λ (x : State). x.failed) o.opens.descriptor.took.moved
+      ∙ ap (λ (x : State). x.failed) o.opens.begun.moved
 
   -- what a member describes isn't read
   pub unread : (ms : List Member) (st : State) (i : ℕ) (inner : State) (e : Error) (new : State) → map as_name ms ≡ m.names
@@ -139,26 +162,42 @@ module _ {V : Type 0} (m : Members V) (means : Standing → Term → V → Type 
       r
 
   -- the described value isn't ended
-  pub unended : (ms : List Member) (st : State) (i : ℕ) (inner last : State) (v : V) (e : Error) (new : State) → map as_name ms ≡ m.names → OpensOneOf ms st i inner → m.reads i inner v last
-      → RefusesRead false (λ st (_ : Unit {0}) b. ClosesDescribed InDescribed st b) (EndFault InDescribed) last e new → RefusesRead m.takes_memory (ReadsValue means) (MemberFault m) st e new
+  pub unended : (ms : List Member) (st : State) (i : ℕ) (inner last : State) (v : V) (e : Error) (new : State) → map as_name ms ≡ m.names
+      → OpensOneOf ms st i inner → m.reads i inner v last
+      → RefusesRead false (λ st (_ : Unit {0}) b. ClosesDescribed InDescribed st b) (EndFault InDescribed) last e new
+      → RefusesRead m.takes_memory (ReadsValue means) (MemberFault m) st e new
   unended ms st i inner last v e new names o q r =
       let going = opened_going ms st i inner o in
       let at = opened_place ms st i inner names o in
       let t = sum.to_term i inner v last q in
-      refused_later (λ st (_ : Unit {0}) b. ClosesDescribed InDescribed st b) (EndFault InDescribed) (ReadsValue means) (MemberFault m) st last e new no_memory (ap (λ (x : State). x.failed) t.taken.moved ∙ opened_failed ms st i inner o) going.0 (ap (λ (x : State). x.error) t.taken.moved ∙ going.1) (not_ended o.opens at q)
+      refused_later (λ st (_ : Unit {0}) b. ClosesDescribed InDescribed st b) (EndFault InDescribed) (ReadsValue means) (MemberFault m) st
+      last e new no_memory (ap (λ (x : State). x.failed) t.taken.moved ∙ opened_failed ms st i inner o) going.0
+      (ap (λ (x : State). x.error) t.taken.moved ∙ going.1) (not_ended o.opens at q)
       (λ none w b h.
       let k = from_value st w b h in
       let s = opens_described_same st k.descriptor o.descriptor k.inner inner k.opens o.opens in
       let u = sum.to_term k.place k.inner w k.last k.read in
-      let ends : k.last ≡ last = (next_same inner k.last last u.term t.term (subst (λ (x : State). Next x u.term k.last) s.1 u.taken) t.taken).1 in
+      let ends : k.last ≡ last =
+      (next_same inner k.last last u.term t.term (subst (λ (x : State). Next x u.term k.last) s.1 u.taken) t.taken).1 in
       none tt b (subst (λ (x : State). ClosesDescribed InDescribed x b) ends k.closes))
       r
 
   -- a member was read
-  pub read_whole : (ms : List Member) (st : State) (i : ℕ) (inner last : State) (v : V) (b : State) → map as_name ms ≡ m.names → st.nesting ≡ 128 → OpensOneOf ms st i inner → m.reads i inner v last → ClosesDescribed InDescribed last b → ReadsValue means st v b
+  pub read_whole : (ms : List Member) (st : State) (i : ℕ) (inner last : State) (v : V) (b : State) → map as_name ms ≡ m.names
+      → st.nesting ≡ 128 → OpensOneOf ms st i inner → m.reads i inner v last → ClosesDescribed InDescribed last b → ReadsValue means st v b
   read_whole ms st i inner last v b names bound o q c =
-      to_value st v b bound (record { descriptor = o.descriptor; place = i; is = opened_place ms st i inner names o; inner = inner; opens = o.opens; last = last; read = q; closes = c })
+      to_value st v b bound (record {
+        descriptor = o.descriptor;
+        place = i;
+        is = opened_place ms st i inner names o;
+        inner = inner;
+        opens = o.opens;
+        last = last;
+        read = q;
+        closes = c;
+      })
 
   -- the place is one of a member
-  pub within : (ms : List Member) (st : State) (i : ℕ) (inner : State) → map as_name ms ≡ m.names → OpensOneOf ms st i inner → i < length m.names
+  pub within : (ms : List Member) (st : State) (i : ℕ) (inner : State) → map as_name ms ≡ m.names
+      → OpensOneOf ms st i inner → i < length m.names
   within ms st i inner names o = (position-Some (is_named o.descriptor) m.names i (0, []) (opened_place ms st i inner names o)).0

@@ -13,7 +13,8 @@ use Rattle.amqp_decoder.proofs.Misspelled.{begin_misspelled, open_misspelled, on
 use Rattle.amqp_decoder.proofs.NothingInside.{nothing_in_container, nothing_at_end, nothing_described, nothing_peeked}
 use Rattle.amqp_decoder.proofs.Rooms.{room_row, room_peeked, room_inside, room_in_described}
 use Rattle.amqp_codec.specs.Fields.{Fields, none, field}
-use Rattle.amqp_codec.specs.FieldReading.{absence, kind_at, FaultAt, ItemFault, no_item, null_item, in_item, FieldsFault, no_list, at_item, left_out, not_ended}
+use Rattle.amqp_codec.specs.FieldReading.{absence, kind_at, FaultAt, ItemFault, no_item, null_item, in_item, FieldsFault, no_list, at_item}
+use Rattle.amqp_codec.specs.FieldReading.{left_out, not_ended}
 use Rattle.amqp_codec.specs.Members as members
 use Rattle.amqp_codec.specs.Members.{Members, MemberFault, no_member, in_member}
 
@@ -42,7 +43,8 @@ module _ (e : Error) (is : IsMisspelling e) where
   item_misspelled : {V : Type 0} (fs : Fields V) (i : ℕ) (st : State) → HasRoom st → ItemFault fs i st e → NothingStands st
   item_misspelled fs i st room (no_item h) = begin_misspelled st e is h
   item_misspelled fs i st room (null_item v k) = absurd (absence_spelled (kind_at fs i) e k is)
-  item_misspelled fs i st room (in_item {c} {mid} p n h) = nothing_peeked st c mid p (field_misspelled fs i mid (room_peeked st c mid p room) h)
+  item_misspelled fs i st room (in_item {c} {mid} p n h) =
+      nothing_peeked st c mid p (field_misspelled fs i mid (room_peeked st c mid p room) h)
 
   fields_named : {V : Type 0} (fs : Fields V) (st : State) → FieldsFault fs st e → NothingStands st
   fields_named fs st (no_list h) = open_misspelled list tt st e is h
@@ -54,11 +56,14 @@ module _ (e : Error) (is : IsMisspelling e) where
 
   member_named : {V : Type 0} (m : Members V) (st : State) → MemberFault m st e → NothingStands st
   member_named m st (no_member {ms} names h) = one_of_misspelled ms st e is h
-  member_named m st (in_member {d} {i} {inner} o at h) = nothing_described st d inner o ((m.faults i).misspelled inner e (room_in_described st d inner o) is h)
+  member_named m st (in_member {d} {i} {inner} o at h) =
+      nothing_described st d inner o ((m.faults i).misspelled inner e (room_in_described st d inner o) is h)
   member_named m st (members.not_ended {d} {i} {inner} {last} {v} o at r h) = absurd (end_misspelled InDescribed last e is h)
 
-pub fields_misspelled : {V : Type 0} (fs : Fields V) (st : State) (e : Error) → HasRoom st → IsMisspelling e → FieldsFault fs st e → NothingStands st
+pub fields_misspelled : {V : Type 0} (fs : Fields V) (st : State) (e : Error) → HasRoom st → IsMisspelling e
+    → FieldsFault fs st e → NothingStands st
 fields_misspelled fs st e room is = fields_named e is fs st
 
-pub member_misspelled : {V : Type 0} (m : Members V) (st : State) (e : Error) → HasRoom st → IsMisspelling e → MemberFault m st e → NothingStands st
+pub member_misspelled : {V : Type 0} (m : Members V) (st : State) (e : Error) → HasRoom st → IsMisspelling e
+    → MemberFault m st e → NothingStands st
 member_misspelled m st e room is = member_named e is m st

@@ -1,7 +1,8 @@
 -- Null as kept bytes has null's text.
 use Rattle.std.proofs.Common.{◌≡◌, ℕ, Bool, true, false, cond, eqb, List, [], ◌∷◌, ◌++◌, refl, sym, ap, ◌∙◌, suc, inl, inr}
 use Rattle.std.proofs.lemmas.Bool.{eqb-true}
-use Rattle.amqp_model.specs.Term.{null, lazy_in_array, Container, list, map, array, Term, Terms, leaf, container, described, kept, barred, none, more, count}
+use Rattle.amqp_model.specs.Term.{null, lazy_in_array, Container, list, map, array, Term, Terms, leaf, container, described, kept, barred}
+use Rattle.amqp_model.specs.Term.{none, more, count}
 use Rattle.amqp_model.specs.Text.{Place, Alone, First, Later, next, first_place, descriptor_text, text, texts}
 use Rattle.amqp_model.specs.Refusals.{Somewhere, SomewhereIn, IsItem, IsRefused, core}
 use Rattle.amqp_codec.specs.NullsAlike.{nulls_alike, all_nulls_alike, kept_null_alike}
@@ -74,10 +75,14 @@ mutual
   nulls_alike_text_at (kept b) Later k h = absurd (k tt)
   nulls_alike_text_at (barred r) place k h = refl
 
-  nulls_alike_texts_at : (ts : Terms) (place : Place) → MayAllKeep place ts → NoneKeptIn ts → texts (all_nulls_alike ts) place ≡ texts ts place
+  nulls_alike_texts_at : (ts : Terms) (place : Place) → MayAllKeep place ts → NoneKeptIn ts
+      → texts (all_nulls_alike ts) place ≡ texts ts place
   nulls_alike_texts_at none place k h = refl
   nulls_alike_texts_at (more t ts) place k h =
-      rw (nulls_alike_text_at t place (first_keeps place t ts k) (λ i. h (inl i)), nulls_alike_texts_at ts (next place) (others_keep place t ts k) (λ i. h (inr i))) refl
+      rw (
+        nulls_alike_text_at t place (first_keeps place t ts k) (λ i. h (inl i)),
+        nulls_alike_texts_at ts (next place) (others_keep place t ts k) (λ i. h (inr i)),
+      ) refl
 
 -- two canonical terms that are alike have one text
 pub alike_texts : (t u : Term) → NoneKept t → NoneKept u → nulls_alike t ≡ nulls_alike u → text t Alone ≡ text u Alone

@@ -1,6 +1,7 @@
 -- Terms that nothing but their size refuses.
 use Rattle.std.proofs.Common.{◌≡◌, ℕ, inl, inr, refl}
-use Rattle.amqp_model.specs.Term.{Primitive, symbol, Refusal, too_large, non_ascii, zero_width_items, mixed_array, lazy_in_array, list, Terms, Term, leaf, container, described, barred, code}
+use Rattle.amqp_model.specs.Term.{Primitive, symbol, Refusal, too_large, non_ascii, zero_width_items, mixed_array, lazy_in_array, list}
+use Rattle.amqp_model.specs.Term.{Terms, Term, leaf, container, described, barred, code}
 use Rattle.amqp_model.specs.Spelling.{IsValid}
 use Rattle.amqp_model.specs.Refusals.{HasMixedItems, HasNullItem, HasKeptItem, IsNonAscii, HasNonAscii, IsRefused}
 

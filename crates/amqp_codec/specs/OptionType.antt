@@ -123,7 +123,8 @@ module _ {T : Type 0} (u : TermType T) where
   kept_means s t v true e m = sym (u.meant s t (normal u.norm v) m).null_alike ∙ null_normal v ∙ e
   kept_means s t v false e m = (sym (u.meant s t (normal u.norm v) m).null_alike ∙ null_normal v ∙ e, m)
 
-  kept_canon : (v : T) (b : Bool) → is_null (u.canon v) ≡ b → nulls_alike (option_canon u.canon (keep b (normal u.norm v))) ≡ nulls_alike (u.canon v)
+  kept_canon : (v : T) (b : Bool) → is_null (u.canon v) ≡ b
+      → nulls_alike (option_canon u.canon (keep b (normal u.norm v))) ≡ nulls_alike (u.canon v)
   kept_canon v true e = sym (nulls_alike-null (u.canon v) e)
   kept_canon v false e = (u.rewrites v).canon
 

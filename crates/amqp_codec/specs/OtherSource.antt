@@ -5,11 +5,13 @@ use Rattle.amqp_model.specs.Term.{Term}
 use Rattle.amqp_wire.specs.declared.error.Error.{Error}
 use Rattle.amqp_decoder.specs.State.{State, after_value}
 use Rattle.amqp_decoder.specs.Items.{Row}
-use Rattle.amqp_decoder.specs.OtherSource.{Setting, under, KeepsError, begin_fault, peeked, value, stands, opens, open_fault, end_fault, closes, close_fault, opens_described, one_of_fault}
+use Rattle.amqp_decoder.specs.OtherSource.{Setting, under, KeepsError, begin_fault, peeked, value, stands, opens, open_fault, end_fault}
+use Rattle.amqp_decoder.specs.OtherSource.{closes, close_fault, opens_described, one_of_fault}
 use Rattle.amqp_codec.specs.Faults.{Faults}
 use Rattle.amqp_codec.specs.MisspellingLaws.{fields_misspelled, member_misspelled}
 use Rattle.amqp_codec.specs.Fields.{Fields, none, field}
-use Rattle.amqp_codec.specs.FieldReading.{FaultAt, ItemFault, no_item, null_item, in_item, FieldsSoFar, FieldsRead, FieldsFault, fields_not_memory, no_list, at_item, left_out, not_ended}
+use Rattle.amqp_codec.specs.FieldReading.{FaultAt, ItemFault, no_item, null_item, in_item, FieldsSoFar, FieldsRead, FieldsFault}
+use Rattle.amqp_codec.specs.FieldReading.{fields_not_memory, no_list, at_item, left_out, not_ended}
 use Rattle.amqp_codec.specs.Members as members
 use Rattle.amqp_codec.specs.Members.{Members, MemberFault, member_not_memory, no_member, in_member}
 
@@ -26,12 +28,30 @@ module _ (c : Setting) where
       let l = h.stand in
       record {
         terms = h.terms;
-        stand = record { count = l.count; mid = at l.mid; opened = opens c l.opened; bytes = l.bytes; last = at l.last; items = row h.terms l.mid l.bytes l.last l.items; closed = closes c l.closed };
+        stand = record {
+          count = l.count;
+          mid = at l.mid;
+          opened = opens c l.opened;
+          bytes = l.bytes;
+          last = at l.last;
+          items = row h.terms l.mid l.bytes l.last l.items;
+          closed = closes c l.closed;
+        };
         fits = h.fits;
       }
 
-  so_far : {V : Type 0} (fs : Fields V) (st : State) (n i : ℕ) (v : V) (mid : State) → FieldsSoFar fs st n i v mid → FieldsSoFar fs (at st) n i v (at mid)
-  so_far fs st n i v mid h = record { first = at h.first; opens = opens c h.opens; terms = h.terms; bytes = h.bytes; each = row h.terms h.first h.bytes mid h.each; long = h.long; front = h.front }
+  so_far : {V : Type 0} (fs : Fields V) (st : State) (n i : ℕ) (v : V) (mid : State) → FieldsSoFar fs st n i v mid
+      → FieldsSoFar fs (at st) n i v (at mid)
+  so_far fs st n i v mid h =
+      record {
+        first = at h.first;
+        opens = opens c h.opens;
+        terms = h.terms;
+        bytes = h.bytes;
+        each = row h.terms h.first h.bytes mid h.each;
+        long = h.long;
+        front = h.front;
+      }
 
   module _ (e : Error) (keeps : KeepsError c e) where
     fault_at : {V : Type 0} (fs : Fields V) (i : ℕ) (st : State) → FaultAt fs i st e → FaultAt fs i (at st) e

@@ -1,5 +1,6 @@
 -- A value stands where its first code was looked at.
-use Rattle.std.proofs.Common.{◌≡◌, inl, inr, ℕ, ◌≤◌, true, false, List, [], ◌∷◌, ◌++◌, length, drop, Option, Some, None, ◌⊎◌, refl, sym, ap, ◌∙◌, arith, append_assoc, length-append}
+use Rattle.std.proofs.Common.{◌≡◌, inl, inr, ℕ, ◌≤◌, true, false, List, [], ◌∷◌, ◌++◌, length, drop, Option, Some, None, ◌⊎◌, refl, sym, ap}
+use Rattle.std.proofs.Common.{◌∙◌, arith, append_assoc, length-append}
 use Rattle.std.proofs.lemmas.List.{drop_at}
 use Rattle.amqp_model.specs.Term.{null, Term, leaf, container, described, kept, barred, Descriptor}
 use Rattle.amqp_model.specs.Standing.{Standing}
@@ -25,7 +26,8 @@ first_own : (s : List ℕ) → 1 ≤ length s → (c : ℕ) × (others : List �
 first_own [] h = absurd (omega arith)
 first_own (c ∷ s) h = (c, s, refl)
 
-first_by : (shared : Option (List Descriptor × ℕ)) (s : List ℕ) (t : Term) → SpellsAs (standing shared s) t → (c : ℕ) × (own others : List ℕ) × IsFirst shared c own × (s ≡ own ++ others)
+first_by : (shared : Option (List Descriptor × ℕ)) (s : List ℕ) (t : Term) → SpellsAs (standing shared s) t
+    → (c : ℕ) × (own others : List ℕ) × IsFirst shared c own × (s ≡ own ++ others)
 first_by None s t h = let f = first_own s (spelling_length s t h) in (f.0, f.0 ∷ [], f.1, refl, f.2)
 first_by (Some ([], k)) s t h = (k, [], s, (refl, refl), refl)
 first_by (Some (d ∷ ds, k)) s t h = (0, [], s, (refl, refl), refl)
@@ -63,12 +65,14 @@ peeked_failed st c mid h = ap (λ (x : State). x.failed) h.kept ∙ by_shared st
     by_shared (Some x) = refl
 
 -- where a value stands, a first code can be looked at
-pub value_peeked : {A : Type 0} (means : Standing → Term → A → Type 0) (st : State) → NoneStands PeeksCode st → NoneStands (ReadsValue means) st
+pub value_peeked : {A : Type 0} (means : Standing → Term → A → Type 0) (st : State) → NoneStands PeeksCode st
+    → NoneStands (ReadsValue means) st
 value_peeked means st none v b h =
     let f = stands_begun st h.bytes h.term h.stands in
     none f.0 (after_peek st.top.shared st) (record { after = f.1; begun = f.2; kept = refl })
 
-null_by : (shared : Option (List Descriptor × ℕ)) (s : List ℕ) (t : Term) → SpellsAs (standing shared s) t → is_null t ≡ true → t ≡ leaf null
+null_by : (shared : Option (List Descriptor × ℕ)) (s : List ℕ) (t : Term) → SpellsAs (standing shared s) t
+    → is_null t ≡ true → t ≡ leaf null
 unfolding enc
 null_by shared s (leaf p) h n = ap leaf (null_primitive p n)
 null_by shared s (container k ts) h n = absurd (clash n refl)
@@ -84,19 +88,30 @@ abbrev MeansNull : Standing → Term → Unit {0} → Type 0
 MeansNull = Means (λ _. null)
 
 -- a null that was looked at is there
-pub null_there : (st : State) (mid : State) (e : Error) (new : State) → PeeksCode st 0x40 mid → IsExcused false e new ⊎ PrimitiveFault nulls mid e → IsExcused false e new
+pub null_there : (st : State) (mid : State) (e : Error) (new : State) → PeeksCode st 0x40 mid
+    → IsExcused false e new ⊎ PrimitiveFault nulls mid e → IsExcused false e new
 null_there st mid e new p (inl x) = x
 null_there st mid e new p (inr f) =
-    let v : ReadsValue MeansNull mid tt p.after = code_value (λ _. null) 0x40 mid tt p.after ((begun-peeked st mid p.after 0x40 0x40 p).1 p.begun) (refl, refl, tt) in
+    let v : ReadsValue MeansNull mid tt p.after =
+    code_value (λ _. null) 0x40 mid tt p.after ((begun-peeked st mid p.after 0x40 0x40 p).1 p.begun) (refl, refl, tt) in
     absurd (fault_not_leaf 0 mid e null p.after refl f (value_leaf (λ _. null) mid tt p.after v))
 
 -- what begins by another code is no null
-pub not_null : {A : Type 0} (means : Standing → Term → A → Type 0) (st : State) (c : ℕ) (mid : State) (v : A) (b : State) → PeeksCode st c mid → (c ≡ 0x40 → ⊥) → (h : ReadsValue means st v b) → is_null h.term ≡ false
+pub not_null : {A : Type 0} (means : Standing → Term → A → Type 0) (st : State) (c : ℕ) (mid : State) (v : A) (b : State)
+    → PeeksCode st c mid → (c ≡ 0x40 → ⊥) → (h : ReadsValue means st v b) → is_null h.term ≡ false
 not_null means st c mid v b p other h = by_test (is_null h.term) refl
   where
     by_test : (n : _) → is_null h.term ≡ n → is_null h.term ≡ false
     by_test false e = e
     by_test true e =
-        let k : ReadsValue MeansNull st tt b = record { bytes = h.bytes; term = h.term; stands = h.stands; moved = h.moved; meant = is_the_null st h.bytes h.term h.stands e } in
+        let k : ReadsValue MeansNull st tt b =
+        record {
+          bytes = h.bytes;
+          term = h.term;
+          stands = h.stands;
+          moved = h.moved;
+          meant = is_the_null st h.bytes h.term h.stands e;
+        } in
         let l = value_leaf (λ _. null) st tt b k in
-        absurd (other ((begun_same st c l.code p.after l.mid p.begun l.begun).0 ∙ one_code 0 0x40 refl l.code (kind_data l.code null l.data_ l.spelled)))
+        absurd (other ((begun_same st c l.code p.after l.mid p.begun l.begun).0
+        ∙ one_code 0 0x40 refl l.code (kind_data l.code null l.data_ l.spelled)))

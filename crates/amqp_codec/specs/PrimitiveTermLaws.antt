@@ -1,6 +1,7 @@
 -- Facts about terms that are one primitive.
 use Rattle.std.proofs.Common.{◌≡◌, ℕ, false, List, [], ◌∷◌, sym, ap, subst}
-use Rattle.amqp_model.specs.Term.{Primitive, null, Refusal, too_large, Container, Term, Terms, leaf, container, described, kept, barred, Descriptor}
+use Rattle.amqp_model.specs.Term.{Primitive, null, Refusal, too_large, Container, Term, Terms, leaf, container, described, kept, barred}
+use Rattle.amqp_model.specs.Term.{Descriptor}
 use Rattle.amqp_model.specs.Constructors.{Format, fixed, variable, compound, unknown, format}
 use Rattle.amqp_model.specs.Spelling.{PrimitiveData, IsValid, data_of, enc}
 use Rattle.amqp_model.specs.Standing.{Standing, whole, part}

@@ -19,10 +19,12 @@ no_memory h = absurd (cc)
 
 -- a call that opened a container came with no error kept, and its source hasn't begun to fail
 pub opened_going : {kind : Container} {st first : State} {n : ℕ} → Opens kind st n first → first.error ≡ None
-opened_going o = ap (λ (x : State). x.error) o.data_.entered ∙ ap (λ (x : State). x.error) o.data_.header.took.moved ∙ ap (λ (x : State). x.error) o.begun.moved ∙ o.begun.going
+opened_going o = ap (λ (x : State). x.error) o.data_.entered ∙ ap (λ (x : State). x.error) o.data_.header.took.moved
+    ∙ ap (λ (x : State). x.error) o.begun.moved ∙ o.begun.going
 
 pub opened_sound : {kind : Container} {st first : State} {n : ℕ} → Opens kind st n first → first.failed ≡ st.failed
-opened_sound o = ap (λ (x : State). x.failed) o.data_.entered ∙ ap (λ (x : State). x.failed) o.data_.header.took.moved ∙ ap (λ (x : State). x.failed) o.begun.moved
+opened_sound o = ap (λ (x : State). x.failed) o.data_.entered ∙ ap (λ (x : State). x.failed) o.data_.header.took.moved
+    ∙ ap (λ (x : State). x.failed) o.begun.moved
 
 -- nothing that could be read stands there, unless the refusal is excused
 abbrev pub NoneStands : {A : Type 0} → (State → A → State → Type 0) → State → Type 0
@@ -33,8 +35,10 @@ or_else g f (inl x) = inl (g x)
 or_else g f (inr y) = inr (f y)
 
 -- the first call was refused
-pub refused_first : {A B : Type 0} {a b : Bool} (p : State → A → State → Type 0) (f : State → Error → Type 0) (q : State → B → State → Type 0) (g : State → Error → Type 0) (old : State) (e : Error) (new : State)
-    → (a ≡ true → b ≡ true) → (f old e → g old e) → (NoneStands p old → NoneStands q old) → RefusesRead a p f old e new → RefusesRead b q g old e new
+pub refused_first : {A B : Type 0} {a b : Bool} (p : State → A → State → Type 0) (f : State → Error → Type 0)
+    (q : State → B → State → Type 0) (g : State → Error → Type 0) (old : State) (e : Error) (new : State)
+    → (a ≡ true → b ≡ true) → (f old e → g old e) → (NoneStands p old → NoneStands q old) → RefusesRead a p f old e new
+    → RefusesRead b q g old e new
 refused_first p f q g old e new may named none h = record {
   kept = h.kept;
   again = h.again;
@@ -43,8 +47,10 @@ refused_first p f q g old e new may named none h = record {
 }
 
 -- a later call was refused
-pub refused_later : {A B : Type 0} {a b : Bool} (p : State → A → State → Type 0) (f : State → Error → Type 0) (q : State → B → State → Type 0) (g : State → Error → Type 0) (old mid : State) (e : Error) (new : State)
-    → (a ≡ true → b ≡ true) → mid.failed ≡ old.failed → old.error ≡ None → mid.error ≡ None → (f mid e → g old e) → (NoneStands p mid → NoneStands q old) → RefusesRead a p f mid e new → RefusesRead b q g old e new
+pub refused_later : {A B : Type 0} {a b : Bool} (p : State → A → State → Type 0) (f : State → Error → Type 0)
+    (q : State → B → State → Type 0) (g : State → Error → Type 0) (old mid : State) (e : Error) (new : State)
+    → (a ≡ true → b ≡ true) → mid.failed ≡ old.failed → old.error ≡ None → mid.error ≡ None → (f mid e → g old e)
+    → (NoneStands p mid → NoneStands q old) → RefusesRead a p f mid e new → RefusesRead b q g old e new
 refused_later p f q g old mid e new may sound going still named none h = record {
   kept = answered_later sound h.kept;
   again = λ d x. absurd (cc);

@@ -26,19 +26,22 @@ HoldNoArray ts = EverywhereIn IsNoArray (terms_of ts)
 
 -- follows: what may stand behind a text; again: what the text of a value is read as; kept: that is the value;
 -- lasts: the text is read at all
-pub record Rewriting {T : Type 0} (r : Reading T) (canons : T → List Term) (is_value : T → Type 0) (follows : List ℕ → Type 0) (again : T → T) (kept lasts : T → Type 0) (is_least : Bool) : Type 0 where
+pub record Rewriting {T : Type 0} (r : Reading T) (canons : T → List Term) (is_value : T → Type 0) (follows : List ℕ → Type 0)
+    (again : T → T) (kept lasts : T → Type 0) (is_least : Bool) : Type 0 where
   -- a text may end an input
   pub alone : follows []
   -- one value has one canonical text, which is read again, as a value with the same text
   pub canons_same : (v w : T) → r.same v w → canons v ≡ canons w
-  pub reads_again : (v : T) (more : List ℕ) → is_value v → lasts v → AreWritable (canons v) → follows more → BeginsWith r (row_text (canons v) ++ more) (again v) (length (row_text (canons v)))
+  pub reads_again : (v : T) (more : List ℕ) → is_value v → lasts v → AreWritable (canons v) → follows more
+      → BeginsWith r (row_text (canons v) ++ more) (again v) (length (row_text (canons v)))
   pub text_again : (v : T) → is_value v → AreWritable (canons v) → row_text (canons (again v)) ≡ row_text (canons v)
   -- what was read is a value, is read again, as itself, is written but for its size, and in no more bytes
   pub value : (input : List ℕ) (v : T) (n : ℕ) → BeginsWith r input v n → is_value v
   pub lasting : (input : List ℕ) (v : T) (n : ℕ) → BeginsWith r input v n → lasts v
   pub own : (input : List ℕ) (v : T) (n : ℕ) → BeginsWith r input v n → kept v → r.same (again v) v
   pub large : (input : List ℕ) (v : T) (n : ℕ) (e : Error) → BeginsWith r input v n → AreUnwritable (canons v) e → e ≡ TooLarge
-  pub least : is_least ≡ true → (input : List ℕ) (v : T) (n : ℕ) → IsBytes input → HoldNoArray (canons v) → BeginsWith r input v n → length (row_text (canons v)) ≤ n
+  pub least : is_least ≡ true → (input : List ℕ) (v : T) (n : ℕ) → IsBytes input → HoldNoArray (canons v) → BeginsWith r input v n
+      → length (row_text (canons v)) ≤ n
 
 module _ {T : Type 0} {u : TermType T} {w : Writing T} (tie : Agreement u w) where
   term_again : (v : T) (more : List ℕ) → w.is_value v → AreWritable (w.canons v)
@@ -67,7 +70,8 @@ module _ {T : Type 0} {u : TermType T} {w : Writing T} (tie : Agreement u w) whe
   term_least : u.is_least ≡ true → (input : List ℕ) (v : T) (n : ℕ) → IsBytes input → HoldNoArray (w.canons v)
       → BeginsWith (reading_of u) input v n → length (row_text (w.canons v)) ≤ n
   term_least l input v n bytes none h =
-      let front : IsBytes (take n input) = bytes_left (take n input) (drop n input) (subst IsBytes (sym (take-append-drop n input)) bytes) in
+      let front : IsBytes (take n input) =
+      bytes_left (take n input) (drop n input) (subst IsBytes (sym (take-append-drop n input)) bytes) in
       let alone : Everywhere IsNoArray (u.canon v) = (subst HoldNoArray (tie.canons_is v) none).0 in
       let s = read_spelled u input v n h in
       omega (arith, ap length (agreed_text tie v), text_least u l (take n input) v front alone s.1, length-take-le n input s.0)

@@ -19,18 +19,21 @@ pub record IsRewritten {T : Type 0} (r : Reading T) (canons : T → List Term) (
   pub text_is : text ≡ row_text (canons value)
 
 -- Before whatever may follow, the text is read to its end, as the value that the first n bytes of the input are read as.
-pub record IsReadAgain {T : Type 0} (r : Reading T) (follows : List ℕ → Type 0) (again : T → T) (kept : T → Type 0) (input text : List ℕ) (n : ℕ) : Type 0 where
+pub record IsReadAgain {T : Type 0} (r : Reading T) (follows : List ℕ → Type 0) (again : T → T) (kept : T → Type 0)
+    (input text : List ℕ) (n : ℕ) : Type 0 where
   pub read : (v : T) (more : List ℕ) → BeginsWith r input v n → follows more → BeginsWith r (text ++ more) (again v) (length text)
   pub itself : (v : T) → BeginsWith r input v n → kept v → r.same (again v) v
 
 -- It is the canonical text of that value however any input spells it.
 abbrev pub IsOneText : {T : Type 0} → Reading T → (T → List Term) → List ℕ → List ℕ → ℕ → Type 0
-IsOneText {T} r canons input text n = (v w : T) (other : List ℕ) (m : ℕ) → BeginsWith r input v n → BeginsWith r other w m → r.same v w → row_text (canons w) ≡ text
+IsOneText {T} r canons input text n = (v w : T) (other : List ℕ) (m : ℕ) → BeginsWith r input v n → BeginsWith r other w m → r.same v w
+    → row_text (canons w) ≡ text
 
 -- It is the canonical text of no other value.
 abbrev pub IsOfNoOther : {T : Type 0} → Reading T → (T → List Term) → (T → Type 0) → List ℕ → List ℕ → ℕ → Type 0
 IsOfNoOther {T} r canons kept input text n =
-    (v w : T) (other : List ℕ) (m : ℕ) → BeginsWith r input v n → BeginsWith r other w m → kept v → kept w → AreWritable (canons w) → row_text (canons w) ≡ text → r.same v w
+    (v w : T) (other : List ℕ) (m : ℕ) → BeginsWith r input v n → BeginsWith r other w m → kept v → kept w → AreWritable (canons w)
+    → row_text (canons w) ≡ text → r.same v w
 
 -- What it is read as has it as its canonical text.
 abbrev pub IsUnchanged : {T : Type 0} → Reading T → (T → List Term) → List ℕ → Type 0
@@ -39,12 +42,15 @@ IsUnchanged {T} r canons text = (w : T) (m : ℕ) → BeginsWith r text w m → 
 -- No spelling of that value is shorter, where no array stands in its canonical terms.
 abbrev pub IsShortest : {T : Type 0} → Reading T → (T → List Term) → List ℕ → List ℕ → ℕ → Type 0
 IsShortest {T} r canons input text n =
-    (v w : T) (other : List ℕ) (m : ℕ) → BeginsWith r input v n → BeginsWith r other w m → r.same v w → IsBytes other → HoldNoArray (canons w) → length text ≤ m
+    (v w : T) (other : List ℕ) (m : ℕ) → BeginsWith r input v n → BeginsWith r other w m → r.same v w → IsBytes other
+    → HoldNoArray (canons w) → length text ≤ m
 
 -- The canonical text of every value that can be written is read to its end, before whatever may follow, as what the text of
 -- that value is read as; and this has the same canonical text.
-pub record AreReadAgain {T : Type 0} (r : Reading T) (canons : T → List Term) (is_value : T → Type 0) (follows : List ℕ → Type 0) (again : T → T) (lasts : T → Type 0) : Type 0 where
-  pub read : (v : T) (more : List ℕ) → is_value v → lasts v → AreWritable (canons v) → follows more → BeginsWith r (row_text (canons v) ++ more) (again v) (length (row_text (canons v)))
+pub record AreReadAgain {T : Type 0} (r : Reading T) (canons : T → List Term) (is_value : T → Type 0) (follows : List ℕ → Type 0)
+    (again : T → T) (lasts : T → Type 0) : Type 0 where
+  pub read : (v : T) (more : List ℕ) → is_value v → lasts v → AreWritable (canons v) → follows more
+      → BeginsWith r (row_text (canons v) ++ more) (again v) (length (row_text (canons v)))
   pub text : (v : T) → is_value v → AreWritable (canons v) → row_text (canons (again v)) ≡ row_text (canons v)
 
 -- What the input is read as is too large to be written.

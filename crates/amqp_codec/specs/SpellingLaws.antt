@@ -7,7 +7,8 @@ use Rattle.amqp_codec.specs.Spelled.{IsSpelled}
 use Rattle.amqp_codec.specs.Reading.{BeginsWith, reading_of, start}
 
 module _ {T : Type 0} (u : TermType T) where
-  pub read_spelled : (input : List ℕ) (v : T) (n : ℕ) → BeginsWith (reading_of u) input v n → (n ≤ length input) × IsSpelled u (take n input) v
+  pub read_spelled : (input : List ℕ) (v : T) (n : ℕ) → BeginsWith (reading_of u) input v n
+      → (n ≤ length input) × IsSpelled u (take n input) v
   read_spelled input v n h =
       let k = h.read in
       let s = k.bytes in
@@ -16,7 +17,8 @@ module _ {T : Type 0} (u : TermType T) where
       let n_is : length s ≡ n = omega (arith, long, left, h.left) in
       let front : s ≡ take n input = sym (ap (take n) k.stands.rest ∙ take_at s k.stands.after n n_is) in (
         omega (arith, long, n_is),
-        subst (λ b. IsSpelled u b v) front (record { term = k.term; spelled = k.stands.spelled; nested = (let x = k.stands.nested in omega (arith, x)); meant = k.meant }),
+        subst (λ b. IsSpelled u b v) front
+            (record { term = k.term; spelled = k.stands.spelled; nested = (let x = k.stands.nested in omega (arith, x)); meant = k.meant }),
       )
 
   pub spelled_read : (b more : List ℕ) (v : T) → IsSpelled u b v → BeginsWith (reading_of u) (b ++ more) v (length b)
@@ -25,7 +27,15 @@ module _ {T : Type 0} (u : TermType T) where
     read = record {
       bytes = b;
       term = h.term;
-      stands = record { going = refl; item = tt; room = tt; after = more; rest = refl; spelled = h.spelled; nested = (let x = h.nested in omega (arith, x)) };
+      stands = record {
+        going = refl;
+        item = tt;
+        room = tt;
+        after = more;
+        rest = refl;
+        spelled = h.spelled;
+        nested = (let x = h.nested in omega (arith, x));
+      };
       moved = refl;
       meant = h.meant;
     };

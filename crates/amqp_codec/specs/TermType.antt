@@ -156,7 +156,8 @@ pub record TermType (T : Type 0) : Type 1 where
   -- it has one form for one form
   pub formed : (s z : Standing) (t u : Term) (v w : T) → means s t v → means z u w → form t ≡ form u → form (canon v) ≡ form (canon w)
   pub never_null : is_never_null ≡ true → (v : T) → is_null (canon v) ≡ false
-  pub standing_ignored : ignores_standing ≡ true → (v : T) → IgnoresStanding (view_of is_value means canon v) (view_of is_value means canon (normal norm v))
+  pub standing_ignored : ignores_standing ≡ true → (v : T)
+      → IgnoresStanding (view_of is_value means canon v) (view_of is_value means canon (normal norm v))
   pub least : is_least ≡ true → (b : List ℕ) (t : Term) (v : T) → means (whole b) t v → IsNoShorter b t (canon v)
 
 abbrev pub view_in : {T : Type 0} → TermType T → T → View

@@ -10,5 +10,6 @@ pub use Rattle.amqp_codec.specs.Fields.{Fields, none, field}
 pub use Rattle.amqp_codec.specs.ListType.{ListTable, list_of}
 pub use Rattle.amqp_codec.specs.Composite.{Table, composite}
 pub use Rattle.amqp_codec.specs.Choices.{Choices, no_more, member, Chosen, SumOf, sum_of, sum_writing, sum_one, sum_agreement}
-pub use Rattle.amqp_codec.specs.Restricted.{IsDistinct, boolean_base, ubyte_base, ushort_base, uint_base, restricted_number, restricted_text}
+pub use Rattle.amqp_codec.specs.Restricted.{IsDistinct, boolean_base, ubyte_base, ushort_base, uint_base, restricted_number}
+pub use Rattle.amqp_codec.specs.Restricted.{restricted_text}
 pub use Rattle.amqp_codec.specs.Agreement.{writing_of, one_term, agreement}

@@ -3,7 +3,8 @@ ghost use Rattle.std.specs.Prelude.{◌≡◌, ◌≤◌, ◌⊎◌, ◌++◌, �
 ghost use Rattle.amqp_wire.specs.declared.error.Error.TheVariants.{Memory};
 ghost use Rattle.amqp_encoder.specs.Passes.{row_text};
 ghost use Rattle.amqp_codec.specs.Reading.{BeginsWith, IsUnreadable};
-ghost use Rattle.amqp_codec.specs.Rewritten.{IsRewritten, IsReadAgain, AreReadAgain, IsOneText, IsOfNoOther, IsUnchanged, IsShortest, IsUnwritten};
+ghost use Rattle.amqp_codec.specs.Rewritten.{IsRewritten, IsReadAgain, AreReadAgain, IsOneText, IsOfNoOther, IsUnchanged, IsShortest};
+ghost use Rattle.amqp_codec.specs.Rewritten.{IsUnwritten};
 ghost use Rattle.amqp_codec.specs.Written.{AreMeasured, AreUnwritable, AreWritable};
 
 use crate::{Canonical, Deserialize, Serialize};

@@ -50,7 +50,8 @@ pub trait Composite: Sized + Drop {
         decoder: &mut Decoder<R>,
         alloc: Global,
     ) -> Result<(), Error>
-        ensures { Tells R.remaining → index < length (kinds_of (slots table.fields)) → FillsField table.fields index self.old self.new decoder.old result decoder.new };
+        ensures { Tells R.remaining → index < length (kinds_of (slots table.fields))
+            → FillsField table.fields index self.old self.new decoder.old result decoder.new };
 
     /// Whether a field is written as null.
     fn is_null_field(&self, index: usize) -> bool
@@ -58,7 +59,8 @@ pub trait Composite: Sized + Drop {
 
     /// Writes a field that isn't null.
     fn write_field(&self, index: usize, encoder: &mut Encoder) -> Result<(), Error>
-        ensures { index < length (kinds_of (slots table.fields)) → is_null (canon_at table.fields index self.now) ≡ false → WritesTerms (canon_at table.fields index self.now ∷ []) encoder.old result encoder.new };
+        ensures { index < length (kinds_of (slots table.fields)) → is_null (canon_at table.fields index self.now) ≡ false
+            → WritesTerms (canon_at table.fields index self.now ∷ []) encoder.old result encoder.new };
 }
 
 // Behind its descriptor stands the list of its fields.
@@ -117,7 +119,8 @@ pub fn read_composite<C: Composite, R: ByteSource>(
     decoder: &mut Decoder<R>,
     alloc: Global,
 ) -> Result<C, Error>
-    ensures { Tells R.remaining → AnswersRead (take_memory C.table.fields) (ReadsValue (λ s. MeansComposite (table_of C.table))) (MemberFault (composite_members C.table)) decoder.old result decoder.new }
+    ensures { Tells R.remaining → AnswersRead (take_memory C.table.fields) (ReadsValue (λ s. MeansComposite (table_of C.table)))
+        (MemberFault (composite_members C.table)) decoder.old result decoder.new }
 {
     decoder.begin_one_of(&[C::table().descriptor])?;
     let value = read_fields(decoder, alloc)?;

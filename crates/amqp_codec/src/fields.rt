@@ -42,7 +42,8 @@ pub trait FieldList: Sized + Drop {
         decoder: &mut Decoder<R>,
         alloc: Global,
     ) -> Result<(), Error>
-        ensures { Tells R.remaining → index < length (kinds_of (slots list.fields)) → FillsField list.fields index self.old self.new decoder.old result decoder.new };
+        ensures { Tells R.remaining → index < length (kinds_of (slots list.fields))
+            → FillsField list.fields index self.old self.new decoder.old result decoder.new };
 
     /// Whether a field is written as null.
     fn is_null_field(&self, index: usize) -> bool
@@ -50,7 +51,8 @@ pub trait FieldList: Sized + Drop {
 
     /// Writes a field that isn't null.
     fn write_field(&self, index: usize, encoder: &mut Encoder) -> Result<(), Error>
-        ensures { index < length (kinds_of (slots list.fields)) → is_null (canon_at list.fields index self.now) ≡ false → WritesTerms (canon_at list.fields index self.now ∷ []) encoder.old result encoder.new };
+        ensures { index < length (kinds_of (slots list.fields)) → is_null (canon_at list.fields index self.now) ≡ false
+            → WritesTerms (canon_at list.fields index self.now ∷ []) encoder.old result encoder.new };
 }
 
 /// Reads a value into its place.
@@ -81,7 +83,8 @@ pub fn read_fields<L: FieldList, R: ByteSource>(
     decoder: &mut Decoder<R>,
     alloc: Global,
 ) -> Result<L, Error>
-    ensures { Tells R.remaining → AnswersRead (take_memory L.list.fields) (FieldsRead L.list.fields) (FieldsFault L.list.fields) decoder.old result decoder.new }
+    ensures { Tells R.remaining → AnswersRead (take_memory L.list.fields) (FieldsRead L.list.fields) (FieldsFault L.list.fields)
+        decoder.old result decoder.new }
 {
     let count = decoder.begin_list()? as usize;
     let mut value = L::blank(alloc);
@@ -102,7 +105,8 @@ pub fn read_list<L: FieldList, R: ByteSource>(
     decoder: &mut Decoder<R>,
     alloc: Global,
 ) -> Result<L, Error>
-    ensures { Tells R.remaining → AnswersRead (take_memory L.list.fields) (ReadsValue (λ s. MeansList (slots L.list.fields))) (FieldsFault L.list.fields) decoder.old result decoder.new }
+    ensures { Tells R.remaining → AnswersRead (take_memory L.list.fields) (ReadsValue (λ s. MeansList (slots L.list.fields)))
+        (FieldsFault L.list.fields) decoder.old result decoder.new }
 {
     read_fields(decoder, alloc)
 }
@@ -166,7 +170,8 @@ fn write_items<L: FieldList>(value: &L, count: usize, encoder: &mut Encoder) -> 
 // Writes a field.
 #[tactic(auto, using(crate::proofs::Trimming::null_written))]
 fn write_item<L: FieldList>(value: &L, index: usize, encoder: &mut Encoder) -> Result<(), Error>
-    ensures { index < length (kinds_of (slots L.list.fields)) → WritesTerms (canon_at L.list.fields index value.now ∷ []) encoder.old result encoder.new }
+    ensures { index < length (kinds_of (slots L.list.fields))
+        → WritesTerms (canon_at L.list.fields index value.now ∷ []) encoder.old result encoder.new }
 {
     if value.is_null_field(index) {
         encoder.write_null()

@@ -68,20 +68,25 @@ pub fn canonical_text_is_read_again<T: DeserializeTerm>()
 /// text is read as is written as that text again.
 pub fn one_text_for_one_value<T: DeserializeTerm>()
     ensures same { (v w : T) → T.term.same v w → written T.term v ≡ written T.term w }
-    ensures apart { (b c : List ℕ) (v w : T) → IsSpelled T.term b v → IsSpelled T.term c w → IsWritable T.term v → IsWritable T.term w → written T.term v ≡ written T.term w → T.term.same v w }
-    ensures unchanged { (v w : T) → T.term.is_value v → IsWritable T.term v → IsSpelled T.term (written T.term v) w → written T.term w ≡ written T.term v }
+    ensures apart { (b c : List ℕ) (v w : T) → IsSpelled T.term b v → IsSpelled T.term c w → IsWritable T.term v → IsWritable T.term w
+        → written T.term v ≡ written T.term w → T.term.same v w }
+    ensures unchanged { (v w : T) → T.term.is_value v → IsWritable T.term v → IsSpelled T.term (written T.term v) w
+        → written T.term w ≡ written T.term v }
 {}
 
 /// No spelling of a value of a least type is shorter than its canonical text, where its term holds no array.
 pub fn canonical_text_is_least<T: DeserializeTerm>()
-    ensures { T.term.is_least ≡ true → (b : List ℕ) (v : T) → IsBytes b → Everywhere IsNoArray (T.term.canon v) → IsSpelled T.term b v → length (written T.term v) ≤ length b }
+    ensures { T.term.is_least ≡ true → (b : List ℕ) (v : T) → IsBytes b → Everywhere IsNoArray (T.term.canon v) → IsSpelled T.term b v
+        → length (written T.term v) ≤ length b }
 {}
 
 /// A sum of two types that are told from each other by the first code names a fault of the type that the code tells, and no
 /// other's.
 pub fn faults_of_a_sum<A: DeserializeTerm, B: DeserializeTerm>()
-    ensures first { (is_first : ℕ → Bool) (st mid : State) (c : ℕ) (e : Error) → PeeksCode st c mid → is_first c ≡ true → EitherFault is_first A.term.faults B.term.faults st e → A.term.faults.fault mid e }
-    ensures second { (is_first : ℕ → Bool) (st mid : State) (c : ℕ) (e : Error) → PeeksCode st c mid → is_first c ≡ false → EitherFault is_first A.term.faults B.term.faults st e → B.term.faults.fault mid e }
+    ensures first { (is_first : ℕ → Bool) (st mid : State) (c : ℕ) (e : Error) → PeeksCode st c mid → is_first c ≡ true
+        → EitherFault is_first A.term.faults B.term.faults st e → A.term.faults.fault mid e }
+    ensures second { (is_first : ℕ → Bool) (st mid : State) (c : ℕ) (e : Error) → PeeksCode st c mid → is_first c ≡ false
+        → EitherFault is_first A.term.faults B.term.faults st e → B.term.faults.fault mid e }
 {}
 
 /// A value has no more values in it than the bytes that spell it.

@@ -17,10 +17,15 @@ use std::marker::{Brand, PhantomData};
 /// begins to fail, or a fault of bytes that begin with no value; how many bytes were taken then isn't said.
 pub fn from_reader<T: Deserialize, R: ByteSource>(reader: &mut R, alloc: Global) -> Result<T, Error>
     ensures found { Tells R.remaining → IfOk result (λ v. (n : ℕ) × BeginsWith T.reading (known (R.remaining reader.old)) v n) }
-    ensures one { Tells R.remaining → IfOk result (λ v. (w : _) (m : ℕ) → BeginsWith T.reading (known (R.remaining reader.old)) w m → T.reading.same v w) }
-    ensures behind { Tells R.remaining → T.reading.looks_on ≡ false → IfOk result (λ v. (w : _) (n : ℕ) → BeginsWith T.reading (known (R.remaining reader.old)) w n → known (R.remaining reader.new) ≡ drop n (known (R.remaining reader.old))) }
-    ensures refused { Tells R.remaining → IfErr result (λ e. ((T.reading.takes_memory ≡ true) × (e ≡ Memory)) ⊎ ((IsReadError e × (R.failed reader.new ≡ true)) ⊎ IsUnreadable T.reading (known (R.remaining reader.old)) e)) }
-    ensures failing { Tells R.remaining → MatchResult result (λ _. R.failed reader.new ≡ R.failed reader.old) (λ e. (R.failed reader.new ≡ R.failed reader.old) ⊎ IsReadError e) }
+    ensures one { Tells R.remaining → IfOk result (λ v. (w : _) (m : ℕ)
+        → BeginsWith T.reading (known (R.remaining reader.old)) w m → T.reading.same v w) }
+    ensures behind { Tells R.remaining → T.reading.looks_on ≡ false
+        → IfOk result (λ v. (w : _) (n : ℕ) → BeginsWith T.reading (known (R.remaining reader.old)) w n
+        → known (R.remaining reader.new) ≡ drop n (known (R.remaining reader.old))) }
+    ensures refused { Tells R.remaining → IfErr result (λ e. ((T.reading.takes_memory ≡ true) × (e ≡ Memory))
+        ⊎ ((IsReadError e × (R.failed reader.new ≡ true)) ⊎ IsUnreadable T.reading (known (R.remaining reader.old)) e)) }
+    ensures failing { Tells R.remaining → MatchResult result (λ _. R.failed reader.new ≡ R.failed reader.old)
+        (λ e. (R.failed reader.new ≡ R.failed reader.old) ⊎ IsReadError e) }
 {
     let (read, _reader) = read_named::<T, _, Brand>(reader, alloc);
     read
@@ -67,10 +72,15 @@ fn read_named<T: Deserialize, S: ByteSource, N: Name>(
     requires { S.name source ≡ N.name }
     ensures named { S.name result.1 ≡ S.name source }
     ensures found { Tells S.remaining → IfOk result.0 (λ v. (n : ℕ) × BeginsWith T.reading (known (S.remaining source)) v n) }
-    ensures one { Tells S.remaining → IfOk result.0 (λ v. (w : _) (m : ℕ) → BeginsWith T.reading (known (S.remaining source)) w m → T.reading.same v w) }
-    ensures behind { Tells S.remaining → T.reading.looks_on ≡ false → IfOk result.0 (λ v. (w : _) (n : ℕ) → BeginsWith T.reading (known (S.remaining source)) w n → known (S.remaining result.1) ≡ drop n (known (S.remaining source))) }
-    ensures refused { Tells S.remaining → IfErr result.0 (λ e. ((T.reading.takes_memory ≡ true) × (e ≡ Memory)) ⊎ ((IsReadError e × (S.failed result.1 ≡ true)) ⊎ IsUnreadable T.reading (known (S.remaining source)) e)) }
-    ensures failing { Tells S.remaining → MatchResult result.0 (λ _. S.failed result.1 ≡ S.failed source) (λ e. (S.failed result.1 ≡ S.failed source) ⊎ IsReadError e) }
+    ensures one { Tells S.remaining → IfOk result.0 (λ v. (w : _) (m : ℕ)
+        → BeginsWith T.reading (known (S.remaining source)) w m → T.reading.same v w) }
+    ensures behind { Tells S.remaining → T.reading.looks_on ≡ false
+        → IfOk result.0 (λ v. (w : _) (n : ℕ) → BeginsWith T.reading (known (S.remaining source)) w n
+        → known (S.remaining result.1) ≡ drop n (known (S.remaining source))) }
+    ensures refused { Tells S.remaining → IfErr result.0 (λ e. ((T.reading.takes_memory ≡ true) × (e ≡ Memory))
+        ⊎ ((IsReadError e × (S.failed result.1 ≡ true)) ⊎ IsUnreadable T.reading (known (S.remaining source)) e)) }
+    ensures failing { Tells S.remaining → MatchResult result.0 (λ _. S.failed result.1 ≡ S.failed source)
+        (λ e. (S.failed result.1 ≡ S.failed source) ⊎ IsReadError e) }
 {
     let named = Named::<S, N> {
         source,

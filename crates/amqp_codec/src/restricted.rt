@@ -22,7 +22,8 @@ pub trait Base: Sized + Drop {
 
     /// Reads a number.
     fn read<R: ByteSource>(decoder: &mut Decoder<R>) -> Result<Self, Error>
-        ensures { Tells R.remaining → AnswersRead false (ReadsValue (Means base.make)) (PrimitiveFault base.kind) decoder.old result decoder.new };
+        ensures { Tells R.remaining → AnswersRead false (ReadsValue (Means base.make)) (PrimitiveFault base.kind)
+            decoder.old result decoder.new };
 
     /// Writes the number.
     fn write(self, encoder: &mut Encoder) -> Result<(), Error>

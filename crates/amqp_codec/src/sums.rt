@@ -40,7 +40,8 @@ pub trait Sum: Sized + Drop {
 /// Reads a sum of composites.
 pub fn read_sum<S: Sum, R: ByteSource>(decoder: &mut Decoder<R>, alloc: Global) -> Result<S, Error>
     ensures { Tells R.remaining →
-        AnswersRead (sum_of S.sum).takes_memory (ReadsValue (sum_of S.sum).means) (sum_of S.sum).faults.fault decoder.old result decoder.new }
+        AnswersRead (sum_of S.sum).takes_memory (ReadsValue (sum_of S.sum).means) (sum_of S.sum).faults.fault
+        decoder.old result decoder.new }
 {
     let place = decoder.begin_one_of(S::descriptors())?;
     let value = S::read_member(place, decoder, alloc)?;
@@ -54,7 +55,8 @@ pub fn read_as<C: Composite, S: From<C> + Drop, R: ByteSource>(
     alloc: Global,
 ) -> Result<S, Error>
     ensures { Tells R.remaining →
-        AnswersRead (take_memory C.table.fields) (ChoiceRead C.table S.from_gives) (FieldsFault C.table.fields) decoder.old result decoder.new }
+        AnswersRead (take_memory C.table.fields) (ChoiceRead C.table S.from_gives) (FieldsFault C.table.fields)
+        decoder.old result decoder.new }
 {
     let member: C = read_fields(decoder, alloc)?;
     Ok(S::from(member))

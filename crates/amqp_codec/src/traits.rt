@@ -81,7 +81,8 @@ pub trait DeserializeTerm: SerializeTerm + Sized + Drop {
 
     /// Reads a value from what the decoder stands before.
     fn read_value<R: ByteSource>(decoder: &mut Decoder<R>, alloc: Global) -> Result<Self, Error>
-        ensures { Tells R.remaining → AnswersRead term.takes_memory (ReadsValue term.means) term.faults.fault decoder.old result decoder.new };
+        ensures { Tells R.remaining
+            → AnswersRead term.takes_memory (ReadsValue term.means) term.faults.fault decoder.old result decoder.new };
 
     // It is written as its record says.
     ghost agreement: { Agreement term Self.writing };

@@ -1,8 +1,10 @@
 -- An array that is opened, whose items are taken, and that is closed, is a whole term; and the other way round.
-use Rattle.std.proofs.Common.{◌≡◌, ◌≤◌, ◌<◌, ℕ, suc, ◌+◌, ◌-◌, ◌⊎◌, inl, inr, max, false, Option, Some, None, List, [], ◌∷◌, ◌++◌, length, drop, get_or, refl, sym, ap, ap₂, ◌∙◌, subst, arith, append_assoc, drop-drop, length-append}
+use Rattle.std.proofs.Common.{◌≡◌, ◌≤◌, ◌<◌, ℕ, suc, ◌+◌, ◌-◌, ◌⊎◌, inl, inr, max, false, Option, Some, None, List, [], ◌∷◌, ◌++◌, length}
+use Rattle.std.proofs.Common.{drop, get_or, refl, sym, ap, ap₂, ◌∙◌, subst, arith, append_assoc, drop-drop, length-append}
 use Rattle.std.proofs.lemmas.List.{drop_at}
 use Rattle.std.specs.Int.{bytes_high_first}
-use Rattle.amqp_model.specs.Term.{Primitive, list, map, array, Container, Term, Terms, leaf, container, described, kept, barred, none, more, count, Descriptor}
+use Rattle.amqp_model.specs.Term.{Primitive, list, map, array, Container, Term, Terms, leaf, container, described, kept, barred, none, more}
+use Rattle.amqp_model.specs.Term.{count, Descriptor}
 use Rattle.amqp_model.specs.Items.{items_of}
 use Rattle.amqp_model.specs.Constructors.{Format, fixed, variable, compound, unknown, format}
 use Rattle.amqp_model.specs.Spelling.{Constructor, PrimitiveData, ContainerData, data_of, elements_of, shared_data_of}
@@ -19,7 +21,9 @@ use Rattle.amqp_decoder.proofs.ReadPrimitives.{minus-minus, begun_same}
 use Rattle.amqp_decoder.proofs.Peeks.{constructor_some}
 use Rattle.amqp_decoder.proofs.Opening.{header_same, one_width, took_both}
 use Rattle.amqp_decoder.proofs.Constructed.{one_constructor}
-use Rattle.amqp_decoder.proofs.ContainerTerms.{many, together, AllSpelled, row_spelled, row_of, StandUnder, row_stands, container_split, split_container, first_spelled, first_parts, front_of, container_bare, known, used_up, closed_at, three, took_parts}
+use Rattle.amqp_decoder.proofs.ContainerTerms.{many, together, AllSpelled, row_spelled, row_of, StandUnder, row_stands, container_split}
+use Rattle.amqp_decoder.proofs.ContainerTerms.{split_container, first_spelled, first_parts, front_of, container_bare, known, used_up}
+use Rattle.amqp_decoder.proofs.ContainerTerms.{closed_at, three, took_parts}
 
 -- what a row of terms under one constructor is as data
 all_data : (us : Terms) (ds : List Descriptor) (c : ℕ) (b : List ℕ) → AllSpelled (Some (ds, c)) us b → shared_data_of us ds c b
@@ -41,7 +45,8 @@ flat_array us [] c b flat h = flat_holds (format c) array _ _ b flat h
 flat_array us (e ∷ ds) c b flat h = flat
 
 -- an item of a constructor that holds no others is a primitive
-flat_leaf : (t : Term) (ds : List Descriptor) (c : ℕ) (b : List ℕ) → IsFlat ds (format c) → data_of t ds c b → (nest t ≡ 0) × ((us : Terms) → array_nest (more t us) ≡ array_nest us)
+flat_leaf : (t : Term) (ds : List Descriptor) (c : ℕ) (b : List ℕ) → IsFlat ds (format c) → data_of t ds c b
+    → (nest t ≡ 0) × ((us : Terms) → array_nest (more t us) ≡ array_nest us)
 flat_leaf t (e ∷ ds) c b flat h = absurd flat
 flat_leaf (leaf p) [] c b flat h = (refl, λ us. refl)
 flat_leaf (container list ts) [] c b flat h = absurd (flat_holds (format c) list _ _ b flat h)
@@ -51,7 +56,8 @@ flat_leaf (described d t) [] c b flat h = absurd h
 flat_leaf (kept k) [] c b flat h = absurd h
 flat_leaf (barred r) [] c b flat h = absurd h
 
-flat_rows : (us : Terms) (ds : List Descriptor) (c : ℕ) (b : List ℕ) → IsFlat ds (format c) → shared_data_of us ds c b → (nests us ≡ 0) × (array_nest us ≡ 0)
+flat_rows : (us : Terms) (ds : List Descriptor) (c : ℕ) (b : List ℕ) → IsFlat ds (format c) → shared_data_of us ds c b
+    → (nests us ≡ 0) × (array_nest us ≡ 0)
 flat_rows none ds c b flat h = (refl, refl)
 flat_rows (more t us) ds c b flat (s, r, e, h, hs) =
     let one = flat_leaf t ds c s flat h in
@@ -73,7 +79,8 @@ flat_format (compound k w) p b h = h
 flat_format unknown p b h = tt
 
 -- the items hold no others, or the array counts in nesting
-flat_or_deep : (t : Term) (us : Terms) (ds : List Descriptor) (c : ℕ) (b : List ℕ) → data_of t ds c b → IsFlat ds (format c) ⊎ (array_nest (more t us) ≡ suc (nests (more t us)))
+flat_or_deep : (t : Term) (us : Terms) (ds : List Descriptor) (c : ℕ) (b : List ℕ) → data_of t ds c b
+    → IsFlat ds (format c) ⊎ (array_nest (more t us) ≡ suc (nests (more t us)))
 flat_or_deep (leaf p) us [] c b h = inl (flat_format (format c) p b h)
 flat_or_deep (leaf p) us (e ∷ ds) c b h = absurd h
 flat_or_deep (container k ts) us ds c b h = inr refl
@@ -85,7 +92,10 @@ flat_or_deep (barred r) us (e ∷ ds) c b h = absurd h
 
 -- the items of an array stand, behind a constructor of x bytes
 abbrev within : ℕ → Option (List Descriptor × ℕ) → ℕ → ℕ → State → State
-within x o n content at = record (after_data x (in_container InArray n content at)) { top = record (after_data x (in_container InArray n content at)).top { shared = o } }
+within x o n content at =
+    record (after_data x (in_container InArray n content at)) {
+      top = record (after_data x (in_container InArray n content at)).top { shared = o };
+    }
 
 -- the first item of an array stands next
 record Started (us : Terms) (n content : ℕ) (at mid : State) : Type 0 where
@@ -95,7 +105,8 @@ record Started (us : Terms) (n content : ℕ) (at mid : State) : Type 0 where
   pub took : Takes (in_container InArray 0 content at) own (after_data (length own) (in_container InArray 0 content at))
   pub elements : (b : List ℕ) → AllSpelled shared us b → elements_of us (own ++ b)
   pub stands : (ss : List Standing) (b : List ℕ) → StandUnder shared us ss b → StandInArray us ss (own ++ b)
-  pub nested : (b : List ℕ) → AllSpelled shared us b → nests us ≤ at.nesting - suc (length at.saved) → array_nest us ≤ at.nesting - length at.saved
+  pub nested : (b : List ℕ) → AllSpelled shared us b → nests us ≤ at.nesting - suc (length at.saved)
+      → array_nest us ≤ at.nesting - length at.saved
 
 on_none : (st : State) (l : ℕ) → st.top.left ≡ Some l → st ≡ after_data 0 st
 on_none st l e =
@@ -104,7 +115,8 @@ on_none st l e =
     let same : st.top.left ≡ lower st.top.left 0 = e ∙ ap Some n ∙ ap (λ o. lower o 0) (sym e) in
     ap (λ k. record st { ahead = k }) a ∙ ap (λ o. record st { ahead = st.ahead - 0; top = record st.top { left = o } }) same
 
-started : (us : Terms) (n content : ℕ) (at mid : State) → n ≡ count us → Starts n content (in_container InArray 0 content at) mid → Started us n content at mid
+started : (us : Terms) (n content : ℕ) (at mid : State) → n ≡ count us → Starts n content (in_container InArray 0 content at) mid
+    → Started us n content at mid
 started none n content at mid len (inl (e, is)) = record {
   own = [];
   shared = None;
@@ -141,27 +153,32 @@ started (more t us) n content at mid len (inr (some, shared_by ds c m full k wid
 
 pub starts_items : (n content : ℕ) (st mid : State) → st.top.items ≡ Some 0 → Starts n content st mid → mid.top.items ≡ Some n
 starts_items n content st mid start (inl (e, is)) = ap (λ (z : State). z.top.items) is ∙ start ∙ ap Some (omega (arith, e))
-starts_items n content st mid start (inr (some, no_items ds c empty t)) = ap (λ (z : State). z.top.items) t.took.moved ∙ start ∙ ap Some (sym empty)
+starts_items n content st mid start (inr (some, no_items ds c empty t)) =
+    ap (λ (z : State). z.top.items) t.took.moved ∙ start ∙ ap Some (sym empty)
 starts_items n content st mid start (inr (some, shared_by ds c m full t wide fits is)) = ap (λ (z : State). z.top.items) is
 
 starts_place : (n content : ℕ) (st mid : State) → Starts n content st mid → mid.top.place ≡ st.top.place
 starts_place n content st mid (inl (e, is)) = ap (λ (z : State). z.top.place) is
 starts_place n content st mid (inr (some, no_items ds c empty t)) = ap (λ (z : State). z.top.place) t.took.moved
-starts_place n content st mid (inr (some, shared_by ds c m full t wide fits is)) = ap (λ (z : State). z.top.place) is ∙ ap (λ (z : State). z.top.place) t.took.moved
+starts_place n content st mid (inr (some, shared_by ds c m full t wide fits is)) =
+    ap (λ (z : State). z.top.place) is ∙ ap (λ (z : State). z.top.place) t.took.moved
 
 -- what is left of an array that was opened
 pub opened_items : (st : State) (n : ℕ) (st' : State) → OpensArray st n st' → (st'.top.place ≡ InArray) × (st'.top.items ≡ Some n)
 opened_items st n st' o = let d = o.data_ in (starts_place n d.content _ st' d.starts, starts_items n d.content _ st' refl d.starts)
 
 -- the container around an array that was left
-array_left : (x b n content : ℕ) (o : Option (List Descriptor × ℕ)) (at : State) → content ≡ x + b → record (many n b (within x o n content at)) { top = record at.top { left = lower at.top.left content }; saved = at.saved } ≡ after_data (x + b) at
+array_left : (x b n content : ℕ) (o : Option (List Descriptor × ℕ)) (at : State) → content ≡ x + b
+    → record (many n b (within x o n content at)) { top = record at.top { left = lower at.top.left content }; saved = at.saved }
+    ≡ after_data (x + b) at
 array_left x b n content o at e = rw (minus-minus at.ahead x b, drop-drop b x at.rest, e) refl
 
 four : (own h x b : List ℕ) → length (own ++ (h ++ (x ++ b))) ≡ length own + length h + (length x + length b)
 four own h x b = three own h (x ++ b) ∙ ap (λ n. length own + length h + n) (length-append x b)
 
 -- the items of an array stand in it as they were taken
-pub whole_array_with_parts : (st : State) (us : Terms) (new : State) (c : ContainsArray st (items_of us) new) → NextWithParts st (container array us) (row_standings c.mid (items_of us) c.bytes c.last c.items) new
+pub whole_array_with_parts : (st : State) (us : Terms) (new : State) (c : ContainsArray st (items_of us) new)
+    → NextWithParts st (container array us) (row_standings c.mid (items_of us) c.bytes c.last c.items) new
 whole_array_with_parts st us new c =
     let o = c.opened in
     let d = o.data_ in
@@ -169,30 +186,40 @@ whole_array_with_parts st us new c =
     let own = g.own in
     let b = c.bytes in
     let t = together us c.mid b c.last c.items in
-    let n_is : c.count ≡ count us = used_up c.mid.top.items c.count (count us) (starts_items c.count d.content _ c.mid refl d.starts) t.items (sym (ap (λ (z : State). z.top.items) t.moved) ∙ c.closed.items) in
+    let n_is : c.count ≡ count us =
+    used_up c.mid.top.items c.count (count us) (starts_items c.count d.content _ c.mid refl d.starts) t.items
+    (sym (ap (λ (z : State). z.top.items) t.moved) ∙ c.closed.items) in
     let s = started us c.count d.content d.mid c.mid n_is d.starts in
     let x = s.own in
-    let over : d.content - length x ≡ length b = used_up c.mid.top.left (d.content - length x) (length b) (ap (λ (z : State). z.top.left) s.is) t.room (sym (ap (λ (z : State). z.top.left) t.moved) ∙ c.closed.left) in
+    let over : d.content - length x ≡ length b =
+    used_up c.mid.top.left (d.content - length x) (length b) (ap (λ (z : State). z.top.left) s.is) t.room
+    (sym (ap (λ (z : State). z.top.left) t.moved) ∙ c.closed.left) in
     let few : length x ≤ d.content = s.took.room in
     let k_is : d.content ≡ length x + length b = omega (arith, over, few) in
-    let h : ReadsHeader false o.width o.mid (count us) d.content d.mid = subst (λ n. ReadsHeader false o.width o.mid n d.content d.mid) n_is d.header in
+    let h : ReadsHeader false o.width o.mid (count us) d.content d.mid =
+    subst (λ n. ReadsHeader false o.width o.mid n d.content d.mid) n_is d.header in
     let head = bytes_high_first o.width h.size ++ bytes_high_first o.width (count us) in
     let at : State = after_data (length head) (after_value (length own) st) in
     let at_is : d.mid ≡ at = h.took.moved ∙ ap (after_data (length head)) g.moved in
     let tk = subst (λ z. Takes z head d.mid) g.moved h.took in
     let first : Takes st own (after_data (length own) st) = record { room = g.room; rest = g.rest; moved = refl } in
-    let second : Takes (after_data (length own) st) head (after_data (length head) (after_data (length own) st)) = record { room = tk.room; rest = tk.rest; moved = refl } in
+    let second : Takes (after_data (length own) st) head (after_data (length head) (after_data (length own) st)) =
+    record { room = tk.room; rest = tk.rest; moved = refl } in
     let long : length (x ++ b) ≡ length x + length b = length-append x b in
-    let third : Takes (after_data (length head) (after_data (length own) st)) (x ++ b) (after_data (length (x ++ b)) (after_data (length head) (after_data (length own) st))) = record {
+    let third : Takes (after_data (length head) (after_data (length own) st)) (x ++ b)
+    (after_data (length (x ++ b)) (after_data (length head) (after_data (length own) st))) = record {
       room = subst (Has at.top.left) (k_is ∙ sym long) (subst (λ (z : State). Has z.top.left d.content) at_is d.room);
-      rest = subst (λ (z : State). z.rest ≡ (x ++ b) ++ drop (length (x ++ b)) z.rest) at_is (front_is (x ++ b) d.mid.rest (drop (length b) (drop (length x) d.mid.rest)) (length (x ++ b)) refl
-          (s.took.rest ∙ ap (λ l. x ++ l) (subst (λ (z : State). z.rest ≡ b ++ drop (length b) z.rest) s.is t.rest) ∙ sym (append_assoc x b (drop (length b) (drop (length x) d.mid.rest)))));
+      rest = subst (λ (z : State). z.rest ≡ (x ++ b) ++ drop (length (x ++ b)) z.rest) at_is
+          (front_is (x ++ b) d.mid.rest (drop (length b) (drop (length x) d.mid.rest)) (length (x ++ b)) refl
+          (s.took.rest ∙ ap (λ l. x ++ l) (subst (λ (z : State). z.rest ≡ b ++ drop (length b) z.rest) s.is t.rest)
+          ∙ sym (append_assoc x b (drop (length b) (drop (length x) d.mid.rest)))));
       moved = refl;
     } in
     let all = took_both st _ _ own (head ++ (x ++ b)) first (took_both _ _ _ head (x ++ b) second third) in
     let shared : c.mid.top.shared ≡ s.shared = ap (λ (z : State). z.top.shared) s.is in
     let rows = row_spelled s.shared us c.mid b c.last shared c.items in
-    let data_of_content : (C : List ℕ → Type 0) → C (x ++ b) → ContainerData (format o.code) array (count us) C (head ++ (x ++ b)) = λ C inner. split_container (format o.code) array (count us) C (head ++ (x ++ b)) (record {
+    let data_of_content : (C : List ℕ → Type 0) → C (x ++ b) → ContainerData (format o.code) array (count us) C (head ++ (x ++ b)) =
+    λ C inner. split_container (format o.code) array (count us) C (head ++ (x ++ b)) (record {
       width = o.width;
       size = h.size;
       content = x ++ b;
@@ -210,11 +237,22 @@ whole_array_with_parts st us new c =
     let levels : length c.mid.saved ≡ suc (length d.mid.saved) = ap (λ (z : State). length z.saved) s.is in
     let limit : c.mid.nesting ≡ d.mid.nesting = ap (λ (z : State). z.nesting) s.is in
     let deep : array_nest us ≤ d.mid.nesting - length d.mid.saved = s.nested b rows (let m = t.nested in omega (arith, m, levels, limit)) in
-    let left : new ≡ record (many (count us) (length b) (within (length x) s.shared c.count d.content d.mid)) { top = c.closed.outer; saved = c.closed.others } = c.closed.moved ∙ ap (λ (z : State). record z { top = c.closed.outer; saved = c.closed.others }) (t.moved ∙ ap (many (count us) (length b)) s.is) in
-    let saved : (record d.mid.top { left = lower d.mid.top.left d.content }) ∷ d.mid.saved ≡ c.closed.outer ∷ c.closed.others = sym (ap (λ (z : State). z.saved) (t.moved ∙ ap (many (count us) (length b)) s.is)) ∙ c.closed.saved in
+    let left : new ≡ record (many (count us) (length b) (within (length x) s.shared c.count d.content d.mid)) {
+      top = c.closed.outer;
+      saved = c.closed.others;
+    } = c.closed.moved ∙ ap (λ (z : State). record z { top = c.closed.outer; saved = c.closed.others })
+    (t.moved ∙ ap (many (count us) (length b)) s.is) in
+    let saved : (record d.mid.top { left = lower d.mid.top.left d.content }) ∷ d.mid.saved ≡ c.closed.outer ∷ c.closed.others =
+    sym (ap (λ (z : State). z.saved) (t.moved ∙ ap (many (count us) (length b)) s.is)) ∙ c.closed.saved in
     let out : new ≡ after_data (length x + length b) d.mid = left
-    ∙ ap₂ (λ (f : Open) (l : List Open). record (many (count us) (length b) (within (length x) s.shared c.count d.content d.mid)) { top = f; saved = l }) (sym (ap (λ l. get_or l 0 d.mid.top) saved)) (sym (ap (drop 1) saved))
-    ∙ ap (λ n. record (many (count us) (length b) (within (length x) s.shared n d.content d.mid)) { top = record d.mid.top { left = lower d.mid.top.left d.content }; saved = d.mid.saved }) n_is
+    ∙ ap₂ (λ (f : Open) (l : List Open). record (many (count us) (length b) (within (length x) s.shared c.count d.content d.mid)) {
+      top = f;
+      saved = l;
+    }) (sym (ap (λ l. get_or l 0 d.mid.top) saved)) (sym (ap (drop 1) saved))
+    ∙ ap (λ n. record (many (count us) (length b) (within (length x) s.shared n d.content d.mid)) {
+      top = record d.mid.top { left = lower d.mid.top.left d.content };
+      saved = d.mid.saved;
+    }) n_is
     ∙ array_left (length x) (length b) (count us) d.content s.shared d.mid k_is in
     record {
       next = record {
@@ -228,7 +266,9 @@ whole_array_with_parts st us new c =
           spelled = first_spelled st.top.shared o.code own (head ++ (x ++ b)) (container array us) g.first code_is data_is;
           nested = subst (λ (z : State). array_nest us ≤ z.nesting - length z.saved) at_is deep;
         };
-        moved = out ∙ ap (after_data (length x + length b)) at_is ∙ closed_at st (after_value (length own) st) at (length own) (length head) (length x + length b) refl refl ∙ ap (λ k. after_value k st) (sym (four own head x b));
+        moved = out ∙ ap (after_data (length x + length b)) at_is
+            ∙ closed_at st (after_value (length own) st) at (length own) (length head) (length x + length b) refl refl
+            ∙ ap (λ k. after_value k st) (sym (four own head x b));
       };
       parts = first_parts st.top.shared o.code own (head ++ (x ++ b)) array us ss g.first code_is parts_are;
     }
@@ -243,12 +283,15 @@ record Beginning (us : Terms) (content : List ℕ) (at : State) : Type 0 where
   pub shared : Option (List Descriptor × ℕ)
   pub split : content ≡ own ++ items
   pub spelled : AllSpelled shared us items
-  pub starts : Starts (count us) (length content) (in_container InArray 0 (length content) at) (within (length own) shared (count us) (length content) at)
+  pub starts : Starts (count us) (length content) (in_container InArray 0 (length content) at)
+      (within (length own) shared (count us) (length content) at)
   pub nested : nests us ≤ at.nesting - suc (length at.saved)
 
 -- the constructor of the items is there
-constructed : (content own items after : List ℕ) (ds : List Descriptor) (c : ℕ) (at : State) → content ≡ own ++ items → at.rest ≡ content ++ after → length ds ≤ 128 → Constructor ds c own
-    → TakesConstructor (in_container InArray 0 (length content) at) ds c (after_data (length own) (in_container InArray 0 (length content) at))
+constructed : (content own items after : List ℕ) (ds : List Descriptor) (c : ℕ) (at : State) → content ≡ own ++ items
+    → at.rest ≡ content ++ after → length ds ≤ 128 → Constructor ds c own
+    → TakesConstructor (in_container InArray 0 (length content) at) ds c
+    (after_data (length own) (in_container InArray 0 (length content) at))
 constructed content own items after ds c at e rest few k = record {
   own = own;
   few = few;
@@ -260,10 +303,12 @@ constructed content own items after ds c at e rest few k = record {
   };
 }
 
-some_content : (n : ℕ) (content own items : List ℕ) (ds : List Descriptor) (c : ℕ) → content ≡ own ++ items → Constructor ds c own → 0 < max n (length content)
+some_content : (n : ℕ) (content own items : List ℕ) (ds : List Descriptor) (c : ℕ) → content ≡ own ++ items → Constructor ds c own
+    → 0 < max n (length content)
 some_content n content own items ds c e k = omega (arith, ap length e, length-append own items, constructor_some ds c own k)
 
-beginning : (us : Terms) (content after : List ℕ) (at : State) → elements_of us content → at.rest ≡ content ++ after → array_nest us ≤ at.nesting - length at.saved → Beginning us content at
+beginning : (us : Terms) (content after : List ℕ) (at : State) → elements_of us content → at.rest ≡ content ++ after
+    → array_nest us ≤ at.nesting - length at.saved → Beginning us content at
 beginning none content after at (inl e) rest deep = record {
   own = [];
   items = [];
@@ -283,20 +328,29 @@ beginning none content after at (inr (ds, c, few, (own, items, e, k, h))) rest d
   nested = omega arith;
 }
 beginning (more t us) content after at (ds, c, few, (own, items, e, k, (wide, (s, r, f, h, hs)))) rest deep =
-    let room : IsFlat ds (format c) ⊎ (suc (length at.saved) ≤ at.nesting) = elim (flat_or_deep t us ds c s h) [ inl x ↦ inl x | inr x ↦ inr (omega (arith, x, deep)) ] in
-    let few_ : nests (more t us) ≤ at.nesting - suc (length at.saved) = elim (flat_or_deep t us ds c s h) [ inl x ↦ omega (arith, (flat_rows (more t us) ds c items x (s, r, f, h, hs)).0) | inr x ↦ omega (arith, x, deep) ] in
+    let room : IsFlat ds (format c) ⊎ (suc (length at.saved) ≤ at.nesting) =
+    elim (flat_or_deep t us ds c s h) [ inl x ↦ inl x | inr x ↦ inr (omega (arith, x, deep)) ] in
+    let few_ : nests (more t us) ≤ at.nesting - suc (length at.saved) =
+    elim (flat_or_deep t us ds c s h) [
+      | inl x ↦ omega (arith, (flat_rows (more t us) ds c items x (s, r, f, h, hs)).0)
+      | inr x ↦ omega (arith, x, deep)
+    ] in
     record {
       own = own;
       items = items;
       shared = Some (ds, c);
       split = e;
       spelled = (s, r, f, h, data_all us ds c r hs);
-      starts = inr (some_content (count (more t us)) content own items ds c e k, shared_by ds c _ (λ z. absurd (omega (arith, z))) (constructed content own items after ds c at e rest few k) wide room refl);
+      starts = inr (
+        some_content (count (more t us)) content own items ds c e k,
+        shared_by ds c _ (λ z. absurd (omega (arith, z))) (constructed content own items after ds c at e rest few k) wide room refl,
+      );
       nested = few_;
     }
 
 -- an array that stands there is opened, its items are taken and it is closed
-pub array_parts : (st : State) (us : Terms) (new : State) → length st.saved ≤ st.nesting → Next st (container array us) new → ContainsArray st (items_of us) new
+pub array_parts : (st : State) (us : Terms) (new : State) → length st.saved ≤ st.nesting → Next st (container array us) new
+    → ContainsArray st (items_of us) new
 array_parts st us new few next =
     let k = next.stands in
     let f = front_of st.top.shared (container array us) next.bytes (container_bare array us) k.spelled in
@@ -305,10 +359,13 @@ array_parts st us new few next =
     let content = y.content in
     let n = count us in
     let head = bytes_high_first y.width y.size ++ bytes_high_first y.width n in
-    let s_is : next.bytes ≡ own ++ (head ++ content) = f.whole ∙ ap (λ l. own ++ l) (y.whole ∙ sym (append_assoc (bytes_high_first y.width y.size) (bytes_high_first y.width n) content)) in
+    let s_is : next.bytes ≡ own ++ (head ++ content) =
+    f.whole ∙ ap (λ l. own ++ l)
+    (y.whole ∙ sym (append_assoc (bytes_high_first y.width y.size) (bytes_high_first y.width n) content)) in
     let all : Takes st (own ++ (head ++ content)) (after_data (length (own ++ (head ++ content))) st) = record {
       room = subst (λ l. Has st.top.left (length l)) s_is k.room;
-      rest = front_is (own ++ (head ++ content)) st.rest k.after (length (own ++ (head ++ content))) refl (k.rest ∙ ap (λ l. l ++ k.after) s_is);
+      rest = front_is (own ++ (head ++ content)) st.rest k.after (length (own ++ (head ++ content))) refl
+          (k.rest ∙ ap (λ l. l ++ k.after) s_is);
       moved = refl;
     } in
     let one = took_parts st _ own (head ++ content) all in
@@ -319,7 +376,9 @@ array_parts st us new few next =
     let b = start.items in
     let mid : State = within (length x) start.shared n (length content) at in
     let long : length content ≡ length x + length b = ap length start.split ∙ length-append x b in
-    let behind : drop (length x) at.rest ≡ b ++ drop (length content) at.rest = ap (drop (length x)) (two.1.rest ∙ ap (λ l. l ++ drop (length content) at.rest) start.split ∙ append_assoc x b (drop (length content) at.rest)) ∙ drop_at x (b ++ drop (length content) at.rest) (length x) refl in
+    let behind : drop (length x) at.rest ≡ b ++ drop (length content) at.rest =
+    ap (drop (length x)) (two.1.rest ∙ ap (λ l. l ++ drop (length content) at.rest) start.split
+    ∙ append_assoc x b (drop (length content) at.rest)) ∙ drop_at x (b ++ drop (length content) at.rest) (length x) refl in
     let none_left : n - n ≡ 0 = omega arith in
     let none_over : length content - length x - length b ≡ 0 = omega (arith, long) in
     record {
@@ -334,7 +393,13 @@ array_parts st us new few next =
         data_ = record {
           content = length content;
           mid = at;
-          header = record { size = y.size; fits = y.fits; few = y.few; took = record { room = two.0.room; rest = two.0.rest; moved = refl }; counts = elim y.sized [ inl e ↦ inl e | inr (one_kind, e, g, z) ↦ absurd (cc) ] };
+          header = record {
+            size = y.size;
+            fits = y.fits;
+            few = y.few;
+            took = record { room = two.0.room; rest = two.0.rest; moved = refl };
+            counts = elim y.sized [ inl e ↦ inl e | inr (one_kind, e, g, z) ↦ absurd (cc) ];
+          };
           room = two.1.room;
           few = few;
           starts = start.starts;
@@ -342,7 +407,8 @@ array_parts st us new few next =
       };
       bytes = b;
       last = many n (length b) mid;
-      items = row_of start.shared us mid b (drop (length content) at.rest) k.going refl (omega arith) (omega (arith, long)) behind start.spelled start.nested;
+      items = row_of start.shared us mid b (drop (length content) at.rest) k.going refl (omega arith) (omega (arith, long)) behind
+          start.spelled start.nested;
       closed = record {
         going = k.going;
         here = refl;
@@ -351,8 +417,10 @@ array_parts st us new few next =
         outer = record at.top { left = lower at.top.left (length content) };
         others = at.saved;
         saved = refl;
-        moved = next.moved ∙ ap (λ l. after_value (length l) st) (s_is ∙ ap (λ l. own ++ (head ++ l)) start.split) ∙ ap (λ m. after_value m st) (four own head x b)
-            ∙ sym (closed_at st (after_value (length own) st) at (length own) (length head) (length x + length b) refl refl) ∙ sym (array_left (length x) (length b) n (length content) start.shared at long);
+        moved = next.moved ∙ ap (λ l. after_value (length l) st) (s_is ∙ ap (λ l. own ++ (head ++ l)) start.split)
+            ∙ ap (λ m. after_value m st) (four own head x b)
+            ∙ sym (closed_at st (after_value (length own) st) at (length own) (length head) (length x + length b) refl refl)
+            ∙ sym (array_left (length x) (length b) n (length content) start.shared at long);
       };
     }
 
@@ -362,7 +430,9 @@ shares_same n st a b (no_items ds c e t) (shared_by es k m full u wide fits is) 
 shares_same n st a b (shared_by ds c m full t wide fits is) (no_items es k f u) = absurd (full f)
 shares_same n st a b (shared_by ds c m full t wide fits is) (shared_by es k m' full' u wide' fits' is') =
     let e = one_constructor st ds es c k m m' t u in
-    is ∙ ap (λ (z : State). record z { top = record z.top { items = Some n; shared = Some (ds, c) } }) e.2 ∙ ap₂ (λ (l : List Descriptor) (j : ℕ). record m' { top = record m'.top { items = Some n; shared = Some (l, j) } }) e.0 e.1 ∙ sym is'
+    is ∙ ap (λ (z : State). record z { top = record z.top { items = Some n; shared = Some (ds, c) } }) e.2
+    ∙ ap₂ (λ (l : List Descriptor) (j : ℕ). record m' { top = record m'.top { items = Some n; shared = Some (l, j) } }) e.0 e.1
+    ∙ sym is'
 
 starts_same : (n content : ℕ) (st a b : State) → Starts n content st a → Starts n content st b → a ≡ b
 starts_same n content st a b (inl (e, f)) (inl (g, h)) = f ∙ sym h

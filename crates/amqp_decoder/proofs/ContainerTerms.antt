@@ -1,5 +1,6 @@
 -- A list or a map that is opened, whose items are taken, and that is closed, is a whole term; and the other way round.
-use Rattle.std.proofs.Common.{◌≡◌, ◌≤◌, ◌<◌, ℕ, suc, ◌+◌, ◌-◌, ◌^◌, inl, inr, Option, Some, None, List, [], ◌∷◌, ◌++◌, length, drop, get_or, unwrap_or, refl, sym, ap, ◌∙◌, subst, arith, append_assoc, append-nil, drop-drop, length-append}
+use Rattle.std.proofs.Common.{◌≡◌, ◌≤◌, ◌<◌, ℕ, suc, ◌+◌, ◌-◌, ◌^◌, inl, inr, Option, Some, None, List, [], ◌∷◌, ◌++◌, length, drop, get_or}
+use Rattle.std.proofs.Common.{unwrap_or, refl, sym, ap, ◌∙◌, subst, arith, append_assoc, append-nil, drop-drop, length-append}
 use Rattle.std.proofs.lemmas.List.{drop_at}
 use Rattle.std.specs.Int.{bytes_high_first}
 use Rattle.amqp_model.specs.Term.{Container, list, map, array, Term, Terms, container, none, more, count, Descriptor}
@@ -22,7 +23,12 @@ use Rattle.amqp_decoder.proofs.Opening.{after_data-after_data, took_both}
 
 -- k values of n bytes are taken
 abbrev pub many : ℕ → ℕ → State → State
-many k n st = record st { rest = drop n st.rest; ahead = st.ahead - n; top = record st.top { items = lower st.top.items k; left = lower st.top.left n } }
+many k n st =
+    record st {
+      rest = drop n st.rest;
+      ahead = st.ahead - n;
+      top = record st.top { items = lower st.top.items k; left = lower st.top.left n };
+    }
 
 many-after_value : (k m n : ℕ) (st : State) → many k n (after_value m st) ≡ many (suc k) (m + n) st
 many-after_value k m n st =
@@ -34,7 +40,8 @@ many_none st =
     let a : st.ahead ≡ st.ahead - 0 = omega arith in
     ap (λ x. record st { ahead = x }) a
     ∙ ap (λ x. record st { ahead = st.ahead - 0; top = record st.top { items = x } }) (sym (lower_none st.top.items))
-    ∙ ap (λ x. record st { ahead = st.ahead - 0; top = record st.top { items = lower st.top.items 0; left = x } }) (sym (lower_none st.top.left))
+    ∙ ap (λ x. record st { ahead = st.ahead - 0; top = record st.top { items = lower st.top.items 0; left = x } })
+    (sym (lower_none st.top.left))
 
 -- what some terms in a row are together
 pub record Together (st : State) (us : Terms) (b : List ℕ) (st' : State) : Type 0 where
@@ -65,7 +72,8 @@ together (more t us) st b st' (s, r, e, k, row) =
     let here : st.rest ≡ s ++ drop (length s) st.rest = k.rest ∙ ap (λ x. s ++ x) (sym behind) in
     record {
       moved = i.moved ∙ many-after_value (count us) (length s) (length r) st ∙ ap (λ x. many (suc (count us)) x st) (sym n);
-      rest = front_is b st.rest (drop (length r) (drop (length s) st.rest)) (length b) refl (after_code s r st.rest here i.rest ∙ ap (λ x. x ++ drop (length r) (drop (length s) st.rest)) (sym e));
+      rest = front_is b st.rest (drop (length r) (drop (length s) st.rest)) (length b) refl (after_code s r st.rest here i.rest
+          ∙ ap (λ x. x ++ drop (length r) (drop (length s) st.rest)) (sym e));
       room = subst (Has st.top.left) (sym n) (has_add st.top.left (length s) (length r) k.room i.room);
       items = has_one_more st.top.items (count us) k.item i.items;
       nested = omega (arith, k.nested, i.nested);
@@ -76,13 +84,16 @@ abbrev pub AllSpelled : Option (List Descriptor × ℕ) → Terms → List ℕ �
 AllSpelled o none b = b ≡ []
 AllSpelled o (more t us) b = (first others : List ℕ) × (b ≡ first ++ others) × SpellsAs (standing o first) t × AllSpelled o us others
 
-pub row_spelled : (o : Option (List Descriptor × ℕ)) (us : Terms) (st : State) (b : List ℕ) (st' : State) → st.top.shared ≡ o → Row st (items_of us) b st' → AllSpelled o us b
+pub row_spelled : (o : Option (List Descriptor × ℕ)) (us : Terms) (st : State) (b : List ℕ) (st' : State) → st.top.shared ≡ o
+    → Row st (items_of us) b st' → AllSpelled o us b
 row_spelled o none st b st' shared row = row.0
 row_spelled o (more t us) st b st' shared (s, r, e, k, row) =
     (s, r, e, subst (λ x. SpellsAs (standing x s) t) shared k.spelled, row_spelled o us (after_value (length s) st) r st' shared row)
 
 -- terms that are spelled there can be taken in a row
-pub row_of : (o : Option (List Descriptor × ℕ)) (us : Terms) (st : State) (b x : List ℕ) → st.error ≡ None → st.top.shared ≡ o → Has st.top.items (count us) → Has st.top.left (length b) → st.rest ≡ b ++ x → AllSpelled o us b → nests us ≤ st.nesting - length st.saved → Row st (items_of us) b (many (count us) (length b) st)
+pub row_of : (o : Option (List Descriptor × ℕ)) (us : Terms) (st : State) (b x : List ℕ) → st.error ≡ None → st.top.shared ≡ o
+    → Has st.top.items (count us) → Has st.top.left (length b) → st.rest ≡ b ++ x → AllSpelled o us b
+    → nests us ≤ st.nesting - length st.saved → Row st (items_of us) b (many (count us) (length b) st)
 row_of o none st b x going shared items room rest e nested = (e, sym (many_none st ∙ ap (λ n. many 0 n st) (sym (ap length e))))
 row_of o (more t us) st b x going shared items room rest (s, r, e, h, hs) nested =
     let n : length b ≡ length s + length r = ap length e ∙ length-append s r in
@@ -91,12 +102,22 @@ row_of o (more t us) st b x going shared items room rest (s, r, e, h, hs) nested
     let behind : drop (length s) st.rest ≡ r ++ x = ap (drop (length s)) here ∙ drop_at s (r ++ x) (length s) refl in
     let one : 1 + count us ≡ suc (count us) = omega arith in
     let items_ : Has st.top.items (1 + count us) = subst (Has st.top.items) (sym one) items in
-    let i = row_of o us (after_value (length s) st) r x going shared (has_rest st.top.items 1 (count us) items_) (has_rest st.top.left (length s) (length r) room_) behind hs (omega (arith, nested)) in (
+    let i = row_of o us (after_value (length s) st) r x going shared (has_rest st.top.items 1 (count us) items_)
+    (has_rest st.top.left (length s) (length r) room_) behind hs (omega (arith, nested)) in (
       s,
       r,
       e,
-      record { going = going; item = has_front st.top.items 1 (count us) items_; room = has_front st.top.left (length s) (length r) room_; after = r ++ x; rest = here; spelled = subst (λ y. SpellsAs (standing y s) t) (sym shared) h; nested = omega (arith, nested) },
-      subst (Row (after_value (length s) st) (items_of us) r) (many-after_value (count us) (length s) (length r) st ∙ ap (λ k. many (suc (count us)) k st) (sym n)) i,
+      record {
+        going = going;
+        item = has_front st.top.items 1 (count us) items_;
+        room = has_front st.top.left (length s) (length r) room_;
+        after = r ++ x;
+        rest = here;
+        spelled = subst (λ y. SpellsAs (standing y s) t) (sym shared) h;
+        nested = omega (arith, nested);
+      },
+      subst (Row (after_value (length s) st) (items_of us) r) (many-after_value (count us) (length s) (length r) st
+          ∙ ap (λ k. many (suc (count us)) k st) (sym n)) i,
     )
 
 -- some terms stand one after another, and how each does
@@ -104,15 +125,30 @@ abbrev pub StandUnder : Option (List Descriptor × ℕ) → Terms → List Stand
 StandUnder None us ss b = StandWhole us ss b
 StandUnder (Some (ds, c)) us ss b = StandAsData us ss ds c b
 
-pub row_stands : (o : Option (List Descriptor × ℕ)) (us : Terms) (st : State) (b : List ℕ) (st' : State) → st.top.shared ≡ o → (row : Row st (items_of us) b st') → StandUnder o us (row_standings st (items_of us) b st' row) b
+pub row_stands : (o : Option (List Descriptor × ℕ)) (us : Terms) (st : State) (b : List ℕ) (st' : State) → st.top.shared ≡ o
+    → (row : Row st (items_of us) b st') → StandUnder o us (row_standings st (items_of us) b st' row) b
 row_stands None none st b st' e row = (row.0, refl)
 row_stands (Some (ds, c)) none st b st' e row = (row.0, refl)
 row_stands None (more t us) st b st' e (s, r, f, k, row) =
-    let others = row_standings (after_value (length s) st) (items_of us) r st' row in
-    (s, r, others, f, subst (λ x. SpellsAs (standing x s) t) e k.spelled, row_stands None us (after_value (length s) st) r st' e row, ap (λ x. standing x s ∷ others) e)
+    let others = row_standings (after_value (length s) st) (items_of us) r st' row in (
+      s,
+      r,
+      others,
+      f,
+      subst (λ x. SpellsAs (standing x s) t) e k.spelled,
+      row_stands None us (after_value (length s) st) r st' e row,
+      ap (λ x. standing x s ∷ others) e,
+    )
 row_stands (Some (ds, c)) (more t us) st b st' e (s, r, f, k, row) =
-    let others = row_standings (after_value (length s) st) (items_of us) r st' row in
-    (s, r, others, f, subst (λ x. SpellsAs (standing x s) t) e k.spelled, row_stands (Some (ds, c)) us (after_value (length s) st) r st' e row, ap (λ x. standing x s ∷ others) e)
+    let others = row_standings (after_value (length s) st) (items_of us) r st' row in (
+      s,
+      r,
+      others,
+      f,
+      subst (λ x. SpellsAs (standing x s) t) e k.spelled,
+      row_stands (Some (ds, c)) us (after_value (length s) st) r st' e row,
+      ap (λ x. standing x s ∷ others) e,
+    )
 
 -- the items of a list or a map
 all_items : (us : Terms) (b : List ℕ) → AllSpelled None us b → items_spelled us b
@@ -131,17 +167,20 @@ IsRow list = Unit {0}
 IsRow map = Unit {0}
 IsRow array = ⊥
 
-container_data : (kind : Container) (us : Terms) (c : ℕ) (b : List ℕ) → IsRow kind → IsCount kind (count us) → ContainerData (format c) kind (count us) (items_spelled us) b → data_of (container kind us) [] c b
+container_data : (kind : Container) (us : Terms) (c : ℕ) (b : List ℕ) → IsRow kind → IsCount kind (count us)
+    → ContainerData (format c) kind (count us) (items_spelled us) b → data_of (container kind us) [] c b
 container_data list us c b is n d = d
 container_data map us c b is n d = (n, d)
 container_data array us c b is n d = absurd is
 
-data_container : (kind : Container) (us : Terms) (c : ℕ) (b : List ℕ) → IsRow kind → data_of (container kind us) [] c b → IsCount kind (count us) × ContainerData (format c) kind (count us) (items_spelled us) b
+data_container : (kind : Container) (us : Terms) (c : ℕ) (b : List ℕ) → IsRow kind → data_of (container kind us) [] c b
+    → IsCount kind (count us) × ContainerData (format c) kind (count us) (items_spelled us) b
 data_container list us c b is d = (tt, d)
 data_container map us c b is d = d
 data_container array us c b is d = absurd is
 
-pub container_bare : (kind : Container) (us : Terms) (f : Descriptor) (ds : List Descriptor) (c : ℕ) (b : List ℕ) → data_of (container kind us) (f ∷ ds) c b → ⊥
+pub container_bare : (kind : Container) (us : Terms) (f : Descriptor) (ds : List Descriptor) (c : ℕ) (b : List ℕ)
+    → data_of (container kind us) (f ∷ ds) c b → ⊥
 container_bare list us f ds c b d = d
 container_bare map us f ds c b d = d
 container_bare array us f ds c b d = d
@@ -156,7 +195,8 @@ place_items list n = refl
 place_items map n = refl
 place_items array n = refl
 
-size_is : (kind : Container) (w n : ℕ) (b : List ℕ) (k size : ℕ) → IsRow kind → k ≡ length b → Counts (is_list kind) w n k size → IsSize kind w n b size
+size_is : (kind : Container) (w n : ℕ) (b : List ℕ) (k size : ℕ) → IsRow kind → k ≡ length b → Counts (is_list kind) w n k size
+    → IsSize kind w n b size
 size_is kind w n b k size is e (inl h) = inl (h ∙ ap (λ x. w + x) e)
 size_is list w n [] k size is e (inr (i, a, c, d)) = inr (refl, a, refl, d)
 size_is list w n (x ∷ r) k size is e (inr (i, a, c, d)) = absurd (omega arith)
@@ -179,27 +219,45 @@ pub record Split (kind : Container) (F : Format) (n : ℕ) (Content : List ℕ �
   pub few : n < 256 ^ width
   pub whole : d ≡ bytes_high_first width size ++ (bytes_high_first width n ++ content)
 
-pub container_split : (F : Format) (kind : Container) (n : ℕ) (Content : List ℕ → Type 0) (d : List ℕ) → ContainerData F kind n Content d → Split kind F n Content d
+pub container_split : (F : Format) (kind : Container) (n : ℕ) (Content : List ℕ → Type 0) (d : List ℕ) → ContainerData F kind n Content d
+    → Split kind F n Content d
 container_split (fixed w f) kind n C d h = absurd h
 container_split (variable w f) kind n C d h = absurd h
-container_split (compound k w) kind n C d (same, size, content, is, c, fits, few, e) = record { width = w; size = size; content = content; announced = ap (λ x. compound x w) same; sized = is; inner = c; fits = fits; few = few; whole = e }
+container_split (compound k w) kind n C d (same, size, content, is, c, fits, few, e) =
+    record {
+      width = w;
+      size = size;
+      content = content;
+      announced = ap (λ x. compound x w) same;
+      sized = is;
+      inner = c;
+      fits = fits;
+      few = few;
+      whole = e;
+    }
 container_split unknown kind n C d h = absurd h
 
-pub split_container : (F : Format) (kind : Container) (n : ℕ) (Content : List ℕ → Type 0) (d : List ℕ) (s : Split kind F n Content d) → ContainerData F kind n Content d
-split_container F kind n C d s = subst (λ G. ContainerData G kind n C d) (sym s.announced) (refl, s.size, s.content, s.sized, s.inner, s.fits, s.few, s.whole)
+pub split_container : (F : Format) (kind : Container) (n : ℕ) (Content : List ℕ → Type 0) (d : List ℕ) (s : Split kind F n Content d)
+    → ContainerData F kind n Content d
+split_container F kind n C d s =
+    subst (λ G. ContainerData G kind n C d) (sym s.announced) (refl, s.size, s.content, s.sized, s.inner, s.fits, s.few, s.whole)
 
-pub first_spelled : (o : Option (List Descriptor × ℕ)) (c : ℕ) (own b : List ℕ) (t : Term) → IsFirst o c own → IsKnown (format c) → data_of t [] c b → SpellsAs (standing o (own ++ b)) t
+pub first_spelled : (o : Option (List Descriptor × ℕ)) (c : ℕ) (own b : List ℕ) (t : Term) → IsFirst o c own → IsKnown (format c)
+    → data_of t [] c b → SpellsAs (standing o (own ++ b)) t
 unfolding enc
 first_spelled None c own b t first known d = ([], c, omega arith, (c ∷ [], b, ap (λ l. l ++ b) first, (refl, known), d))
 first_spelled (Some ([], k)) c own b t (e, f) known d = subst (λ x. data_of t [] k (x ++ b)) (sym e) (subst (λ x. data_of t [] x b) f d)
 first_spelled (Some (e ∷ ds, k)) c own b t (f, g) known d = absurd (subst (λ x. IsKnown (format x)) g known)
 
-pub first_parts : (o : Option (List Descriptor × ℕ)) (c : ℕ) (own b : List ℕ) (kind : Container) (us : Terms) (ss : List Standing) → IsFirst o c own → IsKnown (format c) → StandIn (container kind us) ss [] c b → Parts (standing o (own ++ b)) (container kind us) ss
+pub first_parts : (o : Option (List Descriptor × ℕ)) (c : ℕ) (own b : List ℕ) (kind : Container) (us : Terms) (ss : List Standing)
+    → IsFirst o c own → IsKnown (format c) → StandIn (container kind us) ss [] c b → Parts (standing o (own ++ b)) (container kind us) ss
 first_parts None c own b kind us ss first known d = ([], c, omega arith, (c ∷ [], b, ap (λ l. l ++ b) first, (refl, known), d))
-first_parts (Some ([], k)) c own b kind us ss (e, f) known d = subst (λ x. StandIn (container kind us) ss [] k (x ++ b)) (sym e) (subst (λ x. StandIn (container kind us) ss [] x b) f d)
+first_parts (Some ([], k)) c own b kind us ss (e, f) known d =
+    subst (λ x. StandIn (container kind us) ss [] k (x ++ b)) (sym e) (subst (λ x. StandIn (container kind us) ss [] x b) f d)
 first_parts (Some (e ∷ ds, k)) c own b kind us ss (f, g) known d = absurd (subst (λ x. IsKnown (format x)) g known)
 
-parts_in : (kind : Container) (us : Terms) (ss : List Standing) (c : ℕ) (b : List ℕ) → IsRow kind → ContainerData (format c) kind (count us) (StandWhole us ss) b → StandIn (container kind us) ss [] c b
+parts_in : (kind : Container) (us : Terms) (ss : List Standing) (c : ℕ) (b : List ℕ) → IsRow kind
+    → ContainerData (format c) kind (count us) (StandWhole us ss) b → StandIn (container kind us) ss [] c b
 parts_in list us ss c b is d = d
 parts_in map us ss c b is d = d
 parts_in array us ss c b is d = absurd is
@@ -213,11 +271,14 @@ pub record Front (o : Option (List Descriptor × ℕ)) (t : Term) (s : List ℕ)
   pub first : IsFirst o code own
   pub spelled : data_of t [] code data_
 
-front_own : (t : Term) (ds : List Descriptor) (c : ℕ) (first second s : List ℕ) → ((f : Descriptor) (ds : List Descriptor) (c : ℕ) (b : List ℕ) → data_of t (f ∷ ds) c b → ⊥) → s ≡ first ++ second → Constructor ds c first → data_of t ds c second → Front None t s
+front_own : (t : Term) (ds : List Descriptor) (c : ℕ) (first second s : List ℕ)
+    → ((f : Descriptor) (ds : List Descriptor) (c : ℕ) (b : List ℕ) → data_of t (f ∷ ds) c b → ⊥) → s ≡ first ++ second
+    → Constructor ds c first → data_of t ds c second → Front None t s
 front_own t [] c first second s bare e k d = record { code = c; own = first; data_ = second; whole = e; first = k.0; spelled = d }
 front_own t (f ∷ ds) c first second s bare e k d = absurd (bare f ds c second d)
 
-pub front_of : (o : Option (List Descriptor × ℕ)) (t : Term) (s : List ℕ) → ((f : Descriptor) (ds : List Descriptor) (c : ℕ) (b : List ℕ) → data_of t (f ∷ ds) c b → ⊥) → SpellsAs (standing o s) t → Front o t s
+pub front_of : (o : Option (List Descriptor × ℕ)) (t : Term) (s : List ℕ)
+    → ((f : Descriptor) (ds : List Descriptor) (c : ℕ) (b : List ℕ) → data_of t (f ∷ ds) c b → ⊥) → SpellsAs (standing o s) t → Front o t s
 unfolding enc
 front_of None t s bare (ds, c, few, (first, second, e, k, d)) = front_own t ds c first second s bare e k d
 front_of (Some ([], k)) t s bare d = record { code = k; own = []; data_ = s; whole = refl; first = (refl, refl); spelled = d }
@@ -227,9 +288,11 @@ pub known : (F : Format) (kind : Container) (w : ℕ) → F ≡ compound kind w 
 known F kind w e = subst IsKnown (sym e) tt
 
 -- the states on the way through a container of n bytes behind a header of h and the code's own bytes
-pub closed_at : (st m after : State) (own h n : ℕ) → m ≡ after_value own st → after ≡ after_data h m → after_data n after ≡ after_value (own + h + n) st
+pub closed_at : (st m after : State) (own h n : ℕ) → m ≡ after_value own st → after ≡ after_data h m
+    → after_data n after ≡ after_value (own + h + n) st
 closed_at st m after own h n e f =
-    ap (after_data n) f ∙ after_data-after_data h n m ∙ ap (after_data (h + n)) e ∙ after_data-after_value own (h + n) st ∙ ap (λ k. after_value k st) (omega arith)
+    ap (after_data n) f ∙ after_data-after_data h n m ∙ ap (after_data (h + n)) e ∙ after_data-after_value own (h + n) st
+    ∙ ap (λ k. after_value k st) (omega arith)
 
 -- an inner bound that is used up
 pub used_up : (o : Option ℕ) (n k : ℕ) → o ≡ Some n → Has o k → lower o k ≡ Some 0 → n ≡ k
@@ -237,21 +300,25 @@ used_up None n k e h f = absurd (cc)
 used_up (Some l) n k e h f = omega (arith, ap (λ o. unwrap_or o 0) e, ap (λ o. unwrap_or o 0) f)
 
 -- the container around one that was left
-left_is : (p : OpenKind) (n k b content : ℕ) (last at new : State) (outer : Open) (others : List Open) → last ≡ many k b (in_container p n content at) → last.saved ≡ outer ∷ others → new ≡ record last { top = outer; saved = others } → content ≡ b → new ≡ after_data b at
+left_is : (p : OpenKind) (n k b content : ℕ) (last at new : State) (outer : Open) (others : List Open)
+    → last ≡ many k b (in_container p n content at) → last.saved ≡ outer ∷ others → new ≡ record last { top = outer; saved = others }
+    → content ≡ b → new ≡ after_data b at
 left_is p n k b content last at new outer others is saved moved same =
     let e = sym (ap (λ (z : State). z.saved) is) ∙ saved in
     let head : record at.top { left = lower at.top.left content } ≡ outer = ap (λ l. get_or l 0 at.top) e in
     let tail : at.saved ≡ others = ap (drop 1) e in
     moved ∙ ap (λ (z : State). record z { top = outer; saved = others }) is
     ∙ ap (λ o. record (many k b (in_container p n content at)) { top = o; saved = others }) (sym head)
-    ∙ ap (λ l. record (many k b (in_container p n content at)) { top = record at.top { left = lower at.top.left content }; saved = l }) (sym tail)
+    ∙ ap (λ l. record (many k b (in_container p n content at)) { top = record at.top { left = lower at.top.left content }; saved = l })
+    (sym tail)
     ∙ ap (λ c. record at { rest = drop b at.rest; ahead = at.ahead - b; top = record at.top { left = lower at.top.left c } }) same
 
 pub three : (own h b : List ℕ) → length (own ++ (h ++ b)) ≡ length own + length h + length b
 three own h b = length-append own (h ++ b) ∙ ap (λ n. length own + n) (length-append h b) ∙ (omega arith)
 
 -- the items of a container stand in it as they were taken
-pub whole_with_parts : (kind : Container) → IsRow kind → (st : State) (us : Terms) (new : State) (c : Contains kind st (items_of us) new) → NextWithParts st (container kind us) (row_standings c.mid (items_of us) c.bytes c.last c.items) new
+pub whole_with_parts : (kind : Container) → IsRow kind → (st : State) (us : Terms) (new : State) (c : Contains kind st (items_of us) new)
+    → NextWithParts st (container kind us) (row_standings c.mid (items_of us) c.bytes c.last c.items) new
 whole_with_parts kind is st us new c =
     let o = c.opened in
     let d = o.data_ in
@@ -259,23 +326,32 @@ whole_with_parts kind is st us new c =
     let own = g.own in
     let b = c.bytes in
     let t = together us c.mid b c.last c.items in
-    let n_is : c.count ≡ count us = used_up c.mid.top.items c.count (count us) (ap (λ (z : State). z.top.items) d.entered ∙ place_items kind c.count) t.items (sym (ap (λ (z : State). z.top.items) t.moved) ∙ c.closed.items) in
-    let k_is : d.content ≡ length b = used_up c.mid.top.left d.content (length b) (ap (λ (z : State). z.top.left) d.entered) t.room (sym (ap (λ (z : State). z.top.left) t.moved) ∙ c.closed.left) in
-    let h : ReadsHeader (is_list kind) o.width o.mid (count us) d.content d.mid = subst (λ n. ReadsHeader (is_list kind) o.width o.mid n d.content d.mid) n_is d.header in
+    let n_is : c.count ≡ count us =
+    used_up c.mid.top.items c.count (count us) (ap (λ (z : State). z.top.items) d.entered ∙ place_items kind c.count) t.items
+    (sym (ap (λ (z : State). z.top.items) t.moved) ∙ c.closed.items) in
+    let k_is : d.content ≡ length b =
+    used_up c.mid.top.left d.content (length b) (ap (λ (z : State). z.top.left) d.entered) t.room
+    (sym (ap (λ (z : State). z.top.left) t.moved) ∙ c.closed.left) in
+    let h : ReadsHeader (is_list kind) o.width o.mid (count us) d.content d.mid =
+    subst (λ n. ReadsHeader (is_list kind) o.width o.mid n d.content d.mid) n_is d.header in
     let head = bytes_high_first o.width h.size ++ bytes_high_first o.width (count us) in
     let at : State = after_data (length head) (after_value (length own) st) in
     let at_is : d.mid ≡ at = h.took.moved ∙ ap (after_data (length head)) g.moved in
-    let mid_is : c.mid ≡ in_container (place_of kind) c.count d.content at = d.entered ∙ ap (in_container (place_of kind) c.count d.content) at_is in
+    let mid_is : c.mid ≡ in_container (place_of kind) c.count d.content at =
+    d.entered ∙ ap (in_container (place_of kind) c.count d.content) at_is in
     let tk = subst (λ z. Takes z head d.mid) g.moved h.took in
     let first : Takes st own (after_data (length own) st) = record { room = g.room; rest = g.rest; moved = refl } in
-    let second : Takes (after_data (length own) st) head (after_data (length head) (after_data (length own) st)) = record { room = tk.room; rest = tk.rest; moved = refl } in
-    let third : Takes (after_data (length head) (after_data (length own) st)) b (after_data (length b) (after_data (length head) (after_data (length own) st))) = record {
+    let second : Takes (after_data (length own) st) head (after_data (length head) (after_data (length own) st)) =
+    record { room = tk.room; rest = tk.rest; moved = refl } in
+    let third : Takes (after_data (length head) (after_data (length own) st)) b
+    (after_data (length b) (after_data (length head) (after_data (length own) st))) = record {
       room = subst (Has at.top.left) k_is (subst (λ (z : State). Has z.top.left d.content) at_is d.room);
       rest = subst (λ (z : State). z.rest ≡ b ++ drop (length b) z.rest) mid_is t.rest;
       moved = refl;
     } in
     let all = took_both st _ _ own (head ++ b) first (took_both _ _ _ head b second third) in
-    let data_of_content : (C : List ℕ → Type 0) → C b → ContainerData (format o.code) kind (count us) C (head ++ b) = λ C inner. split_container (format o.code) kind (count us) C (head ++ b) (record {
+    let data_of_content : (C : List ℕ → Type 0) → C b → ContainerData (format o.code) kind (count us) C (head ++ b) =
+    λ C inner. split_container (format o.code) kind (count us) C (head ++ b) (record {
       width = o.width;
       size = h.size;
       content = b;
@@ -290,7 +366,9 @@ whole_with_parts kind is st us new c =
     let ss = row_standings c.mid (items_of us) b c.last c.items in
     let items_in = data_of_content (items_spelled us) (all_items us b (row_spelled None us c.mid b c.last unshared c.items)) in
     let data_is = container_data kind us o.code (head ++ b) is (subst (IsCount kind) n_is d.count) items_in in
-    let parts_are = parts_in kind us ss o.code (head ++ b) is (data_of_content (StandWhole us ss) (row_stands None us c.mid b c.last unshared c.items)) in
+    let parts_are =
+    parts_in kind us ss o.code (head ++ b) is
+    (data_of_content (StandWhole us ss) (row_stands None us c.mid b c.last unshared c.items)) in
     let code_is = known (format o.code) kind o.width o.announced in
     let levels : length c.mid.saved ≡ suc (length st.saved) = ap (λ (z : State). length z.saved) mid_is in
     let limit : c.mid.nesting ≡ st.nesting = ap (λ (z : State). z.nesting) mid_is in
@@ -307,26 +385,39 @@ whole_with_parts kind is st us new c =
           spelled = first_spelled st.top.shared o.code own (head ++ b) (container kind us) g.first code_is data_is;
           nested = omega (arith, t.nested, levels, limit, few, nest_container kind us is);
         };
-        moved = left_is (place_of kind) c.count (count us) (length b) d.content c.last at new c.closed.outer c.closed.others (t.moved ∙ ap (many (count us) (length b)) mid_is) c.closed.saved c.closed.moved k_is
-            ∙ closed_at st (after_value (length own) st) at (length own) (length head) (length b) refl refl ∙ ap (λ k. after_value k st) (sym (three own head b));
+        moved = left_is (place_of kind) c.count (count us) (length b) d.content c.last at new c.closed.outer c.closed.others
+            (t.moved ∙ ap (many (count us) (length b)) mid_is) c.closed.saved c.closed.moved k_is
+            ∙ closed_at st (after_value (length own) st) at (length own) (length head) (length b) refl refl
+            ∙ ap (λ k. after_value k st) (sym (three own head b));
       };
       parts = first_parts st.top.shared o.code own (head ++ b) kind us ss g.first code_is parts_are;
     }
 
-pub whole : (kind : Container) → IsRow kind → (st : State) (us : Terms) (new : State) → Contains kind st (items_of us) new → Next st (container kind us) new
+pub whole : (kind : Container) → IsRow kind → (st : State) (us : Terms) (new : State) → Contains kind st (items_of us) new
+    → Next st (container kind us) new
 whole kind is st us new c = let h = whole_with_parts kind is st us new c in h.next
 
-pub took_parts : (st m : State) (a b : List ℕ) → Takes st (a ++ b) m → Takes st a (after_data (length a) st) × Takes (after_data (length a) st) b (after_data (length b) (after_data (length a) st))
+pub took_parts : (st m : State) (a b : List ℕ) → Takes st (a ++ b) m → Takes st a (after_data (length a) st)
+    × Takes (after_data (length a) st) b (after_data (length b) (after_data (length a) st))
 took_parts st m a b t =
     let x = drop (length (a ++ b)) st.rest in
     let r : st.rest ≡ a ++ (b ++ x) = t.rest ∙ append_assoc a b x in
     let behind : drop (length a) st.rest ≡ b ++ x = ap (drop (length a)) r ∙ drop_at a (b ++ x) (length a) refl in
     let room : Has st.top.left (length a + length b) = subst (Has st.top.left) (length-append a b) t.room in (
-      record { room = has_front st.top.left (length a) (length b) room; rest = front_is a st.rest (b ++ x) (length a) refl r; moved = refl },
-      record { room = has_rest st.top.left (length a) (length b) room; rest = front_is b (drop (length a) st.rest) x (length b) refl behind; moved = refl },
+      record {
+        room = has_front st.top.left (length a) (length b) room;
+        rest = front_is a st.rest (b ++ x) (length a) refl r;
+        moved = refl;
+      },
+      record {
+        room = has_rest st.top.left (length a) (length b) room;
+        rest = front_is b (drop (length a) st.rest) x (length b) refl behind;
+        moved = refl;
+      },
     )
 
-pub parts : (kind : Container) → IsRow kind → (st : State) (us : Terms) (new : State) → Next st (container kind us) new → Contains kind st (items_of us) new
+pub parts : (kind : Container) → IsRow kind → (st : State) (us : Terms) (new : State) → Next st (container kind us) new
+    → Contains kind st (items_of us) new
 parts kind is st us new next =
     let k = next.stands in
     let f = front_of st.top.shared (container kind us) next.bytes (container_bare kind us) k.spelled in
@@ -336,7 +427,8 @@ parts kind is st us new next =
     let b = x.content in
     let n = count us in
     let head = bytes_high_first x.width x.size ++ bytes_high_first x.width n in
-    let s_is : next.bytes ≡ own ++ (head ++ b) = f.whole ∙ ap (λ l. own ++ l) (x.whole ∙ sym (append_assoc (bytes_high_first x.width x.size) (bytes_high_first x.width n) b)) in
+    let s_is : next.bytes ≡ own ++ (head ++ b) =
+    f.whole ∙ ap (λ l. own ++ l) (x.whole ∙ sym (append_assoc (bytes_high_first x.width x.size) (bytes_high_first x.width n) b)) in
     let all : Takes st (own ++ (head ++ b)) (after_data (length (own ++ (head ++ b))) st) = record {
       room = subst (λ l. Has st.top.left (length l)) s_is k.room;
       rest = front_is (own ++ (head ++ b)) st.rest k.after (length (own ++ (head ++ b))) refl (k.rest ∙ ap (λ l. l ++ k.after) s_is);
@@ -346,7 +438,8 @@ parts kind is st us new next =
     let two = took_parts _ _ head b one.1 in
     let at : State = after_data (length head) (after_value (length own) st) in
     let mid : State = in_container (place_of kind) n (length b) at in
-    let deep : suc (nests us) ≤ st.nesting - length st.saved = subst (λ m. m ≤ st.nesting - length st.saved) (nest_container kind us is) k.nested in
+    let deep : suc (nests us) ≤ st.nesting - length st.saved =
+    subst (λ m. m ≤ st.nesting - length st.saved) (nest_container kind us is) k.nested in
     let items_are : items_at (place_of kind) n ≡ Some n = place_items kind n in
     let whole_count : Has (Some n) n = omega arith in
     let all_bytes : Has (Some (length b)) (length b) = omega arith in
@@ -364,7 +457,13 @@ parts kind is st us new next =
         data_ = record {
           content = length b;
           mid = at;
-          header = record { size = x.size; fits = x.fits; few = x.few; took = record { room = two.0.room; rest = two.0.rest; moved = refl }; counts = is_size kind x.width n b x.size x.sized };
+          header = record {
+            size = x.size;
+            fits = x.fits;
+            few = x.few;
+            took = record { room = two.0.room; rest = two.0.rest; moved = refl };
+            counts = is_size kind x.width n b x.size x.sized;
+          };
           count = c.0;
           room = two.1.room;
           few = omega (arith, deep);
@@ -373,7 +472,8 @@ parts kind is st us new next =
       };
       bytes = b;
       last = many n (length b) mid;
-      items = row_of None us mid b _ k.going refl (subst (λ o. Has o n) (sym items_are) whole_count) all_bytes two.1.rest (items_all us b x.inner) (omega (arith, deep));
+      items = row_of None us mid b _ k.going refl (subst (λ o. Has o n) (sym items_are) whole_count) all_bytes two.1.rest
+          (items_all us b x.inner) (omega (arith, deep));
       closed = record {
         going = k.going;
         here = refl;
@@ -382,7 +482,8 @@ parts kind is st us new next =
         outer = record at.top { left = lower at.top.left (length b) };
         others = at.saved;
         saved = refl;
-        moved = next.moved ∙ ap (λ l. after_value (length l) st) s_is ∙ ap (λ m. after_value m st) (three own head b) ∙ sym (closed_at st (after_value (length own) st) at (length own) (length head) (length b) refl refl);
+        moved = next.moved ∙ ap (λ l. after_value (length l) st) s_is ∙ ap (λ m. after_value m st) (three own head b)
+            ∙ sym (closed_at st (after_value (length own) st) at (length own) (length head) (length b) refl refl);
       };
     }
 

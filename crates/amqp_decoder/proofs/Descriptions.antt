@@ -1,6 +1,7 @@
 -- A described value is opened, what is described stands in it, and it is closed; and the other way round (Part 1,
 -- section 1.2).
-use Rattle.std.proofs.Common.{◌≡◌, ℕ, ◌+◌, ◌<◌, ◌≤◌, List, [], ◌∷◌, ◌++◌, length, drop, get_or, Option, Some, None, option_map, refl, sym, ap, ap₂, ◌∙◌, subst, arith, append_assoc, length-append, drop-drop}
+use Rattle.std.proofs.Common.{◌≡◌, ℕ, ◌+◌, ◌<◌, ◌≤◌, List, [], ◌∷◌, ◌++◌, length, drop, get_or, Option, Some, None, option_map, refl, sym}
+use Rattle.std.proofs.Common.{ap, ap₂, ◌∙◌, subst, arith, append_assoc, length-append, drop-drop}
 use Rattle.std.proofs.lemmas.List.{drop_at}
 use Rattle.amqp_model.specs.Term.{list, map, array, Descriptor, Term, leaf, container, described, kept, barred}
 use Rattle.amqp_model.specs.Spelling.{Names, enc, data_of}
@@ -27,7 +28,8 @@ marks_nest (container array ts) (e ∷ ds) c b h = absurd h
 marks_nest (kept k) (e ∷ ds) c b h = absurd h
 marks_nest (barred r) (e ∷ ds) c b h = absurd h
 
-described_spelled : (o : Option (List Descriptor × ℕ)) (first own s : List ℕ) (d : Descriptor) (t : Term) → nest t < 128 → IsFirst o 0 first → IsDescriptor o d own → SpellsAs (standing (behind o) s) t → SpellsAs (standing o (first ++ (own ++ s))) (described d t)
+described_spelled : (o : Option (List Descriptor × ℕ)) (first own s : List ℕ) (d : Descriptor) (t : Term) → nest t < 128 → IsFirst o 0 first
+    → IsDescriptor o d own → SpellsAs (standing (behind o) s) t → SpellsAs (standing o (first ++ (own ++ s))) (described d t)
 unfolding enc
 described_spelled None first own s d t few f n (ds, c, _, (h, x, e, k, data_)) = (
   d ∷ ds,
@@ -42,12 +44,16 @@ described_spelled None first own s d t few f n (ds, c, _, (h, x, e, k, data_)) =
   ),
 )
 described_spelled (Some ([], k)) first own s d t few f n h = absurd n
-described_spelled (Some (m ∷ ds, k)) first own s d t few f n h = subst (λ l. data_of (described d t) (m ∷ ds) k (l ++ (own ++ s))) (sym f.0) (subst (λ l. data_of (described d t) (m ∷ ds) k (l ++ s)) (sym n.0) (n.1, h))
+described_spelled (Some (m ∷ ds, k)) first own s d t few f n h =
+    subst (λ l. data_of (described d t) (m ∷ ds) k (l ++ (own ++ s))) (sym f.0)
+    (subst (λ l. data_of (described d t) (m ∷ ds) k (l ++ s)) (sym n.0) (n.1, h))
 
-described_parts : (o : Option (List Descriptor × ℕ)) (first own s : List ℕ) (d : Descriptor) (t : Term) → IsFirst o 0 first → IsDescriptor o d own → Parts (standing o (first ++ (own ++ s))) (described d t) (standing (behind o) s ∷ [])
+described_parts : (o : Option (List Descriptor × ℕ)) (first own s : List ℕ) (d : Descriptor) (t : Term) → IsFirst o 0 first
+    → IsDescriptor o d own → Parts (standing o (first ++ (own ++ s))) (described d t) (standing (behind o) s ∷ [])
 described_parts None first own s d t f n = (own, s, ap (λ l. l ++ (own ++ s)) f, n, refl)
 described_parts (Some ([], k)) first own s d t f n = absurd n
-described_parts (Some (m ∷ ds, k)) first own s d t f n = ap (λ l. part ds k l ∷ []) (sym (ap (λ l. l ++ (own ++ s)) f.0 ∙ ap (λ l. l ++ s) n.0))
+described_parts (Some (m ∷ ds, k)) first own s d t f n =
+    ap (λ l. part ds k l ∷ []) (sym (ap (λ l. l ++ (own ++ s)) f.0 ∙ ap (λ l. l ++ s) n.0))
 
 sum : (a b c : ℕ) → a + (b + c) ≡ a + b + c
 sum a b c = omega arith
@@ -57,32 +63,52 @@ abbrev inside_described : ℕ → ℕ → State → State
 inside_described first own st = in_described (after_data own (after_value first st))
 
 -- the state behind it
-back : (first own s : ℕ) (st : State) → after_value (first + (own + s)) st ≡ record (after_value s (inside_described first own st)) { top = record (after_data own (after_value first st)).top { left = lower (after_data own (after_value first st)).top.left s }; saved = st.saved }
+back : (first own s : ℕ) (st : State)
+    → after_value (first + (own + s)) st ≡ record (after_value s (inside_described first own st)) {
+      top = record (after_data own (after_value first st)).top { left = lower (after_data own (after_value first st)).top.left s };
+      saved = st.saved;
+    }
 back first own s st = ap (λ z. after_value z st) (sum first own s)
-    ∙ sym (rw (minus-minus st.ahead first own, minus-minus st.ahead (first + own) s, drop-drop own first st.rest, drop-drop s (first + own) st.rest, lower-lower st.top.left first own, lower-lower st.top.left (first + own) s) refl)
+    ∙ sym (rw (
+      minus-minus st.ahead first own,
+      minus-minus st.ahead (first + own) s,
+      drop-drop own first st.rest,
+      drop-drop s (first + own) st.rest,
+      lower-lower st.top.left first own,
+      lower-lower st.top.left (first + own) s,
+    ) refl)
 
-left_described : (first own s : ℕ) (st b : State) → ClosesDescribed InDescribed (after_value s (inside_described first own st)) b → b ≡ after_value (first + (own + s)) st
+left_described : (first own s : ℕ) (st b : State) → ClosesDescribed InDescribed (after_value s (inside_described first own st)) b
+    → b ≡ after_value (first + (own + s)) st
 left_described first own s st b c =
     let mid = after_data own (after_value first st) in
     let kept_ = record mid.top { left = option_map (λ l. 0) mid.top.left } in
     let outer : kept_ ≡ c.outer = ap (λ l. get_or l 0 st.top) c.saved in
     let others : st.saved ≡ c.others = ap (λ l. drop 1 l) c.saved in
-    c.moved ∙ ap₂ (λ (t : Open) l. record (after_value s (inside_described first own st)) { top = record t { left = lower mid.top.left s }; saved = l }) (sym outer) (sym others) ∙ sym (back first own s st)
+    c.moved ∙ ap₂ (λ (t : Open) l. record (after_value s (inside_described first own st)) {
+      top = record t { left = lower mid.top.left s };
+      saved = l;
+    }) (sym outer) (sym others) ∙ sym (back first own s st)
 
 -- What was opened, taken and closed is one term, in which what is described stands as it was taken.
-pub described_with_parts : (st : State) (d : Descriptor) (t : Term) (b : State) → st.nesting ≤ 128 → (h : DescribedStands st d t b) → NextWithParts st (described d t) (standing h.inner.top.shared h.bytes ∷ []) b
+pub described_with_parts : (st : State) (d : Descriptor) (t : Term) (b : State) → st.nesting ≤ 128 → (h : DescribedStands st d t b)
+    → NextWithParts st (described d t) (standing h.inner.top.shared h.bytes ∷ []) b
 described_with_parts st d t b bound h =
     let o = h.opens in
     let first = o.begun.own in
     let own = o.descriptor.own in
-    let took : Takes (after_value (length first) st) own o.named = subst (λ (m : State). Takes m own o.named) o.begun.moved o.descriptor.took in
-    let descriptor : IsDescriptor st.top.shared d own = subst (λ (m : State). IsDescriptor m.top.shared d own) o.begun.moved o.descriptor.descriptor in
+    let took : Takes (after_value (length first) st) own o.named =
+    subst (λ (m : State). Takes m own o.named) o.begun.moved o.descriptor.took in
+    let descriptor : IsDescriptor st.top.shared d own =
+    subst (λ (m : State). IsDescriptor m.top.shared d own) o.begun.moved o.descriptor.descriptor in
     let inner : h.inner ≡ inside_described (length first) (length own) st = o.opened ∙ ap in_described took.moved in
     let stands = subst (λ (i : State). Stands i h.bytes t) inner h.stands in
     let closes = subst (λ (i : State). ClosesDescribed InDescribed (after_value (length h.bytes) i) b) inner h.closes in
-    let long : length (first ++ (own ++ h.bytes)) ≡ length first + (length own + length h.bytes) = length-append first (own ++ h.bytes) ∙ ap (λ k. length first + k) (length-append own h.bytes) in
+    let long : length (first ++ (own ++ h.bytes)) ≡ length first + (length own + length h.bytes) =
+    length-append first (own ++ h.bytes) ∙ ap (λ k. length first + k) (length-append own h.bytes) in
     let all : Has st.top.left (length first + (length own + length h.bytes)) =
-    has_add st.top.left (length first) (length own + length h.bytes) o.begun.room (has_add (lower st.top.left (length first)) (length own) (length h.bytes) took.room stands.room) in
+    has_add st.top.left (length first) (length own + length h.bytes) o.begun.room
+    (has_add (lower st.top.left (length first)) (length own) (length h.bytes) took.room stands.room) in
     record {
       next = record {
         bytes = first ++ (own ++ h.bytes);
@@ -91,17 +117,21 @@ described_with_parts st d t b bound h =
           item = o.begun.item;
           room = subst (Has st.top.left) (sym long) all;
           after = stands.after;
-          rest = o.begun.rest ∙ ap (λ x. first ++ x) (took.rest ∙ ap (λ x. own ++ x) stands.rest) ∙ ap (λ x. first ++ x) (sym (append_assoc own h.bytes stands.after)) ∙ sym (append_assoc first (own ++ h.bytes) stands.after);
-          spelled = described_spelled st.top.shared first own h.bytes d t (let x = stands.nested in let y = o.nested in omega (arith, x, y, bound)) o.begun.first descriptor stands.spelled;
+          rest = o.begun.rest ∙ ap (λ x. first ++ x) (took.rest ∙ ap (λ x. own ++ x) stands.rest)
+              ∙ ap (λ x. first ++ x) (sym (append_assoc own h.bytes stands.after)) ∙ sym (append_assoc first (own ++ h.bytes) stands.after);
+          spelled = described_spelled st.top.shared first own h.bytes d t (let x = stands.nested in let y = o.nested in
+              omega (arith, x, y, bound)) o.begun.first descriptor stands.spelled;
           nested = let x = stands.nested in let y = o.nested in omega (arith, x, y);
         };
         moved = left_described (length first) (length own) (length h.bytes) st b closes ∙ ap (λ k. after_value k st) (sym long);
       };
-      parts = subst (λ (i : State). Parts (standing st.top.shared (first ++ (own ++ h.bytes))) (described d t) (standing i.top.shared h.bytes ∷ [])) (sym inner)
+      parts = subst (λ (i : State). Parts (standing st.top.shared (first ++ (own ++ h.bytes))) (described d t)
+          (standing i.top.shared h.bytes ∷ [])) (sym inner)
           (described_parts st.top.shared first own h.bytes d t o.begun.first descriptor);
     }
 
-pub described_term : (st : State) (d : Descriptor) (t : Term) (b : State) → st.nesting ≤ 128 → DescribedStands st d t b → Next st (described d t) b
+pub described_term : (st : State) (d : Descriptor) (t : Term) (b : State) → st.nesting ≤ 128 → DescribedStands st d t b
+    → Next st (described d t) b
 described_term st d t b bound h = let x = described_with_parts st d t b bound h in x.next
 
 pub described_split : (o : Option (List Descriptor × ℕ)) (z : List ℕ) (d : Descriptor) (t : Term) → SpellsAs (standing o z) (described d t)
@@ -129,22 +159,43 @@ term_described st d t b next =
     let first = f.0 in
     let own = f.1 in
     let s = f.2 in
-    let long : length z ≡ length first + (length own + length s) = ap length f.5 ∙ length-append first (own ++ s) ∙ ap (λ k. length first + k) (length-append own s) in
+    let long : length z ≡ length first + (length own + length s) =
+    ap length f.5 ∙ length-append first (own ++ s) ∙ ap (λ k. length first + k) (length-append own s) in
     let room : Has st.top.left (length first + (length own + length s)) = subst (Has st.top.left) long h.room in
-    let behind_ : Has (lower st.top.left (length first)) (length own + length s) = has_rest st.top.left (length first) (length own + length s) room in
+    let behind_ : Has (lower st.top.left (length first)) (length own + length s) =
+    has_rest st.top.left (length first) (length own + length s) room in
     let whole : st.rest ≡ first ++ (own ++ (s ++ h.after)) =
     h.rest ∙ ap (λ y. y ++ h.after) f.5 ∙ append_assoc first (own ++ s) h.after ∙ ap (λ y. first ++ y) (append_assoc own s h.after) in
-    let second : drop (length first) st.rest ≡ own ++ (s ++ h.after) = ap (drop (length first)) whole ∙ drop_at first (own ++ (s ++ h.after)) (length first) refl in
-    let third : drop (length own) (drop (length first) st.rest) ≡ s ++ h.after = ap (drop (length own)) second ∙ drop_at own (s ++ h.after) (length own) refl in
+    let second : drop (length first) st.rest ≡ own ++ (s ++ h.after) =
+    ap (drop (length first)) whole ∙ drop_at first (own ++ (s ++ h.after)) (length first) refl in
+    let third : drop (length own) (drop (length first) st.rest) ≡ s ++ h.after =
+    ap (drop (length own)) second ∙ drop_at own (s ++ h.after) (length own) refl in
     let mid = after_data (length own) (after_value (length first) st) in
     record {
       inner = inside_described (length first) (length own) st;
       opens = record {
         coded = after_value (length first) st;
         named = mid;
-        begun = record { going = h.going; item = h.item; own = first; first = f.3; room = has_front st.top.left (length first) (length own + length s) room; rest = whole ∙ ap (λ y. first ++ y) (sym second); moved = refl };
+        begun = record {
+          going = h.going;
+          item = h.item;
+          own = first;
+          first = f.3;
+          room = has_front st.top.left (length first) (length own + length s) room;
+          rest = whole ∙ ap (λ y. first ++ y) (sym second);
+          moved = refl;
+        };
         nested = let y = h.nested in omega (arith, y);
-        descriptor = record { own = own; descriptor = f.4; took = record { room = has_front (lower st.top.left (length first)) (length own) (length s) behind_; rest = second ∙ ap (λ y. own ++ y) (sym third); moved = refl } };
+        descriptor =
+            record {
+              own = own;
+              descriptor = f.4;
+              took = record {
+                room = has_front (lower st.top.left (length first)) (length own) (length s) behind_;
+                rest = second ∙ ap (λ y. own ++ y) (sym third);
+                moved = refl;
+              };
+            };
         opened = refl;
       };
       bytes = s;

@@ -1,5 +1,6 @@
 -- Bytes that are taken and kept.
-use Rattle.std.proofs.Common.{arith, ◌≡◌, ◌≤◌, ◌<◌, ℕ, ◌^◌, ◌-◌, inl, inr, Bool, true, false, cond, Some, List, [], ◌∷◌, ◌++◌, length, take, drop, refl, sym, ap, ◌∙◌, subst, append_assoc, length-append, IsAscii}
+use Rattle.std.proofs.Common.{arith, ◌≡◌, ◌≤◌, ◌<◌, ℕ, ◌^◌, ◌-◌, inl, inr, Bool, true, false, cond, Some, List, [], ◌∷◌, ◌++◌, length, take}
+use Rattle.std.proofs.Common.{drop, refl, sym, ap, ◌∙◌, subst, append_assoc, length-append, IsAscii}
 use Rattle.std.proofs.lemmas.List.{length-take-le, take-append-drop, drop_at}
 use Rattle.std.specs.List.{slice_range}
 use Rattle.std.proofs.Math.Seq.{take-length}
@@ -13,7 +14,8 @@ use Rattle.amqp_decoder.specs.Terms.{Keeps, IsSymbol, SymbolFault, no_text, no_a
 use Rattle.amqp_decoder.proofs.Steps.{answered, answered_took, stopped_as, stopped_later, took_pulled}
 use Rattle.amqp_decoder.proofs.Opening.{took_both}
 
-pub keeps_both : (P Q R : List ℕ → Type 0) (a b c : List ℕ) (st m new : State) → ((x y : List ℕ) → P x → Q y → R (x ++ y)) → Keeps P a st b m → Keeps Q b m c new → Keeps R a st c new
+pub keeps_both : (P Q R : List ℕ → Type 0) (a b c : List ℕ) (st m new : State) → ((x y : List ℕ) → P x → Q y → R (x ++ y))
+    → Keeps P a st b m → Keeps Q b m c new → Keeps R a st c new
 keeps_both P Q R a b c st m new join h k = record {
   own = h.own ++ k.own;
   is = join h.own k.own h.is k.is;
@@ -21,14 +23,18 @@ keeps_both P Q R a b c st m new join h k = record {
   added = k.added ∙ ap (λ l. l ++ k.own) h.added ∙ append_assoc a h.own k.own;
 }
 
-pub keeps_as : (P Q : List ℕ → Type 0) (a b : List ℕ) (st new : State) → ((x : List ℕ) → P x → Q x) → Keeps P a st b new → Keeps Q a st b new
+pub keeps_as : (P Q : List ℕ → Type 0) (a b : List ℕ) (st new : State) → ((x : List ℕ) → P x → Q x)
+    → Keeps P a st b new → Keeps Q a st b new
 keeps_as P Q a b st new f h = record { own = h.own; is = f h.own h.is; took = h.took; added = h.added }
 
 -- a byte that was taken is added
-pub keeps_code : (c : ℕ) (before after : List ℕ) (st m new : State) → Takes st (c ∷ []) m → after ≡ before ++ (c ∷ []) → new ≡ m → Keeps (λ s. s ≡ c ∷ []) before st after new
-keeps_code c before after st m new t added same = record { own = c ∷ []; is = refl; took = subst (Takes st (c ∷ [])) (sym same) t; added = added }
+pub keeps_code : (c : ℕ) (before after : List ℕ) (st m new : State) → Takes st (c ∷ []) m → after ≡ before ++ (c ∷ []) → new ≡ m
+    → Keeps (λ s. s ≡ c ∷ []) before st after new
+keeps_code c before after st m new t added same =
+    record { own = c ∷ []; is = refl; took = subst (Takes st (c ∷ [])) (sym same) t; added = added }
 
-pub keeps_next : (n : ℕ) (before after : List ℕ) (st m new : State) → Has st.top.left n → m ≡ record st { top = record st.top { left = lower st.top.left n } }
+pub keeps_next : (n : ℕ) (before after : List ℕ) (st m new : State) → Has st.top.left n
+    → m ≡ record st { top = record st.top { left = lower st.top.left n } }
     → (n ≤ length m.rest) × (after ≡ before ++ take n m.rest) × (new ≡ after_bytes n m) → Keeps (λ s. length s ≡ n) before st after new
 keeps_next n before after st m new room is (few, added, went) =
     let s = take n m.rest in
@@ -41,25 +47,30 @@ digits : (wide : Bool) (n : ℕ) → drop (4 - cond wide 4 1) (bytes_high_first 
 digits true n = refl
 digits false n = refl
 
-pub keeps_number : (wide : Bool) (n k : ℕ) (before after bytes : List ℕ) (st new : State) → Takes st (bytes_high_first (cond wide 4 1) n) new → bytes ≡ bytes_high_first 4 n → k ≡ 4 - cond wide 4 1 → after ≡ before ++ drop k bytes
+pub keeps_number : (wide : Bool) (n k : ℕ) (before after bytes : List ℕ) (st new : State)
+    → Takes st (bytes_high_first (cond wide 4 1) n) new → bytes ≡ bytes_high_first 4 n → k ≡ 4 - cond wide 4 1
+    → after ≡ before ++ drop k bytes
     → Keeps (λ s. s ≡ bytes_high_first (cond wide 4 1) n) before st after new
 keeps_number wide n k before after bytes st new t is skip added = record {
   own = bytes_high_first (cond wide 4 1) n;
   is = refl;
   took = t;
-  added = added ∙ ap (λ l. before ++ drop k l) is ∙ ap (λ j. before ++ drop j (bytes_high_first 4 n)) skip ∙ ap (λ l. before ++ l) (digits wide n);
+  added = added ∙ ap (λ l. before ++ drop k l) is ∙ ap (λ j. before ++ drop j (bytes_high_first 4 n)) skip
+      ∙ ap (λ l. before ++ l) (digits wide n);
 }
 
 -- a size and what it announces
 sized_own : (w n : ℕ) (x y : List ℕ) → n < 256 ^ w → x ≡ bytes_high_first w n → length y ≡ n → IsSized w y (x ++ y)
-sized_own w n x y fits is long = (subst (λ k. k < 256 ^ w) (sym long) fits, ap (λ l. l ++ y) is ∙ ap (λ k. bytes_high_first w k ++ y) (sym long))
+sized_own w n x y fits is long =
+    (subst (λ k. k < 256 ^ w) (sym long) fits, ap (λ l. l ++ y) is ∙ ap (λ k. bytes_high_first w k ++ y) (sym long))
 
 -- what was added last
 added_last : (b c y : List ℕ) (start : ℕ) → start ≡ length b → c ≡ b ++ y → drop start c ≡ y
 added_last b c y start is added = ap (drop start) added ∙ drop_at b y start (sym is)
 
 -- the text that was added last
-pub text_is : (start : ℕ) (text slice b c y : List ℕ) → start ≡ length b → slice ≡ c → c ≡ b ++ y → text ≡ slice_range slice start (length slice) → text ≡ y
+pub text_is : (start : ℕ) (text slice b c y : List ℕ) → start ≡ length b → slice ≡ c → c ≡ b ++ y
+    → text ≡ slice_range slice start (length slice) → text ≡ y
 text_is start text slice b c y at_ is added found =
     let rest : drop start slice ≡ y = ap (drop start) is ∙ added_last b c y start at_ added in
     let long : length slice - start ≡ length y = omega (arith, ap length is, ap length added, length-append b y, at_) in
@@ -74,14 +85,20 @@ keeps_symbol w n a b c st m new fits good h k = record {
   added = k.added ∙ ap (λ l. l ++ k.own) h.added ∙ append_assoc a h.own k.own;
 }
 
-pub stopped_size : (w : ℕ) (st : State) (e : Error) (new : State) → Stops true (Lacks w st) st e new → Stops true (SymbolFault w st) st e new
+pub stopped_size : (w : ℕ) (st : State) (e : Error) (new : State) → Stops true (Lacks w st) st e new
+    → Stops true (SymbolFault w st) st e new
 stopped_size w st e new s = stopped_as (Lacks w st) (SymbolFault w st) st e new (λ d x. no_text (inl x)) s
 
-pub stopped_text : (w n : ℕ) (a b : List ℕ) (st m : State) (e : Error) (new : State) → n < 256 ^ w → Keeps (λ s. s ≡ bytes_high_first w n) a st b m → Stops true (Lacks n m) m e new → Stops true (SymbolFault w st) st e new
-stopped_text w n a b st m e new fits h s = stopped_later (Lacks n m) (SymbolFault w st) st m h.own e new h.took (λ d x. no_text (inr (n, m, fits, subst (λ l. Takes st l m) h.is h.took, x))) s
+pub stopped_text : (w n : ℕ) (a b : List ℕ) (st m : State) (e : Error) (new : State) → n < 256 ^ w
+    → Keeps (λ s. s ≡ bytes_high_first w n) a st b m → Stops true (Lacks n m) m e new → Stops true (SymbolFault w st) st e new
+stopped_text w n a b st m e new fits h s =
+    stopped_later (Lacks n m) (SymbolFault w st) st m h.own e new h.took
+    (λ d x. no_text (inr (n, m, fits, subst (λ l. Takes st l m) h.is h.took, x))) s
 
-pub stopped_ascii : (w n : ℕ) (a b c : List ℕ) (st m m' : State) (e : Error) (new : State) → n < 256 ^ w → ((y : List ℕ) → c ≡ b ++ y → IsAscii y → ⊥)
-    → Keeps (λ s. s ≡ bytes_high_first w n) a st b m → Keeps (λ s. length s ≡ n) b m c m' → e ≡ NonAscii → new ≡ record m' { error = Some NonAscii } → Stops true (SymbolFault w st) st e new
+pub stopped_ascii : (w n : ℕ) (a b c : List ℕ) (st m m' : State) (e : Error) (new : State) → n < 256 ^ w
+    → ((y : List ℕ) → c ≡ b ++ y → IsAscii y → ⊥)
+    → Keeps (λ s. s ≡ bytes_high_first w n) a st b m → Keeps (λ s. length s ≡ n) b m c m' → e ≡ NonAscii
+    → new ≡ record m' { error = Some NonAscii } → Stops true (SymbolFault w st) st e new
 stopped_ascii w n a b c st m m' e new fits bad h k named kept =
     let sized = sized_own w n h.own k.own fits h.is k.is in
     let took : Takes st (h.own ++ k.own) m' = took_both st m m' h.own k.own h.took k.took in

@@ -1,5 +1,6 @@
 -- Constructors that are taken and kept.
-use Rattle.std.proofs.Common.{◌≡◌, ◌≤◌, ℕ, ◌+◌, ◌⊎◌, inl, inr, arith, true, Some, List, [], ◌∷◌, ◌++◌, length, refl, sym, ap, ◌∙◌, subst, append_assoc, length-append}
+use Rattle.std.proofs.Common.{◌≡◌, ◌≤◌, ℕ, ◌+◌, ◌⊎◌, inl, inr, arith, true, Some, List, [], ◌∷◌, ◌++◌, length, refl, sym, ap, ◌∙◌, subst}
+use Rattle.std.proofs.Common.{append_assoc, length-append}
 use Rattle.std.specs.Int.{bytes_high_first, w8, w64, from_be_bytes}
 use Rattle.amqp_model.specs.Term.{Descriptor, name, code, symbol}
 use Rattle.amqp_model.specs.Constructors.{variable, format}
@@ -24,13 +25,16 @@ use Rattle.amqp_decoder.proofs.Steps.{answered, answered_so, answered_took, stop
 use Rattle.amqp_decoder.proofs.KeptBytes.{keeps_both, keeps_as}
 
 -- the code of a descriptor, and its data
-pub keeps_named : (P : List ℕ → Type 0) (c k : ℕ) (a b l : List ℕ) (st m new : State) → ((x : List ℕ) → P x → (d : Descriptor) × PrimitiveData (format k) (descriptor_value d) x) → c ≡ k → Keeps (λ s. s ≡ c ∷ []) a st b m → Keeps P b m l new → Keeps NamesAny a st l new
+pub keeps_named : (P : List ℕ → Type 0) (c k : ℕ) (a b l : List ℕ) (st m new : State)
+    → ((x : List ℕ) → P x → (d : Descriptor) × PrimitiveData (format k) (descriptor_value d) x) → c ≡ k → Keeps (λ s. s ≡ c ∷ []) a st b m
+    → Keeps P b m l new → Keeps NamesAny a st l new
 keeps_named P c k a b l st m new means is h t =
     keeps_both (λ s. s ≡ c ∷ []) P NamesAny a b l st m new
     (λ x y e p. let d = means y p in (d.0, (k, y, ap (λ z. z ++ y) (e ∙ ap (λ n. n ∷ []) is), d.1))) h t
 
 pub keeps_ulong_0 : (c : ℕ) (a b : List ℕ) (st m : State) → c ≡ 0x44 → Keeps (λ s. s ≡ c ∷ []) a st b m → Keeps NamesAny a st b m
-keeps_ulong_0 c a b st m is h = keeps_as (λ s. s ≡ c ∷ []) NamesAny a b st m (λ x e. (code 0, (0x44, [], e ∙ ap (λ n. n ∷ []) is, (refl, refl, tt)))) h
+keeps_ulong_0 c a b st m is h =
+    keeps_as (λ s. s ≡ c ∷ []) NamesAny a b st m (λ x e. (code 0, (0x44, [], e ∙ ap (λ n. n ∷ []) is, (refl, refl, tt)))) h
 
 pub small_ulong_means : (x : List ℕ) → length x ≡ 1 → (d : Descriptor) × PrimitiveData (format 0x53) (descriptor_value d) x
 small_ulong_means x long = (code (from_be_bytes w8 x), (long, refl, tt))
@@ -54,29 +58,39 @@ code_took c a b st m h = subst (λ l. Takes st l m) h.is h.took
 at_code : (c k : ℕ) (a b : List ℕ) (st m : State) → c ≡ k → Keeps (λ s. s ≡ c ∷ []) a st b m → Takes st (k ∷ []) m
 at_code c k a b st m is h = subst (λ n. Takes st (n ∷ []) m) is (code_took c a b st m h)
 
-pub unnamed_ulong : (c k n : ℕ) (a b : List ℕ) (st m : State) (e : Error) (new : State) → c ≡ k → kind_at k ≡ Some 5 → ((d : Error) → Lacks n m d → LacksData (format k) m d) → Keeps (λ s. s ≡ c ∷ []) a st b m → Stops true (Lacks n m) m e new → Stops true (DescriptorFault st) st e new
+pub unnamed_ulong : (c k n : ℕ) (a b : List ℕ) (st m : State) (e : Error) (new : State) → c ≡ k → kind_at k ≡ Some 5
+    → ((d : Error) → Lacks n m d → LacksData (format k) m d) → Keeps (λ s. s ≡ c ∷ []) a st b m → Stops true (Lacks n m) m e new
+    → Stops true (DescriptorFault st) st e new
 unnamed_ulong c k n a b st m e new is kind f h s =
     let t = at_code c k a b st m is h in
     stopped_later (Lacks n m) (DescriptorFault st) st m (k ∷ []) e new t (λ d x. no_data t (inl kind) (f d x)) s
 
-symbol_fault : (k w : ℕ) (st m : State) (e : Error) → format k ≡ variable w (λ b. Some (symbol b)) → kind_at k ≡ Some 18 → Takes st (k ∷ []) m → SymbolFault w m e → DescriptorFault st e
+symbol_fault : (k w : ℕ) (st m : State) (e : Error) → format k ≡ variable w (λ b. Some (symbol b)) → kind_at k ≡ Some 18
+    → Takes st (k ∷ []) m → SymbolFault w m e → DescriptorFault st e
 symbol_fault k w st m e F kind t (no_text l) = no_data t (inr kind) (subst (λ G. LacksData G m e) (sym F) l)
 symbol_fault k w st m e F kind t (no_ascii {s} {m = m'} z bad is) =
     let b : List ℕ = bytes_high_first w (length s) ++ s in
-    non_ascii t kind z.took (subst (λ G. IsWhole G b) (sym F) (s, z.fits, refl)) (λ d h. no_text_value w symbol s (descriptor_value d) z.fits bad (subst (λ G. PrimitiveData G (descriptor_value d) b) F h)) is
+    non_ascii t kind z.took (subst (λ G. IsWhole G b) (sym F) (s, z.fits, refl))
+    (λ d h. no_text_value w symbol s (descriptor_value d) z.fits bad (subst (λ G. PrimitiveData G (descriptor_value d) b) F h)) is
 
-pub unnamed_symbol : (c k w : ℕ) (a b : List ℕ) (st m : State) (e : Error) (new : State) → c ≡ k → format k ≡ variable w (λ b. Some (symbol b)) → kind_at k ≡ Some 18 → Keeps (λ s. s ≡ c ∷ []) a st b m → Stops true (SymbolFault w m) m e new → Stops true (DescriptorFault st) st e new
+pub unnamed_symbol : (c k w : ℕ) (a b : List ℕ) (st m : State) (e : Error) (new : State) → c ≡ k
+    → format k ≡ variable w (λ b. Some (symbol b)) → kind_at k ≡ Some 18 → Keeps (λ s. s ≡ c ∷ []) a st b m
+    → Stops true (SymbolFault w m) m e new → Stops true (DescriptorFault st) st e new
 unnamed_symbol c k w a b st m e new is F kind h s =
     let t = at_code c k a b st m is h in
     stopped_later (SymbolFault w m) (DescriptorFault st) st m (k ∷ []) e new t (λ d x. symbol_fault k w st m d F kind t x) s
 
-pub unnamed_other : (c : ℕ) (a b : List ℕ) (st m : State) (e : Error) (new : State) → (c ≡ 0x44 → ⊥) → (c ≡ 0x53 → ⊥) → (c ≡ 0x80 → ⊥) → (c ≡ 0xa3 → ⊥) → (c ≡ 0xb3 → ⊥) → Keeps (λ s. s ≡ c ∷ []) a st b m
+pub unnamed_other : (c : ℕ) (a b : List ℕ) (st m : State) (e : Error) (new : State) → (c ≡ 0x44 → ⊥) → (c ≡ 0x53 → ⊥) → (c ≡ 0x80 → ⊥)
+    → (c ≡ 0xa3 → ⊥) → (c ≡ 0xb3 → ⊥) → Keeps (λ s. s ≡ c ∷ []) a st b m
     → e ≡ other_kind (refusal_of c) → new ≡ record m { error = Some e } → Stops true (DescriptorFault st) st e new
 unnamed_other c a b st m e new zero_ small long narrow wide h is kept =
     let t = code_took c a b st m h in
     record {
       kept = answered_took t (answered_so m new e kept);
-      why = inr (no_kind t (λ k. elim k [ inl x ↦ not_three 5 c 0x44 0x53 0x80 refl zero_ small long x | inr x ↦ not_two 18 c 0xa3 0xb3 refl narrow wide x ]) is);
+      why = inr (no_kind t (λ k. elim k [
+        | inl x ↦ not_three 5 c 0x44 0x53 0x80 refl zero_ small long x
+        | inr x ↦ not_two 18 c 0xa3 0xb3 refl narrow wide x
+      ]) is);
     }
 
 -- so many descriptors, each after a 0
@@ -90,7 +104,8 @@ IsMarked n c b = (ds : List Descriptor) × (length ds ≡ n) × (a : List ℕ) �
 pub marks_first : (c : ℕ) (a b : List ℕ) (st m : State) → Keeps (λ s. s ≡ c ∷ []) a st b m → Keeps (IsMarked 0 c) a st b m
 marks_first c a b st m h = keeps_as (λ s. s ≡ c ∷ []) (IsMarked 0 c) a b st m (λ x e. ([], refl, [], refl, e)) h
 
-pub marks_named : (n : ℕ) (a b c : List ℕ) (st m new : State) → Keeps (IsMarked n 0) a st b m → Keeps NamesAny b m c new → Keeps (IsNamed (n + 1)) a st c new
+pub marks_named : (n : ℕ) (a b c : List ℕ) (st m new : State) → Keeps (IsMarked n 0) a st b m → Keeps NamesAny b m c new
+    → Keeps (IsNamed (n + 1)) a st c new
 marks_named n a b c st m new h k = keeps_both (IsMarked n 0) NamesAny (IsNamed (n + 1)) a b c st m new join h k
   where
     join : (x y : List ℕ) → IsMarked n 0 x → NamesAny y → IsNamed (n + 1) (x ++ y)
@@ -100,7 +115,8 @@ marks_named n a b c st m new h k = keeps_both (IsMarked n 0) NamesAny (IsNamed (
       subst (Marks (ds ++ (d ∷ []))) (sym (ap (λ l. l ++ y) is ∙ append_assoc own (0 ∷ []) y)) (marks_more ds d own y marks names),
     )
 
-pub marks_code : (n c : ℕ) (a b l : List ℕ) (st m new : State) → Keeps (IsNamed n) a st b m → Keeps (λ s. s ≡ c ∷ []) b m l new → Keeps (IsMarked n c) a st l new
+pub marks_code : (n c : ℕ) (a b l : List ℕ) (st m new : State) → Keeps (IsNamed n) a st b m → Keeps (λ s. s ≡ c ∷ []) b m l new
+    → Keeps (IsMarked n c) a st l new
 marks_code n c a b l st m new h k =
     keeps_both (IsNamed n) (λ s. s ≡ c ∷ []) (IsMarked n c) a b l st m new (λ x y p e. (p.0, p.1, x, p.2, ap (λ z. x ++ z) e)) h k
 
@@ -111,24 +127,32 @@ named_took : (n : ℕ) (a b : List ℕ) (st m : State) (h : Keeps (IsNamed n) a 
 named_took n a b st m h = record { own = h.own; marks = h.is.2; took = h.took }
 
 -- a known code ends a constructor
-pub constructor_kept : (n c : ℕ) (a b : List ℕ) (st m new : State) → n ≤ 128 → (c ≡ 0 → ⊥) → Keeps (IsMarked n c) a st b m → ((c ≡ 0) ⊎ IsKnown (format c)) × (new ≡ m) → Keeps (IsConstructor c) a st b new
+pub constructor_kept : (n c : ℕ) (a b : List ℕ) (st m new : State) → n ≤ 128 → (c ≡ 0 → ⊥) → Keeps (IsMarked n c) a st b m
+    → ((c ≡ 0) ⊎ IsKnown (format c)) × (new ≡ m) → Keeps (IsConstructor c) a st b new
 constructor_kept n c a b st m new few some h (known, same) =
     subst (Keeps (IsConstructor c) a st b) (sym same) (keeps_as (IsMarked n c) (IsConstructor c) a b st m ends h)
   where
     ends : (x : List ℕ) → IsMarked n c x → IsConstructor c x
-    ends x (ds, count, own, marks, is) = (ds, omega arith, subst (Constructor ds c) (sym is) (marks_done ds c own marks (ends_known c some known)))
+    ends x (ds, count, own, marks, is) =
+        (ds, omega arith, subst (Constructor ds c) (sym is) (marks_done ds c own marks (ends_known c some known)))
 
 -- why no constructor is kept
-pub unmarked_deep : (n : ℕ) (a b : List ℕ) (st m : State) (e : Error) (new : State) → n ≡ 128 → Keeps (IsMarked n 0) a st b m → e ≡ Depth → new ≡ record m { error = Some Depth } → Stops true (ConstructorFault st) st e new
+pub unmarked_deep : (n : ℕ) (a b : List ℕ) (st m : State) (e : Error) (new : State) → n ≡ 128 → Keeps (IsMarked n 0) a st b m → e ≡ Depth
+    → new ≡ record m { error = Some Depth } → Stops true (ConstructorFault st) st e new
 unmarked_deep n a b st m e new many h is kept =
-    stopped_mark st h.is.0 n m e new (sym h.is.1) (marked_took n 0 a b st m h) (record { kept = answered m new e Depth kept is; why = inr (inl (is, omega arith)) })
+    stopped_mark st h.is.0 n m e new (sym h.is.1) (marked_took n 0 a b st m h)
+    (record { kept = answered m new e Depth kept is; why = inr (inl (is, omega arith)) })
 
-pub unmarked_name : (n : ℕ) (a b : List ℕ) (st m : State) (e : Error) (new : State) → Keeps (IsMarked n 0) a st b m → Stops true (DescriptorFault m) m e new → Stops true (ConstructorFault st) st e new
+pub unmarked_name : (n : ℕ) (a b : List ℕ) (st m : State) (e : Error) (new : State) → Keeps (IsMarked n 0) a st b m
+    → Stops true (DescriptorFault m) m e new → Stops true (ConstructorFault st) st e new
 unmarked_name n a b st m e new h s =
-    stopped_mark st h.is.0 n m e new (sym h.is.1) (marked_took n 0 a b st m h) (stopped_as (DescriptorFault m) (λ d. ((d ≡ Depth) × (128 ≤ n)) ⊎ DescriptorFault m d) m e new (λ d x. inr x) s)
+    stopped_mark st h.is.0 n m e new (sym h.is.1) (marked_took n 0 a b st m h)
+    (stopped_as (DescriptorFault m) (λ d. ((d ≡ Depth) × (128 ≤ n)) ⊎ DescriptorFault m d) m e new (λ d x. inr x) s)
 
-pub unmarked_code : (n : ℕ) (a b : List ℕ) (st m : State) (e : Error) (new : State) → Keeps (IsNamed n) a st b m → Stops true (Lacks 1 m) m e new → Stops true (ConstructorFault st) st e new
+pub unmarked_code : (n : ℕ) (a b : List ℕ) (st m : State) (e : Error) (new : State) → Keeps (IsNamed n) a st b m
+    → Stops true (Lacks 1 m) m e new → Stops true (ConstructorFault st) st e new
 unmarked_code n a b st m e new h s = stopped_code st h.is.0 m e new (named_took n a b st m h) s
 
-pub unmarked_unknown : (n c : ℕ) (a b : List ℕ) (st m : State) (e : Error) (new : State) → Keeps (IsMarked n c) a st b m → (c ≡ 0 → ⊥) × (IsKnown (format c) → ⊥) × (e ≡ refusal_of c) × Answers m e new → Stops true (ConstructorFault st) st e new
+pub unmarked_unknown : (n c : ℕ) (a b : List ℕ) (st m : State) (e : Error) (new : State) → Keeps (IsMarked n c) a st b m
+    → (c ≡ 0 → ⊥) × (IsKnown (format c) → ⊥) × (e ≡ refusal_of c) × Answers m e new → Stops true (ConstructorFault st) st e new
 unmarked_unknown n c a b st m e new h s = stopped_unknown st h.is.0 c m e new (marked_took n c a b st m h) s

@@ -1,5 +1,6 @@
 -- Whole terms that are taken and kept.
-use Rattle.std.proofs.Common.{◌≡◌, ◌≤◌, ◌<◌, ◌-◌, ◌^◌, ◌⊎◌, ℕ, inl, inr, arith, true, false, None, List, [], ◌++◌, length, take, drop, refl, sym, ap, ◌∙◌, subst, append_assoc, append-nil, length-append}
+use Rattle.std.proofs.Common.{◌≡◌, ◌≤◌, ◌<◌, ◌-◌, ◌^◌, ◌⊎◌, ℕ, inl, inr, arith, true, false, None, List, [], ◌++◌, length, take, drop, refl}
+use Rattle.std.proofs.Common.{sym, ap, ◌∙◌, subst, append_assoc, append-nil, length-append}
 use Rattle.std.proofs.lemmas.List.{drop_at, take-append-drop}
 use Rattle.std.specs.Int.{bytes_high_first}
 use Rattle.amqp_model.specs.Term.{Term, Descriptor}
@@ -19,24 +20,29 @@ use Rattle.amqp_decoder.specs.Steps.{Answers, IsExcused, Takes, Lacks, Stops}
 use Rattle.amqp_decoder.specs.Reading.{RefusesRead}
 use Rattle.amqp_decoder.specs.Primitives.{standing, SpellsAs}
 use Rattle.amqp_decoder.specs.Arrays.{TakesConstructor, ConstructorFault}
-use Rattle.amqp_decoder.specs.Terms.{Keeps, IsConstructor, LacksAnnounced, NoTerm, wrong_size, wrong_term, SpellingFault, no_constructor, no_data, no_term, TakesTerm, TermFault, missing, in_array, misspelled}
+use Rattle.amqp_decoder.specs.Terms.{Keeps, IsConstructor, LacksAnnounced, NoTerm, wrong_size, wrong_term, SpellingFault, no_constructor}
+use Rattle.amqp_decoder.specs.Terms.{no_data, no_term, TakesTerm, TermFault, missing, in_array, misspelled}
 use Rattle.amqp_decoder.proofs.Constructed.{code_known, constructor_not, one_constructor, took_parts}
 use Rattle.amqp_decoder.proofs.Opening.{took_both}
 use Rattle.amqp_decoder.proofs.Steps.{answered_took, excused_by_source, not_lacking, stopped_as, stopped_later}
 
 -- announced data that stands there isn't lacking
-sized_there : (w : ℕ) (size_of : ℕ → ℕ) (m m' : State) (e : Error) (b : List ℕ) → SizeThen w (λ n behind. length behind ≡ size_of n) b → Takes m b m'
+sized_there : (w : ℕ) (size_of : ℕ → ℕ) (m m' : State) (e : Error) (b : List ℕ)
+    → SizeThen w (λ n behind. length behind ≡ size_of n) b → Takes m b m'
     → Lacks w m e ⊎ ((n : ℕ) × (st' : State) × (n < 256 ^ w) × Takes m (bytes_high_first w n) st' × Lacks (size_of n) st' e) → ⊥
 sized_there w size_of m m' e b (size, behind, fits, is, long) t (inl l) =
-    not_lacking w m e b (drop (length b) m.rest) l (omega (arith, ap length is, length-append (bytes_high_first w size) behind, length-bytes w size)) t.room t.rest
+    not_lacking w m e b (drop (length b) m.rest) l
+    (omega (arith, ap length is, length-append (bytes_high_first w size) behind, length-bytes w size)) t.room t.rest
 sized_there w size_of m m' e b (size, behind, fits, is, long) t (inr (n, st', few, u, l)) =
     let head = bytes_high_first w n in
     let after = drop (length b) m.rest in
-    let whole : m.rest ≡ bytes_high_first w size ++ (behind ++ after) = t.rest ∙ ap (λ z. z ++ after) is ∙ append_assoc (bytes_high_first w size) behind after in
+    let whole : m.rest ≡ bytes_high_first w size ++ (behind ++ after) =
+    t.rest ∙ ap (λ z. z ++ after) is ∙ append_assoc (bytes_high_first w size) behind after in
     let same : n ≡ size = (field w n size (drop (length head) m.rest) (behind ++ after) few fits (sym u.rest ∙ whole)).0 in
     let parts = took_parts m m' head behind (subst (λ l. Takes m l m') (is ∙ ap (λ k. bytes_high_first w k ++ behind) (sym same)) t) in
     let l_ : Lacks (size_of n) (after_data (length head) m) e = subst (λ (z : State). Lacks (size_of n) z e) u.moved l in
-    not_lacking (size_of n) (after_data (length head) m) e behind (drop (length behind) (drop (length head) m.rest)) l_ (omega (arith, long ∙ ap size_of (sym same))) parts.1.room parts.1.rest
+    not_lacking (size_of n) (after_data (length head) m) e behind (drop (length behind) (drop (length head) m.rest)) l_
+    (omega (arith, long ∙ ap size_of (sym same))) parts.1.room parts.1.rest
 
 announced_there : (F : Format) (m m' : State) (e : Error) (b : List ℕ) → IsAnnounced F b → Takes m b m' → LacksAnnounced F m e → ⊥
 announced_there (fixed w value) m m' e b long t l = not_lacking w m e b (drop (length b) m.rest) l (omega arith) t.room t.rest
@@ -60,12 +66,19 @@ pub record Spelling (b : List ℕ) : Type 0 where
 
 spelling : (b : List ℕ) (t : Term) → enc b t → Spelling b
 unfolding enc
-spelling b t (ds, c, few, (first, second, is, k, d)) = record { code = c; own = first; data_ = second; whole = record { descriptors = ds; few = few; constructor = k; announced = announced_data t ds c second d; is = is } }
+spelling b t (ds, c, few, (first, second, is, k, d)) =
+    record {
+      code = c;
+      own = first;
+      data_ = second;
+      whole = record { descriptors = ds; few = few; constructor = k; announced = announced_data t ds c second d; is = is };
+    }
 
 -- one list begins so in one way
 one_whole : (c c' : ℕ) (a a' d d' b b' x y : List ℕ) → Whole c a d b → Whole c' a' d' b' → b ++ x ≡ b' ++ y → b ≡ b'
 one_whole c c' a a' d d' b b' x y h k e =
-    let whole : a ++ (d ++ x) ≡ a' ++ (d' ++ y) = sym (append_assoc a d x) ∙ ap (λ l. l ++ x) (sym h.is) ∙ e ∙ ap (λ l. l ++ y) k.is ∙ append_assoc a' d' y in
+    let whole : a ++ (d ++ x) ≡ a' ++ (d' ++ y) = sym (append_assoc a d x) ∙ ap (λ l. l ++ x) (sym h.is) ∙ e ∙ ap (λ l. l ++ y) k.is
+    ∙ append_assoc a' d' y in
     let first = constructor_same h.descriptors k.descriptors c c' a a' (d ++ x) (d' ++ y) h.constructor k.constructor whole in
     let data_ = subst (λ n. IsAnnounced (format n) d) first.1.1 h.announced in
     let second = announced_once (format c') d d' x y data_ k.announced (rest a a' (d ++ x) (d' ++ y) (ap length first.0) whole) in
@@ -75,7 +88,8 @@ one_whole c c' a a' d d' b b' x y h k e =
 pub whole_front : (k c n : ℕ) (a d b : List ℕ) → Whole c a d b → IsFront (IsTerm k) b n → IsTerm k b
 whole_front k c n a d b h f =
     let s = spelling (take n b) f.spelled.0 f.spelled.1 in
-    let same : take n b ≡ b = one_whole s.code c s.own a s.data_ d (take n b) b (drop n b) [] s.whole h (take-append-drop n b ∙ sym (append-nil b)) in
+    let same : take n b ≡ b =
+    one_whole s.code c s.own a s.data_ d (take n b) b (drop n b) [] s.whole h (take-append-drop n b ∙ sym (append-nil b)) in
     subst (IsTerm k) same f.spelled
 
 refused_whole : (P : List ℕ → Type 0) (b : List ℕ) (e : Error) → Refuses P b e → P b → ⊥
@@ -85,18 +99,24 @@ not_term : (k : ℕ) (b : List ℕ) (st : State) (e : Error) → NoTerm k b st e
 not_term k b st e (wrong_size r f s) h = refused_whole (IsTerm k) b Size r h
 not_term k b st e (wrong_term r f o) h = refused_whole (IsTerm k) b e r h
 
-whole_of : (st m m' : State) (ds : List Descriptor) (c : ℕ) (d : List ℕ) (t : TakesConstructor st ds c m) → Takes m d m' → IsAnnounced (format c) d → Whole c t.own d (t.own ++ d)
+whole_of : (st m m' : State) (ds : List Descriptor) (c : ℕ) (d : List ℕ) (t : TakesConstructor st ds c m) → Takes m d m'
+    → IsAnnounced (format c) d → Whole c t.own d (t.own ++ d)
 whole_of st m m' ds c d t u h = record { descriptors = ds; few = t.few; constructor = t.spelled; announced = h; is = refl }
 
 -- where a fault stands, no term does
-pub misspelled_not : (st : State) (e : Error) (s after : List ℕ) (t : Term) → SpellingFault st e → Has st.top.left (length s) → st.rest ≡ s ++ after → enc s t → nest t ≤ st.nesting - length st.saved → ⊥
+pub misspelled_not : (st : State) (e : Error) (s after : List ℕ) (t : Term) → SpellingFault st e → Has st.top.left (length s)
+    → st.rest ≡ s ++ after → enc s t → nest t ≤ st.nesting - length st.saved → ⊥
 misspelled_not st e s after t f room is spelled nested = not f
   where
     w : Spelling s
     w = spelling s t spelled
 
     took : Takes st s (after_data (length s) st)
-    took = record { room = room; rest = is ∙ ap (λ l. s ++ l) (sym (ap (drop (length s)) is ∙ drop_at s after (length s) refl)); moved = refl }
+    took = record {
+      room = room;
+      rest = is ∙ ap (λ l. s ++ l) (sym (ap (drop (length s)) is ∙ drop_at s after (length s) refl));
+      moved = refl;
+    }
 
     parts : Takes st w.own (after_data (length w.own) st) × Takes (after_data (length w.own) st) w.data_ (after_data (length s) st)
     parts = took_parts st (after_data (length s) st) w.own w.data_ (subst (λ l. Takes st l (after_data (length s) st)) w.whole.is took)
@@ -108,17 +128,23 @@ misspelled_not st e s after t f room is spelled nested = not f
     not (no_constructor g) = constructor_not st e w.whole.descriptors w.code (after_data (length w.own) st) g constructor
     not (no_data {ds} {c} {m} k l) =
         let same = one_constructor st w.whole.descriptors ds w.code c (after_data (length w.own) st) m constructor k in
-        announced_there (format c) m (after_data (length s) st) e w.data_ (subst (λ n. IsAnnounced (format n) w.data_) same.1 w.whole.announced) (subst (λ z. Takes z w.data_ (after_data (length s) st)) same.2 parts.1) l
+        announced_there (format c) m (after_data (length s) st) e w.data_
+        (subst (λ n. IsAnnounced (format n) w.data_) same.1 w.whole.announced)
+        (subst (λ z. Takes z w.data_ (after_data (length s) st)) same.2 parts.1) l
     not (no_term {ds} {c} {m} {b} {m'} k u h bad) =
         let both = took_both st m m' k.own b k.took u in
-        let same : s ≡ k.own ++ b = one_whole w.code c w.own k.own w.data_ b s (k.own ++ b) after (drop (length (k.own ++ b)) st.rest) w.whole (whole_of st m m' ds c b k u h) (sym is ∙ both.rest) in
-        not_term (st.nesting - length st.saved) (k.own ++ b) m' e bad (subst (IsTerm (st.nesting - length st.saved)) same (t, spelled, nested))
+        let same : s ≡ k.own ++ b =
+        one_whole w.code c w.own k.own w.data_ b s (k.own ++ b) after (drop (length (k.own ++ b)) st.rest) w.whole
+        (whole_of st m m' ds c b k u h) (sym is ∙ both.rest) in
+        not_term (st.nesting - length st.saved) (k.own ++ b) m' e bad
+        (subst (IsTerm (st.nesting - length st.saved)) same (t, spelled, nested))
 
 fault_not_takes : (st : State) (e : Error) (s : List ℕ) (st' : State) → TermFault st e → TakesTerm st s st' → ⊥
 fault_not_takes st e s st' (missing none is) h = let x : 1 ≤ 0 = subst (λ o. Has o 1) none h.stands.item in omega arith
 fault_not_takes st e s st' (in_array item shared is) h = shared h.unshared
 fault_not_takes st e s st' (misspelled item none f) h =
-    let k = h.stands in misspelled_not st e s k.after h.term f k.room k.rest (subst (λ o. SpellsAs (standing o s) h.term) none k.spelled) k.nested
+    let k = h.stands in misspelled_not st e s k.after h.term f k.room k.rest
+    (subst (λ o. SpellsAs (standing o s) h.term) none k.spelled) k.nested
 
 -- the parts of a term that were kept
 record Parts (c : ℕ) (st m' : State) (l : List ℕ) : Type 0 where
@@ -131,7 +157,8 @@ record Parts (c : ℕ) (st m' : State) (l : List ℕ) : Type 0 where
   pub is : l ≡ constructor.own ++ data_
   pub nesting : m'.nesting - length m'.saved ≡ st.nesting - length st.saved
 
-parts_of : (c : ℕ) (a b l : List ℕ) (st m m' : State) → a ≡ [] → Keeps (IsConstructor c) a st b m → Keeps (IsAnnounced (format c)) b m l m' → Parts c st m' l
+parts_of : (c : ℕ) (a b l : List ℕ) (st m m' : State) → a ≡ [] → Keeps (IsConstructor c) a st b m
+    → Keeps (IsAnnounced (format c)) b m l m' → Parts c st m' l
 parts_of c a b l st m m' empty h k = record {
   descriptors = h.is.0;
   mid = m;
@@ -143,12 +170,20 @@ parts_of c a b l st m m' empty h k = record {
   nesting = ap (λ (z : State). z.nesting - length z.saved) k.took.moved ∙ ap (λ (z : State). z.nesting - length z.saved) h.took.moved;
 }
 
-pub term_kept : (c n : ℕ) (a b l : List ℕ) (st m m' new : State) → a ≡ [] → Keeps (IsConstructor c) a st b m → Keeps (IsAnnounced (format c)) b m l m' → IsFront (IsTerm (m'.nesting - length m'.saved)) l n → new ≡ m'
+pub term_kept : (c n : ℕ) (a b l : List ℕ) (st m m' new : State) → a ≡ [] → Keeps (IsConstructor c) a st b m
+    → Keeps (IsAnnounced (format c)) b m l m' → IsFront (IsTerm (m'.nesting - length m'.saved)) l n → new ≡ m'
     → Takes st l new × IsTerm (st.nesting - length st.saved) l
 term_kept c n a b l st m m' new empty h k f same =
     let p = parts_of c a b l st m m' empty h k in
     let both : Takes st (p.constructor.own ++ p.data_) m' = took_both st p.mid m' p.constructor.own p.data_ p.constructor.took p.took in
-    let w : Whole c p.constructor.own p.data_ l = record { descriptors = p.descriptors; few = p.constructor.few; constructor = p.constructor.spelled; announced = p.announced; is = p.is } in (
+    let w : Whole c p.constructor.own p.data_ l =
+    record {
+      descriptors = p.descriptors;
+      few = p.constructor.few;
+      constructor = p.constructor.spelled;
+      announced = p.announced;
+      is = p.is;
+    } in (
       subst (Takes st l) (sym same) (subst (λ z. Takes st z m') (sym p.is) both),
       subst (λ j. IsTerm j l) p.nesting (whole_front (m'.nesting - length m'.saved) c n p.constructor.own p.data_ l w f),
     )
@@ -156,18 +191,23 @@ term_kept c n a b l st m m' new empty h k f same =
 pub known_code : (c : ℕ) (b : List ℕ) → IsConstructor c b → IsKnown (format c)
 known_code c b (ds, few, h) = code_known ds c b h
 
-pub no_constructor_kept : (st : State) (e : Error) (new : State) → Stops true (ConstructorFault st) st e new → Stops true (SpellingFault st) st e new
+pub no_constructor_kept : (st : State) (e : Error) (new : State) → Stops true (ConstructorFault st) st e new
+    → Stops true (SpellingFault st) st e new
 no_constructor_kept st e new s = stopped_as (ConstructorFault st) (SpellingFault st) st e new (λ d x. no_constructor x) s
 
-pub no_data_kept : (c : ℕ) (a b : List ℕ) (st m : State) (e : Error) (new : State) → Keeps (IsConstructor c) a st b m → Stops true (LacksAnnounced (format c) m) m e new → Stops true (SpellingFault st) st e new
+pub no_data_kept : (c : ℕ) (a b : List ℕ) (st m : State) (e : Error) (new : State) → Keeps (IsConstructor c) a st b m
+    → Stops true (LacksAnnounced (format c) m) m e new → Stops true (SpellingFault st) st e new
 no_data_kept c a b st m e new h s =
     let t : TakesConstructor st h.is.0 c m = record { own = h.own; few = h.is.1; spelled = h.is.2; took = h.took } in
     stopped_later (LacksAnnounced (format c) m) (SpellingFault st) st m h.own e new h.took (λ d l. no_data t l) s
 
-pub no_term_kept : (c : ℕ) (a b l : List ℕ) (st m m' : State) (e : Error) (new : State) → a ≡ [] → Keeps (IsConstructor c) a st b m → Keeps (IsAnnounced (format c)) b m l m' → Stops false (NoTerm (m'.nesting - length m'.saved) l m') m' e new → Stops true (SpellingFault st) st e new
+pub no_term_kept : (c : ℕ) (a b l : List ℕ) (st m m' : State) (e : Error) (new : State) → a ≡ [] → Keeps (IsConstructor c) a st b m
+    → Keeps (IsAnnounced (format c)) b m l m' → Stops false (NoTerm (m'.nesting - length m'.saved) l m') m' e new
+    → Stops true (SpellingFault st) st e new
 no_term_kept c a b l st m m' e new empty h k s =
     let p = parts_of c a b l st m m' empty h k in
-    let moved = λ (x : NoTerm (m'.nesting - length m'.saved) l m' e). subst (λ j. NoTerm j (p.constructor.own ++ p.data_) m' e) p.nesting (subst (λ z. NoTerm (m'.nesting - length m'.saved) z m' e) p.is x) in
+    let moved = λ (x : NoTerm (m'.nesting - length m'.saved) l m' e). subst (λ j. NoTerm j (p.constructor.own ++ p.data_) m' e) p.nesting
+    (subst (λ z. NoTerm (m'.nesting - length m'.saved) z m' e) p.is x) in
     record {
       kept = answered_took h.took (answered_took k.took s.kept);
       why = elim s.why [ inl x ↦ inl (excused_by_source true e new x) | inr x ↦ inr (no_term p.constructor p.took p.announced (moved x)) ];
@@ -177,7 +217,8 @@ no_term_kept c a b l st m m' e new empty h k s =
 abbrev Any : {A : Type 0} → (A → List ℕ) → State → A → State → Type 0
 Any items st v st' = TakesTerm st (items v) st'
 
-term_refused : {A : Type 0} (items : A → List ℕ) (st : State) (e : Error) (new : State) → st.error ≡ None → Answers st e new → IsExcused true e new ⊎ TermFault st e → RefusesRead true (Any items) TermFault st e new
+term_refused : {A : Type 0} (items : A → List ℕ) (st : State) (e : Error) (new : State) → st.error ≡ None → Answers st e new
+    → IsExcused true e new ⊎ TermFault st e → RefusesRead true (Any items) TermFault st e new
 term_refused items st e new going kept why = record {
   kept = kept;
   again = λ d x. absurd (cc);
@@ -185,5 +226,7 @@ term_refused items st e new going kept why = record {
   none = elim why [ inl x ↦ inl x | inr x ↦ inr (λ v b h. fault_not_takes st e (items v) b x h) ];
 }
 
-pub term_misspelled : {A : Type 0} (items : A → List ℕ) (st : State) (e : Error) (new : State) → st.error ≡ None → Has st.top.items 1 → st.top.shared ≡ None → Stops true (SpellingFault st) st e new → RefusesRead true (Any items) TermFault st e new
-term_misspelled items st e new going item none s = term_refused items st e new going s.kept (elim s.why [ inl x ↦ inl x | inr x ↦ inr (misspelled item none x) ])
+pub term_misspelled : {A : Type 0} (items : A → List ℕ) (st : State) (e : Error) (new : State) → st.error ≡ None → Has st.top.items 1
+    → st.top.shared ≡ None → Stops true (SpellingFault st) st e new → RefusesRead true (Any items) TermFault st e new
+term_misspelled items st e new going item none s =
+    term_refused items st e new going s.kept (elim s.why [ inl x ↦ inl x | inr x ↦ inr (misspelled item none x) ])

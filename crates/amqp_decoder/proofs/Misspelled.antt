@@ -1,7 +1,9 @@
 -- A fault whose error says of the bytes that they are no term stands only where none stands.
-use Rattle.std.proofs.Common.{◌≡◌, ℕ, ◌+◌, Option, Some, None, List, [], ◌∷◌, ◌++◌, length, drop, unwrap_or, refl, sym, ap, ◌∙◌, subst, append_assoc, length-append}
+use Rattle.std.proofs.Common.{◌≡◌, ℕ, ◌+◌, Option, Some, None, List, [], ◌∷◌, ◌++◌, length, drop, unwrap_or, refl, sym, ap, ◌∙◌, subst}
+use Rattle.std.proofs.Common.{append_assoc, length-append}
 use Rattle.std.proofs.lemmas.List.{drop_at}
-use Rattle.amqp_model.specs.Term.{Refusal, Primitive, list, map, array, Container, Term, Terms, leaf, container, described, kept, barred, Descriptor}
+use Rattle.amqp_model.specs.Term.{Refusal, Primitive, list, map, array, Container, Term, Terms, leaf, container, described, kept, barred}
+use Rattle.amqp_model.specs.Term.{Descriptor}
 use Rattle.amqp_model.specs.Constructors.{Format, fixed, variable, compound, unknown, format}
 use Rattle.amqp_model.specs.Spelling.{PrimitiveData, IsKnown, data_of, enc}
 use Rattle.amqp_model.proofs.Forms.{primitive_known}
@@ -13,10 +15,12 @@ use Rattle.amqp_input.proofs.KindsOfCodes.{kind_data}
 use Rattle.amqp_decoder.specs.declared.frame.OpenKind.{OpenKind}
 use Rattle.amqp_decoder.specs.State.{State, Has, after_value}
 use Rattle.amqp_decoder.specs.Reading.{IsFirst, ReadsCode, BeginFault}
-use Rattle.amqp_decoder.specs.Primitives.{standing, SpellsAs, Stands, ReadsValue, Means, PrimitiveFault, not_begun, wrong_code, no_data, bad_data}
+use Rattle.amqp_decoder.specs.Primitives.{standing, SpellsAs, Stands, ReadsValue, Means, PrimitiveFault, not_begun, wrong_code, no_data}
+use Rattle.amqp_decoder.specs.Primitives.{bad_data}
 use Rattle.amqp_decoder.specs.Containers.{EndFault, other_place, nothing_open, items_left, OpenFault}
 use Rattle.amqp_decoder.specs.Containers as containers
-use Rattle.amqp_decoder.specs.Described.{OpensDescribed, DescribedFault, not_open, nameless, OneOfFault, not_described, no_descriptor, no_member}
+use Rattle.amqp_decoder.specs.Described.{OpensDescribed, DescribedFault, not_open, nameless, OneOfFault, not_described, no_descriptor}
+use Rattle.amqp_decoder.specs.Described.{no_member}
 use Rattle.amqp_decoder.specs.Described as described
 use Rattle.amqp_decoder.specs.Arrays.{ArrayFault}
 use Rattle.amqp_decoder.specs.Arrays as arrays
@@ -77,7 +81,14 @@ first_of o (leaf p) s h =
     record { code = f.code; own = f.own; others = f.data_; whole = f.whole; first = f.first; under = (f.data_, f.spelled) }
 first_of o (container kind us) s h =
     let f = front_of o (container kind us) s (container_bare kind us) h in
-    record { code = f.code; own = f.own; others = f.data_; whole = f.whole; first = f.first; under = container_under kind us f.code f.data_ f.spelled }
+    record {
+      code = f.code;
+      own = f.own;
+      others = f.data_;
+      whole = f.whole;
+      first = f.first;
+      under = container_under kind us f.code f.data_ f.spelled;
+    }
 first_of o (described d t) s h =
     let f = described_split o s d t h in
     record { code = 0; own = f.0; others = f.1 ++ f.2; whole = f.5; first = f.3; under = refl }
@@ -124,7 +135,8 @@ not_under c (described d t) some none e = some e
 not_under c (kept l) some none h = h
 not_under c (barred r) some none h = h
 
-pub code_misspelled : (st : State) (c : ℕ) (m : State) (e : Error) → ReadsCode st c m → IsMisspelling e → e ≡ refusal_of c → NothingStands st
+pub code_misspelled : (st : State) (c : ℕ) (m : State) (e : Error) → ReadsCode st c m → IsMisspelling e
+    → e ≡ refusal_of c → NothingStands st
 code_misspelled st c m e g h is = λ s t k.
     let r = refusal_misspelled c (subst IsMisspelling is h) in not_under c t r.0 r.1 (term_under st c m s t g k)
 
@@ -145,7 +157,8 @@ leaf_under c k (barred r) is h = absurd h
 data_misspelled : (k c : ℕ) (st m : State) (e : Error) → ReadsCode st c m → kind_at c ≡ Some k → PrimitiveFault k st e → NothingStands st
 data_misspelled k c st m e g kind f = λ s t x.
     let y = leaf_under c k t kind (term_under st c m s t g x) in
-    let v : ReadsValue (Means (λ p. p)) st y.0 (after_value (length s) st) = record { bytes = s; term = t; stands = x; moved = refl; meant = y.1 } in
+    let v : ReadsValue (Means (λ p. p)) st y.0 (after_value (length s) st) =
+    record { bytes = s; term = t; stands = x; moved = refl; meant = y.1 } in
     fault_not_leaf k st e y.0 (after_value (length s) st) y.2 f (value_leaf (λ p. p) st y.0 (after_value (length s) st) v)
 
 pub primitive_misspelled : (k : ℕ) (st : State) (e : Error) → IsMisspelling e → PrimitiveFault k st e → NothingStands st

@@ -3,27 +3,34 @@ use Rattle.std.proofs.Common.{◌≡◌, inl, inr, ℕ, ◌-◌, Bool, true, fal
 use Rattle.amqp_model.specs.Term.{Container}
 use Rattle.amqp_model.specs.Constructors.{Format, fixed, variable, compound, unknown, format}
 use Rattle.amqp_wire.specs.Codes.{is_known, refusal_of}
-use Rattle.amqp_wire.specs.declared.error.Error.TheVariants.{Memory, UnknownCode, FloatCode, WrongType, BadBool, BadChar, BadUtf8, NonAscii, InvalidValue}
+use Rattle.amqp_wire.specs.declared.error.Error.TheVariants.{Memory, UnknownCode, FloatCode, WrongType, BadBool, BadChar, BadUtf8, NonAscii}
+use Rattle.amqp_wire.specs.declared.error.Error.TheVariants.{InvalidValue}
 use Rattle.amqp_decoder.specs.declared.frame.OpenKind.{OpenKind}
 use Rattle.amqp_decoder.specs.declared.frame.OpenKind.TheVariants.{InArray}
 use Rattle.amqp_decoder.specs.State.{State, in_container}
 use Rattle.amqp_decoder.specs.Steps.{Lacks, cut_open, cut_inside, too_long, SizeError, cut, wrong}
 use Rattle.amqp_decoder.specs.Reading.{BeginFault, missing, no_code}
 use Rattle.amqp_decoder.specs.Primitives.{LacksData, PrimitiveFault, not_begun, wrong_code, no_data, bad_data}
-use Rattle.amqp_decoder.specs.Containers.{EndFault, other_place, nothing_open, items_left, CloseFault, not_at_end, bytes_left_over, HeaderFault, no_size, impossible, no_count, no_content, EnterFault, no_header, odd_count, no_room, too_deep, OpenFault}
+use Rattle.amqp_decoder.specs.Containers.{EndFault, other_place, nothing_open, items_left, CloseFault, not_at_end, bytes_left_over}
+use Rattle.amqp_decoder.specs.Containers.{HeaderFault, no_size, impossible, no_count, no_content, EnterFault, no_header, odd_count, no_room}
+use Rattle.amqp_decoder.specs.Containers.{too_deep, OpenFault}
 use Rattle.amqp_decoder.specs.Containers as containers
 use Rattle.amqp_input.specs.Members.{Member}
-use Rattle.amqp_decoder.specs.Described.{other_kind, DescribedFault, DescriptorFault, no_kind, non_ascii, OneOfFault, not_described, no_descriptor, no_member}
+use Rattle.amqp_decoder.specs.Described.{other_kind, DescribedFault, DescriptorFault, no_kind, non_ascii, OneOfFault, not_described}
+use Rattle.amqp_decoder.specs.Described.{no_descriptor, no_member}
 use Rattle.amqp_decoder.specs.Described as described
 use Rattle.amqp_decoder.specs.Described.{not_open, nameless}
 use Rattle.amqp_decoder.specs.Arrays as arrays
-use Rattle.amqp_decoder.specs.Arrays.{ConstructorFault, no_mark, too_many, no_known_code, SharesFault, no_constructor, zero_width, too_nested, EnterArrayFault, no_start, ArrayFault}
+use Rattle.amqp_decoder.specs.Arrays.{ConstructorFault, no_mark, too_many, no_known_code, SharesFault, no_constructor, zero_width}
+use Rattle.amqp_decoder.specs.Arrays.{too_nested, EnterArrayFault, no_start, ArrayFault}
 use Rattle.amqp_decoder.specs.Terms as terms
-use Rattle.amqp_decoder.specs.Terms.{LacksAnnounced, NoTerm, wrong_size, wrong_term, SpellingFault, no_term, TermFault, in_array, misspelled}
+use Rattle.amqp_decoder.specs.Terms.{LacksAnnounced, NoTerm, wrong_size, wrong_term, SpellingFault, no_term, TermFault, in_array}
+use Rattle.amqp_decoder.specs.Terms.{misspelled}
 use Rattle.amqp_lengths.specs.Announced.{content_size}
 use Rattle.amqp_decoder.proofs.TermErrors.{term_error}
 
-refusal_by : (a b d k : Bool) (c : ℕ) → Memory ≡ cond a (FloatCode c) (cond b (FloatCode c) (cond d (WrongType c) (cond k (WrongType c) (UnknownCode c)))) → ⊥
+refusal_by : (a b d k : Bool) (c : ℕ)
+    → Memory ≡ cond a (FloatCode c) (cond b (FloatCode c) (cond d (WrongType c) (cond k (WrongType c) (UnknownCode c)))) → ⊥
 refusal_by true b d k c h = cc
 refusal_by false true d k c h = cc
 refusal_by false false true k c h = cc
@@ -33,7 +40,8 @@ refusal_by false false false false c h = cc
 pub refusal_not_memory : (c : ℕ) → Memory ≡ refusal_of c → ⊥
 refusal_not_memory c h = refusal_by (eqb c 0x72) (eqb c 0x82) (eqb c 0) (is_known (format c)) c h
 
-kind_by : (a b d k : Bool) (c : ℕ) → Memory ≡ other_kind (cond a (FloatCode c) (cond b (FloatCode c) (cond d (WrongType c) (cond k (WrongType c) (UnknownCode c))))) → ⊥
+kind_by : (a b d k : Bool) (c : ℕ)
+    → Memory ≡ other_kind (cond a (FloatCode c) (cond b (FloatCode c) (cond d (WrongType c) (cond k (WrongType c) (UnknownCode c))))) → ⊥
 kind_by true b d k c h = cc
 kind_by false true d k c h = cc
 kind_by false false true k c h = cc

@@ -1,5 +1,6 @@
 -- Where no term stands in what was opened, none stands around it.
-use Rattle.std.proofs.Common.{◌≡◌, ◌<◌, ℕ, suc, ◌+◌, Option, Some, None, List, [], ◌∷◌, length, length-append, refl, sym, ap, ◌∙◌, subst, arith}
+use Rattle.std.proofs.Common.{◌≡◌, ◌<◌, ℕ, suc, ◌+◌, Option, Some, None, List, [], ◌∷◌, length, length-append, refl, sym, ap, ◌∙◌, subst}
+use Rattle.std.proofs.Common.{arith}
 use Rattle.amqp_model.specs.Term.{Container, array, Term, container, described, Descriptor}
 use Rattle.amqp_model.specs.Items.{items_of}
 use Rattle.amqp_wire.specs.declared.error.Error.{Error}
@@ -133,7 +134,8 @@ pub nothing_in_array : (st : State) (n : ℕ) (first mid : State) (ts : List Ter
 nothing_in_array st n first mid ts b room o row less none =
     held_nothing InArray st n first mid ts b (opens_array_holding st n first room o) row less none
 
-pub nothing_at_array_end : (place : OpenKind) (st : State) (n : ℕ) (first last : State) (ts : List Term) (b : List ℕ) (e : Error) → HasRoom st
+pub nothing_at_array_end : (place : OpenKind) (st : State) (n : ℕ) (first last : State) (ts : List Term) (b : List ℕ) (e : Error)
+    → HasRoom st
     → OpensArray st n first → Row first ts b last → IsMisspelling e → CloseFault place last e → NothingStands st
 nothing_at_array_end place st n first last ts b e room o row bad f =
     held_end InArray place st n first last ts b e (opens_array_holding st n first room o) row f bad

@@ -1,5 +1,6 @@
 -- How an array is begun: a code, a size, a count, and the constructor that its items share.
-use Rattle.std.proofs.Common.{◌≡◌, ◌≤◌, ◌<◌, ℕ, ◌⊎◌, inl, inr, Bool, true, false, ◌↔◌, IsTrue, Some, None, Result, Ok, Err, IfOk, IfErr, List, length, max, refl, sym, ap, ◌∙◌, subst, arith}
+use Rattle.std.proofs.Common.{◌≡◌, ◌≤◌, ◌<◌, ℕ, ◌⊎◌, inl, inr, Bool, true, false, ◌↔◌, IsTrue, Some, None, Result, Ok, Err, IfOk, IfErr}
+use Rattle.std.proofs.Common.{List, length, max, refl, sym, ap, ◌∙◌, subst, arith}
 use Rattle.amqp_model.specs.Term.{Descriptor, array}
 use Rattle.amqp_model.specs.Constructors.{compound, format}
 use Rattle.amqp_model.specs.Spelling.{IsKnown, HasWidthZero}
@@ -12,7 +13,9 @@ use Rattle.amqp_decoder.specs.State.{State, Has, in_container}
 use Rattle.amqp_decoder.specs.Steps.{Answers, IsExcused, NoRoom, Stops}
 use Rattle.amqp_decoder.specs.Reading.{RefusesRead, AnswersRead, ReadsCode, BeginFault}
 use Rattle.amqp_decoder.specs.Containers.{ReadsHeader, HeaderFault}
-use Rattle.amqp_decoder.specs.Arrays.{TakesConstructor, ConstructorFault, IsFlat, Shares, no_items, shared_by, SharesFault, no_constructor, zero_width, too_nested, Starts, EntersArray, EnterArrayFault, no_header, no_room, too_deep, no_start, OpensArray, ArrayFault, not_begun, wrong_code, no_data}
+use Rattle.amqp_decoder.specs.Arrays.{TakesConstructor, ConstructorFault, IsFlat, Shares, no_items, shared_by, SharesFault, no_constructor}
+use Rattle.amqp_decoder.specs.Arrays.{zero_width, too_nested, Starts, EntersArray, EnterArrayFault, no_header, no_room, too_deep, no_start}
+use Rattle.amqp_decoder.specs.Arrays.{OpensArray, ArrayFault, not_begun, wrong_code, no_data}
 use Rattle.amqp_decoder.proofs.ReadPrimitives.{begun_same, fault_not_begun}
 use Rattle.amqp_decoder.proofs.Steps.{answered, answered_begun, answered_later, answered_took, excused_by_source}
 use Rattle.amqp_decoder.proofs.Opening.{header_same, header_not_faulty, one_width}
@@ -21,41 +24,57 @@ use Rattle.amqp_decoder.proofs.Constructed.{code_known, constructor_not, one_con
 known : (st : State) (ds : List Descriptor) (c : ℕ) (m : State) → TakesConstructor st ds c m → IsKnown (format c)
 known st ds c m t = code_known ds c t.own t.spelled
 
-fits_behind : (st : State) (ds : List Descriptor) (c : ℕ) (m : State) (flat : Bool) → TakesConstructor st ds c m → (IsKnown (format c) → IsTrue flat ↔ IsFlat ds (format c)) → (flat ≡ true) ⊎ (length m.saved ≤ m.nesting) → IsFlat ds (format c) ⊎ (length st.saved ≤ st.nesting)
+fits_behind : (st : State) (ds : List Descriptor) (c : ℕ) (m : State) (flat : Bool) → TakesConstructor st ds c m
+    → (IsKnown (format c) → IsTrue flat ↔ IsFlat ds (format c)) → (flat ≡ true) ⊎ (length m.saved ≤ m.nesting)
+    → IsFlat ds (format c) ⊎ (length st.saved ≤ st.nesting)
 fits_behind st ds c m flat t is (inl x) = inl ((is (known st ds c m t)).0 x)
 fits_behind st ds c m flat t is (inr x) = inr (subst (λ (z : State). length z.saved ≤ z.nesting) t.took.moved x)
 
-pub shares_all : (n : ℕ) (st : State) (ds : List Descriptor) (c : ℕ) (m m' : State) (new : State) (zero flat : Bool) → (n ≡ 0 → ⊥) → st.top.place ≡ InArray → TakesConstructor st ds c m → zero ≡ false → (IsKnown (format c) → IsTrue zero ↔ HasWidthZero (format c)) → (IsKnown (format c) → IsTrue flat ↔ IsFlat ds (format c))
-    → ((flat ≡ true) ⊎ (length m.saved ≤ m.nesting)) × (m' ≡ m) → new ≡ record m' { top = record m'.top { place = InArray; items = Some n; shared = Some (ds, c) } } → Shares n st new
+pub shares_all : (n : ℕ) (st : State) (ds : List Descriptor) (c : ℕ) (m m' : State) (new : State) (zero flat : Bool) → (n ≡ 0 → ⊥)
+    → st.top.place ≡ InArray → TakesConstructor st ds c m → zero ≡ false → (IsKnown (format c) → IsTrue zero ↔ HasWidthZero (format c))
+    → (IsKnown (format c) → IsTrue flat ↔ IsFlat ds (format c))
+    → ((flat ≡ true) ⊎ (length m.saved ≤ m.nesting)) × (m' ≡ m)
+    → new ≡ record m' { top = record m'.top { place = InArray; items = Some n; shared = Some (ds, c) } } → Shares n st new
 shares_all n st ds c m m' new zero flat some here t wide zero_is flat_is (fits, same) is =
     shared_by ds c m some t (λ z. let x = (zero_is (known st ds c m t)).1 z in absurd (cc)) (fits_behind st ds c m flat t flat_is fits)
     (is ∙ ap (λ (z : State). record z { top = record z.top { place = InArray; items = Some n; shared = Some (ds, c) } }) same
-    ∙ ap (λ (p : OpenKind). record m { top = record m.top { place = p; items = Some n; shared = Some (ds, c) } }) (sym (ap (λ (z : State). z.top.place) t.took.moved ∙ here)))
+    ∙ ap (λ (p : OpenKind). record m { top = record m.top { place = p; items = Some n; shared = Some (ds, c) } })
+    (sym (ap (λ (z : State). z.top.place) t.took.moved ∙ here)))
 
-pub stopped_unconstructed : (n : ℕ) (st : State) (e : Error) (new : State) → Stops true (ConstructorFault st) st e new → Stops true (SharesFault n st) st e new
+pub stopped_unconstructed : (n : ℕ) (st : State) (e : Error) (new : State) → Stops true (ConstructorFault st) st e new
+    → Stops true (SharesFault n st) st e new
 stopped_unconstructed n st e new s = record { kept = s.kept; why = elim s.why [ inl x ↦ inl x | inr x ↦ inr (no_constructor x) ] }
 
-pub stopped_zero : (n : ℕ) (st : State) (ds : List Descriptor) (c : ℕ) (m : State) (zero : Bool) (e : Error) (new : State) → (n ≡ 0 → ⊥) → TakesConstructor st ds c m → zero ≡ true → (IsKnown (format c) → IsTrue zero ↔ HasWidthZero (format c)) → e ≡ ZeroWidthItems → Answers m e new → Stops true (SharesFault n st) st e new
-stopped_zero n st ds c m zero e new some t wide zero_is is kept = record { kept = answered_took t.took kept; why = inr (zero_width ds c m some t ((zero_is (known st ds c m t)).0 wide) is) }
+pub stopped_zero : (n : ℕ) (st : State) (ds : List Descriptor) (c : ℕ) (m : State) (zero : Bool) (e : Error) (new : State) → (n ≡ 0 → ⊥)
+    → TakesConstructor st ds c m → zero ≡ true → (IsKnown (format c) → IsTrue zero ↔ HasWidthZero (format c)) → e ≡ ZeroWidthItems
+    → Answers m e new → Stops true (SharesFault n st) st e new
+stopped_zero n st ds c m zero e new some t wide zero_is is kept =
+    record { kept = answered_took t.took kept; why = inr (zero_width ds c m some t ((zero_is (known st ds c m t)).0 wide) is) }
 
-pub stopped_nested : (n : ℕ) (st : State) (ds : List Descriptor) (c : ℕ) (m : State) (flat : Bool) (e : Error) (new : State) → (n ≡ 0 → ⊥) → TakesConstructor st ds c m → (IsKnown (format c) → IsTrue flat ↔ IsFlat ds (format c))
-    → (flat ≡ false) × (e ≡ Depth) × (m.nesting < length m.saved) × (new ≡ record m { error = Some Depth }) → Stops true (SharesFault n st) st e new
+pub stopped_nested : (n : ℕ) (st : State) (ds : List Descriptor) (c : ℕ) (m : State) (flat : Bool) (e : Error) (new : State) → (n ≡ 0 → ⊥)
+    → TakesConstructor st ds c m → (IsKnown (format c) → IsTrue flat ↔ IsFlat ds (format c))
+    → (flat ≡ false) × (e ≡ Depth) × (m.nesting < length m.saved) × (new ≡ record m { error = Some Depth })
+    → Stops true (SharesFault n st) st e new
 stopped_nested n st ds c m flat e new some t flat_is (not_flat, is, deep, kept) = record {
   kept = answered_took t.took (answered m new e Depth kept is);
-  why = inr (too_nested ds c m some t (λ f. let x = (flat_is (known st ds c m t)).1 f in absurd (cc)) (subst (λ (z : State). z.nesting < length z.saved) t.took.moved deep) is);
+  why = inr (too_nested ds c m some t (λ f. let x = (flat_is (known st ds c m t)).1 f in
+      absurd (cc)) (subst (λ (z : State). z.nesting < length z.saved) t.took.moved deep) is);
 }
 
-pub stopped_memory : (n : ℕ) (st : State) (ds : List Descriptor) (c : ℕ) (m : State) (e : Error) (new : State) → TakesConstructor st ds c m → (e ≡ Memory) × Answers m e new → Stops true (SharesFault n st) st e new
+pub stopped_memory : (n : ℕ) (st : State) (ds : List Descriptor) (c : ℕ) (m : State) (e : Error) (new : State) → TakesConstructor st ds c m
+    → (e ≡ Memory) × Answers m e new → Stops true (SharesFault n st) st e new
 stopped_memory n st ds c m e new t (is, kept) = record { kept = answered_took t.took kept; why = inl (inl (refl, is)) }
 
 shares_not : (n : ℕ) (st : State) (e : Error) (st' : State) → SharesFault n st e → Shares n st st' → ⊥
 shares_not n st e st' (no_constructor f) (no_items ds c none t) = constructor_not st e ds c st' f t
 shares_not n st e st' (no_constructor f) (shared_by ds c m some t wide fits is) = constructor_not st e ds c m f t
 shares_not n st e st' (zero_width ds c m some t z is) (no_items es k none u) = some none
-shares_not n st e st' (zero_width ds c m some t z is) (shared_by es k m' more u wide fits same) = wide (subst (λ j. HasWidthZero (format j)) (one_constructor st ds es c k m m' t u).1 z)
+shares_not n st e st' (zero_width ds c m some t z is) (shared_by es k m' more u wide fits same) =
+    wide (subst (λ j. HasWidthZero (format j)) (one_constructor st ds es c k m m' t u).1 z)
 shares_not n st e st' (too_nested ds c m some t uneven deep is) (no_items es k none u) = some none
 shares_not n st e st' (too_nested ds c m some t uneven deep is) (shared_by es k m' more u wide (inl flat) same) =
-    let s = one_constructor st ds es c k m m' t u in uneven (subst (λ j. IsFlat ds (format j)) (sym s.1) (subst (λ l. IsFlat l (format k)) (sym s.0) flat))
+    let s = one_constructor st ds es c k m m' t u in
+    uneven (subst (λ j. IsFlat ds (format j)) (sym s.1) (subst (λ l. IsFlat l (format k)) (sym s.0) flat))
 shares_not n st e st' (too_nested ds c m some t uneven deep is) (shared_by es k m' more u wide (inr few) same) = omega arith
 
 starts_not : (n k : ℕ) (st : State) (e : Error) (st' : State) → 0 < max n k → SharesFault n st e → Starts n k st st' → ⊥
@@ -71,17 +90,21 @@ enters_not w st n st' e (too_deep i k m h deep is) d = let few = d.few in omega 
 enters_not w st n st' e (no_start i k m h some f) d =
     let s = header_same false w st n d.content i k d.mid m d.header h in
     starts_not i k (in_container InArray 0 k m) e st' some f
-    (subst (λ z. Starts i k (in_container InArray 0 k z) st') s.2 (subst (λ z. Starts i z (in_container InArray 0 z d.mid) st') s.1 (subst (λ z. Starts z d.content (in_container InArray 0 d.content d.mid) st') s.0 d.starts)))
+    (subst (λ z. Starts i k (in_container InArray 0 k z) st') s.2
+    (subst (λ z. Starts i z (in_container InArray 0 z d.mid) st') s.1
+    (subst (λ z. Starts z d.content (in_container InArray 0 d.content d.mid) st') s.0 d.starts)))
 
 pub arrays_not : (st : State) (n : ℕ) (st' : State) (e : Error) → ArrayFault st e → OpensArray st n st' → ⊥
 arrays_not st n st' e (not_begun f) o = fault_not_begun st e o.code o.mid f o.begun
-arrays_not st n st' e (wrong_code c m g never is) o = let s = begun_same st c o.code m o.mid g o.begun in never o.width (ap format s.0 ∙ o.announced)
+arrays_not st n st' e (wrong_code c m g never is) o = let s = begun_same st c o.code m o.mid g o.begun in
+    never o.width (ap format s.0 ∙ o.announced)
 arrays_not st n st' e (no_data c w m g f fault) o =
     let s = begun_same st c o.code m o.mid g o.begun in
     let same : w ≡ o.width = one_width (format o.code) array w o.width (ap format (sym s.0) ∙ f) o.announced in
     enters_not o.width o.mid n st' e (subst (λ z. EnterArrayFault o.width z e) s.1 (subst (λ z. EnterArrayFault z m e) same fault)) o.data_
 
-array_refused : (st : State) (e : Error) (new : State) → st.error ≡ None → Answers st e new → IsExcused true e new ⊎ ArrayFault st e → RefusesRead true OpensArray ArrayFault st e new
+array_refused : (st : State) (e : Error) (new : State) → st.error ≡ None → Answers st e new → IsExcused true e new ⊎ ArrayFault st e
+    → RefusesRead true OpensArray ArrayFault st e new
 array_refused st e new going kept why = record {
   kept = kept;
   again = λ d x. absurd (cc);
@@ -89,7 +112,8 @@ array_refused st e new going kept why = record {
   none = elim why [ inl x ↦ inl x | inr x ↦ inr (λ n b o. arrays_not st n b e x o) ];
 }
 
-pub array_unbegun : (st : State) (e : Error) (new : State) → RefusesRead false ReadsCode BeginFault st e new → RefusesRead true OpensArray ArrayFault st e new
+pub array_unbegun : (st : State) (e : Error) (new : State) → RefusesRead false ReadsCode BeginFault st e new
+    → RefusesRead true OpensArray ArrayFault st e new
 array_unbegun st e new r = record {
   kept = r.kept;
   again = r.again;
@@ -97,34 +121,61 @@ array_unbegun st e new r = record {
   none = elim r.none [ inl x ↦ inl (excused_by_source true e new x) | inr f ↦ inr (λ n b o. f o.code o.mid o.begun) ];
 }
 
-pub array_other : (st : State) (c : ℕ) (m : State) (e : Error) (new : State) → ReadsCode st c m → ((w : ℕ) → format c ≡ compound array w → ⊥) → e ≡ refusal_of c → Answers m e new → RefusesRead true OpensArray ArrayFault st e new
+pub array_other : (st : State) (c : ℕ) (m : State) (e : Error) (new : State) → ReadsCode st c m
+    → ((w : ℕ) → format c ≡ compound array w → ⊥) → e ≡ refusal_of c → Answers m e new → RefusesRead true OpensArray ArrayFault st e new
 array_other st c m e new g never is kept = array_refused st e new g.going (answered_begun g kept) (inr (wrong_code c m g never is))
 
-pub reads_array : (c w : ℕ) (st m new : State) (r : Result ℕ Error) → ReadsCode st c m → format c ≡ compound array w → IfOk r (λ n. EntersArray w m n new) → IfErr r (λ e. Stops true (EnterArrayFault w m) m e new) → AnswersRead true OpensArray ArrayFault st r new
+pub reads_array : (c w : ℕ) (st m new : State) (r : Result ℕ Error) → ReadsCode st c m → format c ≡ compound array w
+    → IfOk r (λ n. EntersArray w m n new) → IfErr r (λ e. Stops true (EnterArrayFault w m) m e new)
+    → AnswersRead true OpensArray ArrayFault st r new
 reads_array c w st m new (Ok n) g f d h = record { code = c; width = w; mid = m; begun = g; announced = f; data_ = d }
-reads_array c w st m new (Err e) g f d h = array_refused st e new g.going (answered_begun g h.kept) (elim h.why [ inl x ↦ inl x | inr x ↦ inr (no_data c w m g f x) ])
+reads_array c w st m new (Err e) g f d h =
+    array_refused st e new g.going (answered_begun g h.kept) (elim h.why [ inl x ↦ inl x | inr x ↦ inr (no_data c w m g f x) ])
 
 -- the steps behind the code
-pub stopped_header : (w : ℕ) (st : State) (e : Error) (new : State) → Stops false (HeaderFault false w st) st e new → Stops true (EnterArrayFault w st) st e new
-stopped_header w st e new s = record { kept = s.kept; why = elim s.why [ inl x ↦ inl (excused_by_source true e new x) | inr x ↦ inr (no_header x) ] }
+pub stopped_header : (w : ℕ) (st : State) (e : Error) (new : State) → Stops false (HeaderFault false w st) st e new
+    → Stops true (EnterArrayFault w st) st e new
+stopped_header w st e new s =
+    record { kept = s.kept; why = elim s.why [ inl x ↦ inl (excused_by_source true e new x) | inr x ↦ inr (no_header x) ] }
 
-pub stopped_open : (w n k : ℕ) (st m : State) (e : Error) (new : State) → ReadsHeader false w st n k m → Stops false (λ e. NoRoom k m e ⊎ ((m.nesting < length m.saved) × (e ≡ Depth))) m e new → Stops true (EnterArrayFault w st) st e new
+pub stopped_open : (w n k : ℕ) (st m : State) (e : Error) (new : State) → ReadsHeader false w st n k m
+    → Stops false (λ e. NoRoom k m e ⊎ ((m.nesting < length m.saved) × (e ≡ Depth))) m e new → Stops true (EnterArrayFault w st) st e new
 stopped_open w n k st m e new h s = record {
   kept = answered_took h.took s.kept;
   why = elim s.why [
     | inl x ↦ inl (excused_by_source true e new x)
-    | inr x ↦ elim x [ inl y ↦ inr (no_room n k m h y) | inr y ↦ inr (too_deep n k m h (subst (λ (z : State). z.nesting < length z.saved) h.took.moved y.0) y.1) ]
+    | inr x ↦ elim x [
+      | inl y ↦ inr (no_room n k m h y)
+      | inr y ↦ inr (too_deep n k m h (subst (λ (z : State). z.nesting < length z.saved) h.took.moved y.0) y.1)
+    ]
   ];
 }
 
-pub stopped_start : (w n k : ℕ) (st m m' : State) (e : Error) (new : State) → ReadsHeader false w st n k m → 0 < max n k → m' ≡ in_container InArray 0 k m → Stops true (SharesFault n m') m' e new → Stops true (EnterArrayFault w st) st e new
-stopped_start w n k st m m' e new h some is s = record { kept = answered_took h.took (answered_later (ap (λ (z : State). z.failed) is) s.kept); why = elim s.why [ inl x ↦ inl x | inr x ↦ inr (no_start n k m h some (subst (λ z. SharesFault n z e) is x)) ] }
+pub stopped_start : (w n k : ℕ) (st m m' : State) (e : Error) (new : State) → ReadsHeader false w st n k m → 0 < max n k
+    → m' ≡ in_container InArray 0 k m → Stops true (SharesFault n m') m' e new → Stops true (EnterArrayFault w st) st e new
+stopped_start w n k st m m' e new h some is s =
+    record {
+      kept = answered_took h.took (answered_later (ap (λ (z : State). z.failed) is) s.kept);
+      why = elim s.why [ inl x ↦ inl x | inr x ↦ inr (no_start n k m h some (subst (λ z. SharesFault n z e) is x)) ];
+    }
 
 entered_few : (w n k : ℕ) (st m : State) → ReadsHeader false w st n k m → length m.saved ≤ m.nesting → length st.saved ≤ st.nesting
 entered_few w n k st m h few = subst (λ (z : State). length z.saved ≤ z.nesting) h.took.moved few
 
-pub enters_none : (w n k : ℕ) (st m m' : State) → ReadsHeader false w st n k m → Has m.top.left k × (length m.saved ≤ m.nesting) × (m' ≡ in_container InArray 0 k m) → max n k ≡ 0 → EntersArray w st n m'
-enters_none w n k st m m' h (room, few, is) none = record { content = k; mid = m; header = h; room = room; few = entered_few w n k st m h few; starts = inl (none, is) }
+pub enters_none : (w n k : ℕ) (st m m' : State) → ReadsHeader false w st n k m → Has m.top.left k × (length m.saved ≤ m.nesting)
+    × (m' ≡ in_container InArray 0 k m) → max n k ≡ 0 → EntersArray w st n m'
+enters_none w n k st m m' h (room, few, is) none =
+    record { content = k; mid = m; header = h; room = room; few = entered_few w n k st m h few; starts = inl (none, is) }
 
-pub enters_all : (w n k : ℕ) (st m m' : State) (new : State) → ReadsHeader false w st n k m → Has m.top.left k × (length m.saved ≤ m.nesting) × (m' ≡ in_container InArray 0 k m) → 0 < max n k → Shares n m' new → EntersArray w st n new
-enters_all w n k st m m' new h (room, few, is) some s = record { content = k; mid = m; header = h; room = room; few = entered_few w n k st m h few; starts = inr (some, subst (λ z. Shares n z new) is s) }
+pub enters_all : (w n k : ℕ) (st m m' : State) (new : State) → ReadsHeader false w st n k m
+    → Has m.top.left k × (length m.saved ≤ m.nesting) × (m' ≡ in_container InArray 0 k m) → 0 < max n k → Shares n m' new
+    → EntersArray w st n new
+enters_all w n k st m m' new h (room, few, is) some s =
+    record {
+      content = k;
+      mid = m;
+      header = h;
+      room = room;
+      few = entered_few w n k st m h few;
+      starts = inr (some, subst (λ z. Shares n z new) is s);
+    }

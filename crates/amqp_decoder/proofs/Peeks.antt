@@ -1,5 +1,6 @@
 -- What a look at the next value's first code finds.
-use Rattle.std.proofs.Common.{◌≡◌, ◌≤◌, ◌<◌, ℕ, zero, suc, ◌-◌, inl, inr, false, Option, Some, None, is_some, MatchOption, List, [], ◌∷◌, length, take, drop, get_or, slice_get, length-append, ◌↔◌, min, max, refl, sym, ap, ◌∙◌, subst, arith}
+use Rattle.std.proofs.Common.{◌≡◌, ◌≤◌, ◌<◌, ℕ, zero, suc, ◌-◌, inl, inr, false, Option, Some, None, is_some, MatchOption, List, [], ◌∷◌}
+use Rattle.std.proofs.Common.{length, take, drop, get_or, slice_get, length-append, ◌↔◌, min, max, refl, sym, ap, ◌∙◌, subst, arith}
 use Rattle.std.proofs.lemmas.List.{length-take}
 use Rattle.std.proofs.lemmas.Option.{get_or_from_slice_get}
 use Rattle.amqp_model.specs.Term.{Descriptor, Term}
@@ -28,14 +29,21 @@ first_is (suc n) c row [] is at = let e : Some c ≡ None = at ∙ ap (λ l. sli
 first_is (suc n) c row (x ∷ r) is at = ap (λ b. b ∷ r) (sym (ap (λ l. get_or l 0 0) is) ∙ get_or_from_slice_get row 0 c 0 (sym at))
 
 -- a byte stands there, and is looked at
-pub peeked_own : (st : State) (c : ℕ) (new : State) (row : List ℕ) → st.error ≡ None → Has st.top.items 1 → st.top.shared ≡ None → Has st.top.left 1 → new ≡ after_look (min 1 (length st.rest)) st → row ≡ take new.ahead new.rest → Some c ≡ slice_get row 0 → PeeksCode st c new
+pub peeked_own : (st : State) (c : ℕ) (new : State) (row : List ℕ) → st.error ≡ None → Has st.top.items 1 → st.top.shared ≡ None
+    → Has st.top.left 1 → new ≡ after_look (min 1 (length st.rest)) st → row ≡ take new.ahead new.rest
+    → Some c ≡ slice_get row 0 → PeeksCode st c new
 peeked_own st c new row going item none room is front at =
     let byte : st.rest ≡ c ∷ drop 1 st.rest = first_is _ c row st.rest (front ∙ ap (λ (x : State). take x.ahead x.rest) is) at in
     let one : min 1 (length st.rest) ≡ 1 = omega (arith, ap length byte) in
     let took : Takes st (c ∷ []) (after_data 1 st) = record { room = room; rest = byte; moved = refl } in
-    record { after = _; begun = begun_own st c (after_data 1 st) going item none took; kept = is ∙ ap (λ n. after_look n st) one ∙ ap (λ o. after_peek o st) (sym none) }
+    record {
+      after = _;
+      begun = begun_own st c (after_data 1 st) going item none took;
+      kept = is ∙ ap (λ n. after_look n st) one ∙ ap (λ o. after_peek o st) (sym none);
+    }
 
-pub peek_refused : (st : State) (e : Error) (new : State) → RefusesRead false ReadsCode BeginFault st e new → RefusesRead false PeeksCode BeginFault st e new
+pub peek_refused : (st : State) (e : Error) (new : State) → RefusesRead false ReadsCode BeginFault st e new
+    → RefusesRead false PeeksCode BeginFault st e new
 peek_refused st e new r = record {
   kept = r.kept;
   again = r.again;
@@ -44,21 +52,31 @@ peek_refused st e new r = record {
 }
 
 -- the container has no byte left
-pub peek_size : (st : State) (e : Error) (new : State) → st.error ≡ None → Has st.top.items 1 → st.top.shared ≡ None → st.top.left ≡ Some 0 → RefusesSize 1 st e new → RefusesRead false PeeksCode BeginFault st e new
-peek_size st e new going item none left r = peek_refused st e new (begin_short st e new going item none (short_of_size 1 1 0 st e new left (omega arith) r))
+pub peek_size : (st : State) (e : Error) (new : State) → st.error ≡ None → Has st.top.items 1 → st.top.shared ≡ None → st.top.left ≡ Some 0
+    → RefusesSize 1 st e new → RefusesRead false PeeksCode BeginFault st e new
+peek_size st e new going item none left r =
+    peek_refused st e new (begin_short st e new going item none (short_of_size 1 1 0 st e new left (omega arith) r))
 
 nothing_at : (row : List ℕ) → None ≡ slice_get row 0 → length row ≡ 0
 nothing_at [] e = refl
 nothing_at (x ∷ row) e = absurd (cc)
 
-pub none_there : (st new : State) (row : List ℕ) → new ≡ after_look (min 1 (length st.rest)) st → row ≡ take new.ahead new.rest → None ≡ slice_get row 0 → length st.rest < 1
+pub none_there : (st new : State) (row : List ℕ) → new ≡ after_look (min 1 (length st.rest)) st → row ≡ take new.ahead new.rest
+    → None ≡ slice_get row 0 → length st.rest < 1
 none_there st new row is front at =
-    omega (arith, nothing_at row at, ap length (front ∙ ap (λ (x : State). take x.ahead x.rest) is), length-take (max st.ahead (min 1 (length st.rest))) st.rest)
+    omega (
+      arith,
+      nothing_at row at,
+      ap length (front ∙ ap (λ (x : State). take x.ahead x.rest) is),
+      length-take (max st.ahead (min 1 (length st.rest))) st.rest,
+    )
 
 -- the input ends
-pub peek_cut : (st : State) (e : Error) (new : State) → st.error ≡ None → Has st.top.items 1 → st.top.shared ≡ None → (st.top.left ≡ Some 0 → ⊥) → length st.rest < 1 → e ≡ Cut → Answers st e new → RefusesRead false PeeksCode BeginFault st e new
+pub peek_cut : (st : State) (e : Error) (new : State) → st.error ≡ None → Has st.top.items 1 → st.top.shared ≡ None
+    → (st.top.left ≡ Some 0 → ⊥) → length st.rest < 1 → e ≡ Cut → Answers st e new → RefusesRead false PeeksCode BeginFault st e new
 peek_cut st e new going item none left short is kept =
-    peek_refused st e new (begin_short st e new going item none (record { kept = kept; why = inr (missed_lacks 1 st st.top.left e refl (has_item st.top.left left) is short) }))
+    peek_refused st e new (begin_short st e new going item none
+    (record { kept = kept; why = inr (missed_lacks 1 st st.top.left e refl (has_item st.top.left left) is short) }))
 
 max-minus : (a n k : ℕ) → n ≤ k → max a n - k ≡ a - k
 max-minus a n k h = omega (arith, h)
@@ -100,28 +118,64 @@ stands_some st s t none k = enc_some s t (subst (λ o. SpellsAs (standing o s) t
 first_some : (o : Option (List Descriptor × ℕ)) (c : ℕ) (own : List ℕ) → o ≡ None → IsFirst o c own → 1 ≤ length own
 first_some o c own none h = let e : own ≡ c ∷ [] = subst (λ x. IsFirst x c own) none h in omega (arith, ap length e)
 
-begun_after : (st after : State) (d : ℕ) (o : Option (List Descriptor × ℕ)) → st.top.shared ≡ o → ReadsCode (after_peek o st) d after ↔ ReadsCode st d after
+begun_after : (st after : State) (d : ℕ) (o : Option (List Descriptor × ℕ)) → st.top.shared ≡ o
+    → ReadsCode (after_peek o st) d after ↔ ReadsCode st d after
 begun_after st after d None e = (
-  λ g. record { going = g.going; item = g.item; own = g.own; first = g.first; room = g.room; rest = g.rest; moved = g.moved ∙ after_value-after_look 1 (length g.own) st (first_some st.top.shared d g.own e g.first) },
-  λ g. record { going = g.going; item = g.item; own = g.own; first = g.first; room = g.room; rest = g.rest; moved = g.moved ∙ sym (after_value-after_look 1 (length g.own) st (first_some st.top.shared d g.own e g.first)) },
+  λ g. record {
+    going = g.going;
+    item = g.item;
+    own = g.own;
+    first = g.first;
+    room = g.room;
+    rest = g.rest;
+    moved = g.moved ∙ after_value-after_look 1 (length g.own) st (first_some st.top.shared d g.own e g.first);
+  },
+  λ g. record {
+    going = g.going;
+    item = g.item;
+    own = g.own;
+    first = g.first;
+    room = g.room;
+    rest = g.rest;
+    moved = g.moved ∙ sym (after_value-after_look 1 (length g.own) st (first_some st.top.shared d g.own e g.first));
+  },
 )
 begun_after st after d (Some s) e = (λ g. g, λ g. g)
 
 pub begun-peeked : (st seen after : State) (c d : ℕ) → PeeksCode st c seen → ReadsCode seen d after ↔ ReadsCode st d after
-begun-peeked st seen after c d p = subst (λ (x : State). ReadsCode x d after ↔ ReadsCode st d after) (sym p.kept) (begun_after st after d st.top.shared refl)
+begun-peeked st seen after c d p =
+    subst (λ (x : State). ReadsCode x d after ↔ ReadsCode st d after) (sym p.kept) (begun_after st after d st.top.shared refl)
 
-value_after : {A : Type 0} (means : Standing → Term → A → Type 0) (st after : State) (v : A) (o : Option (List Descriptor × ℕ)) → st.top.shared ≡ o → ReadsValue means (after_peek o st) v after ↔ ReadsValue means st v after
+value_after : {A : Type 0} (means : Standing → Term → A → Type 0) (st after : State) (v : A) (o : Option (List Descriptor × ℕ))
+    → st.top.shared ≡ o → ReadsValue means (after_peek o st) v after ↔ ReadsValue means st v after
 value_after means st after v None e = (
-  λ x. let k = (stands-looked 1 st x.bytes x.term).0 x.stands in record { bytes = x.bytes; term = x.term; stands = k; moved = x.moved ∙ after_value-after_look 1 (length x.bytes) st (stands_some st x.bytes x.term e k); meant = x.meant },
-  λ x. record { bytes = x.bytes; term = x.term; stands = (stands-looked 1 st x.bytes x.term).1 x.stands; moved = x.moved ∙ sym (after_value-after_look 1 (length x.bytes) st (stands_some st x.bytes x.term e x.stands)); meant = x.meant },
+  λ x. let k = (stands-looked 1 st x.bytes x.term).0 x.stands in
+      record {
+        bytes = x.bytes;
+        term = x.term;
+        stands = k;
+        moved = x.moved ∙ after_value-after_look 1 (length x.bytes) st (stands_some st x.bytes x.term e k);
+        meant = x.meant;
+      },
+  λ x. record {
+    bytes = x.bytes;
+    term = x.term;
+    stands = (stands-looked 1 st x.bytes x.term).1 x.stands;
+    moved = x.moved ∙ sym (after_value-after_look 1 (length x.bytes) st (stands_some st x.bytes x.term e x.stands));
+    meant = x.meant;
+  },
 )
 value_after means st after v (Some s) e = (λ x. x, λ x. x)
 
 -- a value that is read after a look is the value that is read without it
-pub value-peeked : {A : Type 0} (means : Standing → Term → A → Type 0) (st seen after : State) (c : ℕ) (v : A) → PeeksCode st c seen → ReadsValue means seen v after ↔ ReadsValue means st v after
-value-peeked means st seen after c v p = subst (λ (x : State). ReadsValue means x v after ↔ ReadsValue means st v after) (sym p.kept) (value_after means st after v st.top.shared refl)
+pub value-peeked : {A : Type 0} (means : Standing → Term → A → Type 0) (st seen after : State) (c : ℕ) (v : A) → PeeksCode st c seen
+    → ReadsValue means seen v after ↔ ReadsValue means st v after
+value-peeked means st seen after c v p =
+    subst (λ (x : State). ReadsValue means x v after ↔ ReadsValue means st v after) (sym p.kept)
+    (value_after means st after v st.top.shared refl)
 
 -- no code is shared
-pub no_code_shared : (o : Option ℕ) (shared : Option (List Descriptor × ℕ)) → MatchOption o (shared ≡ None) (λ c. IsFirstShared shared c) → is_some o ≡ false → shared ≡ None
+pub no_code_shared : (o : Option ℕ) (shared : Option (List Descriptor × ℕ)) → MatchOption o (shared ≡ None) (λ c. IsFirstShared shared c)
+    → is_some o ≡ false → shared ≡ None
 no_code_shared None shared h e = h
 no_code_shared (Some c) shared h e = absurd (cc)

@@ -23,7 +23,8 @@ room_fits st (inl few) item holds = few
 room_fits st (inr (inl none)) item holds = absurd (let h : Has (Some 0) 1 = subst (λ o. Has o 1) none item in omega (arith, h))
 room_fits st (inr (inr flat)) item holds = absurd (holds flat)
 
-flat_shared : (o : Option (List Descriptor × ℕ)) (us : Terms) (s : List ℕ) → HasFlatItems o → SpellsAs (standing o s) (container array us) → ⊥
+flat_shared : (o : Option (List Descriptor × ℕ)) (us : Terms) (s : List ℕ) → HasFlatItems o
+    → SpellsAs (standing o s) (container array us) → ⊥
 flat_shared None us s flat h = flat
 flat_shared (Some (ds, c)) us s flat h = flat_array us ds c s flat h
 
@@ -56,7 +57,8 @@ room_next st t st' h room = subst HasRoom (sym h.moved) (room_past (length h.byt
 
 pub room_row : (ts : List Term) (st : State) (b : List ℕ) (st' : State) → Row st ts b st' → HasRoom st → HasRoom st'
 room_row [] st b st' (e, is) room = subst HasRoom (sym is) room
-room_row (t ∷ ts) st b st' (first, others, e, k, row) room = room_row ts (after_value (length first) st) others st' row (room_past (length first) st room)
+room_row (t ∷ ts) st b st' (first, others, e, k, row) room =
+    room_row ts (after_value (length first) st) others st' row (room_past (length first) st room)
 
 -- a container or a described value is opened
 one_more : (place : OpenKind) (n content : ℕ) (st : State) → length st.saved < st.nesting → HasRoom (in_container place n content st)
@@ -65,15 +67,18 @@ one_more place n content st few = inl (omega (arith, few))
 pub room_inside : (kind : Container) (st : State) (n : ℕ) (st' : State) → Opens kind st n st' → HasRoom st'
 room_inside kind st n st' o =
     let d = o.data_ in
-    subst HasRoom (sym d.entered) (one_more _ n d.content d.mid (subst (λ (z : State). length z.saved < z.nesting) (sym d.header.took.moved) d.few))
+    subst HasRoom (sym d.entered)
+    (one_more _ n d.content d.mid (subst (λ (z : State). length z.saved < z.nesting) (sym d.header.took.moved) d.few))
 
 described_more : (st : State) → length st.saved < st.nesting → HasRoom (in_described st)
 described_more st few = inl (omega (arith, few))
 
 pub room_in_described : (st : State) (d : Descriptor) (st' : State) → OpensDescribed st d st' → HasRoom st'
 room_in_described st d st' o =
-    let named : o.named.saved ≡ st.saved = ap (λ (z : State). z.saved) (o.descriptor.took.moved) ∙ ap (λ (z : State). z.saved) o.begun.moved in
-    let limit : o.named.nesting ≡ st.nesting = ap (λ (z : State). z.nesting) (o.descriptor.took.moved) ∙ ap (λ (z : State). z.nesting) o.begun.moved in
+    let named : o.named.saved ≡ st.saved =
+    ap (λ (z : State). z.saved) (o.descriptor.took.moved) ∙ ap (λ (z : State). z.saved) o.begun.moved in
+    let limit : o.named.nesting ≡ st.nesting =
+    ap (λ (z : State). z.nesting) (o.descriptor.took.moved) ∙ ap (λ (z : State). z.nesting) o.begun.moved in
     subst HasRoom (sym o.opened) (described_more o.named (omega (arith, o.nested, ap length named, limit)))
 
 room_started : (n content : ℕ) (at st' : State) → Starts n content (in_container InArray 0 content at) st' → HasRoom st'

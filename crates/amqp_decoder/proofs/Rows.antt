@@ -1,6 +1,9 @@
 -- The row of frames.
-use Rattle.std.proofs.Common.{◌≡◌, ◌≤◌, ◌<◌, ℕ, zero, suc, ◌+◌, ◌-◌, ◌*◌, ◌++◌, ◌⊎◌, inl, inr, Option, IfSome, IsSome, MatchOption, option_map, List, length, take, drop, map, eqb, cond, Some, None, ap₂, subst, get_or, set, ◌≢◌, [], ◌∷◌, unwrap_or, Bool, true, false, ltb, refl, ap, sym, ◌∙◌, arith, add-one}
-use Rattle.std.proofs.lemmas.List.{get_or-set_same, get_or-set_other, get_or-take, take_all, drop-take, drop-drop, drop_at, take_at, take-take, length-take-le}
+use Rattle.std.proofs.Common.{◌≡◌, ◌≤◌, ◌<◌, ℕ, zero, suc, ◌+◌, ◌-◌, ◌*◌, ◌++◌, ◌⊎◌, inl, inr, Option, IfSome, IsSome, MatchOption}
+use Rattle.std.proofs.Common.{option_map, List, length, take, drop, map, eqb, cond, Some, None, ap₂, subst, get_or, set, ◌≢◌, [], ◌∷◌}
+use Rattle.std.proofs.Common.{unwrap_or, Bool, true, false, ltb, refl, ap, sym, ◌∙◌, arith, add-one}
+use Rattle.std.proofs.lemmas.List.{get_or-set_same, get_or-set_other, get_or-take, take_all, drop-take, drop-drop, drop_at, take_at}
+use Rattle.std.proofs.lemmas.List.{take-take, length-take-le}
 use Rattle.std.proofs.lemmas.Bool.{ltb-true, ltb-false, ne_eqb, eq-eqb}
 use Rattle.std.proofs.Math.Seq.{drop-cons, take-nil}
 use Rattle.std.proofs.Math.ListN.{get_or-eq_default}
@@ -12,7 +15,8 @@ use Rattle.amqp_wire.specs.declared.error.Error.{Error}
 use Rattle.amqp_decoder.specs.declared.frame.OpenContainer.{OpenContainer}
 use Rattle.amqp_decoder.specs.declared.frame.OpenKind.{OpenKind}
 use Rattle.amqp_decoder.specs.declared.frame.OpenKind.TheVariants.{Top, InList, InMap, InArray, InDescribed}
-use Rattle.amqp_decoder.specs.State.{DescriptorValues, Open, open_of, items_of, shared_of, descriptor_of, State, stack, unused, bytes_left, shared_in, AreNested, top_level, IsLevel, AreBounded, IsContainer}
+use Rattle.amqp_decoder.specs.State.{DescriptorValues, Open, open_of, items_of, shared_of, descriptor_of, State, stack, unused, bytes_left}
+use Rattle.amqp_decoder.specs.State.{shared_in, AreNested, top_level, IsLevel, AreBounded, IsContainer}
 use Rattle.amqp_decoder.specs.Rooms.{IsRoomy}
 use Rattle.amqp_decoder.specs.Described.{IsMark, IsUnmarked, behind}
 use Rattle.amqp_wire.specs.declared.descriptor.Descriptor.{Descriptor as DescriptorValue}
@@ -20,7 +24,8 @@ use Rattle.amqp_wire.specs.declared.descriptor.Descriptor.{Descriptor as Descrip
 abbrev left_of : OpenContainer → ℕ
 left_of f = unwrap_or f.left 0
 
-sum_take_more : (n : ℕ) (fs : List OpenContainer) (b : Bool) → ltb n (length fs) ≡ b → sum_by left_of (take (n + 1) fs) ≡ sum_by left_of (take n fs) + left_of (get_or fs n unused)
+sum_take_more : (n : ℕ) (fs : List OpenContainer) (b : Bool) → ltb n (length fs) ≡ b
+    → sum_by left_of (take (n + 1) fs) ≡ sum_by left_of (take n fs) + left_of (get_or fs n unused)
 sum_take_more n fs true e = sum_by_more left_of fs n unused (ltb-true n (length fs) e)
 sum_take_more n fs false e =
     let h : length fs ≤ n = ltb-false n (length fs) e in
@@ -28,14 +33,16 @@ sum_take_more n fs false e =
     let none : left_of (get_or fs n unused) ≡ 0 = ap left_of (get_or-eq_default fs unused h) in
     ap (sum_by left_of) whole ∙ (omega (arith, none))
 
-pub stack_left : (ds : DescriptorValues) (n : ℕ) (fs : List OpenContainer) → sum_by (λ (f : OpenContainer). unwrap_or f.left 0) (take n fs) ≡ bytes_left (stack ds n fs)
+pub stack_left : (ds : DescriptorValues) (n : ℕ) (fs : List OpenContainer)
+    → sum_by (λ (f : OpenContainer). unwrap_or f.left 0) (take n fs) ≡ bytes_left (stack ds n fs)
 stack_left ds zero fs = refl
 stack_left ds (suc n) fs =
     let i = stack_left ds n fs in
     let e = sum_take_more n fs (ltb n (length fs)) refl in
     ap (λ k. sum_by left_of (take k fs)) (sym (add-one n)) ∙ e ∙ (omega (arith, i))
 
-pub stack-set : (ds : DescriptorValues) (d i : ℕ) (fs : List OpenContainer) (f : OpenContainer) → d ≤ i → stack ds d (set fs i f) ≡ stack ds d fs
+pub stack-set : (ds : DescriptorValues) (d i : ℕ) (fs : List OpenContainer) (f : OpenContainer) → d ≤ i
+    → stack ds d (set fs i f) ≡ stack ds d fs
 stack-set ds zero i fs f h = refl
 stack-set ds (suc d) i fs f h =
     let ne : ◌≢◌ d i = omega arith in
@@ -45,7 +52,8 @@ pub length-stack : (ds : DescriptorValues) (d : ℕ) (fs : List OpenContainer) �
 length-stack ds zero fs = refl
 length-stack ds (suc d) fs = ap suc (length-stack ds d fs)
 
-pub stack-push : (ds : DescriptorValues) (d : ℕ) (fs : List OpenContainer) (f : OpenContainer) → d < length fs → stack ds (d + 1) (set fs d f) ≡ open_of ds f ∷ stack ds d fs
+pub stack-push : (ds : DescriptorValues) (d : ℕ) (fs : List OpenContainer) (f : OpenContainer) → d < length fs
+    → stack ds (d + 1) (set fs d f) ≡ open_of ds f ∷ stack ds d fs
 stack-push ds d fs f h = rw (add-one, get_or-set_same fs d f unused h, stack-set ds d d fs f (omega arith)) refl
 
 pub split_saved : (l : List Open) → (length l ≡ 0 → ⊥) → (outer : Open) × (others : List Open) × (l ≡ outer ∷ others)
@@ -58,25 +66,33 @@ nested_set (suc d) i fs f m h n =
     let ne : ◌≢◌ d i = omega arith in
     rw (get_or-set_other fs i d f unused ne) (n.0, n.1, nested_set d i fs f (get_or fs d unused).last (omega arith) n.2)
 
-pub nested_push : (d : ℕ) (fs : List OpenContainer) (f : OpenContainer) → d < length fs → AreNested d fs f.last → AreNested (d + 1) (set fs d f) f.last
-nested_push d fs f h n = rw (add-one, get_or-set_same fs d f unused h) (omega arith, omega arith, nested_set d d fs f f.last (omega arith) n)
+pub nested_push : (d : ℕ) (fs : List OpenContainer) (f : OpenContainer) → d < length fs → AreNested d fs f.last
+    → AreNested (d + 1) (set fs d f) f.last
+nested_push d fs f h n =
+    rw (add-one, get_or-set_same fs d f unused h) (omega arith, omega arith, nested_set d d fs f f.last (omega arith) n)
 
-bounded_set : (d i : ℕ) (fs : List OpenContainer) (f : OpenContainer) (p : OpenKind) (l : Option ℕ) → d ≤ i → AreBounded d fs p l → AreBounded d (set fs i f) p l
+bounded_set : (d i : ℕ) (fs : List OpenContainer) (f : OpenContainer) (p : OpenKind) (l : Option ℕ) → d ≤ i → AreBounded d fs p l
+    → AreBounded d (set fs i f) p l
 bounded_set zero i fs f p l h b = tt
 bounded_set (suc d) i fs f p l h b =
     let ne : ◌≢◌ d i = omega arith in
-    rw (get_or-set_other fs i d f unused ne) (b.0, b.1, bounded_set d i fs f (get_or fs d unused).place (get_or fs d unused).left (omega arith) b.2)
+    rw (get_or-set_other fs i d f unused ne)
+    (b.0, b.1, bounded_set d i fs f (get_or fs d unused).place (get_or fs d unused).left (omega arith) b.2)
 
-pub bounded_push : (d : ℕ) (fs : List OpenContainer) (f : OpenContainer) (p : OpenKind) (l : Option ℕ) → d < length fs → (p ≡ InDescribed → f.left ≡ None → l ≡ None) → IsLevel f → AreBounded d fs f.place f.left → AreBounded (d + 1) (set fs d f) p l
-bounded_push d fs f p l h open_ level b = rw (add-one, get_or-set_same fs d f unused h) (open_, level, bounded_set d d fs f f.place f.left (omega arith) b)
+pub bounded_push : (d : ℕ) (fs : List OpenContainer) (f : OpenContainer) (p : OpenKind) (l : Option ℕ) → d < length fs
+    → (p ≡ InDescribed → f.left ≡ None → l ≡ None) → IsLevel f → AreBounded d fs f.place f.left → AreBounded (d + 1) (set fs d f) p l
+bounded_push d fs f p l h open_ level b =
+    rw (add-one, get_or-set_same fs d f unused h) (open_, level, bounded_set d d fs f f.place f.left (omega arith) b)
 
 -- the last frame of those has other bytes left, or stands elsewhere
-pub bounded_as : (d : ℕ) (fs : List OpenContainer) (p q : OpenKind) (l k : Option ℕ) → (q ≡ InDescribed → (p ≡ InDescribed) × (l ≡ None → k ≡ None)) → AreBounded d fs p l → AreBounded d fs q k
+pub bounded_as : (d : ℕ) (fs : List OpenContainer) (p q : OpenKind) (l k : Option ℕ)
+    → (q ≡ InDescribed → (p ≡ InDescribed) × (l ≡ None → k ≡ None)) → AreBounded d fs p l → AreBounded d fs q k
 bounded_as zero fs p q l k h b = tt
 bounded_as (suc d) fs p q l k h b = (λ e n. (h e).1 (b.0 (h e).0 n), b.1, b.2)
 
 -- the frame around the last one
-pub outer_frame : (d k : ℕ) (fs : List OpenContainer) (m : ℕ) (p : OpenKind) (l : Option ℕ) → d ≡ suc k → AreNested d fs m → AreBounded d fs p l → AreNested (suc k) fs m × AreBounded (suc k) fs p l
+pub outer_frame : (d k : ℕ) (fs : List OpenContainer) (m : ℕ) (p : OpenKind) (l : Option ℕ) → d ≡ suc k → AreNested d fs m
+    → AreBounded d fs p l → AreNested (suc k) fs m × AreBounded (suc k) fs p l
 outer_frame d k fs m p l e n b = (subst (λ i. AreNested i fs m) e n, subst (λ i. AreBounded i fs p l) e b)
 
 container_items : (p : OpenKind) (n : ℕ) → IsContainer p → items_of p n ≡ Some n
@@ -87,7 +103,8 @@ container_items Top n h = absurd h
 container_items InDescribed n h = absurd h
 
 -- a container that is entered counts in nesting, or has no items
-pub room_inside : (o : Open) (d depth nesting : ℕ) (p : OpenKind) (n : ℕ) → o.items ≡ items_of p n → depth ≡ d → nesting ≡ 128 → IsContainer p → (depth < nesting) ⊎ (n ≡ 0) → IsRoomy 128 (d + 1) o
+pub room_inside : (o : Open) (d depth nesting : ℕ) (p : OpenKind) (n : ℕ) → o.items ≡ items_of p n → depth ≡ d → nesting ≡ 128
+    → IsContainer p → (depth < nesting) ⊎ (n ≡ 0) → IsRoomy 128 (d + 1) o
 room_inside o d depth nesting p n is e f h (inl few) = inl (omega arith)
 room_inside o d depth nesting p n is e f h (inr none) = inr (inl (is ∙ container_items p n h ∙ ap Some none))
 
@@ -98,13 +115,15 @@ none_less InMap i k less e = ap Some (omega (arith, ap (λ o. unwrap_or o 0) e))
 none_less InArray i k less e = ap Some (omega (arith, ap (λ o. unwrap_or o 0) e))
 none_less InDescribed i k less e = ap Some (omega (arith, ap (λ o. unwrap_or o 0) e))
 
-pub room_less : (ds : DescriptorValues) (d : ℕ) (f : OpenContainer) (k : ℕ) → k ≡ f.items - 1 → IsRoomy 128 d (open_of ds f) → IsRoomy 128 d (open_of ds (record f { items = k }))
+pub room_less : (ds : DescriptorValues) (d : ℕ) (f : OpenContainer) (k : ℕ) → k ≡ f.items - 1 → IsRoomy 128 d (open_of ds f)
+    → IsRoomy 128 d (open_of ds (record f { items = k }))
 room_less ds d f k less (inl few) = inl few
 room_less ds d f k less (inr (inl none)) = inr (inl (none_less f.place f.items k less none))
 room_less ds d f k less (inr (inr flat)) = inr (inr flat)
 
 level_of : (p : OpenKind) (i : ℕ) (l : Option ℕ) (c : ℕ) (part : DescriptorValues) → p ≡ Top → l ≡ None → c ≡ 0
-    → ◌≡◌ {A = Open} (record { place = p; items = items_of p i; left = l; shared = cond (eqb c 0) None (Some (map descriptor_of part, c)) }) top_level
+    → ◌≡◌ {A = Open} (record { place = p; items = items_of p i; left = l; shared = cond (eqb c 0) None (Some (map descriptor_of part, c)) })
+    top_level
 level_of p i l c part e f g = rw (e, f, g) refl
 
 pub level : (ds : DescriptorValues) (f : OpenContainer) → IsLevel f → f.place ≡ Top → open_of ds f ≡ top_level
@@ -124,18 +143,21 @@ shared_among zero fs m n = omega arith
 shared_among (suc d) fs m n = n.0
 
 -- the descriptors of a frame behind the others
-pub nested_last : (d : ℕ) (fs : List OpenContainer) (m k : ℕ) → AreNested d fs m → shared_in d fs ≤ k → k ≤ shared_in d fs + 128 → AreNested d fs k
+pub nested_last : (d : ℕ) (fs : List OpenContainer) (m k : ℕ) → AreNested d fs m → shared_in d fs ≤ k
+    → k ≤ shared_in d fs + 128 → AreNested d fs k
 nested_last zero fs m k n low high = omega (arith, high)
 nested_last (suc d) fs m k n low high = (low, high, n.2)
 
 pub shared_front : (d : ℕ) (fs : List OpenContainer) → d ≤ length fs → shared_in (length (take d fs)) (take d fs) ≡ shared_in d fs
 shared_front zero fs few = refl
-shared_front (suc d) fs few = ap (λ k. shared_in k (take (suc d) fs)) (length-take-le (suc d) fs few) ∙ ap (λ (f : OpenContainer). f.last) (get_or-take (suc d) fs d unused (omega arith))
+shared_front (suc d) fs few = ap (λ k. shared_in k (take (suc d) fs)) (length-take-le (suc d) fs few)
+    ∙ ap (λ (f : OpenContainer). f.last) (get_or-take (suc d) fs d unused (omega arith))
 
 front_kept : (k n : ℕ) (ds es : DescriptorValues) → k ≤ n → take n ds ≡ take n es → take k ds ≡ take k es
 front_kept k n ds es h e = sym (take-take k n ds h) ∙ ap (take k) e ∙ take-take k n es h
 
-part_kept : (ds es : DescriptorValues) (n first k last : ℕ) → k ≡ last - first → last ≤ n → take n ds ≡ take n es → take k (drop first ds) ≡ take k (drop first es)
+part_kept : (ds es : DescriptorValues) (n first k last : ℕ) → k ≡ last - first → last ≤ n → take n ds ≡ take n es
+    → take k (drop first ds) ≡ take k (drop first es)
 part_kept ds es n first zero last is few e = refl
 part_kept ds es n first (suc k) last is few e =
     let within : first + suc k ≤ n = omega arith in
@@ -144,32 +166,46 @@ part_kept ds es n first (suc k) last is few e =
 -- descriptors behind those of a frame don't count in it
 pub open_kept : (ds es : DescriptorValues) (n : ℕ) (f : OpenContainer) → f.last ≤ n → take n ds ≡ take n es → open_of ds f ≡ open_of es f
 open_kept ds es n f few e =
-    ap (λ part. record { place = f.place; items = items_of f.place f.items; left = f.left; shared = cond (eqb f.code 0) None (Some (map descriptor_of part, f.code)) })
+    ap (λ part. record {
+      place = f.place;
+      items = items_of f.place f.items;
+      left = f.left;
+      shared = cond (eqb f.code 0) None (Some (map descriptor_of part, f.code));
+    })
     (part_kept ds es n f.first (f.last - f.first) f.last refl few e)
 
-pub stack_kept : (ds es : DescriptorValues) (n d : ℕ) (fs : List OpenContainer) (m : ℕ) → AreNested d fs m → m ≤ n → take n ds ≡ take n es → stack ds d fs ≡ stack es d fs
+pub stack_kept : (ds es : DescriptorValues) (n d : ℕ) (fs : List OpenContainer) (m : ℕ) → AreNested d fs m → m ≤ n → take n ds ≡ take n es
+    → stack ds d fs ≡ stack es d fs
 stack_kept ds es n zero fs m h few e = refl
 stack_kept ds es n (suc d) fs m h few e =
-    ap₂ (λ o l. o ∷ l) (open_kept ds es n (get_or fs d unused) (omega (arith, h.0)) e) (stack_kept ds es n d fs (get_or fs d unused).last h.2 (omega (arith, h.0)) e)
+    ap₂ (λ o l. o ∷ l) (open_kept ds es n (get_or fs d unused) (omega (arith, h.0)) e)
+    (stack_kept ds es n d fs (get_or fs d unused).last h.2 (omega (arith, h.0)) e)
 
 -- the first descriptor of those that are left
-part_first : (ds : DescriptorValues) (first last : ℕ) (d : DescriptorValue) → first < last → last ≤ length ds → take (last - first) (drop first ds) ≡ get_or ds first d ∷ take (last - suc first) (drop (suc first) ds)
+part_first : (ds : DescriptorValues) (first last : ℕ) (d : DescriptorValue) → first < last → last ≤ length ds
+    → take (last - first) (drop first ds) ≡ get_or ds first d ∷ take (last - suc first) (drop (suc first) ds)
 part_first ds first last d h few =
     let more : last - first ≡ suc (last - suc first) = omega arith in
     ap₂ (λ k l. take k l) more (drop-cons ds first d (omega arith))
 
-some_shared : (ds : DescriptorValues) (c first last : ℕ) (l : DescriptorValues) → (c ≡ 0 → ⊥) → take (last - first) (drop first ds) ≡ l → shared_of ds c first last ≡ Some (map descriptor_of l, c)
+some_shared : (ds : DescriptorValues) (c first last : ℕ) (l : DescriptorValues) → (c ≡ 0 → ⊥) → take (last - first) (drop first ds) ≡ l
+    → shared_of ds c first last ≡ Some (map descriptor_of l, c)
 some_shared ds c first last l some is =
-    ap (λ b. cond b None (Some (map descriptor_of (take (last - first) (drop first ds)), c))) (ne_eqb c 0 some) ∙ ap (λ part. Some (map descriptor_of part, c)) is
+    ap (λ b. cond b None (Some (map descriptor_of (take (last - first) (drop first ds)), c))) (ne_eqb c 0 some)
+    ∙ ap (λ part. Some (map descriptor_of part, c)) is
 
-pub first_mark : (ds : DescriptorValues) (c first last : ℕ) (d e : DescriptorValue) → (c ≡ 0 → ⊥) → first < last → last ≤ length ds → d ≡ get_or ds first e → IsMark (shared_of ds c first last) (descriptor_of d)
+pub first_mark : (ds : DescriptorValues) (c first last : ℕ) (d e : DescriptorValue) → (c ≡ 0 → ⊥) → first < last → last ≤ length ds
+    → d ≡ get_or ds first e → IsMark (shared_of ds c first last) (descriptor_of d)
 first_mark ds c first last d e some h few is =
-    subst (λ o. IsMark o (descriptor_of d)) (sym (some_shared ds c first last _ some (part_first ds first last e h few))) (ap descriptor_of is)
+    subst (λ o. IsMark o (descriptor_of d))
+    (sym (some_shared ds c first last _ some (part_first ds first last e h few))) (ap descriptor_of is)
 
-pub found_mark : (r : Option (Bor DescriptorValue)) (l ds : DescriptorValues) (i c first last : ℕ) → l ≡ ds → i ≡ first → (c ≡ 0 → ⊥) → first < last → last ≤ length ds → IfSome r (λ x. x.now ≡ get_or l i x.now) → (i < length l → IsSome r)
+pub found_mark : (r : Option (Bor DescriptorValue)) (l ds : DescriptorValues) (i c first last : ℕ) → l ≡ ds → i ≡ first → (c ≡ 0 → ⊥)
+    → first < last → last ≤ length ds → IfSome r (λ x. x.now ≡ get_or l i x.now) → (i < length l → IsSome r)
     → MatchOption r (IsUnmarked (shared_of ds c first last)) (λ x. IsMark (shared_of ds c first last) (descriptor_of x.now))
 found_mark None l ds i c first last e is some h few at_ there = let x = there (omega (arith, ap length e)) in absurd (cc)
-found_mark (Some x) l ds i c first last e is some h few at_ there = first_mark ds c first last x.now x.now some h few (at_ ∙ ap (λ k. get_or k i x.now) e ∙ ap (λ k. get_or ds k x.now) is)
+found_mark (Some x) l ds i c first last e is some h few at_ there =
+    first_mark ds c first last x.now x.now some h few (at_ ∙ ap (λ k. get_or k i x.now) e ∙ ap (λ k. get_or ds k x.now) is)
 
 pub no_code_unmarked : (ds : DescriptorValues) (c first last : ℕ) → c ≡ 0 → IsUnmarked (shared_of ds c first last)
 no_code_unmarked ds c first last h =
@@ -184,7 +220,8 @@ drop_map : (l : DescriptorValues) → drop 1 (map descriptor_of l) ≡ map descr
 drop_map [] = refl
 drop_map (d ∷ ds) = refl
 
-behind_shared : (b : Bool) (l : DescriptorValues) (c : ℕ) → behind (cond b None (Some (map descriptor_of l, c))) ≡ cond b None (Some (map descriptor_of (drop 1 l), c))
+behind_shared : (b : Bool) (l : DescriptorValues) (c : ℕ)
+    → behind (cond b None (Some (map descriptor_of l, c))) ≡ cond b None (Some (map descriptor_of (drop 1 l), c))
 behind_shared true l c = refl
 behind_shared false l c = ap (λ ds. Some (ds, c)) (drop_map l)
 
@@ -192,7 +229,8 @@ drop_take : (k : ℕ) (l : DescriptorValues) → drop 1 (take (suc k) l) ≡ tak
 drop_take k [] = sym (take-nil k)
 drop_take k (d ∷ ds) = refl
 
-part_behind : (ds : DescriptorValues) (first k next last : ℕ) → k ≡ last - first → first ≤ next → (first < last → next ≡ first + 1) → take (last - next) (drop next ds) ≡ drop 1 (take k (drop first ds))
+part_behind : (ds : DescriptorValues) (first k next last : ℕ) → k ≡ last - first → first ≤ next → (first < last → next ≡ first + 1)
+    → take (last - next) (drop next ds) ≡ drop 1 (take k (drop first ds))
 part_behind ds first zero next last is h one =
     let none : last - next ≡ 0 = omega arith in
     ap (λ n. take n (drop next ds)) none
@@ -202,13 +240,15 @@ part_behind ds first (suc k) next last is h one =
     ap₂ (λ n i. take n (drop i ds)) few by ∙ ap (take k) (sym (drop-drop 1 first ds)) ∙ sym (drop_take k (drop first ds))
 
 -- the rest of a constructor
-pub shared_behind : (ds : DescriptorValues) (c first next last : ℕ) → first ≤ next → (first < last → next ≡ first + 1) → shared_of ds c next last ≡ behind (shared_of ds c first last)
+pub shared_behind : (ds : DescriptorValues) (c first next last : ℕ) → first ≤ next → (first < last → next ≡ first + 1)
+    → shared_of ds c next last ≡ behind (shared_of ds c first last)
 shared_behind ds c first next last h one =
     ap (λ part. cond (eqb c 0) None (Some (map descriptor_of part, c))) (part_behind ds first (last - first) next last refl h one)
     ∙ sym (behind_shared (eqb c 0) (take (last - first) (drop first ds)) c)
 
 -- what is added stands behind what was there
-pub part_added : (ds es : DescriptorValues) (first last : ℕ) → length ds ≡ first → last ≡ first + length es → take (last - first) (drop first (ds ++ es)) ≡ es
+pub part_added : (ds es : DescriptorValues) (first last : ℕ) → length ds ≡ first → last ≡ first + length es
+    → take (last - first) (drop first (ds ++ es)) ≡ es
 part_added ds es first last h is =
     let long : last - first ≡ length es = omega arith in
     ap₂ (λ k l. take k l) long (drop_at ds es first h) ∙ take_all (length es) es (omega arith)
@@ -216,24 +256,31 @@ part_added ds es first last h is =
 pub added_front : (ds es l : DescriptorValues) (n : ℕ) → n ≤ length ds → l ≡ take n ds ++ es → take n l ≡ take n ds
 added_front ds es l n h is = ap (take n) is ∙ take_at (take n ds) es n (length-take-le n ds h)
 
-pub added_shared : (ds es l : DescriptorValues) (n c last : ℕ) → (c ≡ 0 → ⊥) → n ≤ length ds → l ≡ take n ds ++ es → last ≡ n + length es → shared_of l c n last ≡ Some (map descriptor_of es, c)
-added_shared ds es l n c last some h is end_ = some_shared l c n last es some (ap (λ x. take (last - n) (drop n x)) is ∙ part_added (take n ds) es n last (length-take-le n ds h) end_)
+pub added_shared : (ds es l : DescriptorValues) (n c last : ℕ) → (c ≡ 0 → ⊥) → n ≤ length ds → l ≡ take n ds ++ es → last ≡ n + length es
+    → shared_of l c n last ≡ Some (map descriptor_of es, c)
+added_shared ds es l n c last some h is end_ =
+    some_shared l c n last es some (ap (λ x. take (last - n) (drop n x)) is ∙ part_added (take n ds) es n last (length-take-le n ds h) end_)
 
 -- what is put behind the descriptors of the frames, of which there are n: the constructor that it makes, and those frames as before
-pub put_behind : (ds es l : DescriptorValues) (d : ℕ) (fs : List OpenContainer) (m n c last : ℕ) → AreNested d fs m → m ≤ length ds → d ≤ length fs → n ≡ shared_in (length (take d fs)) (take d fs) → l ≡ take n ds ++ es → 0 < c → last ≡ n + length es
+pub put_behind : (ds es l : DescriptorValues) (d : ℕ) (fs : List OpenContainer) (m n c last : ℕ) → AreNested d fs m → m ≤ length ds
+    → d ≤ length fs → n ≡ shared_in (length (take d fs)) (take d fs) → l ≡ take n ds ++ es → 0 < c → last ≡ n + length es
     → (n ≡ shared_in d fs) × (shared_of l c n last ≡ Some (map descriptor_of es, c)) × (stack l d fs ≡ stack ds d fs)
 put_behind ds es l d fs m n c last nested within rows is put some end_ =
     let first : n ≡ shared_in d fs = is ∙ shared_front d fs rows in
     let among = shared_among d fs m nested in
     let few : n ≤ length ds = omega (arith, among, first) in
-    let front : AreNested d fs n = nested_last d fs m n nested (omega (arith, first)) (omega (arith, first)) in
-    (first, added_shared ds es l n c last (λ z. omega (arith, some, z)) few put end_, stack_kept l ds n d fs n front (omega arith) (added_front ds es l n few put))
+    let front : AreNested d fs n = nested_last d fs m n nested (omega (arith, first)) (omega (arith, first)) in (
+      first,
+      added_shared ds es l n c last (λ z. omega (arith, some, z)) few put end_,
+      stack_kept l ds n d fs n front (omega arith) (added_front ds es l n few put),
+    )
 
 abbrev state_of : List ℕ → ℕ → ℕ → ℕ → Option Error → Bool → Open → List Open → State
 state_of r a s n e f t ts = record { rest = r; ahead = a; source = s; top = t; saved = ts; nesting = n; error = e; failed = f }
 
 -- two states that differ in their containers alone
-pub same_view : (r : List ℕ) (a s n : ℕ) (e : Option Error) (f : Bool) (t u : Open) (ts us : List Open) → t ≡ u → ts ≡ us → state_of r a s n e f t ts ≡ state_of r a s n e f u us
+pub same_view : (r : List ℕ) (a s n : ℕ) (e : Option Error) (f : Bool) (t u : Open) (ts us : List Open) → t ≡ u → ts ≡ us
+    → state_of r a s n e f t ts ≡ state_of r a s n e f u us
 same_view r a s n e f t u ts us h k = ap₂ (state_of r a s n e f) h k
 
 pub and_none : (o : Option ℕ) → option_and {U = ℕ} o (Some 0) ≡ option_map (λ l. 0) o

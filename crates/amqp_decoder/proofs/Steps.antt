@@ -1,11 +1,13 @@
 -- How the steps of a call follow one another.
-use Rattle.std.proofs.Common.{◌≡◌, ◌≤◌, ◌<◌, ℕ, ◌-◌, inl, inr, Bool, false, Option, Some, None, List, [], ◌∷◌, ◌++◌, length, drop, get_or, unwrap_or, refl, sym, ap, ◌∙◌, subst, arith, suc, zero}
+use Rattle.std.proofs.Common.{◌≡◌, ◌≤◌, ◌<◌, ℕ, ◌-◌, inl, inr, Bool, false, Option, Some, None, List, [], ◌∷◌, ◌++◌, length, drop, get_or}
+use Rattle.std.proofs.Common.{unwrap_or, refl, sym, ap, ◌∙◌, subst, arith, suc, zero}
 use Rattle.std.proofs.lemmas.List.{length-append}
 use Rattle.amqp_model.specs.Term.{Descriptor}
 use Rattle.amqp_wire.specs.declared.error.Error.{Error}
 use Rattle.amqp_wire.specs.declared.error.Error.TheVariants.{Cut, Missing}
 use Rattle.amqp_decoder.specs.State.{State, Has, lower, after_value, announced}
-use Rattle.amqp_decoder.specs.Steps.{Answers, SourceFailed, IsExcused, Pulls, Misses, Takes, Lacks, cut_open, cut_inside, too_long, FallsShort, Stops, asked_in, SizeError, cut, wrong, RefusesSize}
+use Rattle.amqp_decoder.specs.Steps.{Answers, SourceFailed, IsExcused, Pulls, Misses, Takes, Lacks, cut_open, cut_inside, too_long}
+use Rattle.amqp_decoder.specs.Steps.{FallsShort, Stops, asked_in, SizeError, cut, wrong, RefusesSize}
 use Rattle.amqp_decoder.specs.Reading.{RefusesRead, IsLeft, IsFirst, IsFirstShared, ReadsCode, BeginFault, missing, no_code}
 
 -- a call that takes no memory is excused by its source alone
@@ -18,7 +20,8 @@ excused_by_source takes e st x = inr (source_failed e st x)
 
 -- the error was kept
 pub answered : (st new : State) (e d : Error) → new ≡ record st { error = Some d } → e ≡ d → Answers st e new
-answered st new e d h is = record { error = ap (λ (x : State). x.error) h ∙ ap Some (sym is); source = inl (ap (λ (x : State). x.failed) h) }
+answered st new e d h is =
+    record { error = ap (λ (x : State). x.error) h ∙ ap Some (sym is); source = inl (ap (λ (x : State). x.failed) h) }
 
 pub answered_so : (st new : State) (e : Error) → new ≡ record st { error = Some e } → Answers st e new
 answered_so st new e h = answered st new e e h refl
@@ -38,11 +41,13 @@ abbrev pub lowered : ℕ → State → State
 lowered n st = record st { top = record st.top { left = lower st.top.left n } }
 
 size_lacks : (own n l : ℕ) (st : State) (e : Error) → st.top.left ≡ Some l → l < n → SizeError own st e → Lacks n st e
-size_lacks own n l st e h less (cut short is) = cut_inside h (inl less) (subst (λ o. length st.rest < asked_in o own (announced st)) h short) is
+size_lacks own n l st e h less (cut short is) =
+    cut_inside h (inl less) (subst (λ o. length st.rest < asked_in o own (announced st)) h short) is
 size_lacks own n l st e h less (wrong there is) = too_long h less (subst (λ o. asked_in o own (announced st) ≤ length st.rest) h there) is
 
 -- a size was refused in a container that has no room
-pub short_of_size : (own n l : ℕ) (st : State) (e : Error) (new : State) → st.top.left ≡ Some l → l < n → RefusesSize own st e new → FallsShort n st e new
+pub short_of_size : (own n l : ℕ) (st : State) (e : Error) (new : State) → st.top.left ≡ Some l → l < n
+    → RefusesSize own st e new → FallsShort n st e new
 short_of_size own n l st e new h less r = record {
   kept = r.kept;
   why = elim r.why [ inl x ↦ inl x | inr x ↦ inr (size_lacks own n l st e h less x) ];
@@ -53,7 +58,8 @@ missed_lacks n st None e h room is short = cut_open h short is
 missed_lacks n st (Some l) e h room is short = cut_inside h (inr short) (omega (arith, ap (λ o. unwrap_or o 0) h)) is
 
 -- too few bytes stood behind those that the container has room for
-pub short_of_missed : (n k : ℕ) (st : State) (m : State) (e : Error) (new : State) → k ≡ n → Has st.top.left n → m ≡ lowered n st → Misses false k m e new → FallsShort n st e new
+pub short_of_missed : (n k : ℕ) (st : State) (m : State) (e : Error) (new : State) → k ≡ n → Has st.top.left n → m ≡ lowered n st
+    → Misses false k m e new → FallsShort n st e new
 short_of_missed n k st m e new same room is r = record {
   kept = answered_later (ap (λ (x : State). x.failed) is) r.kept;
   why = elim r.why [
@@ -62,7 +68,8 @@ short_of_missed n k st m e new same room is r = record {
   ];
 }
 
-pub took_pulled : (n : ℕ) (st : State) (m : State) (s : List ℕ) (new : State) → length s ≡ n → Has st.top.left n → m ≡ lowered n st → Pulls m s new → Takes st s new
+pub took_pulled : (n : ℕ) (st : State) (m : State) (s : List ℕ) (new : State) → length s ≡ n → Has st.top.left n → m ≡ lowered n st
+    → Pulls m s new → Takes st s new
 took_pulled n st m s new l room is p =
     let room_ : Has st.top.left (length s) = subst (Has st.top.left) (sym l) room in
     let is_ : m ≡ lowered (length s) st = is ∙ ap (λ k. lowered k st) (sym l) in
@@ -79,7 +86,8 @@ has_less None m n h k = tt
 has_less (Some l) m n h k = omega arith
 
 -- bytes that stand there can be taken
-pub not_lacking : (n : ℕ) (st : State) (e : Error) (s x : List ℕ) → Lacks n st e → n ≤ length s → Has st.top.left (length s) → st.rest ≡ s ++ x → ⊥
+pub not_lacking : (n : ℕ) (st : State) (e : Error) (s x : List ℕ) → Lacks n st e → n ≤ length s
+    → Has st.top.left (length s) → st.rest ≡ s ++ x → ⊥
 not_lacking n st e s x (cut_open h short is) few room r = omega (arith, ap length r, length-append s x)
 not_lacking n st e s x (cut_inside {l} h why short is) few room r =
     let fits : length s ≤ l = subst (λ o. Has o (length s)) h room in
@@ -88,7 +96,8 @@ not_lacking n st e s x (too_long {l} h less there is) few room r =
     let fits : length s ≤ l = subst (λ o. Has o (length s)) h room in omega arith
 
 -- a value begins, by its first byte or by a shared constructor
-pub begun_own : (st : State) (c : ℕ) (m : State) → st.error ≡ None → Has st.top.items 1 → st.top.shared ≡ None → Takes st (c ∷ []) m → ReadsCode st c (record m { top = record m.top { items = lower m.top.items 1 } })
+pub begun_own : (st : State) (c : ℕ) (m : State) → st.error ≡ None → Has st.top.items 1 → st.top.shared ≡ None → Takes st (c ∷ []) m
+    → ReadsCode st c (record m { top = record m.top { items = lower m.top.items 1 } })
 begun_own st c m going item none t = record {
   going = going;
   item = item;
@@ -116,9 +125,11 @@ past_none : (st : State) → record st { top = record st.top { items = lower st.
 past_none st =
     let a : st.ahead ≡ st.ahead - 0 = omega arith in
     ap (λ x. record st { ahead = x; top = record st.top { items = lower st.top.items 1 } }) a
-    ∙ ap (λ x. record st { ahead = st.ahead - 0; top = record st.top { items = lower st.top.items 1; left = x } }) (sym (lower_none st.top.left))
+    ∙ ap (λ x. record st { ahead = st.ahead - 0; top = record st.top { items = lower st.top.items 1; left = x } })
+    (sym (lower_none st.top.left))
 
-pub begun_shared : (st : State) (c : ℕ) → st.error ≡ None → Has st.top.items 1 → IsFirstShared st.top.shared c → ReadsCode st c (record st { top = record st.top { items = lower st.top.items 1 } })
+pub begun_shared : (st : State) (c : ℕ) → st.error ≡ None → Has st.top.items 1 → IsFirstShared st.top.shared c
+    → ReadsCode st c (record st { top = record st.top { items = lower st.top.items 1 } })
 begun_shared st c going item h = record {
   going = going;
   item = item;
@@ -143,7 +154,8 @@ not_begun_lacking st e c b none l h =
     not_lacking 1 st e h.own (drop (length h.own) st.rest) l (omega (arith, ap length own)) h.room h.rest
 
 -- no value is left
-pub begin_done : (st : State) (e : Error) (new : State) → RefusesRead false IsLeft (λ st e. (st.top.items ≡ Some 0) × (e ≡ Missing)) st e new → RefusesRead false ReadsCode BeginFault st e new
+pub begin_done : (st : State) (e : Error) (new : State)
+    → RefusesRead false IsLeft (λ st e. (st.top.items ≡ Some 0) × (e ≡ Missing)) st e new → RefusesRead false ReadsCode BeginFault st e new
 begin_done st e new r = record {
   kept = r.kept;
   again = r.again;
@@ -155,7 +167,8 @@ begin_done st e new r = record {
 }
 
 -- its first byte can't be taken
-pub begin_short : (st : State) (e : Error) (new : State) → st.error ≡ None → Has st.top.items 1 → st.top.shared ≡ None → FallsShort 1 st e new → RefusesRead false ReadsCode BeginFault st e new
+pub begin_short : (st : State) (e : Error) (new : State) → st.error ≡ None → Has st.top.items 1 → st.top.shared ≡ None
+    → FallsShort 1 st e new → RefusesRead false ReadsCode BeginFault st e new
 begin_short st e new going item none r = record {
   kept = r.kept;
   again = λ d x. absurd (cc);
@@ -164,18 +177,25 @@ begin_short st e new going item none r = record {
 }
 
 -- why a call stopped
-pub stopped_short : {takes : Bool} (n : ℕ) (st : State) (e : Error) (new : State) → FallsShort n st e new → Stops takes (Lacks n st) st e new
+pub stopped_short : {takes : Bool} (n : ℕ) (st : State) (e : Error) (new : State) → FallsShort n st e new
+    → Stops takes (Lacks n st) st e new
 stopped_short n st e new s = record { kept = s.kept; why = elim s.why [ inl x ↦ inl (inr x) | inr x ↦ inr x ] }
 
-pub stopped_missed : {takes : Bool} (n : ℕ) (st m : State) (e : Error) (new : State) → Has st.top.left n → m ≡ record st { top = record st.top { left = lower st.top.left n } } → Misses takes n m e new → Stops takes (Lacks n st) st e new
+pub stopped_missed : {takes : Bool} (n : ℕ) (st m : State) (e : Error) (new : State) → Has st.top.left n
+    → m ≡ record st { top = record st.top { left = lower st.top.left n } } → Misses takes n m e new → Stops takes (Lacks n st) st e new
 stopped_missed n st m e new room is s = record {
   kept = answered_later (ap (λ (x : State). x.failed) is) s.kept;
-  why = elim s.why [ inl x ↦ inl x | inr (x, y) ↦ inr (missed_lacks n st st.top.left e refl room x (subst (λ (z : State). length z.rest < n) is y)) ];
+  why = elim s.why [
+    | inl x ↦ inl x
+    | inr (x, y) ↦ inr (missed_lacks n st st.top.left e refl room x (subst (λ (z : State). length z.rest < n) is y))
+  ];
 }
 
-pub stopped_as : {takes : Bool} (P Q : Error → Type 0) (st : State) (e : Error) (new : State) → ((d : Error) → P d → Q d) → Stops takes P st e new → Stops takes Q st e new
+pub stopped_as : {takes : Bool} (P Q : Error → Type 0) (st : State) (e : Error) (new : State) → ((d : Error) → P d → Q d)
+    → Stops takes P st e new → Stops takes Q st e new
 stopped_as P Q st e new f s = record { kept = s.kept; why = elim s.why [ inl x ↦ inl x | inr x ↦ inr (f e x) ] }
 
 -- after bytes that were taken
-pub stopped_later : {takes : Bool} (P Q : Error → Type 0) (st m : State) (s : List ℕ) (e : Error) (new : State) → Takes st s m → ((d : Error) → P d → Q d) → Stops takes P m e new → Stops takes Q st e new
+pub stopped_later : {takes : Bool} (P Q : Error → Type 0) (st m : State) (s : List ℕ) (e : Error) (new : State) → Takes st s m
+    → ((d : Error) → P d → Q d) → Stops takes P m e new → Stops takes Q st e new
 stopped_later P Q st m s e new t f r = record { kept = answered_took t r.kept; why = elim r.why [ inl x ↦ inl x | inr x ↦ inr (f e x) ] }

@@ -8,7 +8,15 @@ use Rattle.amqp_wire.specs.declared.error.Error.{Error}
 use Rattle.amqp_wire.specs.declared.error.Error.TheVariants.{Cut, UnknownCode, FloatCode, WrongType}
 use Rattle.amqp_wire.specs.Codes.{is_known, refusal_of}
 use Rattle.amqp_lengths.specs.Pieces.{value_of}
-use Rattle.amqp_lengths.specs.Faults.{ValueFault, PrimitiveFault, primitive_wanting, primitive_no_value, DescriptorFault, descriptor_missing, descriptor_other, descriptor_unknown, descriptor_data, ConstructorFault, constructor_ends, constructor_unknown, constructor_long, constructor_descriptor, ContentFault, content_wanting, content_small, content_counted, inside, TermFault, term_constructor, term_nests, term_data, DataFault, data_of_primitive, data_of_container, data_of_array, ContainerFault, container_content, container_deep, container_unpaired, container_items, ItemsFault, items_fault, items_over, ArrayFault, array_content, array_elements, ElementsFault, elements_missing, elements_constructor, elements_over, elements_empty, elements_deep, elements_data, SharedFault, shared_fault, shared_over}
+use Rattle.amqp_lengths.specs.Faults.{ValueFault, PrimitiveFault, primitive_wanting, primitive_no_value, DescriptorFault}
+use Rattle.amqp_lengths.specs.Faults.{descriptor_missing, descriptor_other, descriptor_unknown, descriptor_data, ConstructorFault}
+use Rattle.amqp_lengths.specs.Faults.{constructor_ends, constructor_unknown, constructor_long, constructor_descriptor, ContentFault}
+use Rattle.amqp_lengths.specs.Faults.{content_wanting, content_small, content_counted, inside, TermFault, term_constructor, term_nests}
+use Rattle.amqp_lengths.specs.Faults.{term_data, DataFault, data_of_primitive, data_of_container, data_of_array, ContainerFault}
+use Rattle.amqp_lengths.specs.Faults.{container_content, container_deep, container_unpaired, container_items, ItemsFault, items_fault}
+use Rattle.amqp_lengths.specs.Faults.{items_over, ArrayFault, array_content, array_elements, ElementsFault, elements_missing}
+use Rattle.amqp_lengths.specs.Faults.{elements_constructor, elements_over, elements_empty, elements_deep, elements_data, SharedFault}
+use Rattle.amqp_lengths.specs.Faults.{shared_fault, shared_over}
 use Rattle.amqp_decoder.specs.Misspelled.{IsMisspelling}
 
 yes_no : (b : Bool) → b ≡ true → b ≡ false → ⊥

@@ -32,7 +32,8 @@ pub data ConstructorFault (st : State) (e : Error) : Type 0 where
   no_code : (ds : List Descriptor) (own : List ℕ) (m : State) → Marks ds own → Takes st own m → Lacks 1 m e → ConstructorFault st e
   no_mark : (ds : List Descriptor) (m : State) → TakesMarks st ds 0 m → DescriptorFault m e → ConstructorFault st e
   too_many : (ds : List Descriptor) (m : State) → TakesMarks st ds 0 m → 128 ≤ length ds → e ≡ Depth → ConstructorFault st e
-  no_known_code : (ds : List Descriptor) (c : ℕ) (m : State) → TakesMarks st ds c m → (c ≡ 0 → ⊥) → (IsKnown (format c) → ⊥) → e ≡ refusal_of c → ConstructorFault st e
+  no_known_code : (ds : List Descriptor) (c : ℕ) (m : State) → TakesMarks st ds c m → (c ≡ 0 → ⊥) → (IsKnown (format c) → ⊥)
+      → e ≡ refusal_of c → ConstructorFault st e
 
 -- The items of this constructor hold no others.
 abbrev pub IsFlat : List Descriptor → Format → Type 0
@@ -43,14 +44,17 @@ IsFlat (d ∷ ds) F = ⊥
 -- The constructor of an array's n items stood next, and they share it, and are left from then on: its code isn't of width zero.
 pub data Shares (n : ℕ) (st : State) (st' : State) : Type 0 where
   no_items : (ds : List Descriptor) (c : ℕ) → n ≡ 0 → TakesConstructor st ds c st' → Shares n st st'
-  shared_by : (ds : List Descriptor) (c : ℕ) (m : State) → (n ≡ 0 → ⊥) → TakesConstructor st ds c m → (HasWidthZero (format c) → ⊥) → IsFlat ds (format c) ⊎ (length st.saved ≤ st.nesting)
+  shared_by : (ds : List Descriptor) (c : ℕ) (m : State) → (n ≡ 0 → ⊥) → TakesConstructor st ds c m → (HasWidthZero (format c) → ⊥)
+      → IsFlat ds (format c) ⊎ (length st.saved ≤ st.nesting)
       → st' ≡ record m { top = record m.top { items = Some n; shared = Some (ds, c) } } → Shares n st st'
 
 -- Why they don't.
 pub data SharesFault (n : ℕ) (st : State) (e : Error) : Type 0 where
   no_constructor : ConstructorFault st e → SharesFault n st e
-  zero_width : (ds : List Descriptor) (c : ℕ) (m : State) → (n ≡ 0 → ⊥) → TakesConstructor st ds c m → HasWidthZero (format c) → e ≡ ZeroWidthItems → SharesFault n st e
-  too_nested : (ds : List Descriptor) (c : ℕ) (m : State) → (n ≡ 0 → ⊥) → TakesConstructor st ds c m → (IsFlat ds (format c) → ⊥) → st.nesting < length st.saved → e ≡ Depth → SharesFault n st e
+  zero_width : (ds : List Descriptor) (c : ℕ) (m : State) → (n ≡ 0 → ⊥) → TakesConstructor st ds c m → HasWidthZero (format c)
+      → e ≡ ZeroWidthItems → SharesFault n st e
+  too_nested : (ds : List Descriptor) (c : ℕ) (m : State) → (n ≡ 0 → ⊥) → TakesConstructor st ds c m → (IsFlat ds (format c) → ⊥)
+      → st.nesting < length st.saved → e ≡ Depth → SharesFault n st e
 
 -- An array without items may have no constructor.
 abbrev pub Starts : ℕ → ℕ → State → State → Type 0
@@ -70,8 +74,10 @@ pub record EntersArray (width : ℕ) (st : State) (n : ℕ) (st' : State) : Type
 pub data EnterArrayFault (width : ℕ) (st : State) (e : Error) : Type 0 where
   no_header : HeaderFault false width st e → EnterArrayFault width st e
   no_room : (n content : ℕ) (m : State) → ReadsHeader false width st n content m → NoRoom content m e → EnterArrayFault width st e
-  too_deep : (n content : ℕ) (m : State) → ReadsHeader false width st n content m → st.nesting < length st.saved → e ≡ Depth → EnterArrayFault width st e
-  no_start : (n content : ℕ) (m : State) → ReadsHeader false width st n content m → 0 < max n content → SharesFault n (in_container InArray 0 content m) e → EnterArrayFault width st e
+  too_deep : (n content : ℕ) (m : State) → ReadsHeader false width st n content m → st.nesting < length st.saved → e ≡ Depth
+      → EnterArrayFault width st e
+  no_start : (n content : ℕ) (m : State) → ReadsHeader false width st n content m → 0 < max n content
+      → SharesFault n (in_container InArray 0 content m) e → EnterArrayFault width st e
 
 -- An array of n items stood next, as far as its items, and it was entered.
 pub record OpensArray (st : State) (n : ℕ) (st' : State) : Type 0 where
@@ -85,5 +91,6 @@ pub record OpensArray (st : State) (n : ℕ) (st' : State) : Type 0 where
 -- Why none is.
 pub data ArrayFault (st : State) (e : Error) : Type 0 where
   not_begun : BeginFault st e → ArrayFault st e
-  wrong_code : (c : ℕ) (m : State) → ReadsCode st c m → ((width : ℕ) → format c ≡ compound array width → ⊥) → e ≡ refusal_of c → ArrayFault st e
+  wrong_code : (c : ℕ) (m : State) → ReadsCode st c m → ((width : ℕ) → format c ≡ compound array width → ⊥)
+      → e ≡ refusal_of c → ArrayFault st e
   no_data : (c width : ℕ) (m : State) → ReadsCode st c m → format c ≡ compound array width → EnterArrayFault width m e → ArrayFault st e

@@ -97,9 +97,12 @@ pub record ReadsHeader (listed : Bool) (width : ℕ) (st : State) (n content : �
 -- Why there is no such size and count.
 pub data HeaderFault (listed : Bool) (width : ℕ) (st : State) (e : Error) : Type 0 where
   no_size : Lacks width st e → HeaderFault listed width st e
-  impossible : {size : ℕ} {m : State} → size < 256 ^ width → Takes st (bytes_high_first width size) m → (IsPossible listed width size → ⊥) → SizeError size m e → HeaderFault listed width st e
-  no_count : {size : ℕ} {m : State} → size < 256 ^ width → Takes st (bytes_high_first width size) m → IsPossible listed width size → Lacks width m e → HeaderFault listed width st e
-  no_content : {n : ℕ} {m : State} → 0 < n → n < 256 ^ width → Takes st (bytes_high_first width 0 ++ bytes_high_first width n) m → SizeError 0 m e → HeaderFault listed width st e
+  impossible : {size : ℕ} {m : State} → size < 256 ^ width → Takes st (bytes_high_first width size) m → (IsPossible listed width size → ⊥)
+      → SizeError size m e → HeaderFault listed width st e
+  no_count : {size : ℕ} {m : State} → size < 256 ^ width → Takes st (bytes_high_first width size) m → IsPossible listed width size
+      → Lacks width m e → HeaderFault listed width st e
+  no_content : {n : ℕ} {m : State} → 0 < n → n < 256 ^ width → Takes st (bytes_high_first width 0 ++ bytes_high_first width n) m
+      → SizeError 0 m e → HeaderFault listed width st e
 
 -- Why a container of so many bytes can't be opened.
 abbrev pub Unopened : ℕ → State → Error → Type 0
@@ -118,9 +121,12 @@ pub record Enters (kind : Container) (width : ℕ) (st : State) (n : ℕ) (st' :
 -- Why none is entered.
 pub data EnterFault (kind : Container) (width : ℕ) (st : State) (e : Error) : Type 0 where
   no_header : HeaderFault (is_list kind) width st e → EnterFault kind width st e
-  odd_count : {n content : ℕ} {m : State} → ReadsHeader (is_list kind) width st n content m → (IsCount kind n → ⊥) → e ≡ OddCount → EnterFault kind width st e
-  no_room : {n content : ℕ} {m : State} → ReadsHeader (is_list kind) width st n content m → IsCount kind n → NoRoom content m e → EnterFault kind width st e
-  too_deep : {n content : ℕ} {m : State} → ReadsHeader (is_list kind) width st n content m → IsCount kind n → Has m.top.left content → st.nesting ≤ length st.saved → e ≡ Depth → EnterFault kind width st e
+  odd_count : {n content : ℕ} {m : State} → ReadsHeader (is_list kind) width st n content m → (IsCount kind n → ⊥) → e ≡ OddCount
+      → EnterFault kind width st e
+  no_room : {n content : ℕ} {m : State} → ReadsHeader (is_list kind) width st n content m → IsCount kind n → NoRoom content m e
+      → EnterFault kind width st e
+  too_deep : {n content : ℕ} {m : State} → ReadsHeader (is_list kind) width st n content m → IsCount kind n → Has m.top.left content
+      → st.nesting ≤ length st.saved → e ≡ Depth → EnterFault kind width st e
 
 -- A container of this kind and of n items stood next, as far as its items, and it was entered.
 pub record Opens (kind : Container) (st : State) (n : ℕ) (st' : State) : Type 0 where
@@ -134,5 +140,6 @@ pub record Opens (kind : Container) (st : State) (n : ℕ) (st' : State) : Type 
 -- Why none of this kind is.
 pub data OpenFault (kind : Container) (st : State) (e : Error) : Type 0 where
   not_begun : BeginFault st e → OpenFault kind st e
-  wrong_code : {c : ℕ} {m : State} → ReadsCode st c m → ((width : ℕ) → format c ≡ compound kind width → ⊥) → e ≡ refusal_of c → OpenFault kind st e
+  wrong_code : {c : ℕ} {m : State} → ReadsCode st c m → ((width : ℕ) → format c ≡ compound kind width → ⊥)
+      → e ≡ refusal_of c → OpenFault kind st e
   no_data : {c width : ℕ} {m : State} → ReadsCode st c m → format c ≡ compound kind width → EnterFault kind width m e → OpenFault kind st e

@@ -93,9 +93,11 @@ IsDescriptorKind k = (k ≡ Some ulongs) ⊎ (k ≡ Some symbols)
 -- Why no descriptor is read.
 pub data DescriptorFault (st : State) (e : Error) : Type 0 where
   no_code : Lacks 1 st e → DescriptorFault st e
-  no_kind : {c : ℕ} {m : State} → Takes st (c ∷ []) m → (IsDescriptorKind (kind_at c) → ⊥) → e ≡ other_kind (refusal_of c) → DescriptorFault st e
+  no_kind : {c : ℕ} {m : State} → Takes st (c ∷ []) m → (IsDescriptorKind (kind_at c) → ⊥)
+      → e ≡ other_kind (refusal_of c) → DescriptorFault st e
   no_data : {c : ℕ} {m : State} → Takes st (c ∷ []) m → IsDescriptorKind (kind_at c) → LacksData (format c) m e → DescriptorFault st e
-  non_ascii : {c : ℕ} {m : State} {b : List ℕ} {m' : State} → Takes st (c ∷ []) m → kind_at c ≡ Some symbols → Takes m b m' → IsWhole (format c) b
+  non_ascii : {c : ℕ} {m : State} {b : List ℕ} {m' : State} → Takes st (c ∷ []) m → kind_at c ≡ Some symbols
+      → Takes m b m' → IsWhole (format c) b
       → ((d : Descriptor) → PrimitiveData (format c) (descriptor_value d) b → ⊥) → e ≡ NonAscii → DescriptorFault st e
 
 -- No descriptor was taken.
@@ -112,7 +114,8 @@ pub record TakesPlace (members : List Member) (st : State) (place : Option ℕ) 
 -- No name of n bytes was taken.
 pub record MissesName (n : ℕ) (st : State) (e : Error) (st' : State) : Type 0 where
   pub kept : Answers st e st'
-  pub why : SourceFailed e st' ⊎ ((e ≡ Cut) × (length st.rest < n)) ⊎ ((e ≡ NonAscii) × (n ≤ length st.rest) × (IsAscii (take n st.rest) → ⊥))
+  pub why : SourceFailed e st' ⊎ ((e ≡ Cut) × (length st.rest < n))
+      ⊎ ((e ≡ NonAscii) × (n ≤ length st.rest) × (IsAscii (take n st.rest) → ⊥))
 
 -- Why no described value is opened.
 pub data OpenFault (st : State) (e : Error) : Type 0 where

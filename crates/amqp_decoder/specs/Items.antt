@@ -18,12 +18,14 @@ pub record Next (st : State) (t : Term) (st' : State) : Type 0 where
 -- The terms stood next, one after another, as these bytes, and were taken.
 abbrev pub Row : State → List Term → List ℕ → State → Type 0
 Row st [] b st' = (b ≡ []) × (st' ≡ st)
-Row st (t ∷ ts) b st' = (first others : List ℕ) × (b ≡ first ++ others) × Stands st first t × Row (after_value (length first) st) ts others st'
+Row st (t ∷ ts) b st' = (first others : List ℕ) × (b ≡ first ++ others) × Stands st first t
+    × Row (after_value (length first) st) ts others st'
 
 -- How the terms of a row stand.
 abbrev pub row_standings : (st : State) (ts : List Term) (b : List ℕ) (st' : State) → Row st ts b st' → List Standing
 row_standings st [] b st' row = []
-row_standings st (t ∷ ts) b st' (first, others, e, k, row) = standing st.top.shared first ∷ row_standings (after_value (length first) st) ts others st' row
+row_standings st (t ∷ ts) b st' (first, others, e, k, row) =
+    standing st.top.shared first ∷ row_standings (after_value (length first) st) ts others st' row
 
 -- The term stood next, with its parts so, and was taken.
 pub record NextWithParts (st : State) (t : Term) (ss : List Standing) (st' : State) : Type 0 where

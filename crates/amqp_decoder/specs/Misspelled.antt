@@ -2,7 +2,8 @@
 use Rattle.std.specs.Prelude.{ℕ, List}
 use Rattle.amqp_model.specs.Term.{Term}
 use Rattle.amqp_wire.specs.declared.error.Error.{Error}
-use Rattle.amqp_wire.specs.declared.error.Error.TheVariants.{UnknownCode, FloatCode, Size, OddCount, Depth, ZeroWidthItems, BadBool, BadChar, BadUtf8, NonAscii, BadDescriptor}
+use Rattle.amqp_wire.specs.declared.error.Error.TheVariants.{UnknownCode, FloatCode, Size, OddCount, Depth, ZeroWidthItems, BadBool}
+use Rattle.amqp_wire.specs.declared.error.Error.TheVariants.{BadChar, BadUtf8, NonAscii, BadDescriptor}
 use Rattle.amqp_decoder.specs.State.{State}
 use Rattle.amqp_decoder.specs.Primitives.{Stands}
 

@@ -14,14 +14,20 @@ use Rattle.amqp_decoder.specs.Steps.{Takes, Lacks, cut_open, cut_inside, too_lon
 use Rattle.amqp_decoder.specs.Reading.{ReadsCode, BeginFault, missing, no_code, after_peek, PeeksCode}
 use Rattle.amqp_decoder.specs.Primitives.{Stands, ReadsValue, LacksData, PrimitiveFault, not_begun, wrong_code, no_data, bad_data}
 use Rattle.amqp_decoder.specs.Containers as containers
-use Rattle.amqp_decoder.specs.Containers.{IsOpen, EndFault, other_place, nothing_open, items_left, Closes, CloseFault, not_at_end, bytes_left_over, ClosesDescribed, ReadsHeader, HeaderFault, no_size, impossible, no_count, no_content, Enters, EnterFault, no_header, odd_count, no_room, too_deep, Opens, OpenFault}
+use Rattle.amqp_decoder.specs.Containers.{IsOpen, EndFault, other_place, nothing_open, items_left, Closes, CloseFault, not_at_end}
+use Rattle.amqp_decoder.specs.Containers.{bytes_left_over, ClosesDescribed, ReadsHeader, HeaderFault, no_size, impossible, no_count}
+use Rattle.amqp_decoder.specs.Containers.{no_content, Enters, EnterFault, no_header, odd_count, no_room, too_deep, Opens, OpenFault}
 use Rattle.amqp_decoder.specs.Described as described
-use Rattle.amqp_decoder.specs.Described.{TakesDescriptor, OpensDescribed, TakesPlace, DescribedFault, other_code, DescriptorFault, no_kind, non_ascii, not_open, nameless, OneOfFault, not_described, no_descriptor, no_member}
+use Rattle.amqp_decoder.specs.Described.{TakesDescriptor, OpensDescribed, TakesPlace, DescribedFault, other_code, DescriptorFault, no_kind}
+use Rattle.amqp_decoder.specs.Described.{non_ascii, not_open, nameless, OneOfFault, not_described, no_descriptor, no_member}
 use Rattle.amqp_decoder.specs.Arrays as arrays
-use Rattle.amqp_decoder.specs.Arrays.{IsFlat, TakesMarks, TakesConstructor, ConstructorFault, no_mark, too_many, no_known_code, Shares, no_items, shared_by, SharesFault, no_constructor, zero_width, too_nested, Starts, EntersArray, EnterArrayFault, no_start, OpensArray, ArrayFault}
+use Rattle.amqp_decoder.specs.Arrays.{IsFlat, TakesMarks, TakesConstructor, ConstructorFault, no_mark, too_many, no_known_code, Shares}
+use Rattle.amqp_decoder.specs.Arrays.{no_items, shared_by, SharesFault, no_constructor, zero_width, too_nested, Starts, EntersArray}
+use Rattle.amqp_decoder.specs.Arrays.{EnterArrayFault, no_start, OpensArray, ArrayFault}
 use Rattle.amqp_decoder.specs.Rooms.{HasRoom}
 use Rattle.amqp_decoder.specs.Terms as terms
-use Rattle.amqp_decoder.specs.Terms.{LacksAnnounced, NoTerm, wrong_size, wrong_term, SpellingFault, no_term, TakesTerm, TermFault, in_array, misspelled}
+use Rattle.amqp_decoder.specs.Terms.{LacksAnnounced, NoTerm, wrong_size, wrong_term, SpellingFault, no_term, TakesTerm, TermFault, in_array}
+use Rattle.amqp_decoder.specs.Terms.{misspelled}
 use Rattle.amqp_lengths.proofs.RefusedBytes.{fault_refuses}
 use Rattle.amqp_lengths.proofs.DeeperFaults.{fault_deeper}
 
@@ -81,7 +87,8 @@ module _ (c : Setting) where
     nested = let n = h.nested in let g = c.grows st.nesting in omega (arith, n, g);
   }
 
-  pub value : {A : Type 0} (means : Standing → Term → A → Type 0) {st st' : State} {v : A} → ReadsValue means st v st' → ReadsValue means (at st) v (at st')
+  pub value : {A : Type 0} (means : Standing → Term → A → Type 0) {st st' : State} {v : A} → ReadsValue means st v st'
+      → ReadsValue means (at st) v (at st')
   value means h = record { bytes = h.bytes; term = h.term; stands = stands h.stands; moved = ap at h.moved; meant = h.meant }
 
   lacks : {n : ℕ} {st : State} {e : Error} → Lacks n st e → Lacks n (at st) e
@@ -121,7 +128,8 @@ module _ (c : Setting) where
   deeper keeps n l is = let same = keeps is n in omega (arith, l, same)
 
   -- containers
-  header : {listed : Bool} {w n content : ℕ} {st st' : State} → ReadsHeader listed w st n content st' → ReadsHeader listed w (at st) n content (at st')
+  header : {listed : Bool} {w n content : ℕ} {st st' : State} → ReadsHeader listed w st n content st'
+      → ReadsHeader listed w (at st) n content (at st')
   header h = record { size = h.size; fits = h.fits; few = h.few; took = took h.took; counts = h.counts }
 
   header_fault : {listed : Bool} {w : ℕ} {st : State} {e : Error} → HeaderFault listed w st e → HeaderFault listed w (at st) e
@@ -148,7 +156,14 @@ module _ (c : Setting) where
   enter_fault {st} keeps (too_deep h n r l e) = too_deep (header h) n r (deep keeps st.nesting l e) e
 
   pub opens : {kind : Container} {n : ℕ} {st st' : State} → Opens kind st n st' → Opens kind (at st) n (at st')
-  opens h = record { code = h.code; width = h.width; mid = at h.mid; begun = begun h.begun; announced = h.announced; data_ = entered h.data_ }
+  opens h = record {
+    code = h.code;
+    width = h.width;
+    mid = at h.mid;
+    begun = begun h.begun;
+    announced = h.announced;
+    data_ = entered h.data_;
+  }
 
   pub open_fault : {kind : Container} {st : State} {e : Error} → KeepsError c e → OpenFault kind st e → OpenFault kind (at st) e
   open_fault keeps (containers.not_begun h) = containers.not_begun (begin_fault keeps h)
@@ -164,7 +179,16 @@ module _ (c : Setting) where
   end_fault keeps (items_left o n e) = items_left (is_open o) n e
 
   pub closes : {place : OpenKind} {st st' : State} → Closes place st st' → Closes place (at st) (at st')
-  closes h = record { going = h.going; here = h.here; items = h.items; left = h.left; outer = h.outer; others = h.others; saved = h.saved; moved = ap at h.moved }
+  closes h = record {
+    going = h.going;
+    here = h.here;
+    items = h.items;
+    left = h.left;
+    outer = h.outer;
+    others = h.others;
+    saved = h.saved;
+    moved = ap at h.moved;
+  }
 
   pub close_fault : {place : OpenKind} {st : State} {e : Error} → KeepsError c e → CloseFault place st e → CloseFault place (at st) e
   close_fault keeps (not_at_end h) = not_at_end (end_fault keeps h)
@@ -185,7 +209,8 @@ module _ (c : Setting) where
   }
 
   pub closes_described : {place : OpenKind} {st st' : State} → ClosesDescribed place st st' → ClosesDescribed place (at st) (at st')
-  closes_described h = record { going = h.going; here = h.here; items = h.items; outer = h.outer; others = h.others; saved = h.saved; moved = ap at h.moved }
+  closes_described h =
+      record { going = h.going; here = h.here; items = h.items; outer = h.outer; others = h.others; saved = h.saved; moved = ap at h.moved }
 
   described_fault : {st : State} {e : Error} → KeepsError c e → DescribedFault st e → DescribedFault (at st) e
   described_fault keeps (described.not_begun h) = described.not_begun (begin_fault keeps h)
@@ -201,7 +226,8 @@ module _ (c : Setting) where
   took_place : {members : List Member} {o : Option ℕ} {st st' : State} → TakesPlace members st o st' → TakesPlace members (at st) o (at st')
   took_place h = record { descriptor = h.descriptor; took = took_descriptor h.took; is = h.is }
 
-  pub one_of_fault : {members : List Member} {st : State} {e : Error} → KeepsError c e → OneOfFault members st e → OneOfFault members (at st) e
+  pub one_of_fault : {members : List Member} {st : State} {e : Error} → KeepsError c e → OneOfFault members st e
+      → OneOfFault members (at st) e
   one_of_fault keeps (not_described h) = not_described (described_fault keeps h)
   one_of_fault keeps (no_descriptor b s h) = no_descriptor (begun b) s (descriptor_fault h)
   one_of_fault keeps (no_member b t e) = no_member (begun b) (took_place t) e
@@ -223,7 +249,8 @@ module _ (c : Setting) where
 
   shares : {n : ℕ} {st st' : State} → Shares n st st' → Shares n (at st) (at st')
   shares (no_items ds k e t) = no_items ds k e (took_constructor t)
-  shares {st} (shared_by ds k m some t wide room is) = shared_by ds k (at m) some (took_constructor t) wide (fits st.nesting (length st.saved) room) (ap at is)
+  shares {st} (shared_by ds k m some t wide room is) =
+      shared_by ds k (at m) some (took_constructor t) wide (fits st.nesting (length st.saved) room) (ap at is)
 
   starts : (n content : ℕ) (st st' : State) → Starts n content st st' → Starts n content (at st) (at st')
   starts n content st st' (inl (e, is)) = inl (e, ap at is)
@@ -240,7 +267,15 @@ module _ (c : Setting) where
   }
 
   pub opens_array : {n : ℕ} {st st' : State} → OpensArray st n st' → OpensArray (at st) n (at st')
-  opens_array h = record { code = h.code; width = h.width; mid = at h.mid; begun = begun h.begun; announced = h.announced; data_ = enters_array h.data_ }
+  opens_array h =
+      record {
+        code = h.code;
+        width = h.width;
+        mid = at h.mid;
+        begun = begun h.begun;
+        announced = h.announced;
+        data_ = enters_array h.data_;
+      }
 
   constructor_fault : {st : State} {e : Error} → ConstructorFault st e → ConstructorFault (at st) e
   constructor_fault (arrays.no_code ds own m marks t l) = arrays.no_code ds own (at m) marks (took t) (lacks l)
@@ -251,12 +286,14 @@ module _ (c : Setting) where
   shares_fault : {n : ℕ} {st : State} {e : Error} → KeepsError c e → SharesFault n st e → SharesFault n (at st) e
   shares_fault keeps (no_constructor h) = no_constructor (constructor_fault h)
   shares_fault keeps (zero_width ds k m some t wide e) = zero_width ds k (at m) some (took_constructor t) wide e
-  shares_fault {st} keeps (too_nested ds k m some t uneven l e) = too_nested ds k (at m) some (took_constructor t) uneven (deeper keeps st.nesting l e) e
+  shares_fault {st} keeps (too_nested ds k m some t uneven l e) =
+      too_nested ds k (at m) some (took_constructor t) uneven (deeper keeps st.nesting l e) e
 
   enter_array_fault : {w : ℕ} {st : State} {e : Error} → KeepsError c e → EnterArrayFault w st e → EnterArrayFault w (at st) e
   enter_array_fault keeps (arrays.no_header h) = arrays.no_header (header_fault h)
   enter_array_fault keeps (arrays.no_room n content m h r) = arrays.no_room n content (at m) (header h) (room_fault r)
-  enter_array_fault {st} keeps (arrays.too_deep n content m h l e) = arrays.too_deep n content (at m) (header h) (deeper keeps st.nesting l e) e
+  enter_array_fault {st} keeps (arrays.too_deep n content m h l e) =
+      arrays.too_deep n content (at m) (header h) (deeper keeps st.nesting l e) e
   enter_array_fault keeps (no_start n content m h l f) = no_start n content (at m) (header h) l (shares_fault keeps f)
 
   pub array_fault : {st : State} {e : Error} → KeepsError c e → ArrayFault st e → ArrayFault (at st) e
@@ -294,7 +331,8 @@ module _ (c : Setting) where
       let g = c.grows st.nesting in
       let open_ = length st.saved in
       let same = λ (d : e ≡ Depth). ap (λ n. n - open_) (sym (keeps d st.nesting)) in
-      no_term (took_constructor t) (took u) h (no_term_deeper (st.nesting - open_) (c.deepen st.nesting - open_) (t.own ++ b) m' e (omega (arith, g)) same f)
+      no_term (took_constructor t) (took u) h
+      (no_term_deeper (st.nesting - open_) (c.deepen st.nesting - open_) (t.own ++ b) m' e (omega (arith, g)) same f)
 
   pub term_fault : {st : State} {e : Error} → KeepsError c e → TermFault st e → TermFault (at st) e
   term_fault keeps (terms.missing h is) = terms.missing h is

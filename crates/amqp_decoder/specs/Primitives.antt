@@ -77,20 +77,23 @@ pub record LacksDataOf (k code : ℕ) (st : State) (e : Error) (st' : State) : T
 -- b is as long as the format announces.
 abbrev pub IsWhole : Format → List ℕ → Type 0
 IsWhole (fixed width value) b = length b ≡ width
-IsWhole (variable width value) b = (content : List ℕ) × (length content < 256 ^ width) × (b ≡ bytes_high_first width (length content) ++ content)
+IsWhole (variable width value) b = (content : List ℕ) × (length content < 256 ^ width)
+    × (b ≡ bytes_high_first width (length content) ++ content)
 IsWhole (compound kind width) b = ⊥
 IsWhole unknown b = ⊥
 
 -- The error for data that is no value of its kind.
 abbrev pub bad : ℕ → Error
-bad k = cond (eqb k booleans) BadBool (cond (eqb k chars) BadChar (cond (eqb k strings) BadUtf8 (cond (eqb k symbols) NonAscii InvalidValue)))
+bad k = cond (eqb k booleans) BadBool
+    (cond (eqb k chars) BadChar (cond (eqb k strings) BadUtf8 (cond (eqb k symbols) NonAscii InvalidValue)))
 
 -- Why no primitive of a kind is read.
 pub data PrimitiveFault (k : ℕ) (st : State) (e : Error) : Type 0 where
   not_begun : BeginFault st e → PrimitiveFault k st e
   wrong_code : {c : ℕ} {m : State} → ReadsCode st c m → (kind_at c ≡ Some k → ⊥) → e ≡ refusal_of c → PrimitiveFault k st e
   no_data : {c : ℕ} {m : State} → ReadsCode st c m → kind_at c ≡ Some k → LacksData (format c) m e → PrimitiveFault k st e
-  bad_data : {c : ℕ} {m : State} {b : List ℕ} {m' : State} → ReadsCode st c m → kind_at c ≡ Some k → Takes m b m' → IsWhole (format c) b → ((p : Primitive) → PrimitiveData (format c) p b → ⊥) → e ≡ bad k → PrimitiveFault k st e
+  bad_data : {c : ℕ} {m : State} {b : List ℕ} {m' : State} → ReadsCode st c m → kind_at c ≡ Some k → Takes m b m' → IsWhole (format c) b
+      → ((p : Primitive) → PrimitiveData (format c) p b → ⊥) → e ≡ bad k → PrimitiveFault k st e
 
 -- Why no data of n bytes is read under this code.
 pub data FixedFault (code n : ℕ) (st : State) (e : Error) : Type 0 where

@@ -8,14 +8,16 @@ use Rattle.amqp_decoder.specs.Steps.{Answers, IsExcused, Lacks}
 
 -- Nothing that could be read stands there, and the error, which names a fault that does, is kept for each later call.
 -- takes: the call takes memory, and may want it
-pub record RefusesRead {A : Type 0} (takes : Bool) (reads : State → A → State → Type 0) (fault : State → Error → Type 0) (old : State) (e : Error) (new : State) : Type 0 where
+pub record RefusesRead {A : Type 0} (takes : Bool) (reads : State → A → State → Type 0) (fault : State → Error → Type 0) (old : State)
+    (e : Error) (new : State) : Type 0 where
   pub kept : Answers old e new
   pub again : (d : Error) → old.error ≡ Some d → (d ≡ e) × (new ≡ old)
   pub named : old.error ≡ None → IsExcused takes e new ⊎ fault old e
   pub none : IsExcused takes e new ⊎ ((v : A) (st : State) → reads old v st → ⊥)
 
 -- Ok of what stands next, or the reason why nothing does.
-abbrev pub AnswersRead : {A : Type 0} → Bool → (State → A → State → Type 0) → (State → Error → Type 0) → State → Result A Error → State → Type 0
+abbrev pub AnswersRead : {A : Type 0} → Bool → (State → A → State → Type 0) → (State → Error → Type 0) → State
+    → Result A Error → State → Type 0
 AnswersRead takes reads fault old (Ok v) new = reads old v new
 AnswersRead takes reads fault old (Err e) new = RefusesRead takes reads fault old e new
 

@@ -1,5 +1,6 @@
 -- What a decoder has before it.
-use Rattle.std.specs.Prelude.{◌≡◌, ℕ, zero, suc, ◌+◌, ◌-◌, ◌≤◌, Bool, cond, eqb, List, [], ◌∷◌, take, drop, map, get_or, max, Option, Some, None, unwrap_or}
+use Rattle.std.specs.Prelude.{◌≡◌, ℕ, zero, suc, ◌+◌, ◌-◌, ◌≤◌, Bool, cond, eqb, List, [], ◌∷◌, take, drop, map, get_or, max, Option, Some}
+use Rattle.std.specs.Prelude.{None, unwrap_or}
 use Rattle.amqp_model.specs.Term.{Descriptor}
 use Rattle.amqp_wire.specs.declared.error.Error.{Error}
 use Rattle.amqp_wire.specs.declared.descriptor.Descriptor.{Descriptor as DescriptorValue}
@@ -85,7 +86,8 @@ IsLevel f = f.place ≡ Top → (f.left ≡ None) × (f.code ≡ 0)
 -- bytes left, has no bound where the frame around it has none.
 abbrev pub AreBounded : ℕ → List OpenContainer → OpenKind → Option ℕ → Type 0
 AreBounded zero fs p l = Unit {0}
-AreBounded (suc n) fs p l = (p ≡ InDescribed → (get_or fs n unused).left ≡ None → l ≡ None) × IsLevel (get_or fs n unused) × AreBounded n fs (get_or fs n unused).place (get_or fs n unused).left
+AreBounded (suc n) fs p l = (p ≡ InDescribed → (get_or fs n unused).left ≡ None → l ≡ None) × IsLevel (get_or fs n unused)
+    × AreBounded n fs (get_or fs n unused).place (get_or fs n unused).left
 
 -- Where the items of a container stand.
 abbrev pub IsContainer : OpenKind → Type 0
@@ -126,8 +128,17 @@ after_data n st = record st { rest = drop n st.rest; ahead = st.ahead - n; top =
 
 -- A value of n bytes is taken.
 abbrev pub after_value : ℕ → State → State
-after_value n st = record st { rest = drop n st.rest; ahead = st.ahead - n; top = record st.top { items = lower st.top.items 1; left = lower st.top.left n } }
+after_value n st =
+    record st {
+      rest = drop n st.rest;
+      ahead = st.ahead - n;
+      top = record st.top { items = lower st.top.items 1; left = lower st.top.left n };
+    }
 
 -- A container of n items in so many bytes is entered, and they are taken off the one around it.
 abbrev pub in_container : OpenKind → ℕ → ℕ → State → State
-in_container place n content st = record st { top = record { place = place; items = items_of place n; left = Some content; shared = None }; saved = (record st.top { left = lower st.top.left content }) ∷ st.saved }
+in_container place n content st =
+    record st {
+      top = record { place = place; items = items_of place n; left = Some content; shared = None };
+      saved = (record st.top { left = lower st.top.left content }) ∷ st.saved;
+    }

@@ -64,7 +64,8 @@ pub data NoTerm (nesting : ℕ) (b : List ℕ) (st : State) (e : Error) : Type 0
 pub data SpellingFault (st : State) (e : Error) : Type 0 where
   no_constructor : ConstructorFault st e → SpellingFault st e
   no_data : {ds : List Descriptor} {c : ℕ} {m : State} → TakesConstructor st ds c m → LacksAnnounced (format c) m e → SpellingFault st e
-  no_term : {ds : List Descriptor} {c : ℕ} {m : State} {b : List ℕ} {m' : State} (t : TakesConstructor st ds c m) → Takes m b m' → IsAnnounced (format c) b
+  no_term : {ds : List Descriptor} {c : ℕ} {m : State} {b : List ℕ} {m' : State} (t : TakesConstructor st ds c m) → Takes m b m'
+      → IsAnnounced (format c) b
       → NoTerm (st.nesting - length st.saved) (t.own ++ b) m' e → SpellingFault st e
 
 -- A term stood next as these bytes, a constructor of its own among them, and was taken.

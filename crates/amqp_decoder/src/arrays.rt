@@ -1,5 +1,6 @@
 //! Arrays, whose items share a constructor (Part 1, sections 1.2.4 and 1.6.24).
-ghost use Rattle.std.specs.Prelude.{◌≡◌, ◌<◌, ◌≤◌, ◌+◌, ◌++◌, ◌∷◌, [], ◌⊎◌, ◌↔◌, IsTrue, cond, length, map, Some, None, OnOk, IfOk, IfErr, vec_len, true, false};
+ghost use Rattle.std.specs.Prelude.{◌≡◌, ◌<◌, ◌≤◌, ◌+◌, ◌++◌, ◌∷◌, [], ◌⊎◌, ◌↔◌, IsTrue, cond, length, map, Some, None, OnOk, IfOk, IfErr};
+ghost use Rattle.std.specs.Prelude.{vec_len, true, false};
 ghost use Rattle.amqp_model.specs.Constructors.{format};
 ghost use Rattle.amqp_model.specs.Spelling.{IsKnown, HasWidthZero};
 ghost use Rattle.amqp_wire.specs.Codes.{refusal_of};
@@ -13,7 +14,8 @@ ghost use Rattle.amqp_decoder.specs.Reading.{AnswersRead};
 ghost use Rattle.amqp_decoder.specs.Containers.{Closes, CloseFault};
 ghost use Rattle.amqp_decoder.specs.Described.{TakesDescriptor, DescriptorFault};
 ghost use Rattle.amqp_decoder.specs.Rooms.{HasRoom};
-ghost use Rattle.amqp_decoder.specs.Arrays.{TakesConstructor, ConstructorFault, IsFlat, Shares, SharesFault, EntersArray, EnterArrayFault, OpensArray, ArrayFault};
+ghost use Rattle.amqp_decoder.specs.Arrays.{TakesConstructor, ConstructorFault, IsFlat, Shares, SharesFault, EntersArray, EnterArrayFault};
+ghost use Rattle.amqp_decoder.specs.Arrays.{OpensArray, ArrayFault};
 
 use crate::Decoder;
 use crate::frame::{OpenContainer, OpenKind};
@@ -37,8 +39,12 @@ impl<R: ByteSource> Decoder<R> {
         alloc: Global,
     ) -> Result<(), Error>
         ensures few { OnOk result ((vec_len descriptors.old < 128) × (vec_len descriptors.new ≡ vec_len descriptors.old + 1)) }
-        ensures ok { Tells R.remaining → self.old.top.shared ≡ None → IfOk result (λ _. (d : DescriptorValue) × TakesDescriptor self.old (descriptor_of d) self.new × (descriptors.new.items ≡ descriptors.old.items ++ (d ∷ []))) }
-        ensures err { Tells R.remaining → self.old.top.shared ≡ None → IfErr result (λ e. Stops true (λ e. ((e ≡ Depth) × (128 ≤ length descriptors.old.items)) ⊎ DescriptorFault self.old e) self.old e self.new) }
+        ensures ok { Tells R.remaining → self.old.top.shared ≡ None
+            → IfOk result (λ _. (d : DescriptorValue) × TakesDescriptor self.old (descriptor_of d) self.new
+            × (descriptors.new.items ≡ descriptors.old.items ++ (d ∷ []))) }
+        ensures err { Tells R.remaining → self.old.top.shared ≡ None
+            → IfErr result (λ e. Stops true (λ e. ((e ≡ Depth) × (128 ≤ length descriptors.old.items))
+            ⊎ DescriptorFault self.old e) self.old e self.new) }
     {
         if descriptors.len() >= NESTING {
             return Err(self.refuse(Error::Depth));
@@ -52,7 +58,8 @@ impl<R: ByteSource> Decoder<R> {
     // A code that ends a constructor is known.
     pub(crate) fn check_known(&mut self, code: u8) -> Result<(), Error>
         ensures ok { IfOk result (λ _. ((code ≡ 0) ⊎ IsKnown (format code)) × (self.new ≡ self.old)) }
-        ensures err { IfErr result (λ e. (code ≡ 0 → ⊥) × (IsKnown (format code) → ⊥) × (e ≡ refusal_of code) × Answers self.old e self.new) }
+        ensures err { IfErr result (λ e. (code ≡ 0 → ⊥) × (IsKnown (format code) → ⊥) × (e ≡ refusal_of code)
+            × Answers self.old e self.new) }
     {
         match format_code::unknown(code) {
             None => Ok(()),
@@ -64,8 +71,10 @@ impl<R: ByteSource> Decoder<R> {
     fn constructor(&mut self, alloc: Global) -> Result<(Vec<Descriptor>, u8), Error>
         ensures code { IfOk result (λ found. 0 < found.1) }
         ensures few { IfOk result (λ found. vec_len found.0 ≤ 128) }
-        ensures ok { Tells R.remaining → self.old.top.shared ≡ None → IfOk result (λ found. TakesConstructor self.old (map descriptor_of found.0.items) found.1 self.new) }
-        ensures err { Tells R.remaining → self.old.top.shared ≡ None → IfErr result (λ e. Stops true (ConstructorFault self.old) self.old e self.new) }
+        ensures ok { Tells R.remaining → self.old.top.shared ≡ None
+            → IfOk result (λ found. TakesConstructor self.old (map descriptor_of found.0.items) found.1 self.new) }
+        ensures err { Tells R.remaining → self.old.top.shared ≡ None
+            → IfErr result (λ e. Stops true (ConstructorFault self.old) self.old e self.new) }
     {
         let mut descriptors = Vec::new(alloc);
         let mut code = self.byte()?;
@@ -79,8 +88,10 @@ impl<R: ByteSource> Decoder<R> {
 
     // So many items of the open array share the constructor that stands next.
     fn take_constructor(&mut self, count: u32, alloc: Global) -> Result<(), Error>
-        ensures ok { Tells R.remaining → self.old.top.shared ≡ None → self.old.top.place ≡ InArray → IfOk result (λ _. Shares count self.old self.new) }
-        ensures err { Tells R.remaining → self.old.top.shared ≡ None → IfErr result (λ e. Stops true (SharesFault count self.old) self.old e self.new) }
+        ensures ok { Tells R.remaining → self.old.top.shared ≡ None → self.old.top.place ≡ InArray
+            → IfOk result (λ _. Shares count self.old self.new) }
+        ensures err { Tells R.remaining → self.old.top.shared ≡ None
+            → IfErr result (λ e. Stops true (SharesFault count self.old) self.old e self.new) }
     {
         let (descriptors, code) = self.constructor(alloc)?;
         if count == 0 {
@@ -95,8 +106,11 @@ impl<R: ByteSource> Decoder<R> {
 
     // Opens an array of so many bytes, whose constructor isn't known yet: none of its items is left.
     fn open_items(&mut self, content: u32) -> Result<(), Error>
-        ensures ok { IfOk result (λ _. Has self.old.top.left content × (length self.old.saved ≤ self.old.nesting) × (self.new ≡ in_container InArray 0 content self.old)) }
-        ensures err { Tells R.remaining → IfErr result (λ e. Stops false (λ e. NoRoom content self.old e ⊎ ((self.old.nesting < length self.old.saved) × (e ≡ Depth))) self.old e self.new) }
+        ensures ok { IfOk result (λ _. Has self.old.top.left content × (length self.old.saved ≤ self.old.nesting)
+            × (self.new ≡ in_container InArray 0 content self.old)) }
+        ensures err { Tells R.remaining → IfErr result
+            (λ e. Stops false (λ e. NoRoom content self.old e
+            ⊎ ((self.old.nesting < length self.old.saved) × (e ≡ Depth))) self.old e self.new) }
     {
         self.lower(content)?;
         let inner = OpenContainer {

@@ -6,7 +6,8 @@ ghost use Rattle.amqp_decoder.specs.State.{Has, IsContainer, in_container};
 ghost use Rattle.amqp_decoder.specs.Steps.{Stops};
 ghost use Rattle.amqp_decoder.specs.declared.frame.OpenKind.TheVariants.{InList, InMap};
 ghost use Rattle.amqp_decoder.specs.Reading.{AnswersRead};
-ghost use Rattle.amqp_decoder.specs.Containers.{Closes, CloseFault, IsPossible, ReadsHeader, HeaderFault, Unopened, Enters, EnterFault, Opens, OpenFault};
+ghost use Rattle.amqp_decoder.specs.Containers.{Closes, CloseFault, IsPossible, ReadsHeader, HeaderFault, Unopened, Enters, EnterFault};
+ghost use Rattle.amqp_decoder.specs.Containers.{Opens, OpenFault};
 
 use crate::Decoder;
 use crate::frame::{OpenContainer, OpenKind};
@@ -34,7 +35,8 @@ impl<R: ByteSource> Decoder<R> {
     #[inline]
     pub(crate) fn header(&mut self, wide: bool, is_list: bool) -> Result<(u32, u32), Error>
         ensures ok { Tells R.remaining → IfOk result (λ h. ReadsHeader is_list (cond wide 4 1) self.old h.0 h.1 self.new) }
-        ensures err { Tells R.remaining → IfErr result (λ e. Stops false (HeaderFault is_list (cond wide 4 1) self.old) self.old e self.new) }
+        ensures err { Tells R.remaining
+            → IfErr result (λ e. Stops false (HeaderFault is_list (cond wide 4 1) self.old) self.old e self.new) }
     {
         let width = width(wide);
         let size = self.number(wide)?;
@@ -55,7 +57,8 @@ impl<R: ByteSource> Decoder<R> {
     #[inline]
     fn open(&mut self, place: OpenKind, count: u32, content: u32) -> Result<u32, Error>
         requires { IsContainer place }
-        ensures ok { IfOk result (λ n. (n ≡ count) × Has self.old.top.left content × (length self.old.saved < self.old.nesting) × (self.new ≡ in_container place count content self.old)) }
+        ensures ok { IfOk result (λ n. (n ≡ count) × Has self.old.top.left content × (length self.old.saved < self.old.nesting)
+            × (self.new ≡ in_container place count content self.old)) }
         ensures err { Tells R.remaining → IfErr result (λ e. Stops false (Unopened content self.old) self.old e self.new) }
     {
         self.lower(content)?;

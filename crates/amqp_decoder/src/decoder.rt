@@ -39,15 +39,34 @@ impl<R: ByteSource> Model for Decoder<R> {
 
     ghost Value = { State };
 
-    ghost view = { λ d. record { rest = d.input.rest; ahead = d.input.ahead; source = d.input.source; top = open_of d.descriptors.items d.top; saved = stack d.descriptors.items d.depth d.frames; nesting = 128; error = d.error; failed = d.input.failed } };
+    ghost view = { λ d. record {
+      rest = d.input.rest;
+      ahead = d.input.ahead;
+      source = d.input.source;
+      top = open_of d.descriptors.items d.top;
+      saved = stack d.descriptors.items d.depth d.frames;
+      nesting = 128;
+      error = d.error;
+      failed = d.input.failed;
+    } };
 
-    ghost invariant = { λ d. (d.depth ≤ 129) × AreNested d.depth d.frames d.top.last × (d.top.last ≤ vec_len d.descriptors) × IsLevel d.top × AreBounded d.depth d.frames d.top.place d.top.left × IsRoomy 128 d.depth (open_of d.descriptors.items d.top) };
+    ghost invariant = { λ d. (d.depth ≤ 129) × AreNested d.depth d.frames d.top.last × (d.top.last ≤ vec_len d.descriptors) × IsLevel d.top
+        × AreBounded d.depth d.frames d.top.place d.top.left × IsRoomy 128 d.depth (open_of d.descriptors.items d.top) };
 }
 
 impl<R: ByteSource> Decoder<R> {
     /// A decoder of the source's bytes, at the top level.
     pub fn new(source: R, alloc: Global) -> Self
-        ensures { result ≡ record { rest = known (R.remaining source); ahead = 0; source = R.name source; top = top_level; saved = []; nesting = 128; error = None; failed = R.failed source } }
+        ensures { result ≡ record {
+          rest = known (R.remaining source);
+          ahead = 0;
+          source = R.name source;
+          top = top_level;
+          saved = [];
+          nesting = 128;
+          error = None;
+          failed = R.failed source;
+        } }
     {
         Decoder {
             input: Input::new(source),

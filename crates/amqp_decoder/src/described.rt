@@ -13,7 +13,9 @@ ghost use Rattle.amqp_decoder.specs.Steps.{Answers};
 ghost use Rattle.amqp_decoder.specs.Reading.{ReadsCode};
 ghost use Rattle.amqp_decoder.specs.Primitives.{AnswersFault};
 ghost use Rattle.amqp_decoder.specs.Rooms.{HasRoom};
-ghost use Rattle.amqp_decoder.specs.Described.{IsUnmarked, IsMark, TakesDescriptor, OpensDescribed, OpenFault, other_kind, symbol_code, IsDescribable, DescribedFault, MissesDescriptor, TakesPlace, MissesName, OpensOneOf, OneOfFault};
+ghost use Rattle.amqp_decoder.specs.Described.{IsUnmarked, IsMark, TakesDescriptor, OpensDescribed, OpenFault, other_kind, symbol_code};
+ghost use Rattle.amqp_decoder.specs.Described.{IsDescribable, DescribedFault, MissesDescriptor, TakesPlace, MissesName, OpensOneOf};
+ghost use Rattle.amqp_decoder.specs.Described.{OneOfFault};
 
 use crate::Decoder;
 use crate::frame::OpenKind;
@@ -57,7 +59,8 @@ impl<R: ByteSource> Decoder<R> {
     #[inline]
     fn is_wide_symbol(&mut self, code: u8) -> Result<bool, Error>
         ensures ok { IfOk result (λ wide. (code ≡ symbol_code wide) × (self.new ≡ self.old)) }
-        ensures err { IfErr result (λ e. (code ≡ 0xa3 → ⊥) × (code ≡ 0xb3 → ⊥) × (e ≡ other_kind (refusal_of code)) × Answers self.old e self.new) }
+        ensures err { IfErr result (λ e. (code ≡ 0xa3 → ⊥) × (code ≡ 0xb3 → ⊥) × (e ≡ other_kind (refusal_of code))
+            × Answers self.old e self.new) }
     {
         match code {
             format_code::SYMBOL_8 => Ok(false),
@@ -68,7 +71,8 @@ impl<R: ByteSource> Decoder<R> {
 
     // A descriptor.
     pub(crate) fn descriptor(&mut self, alloc: Global) -> Result<Descriptor, Error>
-        ensures ok { Tells R.remaining → self.old.top.shared ≡ None → IfOk result (λ d. TakesDescriptor self.old (descriptor_of d) self.new) }
+        ensures ok { Tells R.remaining → self.old.top.shared ≡ None
+            → IfOk result (λ d. TakesDescriptor self.old (descriptor_of d) self.new) }
         ensures err { Tells R.remaining → self.old.top.shared ≡ None → IfErr result (λ e. MissesDescriptor true self.old e self.new) }
     {
         let code = self.byte()?;
@@ -82,8 +86,10 @@ impl<R: ByteSource> Decoder<R> {
 
     // The descriptor that stands next, or is shared.
     fn next_descriptor(&mut self, alloc: Global) -> Result<Descriptor, Error>
-        ensures ok { Tells R.remaining → IsDescribable self.old.top.shared → IfOk result (λ d. TakesDescriptor self.old (descriptor_of d) self.new) }
-        ensures err { Tells R.remaining → IsDescribable self.old.top.shared → IfErr result (λ e. MissesDescriptor true self.old e self.new) }
+        ensures ok { Tells R.remaining → IsDescribable self.old.top.shared
+            → IfOk result (λ d. TakesDescriptor self.old (descriptor_of d) self.new) }
+        ensures err { Tells R.remaining → IsDescribable self.old.top.shared
+            → IfErr result (λ e. MissesDescriptor true self.old e self.new) }
     {
         let Some(descriptor) = self.shared_descriptor() else {
             return self.descriptor(alloc);
@@ -98,7 +104,8 @@ impl<R: ByteSource> Decoder<R> {
     /// that is neither a symbol nor a ulong, `NonAscii` where it is a symbol with a byte above 0x7f, and `Depth` past
     /// 128 nested values.
     pub fn begin_described(&mut self, alloc: Global) -> Result<Descriptor, Error>
-        ensures { Tells R.remaining → AnswersRead true (λ st d st'. OpensDescribed st (descriptor_of d) st') OpenFault self.old result self.new }
+        ensures { Tells R.remaining → AnswersRead true (λ st d st'. OpensDescribed st (descriptor_of d) st') OpenFault
+            self.old result self.new }
     {
         self.begin_descriptor()?;
         let descriptor = self.next_descriptor(alloc)?;
@@ -110,7 +117,8 @@ impl<R: ByteSource> Decoder<R> {
 
     // The place of the member whose name the next so many bytes are.
     fn place_of_text(&mut self, members: Members<'_>, len: u32) -> Result<Option<usize>, Error>
-        ensures ok { Tells R.remaining → IfOk result (λ place. (len ≤ length self.old.rest) × IsAscii (take len self.old.rest) × (place ≡ place_in members.now (of_name (take len self.old.rest))) × (self.new ≡ after_bytes len self.old)) }
+        ensures ok { Tells R.remaining → IfOk result (λ place. (len ≤ length self.old.rest) × IsAscii (take len self.old.rest)
+            × (place ≡ place_in members.now (of_name (take len self.old.rest))) × (self.new ≡ after_bytes len self.old)) }
         ensures err { Tells R.remaining → IfErr result (λ e. MissesName len self.old e self.new) }
     {
         let mut buffer = [0; PIECE];
@@ -136,8 +144,10 @@ impl<R: ByteSource> Decoder<R> {
 
     // The place of the member whose descriptor stands next.
     fn place_of_next(&mut self, members: Members<'_>) -> Result<Option<usize>, Error>
-        ensures ok { Tells R.remaining → IsDescribable self.old.top.shared → IfOk result (λ place. TakesPlace members.now self.old place self.new) }
-        ensures err { Tells R.remaining → IsDescribable self.old.top.shared → IfErr result (λ e. MissesDescriptor false self.old e self.new) }
+        ensures ok { Tells R.remaining → IsDescribable self.old.top.shared
+            → IfOk result (λ place. TakesPlace members.now self.old place self.new) }
+        ensures err { Tells R.remaining → IsDescribable self.old.top.shared
+            → IfErr result (λ e. MissesDescriptor false self.old e self.new) }
     {
         if let Some(descriptor) = self.shared_descriptor() {
             return Ok(place_of(members, descriptor));

@@ -36,13 +36,15 @@ pub fn looks()
 /// the items as its parts; and where a list stands, this is how it is taken (Part 1, sections 1.2.3 and 1.6.22).
 pub fn lists()
     ensures taken { (st after : State) (items : Terms) → Contains list st (items_of items) after ↔ Next st (container list items) after }
-    ensures stands { (st after : State) (items : Terms) (c : Contains list st (items_of items) after) → NextWithParts st (container list items) (row_standings c.mid (items_of items) c.bytes c.last c.items) after }
+    ensures stands { (st after : State) (items : Terms) (c : Contains list st (items_of items) after)
+        → NextWithParts st (container list items) (row_standings c.mid (items_of items) c.bytes c.last c.items) after }
 {}
 
 /// The same of a map, whose items are its keys and what they lead to in turn (Part 1, section 1.6.23).
 pub fn maps()
     ensures taken { (st after : State) (items : Terms) → Contains map st (items_of items) after ↔ Next st (container map items) after }
-    ensures stands { (st after : State) (items : Terms) (c : Contains map st (items_of items) after) → NextWithParts st (container map items) (row_standings c.mid (items_of items) c.bytes c.last c.items) after }
+    ensures stands { (st after : State) (items : Terms) (c : Contains map st (items_of items) after)
+        → NextWithParts st (container map items) (row_standings c.mid (items_of items) c.bytes c.last c.items) after }
 {}
 
 /// The same of an array, whose items stand under the constructor that they share (Part 1, sections 1.2.4 and 1.6.24); where
@@ -50,15 +52,19 @@ pub fn maps()
 pub fn arrays()
     ensures opened { (st after : State) (n : ℕ) → OpensArray st n after → (after.top.place ≡ InArray) × (after.top.items ≡ Some n) }
     ensures whole { (st after : State) (items : Terms) → ContainsArray st (items_of items) after → Next st (container array items) after }
-    ensures stands { (st after : State) (items : Terms) (c : ContainsArray st (items_of items) after) → NextWithParts st (container array items) (row_standings c.mid (items_of items) c.bytes c.last c.items) after }
-    ensures parts { (st after : State) (items : Terms) → HasRoom st → Next st (container array items) after → ContainsArray st (items_of items) after }
+    ensures stands { (st after : State) (items : Terms) (c : ContainsArray st (items_of items) after)
+        → NextWithParts st (container array items) (row_standings c.mid (items_of items) c.bytes c.last c.items) after }
+    ensures parts { (st after : State) (items : Terms) → HasRoom st → Next st (container array items) after
+        → ContainsArray st (items_of items) after }
 {}
 
 /// A described value that is opened, whose value is taken, and that is closed is a term that stood there and is taken, with
 /// the value as its part; and where a described value stands, this is how it is taken (Part 1, section 1.2).
 pub fn described_values()
-    ensures whole { (st after : State) (d : Descriptor) (t : Term) → st.nesting ≤ 128 → DescribedStands st d t after → Next st (described d t) after }
-    ensures stands { (st after : State) (d : Descriptor) (t : Term) → st.nesting ≤ 128 → (h : DescribedStands st d t after) → NextWithParts st (described d t) (standing h.inner.top.shared h.bytes ∷ []) after }
+    ensures whole { (st after : State) (d : Descriptor) (t : Term) → st.nesting ≤ 128 → DescribedStands st d t after
+        → Next st (described d t) after }
+    ensures stands { (st after : State) (d : Descriptor) (t : Term) → st.nesting ≤ 128 → (h : DescribedStands st d t after)
+        → NextWithParts st (described d t) (standing h.inner.top.shared h.bytes ∷ []) after }
     ensures parts { (st after : State) (d : Descriptor) (t : Term) → Next st (described d t) after → DescribedStands st d t after }
 {}
 
@@ -79,8 +85,10 @@ pub fn rooms()
 pub fn one_reading()
     ensures stands { (st : State) (s r : List ℕ) (t u : Term) → Stands st s t → Stands st r u → (s ≡ r) × (t ≡ u) }
     ensures next { (st after other : State) (t u : Term) → Next st t after → Next st u other → (t ≡ u) × (after ≡ other) }
-    ensures row { (ts us : List Term) (st mid after : State) (b c : List ℕ) → Row st ts b mid → Row st us c after → length ts ≤ length us → (others : List Term) × (d : List ℕ) × (us ≡ ts ++ others) × Row mid others d after }
-    ensures opens { (kind : Container) (st after other : State) (n m : ℕ) → Opens kind st n after → Opens kind st m other → (n ≡ m) × (after ≡ other) }
+    ensures row { (ts us : List Term) (st mid after : State) (b c : List ℕ) → Row st ts b mid → Row st us c after → length ts ≤ length us
+        → (others : List Term) × (d : List ℕ) × (us ≡ ts ++ others) × Row mid others d after }
+    ensures opens { (kind : Container) (st after other : State) (n m : ℕ) → Opens kind st n after → Opens kind st m other
+        → (n ≡ m) × (after ≡ other) }
     ensures opens_array { (st after other : State) (n m : ℕ) → OpensArray st n after → OpensArray st m other → (n ≡ m) × (after ≡ other) }
     ensures closes { (place : OpenKind) (st after other : State) → Closes place st after → Closes place st other → after ≡ other }
 {}
@@ -96,20 +104,24 @@ pub trait HasMeaning {
 /// Two values that are read at one state are meant by one term, and leave one state; and a look at the next code changes
 /// nothing of what is read.
 pub fn one_value<T: HasMeaning>()
-    ensures one { (st after other : State) (v w : T) → ReadsValue T.means st v after → ReadsValue T.means st w other → (s : Standing) × (t : Term) × T.means s t v × T.means s t w × (after ≡ other) }
-    ensures looked { (st looked after : State) (c : ℕ) (v : T) → PeeksCode st c looked → (ReadsValue T.means looked v after ↔ ReadsValue T.means st v after) }
+    ensures one { (st after other : State) (v w : T) → ReadsValue T.means st v after → ReadsValue T.means st w other
+        → (s : Standing) × (t : Term) × T.means s t v × T.means s t w × (after ≡ other) }
+    ensures looked { (st looked after : State) (c : ℕ) (v : T) → PeeksCode st c looked
+        → (ReadsValue T.means looked v after ↔ ReadsValue T.means st v after) }
 {}
 
 /// Terms that are taken in a row, and then others, are taken in a row.
 pub fn rows()
     ensures one { (t : Term) (st after : State) → Next st t after → (b : List ℕ) × Row st (t ∷ []) b after }
-    ensures joined { (ts us : List Term) (st mid after : State) (b c : List ℕ) → Row st ts b mid → Row mid us c after → Row st (ts ++ us) (b ++ c) after }
+    ensures joined { (ts us : List Term) (st mid after : State) (b c : List ℕ) → Row st ts b mid → Row mid us c after
+        → Row st (ts ++ us) (b ++ c) after }
 {}
 
 /// A fault is the same before another source, and where values may nest deeper unless it is `Depth`; and none is want of memory.
 pub fn faults()
     ensures arrays { (c : Setting) (st : State) (e : Error) → KeepsError c e → ArrayFault st e → ArrayFault (under c st) e }
-    ensures described { (c : Setting) (st : State) (e : Error) → KeepsError c e → OpenDescribedFault st e → OpenDescribedFault (under c st) e }
+    ensures described { (c : Setting) (st : State) (e : Error) → KeepsError c e → OpenDescribedFault st e
+        → OpenDescribedFault (under c st) e }
     ensures terms { (c : Setting) (st : State) (e : Error) → KeepsError c e → TermFault st e → TermFault (under c st) e }
     ensures no_array { (st : State) → ArrayFault st Memory → ⊥ }
     ensures no_described { (st : State) → OpenDescribedFault st Memory → ⊥ }
@@ -126,7 +138,9 @@ pub fn misspellings()
     ensures described { (st : State) (e : Error) → IsMisspelling e → OpenDescribedFault st e → NothingStands st }
     ensures members { (members : List Member) (st : State) (e : Error) → IsMisspelling e → OneOfFault members st e → NothingStands st }
     ensures terms { (st : State) (e : Error) → IsMisspelling e → TermFault st e → NothingStands st }
-    ensures in_array { (st first mid : State) (n : ℕ) (ts : List Term) (b : List ℕ) → HasRoom st → OpensArray st n first → Row first ts b mid → length ts < n → NothingStands mid → NothingStands st }
-    ensures at_array_end { (place : OpenKind) (st first last : State) (n : ℕ) (ts : List Term) (b : List ℕ) (e : Error) → HasRoom st → OpensArray st n first → Row first ts b last → IsMisspelling e → CloseFault place last e → NothingStands st }
+    ensures in_array { (st first mid : State) (n : ℕ) (ts : List Term) (b : List ℕ) → HasRoom st → OpensArray st n first
+        → Row first ts b mid → length ts < n → NothingStands mid → NothingStands st }
+    ensures at_array_end { (place : OpenKind) (st first last : State) (n : ℕ) (ts : List Term) (b : List ℕ) (e : Error) → HasRoom st
+        → OpensArray st n first → Row first ts b last → IsMisspelling e → CloseFault place last e → NothingStands st }
     ensures in_described { (st inner : State) (d : Descriptor) → OpensDescribed st d inner → NothingStands inner → NothingStands st }
 {}

@@ -1,10 +1,13 @@
 //! The calls that read primitives whose data has a known width (Part 1, section 1.6).
 ghost use Rattle.std.specs.Prelude.{◌<◌, ◌≡◌, Some, MatchOption, IfOk, IfErr, false};
-ghost use Rattle.amqp_model.specs.Term.{null, boolean, ubyte, ushort, uint, ulong, byte, short, int, long, char, timestamp, decimal32, decimal64, decimal128, uuid};
+ghost use Rattle.amqp_model.specs.Term.{null, boolean, ubyte, ushort, uint, ulong, byte, short, int, long, char, timestamp, decimal32};
+ghost use Rattle.amqp_model.specs.Term.{decimal64, decimal128, uuid};
 ghost use Rattle.amqp_wire.specs.Sources.{Tells};
 ghost use Rattle.amqp_decoder.specs.Reading.{AnswersRead};
-ghost use Rattle.amqp_decoder.specs.Primitives.{ReadsFixed, FixedFault, AnswersFault, ReadsValue, Means, PrimitiveFault, ReadsData, LacksDataOf};
-ghost use Rattle.amqp_input.specs.Kinds.{kind_at, nulls, booleans, ubytes, ushorts, uints, ulongs, bytes, shorts, ints, longs, decimals32, decimals64, decimals128, chars, timestamps, uuids};
+ghost use Rattle.amqp_decoder.specs.Primitives.{ReadsFixed, FixedFault, AnswersFault, ReadsValue, Means, PrimitiveFault, ReadsData};
+ghost use Rattle.amqp_decoder.specs.Primitives.{LacksDataOf};
+ghost use Rattle.amqp_input.specs.Kinds.{kind_at, nulls, booleans, ubytes, ushorts, uints, ulongs, bytes, shorts, ints, longs, decimals32};
+ghost use Rattle.amqp_input.specs.Kinds.{decimals64, decimals128, chars, timestamps, uuids};
 
 use crate::Decoder;
 use amqp_wire::{ByteSource, Error, format_code};
@@ -82,7 +85,9 @@ impl<R: ByteSource> Decoder<R> {
     // The data of a ulong under its code, or `None` where the code is another kind's.
     #[inline]
     pub(crate) fn ulong_data(&mut self, code: u8) -> Result<Option<u64>, Error>
-        ensures ok { Tells R.remaining → IfOk result (λ o. MatchOption o ((kind_at code ≡ Some ulongs → ⊥) × (self.new ≡ self.old)) (λ v. ReadsData code (ulong v) self.old self.new)) }
+        ensures ok { Tells R.remaining → IfOk result
+            (λ o. MatchOption o ((kind_at code ≡ Some ulongs → ⊥) × (self.new ≡ self.old))
+            (λ v. ReadsData code (ulong v) self.old self.new)) }
         ensures err { Tells R.remaining → IfErr result (λ e. LacksDataOf ulongs code self.old e self.new) }
     {
         match code {
@@ -148,7 +153,8 @@ impl<R: ByteSource> Decoder<R> {
     /// The bytes of a decimal of 32 bits (Part 1, section 1.6.13).
     #[inline]
     pub fn read_dec32(&mut self) -> Result<[u8; 4], Error>
-        ensures { Tells R.remaining → AnswersRead false (ReadsValue (Means decimal32)) (PrimitiveFault decimals32) self.old result self.new }
+        ensures { Tells R.remaining
+            → AnswersRead false (ReadsValue (Means decimal32)) (PrimitiveFault decimals32) self.old result self.new }
     {
         self.fixed(format_code::DECIMAL_32)
     }
@@ -156,7 +162,8 @@ impl<R: ByteSource> Decoder<R> {
     /// The bytes of a decimal of 64 bits (Part 1, section 1.6.14).
     #[inline]
     pub fn read_dec64(&mut self) -> Result<[u8; 8], Error>
-        ensures { Tells R.remaining → AnswersRead false (ReadsValue (Means decimal64)) (PrimitiveFault decimals64) self.old result self.new }
+        ensures { Tells R.remaining
+            → AnswersRead false (ReadsValue (Means decimal64)) (PrimitiveFault decimals64) self.old result self.new }
     {
         self.fixed(format_code::DECIMAL_64)
     }
@@ -164,7 +171,8 @@ impl<R: ByteSource> Decoder<R> {
     /// The bytes of a decimal of 128 bits (Part 1, section 1.6.15).
     #[inline]
     pub fn read_dec128(&mut self) -> Result<[u8; 16], Error>
-        ensures { Tells R.remaining → AnswersRead false (ReadsValue (Means decimal128)) (PrimitiveFault decimals128) self.old result self.new }
+        ensures { Tells R.remaining → AnswersRead false (ReadsValue (Means decimal128)) (PrimitiveFault decimals128)
+            self.old result self.new }
     {
         self.fixed(format_code::DECIMAL_128)
     }
@@ -184,7 +192,8 @@ impl<R: ByteSource> Decoder<R> {
     /// The milliseconds of a timestamp (Part 1, section 1.6.17).
     #[inline]
     pub fn read_timestamp(&mut self) -> Result<i64, Error>
-        ensures { Tells R.remaining → AnswersRead false (ReadsValue (Means timestamp)) (PrimitiveFault timestamps) self.old result self.new }
+        ensures { Tells R.remaining
+            → AnswersRead false (ReadsValue (Means timestamp)) (PrimitiveFault timestamps) self.old result self.new }
     {
         Ok(i64::from_be_bytes(self.fixed(format_code::TIMESTAMP)?))
     }

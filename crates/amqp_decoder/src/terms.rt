@@ -1,5 +1,6 @@
 //! The bytes of whole terms (Part 1, section 1.2).
-ghost use Rattle.std.specs.Prelude.{◌≡◌, ◌<◌, ◌≤◌, ◌↔◌, ◌^◌, ◌-◌, ◌∷◌, [], ℕ, cond, length, drop, IsTrue, IsAscii, Some, None, Err, IfOk, IfErr, true, false};
+ghost use Rattle.std.specs.Prelude.{◌≡◌, ◌<◌, ◌≤◌, ◌↔◌, ◌^◌, ◌-◌, ◌∷◌, [], ℕ, cond, length, drop, IsTrue, IsAscii, Some, None, Err, IfOk};
+ghost use Rattle.std.specs.Prelude.{IfErr, true, false};
 ghost use Rattle.std.specs.Int.{bytes_high_first};
 ghost use Rattle.amqp_model.specs.Constructors.{format};
 ghost use Rattle.amqp_model.specs.Spelling.{IsKnown};
@@ -13,7 +14,8 @@ ghost use Rattle.amqp_decoder.specs.Steps.{Takes, Lacks, Stops};
 ghost use Rattle.amqp_decoder.specs.Reading.{AnswersRead};
 ghost use Rattle.amqp_decoder.specs.Described.{DescriptorFault};
 ghost use Rattle.amqp_decoder.specs.Arrays.{ConstructorFault};
-ghost use Rattle.amqp_decoder.specs.Terms.{Keeps, IsSymbol, SymbolFault, IsConstructor, Announces, LacksAnnounced, NoTerm, SpellingFault, TakesTerm, TermFault};
+ghost use Rattle.amqp_decoder.specs.Terms.{Keeps, IsSymbol, SymbolFault, IsConstructor, Announces, LacksAnnounced, NoTerm, SpellingFault};
+ghost use Rattle.amqp_decoder.specs.Terms.{TakesTerm, TermFault};
 
 use crate::Decoder;
 use crate::containers::width;
@@ -60,7 +62,8 @@ fn content_len(size: u32, wide: bool, is_list: bool) -> u32
 impl<R: ByteSource> Decoder<R> {
     // Takes the next byte, and adds it.
     fn keep_code(&mut self, bytes: &mut Vec<u8>) -> Result<u8, Error>
-        ensures ok { Tells R.remaining → IfOk result (λ code. Keeps (λ s. s ≡ code ∷ []) bytes.old.items self.old bytes.new.items self.new) }
+        ensures ok { Tells R.remaining
+            → IfOk result (λ code. Keeps (λ s. s ≡ code ∷ []) bytes.old.items self.old bytes.new.items self.new) }
         ensures err { Tells R.remaining → IfErr result (λ e. Stops true (Lacks 1 self.old) self.old e self.new) }
     {
         let code = self.byte()?;
@@ -81,7 +84,8 @@ impl<R: ByteSource> Decoder<R> {
 
     // Adds a number of one byte or of four, and answers it.
     fn keep_number(&mut self, wide: bool, bytes: &mut Vec<u8>) -> Result<u32, Error>
-        ensures ok { Tells R.remaining → IfOk result (λ n. Keeps (λ s. s ≡ bytes_high_first (cond wide 4 1) n) bytes.old.items self.old bytes.new.items self.new) }
+        ensures ok { Tells R.remaining → IfOk result
+            (λ n. Keeps (λ s. s ≡ bytes_high_first (cond wide 4 1) n) bytes.old.items self.old bytes.new.items self.new) }
         ensures err { Tells R.remaining → IfErr result (λ e. Stops true (Lacks (cond wide 4 1) self.old) self.old e self.new) }
         ensures fits { IfOk result (λ n. n < 256 ^ cond wide 4 1) }
     {
@@ -95,7 +99,8 @@ impl<R: ByteSource> Decoder<R> {
 
     // Adds a size of one byte or of four and the text that it announces.
     fn keep_symbol(&mut self, wide: bool, bytes: &mut Vec<u8>) -> Result<(), Error>
-        ensures ok { Tells R.remaining → IfOk result (λ _. Keeps (IsSymbol (cond wide 4 1)) bytes.old.items self.old bytes.new.items self.new) }
+        ensures ok { Tells R.remaining → IfOk result
+            (λ _. Keeps (IsSymbol (cond wide 4 1)) bytes.old.items self.old bytes.new.items self.new) }
         ensures err { Tells R.remaining → IfErr result (λ e. Stops true (SymbolFault (cond wide 4 1) self.old) self.old e self.new) }
     {
         let len = self.keep_number(wide, bytes)?;
@@ -125,7 +130,8 @@ impl<R: ByteSource> Decoder<R> {
 
     // Adds the constructor that stands next, and answers its code.
     fn keep_constructor(&mut self, bytes: &mut Vec<u8>) -> Result<u8, Error>
-        ensures ok { Tells R.remaining → IfOk result (λ code. Keeps (IsConstructor code) bytes.old.items self.old bytes.new.items self.new) }
+        ensures ok { Tells R.remaining
+            → IfOk result (λ code. Keeps (IsConstructor code) bytes.old.items self.old bytes.new.items self.new) }
         ensures err { Tells R.remaining → IfErr result (λ e. Stops true (ConstructorFault self.old) self.old e self.new) }
     {
         let mut code = self.keep_code(bytes)?;
@@ -144,8 +150,10 @@ impl<R: ByteSource> Decoder<R> {
 
     // Adds the data under a known code.
     fn keep_data(&mut self, code: u8, bytes: &mut Vec<u8>) -> Result<(), Error>
-        ensures ok { Tells R.remaining → IsKnown (format code) → IfOk result (λ _. Keeps (IsAnnounced (format code)) bytes.old.items self.old bytes.new.items self.new) }
-        ensures err { Tells R.remaining → IsKnown (format code) → IfErr result (λ e. Stops true (LacksAnnounced (format code) self.old) self.old e self.new) }
+        ensures ok { Tells R.remaining → IsKnown (format code)
+            → IfOk result (λ _. Keeps (IsAnnounced (format code)) bytes.old.items self.old bytes.new.items self.new) }
+        ensures err { Tells R.remaining → IsKnown (format code)
+            → IfErr result (λ e. Stops true (LacksAnnounced (format code) self.old) self.old e self.new) }
     {
         match data_of(code) {
             Data::Fixed(width) => self.keep_next(width, bytes),
@@ -159,8 +167,10 @@ impl<R: ByteSource> Decoder<R> {
     // Checks that a constructor and the data that its code announces are a term. A term that they begin with is all of
     // them.
     fn check_term(&mut self, bytes: &[u8]) -> Result<(), Error>
-        ensures ok { IfOk result (λ _. (n : ℕ) × IsFront (IsTerm (self.old.nesting - length self.old.saved)) bytes.now n × (self.new ≡ self.old)) }
-        ensures err { Tells R.remaining → IfErr result (λ e. Stops false (NoTerm (self.old.nesting - length self.old.saved) bytes.now self.old) self.old e self.new) }
+        ensures ok { IfOk result (λ _. (n : ℕ) × IsFront (IsTerm (self.old.nesting - length self.old.saved)) bytes.now n
+            × (self.new ≡ self.old)) }
+        ensures err { Tells R.remaining → IfErr result
+            (λ e. Stops false (NoTerm (self.old.nesting - length self.old.saved) bytes.now self.old) self.old e self.new) }
     {
         match len_of_term(bytes, self.nesting_left()) {
             Ok(_) => Ok(()),
@@ -171,7 +181,8 @@ impl<R: ByteSource> Decoder<R> {
 
     // The bytes of the next term, which are taken.
     fn term_bytes(&mut self, alloc: Global) -> Result<Vec<u8>, Error>
-        ensures ok { Tells R.remaining → IfOk result (λ bytes. Takes self.old bytes.items self.new × IsTerm (self.old.nesting - length self.old.saved) bytes.items) }
+        ensures ok { Tells R.remaining → IfOk result (λ bytes. Takes self.old bytes.items self.new
+            × IsTerm (self.old.nesting - length self.old.saved) bytes.items) }
         ensures err { Tells R.remaining → IfErr result (λ e. Stops true (SpellingFault self.old) self.old e self.new) }
     {
         let mut bytes = Vec::new(alloc);
@@ -185,7 +196,8 @@ impl<R: ByteSource> Decoder<R> {
     /// where it is the item of an array, whose constructor is none of its own, and otherwise the errors of `term_len`. In
     /// an open container `Size` is answered once all is there that the outermost one announces, and `Cut` before that.
     pub fn read_term(&mut self, alloc: Global) -> Result<Vec<u8>, Error>
-        ensures read { Tells R.remaining → AnswersRead true (λ st bytes st'. TakesTerm st bytes.items st') TermFault self.old result self.new }
+        ensures read { Tells R.remaining → AnswersRead true (λ st bytes st'. TakesTerm st bytes.items st') TermFault
+            self.old result self.new }
         ensures again { (e : Error) → self.old.error ≡ Some e → (result ≡ Err e) × (self.new ≡ self.old) }
     {
         self.check_item()?;

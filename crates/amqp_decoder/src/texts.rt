@@ -1,12 +1,14 @@
 //! The calls that read texts and binaries (Part 1, sections 1.6.19 to 1.6.21).
-ghost use Rattle.std.specs.Prelude.{◌<◌, ◌≤◌, ◌≡◌, ◌++◌, ℕ, List, length, take, cond, Some, IsAscii, string_bytes, IfOk, IfErr, true, false};
+ghost use Rattle.std.specs.Prelude.{◌<◌, ◌≤◌, ◌≡◌, ◌++◌, ℕ, List, length, take, cond, Some, IsAscii, string_bytes, IfOk, IfErr, true};
+ghost use Rattle.std.specs.Prelude.{false};
 ghost use Rattle.amqp_model.specs.Term.{binary, string, symbol};
 ghost use Rattle.amqp_wire.specs.Sources.{Tells};
 ghost use Rattle.amqp_input.specs.Kinds.{binaries, strings, symbols};
 ghost use Rattle.amqp_decoder.specs.State.{after_bytes};
 ghost use Rattle.amqp_decoder.specs.Steps.{Answers, Misses};
 ghost use Rattle.amqp_decoder.specs.Reading.{AnswersRead};
-ghost use Rattle.amqp_decoder.specs.Primitives.{ReadsSize, SizedFault, ReadsSized, ReadsText, TextFault, AnswersFault, ReadsValue, Means, PrimitiveFault};
+ghost use Rattle.amqp_decoder.specs.Primitives.{ReadsSize, SizedFault, ReadsSized, ReadsText, TextFault, AnswersFault, ReadsValue, Means};
+ghost use Rattle.amqp_decoder.specs.Primitives.{PrimitiveFault};
 
 use crate::Decoder;
 use amqp_wire::{ByteSource, Error, Symbol, format_code};
@@ -23,7 +25,8 @@ impl<R: ByteSource> Decoder<R> {
     fn keep_pieces<const N: usize>(&mut self, len: u32, text: &mut Vec<u8>) -> Result<(), Error>
         requires some { 0 < N }
         requires few { N ≤ 4096 }
-        ensures ok { Tells R.remaining → IfOk result (λ _. (len ≤ length self.old.rest) × (text.new.items ≡ text.old.items ++ take len self.old.rest) × (self.new ≡ after_bytes len self.old)) }
+        ensures ok { Tells R.remaining → IfOk result (λ _. (len ≤ length self.old.rest)
+            × (text.new.items ≡ text.old.items ++ take len self.old.rest) × (self.new ≡ after_bytes len self.old)) }
         ensures err { Tells R.remaining → IfErr result (λ e. Misses true len self.old e self.new) }
     {
         let mut buffer = [0; N];
@@ -43,7 +46,8 @@ impl<R: ByteSource> Decoder<R> {
     // The same, in pieces that suit the length.
     #[inline]
     pub(crate) fn keep(&mut self, len: u32, text: &mut Vec<u8>) -> Result<(), Error>
-        ensures ok { Tells R.remaining → IfOk result (λ _. (len ≤ length self.old.rest) × (text.new.items ≡ text.old.items ++ take len self.old.rest) × (self.new ≡ after_bytes len self.old)) }
+        ensures ok { Tells R.remaining → IfOk result (λ _. (len ≤ length self.old.rest)
+            × (text.new.items ≡ text.old.items ++ take len self.old.rest) × (self.new ≡ after_bytes len self.old)) }
         ensures err { Tells R.remaining → IfErr result (λ e. Misses true len self.old e self.new) }
     {
         if len <= SHORT {
@@ -110,14 +114,16 @@ impl<R: ByteSource> Decoder<R> {
 
     /// Bytes (Part 1, section 1.6.19).
     pub fn read_binary(&mut self, alloc: Global) -> Result<Vec<u8>, Error>
-        ensures { Tells R.remaining → AnswersRead true (ReadsValue (Means (λ bytes. binary bytes.items))) (PrimitiveFault binaries) self.old result self.new }
+        ensures { Tells R.remaining → AnswersRead true (ReadsValue (Means (λ bytes. binary bytes.items))) (PrimitiveFault binaries)
+            self.old result self.new }
     {
         self.content(format_code::BINARY_8, format_code::BINARY_32, alloc)
     }
 
     /// A text (Part 1, section 1.6.20); `BadUtf8` where it is not UTF-8.
     pub fn read_string(&mut self, alloc: Global) -> Result<String, Error>
-        ensures { Tells R.remaining → AnswersRead true (ReadsValue (Means (λ text. string (string_bytes text)))) (PrimitiveFault strings) self.old result self.new }
+        ensures { Tells R.remaining → AnswersRead true (ReadsValue (Means (λ text. string (string_bytes text)))) (PrimitiveFault strings)
+            self.old result self.new }
     {
         let text = self.content(format_code::STRING_8, format_code::STRING_32, alloc)?;
         match String::from_utf8(text) {
@@ -128,7 +134,8 @@ impl<R: ByteSource> Decoder<R> {
 
     /// A symbol (Part 1, section 1.6.21); `NonAscii` where a byte is above 0x7f.
     pub fn read_symbol(&mut self, alloc: Global) -> Result<Symbol, Error>
-        ensures { Tells R.remaining → AnswersRead true (ReadsValue (Means (λ text. symbol (string_bytes text.0)))) (PrimitiveFault symbols) self.old result self.new }
+        ensures { Tells R.remaining → AnswersRead true (ReadsValue (Means (λ text. symbol (string_bytes text.0)))) (PrimitiveFault symbols)
+            self.old result self.new }
     {
         let text = self.content(format_code::SYMBOL_8, format_code::SYMBOL_32, alloc)?;
         self.ascii(text)

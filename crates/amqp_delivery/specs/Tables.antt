@@ -23,7 +23,8 @@ abbrev pub received : Table Received
 received = record {
   code = 0x23;
   name = codes "amqp:received:list";
-  fields = field (λ v. v.section_number) (mandatory uint_type refl refl) (field (λ v. v.section_offset) (mandatory ulong_type refl refl) none);
+  fields = field (λ v. v.section_number) (mandatory uint_type refl refl)
+      (field (λ v. v.section_offset) (mandatory ulong_type refl refl) none);
   norm = unchanged;
   norm_is = λ v. (refl, (refl, tt));
   is_small = refl;

@@ -51,7 +51,8 @@ lists_alike (d ∷ ds) (e ∷ es) a b h =
     let y = spell (shortest (descriptor_value e)) in
     let tail : x ++ bytes_of ds ≡ y ++ bytes_of es = ap (drop 1) h in
     let same = names_same d e x y (bytes_of ds) (bytes_of es) (names d a.0 a.1) (names e b.0 b.1) tail in
-    let others : bytes_of ds ≡ bytes_of es = append_cancel_left x (bytes_of ds) (bytes_of es) (tail ∙ ap (λ l. l ++ bytes_of es) (sym same.0)) in
+    let others : bytes_of ds ≡ bytes_of es =
+    append_cancel_left x (bytes_of ds) (bytes_of es) (tail ∙ ap (λ l. l ++ bytes_of es) (sym same.0)) in
     ap₂ (λ d ds. d ∷ ds) same.1 (lists_alike ds es a.2 b.2 others)
 
 pub alike_forms : (t u : Term) → HasForm t → HasForm u → Chain t → Chain u → descs t ≡ descs u → core_code t ≡ core_code u → form t ≡ form u

@@ -12,7 +12,9 @@ use Rattle.amqp_encoder.specs.declared.encoder.Pass.{Pass}
 use Rattle.amqp_encoder.specs.declared.encoder.Pass.TheVariants.{Measuring, Filling, Stopped}
 use Rattle.amqp_encoder.specs.Tokens.{Token, put, keep, begin, end, begin_described, end_described, refuse, TakesMemory, tokens}
 use Rattle.amqp_encoder.specs.State.{Open, Measured, Filled, at_start}
-use Rattle.amqp_encoder.specs.Measuring.{◌>>=◌, checked, enter, take_form, leave, measure_value, measure_null_at, measure_checked, measure_keep_at, MAX, is_full, is_none, is_odd_map, holds as holds_, describe_at, descriptor_bytes, end_in, end_described_in, closed, size_of}
+use Rattle.amqp_encoder.specs.Measuring.{◌>>=◌, checked, enter, take_form, leave, measure_value, measure_null_at, measure_checked}
+use Rattle.amqp_encoder.specs.Measuring.{measure_keep_at, MAX, is_full, is_none, is_odd_map, holds as holds_, describe_at, descriptor_bytes}
+use Rattle.amqp_encoder.specs.Measuring.{end_in, end_described_in, closed, size_of}
 use Rattle.amqp_encoder.specs.Passes.{row_tokens, IsContainer, HoldOthers}
 use Rattle.amqp_encoder.specs.Writes.{measure, fill, measuring, filling, step, MayRunOut, AnyMayRunOut}
 
@@ -36,14 +38,16 @@ then_ : {A : Type 0} (r : Result A Error) (f : A → Result Measured Error) → 
 then_ (Ok a) f h = h a
 then_ (Err e) f h = tt
 
-after : (r : Result Measured Error) (f : Measured → Result Measured Error) → Stays r → ((m : Measured) → Plainly m → Stays (f m)) → Stays (r >>= f)
+after : (r : Result Measured Error) (f : Measured → Result Measured Error) → Stays r
+    → ((m : Measured) → Plainly m → Stays (f m)) → Stays (r >>= f)
 after (Ok m) f h k = k m h
 after (Err e) f h k = tt
 
 leaves : (n : ℕ) (m : Measured) → Plainly m → Stays (leave n m)
 leaves n m h =
     either (ltb MAX (m.frame.content + n) || ltb MAX (m.frame.count + 1)) (Err TooLarge)
-    (Ok (record m { frame = record m.frame { content = m.frame.content + n; count = m.frame.count + 1; place = next m.frame.place } })) tt (ap next h.0, h.1)
+    (Ok (record m { frame = record m.frame { content = m.frame.content + n; count = m.frame.count + 1; place = next m.frame.place } })) tt
+    (ap next h.0, h.1)
 
 takes : (p : Place) (code : ℕ) (m : Measured) → p ≡ Alone → Plainly m → Stays (take_form p code m)
 takes Alone code m i h = h
@@ -51,7 +55,10 @@ takes First code m i h = cc
 takes Later code m i h = cc
 
 values : (code len : ℕ) (m : Measured) → Plainly m → Stays (measure_value code len m)
-values code len m h = after (enter code m) (leave len) (either (is_full m.frame) (Err InvalidValue) (take_form m.frame.place code m) tt (takes m.frame.place code m h.0 h)) (λ n k. leaves len n k)
+values code len m h =
+    after (enter code m) (leave len)
+    (either (is_full m.frame) (Err InvalidValue) (take_form m.frame.place code m) tt (takes m.frame.place code m h.0 h))
+    (λ n k. leaves len n k)
 
 nulls : (p : Place) (m : Measured) → Plainly m → Stays (measure_null_at p m)
 nulls Alone m h = values 0x40 1 m h
@@ -63,7 +70,8 @@ primitives null m h = nulls m.frame.place m h
 primitives p m h = values (wide p).0 (length (primitive_text m.frame.place p)) m h
 
 keeps : (p : Place) (len nesting : ℕ) (m : Measured) → Plainly m → Stays (measure_keep_at p len nesting m)
-keeps Alone len nesting m h = either (ltb 128 nesting || ltb (128 - nesting) (length m.outer)) (Err Depth) (measure_value 0 len m) tt (values 0 len m h)
+keeps Alone len nesting m h =
+    either (ltb 128 nesting || ltb (128 - nesting) (length m.outer)) (Err Depth) (measure_value 0 len m) tt (values 0 len m h)
 keeps First len nesting m h = tt
 keeps Later len nesting m h = tt
 
@@ -75,7 +83,8 @@ describes Later bytes m i h = cc
 ends : (fs : List Open) (k : Container) (m : Measured) → AllPlain fs → Stays (end_in fs k m)
 ends [] k m h = tt
 ends (f ∷ fs) k m h =
-    either (not (holds_ m.frame.kind k) || not (ltb m.frame.index (length m.sizes))) (Err InvalidValue) (if is_odd_map k m.frame.count then Err OddCount else (size_of m.frame >>= closed k m f fs)) tt
+    either (not (holds_ m.frame.kind k) || not (ltb m.frame.index (length m.sizes))) (Err InvalidValue)
+    (if is_odd_map k m.frame.count then Err OddCount else (size_of m.frame >>= closed k m f fs)) tt
     (either (is_odd_map k m.frame.count) (Err OddCount) (size_of m.frame >>= closed k m f fs) tt
     (then_ (size_of m.frame) (closed k m f fs) (λ s.
     leaves (length (opening f.place k m.frame.count m.frame.content) + m.frame.content)
@@ -85,7 +94,8 @@ ends_described : (fs : List Open) (m : Measured) → AllPlain fs → Stays (end_
 ends_described [] m h = tt
 ends_described (f ∷ fs) m h =
     let inner : Measured = record { frame = record f { code = m.frame.code }; outer = fs; sizes = m.sizes; descriptors = m.descriptors } in
-    either (is_none m.frame.kind && eqb m.frame.count 1) (leave m.frame.content inner) (Err InvalidValue) (leaves m.frame.content inner h) tt
+    either (is_none m.frame.kind && eqb m.frame.count 1) (leave m.frame.content inner) (Err InvalidValue)
+    (leaves m.frame.content inner h) tt
 
 abbrev BeginsNone : Token → Type 0
 BeginsNone (begin k) = ⊥
@@ -97,8 +107,12 @@ stays (keep bytes nesting) m b h = keeps m.frame.place (length bytes) nesting m 
 stays (begin k) m b h = absurd b
 stays (end k) m b h = ends m.outer k m h.1
 stays (begin_described d) m b h =
-    either (ltb 127 (length m.outer)) (Err Depth) (if is_full m.frame then Err InvalidValue else (checked (descriptor_value d) >>= λ _. describe_at m.frame.place (descriptor_bytes d) m)) tt
-    (either (is_full m.frame) (Err InvalidValue) (checked (descriptor_value d) >>= λ _. describe_at m.frame.place (descriptor_bytes d) m) tt (then_ (checked (descriptor_value d)) (λ _. describe_at m.frame.place (descriptor_bytes d) m) (λ u. describes m.frame.place (descriptor_bytes d) m h.0 h)))
+    either (ltb 127 (length m.outer)) (Err Depth)
+    (if is_full m.frame then Err InvalidValue
+    else (checked (descriptor_value d) >>= λ _. describe_at m.frame.place (descriptor_bytes d) m)) tt
+    (either (is_full m.frame) (Err InvalidValue) (checked (descriptor_value d) >>= λ _. describe_at m.frame.place (descriptor_bytes d) m) tt
+    (then_ (checked (descriptor_value d)) (λ _. describe_at m.frame.place (descriptor_bytes d) m)
+    (λ u. describes m.frame.place (descriptor_bytes d) m h.0 h)))
 stays end_described m b h = ends_described m.outer m h.1
 stays (refuse e) m b h = tt
 
@@ -153,13 +167,18 @@ module _ (deep : List ℕ → ℕ) where
   of_term : (t : Term) → AllBeginNone (tokens deep t) ⊎ Somewhere IsContainer t
   of_term (leaf p) = inl (tt, tt)
   of_term (container k ts) = inr (inl tt)
-  of_term (described d t) = elim (of_term t) [ inl h ↦ inl (tt, joined (tokens deep t) (end_described ∷ []) h (tt, tt)) | inr h ↦ inr (inr h) ]
+  of_term (described d t) =
+      elim (of_term t) [ inl h ↦ inl (tt, joined (tokens deep t) (end_described ∷ []) h (tt, tt)) | inr h ↦ inr (inr h) ]
   of_term (kept b) = inl (tt, tt)
   of_term (barred r) = inl (tt, tt)
 
   of_terms : (ts : List Term) → AllBeginNone (row_tokens deep ts) ⊎ HoldOthers ts
   of_terms [] = inl tt
-  of_terms (t ∷ ts) = elim (of_term t) [ inr h ↦ inr (inl h) | inl h ↦ elim (of_terms ts) [ inr k ↦ inr (inr k) | inl k ↦ inl (joined (tokens deep t) (row_tokens deep ts) h k) ] ]
+  of_terms (t ∷ ts) =
+      elim (of_term t) [
+        | inr h ↦ inr (inl h)
+        | inl h ↦ elim (of_terms ts) [ inr k ↦ inr (inr k) | inl k ↦ inl (joined (tokens deep t) (row_tokens deep ts) h k) ]
+      ]
 
   -- where memory may run out, there is a list, a map or an array
   pub holds : (ts : List Term) → AnyMayRunOut (Measuring at_start) (row_tokens deep ts) → HoldOthers ts

@@ -6,7 +6,8 @@ use Rattle.amqp_wire.specs.declared.error.Error.{Error}
 use Rattle.amqp_wire.specs.declared.error.Error.TheVariants.{Memory}
 use Rattle.amqp_encoder.specs.Tokens.{Token}
 use Rattle.amqp_encoder.specs.State.{Filled}
-use Rattle.amqp_encoder.specs.Writes.{step, steps, fill, filling, outcome, Runs, Writes, Follows, bytes_of, MayRunOut, AnyMayRunOut, RunsOut, IsGoing}
+use Rattle.amqp_encoder.specs.Writes.{step, steps, fill, filling, outcome, Runs, Writes, Follows, bytes_of, MayRunOut, AnyMayRunOut}
+use Rattle.amqp_encoder.specs.Writes.{RunsOut, IsGoing}
 use Rattle.amqp_encoder.specs.declared.encoder.Encoder.{Encoder}
 use Rattle.amqp_encoder.specs.declared.encoder.Pass.{Pass}
 use Rattle.amqp_encoder.specs.declared.encoder.Pass.TheVariants.{Measuring, Filling, Stopped}
@@ -77,23 +78,27 @@ unfolding AnyMayRunOut steps
 later_may s [] ys h = h
 later_may s (x ∷ xs) ys h = inr (later_may (step s x) xs ys h)
 
-joined_state : (a b c : Pass) (xs ys : List Token) → IsGoing b → (b ≡ steps a xs) ⊎ RunsOut a xs b → (c ≡ steps b ys) ⊎ RunsOut b ys c → (c ≡ steps a (xs ++ ys)) ⊎ RunsOut a (xs ++ ys) c
+joined_state : (a b c : Pass) (xs ys : List Token) → IsGoing b → (b ≡ steps a xs) ⊎ RunsOut a xs b → (c ≡ steps b ys) ⊎ RunsOut b ys c
+    → (c ≡ steps a (xs ++ ys)) ⊎ RunsOut a (xs ++ ys) c
 joined_state a b c xs ys g (inl h) (inl k) = inl (rw (steps-append, ← h) k)
 joined_state a b c xs ys g (inl h) (inr k) = inr (later_may a xs ys (rw h at k.0), k.1)
 joined_state a b c xs ys g (inr h) k = let e : Err Memory ≡ Ok tt = sym (ap outcome h.1) ∙ g in cc
 
-join_runs : (a : Pass) (xs : List Token) (r : Result (Unit {0}) Error) (b : Pass) (ys : List Token) (s : Result (Unit {0}) Error) (c : Pass) →
+join_runs : (a : Pass) (xs : List Token) (r : Result (Unit {0}) Error) (b : Pass) (ys : List Token)
+    (s : Result (Unit {0}) Error) (c : Pass) →
     r ≡ Ok tt → Runs a xs r b → Runs b ys s c → Runs a (xs ++ ys) s c
 join_runs a xs r b ys s c ok h k = record {
   answer = k.answer;
   state = joined_state a b c xs ys (sym h.answer ∙ ok) h.state k.state;
 }
 
-cut_state : (a b : Pass) (e : Error) (xs ys : List Token) → b ≡ Stopped e → (b ≡ steps a xs) ⊎ RunsOut a xs b → (b ≡ steps a (xs ++ ys)) ⊎ RunsOut a (xs ++ ys) b
+cut_state : (a b : Pass) (e : Error) (xs ys : List Token) → b ≡ Stopped e → (b ≡ steps a xs) ⊎ RunsOut a xs b
+    → (b ≡ steps a (xs ++ ys)) ⊎ RunsOut a (xs ++ ys) b
 cut_state a b e xs ys i (inl h) = inl (rw (steps-append, ← h, i) (sym (steps_stopped e ys)))
 cut_state a b e xs ys i (inr h) = inr (first_may a xs ys h.0, h.1)
 
-cut_runs : (a : Pass) (xs : List Token) (r : Result (Unit {0}) Error) (b : Pass) (ys : List Token) (s : Result (Unit {0}) Error) (e y : Error) →
+cut_runs : (a : Pass) (xs : List Token) (r : Result (Unit {0}) Error) (b : Pass) (ys : List Token)
+    (s : Result (Unit {0}) Error) (e y : Error) →
     r ≡ Err e → s ≡ Err y → y ≡ e → Runs a xs r b → Runs a (xs ++ ys) s b
 cut_runs a xs r b ys s e y i j k h = record {
   answer = j ∙ (ap Err k ∙ (sym i ∙ h.answer));
@@ -111,9 +116,14 @@ pub nothing : (s : Encoder) → (r : Result (Unit {0}) Error) → r ≡ outcome 
 nothing s r h = record { runs = nothing_runs s.pass r h; kept = stays (bytes_of s) }
 
 -- one after another
-pub join : (a : Encoder) (xs : List Token) (r : Result (Unit {0}) Error) (b : Encoder) (ys : List Token) (s : Result (Unit {0}) Error) (c : Encoder) →
+pub join : (a : Encoder) (xs : List Token) (r : Result (Unit {0}) Error) (b : Encoder) (ys : List Token)
+    (s : Result (Unit {0}) Error) (c : Encoder) →
     r ≡ Ok tt → Writes a xs r b → Writes b ys s c → Writes a (xs ++ ys) s c
-join a xs r b ys s c ok h k = record { runs = join_runs a.pass xs r b.pass ys s c.pass ok h.runs k.runs; kept = on (bytes_of a) (bytes_of b) (bytes_of c) h.kept k.kept }
+join a xs r b ys s c ok h k =
+    record {
+      runs = join_runs a.pass xs r b.pass ys s c.pass ok h.runs k.runs;
+      kept = on (bytes_of a) (bytes_of b) (bytes_of c) h.kept k.kept;
+    }
 
 going_then : (a b : Pass) (ts : List Token) → IsGoing b → (b ≡ steps a ts) ⊎ RunsOut a ts b → IsGoing a
 going_then a b ts g (inl h) = going_before a ts (rw h at g)
@@ -124,6 +134,7 @@ pub was_going : (a : Encoder) (ts : List Token) (r : Result (Unit {0}) Error) (b
 was_going a ts r b ok w = going_then a.pass b.pass ts (sym w.runs.answer ∙ ok) w.runs.state
 
 -- after a refusal nothing more is written
-pub cut : (a : Encoder) (xs : List Token) (r : Result (Unit {0}) Error) (b : Encoder) (ys : List Token) (s : Result (Unit {0}) Error) (e y : Error) →
+pub cut : (a : Encoder) (xs : List Token) (r : Result (Unit {0}) Error) (b : Encoder) (ys : List Token)
+    (s : Result (Unit {0}) Error) (e y : Error) →
     r ≡ Err e → s ≡ Err y → y ≡ e → Writes a xs r b → Writes a (xs ++ ys) s b
 cut a xs r b ys s e y i j k h = record { runs = cut_runs a.pass xs r b.pass ys s e y i j k h.runs; kept = h.kept }

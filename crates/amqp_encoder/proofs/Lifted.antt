@@ -1,9 +1,11 @@
 -- From the parts of a described value or a container to itself.
-use Rattle.std.proofs.Common.{◌≡◌, ℕ, suc, zero, ◌+◌, ◌%◌, ◌<◌, ◌≤◌, ◌^◌, List, [], ◌∷◌, ◌++◌, length, take, drop, refl, sym, ◌∙◌, ap, subst, inl, inr, ◌⊎◌, arith, Bool, true, false, length-append, option_map}
+use Rattle.std.proofs.Common.{◌≡◌, ℕ, suc, zero, ◌+◌, ◌%◌, ◌<◌, ◌≤◌, ◌^◌, List, [], ◌∷◌, ◌++◌, length, take, drop, refl, sym, ◌∙◌, ap}
+use Rattle.std.proofs.Common.{subst, inl, inr, ◌⊎◌, arith, Bool, true, false, length-append, option_map}
 use Rattle.std.specs.Prelude.{Ok, eqb, not}
 use Rattle.std.proofs.lemmas.Bool.{eqb-true}
 use Rattle.std.proofs.lemmas.List.{drop_at, drop-drop, take-append-drop}
-use Rattle.amqp_model.specs.Term.{Primitive, Refusal, zero_width_items, mixed_array, too_large, lazy_in_array, non_ascii, Container, list, map, array, Term, Terms, leaf, container, described, kept, barred, none, more, Descriptor, count}
+use Rattle.amqp_model.specs.Term.{Primitive, Refusal, zero_width_items, mixed_array, too_large, lazy_in_array, non_ascii, Container, list}
+use Rattle.amqp_model.specs.Term.{map, array, Term, Terms, leaf, container, described, kept, barred, none, more, Descriptor, count}
 use Rattle.amqp_model.specs.Spelling.{descriptor_value}
 use Rattle.amqp_model.specs.Text.{Place, Alone, First, Later, next, first_place, wide_code, form, text, texts, content_of, descriptor_text}
 use Rattle.amqp_model.specs.Ranges.{IsInRange}
@@ -16,7 +18,10 @@ use Rattle.amqp_encoder.specs.Measuring.{MAX, descriptor_bytes, around, is_odd_m
 use Rattle.amqp_encoder.specs.Filling.{sized}
 use Rattle.amqp_encoder.specs.Reasons.{HasReason, IsOddMap, nest_by, nests_by, array_nest_by}
 use Rattle.amqp_encoder.specs.Sound.{HasSize}
-use Rattle.amqp_encoder.proofs.Measured.{InArray, descs, core_code, Same, IsOther, Other, Chain, IsWithin, AllWithin, IsPast, AnyPast, AcceptedAt, RefusedAt, inside, past, too_long, too_many, null_item, kept_item, other, AllAlike, Uniform, MixedAt, AllFormed, AcceptedAll, RefusedAll, some_inside, some_past, all_too_long, all_too_many, some_null, some_kept, some_other}
+use Rattle.amqp_encoder.proofs.Measured.{InArray, descs, core_code, Same, IsOther, Other, Chain, IsWithin, AllWithin, IsPast, AnyPast}
+use Rattle.amqp_encoder.proofs.Measured.{AcceptedAt, RefusedAt, inside, past, too_long, too_many, null_item, kept_item, other, AllAlike}
+use Rattle.amqp_encoder.proofs.Measured.{Uniform, MixedAt, AllFormed, AcceptedAll, RefusedAll, some_inside, some_past, all_too_long}
+use Rattle.amqp_encoder.proofs.Measured.{all_too_many, some_null, some_kept, some_other}
 use Rattle.amqp_encoder.proofs.Constructors.{alike_forms, other_differs, null_form, kept_form, formless}
 
 -- what a call has tested of a primitive
@@ -43,9 +48,11 @@ GoesOn First s D b = Unit {0}
 GoesOn Later s D b = take (length b) (drop s D) ≡ b
 
 seam : (s : ℕ) (D b : List ℕ) → take (length b) (drop s D) ≡ b → drop s D ≡ b ++ drop (s + length b) D
-seam s D b h = sym (take-append-drop (length b) (drop s D)) ∙ ap (λ l. l ++ drop (length b) (drop s D)) h ∙ ap (λ l. b ++ l) (drop-drop (length b) s D)
+seam s D b h = sym (take-append-drop (length b) (drop s D)) ∙ ap (λ l. l ++ drop (length b) (drop s D)) h
+    ∙ ap (λ l. b ++ l) (drop-drop (length b) s D)
 
-same_on : (p : Place) (s : ℕ) (D : List ℕ) (cd : ℕ) (b ds : List ℕ) (x : ℕ) → GoesOn p s D b → Same p (form_in p s D b) (descs_in p D b) cd ds x → Same p s D cd (b ++ ds) x
+same_on : (p : Place) (s : ℕ) (D : List ℕ) (cd : ℕ) (b ds : List ℕ) (x : ℕ) → GoesOn p s D b
+    → Same p (form_in p s D b) (descs_in p D b) cd ds x → Same p s D cd (b ++ ds) x
 same_on Alone s D cd b ds x g h = tt
 same_on First s D cd b ds x g h = tt
 same_on Later s D cd b ds x g h = (seam s D b g ∙ ap (λ l. b ++ l) h.0, h.1)
@@ -53,7 +60,8 @@ same_on Later s D cd b ds x g h = (seam s D b g ∙ ap (λ l. b ++ l) h.0, h.1)
 rest_of : (s : ℕ) (D b ds : List ℕ) → drop s D ≡ b ++ ds → drop (s + length b) D ≡ ds
 rest_of s D b ds h = sym (drop-drop (length b) s D) ∙ ap (drop (length b)) h ∙ drop_at b ds (length b) refl
 
-other_on : (p : Place) (s : ℕ) (D : List ℕ) (cd : ℕ) (x : Descriptor) (t : Term) → Other p (form_in p s D (descriptor_bytes x)) (descs_in p D (descriptor_bytes x)) cd t
+other_on : (p : Place) (s : ℕ) (D : List ℕ) (cd : ℕ) (x : Descriptor) (t : Term)
+    → Other p (form_in p s D (descriptor_bytes x)) (descs_in p D (descriptor_bytes x)) cd t
     → Other p s D cd (described x t)
 other_on Alone s D cd x t h = h
 other_on First s D cd x t h = h
@@ -67,7 +75,8 @@ described_flawless x t g non_ascii h = g.is_ascii h
 described_flawless x t g too_large h = g.is_short h
 described_flawless x t g _ h = h
 
-described_clean : (x : Descriptor) (t : Term) → Tested (descriptor_value x) → ((e : Error) → Somewhere (HasReason e) t → ⊥) → (e : Error) → Somewhere (HasReason e) (described x t) → ⊥
+described_clean : (x : Descriptor) (t : Term) → Tested (descriptor_value x) → ((e : Error) → Somewhere (HasReason e) t → ⊥) → (e : Error)
+    → Somewhere (HasReason e) (described x t) → ⊥
 described_clean x t g h e (inl (inl (r, i, inl q))) = cc
 described_clean x t g h e (inl (inl (r, i, inr f))) = described_flawless x t g r f
 described_clean x t g h e (inl (inr (inl c))) = c.1
@@ -151,8 +160,10 @@ module _ (deep : List ℕ → ℕ) where
 
   -- described values
 
-  pub accepted_described : (x : Descriptor) (t : Term) (p : Place) (c n d s cd : ℕ) (D : List ℕ) → d ≤ 127 → Tested (descriptor_value x) → IsInRange (descriptor_value x) → GoesOn p s D (descriptor_bytes x)
-      → AcceptedAt deep t p (length (descriptor_text p x)) 0 (d + 1) (form_in p s D (descriptor_bytes x)) cd (descs_in p D (descriptor_bytes x))
+  pub accepted_described : (x : Descriptor) (t : Term) (p : Place) (c n d s cd : ℕ) (D : List ℕ) → d ≤ 127 → Tested (descriptor_value x)
+      → IsInRange (descriptor_value x) → GoesOn p s D (descriptor_bytes x)
+      → AcceptedAt deep t p (length (descriptor_text p x)) 0 (d + 1) (form_in p s D (descriptor_bytes x)) cd
+      (descs_in p D (descriptor_bytes x))
       → c + (length (descriptor_text p x) + length (text t p)) ≤ MAX → n + 1 ≤ MAX → AcceptedAt deep (described x t) p c n d s cd D
   unfolding text
   accepted_described x t p c n d s cd D low g v on a l m = record {
@@ -167,7 +178,8 @@ module _ (deep : List ℕ → ℕ) where
   }
 
   pub refused_described : (x : Descriptor) (t : Term) (p : Place) (c n d s cd : ℕ) (D : List ℕ) (e : Error)
-      → RefusedAt deep t p (length (descriptor_text p x)) 0 (d + 1) (form_in p s D (descriptor_bytes x)) cd (descs_in p D (descriptor_bytes x)) e → RefusedAt deep (described x t) p c n d s cd D e
+      → RefusedAt deep t p (length (descriptor_text p x)) 0 (d + 1) (form_in p s D (descriptor_bytes x)) cd
+      (descs_in p D (descriptor_bytes x)) e → RefusedAt deep (described x t) p c n d s cd D e
   unfolding text
   refused_described x t p c n d s cd D e (inside r) = inside (inr r)
   refused_described x t p c n d s cd D e (past i h) = past i (let f : 128 < (d + 1) + nest_by deep t = past_at p (d + 1) t h in omega arith)
@@ -190,11 +202,13 @@ module _ (deep : List ℕ → ℕ) where
   item_alike ds x t (more u ts) (inr i) a = item_alike ds x t ts i a.2
 
   -- as the first one
-  first_alike : (u t : Term) (ts : Terms) → IsItem u (more t ts) → AllAlike deep (descs t) (core_code t) ts → (descs t ≡ descs u) × (core_code t ≡ core_code u)
+  first_alike : (u t : Term) (ts : Terms) → IsItem u (more t ts) → AllAlike deep (descs t) (core_code t) ts
+      → (descs t ≡ descs u) × (core_code t ≡ core_code u)
   first_alike u t ts (inl i) a = rw i (refl, refl)
   first_alike u t ts (inr i) a = item_alike (descs t) (core_code t) u ts i a
 
-  unmixed : (ts : Terms) (s cd : ℕ) (D : List ℕ) → AllFormed deep ts → Uniform deep First s D cd ts → (t u : Term) → IsItem t ts → IsItem u ts → form t ≡ form u
+  unmixed : (ts : Terms) (s cd : ℕ) (D : List ℕ) → AllFormed deep ts → Uniform deep First s D cd ts → (t u : Term) → IsItem t ts
+      → IsItem u ts → form t ≡ form u
   unmixed none s cd D f a t u i j = absurd i
   unmixed (more v ts) s cd D f a t u i j =
       let x = first_alike t v ts i a in
@@ -209,15 +223,19 @@ module _ (deep : List ℕ → ℕ) where
   content_fits array zero items h l = omega arith
   content_fits array (suc n) items h l = omega (arith, h.0)
 
-  array_flawless : (ts : Terms) (s cd : ℕ) (D : List ℕ) → AllFormed deep ts → Uniform deep First s D cd ts → HasSize (length (texts ts First)) (count ts) → (r : Refusal) → HasFlaw r (container array ts) → ⊥
-  array_flawless ts s cd D f a z mixed_array (t, u, i, j, n) = one_form_shared t u (item_formed t ts i f).0 (unmixed ts s cd D f a t u i j) n
+  array_flawless : (ts : Terms) (s cd : ℕ) (D : List ℕ) → AllFormed deep ts → Uniform deep First s D cd ts
+      → HasSize (length (texts ts First)) (count ts) → (r : Refusal) → HasFlaw r (container array ts) → ⊥
+  array_flawless ts s cd D f a z mixed_array (t, u, i, j, n) =
+      one_form_shared t u (item_formed t ts i f).0 (unmixed ts s cd D f a t u i j) n
   array_flawless ts s cd D f a z zero_width_items (t, i, h) = formless t (item_formed t ts i f).0 (null_form t h)
   array_flawless ts s cd D f a z lazy_in_array (t, b, i, h) = formless t (item_formed t ts i f).0 (kept_form t b h)
   array_flawless ts s cd D f a z non_ascii h = h
   array_flawless ts s cd D f a z too_large h = content_fits array (count ts) (texts ts First) z h
   array_flawless ts s cd D f a z _ h = h
 
-  container_flawless : (k : Container) (ts : Terms) (s cd : ℕ) (D : List ℕ) → (InArray (first_place k) → AllFormed deep ts) → Uniform deep (first_place k) s D cd ts → HasSize (length (texts ts (first_place k))) (count ts) → (r : Refusal) → HasFlaw r (container k ts) → ⊥
+  container_flawless : (k : Container) (ts : Terms) (s cd : ℕ) (D : List ℕ) → (InArray (first_place k) → AllFormed deep ts)
+      → Uniform deep (first_place k) s D cd ts → HasSize (length (texts ts (first_place k))) (count ts) → (r : Refusal)
+      → HasFlaw r (container k ts) → ⊥
   container_flawless array ts s cd D f a z r h = array_flawless ts s cd D (f tt) a z r h
   container_flawless list ts s cd D f a z mixed_array h = h
   container_flawless list ts s cd D f a z zero_width_items h = h
@@ -237,7 +255,9 @@ module _ (deep : List ℕ → ℕ) where
   even_map array ts e h = h
   even_map map ts e h = h (even_of (count ts % 2) e)
 
-  container_clean : (k : Container) (ts : Terms) (s cd : ℕ) (D : List ℕ) → is_odd_map k (count ts) ≡ false → HasSize (length (texts ts (first_place k))) (count ts) → (InArray (first_place k) → AllFormed deep ts) → Uniform deep (first_place k) s D cd ts
+  container_clean : (k : Container) (ts : Terms) (s cd : ℕ) (D : List ℕ) → is_odd_map k (count ts) ≡ false
+      → HasSize (length (texts ts (first_place k))) (count ts) → (InArray (first_place k) → AllFormed deep ts)
+      → Uniform deep (first_place k) s D cd ts
       → ((e : Error) → SomewhereIn (HasReason e) ts → ⊥) → (e : Error) → Somewhere (HasReason e) (container k ts) → ⊥
   container_clean k ts s cd D o z f a h e (inl (inl (r, i, inl q))) = cc
   container_clean k ts s cd D o z f a h e (inl (inl (r, i, inr w))) = container_flawless k ts s cd D f a z r w
@@ -245,12 +265,14 @@ module _ (deep : List ℕ → ℕ) where
   container_clean k ts s cd D o z f a h e (inl (inr (inr c))) = even_map k ts o c.1
   container_clean k ts s cd D o z f a h e (inr w) = h e w
 
-  container_within : (k : Container) (d : ℕ) (ts : Terms) → d ≤ around k → AllWithin deep (d + 1) ts → d + nest_by deep (container k ts) ≤ 128
+  container_within : (k : Container) (d : ℕ) (ts : Terms) → d ≤ around k → AllWithin deep (d + 1) ts
+      → d + nest_by deep (container k ts) ≤ 128
   container_within list d ts l h = let f : (d + 1) + nests_by deep ts ≤ 128 = alls_at (d + 1) ts (omega arith) h in omega arith
   container_within map d ts l h = let f : (d + 1) + nests_by deep ts ≤ 128 = alls_at (d + 1) ts (omega arith) h in omega arith
   container_within array d ts l h = array_at d ts l h
 
-  pub accepted_container : (k : Container) (ts : Terms) (p : Place) (c n d s cd : ℕ) (D : List ℕ) → d ≤ around k → is_odd_map k (count ts) ≡ false → HasSize (length (texts ts (first_place k))) (count ts)
+  pub accepted_container : (k : Container) (ts : Terms) (p : Place) (c n d s cd : ℕ) (D : List ℕ) → d ≤ around k
+      → is_odd_map k (count ts) ≡ false → HasSize (length (texts ts (first_place k))) (count ts)
       → Same p s D cd [] (wide_code k) → AcceptedAll deep ts (first_place k) 0 0 (d + 1) (length D) 0 D
       → c + length (text (container k ts) p) ≤ MAX → n + 1 ≤ MAX → AcceptedAt deep (container k ts) p c n d s cd D
   accepted_container k ts p c n d s cd D low o z same_ a l m = record {
@@ -269,14 +291,16 @@ module _ (deep : List ℕ → ℕ) where
   container_past map d ts h = omega (arith, any_past Alone (d + 1) ts h)
   container_past array d ts h = array_past First d ts tt h
 
-  long_content : (k : Container) (ts : Terms) → 2 ^ 32 ≤ 4 + length (texts ts (first_place k)) → 2 ^ 32 ≤ 4 + length (content_of k (count ts) (texts ts (first_place k)))
+  long_content : (k : Container) (ts : Terms) → 2 ^ 32 ≤ 4 + length (texts ts (first_place k))
+      → 2 ^ 32 ≤ 4 + length (content_of k (count ts) (texts ts (first_place k)))
   unfolding texts
   long_content list ts h = h
   long_content map ts h = h
   long_content array none h = absurd (omega arith)
   long_content array (more t ts) h = h
 
-  pub refused_size : (k : Container) (ts : Terms) (e : Error) → e ≡ TooLarge → (2 ^ 32 ≤ 4 + length (texts ts (first_place k))) ⊎ ((2 ^ 32 ≤ count ts) × IsItem (kept []) ts) → Somewhere (HasReason e) (container k ts)
+  pub refused_size : (k : Container) (ts : Terms) (e : Error) → e ≡ TooLarge → (2 ^ 32 ≤ 4 + length (texts ts (first_place k)))
+      ⊎ ((2 ^ 32 ≤ count ts) × IsItem (kept []) ts) → Somewhere (HasReason e) (container k ts)
   refused_size k ts e i (inl h) = inl (inl (too_large, i, inr (long_content k ts h)))
   refused_size k ts e i (inr h) = inl (inr (inl (i, h)))
 
@@ -299,4 +323,5 @@ module _ (deep : List ℕ → ℕ) where
   refused_container array ts p c n d s cd D e (some_kept i a t b j h) = inside (inl (inl (lazy_in_array, i, inr (t, b, j, h))))
   refused_container list ts p c n d s cd D e (some_other i h) = absurd h
   refused_container map ts p c n d s cd D e (some_other i h) = absurd h
-  refused_container array ts p c n d s cd D e (some_other i h) = inside (inl (inl (mixed_array, i, inr (mixed_container ts (length D) 0 D h))))
+  refused_container array ts p c n d s cd D e (some_other i h) =
+      inside (inl (inl (mixed_array, i, inr (mixed_container ts (length D) 0 D h))))

@@ -154,7 +154,8 @@ module _ (deep : List ℕ → ℕ) where
     some_inside : SomewhereIn (HasReason e) ts → RefusedAll ts p c n d s cd D e
     some_past : e ≡ Depth → AnyPast p d ts → RefusedAll ts p c n d s cd D e
     all_too_long : e ≡ TooLarge → MAX < c + length (texts ts p) → RefusedAll ts p c n d s cd D e
-    all_too_many : e ≡ TooLarge → MAX < n + count ts → (MAX ≤ n + length (texts ts p)) ⊎ IsItem (kept []) ts → RefusedAll ts p c n d s cd D e
+    all_too_many : e ≡ TooLarge → MAX < n + count ts → (MAX ≤ n + length (texts ts p)) ⊎ IsItem (kept []) ts
+        → RefusedAll ts p c n d s cd D e
     some_null : e ≡ ZeroWidthItems → InArray p → (t : Term) → IsItem t ts → core t ≡ leaf null → RefusedAll ts p c n d s cd D e
     some_kept : e ≡ LazyInArray → InArray p → (t : Term) (b : List ℕ) → IsItem t ts → core t ≡ kept b → RefusedAll ts p c n d s cd D e
     some_other : e ≡ MixedArray → MixedAt p s D cd ts → RefusedAll ts p c n d s cd D e
@@ -189,19 +190,22 @@ module _ (deep : List ℕ → ℕ) where
   mixed_here Later t ts s cd D m = (t, inl refl, m)
 
   pub accepted_more : (t : Term) (ts : Terms) (p : Place) (c n d s cd : ℕ) (D : List ℕ) → Fit p s D → AcceptedAt t p c n d s cd D
-      → AcceptedAll ts (next p) (c + length (text t p)) (n + 1) d s (code_after p cd (core_code t)) (descs_after p D (descs t)) → AcceptedAll (more t ts) p c n d s cd D
+      → AcceptedAll ts (next p) (c + length (text t p)) (n + 1) d s (code_after p cd (core_code t)) (descs_after p D (descs t))
+      → AcceptedAll (more t ts) p c n d s cd D
   unfolding text
   accepted_more t ts p c n d s cd D f a b = record {
     all_sound = (a.sound, b.all_sound);
     all_clean = (λ e. elim [ inl r ↦ a.clean e r | inr r ↦ b.all_clean e r ]);
     all_within = (a.within, b.all_within);
-    all_long = (let h : (c + length (text t p)) + length (texts ts (next p)) ≤ MAX = b.all_long in omega (arith, length-append (text t p) (texts ts (next p))));
+    all_long = (let h : (c + length (text t p)) + length (texts ts (next p)) ≤ MAX = b.all_long in
+        omega (arith, length-append (text t p) (texts ts (next p))));
     all_many = (let h : (n + 1) + count ts ≤ MAX = b.all_many in omega arith);
     all_formed = (λ i. (a.formed i, a.chain, b.all_formed (in_array_on p i)));
     uniform = uniform_on p t ts s cd D f a.same b.uniform;
   }
 
-  pub refused_here : (t : Term) (ts : Terms) (p : Place) (c n d s cd : ℕ) (D : List ℕ) (e : Error) → RefusedAt t p c n d s cd D e → RefusedAll (more t ts) p c n d s cd D e
+  pub refused_here : (t : Term) (ts : Terms) (p : Place) (c n d s cd : ℕ) (D : List ℕ) (e : Error) → RefusedAt t p c n d s cd D e
+      → RefusedAll (more t ts) p c n d s cd D e
   unfolding text
   refused_here t ts p c n d s cd D e (inside r) = some_inside (inl r)
   refused_here t ts p c n d s cd D e (past i h) = some_past i (inl h)
@@ -211,19 +215,23 @@ module _ (deep : List ℕ → ℕ) where
   refused_here t ts p c n d s cd D e (kept_item i a b h) = some_kept i a t b (inl refl) h
   refused_here t ts p c n d s cd D e (other i h) = some_other i (mixed_here p t ts s cd D h)
 
-  many_later : (t : Term) (ts : Terms) (p : Place) (n : ℕ) → TakesBytes t p → (MAX ≤ (n + 1) + length (texts ts (next p))) ⊎ IsItem (kept []) ts
+  many_later : (t : Term) (ts : Terms) (p : Place) (n : ℕ) → TakesBytes t p
+      → (MAX ≤ (n + 1) + length (texts ts (next p))) ⊎ IsItem (kept []) ts
       → (MAX ≤ n + length (texts (more t ts) p)) ⊎ IsItem (kept []) (more t ts)
   unfolding text
   many_later t ts p n (inl w) (inl m) = inl (omega (arith, length-append (text t p) (texts ts (next p))))
   many_later t ts p n (inl w) (inr m) = inr (inr m)
   many_later t ts p n (inr w) m = inr (inl w)
 
-  pub refused_later : (t : Term) (ts : Terms) (p : Place) (c n d s cd : ℕ) (D : List ℕ) (e : Error) → Fit p s D → TakesBytes t p → AcceptedAt t p c n d s cd D
-      → RefusedAll ts (next p) (c + length (text t p)) (n + 1) d s (code_after p cd (core_code t)) (descs_after p D (descs t)) e → RefusedAll (more t ts) p c n d s cd D e
+  pub refused_later : (t : Term) (ts : Terms) (p : Place) (c n d s cd : ℕ) (D : List ℕ) (e : Error) → Fit p s D → TakesBytes t p
+      → AcceptedAt t p c n d s cd D
+      → RefusedAll ts (next p) (c + length (text t p)) (n + 1) d s (code_after p cd (core_code t)) (descs_after p D (descs t)) e
+      → RefusedAll (more t ts) p c n d s cd D e
   unfolding text
   refused_later t ts p c n d s cd D e f w a (some_inside r) = some_inside (inr r)
   refused_later t ts p c n d s cd D e f w a (some_past i h) = some_past i (inr h)
-  refused_later t ts p c n d s cd D e f w a (all_too_long i h) = all_too_long i (omega (arith, length-append (text t p) (texts ts (next p))))
+  refused_later t ts p c n d s cd D e f w a (all_too_long i h) =
+      all_too_long i (omega (arith, length-append (text t p) (texts ts (next p))))
   refused_later t ts p c n d s cd D e f w a (all_too_many i h m) = all_too_many i (omega arith) (many_later t ts p n w m)
   refused_later t ts p c n d s cd D e f w a (some_null i j u k h) = some_null i (in_array_back p j) u (inr k) h
   refused_later t ts p c n d s cd D e f w a (some_kept i j u b k h) = some_kept i (in_array_back p j) u b (inr k) h

@@ -1,8 +1,10 @@
 -- Why terms aren't written, from the model's words and to them.
-use Rattle.std.proofs.Common.{◌≡◌, ℕ, zero, suc, ◌<◌, ◌≤◌, List, [], ◌∷◌, length, refl, sym, ap, subst, le_trans, inl, inr, ◌⊎◌, arith, length-append}
+use Rattle.std.proofs.Common.{◌≡◌, ℕ, zero, suc, ◌<◌, ◌≤◌, List, [], ◌∷◌, length, refl, sym, ap, subst, le_trans, inl, inr, ◌⊎◌, arith}
+use Rattle.std.proofs.Common.{length-append}
 use Rattle.std.specs.Prelude.{Any}
 use Rattle.std.proofs.lemmas.List.{append-nil}
-use Rattle.amqp_model.specs.Term.{Refusal, depth, lazy_in_array, Container, list, map, array, Term, Terms, leaf, container, described, kept, barred, none, more, count}
+use Rattle.amqp_model.specs.Term.{Refusal, depth, lazy_in_array, Container, list, map, array, Term, Terms, leaf, container, described, kept}
+use Rattle.amqp_model.specs.Term.{barred, none, more, count}
 use Rattle.amqp_model.specs.Items.{terms_of}
 use Rattle.amqp_model.specs.Text.{Alone, text, texts}
 use Rattle.amqp_model.specs.Measures.{nest, nests, array_nest}
@@ -56,7 +58,8 @@ SomeKept us = (t : Term) × (b : List ℕ) × IsItem t us × (core t ≡ kept b)
 one_more : (u : Term) (us : Terms) → SomeKept us → SomeKept (more u us)
 one_more u us (t, b, i, e) = (t, b, inr i, e)
 
-more_items : (u : Term) (us : Terms) (m n : ℕ) → (m ≤ n) ⊎ (SomeKept us ⊎ SomewhereIn HasKeptItem us) → (m ≤ n) ⊎ (SomeKept (more u us) ⊎ SomewhereIn HasKeptItem (more u us))
+more_items : (u : Term) (us : Terms) (m n : ℕ) → (m ≤ n) ⊎ (SomeKept us ⊎ SomewhereIn HasKeptItem us)
+    → (m ≤ n) ⊎ (SomeKept (more u us) ⊎ SomewhereIn HasKeptItem (more u us))
 more_items u us m n (inl h) = inl h
 more_items u us m n (inr (inl h)) = inr (inl (one_more u us h))
 more_items u us m n (inr (inr h)) = inr (inr (inr h))
@@ -91,7 +94,8 @@ has_reason r t h = inl (r, refl, h)
 
 -- an encoder's reason that lies in a term is one of the model
 mutual
-  pub reason_named : (e : Error) (u t : Term) → Everywhere IsValue u → ExpandsTo u t → Somewhere (HasReason e) u → (r : Refusal) × (e ≡ error_of r) × Somewhere (IsRefused r) u
+  pub reason_named : (e : Error) (u t : Term) → Everywhere IsValue u → ExpandsTo u t → Somewhere (HasReason e) u
+      → (r : Refusal) × (e ≡ error_of r) × Somewhere (IsRefused r) u
   reason_named e (leaf p) t v h (inl w) = w
   reason_named e (leaf p) t v h (inr (inl c)) = absurd c.1
   reason_named e (leaf p) t v h (inr (inr c)) = absurd c.1
@@ -111,7 +115,8 @@ mutual
   reason_named e (barred r) t v h (inr (inr c)) = absurd c.1
   reason_named e u t v h w = let no_way : ⊥ = grind arith in absurd no_way
 
-  pub some_reason_named : (e : Error) (us ts : Terms) → EverywhereIn IsValue us → EachExpandsTo us ts → SomewhereIn (HasReason e) us → (r : Refusal) × (e ≡ error_of r) × SomewhereIn (IsRefused r) us
+  pub some_reason_named : (e : Error) (us ts : Terms) → EverywhereIn IsValue us → EachExpandsTo us ts → SomewhereIn (HasReason e) us
+      → (r : Refusal) × (e ≡ error_of r) × SomewhereIn (IsRefused r) us
   some_reason_named e none ts v h w = absurd w
   some_reason_named e (more u us) none v h w = absurd h
   some_reason_named e (more u us) (more t ts) v h (inl w) = let n = reason_named e u t v.0 h.0 w in (n.0, n.1, inl n.2)
@@ -157,23 +162,28 @@ module _ (deep : List ℕ → ℕ) where
     items_no_deeper (more u us) none x h = absurd h
     items_no_deeper (more (leaf p) us) (more (leaf q) ts) x h = items_no_deeper us ts x.1 h.1
     items_no_deeper (more (barred r) us) (more (barred s) ts) x h = items_no_deeper us ts x.1 h.1
-    items_no_deeper (more (container k us') us) (more (container l ts') ts) x h = omega (arith, no_deeper (container k us') (container l ts') x.0 h.0, none_deeper us ts x.1 h.1)
-    items_no_deeper (more (described d u) us) (more (described e t) ts) x h = omega (arith, no_deeper (described d u) (described e t) x.0 h.0, none_deeper us ts x.1 h.1)
+    items_no_deeper (more (container k us') us) (more (container l ts') ts) x h =
+        omega (arith, no_deeper (container k us') (container l ts') x.0 h.0, none_deeper us ts x.1 h.1)
+    items_no_deeper (more (described d u) us) (more (described e t) ts) x h =
+        omega (arith, no_deeper (described d u) (described e t) x.0 h.0, none_deeper us ts x.1 h.1)
     items_no_deeper (more (kept b) us) (more t ts) x h = le_trans (items_no_deeper us ts x.1 h.1) (array_later t ts)
     items_no_deeper (more u us) (more t ts) x h = let no_way : ⊥ = grind arith in absurd no_way
 
   mutual
     as_deep : (u t : Term) → Everywhere (KnowsDepth deep) u → ExpandsTo u t → (nest t ≤ nest_by deep u) ⊎ Somewhere HasKeptItem u
     as_deep (leaf p) (leaf q) x h = inl (omega arith)
-    as_deep (container list us) (container list ts) x h = elim (all_as_deep us ts x.1 h.1) [ inl l ↦ inl (omega arith) | inr s ↦ inr (inr s) ]
+    as_deep (container list us) (container list ts) x h =
+        elim (all_as_deep us ts x.1 h.1) [ inl l ↦ inl (omega arith) | inr s ↦ inr (inr s) ]
     as_deep (container map us) (container map ts) x h = elim (all_as_deep us ts x.1 h.1) [ inl l ↦ inl (omega arith) | inr s ↦ inr (inr s) ]
-    as_deep (container array us) (container array ts) x h = elim (items_as_deep us ts x.1 h.1) [ inl l ↦ inl l | inr s ↦ elim s [ inl i ↦ inr (inl i) | inr w ↦ inr (inr w) ] ]
+    as_deep (container array us) (container array ts) x h =
+        elim (items_as_deep us ts x.1 h.1) [ inl l ↦ inl l | inr s ↦ elim s [ inl i ↦ inr (inl i) | inr w ↦ inr (inr w) ] ]
     as_deep (described d u) (described e t) x h = elim (as_deep u t x.1 h.1) [ inl l ↦ inl (omega arith) | inr s ↦ inr (inr s) ]
     as_deep (kept b) t x h = inl (omega (arith, x t h))
     as_deep (barred r) (barred s) x h = inl (omega arith)
     as_deep u t x h = let no_way : ⊥ = grind arith in absurd no_way
 
-    pub all_as_deep : (us ts : Terms) → EverywhereIn (KnowsDepth deep) us → EachExpandsTo us ts → (nests ts ≤ nests_by deep us) ⊎ SomewhereIn HasKeptItem us
+    pub all_as_deep : (us ts : Terms) → EverywhereIn (KnowsDepth deep) us → EachExpandsTo us ts → (nests ts ≤ nests_by deep us)
+        ⊎ SomewhereIn HasKeptItem us
     all_as_deep none none x h = inl (omega arith)
     all_as_deep none (more t ts) x h = absurd h
     all_as_deep (more u us) none x h = absurd h
@@ -182,12 +192,15 @@ module _ (deep : List ℕ → ℕ) where
       | inl l ↦ elim (all_as_deep us ts x.1 h.1) [ inr s ↦ inr (inr s) | inl m ↦ inl (omega arith) ]
     ]
 
-    items_as_deep : (us ts : Terms) → EverywhereIn (KnowsDepth deep) us → EachExpandsTo us ts → (array_nest ts ≤ array_nest_by deep us) ⊎ (SomeKept us ⊎ SomewhereIn HasKeptItem us)
+    items_as_deep : (us ts : Terms) → EverywhereIn (KnowsDepth deep) us → EachExpandsTo us ts → (array_nest ts ≤ array_nest_by deep us)
+        ⊎ (SomeKept us ⊎ SomewhereIn HasKeptItem us)
     items_as_deep none none x h = inl (omega arith)
     items_as_deep none (more t ts) x h = absurd h
     items_as_deep (more u us) none x h = absurd h
-    items_as_deep (more (leaf p) us) (more (leaf q) ts) x h = more_items (leaf p) us (array_nest ts) (array_nest_by deep us) (items_as_deep us ts x.1 h.1)
-    items_as_deep (more (barred r) us) (more (barred s) ts) x h = more_items (barred r) us (array_nest ts) (array_nest_by deep us) (items_as_deep us ts x.1 h.1)
+    items_as_deep (more (leaf p) us) (more (leaf q) ts) x h =
+        more_items (leaf p) us (array_nest ts) (array_nest_by deep us) (items_as_deep us ts x.1 h.1)
+    items_as_deep (more (barred r) us) (more (barred s) ts) x h =
+        more_items (barred r) us (array_nest ts) (array_nest_by deep us) (items_as_deep us ts x.1 h.1)
     items_as_deep (more (container k us') us) (more (container l ts') ts) x h = elim (as_deep (container k us') (container l ts') x.0 h.0) [
       | inr s ↦ inr (inr (inl s))
       | inl l ↦ elim (all_as_deep us ts x.1 h.1) [ inr s ↦ inr (inr (inr s)) | inl m ↦ inl (omega arith) ]
@@ -209,23 +222,29 @@ module _ (deep : List ℕ → ℕ) where
   refused_more u us e (inr (inr (i, inl w))) = inr (inr (i, inl (omega (arith, length-append (text u Alone) (texts (terms_of us) Alone)))))
   refused_more u us e (inr (inr (i, inr w))) = inr (inr (i, inr (omega arith)))
 
-  too_deep : (u : Term) (us : List Term) → Everywhere (KnowsDepth deep) u → IsTooDeep u → AreRefused deep (u ∷ us) Depth ⊎ AreRefused deep (u ∷ us) LazyInArray
+  too_deep : (u : Term) (us : List Term) → Everywhere (KnowsDepth deep) u → IsTooDeep u → AreRefused deep (u ∷ us) Depth
+      ⊎ AreRefused deep (u ∷ us) LazyInArray
   too_deep u us x (t, h, l) = elim (as_deep u t x h) [
     | inl m ↦ inl (inr (inl (refl, omega arith)))
     | inr s ↦ inr (inl (inl (somewhere_as HasKeptItem (HasReason LazyInArray) kept_reason u s)))
   ]
 
-  refused_first : (u : Term) (us : List Term) (r : Refusal) → Everywhere (KnowsDepth deep) u → Refuses r u → AreRefused deep (u ∷ us) (error_of r) ⊎ ((r ≡ depth) × AreRefused deep (u ∷ us) LazyInArray)
+  refused_first : (u : Term) (us : List Term) (r : Refusal) → Everywhere (KnowsDepth deep) u → Refuses r u
+      → AreRefused deep (u ∷ us) (error_of r) ⊎ ((r ≡ depth) × AreRefused deep (u ∷ us) LazyInArray)
   unfolding Refuses
   refused_first u us r x (inl w) = inl (inl (inl (somewhere_as (IsRefused r) (HasReason (error_of r)) (has_reason r) u w)))
   refused_first u us r x (inr (i, w)) = rw i (elim (too_deep u us x w) [ inl d ↦ inl d | inr k ↦ inr (refl, k) ])
 
   -- what the model refuses is refused
-  pub refused : (us : List Term) (r : Refusal) → KnowDepths deep us → Any (Refuses r) us → AreRefused deep us (error_of r) ⊎ ((r ≡ depth) × AreRefused deep us LazyInArray)
+  pub refused : (us : List Term) (r : Refusal) → KnowDepths deep us → Any (Refuses r) us → AreRefused deep us (error_of r)
+      ⊎ ((r ≡ depth) × AreRefused deep us LazyInArray)
   refused [] r x h = absurd (any_none (Refuses r) h)
   refused (u ∷ us) r x h = elim (any_cases (Refuses r) u us h) [
     | inl i ↦ refused_first u us r x.0 i
-    | inr i ↦ elim (refused us r x.1 i) [ inl w ↦ inl (refused_more u us (error_of r) w) | inr w ↦ inr (w.0, refused_more u us LazyInArray w.1) ]
+    | inr i ↦ elim (refused us r x.1 i) [
+      | inl w ↦ inl (refused_more u us (error_of r) w)
+      | inr w ↦ inr (w.0, refused_more u us LazyInArray w.1)
+    ]
   ]
 
   -- To the model's refusals.
@@ -240,7 +259,8 @@ module _ (deep : List ℕ → ℕ) where
   row_named e (u ∷ us) (t ∷ ts) v h (inl w) = let n = reason_named e u t v.0 h.0 w in (n.0, n.1, any_first (Refuses n.0) u us (inl n.2))
   row_named e (u ∷ us) (t ∷ ts) v h (inr w) = later_named u us e (row_named e us ts v.1 h.1 w)
 
-  row_deep : (e : Error) (us ts : List Term) → KnowDepths deep us → AllRead us ts → e ≡ Depth → 128 < nests_by deep (terms_of us) → IsNamed us e
+  row_deep : (e : Error) (us ts : List Term) → KnowDepths deep us → AllRead us ts → e ≡ Depth
+      → 128 < nests_by deep (terms_of us) → IsNamed us e
   unfolding Refuses
   row_deep e [] ts x h i l = absurd (omega arith)
   row_deep e (u ∷ us) [] x h i l = absurd h
@@ -256,7 +276,8 @@ module _ (deep : List ℕ → ℕ) where
   has_cause us ts e x v h (inr (inr (i, inl w))) = inr (i, inl w)
   has_cause us ts e x v h (inr (inr (i, inr w))) = inr (i, inr (omega (arith, count_of us)))
 
-  pub term_has_cause : (u t : Term) (e : Error) → KnowDepths deep (u ∷ []) → AreValues (u ∷ []) → ExpandsTo u t → AreRefused deep (u ∷ []) e → TermHasCause u e
+  pub term_has_cause : (u t : Term) (e : Error) → KnowDepths deep (u ∷ []) → AreValues (u ∷ []) → ExpandsTo u t
+      → AreRefused deep (u ∷ []) e → TermHasCause u e
   term_has_cause u t e x v h w = elim (has_cause (u ∷ []) (t ∷ []) e x v (h, tt) w) [
     | inl n ↦ elim (any_cases (Refuses n.0) u [] n.2) [ inl x ↦ inl (n.0, n.1, x) | inr x ↦ absurd (any_none (Refuses n.0) x) ]
     | inr x ↦ elim x.1 [ inl l ↦ inr (x.0, (omega (arith, ap length (one_text u)))) | inr l ↦ absurd (omega arith) ]

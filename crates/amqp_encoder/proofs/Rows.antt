@@ -18,11 +18,13 @@ use Rattle.amqp_encoder.specs.State.{at_start, to_fill}
 use Rattle.amqp_encoder.specs.Sound.{levels, all_levels}
 use Rattle.amqp_encoder.specs.Reasons.{HasReason, nest_by, nests_by, array_nest_by, RowRefused}
 use Rattle.amqp_encoder.specs.Writes.{steps, outcome, Runs, Writes, bytes_in, Found}
-use Rattle.amqp_encoder.specs.Passes.{row_text, row_tokens, AreValues, HoldOthers, AreRefused, as_size, IsMeasured, BeginsMeasuring, BeginsFilling}
+use Rattle.amqp_encoder.specs.Passes.{row_text, row_tokens, AreValues, HoldOthers, AreRefused, as_size, IsMeasured, BeginsMeasuring}
+use Rattle.amqp_encoder.specs.Passes.{BeginsFilling}
 use Rattle.amqp_encoder.proofs.ContainerTerms.{holds}
 use Rattle.amqp_encoder.proofs.Joined.{filling_never, going_before, steps-append}
 use Rattle.amqp_encoder.proofs.Filled.{fill_terms, filled, last}
-use Rattle.amqp_encoder.proofs.Measured.{AcceptedAll, RefusedAll, some_inside, some_past, all_too_long, all_too_many, some_null, some_kept, some_other}
+use Rattle.amqp_encoder.proofs.Measured.{AcceptedAll, RefusedAll, some_inside, some_past, all_too_long, all_too_many, some_null, some_kept}
+use Rattle.amqp_encoder.proofs.Measured.{some_other}
 use Rattle.amqp_encoder.proofs.Lifted.{alls_at, any_past}
 use Rattle.amqp_encoder.proofs.Measuring.{fr, mk, Goes, goes, stops, codes_after, all_descs}
 use Rattle.amqp_encoder.proofs.MeasuredTerms.{measure_terms}
@@ -92,37 +94,52 @@ module _ (deep : List ℕ → ℕ) where
   row_unrefused ts a e (inr (inr (i, inl r))) = let f = a.all_long in omega arith
   row_unrefused ts a e (inr (inr (i, inr r))) = let f = a.all_many in omega arith
 
-  measured_is : (ts : List Term) → AcceptedAll deep (terms_of ts) Alone 0 0 0 0 0 [] → IsMeasured deep ts (length (row_text ts)) (map as_size (all_sizes (terms_of ts)))
+  measured_is : (ts : List Term) → AcceptedAll deep (terms_of ts) Alone 0 0 0 0 0 []
+      → IsMeasured deep ts (length (row_text ts)) (map as_size (all_sizes (terms_of ts)))
   measured_is ts a = record {
     exact = refl;
     kept = refl;
     fits = a.all_sound;
     levels = omega (arith, row_nested (terms_of ts) a, all_levels_le (terms_of ts));
     nested = row_nested (terms_of ts) a;
-    free = (λ r s. a.all_clean (error_of r) (somewhere_in_as (IsRefused r) (HasReason (error_of r)) (λ t h. inl (r, refl, h)) (terms_of ts) s));
+    free = (λ r s. a.all_clean (error_of r)
+        (somewhere_in_as (IsRefused r) (HasReason (error_of r)) (λ t h. inl (r, refl, h)) (terms_of ts) s));
     unrefused = row_unrefused (terms_of ts) a;
   }
 
   abbrev row_end : List Term → Pass
-  row_end ts = Measuring (mk (fr (Some list) (last (terms_of ts) Alone) (codes_after deep (terms_of ts) Alone 0) (0 + length (row_text ts)) (0 + count (terms_of ts)) 0 0) [] (map as_size (all_sizes (terms_of ts))) (all_descs deep (terms_of ts) Alone []))
+  row_end ts =
+      Measuring (mk (fr (Some list) (last (terms_of ts) Alone) (codes_after deep (terms_of ts) Alone 0) (0 + length (row_text ts))
+      (0 + count (terms_of ts)) 0 0) [] (map as_size (all_sizes (terms_of ts))) (all_descs deep (terms_of ts) Alone []))
 
-  measured_row : (ts : List Term) → AreValues ts → Goes (Measuring at_start) (row_tokens deep ts) (row_end ts) [] (AcceptedAll deep (terms_of ts) Alone 0 0 0 0 0 []) (RefusedAll deep (terms_of ts) Alone 0 0 0 0 0 [])
-  measured_row ts v = rw (row_calls deep ts, ← append-nil (all_tokens deep (terms_of ts))) (measure_terms deep (terms_of ts) list Alone 0 0 0 0 0 [] [] [] [] tt (omega arith) (omega arith) v)
+  measured_row : (ts : List Term) → AreValues ts
+      → Goes (Measuring at_start) (row_tokens deep ts) (row_end ts) [] (AcceptedAll deep (terms_of ts) Alone 0 0 0 0 0 [])
+      (RefusedAll deep (terms_of ts) Alone 0 0 0 0 0 [])
+  measured_row ts v =
+      rw (row_calls deep ts, ← append-nil (all_tokens deep (terms_of ts)))
+      (measure_terms deep (terms_of ts) list Alone 0 0 0 0 0 [] [] [] [] tt (omega arith) (omega arith) v)
 
   -- what a measuring pass found: the terms' length and sizes, or why they are refused
   abbrev pub HasFound : List Term → Pass → Result (Unit {0}) Error → Type 0
-  HasFound ts new r = MatchResult r (λ _. Found new (length (row_text ts)) (map as_size (all_sizes (terms_of ts))) × IsMeasured deep ts (length (row_text ts)) (map as_size (all_sizes (terms_of ts)))) (λ e. ((e ≡ Memory) × HoldOthers ts) ⊎ AreRefused deep ts e)
+  HasFound ts new r =
+      MatchResult r (λ _. Found new (length (row_text ts)) (map as_size (all_sizes (terms_of ts)))
+      × IsMeasured deep ts (length (row_text ts)) (map as_size (all_sizes (terms_of ts))))
+      (λ e. ((e ≡ Memory) × HoldOthers ts) ⊎ AreRefused deep ts e)
 
-  found_goes : (ts : List Term) (new : Pass) (r : Result (Unit {0}) Error) → AcceptedAll deep (terms_of ts) Alone 0 0 0 0 0 [] → new ≡ row_end ts → r ≡ outcome new → HasFound ts new r
+  found_goes : (ts : List Term) (new : Pass) (r : Result (Unit {0}) Error) → AcceptedAll deep (terms_of ts) Alone 0 0 0 0 0 []
+      → new ≡ row_end ts → r ≡ outcome new → HasFound ts new r
   found_goes ts new r a i h = rw (h, i) ((refl, zero-add (length (row_text ts)), refl), measured_is ts a)
 
-  found_stops : (ts : List Term) (new : Pass) (r : Result (Unit {0}) Error) (e : Error) → AreRefused deep ts e → new ≡ Stopped e → r ≡ outcome new → HasFound ts new r
+  found_stops : (ts : List Term) (new : Pass) (r : Result (Unit {0}) Error) (e : Error) → AreRefused deep ts e → new ≡ Stopped e
+      → r ≡ outcome new → HasFound ts new r
   found_stops ts new r e w i h = rw (h, i) (inr w)
 
-  found_out : (ts : List Term) (new : Pass) (r : Result (Unit {0}) Error) → HoldOthers ts → new ≡ Stopped Memory → r ≡ outcome new → HasFound ts new r
+  found_out : (ts : List Term) (new : Pass) (r : Result (Unit {0}) Error) → HoldOthers ts → new ≡ Stopped Memory
+      → r ≡ outcome new → HasFound ts new r
   found_out ts new r x i h = rw (h, i) (inl (refl, x))
 
-  found : (ts : List Term) (r : Result (Unit {0}) Error) (new : Pass) → AreValues ts → Runs (Measuring at_start) (row_tokens deep ts) r new → HasFound ts new r
+  found : (ts : List Term) (r : Result (Unit {0}) Error) (new : Pass) → AreValues ts
+      → Runs (Measuring at_start) (row_tokens deep ts) r new → HasFound ts new r
   found ts r new v w =
       elim w.state [
         | inr o ↦ found_out ts new r (holds deep ts o.0) o.1 w.answer
@@ -132,11 +149,14 @@ module _ (deep : List ℕ → ℕ) where
         ]
       ]
 
-  pub measured : (ts : List Term) (old : Encoder) (r : Result (Unit {0}) Error) (new : Encoder) → AreValues ts → BeginsMeasuring old → Writes old (row_tokens deep ts) r new → HasFound ts new.pass r
+  pub measured : (ts : List Term) (old : Encoder) (r : Result (Unit {0}) Error) (new : Encoder) → AreValues ts → BeginsMeasuring old
+      → Writes old (row_tokens deep ts) r new → HasFound ts new.pass r
   measured ts old r new v i w = found ts r new.pass v (rw i at w.runs)
 
-  filled_row : (ts : List Term) (out : List ℕ) (limit len : ℕ) (sizes : List Size) → IsMeasured deep ts len sizes → length out + len ≤ limit →
-      steps (Filling (to_fill sizes out limit)) (row_tokens deep ts) ≡ Filling (filled (last (terms_of ts) Alone) [] [] (out ++ row_text ts) limit)
+  filled_row : (ts : List Term) (out : List ℕ) (limit len : ℕ) (sizes : List Size) → IsMeasured deep ts len sizes
+      → length out + len ≤ limit →
+      steps (Filling (to_fill sizes out limit)) (row_tokens deep ts)
+      ≡ Filling (filled (last (terms_of ts) Alone) [] [] (out ++ row_text ts) limit)
   filled_row ts out limit len sizes m h =
       rw (m.kept, row_calls deep ts, ← append-nil (all_tokens deep (terms_of ts)), ← append-nil (map as_size (all_sizes (terms_of ts))))
       (fill_terms deep (terms_of ts) Alone [] [] out limit [] m.fits (omega (arith, m.levels)) (omega (arith, m.exact)) ∙ steps_none _)
@@ -145,7 +165,8 @@ module _ (deep : List ℕ → ℕ) where
   abbrev pub HasFilled : List ℕ → Pass → List ℕ → Result (Unit {0}) Error → Type 0
   HasFilled bytes new saved r = (r ≡ Ok tt) × (bytes_in new saved ≡ bytes)
 
-  wrote : (ts : List Term) (out saved : List ℕ) (limit len : ℕ) (sizes : List Size) (r : Result (Unit {0}) Error) (new : Pass) → IsMeasured deep ts len sizes → length out + len ≤ limit →
+  wrote : (ts : List Term) (out saved : List ℕ) (limit len : ℕ) (sizes : List Size) (r : Result (Unit {0}) Error) (new : Pass)
+      → IsMeasured deep ts len sizes → length out + len ≤ limit →
       Runs (Filling (to_fill sizes out limit)) (row_tokens deep ts) r new → HasFilled (out ++ row_text ts) new saved r
   wrote ts out saved limit len sizes r new m h w =
       elim w.state [
@@ -153,11 +174,13 @@ module _ (deep : List ℕ → ℕ) where
         | inl q ↦ rw (w.answer, q, filled_row ts out limit len sizes m h) (refl, refl)
       ]
 
-  pub written : (ts : List Term) (len : ℕ) (sizes : List Size) (out : List ℕ) (limit : ℕ) (old : Encoder) (r : Result (Unit {0}) Error) (new : Encoder) → IsMeasured deep ts len sizes → length out + len ≤ limit → BeginsFilling old sizes out limit →
+  pub written : (ts : List Term) (len : ℕ) (sizes : List Size) (out : List ℕ) (limit : ℕ) (old : Encoder) (r : Result (Unit {0}) Error)
+      (new : Encoder) → IsMeasured deep ts len sizes → length out + len ≤ limit → BeginsFilling old sizes out limit →
       Writes old (row_tokens deep ts) r new → HasFilled (out ++ row_text ts) new.pass new.kept.items r
   written ts len sizes out limit old r new m h i w = wrote ts out new.kept.items limit len sizes r new.pass m h (rw i at w.runs)
 
-  going_on : (ts : List Term) (out : List ℕ) (limit len : ℕ) (sizes : List Size) (first rest : List Token) (r : Result (Unit {0}) Error) (new : Pass) → IsMeasured deep ts len sizes → length out + len ≤ limit →
+  going_on : (ts : List Term) (out : List ℕ) (limit len : ℕ) (sizes : List Size) (first rest : List Token) (r : Result (Unit {0}) Error)
+      (new : Pass) → IsMeasured deep ts len sizes → length out + len ≤ limit →
       first ++ rest ≡ row_tokens deep ts → Runs (Filling (to_fill sizes out limit)) first r new → r ≡ Ok tt
   going_on ts out limit len sizes first rest r new m h j w =
       elim w.state [
@@ -167,6 +190,8 @@ module _ (deep : List ℕ → ℕ) where
       ]
 
   -- each of its calls is answered Ok
-  pub answered : (ts : List Term) (len : ℕ) (sizes : List Size) (out : List ℕ) (limit : ℕ) (old : Encoder) (first rest : List Token) (r : Result (Unit {0}) Error) (new : Encoder) → IsMeasured deep ts len sizes → length out + len ≤ limit
+  pub answered : (ts : List Term) (len : ℕ) (sizes : List Size) (out : List ℕ) (limit : ℕ) (old : Encoder) (first rest : List Token)
+      (r : Result (Unit {0}) Error) (new : Encoder) → IsMeasured deep ts len sizes → length out + len ≤ limit
       → BeginsFilling old sizes out limit → first ++ rest ≡ row_tokens deep ts → Writes old first r new → r ≡ Ok tt
-  answered ts len sizes out limit old first rest r new m h i j w = going_on ts out limit len sizes first rest r new.pass m h j (rw i at w.runs)
+  answered ts len sizes out limit old first rest r new m h i j w =
+      going_on ts out limit len sizes first rest r new.pass m h j (rw i at w.runs)

@@ -24,12 +24,14 @@ measured_fixed p s w c m h first =
     let code : c ≡ (wide p).0 = first ∙ ap (λ l. get_or l 0 0) (sym h.in_array) in
     rw (code, ← fixed_is m.frame.place p s w h) (sym (h.measured m))
 
-pub filled_fixed : (p : Primitive) (s : Shortest) (w : List ℕ) (f : Filled) → IsFixed p s w → fill_value (fixed_text f.place s w) f ≡ fill_put p f
+pub filled_fixed : (p : Primitive) (s : Shortest) (w : List ℕ) (f : Filled) → IsFixed p s w
+    → fill_value (fixed_text f.place s w) f ≡ fill_put p f
 filled_fixed p s w f h = ap (λ b. fill_value b f) (sym (fixed_is f.place p s w h)) ∙ sym (h.filled f)
 
 -- bytes behind their length
 
-plain_length : (b : Bool) (short wide_ : ℕ) (s : List ℕ) → length (spell (cond b (short, with_size 1 s) (wide_, with_size 4 s))) ≡ (if b then 2 + length s else 5 + length s)
+plain_length : (b : Bool) (short wide_ : ℕ) (s : List ℕ)
+    → length (spell (cond b (short, with_size 1 s) (wide_, with_size 4 s))) ≡ (if b then 2 + length s else 5 + length s)
 plain_length true short wide_ s = omega arith
 plain_length false short wide_ s = omega arith
 
@@ -65,19 +67,23 @@ after_test false s c n l m e = ap (λ k. measure_value c k m) e
 pub is_binary : (s : List ℕ) → IsVariable (binary s) 0xa0 0xb0 s
 is_binary s = record {
   text = binary_text s;
-  measured = (λ m. after_test (ltb 0xffff_ffff (length s)) s 0xb0 _ _ m (known_length (binary s) 0xa0 0xb0 s m.frame.place (binary_text s m.frame.place)));
+  measured = (λ m. after_test (ltb 0xffff_ffff (length s)) s 0xb0 _ _ m
+      (known_length (binary s) 0xa0 0xb0 s m.frame.place (binary_text s m.frame.place)));
   filled = (λ f. ap (λ b. short_enough s >>= λ _. fill_value b f) (binary_text s f.place));
 }
 
 pub is_string : (s : List ℕ) → IsVariable (string s) 0xa1 0xb1 s
 is_string s = record {
   text = string_text s;
-  measured = (λ m. after_test (ltb 0xffff_ffff (length s)) s 0xb1 _ _ m (known_length (string s) 0xa1 0xb1 s m.frame.place (string_text s m.frame.place)));
+  measured = (λ m. after_test (ltb 0xffff_ffff (length s)) s 0xb1 _ _ m
+      (known_length (string s) 0xa1 0xb1 s m.frame.place (string_text s m.frame.place)));
   filled = (λ f. ap (λ b. short_enough s >>= λ _. fill_value b f) (string_text s f.place));
 }
 
 pub measured_symbol : (s : List ℕ) (m : Measured) → measure_symbol 0xb3 s m ≡ measure_put (symbol s) m
-measured_symbol s m = ap (λ n. checked (symbol s) >>= λ _. measure_value 0xb3 n m) (sym (known_length (symbol s) 0xa3 0xb3 s m.frame.place (symbol_text s m.frame.place)))
+measured_symbol s m =
+    ap (λ n. checked (symbol s) >>= λ _. measure_value 0xb3 n m)
+    (sym (known_length (symbol s) 0xa3 0xb3 s m.frame.place (symbol_text s m.frame.place)))
 
 pub filled_symbol : (s : List ℕ) (f : Filled) → fill_bytes 0xa3 0xb3 s f ≡ fill_put (symbol s) f
 filled_symbol s f = ap (λ b. short_enough s >>= λ _. fill_value b f) (sym (symbol_text s f.place))

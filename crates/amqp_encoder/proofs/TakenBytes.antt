@@ -2,8 +2,10 @@
 use Rattle.std.proofs.Common.{ℕ, zero, suc, ◌+◌, ◌≤◌, ◌^◌, ◌⊎◌, List, [], ◌∷◌, length, refl, inl, inr, arith, length-append}
 use Rattle.std.specs.Prelude.{true, false}
 use Rattle.std.specs.Int.{bytes_high_first}
-use Rattle.amqp_model.specs.Term.{Primitive, null, boolean, Container, list, map, array, Term, Terms, leaf, container, described, kept, barred, none, more, Descriptor, count}
-use Rattle.amqp_model.specs.Text.{Place, Alone, First, Later, next, first_place, head, compact_head, container_text, content_of, wide, primitive_text, text, texts}
+use Rattle.amqp_model.specs.Term.{Primitive, null, boolean, Container, list, map, array, Term, Terms, leaf, container, described, kept}
+use Rattle.amqp_model.specs.Term.{barred, none, more, Descriptor, count}
+use Rattle.amqp_model.specs.Text.{Place, Alone, First, Later, next, first_place, head, compact_head, container_text, content_of, wide}
+use Rattle.amqp_model.specs.Text.{primitive_text, text, texts}
 use Rattle.amqp_model.specs.Ranges.{Everywhere, EverywhereIn, IsValue, IsInRange}
 use Rattle.amqp_model.specs.Refusals.{IsItem}
 use Rattle.amqp_model.proofs.Bytes.{length-bytes}
@@ -65,7 +67,8 @@ items_taken (more t ts) p v s = elim (takes_bytes t p v.0 s.0) [
 ]
 
 -- where a count doesn't fit, nor does the size, unless an item has no bytes
-pub unfit : (k : Container) (ts : Terms) → EverywhereIn IsValue ts → AreSound ts (first_place k) → (2 ^ 32 ≤ 4 + length (texts ts (first_place k))) ⊎ (2 ^ 32 ≤ count ts)
+pub unfit : (k : Container) (ts : Terms) → EverywhereIn IsValue ts → AreSound ts (first_place k)
+    → (2 ^ 32 ≤ 4 + length (texts ts (first_place k))) ⊎ (2 ^ 32 ≤ count ts)
     → (2 ^ 32 ≤ 4 + length (texts ts (first_place k))) ⊎ ((2 ^ 32 ≤ count ts) × IsItem (kept []) ts)
 unfit k ts v s (inl h) = inl h
 unfit k ts v s (inr h) = elim (items_taken ts (first_place k) v s) [

@@ -1,5 +1,6 @@
 -- Tests of texts.
-use Rattle.std.proofs.Common.{◌≡◌, ℕ, ◌≤◌, suc, zero, List, [], ◌∷◌, ◌++◌, length, take, drop, refl, sym, ap, ap₂, ◌∙◌, arith, Bool, true, false, ◌&&◌, IsAscii}
+use Rattle.std.proofs.Common.{◌≡◌, ℕ, ◌≤◌, suc, zero, List, [], ◌∷◌, ◌++◌, length, take, drop, refl, sym, ap, ap₂, ◌∙◌, arith, Bool, true}
+use Rattle.std.proofs.Common.{false, ◌&&◌, IsAscii}
 use Rattle.std.specs.Prelude.{nat_eq}
 use Rattle.std.specs.Str.{IsNotAscii}
 use Rattle.std.specs.Cmp.Lexicographic.{pointwise, bytes_decides}
@@ -51,22 +52,30 @@ first_part h t r e =
 
 second_part : (h t r : List ℕ) → take (length (h ++ t)) r ≡ h ++ t → take (length t) (drop (length h) r) ≡ t
 second_part h t r e =
-    sym (drop-take (length h) (length t) r) ∙ ap (λ n. drop (length h) (take n r)) (sym (length-append h t)) ∙ ap (drop (length h)) e ∙ drop-append_seam h t
+    sym (drop-take (length h) (length t) r) ∙ ap (λ n. drop (length h) (take n r)) (sym (length-append h t))
+    ∙ ap (drop (length h)) e ∙ drop-append_seam h t
 
-pub goes_on_true : (h t r : List ℕ) → pointwise nat_eq (take (length h) r) h ≡ true → pointwise nat_eq (take (length t) (drop (length h) r)) t ≡ true
+pub goes_on_true : (h t r : List ℕ) → pointwise nat_eq (take (length h) r) h ≡ true
+    → pointwise nat_eq (take (length t) (drop (length h) r)) t ≡ true
     → pointwise nat_eq (take (length (h ++ t)) r) (h ++ t) ≡ true
-goes_on_true h t r a b = (bytes_decides (take (length (h ++ t)) r) (h ++ t)).1 (joined h t r (same (take (length h) r) h a) (same (take (length t) (drop (length h) r)) t b))
+goes_on_true h t r a b =
+    (bytes_decides (take (length (h ++ t)) r) (h ++ t)).1
+    (joined h t r (same (take (length h) r) h a) (same (take (length t) (drop (length h) r)) t b))
 
-pub goes_on_first : (h t r : List ℕ) → pointwise nat_eq (take (length h) r) h ≡ false → pointwise nat_eq (take (length (h ++ t)) r) (h ++ t) ≡ false
+pub goes_on_first : (h t r : List ℕ) → pointwise nat_eq (take (length h) r) h ≡ false
+    → pointwise nat_eq (take (length (h ++ t)) r) (h ++ t) ≡ false
 goes_on_first h t r a =
     not_true (pointwise nat_eq (take (length (h ++ t)) r) (h ++ t)) (λ e.
-    let yes : pointwise nat_eq (take (length h) r) h ≡ true = (bytes_decides (take (length h) r) h).1 (first_part h t r (same (take (length (h ++ t)) r) (h ++ t) e)) in
+    let yes : pointwise nat_eq (take (length h) r) h ≡ true =
+    (bytes_decides (take (length h) r) h).1 (first_part h t r (same (take (length (h ++ t)) r) (h ++ t) e)) in
     let no : true ≡ false = sym yes ∙ a in cc)
 
-pub goes_on_second : (h t r : List ℕ) → pointwise nat_eq (take (length t) (drop (length h) r)) t ≡ false → pointwise nat_eq (take (length (h ++ t)) r) (h ++ t) ≡ false
+pub goes_on_second : (h t r : List ℕ) → pointwise nat_eq (take (length t) (drop (length h) r)) t ≡ false
+    → pointwise nat_eq (take (length (h ++ t)) r) (h ++ t) ≡ false
 goes_on_second h t r a =
     not_true (pointwise nat_eq (take (length (h ++ t)) r) (h ++ t)) (λ e.
-    let yes : pointwise nat_eq (take (length t) (drop (length h) r)) t ≡ true = (bytes_decides (take (length t) (drop (length h) r)) t).1 (second_part h t r (same (take (length (h ++ t)) r) (h ++ t) e)) in
+    let yes : pointwise nat_eq (take (length t) (drop (length h) r)) t ≡ true =
+    (bytes_decides (take (length t) (drop (length h) r)) t).1 (second_part h t r (same (take (length (h ++ t)) r) (h ++ t) e)) in
     let no : true ≡ false = sym yes ∙ a in cc)
 
 both_of : (a b : Bool) → (a && b) ≡ true → (a ≡ true) × (b ≡ true)

@@ -44,12 +44,14 @@ abbrev pub fill_keep : List ℕ → Filled → Result Filled Error
 fill_keep b f = fill_keep_at f.place b f
 
 abbrev pub fill_open : List ℕ → Place → Filled → Result Filled Error
-fill_open head inner f = if ltb 128 (length f.outer) then Err Depth else (emit head f >>= λ g. Ok (record g { place = inner; outer = g.place ∷ g.outer }))
+fill_open head inner f =
+    if ltb 128 (length f.outer) then Err Depth else (emit head f >>= λ g. Ok (record g { place = inner; outer = g.place ∷ g.outer }))
 
 abbrev pub fill_begin_of : List Size → Container → Filled → Result Filled Error
 fill_begin_of [] k f = Err InvalidValue
 fill_begin_of (s ∷ ss) k f =
-    if ltb 0xffff_fffb s.content then Err TooLarge else fill_open (opening f.place k s.count s.content) (first_place k) (record f { sizes = ss })
+    if ltb 0xffff_fffb s.content then Err TooLarge else fill_open (opening f.place k s.count s.content) (first_place k)
+    (record f { sizes = ss })
 
 abbrev pub fill_begin : Container → Filled → Result Filled Error
 fill_begin k f = fill_begin_of f.sizes k f

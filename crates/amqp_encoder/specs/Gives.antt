@@ -55,5 +55,6 @@ tail_of (code n) = []
 -- The container around is open again.
 abbrev pub Closes : Measured → List Open → Result MeasuredContainer Error → Measured → Type 0
 Closes old [] r new = r ≡ Err InvalidValue
-Closes old (f ∷ fs) (Ok inner) new = (seen inner ≡ old.frame) × (new ≡ record { frame = f; outer = fs; sizes = old.sizes; descriptors = old.descriptors })
+Closes old (f ∷ fs) (Ok inner) new =
+    (seen inner ≡ old.frame) × (new ≡ record { frame = f; outer = fs; sizes = old.sizes; descriptors = old.descriptors })
 Closes old (f ∷ fs) (Err e) new = ⊥

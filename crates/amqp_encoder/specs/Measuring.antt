@@ -1,12 +1,14 @@
 -- What each call does to what is seen of an encoder that measures.
-use Rattle.std.specs.Prelude.{ℕ, ◌+◌, ◌-◌, ◌%◌, Bool, true, false, ◌&&◌, ◌||◌, not, List, [], ◌∷◌, ◌++◌, length, set, take, drop, ltb, eqb, nat_eq, if◌then◌else◌, Option, Some, None, Result, Ok, Err}
+use Rattle.std.specs.Prelude.{ℕ, ◌+◌, ◌-◌, ◌%◌, Bool, true, false, ◌&&◌, ◌||◌, not, List, [], ◌∷◌, ◌++◌, length, set, take, drop, ltb, eqb}
+use Rattle.std.specs.Prelude.{nat_eq, if◌then◌else◌, Option, Some, None, Result, Ok, Err}
 use Rattle.std.specs.Char.{is_ascii}
 use Rattle.std.specs.Cmp.Lexicographic.{pointwise}
 use Rattle.amqp_model.specs.Term.{Primitive, null, binary, string, symbol, Container, list, map, array, Descriptor}
 use Rattle.amqp_model.specs.Spelling.{descriptor_value}
 use Rattle.amqp_model.specs.Text.{Place, Alone, First, Later, next, wide, wide_code, primitive_text, descriptor_text}
 use Rattle.amqp_wire.specs.declared.error.Error.{Error}
-use Rattle.amqp_wire.specs.declared.error.Error.TheVariants.{OddCount, Depth, ZeroWidthItems, NonAscii, MixedArray, TooLarge, InvalidValue, LazyInArray}
+use Rattle.amqp_wire.specs.declared.error.Error.TheVariants.{OddCount, Depth, ZeroWidthItems, NonAscii, MixedArray, TooLarge, InvalidValue}
+use Rattle.amqp_wire.specs.declared.error.Error.TheVariants.{LazyInArray}
 use Rattle.amqp_encoder.specs.declared.size.Size.{Size}
 use Rattle.amqp_encoder.specs.Opening.{opening}
 use Rattle.amqp_encoder.specs.State.{Open, Measured, holding, describing}
@@ -113,7 +115,8 @@ is_odd_map map n = not (eqb (n % 2) 0)
 is_odd_map _ n = false
 
 abbrev pub size_of : Open → Result Size Error
-size_of o = if ltb 0xffff_fffb o.content || ltb 0xffff_ffff o.count then Err TooLarge else Ok (record { content = o.content; count = o.count })
+size_of o = if ltb 0xffff_fffb o.content || ltb 0xffff_ffff o.count then Err TooLarge else Ok
+    (record { content = o.content; count = o.count })
 
 abbrev pub closed : Container → Measured → Open → List Open → Size → Result Measured Error
 closed k m f fs s = leave (length (opening f.place k m.frame.count m.frame.content) + m.frame.content)
@@ -136,7 +139,8 @@ abbrev pub descriptor_length : Descriptor → Result ℕ Error
 descriptor_length d = checked (descriptor_value d) >>= λ _. Ok (length (descriptor_bytes d))
 
 abbrev pub describe : Measured → ℕ → ℕ → List ℕ → Measured
-describe m content form descriptors = record { frame = describing m.frame content form; outer = m.frame ∷ m.outer; sizes = m.sizes; descriptors = descriptors }
+describe m content form descriptors =
+    record { frame = describing m.frame content form; outer = m.frame ∷ m.outer; sizes = m.sizes; descriptors = descriptors }
 
 abbrev pub goes_on : List ℕ → ℕ → List ℕ → Bool
 goes_on bytes form descriptors = pointwise nat_eq (take (length bytes) (drop form descriptors)) bytes
@@ -152,13 +156,15 @@ describe_at Later bytes m = form_after bytes m >>= λ form. Ok (describe m 0 for
 abbrev pub measure_begin_described : Descriptor → Measured → Result Measured Error
 measure_begin_described d m =
     if ltb 127 (length m.outer) then Err Depth
-    else (if is_full m.frame then Err InvalidValue else (checked (descriptor_value d) >>= λ _. describe_at m.frame.place (descriptor_bytes d) m))
+    else (if is_full m.frame then Err InvalidValue
+    else (checked (descriptor_value d) >>= λ _. describe_at m.frame.place (descriptor_bytes d) m))
 
 abbrev pub end_described_in : List Open → Measured → Result Measured Error
 end_described_in [] m = Err InvalidValue
 end_described_in (f ∷ fs) m =
     if is_none m.frame.kind && eqb m.frame.count 1
-    then leave m.frame.content (record { frame = record f { code = m.frame.code }; outer = fs; sizes = m.sizes; descriptors = m.descriptors })
+    then leave m.frame.content
+    (record { frame = record f { code = m.frame.code }; outer = fs; sizes = m.sizes; descriptors = m.descriptors })
     else Err InvalidValue
 
 abbrev pub measure_end_described : Measured → Result Measured Error

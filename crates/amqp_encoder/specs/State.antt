@@ -19,7 +19,15 @@ pub record Open : Type 0 where
   pub form : ℕ
 
 abbrev pub seen : MeasuredContainer → Open
-seen f = record { kind = kind_of f.kind; place = place_of f.place; code = f.code; content = f.content; count = f.count; index = f.index; form = f.form }
+seen f = record {
+  kind = kind_of f.kind;
+  place = place_of f.place;
+  code = f.code;
+  content = f.content;
+  count = f.count;
+  index = f.index;
+  form = f.form;
+}
 
 abbrev pub holding : Container → ℕ → ℕ → Open
 holding k index form = record { kind = Some k; place = first_place k; code = 0; content = 0; count = 0; index = index; form = form }

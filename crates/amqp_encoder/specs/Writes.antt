@@ -4,7 +4,8 @@ use Rattle.amqp_wire.specs.declared.error.Error.{Error}
 use Rattle.amqp_wire.specs.declared.error.Error.TheVariants.{Memory}
 use Rattle.amqp_encoder.specs.Tokens.{Token, put, keep, begin, end, begin_described, end_described, refuse, TakesMemory}
 use Rattle.amqp_encoder.specs.State.{Measured, Filled}
-use Rattle.amqp_encoder.specs.Measuring.{measure_put, measure_keep, measure_begin, measure_end, measure_begin_described, measure_end_described}
+use Rattle.amqp_encoder.specs.Measuring.{measure_put, measure_keep, measure_begin, measure_end, measure_begin_described}
+use Rattle.amqp_encoder.specs.Measuring.{measure_end_described}
 use Rattle.std.specs.Prelude.{length}
 use Rattle.amqp_encoder.specs.Filling.{fill_put, fill_keep, fill_begin, fill_begin_described, fill_end}
 use Rattle.amqp_encoder.specs.declared.size.Size.{Size}

@@ -68,7 +68,8 @@ impl Encoder {
     /// What was measured. An error is the encoder's refusal, or `InvalidValue` where it has refused nothing but a
     /// container is still open or it doesn't measure.
     pub fn into_measurement(self) -> Result<Measurement, Error>
-        ensures { MatchResult result (λ m. Finds self m.len m.sizes.items) (λ e. (answer_of self ≡ Err e) ⊎ ((e ≡ InvalidValue) × ((len : ℕ) (sizes : List Size) → Finds self len sizes → ⊥) × (answer_of self ≡ Ok tt))) }
+        ensures { MatchResult result (λ m. Finds self m.len m.sizes.items) (λ e. (answer_of self ≡ Err e)
+            ⊎ ((e ≡ InvalidValue) × ((len : ℕ) (sizes : List Size) → Finds self len sizes → ⊥) × (answer_of self ≡ Ok tt))) }
     {
         let Encoder { pass, kept: _ } = self;
         match pass {

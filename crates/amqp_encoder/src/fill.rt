@@ -7,7 +7,8 @@ ghost use Rattle.amqp_encoder.specs.Opening.{opening};
 ghost use Rattle.amqp_encoder.specs.Values.{place_of, container_of, descriptor_of, shortest_text};
 ghost use Rattle.amqp_encoder.specs.State.{to_fill};
 ghost use Rattle.amqp_encoder.specs.declared.kinds.Shortest.TheVariants.{Wide};
-ghost use Rattle.amqp_encoder.specs.Filling.{emit, fill_value, fill_null_at, fill_keep, fill_open, fill_begin, fill_begin_described, fill_end};
+ghost use Rattle.amqp_encoder.specs.Filling.{emit, fill_value, fill_null_at, fill_keep, fill_open, fill_begin, fill_begin_described};
+ghost use Rattle.amqp_encoder.specs.Filling.{fill_end};
 ghost use Rattle.amqp_encoder.specs.Gives.{Does, fixed_text, fill_bytes};
 
 use crate::Size;
@@ -37,7 +38,13 @@ impl Model for Fill {
 
     ghost Value = { Filled };
 
-    ghost view = { λ f. record { place = place_of f.place; outer = map place_of (reverse (take f.depth f.places)); sizes = drop f.next f.sizes.items; out = f.out.items; limit = f.limit } };
+    ghost view = { λ f. record {
+      place = place_of f.place;
+      outer = map place_of (reverse (take f.depth f.places));
+      sizes = drop f.next f.sizes.items;
+      out = f.out.items;
+      limit = f.limit;
+    } };
 
     ghost invariant = { λ f. (f.limit ≤ vec_capacity f.out) × (f.depth ≤ 129) };
 }
@@ -253,7 +260,8 @@ impl Fill {
 
     fn open_container(&mut self, container: Container, size: Size) -> Result<(), Error>
         requires { size.content < 0xffff_fffc }
-        ensures does { Does (fill_open (opening self.old.place (container_of container) size.count size.content) (first_place (container_of container)) self.old) result self.new }
+        ensures does { Does (fill_open (opening self.old.place (container_of container) size.count size.content)
+            (first_place (container_of container)) self.old) result self.new }
         ensures kept { take (length self.old.out) self.new.out ≡ self.old.out }
     {
         let first = container.first_place();
@@ -277,7 +285,8 @@ impl Fill {
 
     fn open_alone(&mut self, container: Container, size: Size) -> Result<(), Error>
         requires fits { size.content < 0xffff_fffc }
-        ensures does { Does (fill_open (head Alone (container_of container) size.count size.content) (first_place (container_of container)) self.old) result self.new }
+        ensures does { Does (fill_open (head Alone (container_of container) size.count size.content) (first_place (container_of container))
+            self.old) result self.new }
         ensures kept { take (length self.old.out) self.new.out ≡ self.old.out }
     {
         let first = container.first_place();

@@ -14,24 +14,31 @@ ghost use Rattle.amqp_encoder.specs.Tokens.{Token, tokens};
 ghost use Rattle.amqp_encoder.specs.Measuring.{MAX};
 ghost use Rattle.amqp_encoder.specs.Refused.{AllRead, HasCause, IsNesting, KnowDepths, TermHasCause};
 ghost use Rattle.amqp_encoder.specs.Writes.{Writes, bytes_of};
-ghost use Rattle.amqp_encoder.specs.Passes.{AreRefused, AreValues, BeginsFilling, BeginsMeasuring, Finds, HoldOthers, IsMeasured, as_size, row_text, row_tokens};
+ghost use Rattle.amqp_encoder.specs.Passes.{AreRefused, AreValues, BeginsFilling, BeginsMeasuring, Finds, HoldOthers, IsMeasured, as_size};
+ghost use Rattle.amqp_encoder.specs.Passes.{row_text, row_tokens};
 
 /// Where the calls for some terms were made of an encoder that measures, it answers Ok where nothing refuses the terms,
 /// and has then found their length and sizes; else it answers why they are refused, or that memory ran out, which it
 /// takes of terms that hold a list, a map or an array.
 pub fn measuring()
-    ensures found { (deep : List ℕ → ℕ) (ts : List Term) (old new : Encoder) → AreValues ts → BeginsMeasuring old → Writes old (row_tokens deep ts) (Ok tt) new
-        → Finds new (length (row_text ts)) (map as_size (all_sizes (terms_of ts))) × IsMeasured deep ts (length (row_text ts)) (map as_size (all_sizes (terms_of ts))) }
-    ensures refused { (deep : List ℕ → ℕ) (ts : List Term) (old new : Encoder) (e : Error) → AreValues ts → BeginsMeasuring old → Writes old (row_tokens deep ts) (Err e) new
+    ensures found { (deep : List ℕ → ℕ) (ts : List Term) (old new : Encoder) → AreValues ts → BeginsMeasuring old
+        → Writes old (row_tokens deep ts) (Ok tt) new
+        → Finds new (length (row_text ts)) (map as_size (all_sizes (terms_of ts)))
+        × IsMeasured deep ts (length (row_text ts)) (map as_size (all_sizes (terms_of ts))) }
+    ensures refused { (deep : List ℕ → ℕ) (ts : List Term) (old new : Encoder) (e : Error) → AreValues ts → BeginsMeasuring old
+        → Writes old (row_tokens deep ts) (Err e) new
         → ((e ≡ Memory) × HoldOthers ts) ⊎ AreRefused deep ts e }
 {}
 
 /// Where they were made of an encoder that fills, with what was measured and room for it, each of them was answered Ok,
 /// and it has written their text. It takes no memory, so that none is refused for want of that.
 pub fn filling()
-    ensures answered { (deep : List ℕ → ℕ) (ts : List Term) (len : ℕ) (sizes : List Size) (out : List ℕ) (limit : ℕ) (old new : Encoder) (first rest : List Token) (answer : Result (Unit {0}) Error) → IsMeasured deep ts len sizes
-        → length out + len ≤ limit → BeginsFilling old sizes out limit → first ++ rest ≡ row_tokens deep ts → Writes old first answer new → answer ≡ Ok tt }
-    ensures written { (deep : List ℕ → ℕ) (ts : List Term) (len : ℕ) (sizes : List Size) (out : List ℕ) (limit : ℕ) (old new : Encoder) (answer : Result (Unit {0}) Error) → IsMeasured deep ts len sizes → length out + len ≤ limit
+    ensures answered { (deep : List ℕ → ℕ) (ts : List Term) (len : ℕ) (sizes : List Size) (out : List ℕ) (limit : ℕ) (old new : Encoder)
+        (first rest : List Token) (answer : Result (Unit {0}) Error) → IsMeasured deep ts len sizes
+        → length out + len ≤ limit → BeginsFilling old sizes out limit → first ++ rest ≡ row_tokens deep ts
+        → Writes old first answer new → answer ≡ Ok tt }
+    ensures written { (deep : List ℕ → ℕ) (ts : List Term) (len : ℕ) (sizes : List Size) (out : List ℕ) (limit : ℕ) (old new : Encoder)
+        (answer : Result (Unit {0}) Error) → IsMeasured deep ts len sizes → length out + len ≤ limit
         → BeginsFilling old sizes out limit → Writes old (row_tokens deep ts) answer new → bytes_of new ≡ out ++ row_text ts }
 {}
 
@@ -40,40 +47,51 @@ pub fn filling()
 /// for those bytes.
 pub fn refusals_are_complete()
     ensures nesting { (deep : List ℕ → ℕ) (us : List Term) → IsNesting deep → KnowDepths deep us }
-    ensures complete { (deep : List ℕ → ℕ) (us : List Term) (r : Refusal) → KnowDepths deep us → Any (Refuses r) us → AreRefused deep us (error_of r) ⊎ ((r ≡ depth) × AreRefused deep us LazyInArray) }
-    ensures of_one { (deep : List ℕ → ℕ) (u : Term) (r : Refusal) → KnowDepths deep (u ∷ []) → Refuses r u → AreRefused deep (u ∷ []) (error_of r) ⊎ ((r ≡ depth) × AreRefused deep (u ∷ []) LazyInArray) }
+    ensures complete { (deep : List ℕ → ℕ) (us : List Term) (r : Refusal) → KnowDepths deep us → Any (Refuses r) us
+        → AreRefused deep us (error_of r) ⊎ ((r ≡ depth) × AreRefused deep us LazyInArray) }
+    ensures of_one { (deep : List ℕ → ℕ) (u : Term) (r : Refusal) → KnowDepths deep (u ∷ []) → Refuses r u
+        → AreRefused deep (u ∷ []) (error_of r) ⊎ ((r ≡ depth) × AreRefused deep (u ∷ []) LazyInArray) }
 {}
 
 /// Each error of the encoder names a reason for which the model refuses one of the terms, but for more bytes or terms than
 /// the machine counts. A count that doesn't fit in four bytes is of items whose size doesn't fit either.
 pub fn refusals_are_sound()
-    ensures sound { (deep : List ℕ → ℕ) (us ts : List Term) (e : Error) → KnowDepths deep us → AreValues us → AllRead us ts → AreRefused deep us e → HasCause us e }
-    ensures of_one { (deep : List ℕ → ℕ) (u t : Term) (e : Error) → KnowDepths deep (u ∷ []) → AreValues (u ∷ []) → ExpandsTo u t → AreRefused deep (u ∷ []) e → TermHasCause u e }
+    ensures sound { (deep : List ℕ → ℕ) (us ts : List Term) (e : Error) → KnowDepths deep us → AreValues us → AllRead us ts
+        → AreRefused deep us e → HasCause us e }
+    ensures of_one { (deep : List ℕ → ℕ) (u t : Term) (e : Error) → KnowDepths deep (u ∷ []) → AreValues (u ∷ []) → ExpandsTo u t
+        → AreRefused deep (u ∷ []) e → TermHasCause u e }
 {}
 
 /// An encoder that measures answers Ok exactly where the model refuses nothing and the machine counts the bytes; else it
 /// answers the named reason. It may run out of memory in either case.
 pub fn accepted_exactly()
-    ensures accepted { (deep : List ℕ → ℕ) (u : Term) (old new : Encoder) → KnowDepths deep (u ∷ []) → AreValues (u ∷ []) → BeginsMeasuring old → Writes old (tokens deep u) (Ok tt) new
+    ensures accepted { (deep : List ℕ → ℕ) (u : Term) (old new : Encoder) → KnowDepths deep (u ∷ []) → AreValues (u ∷ [])
+        → BeginsMeasuring old → Writes old (tokens deep u) (Ok tt) new
         → ((r : Refusal) → Refuses r u → ⊥) × (length (text u Alone) ≤ MAX) }
-    ensures refused { (deep : List ℕ → ℕ) (u t : Term) (old new : Encoder) (e : Error) → KnowDepths deep (u ∷ []) → AreValues (u ∷ []) → ExpandsTo u t → BeginsMeasuring old → Writes old (tokens deep u) (Err e) new
+    ensures refused { (deep : List ℕ → ℕ) (u t : Term) (old new : Encoder) (e : Error) → KnowDepths deep (u ∷ []) → AreValues (u ∷ [])
+        → ExpandsTo u t → BeginsMeasuring old → Writes old (tokens deep u) (Err e) new
         → (e ≡ Memory) ⊎ TermHasCause u e }
-    ensures exactly { (deep : List ℕ → ℕ) (u t : Term) (old new : Encoder) (answer : Result (Unit {0}) Error) → KnowDepths deep (u ∷ []) → AreValues (u ∷ []) → ExpandsTo u t → BeginsMeasuring old → Writes old (tokens deep u) answer new
+    ensures exactly { (deep : List ℕ → ℕ) (u t : Term) (old new : Encoder) (answer : Result (Unit {0}) Error) → KnowDepths deep (u ∷ [])
+        → AreValues (u ∷ []) → ExpandsTo u t → BeginsMeasuring old → Writes old (tokens deep u) answer new
         → ((r : Refusal) → Refuses r u → ⊥) → length (text u Alone) ≤ MAX → (answer ≡ Ok tt) ⊎ (answer ≡ Err Memory) }
 {}
 
 /// The same of terms in a row.
 pub fn rows_accepted_exactly()
-    ensures accepted { (deep : List ℕ → ℕ) (us : List Term) (old new : Encoder) → KnowDepths deep us → AreValues us → BeginsMeasuring old → Writes old (row_tokens deep us) (Ok tt) new
+    ensures accepted { (deep : List ℕ → ℕ) (us : List Term) (old new : Encoder) → KnowDepths deep us → AreValues us → BeginsMeasuring old
+        → Writes old (row_tokens deep us) (Ok tt) new
         → ((e : Error) → HasCause us e → ⊥) }
-    ensures refused { (deep : List ℕ → ℕ) (us ts : List Term) (old new : Encoder) (e : Error) → KnowDepths deep us → AreValues us → AllRead us ts → BeginsMeasuring old → Writes old (row_tokens deep us) (Err e) new
+    ensures refused { (deep : List ℕ → ℕ) (us ts : List Term) (old new : Encoder) (e : Error) → KnowDepths deep us → AreValues us
+        → AllRead us ts → BeginsMeasuring old → Writes old (row_tokens deep us) (Err e) new
         → (e ≡ Memory) ⊎ HasCause us e }
-    ensures exactly { (deep : List ℕ → ℕ) (us ts : List Term) (old new : Encoder) (answer : Result (Unit {0}) Error) → KnowDepths deep us → AreValues us → AllRead us ts → BeginsMeasuring old → Writes old (row_tokens deep us) answer new
+    ensures exactly { (deep : List ℕ → ℕ) (us ts : List Term) (old new : Encoder) (answer : Result (Unit {0}) Error) → KnowDepths deep us
+        → AreValues us → AllRead us ts → BeginsMeasuring old → Writes old (row_tokens deep us) answer new
         → ((e : Error) → HasCause us e → ⊥) → (answer ≡ Ok tt) ⊎ (answer ≡ Err Memory) }
 {}
 
 /// Calls one after another are calls in a row; after a refusal the further calls change nothing.
 pub fn calls_in_a_row()
-    ensures joined { (a b c : Encoder) (xs ys : List Token) (r : Result (Unit {0}) Error) → Writes a xs (Ok tt) b → Writes b ys r c → Writes a (xs ++ ys) r c }
+    ensures joined { (a b c : Encoder) (xs ys : List Token) (r : Result (Unit {0}) Error) → Writes a xs (Ok tt) b → Writes b ys r c
+        → Writes a (xs ++ ys) r c }
     ensures cut { (a b : Encoder) (xs ys : List Token) (e : Error) → Writes a xs (Err e) b → Writes a (xs ++ ys) (Err e) b }
 {}

@@ -1,5 +1,6 @@
 //! The measuring pass: every refusal, and the size of every container.
-ghost use Rattle.std.specs.Prelude.{◌≡◌, nat_eq, ◌≤◌, ◌<◌, ◌∷◌, [], ◌+◌, ◌++◌, ◌^◌, ℕ, List, length, slice_index, set, take, drop, MatchResult, IfOk, OnErr, IfErr, Result, Ok, Err};
+ghost use Rattle.std.specs.Prelude.{◌≡◌, nat_eq, ◌≤◌, ◌<◌, ◌∷◌, [], ◌+◌, ◌++◌, ◌^◌, ℕ, List, length, slice_index, set, take, drop};
+ghost use Rattle.std.specs.Prelude.{MatchResult, IfOk, OnErr, IfErr, Result, Ok, Err};
 ghost use Rattle.std.specs.Cmp.Lexicographic.{pointwise};
 ghost use Rattle.std.specs.Bool.{OnTrue, OnFalse};
 ghost use Rattle.amqp_wire.specs.declared.error.Error.TheVariants.{InvalidValue};
@@ -7,7 +8,8 @@ ghost use Rattle.amqp_encoder.specs.Values.{place_of, container_of, descriptor_o
 ghost use Rattle.amqp_encoder.specs.Tokens.{TakesMemory, begin, begin_described};
 ghost use Rattle.amqp_encoder.specs.State.{at_start, seen};
 ghost use Rattle.amqp_encoder.specs.Opening.{opening};
-ghost use Rattle.amqp_encoder.specs.Measuring.{enter, leave, measure_value, measure_null_at, measure_keep, measure_begin, measure_end, measure_begin_described, measure_end_described, form_after};
+ghost use Rattle.amqp_encoder.specs.Measuring.{enter, leave, measure_value, measure_null_at, measure_keep, measure_begin, measure_end};
+ghost use Rattle.amqp_encoder.specs.Measuring.{measure_begin_described, measure_end_described, form_after};
 ghost use Rattle.amqp_encoder.specs.Gives.{Gives, Does, fixed_text, variable_length, measure_bytes, measure_symbol, Closes};
 
 use crate::Size;
@@ -35,7 +37,12 @@ impl Model for Measure {
 
     ghost Value = { Measured };
 
-    ghost view = { λ m. record { frame = seen m.top; outer = map seen (reverse (take m.depth m.frames)); sizes = m.sizes.items; descriptors = m.descriptors.items } };
+    ghost view = { λ m. record {
+      frame = seen m.top;
+      outer = map seen (reverse (take m.depth m.frames));
+      sizes = m.sizes.items;
+      descriptors = m.descriptors.items;
+    } };
 
     ghost invariant = { λ m. (m.depth ≤ 129) × (length m.frames ≡ 129) };
 }
@@ -57,7 +64,8 @@ impl Measure {
     /// The length of all that was written, and the sizes of its containers in the order in which they
     /// begin; refused where one is still open.
     pub(crate) fn finish(self) -> Result<(usize, Vec<Size>), Error>
-        ensures { MatchResult result (λ r. (self.outer ≡ []) × (r.0 ≡ self.frame.content) × (r.1.items ≡ self.sizes)) (λ e. (e ≡ InvalidValue) × (1 ≤ length self.outer)) }
+        ensures { MatchResult result (λ r. (self.outer ≡ []) × (r.0 ≡ self.frame.content) × (r.1.items ≡ self.sizes))
+            (λ e. (e ≡ InvalidValue) × (1 ≤ length self.outer)) }
     {
         if self.is_open() {
             return Err(Error::InvalidValue);
@@ -119,7 +127,8 @@ impl Measure {
     #[inline(always)]
     pub(crate) fn put(&mut self, shortest: Shortest, wide: &[u8]) -> Result<(), Error>
         requires { 1 ≤ length wide.now }
-        ensures { Does (measure_value (slice_index wide.now 0) (length (fixed_text self.old.frame.place shortest wide.now)) self.old) result self.new }
+        ensures { Does (measure_value (slice_index wide.now 0) (length (fixed_text self.old.frame.place shortest wide.now)) self.old) result
+            self.new }
     {
         let len = match self.top.place {
             Place::Alone => shortest.len(wide.len()),
@@ -191,7 +200,12 @@ impl Measure {
 
     fn open(&mut self, frame: MeasuredContainer)
         requires { length self.old.outer < 129 }
-        ensures { self.new ≡ record { frame = seen frame; outer = self.old.frame ∷ self.old.outer; sizes = self.old.sizes; descriptors = self.old.descriptors } }
+        ensures { self.new ≡ record {
+          frame = seen frame;
+          outer = self.old.frame ∷ self.old.outer;
+          sizes = self.old.sizes;
+          descriptors = self.old.descriptors;
+        } }
     {
         self.frames[self.depth] = self.top;
         self.depth += 1;
@@ -212,7 +226,8 @@ impl Measure {
     }
 
     pub(crate) fn begin(&mut self, container: Container) -> Result<(), Error>
-        ensures { Gives (TakesMemory self.old.frame.place (begin (container_of container))) (measure_begin (container_of container) self.old) result self.new }
+        ensures { Gives (TakesMemory self.old.frame.place (begin (container_of container)))
+            (measure_begin (container_of container) self.old) result self.new }
     {
         if self.depth > container.around() {
             return Err(Error::Depth);
@@ -251,7 +266,13 @@ impl Measure {
     ) -> Result<(), Error>
         requires known { inner.index < length self.old.sizes }
         requires fits { inner.content < 2 ^ 32 }
-        ensures { Does (leave (length (opening self.old.frame.place (container_of container) size.count size.content) + inner.content) (record { frame = self.old.frame; outer = self.old.outer; sizes = set self.old.sizes inner.index size; descriptors = take inner.form self.old.descriptors })) result self.new }
+        ensures { Does (leave (length (opening self.old.frame.place (container_of container) size.count size.content) + inner.content)
+            (record {
+              frame = self.old.frame;
+              outer = self.old.outer;
+              sizes = set self.old.sizes inner.index size;
+              descriptors = take inner.form self.old.descriptors;
+            })) result self.new }
     {
         self.sizes[inner.index] = size;
         self.descriptors.truncate(inner.form);
@@ -259,7 +280,8 @@ impl Measure {
     }
 
     pub(crate) fn begin_described(&mut self, descriptor: &Descriptor) -> Result<(), Error>
-        ensures { Gives (TakesMemory self.old.frame.place (begin_described (descriptor_of descriptor.now))) (measure_begin_described (descriptor_of descriptor.now) self.old) result self.new }
+        ensures { Gives (TakesMemory self.old.frame.place (begin_described (descriptor_of descriptor.now)))
+            (measure_begin_described (descriptor_of descriptor.now) self.old) result self.new }
     {
         if self.depth >= NESTING {
             return Err(Error::Depth);

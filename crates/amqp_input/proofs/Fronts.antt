@@ -1,5 +1,7 @@
 -- Names that are compared piece by piece.
-use Rattle.std.proofs.Common.{◌≡◌, ◌≤◌, ◌<◌, ℕ, ◌+◌, Bool, true, false, not, ◌&&◌, ◌↔◌, IsTrue, MatchBool, IsAscii, position, get_or, Option, Some, None, List, [], ◌∷◌, ◌++◌, length, take, drop, All, refl, sym, ap, ap₂, ◌∙◌, subst, arith, length-append}
+use Rattle.std.proofs.Common.{◌≡◌, ◌≤◌, ◌<◌, ℕ, ◌+◌, Bool, true, false, not, ◌&&◌, ◌↔◌, IsTrue, MatchBool, IsAscii, position, get_or}
+use Rattle.std.proofs.Common.{Option, Some, None, List, [], ◌∷◌, ◌++◌, length, take, drop, All, refl, sym, ap, ap₂, ◌∙◌, subst, arith}
+use Rattle.std.proofs.Common.{length-append}
 use Rattle.std.proofs.lemmas.List.{take-take, take_at, take_all, drop_at, get_or-append-add}
 use Rattle.std.proofs.lemmas.List.Quantifiers.{position-Some}
 use Rattle.std.proofs.lemmas.Str.{IsAscii-append, IsAscii-take}
@@ -20,8 +22,10 @@ front_first l a b e =
 
 pub front_second : (l a b : List ℕ) → take (length (a ++ b)) l ≡ a ++ b → take (length b) (drop (length a) l) ≡ b
 front_second l a b e =
-    let whole : take (length a) l ++ take (length b) (drop (length a) l) ≡ a ++ b = sym (take-add (length a) (length b) l) ∙ ap (λ n. take n l) (sym (length-append a b)) ∙ e in
-    let same : a ++ take (length b) (drop (length a) l) ≡ a ++ b = ap (λ x. x ++ take (length b) (drop (length a) l)) (sym (front_first l a b e)) ∙ whole in
+    let whole : take (length a) l ++ take (length b) (drop (length a) l) ≡ a ++ b =
+    sym (take-add (length a) (length b) l) ∙ ap (λ n. take n l) (sym (length-append a b)) ∙ e in
+    let same : a ++ take (length b) (drop (length a) l) ≡ a ++ b =
+    ap (λ x. x ++ take (length b) (drop (length a) l)) (sym (front_first l a b e)) ∙ whole in
     sym (drop_at a (take (length b) (drop (length a) l)) (length a) refl) ∙ ap (drop (length a)) same ∙ drop_at a b (length a) refl
 
 -- a longer front is none of the names either
@@ -46,7 +50,8 @@ ascii_second : (xs ys : List ℕ) → IsAscii (xs ++ ys) → IsAscii ys
 ascii_second xs ys h = λ i. subst (λ b. b < 128) (get_or-append-add xs ys i 0) (h (length xs + i))
 
 -- one more piece is ASCII
-pub ascii_both : (xs ys : List ℕ) (a b : Bool) → (IsTrue a ↔ IsAscii xs) → MatchBool b (IsAscii ys) (IsNotAscii ys) → IsTrue (a && b) ↔ IsAscii (xs ++ ys)
+pub ascii_both : (xs ys : List ℕ) (a b : Bool) → (IsTrue a ↔ IsAscii xs) → MatchBool b (IsAscii ys) (IsNotAscii ys)
+    → IsTrue (a && b) ↔ IsAscii (xs ++ ys)
 ascii_both xs ys true true h k = (λ e. IsAscii-append xs ys (h.0 refl) k, λ x. refl)
 ascii_both xs ys false true h k = (λ e. absurd (cc), λ x. h.1 (ascii_first xs ys x))
 ascii_both xs ys true false h k = (λ e. absurd (cc), λ x. absurd (let y = ascii_second xs ys x k.0 in omega (arith, k.1)))
@@ -58,7 +63,8 @@ place_none p [] (Some i) e h = sym e
 place_none p (x ∷ xs) (Some i) e h = let s = position-Some p (x ∷ xs) i x e in absurd (h i x s.0 s.1)
 
 -- no member has a name that none of them begins as
-pub no_place : (members : List Member) (n : ℕ) (s : List ℕ) → length s ≡ n → All (λ m. BeginsNot m n s) members → place_of members (name s) ≡ None
+pub no_place : (members : List Member) (n : ℕ) (s : List ℕ) → length s ≡ n → All (λ m. BeginsNot m n s) members
+    → place_of members (name s) ≡ None
 no_place members n s long h = place_none (is_of (name s)) members (place_of members (name s)) refl (λ k d few e.
     let m = get_or members k d in
     let same : m.1.now ≡ s = (bytes_eq-Decides m.1.now s).0 e in

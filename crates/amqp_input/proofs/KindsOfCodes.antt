@@ -1,10 +1,15 @@
 -- What stands under a code is of the kind that it announces.
-use Rattle.std.proofs.Common.{◌≡◌, ℕ, zero, suc, ◌⊎◌, inl, inr, Bool, true, false, cond, eqb, List, [], ◌∷◌, Option, Some, None, option_map, refl, sym, ap, subst}
+use Rattle.std.proofs.Common.{◌≡◌, ℕ, zero, suc, ◌⊎◌, inl, inr, Bool, true, false, cond, eqb, List, [], ◌∷◌, Option, Some, None, option_map}
+use Rattle.std.proofs.Common.{refl, sym, ap, subst}
 use Rattle.std.proofs.lemmas.Bool.{eqb-true, eq-eqb}
 use Rattle.amqp_model.specs.Term.{Primitive}
 use Rattle.amqp_model.specs.Constructors.{Format, unknown, format, constructors, look_up, boolean_byte}
 use Rattle.amqp_model.specs.Spelling.{PrimitiveData}
 use Rattle.amqp_input.specs.Kinds.{kind_of, kind_under, kind_at, is_kind, codes_in, codes_of}
+
+-- two facts as one
+both : {A B : Type 0} → A → B → A × B
+both a b = (a, b)
 
 abbrev IsOneKind : Format → Type 0
 IsOneKind F = (p : Primitive) (b : List ℕ) → PrimitiveData F p b → kind_under F ≡ Some (kind_of p)
@@ -32,7 +37,19 @@ boolean_kind (suc zero ∷ y ∷ r) p h = cc
 boolean_kind (suc (suc n) ∷ y ∷ r) p h = cc
 
 one_kinds : EachRow IsOneKind constructors
-one_kinds = (λ p b h. ap (option_map kind_of) h.1, (λ p b h. ap (option_map kind_of) h.1, (λ p b h. ap (option_map kind_of) h.1, (λ p b h. ap (option_map kind_of) h.1, (λ p b h. ap (option_map kind_of) h.1, (λ p b h. absurd h, (λ p b h. ap (option_map kind_of) h.1, (λ p b h. ap (option_map kind_of) h.1, (λ p b h. ap (option_map kind_of) h.1, (λ p b h. ap (option_map kind_of) h.1, (λ p b h. ap (option_map kind_of) h.1, (λ p b h. ap (option_map kind_of) h.1, (λ p b h. boolean_kind b p h.1, (λ p b h. ap (option_map kind_of) h.1, (λ p b h. ap (option_map kind_of) h.1, (λ p b h. ap (option_map kind_of) h.1, (λ p b h. ap (option_map kind_of) h.1, (λ p b h. ap (option_map kind_of) h.1, (λ p b h. ap (option_map kind_of) h.1, (λ p b h. ap (option_map kind_of) h.1, (λ p b h. ap (option_map kind_of) h.1, (λ p b h. ap (option_map kind_of) h.1, (λ p b h. ap (option_map kind_of) h.1, (λ p b h. ap (option_map kind_of) h.1, (λ p b h. ap (option_map kind_of) h.1, (λ p b h. ap (option_map kind_of) h.3, (λ p b h. ap (option_map kind_of) h.3, (λ p b h. ap (option_map kind_of) h.3, (λ p b h. ap (option_map kind_of) h.3, (λ p b h. ap (option_map kind_of) h.3, (λ p b h. ap (option_map kind_of) h.3, (λ p b h. absurd h, (λ p b h. absurd h, (λ p b h. absurd h, (λ p b h. absurd h, (λ p b h. absurd h, (λ p b h. absurd h, tt)))))))))))))))))))))))))))))))))))))
+one_kinds =
+    (both (λ p b h. ap (option_map kind_of) h.1) (both (λ p b h. ap (option_map kind_of) h.1) (both (λ p b h. ap (option_map kind_of) h.1)
+    (both (λ p b h. ap (option_map kind_of) h.1) (both (λ p b h. ap (option_map kind_of) h.1) (both (λ p b h. absurd h)
+    (both (λ p b h. ap (option_map kind_of) h.1) (both (λ p b h. ap (option_map kind_of) h.1) (both (λ p b h. ap (option_map kind_of) h.1)
+    (both (λ p b h. ap (option_map kind_of) h.1) (both (λ p b h. ap (option_map kind_of) h.1) (both (λ p b h. ap (option_map kind_of) h.1)
+    (both (λ p b h. boolean_kind b p h.1) (both (λ p b h. ap (option_map kind_of) h.1) (both (λ p b h. ap (option_map kind_of) h.1)
+    (both (λ p b h. ap (option_map kind_of) h.1) (both (λ p b h. ap (option_map kind_of) h.1) (both (λ p b h. ap (option_map kind_of) h.1)
+    (both (λ p b h. ap (option_map kind_of) h.1) (both (λ p b h. ap (option_map kind_of) h.1) (both (λ p b h. ap (option_map kind_of) h.1)
+    (both (λ p b h. ap (option_map kind_of) h.1) (both (λ p b h. ap (option_map kind_of) h.1) (both (λ p b h. ap (option_map kind_of) h.1)
+    (both (λ p b h. ap (option_map kind_of) h.1) (both (λ p b h. ap (option_map kind_of) h.3) (both (λ p b h. ap (option_map kind_of) h.3)
+    (both (λ p b h. ap (option_map kind_of) h.3) (both (λ p b h. ap (option_map kind_of) h.3) (both (λ p b h. ap (option_map kind_of) h.3)
+    (both (λ p b h. ap (option_map kind_of) h.3) (both (λ p b h. absurd h) (both (λ p b h. absurd h) (both (λ p b h. absurd h)
+    (both (λ p b h. absurd h) (both (λ p b h. absurd h) (both (λ p b h. absurd h) tt)))))))))))))))))))))))))))))))))))))
 
 pub kind_data : (c : ℕ) (p : Primitive) (b : List ℕ) → PrimitiveData (format c) p b → kind_at c ≡ Some (kind_of p)
 unfolding kind_at
@@ -50,10 +67,13 @@ more_codes : (c x : ℕ) (b : Bool) (xs : List ℕ) → OneOf c xs → OneOf c (
 more_codes c x true xs h = inr h
 more_codes c x false xs h = h
 
-code_at : (c k : ℕ) (row : ℕ × Format) (rows : List (ℕ × Format)) (t : Bool) → eqb c row.0 ≡ t → (kind_under (look_up c rows) ≡ Some k → OneOf c (codes_in k rows))
-    → kind_under (cond t row.1 (look_up c rows)) ≡ Some k → OneOf c (cond (is_kind k (kind_under row.1)) (row.0 ∷ codes_in k rows) (codes_in k rows))
+code_at : (c k : ℕ) (row : ℕ × Format) (rows : List (ℕ × Format)) (t : Bool) → eqb c row.0 ≡ t
+    → (kind_under (look_up c rows) ≡ Some k → OneOf c (codes_in k rows))
+    → kind_under (cond t row.1 (look_up c rows)) ≡ Some k
+    → OneOf c (cond (is_kind k (kind_under row.1)) (row.0 ∷ codes_in k rows) (codes_in k rows))
 code_at c k row rows true s f e =
-    subst (λ b. OneOf c (cond b (row.0 ∷ codes_in k rows) (codes_in k rows))) (sym (is_kind_same k (kind_under row.1) e)) (inl (eqb-true c row.0 s))
+    subst (λ b. OneOf c (cond b (row.0 ∷ codes_in k rows) (codes_in k rows))) (sym (is_kind_same k (kind_under row.1) e))
+    (inl (eqb-true c row.0 s))
 code_at c k row rows false s f e = more_codes c row.0 (is_kind k (kind_under row.1)) (codes_in k rows) (f e)
 
 code_in : (c k : ℕ) (rows : List (ℕ × Format)) → kind_under (look_up c rows) ≡ Some k → OneOf c (codes_in k rows)
@@ -79,4 +99,7 @@ not_two k c a b e f g h = elim (subst (OneOf c) e (kind_codes c k h)) [ inl x �
 
 pub not_three : (k c a b d : ℕ) → codes_of k ≡ a ∷ b ∷ d ∷ [] → (c ≡ a → ⊥) → (c ≡ b → ⊥) → (c ≡ d → ⊥) → kind_at c ≡ Some k → ⊥
 not_three k c a b d e f g i h =
-    elim (subst (OneOf c) e (kind_codes c k h)) [ inl x ↦ f x | inr x ↦ elim x [ inl y ↦ g y | inr y ↦ elim y [ inl z ↦ i z | inr z ↦ absurd z ] ] ]
+    elim (subst (OneOf c) e (kind_codes c k h)) [
+      | inl x ↦ f x
+      | inr x ↦ elim x [ inl y ↦ g y | inr y ↦ elim y [ inl z ↦ i z | inr z ↦ absurd z ] ]
+    ]

@@ -1,5 +1,6 @@
 -- Bytes that were looked at, and those of the source behind them.
-use Rattle.std.proofs.Common.{◌≡◌, ◌≤◌, ◌<◌, ℕ, ◌+◌, ◌-◌, List, [], ◌++◌, length, take, drop, min, max, inl, inr, Bool, Result, Ok, Err, IfOk, sym, ap, ◌∙◌, arith, append_assoc, length-append, drop-drop}
+use Rattle.std.proofs.Common.{◌≡◌, ◌≤◌, ◌<◌, ℕ, ◌+◌, ◌-◌, List, [], ◌++◌, length, take, drop, min, max, inl, inr, Bool, Result, Ok, Err}
+use Rattle.std.proofs.Common.{IfOk, sym, ap, ◌∙◌, arith, append_assoc, length-append, drop-drop}
 use Rattle.std.proofs.lemmas.List.{drop_at, take_at, length-take-le, length-drop, take-append-le}
 use Rattle.std.proofs.lemmas.List.Edits.{take-paste}
 use Rattle.std.specs.List.{copy_within}
@@ -20,7 +21,8 @@ pub pending_none : (start end_ : ℕ) (l : List ℕ) → end_ - start ≡ 0 → 
 pending_none start end_ l e = ap (λ n. take n (drop start l)) e
 
 -- some of what was looked at, and the rest of it
-pub pending_split : (start end_ n : ℕ) (l : List ℕ) → n ≤ end_ - start → pending start end_ l ≡ take n (drop start l) ++ pending (start + n) end_ l
+pub pending_split : (start end_ n : ℕ) (l : List ℕ) → n ≤ end_ - start
+    → pending start end_ l ≡ take n (drop start l) ++ pending (start + n) end_ l
 pending_split start end_ n l h =
     let whole : end_ - start ≡ n + (end_ - (start + n)) = omega arith in
     ap (λ m. take m (drop start l)) whole ∙ take-add n (end_ - (start + n)) (drop start l)
@@ -29,7 +31,8 @@ pending_split start end_ n l h =
 pub looked_length : (start end_ n : ℕ) (l : List ℕ) → n ≤ end_ - start → end_ ≤ length l → length (take n (drop start l)) ≡ n
 looked_length start end_ n l h w = length-take-le n (drop start l) (omega (arith, length-drop start l))
 
-pub looked_rest : (start end_ n : ℕ) (l K : List ℕ) → n ≤ end_ - start → end_ ≤ length l → pending (start + n) end_ l ++ K ≡ drop n (pending start end_ l ++ K)
+pub looked_rest : (start end_ n : ℕ) (l K : List ℕ) → n ≤ end_ - start → end_ ≤ length l
+    → pending (start + n) end_ l ++ K ≡ drop n (pending start end_ l ++ K)
 looked_rest start end_ n l K h w =
     rest_is (take n (drop start l)) (pending start end_ l ++ K) (pending (start + n) end_ l ++ K) n (looked_length start end_ n l h w)
     (ap (λ x. x ++ K) (pending_split start end_ n l h) ∙ append_assoc (take n (drop start l)) (pending (start + n) end_ l) K)
@@ -57,10 +60,12 @@ pub filled_rest : (p K L b : List ℕ) (n : ℕ) → p ≡ [] → n ≤ length b
 filled_rest p K L b n e h f = ap (λ x. x ++ L) e ∙ rest_is (take n b) (p ++ K) L n (length-take-le n b h) (ap (λ x. x ++ K) e ∙ f)
 
 pub filled_all : (p K L b : List ℕ) (n : ℕ) → p ≡ [] → n ≤ length b → K ≡ take n b ++ L → L ≡ [] → length (p ++ K) ≡ n
-filled_all p K L b n e h f g = omega (arith, ap length e, ap length f, ap length g, length-append p K, length-append (take n b) L, length-take-le n b h)
+filled_all p K L b n e h f g =
+    omega (arith, ap length e, ap length f, ap length g, length-append p K, length-append (take n b) L, length-take-le n b h)
 
 -- a state behind n bytes, by its parts
-pub moved_is : (st : State) (r : List ℕ) (a s : ℕ) (f : Bool) (n : ℕ) → r ≡ drop n st.rest → a ≡ st.ahead - n → s ≡ st.source → f ≡ st.failed
+pub moved_is : (st : State) (r : List ℕ) (a s : ℕ) (f : Bool) (n : ℕ) → r ≡ drop n st.rest → a ≡ st.ahead - n
+    → s ≡ st.source → f ≡ st.failed
     → record st { rest = r; ahead = a; source = s; failed = f } ≡ after_bytes n st
 moved_is st r a s f n hr ha hs hf =
     ap (λ x. record st { rest = x; ahead = a; source = s; failed = f }) hr
@@ -69,10 +74,12 @@ moved_is st r a s f n hr ha hs hf =
     ∙ ap (λ x. record st { rest = drop n st.rest; ahead = st.ahead - n; failed = x }) hf
 
 pub moved_none : (st : State) (n : ℕ) → n ≡ 0 → st ≡ after_bytes n st
-moved_none st n e = let a : st.ahead ≡ st.ahead - 0 = omega arith in ap (λ x. record st { ahead = x }) a ∙ ap (λ k. after_bytes k st) (sym e)
+moved_none st n e = let a : st.ahead ≡ st.ahead - 0 = omega arith in
+    ap (λ x. record st { ahead = x }) a ∙ ap (λ k. after_bytes k st) (sym e)
 
 -- what was looked at, and then what the source gave behind it
-pub pulled_behind : (st m : State) (d n k : ℕ) (b f : List ℕ) → d ≤ length b → n ≤ length f → st.rest ≡ take d b ++ drop d st.rest → m ≡ after_bytes d st → m.rest ≡ take n f ++ drop n m.rest
+pub pulled_behind : (st m : State) (d n k : ℕ) (b f : List ℕ) → d ≤ length b → n ≤ length f → st.rest ≡ take d b ++ drop d st.rest
+    → m ≡ after_bytes d st → m.rest ≡ take n f ++ drop n m.rest
     → st.rest ≡ take (d + n) (put_mid d k b f) ++ drop (d + n) st.rest
 pulled_behind st m d n k b f h w front is behind =
     let rest : m.rest ≡ drop d st.rest = ap (λ (x : State). x.rest) is in
@@ -80,28 +87,34 @@ pulled_behind st m d n k b f h w front is behind =
     ∙ ap (λ l. take (d + n) (put_mid d k b f) ++ l) (ap (drop n) rest ∙ drop-drop n d st.rest)
 
 -- what was looked at is at the front of its buffer, and more behind it
-kept_front : (start end_ : ℕ) (l moved_ : List ℕ) → start ≤ end_ → end_ ≤ length l → moved_ ≡ copy_within l start end_ 0 → take (end_ - start) moved_ ≡ pending start end_ l
+kept_front : (start end_ : ℕ) (l moved_ : List ℕ) → start ≤ end_ → end_ ≤ length l → moved_ ≡ copy_within l start end_ 0
+    → take (end_ - start) moved_ ≡ pending start end_ l
 kept_front start end_ l moved_ h w e =
     let k = end_ - start in
     let at : 0 + k ≡ k = omega arith in
     ap (take k) e ∙ ap (λ n. take n (copy_within l start end_ 0)) (sym at)
     ∙ take-paste l 0 (drop start l) k (omega arith) (omega (arith, length-drop start l))
 
-pub looked_more : (start end_ a n : ℕ) (l moved_ b tail K L : List ℕ) → a ≡ end_ - start → start ≤ end_ → end_ ≤ length l → moved_ ≡ copy_within l start end_ 0 → length moved_ ≡ length l → n ≤ length b → K ≡ take n b ++ L
+pub looked_more : (start end_ a n : ℕ) (l moved_ b tail K L : List ℕ) → a ≡ end_ - start → start ≤ end_ → end_ ≤ length l
+    → moved_ ≡ copy_within l start end_ 0 → length moved_ ≡ length l → n ≤ length b → K ≡ take n b ++ L
     → pending 0 (a + n) (take a moved_ ++ (b ++ tail)) ++ L ≡ pending start end_ l ++ K
 looked_more start end_ a n l moved_ b tail K L is h w e same few f =
     let front = take a moved_ in
     let long : length front ≡ a = length-take-le a moved_ (omega (arith, same, is)) in
     let whole : a + n - 0 ≡ length front + n = omega (arith, long) in
     let all : take (a + n - 0) (front ++ (b ++ tail)) ≡ front ++ take n b =
-    ap (λ k. take k (front ++ (b ++ tail))) whole ∙ take-append-add front (b ++ tail) n ∙ ap (λ x. front ++ x) (take-append-le n b tail few) in
-    ap (λ x. x ++ L) (all ∙ ap (λ x. x ++ take n b) (ap (λ k. take k moved_) is ∙ kept_front start end_ l moved_ h w e)) ∙ append_assoc (pending start end_ l) (take n b) L ∙ ap (λ x. pending start end_ l ++ x) (sym f)
+    ap (λ k. take k (front ++ (b ++ tail))) whole ∙ take-append-add front (b ++ tail) n
+    ∙ ap (λ x. front ++ x) (take-append-le n b tail few) in
+    ap (λ x. x ++ L) (all ∙ ap (λ x. x ++ take n b) (ap (λ k. take k moved_) is ∙ kept_front start end_ l moved_ h w e))
+    ∙ append_assoc (pending start end_ l) (take n b) L ∙ ap (λ x. pending start end_ l ++ x) (sym f)
 
 -- how many bytes are looked at then
-pub looked_count : (start end_ a n count : ℕ) (l b K L : List ℕ) → a ≡ end_ - start → end_ ≤ length l → a < count → length b ≡ count - a → n ≤ length b → K ≡ take n b ++ L → (n < length b → L ≡ [])
+pub looked_count : (start end_ a n count : ℕ) (l b K L : List ℕ) → a ≡ end_ - start → end_ ≤ length l → a < count → length b ≡ count - a
+    → n ≤ length b → K ≡ take n b ++ L → (n < length b → L ≡ [])
     → a + n - 0 ≡ max (end_ - start) (min count (length (pending start end_ l ++ K)))
 looked_count start end_ a n count l b K L is w less room few f all =
-    let p : length (pending start end_ l) ≡ end_ - start = length-take-le (end_ - start) (drop start l) (omega (arith, length-drop start l)) in
+    let p : length (pending start end_ l) ≡ end_ - start =
+    length-take-le (end_ - start) (drop start l) (omega (arith, length-drop start l)) in
     let k : length K ≡ n + length L = ap length f ∙ length-append (take n b) L ∙ ap (λ m. m + length L) (length-take-le n b few) in
     let none : (n < length b) → length L ≡ 0 = λ h. ap length (all h) in
     elim (eq-or-lt_of_le few) [
@@ -110,7 +123,8 @@ looked_count start end_ a n count l b K L is w less room few f all =
     ]
 
 -- a state after a look, by its parts
-pub looked_is : (st : State) (r : List ℕ) (a s : ℕ) (f : Bool) (n : ℕ) → r ≡ st.rest → a ≡ max st.ahead n → s ≡ st.source → f ≡ st.failed → record st { rest = r; ahead = a; source = s; failed = f } ≡ after_look n st
+pub looked_is : (st : State) (r : List ℕ) (a s : ℕ) (f : Bool) (n : ℕ) → r ≡ st.rest → a ≡ max st.ahead n → s ≡ st.source → f ≡ st.failed
+    → record st { rest = r; ahead = a; source = s; failed = f } ≡ after_look n st
 looked_is st r a s f n hr ha hs hf =
     ap (λ x. record st { rest = x; ahead = a; source = s; failed = f }) hr
     ∙ ap (λ x. record st { ahead = x; source = s; failed = f }) ha

@@ -1,5 +1,7 @@
 -- The section whose descriptor stands next.
-use Rattle.std.proofs.Common.{◌≡◌, ◌≤◌, ◌<◌, ℕ, zero, suc, ◌+◌, ◌-◌, ◌^◌, ◌⊎◌, inl, inr, ◌↔◌, Bool, true, false, ◌&&◌, ltb, IsAscii, Option, Some, None, option_map, unwrap_or, Result, Ok, Err, IfOk, List, [], ◌∷◌, ◌++◌, length, take, drop, map, get_or, refl, sym, ap, ap₂, ◌∙◌, subst, arith, append_assoc, length-append, length-drop, drop-cons}
+use Rattle.std.proofs.Common.{◌≡◌, ◌≤◌, ◌<◌, ℕ, zero, suc, ◌+◌, ◌-◌, ◌^◌, ◌⊎◌, inl, inr, ◌↔◌, Bool, true, false, ◌&&◌, ltb, IsAscii, Option}
+use Rattle.std.proofs.Common.{Some, None, option_map, unwrap_or, Result, Ok, Err, IfOk, List, [], ◌∷◌, ◌++◌, length, take, drop, map}
+use Rattle.std.proofs.Common.{get_or, refl, sym, ap, ap₂, ◌∙◌, subst, arith, append_assoc, length-append, length-drop, drop-cons}
 use Rattle.std.proofs.lemmas.List.{length-take-le, take-append-drop, take-append-le, take_at, drop-append-le}
 use Rattle.std.proofs.lemmas.Bool.{eqb-true, ltb-true}
 use Rattle.std.proofs.lemmas.Slice.Eq.{bytes_eq-Decides}
@@ -68,7 +70,8 @@ of_place d i e =
       named_by d (0x70 + i) (title i) (ap (is_named d) (sym (row_is i (0, []) p.0)) ∙ p.1),
     )
 
-place_at : (d : Descriptor) (c i : ℕ) (s : List ℕ) → i < 9 → c ≡ 0x70 + i → s ≡ title i → (d ≡ code c) ⊎ (d ≡ name s) → name_place sections d ≡ Some i
+place_at : (d : Descriptor) (c i : ℕ) (s : List ℕ) → i < 9 → c ≡ 0x70 + i → s ≡ title i → (d ≡ code c) ⊎ (d ≡ name s)
+    → name_place sections d ≡ Some i
 place_at d c i s h f g (inl e) = ap (name_place sections) (e ∙ ap code f) ∙ code_place i h
 place_at d c i s h f g (inr e) = ap (name_place sections) (e ∙ ap name g) ∙ title_place i h
 
@@ -93,9 +96,11 @@ section_at d c None e f = absurd (cc)
 section_at d c (Some i) e f = subst (λ k. IsOfSection k d) (ap (λ o. unwrap_or o c) f) (of_place d i e)
 
 -- a section is found by its code and by its name alone
-pub section_is : (members : List Member) → map as_name members ≡ sections → (d : Descriptor) (place section : Option ℕ) → place ≡ place_of members d → section ≡ option_map (λ i. 0x70 + i) place → (c : ℕ) → (section ≡ Some c) ↔ IsOfSection c d
+pub section_is : (members : List Member) → map as_name members ≡ sections → (d : Descriptor) (place section : Option ℕ)
+    → place ≡ place_of members d → section ≡ option_map (λ i. 0x70 + i) place → (c : ℕ) → (section ≡ Some c) ↔ IsOfSection c d
 section_is members is d place section at_ by c =
-    let whole : section ≡ option_map (λ i. 0x70 + i) (name_place sections d) = by ∙ ap (option_map (λ i. 0x70 + i)) (at_ ∙ place_is d members ∙ ap (λ l. name_place l d) is) in (
+    let whole : section ≡ option_map (λ i. 0x70 + i) (name_place sections d) =
+    by ∙ ap (option_map (λ i. 0x70 + i)) (at_ ∙ place_is d members ∙ ap (λ l. name_place l d) is) in (
       λ e. section_at d c (name_place sections d) refl (sym whole ∙ e),
       λ h. whole ∙ place_of_section d c h,
     )
@@ -181,7 +186,8 @@ of_ahead st y c more e a = record {
 pub through : {A B C : Type 0} → (B ↔ C) → (A ↔ B) → (A ↔ C)
 through f g = (λ a. f.0 (g.0 a), λ c. g.1 (f.1 c))
 
-ahead_is : (P : Type 0) (st : State) (y c : ℕ) (more : List ℕ) → st.rest ≡ 0 ∷ y ∷ more → (P ↔ Ahead y more c) → (P ↔ IsSectionAhead st.rest c)
+ahead_is : (P : Type 0) (st : State) (y c : ℕ) (more : List ℕ) → st.rest ≡ 0 ∷ y ∷ more → (P ↔ Ahead y more c)
+    → (P ↔ IsSectionAhead st.rest c)
 ahead_is P st y c more e f = through (of_ahead st y c more e, ahead_of st y c more e) f
 
 is_code : (d : Descriptor) (n : ℕ) → Some (ulong n) ≡ Some (descriptor_value d) → d ≡ code n
@@ -202,7 +208,15 @@ one_front (x ∷ y ∷ b) after r z e h = absurd (omega (arith, h))
 
 small : (z c : ℕ) (r : List ℕ) → IsOfSection c (code z) ↔ Ahead 0x53 (z ∷ r) c
 small z c r = (
-  λ h. record { data_ = z ∷ []; after = r; split = refl; few = omega arith; descriptor = code z; spelled = (refl, ap (λ n. Some (ulong n)) (one_byte z), tt); is = h },
+  λ h. record {
+    data_ = z ∷ [];
+    after = r;
+    split = refl;
+    few = omega arith;
+    descriptor = code z;
+    spelled = (refl, ap (λ n. Some (ulong n)) (one_byte z), tt);
+    is = h;
+  },
   λ a.
       let b = one_front a.data_ a.after r z a.split a.spelled.0 in
       let n : from_be_bytes w8 a.data_ ≡ z = ap (from_be_bytes w8) b ∙ one_byte z in
@@ -213,16 +227,26 @@ large : (c : ℕ) (more : List ℕ) → ((8 ≤ length more) × IsOfSection c (c
 large c more = (
   λ h.
       let long : length (take 8 more) ≡ 8 = length-take-le 8 more h.0 in
-      record { data_ = take 8 more; after = drop 8 more; split = sym (take-append-drop 8 more); few = omega (arith, long); descriptor = code (from_be_bytes w64 (take 8 more)); spelled = (long, refl, tt); is = h.1 },
+      record {
+        data_ = take 8 more;
+        after = drop 8 more;
+        split = sym (take-append-drop 8 more);
+        few = omega (arith, long);
+        descriptor = code (from_be_bytes w64 (take 8 more));
+        spelled = (long, refl, tt);
+        is = h.1;
+      },
   λ a.
       let long : length a.data_ ≡ 8 = a.spelled.0 in
       let b : take 8 more ≡ a.data_ = ap (take 8) a.split ∙ take_at a.data_ a.after 8 long in (
         omega (arith, long, ap length a.split, length-append a.data_ a.after),
-        subst (IsOfSection c) (is_code a.descriptor (from_be_bytes w64 a.data_) a.spelled.1 ∙ ap (λ l. code (from_be_bytes w64 l)) (sym b)) a.is,
+        subst (IsOfSection c) (is_code a.descriptor (from_be_bytes w64 a.data_) a.spelled.1
+            ∙ ap (λ l. code (from_be_bytes w64 l)) (sym b)) a.is,
       ),
 )
 
-text : (y w z c : ℕ) (r : List ℕ) → format y ≡ variable w (λ b. Some (symbol b)) → z < 256 ^ w → ((w + z ≤ 62) × (z ≤ length r) × IsOfSection c (name (take z r))) ↔ Ahead y (bytes_high_first w z ++ r) c
+text : (y w z c : ℕ) (r : List ℕ) → format y ≡ variable w (λ b. Some (symbol b)) → z < 256 ^ w
+    → ((w + z ≤ 62) × (z ≤ length r) × IsOfSection c (name (take z r))) ↔ Ahead y (bytes_high_first w z ++ r) c
 text y w z c r is fits = (
   λ h.
       let s = take z r in
@@ -233,13 +257,15 @@ text y w z c r is fits = (
         split = ap (λ l. bytes_high_first w z ++ l) (sym (take-append-drop z r)) ∙ sym (append_assoc (bytes_high_first w z) s (drop z r));
         few = omega (arith, h.0, long, length-append (bytes_high_first w z) s, length-bytes w z);
         descriptor = name s;
-        spelled = subst (λ F. PrimitiveData F (symbol s) (bytes_high_first w z ++ s)) (sym is) (s, subst (λ k. k < 256 ^ w) (sym long) fits, ap (λ k. bytes_high_first w k ++ s) (sym long), refl, section_ascii c s h.2);
+        spelled = subst (λ F. PrimitiveData F (symbol s) (bytes_high_first w z ++ s)) (sym is)
+            (s, subst (λ k. k < 256 ^ w) (sym long) fits, ap (λ k. bytes_high_first w k ++ s) (sym long), refl, section_ascii c s h.2);
         is = h.2;
       },
   λ a.
       let p = subst (λ F. PrimitiveData F (descriptor_value a.descriptor) a.data_) is a.spelled in
       let s = p.0 in
-      let whole : bytes_high_first w z ++ r ≡ bytes_high_first w (length s) ++ (s ++ a.after) = a.split ∙ ap (λ l. l ++ a.after) p.2 ∙ append_assoc (bytes_high_first w (length s)) s a.after in
+      let whole : bytes_high_first w z ++ r ≡ bytes_high_first w (length s) ++ (s ++ a.after) =
+      a.split ∙ ap (λ l. l ++ a.after) p.2 ∙ append_assoc (bytes_high_first w (length s)) s a.after in
       let f = field w z (length s) r (s ++ a.after) fits p.1 whole in
       let t : take z r ≡ s = ap₂ (λ k l. take k l) f.0 f.1 ∙ take_at s a.after (length s) refl in
       let few_ = a.few in (
@@ -258,7 +284,8 @@ no_zero y n c b d is e = no_section c (subst (IsOfSection c) (zero_data n b (sub
 no_ulong : (y n c : ℕ) (b : List ℕ) → (y ≡ 0x53 → ⊥) → (y ≡ 0x80 → ⊥) → PrimitiveData (format y) (ulong n) b → IsOfSection c (code n) → ⊥
 no_ulong y n c b f g d is = not_three 5 y 0x44 0x53 0x80 refl (no_zero y n c b d is) f g (kind_data y (ulong n) b d)
 
-none_under : (y c : ℕ) (b : List ℕ) (d : Descriptor) → (y ≡ 0x53 → ⊥) → (y ≡ 0x80 → ⊥) → (y ≡ 0xa3 → ⊥) → (y ≡ 0xb3 → ⊥) → PrimitiveData (format y) (descriptor_value d) b → IsOfSection c d → ⊥
+none_under : (y c : ℕ) (b : List ℕ) (d : Descriptor) → (y ≡ 0x53 → ⊥) → (y ≡ 0x80 → ⊥) → (y ≡ 0xa3 → ⊥) → (y ≡ 0xb3 → ⊥)
+    → PrimitiveData (format y) (descriptor_value d) b → IsOfSection c d → ⊥
 none_under y c b (code n) small large narrow wide p is = no_ulong y n c b small large p is
 none_under y c b (name s) small large narrow wide p is = not_two 18 y 0xa3 0xb3 refl narrow wide (kind_data y (symbol s) b p)
 
@@ -281,12 +308,14 @@ pub record Shows (st m : State) (y z : ℕ) : Type 0 where
   pub rest : st.rest ≡ 0 ∷ y ∷ z ∷ more
   pub same : m.rest ≡ st.rest
 
-pub shows : (st m : State) (n y : ℕ) (l : List ℕ) → m ≡ after_look n st → l ≡ take m.ahead m.rest → 3 ≤ length l → get_or l 0 0 ≡ 0 → get_or l 1 0 ≡ y → Shows st m y (get_or l 2 0)
+pub shows : (st m : State) (n y : ℕ) (l : List ℕ) → m ≡ after_look n st → l ≡ take m.ahead m.rest → 3 ≤ length l → get_or l 0 0 ≡ 0
+    → get_or l 1 0 ≡ y → Shows st m y (get_or l 2 0)
 shows st m n y l is e long first second =
     let t = first_three l long in
     record {
       more = t.0 ++ drop m.ahead st.rest;
-      rest = looked_front st m n l is e ∙ ap (λ x. x ++ drop m.ahead st.rest) t.1 ∙ ap₂ (λ a b. a ∷ b ∷ get_or l 2 0 ∷ (t.0 ++ drop m.ahead st.rest)) first second;
+      rest = looked_front st m n l is e ∙ ap (λ x. x ++ drop m.ahead st.rest) t.1
+          ∙ ap₂ (λ a b. a ∷ b ∷ get_or l 2 0 ∷ (t.0 ++ drop m.ahead st.rest)) first second;
       same = ap (λ (z : State). z.rest) is;
     }
 
@@ -309,7 +338,8 @@ short_under : (z c : ℕ) (r : List ℕ) → z < 256 → IsNameAhead 3 z (0 ∷ 
 short_under z c r fits =
     let sized : bytes_high_first 1 z ++ r ≡ z ∷ r = ap (λ l. l ++ r) (one_size z fits) in
     subst (λ l. IsNameAhead 3 z (0 ∷ 0xa3 ∷ z ∷ r) c ↔ Ahead 0xa3 l c) sized
-    (through (text 0xa3 1 z c r refl (omega (arith, fits))) (λ h. (omega (arith, h.0), omega (arith, h.1), h.2), λ h. (omega (arith, h.0), omega (arith, h.1), h.2)))
+    (through (text 0xa3 1 z c r refl (omega (arith, fits)))
+    (λ h. (omega (arith, h.0), omega (arith, h.1), h.2), λ h. (omega (arith, h.0), omega (arith, h.1), h.2)))
 
 -- a size of one byte
 byte_of : (z c : ℕ) (r : List ℕ) → Ahead 0xa3 (z ∷ r) c → z < 256
@@ -328,21 +358,25 @@ short_name st m z c s =
       λ a. (short_under z c s.more (byte_of z c s.more a)).1 a,
     ))
 
-pub none_ahead : (st m : State) (y z c : ℕ) → (y ≡ 0x53 → ⊥) → (y ≡ 0x80 → ⊥) → (y ≡ 0xa3 → ⊥) → (y ≡ 0xb3 → ⊥) → Shows st m y z → IsSectionAhead st.rest c → ⊥
+pub none_ahead : (st m : State) (y z c : ℕ) → (y ≡ 0x53 → ⊥) → (y ≡ 0x80 → ⊥) → (y ≡ 0xa3 → ⊥) → (y ≡ 0xb3 → ⊥) → Shows st m y z
+    → IsSectionAhead st.rest c → ⊥
 none_ahead st m y z c f g h k s a =
     let b = ahead_of st y c (z ∷ s.more) s.rest a in none_under y c b.data_ b.descriptor f g h k b.spelled b.is
 
 -- what was looked at is the front of what stands there
 part_front : (n i : ℕ) (l x : List ℕ) → i + n ≤ length l → take n (drop i (l ++ x)) ≡ take n (drop i l)
-part_front n i l x h = ap (take n) (drop-append-le i l x (omega (arith, h))) ∙ take-append-le n (drop i l) x (omega (arith, h, length-drop i l))
+part_front n i l x h =
+    ap (take n) (drop-append-le i l x (omega (arith, h))) ∙ take-append-le n (drop i l) x (omega (arith, h, length-drop i l))
 
-pub named_front : (st m : State) (n start len : ℕ) (l s : List ℕ) (o : Option ℕ) → m ≡ after_look n st → l ≡ take m.ahead m.rest → start + len ≤ 64 → start + len ≤ length l → s ≡ take (start + len - start) (drop start l)
+pub named_front : (st m : State) (n start len : ℕ) (l s : List ℕ) (o : Option ℕ) → m ≡ after_look n st → l ≡ take m.ahead m.rest
+    → start + len ≤ 64 → start + len ≤ length l → s ≡ take (start + len - start) (drop start l)
     → ((c : ℕ) → (o ≡ Some c) ↔ IsOfSection c (name s)) → (c : ℕ) → (o ≡ Some c) ↔ IsNameAhead start len st.rest c
 named_front st m n start len l s o is e few there at_ f c =
     let x = drop m.ahead st.rest in
     let whole : st.rest ≡ l ++ x = looked_front st m n l is e in
     let long : len ≡ start + len - start = omega arith in
-    let front : take len (drop start st.rest) ≡ s = ap (λ r. take len (drop start r)) whole ∙ part_front len start l x there ∙ ap (λ k. take k (drop start l)) long ∙ sym at_ in
+    let front : take len (drop start st.rest) ≡ s = ap (λ r. take len (drop start r)) whole ∙ part_front len start l x there
+    ∙ ap (λ k. take k (drop start l)) long ∙ sym at_ in
     through (
       λ h. (few, omega (arith, there, ap length whole, length-append l x), subst (λ b. IsOfSection c (name b)) (sym front) h),
       λ h. subst (λ b. IsOfSection c (name b)) front h.2,
@@ -355,20 +389,29 @@ bytes_at (suc n) i l = get_or l i 0 ∷ bytes_at n (suc i) l
 
 bytes_are : (n i : ℕ) (l : List ℕ) → i + n ≤ length l → take n (drop i l) ≡ bytes_at n i l
 bytes_are zero i l h = refl
-bytes_are (suc n) i l h = ap (take (suc n)) (drop-cons l i 0 (omega (arith, h))) ∙ ap (λ x. get_or l i 0 ∷ x) (bytes_are n (suc i) l (omega (arith, h)))
+bytes_are (suc n) i l h =
+    ap (take (suc n)) (drop-cons l i 0 (omega (arith, h))) ∙ ap (λ x. get_or l i 0 ∷ x) (bytes_are n (suc i) l (omega (arith, h)))
 
-shown : (st m : State) (n k i : ℕ) (l : List ℕ) → m ≡ after_look n st → l ≡ take m.ahead m.rest → i + k ≤ length l → take k (drop i st.rest) ≡ bytes_at k i l
-shown st m n k i l is e few = ap (λ r. take k (drop i r)) (looked_front st m n l is e) ∙ part_front k i l (drop m.ahead st.rest) few ∙ bytes_are k i l few
+shown : (st m : State) (n k i : ℕ) (l : List ℕ) → m ≡ after_look n st → l ≡ take m.ahead m.rest → i + k ≤ length l
+    → take k (drop i st.rest) ≡ bytes_at k i l
+shown st m n k i l is e few =
+    ap (λ r. take k (drop i r)) (looked_front st m n l is e) ∙ part_front k i l (drop m.ahead st.rest) few ∙ bytes_are k i l few
 
-pub large_shown : (st m : State) (n v : ℕ) (l : List ℕ) (o : Option ℕ) → m ≡ after_look n st → l ≡ take m.ahead m.rest → 10 ≤ length l → v ≡ from_be_bytes w64 (bytes_at 8 2 l) → ((c : ℕ) → (o ≡ Some c) ↔ IsOfSection c (code v)) → (c : ℕ) → (o ≡ Some c) ↔ IsLongCodeAhead st.rest c
+pub large_shown : (st m : State) (n v : ℕ) (l : List ℕ) (o : Option ℕ) → m ≡ after_look n st → l ≡ take m.ahead m.rest → 10 ≤ length l
+    → v ≡ from_be_bytes w64 (bytes_at 8 2 l) → ((c : ℕ) → (o ≡ Some c) ↔ IsOfSection c (code v)) → (c : ℕ) → (o ≡ Some c)
+    ↔ IsLongCodeAhead st.rest c
 large_shown st m n v l o is e few at_ f c =
     let value : v ≡ from_be_bytes w64 (take 8 (drop 2 st.rest)) = at_ ∙ ap (from_be_bytes w64) (sym (shown st m n 8 2 l is e few)) in
     through (
-      λ h. (omega (arith, few, ap length (looked_front st m n l is e), length-append l (drop m.ahead st.rest)), subst (λ k. IsOfSection c (code k)) value h),
+      λ h. (
+        omega (arith, few, ap length (looked_front st m n l is e), length-append l (drop m.ahead st.rest)),
+        subst (λ k. IsOfSection c (code k)) value h,
+      ),
       λ h. subst (λ k. IsOfSection c (code k)) (sym value) h.1,
     ) (f c)
 
-pub size_shown : (st m : State) (n v : ℕ) (l : List ℕ) → m ≡ after_look n st → l ≡ take m.ahead m.rest → 6 ≤ length l → v < 256 ^ 4 → bytes_high_first 4 v ≡ bytes_at 4 2 l → (c : ℕ) → IsNameAhead 6 v m.rest c ↔ IsLongNameAhead st.rest c
+pub size_shown : (st m : State) (n v : ℕ) (l : List ℕ) → m ≡ after_look n st → l ≡ take m.ahead m.rest → 6 ≤ length l → v < 256 ^ 4
+    → bytes_high_first 4 v ≡ bytes_at 4 2 l → (c : ℕ) → IsNameAhead 6 v m.rest c ↔ IsLongNameAhead st.rest c
 size_shown st m n v l is e few fits at_ c =
     let same : m.rest ≡ st.rest = ap (λ (z : State). z.rest) is in
     let sized : take 4 (drop 2 st.rest) ≡ bytes_high_first 4 v = shown st m n 4 2 l is e few ∙ sym at_ in (
@@ -378,14 +421,18 @@ size_shown st m n v l is e few fits at_ c =
           subst (λ r. IsNameAhead 6 v r c) (sym same) (subst (λ k. IsNameAhead 6 k st.rest c) one h.3),
     )
 
-long_under : (n c : ℕ) (r : List ℕ) → n < 256 ^ 4 → IsNameAhead 6 n (0 ∷ 0xb3 ∷ (bytes_high_first 4 n ++ r)) c ↔ Ahead 0xb3 (bytes_high_first 4 n ++ r) c
-long_under n c r fits = through (text 0xb3 4 n c r refl fits) (λ h. (omega (arith, h.0), omega (arith, h.1), h.2), λ h. (omega (arith, h.0), omega (arith, h.1), h.2))
+long_under : (n c : ℕ) (r : List ℕ) → n < 256 ^ 4 → IsNameAhead 6 n (0 ∷ 0xb3 ∷ (bytes_high_first 4 n ++ r)) c
+    ↔ Ahead 0xb3 (bytes_high_first 4 n ++ r) c
+long_under n c r fits =
+    through (text 0xb3 4 n c r refl fits)
+    (λ h. (omega (arith, h.0), omega (arith, h.1), h.2), λ h. (omega (arith, h.0), omega (arith, h.1), h.2))
 
 size_of : (c : ℕ) (more : List ℕ) → Ahead 0xb3 more c → (n : ℕ) × (n < 256 ^ 4) × (more ≡ bytes_high_first 4 n ++ drop 4 more)
 size_of c more a =
     let p : PrimitiveData (variable 4 (λ b. Some (symbol b))) (descriptor_value a.descriptor) a.data_ = a.spelled in
     let n = length p.0 in
-    let whole : more ≡ bytes_high_first 4 n ++ (p.0 ++ a.after) = a.split ∙ ap (λ l. l ++ a.after) p.2 ∙ append_assoc (bytes_high_first 4 n) p.0 a.after in
+    let whole : more ≡ bytes_high_first 4 n ++ (p.0 ++ a.after) =
+    a.split ∙ ap (λ l. l ++ a.after) p.2 ∙ append_assoc (bytes_high_first 4 n) p.0 a.after in
     (n, p.1, whole ∙ ap (λ l. bytes_high_first 4 n ++ l) (sym (ap (drop 4) whole)))
 
 pub long_name : (st m : State) (z c : ℕ) → Shows st m 0xb3 z → IsLongNameAhead m.rest c ↔ IsSectionAhead st.rest c
@@ -397,7 +444,8 @@ long_name st m z c s =
           let n = h.0 in
           let front : take 4 more ≡ bytes_high_first 4 n = subst (λ r. take 4 (drop 2 r) ≡ bytes_high_first 4 n) at_ h.2 in
           let whole : more ≡ bytes_high_first 4 n ++ drop 4 more = sym (take-append-drop 4 more) ∙ ap (λ l. l ++ drop 4 more) front in
-          subst (λ l. Ahead 0xb3 l c) (sym whole) ((long_under n c (drop 4 more) h.1).0 (subst (λ r. IsNameAhead 6 n r c) (at_ ∙ ap (λ l. 0 ∷ 0xb3 ∷ l) whole) h.3)),
+          subst (λ l. Ahead 0xb3 l c) (sym whole)
+          ((long_under n c (drop 4 more) h.1).0 (subst (λ r. IsNameAhead 6 n r c) (at_ ∙ ap (λ l. 0 ∷ 0xb3 ∷ l) whole) h.3)),
       λ a.
           let t = size_of c more a in
           let n = t.0 in
@@ -411,6 +459,7 @@ long_name st m z c s =
     )
 
 -- what a look and a further call find
-pub ahead_map : {E : Type 0} (r : Result (Option ℕ) E) (P Q : ℕ → Type 0) (st m new : State) → LooksOn st m → ((c : ℕ) → P c ↔ Q c) → IfOk r (λ o. LooksOn m new × ((c : ℕ) → (o ≡ Some c) ↔ P c)) → IfOk r (λ o. LooksOn st new × ((c : ℕ) → (o ≡ Some c) ↔ Q c))
+pub ahead_map : {E : Type 0} (r : Result (Option ℕ) E) (P Q : ℕ → Type 0) (st m new : State) → LooksOn st m → ((c : ℕ) → P c ↔ Q c)
+    → IfOk r (λ o. LooksOn m new × ((c : ℕ) → (o ≡ Some c) ↔ P c)) → IfOk r (λ o. LooksOn st new × ((c : ℕ) → (o ≡ Some c) ↔ Q c))
 ahead_map (Ok o) P Q st m new looks f h = (looks_more st m new looks h.0, λ c. through (f c) (h.1 c))
 ahead_map (Err e) P Q st m new looks f h = tt

@@ -1,6 +1,7 @@
 -- Which kind of primitive a code announces (Part 1, section 1.6).
 use Rattle.std.specs.Prelude.{ℕ, zero, suc, Bool, false, cond, eqb, List, [], ◌∷◌, Option, Some, None, option_map}
-use Rattle.amqp_model.specs.Term.{Primitive, null, boolean, ubyte, ushort, uint, ulong, byte, short, int, long, char, timestamp, decimal32, decimal64, decimal128, uuid, binary, string, symbol}
+use Rattle.amqp_model.specs.Term.{Primitive, null, boolean, ubyte, ushort, uint, ulong, byte, short, int, long, char, timestamp, decimal32}
+use Rattle.amqp_model.specs.Term.{decimal64, decimal128, uuid, binary, string, symbol}
 use Rattle.amqp_model.specs.Constructors.{Format, fixed, variable, compound, unknown, format, constructors}
 
 -- The kinds, by their places among those of section 1.6.

@@ -26,7 +26,12 @@ impl<R: ByteSource> Model for Input<R> {
 
     ghost Value = { State };
 
-    ghost view = { λ i. record { rest = pending i.start i.end i.looked ++ known (R.remaining i.source); ahead = i.end - i.start; source = R.name i.source; failed = R.failed i.source } };
+    ghost view = { λ i. record {
+      rest = pending i.start i.end i.looked ++ known (R.remaining i.source);
+      ahead = i.end - i.start;
+      source = R.name i.source;
+      failed = R.failed i.source;
+    } };
 
     ghost invariant = { λ i. (i.start ≤ i.end) × (i.end ≤ 64) };
 }
@@ -71,7 +76,8 @@ impl<R: ByteSource> Input<R> {
     #[inline]
     fn fill(&mut self, buffer: &mut [u8]) -> Result<usize, ErrorKind>
         ensures fits { IfOk result (λ n. n ≤ length buffer.old) }
-        ensures bytes { Tells R.remaining → self.old.ahead ≡ 0 → IfOk result (λ n. self.old.rest ≡ take n buffer.new ++ drop n self.old.rest) }
+        ensures bytes { Tells R.remaining → self.old.ahead ≡ 0
+            → IfOk result (λ n. self.old.rest ≡ take n buffer.new ++ drop n self.old.rest) }
         ensures all { Tells R.remaining → self.old.ahead ≡ 0 → IfOk result (λ n. n < length buffer.old → length self.old.rest ≡ n) }
         ensures new { Tells R.remaining → self.old.ahead ≡ 0 → IfOk result (λ n. self.new ≡ after_bytes n self.old) }
         ensures fails { OnErr result (self.new.failed ≡ true) }

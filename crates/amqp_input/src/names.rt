@@ -1,6 +1,7 @@
 //! Members that a described value may be, and symbolic descriptors that are compared with theirs piece by piece, as they
 //! are read.
-ghost use Rattle.std.specs.Prelude.{◌≡◌, ◌+◌, ◌++◌, ℕ, length, take, All, Option, Some, None, ◌≤◌, ◌↔◌, IsTrue, IfSome, List, MatchOption, string_bytes};
+ghost use Rattle.std.specs.Prelude.{◌≡◌, ◌+◌, ◌++◌, ℕ, length, take, All, Option, Some, None, ◌≤◌, ◌↔◌, IsTrue, IfSome, List, MatchOption};
+ghost use Rattle.std.specs.Prelude.{string_bytes};
 ghost use Rattle.amqp_model.specs.Term.{code as of_code, name as of_name};
 ghost use Rattle.amqp_input.specs.Members.{descriptor_of, Member, BeginsNot, FrontIs, place_of as place_in};
 
@@ -56,7 +57,8 @@ pub fn longer_front<'a>(
     len: usize,
 ) -> Option<&'a [u8]>
     requires { length known.now + length piece.now ≤ len }
-    ensures { MatchOption result (All (λ (m : Member). BeginsNot m len (known.now ++ piece.now)) members.now) (λ front. front.now ≡ known.now ++ piece.now) }
+    ensures { MatchOption result (All (λ (m : Member). BeginsNot m len (known.now ++ piece.now)) members.now)
+        (λ front. front.now ≡ known.now ++ piece.now) }
 {
     for member in members {
         let name = member.1.as_bytes();
@@ -76,7 +78,8 @@ pub fn next_front<'a>(
 ) -> Option<&'a [u8]>
     requires { IfSome known (λ front. length front.now + length piece.now ≤ len) }
     ensures front { (s : List ℕ) → FrontIs members.now len s known.entry → FrontIs members.now len (s ++ piece.now) result }
-    ensures long { (n : ℕ) → IfSome known.entry (λ front. length front.now ≡ n) → IfSome result (λ front. length front.now ≡ n + length piece.now) }
+    ensures long { (n : ℕ) → IfSome known.entry (λ front. length front.now ≡ n)
+        → IfSome result (λ front. length front.now ≡ n + length piece.now) }
 {
     match known {
         Some(front) => longer_front(members, front, piece, len),

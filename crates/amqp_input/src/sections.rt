@@ -72,7 +72,8 @@ impl<R: ByteSource> Input<R> {
     // The section that these bytes name, so many that begin so far behind the next one.
     fn section_named(&mut self, start: usize, len: usize) -> Result<Option<u8>, ErrorKind>
         requires { start ≤ 64 }
-        ensures ok { Tells R.remaining → IfOk result (λ section. LooksOn self.old self.new × ((c : ℕ) → (section ≡ Some c) ↔ IsNameAhead start len self.old.rest c)) }
+        ensures ok { Tells R.remaining → IfOk result (λ section. LooksOn self.old self.new
+            × ((c : ℕ) → (section ≡ Some c) ↔ IsNameAhead start len self.old.rest c)) }
         ensures fails { OnErr result (self.new.failed ≡ true) }
     {
         if len > LOOK - start {
@@ -87,7 +88,8 @@ impl<R: ByteSource> Input<R> {
 
     // The section whose name stands next behind a size of four bytes.
     fn section_of_symbol(&mut self) -> Result<Option<u8>, ErrorKind>
-        ensures ok { Tells R.remaining → IfOk result (λ section. LooksOn self.old self.new × ((c : ℕ) → (section ≡ Some c) ↔ IsLongNameAhead self.old.rest c)) }
+        ensures ok { Tells R.remaining → IfOk result (λ section. LooksOn self.old self.new
+            × ((c : ℕ) → (section ≡ Some c) ↔ IsLongNameAhead self.old.rest c)) }
         ensures fails { OnErr result (self.new.failed ≡ true) }
     {
         self.look(6)?;
@@ -99,7 +101,8 @@ impl<R: ByteSource> Input<R> {
 
     // The section whose code stands next as eight bytes.
     fn section_of_ulong(&mut self) -> Result<Option<u8>, ErrorKind>
-        ensures ok { Tells R.remaining → IfOk result (λ section. LooksOn self.old self.new × ((c : ℕ) → (section ≡ Some c) ↔ IsLongCodeAhead self.old.rest c)) }
+        ensures ok { Tells R.remaining → IfOk result (λ section. LooksOn self.old self.new
+            × ((c : ℕ) → (section ≡ Some c) ↔ IsLongCodeAhead self.old.rest c)) }
         ensures fails { OnErr result (self.new.failed ≡ true) }
     {
         self.look(10)?;
@@ -113,7 +116,8 @@ impl<R: ByteSource> Input<R> {
     /// The code of the section whose whole descriptor, in any of its spellings, stands next within 64 bytes; `None` where
     /// none does. Nothing is taken, and at most 64 bytes are looked at. An error is the source's, which has failed.
     pub fn section_ahead(&mut self) -> Result<Option<u8>, ErrorKind>
-        ensures ok { Tells R.remaining → IfOk result (λ section. LooksOn self.old self.new × ((c : ℕ) → (section ≡ Some c) ↔ IsSectionAhead self.old.rest c)) }
+        ensures ok { Tells R.remaining → IfOk result (λ section. LooksOn self.old self.new
+            × ((c : ℕ) → (section ≡ Some c) ↔ IsSectionAhead self.old.rest c)) }
         ensures fails { OnErr result (self.new.failed ≡ true) }
     {
         self.look(3)?;

@@ -58,7 +58,8 @@ tests_name c f g h = rw (ne_eqb c 0x44 f, ne_eqb c 0x53 g, ne_eqb c 0x80 h) refl
 
 module _ (st : State) (c : ℕ) (mid : State) (p : PeeksCode st c mid) where
   -- a primitive that stands there is of the kind that its first code announces
-  kind_peeked : {A : Type 0} (make : A → Primitive) (v : A) (b : State) → ReadsValue (Means make) st v b → kind_at c ≡ Some (kind_of (make v))
+  kind_peeked : {A : Type 0} (make : A → Primitive) (v : A) (b : State) → ReadsValue (Means make) st v b
+      → kind_at c ≡ Some (kind_of (make v))
   kind_peeked make v b h =
       let l = value_leaf make st v b h in
       ap kind_at (begun_same st c l.code p.after l.mid p.begun l.begun).0 ∙ kind_data l.code (make v) l.data_ l.spelled
@@ -71,12 +72,14 @@ module _ (st : State) (c : ℕ) (mid : State) (p : PeeksCode st c mid) where
 
   number_code : (n : ℕ) (b : State) → IsNumber st n b → is_number c ≡ true
   number_code n b h =
-      let k : ReadsValue (Means ulong) st n b = record { bytes = h.bytes; term = h.term; stands = h.stands; moved = h.moved; meant = h.meant.0 } in
+      let k : ReadsValue (Means ulong) st n b =
+      record { bytes = h.bytes; term = h.term; stands = h.stands; moved = h.moved; meant = h.meant.0 } in
       tested true c (codes_of ulongs) (refl, (refl, (refl, tt))) (kind_codes c ulongs (kind_peeked ulong n b k))
 
   name_code : (s : Symbol) (b : State) → IsName st s b → is_number c ≡ false
   name_code s b h =
-      let k : ReadsValue (Means of_name) st s b = record { bytes = h.bytes; term = h.term; stands = h.stands; moved = h.moved; meant = h.meant.0 } in
+      let k : ReadsValue (Means of_name) st s b =
+      record { bytes = h.bytes; term = h.term; stands = h.stands; moved = h.moved; meant = h.meant.0 } in
       tested false c (codes_of symbols) (refl, (refl, tt)) (kind_codes c symbols (kind_peeked of_name s b k))
 
   pub number_read : (n : ℕ) (b : State) → IsNumber mid n b → IsIdentifier st (identifier.Number n) b
@@ -97,12 +100,16 @@ module _ (st : State) (c : ℕ) (mid : State) (p : PeeksCode st c mid) where
   no_name is none (identifier.Number n) b h = clash (number_code n b (number_of n b h)) is
   no_name is none (identifier.Name s) b h = none s b ((value-peeked symbol_type.means st mid b c s p).1 (name_of s b h))
 
-  pub number_refused : (e : Error) (new : State) → is_number c ≡ true → RefusesRead false IsNumber ulong_type.faults.fault mid e new → NoIdentifier st e new
+  pub number_refused : (e : Error) (new : State) → is_number c ≡ true
+      → RefusesRead false IsNumber ulong_type.faults.fault mid e new → NoIdentifier st e new
   number_refused e new is h =
       let going = peeked_going st c mid p in
-      refused_later IsNumber ulong_type.faults.fault IsIdentifier _ st mid e new no_memory (peeked_failed st c mid p) going.0 going.1 (in_first p is) (no_number is) h
+      refused_later IsNumber ulong_type.faults.fault IsIdentifier _ st mid e new no_memory (peeked_failed st c mid p) going.0 going.1
+      (in_first p is) (no_number is) h
 
-  pub name_refused : (e : Error) (new : State) → is_number c ≡ false → RefusesRead true IsName symbol_type.faults.fault mid e new → NoIdentifier st e new
+  pub name_refused : (e : Error) (new : State) → is_number c ≡ false
+      → RefusesRead true IsName symbol_type.faults.fault mid e new → NoIdentifier st e new
   name_refused e new is h =
       let going = peeked_going st c mid p in
-      refused_later IsName symbol_type.faults.fault IsIdentifier _ st mid e new (λ t. t) (peeked_failed st c mid p) going.0 going.1 (in_second p is) (no_name is) h
+      refused_later IsName symbol_type.faults.fault IsIdentifier _ st mid e new (λ t. t) (peeked_failed st c mid p) going.0 going.1
+      (in_second p is) (no_name is) h

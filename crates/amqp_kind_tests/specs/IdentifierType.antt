@@ -30,4 +30,6 @@ unfolding form_code
 kinds_apart s z t r n v h k e = let f : 0x80 ≡ 0xb3 = ap form_code (ap form (sym h.0) ∙ e ∙ ap form k.0) in absurd (omega (arith, f))
 
 abbrev pub identifier_type : TermType Identifier
-identifier_type = via (either_of ulong_type symbol_type kinds_apart (either_faults is_number ulong_type.faults symbol_type.faults)) member unchanged (λ v. refl)
+identifier_type =
+    via (either_of ulong_type symbol_type kinds_apart (either_faults is_number ulong_type.faults symbol_type.faults))
+    member unchanged (λ v. refl)

@@ -1,5 +1,6 @@
 -- Data that is as long as its format announces.
-use Rattle.std.proofs.Common.{◌≡◌, ℕ, zero, suc, ◌+◌, ◌<◌, ◌≤◌, ◌^◌, inl, inr, List, [], ◌∷◌, ◌++◌, length, sym, ap, ◌∙◌, arith, append_assoc, append-nil}
+use Rattle.std.proofs.Common.{◌≡◌, ℕ, zero, suc, ◌+◌, ◌<◌, ◌≤◌, ◌^◌, inl, inr, List, [], ◌∷◌, ◌++◌, length, sym, ap, ◌∙◌, arith}
+use Rattle.std.proofs.Common.{append_assoc, append-nil}
 use Rattle.std.proofs.lemmas.List.{length-append}
 use Rattle.std.specs.Int.{bytes_high_first}
 use Rattle.amqp_model.specs.Term.{Primitive, Container, list, map, array, Term, leaf, container, described, kept, barred, Descriptor, count}
@@ -14,7 +15,8 @@ content_size_own list w (suc n) h = omega arith
 content_size_own map w size h = omega arith
 content_size_own array w size h = omega arith
 
-content_size_is : (kind : Container) (w n size : ℕ) (content : List ℕ) → IsSize kind w n content size → w + length content ≡ content_size kind w size
+content_size_is : (kind : Container) (w n size : ℕ) (content : List ℕ) → IsSize kind w n content size
+    → w + length content ≡ content_size kind w size
 content_size_is kind w n size content (inl e) = sym e ∙ sym (content_size_own kind w size (omega arith))
 content_size_is kind w n size content (inr (is, _, empty, nothing)) =
     let whole : w + length content ≡ w = omega (arith, ap length empty) in
@@ -27,10 +29,12 @@ primitive_announced (variable w value) p b (content, fits, s, v, ok) = (length c
 primitive_announced (compound kind w) p b h = absurd h
 primitive_announced unknown p b h = absurd h
 
-pub container_announced : (F : Format) (kind : Container) (n : ℕ) (C : List ℕ → Type 0) (b : List ℕ) → ContainerData F kind n C b → IsAnnounced F b
+pub container_announced : (F : Format) (kind : Container) (n : ℕ) (C : List ℕ → Type 0) (b : List ℕ)
+    → ContainerData F kind n C b → IsAnnounced F b
 container_announced (compound kind' w) kind n C b (is, size, content, h, c, fits, room, s) =
     let behind = bytes_high_first w n ++ content in
-    let long : length behind ≡ w + length content = length-append (bytes_high_first w n) content ∙ ap (λ k. k + length content) (length-bytes w n) in
+    let long : length behind ≡ w + length content =
+    length-append (bytes_high_first w n) content ∙ ap (λ k. k + length content) (length-bytes w n) in
     (size, behind, fits, s, long ∙ content_size_is kind w n size content h ∙ ap (λ k. content_size k w size) (sym is))
 container_announced (fixed w value) kind n C b h = absurd h
 container_announced (variable w value) kind n C b h = absurd h
@@ -51,18 +55,22 @@ announced_data (kept k) ds c b h = absurd h
 announced_data (barred r) ds c b h = absurd h
 
 -- a spelled term is a constructor and the data that it announces
-pub announced_term : (b : List ℕ) (t : Term) → enc b t → (ds : List Descriptor) × (c : ℕ) × (own data_ : List ℕ) × Constructor ds c own × IsAnnounced (format c) data_ × (b ≡ own ++ data_)
+pub announced_term : (b : List ℕ) (t : Term) → enc b t → (ds : List Descriptor) × (c : ℕ) × (own data_ : List ℕ) × Constructor ds c own
+    × IsAnnounced (format c) data_ × (b ≡ own ++ data_)
 unfolding enc
 announced_term b t (ds, c, few, (own, data_, e, k, h)) = (ds, c, own, data_, k, announced_data t ds c data_ h, e)
 
 -- two sizes in front of one list
-pub size_same : (w size size' : ℕ) (behind behind' b b' x y : List ℕ) → size < 256 ^ w → size' < 256 ^ w → b ≡ bytes_high_first w size ++ behind → b' ≡ bytes_high_first w size' ++ behind' → b ++ x ≡ b' ++ y
+pub size_same : (w size size' : ℕ) (behind behind' b b' x y : List ℕ) → size < 256 ^ w → size' < 256 ^ w
+    → b ≡ bytes_high_first w size ++ behind → b' ≡ bytes_high_first w size' ++ behind' → b ++ x ≡ b' ++ y
     → (size ≡ size') × (behind ++ x ≡ behind' ++ y)
 size_same w size size' behind behind' b b' x y fits fits' s s' e =
     field w size size' (behind ++ x) (behind' ++ y) fits fits'
-    (sym (append_assoc (bytes_high_first w size) behind x) ∙ ap (λ l. l ++ x) (sym s) ∙ e ∙ ap (λ l. l ++ y) s' ∙ append_assoc (bytes_high_first w size') behind' y)
+    (sym (append_assoc (bytes_high_first w size) behind x) ∙ ap (λ l. l ++ x) (sym s) ∙ e ∙ ap (λ l. l ++ y) s'
+    ∙ append_assoc (bytes_high_first w size') behind' y)
 
-sized_once : (w : ℕ) (announced : ℕ → ℕ) (b b' x y : List ℕ) → SizeThen w (λ size behind. length behind ≡ announced size) b → SizeThen w (λ size behind. length behind ≡ announced size) b' → b ++ x ≡ b' ++ y → b ≡ b'
+sized_once : (w : ℕ) (announced : ℕ → ℕ) (b b' x y : List ℕ) → SizeThen w (λ size behind. length behind ≡ announced size) b
+    → SizeThen w (λ size behind. length behind ≡ announced size) b' → b ++ x ≡ b' ++ y → b ≡ b'
 sized_once w announced b b' x y (size, behind, fits, s, l) (size', behind', fits', s', l') e =
     let (same, rest) = size_same w size size' behind behind' b b' x y fits fits' s s' e in
     let one : behind ≡ behind' = front behind behind' x y (l ∙ ap announced same ∙ sym l') rest in
@@ -75,7 +83,8 @@ announced_once (variable w value) b b' x y h h' e = sized_once w (λ size. size)
 announced_once (compound kind w) b b' x y h h' e = sized_once w (content_size kind w) b b' x y h h' e
 announced_once unknown b b' x y h h' e = absurd h
 
-sized_wants : (w : ℕ) (announced : ℕ → ℕ) (b y input : List ℕ) → SizeThen w (λ size behind. length behind ≡ announced size) b → input ≡ b ++ y → WantsSized w announced input → ⊥
+sized_wants : (w : ℕ) (announced : ℕ → ℕ) (b y input : List ℕ) → SizeThen w (λ size behind. length behind ≡ announced size) b
+    → input ≡ b ++ y → WantsSized w announced input → ⊥
 sized_wants w announced b y input (size, behind, fits, s, l) is (inl few) =
     let long = ap length s ∙ length-append (bytes_high_first w size) behind in
     omega (arith, ap length is, length-append b y, long, length-bytes w size)

@@ -1,10 +1,15 @@
 -- What the codes of the table say of their data.
-use Rattle.std.proofs.Common.{◌≡◌, ℕ, zero, suc, ◌<◌, ◌≤◌, ◌⊎◌, inl, inr, Bool, true, false, ◌||◌, cond, eqb, leb, List, [], ◌∷◌, Option, Some, refl, sym, ap, ◌∙◌, subst, arith}
+use Rattle.std.proofs.Common.{◌≡◌, ℕ, zero, suc, ◌<◌, ◌≤◌, ◌⊎◌, inl, inr, Bool, true, false, ◌||◌, cond, eqb, leb, List, [], ◌∷◌, Option}
+use Rattle.std.proofs.Common.{Some, refl, sym, ap, ◌∙◌, subst, arith}
 use Rattle.std.proofs.lemmas.Bool.{eqb-true}
 use Rattle.amqp_model.specs.Term.{Primitive, ulong, symbol, Container, Descriptor, name, code}
 use Rattle.amqp_model.specs.Constructors.{Format, fixed, variable, compound, unknown, format, constructors, look_up, boolean_byte}
 use Rattle.amqp_model.specs.Spelling.{PrimitiveData, IsKnown, HasWidthZero, descriptor_value}
 use Rattle.amqp_lengths.specs.Pieces.{width_of, fixed_width, IsPrimitive, IsValue, IsDescriptorCode}
+
+-- two facts as one
+both : {A B : Type 0} → A → B → A × B
+both a b = (a, b)
 
 abbrev EachRow : (ℕ → Format → Type 0) → List (ℕ × Format) → Type 0
 EachRow P [] = Unit {0}
@@ -23,7 +28,16 @@ abbrev FixedRow : ℕ → Format → Type 0
 FixedRow c F = c < 0xa0 → IsPrimitive F → (value : List ℕ → Option Primitive) × (F ≡ fixed (fixed_width c) value)
 
 fixed_rows : EachRow FixedRow constructors
-fixed_rows = (λ l k. (_, refl), (λ l k. (_, refl), (λ l k. (_, refl), (λ l k. (_, refl), (λ l k. (_, refl), (λ l k. absurd k, (λ l k. (_, refl), (λ l k. (_, refl), (λ l k. (_, refl), (λ l k. (_, refl), (λ l k. (_, refl), (λ l k. (_, refl), (λ l k. (_, refl), (λ l k. (_, refl), (λ l k. (_, refl), (λ l k. (_, refl), (λ l k. (_, refl), (λ l k. (_, refl), (λ l k. (_, refl), (λ l k. (_, refl), (λ l k. (_, refl), (λ l k. (_, refl), (λ l k. (_, refl), (λ l k. (_, refl), (λ l k. (_, refl), (λ l k. absurd (omega arith), (λ l k. absurd (omega arith), (λ l k. absurd (omega arith), (λ l k. absurd (omega arith), (λ l k. absurd (omega arith), (λ l k. absurd (omega arith), (λ l k. absurd k, (λ l k. absurd k, (λ l k. absurd k, (λ l k. absurd k, (λ l k. absurd k, (λ l k. absurd k, tt)))))))))))))))))))))))))))))))))))))
+fixed_rows =
+    (both (λ l k. (_, refl)) (both (λ l k. (_, refl)) (both (λ l k. (_, refl)) (both (λ l k. (_, refl)) (both (λ l k. (_, refl))
+    (both (λ l k. absurd k) (both (λ l k. (_, refl)) (both (λ l k. (_, refl)) (both (λ l k. (_, refl)) (both (λ l k. (_, refl))
+    (both (λ l k. (_, refl)) (both (λ l k. (_, refl)) (both (λ l k. (_, refl)) (both (λ l k. (_, refl)) (both (λ l k. (_, refl))
+    (both (λ l k. (_, refl)) (both (λ l k. (_, refl)) (both (λ l k. (_, refl)) (both (λ l k. (_, refl)) (both (λ l k. (_, refl))
+    (both (λ l k. (_, refl)) (both (λ l k. (_, refl)) (both (λ l k. (_, refl)) (both (λ l k. (_, refl)) (both (λ l k. (_, refl))
+    (both (λ l k. absurd (omega arith)) (both (λ l k. absurd (omega arith)) (both (λ l k. absurd (omega arith))
+    (both (λ l k. absurd (omega arith)) (both (λ l k. absurd (omega arith)) (both (λ l k. absurd (omega arith)) (both (λ l k. absurd k)
+    (both (λ l k. absurd k) (both (λ l k. absurd k) (both (λ l k. absurd k) (both (λ l k. absurd k)
+    (both (λ l k. absurd k) tt)))))))))))))))))))))))))))))))))))))
 
 pub fixed_at : (c : ℕ) → c < 0xa0 → IsPrimitive (format c) → (value : List ℕ → Option Primitive) × (format c ≡ fixed (fixed_width c) value)
 fixed_at c = at_rows FixedRow c (λ l k. absurd k) constructors fixed_rows
@@ -32,9 +46,21 @@ abbrev SizedRow : ℕ → Format → Type 0
 SizedRow c F = 0xa0 ≤ c → IsPrimitive F → (value : List ℕ → Option Primitive) × (F ≡ variable (width_of (leb 0xb0 c)) value)
 
 sized_rows : EachRow SizedRow constructors
-sized_rows = (λ l k. absurd (omega arith), (λ l k. absurd (omega arith), (λ l k. absurd (omega arith), (λ l k. absurd (omega arith), (λ l k. absurd (omega arith), (λ l k. absurd k, (λ l k. absurd (omega arith), (λ l k. absurd (omega arith), (λ l k. absurd (omega arith), (λ l k. absurd (omega arith), (λ l k. absurd (omega arith), (λ l k. absurd (omega arith), (λ l k. absurd (omega arith), (λ l k. absurd (omega arith), (λ l k. absurd (omega arith), (λ l k. absurd (omega arith), (λ l k. absurd (omega arith), (λ l k. absurd (omega arith), (λ l k. absurd (omega arith), (λ l k. absurd (omega arith), (λ l k. absurd (omega arith), (λ l k. absurd (omega arith), (λ l k. absurd (omega arith), (λ l k. absurd (omega arith), (λ l k. absurd (omega arith), (λ l k. (_, refl), (λ l k. (_, refl), (λ l k. (_, refl), (λ l k. (_, refl), (λ l k. (_, refl), (λ l k. (_, refl), (λ l k. absurd k, (λ l k. absurd k, (λ l k. absurd k, (λ l k. absurd k, (λ l k. absurd k, (λ l k. absurd k, tt)))))))))))))))))))))))))))))))))))))
+sized_rows =
+    (both (λ l k. absurd (omega arith)) (both (λ l k. absurd (omega arith)) (both (λ l k. absurd (omega arith))
+    (both (λ l k. absurd (omega arith)) (both (λ l k. absurd (omega arith)) (both (λ l k. absurd k) (both (λ l k. absurd (omega arith))
+    (both (λ l k. absurd (omega arith)) (both (λ l k. absurd (omega arith)) (both (λ l k. absurd (omega arith))
+    (both (λ l k. absurd (omega arith)) (both (λ l k. absurd (omega arith)) (both (λ l k. absurd (omega arith))
+    (both (λ l k. absurd (omega arith)) (both (λ l k. absurd (omega arith)) (both (λ l k. absurd (omega arith))
+    (both (λ l k. absurd (omega arith)) (both (λ l k. absurd (omega arith)) (both (λ l k. absurd (omega arith))
+    (both (λ l k. absurd (omega arith)) (both (λ l k. absurd (omega arith)) (both (λ l k. absurd (omega arith))
+    (both (λ l k. absurd (omega arith)) (both (λ l k. absurd (omega arith)) (both (λ l k. absurd (omega arith)) (both (λ l k. (_, refl))
+    (both (λ l k. (_, refl)) (both (λ l k. (_, refl)) (both (λ l k. (_, refl)) (both (λ l k. (_, refl)) (both (λ l k. (_, refl))
+    (both (λ l k. absurd k) (both (λ l k. absurd k) (both (λ l k. absurd k) (both (λ l k. absurd k) (both (λ l k. absurd k)
+    (both (λ l k. absurd k) tt)))))))))))))))))))))))))))))))))))))
 
-pub sized_at : (c : ℕ) → 0xa0 ≤ c → IsPrimitive (format c) → (value : List ℕ → Option Primitive) × (format c ≡ variable (width_of (leb 0xb0 c)) value)
+pub sized_at : (c : ℕ) → 0xa0 ≤ c → IsPrimitive (format c) → (value : List ℕ → Option Primitive)
+    × (format c ≡ variable (width_of (leb 0xb0 c)) value)
 sized_at c = at_rows SizedRow c (λ l k. absurd k) constructors sized_rows
 
 -- none of the codes under which not all bytes are values
@@ -45,7 +71,17 @@ abbrev FreeRow : ℕ → Format → Type 0
 FreeRow c F = IsFree c → IsPrimitive F → (b : List ℕ) → IsValue F b
 
 free_rows : EachRow FreeRow constructors
-free_rows = (λ n k b. (_, refl, tt), (λ n k b. (_, refl, tt), (λ n k b. (_, refl, tt), (λ n k b. (_, refl, tt), (λ n k b. (_, refl, tt), (λ n k b. absurd k, (λ n k b. (_, refl, tt), (λ n k b. (_, refl, tt), (λ n k b. (_, refl, tt), (λ n k b. (_, refl, tt), (λ n k b. (_, refl, tt), (λ n k b. (_, refl, tt), (λ n k b. absurd (n.0 refl), (λ n k b. (_, refl, tt), (λ n k b. (_, refl, tt), (λ n k b. (_, refl, tt), (λ n k b. (_, refl, tt), (λ n k b. absurd (n.1 refl), (λ n k b. (_, refl, tt), (λ n k b. (_, refl, tt), (λ n k b. (_, refl, tt), (λ n k b. (_, refl, tt), (λ n k b. (_, refl, tt), (λ n k b. (_, refl, tt), (λ n k b. (_, refl, tt), (λ n k b. (_, refl, tt), (λ n k b. absurd (n.2 (inl refl)), (λ n k b. absurd (n.3 (inl refl)), (λ n k b. (_, refl, tt), (λ n k b. absurd (n.2 (inr refl)), (λ n k b. absurd (n.3 (inr refl)), (λ n k b. absurd k, (λ n k b. absurd k, (λ n k b. absurd k, (λ n k b. absurd k, (λ n k b. absurd k, (λ n k b. absurd k, tt)))))))))))))))))))))))))))))))))))))
+free_rows =
+    (both (λ n k b. (_, refl, tt)) (both (λ n k b. (_, refl, tt)) (both (λ n k b. (_, refl, tt)) (both (λ n k b. (_, refl, tt))
+    (both (λ n k b. (_, refl, tt)) (both (λ n k b. absurd k) (both (λ n k b. (_, refl, tt)) (both (λ n k b. (_, refl, tt))
+    (both (λ n k b. (_, refl, tt)) (both (λ n k b. (_, refl, tt)) (both (λ n k b. (_, refl, tt)) (both (λ n k b. (_, refl, tt))
+    (both (λ n k b. absurd (n.0 refl)) (both (λ n k b. (_, refl, tt)) (both (λ n k b. (_, refl, tt)) (both (λ n k b. (_, refl, tt))
+    (both (λ n k b. (_, refl, tt)) (both (λ n k b. absurd (n.1 refl)) (both (λ n k b. (_, refl, tt)) (both (λ n k b. (_, refl, tt))
+    (both (λ n k b. (_, refl, tt)) (both (λ n k b. (_, refl, tt)) (both (λ n k b. (_, refl, tt)) (both (λ n k b. (_, refl, tt))
+    (both (λ n k b. (_, refl, tt)) (both (λ n k b. (_, refl, tt)) (both (λ n k b. absurd (n.2 (inl refl)))
+    (both (λ n k b. absurd (n.3 (inl refl))) (both (λ n k b. (_, refl, tt)) (both (λ n k b. absurd (n.2 (inr refl)))
+    (both (λ n k b. absurd (n.3 (inr refl))) (both (λ n k b. absurd k) (both (λ n k b. absurd k) (both (λ n k b. absurd k)
+    (both (λ n k b. absurd k) (both (λ n k b. absurd k) (both (λ n k b. absurd k) tt)))))))))))))))))))))))))))))))))))))
 
 pub free_at : (c : ℕ) → IsFree c → IsPrimitive (format c) → (b : List ℕ) → IsValue (format c) b
 free_at c = at_rows FreeRow c (λ n k b. absurd k) constructors free_rows
@@ -58,7 +94,14 @@ abbrev PrimitiveRow : ℕ → Format → Type 0
 PrimitiveRow c F = IsKnown F → IsNoContainer c → IsPrimitive F
 
 primitive_rows : EachRow PrimitiveRow constructors
-primitive_rows = (λ k n. tt, (λ k n. tt, (λ k n. tt, (λ k n. tt, (λ k n. tt, (λ k n. absurd (n.0 refl), (λ k n. tt, (λ k n. tt, (λ k n. tt, (λ k n. tt, (λ k n. tt, (λ k n. tt, (λ k n. tt, (λ k n. tt, (λ k n. tt, (λ k n. tt, (λ k n. tt, (λ k n. tt, (λ k n. tt, (λ k n. tt, (λ k n. tt, (λ k n. tt, (λ k n. tt, (λ k n. tt, (λ k n. tt, (λ k n. tt, (λ k n. tt, (λ k n. tt, (λ k n. tt, (λ k n. tt, (λ k n. tt, (λ k n. absurd (n.1 refl), (λ k n. absurd (n.3 refl), (λ k n. absurd (n.2 refl), (λ k n. absurd (n.4 refl), (λ k n. absurd (n.5 refl), (λ k n. absurd (n.6 refl), tt)))))))))))))))))))))))))))))))))))))
+primitive_rows =
+    (both (λ k n. tt) (both (λ k n. tt) (both (λ k n. tt) (both (λ k n. tt) (both (λ k n. tt) (both (λ k n. absurd (n.0 refl))
+    (both (λ k n. tt) (both (λ k n. tt) (both (λ k n. tt) (both (λ k n. tt) (both (λ k n. tt) (both (λ k n. tt) (both (λ k n. tt)
+    (both (λ k n. tt) (both (λ k n. tt) (both (λ k n. tt) (both (λ k n. tt) (both (λ k n. tt) (both (λ k n. tt) (both (λ k n. tt)
+    (both (λ k n. tt) (both (λ k n. tt) (both (λ k n. tt) (both (λ k n. tt) (both (λ k n. tt) (both (λ k n. tt) (both (λ k n. tt)
+    (both (λ k n. tt) (both (λ k n. tt) (both (λ k n. tt) (both (λ k n. tt) (both (λ k n. absurd (n.1 refl))
+    (both (λ k n. absurd (n.3 refl)) (both (λ k n. absurd (n.2 refl)) (both (λ k n. absurd (n.4 refl)) (both (λ k n. absurd (n.5 refl))
+    (both (λ k n. absurd (n.6 refl)) tt)))))))))))))))))))))))))))))))))))))
 
 pub primitive_at : (c : ℕ) → IsKnown (format c) → IsNoContainer c → IsPrimitive (format c)
 primitive_at c = at_rows PrimitiveRow c (λ k n. k) constructors primitive_rows
@@ -67,9 +110,29 @@ abbrev ZeroRow : ℕ → Format → Type 0
 ZeroRow c F = (HasWidthZero F → (0x40 ≤ c) × (c ≤ 0x45)) × ((0x40 ≤ c) × (c ≤ 0x45) → IsKnown F → HasWidthZero F)
 
 zero_rows : EachRow ZeroRow constructors
-zero_rows = ((λ h. (omega arith, omega arith), λ h k. tt), ((λ h. (omega arith, omega arith), λ h k. tt), ((λ h. (omega arith, omega arith), λ h k. tt), ((λ h. (omega arith, omega arith), λ h k. tt), ((λ h. (omega arith, omega arith), λ h k. tt), ((λ h. (omega arith, omega arith), λ h k. tt), ((λ h. absurd h, λ (l, m) k. absurd (omega arith)), ((λ h. absurd h, λ (l, m) k. absurd (omega arith)), ((λ h. absurd h, λ (l, m) k. absurd (omega arith)), ((λ h. absurd h, λ (l, m) k. absurd (omega arith)), ((λ h. absurd h, λ (l, m) k. absurd (omega arith)), ((λ h. absurd h, λ (l, m) k. absurd (omega arith)), ((λ h. absurd h, λ (l, m) k. absurd (omega arith)), ((λ h. absurd h, λ (l, m) k. absurd (omega arith)), ((λ h. absurd h, λ (l, m) k. absurd (omega arith)), ((λ h. absurd h, λ (l, m) k. absurd (omega arith)), ((λ h. absurd h, λ (l, m) k. absurd (omega arith)), ((λ h. absurd h, λ (l, m) k. absurd (omega arith)), ((λ h. absurd h, λ (l, m) k. absurd (omega arith)), ((λ h. absurd h, λ (l, m) k. absurd (omega arith)), ((λ h. absurd h, λ (l, m) k. absurd (omega arith)), ((λ h. absurd h, λ (l, m) k. absurd (omega arith)), ((λ h. absurd h, λ (l, m) k. absurd (omega arith)), ((λ h. absurd h, λ (l, m) k. absurd (omega arith)), ((λ h. absurd h, λ (l, m) k. absurd (omega arith)), ((λ h. absurd h, λ (l, m) k. absurd (omega arith)), ((λ h. absurd h, λ (l, m) k. absurd (omega arith)), ((λ h. absurd h, λ (l, m) k. absurd (omega arith)), ((λ h. absurd h, λ (l, m) k. absurd (omega arith)), ((λ h. absurd h, λ (l, m) k. absurd (omega arith)), ((λ h. absurd h, λ (l, m) k. absurd (omega arith)), ((λ h. absurd h, λ (l, m) k. absurd (omega arith)), ((λ h. absurd h, λ (l, m) k. absurd (omega arith)), ((λ h. absurd h, λ (l, m) k. absurd (omega arith)), ((λ h. absurd h, λ (l, m) k. absurd (omega arith)), ((λ h. absurd h, λ (l, m) k. absurd (omega arith)), ((λ h. absurd h, λ (l, m) k. absurd (omega arith)), tt)))))))))))))))))))))))))))))))))))))
+zero_rows =
+    (both (λ h. (omega arith, omega arith), λ h k. tt) (both (λ h. (omega arith, omega arith), λ h k. tt)
+    (both (λ h. (omega arith, omega arith), λ h k. tt) (both (λ h. (omega arith, omega arith), λ h k. tt)
+    (both (λ h. (omega arith, omega arith), λ h k. tt) (both (λ h. (omega arith, omega arith), λ h k. tt)
+    (both (λ h. absurd h, λ (l, m) k. absurd (omega arith)) (both (λ h. absurd h, λ (l, m) k. absurd (omega arith))
+    (both (λ h. absurd h, λ (l, m) k. absurd (omega arith)) (both (λ h. absurd h, λ (l, m) k. absurd (omega arith))
+    (both (λ h. absurd h, λ (l, m) k. absurd (omega arith)) (both (λ h. absurd h, λ (l, m) k. absurd (omega arith))
+    (both (λ h. absurd h, λ (l, m) k. absurd (omega arith)) (both (λ h. absurd h, λ (l, m) k. absurd (omega arith))
+    (both (λ h. absurd h, λ (l, m) k. absurd (omega arith)) (both (λ h. absurd h, λ (l, m) k. absurd (omega arith))
+    (both (λ h. absurd h, λ (l, m) k. absurd (omega arith)) (both (λ h. absurd h, λ (l, m) k. absurd (omega arith))
+    (both (λ h. absurd h, λ (l, m) k. absurd (omega arith)) (both (λ h. absurd h, λ (l, m) k. absurd (omega arith))
+    (both (λ h. absurd h, λ (l, m) k. absurd (omega arith)) (both (λ h. absurd h, λ (l, m) k. absurd (omega arith))
+    (both (λ h. absurd h, λ (l, m) k. absurd (omega arith)) (both (λ h. absurd h, λ (l, m) k. absurd (omega arith))
+    (both (λ h. absurd h, λ (l, m) k. absurd (omega arith)) (both (λ h. absurd h, λ (l, m) k. absurd (omega arith))
+    (both (λ h. absurd h, λ (l, m) k. absurd (omega arith)) (both (λ h. absurd h, λ (l, m) k. absurd (omega arith))
+    (both (λ h. absurd h, λ (l, m) k. absurd (omega arith)) (both (λ h. absurd h, λ (l, m) k. absurd (omega arith))
+    (both (λ h. absurd h, λ (l, m) k. absurd (omega arith)) (both (λ h. absurd h, λ (l, m) k. absurd (omega arith))
+    (both (λ h. absurd h, λ (l, m) k. absurd (omega arith)) (both (λ h. absurd h, λ (l, m) k. absurd (omega arith))
+    (both (λ h. absurd h, λ (l, m) k. absurd (omega arith)) (both (λ h. absurd h, λ (l, m) k. absurd (omega arith))
+    (both (λ h. absurd h, λ (l, m) k. absurd (omega arith)) tt)))))))))))))))))))))))))))))))))))))
 
-pub zero_at : (c : ℕ) → (HasWidthZero (format c) → (0x40 ≤ c) × (c ≤ 0x45)) × ((0x40 ≤ c) × (c ≤ 0x45) → IsKnown (format c) → HasWidthZero (format c))
+pub zero_at : (c : ℕ) → (HasWidthZero (format c) → (0x40 ≤ c) × (c ≤ 0x45))
+    × ((0x40 ≤ c) × (c ≤ 0x45) → IsKnown (format c) → HasWidthZero (format c))
 zero_at c = at_rows ZeroRow c (λ h. absurd h, λ h k. absurd k) constructors zero_rows
 
 -- the code of a list, map or array
@@ -83,7 +146,17 @@ abbrev ContainerRow : ℕ → Format → Type 0
 ContainerRow c F = IsKnown F → Divided c F
 
 container_rows : EachRow ContainerRow constructors
-container_rows = (λ k. inl (tt, refl), (λ k. inl (tt, refl), (λ k. inl (tt, refl), (λ k. inl (tt, refl), (λ k. inl (tt, refl), (λ k. inr (_, _, refl, refl), (λ k. inl (tt, refl), (λ k. inl (tt, refl), (λ k. inl (tt, refl), (λ k. inl (tt, refl), (λ k. inl (tt, refl), (λ k. inl (tt, refl), (λ k. inl (tt, refl), (λ k. inl (tt, refl), (λ k. inl (tt, refl), (λ k. inl (tt, refl), (λ k. inl (tt, refl), (λ k. inl (tt, refl), (λ k. inl (tt, refl), (λ k. inl (tt, refl), (λ k. inl (tt, refl), (λ k. inl (tt, refl), (λ k. inl (tt, refl), (λ k. inl (tt, refl), (λ k. inl (tt, refl), (λ k. inl (tt, refl), (λ k. inl (tt, refl), (λ k. inl (tt, refl), (λ k. inl (tt, refl), (λ k. inl (tt, refl), (λ k. inl (tt, refl), (λ k. inr (_, _, refl, refl), (λ k. inr (_, _, refl, refl), (λ k. inr (_, _, refl, refl), (λ k. inr (_, _, refl, refl), (λ k. inr (_, _, refl, refl), (λ k. inr (_, _, refl, refl), tt)))))))))))))))))))))))))))))))))))))
+container_rows =
+    (both (λ k. inl (tt, refl)) (both (λ k. inl (tt, refl)) (both (λ k. inl (tt, refl)) (both (λ k. inl (tt, refl))
+    (both (λ k. inl (tt, refl)) (both (λ k. inr (_, _, refl, refl)) (both (λ k. inl (tt, refl)) (both (λ k. inl (tt, refl))
+    (both (λ k. inl (tt, refl)) (both (λ k. inl (tt, refl)) (both (λ k. inl (tt, refl)) (both (λ k. inl (tt, refl))
+    (both (λ k. inl (tt, refl)) (both (λ k. inl (tt, refl)) (both (λ k. inl (tt, refl)) (both (λ k. inl (tt, refl))
+    (both (λ k. inl (tt, refl)) (both (λ k. inl (tt, refl)) (both (λ k. inl (tt, refl)) (both (λ k. inl (tt, refl))
+    (both (λ k. inl (tt, refl)) (both (λ k. inl (tt, refl)) (both (λ k. inl (tt, refl)) (both (λ k. inl (tt, refl))
+    (both (λ k. inl (tt, refl)) (both (λ k. inl (tt, refl)) (both (λ k. inl (tt, refl)) (both (λ k. inl (tt, refl))
+    (both (λ k. inl (tt, refl)) (both (λ k. inl (tt, refl)) (both (λ k. inl (tt, refl)) (both (λ k. inr (_, _, refl, refl))
+    (both (λ k. inr (_, _, refl, refl)) (both (λ k. inr (_, _, refl, refl)) (both (λ k. inr (_, _, refl, refl))
+    (both (λ k. inr (_, _, refl, refl)) (both (λ k. inr (_, _, refl, refl)) tt)))))))))))))))))))))))))))))))))))))
 
 pub container_at : (c : ℕ) → IsKnown (format c) → Divided c (format c)
 container_at c = at_rows ContainerRow c (λ k. absurd k) constructors container_rows
@@ -114,7 +187,22 @@ abbrev MarkRow : ℕ → Format → Type 0
 MarkRow c F = (d : Descriptor) (b : List ℕ) → PrimitiveData F (descriptor_value d) b → IsDescriptorCode c
 
 mark_rows : EachRow MarkRow constructors
-mark_rows = (λ d b h. absurd (no_mark d _ refl h.1), (λ d b h. absurd (no_mark d _ refl h.1), (λ d b h. absurd (no_mark d _ refl h.1), (λ d b h. absurd (no_mark d _ refl h.1), (λ d b h. inl refl, (λ d b h. absurd h, (λ d b h. absurd (no_mark d _ refl h.1), (λ d b h. absurd (no_mark d _ refl h.1), (λ d b h. absurd (no_mark d _ refl h.1), (λ d b h. inr (inl refl), (λ d b h. absurd (no_mark d _ refl h.1), (λ d b h. absurd (no_mark d _ refl h.1), (λ d b h. absurd (no_mark d (boolean_byte b) (boolean_no_mark b) h.1), (λ d b h. absurd (no_mark d _ refl h.1), (λ d b h. absurd (no_mark d _ refl h.1), (λ d b h. absurd (no_mark d _ refl h.1), (λ d b h. absurd (no_mark d _ refl h.1), (λ d b h. absurd (no_mark d _ refl h.1), (λ d b h. absurd (no_mark d _ refl h.1), (λ d b h. inr (inr (inl refl)), (λ d b h. absurd (no_mark d _ refl h.1), (λ d b h. absurd (no_mark d _ refl h.1), (λ d b h. absurd (no_mark d _ refl h.1), (λ d b h. absurd (no_mark d _ refl h.1), (λ d b h. absurd (no_mark d _ refl h.1), (λ d b h. absurd (no_mark d _ refl h.3), (λ d b h. absurd (no_mark d _ refl h.3), (λ d b h. inr (inr (inr (inl refl))), (λ d b h. absurd (no_mark d _ refl h.3), (λ d b h. absurd (no_mark d _ refl h.3), (λ d b h. inr (inr (inr (inr refl))), (λ d b h. absurd h, (λ d b h. absurd h, (λ d b h. absurd h, (λ d b h. absurd h, (λ d b h. absurd h, (λ d b h. absurd h, tt)))))))))))))))))))))))))))))))))))))
+mark_rows =
+    (both (λ d b h. absurd (no_mark d _ refl h.1)) (both (λ d b h. absurd (no_mark d _ refl h.1))
+    (both (λ d b h. absurd (no_mark d _ refl h.1)) (both (λ d b h. absurd (no_mark d _ refl h.1)) (both (λ d b h. inl refl)
+    (both (λ d b h. absurd h) (both (λ d b h. absurd (no_mark d _ refl h.1)) (both (λ d b h. absurd (no_mark d _ refl h.1))
+    (both (λ d b h. absurd (no_mark d _ refl h.1)) (both (λ d b h. inr (inl refl)) (both (λ d b h. absurd (no_mark d _ refl h.1))
+    (both (λ d b h. absurd (no_mark d _ refl h.1)) (both (λ d b h. absurd (no_mark d (boolean_byte b) (boolean_no_mark b) h.1))
+    (both (λ d b h. absurd (no_mark d _ refl h.1)) (both (λ d b h. absurd (no_mark d _ refl h.1))
+    (both (λ d b h. absurd (no_mark d _ refl h.1)) (both (λ d b h. absurd (no_mark d _ refl h.1))
+    (both (λ d b h. absurd (no_mark d _ refl h.1)) (both (λ d b h. absurd (no_mark d _ refl h.1)) (both (λ d b h. inr (inr (inl refl)))
+    (both (λ d b h. absurd (no_mark d _ refl h.1)) (both (λ d b h. absurd (no_mark d _ refl h.1))
+    (both (λ d b h. absurd (no_mark d _ refl h.1)) (both (λ d b h. absurd (no_mark d _ refl h.1))
+    (both (λ d b h. absurd (no_mark d _ refl h.1)) (both (λ d b h. absurd (no_mark d _ refl h.3))
+    (both (λ d b h. absurd (no_mark d _ refl h.3)) (both (λ d b h. inr (inr (inr (inl refl))))
+    (both (λ d b h. absurd (no_mark d _ refl h.3)) (both (λ d b h. absurd (no_mark d _ refl h.3))
+    (both (λ d b h. inr (inr (inr (inr refl)))) (both (λ d b h. absurd h) (both (λ d b h. absurd h) (both (λ d b h. absurd h)
+    (both (λ d b h. absurd h) (both (λ d b h. absurd h) (both (λ d b h. absurd h) tt)))))))))))))))))))))))))))))))))))))
 
 pub mark_at : (c : ℕ) (d : Descriptor) (b : List ℕ) → PrimitiveData (format c) (descriptor_value d) b → IsDescriptorCode c
 mark_at c = at_rows MarkRow c (λ d b h. absurd h) constructors mark_rows

@@ -5,7 +5,11 @@ use Rattle.amqp_wire.specs.declared.error.Error.TheVariants.{Depth}
 use Rattle.amqp_model.specs.Term.{Container}
 use Rattle.amqp_lengths.specs.Fronts.{Behind}
 use Rattle.amqp_lengths.specs.Lengths.{IsTerm, IsData, Row}
-use Rattle.amqp_lengths.specs.Faults.{inside, TermFault, term_constructor, term_nests, term_data, DataFault, data_of_primitive, data_of_container, data_of_array, ContainerFault, container_content, container_deep, container_unpaired, container_items, ItemsFault, items_fault, items_over, ArrayFault, array_content, array_elements, ElementsFault, elements_missing, elements_constructor, elements_over, elements_empty, elements_deep, elements_data, SharedFault, shared_fault, shared_over}
+use Rattle.amqp_lengths.specs.Faults.{inside, TermFault, term_constructor, term_nests, term_data, DataFault, data_of_primitive}
+use Rattle.amqp_lengths.specs.Faults.{data_of_container, data_of_array, ContainerFault, container_content, container_deep}
+use Rattle.amqp_lengths.specs.Faults.{container_unpaired, container_items, ItemsFault, items_fault, items_over, ArrayFault, array_content}
+use Rattle.amqp_lengths.specs.Faults.{array_elements, ElementsFault, elements_missing, elements_constructor, elements_over, elements_empty}
+use Rattle.amqp_lengths.specs.Faults.{elements_deep, elements_data, SharedFault, shared_fault, shared_over}
 
 row_part : (P Q : List ℕ → Type 0) → ((b : List ℕ) → P b → Q b) → (n : ℕ) (b : List ℕ) → Row P n b → Row Q n b
 row_part P Q f zero b r = r
@@ -46,7 +50,8 @@ mutual
   container_deeper kind w k l b e more same (container_deep i v j a after h none) =
       let s = same refl in
       container_deep i v l a after h (omega (arith, s, none))
-  container_deeper kind w k l b e more same (container_unpaired i v j a n items after h odd) = container_unpaired i v l a n items after h odd
+  container_deeper kind w k l b e more same (container_unpaired i v j a n items after h odd) =
+      container_unpaired i v l a n items after h odd
   container_deeper kind w k l b e more same (container_items i v j a x n left items after h is f) =
       let most = left + (l - j) in
       let g = items_deeper left most n items x (omega arith) (λ d. let s = same d in omega (arith, s)) f in

@@ -1,9 +1,11 @@
 -- The content of arrays.
-use Rattle.std.proofs.Common.{◌≡◌, ℕ, suc, ◌+◌, ◌-◌, ◌≤◌, inl, inr, true, ◌||◌, cond, nat_lt, max, Result, Ok, Err, IfErr, IsErr, List, [], ◌∷◌, ◌++◌, length, take, drop, refl, sym, ap, ◌∙◌, subst, arith, append-nil}
+use Rattle.std.proofs.Common.{◌≡◌, ℕ, suc, ◌+◌, ◌-◌, ◌≤◌, inl, inr, true, ◌||◌, cond, nat_lt, max, Result, Ok, Err, IfErr, IsErr, List, []}
+use Rattle.std.proofs.Common.{◌∷◌, ◌++◌, length, take, drop, refl, sym, ap, ◌∙◌, subst, arith, append-nil}
 use Rattle.std.proofs.lemmas.List.{take-append-drop}
 use Rattle.std.proofs.lemmas.Bool.{lt-ltb}
 use Rattle.amqp_wire.specs.declared.error.Error.{Error}
-use Rattle.amqp_model.specs.Term.{Container, list, map, array, Term, Terms, leaf, container, described, kept, barred, none, more, Descriptor, count}
+use Rattle.amqp_model.specs.Term.{Container, list, map, array, Term, Terms, leaf, container, described, kept, barred, none, more}
+use Rattle.amqp_model.specs.Term.{Descriptor, count}
 use Rattle.amqp_model.specs.Constructors.{compound, format}
 use Rattle.amqp_model.specs.Spelling.{PrimitiveData, HasWidthZero, Constructor, Spelled, data_of, elements_of, shared_data_of}
 use Rattle.amqp_model.specs.Measures.{nest, nests, array_nest}
@@ -34,7 +36,8 @@ elements_unbegun k n b e some h (ts, l, s, deep) =
     let (a, r, is, c) = elements_begin ts b some s in
     h.none [] (λ x. refl) a r (append-nil b ∙ is) c
 
-pub elements_unread : {T : Type 0} (k n : ℕ) (b : List ℕ) (r : Result T Error) → (b ≡ [] → ⊥) → IfErr r (λ e. Refuses HasConstructor b e) → IsErr r → HasElements k n b → ⊥
+pub elements_unread : {T : Type 0} (k n : ℕ) (b : List ℕ) (r : Result T Error) → (b ≡ [] → ⊥) → IfErr r (λ e. Refuses HasConstructor b e)
+    → IsErr r → HasElements k n b → ⊥
 elements_unread k n b (Ok x) some h e = absurd (cc)
 elements_unread k n b (Err e) some h is = elements_unbegun k n b e some h
 
@@ -54,7 +57,8 @@ elements_some k n b e some (none, l, s, deep) = some (sym l)
 elements_some k n b e some (more t ts, l, s, deep) = spelled_some _ b e s
 
 -- what stands behind the constructor that was found
-elements_behind : (n c : ℕ) (a x : List ℕ) (ts : Terms) (b : List ℕ) → (b ≡ [] → ⊥) → Constructs n c a → elements_of ts b → a ++ x ≡ b → (ds : List Descriptor) × (length ds ≡ n) × Shared ts ds c x
+elements_behind : (n c : ℕ) (a x : List ℕ) (ts : Terms) (b : List ℕ) → (b ≡ [] → ⊥) → Constructs n c a → elements_of ts b → a ++ x ≡ b
+    → (ds : List Descriptor) × (length ds ≡ n) × Shared ts ds c x
 elements_behind n c a x none b some h (inl e) s = absurd (some e)
 elements_behind n c a x none b some h (inr (ds, c', few, (first, second, e, q, d))) s =
     let (es, r, l, is, v) = behind_constructor (λ ds c d. d ≡ []) n c a x ds c' first second b [] h e q d (s ∙ sym (append-nil b)) in
@@ -69,7 +73,8 @@ pub elements_bare : (k n c len : ℕ) (b : List ℕ) → Constructs n c (take le
 elements_bare k n c len b (ds, l, few, q) e =
     (none, refl, inr (ds, c, omega (arith, l, few), (take len b, drop len b, sym (take-append-drop len b), q, e)), omega arith)
 
-pub elements_surplus : (k n c len : ℕ) (b : List ℕ) → (b ≡ [] → ⊥) → Constructs n c (take len b) → (drop len b ≡ [] → ⊥) → HasElements k 0 b → ⊥
+pub elements_surplus : (k n c len : ℕ) (b : List ℕ) → (b ≡ [] → ⊥) → Constructs n c (take len b)
+    → (drop len b ≡ [] → ⊥) → HasElements k 0 b → ⊥
 elements_surplus k n c len b some h more_ (none, l, s, deep) =
     let (ds, m, v) = elements_behind n c (take len b) (drop len b) none b some h s (take-append-drop len b) in more_ v
 elements_surplus k n c len b some h more_ (more t ts, l, s, deep) = absurd (omega arith)
@@ -148,10 +153,12 @@ level_bare c t ts b (inr (kind, w, is, e)) (first, second, s, h, r) =
 some_test : (n : ℕ) → nat_lt 0 (suc n) ≡ true
 some_test n = lt-ltb 0 (suc n) (omega arith)
 
-level : (ds : List Descriptor) (c : ℕ) (t : Term) (ts : Terms) (b : List ℕ) → Divided c (format c) → shared_data_of (more t ts) ds c b → IsLevel (length ds) c t ts
+level : (ds : List Descriptor) (c : ℕ) (t : Term) (ts : Terms) (b : List ℕ) → Divided c (format c) → shared_data_of (more t ts) ds c b
+    → IsLevel (length ds) c t ts
 level [] c t ts b v h = level_bare c t ts b v h
 level (d ∷ ds) c t ts b v (first, second, s, h, r) =
-    level_counted (length (d ∷ ds)) c t ts (described_counts t d ds c first h) (ap (λ x. length (d ∷ ds) + cond (x || is_container c) 1 0) (some_test (length ds))) (deep_enough t (d ∷ ds) c first h)
+    level_counted (length (d ∷ ds)) c t ts (described_counts t d ds c first h)
+    (ap (λ x. length (d ∷ ds) + cond (x || is_container c) 1 0) (some_test (length ds))) (deep_enough t (d ∷ ds) c first h)
 
 -- the items are the data behind the constructor
 pub elements_rows : (k n c j len : ℕ) (b : List ℕ) → (b ≡ [] → ⊥) → Constructs n c (take len b) → (j ≡ 0 → ⊥) → HasElements k j b
@@ -164,10 +171,12 @@ elements_rows k n c j len b some h more_ (more t ts, l, s, deep) =
       wide,
       few,
       subst (λ i. Row (IsData c (k - levels_of n c)) i (drop len b)) l
-          (data_rows ds c (k - levels_of n c) (more t ts) (drop len b) (subst (λ i. nests (more t ts) ≤ i + (k - levels_of n c)) (sym m) low) v),
+          (data_rows ds c (k - levels_of n c) (more t ts) (drop len b)
+          (subst (λ i. nests (more t ts) ≤ i + (k - levels_of n c)) (sym m) low) v),
     )
 
-found_items : (k n c len : ℕ) (b : List ℕ) (ds : List Descriptor) (ts : Terms) (j : ℕ) → Constructs n c (take len b) → length ds ≡ n → length ds ≤ 128 → Constructor ds c (take len b) → (HasWidthZero (format c) → ⊥) → (j ≡ 0 → ⊥) → count ts ≡ j
+found_items : (k n c len : ℕ) (b : List ℕ) (ds : List Descriptor) (ts : Terms) (j : ℕ) → Constructs n c (take len b) → length ds ≡ n
+    → length ds ≤ 128 → Constructor ds c (take len b) → (HasWidthZero (format c) → ⊥) → (j ≡ 0 → ⊥) → count ts ≡ j
     → levels_of n c ≤ k → nests ts ≤ length ds + (k - levels_of n c) → shared_data_of ts ds c (drop len b) → HasElements k j b
 found_items k n c len b ds none j h m short q wide some l few low v = absurd (some (sym l))
 found_items k n c len b ds (more t ts) j h m short q wide some l few low v =
@@ -175,7 +184,8 @@ found_items k n c len b ds (more t ts) j h m short q wide some l few low v =
     let deep = e.least k few (subst (λ i. nests (more t ts) ≤ i + (k - levels_of n c)) m low) in
     (more t ts, l, (ds, c, short, (take len b, drop len b, sym (take-append-drop len b), q, (wide, v))), deep)
 
-pub elements_found : (k n c j len : ℕ) (b : List ℕ) → Constructs n c (take len b) → (HasWidthZero (format c) → ⊥) → (j ≡ 0 → ⊥) → levels_of n c ≤ k → Row (IsData c (k - levels_of n c)) j (drop len b) → HasElements k j b
+pub elements_found : (k n c j len : ℕ) (b : List ℕ) → Constructs n c (take len b) → (HasWidthZero (format c) → ⊥) → (j ≡ 0 → ⊥)
+    → levels_of n c ≤ k → Row (IsData c (k - levels_of n c)) j (drop len b) → HasElements k j b
 elements_found k n c j len b (ds, m, short, q) wide some few r =
     let (ts, l, low, v) = rows_data ds c (k - levels_of n c) j (drop len b) r in
     found_items k n c len b ds ts j (ds, m, short, q) m (omega (arith, m, short)) q wide some l few low v

@@ -1,5 +1,6 @@
 -- The faults that the errors of each function name.
-use Rattle.std.proofs.Common.{◌≡◌, ℕ, zero, suc, ◌+◌, ◌-◌, ◌<◌, ◌≤◌, ◌⊎◌, inl, inr, Result, Ok, Err, IfErr, List, [], ◌∷◌, ◌++◌, length, take, drop, get_or, Option, Some, None, unwrap_or, false, refl, sym, ap, ◌∙◌, subst, arith, append_assoc}
+use Rattle.std.proofs.Common.{◌≡◌, ℕ, zero, suc, ◌+◌, ◌-◌, ◌<◌, ◌≤◌, ◌⊎◌, inl, inr, Result, Ok, Err, IfErr, List, [], ◌∷◌, ◌++◌, length}
+use Rattle.std.proofs.Common.{take, drop, get_or, Option, Some, None, unwrap_or, false, refl, sym, ap, ◌∙◌, subst, arith, append_assoc}
 use Rattle.std.proofs.lemmas.List.{take-append-drop, length-drop, length-append, length-take-le}
 use Rattle.std.specs.Option.{MatchOption, SomeIff, is_some}
 use Rattle.std.specs.Char.{IsScalar}
@@ -14,7 +15,10 @@ use Rattle.amqp_lengths.specs.Fronts.{IsFront, Behind}
 use Rattle.amqp_lengths.specs.Pieces.{IsNumber, IsSized, IsPrimitive, value_of, HoldsBytes, IsDescriptorCode}
 use Rattle.amqp_lengths.specs.Announced.{SizeThen, content_size, WantsSized, Wants}
 use Rattle.amqp_lengths.specs.Lengths.{IsTerm, IsData, Row}
-use Rattle.amqp_lengths.specs.Faults.{ValueFault, PrimitiveFault, primitive_wanting, primitive_no_value, DescriptorFault, descriptor_other, descriptor_unknown, ContentFault, content_wanting, content_small, content_counted, inside, TermFault, DataFault, ItemsFault, items_fault, items_over, SharedFault, shared_fault, shared_over, ConstructorFault, ElementsFault, elements_constructor}
+use Rattle.amqp_lengths.specs.Faults.{ValueFault, PrimitiveFault, primitive_wanting, primitive_no_value, DescriptorFault, descriptor_other}
+use Rattle.amqp_lengths.specs.Faults.{descriptor_unknown, ContentFault, content_wanting, content_small, content_counted, inside, TermFault}
+use Rattle.amqp_lengths.specs.Faults.{DataFault, ItemsFault, items_fault, items_over, SharedFault, shared_fault, shared_over}
+use Rattle.amqp_lengths.specs.Faults.{ConstructorFault, ElementsFault, elements_constructor}
 use Rattle.amqp_lengths.specs.Contents.{IsContent, HasContent}
 use Rattle.amqp_lengths.proofs.Fronts.{tail_all}
 use Rattle.amqp_lengths.proofs.Rows.{Begins, no_bytes}
@@ -26,7 +30,8 @@ behind_taken P input n h = record { front = take n input; is = sym (take-append-
 pub behind_front : (P : List ℕ → Type 0) (input : List ℕ) (n : ℕ) → IsFront P input n → Behind P input (drop n input)
 behind_front P input n h = behind_taken P input n h.spelled
 
-pub behind_at : (P : List ℕ → Type 0) (input : List ℕ) (n : ℕ) (after : List ℕ) → P (take n input) → drop n input ≡ after → Behind P input after
+pub behind_at : (P : List ℕ → Type 0) (input : List ℕ) (n : ℕ) (after : List ℕ) → P (take n input)
+    → drop n input ≡ after → Behind P input after
 behind_at P input n after h e = subst (Behind P input) e (behind_taken P input n h)
 
 -- a size that announces more than there is
@@ -42,20 +47,26 @@ primitive_cut : (F G : Format) (input : List ℕ) (e : Error) → F ≡ G → Is
 primitive_cut F G input e is p c h =
     subst (PrimitiveFault F input) (sym c) (primitive_wanting (subst IsPrimitive (sym is) p) (subst (λ H. Wants H input) (sym is) h))
 
-pub fixed_cut : (F : Format) (w : ℕ) (value : List ℕ → Option Primitive) (input : List ℕ) (e : Error) → F ≡ fixed w value → (e ≡ Cut) × (length input < w) → PrimitiveFault F input e
+pub fixed_cut : (F : Format) (w : ℕ) (value : List ℕ → Option Primitive) (input : List ℕ) (e : Error) → F ≡ fixed w value
+    → (e ≡ Cut) × (length input < w) → PrimitiveFault F input e
 fixed_cut F w value input e is h = primitive_cut F (fixed w value) input e is tt h.0 h.1
 
-pub variable_cut : (F : Format) (w : ℕ) (value : List ℕ → Option Primitive) (input : List ℕ) (e : Error) → F ≡ variable w value → (e ≡ Cut) × WantsSized w (λ size. size) input → PrimitiveFault F input e
+pub variable_cut : (F : Format) (w : ℕ) (value : List ℕ → Option Primitive) (input : List ℕ) (e : Error) → F ≡ variable w value
+    → (e ≡ Cut) × WantsSized w (λ size. size) input → PrimitiveFault F input e
 variable_cut F w value input e is h = primitive_cut F (variable w value) input e is tt h.0 h.1
 
-pub fixed_no_value : (F : Format) (w : ℕ) (value : List ℕ → Option Primitive) (input : List ℕ) (e : Error) → F ≡ fixed w value → w ≤ length input → ValueFault (value_of F (take w input)) e → PrimitiveFault F input e
+pub fixed_no_value : (F : Format) (w : ℕ) (value : List ℕ → Option Primitive) (input : List ℕ) (e : Error) → F ≡ fixed w value
+    → w ≤ length input → ValueFault (value_of F (take w input)) e → PrimitiveFault F input e
 fixed_no_value F w value input e is few h =
     let held : HoldsBytes (fixed w value) (take w input) (take w input) = (length-take-le w input few, refl) in
-    primitive_no_value (take w input) (drop w input) e (behind_taken (HoldsBytes F (take w input)) input w (subst (λ G. HoldsBytes G (take w input) (take w input)) (sym is) held)) h
+    primitive_no_value (take w input) (drop w input) e
+    (behind_taken (HoldsBytes F (take w input)) input w (subst (λ G. HoldsBytes G (take w input) (take w input)) (sym is) held)) h
 
-pub variable_no_value : (F : Format) (w : ℕ) (value : List ℕ → Option Primitive) (content input : List ℕ) (n : ℕ) (e : Error) → F ≡ variable w value → IsFront (IsSized w content) input n → ValueFault (value_of F content) e → PrimitiveFault F input e
+pub variable_no_value : (F : Format) (w : ℕ) (value : List ℕ → Option Primitive) (content input : List ℕ) (n : ℕ) (e : Error)
+    → F ≡ variable w value → IsFront (IsSized w content) input n → ValueFault (value_of F content) e → PrimitiveFault F input e
 variable_no_value F w value content input n e is found h =
-    primitive_no_value content (drop n input) e (behind_taken (HoldsBytes F content) input n (subst (λ G. HoldsBytes G content (take n input)) (sym is) found.spelled)) h
+    primitive_no_value content (drop n input) e
+    (behind_taken (HoldsBytes F content) input n (subst (λ G. HoldsBytes G content (take n input)) (sym is) found.spelled)) h
 
 pub boolean_fault : (b : List ℕ) → length b ≡ 1 → (get_or b 0 0 ≤ 1 → ⊥) → ValueFault (value_of (format 0x56) b) BadBool
 boolean_fault [] l h = absurd (omega arith)
@@ -68,11 +79,13 @@ none_scalar : (o : Option ℕ) (n : ℕ) → SomeIff o (IsScalar n) n → is_som
 none_scalar None n h e s = h s
 none_scalar (Some x) n h e s = absurd (cc)
 
-pub char_fault : (b : List ℕ) (n : ℕ) (o : Option ℕ) → n ≡ from_be_bytes w32 b → SomeIff o (IsScalar n) n → is_some o ≡ false → ValueFault (value_of (format 0x73) b) BadChar
+pub char_fault : (b : List ℕ) (n : ℕ) (o : Option ℕ) → n ≡ from_be_bytes w32 b → SomeIff o (IsScalar n) n → is_some o ≡ false
+    → ValueFault (value_of (format 0x73) b) BadChar
 char_fault b n o is h e = (subst (λ k. IsScalar k → ⊥) is (none_scalar o n h e), refl)
 
 -- a code that is no descriptor's
-pub descriptor_code : (c : ℕ) (after : List ℕ) (o : Option Error) → (IsDescriptorCode c → ⊥) → MatchOption o ((c ≡ 0) ⊎ IsKnown (format c)) (λ e. (e ≡ refusal_of c) × (IsKnown (format c) → ⊥) × (c ≡ 0 → ⊥))
+pub descriptor_code : (c : ℕ) (after : List ℕ) (o : Option Error) → (IsDescriptorCode c → ⊥)
+    → MatchOption o ((c ≡ 0) ⊎ IsKnown (format c)) (λ e. (e ≡ refusal_of c) × (IsKnown (format c) → ⊥) × (c ≡ 0 → ⊥))
     → DescriptorFault (c ∷ after) (unwrap_or o BadDescriptor)
 descriptor_code c after None other h = descriptor_other c after refl h other
 descriptor_code c after (Some e) other h = subst (DescriptorFault (c ∷ after)) (sym h.0) (descriptor_unknown c after refl h.2 h.1)
@@ -87,35 +100,53 @@ compound_cut kind w input (inr (size, behind, fits, s, few)) = inr (size, behind
     more list (suc n) few = few
     more k n few = few
 
-pub content_cut : (kind : Container) (w : ℕ) (input : List ℕ) (e : Error) → (e ≡ Cut) × WantsSized w (λ size. size) input → ContentFault kind w input e
+pub content_cut : (kind : Container) (w : ℕ) (input : List ℕ) (e : Error) → (e ≡ Cut) × WantsSized w (λ size. size) input
+    → ContentFault kind w input e
 content_cut kind w input e (c, h) = subst (ContentFault kind w input) (sym c) (content_wanting (compound_cut kind w input h))
 
-sized_size : (w n : ℕ) (content input : List ℕ) (P : ℕ → List ℕ → Type 0) → IsFront (IsSized w content) input n → P (length content) (content ++ drop n input) → SizeThen w P input
+sized_size : (w n : ℕ) (content input : List ℕ) (P : ℕ → List ℕ → Type 0) → IsFront (IsSized w content) input n
+    → P (length content) (content ++ drop n input) → SizeThen w P input
 sized_size w n content input P h p =
-    let (fits, is) = h.spelled in
-    (length content, content ++ drop n input, fits, sym (take-append-drop n input) ∙ ap (λ l. l ++ drop n input) is ∙ append_assoc (bytes_high_first w (length content)) content (drop n input), p)
+    let (fits, is) = h.spelled in (
+      length content,
+      content ++ drop n input,
+      fits,
+      sym (take-append-drop n input) ∙ ap (λ l. l ++ drop n input) is
+          ∙ append_assoc (bytes_high_first w (length content)) content (drop n input),
+      p,
+    )
 
 -- a size below the width of the count
-pub content_short_size : (kind : Container) (w n : ℕ) (content input : List ℕ) → IsFront (IsSized w content) input n → length content < w → ((kind ≡ list) × (length content ≡ 0) → ⊥) → ContentFault kind w input Size
+pub content_short_size : (kind : Container) (w n : ℕ) (content input : List ℕ) → IsFront (IsSized w content) input n → length content < w
+    → ((kind ≡ list) × (length content ≡ 0) → ⊥) → ContentFault kind w input Size
 content_short_size kind w n content input h small some =
-    content_small (sized_size w n content input (λ size behind. (size ≤ length behind) × (size < w) × ((kind ≡ list) × (size ≡ 0) → ⊥)) h (omega (arith, length-append content (drop n input)), small, some))
+    content_small (sized_size w n content input (λ size behind. (size ≤ length behind) × (size < w) × ((kind ≡ list) × (size ≡ 0) → ⊥)) h
+    (omega (arith, length-append content (drop n input)), small, some))
 
 -- the count of an empty list
-pub content_no_count : (kind : Container) (w m n : ℕ) (content input : List ℕ) (e : Error) → kind ≡ list → IsFront (IsSized w content) input n → length content ≡ 0 → m ≡ n → (e ≡ Cut) × (length (take (length input - m) (drop m input)) < w)
+pub content_no_count : (kind : Container) (w m n : ℕ) (content input : List ℕ) (e : Error) → kind ≡ list
+    → IsFront (IsSized w content) input n → length content ≡ 0 → m ≡ n → (e ≡ Cut) × (length (take (length input - m) (drop m input)) < w)
     → ContentFault kind w input e
 content_no_count kind w m n content input e is h empty same (c, few) =
     let after : length (drop n input) < w = omega (arith, ap length (tail_all m input), ap (λ k. length (drop k input)) same) in
     subst (λ k. ContentFault k w input e) (sym is)
-    (subst (ContentFault list w input) (sym c) (content_wanting (inr (sized_size w n content input (λ size behind. length behind < content_size list w size) h
-    (subst (λ k. length (content ++ drop n input) < content_size list w k) (sym empty) (omega (arith, length-append content (drop n input))))))))
+    (subst (ContentFault list w input) (sym c)
+    (content_wanting (inr (sized_size w n content input (λ size behind. length behind < content_size list w size) h
+    (subst (λ k. length (content ++ drop n input) < content_size list w k) (sym empty)
+    (omega (arith, length-append content (drop n input))))))))
 
-pub content_count : (kind : Container) (w m n count : ℕ) (content input : List ℕ) → kind ≡ list → IsFront (IsSized w content) input n → length content ≡ 0 → m ≡ n → IsFront (IsNumber w count) (take (length input - m) (drop m input)) w → 0 < count
+pub content_count : (kind : Container) (w m n count : ℕ) (content input : List ℕ) → kind ≡ list → IsFront (IsSized w content) input n
+    → length content ≡ 0 → m ≡ n → IsFront (IsNumber w count) (take (length input - m) (drop m input)) w → 0 < count
     → ContentFault kind w input Size
 content_count kind w m n count content input is h empty same k some =
-    let behind : take (length input - m) (drop m input) ≡ content ++ drop n input = tail_all m input ∙ ap (λ j. drop j input) same ∙ ap (λ l. l ++ drop n input) (sym (no_bytes content empty)) in
+    let behind : take (length input - m) (drop m input) ≡ content ++ drop n input =
+    tail_all m input ∙ ap (λ j. drop j input) same ∙ ap (λ l. l ++ drop n input) (sym (no_bytes content empty)) in
     subst (λ j. ContentFault j w input Size) (sym is)
-    (content_counted refl (sized_size w n content input (λ size behind. (size ≡ 0) × SizeThen w (λ count after. 0 < count) behind) h
-    (empty, subst (SizeThen w (λ count after. 0 < count)) behind (size_then w count (take (length input - m) (drop m input)) (λ count after. 0 < count) k some))))
+    (content_counted refl (sized_size w n content input (λ size behind. (size ≡ 0) × SizeThen w (λ count after. 0 < count) behind) h (
+      empty,
+      subst (SizeThen w (λ count after. 0 < count)) behind
+          (size_then w count (take (length input - m) (drop m input)) (λ count after. 0 < count) k some),
+    )))
 
 -- the pieces of a row, from the answer of a call
 abbrev pub Inside : {T : Type 0} → Result T Error → Error → Type 0
@@ -128,35 +159,46 @@ pub items_bad : (k n : ℕ) (content : List ℕ) (i len : ℕ) (r : Result ℕ E
     → IfErr r (λ x. TermFault k (take (length content - len) (drop len content)) x) → Inside r e → ItemsFault k n content e
 items_bad k n content i len r e less h f (cause, is, mapped) =
     let fault : TermFault k (drop len content) cause = subst (λ l. TermFault k l cause) (tail_all len content) (err_at _ r cause f is) in
-    subst (ItemsFault k n content) (sym mapped) (items_fault k n content cause i (drop len content) less (behind_taken (Row (IsTerm k) i) content len h.pieces) fault)
+    subst (ItemsFault k n content) (sym mapped)
+    (items_fault k n content cause i (drop len content) less (behind_taken (Row (IsTerm k) i) content len h.pieces) fault)
 
 pub shared_bad : (c k n : ℕ) (content : List ℕ) (i len : ℕ) (r : Result ℕ Error) (e : Error) → i < n → Begins (IsData c k) n content i len
     → IfErr r (λ x. DataFault c k (take (length content - len) (drop len content)) x) → Inside r e → SharedFault c k n content e
 shared_bad c k n content i len r e less h f (cause, is, mapped) =
-    let fault : DataFault c k (drop len content) cause = subst (λ l. DataFault c k l cause) (tail_all len content) (err_at _ r cause f is) in
-    subst (SharedFault c k n content) (sym mapped) (shared_fault c k n content cause i (drop len content) less (behind_taken (Row (IsData c k) i) content len h.pieces) fault)
+    let fault : DataFault c k (drop len content) cause =
+    subst (λ l. DataFault c k l cause) (tail_all len content) (err_at _ r cause f is) in
+    subst (SharedFault c k n content) (sym mapped)
+    (shared_fault c k n content cause i (drop len content) less (behind_taken (Row (IsData c k) i) content len h.pieces) fault)
 
 left_over : (len : ℕ) (content : List ℕ) → len ≤ length content → (len ≡ length content → ⊥) → 0 < length (drop len content)
 left_over len content few some = omega (arith, length-drop len content)
 
-pub items_left : (k n : ℕ) (content : List ℕ) (i len : ℕ) → i ≡ n → Begins (IsTerm k) n content i len → (len ≡ length content → ⊥) → ItemsFault k n content Size
+pub items_left : (k n : ℕ) (content : List ℕ) (i len : ℕ) → i ≡ n → Begins (IsTerm k) n content i len → (len ≡ length content → ⊥)
+    → ItemsFault k n content Size
 items_left k n content i len all h some =
-    items_over k n content (drop len content) (behind_taken (Row (IsTerm k) n) content len (subst (λ j. Row (IsTerm k) j (take len content)) all h.pieces)) (left_over len content h.within some)
+    items_over k n content (drop len content)
+    (behind_taken (Row (IsTerm k) n) content len (subst (λ j. Row (IsTerm k) j (take len content)) all h.pieces))
+    (left_over len content h.within some)
 
-pub shared_left : (c k n : ℕ) (content : List ℕ) (i len : ℕ) → i ≡ n → Begins (IsData c k) n content i len → (len ≡ length content → ⊥) → SharedFault c k n content Size
+pub shared_left : (c k n : ℕ) (content : List ℕ) (i len : ℕ) → i ≡ n → Begins (IsData c k) n content i len → (len ≡ length content → ⊥)
+    → SharedFault c k n content Size
 shared_left c k n content i len all h some =
-    shared_over c k n content (drop len content) (behind_taken (Row (IsData c k) n) content len (subst (λ j. Row (IsData c k) j (take len content)) all h.pieces)) (left_over len content h.within some)
+    shared_over c k n content (drop len content)
+    (behind_taken (Row (IsData c k) n) content len (subst (λ j. Row (IsData c k) j (take len content)) all h.pieces))
+    (left_over len content h.within some)
 
 pub err_map : {T : Type 0} (P Q : Error → Type 0) (r : Result T Error) → ((e : Error) → P e → Q e) → IfErr r P → IfErr r Q
 err_map P Q (Ok x) f h = tt
 err_map P Q (Err e) f h = f e h
 
 -- the constructor of an array's items
-pub elements_unreadable : {T : Type 0} (k n : ℕ) (content : List ℕ) (r : Result T Error) (e : Error) → 0 < length content → IfErr r (λ x. ConstructorFault content x) → Inside r e → ElementsFault k n content e
+pub elements_unreadable : {T : Type 0} (k n : ℕ) (content : List ℕ) (r : Result T Error) (e : Error) → 0 < length content
+    → IfErr r (λ x. ConstructorFault content x) → Inside r e → ElementsFault k n content e
 elements_unreadable k n content r e some f (cause, is, mapped) =
     subst (ElementsFault k n content) (sym mapped) (elements_constructor k n content cause some (err_at _ r cause f is))
 
-pub behind_content : (kind : Container) (w n len : ℕ) (items input : List ℕ) → IsFront (IsContent kind w n items) input len → Behind (HasContent kind w) input (drop len input)
+pub behind_content : (kind : Container) (w n len : ℕ) (items input : List ℕ) → IsFront (IsContent kind w n items) input len
+    → Behind (HasContent kind w) input (drop len input)
 behind_content kind w n len items input h = behind_taken (HasContent kind w) input len (n, items, h.spelled)
 
 pub behind_empty : (input : List ℕ) → Behind (HasContent list 0) input input

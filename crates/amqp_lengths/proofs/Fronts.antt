@@ -7,9 +7,11 @@ use Rattle.amqp_model.proofs.Bytes.{front}
 use Rattle.amqp_lengths.specs.Fronts.{Refuses}
 
 -- each P begins with a Q
-pub refuses_begun : (P Q : List ℕ → Type 0) (input : List ℕ) (e : Error) → ((b : List ℕ) → P b → (a r : List ℕ) × (b ≡ a ++ r) × Q a) → Refuses Q input e → Refuses P input e
+pub refuses_begun : (P Q : List ℕ → Type 0) (input : List ℕ) (e : Error) → ((b : List ℕ) → P b → (a r : List ℕ) × (b ≡ a ++ r) × Q a)
+    → Refuses Q input e → Refuses P input e
 refuses_begun P Q input e begins h = record {
-  none = λ more m b after is p. let (a, r, s, q) = begins b p in h.none more m a (r ++ after) (is ∙ ap (λ x. x ++ after) s ∙ append_assoc a r after) q;
+  none = λ more m b after is p. let (a, r, s, q) = begins b p in
+      h.none more m a (r ++ after) (is ∙ ap (λ x. x ++ after) s ∙ append_assoc a r after) q;
 }
 
 -- each P is a Q
@@ -20,17 +22,23 @@ whole : (n : ℕ) (input more b after : List ℕ) → input ++ more ≡ b ++ aft
 whole n input more b after is = sym (append_assoc (take n input) (drop n input) more) ∙ ap (λ x. x ++ more) (take-append-drop n input) ∙ is
 
 -- each P that begins as the input does is the first n bytes and a Q
-pub refuses_behind : (P Q : List ℕ → Type 0) (input : List ℕ) (n : ℕ) (e : Error) → ((b x y : List ℕ) → P b → take n input ++ x ≡ b ++ y → (r : List ℕ) × (x ≡ r ++ y) × Q r) → Refuses Q (drop n input) e → Refuses P input e
+pub refuses_behind : (P Q : List ℕ → Type 0) (input : List ℕ) (n : ℕ) (e : Error)
+    → ((b x y : List ℕ) → P b → take n input ++ x ≡ b ++ y → (r : List ℕ) × (x ≡ r ++ y) × Q r)
+    → Refuses Q (drop n input) e → Refuses P input e
 refuses_behind P Q input n e behind h = record {
-  none = λ more m b after is p. let (r, s, q) = behind b (drop n input ++ more) after p (whole n input more b after is) in h.none more m r after s q;
+  none = λ more m b after is p. let (r, s, q) = behind b (drop n input ++ more) after p (whole n input more b after is) in
+      h.none more m r after s q;
 }
 
 -- no P begins as the first n bytes do
-pub refuses_never : (P : List ℕ → Type 0) (input : List ℕ) (n : ℕ) (e : Error) → ((b x y : List ℕ) → P b → take n input ++ x ≡ b ++ y → ⊥) → Refuses P input e
-refuses_never P input n e never = record { none = λ more m b after is p. never b (drop n input ++ more) after p (whole n input more b after is) }
+pub refuses_never : (P : List ℕ → Type 0) (input : List ℕ) (n : ℕ) (e : Error)
+    → ((b x y : List ℕ) → P b → take n input ++ x ≡ b ++ y → ⊥) → Refuses P input e
+refuses_never P input n e never =
+    record { none = λ more m b after is p. never b (drop n input ++ more) after p (whole n input more b after is) }
 
 -- there are fewer bytes than each P has
-pub refuses_short : (P : List ℕ → Type 0) (input : List ℕ) (n : ℕ) (e : Error) → ((b : List ℕ) → P b → n ≤ length b) → (e ≡ Cut) × (length input < n) → Refuses P input e
+pub refuses_short : (P : List ℕ → Type 0) (input : List ℕ) (n : ℕ) (e : Error) → ((b : List ℕ) → P b → n ≤ length b)
+    → (e ≡ Cut) × (length input < n) → Refuses P input e
 refuses_short P input n e long (cut, few) = record {
   none = λ more m b after is p.
       let all : input ≡ b ++ after = sym (append-nil input) ∙ ap (λ x. input ++ x) (sym (m cut)) ∙ is in

@@ -1,5 +1,6 @@
 -- Bytes in which a fault stands begin with no term.
-use Rattle.std.proofs.Common.{◌≡◌, ℕ, zero, suc, ◌+◌, ◌-◌, ◌^◌, ◌<◌, inl, inr, Option, Some, None, unwrap_or, List, [], ◌∷◌, ◌++◌, length, take, drop, refl, sym, ap, ◌∙◌, subst, arith, append_assoc, append-nil}
+use Rattle.std.proofs.Common.{◌≡◌, ℕ, zero, suc, ◌+◌, ◌-◌, ◌^◌, ◌<◌, inl, inr, Option, Some, None, unwrap_or, List, [], ◌∷◌, ◌++◌, length}
+use Rattle.std.proofs.Common.{take, drop, refl, sym, ap, ◌∙◌, subst, arith, append_assoc, append-nil}
 use Rattle.std.proofs.lemmas.List.{length-append, take_at, drop_at}
 use Rattle.std.specs.Int.{bytes_high_first}
 use Rattle.amqp_wire.specs.declared.error.Error.{Error}
@@ -10,15 +11,24 @@ use Rattle.amqp_model.proofs.Bytes.{front, rest}
 use Rattle.amqp_lengths.specs.Fronts.{Behind, Refuses}
 use Rattle.amqp_lengths.specs.Pieces.{value_of, IsPrimitive, HoldsBytes, PrimitiveOf, NamesAny, IsDescriptorCode}
 use Rattle.amqp_lengths.specs.Contents.{IsContent, HasContent}
-use Rattle.amqp_lengths.specs.Lengths.{HasMarks, Constructs, HasConstructor, IsTerm, IsData, Row, IsContainer, IsArray, HasElements, levels_of}
-use Rattle.amqp_lengths.specs.Faults.{ValueFault, PrimitiveFault, primitive_wanting, primitive_no_value, DescriptorFault, descriptor_missing, descriptor_other, descriptor_unknown, descriptor_data, ConstructorFault, constructor_ends, constructor_unknown, constructor_long, constructor_descriptor, ContentFault, content_wanting, content_small, content_counted, TermFault, term_constructor, term_nests, term_data, DataFault, data_of_primitive, data_of_container, data_of_array, ContainerFault, container_content, container_deep, container_unpaired, container_items, ItemsFault, items_fault, items_over, ArrayFault, array_content, array_elements, ElementsFault, elements_missing, elements_constructor, elements_over, elements_empty, elements_deep, elements_data, SharedFault, shared_fault, shared_over}
+use Rattle.amqp_lengths.specs.Lengths.{HasMarks, Constructs, HasConstructor, IsTerm, IsData, Row, IsContainer, IsArray, HasElements}
+use Rattle.amqp_lengths.specs.Lengths.{levels_of}
+use Rattle.amqp_lengths.specs.Faults.{ValueFault, PrimitiveFault, primitive_wanting, primitive_no_value, DescriptorFault}
+use Rattle.amqp_lengths.specs.Faults.{descriptor_missing, descriptor_other, descriptor_unknown, descriptor_data, ConstructorFault}
+use Rattle.amqp_lengths.specs.Faults.{constructor_ends, constructor_unknown, constructor_long, constructor_descriptor, ContentFault}
+use Rattle.amqp_lengths.specs.Faults.{content_wanting, content_small, content_counted, TermFault, term_constructor, term_nests, term_data}
+use Rattle.amqp_lengths.specs.Faults.{DataFault, data_of_primitive, data_of_container, data_of_array, ContainerFault, container_content}
+use Rattle.amqp_lengths.specs.Faults.{container_deep, container_unpaired, container_items, ItemsFault, items_fault, items_over, ArrayFault}
+use Rattle.amqp_lengths.specs.Faults.{array_content, array_elements, ElementsFault, elements_missing, elements_constructor, elements_over}
+use Rattle.amqp_lengths.specs.Faults.{elements_empty, elements_deep, elements_data, SharedFault, shared_fault, shared_over}
 use Rattle.amqp_lengths.proofs.Announced.{primitive_announced, container_announced, size_same, announced_wants}
 use Rattle.amqp_lengths.proofs.Values.{AnyData, same_content}
 use Rattle.amqp_lengths.proofs.Fronts.{refuses_part}
 use Rattle.amqp_lengths.proofs.Rows.{Once}
 use Rattle.amqp_lengths.proofs.Descriptors.{mark_short, mark_other, marks_refuse, no_code, too_many, no_name, no_end}
 use Rattle.amqp_lengths.proofs.Terms.{term_unbegun, term_deep, term_short, term_once, data_once}
-use Rattle.amqp_lengths.proofs.Containers.{container_unbegun, container_odd, container_bad, array_unbegun, array_bad, data_list, data_map, data_array, data_primitive}
+use Rattle.amqp_lengths.proofs.Containers.{container_unbegun, container_odd, container_bad, array_unbegun, array_bad, data_list, data_map}
+use Rattle.amqp_lengths.proofs.Containers.{data_array, data_primitive}
 use Rattle.amqp_lengths.proofs.Elements.{elements_unbegun, elements_some, elements_surplus, elements_rows}
 
 -- what stands in front, by how many bytes it is
@@ -152,7 +162,8 @@ no_piece P e (suc m) after some h (f, s, is, p, r) = h.none [] (λ x. refl) f s 
 row_refused : (P : List ℕ → Type 0) → Once P → (i n : ℕ) (content after : List ℕ) (e : Error) → i < n → Behind (Row P i) content after
     → Refuses P after e → Row P n content → ⊥
 row_refused P once i n content after e less h f r =
-    no_piece P e (n - i) after (omega arith) f (row_behind P once i n (n - i) h.front after (omega arith) h.spelled (subst (Row P n) h.is r))
+    no_piece P e (n - i) after (omega arith) f
+    (row_behind P once i n (n - i) h.front after (omega arith) h.spelled (subst (Row P n) h.is r))
 
 row_over : (P : List ℕ → Type 0) → Once P → (n : ℕ) (content after : List ℕ) → Behind (Row P n) content after → 0 < length after
     → Row P n content → ⊥
@@ -198,14 +209,16 @@ mutual
       term_deep k' n c t.len b e t.spelled deep
   term_refuses k input e (term_data k' b x n c left after h is f) =
       let t = taken (Constructs n c) b after h in
-      term_short k' n left c t.len b x t.spelled is (subst (λ l. Refuses (IsData c left) l x) (sym t.behind) (data_refuses c left after x f))
+      term_short k' n left c t.len b x t.spelled is
+      (subst (λ l. Refuses (IsData c left) l x) (sym t.behind) (data_refuses c left after x f))
 
   data_refuses : (c k : ℕ) (input : List ℕ) (e : Error) → DataFault c k input e → Refuses (IsData c k) input e
   data_refuses c k input e (data_of_primitive c' k' b x h) =
       refuses_part (IsData c' k') (PrimitiveOf c') b x (λ l d. data_primitive c' k' l (fault_primitive (format c') b x h) d)
       (primitive_refuses (format c') b x h)
   data_refuses c k input e (data_of_container c' k' b x kind w is other h) =
-      refuses_part (IsData c' k') (IsContainer kind w k') b x (λ l d. data_container kind c' w k' l other is d) (container_refuses kind w k' b x h)
+      refuses_part (IsData c' k') (IsContainer kind w k') b x (λ l d. data_container kind c' w k' l other is d)
+      (container_refuses kind w k' b x h)
   data_refuses c k input e (data_of_array c' k' b x w is h) =
       refuses_part (IsData c' k') (IsArray w k') b x (λ l d. data_array c' w k' l is d) (array_refuses w k' b x h)
 

@@ -1,5 +1,6 @@
 -- Terms behind their constructors.
-use Rattle.std.proofs.Common.{◌≡◌, ℕ, ◌+◌, ◌<◌, ◌≤◌, List, [], ◌∷◌, ◌++◌, length, take, drop, refl, sym, ap, ◌∙◌, subst, arith, append_assoc}
+use Rattle.std.proofs.Common.{◌≡◌, ℕ, ◌+◌, ◌<◌, ◌≤◌, List, [], ◌∷◌, ◌++◌, length, take, drop, refl, sym, ap, ◌∙◌, subst, arith}
+use Rattle.std.proofs.Common.{append_assoc}
 use Rattle.std.proofs.Math.Seq.{take-add}
 use Rattle.std.proofs.lemmas.List.{length-drop}
 use Rattle.amqp_wire.specs.declared.error.Error.{Error}
@@ -15,7 +16,8 @@ use Rattle.amqp_lengths.specs.Lengths.{Constructs, HasConstructor, IsTerm, IsDat
 use Rattle.amqp_lengths.proofs.Fronts.{refuses_begun, refuses_behind, refuses_never}
 
 -- the term within its descriptors
-pub bare : (t : Term) (ds : List Descriptor) (c : ℕ) (b : List ℕ) → data_of t ds c b → (u : Term) × data_of u [] c b × (nest t ≡ length ds + nest u)
+pub bare : (t : Term) (ds : List Descriptor) (c : ℕ) (b : List ℕ) → data_of t ds c b → (u : Term) × data_of u [] c b
+    × (nest t ≡ length ds + nest u)
 bare t [] c b h = (t, h, omega arith)
 bare (described d t) (e ∷ ds) c b (s, h) = let (u, k, n) = bare t ds c b h in (u, k, omega (arith, n))
 bare (leaf p) (e ∷ ds) c b h = absurd h
@@ -49,14 +51,16 @@ constructs_known n c b (ds, l, few, k) = constructor_known ds c b k
 abbrev Behind : (List Descriptor → ℕ → List ℕ → Type 0) → ℕ → ℕ → List ℕ → List ℕ → Type 0
 Behind D n c x y = (ds : List Descriptor) × (r : List ℕ) × (length ds ≡ n) × (x ≡ r ++ y) × D ds c r
 
-pub behind_constructor : (D : List Descriptor → ℕ → List ℕ → Type 0) (n c : ℕ) (a x : List ℕ) (ds : List Descriptor) (c' : ℕ) (first second b y : List ℕ) → Constructs n c a
+pub behind_constructor : (D : List Descriptor → ℕ → List ℕ → Type 0) (n c : ℕ) (a x : List ℕ) (ds : List Descriptor) (c' : ℕ)
+    (first second b y : List ℕ) → Constructs n c a
     → b ≡ first ++ second → Constructor ds c' first → D ds c' second → a ++ x ≡ b ++ y → Behind D n c x y
 behind_constructor D n c a x ds c' first second b y (es, l, few, k) s k' h e =
     let all : a ++ x ≡ first ++ (second ++ y) = e ∙ ap (λ z. z ++ y) s ∙ append_assoc first second y in
     let (same, (one, code)) = constructor_same es ds c c' a first x (second ++ y) k k' all in
     (ds, second, sym (ap length one) ∙ l, rest a first x (second ++ y) (ap length same) all, subst (λ z. D ds z second) (sym code) h)
 
-term_behind : (k n c : ℕ) (a x b y : List ℕ) → Constructs n c a → IsTerm k b → a ++ x ≡ b ++ y → (r : List ℕ) × (x ≡ r ++ y) × (u : Term) × data_of u [] c r × (n + nest u ≤ k)
+term_behind : (k n c : ℕ) (a x b y : List ℕ) → Constructs n c a → IsTerm k b → a ++ x ≡ b ++ y → (r : List ℕ) × (x ≡ r ++ y) × (u : Term)
+    × data_of u [] c r × (n + nest u ≤ k)
 unfolding enc
 term_behind k n c a x b y h (t, (ds, c', few, (first, second, s, q, d)), deep) e =
     let (es, r, l, u, v) = behind_constructor (data_of t) n c a x ds c' first second b y h s q d e in
@@ -67,19 +71,25 @@ term_behind k n c a x b y h (t, (ds, c', few, (first, second, s, q, d)), deep) e
 pub term_unbegun : (k : ℕ) (input : List ℕ) (e : Error) → Refuses HasConstructor input e → Refuses (IsTerm k) input e
 unfolding enc
 term_unbegun k input e h =
-    refuses_begun (IsTerm k) HasConstructor input e (λ b (t, (ds, c, few, (first, second, s, q, d)), deep). (first, second, s, (length ds, c, (ds, refl, few, q)))) h
+    refuses_begun (IsTerm k) HasConstructor input e
+    (λ b (t, (ds, c, few, (first, second, s, q, d)), deep). (first, second, s, (length ds, c, (ds, refl, few, q)))) h
 
 -- it has too many descriptors
 pub term_deep : (k n c len : ℕ) (input : List ℕ) (e : Error) → Constructs n c (take len input) → k < n → Refuses (IsTerm k) input e
 term_deep k n c len input e h deep =
-    refuses_never (IsTerm k) input len e (λ b x y t s. let (r, is, u, d, few) = term_behind k n c (take len input) x b y h t s in omega arith)
+    refuses_never (IsTerm k) input len e (λ b x y t s. let (r, is, u, d, few) = term_behind k n c (take len input) x b y h t s in
+    omega arith)
 
 -- the data isn't there
-pub term_short : (k n m c len : ℕ) (input : List ℕ) (e : Error) → Constructs n c (take len input) → n + m ≡ k → Refuses (IsData c m) (drop len input) e → Refuses (IsTerm k) input e
+pub term_short : (k n m c len : ℕ) (input : List ℕ) (e : Error) → Constructs n c (take len input) → n + m ≡ k
+    → Refuses (IsData c m) (drop len input) e → Refuses (IsTerm k) input e
 term_short k n m c len input e h is q =
-    refuses_behind (IsTerm k) (IsData c m) input len e (λ b x y t s. let (r, is', u, d, few) = term_behind k n c (take len input) x b y h t s in (r, is', (u, d, omega (arith, few, is)))) q
+    refuses_behind (IsTerm k) (IsData c m) input len e
+    (λ b x y t s. let (r, is', u, d, few) = term_behind k n c (take len input) x b y h t s in
+    (r, is', (u, d, omega (arith, few, is)))) q
 
-pub term_found : (k n m c len l : ℕ) (input : List ℕ) → IsFront (Constructs n c) input len → n + m ≡ k → IsFront (IsData c m) (drop len input) l → IsFront (IsTerm k) input (len + l)
+pub term_found : (k n m c len l : ℕ) (input : List ℕ) → IsFront (Constructs n c) input len → n + m ≡ k
+    → IsFront (IsData c m) (drop len input) l → IsFront (IsTerm k) input (len + l)
 unfolding enc
 term_found k n m c len l input h is q =
     let (ds, long, few, s) = h.spelled in
@@ -90,7 +100,12 @@ term_found k n m c len l input h is q =
       within = omega (arith, within, within2, length-drop len input);
       spelled = (
         describe ds u,
-        (ds, c, omega (arith, long, few), (take len input, take l (drop len input), take-add len l input, s, described_data ds u c (take l (drop len input)) d)),
+        (
+          ds,
+          c,
+          omega (arith, long, few),
+          (take len input, take l (drop len input), take-add len l input, s, described_data ds u c (take l (drop len input)) d),
+        ),
         omega (arith, described_nest ds u, long, deep, is),
       );
     }

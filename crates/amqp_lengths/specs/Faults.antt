@@ -2,7 +2,8 @@
 use Rattle.std.specs.Prelude.{◌≡◌, ℕ, suc, ◌+◌, ◌<◌, ◌≤◌, ◌⊎◌, List, [], ◌∷◌, length, Option, Some, None, IsUtf8, IsAscii}
 use Rattle.std.specs.Char.{IsScalar}
 use Rattle.amqp_wire.specs.declared.error.Error.{Error}
-use Rattle.amqp_wire.specs.declared.error.Error.TheVariants.{Cut, Size, OddCount, Depth, ZeroWidthItems, BadBool, BadChar, BadUtf8, NonAscii, BadDescriptor}
+use Rattle.amqp_wire.specs.declared.error.Error.TheVariants.{Cut, Size, OddCount, Depth, ZeroWidthItems, BadBool, BadChar, BadUtf8}
+use Rattle.amqp_wire.specs.declared.error.Error.TheVariants.{NonAscii, BadDescriptor}
 use Rattle.amqp_wire.specs.Codes.{refusal_of}
 use Rattle.amqp_model.specs.Term.{Primitive, char, string, symbol, Container, list, array}
 use Rattle.amqp_model.specs.Constructors.{Format, compound, format}
@@ -24,27 +25,35 @@ ValueFault (Some _) e = ⊥
 -- The data of a primitive isn't all there, or it is no value.
 pub data PrimitiveFault (F : Format) (input : List ℕ) : Error → Type 0 where
   primitive_wanting : IsPrimitive F → Wants F input → PrimitiveFault F input Cut
-  primitive_no_value : (content after : List ℕ) (e : Error) → Behind (HoldsBytes F content) input after → ValueFault (value_of F content) e → PrimitiveFault F input e
+  primitive_no_value : (content after : List ℕ) (e : Error) → Behind (HoldsBytes F content) input after → ValueFault (value_of F content) e
+      → PrimitiveFault F input e
 
 -- The input ends, or has a code that is no descriptor's, or the data of its code is faulty.
 pub data DescriptorFault (input : List ℕ) : Error → Type 0 where
   descriptor_missing : input ≡ [] → DescriptorFault input Cut
-  descriptor_other : (c : ℕ) (after : List ℕ) → input ≡ c ∷ after → (c ≡ 0) ⊎ IsKnown (format c) → (IsDescriptorCode c → ⊥) → DescriptorFault input BadDescriptor
-  descriptor_unknown : (c : ℕ) (after : List ℕ) → input ≡ c ∷ after → (c ≡ 0 → ⊥) → (IsKnown (format c) → ⊥) → DescriptorFault input (refusal_of c)
-  descriptor_data : (c : ℕ) (after : List ℕ) (e : Error) → input ≡ c ∷ after → IsDescriptorCode c → PrimitiveFault (format c) after e → DescriptorFault input e
+  descriptor_other : (c : ℕ) (after : List ℕ) → input ≡ c ∷ after → (c ≡ 0) ⊎ IsKnown (format c) → (IsDescriptorCode c → ⊥)
+      → DescriptorFault input BadDescriptor
+  descriptor_unknown : (c : ℕ) (after : List ℕ) → input ≡ c ∷ after → (c ≡ 0 → ⊥) → (IsKnown (format c) → ⊥)
+      → DescriptorFault input (refusal_of c)
+  descriptor_data : (c : ℕ) (after : List ℕ) (e : Error) → input ≡ c ∷ after → IsDescriptorCode c → PrimitiveFault (format c) after e
+      → DescriptorFault input e
 
 -- Behind at most 128 descriptors, the input ends, or has an unknown code, or one descriptor more, or a faulty one.
 pub data ConstructorFault (input : List ℕ) : Error → Type 0 where
   constructor_ends : (n : ℕ) → n ≤ 128 → Behind (HasMarks n) input [] → ConstructorFault input Cut
-  constructor_unknown : (n c : ℕ) (after : List ℕ) → n ≤ 128 → Behind (HasMarks n) input (c ∷ after) → (c ≡ 0 → ⊥) → (IsKnown (format c) → ⊥) → ConstructorFault input (refusal_of c)
+  constructor_unknown : (n c : ℕ) (after : List ℕ) → n ≤ 128 → Behind (HasMarks n) input (c ∷ after) → (c ≡ 0 → ⊥)
+      → (IsKnown (format c) → ⊥) → ConstructorFault input (refusal_of c)
   constructor_long : (after : List ℕ) → Behind (HasMarks 128) input (0 ∷ after) → ConstructorFault input Depth
-  constructor_descriptor : (n : ℕ) (after : List ℕ) (e : Error) → n < 128 → Behind (HasMarks n) input (0 ∷ after) → DescriptorFault after e → ConstructorFault input e
+  constructor_descriptor : (n : ℕ) (after : List ℕ) (e : Error) → n < 128 → Behind (HasMarks n) input (0 ∷ after) → DescriptorFault after e
+      → ConstructorFault input e
 
 -- A container's data isn't all there, its size doesn't hold its count, or it is a list of the size 0 that counts items.
 pub data ContentFault (kind : Container) (w : ℕ) (input : List ℕ) : Error → Type 0 where
   content_wanting : Wants (compound kind w) input → ContentFault kind w input Cut
-  content_small : SizeThen w (λ size behind. (size ≤ length behind) × (size < w) × ((kind ≡ list) × (size ≡ 0) → ⊥)) input → ContentFault kind w input Size
-  content_counted : kind ≡ list → SizeThen w (λ size behind. (size ≡ 0) × SizeThen w (λ count after. 0 < count) behind) input → ContentFault kind w input Size
+  content_small : SizeThen w (λ size behind. (size ≤ length behind) × (size < w) × ((kind ≡ list) × (size ≡ 0) → ⊥)) input
+      → ContentFault kind w input Size
+  content_counted : kind ≡ list → SizeThen w (λ size behind. (size ≡ 0) × SizeThen w (λ count after. 0 < count) behind) input
+      → ContentFault kind w input Size
 
 -- In a container what it announces is there, so that a value in it that asks for more contradicts the size.
 abbrev pub inside : Error → Error
@@ -55,51 +64,72 @@ mutual
   -- The constructor is faulty, or has more descriptors than the nesting allows, or the data behind it is faulty.
   pub data TermFault : ℕ → List ℕ → Error → Type 0 where
     term_constructor : (nesting : ℕ) (input : List ℕ) (e : Error) → ConstructorFault input e → TermFault nesting input e
-    term_nests : (nesting : ℕ) (input : List ℕ) (n c : ℕ) (after : List ℕ) → Behind (Constructs n c) input after → nesting < n → TermFault nesting input Depth
-    term_data : (nesting : ℕ) (input : List ℕ) (e : Error) (n c left : ℕ) (after : List ℕ) → Behind (Constructs n c) input after → n + left ≡ nesting → DataFault c left after e → TermFault nesting input e
+    term_nests : (nesting : ℕ) (input : List ℕ) (n c : ℕ) (after : List ℕ) → Behind (Constructs n c) input after → nesting < n
+        → TermFault nesting input Depth
+    term_data : (nesting : ℕ) (input : List ℕ) (e : Error) (n c left : ℕ) (after : List ℕ) → Behind (Constructs n c) input after
+        → n + left ≡ nesting → DataFault c left after e → TermFault nesting input e
 
   -- The data under a code is faulty.
   pub data DataFault : ℕ → ℕ → List ℕ → Error → Type 0 where
     data_of_primitive : (c nesting : ℕ) (input : List ℕ) (e : Error) → PrimitiveFault (format c) input e → DataFault c nesting input e
-    data_of_container : (c nesting : ℕ) (input : List ℕ) (e : Error) (kind : Container) (w : ℕ) → format c ≡ compound kind w → (kind ≡ array → ⊥) → ContainerFault kind w nesting input e → DataFault c nesting input e
-    data_of_array : (c nesting : ℕ) (input : List ℕ) (e : Error) (w : ℕ) → format c ≡ compound array w → ArrayFault w nesting input e → DataFault c nesting input e
+    data_of_container : (c nesting : ℕ) (input : List ℕ) (e : Error) (kind : Container) (w : ℕ) → format c ≡ compound kind w
+        → (kind ≡ array → ⊥) → ContainerFault kind w nesting input e → DataFault c nesting input e
+    data_of_array : (c nesting : ℕ) (input : List ℕ) (e : Error) (w : ℕ) → format c ≡ compound array w → ArrayFault w nesting input e
+        → DataFault c nesting input e
 
   -- A list or map: its content isn't there, or it may not nest at all, or a map's count is odd, or its items are faulty.
   pub data ContainerFault : Container → ℕ → ℕ → List ℕ → Error → Type 0 where
-    container_content : (kind : Container) (w nesting : ℕ) (input : List ℕ) (e : Error) → ContentFault kind w input e → ContainerFault kind w nesting input e
-    container_deep : (kind : Container) (w nesting : ℕ) (input after : List ℕ) → Behind (HasContent kind w) input after → nesting ≡ 0 → ContainerFault kind w nesting input Depth
-    container_unpaired : (kind : Container) (w nesting : ℕ) (input : List ℕ) (n : ℕ) (items after : List ℕ) → Behind (IsContent kind w n items) input after → (HasPairs kind n → ⊥) → ContainerFault kind w nesting input OddCount
-    container_items : (kind : Container) (w nesting : ℕ) (input : List ℕ) (e : Error) (n left : ℕ) (items after : List ℕ) → Behind (IsContent kind w n items) input after → nesting ≡ suc left → ItemsFault left n items e → ContainerFault kind w nesting input e
+    container_content : (kind : Container) (w nesting : ℕ) (input : List ℕ) (e : Error) → ContentFault kind w input e
+        → ContainerFault kind w nesting input e
+    container_deep : (kind : Container) (w nesting : ℕ) (input after : List ℕ) → Behind (HasContent kind w) input after → nesting ≡ 0
+        → ContainerFault kind w nesting input Depth
+    container_unpaired : (kind : Container) (w nesting : ℕ) (input : List ℕ) (n : ℕ) (items after : List ℕ)
+        → Behind (IsContent kind w n items) input after → (HasPairs kind n → ⊥) → ContainerFault kind w nesting input OddCount
+    container_items : (kind : Container) (w nesting : ℕ) (input : List ℕ) (e : Error) (n left : ℕ) (items after : List ℕ)
+        → Behind (IsContent kind w n items) input after → nesting ≡ suc left → ItemsFault left n items e
+        → ContainerFault kind w nesting input e
 
   -- Of so many terms, one is faulty behind some whole ones, or bytes are left over behind them all.
   pub data ItemsFault : ℕ → ℕ → List ℕ → Error → Type 0 where
-    items_fault : (nesting n : ℕ) (content : List ℕ) (cause : Error) (done : ℕ) (after : List ℕ) → done < n → Behind (Row (IsTerm nesting) done) content after → TermFault nesting after cause → ItemsFault nesting n content (inside cause)
-    items_over : (nesting n : ℕ) (content after : List ℕ) → Behind (Row (IsTerm nesting) n) content after → 0 < length after → ItemsFault nesting n content Size
+    items_fault : (nesting n : ℕ) (content : List ℕ) (cause : Error) (done : ℕ) (after : List ℕ) → done < n
+        → Behind (Row (IsTerm nesting) done) content after → TermFault nesting after cause → ItemsFault nesting n content (inside cause)
+    items_over : (nesting n : ℕ) (content after : List ℕ) → Behind (Row (IsTerm nesting) n) content after → 0 < length after
+        → ItemsFault nesting n content Size
 
   -- An array: its content isn't there, or is faulty.
   pub data ArrayFault : ℕ → ℕ → List ℕ → Error → Type 0 where
     array_content : (w nesting : ℕ) (input : List ℕ) (e : Error) → ContentFault array w input e → ArrayFault w nesting input e
-    array_elements : (w nesting : ℕ) (input : List ℕ) (e : Error) (n : ℕ) (items after : List ℕ) → Behind (IsContent array w n items) input after → ElementsFault nesting n items e → ArrayFault w nesting input e
+    array_elements : (w nesting : ℕ) (input : List ℕ) (e : Error) (n : ℕ) (items after : List ℕ)
+        → Behind (IsContent array w n items) input after → ElementsFault nesting n items e → ArrayFault w nesting input e
 
   -- The content of an array of so many items: their constructor is missing or faulty, or stands before bytes though there are
   -- no items, or is that of items without bytes, or of items that nest too deep, or the data behind it is faulty.
   pub data ElementsFault : ℕ → ℕ → List ℕ → Error → Type 0 where
     elements_missing : (nesting n : ℕ) (content : List ℕ) → content ≡ [] → 0 < n → ElementsFault nesting n content Size
-    elements_constructor : (nesting n : ℕ) (content : List ℕ) (cause : Error) → 0 < length content → ConstructorFault content cause → ElementsFault nesting n content (inside cause)
-    elements_over : (nesting n : ℕ) (content : List ℕ) (m c : ℕ) (after : List ℕ) → Behind (Constructs m c) content after → n ≡ 0 → 0 < length after → ElementsFault nesting n content Size
-    elements_empty : (nesting n : ℕ) (content : List ℕ) (m c : ℕ) (after : List ℕ) → Behind (Constructs m c) content after → 0 < n → HasWidthZero (format c) → ElementsFault nesting n content ZeroWidthItems
-    elements_deep : (nesting n : ℕ) (content : List ℕ) (m c : ℕ) (after : List ℕ) → Behind (Constructs m c) content after → 0 < n → nesting < levels_of m c → ElementsFault nesting n content Depth
-    elements_data : (nesting n : ℕ) (content : List ℕ) (e : Error) (m c left : ℕ) (after : List ℕ) → Behind (Constructs m c) content after → 0 < n → left + levels_of m c ≡ nesting → SharedFault c left n after e → ElementsFault nesting n content e
+    elements_constructor : (nesting n : ℕ) (content : List ℕ) (cause : Error) → 0 < length content → ConstructorFault content cause
+        → ElementsFault nesting n content (inside cause)
+    elements_over : (nesting n : ℕ) (content : List ℕ) (m c : ℕ) (after : List ℕ) → Behind (Constructs m c) content after → n ≡ 0
+        → 0 < length after → ElementsFault nesting n content Size
+    elements_empty : (nesting n : ℕ) (content : List ℕ) (m c : ℕ) (after : List ℕ) → Behind (Constructs m c) content after → 0 < n
+        → HasWidthZero (format c) → ElementsFault nesting n content ZeroWidthItems
+    elements_deep : (nesting n : ℕ) (content : List ℕ) (m c : ℕ) (after : List ℕ) → Behind (Constructs m c) content after → 0 < n
+        → nesting < levels_of m c → ElementsFault nesting n content Depth
+    elements_data : (nesting n : ℕ) (content : List ℕ) (e : Error) (m c left : ℕ) (after : List ℕ) → Behind (Constructs m c) content after
+        → 0 < n → left + levels_of m c ≡ nesting → SharedFault c left n after e → ElementsFault nesting n content e
 
   -- Of the data of so many items under one code, one is faulty behind some whole ones, or bytes are left over behind them all.
   pub data SharedFault : ℕ → ℕ → ℕ → List ℕ → Error → Type 0 where
-    shared_fault : (c nesting n : ℕ) (content : List ℕ) (cause : Error) (done : ℕ) (after : List ℕ) → done < n → Behind (Row (IsData c nesting) done) content after → DataFault c nesting after cause → SharedFault c nesting n content (inside cause)
-    shared_over : (c nesting n : ℕ) (content after : List ℕ) → Behind (Row (IsData c nesting) n) content after → 0 < length after → SharedFault c nesting n content Size
+    shared_fault : (c nesting n : ℕ) (content : List ℕ) (cause : Error) (done : ℕ) (after : List ℕ) → done < n
+        → Behind (Row (IsData c nesting) done) content after → DataFault c nesting after cause
+        → SharedFault c nesting n content (inside cause)
+    shared_over : (c nesting n : ℕ) (content after : List ℕ) → Behind (Row (IsData c nesting) n) content after → 0 < length after
+        → SharedFault c nesting n content Size
 
 -- The input ends where more must follow: behind at most 128 descriptors of a constructor, behind the 0 of a further one or
 -- within its data, or within the data that the constructor announces.
 pub data AsksMore (input : List ℕ) : Type 0 where
   for_code : (n : ℕ) → n ≤ 128 → Behind (HasMarks n) input [] → AsksMore input
   for_descriptor : (n : ℕ) → n < 128 → Behind (HasMarks n) input (0 ∷ []) → AsksMore input
-  for_descriptor_data : (n c : ℕ) (after : List ℕ) → n < 128 → Behind (HasMarks n) input (0 ∷ c ∷ after) → IsDescriptorCode c → Wants (format c) after → AsksMore input
+  for_descriptor_data : (n c : ℕ) (after : List ℕ) → n < 128 → Behind (HasMarks n) input (0 ∷ c ∷ after) → IsDescriptorCode c
+      → Wants (format c) after → AsksMore input
   for_data : (n c : ℕ) (after : List ℕ) → Behind (Constructs n c) input after → Wants (format c) after → AsksMore input

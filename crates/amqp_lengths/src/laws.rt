@@ -10,5 +10,6 @@ ghost use Rattle.amqp_lengths.specs.Faults.{TermFault};
 /// too, unless it is `Depth` (Part 1, section 1.2).
 pub fn faults()
     ensures refuse { (nesting : ℕ) (input : List ℕ) (e : Error) → TermFault nesting input e → Refuses (IsTerm nesting) input e }
-    ensures deeper { (nesting more : ℕ) (input : List ℕ) (e : Error) → nesting ≤ more → (e ≡ Depth → nesting ≡ more) → TermFault nesting input e → TermFault more input e }
+    ensures deeper { (nesting more : ℕ) (input : List ℕ) (e : Error) → nesting ≤ more → (e ≡ Depth → nesting ≡ more)
+        → TermFault nesting input e → TermFault more input e }
 {}

@@ -8,7 +8,8 @@ ghost use Rattle.amqp_lengths.specs.Pieces.{width_of};
 ghost use Rattle.amqp_lengths.specs.Contents.{container_of};
 ghost use Rattle.amqp_lengths.specs.Lengths.{levels_of, Row, IsTerm, IsData, IsContainer, IsArray, HasElements, HasPairs, IsCutTerm};
 ghost use Rattle.amqp_wire.specs.declared.error.Error.{Error};
-ghost use Rattle.amqp_lengths.specs.Faults.{inside, TermFault, DataFault, ContainerFault, ItemsFault, ArrayFault, ElementsFault, SharedFault, AsksMore};
+ghost use Rattle.amqp_lengths.specs.Faults.{inside, TermFault, DataFault, ContainerFault, ItemsFault, ArrayFault, ElementsFault};
+ghost use Rattle.amqp_lengths.specs.Faults.{SharedFault, AsksMore};
 
 use crate::constructors::{Constructor, read_constructor};
 use crate::contents::{Kind, read_content};

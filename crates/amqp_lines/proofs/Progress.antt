@@ -1,5 +1,6 @@
 -- How the answers grow, line by line.
-use Rattle.std.proofs.Common.{◌≡◌, ◌∷◌, ℕ, ◌+◌, ◌-◌, ◌≤◌, inl, inr, Bool, true, ◌&&◌, List, [], ◌++◌, length, take, drop, Option, Some, None, refl, sym, ap, subst, arith, append_assoc, append-nil, MatchOption, IfSome}
+use Rattle.std.proofs.Common.{◌≡◌, ◌∷◌, ℕ, ◌+◌, ◌-◌, ◌≤◌, inl, inr, Bool, true, ◌&&◌, List, [], ◌++◌, length, take, drop, Option, Some}
+use Rattle.std.proofs.Common.{None, refl, sym, ap, subst, arith, append_assoc, append-nil, MatchOption, IfSome}
 use Rattle.std.proofs.lemmas.List.{take_all, length-drop, length-append}
 use Rattle.std.proofs.Math.Seq.{take-add}
 use Rattle.std.proofs.Math.Bool.{and_assoc, and-true}
@@ -11,10 +12,12 @@ use Rattle.amqp_lines.specs.declared.answer.Answer.{Answer}
 use Rattle.amqp_lines.specs.declared.answer.Answer.TheVariants.{Rewritten, Refused, NoRequest}
 
 -- a further piece of the bytes
-pub piece_more : (a b c : Option (List ℕ)) (bytes : List ℕ) (m n : ℕ) → Appends a b (take m bytes) → Appends b c (take n (take (length bytes - m) (drop m bytes))) → Appends a c (take (m + n) bytes)
+pub piece_more : (a b c : Option (List ℕ)) (bytes : List ℕ) (m n : ℕ) → Appends a b (take m bytes)
+    → Appends b c (take n (take (length bytes - m) (drop m bytes))) → Appends a c (take (m + n) bytes)
 piece_more a b c bytes m n h k =
     subst (Appends a c) (sym (take-add m n bytes))
-    (Appends-trans a b c (take m bytes) (take n (drop m bytes)) h (subst (λ l. Appends b c (take n l)) (take_all (length bytes - m) (drop m bytes) (omega (arith, length-drop m bytes))) k))
+    (Appends-trans a b c (take m bytes) (take n (drop m bytes)) h
+    (subst (λ l. Appends b c (take n l)) (take_all (length bytes - m) (drop m bytes) (omega (arith, length-drop m bytes))) k))
 
 pub is_answer : (line : List ℕ) (answer : Answer) → AnswersLine line answer → IsAnswer line (printed_of answer) (is_good answer)
 is_answer line (Rewritten text left) (named, input, n, asks, t, l) = rewritten named input text.items n left asks t l
@@ -30,9 +33,11 @@ pub record Progress (input now before after : Option (List ℕ)) (n : ℕ) (all 
   pub counted : IsShorter input now n
   pub output : List ℕ
   pub appended : Appends before after output
-  pub answered : IfSome input (λ xs. MatchOption now ⊥ (λ rest. (o : List ℕ) (a : Bool) → AreAnswers rest o a → AreAnswers xs (output ++ o) (all && a)))
+  pub answered : IfSome input
+      (λ xs. MatchOption now ⊥ (λ rest. (o : List ℕ) (a : Bool) → AreAnswers rest o a → AreAnswers xs (output ++ o) (all && a)))
 
-begun_at : (input now : Option (List ℕ)) → Keeps input now → IfSome input (λ xs. MatchOption now ⊥ (λ rest. (o : List ℕ) (a : Bool) → AreAnswers rest o a → AreAnswers xs ([] ++ o) (true && a)))
+begun_at : (input now : Option (List ℕ)) → Keeps input now
+    → IfSome input (λ xs. MatchOption now ⊥ (λ rest. (o : List ℕ) (a : Bool) → AreAnswers rest o a → AreAnswers xs ([] ++ o) (true && a)))
 begun_at None now k = tt
 begun_at (Some xs) None k = k
 begun_at (Some xs) (Some rest) k = λ o a h. subst (λ z. AreAnswers z o a) k h
@@ -47,7 +52,8 @@ line_shortens xs line rest (h, inl e) = omega (arith, ap length e, length-append
 line_shortens xs [] rest (h, inr (e, f, n)) = absurd (n refl)
 line_shortens xs (c ∷ line) rest (h, inr (e, f, n)) = omega (arith, ap length e, ap length f)
 
-shorter : (input now new : Option (List ℕ)) (line : List ℕ) (n : ℕ) → IfSome now (λ xs. MatchOption new ⊥ (λ rest. TakesLine xs line rest)) → IsShorter input now n → IsShorter input new (n + 1)
+shorter : (input now new : Option (List ℕ)) (line : List ℕ) (n : ℕ) → IfSome now (λ xs. MatchOption new ⊥ (λ rest. TakesLine xs line rest))
+    → IsShorter input now n → IsShorter input new (n + 1)
 shorter None now new line n t h = tt
 shorter (Some xs) None new line n t h = absurd h
 shorter (Some xs) (Some r) None line n t h = t
@@ -60,24 +66,30 @@ overfull (Some xs) None n h = absurd h
 overfull (Some xs) (Some rest) n h = omega (arith, h)
 
 pub begun : (input now before : Option (List ℕ)) → Keeps input now → Progress input now before before 0 true
-begun input now before k = record { counted = unshortened input now k; output = []; appended = Appends-nil before; answered = begun_at input now k }
+begun input now before k =
+    record { counted = unshortened input now k; output = []; appended = Appends-nil before; answered = begun_at input now k }
 
 further : (input now new : Option (List ℕ)) (line output text : List ℕ) (all good : Bool) → IsAnswer line text good
     → IfSome now (λ xs. MatchOption new ⊥ (λ rest. TakesLine xs line rest))
-    → IfSome input (λ xs. MatchOption now ⊥ (λ rest. (o : List ℕ) (a : Bool) → AreAnswers rest o a → AreAnswers xs (output ++ o) (all && a)))
-    → IfSome input (λ xs. MatchOption new ⊥ (λ rest. (o : List ℕ) (a : Bool) → AreAnswers rest o a → AreAnswers xs ((output ++ text) ++ o) ((all && good) && a)))
+    → IfSome input (λ xs. MatchOption now ⊥ (λ rest. (o : List ℕ) (a : Bool) → AreAnswers rest o a
+    → AreAnswers xs (output ++ o) (all && a)))
+    → IfSome input (λ xs. MatchOption new ⊥ (λ rest. (o : List ℕ) (a : Bool) → AreAnswers rest o a
+    → AreAnswers xs ((output ++ text) ++ o) ((all && good) && a)))
 further None now new line output text all good i t h = tt
 further (Some xs) None new line output text all good i t h = absurd h
 further (Some xs) (Some r) None line output text all good i t h = t
 further (Some xs) (Some r) (Some rest) line output text all good i t h =
     λ o a k. rw (append_assoc output text o, and_assoc all good a) (h (text ++ o) (good && a) (next t i k))
 
-one_line : {V : Type 0} (items : V → List ℕ) (now new : Option (List ℕ)) (o : Option V) (line : V) → o ≡ Some line → IfSome now (λ xs. MatchOption new ⊥ (λ rest. MatchOption o (xs ≡ []) (λ l. TakesLine xs (items l) rest)))
+one_line : {V : Type 0} (items : V → List ℕ) (now new : Option (List ℕ)) (o : Option V) (line : V) → o ≡ Some line
+    → IfSome now (λ xs. MatchOption new ⊥ (λ rest. MatchOption o (xs ≡ []) (λ l. TakesLine xs (items l) rest)))
     → IfSome now (λ xs. MatchOption new ⊥ (λ rest. TakesLine xs (items line) rest))
-one_line items now new o line e t = subst (λ z. IfSome now (λ xs. MatchOption new ⊥ (λ rest. MatchOption z (xs ≡ []) (λ l. TakesLine xs (items l) rest)))) e t
+one_line items now new o line e t =
+    subst (λ z. IfSome now (λ xs. MatchOption new ⊥ (λ rest. MatchOption z (xs ≡ []) (λ l. TakesLine xs (items l) rest)))) e t
 
 -- one more line is answered
-pub one_more : {V : Type 0} (items : V → List ℕ) (input now new before middle after : Option (List ℕ)) (o : Option V) (line : V) (n : ℕ) (all good : Bool) → o ≡ Some line → Progress input now before middle n all
+pub one_more : {V : Type 0} (items : V → List ℕ) (input now new before middle after : Option (List ℕ)) (o : Option V) (line : V) (n : ℕ)
+    (all good : Bool) → o ≡ Some line → Progress input now before middle n all
     → IfSome now (λ xs. MatchOption new ⊥ (λ rest. MatchOption o (xs ≡ []) (λ l. TakesLine xs (items l) rest)))
     → (text : List ℕ) × IsAnswer (items line) text good × Appends middle after text → Progress input new before after (n + 1) (all && good)
 one_more items input now new before middle after o line n all good e p t (text, i, k) = record {
@@ -88,20 +100,28 @@ one_more items input now new before middle after o line n all good e p t (text, 
 }
 
 all_done : (input now new : Option (List ℕ)) (output : List ℕ) (all : Bool) → IfSome now (λ xs. MatchOption new ⊥ (λ rest. xs ≡ []))
-    → IfSome input (λ xs. MatchOption now ⊥ (λ rest. (o : List ℕ) (a : Bool) → AreAnswers rest o a → AreAnswers xs (output ++ o) (all && a)))
+    → IfSome input (λ xs. MatchOption now ⊥ (λ rest. (o : List ℕ) (a : Bool) → AreAnswers rest o a
+    → AreAnswers xs (output ++ o) (all && a)))
     → IfSome input (λ xs. AreAnswers xs output all)
 all_done None now new output all e h = tt
 all_done (Some xs) None new output all e h = absurd h
 all_done (Some xs) (Some r) None output all e h = absurd e
-all_done (Some xs) (Some r) (Some rest) output all e h = rw (sym (append-nil output), sym (and-true all)) (h [] true (subst (λ z. AreAnswers z [] true) (sym e) done))
+all_done (Some xs) (Some r) (Some rest) output all e h =
+    rw (sym (append-nil output), sym (and-true all)) (h [] true (subst (λ z. AreAnswers z [] true) (sym e) done))
 
-told : (input : Option (List ℕ)) (before after : Option (List ℕ)) (output : List ℕ) (all : Bool) → IfSome input (λ xs. AreAnswers xs output all) → Appends before after output → IfSome input (λ xs. (o : List ℕ) × AreAnswers xs o all × Appends before after o)
+told : (input : Option (List ℕ)) (before after : Option (List ℕ)) (output : List ℕ) (all : Bool)
+    → IfSome input (λ xs. AreAnswers xs output all) → Appends before after output
+    → IfSome input (λ xs. (o : List ℕ) × AreAnswers xs o all × Appends before after o)
 told None before after output all h k = tt
 told (Some xs) before after output all h k = (output, h, k)
 
 -- no line is left
-pub ended : {V : Type 0} (items : V → List ℕ) (input now new before middle after : Option (List ℕ)) (o : Option V) (n : ℕ) (all : Bool) → o ≡ None → Progress input now before middle n all
+pub ended : {V : Type 0} (items : V → List ℕ) (input now new before middle after : Option (List ℕ)) (o : Option V) (n : ℕ) (all : Bool)
+    → o ≡ None → Progress input now before middle n all
     → IfSome now (λ xs. MatchOption new ⊥ (λ rest. MatchOption o (xs ≡ []) (λ l. TakesLine xs (items l) rest)))
     → Keeps middle after → IfSome input (λ xs. (out : List ℕ) × AreAnswers xs out all × Appends before after out)
 ended items input now new before middle after o n all e p t k =
-    told input before after p.output all (all_done input now new p.output all (subst (λ z. IfSome now (λ xs. MatchOption new ⊥ (λ rest. MatchOption z (xs ≡ []) (λ l. TakesLine xs (items l) rest)))) e t) p.answered) (Appends-kept before middle after p.output p.appended k)
+    told input before after p.output all
+    (all_done input now new p.output all
+    (subst (λ z. IfSome now (λ xs. MatchOption new ⊥ (λ rest. MatchOption z (xs ≡ []) (λ l. TakesLine xs (items l) rest)))) e t)
+    p.answered) (Appends-kept before middle after p.output p.appended k)

@@ -1,5 +1,6 @@
 -- A line asks for one thing: the first space ends the type's name.
-use Rattle.std.proofs.Common.{◌≡◌, ℕ, suc, ◌+◌, ◌-◌, Bool, true, false, ◌&&◌, not, eqb, eq-eqb, List, [], ◌∷◌, ◌++◌, length, take, drop, get_or, slice_index, Some, None, refl, sym, ap, ◌∙◌, subst, arith}
+use Rattle.std.proofs.Common.{◌≡◌, ℕ, suc, ◌+◌, ◌-◌, Bool, true, false, ◌&&◌, not, eqb, eq-eqb, List, [], ◌∷◌, ◌++◌, length, take, drop}
+use Rattle.std.proofs.Common.{get_or, slice_index, Some, None, refl, sym, ap, ◌∙◌, subst, arith}
 use Rattle.std.proofs.lemmas.Bool.{eqb-true}
 use Rattle.std.proofs.lemmas.List.{take_all, length-drop}
 use Rattle.std.proofs.Math.Seq.{split_at}
@@ -48,7 +49,8 @@ has_it c [] x h = h.0 refl
 has_it c (b ∷ bs) x h = has_it c bs x h.1
 
 -- without a space nothing is asked
-pub no_space_asks_nothing : (line : List ℕ) → IsFirstByte (is_byte 32) line None → (named : TypeName) (input : List ℕ) → Asks line named input → ⊥
+pub no_space_asks_nothing : (line : List ℕ) → IsFirstByte (is_byte 32) line None → (named : TypeName) (input : List ℕ)
+    → Asks line named input → ⊥
 no_space_asks_nothing line f named input (digits, e, s) =
     has_it 32 (type_name named) digits (subst (HasNo 32) (take_all (length line) line (omega arith) ∙ e) (first_none 32 line f))
 
@@ -57,20 +59,26 @@ split_line : (line : List ℕ) (n : ℕ) → IsFirstByte (is_byte 32) line (Some
 split_line line n f =
     let l = f.0.high in
     let e : suc n ≡ n + 1 = omega arith in
-    split_at line n 0 (omega arith) ∙ ap (λ b. take n line ++ (b ∷ drop (suc n) line)) (eqb-true (slice_index line n) 32 f.1) ∙ ap (λ k. take n line ++ (32 ∷ drop k line)) e
+    split_at line n 0 (omega arith) ∙ ap (λ b. take n line ++ (b ∷ drop (suc n) line)) (eqb-true (slice_index line n) 32 f.1)
+    ∙ ap (λ k. take n line ++ (32 ∷ drop k line)) e
 
 -- what is asked is split there
-asked_parts : (line : List ℕ) (n : ℕ) → IsFirstByte (is_byte 32) line (Some n) → (named : TypeName) (input : List ℕ) (h : Asks line named input) → (type_name named ≡ take n line) × (h.0 ≡ drop (n + 1) line)
+asked_parts : (line : List ℕ) (n : ℕ) → IsFirstByte (is_byte 32) line (Some n)
+    → (named : TypeName) (input : List ℕ) (h : Asks line named input) → (type_name named ≡ take n line) × (h.0 ≡ drop (n + 1) line)
 asked_parts line n f named input (digits, e, s) =
-    split_once 32 (type_name named) (take n line) digits (drop (n + 1) line) (no_space named) (first_some 32 line n f) (sym e ∙ split_line line n f)
+    split_once 32 (type_name named) (take n line) digits (drop (n + 1) line) (no_space named) (first_some 32 line n f)
+    (sym e ∙ split_line line n f)
 
-pub other_name_asks_nothing : (line : List ℕ) (n : ℕ) → IsFirstByte (is_byte 32) line (Some n) → ((named : TypeName) → type_name named ≡ take n line → ⊥) → (named : TypeName) (input : List ℕ) → Asks line named input → ⊥
+pub other_name_asks_nothing : (line : List ℕ) (n : ℕ) → IsFirstByte (is_byte 32) line (Some n)
+    → ((named : TypeName) → type_name named ≡ take n line → ⊥) → (named : TypeName) (input : List ℕ) → Asks line named input → ⊥
 other_name_asks_nothing line n f other named input h = other named (asked_parts line n f named input h).0
 
 -- the line from there to its end
 to_its_end : (line : List ℕ) (k : ℕ) → take (length line - k) (drop k line) ≡ drop k line
 to_its_end line k = take_all (length line - k) (drop k line) (omega (arith, length-drop k line))
 
-pub other_digits_ask_nothing : (line : List ℕ) (n : ℕ) → IsFirstByte (is_byte 32) line (Some n) → ((input : List ℕ) → StandsFor (take (length line - (n + 1)) (drop (n + 1) line)) input → ⊥) → (named : TypeName) (input : List ℕ) → Asks line named input → ⊥
+pub other_digits_ask_nothing : (line : List ℕ) (n : ℕ) → IsFirstByte (is_byte 32) line (Some n)
+    → ((input : List ℕ) → StandsFor (take (length line - (n + 1)) (drop (n + 1) line)) input → ⊥) → (named : TypeName) (input : List ℕ)
+    → Asks line named input → ⊥
 other_digits_ask_nothing line n f other named input h =
     other input (subst (λ d. StandsFor d input) ((asked_parts line n f named input h).1 ∙ sym (to_its_end line (n + 1))) h.2)

@@ -80,14 +80,17 @@ HasNoText Released = NoTextOf (composite released)
 -- The line is answered so, and this says whether that is `ok`: by the canonical text and the number of the bytes behind
 -- the value, or by why there is none, which may be want of memory.
 pub data IsAnswer (line : List ℕ) : List ℕ → Bool → Type 0 where
-  rewritten : (named : TypeName) (input : List ℕ) (text : List ℕ) (n left : ℕ) → Asks line named input → IsText named input text n → left + n ≡ length input → IsAnswer line (ok_line text left) true
-  refused : (named : TypeName) (input : List ℕ) (e : Error) → Asks line named input → (e ≡ Memory) ⊎ HasNoText named input e → IsAnswer line (no_line e) false
+  rewritten : (named : TypeName) (input : List ℕ) (text : List ℕ) (n left : ℕ) → Asks line named input → IsText named input text n
+      → left + n ≡ length input → IsAnswer line (ok_line text left) true
+  refused : (named : TypeName) (input : List ℕ) (e : Error) → Asks line named input → (e ≡ Memory) ⊎ HasNoText named input e
+      → IsAnswer line (no_line e) false
   other : ((named : TypeName) (input : List ℕ) → Asks line named input → ⊥) → IsAnswer line other_line false
 
 -- Line by line the input is answered by the output, and this says whether all answers are `ok`.
 pub data AreAnswers : List ℕ → List ℕ → Bool → Type 0 where
   done : AreAnswers [] [] true
-  next : {input line rest text output : List ℕ} {good all : Bool} → TakesLine input line rest → IsAnswer line text good → AreAnswers rest output all → AreAnswers input (text ++ output) (good && all)
+  next : {input line rest text output : List ℕ} {good all : Bool} → TakesLine input line rest → IsAnswer line text good
+      → AreAnswers rest output all → AreAnswers input (text ++ output) (good && all)
 
 -- What one answer is made of.
 abbrev pub printed_of : Answer → List ℕ
@@ -102,6 +105,7 @@ is_good NoRequest = false
 
 -- It answers the line.
 abbrev pub AnswersLine : List ℕ → Answer → Type 0
-AnswersLine line (Rewritten text left) = (named : TypeName) × (input : List ℕ) × (n : ℕ) × Asks line named input × IsText named input text.items n × (left + n ≡ length input)
+AnswersLine line (Rewritten text left) = (named : TypeName) × (input : List ℕ) × (n : ℕ) × Asks line named input
+    × IsText named input text.items n × (left + n ≡ length input)
 AnswersLine line (Refused e) = (named : TypeName) × (input : List ℕ) × Asks line named input × ((e ≡ Memory) ⊎ HasNoText named input e)
 AnswersLine line NoRequest = (named : TypeName) (input : List ℕ) → Asks line named input → ⊥

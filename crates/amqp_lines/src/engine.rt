@@ -25,7 +25,8 @@ pub fn run<R: Read + Drop, W: Write>(
     writer: &mut W,
     alloc: Global,
 ) -> Result<bool, Error>
-    ensures answers { IfOk result (λ all_ok. IfSome (R.remaining reader) (λ input. (output : List ℕ) × AreAnswers input output all_ok × Appends (W.contents writer.old) (W.contents writer.new) output)) }
+    ensures answers { IfOk result (λ all_ok. IfSome (R.remaining reader) (λ input. (output : List ℕ) × AreAnswers input output all_ok
+        × Appends (W.contents writer.old) (W.contents writer.new) output)) }
     ensures refused { IfErr result (λ e. IsOutside e ⊎ ((e ≡ TooLarge) × IsOverfull (R.remaining reader))) }
 {
     let mut lines = Lines::new(ReadSource::new(reader));
@@ -42,7 +43,8 @@ pub fn run<R: Read + Drop, W: Write>(
 
 // Answers one line, and whether the answer is `ok`.
 fn answer_line<W: Write>(line: &[u8], writer: &mut W, alloc: Global) -> Result<bool, Error>
-    ensures answer { IfOk result (λ good. (text : List ℕ) × IsAnswer line.now text good × Appends (W.contents writer.old) (W.contents writer.new) text) }
+    ensures answer { IfOk result (λ good. (text : List ℕ) × IsAnswer line.now text good
+        × Appends (W.contents writer.old) (W.contents writer.new) text) }
     ensures err { IfErr result IsOutside }
 {
     let answer = Answer::to_line(line, alloc)?;
@@ -65,7 +67,8 @@ fn flush<W: Write>(writer: &mut W) -> Result<(), Error>
 // Writes all of the bytes. No kind of failure is tried again: after one, a front of the bytes was written, and not all.
 fn write_whole<W: Write>(writer: &mut W, bytes: &[u8]) -> Result<(), Error>
     ensures written { OnOk result (Appends (W.contents writer.old) (W.contents writer.new) bytes.now) }
-    ensures part { OnErr result ((n : ℕ) × (n < length bytes.now) × Appends (W.contents writer.old) (W.contents writer.new) (take n bytes.now)) }
+    ensures part { OnErr result ((n : ℕ) × (n < length bytes.now)
+        × Appends (W.contents writer.old) (W.contents writer.new) (take n bytes.now)) }
     ensures err { IfErr result IsOutside }
 {
     let mut done = 0;

@@ -1,5 +1,6 @@
 //! The lines of a source, one after another.
-ghost use Rattle.std.specs.Prelude.{◌≡◌, ◌≤◌, ◌++◌, ◌∷◌, [], List, ℕ, false, true, length, IfOk, IfErr, IfSome, MatchOption, ◌<◌, ◌+◌, take};
+ghost use Rattle.std.specs.Prelude.{◌≡◌, ◌≤◌, ◌++◌, ◌∷◌, [], List, ℕ, false, true, length, IfOk, IfErr, IfSome, MatchOption, ◌<◌, ◌+◌};
+ghost use Rattle.std.specs.Prelude.{take};
 ghost use Rattle.std.specs.Io.KnownBytes.{Consumes, Keeps, IsAtEnd};
 ghost use Rattle.amqp_wire.specs.declared.error.Error.TheVariants.{Memory};
 ghost use Rattle.amqp_lines.specs.Answers.{IsOutside};
@@ -67,7 +68,8 @@ impl<R: ByteSource> Lines<R> {
 
     // Moves what is left of the line from the buffer, and answers whether its end was there.
     fn take_piece(&mut self, line: &mut Vec<u8>) -> Result<bool, Error>
-        ensures taken { IfOk result (λ ended. (piece : List ℕ) × HasNo 10 piece × (line.new.items ≡ line.old.items ++ piece) × Consumes self.old self.new (with_feed ended piece)) }
+        ensures taken { IfOk result (λ ended. (piece : List ℕ) × HasNo 10 piece × (line.new.items ≡ line.old.items ++ piece)
+            × Consumes self.old self.new (with_feed ended piece)) }
         ensures err { IfErr result (λ e. e ≡ Memory) }
     {
         let left = &self.buffer[self.start..self.end];
@@ -79,7 +81,8 @@ impl<R: ByteSource> Lines<R> {
 
     /// The next line, without its line feed, or `None` where the source has ended. An error is want of memory or the source's.
     pub(crate) fn next_line(&mut self, alloc: Global) -> Result<Option<Vec<u8>>, Error>
-        ensures line { IfOk result (λ o. IfSome self.old (λ input. MatchOption self.new ⊥ (λ rest. MatchOption o (input ≡ []) (λ line. TakesLine input line.items rest)))) }
+        ensures line { IfOk result (λ o. IfSome self.old
+            (λ input. MatchOption self.new ⊥ (λ rest. MatchOption o (input ≡ []) (λ line. TakesLine input line.items rest)))) }
         ensures err { IfErr result IsOutside }
     {
         let mut line = Vec::new(alloc);

@@ -60,7 +60,8 @@ pub(crate) struct Request {
 impl Request {
     /// What a line asks for, or `None` where it has another form. The only error is want of memory.
     pub(crate) fn from_line(line: &[u8], alloc: Global) -> Result<Option<Request>, Error>
-        ensures asked { IfOk result (λ o. MatchOption o ((named : TypeName) (input : List ℕ) → Asks line.now named input → ⊥) (λ request. Asks line.now request.type_name request.input.items)) }
+        ensures asked { IfOk result (λ o. MatchOption o ((named : TypeName) (input : List ℕ) → Asks line.now named input
+            → ⊥) (λ request. Asks line.now request.type_name request.input.items)) }
         ensures err { IfErr result (λ e. e ≡ Memory) }
     {
         let Some(space) = memchr(b' ', line) else {
@@ -78,7 +79,8 @@ impl Request {
 
 // The bytes of an even, positive number of hexadecimal digits, or none for `-`.
 fn from_digits(digits: &[u8], alloc: Global) -> Result<Option<Vec<u8>>, Error>
-    ensures stands { IfOk result (λ o. MatchOption o ((input : List ℕ) → StandsFor digits.now input → ⊥) (λ input. StandsFor digits.now input.items)) }
+    ensures stands { IfOk result (λ o. MatchOption o ((input : List ℕ) → StandsFor digits.now input
+        → ⊥) (λ input. StandsFor digits.now input.items)) }
     ensures err { IfErr result (λ e. e ≡ Memory) }
 {
     if digits == b"-".as_slice() {

@@ -1,5 +1,6 @@
 -- Numbers as bytes, and fronts of lists.
-use Rattle.std.proofs.Common.{◌≡◌, ℕ, ◌+◌, ◌*◌, ◌%◌, ◌^◌, ◌<◌, List, ◌++◌, length, take, drop, refl, sym, ap, ap₂, ◌∙◌, arith, suc, zero, fold, pow-suc, mul_comm, mod-eq_of_lt}
+use Rattle.std.proofs.Common.{◌≡◌, ℕ, ◌+◌, ◌*◌, ◌%◌, ◌^◌, ◌<◌, List, ◌++◌, length, take, drop, refl, sym, ap, ap₂, ◌∙◌, arith, suc, zero}
+use Rattle.std.proofs.Common.{fold, pow-suc, mul_comm, mod-eq_of_lt}
 use Rattle.std.proofs.Math.Nat.{pow-le-pow_right}
 use Rattle.std.proofs.Math.Arith.{mod-mul}
 use Rattle.std.proofs.Math.Seq.{take-append_seam, drop-append_seam}
@@ -36,7 +37,8 @@ pub rest : (b b' x y : List ℕ) → length b ≡ length b' → b ++ x ≡ b' ++
 rest b b' x y l e = sym (drop-append_seam b x) ∙ ap₂ drop l e ∙ drop-append_seam b' y
 
 -- two numbers of one width, in front of one list
-pub field : (w n n' : ℕ) (x y : List ℕ) → n < 256 ^ w → n' < 256 ^ w → bytes_high_first w n ++ x ≡ bytes_high_first w n' ++ y → (n ≡ n') × (x ≡ y)
+pub field : (w n n' : ℕ) (x y : List ℕ) → n < 256 ^ w → n' < 256 ^ w
+    → bytes_high_first w n ++ x ≡ bytes_high_first w n' ++ y → (n ≡ n') × (x ≡ y)
 field w n n' x y h h' e =
     let l : length (bytes_high_first w n) ≡ length (bytes_high_first w n') = length-bytes w n ∙ sym (length-bytes w n') in (
       sym (number_back w n h) ∙ ap number (front (bytes_high_first w n) (bytes_high_first w n') x y l e) ∙ number_back w n' h',

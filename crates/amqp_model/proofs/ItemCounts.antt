@@ -24,8 +24,10 @@ before_more t (u ∷ us) n l = omega arith
 pub canonical_fewest : {V : Type 0} (fs : Fields V) (ts : List Term) (v : V) → Fits fs ts v → length (canonical_items fs v) ≤ length ts
 unfolding Fits canonical_items
 canonical_fewest none ts v h = omega arith
-canonical_fewest (field get s fs) [] v h = before_none (s.meaning.canon (get v)) (canonical_items fs v) (s.null_canon (get v) h.0) (canonical_fewest fs [] v h.1)
-canonical_fewest (field get s fs) (t ∷ ts) v h = before_more (s.meaning.canon (get v)) (canonical_items fs v) (length ts) (canonical_fewest fs ts v h.1)
+canonical_fewest (field get s fs) [] v h =
+    before_none (s.meaning.canon (get v)) (canonical_items fs v) (s.null_canon (get v) h.0) (canonical_fewest fs [] v h.1)
+canonical_fewest (field get s fs) (t ∷ ts) v h =
+    before_more (s.meaning.canon (get v)) (canonical_items fs v) (length ts) (canonical_fewest fs ts v h.1)
 
 -- There are no more items than fields.
 pub fits_within : {V : Type 0} (fs : Fields V) (ts : List Term) (v : V) → Fits fs ts v → length ts ≤ length (kinds_of fs)
@@ -43,18 +45,21 @@ fits_without_null none (t ∷ ts) v h = absurd h
 fits_without_null (field get s fs) [] v h = h
 fits_without_null (field get s fs) (t ∷ ts) v h = (h.0, fits_without_null fs ts v h.1)
 
-pub fits_with_null : {V : Type 0} (fs : Fields V) (ts : List Term) (v : V) → length ts < length (kinds_of fs) → Fits fs ts v → Fits fs (ts ++ leaf null ∷ []) v
+pub fits_with_null : {V : Type 0} (fs : Fields V) (ts : List Term) (v : V) → length ts < length (kinds_of fs) → Fits fs ts v
+    → Fits fs (ts ++ leaf null ∷ []) v
 unfolding Fits
 fits_with_null none ts v l h = absurd (omega arith)
 fits_with_null (field get s fs) [] v l h = h
 fits_with_null (field get s fs) (t ∷ ts) v l h = (h.0, fits_with_null fs ts v (omega arith) h.1)
 
-is_there : {T : Type 0} (s : Slot T) (t : Term) (v : T) (b : Bool) → is_null t ≡ b → is_required s.kind ≡ true → s.meaning.means t v → is_null t ≡ false
+is_there : {T : Type 0} (s : Slot T) (t : Term) (v : T) (b : Bool) → is_null t ≡ b → is_required s.kind ≡ true
+    → s.meaning.means t v → is_null t ≡ false
 is_there s t v true e r h = absurd (s.required v r (s.null_alike t v e h))
 is_there s t v false e r h = e
 
 -- An item of a field that null doesn't fit is there, and isn't null.
-pub fits_required : {V : Type 0} (fs : Fields V) (ts : List Term) (v : V) (k : ℕ) → Fits fs ts v → is_required (get_or (kinds_of fs) k Optional) ≡ true → is_null (get_or ts k (leaf null)) ≡ false
+pub fits_required : {V : Type 0} (fs : Fields V) (ts : List Term) (v : V) (k : ℕ) → Fits fs ts v
+    → is_required (get_or (kinds_of fs) k Optional) ≡ true → is_null (get_or ts k (leaf null)) ≡ false
 unfolding Fits
 fits_required none ts v k h r = absurd (clash r refl)
 fits_required (field get s fs) [] v zero h r = absurd (s.required (get v) r h.0)

@@ -1,5 +1,6 @@
 -- The lengths of spellings.
-use Rattle.std.proofs.Common.{◌≡◌, ℕ, ◌+◌, ◌<◌, ◌≤◌, ◌⊎◌, inl, inr, List, [], ◌∷◌, ◌++◌, length, refl, sym, ap, ap₂, ◌∙◌, subst, arith, Bool, true, false, ◌&&◌, ltb}
+use Rattle.std.proofs.Common.{◌≡◌, ℕ, ◌+◌, ◌<◌, ◌≤◌, ◌⊎◌, inl, inr, List, [], ◌∷◌, ◌++◌, length, refl, sym, ap, ap₂, ◌∙◌, subst, arith}
+use Rattle.std.proofs.Common.{Bool, true, false, ◌&&◌, ltb}
 use Rattle.std.proofs.lemmas.Bool.{cond_both, ltb-true, ltb-false}
 use Rattle.std.proofs.lemmas.List.{length-append}
 use Rattle.std.specs.Int.{bytes_high_first}
@@ -14,10 +15,12 @@ joined_length b first second e = ap length e ∙ length-append first second
 pub sized_length : (w : ℕ) (s d : List ℕ) → d ≡ bytes_high_first w (length s) ++ s → length d ≡ w + length s
 sized_length w s d e = joined_length d (bytes_high_first w (length s)) s e ∙ ap (λ n. n + length s) (length-bytes w (length s))
 
-pub frame_length : (w size n : ℕ) (content d : List ℕ) → d ≡ bytes_high_first w size ++ (bytes_high_first w n ++ content) → length d ≡ w + (w + length content)
+pub frame_length : (w size n : ℕ) (content d : List ℕ) → d ≡ bytes_high_first w size ++ (bytes_high_first w n ++ content)
+    → length d ≡ w + (w + length content)
 frame_length w size n content d e =
     joined_length d (bytes_high_first w size) (bytes_high_first w n ++ content) e
-    ∙ ap₂ (λ a b. a + b) (length-bytes w size) (length-append (bytes_high_first w n) content ∙ ap (λ a. a + length content) (length-bytes w n))
+    ∙ ap₂ (λ a b. a + b) (length-bytes w size) (length-append (bytes_high_first w n) content
+    ∙ ap (λ a. a + length content) (length-bytes w n))
 
 pub constructor_length : (ds : List Descriptor) (c : ℕ) (b : List ℕ) → Constructor ds c b → 1 ≤ length b
 constructor_length [] c b h = subst (λ l. 1 ≤ length l) (sym h.0) (omega arith)
@@ -40,7 +43,8 @@ too_long n content (inl e) = inl (ltb-false content 255 e)
 too_long n content (inr e) = inr (ltb-false n 256 e)
 
 -- what holds of both heads holds of the canonical one
-pub compact_cases : (k : Container) (n content : ℕ) (P : List ℕ → Type 0) → (content < 255 → n < 256 → P (short_code k ∷ size_and_count 1 n content))
+pub compact_cases : (k : Container) (n content : ℕ) (P : List ℕ → Type 0)
+    → (content < 255 → n < 256 → P (short_code k ∷ size_and_count 1 n content))
     → ((255 ≤ content) ⊎ (256 ≤ n) → P (wide_code k ∷ size_and_count 4 n content)) → P (compact_head k n content)
 compact_cases k n content P short_ long_ =
     cond_both (is_short n content) (short_code k ∷ size_and_count 1 n content) (wide_code k ∷ size_and_count 4 n content) P

@@ -1,5 +1,6 @@
 -- Items of an array that can share a constructor have one form, and those of one form can.
-use Rattle.std.proofs.Common.{◌≡◌, ℕ, List, [], ◌∷◌, refl, sym, ap, ap₂, ◌∙◌, arith, Option, Some, None, option_map, unwrap_or, lt_of_not-le, le_antisymm, le_of_suc-le-suc, drop, get_or}
+use Rattle.std.proofs.Common.{◌≡◌, ℕ, List, [], ◌∷◌, refl, sym, ap, ap₂, ◌∙◌, arith, Option, Some, None, option_map, unwrap_or}
+use Rattle.std.proofs.Common.{lt_of_not-le, le_antisymm, le_of_suc-le-suc, drop, get_or}
 use Rattle.amqp_model.specs.Term.{Term, leaf, container, described, kept, barred, Descriptor, name, code}
 use Rattle.amqp_model.specs.Text.{form}
 use Rattle.amqp_model.specs.Refusals.{HasForm, Differ}

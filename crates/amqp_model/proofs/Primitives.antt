@@ -1,12 +1,14 @@
 -- The canonical data of a primitive is its data.
-use Rattle.std.proofs.Common.{◌≡◌, ℕ, ◌^◌, ◌<◌, List, [], length, refl, sym, ap, ◌∙◌, Some, Bool, true, false, cond, eqb, ltb, mod-eq_of_lt, ℤ, pos, negsuc, FitsSigned, IsAscii}
+use Rattle.std.proofs.Common.{◌≡◌, ℕ, ◌^◌, ◌<◌, List, [], length, refl, sym, ap, ◌∙◌, Some, Bool, true, false, cond, eqb, ltb, mod-eq_of_lt}
+use Rattle.std.proofs.Common.{ℤ, pos, negsuc, FitsSigned, IsAscii}
 use Rattle.std.proofs.lemmas.Bool.{cond_both, eqb-true, ltb-true}
 use Rattle.std.proofs.lemmas.Nat.{from_be_bytes-to_be_bytes_2, from_be_bytes-to_be_bytes_4, from_be_bytes-to_be_bytes_8}
 use Rattle.std.proofs.lemmas.Int.{to_z-of_z}
 use Rattle.std.proofs.Math.Facts.{Fits-of_z}
 use Rattle.std.proofs.Math.Utf8.{scalar_fits}
 use Rattle.std.specs.Int.{w8, w16, w32, w64, to_be_bytes, from_be_bytes, cast_signed, cast_unsigned}
-use Rattle.amqp_model.specs.Term.{Primitive, null, boolean, ubyte, ushort, uint, ulong, byte, short, int, long, char, timestamp, decimal32, decimal64, decimal128, uuid, binary, string, symbol}
+use Rattle.amqp_model.specs.Term.{Primitive, null, boolean, ubyte, ushort, uint, ulong, byte, short, int, long, char, timestamp, decimal32}
+use Rattle.amqp_model.specs.Term.{decimal64, decimal128, uuid, binary, string, symbol}
 use Rattle.amqp_model.specs.Constructors.{format}
 use Rattle.amqp_model.specs.Spelling.{PrimitiveData}
 use Rattle.amqp_model.specs.Text.{wide, shortest, is_small, signed_bytes, with_size}
@@ -65,7 +67,8 @@ small_fits (pos n) h = record { sfits = ltb-true n 128 h }
 small_fits (negsuc n) h = record { sfits = ltb-true n 128 h }
 
 -- of two spellings each is one where it comes
-either : (p : Primitive) (test : Bool) (short_ long_ : ℕ × List ℕ) → (test ≡ true → IsSpelling p short_) → (test ≡ false → IsSpelling p long_) → IsSpelling p (cond test short_ long_)
+either : (p : Primitive) (test : Bool) (short_ long_ : ℕ × List ℕ) → (test ≡ true → IsSpelling p short_)
+    → (test ≡ false → IsSpelling p long_) → IsSpelling p (cond test short_ long_)
 either p test short_ long_ = cond_both test short_ long_ (IsSpelling p)
 
 pub shortest_spelling : (p : Primitive) → IsInRange p → IsWritten p → IsSpelling p (shortest p)

@@ -1,7 +1,10 @@
 -- Worked rows.
-use Rattle.std.proofs.Common.{◌≡◌, ℕ, ◌^◌, ◌<◌, ◌≤◌, inl, inr, List, [], ◌∷◌, ◌++◌, length, take, drop, get_or, refl, sym, ap, ◌∙◌, subst, suc, cond, ltb, arith, append-nil, true, Some, None, unwrap_or}
+use Rattle.std.proofs.Common.{◌≡◌, ℕ, ◌^◌, ◌<◌, ◌≤◌, inl, inr, List, [], ◌∷◌, ◌++◌, length, take, drop, get_or, refl, sym, ap, ◌∙◌, subst}
+use Rattle.std.proofs.Common.{suc, cond, ltb, arith, append-nil, true, Some, None, unwrap_or}
 use Rattle.std.specs.Int.{bytes_high_first}
-use Rattle.amqp_model.specs.Term.{Primitive, null, boolean, uint, symbol, binary, Refusal, depth, zero_width_items, non_ascii, mixed_array, too_large, lazy_in_array, list, map, array, Term, Terms, leaf, container, described, kept, barred, none, more, Descriptor, count}
+use Rattle.amqp_model.specs.Term.{Primitive, null, boolean, uint, symbol, binary, Refusal, depth, zero_width_items, non_ascii, mixed_array}
+use Rattle.amqp_model.specs.Term.{too_large, lazy_in_array, list, map, array, Term, Terms, leaf, container, described, kept, barred, none}
+use Rattle.amqp_model.specs.Term.{more, Descriptor, count}
 use Rattle.amqp_model.specs.Constructors.{format}
 use Rattle.amqp_model.specs.Spelling.{Joined, IsSize, HasWidthZero, Spelled, data_of, elements_of, shared_data_of, enc}
 use Rattle.amqp_model.specs.Text.{Alone, spell, head, container_text, form, text, texts}
@@ -14,7 +17,9 @@ use Rattle.amqp_model.proofs.Mixed.{one_form_shared}
 abbrev one_binary : List ℕ → Term
 one_binary s = container list (more (leaf (binary s)) none)
 
-binary_list : (s : List ℕ) (n : ℕ) → length s ≡ n → text (one_binary s) Alone ≡ container_text Alone list 1 (spell (cond (ltb n 256) (0xa0, bytes_high_first 1 n ++ s) (0xb0, bytes_high_first 4 n ++ s)))
+binary_list : (s : List ℕ) (n : ℕ) → length s ≡ n
+    → text (one_binary s) Alone
+    ≡ container_text Alone list 1 (spell (cond (ltb n 256) (0xa0, bytes_high_first 1 n ++ s) (0xb0, bytes_high_first 4 n ++ s)))
 unfolding text texts
 binary_list s n e =
     let item : ℕ → List ℕ = λ n. spell (cond (ltb n 256) (0xa0, bytes_high_first 1 n ++ s) (0xb0, bytes_high_first 4 n ++ s)) in
@@ -23,21 +28,38 @@ binary_list s n e =
 pub binary_252 : (s : List ℕ) → length s ≡ 252 → take 5 (text (one_binary s) Alone) ≡ 0xc0 ∷ 0xff ∷ 0x01 ∷ 0xa0 ∷ 0xfc ∷ []
 binary_252 s e = ap (take 5) (binary_list s 252 e) ∙ ap (λ m. take 5 (head Alone list 1 (suc (suc m)) ++ (0xa0 ∷ 252 ∷ s))) e
 
-pub binary_253 : (s : List ℕ) → length s ≡ 253 → take 11 (text (one_binary s) Alone) ≡ 0xd0 ∷ 0 ∷ 0 ∷ 0x01 ∷ 0x03 ∷ 0 ∷ 0 ∷ 0 ∷ 0x01 ∷ 0xa0 ∷ 0xfd ∷ []
+pub binary_253 : (s : List ℕ) → length s ≡ 253
+    → take 11 (text (one_binary s) Alone) ≡ 0xd0 ∷ 0 ∷ 0 ∷ 0x01 ∷ 0x03 ∷ 0 ∷ 0 ∷ 0 ∷ 0x01 ∷ 0xa0 ∷ 0xfd ∷ []
 binary_253 s e = ap (take 11) (binary_list s 253 e) ∙ ap (λ m. take 11 (head Alone list 1 (suc (suc m)) ++ (0xa0 ∷ 253 ∷ s))) e
 
 pub empty_array_short : enc (0xe0 ∷ 0x01 ∷ 0x00 ∷ []) (container array none)
 unfolding enc
-empty_array_short = ([], 0xe0, omega arith, (0xe0 ∷ [], 1 ∷ 0 ∷ [], refl, (refl, tt), (refl, 1, [], inl refl, inl refl, omega arith, omega arith, refl)))
+empty_array_short =
+    ([], 0xe0, omega arith, (0xe0 ∷ [], 1 ∷ 0 ∷ [], refl, (refl, tt), (refl, 1, [], inl refl, inl refl, omega arith, omega arith, refl)))
 
 pub empty_array_typed : enc (0xe0 ∷ 0x02 ∷ 0x00 ∷ 0x40 ∷ []) (container array none)
 unfolding enc
-empty_array_typed =
-    ([], 0xe0, omega arith, (0xe0 ∷ [], 2 ∷ 0 ∷ 0x40 ∷ [], refl, (refl, tt), (refl, 2, 0x40 ∷ [], inl refl, inr ([], 0x40, omega arith, (0x40 ∷ [], [], refl, (refl, tt), refl)), omega arith, omega arith, refl)))
+empty_array_typed = (
+  [],
+  0xe0,
+  omega arith,
+  (
+    0xe0 ∷ [],
+    2 ∷ 0 ∷ 0x40 ∷ [],
+    refl,
+    (refl, tt),
+    (refl, 2, 0x40 ∷ [], inl refl, inr ([], 0x40, omega arith, (0x40 ∷ [], [], refl, (refl, tt), refl)), omega arith, omega arith, refl),
+  ),
+)
 
 pub empty_list_sized : enc (0xc0 ∷ 0x00 ∷ 0x00 ∷ []) (container list none)
 unfolding enc
-empty_list_sized = ([], 0xc0, omega arith, (0xc0 ∷ [], 0 ∷ 0 ∷ [], refl, (refl, tt), (refl, 0, [], inr (refl, refl, refl, refl), refl, omega arith, omega arith, refl)))
+empty_list_sized = (
+  [],
+  0xc0,
+  omega arith,
+  (0xc0 ∷ [], 0 ∷ 0 ∷ [], refl, (refl, tt), (refl, 0, [], inr (refl, refl, refl, refl), refl, omega arith, omega arith, refl)),
+)
 
 array_list : array ≡ list → ⊥
 array_list e = cc
@@ -78,12 +100,15 @@ map_only (barred r) b h = absurd h
 
 true_items : (ts : Terms) → 255 ≡ count ts → elements_of ts (0x41 ∷ []) → ⊥
 true_items none n h = absurd (omega arith)
-true_items (more t ts) n h = (bare (λ ds c d. (HasWidthZero (format c) → ⊥) × Joined (data_of t ds c) (shared_data_of ts ds c) d) 0x41 [] (λ e. absurd (omega arith)) h).0 tt
+true_items (more t ts) n h =
+    (bare (λ ds c d. (HasWidthZero (format c) → ⊥) × Joined (data_of t ds c) (shared_data_of ts ds c) d) 0x41 []
+    (λ e. absurd (omega arith)) h).0 tt
 
 pub width_zero : (t : Term) → enc (0xe0 ∷ 0x02 ∷ 0xff ∷ 0x41 ∷ []) t → ⊥
 unfolding enc
 width_zero t h =
-    let (ts, (_, size, content, s, c, fits, room, e)) = array_only t (0x02 ∷ 0xff ∷ 0x41 ∷ []) (bare (data_of t) 0xe0 (0x02 ∷ 0xff ∷ 0x41 ∷ []) (λ e. absurd (omega arith)) h) in
+    let (ts, (_, size, content, s, c, fits, room, e)) =
+    array_only t (0x02 ∷ 0xff ∷ 0x41 ∷ []) (bare (data_of t) 0xe0 (0x02 ∷ 0xff ∷ 0x41 ∷ []) (λ e. absurd (omega arith)) h) in
     let sizes = field 1 2 size (0xff ∷ 0x41 ∷ []) (bytes_high_first 1 (count ts) ++ content) (omega arith) fits e in
     let counts = field 1 255 (count ts) (0x41 ∷ []) content (omega arith) room sizes.1 in
     true_items ts counts.0 (subst (elements_of ts) (sym counts.1) c)
@@ -95,7 +120,8 @@ no_size n content (inr (e, _, _, _)) = map_list e
 pub empty_size : (t : Term) → enc (0xc1 ∷ 0x00 ∷ 0x00 ∷ []) t → ⊥
 unfolding enc
 empty_size t h =
-    let (ts, (_, (_, size, content, s, c, fits, room, e))) = map_only t (0x00 ∷ 0x00 ∷ []) (bare (data_of t) 0xc1 (0x00 ∷ 0x00 ∷ []) (λ e. absurd (omega arith)) h) in
+    let (ts, (_, (_, size, content, s, c, fits, room, e))) =
+    map_only t (0x00 ∷ 0x00 ∷ []) (bare (data_of t) 0xc1 (0x00 ∷ 0x00 ∷ []) (λ e. absurd (omega arith)) h) in
     let sizes = field 1 0 size (0x00 ∷ []) (bytes_high_first 1 (count ts) ++ content) (omega arith) fits e in
     no_size (count ts) content (subst (IsSize map 1 (count ts) content) (sym sizes.0) s)
 
@@ -104,7 +130,8 @@ uint_boolean e = let n : 0x70 ≡ 0x56 = ap (λ o. (unwrap_or {T = List Descript
 
 pub mixed_items : Refuses mixed_array (container array (more (leaf (uint 1)) (more (leaf (boolean true)) none)))
 unfolding Refuses
-mixed_items = inl (inl (inr (leaf (uint 1), leaf (boolean true), inl refl, inr (inl refl), ((([], 0x70), refl), (([], 0x56), refl), uint_boolean))))
+mixed_items =
+    inl (inl (inr (leaf (uint 1), leaf (boolean true), inl refl, inr (inl refl), ((([], 0x70), refl), (([], 0x56), refl), uint_boolean))))
 
 pub null_item : Refuses zero_width_items (container array (more (leaf null) none))
 unfolding Refuses
@@ -160,12 +187,14 @@ reads_barred r (described d t) h = absurd h
 reads_barred r (kept b) h = absurd h
 reads_barred r (barred s) h = ap barred (sym h)
 
-flat : (u : Term) → ((t : Term) → ExpandsTo u t → array_nest (more t none) ≡ 0) → (t : Term) → ExpandsTo (container array (after_uint u)) t → nest t ≡ 0
+flat : (u : Term) → ((t : Term) → ExpandsTo u t → array_nest (more t none) ≡ 0) → (t : Term)
+    → ExpandsTo (container array (after_uint u)) t → nest t ≡ 0
 flat u f (container list ts) r = absurd (array_list r.0)
 flat u f (container map ts) r = absurd (array_map r.0)
 flat u f (container array none) r = absurd r.1
 flat u f (container array (more a none)) r = absurd r.1.1
-flat u f (container array (more a (more b none))) r = subst (λ a. array_nest (more a (more b none)) ≡ 0) (sym (reads_leaf (uint 1) a r.1.0)) (f b r.1.1.0)
+flat u f (container array (more a (more b none))) r =
+    subst (λ a. array_nest (more a (more b none)) ≡ 0) (sym (reads_leaf (uint 1) a r.1.0)) (f b r.1.1.0)
 flat u f (container array (more a (more b (more c ts)))) r = absurd r.1.1.1
 flat u f (leaf p) r = absurd r
 flat u f (described d t) r = absurd r
@@ -206,14 +235,16 @@ uint_shared : Differ (leaf (uint 1)) (leaf (uint 1)) → ⊥
 uint_shared = one_form_shared (leaf (uint 1)) (leaf (uint 1)) (([], 0x70), refl) refl
 
 -- two items none of which differs from one make no array mixed
-unmixed : (a u : Term) → (Differ a a → ⊥) → (Differ a u → ⊥) → (Differ u a → ⊥) → (Differ u u → ⊥) → HasMixedItems (container array (both a u)) → ⊥
+unmixed : (a u : Term) → (Differ a a → ⊥) → (Differ a u → ⊥) → (Differ u a → ⊥) → (Differ u u → ⊥)
+    → HasMixedItems (container array (both a u)) → ⊥
 unmixed a u h k l m (t, v, i, j, n) =
     let by_first = either_item a u (λ v. Differ a v → ⊥) h k v j in
     let by_second = either_item a u (λ v. Differ u v → ⊥) l m v j in
     either_item a u (λ t. Differ t v → ⊥) by_first by_second t i n
 
 -- nor does a term without a form behind a uint
-unmixed_formless : (u : Term) → form u ≡ None → (Differ (leaf (uint 1)) u → HasForm u) → (Differ u (leaf (uint 1)) → HasForm u) → (Differ u u → HasForm u)
+unmixed_formless : (u : Term) → form u ≡ None → (Differ (leaf (uint 1)) u → HasForm u) → (Differ u (leaf (uint 1)) → HasForm u)
+    → (Differ u u → HasForm u)
     → HasMixedItems (container array (after_uint u)) → ⊥
 unmixed_formless u e k l m =
     unmixed (leaf (uint 1)) u uint_shared (λ n. formless u e (k n)) (λ n. formless u e (l n)) (λ n. formless u e (m n))
@@ -294,7 +325,8 @@ same_descriptor d =
     unmixed (described d (leaf (uint 1))) (described d (leaf null))
     (λ n. uint_shared (n refl)) (λ n. no_null (n refl).1) (λ n. no_null (n refl).0) (λ n. no_null (n refl).0)
 
-pub described_null_unmixed : (d : Descriptor) → Refuses mixed_array (container array (both (described d (leaf (uint 1))) (described d (leaf null)))) → ⊥
+pub described_null_unmixed : (d : Descriptor)
+    → Refuses mixed_array (container array (both (described d (leaf (uint 1))) (described d (leaf null)))) → ⊥
 unfolding Refuses
 described_null_unmixed d (inl (inl (inl e))) = cc
 described_null_unmixed d (inl (inl (inr h))) = same_descriptor d h

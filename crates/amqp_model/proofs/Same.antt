@@ -1,5 +1,6 @@
 -- Two fronts of one list, by the parts of a spelling.
-use Rattle.std.proofs.Common.{◌≡◌, ℕ, inl, inr, List, [], ◌∷◌, ◌++◌, length, get_or, drop, refl, sym, ap, ap₂, ◌∙◌, ◌-◌, subst, subst₂, arith, unwrap_or, append_assoc}
+use Rattle.std.proofs.Common.{◌≡◌, ℕ, inl, inr, List, [], ◌∷◌, ◌++◌, length, get_or, drop, refl, sym, ap, ap₂, ◌∙◌, ◌-◌, subst, subst₂}
+use Rattle.std.proofs.Common.{arith, unwrap_or, append_assoc}
 use Rattle.std.specs.Int.{bytes_high_first}
 use Rattle.amqp_model.specs.Term.{Primitive, Container, Descriptor, name, code}
 use Rattle.amqp_model.specs.Constructors.{Format, fixed, variable, compound, unknown, format}
@@ -49,14 +50,19 @@ content_length : (k : Container) (w n size : ℕ) (content : List ℕ) → IsSiz
 content_length k w n size content (inl e) = omega arith
 content_length k w n size content (inr (_, _, empty, nothing)) = ap length empty ∙ (omega arith)
 
-pub container_same : (F : Format) (k : Container) (n n' : ℕ) (C C' : List ℕ → Type 0) (E : Type 0) → (n ≡ n' → One C C' E) → Same (ContainerData F k n C) (ContainerData F k n' C') E
-container_same (compound k' w) k n n' C C' E inner b b' x y (_, size, content, h, c, fits, room, s) (_, size', content', h', c', fits', room', s') e =
-    let whole : bytes_high_first w size ++ (bytes_high_first w n ++ (content ++ x)) ≡ bytes_high_first w size' ++ (bytes_high_first w n' ++ (content' ++ y)) =
-    sym (regroup_three (bytes_high_first w size) (bytes_high_first w n) content x b s) ∙ e ∙ regroup_three (bytes_high_first w size') (bytes_high_first w n') content' y b' s' in
+pub container_same : (F : Format) (k : Container) (n n' : ℕ) (C C' : List ℕ → Type 0) (E : Type 0) → (n ≡ n' → One C C' E)
+    → Same (ContainerData F k n C) (ContainerData F k n' C') E
+container_same (compound k' w) k n n' C C' E inner b b' x y (_, size, content, h, c, fits, room, s)
+    (_, size', content', h', c', fits', room', s') e =
+    let whole : bytes_high_first w size ++ (bytes_high_first w n ++ (content ++ x))
+    ≡ bytes_high_first w size' ++ (bytes_high_first w n' ++ (content' ++ y)) =
+    sym (regroup_three (bytes_high_first w size) (bytes_high_first w n) content x b s) ∙ e
+    ∙ regroup_three (bytes_high_first w size') (bytes_high_first w n') content' y b' s' in
     let sizes = field w size size' (bytes_high_first w n ++ (content ++ x)) (bytes_high_first w n' ++ (content' ++ y)) fits fits' whole in
     let counts = field w n n' (content ++ x) (content' ++ y) room room' sizes.1 in
     let same : content ≡ content' =
-    front content content' x y (content_length k w n size content h ∙ ap (λ z. z - w) sizes.0 ∙ sym (content_length k w n' size' content' h')) counts.1 in (
+    front content content' x y (content_length k w n size content h ∙ ap (λ z. z - w) sizes.0
+    ∙ sym (content_length k w n' size' content' h')) counts.1 in (
       s ∙ ap₂ (λ z m. bytes_high_first w z ++ m) sizes.0 (ap₂ (λ z m. bytes_high_first w z ++ m) counts.0 same) ∙ sym s',
       inner counts.0 content c (subst C' (sym same) c'),
     )
@@ -80,7 +86,8 @@ heads a a' m m' b b' x y s s' e = first_same a a' (m ++ x) (m' ++ y) (ap (λ l. 
 pub names_same : (d d' : Descriptor) → Same (Names d) (Names d') (d ≡ d')
 names_same d d' b b' x y (c, data_, s, h) (c', data', s', h') e =
     let r = heads c c' data_ data' b b' x y s s' e in
-    let p = primitive_same (format c) (descriptor_value d) (descriptor_value d') data_ data' x y h (subst (λ z. PrimitiveData (format z) (descriptor_value d') data') (sym r.0) h') r.1 in
+    let p = primitive_same (format c) (descriptor_value d) (descriptor_value d') data_ data' x y h
+    (subst (λ z. PrimitiveData (format z) (descriptor_value d') data') (sym r.0) h') r.1 in
     (s ∙ ap₂ (λ z l. z ∷ l) r.0 p.0 ∙ sym s', descriptor_same d d' p.1)
 
 pub constructor_same : (ds ds' : List Descriptor) (c c' : ℕ) → Same (Constructor ds c) (Constructor ds' c') ((ds ≡ ds') × (c ≡ c'))
@@ -93,12 +100,15 @@ constructor_same (d ∷ ds) [] c c' b b' x y (first, second, s, h, k) (s', h') e
     absurd (subst (λ z. IsKnown (format z)) (sym (heads 0 c' (first ++ second) [] b b' x y s s' e).0) h')
 constructor_same (d ∷ ds) (d' ∷ ds') c c' b b' x y (first, second, s, h, k) (first', second', s', h', k') e =
     let r = heads 0 0 (first ++ second) (first' ++ second') b b' x y s s' e in
-    let j = joined_same (Names d) (Names d') (Constructor ds c) (Constructor ds' c') (d ≡ d') ((ds ≡ ds') × (c ≡ c')) (names_same d d') (λ _. constructor_same ds ds' c c')
+    let j = joined_same (Names d) (Names d') (Constructor ds c) (Constructor ds' c') (d ≡ d') ((ds ≡ ds') × (c ≡ c')) (names_same d d')
+    (λ _. constructor_same ds ds' c c')
     (first ++ second) (first' ++ second') x y (first, second, refl, h, k) (first', second', refl, h', k') r.1 in
     (s ∙ ap (λ l. 0 ∷ l) j.0 ∙ sym s', (ap₂ (λ z l. z ∷ l) j.1.0 j.1.1.0, j.1.1.1))
 
-pub spelled_same : (D D' : List Descriptor → ℕ → List ℕ → Type 0) (E : Type 0) → ((ds : List Descriptor) (c : ℕ) → Same (D ds c) (D' ds c) E) → Same (Spelled D) (Spelled D') E
+pub spelled_same : (D D' : List Descriptor → ℕ → List ℕ → Type 0) (E : Type 0)
+    → ((ds : List Descriptor) (c : ℕ) → Same (D ds c) (D' ds c) E) → Same (Spelled D) (Spelled D') E
 spelled_same D D' E inner b b' x y (ds, c, few, h) (ds', c', few', h') e =
-    let j = joined_same (Constructor ds c) (Constructor ds' c') (D ds c) (D' ds' c') ((ds ≡ ds') × (c ≡ c')) E (constructor_same ds ds' c c')
+    let j = joined_same (Constructor ds c) (Constructor ds' c') (D ds c) (D' ds' c') ((ds ≡ ds') × (c ≡ c')) E
+    (constructor_same ds ds' c c')
     (λ r. subst₂ (λ zs z. Same (D ds c) (D' zs z) E) r.0 r.1 (inner ds c)) b b' x y h h' e in
     (j.0, j.1.1)

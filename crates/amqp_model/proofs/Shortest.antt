@@ -1,9 +1,11 @@
 -- No data of a primitive is shorter than its shortest.
-use Rattle.std.proofs.Common.{◌≡◌, ℕ, ◌+◌, ◌^◌, ◌<◌, ◌≤◌, ◌⊎◌, inl, inr, List, [], ◌∷◌, length, get_or, refl, sym, ap, ◌∙◌, subst, arith, suc, zero, Some, unwrap_or, Bool, true, false, cond, eqb, ltb, ℤ, pos, negsuc, FitsSigned, true≢false}
+use Rattle.std.proofs.Common.{◌≡◌, ℕ, ◌+◌, ◌^◌, ◌<◌, ◌≤◌, ◌⊎◌, inl, inr, List, [], ◌∷◌, length, get_or, refl, sym, ap, ◌∙◌, subst, arith}
+use Rattle.std.proofs.Common.{suc, zero, Some, unwrap_or, Bool, true, false, cond, eqb, ltb, ℤ, pos, negsuc, FitsSigned, true≢false}
 use Rattle.std.proofs.lemmas.Bool.{cond_both, ltb-false, lt-ltb}
 use Rattle.std.proofs.Math.Facts.{sfits_to_z}
 use Rattle.std.specs.Int.{w8, w16, w32, w64, to_be_bytes, from_be_bytes, cast_signed}
-use Rattle.amqp_model.specs.Term.{Primitive, null, boolean, ubyte, ushort, uint, ulong, byte, short, int, long, char, timestamp, decimal32, decimal64, decimal128, uuid, binary, string, symbol, Container, list, map, array}
+use Rattle.amqp_model.specs.Term.{Primitive, null, boolean, ubyte, ushort, uint, ulong, byte, short, int, long, char, timestamp, decimal32}
+use Rattle.amqp_model.specs.Term.{decimal64, decimal128, uuid, binary, string, symbol, Container, list, map, array}
 use Rattle.amqp_model.specs.Constructors.{Format, fixed, variable, compound, unknown, format, constructors, look_up, boolean_byte}
 use Rattle.amqp_model.specs.Spelling.{PrimitiveData}
 use Rattle.amqp_model.specs.Text.{wide, shortest, is_small, signed_bytes, with_size}
@@ -40,13 +42,15 @@ made : (q p : Primitive) (n : ℕ) → Some q ≡ Some p → length (shortest q)
 made q p n e h = subst (λ r. length (shortest r).1 ≤ n) (ap (λ o. unwrap_or o q) e) h
 
 -- of two lengths each is enough where it comes
-pub either : (test : Bool) (short long : ℕ × List ℕ) (n : ℕ) → (test ≡ true → length short.1 ≤ n) → (test ≡ false → length long.1 ≤ n) → length (cond test short long).1 ≤ n
+pub either : (test : Bool) (short long : ℕ × List ℕ) (n : ℕ) → (test ≡ true → length short.1 ≤ n) → (test ≡ false → length long.1 ≤ n)
+    → length (cond test short long).1 ≤ n
 either test short_ long_ n = cond_both test short_ long_ (λ s. length s.1 ≤ n)
 
 uint_byte : (n : ℕ) → n < 256 → length (shortest (uint n)).1 ≤ 1
 uint_byte n h =
     either (eqb n 0) (0x43, []) (cond (ltb n 256) (0x52, to_be_bytes w8 n) (wide (uint n))) 1 (λ _. omega arith)
-    (λ _. either (ltb n 256) (0x52, to_be_bytes w8 n) (wide (uint n)) 1 (λ _. omega arith) (λ e. let f : 256 ≤ n = ltb-false n 256 e in absurd (omega arith)))
+    (λ _. either (ltb n 256) (0x52, to_be_bytes w8 n) (wide (uint n)) 1 (λ _. omega arith)
+    (λ e. let f : 256 ≤ n = ltb-false n 256 e in absurd (omega arith)))
 
 uint_any : (n : ℕ) → length (shortest (uint n)).1 ≤ 4
 uint_any n =
@@ -56,7 +60,8 @@ uint_any n =
 ulong_byte : (n : ℕ) → n < 256 → length (shortest (ulong n)).1 ≤ 1
 ulong_byte n h =
     either (eqb n 0) (0x44, []) (cond (ltb n 256) (0x53, to_be_bytes w8 n) (wide (ulong n))) 1 (λ _. omega arith)
-    (λ _. either (ltb n 256) (0x53, to_be_bytes w8 n) (wide (ulong n)) 1 (λ _. omega arith) (λ e. let f : 256 ≤ n = ltb-false n 256 e in absurd (omega arith)))
+    (λ _. either (ltb n 256) (0x53, to_be_bytes w8 n) (wide (ulong n)) 1 (λ _. omega arith)
+    (λ e. let f : 256 ≤ n = ltb-false n 256 e in absurd (omega arith)))
 
 ulong_any : (n : ℕ) → length (shortest (ulong n)).1 ≤ 8
 ulong_any n =
@@ -92,17 +97,23 @@ boolean_any (zero ∷ x ∷ l) p e = cc
 boolean_any (suc zero ∷ x ∷ l) p e = cc
 boolean_any (suc (suc n) ∷ x ∷ l) p e = cc
 
-text_short : (c : ℕ) (s : List ℕ) (w : ℕ × List ℕ) → length s < 256 → length (cond (ltb (length s) 256) (c, with_size 1 s) w).1 ≤ 1 + length s
-text_short c s w h = either (ltb (length s) 256) (c, with_size 1 s) w (1 + length s) (λ _. omega arith) (λ e. let f : 256 ≤ length s = ltb-false (length s) 256 e in absurd (omega arith))
+text_short : (c : ℕ) (s : List ℕ) (w : ℕ × List ℕ) → length s < 256
+    → length (cond (ltb (length s) 256) (c, with_size 1 s) w).1 ≤ 1 + length s
+text_short c s w h =
+    either (ltb (length s) 256) (c, with_size 1 s) w (1 + length s) (λ _. omega arith)
+    (λ e. let f : 256 ≤ length s = ltb-false (length s) 256 e in absurd (omega arith))
 
-text_any : (c : ℕ) (s : List ℕ) (w : ℕ × List ℕ) → length w.1 ≤ 4 + length s → length (cond (ltb (length s) 256) (c, with_size 1 s) w).1 ≤ 4 + length s
+text_any : (c : ℕ) (s : List ℕ) (w : ℕ × List ℕ) → length w.1 ≤ 4 + length s
+    → length (cond (ltb (length s) 256) (c, with_size 1 s) w).1 ≤ 4 + length s
 text_any c s w h = either (ltb (length s) 256) (c, with_size 1 s) w (4 + length s) (λ _. omega arith) (λ _. h)
 
-sized : (w : ℕ) (make : List ℕ → Primitive) → ((s : List ℕ) → length s < 256 ^ w → length (shortest (make s)).1 ≤ w + length s) → IsLeast (variable w (λ s. Some (make s)))
+sized : (w : ℕ) (make : List ℕ → Primitive) → ((s : List ℕ) → length s < 256 ^ w → length (shortest (make s)).1 ≤ w + length s)
+    → IsLeast (variable w (λ s. Some (make s)))
 sized w make most p d b (s, fits, e, v, _) =
     made (make s) p (length d) v (subst (λ n. length (shortest (make s)).1 ≤ n) (sym (sized_length w s d e)) (most s fits))
 
-of_width : (w : ℕ) (make : List ℕ → Primitive) → ((d : List ℕ) → IsBytes d → length d ≡ w → length (shortest (make d)).1 ≤ w) → IsLeast (fixed w (λ d. Some (make d)))
+of_width : (w : ℕ) (make : List ℕ → Primitive) → ((d : List ℕ) → IsBytes d → length d ≡ w → length (shortest (make d)).1 ≤ w)
+    → IsLeast (fixed w (λ d. Some (make d)))
 of_width w make most p d b (e, v, _) = made (make d) p (length d) v (subst (λ n. length (shortest (make d)).1 ≤ n) (sym e) (most d b e))
 
 boolean_row : IsLeast (fixed 1 boolean_byte)
@@ -133,8 +144,10 @@ all_least =
     ⨾ of_width 1 (λ d. byte (cast_signed w8 (from_be_bytes w8 d))) (λ d b e. omega arith)
     ⨾ of_width 1 (λ d. uint (from_be_bytes w8 d)) (λ d b e. uint_byte (get_or d 0 0) (byte_below d b))
     ⨾ of_width 1 (λ d. ulong (from_be_bytes w8 d)) (λ d b e. ulong_byte (get_or d 0 0) (byte_below d b))
-    ⨾ of_width 1 (λ d. int (cast_signed w8 (from_be_bytes w8 d))) (λ d b e. int_byte (cast_signed w8 (get_or d 0 0)) (read_small (get_or d 0 0) (byte_below d b)))
-    ⨾ of_width 1 (λ d. long (cast_signed w8 (from_be_bytes w8 d))) (λ d b e. long_byte (cast_signed w8 (get_or d 0 0)) (read_small (get_or d 0 0) (byte_below d b)))
+    ⨾ of_width 1 (λ d. int (cast_signed w8 (from_be_bytes w8 d)))
+    (λ d b e. int_byte (cast_signed w8 (get_or d 0 0)) (read_small (get_or d 0 0) (byte_below d b)))
+    ⨾ of_width 1 (λ d. long (cast_signed w8 (from_be_bytes w8 d)))
+    (λ d b e. long_byte (cast_signed w8 (get_or d 0 0)) (read_small (get_or d 0 0) (byte_below d b)))
     ⨾ boolean_row
     ⨾ of_width 2 (λ d. ushort (from_be_bytes w16 d)) (λ d b e. omega arith)
     ⨾ of_width 2 (λ d. short (cast_signed w16 (from_be_bytes w16 d))) (λ d b e. omega arith)

@@ -1,9 +1,11 @@
 -- No bytes spell two terms.
 use Rattle.std.proofs.Common.{◌≡◌, ℕ, ◌≤◌, List, [], ◌∷◌, ◌++◌, refl, sym, ap, ap₂, ◌∙◌, arith, append-nil}
 use Rattle.std.proofs.Math.Nat.{suc_inj}
-use Rattle.amqp_model.specs.Term.{Primitive, Container, Term, Terms, Descriptor, leaf, container, described, kept, barred, none, more, list, map, array, count}
+use Rattle.amqp_model.specs.Term.{Primitive, Container, Term, Terms, Descriptor, leaf, container, described, kept, barred, none, more, list}
+use Rattle.amqp_model.specs.Term.{map, array, count}
 use Rattle.amqp_model.specs.Constructors.{Format, fixed, variable, compound, unknown, format}
-use Rattle.amqp_model.specs.Spelling.{Joined, PrimitiveData, ContainerData, Spelled, HasWidthZero, data_of, items_of, elements_of, shared_data_of, enc}
+use Rattle.amqp_model.specs.Spelling.{Joined, PrimitiveData, ContainerData, Spelled, HasWidthZero, data_of, items_of, elements_of}
+use Rattle.amqp_model.specs.Spelling.{shared_data_of, enc}
 use Rattle.amqp_model.proofs.Bytes.{rest}
 use Rattle.amqp_model.proofs.Same.{Same, One, one, joined_same, primitive_same, container_same, spelled_same}
 
@@ -77,10 +79,12 @@ mutual
       let r = primitive_same (format c) p p' b b' x y h h' e in (r.0, ap leaf r.1)
   data_same (container list ts) (container list ts') [] c b b' x y h h' e =
       container_same (format c) list (count ts) (count ts') (items_of ts) (items_of ts') _
-      (λ n. one (items_of ts) (items_of ts') _ (λ m m' x y i i' e. let r = items_same ts ts' n m m' x y i i' e in (r.0, ap (container list) r.1))) b b' x y h h' e
+      (λ n. one (items_of ts) (items_of ts') _ (λ m m' x y i i' e. let r = items_same ts ts' n m m' x y i i' e in
+      (r.0, ap (container list) r.1))) b b' x y h h' e
   data_same (container map ts) (container map ts') [] c b b' x y h h' e =
       container_same (format c) map (count ts) (count ts') (items_of ts) (items_of ts') _
-      (λ n. one (items_of ts) (items_of ts') _ (λ m m' x y i i' e. let r = items_same ts ts' n m m' x y i i' e in (r.0, ap (container map) r.1))) b b' x y h.1 h'.1 e
+      (λ n. one (items_of ts) (items_of ts') _ (λ m m' x y i i' e. let r = items_same ts ts' n m m' x y i i' e in
+      (r.0, ap (container map) r.1))) b b' x y h.1 h'.1 e
   data_same (container array ts) (container array ts') [] c b b' x y h h' e =
       container_same (format c) array (count ts) (count ts') (elements_of ts) (elements_of ts') _
       (λ n m i i'. ap (container array) (elements_same ts ts' n m i i')) b b' x y h h' e
@@ -93,7 +97,8 @@ mutual
   data_same (kept k) t' ds c b b' x y h h' e = absurd h
   data_same (barred r) t' ds c b b' x y h h' e = absurd h
   data_same (described d t) t' [] c b b' x y h h' e = absurd h
-  data_same t t' ds c b b' x y h h' e = let s : sort_of t ≡ sort_of t' = one_sort t t' ds c b b' h h' in absurd (omega (arith, kind_least, kind_most))
+  data_same t t' ds c b b' x y h h' e = let s : sort_of t ≡ sort_of t' = one_sort t t' ds c b b' h h' in
+      absurd (omega (arith, kind_least, kind_most))
 
   items_same : (ts ts' : Terms) → count ts ≡ count ts' → Same (items_of ts) (items_of ts') (ts ≡ ts')
   items_same none none n b b' x y h h' e = (h ∙ sym h', refl)
@@ -109,14 +114,16 @@ mutual
   elements_same none (more t ts) n b h h' = absurd (omega arith)
   elements_same (more t ts) none n b h h' = absurd (omega arith)
   elements_same (more t ts) (more t' ts') n b h h' =
-      let D : Term → Terms → List Descriptor → ℕ → List ℕ → Type 0 = λ t ts ds c d. (HasWidthZero (format c) → ⊥) × Joined (data_of t ds c) (shared_data_of ts ds c) d in
+      let D : Term → Terms → List Descriptor → ℕ → List ℕ → Type 0 = λ t ts ds c d. (HasWidthZero (format c) → ⊥)
+      × Joined (data_of t ds c) (shared_data_of ts ds c) d in
       let r = one (Spelled (D t ts)) (Spelled (D t' ts')) ((t ≡ t') × (ts ≡ ts'))
       (spelled_same (D t ts) (D t' ts') ((t ≡ t') × (ts ≡ ts')) (λ ds c b b' x y h h' e.
       joined_same (data_of t ds c) (data_of t' ds c) (shared_data_of ts ds c) (shared_data_of ts' ds c) (t ≡ t') (ts ≡ ts')
       (λ b b' x y h h' e. data_same t t' ds c b b' x y h h' e) (λ _. shared_same ts ts' (suc_inj n) ds c) b b' x y h.1 h'.1 e)) b h h' in
       ap₂ more r.0 r.1
 
-  shared_same : (ts ts' : Terms) → count ts ≡ count ts' → (ds : List Descriptor) (c : ℕ) → Same (shared_data_of ts ds c) (shared_data_of ts' ds c) (ts ≡ ts')
+  shared_same : (ts ts' : Terms) → count ts ≡ count ts' → (ds : List Descriptor) (c : ℕ)
+      → Same (shared_data_of ts ds c) (shared_data_of ts' ds c) (ts ≡ ts')
   shared_same none none n ds c b b' x y h h' e = (h ∙ sym h', refl)
   shared_same none (more t ts) n ds c b b' x y h h' e = absurd (omega arith)
   shared_same (more t ts) none n ds c b b' x y h h' e = absurd (omega arith)

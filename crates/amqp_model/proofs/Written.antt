@@ -1,16 +1,21 @@
 -- The canonical text of a term spells what it reads as.
-use Rattle.std.proofs.Common.{◌≡◌, ℕ, ◌+◌, ◌%◌, ◌^◌, ◌<◌, ◌≤◌, inl, inr, List, [], ◌∷◌, ◌++◌, length, refl, sym, ap, ◌∙◌, subst, arith, suc, Some, append_assoc, le_trans}
+use Rattle.std.proofs.Common.{◌≡◌, ℕ, ◌+◌, ◌%◌, ◌^◌, ◌<◌, ◌≤◌, inl, inr, List, [], ◌∷◌, ◌++◌, length, refl, sym, ap, ◌∙◌, subst, arith, suc}
+use Rattle.std.proofs.Common.{Some, append_assoc, le_trans}
 use Rattle.std.proofs.lemmas.List.{length-append}
-use Rattle.amqp_model.specs.Term.{Container, list, map, array, Term, Terms, leaf, container, described, kept, barred, none, more, Descriptor, count}
+use Rattle.amqp_model.specs.Term.{Container, list, map, array, Term, Terms, leaf, container, described, kept, barred, none, more}
+use Rattle.amqp_model.specs.Term.{Descriptor, count}
 use Rattle.amqp_model.specs.Constructors.{Format, fixed, variable, compound, unknown, format}
-use Rattle.amqp_model.specs.Spelling.{Joined, PrimitiveData, ContainerData, IsKnown, descriptor_value, Constructor, Spelled, data_of, items_of, elements_of, shared_data_of, enc}
-use Rattle.amqp_model.specs.Text.{Alone, First, Later, wide, shortest, spell, short_code, wide_code, size_and_count, compact_head, head, content_of, form, text, texts}
+use Rattle.amqp_model.specs.Spelling.{Joined, PrimitiveData, ContainerData, IsKnown, descriptor_value, Constructor, Spelled, data_of}
+use Rattle.amqp_model.specs.Spelling.{items_of, elements_of, shared_data_of, enc}
+use Rattle.amqp_model.specs.Text.{Alone, First, Later, wide, shortest, spell, short_code, wide_code, size_and_count, compact_head, head}
+use Rattle.amqp_model.specs.Text.{content_of, form, text, texts}
 use Rattle.amqp_model.specs.Measures.{nest, nests, array_nest}
 use Rattle.amqp_model.specs.Ranges.{Everywhere, EverywhereIn}
 use Rattle.amqp_model.specs.Kept.{ExpandsTo, EachExpandsTo}
 use Rattle.amqp_model.proofs.Lengths.{spelling_length, compact_cases}
 use Rattle.amqp_model.proofs.Primitives.{wide_spelling, shortest_spelling}
-use Rattle.amqp_model.proofs.Forms.{Form, HaveForm, Good, names, primitive_known, under, opening, opening_spelled, first_text, form_width, data_length, primitive_form_at, container_form_at}
+use Rattle.amqp_model.proofs.Forms.{Form, HaveForm, Good, names, primitive_known, under, opening, opening_spelled, first_text, form_width}
+use Rattle.amqp_model.proofs.Forms.{data_length, primitive_form_at, container_form_at}
 
 pub container_known : (F : Format) (k : Container) (n : ℕ) (C : List ℕ → Type 0) (b : List ℕ) → ContainerData F k n C b → IsKnown F
 container_known (fixed w v) k n C b h = tt
@@ -18,12 +23,14 @@ container_known (variable w v) k n C b h = tt
 container_known (compound k' w) k n C b h = tt
 container_known unknown k n C b h = absurd h
 
-pub wide_data : (k : Container) (n : ℕ) (C : List ℕ → Type 0) (content : List ℕ) → C content → n ≤ length content → 4 + length content < 2 ^ 32 → ContainerData (format (wide_code k)) k n C (head Later k n (length content) ++ content)
+pub wide_data : (k : Container) (n : ℕ) (C : List ℕ → Type 0) (content : List ℕ) → C content → n ≤ length content
+    → 4 + length content < 2 ^ 32 → ContainerData (format (wide_code k)) k n C (head Later k n (length content) ++ content)
 wide_data list n C content c few fits = (refl, 4 + length content, content, inl refl, c, fits, omega arith, refl)
 wide_data map n C content c few fits = (refl, 4 + length content, content, inl refl, c, fits, omega arith, refl)
 wide_data array n C content c few fits = (refl, 4 + length content, content, inl refl, c, fits, omega arith, refl)
 
-pub short_data : (k : Container) (n : ℕ) (C : List ℕ → Type 0) (content : List ℕ) → C content → n ≤ length content → 1 + length content < 256 → ContainerData (format (short_code k)) k n C (size_and_count 1 n (length content) ++ content)
+pub short_data : (k : Container) (n : ℕ) (C : List ℕ → Type 0) (content : List ℕ) → C content → n ≤ length content
+    → 1 + length content < 256 → ContainerData (format (short_code k)) k n C (size_and_count 1 n (length content) ++ content)
 short_data list n C content c few fits = (refl, 1 + length content, content, inl refl, c, fits, omega arith, refl)
 short_data map n C content c few fits = (refl, 1 + length content, content, inl refl, c, fits, omega arith, refl)
 short_data array n C content c few fits = (refl, 1 + length content, content, inl refl, c, fits, omega arith, refl)
@@ -32,7 +39,8 @@ short_data array n C content c few fits = (refl, 1 + length content, content, in
 unfoldable pub IsContainerText : Container → ℕ → (List ℕ → Type 0) → List ℕ → Type 0
 IsContainerText k n C b = (c : ℕ) × (d : List ℕ) × (b ≡ c ∷ d) × ContainerData (format c) k n C d
 
-pub compact_container : (k : Container) (n : ℕ) (C : List ℕ → Type 0) (content : List ℕ) → C content → n ≤ length content → 4 + length content < 2 ^ 32 → IsContainerText k n C (compact_head k n (length content) ++ content)
+pub compact_container : (k : Container) (n : ℕ) (C : List ℕ → Type 0) (content : List ℕ) → C content → n ≤ length content
+    → 4 + length content < 2 ^ 32 → IsContainerText k n C (compact_head k n (length content) ++ content)
 unfolding IsContainerText
 compact_container k n C content c few fits =
     compact_cases k n (length content) (λ h. IsContainerText k n C (h ++ content))
@@ -58,7 +66,8 @@ bare_opens : (u t : Term) (c : ℕ) (d : List ℕ) → text u Alone ≡ c ∷ d 
 unfolding Opens
 bare_opens u t c d e known h = ([], c, (c ∷ [], d, e, (refl, known), h))
 
-container_opens : (u t : Term) (k : Container) (n : ℕ) (C : List ℕ → Type 0) → ((c : ℕ) (d : List ℕ) → ContainerData (format c) k n C d → data_of t [] c d) → IsContainerText k n C (text u Alone) → Opens u t
+container_opens : (u t : Term) (k : Container) (n : ℕ) (C : List ℕ → Type 0)
+    → ((c : ℕ) (d : List ℕ) → ContainerData (format c) k n C d → data_of t [] c d) → IsContainerText k n C (text u Alone) → Opens u t
 unfolding IsContainerText
 container_opens u t k n C is (c, d, e, h) = bare_opens u t c d e (container_known (format c) k n C d h) (is c d h)
 
@@ -104,18 +113,28 @@ pub texts_length : (us ts : Terms) → EverywhereIn Good us → EachExpandsTo us
 unfolding text texts
 texts_length none ts g h = omega arith
 texts_length (more u us) none g h = absurd h
-texts_length (more u us) (more t ts) g h = omega (arith, length-append (text u Alone) (texts us Alone), text_length u t g.0 h.0, texts_length us ts g.1 h.1)
+texts_length (more u us) (more t ts) g h =
+    omega (arith, length-append (text u Alone) (texts us Alone), text_length u t g.0 h.0, texts_length us ts g.1 h.1)
 
 pub data_texts_length : (us : Terms) (f : Form) → EverywhereIn Good us → HaveForm f us → count us ≤ length (texts us Later)
 unfolding text texts
 data_texts_length none f g e = omega arith
-data_texts_length (more u us) f g e = omega (arith, length-append (text u Later) (texts us Later), data_length u f e.0 g.0, data_texts_length us f g.1 e.1)
+data_texts_length (more u us) f g e =
+    omega (arith, length-append (text u Later) (texts us Later), data_length u f e.0 g.0, data_texts_length us f g.1 e.1)
 
-pub elements_length : (us : Terms) (f : Form) → EverywhereIn Good us → HaveForm f us → count us ≤ length (content_of array (count us) (texts us First))
+pub elements_length : (us : Terms) (f : Form) → EverywhereIn Good us → HaveForm f us
+    → count us ≤ length (content_of array (count us) (texts us First))
 unfolding text texts
 elements_length none f g e = omega arith
 elements_length (more u us) f g e =
-    omega (arith, ap length (first_text u f e.0), length-append (opening f.0 f.1) (text u Later), length-append (text u First) (texts us Later), data_length u f e.0 g.0, data_texts_length us f g.1 e.1)
+    omega (
+      arith,
+      ap length (first_text u f e.0),
+      length-append (opening f.0 f.1) (text u Later),
+      length-append (text u First) (texts us Later),
+      data_length u f e.0 g.0,
+      data_texts_length us f g.1 e.1,
+    )
 
 pub same_count : (us ts : Terms) → EachExpandsTo us ts → count us ≡ count ts
 same_count none none h = refl
@@ -145,15 +164,21 @@ mutual
       bare_opens (container list none) (container list none) 0x45 [] refl tt (refl, 0, [], inl refl, refl, omega arith, omega arith, refl)
   text_opens (container list (more u us)) (container list (more t ts)) g r n =
       let content = texts (more u us) Alone in
-      container_opens (container list (more u us)) (container list (more t ts)) list (count (more u us)) (items_of (more t ts)) (λ c d h. subst (λ z. ContainerData (format c) list z (items_of (more t ts)) d) (same_count (more u us) (more t ts) r.1) h)
-      (compact_container list (count (more u us)) (items_of (more t ts)) content (texts_spelled (more u us) (more t ts) g.1 r.1 (omega arith)) (texts_length (more u us) (more t ts) g.1 r.1) g.0.1)
+      container_opens (container list (more u us)) (container list (more t ts)) list (count (more u us)) (items_of (more t ts))
+      (λ c d h. subst (λ z. ContainerData (format c) list z (items_of (more t ts)) d) (same_count (more u us) (more t ts) r.1) h)
+      (compact_container list (count (more u us)) (items_of (more t ts)) content
+      (texts_spelled (more u us) (more t ts) g.1 r.1 (omega arith)) (texts_length (more u us) (more t ts) g.1 r.1) g.0.1)
   text_opens (container map us) (container map ts) g r n =
       let even : count ts % 2 ≡ 0 = subst (λ z. z % 2 ≡ 0) (same_count us ts r.1) g.0.0 in
-      container_opens (container map us) (container map ts) map (count us) (items_of ts) (λ c d h. (even, subst (λ z. ContainerData (format c) map z (items_of ts) d) (same_count us ts r.1) h))
-      (compact_container map (count us) (items_of ts) (texts us Alone) (texts_spelled us ts g.1 r.1 (omega arith)) (texts_length us ts g.1 r.1) g.0.1)
+      container_opens (container map us) (container map ts) map (count us) (items_of ts)
+      (λ c d h. (even, subst (λ z. ContainerData (format c) map z (items_of ts) d) (same_count us ts r.1) h))
+      (compact_container map (count us) (items_of ts) (texts us Alone) (texts_spelled us ts g.1 r.1 (omega arith))
+      (texts_length us ts g.1 r.1) g.0.1)
   text_opens (container array us) (container array ts) g r n =
-      container_opens (container array us) (container array ts) array (count us) (elements_of ts) (λ c d h. subst (λ z. ContainerData (format c) array z (elements_of ts) d) (same_count us ts r.1) h)
-      (compact_container array (count us) (elements_of ts) (content_of array (count us) (texts us First)) (elements_spelled us ts g.0.0.0 g.1 r.1 g.0.0.1 n) (elements_length us g.0.0.0 g.1 g.0.0.1) g.0.1)
+      container_opens (container array us) (container array ts) array (count us) (elements_of ts)
+      (λ c d h. subst (λ z. ContainerData (format c) array z (elements_of ts) d) (same_count us ts r.1) h)
+      (compact_container array (count us) (elements_of ts) (content_of array (count us) (texts us First))
+      (elements_spelled us ts g.0.0.0 g.1 r.1 g.0.0.1 n) (elements_length us g.0.0.0 g.1 g.0.0.1) g.0.1)
   text_opens (described d u) (described e t) g r n = described_opens d e u t r.0 g.0 (text_opens u t g.1 r.1 (omega arith))
   text_opens (kept b) t g r n = kept_opens b t r
   text_opens (barred s) t g r n = absurd g.0
@@ -163,29 +188,39 @@ mutual
   texts_spelled none none g r n = refl
   texts_spelled none (more t ts) g r n = absurd r
   texts_spelled (more u us) none g r n = absurd r
-  texts_spelled (more u us) (more t ts) g r n =
-      (text u Alone, texts us Alone, refl, opens_spelled u t (omega arith) (text_opens u t g.0 r.0 (omega arith)), texts_spelled us ts g.1 r.1 (omega arith))
+  texts_spelled (more u us) (more t ts) g r n = (
+    text u Alone,
+    texts us Alone,
+    refl,
+    opens_spelled u t (omega arith) (text_opens u t g.0 r.0 (omega arith)),
+    texts_spelled us ts g.1 r.1 (omega arith),
+  )
 
-  pub data_spelled : (u t : Term) (f : Form) → Everywhere Good u → ExpandsTo u t → form u ≡ Some f → nest t ≤ 128 → data_of t f.0 f.1 (text u Later)
+  pub data_spelled : (u t : Term) (f : Form) → Everywhere Good u → ExpandsTo u t → form u ≡ Some f → nest t ≤ 128
+      → data_of t f.0 f.1 (text u Later)
   data_spelled (leaf p) (leaf q) f g r e n =
-      primitive_form_at (λ f. data_of (leaf q) f.0 f.1 (wide p).1) p f e (subst (λ z. PrimitiveData (format (wide p).0) z (wide p).1) r (wide_spelling p g.0.0 g.0.1))
+      primitive_form_at (λ f. data_of (leaf q) f.0 f.1 (wide p).1) p f e
+      (subst (λ z. PrimitiveData (format (wide p).0) z (wide p).1) r (wide_spelling p g.0.0 g.0.1))
   data_spelled (container list us) (container list ts) f g r e n =
       let b = text (container list us) Later in
       container_form_at (λ f. data_of (container list ts) f.0 f.1 b) list us f e
       (subst (λ z. ContainerData (format 0xd0) list z (items_of ts) b) (same_count us ts r.1)
-      (wide_data list (count us) (items_of ts) (texts us Alone) (texts_spelled us ts g.1 r.1 (omega arith)) (texts_length us ts g.1 r.1) g.0.1))
+      (wide_data list (count us) (items_of ts) (texts us Alone) (texts_spelled us ts g.1 r.1 (omega arith))
+      (texts_length us ts g.1 r.1) g.0.1))
   data_spelled (container map us) (container map ts) f g r e n =
       let b = text (container map us) Later in
       container_form_at (λ f. data_of (container map ts) f.0 f.1 b) map us f e (
         subst (λ z. z % 2 ≡ 0) (same_count us ts r.1) g.0.0,
         subst (λ z. ContainerData (format 0xd1) map z (items_of ts) b) (same_count us ts r.1)
-            (wide_data map (count us) (items_of ts) (texts us Alone) (texts_spelled us ts g.1 r.1 (omega arith)) (texts_length us ts g.1 r.1) g.0.1),
+            (wide_data map (count us) (items_of ts) (texts us Alone) (texts_spelled us ts g.1 r.1 (omega arith))
+            (texts_length us ts g.1 r.1) g.0.1),
       )
   data_spelled (container array us) (container array ts) f g r e n =
       let b = text (container array us) Later in
       container_form_at (λ f. data_of (container array ts) f.0 f.1 b) array us f e
       (subst (λ z. ContainerData (format 0xf0) array z (elements_of ts) b) (same_count us ts r.1)
-      (wide_data array (count us) (elements_of ts) (content_of array (count us) (texts us First)) (elements_spelled us ts g.0.0.0 g.1 r.1 g.0.0.1 n) (elements_length us g.0.0.0 g.1 g.0.0.1) g.0.1))
+      (wide_data array (count us) (elements_of ts) (content_of array (count us) (texts us First))
+      (elements_spelled us ts g.0.0.0 g.1 r.1 g.0.0.1 n) (elements_length us g.0.0.0 g.1 g.0.0.1) g.0.1))
   data_spelled (described d u) (described d' t) f g r e n =
       let i = under d (form u) f e in
       subst (λ f. data_of (described d' t) f.0 f.1 (text u Later)) i.2 (sym r.0, data_spelled u t i.0 g.1 r.1 i.1 (omega arith))
@@ -193,14 +228,16 @@ mutual
   data_spelled (barred s) t f g r e n = cc
   data_spelled u t f g r e n = let no_way : ⊥ = grind arith in absurd no_way
 
-  pub shared_spelled : (us ts : Terms) (f : Form) → EverywhereIn Good us → EachExpandsTo us ts → HaveForm f us → nests ts ≤ 128 → shared_data_of ts f.0 f.1 (texts us Later)
+  pub shared_spelled : (us ts : Terms) (f : Form) → EverywhereIn Good us → EachExpandsTo us ts → HaveForm f us → nests ts ≤ 128
+      → shared_data_of ts f.0 f.1 (texts us Later)
   shared_spelled none none f g r e n = refl
   shared_spelled none (more t ts) f g r e n = absurd r
   shared_spelled (more u us) none f g r e n = absurd r
   shared_spelled (more u us) (more t ts) f g r e n =
       (text u Later, texts us Later, refl, data_spelled u t f g.0 r.0 e.0 (omega arith), shared_spelled us ts f g.1 r.1 e.1 (omega arith))
 
-  pub elements_spelled : (us ts : Terms) (f : Form) → EverywhereIn Good us → EachExpandsTo us ts → HaveForm f us → array_nest ts ≤ 128 → elements_of ts (content_of array (count us) (texts us First))
+  pub elements_spelled : (us ts : Terms) (f : Form) → EverywhereIn Good us → EachExpandsTo us ts → HaveForm f us → array_nest ts ≤ 128
+      → elements_of ts (content_of array (count us) (texts us First))
   elements_spelled none none f g r e n = inr ([], 0x40, omega arith, (0x40 ∷ [], [], refl, (refl, tt), refl))
   elements_spelled none (more t ts) f g r e n = absurd r
   elements_spelled (more u us) none f g r e n = absurd r

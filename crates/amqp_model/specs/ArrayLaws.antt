@@ -28,7 +28,8 @@ module _ {T : Type 0} (m : Meaning T) where
   each_same_value [] [] s i = i
   each_same_value [] (w ∷ ws) s i = absurd s
   each_same_value (v ∷ vs) [] s i = absurd s
-  each_same_value (v ∷ vs) (w ∷ ws) s i = All-cons m.is_value w ws (m.same_value v w s.0 (All-head m.is_value v vs i)) (each_same_value vs ws s.1 (All-tail m.is_value v vs i))
+  each_same_value (v ∷ vs) (w ∷ ws) s i =
+      All-cons m.is_value w ws (m.same_value v w s.0 (All-head m.is_value v vs i)) (each_same_value vs ws s.1 (All-tail m.is_value v vs i))
 
   pub each_same_canon : (vs ws : List T) → AllZip m.same vs ws → map m.canon vs ≡ map m.canon ws
   each_same_canon [] [] s = refl
@@ -50,9 +51,13 @@ module _ {T : Type 0} (m : Meaning T) where
   each_one (t ∷ ts) (v ∷ vs) [] h k = k
   each_one (t ∷ ts) (v ∷ vs) (w ∷ ws) h k = (m.one t v w h.0 k.0, each_one ts vs ws h.1 k.1)
 
-  pub each_canon_means : (vs : List T) → All m.is_value vs → AreFree (map m.canon vs) → AllZip m.means (map m.canon vs) (map (normal m.norm) vs)
+  pub each_canon_means : (vs : List T) → All m.is_value vs → AreFree (map m.canon vs)
+      → AllZip m.means (map m.canon vs) (map (normal m.norm) vs)
   each_canon_means [] i f = tt
-  each_canon_means (v ∷ vs) i f = (m.canon_means v (All-head m.is_value v vs i) (λ r h. f r (inl h)), each_canon_means vs (All-tail m.is_value v vs i) (λ r h. f r (inr h)))
+  each_canon_means (v ∷ vs) i f = (
+    m.canon_means v (All-head m.is_value v vs i) (λ r h. f r (inl h)),
+    each_canon_means vs (All-tail m.is_value v vs i) (λ r h. f r (inr h)),
+  )
 
   pub each_norm_canon : (vs : List T) → map m.canon (map (normal m.norm) vs) ≡ map m.canon vs
   each_norm_canon [] = refl

@@ -1,7 +1,8 @@
 -- The table of constructors.
 use Rattle.std.specs.Prelude.{ℕ, zero, suc, ℤ, List, [], ◌∷◌, true, false, cond, eqb, Option, Some, None}
 use Rattle.std.specs.Int.{Width, w8, w16, w32, w64, from_be_bytes, cast_signed}
-use Rattle.amqp_model.specs.Term.{Primitive, null, boolean, ubyte, ushort, uint, ulong, byte, short, int, long, char, timestamp, decimal32, decimal64, decimal128, uuid, binary, string, symbol, Container, list, map, array}
+use Rattle.amqp_model.specs.Term.{Primitive, null, boolean, ubyte, ushort, uint, ulong, byte, short, int, long, char, timestamp, decimal32}
+use Rattle.amqp_model.specs.Term.{decimal64, decimal128, uuid, binary, string, symbol, Container, list, map, array}
 
 -- Part 1, sections 1.2.1 to 1.2.4: what a format code announces. Either data of a fixed width, or a size of this width
 -- and then as many bytes as it says, in both cases with the value that the bytes are;

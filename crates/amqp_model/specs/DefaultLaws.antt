@@ -13,7 +13,9 @@ alike false false f g = refl
 
 module _ {T : Type 0} (m : Meaning T) (never_null : NeverNull m) (d : DefaultValue m) where
   test_same : (v w : T) → m.same v w → d.test v ≡ d.test w
-  test_same v w s = alike (d.test v) (d.test w) (λ e. d.complete w (m.same_trans w v d.value (m.same_sym v w s) (d.sound v e))) (λ e. d.complete v (m.same_trans v w d.value s (d.sound w e)))
+  test_same v w s =
+      alike (d.test v) (d.test w) (λ e. d.complete w (m.same_trans w v d.value (m.same_sym v w s) (d.sound v e)))
+      (λ e. d.complete v (m.same_trans v w d.value s (d.sound w e)))
 
   pub default_same_value : (v : T) → m.same v d.value → m.is_value v
   default_same_value v s = m.same_value d.value v (m.same_sym v d.value s) d.is_value
@@ -31,7 +33,8 @@ module _ {T : Type 0} (m : Meaning T) (never_null : NeverNull m) (d : DefaultVal
   default_one t v w (inr h) (inl k) = absurd (clash h.0 (never_null t w k))
   default_one t v w (inr h) (inr k) = m.same_trans v d.value w h.1 (m.same_sym w d.value k.1)
 
-  canon_means_at : (b : Bool) (v : T) → d.test v ≡ b → m.is_value v → IsFree (cond b (leaf null) (m.canon v)) → DefaultMeans m d (cond b (leaf null) (m.canon v)) (normal m.norm v)
+  canon_means_at : (b : Bool) (v : T) → d.test v ≡ b → m.is_value v → IsFree (cond b (leaf null) (m.canon v))
+      → DefaultMeans m d (cond b (leaf null) (m.canon v)) (normal m.norm v)
   canon_means_at true v e i f = inr (refl, d.sound (normal m.norm v) (d.test_normal v ∙ e))
   canon_means_at false v e i f = inl (m.canon_means v i f)
 
@@ -47,7 +50,8 @@ module _ {T : Type 0} (m : Meaning T) (never_null : NeverNull m) (d : DefaultVal
 
   pub default_own : (t : Term) (v : T) → DefaultMeans m d t v → m.same (normal m.norm v) v
   default_own t v (inl h) = m.own t v h
-  default_own t v (inr h) = m.same_trans (normal m.norm v) d.value v (d.sound (normal m.norm v) (d.test_normal v ∙ d.complete v h.1)) (m.same_sym v d.value h.1)
+  default_own t v (inr h) =
+      m.same_trans (normal m.norm v) d.value v (d.sound (normal m.norm v) (d.test_normal v ∙ d.complete v h.1)) (m.same_sym v d.value h.1)
 
   free_at : (b : Bool) (v : T) → IsFree (m.canon v) → IsFree (cond b (leaf null) (m.canon v))
   free_at true v f = λ r z. z

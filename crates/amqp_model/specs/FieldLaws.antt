@@ -6,23 +6,27 @@ use Rattle.amqp_model.specs.ItemLaws.{AreFree, left_out_null, free_before, befor
 use Rattle.amqp_model.specs.Slot.{Slot}
 use Rattle.amqp_model.specs.Fields.{Fields, none, field, Fits, canonical_items, AreValues, IsNormal, Same}
 
-fits_at : {V T : Type 0} (get : V → T) (s : Slot T) (fs : Fields V) (t : Term) (b : Bool) (w : V) → is_left_out t ≡ b → s.meaning.means t (get w) → Fits fs [] w → Fits (field get s fs) (cond b [] (t ∷ [])) w
+fits_at : {V T : Type 0} (get : V → T) (s : Slot T) (fs : Fields V) (t : Term) (b : Bool) (w : V) → is_left_out t ≡ b
+    → s.meaning.means t (get w) → Fits fs [] w → Fits (field get s fs) (cond b [] (t ∷ [])) w
 unfolding Fits
 fits_at get s fs t true w e h k = (s.null_alike t (get w) (left_out_null t e) h, k)
 fits_at get s fs t false w e h k = (h, k)
 
-fits_before : {V T : Type 0} (get : V → T) (s : Slot T) (fs : Fields V) (t : Term) (ts : List Term) (w : V) → s.meaning.means t (get w) → Fits fs ts w → Fits (field get s fs) (before_nulls t ts) w
+fits_before : {V T : Type 0} (get : V → T) (s : Slot T) (fs : Fields V) (t : Term) (ts : List Term) (w : V) → s.meaning.means t (get w)
+    → Fits fs ts w → Fits (field get s fs) (before_nulls t ts) w
 unfolding Fits
 fits_before get s fs t [] w h k = fits_at get s fs t (is_left_out t) w refl h k
 fits_before get s fs t (u ∷ us) w h k = (h, k)
 
 -- The canonical items are the value, normalised.
-pub canonical_fit : {V : Type 0} (fs : Fields V) (v w : V) → AreValues fs v → AreFree (canonical_items fs v) → IsNormal fs v w → Fits fs (canonical_items fs v) w
+pub canonical_fit : {V : Type 0} (fs : Fields V) (v w : V) → AreValues fs v → AreFree (canonical_items fs v) → IsNormal fs v w
+    → Fits fs (canonical_items fs v) w
 unfolding Fits canonical_items
 canonical_fit none v w i f n = tt
 canonical_fit (field get s fs) v w i f n =
     let g = free_before (s.meaning.canon (get v)) (canonical_items fs v) f in
-    fits_before get s fs (s.meaning.canon (get v)) (canonical_items fs v) w (rw n.0 (s.meaning.canon_means (get v) i.0 g.0)) (canonical_fit fs v w i.1 g.1 n.1)
+    fits_before get s fs (s.meaning.canon (get v)) (canonical_items fs v) w (rw n.0 (s.meaning.canon_means (get v) i.0 g.0))
+    (canonical_fit fs v w i.1 g.1 n.1)
 
 -- One list of items is one value at most.
 pub fits_one : {V : Type 0} (fs : Fields V) (ts : List Term) (v w : V) → Fits fs ts v → Fits fs ts w → Same fs v w
@@ -90,5 +94,7 @@ fitting_own (field get s fs) (t ∷ ts) v w h n = (rw n.0 (s.meaning.own t (get 
 pub fitting_free : {V : Type 0} (fs : Fields V) (ts : List Term) (v : V) → Fits fs ts v → AreFree (canonical_items fs v)
 unfolding Fits canonical_items
 fitting_free none ts v h = λ r z. z
-fitting_free (field get s fs) [] v h = before_free (s.meaning.canon (get v)) (canonical_items fs v) (s.meaning.free (leaf null) (get v) h.0) (fitting_free fs [] v h.1)
-fitting_free (field get s fs) (t ∷ ts) v h = before_free (s.meaning.canon (get v)) (canonical_items fs v) (s.meaning.free t (get v) h.0) (fitting_free fs ts v h.1)
+fitting_free (field get s fs) [] v h =
+    before_free (s.meaning.canon (get v)) (canonical_items fs v) (s.meaning.free (leaf null) (get v) h.0) (fitting_free fs [] v h.1)
+fitting_free (field get s fs) (t ∷ ts) v h =
+    before_free (s.meaning.canon (get v)) (canonical_items fs v) (s.meaning.free t (get v) h.0) (fitting_free fs ts v h.1)

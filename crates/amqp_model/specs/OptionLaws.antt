@@ -25,20 +25,23 @@ module _ {T : Type 0} (same : T → T → Type 0) where
   option_sym h (Some v) None s = s
   option_sym h (Some v) (Some w) s = h v w s
 
-  pub option_trans : ((v w x : T) → same v w → same w x → same v x) → (v w x : Option T) → SameOption same v w → SameOption same w x → SameOption same v x
+  pub option_trans : ((v w x : T) → same v w → same w x → same v x) → (v w x : Option T) → SameOption same v w
+      → SameOption same w x → SameOption same v x
   option_trans h None None x s z = z
   option_trans h None (Some w) x s z = absurd s
   option_trans h (Some v) None x s z = absurd s
   option_trans h (Some v) (Some w) None s z = z
   option_trans h (Some v) (Some w) (Some x) s z = h v w x s z
 
-  pub same_is_value : (P : T → Type 0) → ((v w : T) → same v w → P v → P w) → (v w : Option T) → SameOption same v w → IfSome v P → IfSome w P
+  pub same_is_value : (P : T → Type 0) → ((v w : T) → same v w → P v → P w) → (v w : Option T) → SameOption same v w
+      → IfSome v P → IfSome w P
   same_is_value P h None None s i = tt
   same_is_value P h None (Some w) s i = absurd s
   same_is_value P h (Some v) None s i = tt
   same_is_value P h (Some v) (Some w) s i = h v w s i
 
-  pub option_same_canon : (canon : T → Term) → ((v w : T) → same v w → canon v ≡ canon w) → (v w : Option T) → SameOption same v w → option_canon canon v ≡ option_canon canon w
+  pub option_same_canon : (canon : T → Term) → ((v w : T) → same v w → canon v ≡ canon w) → (v w : Option T) → SameOption same v w
+      → option_canon canon v ≡ option_canon canon w
   option_same_canon c h None None s = refl
   option_same_canon c h None (Some w) s = absurd s
   option_same_canon c h (Some v) None s = absurd s
@@ -57,7 +60,8 @@ module _ {T : Type 0} (m : Meaning T) (never_null : NeverNull m) where
   option_one t (Some v) None h k = clash k (never_null t v h)
   option_one t (Some v) (Some w) h k = m.one t v w h k
 
-  pub option_canon_means : (v : Option T) → IfSome v m.is_value → IsFree (option_canon m.canon v) → OptionMeans m.means (option_canon m.canon v) (normal (option_norm m.norm) v)
+  pub option_canon_means : (v : Option T) → IfSome v m.is_value → IsFree (option_canon m.canon v)
+      → OptionMeans m.means (option_canon m.canon v) (normal (option_norm m.norm) v)
   option_canon_means None i f = rw (none_normal m.norm) refl
   option_canon_means (Some v) i f = rw (some_normal m.norm v) (m.canon_means v i f)
 
@@ -65,7 +69,8 @@ module _ {T : Type 0} (m : Meaning T) (never_null : NeverNull m) where
   option_norm_canon None = rw (none_normal m.norm) refl
   option_norm_canon (Some v) = rw (some_normal m.norm v) (m.norm_canon v)
 
-  pub option_norm_norm : (v : Option T) → SameOption m.same (normal (option_norm m.norm) (normal (option_norm m.norm) v)) (normal (option_norm m.norm) v)
+  pub option_norm_norm : (v : Option T)
+      → SameOption m.same (normal (option_norm m.norm) (normal (option_norm m.norm) v)) (normal (option_norm m.norm) v)
   option_norm_norm None = rw (none_normal m.norm, none_normal m.norm) tt
   option_norm_norm (Some v) = rw (some_normal m.norm v, some_normal m.norm (normal m.norm v)) (m.norm_norm v)
 

@@ -2,7 +2,8 @@
 use Rattle.std.specs.Prelude.{◌≡◌, ℕ, ◌%◌, ◌^◌, ◌<◌, List, [], ◌∷◌, length, FitsSigned, IsUtf8}
 use Rattle.std.specs.Int.{w8, w16, w32, w64}
 use Rattle.std.specs.Char.{IsScalar}
-use Rattle.amqp_model.specs.Term.{Primitive, ubyte, ushort, uint, ulong, byte, short, int, long, char, timestamp, decimal32, decimal64, decimal128, uuid, string, map, array, Term, Terms, leaf, container, described, none, more, count}
+use Rattle.amqp_model.specs.Term.{Primitive, ubyte, ushort, uint, ulong, byte, short, int, long, char, timestamp, decimal32, decimal64}
+use Rattle.amqp_model.specs.Term.{decimal128, uuid, string, map, array, Term, Terms, leaf, container, described, none, more, count}
 use Rattle.amqp_model.specs.Spelling.{descriptor_value}
 
 -- P holds of each term in a term.

@@ -1,6 +1,8 @@
 -- Why a canonical term isn't written: what Part 1 forbids, and what this project refuses.
 use Rattle.std.specs.Prelude.{◌≡◌, ℕ, ◌+◌, ◌<◌, ◌≤◌, ◌^◌, ◌⊎◌, List, length, Some, IsAscii}
-use Rattle.amqp_model.specs.Term.{Primitive, null, binary, string, symbol, Refusal, depth, zero_width_items, non_ascii, mixed_array, too_large, lazy_in_array, array, Term, Terms, leaf, container, described, kept, barred, none, more, count, Descriptor}
+use Rattle.amqp_model.specs.Term.{Primitive, null, binary, string, symbol, Refusal, depth, zero_width_items, non_ascii, mixed_array}
+use Rattle.amqp_model.specs.Term.{too_large, lazy_in_array, array, Term, Terms, leaf, container, described, kept, barred, none, more, count}
+use Rattle.amqp_model.specs.Term.{Descriptor}
 use Rattle.amqp_model.specs.Spelling.{descriptor_value}
 use Rattle.amqp_model.specs.Text.{form, texts, content_of, first_place}
 use Rattle.amqp_model.specs.Measures.{nest}

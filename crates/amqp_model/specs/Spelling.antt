@@ -2,7 +2,8 @@
 use Rattle.std.specs.Prelude.{◌≡◌, ℕ, zero, ◌+◌, ◌^◌, ◌%◌, ◌<◌, ◌≤◌, ◌⊎◌, List, [], ◌∷◌, ◌++◌, length, Some, IsUtf8, IsAscii}
 use Rattle.std.specs.Int.{bytes_high_first}
 use Rattle.std.specs.Char.{IsScalar}
-use Rattle.amqp_model.specs.Term.{Primitive, ulong, char, string, symbol, Container, list, map, array, Term, Terms, leaf, container, described, none, more, Descriptor, name, code, count}
+use Rattle.amqp_model.specs.Term.{Primitive, ulong, char, string, symbol, Container, list, map, array, Term, Terms, leaf, container}
+use Rattle.amqp_model.specs.Term.{described, none, more, Descriptor, name, code, count}
 use Rattle.amqp_model.specs.Constructors.{Format, fixed, variable, compound, unknown, format}
 
 -- Bytes of the one kind, and then bytes of the other.
@@ -20,7 +21,8 @@ IsValid _ = Unit {0}
 abbrev pub PrimitiveData : Format → Primitive → List ℕ → Type 0
 PrimitiveData (fixed width value) p b = (length b ≡ width) × (value b ≡ Some p) × IsValid p
 PrimitiveData (variable width value) p b =
-    (content : List ℕ) × (length content < 256 ^ width) × (b ≡ bytes_high_first width (length content) ++ content) × (value content ≡ Some p) × IsValid p
+    (content : List ℕ) × (length content < 256 ^ width) × (b ≡ bytes_high_first width (length content) ++ content)
+    × (value content ≡ Some p) × IsValid p
 PrimitiveData (compound kind width) p b = ⊥
 PrimitiveData unknown p b = ⊥
 

@@ -13,13 +13,15 @@ pub data Standing : Type 0 where
 abbrev pub StandWhole : Terms → List Standing → List ℕ → Type 0
 StandWhole none ss b = (b ≡ []) × (ss ≡ [])
 StandWhole (more t ts) ss b =
-    (first second : List ℕ) × (others : List Standing) × (b ≡ first ++ second) × enc first t × StandWhole ts others second × (ss ≡ whole first ∷ others)
+    (first second : List ℕ) × (others : List Standing) × (b ≡ first ++ second) × enc first t × StandWhole ts others second
+    × (ss ≡ whole first ∷ others)
 
 -- Part 1, section 1.2.4: b is the data of an array's items, which stand so.
 abbrev pub StandAsData : Terms → List Standing → List Descriptor → ℕ → List ℕ → Type 0
 StandAsData none ss ds c b = (b ≡ []) × (ss ≡ [])
 StandAsData (more t ts) ss ds c b =
-    (first second : List ℕ) × (others : List Standing) × (b ≡ first ++ second) × data_of t ds c first × StandAsData ts others ds c second × (ss ≡ part ds c first ∷ others)
+    (first second : List ℕ) × (others : List Standing) × (b ≡ first ++ second) × data_of t ds c first × StandAsData ts others ds c second
+    × (ss ≡ part ds c first ∷ others)
 
 abbrev pub StandInArray : Terms → List Standing → List ℕ → Type 0
 StandInArray none ss b = ss ≡ []

@@ -1,7 +1,10 @@
 -- The canonical text of a term: of all spellings that Part 1 allows, one that this project chooses.
-use Rattle.std.specs.Prelude.{ℕ, zero, ◌+◌, Bool, true, false, ◌&&◌, cond, eqb, ltb, ℤ, pos, negsuc, List, [], ◌∷◌, ◌++◌, length, Option, Some, None, option_map}
+use Rattle.std.specs.Prelude.{ℕ, zero, ◌+◌, Bool, true, false, ◌&&◌, cond, eqb, ltb, ℤ, pos, negsuc, List, [], ◌∷◌, ◌++◌, length, Option}
+use Rattle.std.specs.Prelude.{Some, None, option_map}
 use Rattle.std.specs.Int.{Width, w8, w16, w32, w64, bytes_high_first, to_be_bytes, cast_unsigned}
-use Rattle.amqp_model.specs.Term.{Primitive, null, boolean, ubyte, ushort, uint, ulong, byte, short, int, long, char, timestamp, decimal32, decimal64, decimal128, uuid, binary, string, symbol, Container, list, map, array, Term, Terms, leaf, container, described, kept, barred, none, more, Descriptor, count}
+use Rattle.amqp_model.specs.Term.{Primitive, null, boolean, ubyte, ushort, uint, ulong, byte, short, int, long, char, timestamp, decimal32}
+use Rattle.amqp_model.specs.Term.{decimal64, decimal128, uuid, binary, string, symbol, Container, list, map, array, Term, Terms, leaf}
+use Rattle.amqp_model.specs.Term.{container, described, kept, barred, none, more, Descriptor, count}
 use Rattle.amqp_model.specs.Spelling.{descriptor_value}
 
 -- Part 1, section 1.2.4: where a value stands: by itself, or as the first item of an array, which brings the constructor of all,
@@ -148,7 +151,8 @@ abbrev pub primitive_form : Primitive → Option (List Descriptor × ℕ)
 primitive_form null = None
 primitive_form p = Some ([], (wide p).0)
 
--- Part 1, section 1.2.4: the constructor that a term has in an array: its descriptors, outermost first, and the code of what stands under them.
+-- Part 1, section 1.2.4: the constructor that a term has in an array: its descriptors, outermost first, and the code of what stands under
+-- them.
 -- Null has none, nor has what brings a constructor of its own.
 abbrev pub form : Term → Option (List Descriptor × ℕ)
 form (leaf p) = primitive_form p

@@ -3,7 +3,9 @@
 #![tactic(auto)]
 
 ghost use Rattle.std.specs.Prelude.{◌≡◌, ℕ, true, pos, negsuc, List, [], ◌∷◌, ◌++◌, ◌^◌, ◌≤◌, length, take};
-ghost use Rattle.amqp_model.specs.Term.{Term, Refusal, depth, zero_width_items, non_ascii, mixed_array, too_large, lazy_in_array, leaf, null, boolean, uint, int, binary, symbol, kept, barred, Descriptor, container, list, map, array, described, code, none, more};
+ghost use Rattle.amqp_model.specs.Term.{Term, Refusal, depth, zero_width_items, non_ascii, mixed_array, too_large, lazy_in_array, leaf};
+ghost use Rattle.amqp_model.specs.Term.{null, boolean, uint, int, binary, symbol, kept, barred, Descriptor, container, list, map, array};
+ghost use Rattle.amqp_model.specs.Term.{described, code, none, more};
 ghost use Rattle.amqp_model.specs.Spelling.{enc};
 ghost use Rattle.amqp_model.specs.Text.{text, Alone};
 ghost use Rattle.amqp_model.specs.Measures.{nest, nodes};
@@ -64,11 +66,16 @@ pub fn worked_rows()
     ensures uint_256 { text (leaf (uint 256)) Alone ≡ 0x70 ∷ 0 ∷ 0 ∷ 1 ∷ 0 ∷ [] }
     ensures int_least { text (leaf (int (negsuc 127))) Alone ≡ 0x54 ∷ 0x80 ∷ [] }
     ensures int_128 { text (leaf (int (pos 128))) Alone ≡ 0x71 ∷ 0 ∷ 0 ∷ 0 ∷ 0x80 ∷ [] }
-    ensures list_of_252 { (s : List ℕ) → length s ≡ 252 → take 5 (text (container list (more (leaf (binary s)) none)) Alone) ≡ 0xc0 ∷ 0xff ∷ 1 ∷ 0xa0 ∷ 0xfc ∷ [] }
-    ensures list_of_253 { (s : List ℕ) → length s ≡ 253 → take 11 (text (container list (more (leaf (binary s)) none)) Alone) ≡ 0xd0 ∷ 0 ∷ 0 ∷ 1 ∷ 3 ∷ 0 ∷ 0 ∷ 0 ∷ 1 ∷ 0xa0 ∷ 0xfd ∷ [] }
-    ensures array_of_uints { text (container array (more (leaf (uint 1)) (more (leaf (uint 2)) none))) Alone ≡ 0xe0 ∷ 0x0a ∷ 2 ∷ 0x70 ∷ 0 ∷ 0 ∷ 0 ∷ 1 ∷ 0 ∷ 0 ∷ 0 ∷ 2 ∷ [] }
-    ensures array_of_accepted { text (container array (more (described (code 0x24) (container list none)) none)) Alone ≡ 0xe0 ∷ 0x0d ∷ 1 ∷ 0 ∷ 0x53 ∷ 0x24 ∷ 0xd0 ∷ 0 ∷ 0 ∷ 0 ∷ 4 ∷ 0 ∷ 0 ∷ 0 ∷ 0 ∷ [] }
-    ensures array_of_list { text (container array (more (container list none) none)) Alone ≡ 0xe0 ∷ 0x0a ∷ 1 ∷ 0xd0 ∷ 0 ∷ 0 ∷ 0 ∷ 4 ∷ 0 ∷ 0 ∷ 0 ∷ 0 ∷ [] }
+    ensures list_of_252 { (s : List ℕ) → length s ≡ 252
+        → take 5 (text (container list (more (leaf (binary s)) none)) Alone) ≡ 0xc0 ∷ 0xff ∷ 1 ∷ 0xa0 ∷ 0xfc ∷ [] }
+    ensures list_of_253 { (s : List ℕ) → length s ≡ 253
+        → take 11 (text (container list (more (leaf (binary s)) none)) Alone) ≡ 0xd0 ∷ 0 ∷ 0 ∷ 1 ∷ 3 ∷ 0 ∷ 0 ∷ 0 ∷ 1 ∷ 0xa0 ∷ 0xfd ∷ [] }
+    ensures array_of_uints { text (container array (more (leaf (uint 1)) (more (leaf (uint 2)) none))) Alone
+        ≡ 0xe0 ∷ 0x0a ∷ 2 ∷ 0x70 ∷ 0 ∷ 0 ∷ 0 ∷ 1 ∷ 0 ∷ 0 ∷ 0 ∷ 2 ∷ [] }
+    ensures array_of_accepted { text (container array (more (described (code 0x24) (container list none)) none)) Alone
+        ≡ 0xe0 ∷ 0x0d ∷ 1 ∷ 0 ∷ 0x53 ∷ 0x24 ∷ 0xd0 ∷ 0 ∷ 0 ∷ 0 ∷ 4 ∷ 0 ∷ 0 ∷ 0 ∷ 0 ∷ [] }
+    ensures array_of_list { text (container array (more (container list none) none)) Alone
+        ≡ 0xe0 ∷ 0x0a ∷ 1 ∷ 0xd0 ∷ 0 ∷ 0 ∷ 0 ∷ 4 ∷ 0 ∷ 0 ∷ 0 ∷ 0 ∷ [] }
     ensures empty_map { text (container map none) Alone ≡ 0xc1 ∷ 1 ∷ 0 ∷ [] }
     ensures empty_array { text (container array none) Alone ≡ 0xe0 ∷ 2 ∷ 0 ∷ 0x40 ∷ [] }
     ensures empty_array_bare { enc (0xe0 ∷ 1 ∷ 0 ∷ []) (container array none) }
@@ -89,9 +96,12 @@ pub fn worked_refusals()
     ensures below_128_levels { (d : Descriptor) (t : Term) → ExpandsTo t t → nest t ≡ 128 → Refuses depth (described d t) }
     ensures barred_item { (r : Refusal) → Refuses r (container list (more (barred r) none)) }
     ensures array_of_uints { (r : Refusal) → Refuses r (container array (more (leaf (uint 1)) (more (leaf (uint 2)) none))) → ⊥ }
-    ensures null_behind_uint { (r : Refusal) → Refuses r (container array (more (leaf (uint 1)) (more (leaf null) none))) → r ≡ zero_width_items }
+    ensures null_behind_uint { (r : Refusal) → Refuses r (container array (more (leaf (uint 1)) (more (leaf null) none)))
+        → r ≡ zero_width_items }
     ensures kept_behind_uint { (b : List ℕ) → Refuses mixed_array (container array (more (leaf (uint 1)) (more (kept b) none))) → ⊥ }
     ensures barred_behind_uint { (q r : Refusal) → Refuses r (container array (more (leaf (uint 1)) (more (barred q) none))) → r ≡ q }
-    ensures null_under_the_descriptor { (d : Descriptor) → Refuses mixed_array (container array (more (described d (leaf (uint 1))) (more (described d (leaf null)) none))) → ⊥ }
-    ensures null_under_a_descriptor { (d : Descriptor) → Refuses mixed_array (container array (more (leaf (uint 1)) (more (described d (leaf null)) none))) }
+    ensures null_under_the_descriptor { (d : Descriptor) → Refuses mixed_array
+        (container array (more (described d (leaf (uint 1))) (more (described d (leaf null)) none))) → ⊥ }
+    ensures null_under_a_descriptor { (d : Descriptor) → Refuses mixed_array
+        (container array (more (leaf (uint 1)) (more (described d (leaf null)) none))) }
 {}

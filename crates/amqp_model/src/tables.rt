@@ -1,7 +1,8 @@
 //! The tables of fields by which composite values are written, and the laws of all tables.
 ghost use Rattle.std.specs.Prelude.{◌≡◌, ◌↔◌, ◌≤◌, ◌<◌, ℕ, List, [], ◌∷◌, ◌++◌, true, false, length, get_or, Some, None};
 ghost use Rattle.std.specs.List.{AllZip};
-ghost use Rattle.amqp_model.specs.Term.{null, code, name, list, array, empty_multiple, Term, leaf, described, container, barred, Terms, none, more};
+ghost use Rattle.amqp_model.specs.Term.{null, code, name, list, array, empty_multiple, Term, leaf, described, container, barred, Terms};
+ghost use Rattle.amqp_model.specs.Term.{none, more};
 ghost use Rattle.amqp_model.specs.Items.{items_of, is_null, IsFree};
 ghost use Rattle.amqp_model.specs.ItemLaws.{AreFree};
 ghost use Rattle.amqp_model.specs.Ranges.{IsNoArray};
@@ -35,7 +36,8 @@ pub trait HasTable {
 
 /// The canonical items of a value fit its table as the value again, normalised, where no refusal stands in them.
 pub fn canonical_items_fit<C: HasTable>()
-    ensures { (v : C) → AreValues C.table.fields v → AreFree (canonical_items C.table.fields v) → Fits C.table.fields (canonical_items C.table.fields v) (normal C.table.norm v) }
+    ensures { (v : C) → AreValues C.table.fields v → AreFree (canonical_items C.table.fields v)
+        → Fits C.table.fields (canonical_items C.table.fields v) (normal C.table.norm v) }
 {}
 
 /// One list of items fits a table as one value, up to where it lies in memory.
@@ -74,15 +76,20 @@ pub fn same_values<C: HasTable>()
 /// There are no more items than fields; a null at the end is as a missing item, and neither fits a field that is required.
 pub fn missing_items<C: HasTable>()
     ensures no_surplus { (items : List Term) (v : C) → Fits C.table.fields items v → length items ≤ length (kinds_of C.table.fields) }
-    ensures as_null { (items : List Term) (v : C) → length items < length (kinds_of C.table.fields) → (Fits C.table.fields (items ++ leaf null ∷ []) v ↔ Fits C.table.fields items v) }
-    ensures required { (items : List Term) (v : C) (index : ℕ) → Fits C.table.fields items v → is_required (get_or (kinds_of C.table.fields) index Optional) ≡ true → is_null (get_or items index (leaf null)) ≡ false }
+    ensures as_null { (items : List Term) (v : C) → length items < length (kinds_of C.table.fields)
+        → (Fits C.table.fields (items ++ leaf null ∷ []) v ↔ Fits C.table.fields items v) }
+    ensures required { (items : List Term) (v : C) (index : ℕ) → Fits C.table.fields items v
+        → is_required (get_or (kinds_of C.table.fields) index Optional) ≡ true → is_null (get_or items index (leaf null)) ≡ false }
 {}
 
 /// A composite is a described list whose items fit; its descriptor is the code or the name, and the canonical one is the code.
 pub fn composite_terms<C: HasTable>()
-    ensures by_code { (items : Terms) (v : C) → MeansComposite C.table (described (code C.table.code) (container list items)) v ↔ Fits C.table.fields (items_of items) v }
-    ensures by_name { (items : Terms) (v : C) → MeansComposite C.table (described (name C.table.name) (container list items)) v ↔ Fits C.table.fields (items_of items) v }
-    ensures canonical { (v : C) → AreValues C.table.fields v → IsFree (canonical_term C.table v) → MeansComposite C.table (canonical_term C.table v) (normal C.table.norm v) }
+    ensures by_code { (items : Terms) (v : C) → MeansComposite C.table (described (code C.table.code) (container list items)) v
+        ↔ Fits C.table.fields (items_of items) v }
+    ensures by_name { (items : Terms) (v : C) → MeansComposite C.table (described (name C.table.name) (container list items)) v
+        ↔ Fits C.table.fields (items_of items) v }
+    ensures canonical { (v : C) → AreValues C.table.fields v → IsFree (canonical_term C.table v)
+        → MeansComposite C.table (canonical_term C.table v) (normal C.table.norm v) }
     ensures one_value { (t : Term) (v w : C) → MeansComposite C.table t v → MeansComposite C.table t w → Same C.table.fields v w }
     ensures never_null { (t : Term) (v : C) → MeansComposite C.table t v → is_null t ≡ false }
 {}
@@ -96,7 +103,8 @@ pub trait HasFieldType {
 
 /// Null doesn't fit a mandatory field, and is no value in an optional one, where any other term is what it means.
 pub fn mandatory_and_optional_fields<T: HasFieldType>()
-    ensures mandatory { (t : Term) (v : T) → (mandatory T.field_type).meaning.means t v ↔ (is_null t ≡ false) × T.field_type.meaning.means t v }
+    ensures mandatory { (t : Term) (v : T) → (mandatory T.field_type).meaning.means t v ↔ (is_null t ≡ false)
+        × T.field_type.meaning.means t v }
     ensures null { (t : Term) → (optional T.field_type).meaning.means t None ↔ (is_null t ≡ true) }
     ensures value { (t : Term) (v : T) → (optional T.field_type).meaning.means t (Some v) ↔ T.field_type.meaning.means t v }
     ensures canonical_null { (optional T.field_type).meaning.canon None ≡ leaf null }
@@ -115,9 +123,12 @@ pub trait HasDefault {
 /// In a field with a default null is the default value, any other term is what it means, and the default value is written
 /// as null.
 pub fn default_fields<T: HasDefault>()
-    ensures null { (t : Term) (v : T) → is_null t ≡ true → ((default T.field_type T.default_value).meaning.means t v ↔ T.field_type.meaning.same v T.default_value.value) }
-    ensures value { (t : Term) (v : T) → is_null t ≡ false → ((default T.field_type T.default_value).meaning.means t v ↔ T.field_type.meaning.means t v) }
-    ensures canonical_null { (v : T) → T.field_type.meaning.same v T.default_value.value → (default T.field_type T.default_value).meaning.canon v ≡ leaf null }
+    ensures null { (t : Term) (v : T) → is_null t ≡ true
+        → ((default T.field_type T.default_value).meaning.means t v ↔ T.field_type.meaning.same v T.default_value.value) }
+    ensures value { (t : Term) (v : T) → is_null t ≡ false
+        → ((default T.field_type T.default_value).meaning.means t v ↔ T.field_type.meaning.means t v) }
+    ensures canonical_null { (v : T) → T.field_type.meaning.same v T.default_value.value
+        → (default T.field_type T.default_value).meaning.canon v ≡ leaf null }
 {}
 
 /// A type whose values hold any number of items of another type.
@@ -135,17 +146,23 @@ pub trait HasItems<A> {
 pub fn multiple_fields<A, V: HasItems<A>>()
     ensures null { (t : Term) → is_null t ≡ true → (multiple V.item V.array).meaning.means t None }
     ensures no_items { (multiple V.item V.array).meaning.means (container array none) None }
-    ensures items { (t : Term) (more_items : Terms) (v : V) → AllZip V.item.meaning.means (t ∷ items_of more_items) (V.array.contents v) → (multiple V.item V.array).meaning.means (container array (more t more_items)) (Some v) }
-    ensures one_item { (t : Term) (item : A) (v : V) → IsNoArray t → V.item.meaning.means t item → V.array.contents v ≡ item ∷ [] → (multiple V.item V.array).meaning.means t (Some v) }
-    ensures canonical_one { (item : A) (v : V) → V.array.contents v ≡ item ∷ [] → (multiple V.item V.array).meaning.canon (Some v) ≡ container array (more (V.item.meaning.canon item) none) }
+    ensures items { (t : Term) (more_items : Terms) (v : V) → AllZip V.item.meaning.means (t ∷ items_of more_items) (V.array.contents v)
+        → (multiple V.item V.array).meaning.means (container array (more t more_items)) (Some v) }
+    ensures one_item { (t : Term) (item : A) (v : V) → IsNoArray t → V.item.meaning.means t item → V.array.contents v ≡ item ∷ []
+        → (multiple V.item V.array).meaning.means t (Some v) }
+    ensures canonical_one { (item : A) (v : V) → V.array.contents v ≡ item ∷ []
+        → (multiple V.item V.array).meaning.canon (Some v) ≡ container array (more (V.item.meaning.canon item) none) }
     ensures canonical_none { (v : V) → V.array.contents v ≡ [] → (multiple V.item V.array).meaning.canon (Some v) ≡ leaf null }
 {}
 
 /// A mandatory and multiple field takes the same terms, but none without an item; a value without items is refused.
 pub fn mandatory_multiple_fields<A, V: HasItems<A>>()
-    ensures same_terms { (t : Term) (v : V) → (mandatory_multiple V.item V.array).meaning.means t v ↔ (multiple V.item V.array).meaning.means t (Some v) }
+    ensures same_terms { (t : Term) (v : V) → (mandatory_multiple V.item V.array).meaning.means t v
+        ↔ (multiple V.item V.array).meaning.means t (Some v) }
     ensures null { (t : Term) (v : V) → is_null t ≡ true → (mandatory_multiple V.item V.array).meaning.means t v → ⊥ }
     ensures no_items { (v : V) → (mandatory_multiple V.item V.array).meaning.means (container array none) v → ⊥ }
-    ensures canonical_one { (item : A) (v : V) → V.array.contents v ≡ item ∷ [] → (mandatory_multiple V.item V.array).meaning.canon v ≡ container array (more (V.item.meaning.canon item) none) }
-    ensures canonical_none { (v : V) → V.array.contents v ≡ [] → (mandatory_multiple V.item V.array).meaning.canon v ≡ barred empty_multiple }
+    ensures canonical_one { (item : A) (v : V) → V.array.contents v ≡ item ∷ []
+        → (mandatory_multiple V.item V.array).meaning.canon v ≡ container array (more (V.item.meaning.canon item) none) }
+    ensures canonical_none { (v : V) → V.array.contents v ≡ []
+        → (mandatory_multiple V.item V.array).meaning.canon v ≡ barred empty_multiple }
 {}

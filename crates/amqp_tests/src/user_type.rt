@@ -14,7 +14,11 @@ pub struct Seconds {
 }
 
 impl FieldList for Seconds {
-    ghost list = { record { fields = field (λ v. v.count) (mandatory uint_type refl refl) none; norm = unchanged; norm_is = λ v. (refl, tt) } };
+    ghost list = { record {
+      fields = field (λ v. v.count) (mandatory uint_type refl refl) none;
+      norm = unchanged;
+      norm_is = λ v. (refl, tt);
+    } };
 
     fn kinds() -> &'static [FieldKind] {
         &[FieldKind::Mandatory]

@@ -1,7 +1,11 @@
 -- The numbers and names of the errors.
 use Rattle.std.specs.Prelude.{ℕ, List, codes}
 use Rattle.amqp_wire.specs.declared.error.Error.{Error}
-use Rattle.amqp_wire.specs.declared.error.Error.TheVariants.{Cut, UnknownCode, FloatCode, Size, OddCount, DuplicateKey, Surplus, Missing, WrongDescriptor, Depth, ZeroWidthItems, BadBool, BadChar, BadUtf8, NonAscii, UnknownText, UnknownNumber, EmptyMultiple, EmptyBody, NotSection, Memory, Read, MixedArray, TooLarge, InvalidValue, LazyInArray, WrongType, BadDescriptor, Custom, Misplaced, Limit}
+use Rattle.amqp_wire.specs.declared.error.Error.TheVariants.{Cut, UnknownCode, FloatCode, Size, OddCount, DuplicateKey, Surplus, Missing}
+use Rattle.amqp_wire.specs.declared.error.Error.TheVariants.{WrongDescriptor, Depth, ZeroWidthItems, BadBool, BadChar, BadUtf8, NonAscii}
+use Rattle.amqp_wire.specs.declared.error.Error.TheVariants.{UnknownText, UnknownNumber, EmptyMultiple, EmptyBody, NotSection, Memory, Read}
+use Rattle.amqp_wire.specs.declared.error.Error.TheVariants.{MixedArray, TooLarge, InvalidValue, LazyInArray, WrongType, BadDescriptor}
+use Rattle.amqp_wire.specs.declared.error.Error.TheVariants.{Custom, Misplaced, Limit}
 
 abbrev pub number_of : Error → ℕ
 number_of Cut = 1

@@ -1,7 +1,9 @@
 -- The error by which a value without canonical text is refused.
-use Rattle.amqp_model.specs.Term.{Refusal, duplicate_key, depth, zero_width_items, non_ascii, empty_multiple, mixed_array, too_large, lazy_in_array, custom}
+use Rattle.amqp_model.specs.Term.{Refusal, duplicate_key, depth, zero_width_items, non_ascii, empty_multiple, mixed_array, too_large}
+use Rattle.amqp_model.specs.Term.{lazy_in_array, custom}
 use Rattle.amqp_wire.specs.declared.error.Error.{Error}
-use Rattle.amqp_wire.specs.declared.error.Error.TheVariants.{DuplicateKey, Depth, ZeroWidthItems, NonAscii, EmptyMultiple, MixedArray, TooLarge, LazyInArray, Custom}
+use Rattle.amqp_wire.specs.declared.error.Error.TheVariants.{DuplicateKey, Depth, ZeroWidthItems, NonAscii, EmptyMultiple, MixedArray}
+use Rattle.amqp_wire.specs.declared.error.Error.TheVariants.{TooLarge, LazyInArray, Custom}
 
 abbrev pub error_of : Refusal → Error
 error_of duplicate_key = DuplicateKey

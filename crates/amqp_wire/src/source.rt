@@ -1,5 +1,6 @@
 //! Sources: where the bytes come from that are read.
-ghost use Rattle.std.specs.Prelude.{◌≡◌, ℕ, ◌≤◌, ◌<◌, List, [], ◌++◌, length, take, Bool, true, false, Option, Some, IfOk, OnErr, IsErr, ◌⊎◌};
+ghost use Rattle.std.specs.Prelude.{◌≡◌, ℕ, ◌≤◌, ◌<◌, List, [], ◌++◌, length, take, Bool, true, false, Option, Some, IfOk, OnErr, IsErr};
+ghost use Rattle.std.specs.Prelude.{◌⊎◌};
 ghost use Rattle.std.specs.Io.KnownBytes.{Consumes, IsAtEnd};
 ghost use Rattle.amqp_wire.specs.Sources.{known, Tells};
 
@@ -39,7 +40,8 @@ pub trait ByteSource {
 #[inline]
 pub fn pull_full<R: ByteSource>(source: &mut R, buffer: &mut [u8]) -> Result<usize, ErrorKind>
     ensures fits { IfOk result (λ n. n ≤ length buffer.old) }
-    ensures bytes { Tells R.remaining → IfOk result (λ n. known (R.remaining source.old) ≡ take n buffer.new ++ known (R.remaining source.new)) }
+    ensures bytes { Tells R.remaining → IfOk result
+        (λ n. known (R.remaining source.old) ≡ take n buffer.new ++ known (R.remaining source.new)) }
     ensures all { Tells R.remaining → IfOk result (λ n. n < length buffer.old → known (R.remaining source.new) ≡ []) }
     ensures kept { IfOk result (λ _. R.failed source.new ≡ R.failed source.old) }
     ensures fails { OnErr result (R.failed source.new ≡ true) }

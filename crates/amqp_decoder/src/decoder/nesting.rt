@@ -46,8 +46,10 @@ impl<R: ByteSource> Decoder<R> {
         requires container { IsContainer inner.place }
         requires room { (length self.old.saved < self.old.nesting) ⊎ (inner.items ≡ 0) }
         ensures limit { self.old.nesting ≡ 128 }
-        ensures ok { IfOk result (λ _. (length self.old.saved < 129) × (self.new ≡ record self.old { top = unshared inner; saved = self.old.top ∷ self.old.saved })) }
-        ensures err { IfErr result (λ e. (e ≡ Depth) × (129 ≤ length self.old.saved) × (self.new ≡ record self.old { error = Some Depth })) }
+        ensures ok { IfOk result (λ _. (length self.old.saved < 129)
+            × (self.new ≡ record self.old { top = unshared inner; saved = self.old.top ∷ self.old.saved })) }
+        ensures err { IfErr result (λ e. (e ≡ Depth) × (129 ≤ length self.old.saved)
+            × (self.new ≡ record self.old { error = Some Depth })) }
     {
         if self.depth >= ROW {
             return Err(self.refuse(Error::Depth));
@@ -69,8 +71,10 @@ impl<R: ByteSource> Decoder<R> {
     pub(crate) fn enter_counted(&mut self, inner: OpenContainer) -> Result<(), Error>
         requires { IsContainer inner.place }
         ensures limit { self.old.nesting ≡ 128 }
-        ensures ok { IfOk result (λ _. (length self.old.saved < 128) × (self.new ≡ record self.old { top = unshared inner; saved = self.old.top ∷ self.old.saved })) }
-        ensures err { IfErr result (λ e. (e ≡ Depth) × (128 ≤ length self.old.saved) × (self.new ≡ record self.old { error = Some Depth })) }
+        ensures ok { IfOk result (λ _. (length self.old.saved < 128)
+            × (self.new ≡ record self.old { top = unshared inner; saved = self.old.top ∷ self.old.saved })) }
+        ensures err { IfErr result (λ e. (e ≡ Depth) × (128 ≤ length self.old.saved)
+            × (self.new ≡ record self.old { error = Some Depth })) }
     {
         if self.depth >= NESTING {
             return Err(self.refuse(Error::Depth));
@@ -82,7 +86,8 @@ impl<R: ByteSource> Decoder<R> {
     #[inline]
     pub(crate) fn check_items(&mut self, is_flat: bool) -> Result<(), Error>
         ensures ok { IfOk result (λ _. ((is_flat ≡ true) ⊎ (length self.old.saved ≤ self.old.nesting)) × (self.new ≡ self.old)) }
-        ensures err { IfErr result (λ e. (is_flat ≡ false) × (e ≡ Depth) × (self.old.nesting < length self.old.saved) × (self.new ≡ record self.old { error = Some Depth })) }
+        ensures err { IfErr result (λ e. (is_flat ≡ false) × (e ≡ Depth) × (self.old.nesting < length self.old.saved)
+            × (self.new ≡ record self.old { error = Some Depth })) }
     {
         if is_flat {
             return Ok(());
@@ -98,7 +103,8 @@ impl<R: ByteSource> Decoder<R> {
     #[inline]
     pub(crate) fn enter_described(&mut self) -> Result<(), Error>
         ensures ok { IfOk result (λ _. (length self.old.saved < self.old.nesting) × (self.new ≡ in_described self.old)) }
-        ensures err { IfErr result (λ e. (e ≡ Depth) × (self.old.nesting ≤ length self.old.saved) × (self.new ≡ record self.old { error = Some Depth })) }
+        ensures err { IfErr result (λ e. (e ≡ Depth) × (self.old.nesting ≤ length self.old.saved)
+            × (self.new ≡ record self.old { error = Some Depth })) }
         ensures nesting { self.old.nesting ≡ 128 }
     {
         if self.depth < NESTING {
@@ -160,7 +166,8 @@ impl<R: ByteSource> Decoder<R> {
     // Leaves the open container.
     #[inline]
     pub(crate) fn leave(&mut self)
-        ensures { (outer : Open) (others : List Open) → self.old.saved ≡ outer ∷ others → self.new ≡ record self.old { top = outer; saved = others } }
+        ensures { (outer : Open) (others : List Open) → self.old.saved ≡ outer ∷ others
+            → self.new ≡ record self.old { top = outer; saved = others } }
     {
         if self.depth > 0 {
             self.depth -= 1;
@@ -172,7 +179,8 @@ impl<R: ByteSource> Decoder<R> {
     #[inline]
     pub(crate) fn leave_described(&mut self)
         requires { self.old.top.place ≡ InDescribed }
-        ensures { (outer : Open) (others : List Open) → self.old.saved ≡ outer ∷ others → self.new ≡ record self.old { top = record outer { left = self.old.top.left }; saved = others } }
+        ensures { (outer : Open) (others : List Open) → self.old.saved ≡ outer ∷ others
+            → self.new ≡ record self.old { top = record outer { left = self.old.top.left }; saved = others } }
     {
         if self.depth > 0 {
             self.depth -= 1;

@@ -55,7 +55,10 @@ impl<R: ByteSource> Decoder<R> {
         requires coded { 0 < code }
         requires few { vec_len descriptors ≤ 128 }
         requires room { IsFlat (map descriptor_of descriptors.items) (format code) ⊎ (length self.old.saved ≤ self.old.nesting) }
-        ensures ok { IfOk result (λ _. self.new ≡ record self.old { top = record self.old.top { place = InArray; items = Some count; shared = Some (map descriptor_of descriptors.items, code) } }) }
+        ensures ok { IfOk result (λ _. self.new
+            ≡ record self.old {
+              top = record self.old.top { place = InArray; items = Some count; shared = Some (map descriptor_of descriptors.items, code) };
+            }) }
         ensures err { IfErr result (λ e. (e ≡ Memory) × Answers self.old e self.new) }
     {
         let first = descriptors_in(&self.frames[..self.depth]);

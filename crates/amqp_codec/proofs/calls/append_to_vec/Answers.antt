@@ -7,7 +7,8 @@ pub returns-in-Ok-clause-text : goal.returns-in-Ok-clause-text
 returns-in-Ok-clause-text g c =
     let ts = g.T.Serialize.writing.canons c.args.value.now in
     let proper = g.T.Serialize.writing.proper _ c.measure.ensures.is_value in
-    let b : c.replace-room.result.items ≡ c.args.buffer.now.items = ap (λ v. v.items) c.replace-room.ensures.value ∙ c.reserve_exact.ensures.items in
+    let b : c.replace-room.result.items ≡ c.args.buffer.now.items =
+    ap (λ v. v.items) c.replace-room.ensures.value ∙ c.reserve_exact.ensures.items in
     c.into_buffer.ensures
     ∙ (filled ts proper _ _ _ _ _ _ _ c.in_ok-len.ensures.measured (omega (arith, ap length b)) c.filling-encoder.ensures
     c.serialize-outcome.ensures c.in-Ok.is
@@ -27,7 +28,8 @@ pub returns-in-Err-clause-refused : goal.returns-in-Err-clause-refused
 returns-in-Err-clause-refused g c =
     let ts = g.T.Serialize.writing.canons c.args.value.now in
     let proper = g.T.Serialize.writing.proper _ c.measure.ensures.is_value in
-    let b : c.replace-room.result.items ≡ c.args.buffer.now.items = ap (λ v. v.items) c.replace-room.ensures.value ∙ c.reserve_exact.ensures.items in
+    let b : c.replace-room.result.items ≡ c.args.buffer.now.items =
+    ap (λ v. v.items) c.replace-room.ensures.value ∙ c.reserve_exact.ensures.items in
     inl (filling_refused ts proper _ _ _ _ _ _ _ c.in_ok-len.ensures.measured (omega (arith, ap length b)) c.filling-encoder.ensures
     c.serialize-outcome.ensures _ c.in-Err.is)
 
@@ -35,7 +37,8 @@ pub returns-in-Err-clause-kept : goal.returns-in-Err-clause-kept
 returns-in-Err-clause-kept g c =
     let ts = g.T.Serialize.writing.canons c.args.value.now in
     let proper = g.T.Serialize.writing.proper _ c.measure.ensures.is_value in
-    let b : c.replace-room.result.items ≡ c.args.buffer.now.items = ap (λ v. v.items) c.replace-room.ensures.value ∙ c.reserve_exact.ensures.items in
+    let b : c.replace-room.result.items ≡ c.args.buffer.now.items =
+    ap (λ v. v.items) c.replace-room.ensures.value ∙ c.reserve_exact.ensures.items in
     c.truncate.ensures.items
     ∙ (ap (take c.len-before.result) c.into_buffer.ensures
     ∙ (front_kept ts proper _ _ _ _ _ _ _ c.in_ok-len.ensures.measured (omega (arith, ap length b)) c.filling-encoder.ensures

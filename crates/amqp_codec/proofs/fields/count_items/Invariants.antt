@@ -7,7 +7,8 @@ use Rattle.amqp_codec.proofs.fields.count_items.Given as goal
 abbrev pub invariant-loop-count : goal.invariant-loop-count
 invariant-loop-count g l = record {
   within : l.count ≤ length (kinds_of (slots g.L.FieldList.list.fields));
-  trims : without_last_nulls (take l.count (canonical_terms (slots g.L.FieldList.list.fields) l.value)) ≡ canonical_items (slots g.L.FieldList.list.fields) l.value;
+  trims : without_last_nulls (take l.count (canonical_terms (slots g.L.FieldList.list.fields) l.value))
+      ≡ canonical_items (slots g.L.FieldList.list.fields) l.value;
 }
 
 abbrev pub decreases-loop-count : goal.decreases-loop-count

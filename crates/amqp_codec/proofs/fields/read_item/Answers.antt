@@ -17,18 +17,21 @@ returns-in_err-peek_code g c tells =
 
 pub returns-then-branch-ne-NULL : goal.returns-then-branch-ne-NULL
 returns-then-branch-ne-NULL g c tells =
-    filled_step g.L.FieldList.list.fields c.args.index _ _ _ _ _ _ _ c.requires.within (c.in_ok-peek_code.ensures tells) c.if-branch-ne-NULL.true (c.fill_field.ensures tells c.requires.within)
+    filled_step g.L.FieldList.list.fields c.args.index _ _ _ _ _ _ _ c.requires.within (c.in_ok-peek_code.ensures tells)
+    c.if-branch-ne-NULL.true (c.fill_field.ensures tells c.requires.within)
 
 pub returns-in_err-read_null : goal.returns-in_err-read_null
 returns-in_err-read_null g c tells =
     let p = err_from_is_err_and c.from_residual-in_err-read_null.result c.from_residual-in_err-read_null.ensures.1 in
-    rw (p.1, p.2) (null_refused _ _ _ _ _ _ _ (c.in_ok-peek_code.ensures tells) c.if-branch-ne-NULL.false (c.in_err-read_null.ensures tells))
+    rw (p.1, p.2) (null_refused _ _ _ _ _ _ _ (c.in_ok-peek_code.ensures tells) c.if-branch-ne-NULL.false
+    (c.in_err-read_null.ensures tells))
 
 pub returns-in-Some : goal.returns-in-Some
 returns-in-Some g c tells =
     let peeked = c.in_ok-peek_code.ensures tells in
     null_unfit g.L.FieldList.list.fields c.args.index _ _ _ _ (peeked_going _ _ _ peeked).0
-    (ap absence (sym c.requires.its_kind) ∙ sym c.in-Some.ensures ∙ ap Some (sym c.refuse.ensures.answer)) (answered _ _ _ _ c.refuse.ensures.kept c.refuse.ensures.answer)
+    (ap absence (sym c.requires.its_kind) ∙ sym c.in-Some.ensures ∙ ap Some (sym c.refuse.ensures.answer))
+    (answered _ _ _ _ c.refuse.ensures.kept c.refuse.ensures.answer)
     ((value-peeked (Means (λ (_ : Unit {0}). null)) _ _ _ _ tt peeked).0 (c.in_ok-read_null.ensures tells))
 
 pub returns-in-None : goal.returns-in-None

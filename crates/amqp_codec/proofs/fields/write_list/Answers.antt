@@ -7,15 +7,19 @@ use Rattle.amqp_codec.proofs.fields.write_list.Goals as goal
 
 pub returns-in_err-begin_list : goal.returns-in_err-begin_list
 returns-in_err-begin_list g c =
-    open_refused (container_wraps list (canonical_items (slots g.L.FieldList.list.fields) c.args.value.now)) _ _ _ _ _ c.in_err-begin_list.was
+    open_refused (container_wraps list (canonical_items (slots g.L.FieldList.list.fields) c.args.value.now)) _ _ _ _
+    _ c.in_err-begin_list.was
     (err_from_is_err_and c.from_residual.result c.from_residual.ensures.1) c.begin_list.ensures
 
 pub returns-in_err-write_items : goal.returns-in_err-write_items
 returns-in_err-write_items g c =
-    inner_refused (container_wraps list (canonical_items (slots g.L.FieldList.list.fields) c.args.value.now)) _ _ _ _ _ _ _ c.in_ok-begin_list.was c.in_err-write_items.was
-    (err_from_is_err_and c.from_residual-in_err-write_items.result c.from_residual-in_err-write_items.ensures.1) c.begin_list.ensures (rw c.count_items-count.ensures.trimmed at c.write_items.ensures)
+    inner_refused (container_wraps list (canonical_items (slots g.L.FieldList.list.fields) c.args.value.now)) _ _ _ _ _ _ _
+    c.in_ok-begin_list.was c.in_err-write_items.was
+    (err_from_is_err_and c.from_residual-in_err-write_items.result c.from_residual-in_err-write_items.ensures.1) c.begin_list.ensures
+    (rw c.count_items-count.ensures.trimmed at c.write_items.ensures)
 
 pub returns : goal.returns
 returns g c =
-    all_written (container_wraps list (canonical_items (slots g.L.FieldList.list.fields) c.args.value.now)) _ _ _ _ _ _ _ c.in_ok-begin_list.was c.in_ok-write_items.was
+    all_written (container_wraps list (canonical_items (slots g.L.FieldList.list.fields) c.args.value.now)) _ _ _ _ _ _ _
+    c.in_ok-begin_list.was c.in_ok-write_items.was
     c.begin_list.ensures (rw c.count_items-count.ensures.trimmed at c.write_items.ensures) c.end_list.ensures

@@ -26,4 +26,5 @@ returns-clause-refused g c = λ told.
 pub returns-clause-failing : goal.returns-clause-failing
 returns-clause-failing g c = λ told.
     let read = rw c.new-decoder.ensures at (c.deserialize-read.ensures (λ s. told s.source)) in
-    failing g.T.Deserialize.reading (known (g.S.ByteSource.remaining c.args.source)) _ _ _ _ read _ _ c.into_source-source.ensures.failed refl
+    failing g.T.Deserialize.reading (known (g.S.ByteSource.remaining c.args.source)) _ _ _ _ read _ _
+    c.into_source-source.ensures.failed refl

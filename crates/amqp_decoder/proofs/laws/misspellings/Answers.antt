@@ -1,5 +1,6 @@
 use Rattle.amqp_model.specs.Term.{list, map}
-use Rattle.amqp_decoder.proofs.Misspelled.{primitive_misspelled, open_misspelled, array_misspelled, described_misspelled, one_of_misspelled, term_misspelled}
+use Rattle.amqp_decoder.proofs.Misspelled.{primitive_misspelled, open_misspelled, array_misspelled, described_misspelled, one_of_misspelled}
+use Rattle.amqp_decoder.proofs.Misspelled.{term_misspelled}
 use Rattle.amqp_decoder.proofs.NothingInside.{nothing_in_array, nothing_at_array_end, nothing_described}
 use Rattle.amqp_decoder.proofs.laws.misspellings.Goals as goal
 

@@ -1,4 +1,5 @@
-use Rattle.amqp_decoder.proofs.Rooms.{room_at_top, room_fits, room_looked, room_next, room_row, room_inside, room_in_array, room_in_described}
+use Rattle.amqp_decoder.proofs.Rooms.{room_at_top, room_fits, room_looked, room_next, room_row, room_inside, room_in_array}
+use Rattle.amqp_decoder.proofs.Rooms.{room_in_described}
 use Rattle.amqp_decoder.proofs.laws.rooms.Goals as goal
 
 pub returns : goal.returns

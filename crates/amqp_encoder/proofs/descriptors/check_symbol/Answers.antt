@@ -8,7 +8,13 @@ returns-then-not-is_ascii c = rw (non_ascii_tested c.args.text.now c.if-not-is_a
 
 pub returns-then-text-gt4294967295 : goal.returns-then-text-gt4294967295
 returns-then-text-gt4294967295 c =
-    rw (ascii_tested c.args.text.now c.if-not-is_ascii.ensures.cases, lt-ltb 0xffff_ffff (length c.args.text.now) c.if-text-gt4294967295.true)
+    rw (
+      ascii_tested c.args.text.now c.if-not-is_ascii.ensures.cases,
+      lt-ltb 0xffff_ffff (length c.args.text.now) c.if-text-gt4294967295.true,
+    )
 
 pub returns : goal.returns
-returns c = rw (ascii_tested c.args.text.now c.if-not-is_ascii.ensures.cases, le-ltb 0xffff_ffff (length c.args.text.now) c.if-text-gt4294967295.false)
+returns c = rw (
+  ascii_tested c.args.text.now c.if-not-is_ascii.ensures.cases,
+  le-ltb 0xffff_ffff (length c.args.text.now) c.if-text-gt4294967295.false,
+)

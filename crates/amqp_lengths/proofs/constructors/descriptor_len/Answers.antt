@@ -11,11 +11,13 @@ use Rattle.amqp_lengths.proofs.constructors.descriptor_len.Goals as goal
 pub returns-in_err-primitive_len-in-68-clause-refused : goal.returns-in_err-primitive_len-in-68-clause-refused
 returns-in_err-primitive_len-in-68-clause-refused c =
     let p = err_from_is_err_and c.from_residual.result c.from_residual.ensures.1 in
-    rw (p.1, p.2) (subst (λ l. Refuses NamesAny l c.in_err-primitive_len-in-68.field-0.0) (sym c.in-Some.ensures.cases.0) (mark_short _ _ _ c.in_err-primitive_len-in-68.ensures.refused))
+    rw (p.1, p.2) (subst (λ l. Refuses NamesAny l c.in_err-primitive_len-in-68.field-0.0) (sym c.in-Some.ensures.cases.0)
+    (mark_short _ _ _ c.in_err-primitive_len-in-68.ensures.refused))
 
 pub returns-in_ok-primitive_len-in-68-clause-found : goal.returns-in_ok-primitive_len-in-68-clause-found
 returns-in_ok-primitive_len-in-68-clause-found c =
-    subst (λ l. IsFront NamesAny l (1 + c.in_ok-primitive_len-in-68.field-0)) (sym c.in-Some.ensures.cases.0) (mark_found _ _ _ c.in-68.is c.in_ok-primitive_len-in-68.ensures.found)
+    subst (λ l. IsFront NamesAny l (1 + c.in_ok-primitive_len-in-68.field-0)) (sym c.in-Some.ensures.cases.0)
+    (mark_found _ _ _ c.in-68.is c.in_ok-primitive_len-in-68.ensures.found)
 
 pub returns-in_default-code-clause-refused : goal.returns-in_default-code-clause-refused
 returns-in_default-code-clause-refused c =
@@ -33,4 +35,5 @@ returns-in_err-primitive_len-in-68-clause-fault c =
 pub returns-in_default-code-clause-fault : goal.returns-in_default-code-clause-fault
 returns-in_default-code-clause-fault c =
     let other : IsDescriptorCode c.in-Some.code.now → ⊥ = search rules in
-    subst (λ l. DescriptorFault l c.unwrap_or.result) (sym c.in-Some.ensures.cases.0) (rw c.unwrap_or.ensures (descriptor_code _ _ c.unknown.result other c.unknown.ensures))
+    subst (λ l. DescriptorFault l c.unwrap_or.result) (sym c.in-Some.ensures.cases.0)
+    (rw c.unwrap_or.ensures (descriptor_code _ _ c.unknown.result other c.unknown.ensures))

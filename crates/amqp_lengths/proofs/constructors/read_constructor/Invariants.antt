@@ -3,7 +3,8 @@ use Rattle.amqp_lengths.specs.Lengths.{HasMarks}
 use Rattle.amqp_lengths.proofs.constructors.read_constructor.Given as goal
 
 abbrev pub invariant-loop-code : goal.invariant-loop-code
-invariant-loop-code l = record { within : l.len ≤ length l.input; few : l.descriptors ≤ 128; marks : HasMarks l.descriptors (take l.len l.input) }
+invariant-loop-code l =
+    record { within : l.len ≤ length l.input; few : l.descriptors ≤ 128; marks : HasMarks l.descriptors (take l.len l.input) }
 
 abbrev pub decreases-loop-code : goal.decreases-loop-code
 decreases-loop-code l = length l.input - l.len

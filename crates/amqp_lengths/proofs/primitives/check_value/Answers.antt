@@ -11,7 +11,8 @@ returns-in-len1-clause-found c =
 
 pub returns-in-len4-clause-found : goal.returns-in-len4-clause-found
 returns-in-len4-clause-found c =
-    subst (λ n. IsValue (format n) c.args.bytes.now) (sym c.in-115.is) (char_value c.args.bytes.now _ c.from_u32.result c.from_be_bytes.ensures c.from_u32.ensures.value (cc))
+    subst (λ n. IsValue (format n) c.args.bytes.now) (sym c.in-115.is)
+    (char_value c.args.bytes.now _ c.from_u32.result c.from_be_bytes.ensures c.from_u32.ensures.value (cc))
 
 pub returns-in-Ok-clause-found : goal.returns-in-Ok-clause-found
 returns-in-Ok-clause-found c = string_value c.args.code c.args.bytes.now c.in-161.is c.in-Ok.ensures.cases.1

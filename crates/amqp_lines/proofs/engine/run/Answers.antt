@@ -2,7 +2,10 @@ use Rattle.amqp_lines.proofs.Progress.{one_more, ended}
 use Rattle.amqp_lines.proofs.engine.run.Goals as goal
 
 pub returns-in_default-clause-answers : goal.returns-in_default-clause-answers
-returns-in_default-clause-answers g c = ended (λ v. v.items) _ _ _ _ _ _ _ _ _ c.in_default.is c.loop-answered.invariant c.in_ok-line.ensures.line c.in_ok-flush.ensures.kept
+returns-in_default-clause-answers g c =
+    ended (λ v. v.items) _ _ _ _ _ _ _ _ _ c.in_default.is c.loop-answered.invariant c.in_ok-line.ensures.line c.in_ok-flush.ensures.kept
 
 pub loop-answered-preserved : goal.loop-answered-preserved
-loop-answered-preserved g c = one_more (λ v. v.items) _ _ _ _ _ _ _ c.in-Some.line _ _ _ c.in-Some.is c.loop-answered.invariant c.in_ok-line.ensures.line (rw c.as_slice.ensures.value at c.in_ok-all_ok.ensures.answer)
+loop-answered-preserved g c =
+    one_more (λ v. v.items) _ _ _ _ _ _ _ c.in-Some.line _ _ _ c.in-Some.is c.loop-answered.invariant c.in_ok-line.ensures.line
+    (rw c.as_slice.ensures.value at c.in_ok-all_ok.ensures.answer)

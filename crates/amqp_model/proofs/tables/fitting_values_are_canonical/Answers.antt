@@ -10,5 +10,8 @@ returns g c =
       values = fitting_values table.fields;
       normal = λ ts v h. fitting_own table.fields ts v (normal table.norm v) h (table.norm_is v);
       free = fitting_free table.fields;
-      again = λ ts v h. same_fit table.fields (canonical_items table.fields v) (normal table.norm v) v (fitting_own table.fields ts v (normal table.norm v) h (table.norm_is v)) (canonical_fit table.fields v (normal table.norm v) (fitting_values table.fields ts v h) (fitting_free table.fields ts v h) (table.norm_is v));
+      again = λ ts v h. same_fit table.fields (canonical_items table.fields v) (normal table.norm v) v
+          (fitting_own table.fields ts v (normal table.norm v) h (table.norm_is v))
+          (canonical_fit table.fields v (normal table.norm v) (fitting_values table.fields ts v h)
+          (fitting_free table.fields ts v h) (table.norm_is v));
     }

@@ -13,7 +13,8 @@ returns g c =
       null = several_null;
       no_items = refl;
       items = λ t ts v h. h;
-      one_item = λ t x v n m e. subst (λ ts. SomeMean item.meaning.means ts (held.contents v)) (sym (several_alone t n (item.never_null t x m))) (rw e (m, tt));
+      one_item = λ t x v n m e. subst (λ ts. SomeMean item.meaning.means ts (held.contents v))
+          (sym (several_alone t n (item.never_null t x m))) (rw e (m, tt));
       canonical_one = λ x v e. ap (λ xs. array_or (leaf null) (map item.meaning.canon xs)) e;
       canonical_none = λ v e. ap (λ xs. array_or (leaf null) (map item.meaning.canon xs)) e;
     }

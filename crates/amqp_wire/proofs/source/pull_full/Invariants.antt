@@ -5,8 +5,10 @@ use Rattle.amqp_wire.proofs.source.pull_full.Given as goal
 abbrev pub invariant-loop-done : goal.invariant-loop-done
 invariant-loop-done g l =
     (l.done ≤ length l.initial.buffer)
-    × (Tells g.R.ByteSource.remaining → known (g.R.ByteSource.remaining l.fn.source) ≡ take l.done l.buffer ++ known (g.R.ByteSource.remaining l.source))
-    × (g.R.ByteSource.failed l.source ≡ g.R.ByteSource.failed l.fn.source) × (g.R.ByteSource.name l.source ≡ g.R.ByteSource.name l.fn.source)
+    × (Tells g.R.ByteSource.remaining
+    → known (g.R.ByteSource.remaining l.fn.source) ≡ take l.done l.buffer ++ known (g.R.ByteSource.remaining l.source))
+    × (g.R.ByteSource.failed l.source ≡ g.R.ByteSource.failed l.fn.source)
+    × (g.R.ByteSource.name l.source ≡ g.R.ByteSource.name l.fn.source)
 
 abbrev pub decreases-loop-done : goal.decreases-loop-done
 decreases-loop-done g l = length l.initial.buffer - l.done

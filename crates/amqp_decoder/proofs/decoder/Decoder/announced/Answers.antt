@@ -11,4 +11,5 @@ returns g c =
     let items = take c.self.inside.depth c.self.inside.frames in
     let whole = ap (sum_by (λ (f : OpenContainer). unwrap_or f.left 0)) (take_all c.loop-frame.frame-index items c.loop-frame-test.false) in
     let top = ap (λ (x : State). unwrap_or x.top.left 0) c.self.view_is in
-    rw (← c.self.view_is) (omega (arith, c.loop-frame.invariant.0, whole, top, stack_left c.self.inside.descriptors.items c.self.inside.depth c.self.inside.frames))
+    rw (← c.self.view_is) (omega
+    (arith, c.loop-frame.invariant.0, whole, top, stack_left c.self.inside.descriptors.items c.self.inside.depth c.self.inside.frames))

@@ -13,8 +13,10 @@ returns-in_err-code-clause-err g c = λ told.
 pub returns-then-code-ne-DESCRIBED-clause-err : goal.returns-then-code-ne-DESCRIBED-clause-err
 returns-then-code-ne-DESCRIBED-clause-err g c = λ told.
     let h = c.in_ok-code.ensures told in
-    begun_fails DescribedFault _ _ _ c.refuse_code.result _ h (answered_so _ _ _ c.refuse_code.ensures.kept) (inr (other_code h (search rules) c.refuse_code.ensures.answer))
+    begun_fails DescribedFault _ _ _ c.refuse_code.result _ h (answered_so _ _ _ c.refuse_code.ensures.kept)
+    (inr (other_code h (search rules) c.refuse_code.ensures.answer))
 
 pub returns-then-nesting_left-eq0-clause-err : goal.returns-then-nesting_left-eq0-clause-err
 returns-then-nesting_left-eq0-clause-err g c = λ told.
-    deep_fails _ _ _ _ (rw c.if-code-ne-DESCRIBED.false at (c.in_ok-code.ensures told)) c.refuse.ensures.answer (omega (arith, c.nesting_left.ensures, c.if-nesting_left-eq0.true)) c.refuse.ensures.kept
+    deep_fails _ _ _ _ (rw c.if-code-ne-DESCRIBED.false at (c.in_ok-code.ensures told)) c.refuse.ensures.answer
+    (omega (arith, c.nesting_left.ensures, c.if-nesting_left-eq0.true)) c.refuse.ensures.kept

@@ -11,11 +11,16 @@ returns-in_err-code g c = λ told.
     rw (p.1, p.2) (open_unbegun map _ _ _ (c.in_err-code.ensures told))
 
 pub returns-in-193 : goal.returns-in-193
-returns-in-193 g c = λ told. reads_open map 0xc1 1 _ _ _ _ (rw c.in-193.is at (c.in_ok-code.ensures told)) refl (c.open_map.ensures.ok told) (c.open_map.ensures.err told)
+returns-in-193 g c =
+    λ told. reads_open map 0xc1 1 _ _ _ _ (rw c.in-193.is at (c.in_ok-code.ensures told)) refl (c.open_map.ensures.ok told)
+    (c.open_map.ensures.err told)
 
 pub returns-in-209 : goal.returns-in-209
-returns-in-209 g c = λ told. reads_open map 0xd1 4 _ _ _ _ (rw c.in-209.is at (c.in_ok-code.ensures told)) refl (c.open_map-in-209.ensures.ok told) (c.open_map-in-209.ensures.err told)
+returns-in-209 g c =
+    λ told. reads_open map 0xd1 4 _ _ _ _ (rw c.in-209.is at (c.in_ok-code.ensures told)) refl (c.open_map-in-209.ensures.ok told)
+    (c.open_map-in-209.ensures.err told)
 
 pub returns-in_default : goal.returns-in_default
 returns-in_default g c = λ told.
-    open_other map _ _ _ _ _ (c.in_ok-code.ensures told) (not_map c.in_ok-code.code (search rules) (search rules)) c.refuse_code.ensures.answer (answered_so _ _ _ c.refuse_code.ensures.kept)
+    open_other map _ _ _ _ _ (c.in_ok-code.ensures told) (not_map c.in_ok-code.code (search rules) (search rules))
+    c.refuse_code.ensures.answer (answered_so _ _ _ c.refuse_code.ensures.kept)

@@ -40,4 +40,5 @@ pub returns-clause-nesting : goal.returns-clause-nesting
 returns-clause-nesting g c = λ told.
     let begun = c.in_ok-begin_descriptor.ensures.ok told in
     let took = c.in_ok-place.ensures.ok told (begun_describable _ _ begun) in
-    sym (ap (λ (x : State). x.nesting) begun.moved) ∙ sym (ap (λ (x : State). x.nesting) took.took.took.moved) ∙ c.in_ok-enter_described.ensures.nesting
+    sym (ap (λ (x : State). x.nesting) begun.moved) ∙ sym (ap (λ (x : State). x.nesting) took.took.took.moved)
+    ∙ c.in_ok-enter_described.ensures.nesting

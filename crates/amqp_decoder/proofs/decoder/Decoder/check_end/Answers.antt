@@ -8,7 +8,8 @@ pub returns-then-not-is_done : goal.returns-then-not-is_done
 returns-then-not-is_done g c =
     let s = split_saved c.args.self.now.saved (search rules) in
     let end = c.refuse-then-not-is_done.ensures in
-    end_items_left _ _ _ _ (search rules) (record { here = search rules; outer = s.0; others = s.1; saved = s.2 }) (search rules) end.answer (answered _ _ _ _ end.kept end.answer)
+    end_items_left _ _ _ _ (search rules) (record { here = search rules; outer = s.0; others = s.1; saved = s.2 }) (search rules) end.answer
+    (answered _ _ _ _ end.kept end.answer)
 
 pub returns : goal.returns
 returns g c =

@@ -2,7 +2,8 @@ use Rattle.std.proofs.Common.{rules, arith, ◌≡◌, ◌≤◌, map, length, v
 use Rattle.std.proofs.lemmas.Result.{err_from_is_err_and}
 use Rattle.std.proofs.lemmas.List.{length-map}
 use Rattle.amqp_decoder.specs.State.{descriptor_of}
-use Rattle.amqp_decoder.proofs.Constructed.{unshared_behind, more_named, code_after, constructor_took, stopped_first, stopped_code, stopped_mark, stopped_unknown}
+use Rattle.amqp_decoder.proofs.Constructed.{unshared_behind, more_named, code_after, constructor_took, stopped_first, stopped_code}
+use Rattle.amqp_decoder.proofs.Constructed.{stopped_mark, stopped_unknown}
 use Rattle.amqp_decoder.proofs.Steps.{stopped_short}
 use Rattle.amqp_decoder.proofs.decoder.Decoder.constructor.Goals as goal
 
@@ -15,7 +16,8 @@ pub returns-in_err-keep_descriptor-clause-err : goal.returns-in_err-keep_descrip
 returns-in_err-keep_descriptor-clause-err g c = λ told none.
     let p = err_from_is_err_and c.from_residual-in_err-keep_descriptor.result c.from_residual-in_err-keep_descriptor.ensures.1 in
     let marks = rw c.loop-code-test.true at (c.loop-code.invariant.marks told none) in
-    rw (p.1, p.2) (stopped_mark _ _ _ _ _ _ (sym (length-map c.loop-code.descriptors.items descriptor_of)) marks (c.in_err-keep_descriptor.ensures.err told (unshared_behind _ _ _ _ marks none)))
+    rw (p.1, p.2) (stopped_mark _ _ _ _ _ _ (sym (length-map c.loop-code.descriptors.items descriptor_of)) marks
+    (c.in_err-keep_descriptor.ensures.err told (unshared_behind _ _ _ _ marks none)))
 
 pub returns-in_err-code-2-clause-err : goal.returns-in_err-code-2-clause-err
 returns-in_err-code-2-clause-err g c = λ told none.
@@ -41,5 +43,6 @@ returns-in_err-check_known-clause-err g c = λ told none.
 pub returns-clause-ok : goal.returns-clause-ok
 returns-clause-ok g c = λ told none.
     let same : length c.loop-code.descriptors.items ≡ vec_len c.loop-code.descriptors = search rules in
-    let few : length (map descriptor_of c.loop-code.descriptors.items) ≤ 128 = omega (arith, length-map c.loop-code.descriptors.items descriptor_of, same, c.loop-code.invariant.few) in
+    let few : length (map descriptor_of c.loop-code.descriptors.items) ≤ 128 =
+    omega (arith, length-map c.loop-code.descriptors.items descriptor_of, same, c.loop-code.invariant.few) in
     constructor_took _ _ _ _ _ few c.loop-code-test.false (c.loop-code.invariant.marks told none) c.in_ok-check_known.ensures.ok

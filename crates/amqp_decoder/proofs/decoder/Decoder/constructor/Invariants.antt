@@ -7,7 +7,8 @@ use Rattle.amqp_decoder.proofs.decoder.Decoder.constructor.Given as goal
 abbrev pub invariant-loop-code : goal.invariant-loop-code
 invariant-loop-code g l = record {
   few : vec_len l.descriptors ≤ 128;
-  marks : Tells g.R.ByteSource.remaining → l.fn.self.top.shared ≡ None → TakesMarks l.fn.self (map descriptor_of l.descriptors.items) l.code l.self;
+  marks : Tells g.R.ByteSource.remaining → l.fn.self.top.shared ≡ None
+      → TakesMarks l.fn.self (map descriptor_of l.descriptors.items) l.code l.self;
 }
 
 abbrev pub decreases-loop-code : goal.decreases-loop-code

@@ -11,10 +11,16 @@ returns-in_err-code-clause-err g c = λ told.
     rw (p.1, p.2) (text_unbegun _ _ _ _ _ (c.in_err-code.ensures told))
 
 pub returns-then-code-narrow-clause-err : goal.returns-then-code-narrow-clause-err
-returns-then-code-narrow-clause-err g c = λ told. err_map _ _ _ (λ e s. text_narrow _ _ _ _ _ _ (rw c.if-code-narrow.true at (c.in_ok-code.ensures told)) s) (c.text_data.ensures.err told)
+returns-then-code-narrow-clause-err g c =
+    λ told. err_map _ _ _ (λ e s. text_narrow _ _ _ _ _ _ (rw c.if-code-narrow.true at (c.in_ok-code.ensures told)) s)
+    (c.text_data.ensures.err told)
 
 pub returns-then-code-wide-clause-err : goal.returns-then-code-wide-clause-err
-returns-then-code-wide-clause-err g c = λ told. err_map _ _ _ (λ e s. text_wide _ _ _ _ _ _ (rw c.if-code-wide.true at (c.in_ok-code.ensures told)) s) (c.text_data-then-code-wide.ensures.err told)
+returns-then-code-wide-clause-err g c =
+    λ told. err_map _ _ _ (λ e s. text_wide _ _ _ _ _ _ (rw c.if-code-wide.true at (c.in_ok-code.ensures told)) s)
+    (c.text_data-then-code-wide.ensures.err told)
 
 pub returns-else-code-wide-clause-err : goal.returns-else-code-wide-clause-err
-returns-else-code-wide-clause-err g c = λ told. text_other _ _ _ _ _ _ _ (c.in_ok-code.ensures told) (search rules) (search rules) c.refuse_code.ensures.answer (answered_so _ _ _ c.refuse_code.ensures.kept)
+returns-else-code-wide-clause-err g c =
+    λ told. text_other _ _ _ _ _ _ _ (c.in_ok-code.ensures told) (search rules) (search rules) c.refuse_code.ensures.answer
+    (answered_so _ _ _ c.refuse_code.ensures.kept)

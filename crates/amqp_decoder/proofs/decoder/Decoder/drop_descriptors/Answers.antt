@@ -7,7 +7,9 @@ use Rattle.amqp_decoder.proofs.decoder.Decoder.drop_descriptors.Goals as goal
 pub invariant_of-self : goal.invariant_of-self
 invariant_of-self g c =
     let n = c.self.inside.top.last in
-    let front : take n c.truncate.new.self.items ≡ take n c.self.inside.descriptors.items = ap (take n) (c.truncate.ensures.items ∙ ap (λ m. take m c.self.inside.descriptors.items) c.from.ensures) ∙ take-take n n c.self.inside.descriptors.items (omega arith) in (
+    let front : take n c.truncate.new.self.items ≡ take n c.self.inside.descriptors.items =
+    ap (take n) (c.truncate.ensures.items ∙ ap (λ m. take m c.self.inside.descriptors.items) c.from.ensures)
+    ∙ take-take n n c.self.inside.descriptors.items (omega arith) in (
       c.self.invariant.0,
       c.self.invariant.1,
       omega (arith, c.self.invariant.2),
@@ -19,5 +21,8 @@ invariant_of-self g c =
 pub returns : goal.returns
 returns g c =
     let n = c.self.inside.top.last in
-    let front : take n c.truncate.new.self.items ≡ take n c.self.inside.descriptors.items = ap (take n) (c.truncate.ensures.items ∙ ap (λ m. take m c.self.inside.descriptors.items) c.from.ensures) ∙ take-take n n c.self.inside.descriptors.items (omega arith) in
-    same_view _ _ _ _ _ _ _ _ _ _ (open_kept _ _ n _ (omega arith) front) (stack_kept _ _ n _ _ n c.self.invariant.1 (omega arith) front) ∙ c.self.view_is
+    let front : take n c.truncate.new.self.items ≡ take n c.self.inside.descriptors.items =
+    ap (take n) (c.truncate.ensures.items ∙ ap (λ m. take m c.self.inside.descriptors.items) c.from.ensures)
+    ∙ take-take n n c.self.inside.descriptors.items (omega arith) in
+    same_view _ _ _ _ _ _ _ _ _ _ (open_kept _ _ n _ (omega arith) front) (stack_kept _ _ n _ _ n c.self.invariant.1 (omega arith) front)
+    ∙ c.self.view_is

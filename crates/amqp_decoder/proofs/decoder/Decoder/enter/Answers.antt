@@ -7,7 +7,8 @@ pub invariant_of-self : goal.invariant_of-self
 invariant_of-self g c =
     let few : c.self.inside.depth < length c.self.inside.frames = omega arith in
     let inner : IsContainer c.args.inner.place = c.requires.container in
-    let deep : length c.args.self.now.saved ≡ c.self.inside.depth = ap (λ (st : State). length st.saved) (sym c.self.view_is) ∙ length-stack _ _ _ in
+    let deep : length c.args.self.now.saved ≡ c.self.inside.depth =
+    ap (λ (st : State). length st.saved) (sym c.self.view_is) ∙ length-stack _ _ _ in
     let limit : c.args.self.now.nesting ≡ 128 = ap (λ (st : State). st.nesting) (sym c.self.view_is) in (
       omega arith,
       nested_push _ _ _ few c.self.invariant.1,

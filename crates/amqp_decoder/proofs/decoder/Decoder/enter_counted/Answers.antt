@@ -6,19 +6,22 @@ use Rattle.amqp_decoder.proofs.decoder.Decoder.enter_counted.Goals as goal
 
 pub returns-then-self-ge-NESTING-clause-err : goal.returns-then-self-ge-NESTING-clause-err
 returns-then-self-ge-NESTING-clause-err g c =
-    let deep : length c.args.self.now.saved ≡ c.self.inside.depth = ap (λ (st : State). length st.saved) (sym c.self.view_is) ∙ length-stack _ _ _ in
+    let deep : length c.args.self.now.saved ≡ c.self.inside.depth =
+    ap (λ (st : State). length st.saved) (sym c.self.view_is) ∙ length-stack _ _ _ in
     let at : 128 ≤ c.self.inside.depth = search rules in
     (c.refuse.ensures.answer, omega (arith, deep, at), search rules)
 
 pub enter-requires-clause-room : goal.enter-requires-clause-room
 enter-requires-clause-room g c =
-    let deep : length c.args.self.now.saved ≡ c.self.inside.depth = ap (λ (st : State). length st.saved) (sym c.self.view_is) ∙ length-stack _ _ _ in
+    let deep : length c.args.self.now.saved ≡ c.self.inside.depth =
+    ap (λ (st : State). length st.saved) (sym c.self.view_is) ∙ length-stack _ _ _ in
     let limit : c.args.self.now.nesting ≡ 128 = ap (λ (st : State). st.nesting) (sym c.self.view_is) in
     let below : c.self.inside.depth < 128 = search rules in
     inl (omega (arith, deep, limit, below))
 
 pub returns-clause-ok : goal.returns-clause-ok
 returns-clause-ok g c =
-    let deep : length c.args.self.now.saved ≡ c.self.inside.depth = ap (λ (st : State). length st.saved) (sym c.self.view_is) ∙ length-stack _ _ _ in
+    let deep : length c.args.self.now.saved ≡ c.self.inside.depth =
+    ap (λ (st : State). length st.saved) (sym c.self.view_is) ∙ length-stack _ _ _ in
     let below : c.self.inside.depth < 128 = search rules in
     ok_map c.enter.result _ _ (λ x h. (omega (arith, deep, below), h.1)) c.enter.ensures.ok

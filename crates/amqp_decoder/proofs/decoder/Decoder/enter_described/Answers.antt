@@ -12,7 +12,8 @@ invariant_of-self g c =
       nested_push _ _ _ few c.self.invariant.1,
       c.self.invariant.2,
       λ e. absurd (cc),
-      bounded_push _ _ outer _ _ few (λ e n. none_and _ (sym c.and.ensures ∙ n)) (λ e. (kept (c.self.invariant.3 e).0, (c.self.invariant.3 e).1)) (bounded_as _ _ _ _ _ _ (λ e. (e, kept)) c.self.invariant.4),
+      bounded_push _ _ outer _ _ few (λ e n. none_and _ (sym c.and.ensures ∙ n))
+          (λ e. (kept (c.self.invariant.3 e).0, (c.self.invariant.3 e).1)) (bounded_as _ _ _ _ _ _ (λ e. (e, kept)) c.self.invariant.4),
       inl (omega arith),
     )
 
@@ -24,8 +25,11 @@ returns-clause-err g c =
 pub returns-then-self-lt-NESTING-clause-ok : goal.returns-then-self-lt-NESTING-clause-ok
 returns-then-self-lt-NESTING-clause-ok g c =
     let few : c.self.inside.depth < length c.self.inside.frames = omega arith in
-    let pushed = stack-push c.self.inside.descriptors.items c.self.inside.depth c.self.inside.frames (record c.self.inside.top { left = c.and.result }) few in
-    let rest = shared_behind c.self.inside.descriptors.items c.self.inside.top.code c.self.inside.top.first c.saturating_add.result c.self.inside.top.last (omega (arith, c.saturating_add.ensures)) (λ h. omega (arith, c.saturating_add.ensures)) in
+    let pushed =
+    stack-push c.self.inside.descriptors.items c.self.inside.depth c.self.inside.frames
+    (record c.self.inside.top { left = c.and.result }) few in
+    let rest = shared_behind c.self.inside.descriptors.items c.self.inside.top.code c.self.inside.top.first c.saturating_add.result
+    c.self.inside.top.last (omega (arith, c.saturating_add.ensures)) (λ h. omega (arith, c.saturating_add.ensures)) in
     rw (← c.self.view_is, length-stack, pushed, rest, c.and.ensures, and_none) (omega arith, refl)
 
 pub returns-clause-nesting : goal.returns-clause-nesting

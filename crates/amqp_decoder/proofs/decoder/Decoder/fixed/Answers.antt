@@ -10,7 +10,11 @@ returns-in_err-found-clause-err g c = λ told.
     rw (p.1, p.2) (fixed_unbegun _ _ _ _ _ (c.in_err-found.ensures told))
 
 pub returns-then-found-code-clause-err : goal.returns-then-found-code-clause-err
-returns-then-found-code-clause-err g c = λ told. fixed_other _ _ _ _ _ _ c.refuse_code.result _ (c.in_ok-found.ensures told) (search rules) c.refuse_code.ensures.answer (answered_so _ _ _ c.refuse_code.ensures.kept)
+returns-then-found-code-clause-err g c =
+    λ told. fixed_other _ _ _ _ _ _ c.refuse_code.result _ (c.in_ok-found.ensures told) (search rules) c.refuse_code.ensures.answer
+    (answered_so _ _ _ c.refuse_code.ensures.kept)
 
 pub returns-clause-err : goal.returns-clause-err
-returns-clause-err g c = λ told. err_map _ _ _ (λ e s. fixed_short _ _ _ _ _ _ (rw c.if-found-code.false at (c.in_ok-found.ensures told)) s) (c.take.ensures.err told)
+returns-clause-err g c =
+    λ told. err_map _ _ _ (λ e s. fixed_short _ _ _ _ _ _ (rw c.if-found-code.false at (c.in_ok-found.ensures told)) s)
+    (c.take.ensures.err told)

@@ -1,7 +1,8 @@
 use Rattle.std.proofs.lemmas.Result.{err_from_is_err_and}
 use Rattle.std.proofs.Common.{arith}
 use Rattle.amqp_decoder.proofs.Constructed.{stopped_first}
-use Rattle.amqp_decoder.proofs.KeptConstructors.{marks_first, marks_named, marks_code, constructor_kept, unmarked_deep, unmarked_name, unmarked_code, unmarked_unknown}
+use Rattle.amqp_decoder.proofs.KeptConstructors.{marks_first, marks_named, marks_code, constructor_kept, unmarked_deep, unmarked_name}
+use Rattle.amqp_decoder.proofs.KeptConstructors.{unmarked_code, unmarked_unknown}
 use Rattle.amqp_decoder.proofs.decoder.Decoder.keep_constructor.Goals as goal
 
 pub returns-in_err-code-clause-err : goal.returns-in_err-code-clause-err
@@ -20,7 +21,8 @@ loop-code-preserved g c = record {
   few = omega (arith, c.loop-code.invariant.few, c.if-count-eq-NESTING.false);
   kept = λ told.
       let marks = rw c.loop-code-test.true at (c.loop-code.invariant.kept told) in
-      marks_code _ _ _ _ _ _ _ _ (marks_named _ _ _ _ _ _ _ marks (c.in_ok-keep_descriptor_bytes.ensures.ok told)) (c.in_ok-code-2.ensures.ok told);
+      marks_code _ _ _ _ _ _ _ _ (marks_named _ _ _ _ _ _ _ marks (c.in_ok-keep_descriptor_bytes.ensures.ok told))
+      (c.in_ok-code-2.ensures.ok told);
 }
 
 pub returns-then-count-eq-NESTING-clause-err : goal.returns-then-count-eq-NESTING-clause-err
@@ -30,7 +32,8 @@ returns-then-count-eq-NESTING-clause-err g c = λ told.
 
 pub returns-in_err-keep_descriptor_bytes-clause-err : goal.returns-in_err-keep_descriptor_bytes-clause-err
 returns-in_err-keep_descriptor_bytes-clause-err g c = λ told.
-    let p = err_from_is_err_and c.from_residual-in_err-keep_descriptor_bytes.result c.from_residual-in_err-keep_descriptor_bytes.ensures.1 in
+    let p = err_from_is_err_and c.from_residual-in_err-keep_descriptor_bytes.result
+    c.from_residual-in_err-keep_descriptor_bytes.ensures.1 in
     let marks = rw c.loop-code-test.true at (c.loop-code.invariant.kept told) in
     rw (p.1, p.2) (unmarked_name _ _ _ _ _ _ _ marks (c.in_err-keep_descriptor_bytes.ensures.err told))
 
@@ -47,4 +50,6 @@ returns-in_err-check_known-clause-err g c = λ told.
     rw (p.1, p.2) (unmarked_unknown _ _ _ _ _ _ _ _ (c.loop-code.invariant.kept told) c.in_err-check_known.ensures.err)
 
 pub returns-clause-ok : goal.returns-clause-ok
-returns-clause-ok g c = λ told. constructor_kept _ _ _ _ _ _ _ c.loop-code.invariant.few c.loop-code-test.false (c.loop-code.invariant.kept told) c.in_ok-check_known.ensures.ok
+returns-clause-ok g c =
+    λ told. constructor_kept _ _ _ _ _ _ _ c.loop-code.invariant.few c.loop-code-test.false (c.loop-code.invariant.kept told)
+    c.in_ok-check_known.ensures.ok

@@ -10,7 +10,9 @@ returns-in_err-lower-clause-err g c = λ told.
     rw (p.1, p.2) (stopped_short _ _ _ _ (c.in_err-lower.ensures.err told))
 
 pub returns-clause-ok : goal.returns-clause-ok
-returns-clause-ok g c = λ told. ok_map _ _ _ (λ x h. keeps_next _ _ _ _ _ _ c.in_ok-lower.ensures.room c.in_ok-lower.ensures.new h) (c.keep.ensures.ok told)
+returns-clause-ok g c =
+    λ told. ok_map _ _ _ (λ x h. keeps_next _ _ _ _ _ _ c.in_ok-lower.ensures.room c.in_ok-lower.ensures.new h) (c.keep.ensures.ok told)
 
 pub returns-clause-err : goal.returns-clause-err
-returns-clause-err g c = λ told. err_map _ _ _ (λ e h. stopped_missed _ _ _ _ _ c.in_ok-lower.ensures.room c.in_ok-lower.ensures.new h) (c.keep.ensures.err told)
+returns-clause-err g c =
+    λ told. err_map _ _ _ (λ e h. stopped_missed _ _ _ _ _ c.in_ok-lower.ensures.room c.in_ok-lower.ensures.new h) (c.keep.ensures.err told)

@@ -10,7 +10,9 @@ loop-left-preserved g c =
     let within : n ≤ c.loop-left.left = omega (arith, c.min-n.ensures) in
     let long : length c.pull_all.new.buffer ≡ n = search rules in
     let next : c.args.len - c.loop-left.left + n ≡ c.args.len - (c.loop-left.left - n) = omega (arith, c.loop-left.invariant.0) in
-    let more = λ (told : Tells g.R.ByteSource.remaining). kept_more (c.args.len - c.loop-left.left) n _ _ _ c.pull_all.new.buffer _ _ _ (c.loop-left.invariant.3 told) (c.loop-left.invariant.1 told) (c.loop-left.invariant.2 told) (c.in_ok-pull_all.ensures.ok told) long (search rules) in (
+    let more = λ (told : Tells g.R.ByteSource.remaining). kept_more (c.args.len - c.loop-left.left) n _ _ _ c.pull_all.new.buffer _ _ _
+    (c.loop-left.invariant.3 told) (c.loop-left.invariant.1 told) (c.loop-left.invariant.2 told) (c.in_ok-pull_all.ensures.ok told)
+    long (search rules) in (
       omega (arith, c.loop-left.invariant.0),
       λ told. subst (λ j. j ≤ length c.args.self.now.rest) next (more told).0,
       λ told. (more told).1 ∙ ap (λ j. c.args.text.now.items ++ take j c.args.self.now.rest) next,

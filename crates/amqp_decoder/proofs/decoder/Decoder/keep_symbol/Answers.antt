@@ -13,7 +13,8 @@ returns-in_err-len-clause-err g c = λ told.
 pub returns-in_err-keep_next-clause-err : goal.returns-in_err-keep_next-clause-err
 returns-in_err-keep_next-clause-err g c = λ told.
     let p = err_from_is_err_and c.from_residual-in_err-keep_next.result c.from_residual-in_err-keep_next.ensures.1 in
-    rw (p.1, p.2) (stopped_text _ _ _ _ _ _ _ _ c.in_ok-len.ensures.fits (c.in_ok-len.ensures.ok told) (c.in_err-keep_next.ensures.err told))
+    rw (p.1, p.2) (stopped_text _ _ _ _ _ _ _ _ c.in_ok-len.ensures.fits (c.in_ok-len.ensures.ok told)
+    (c.in_err-keep_next.ensures.err told))
 
 pub returns-in-Some-clause-ok : goal.returns-in-Some-clause-ok
 returns-in-Some-clause-ok g c = λ told.
@@ -34,7 +35,16 @@ returns-in_default-clause-err g c = λ told.
           let other : IsNotAscii w.in-Some.text.now = search rules in
           let same : w.in-Some.text.now ≡ y = text_is _ _ _ _ _ _ start c.deref.ensures.value added w.in-Some.ensures.lookup.0.2 in
           let small = subst IsAscii (sym same) ascii other.0 in omega (arith, small, other.1))
-      | in_default-via-in_default w ↦ omega (arith, start, ap length c.deref.ensures.value, ap length added, length-append c.keep_number.new.bytes.items y, w.in_default.ensures.lookup.0)
+      | in_default-via-in_default w ↦
+          omega (
+            arith,
+            start,
+            ap length c.deref.ensures.value,
+            ap length added,
+            length-append c.keep_number.new.bytes.items y,
+            w.in_default.ensures.lookup.0,
+          )
     ] in
-    stopped_ascii _ _ _ _ _ _ _ _ c.refuse.result _ c.in_ok-len.ensures.fits bad (c.in_ok-len.ensures.ok told) (c.in_ok-keep_next.ensures.ok told)
+    stopped_ascii _ _ _ _ _ _ _ _ c.refuse.result _ c.in_ok-len.ensures.fits bad (c.in_ok-len.ensures.ok told)
+    (c.in_ok-keep_next.ensures.ok told)
     c.refuse.ensures.answer c.refuse.ensures.kept

@@ -20,14 +20,17 @@ returns-in_err-take_constructor-clause-err g c = λ told.
     let opened = c.in_ok-open_items.ensures.ok in
     let none = ap (λ (z : State). z.top.shared) opened.2 in
     let some : 0 < max c.in_ok-count.count c.in_ok-count.content = omega (arith, c.max.ensures, c.if-max-eq0.false) in
-    rw (p.1, p.2) (stopped_start _ _ _ _ _ _ _ _ (c.in_ok-count.ensures.ok told) some opened.2 (c.in_err-take_constructor.ensures.err told none))
+    rw (p.1, p.2) (stopped_start _ _ _ _ _ _ _ _ (c.in_ok-count.ensures.ok told) some opened.2
+    (c.in_err-take_constructor.ensures.err told none))
 
 pub returns-then-max-eq0-clause-ok : goal.returns-then-max-eq0-clause-ok
-returns-then-max-eq0-clause-ok g c = λ told. enters_none _ _ _ _ _ _ (c.in_ok-count.ensures.ok told) c.in_ok-open_items.ensures.ok (sym c.max.ensures ∙ c.if-max-eq0.true)
+returns-then-max-eq0-clause-ok g c =
+    λ told. enters_none _ _ _ _ _ _ (c.in_ok-count.ensures.ok told) c.in_ok-open_items.ensures.ok (sym c.max.ensures ∙ c.if-max-eq0.true)
 
 pub returns-clause-ok : goal.returns-clause-ok
 returns-clause-ok g c = λ told.
     let opened = c.in_ok-open_items.ensures.ok in
     let none = ap (λ (z : State). z.top.shared) opened.2 in
     let some : 0 < max c.in_ok-count.count c.in_ok-count.content = omega (arith, c.max.ensures, c.if-max-eq0.false) in
-    enters_all _ _ _ _ _ _ _ (c.in_ok-count.ensures.ok told) opened some (c.in_ok-take_constructor.ensures.ok told none (ap (λ (z : State). z.top.place) opened.2))
+    enters_all _ _ _ _ _ _ _ (c.in_ok-count.ensures.ok told) opened some
+    (c.in_ok-take_constructor.ensures.ok told none (ap (λ (z : State). z.top.place) opened.2))

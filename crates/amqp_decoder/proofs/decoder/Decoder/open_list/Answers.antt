@@ -10,4 +10,5 @@ returns-in_err-count-clause-err g c = λ told.
     rw (p.1, p.2) (enter_unheaded list _ _ _ _ (c.in_err-count.ensures.err told))
 
 pub returns-clause-err : goal.returns-clause-err
-returns-clause-err g c = λ told. err_map _ _ _ (λ e s. enter_unopened list _ _ _ _ _ _ _ (c.in_ok-count.ensures.ok told) tt s) (c.open.ensures.err told)
+returns-clause-err g c =
+    λ told. err_map _ _ _ (λ e s. enter_unopened list _ _ _ _ _ _ _ (c.in_ok-count.ensures.ok told) tt s) (c.open.ensures.err told)

@@ -12,14 +12,24 @@ returns-in-Some g c = λ told.
 pub returns-then-eq : goal.returns-then-eq
 returns-then-eq g c = λ told.
     let left = c.in_ok-check_item.ensures in
-    peek_size _ _ _ left.going left.item (rw left.kept at c.in_default.ensures) (rw left.kept at (let h : c.check_item.new.self.top.left ≡ Some 0 = search rules in h)) (rw left.kept at (c.refuse_size.ensures told))
+    peek_size _ _ _ left.going left.item (rw left.kept at c.in_default.ensures)
+    (rw left.kept at (let h : c.check_item.new.self.top.left ≡ Some 0 = search rules in h))
+    (rw left.kept at (c.refuse_size.ensures told))
 
 pub returns-in-None : goal.returns-in-None
 returns-in-None g c = λ told.
     let left = c.in_ok-check_item.ensures in
-    peek_cut _ _ _ left.going left.item (rw left.kept at c.in_default.ensures) (λ x. let h : c.check_item.new.self.top.left ≡ Some 0 → ⊥ = search rules in h (ap (λ (st : State). st.top.left) left.kept ∙ x)) (none_there _ _ _ (rw left.kept at (c.in_ok-look_next.ensures.new told)) (c.looked.ensures.bytes ∙ ap (λ (st : State). take st.ahead st.rest) c.self.view_is) c.in-None.ensures.value) c.refuse.ensures.answer (answered_later (ap (λ (st : State). st.failed) (c.in_ok-look_next.ensures.new told) ∙ ap (λ (st : State). st.failed) left.kept) (answered c.look_next.new.self _ _ _ c.refuse.ensures.kept c.refuse.ensures.answer))
+    peek_cut _ _ _ left.going left.item (rw left.kept at c.in_default.ensures)
+    (λ x. let h : c.check_item.new.self.top.left ≡ Some 0 → ⊥ = search rules in h (ap (λ (st : State). st.top.left) left.kept ∙ x))
+    (none_there _ _ _ (rw left.kept at (c.in_ok-look_next.ensures.new told)) (c.looked.ensures.bytes
+    ∙ ap (λ (st : State). take st.ahead st.rest) c.self.view_is) c.in-None.ensures.value) c.refuse.ensures.answer
+    (answered_later (ap (λ (st : State). st.failed) (c.in_ok-look_next.ensures.new told) ∙ ap (λ (st : State). st.failed) left.kept)
+    (answered c.look_next.new.self _ _ _ c.refuse.ensures.kept c.refuse.ensures.answer))
 
 pub returns-in-Some-first : goal.returns-in-Some-first
 returns-in-Some-first g c = λ told.
     let left = c.in_ok-check_item.ensures in
-    peeked_own _ _ _ _ left.going left.item (rw left.kept at c.in_default.ensures) (has_item _ (λ x. let h : c.check_item.new.self.top.left ≡ Some 0 → ⊥ = search rules in h (ap (λ (st : State). st.top.left) left.kept ∙ x))) (rw left.kept at (c.in_ok-look_next.ensures.new told)) (c.looked.ensures.bytes ∙ ap (λ (st : State). take st.ahead st.rest) c.self.view_is) c.in-Some-first.ensures.value
+    peeked_own _ _ _ _ left.going left.item (rw left.kept at c.in_default.ensures)
+    (has_item _ (λ x. let h : c.check_item.new.self.top.left ≡ Some 0 → ⊥ = search rules in
+    h (ap (λ (st : State). st.top.left) left.kept ∙ x))) (rw left.kept at (c.in_ok-look_next.ensures.new told)) (c.looked.ensures.bytes
+    ∙ ap (λ (st : State). take st.ahead st.rest) c.self.view_is) c.in-Some-first.ensures.value

@@ -4,7 +4,8 @@ use Rattle.amqp_model.specs.Term.{code}
 use Rattle.amqp_decoder.specs.State.{State}
 use Rattle.amqp_decoder.proofs.Steps.{answered_later}
 use Rattle.amqp_decoder.proofs.ReadPrimitives.{err_map, ok_map}
-use Rattle.amqp_decoder.proofs.Descriptors.{unmarked, code_took, name_place, missed_code, missed_ulong, missed_kind, missed_size, missed_name}
+use Rattle.amqp_decoder.proofs.Descriptors.{unmarked, code_took, name_place, missed_code, missed_ulong, missed_kind, missed_size}
+use Rattle.amqp_decoder.proofs.Descriptors.{missed_name}
 use Rattle.amqp_decoder.proofs.decoder.Decoder.place_of_next.Goals as goal
 
 pub returns-in_err-code-clause-err : goal.returns-in_err-code-clause-err
@@ -23,7 +24,11 @@ pub returns-in-Some-2-clause-ok : goal.returns-in-Some-2-clause-ok
 returns-in-Some-2-clause-ok g c = λ told can.
     let none = unmarked _ c.in_default.ensures can in
     let h = rw c.in-Some-2.is at (c.in_ok-value.ensures.ok told) in
-    record { descriptor = code c.in-Some-2.value; took = code_took _ _ _ c.in-Some-2.value _ none (c.in_ok-code.ensures.ok told) h; is = sym c.place_of_code.ensures }
+    record {
+      descriptor = code c.in-Some-2.value;
+      took = code_took _ _ _ c.in-Some-2.value _ none (c.in_ok-code.ensures.ok told) h;
+      is = sym c.place_of_code.ensures;
+    }
 
 pub returns-in_err-wide-clause-err : goal.returns-in_err-wide-clause-err
 returns-in_err-wide-clause-err g c = λ told can.
@@ -31,7 +36,8 @@ returns-in_err-wide-clause-err g c = λ told can.
     let none = unmarked _ c.in_default.ensures can in
     let other = rw c.in_default-2.is at (c.in_ok-value.ensures.ok told) in
     let why = c.in_err-wide.ensures.err in
-    rw (p.1, p.2) (missed_kind _ _ _ _ _ none (c.in_ok-code.ensures.ok told) other.0 why.0 why.1 why.2 (answered_later (ap (λ (x : State). x.failed) other.1) why.3))
+    rw (p.1, p.2) (missed_kind _ _ _ _ _ none (c.in_ok-code.ensures.ok told) other.0 why.0 why.1 why.2
+    (answered_later (ap (λ (x : State). x.failed) other.1) why.3))
 
 pub returns-in_err-len-clause-err : goal.returns-in_err-len-clause-err
 returns-in_err-len-clause-err g c = λ told can.
@@ -49,7 +55,8 @@ returns-clause-ok g c = λ told can.
     let wide = c.in_ok-wide.ensures.ok in
     let same = wide.1 ∙ other.1 in
     let sized = rw same at (c.in_ok-len.ensures.ok told) in
-    ok_map _ _ _ (λ place h. name_place _ _ _ _ _ _ _ _ place none wide.0 (c.in_ok-code.ensures.ok told) sized h) (c.place_of_text.ensures.ok told)
+    ok_map _ _ _ (λ place h. name_place _ _ _ _ _ _ _ _ place none wide.0 (c.in_ok-code.ensures.ok told) sized h)
+    (c.place_of_text.ensures.ok told)
 
 pub returns-clause-err : goal.returns-clause-err
 returns-clause-err g c = λ told can.

@@ -1,4 +1,5 @@
-use Rattle.std.proofs.Common.{rules, ◌≡◌, ◌≤◌, ◌+◌, ◌-◌, ◌++◌, ◌&&◌, ◌↔◌, IsTrue, IfSome, IsAscii, [], length, take, ap, sym, ◌∙◌, subst, arith, refl}
+use Rattle.std.proofs.Common.{rules, ◌≡◌, ◌≤◌, ◌+◌, ◌-◌, ◌++◌, ◌&&◌, ◌↔◌, IsTrue, IfSome, IsAscii, [], length, take, ap, sym, ◌∙◌, subst}
+use Rattle.std.proofs.Common.{arith, refl}
 use Rattle.std.proofs.lemmas.List.{length-take-le}
 use Rattle.amqp_wire.specs.Sources.{Tells}
 use Rattle.amqp_decoder.specs.State.{after_bytes}
@@ -17,15 +18,19 @@ loop-left-preserved g c =
     let within : n ≤ c.loop-left.left = omega (arith, c.min-n.ensures) in
     let long : length piece ≡ n = search rules in
     let next : k + n ≡ c.args.len - (c.loop-left.left - n) = omega (arith, i.few) in
-    let more = λ (told : Tells g.R.ByteSource.remaining). kept_more k n c.args.self.now c.loop-left.self c.pull_all.new.self piece [] (take k r) (take k r ++ piece) (i.moved_ told) (i.there told) refl (c.in_ok-pull_all.ensures.ok told) long refl in
+    let more = λ (told : Tells g.R.ByteSource.remaining). kept_more k n c.args.self.now c.loop-left.self c.pull_all.new.self piece []
+    (take k r) (take k r ++ piece) (i.moved_ told) (i.there told) refl (c.in_ok-pull_all.ensures.ok told) long refl in
     let taken = λ (told : Tells g.R.ByteSource.remaining). (more told).1 ∙ ap (λ j. take j r) next in
     record {
       few = omega (arith, i.few);
-      long = subst (λ j. IfSome c.next_front-known.result (λ front. length front.now ≡ j)) (ap (λ j. k + j) long ∙ next) (c.next_front-known.ensures.long k i.long);
+      long = subst (λ j. IfSome c.next_front-known.result (λ front. length front.now ≡ j)) (ap (λ j. k + j) long ∙ next)
+          (c.next_front-known.ensures.long k i.long);
       there = λ told. subst (λ j. j ≤ length r) next (more told).0;
       moved_ = λ told. (more told).2 ∙ ap (λ j. after_bytes j c.args.self.now) next;
-      ascii = λ told. subst (λ s. IsTrue (c.loop-left.is_ascii && c.is_ascii-is_ascii.result) ↔ IsAscii s) (taken told) (ascii_both (take k r) piece _ _ (i.ascii told) c.is_ascii-is_ascii.ensures.cases);
-      front = λ told. subst (λ s. FrontIs c.args.members.now c.args.len s c.next_front-known.result) (taken told) (c.next_front-known.ensures.front (take k r) (i.front told));
+      ascii = λ told. subst (λ s. IsTrue (c.loop-left.is_ascii && c.is_ascii-is_ascii.result)
+          ↔ IsAscii s) (taken told) (ascii_both (take k r) piece _ _ (i.ascii told) c.is_ascii-is_ascii.ensures.cases);
+      front = λ told. subst (λ s. FrontIs c.args.members.now c.args.len s c.next_front-known.result) (taken told)
+          (c.next_front-known.ensures.front (take k r) (i.front told));
     }
 
 pub returns-in-None-clause-ok : goal.returns-in-None-clause-ok

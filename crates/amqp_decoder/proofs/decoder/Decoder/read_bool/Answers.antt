@@ -15,11 +15,14 @@ returns-in_err-code g c = λ told.
 pub returns-in_err-byte-in-86 : goal.returns-in_err-byte-in-86
 returns-in_err-byte-in-86 g c = λ told.
     let p = err_from_is_err_and c.from_residual-in_err-byte-in-86.result c.from_residual-in_err-byte-in-86.ensures.1 in
-    rw (p.1, p.2) (short_refused boolean 1 86 1 _ _ _ _ (λ v. refl) refl (λ l. l) (rw c.in-86.is at (c.in_ok-code.ensures told)) (c.in_err-byte-in-86.ensures.err told))
+    rw (p.1, p.2) (short_refused boolean 1 86 1 _ _ _ _ (λ v. refl) refl (λ l. l) (rw c.in-86.is at (c.in_ok-code.ensures told))
+    (c.in_err-byte-in-86.ensures.err told))
 
 pub returns-in_default : goal.returns-in_default
 returns-in_default g c = λ told.
-    other_refused boolean 1 _ _ _ _ _ (λ v. refl) (c.in_ok-code.ensures told) (not_three 1 _ 65 66 86 refl (search rules) (search rules) (search rules)) c.refuse_code.ensures.answer (answered_so _ _ _ c.refuse_code.ensures.kept)
+    other_refused boolean 1 _ _ _ _ _ (λ v. refl) (c.in_ok-code.ensures told)
+    (not_three 1 _ 65 66 86 refl (search rules) (search rules) (search rules)) c.refuse_code.ensures.answer
+    (answered_so _ _ _ c.refuse_code.ensures.kept)
 
 pub returns-in-65 : goal.returns-in-65
 returns-in-65 g c = λ told. code_value boolean 65 _ _ _ (rw c.in-65.is at (c.in_ok-code.ensures told)) (refl, refl, tt)
@@ -29,13 +32,17 @@ returns-in-66 g c = λ told. code_value boolean 66 _ _ _ (rw c.in-66.is at (c.in
 
 pub returns-in-0 : goal.returns-in-0
 returns-in-0 g c = λ told.
-    data_value boolean 86 _ _ (0 ∷ []) _ _ (rw c.in-86.is at (c.in_ok-code.ensures told)) (refl, refl, tt) (rw c.in-0.is at (c.in_ok-byte-in-86.ensures.ok told))
+    data_value boolean 86 _ _ (0 ∷ []) _ _ (rw c.in-86.is at (c.in_ok-code.ensures told)) (refl, refl, tt)
+    (rw c.in-0.is at (c.in_ok-byte-in-86.ensures.ok told))
 
 pub returns-in-1 : goal.returns-in-1
 returns-in-1 g c = λ told.
-    data_value boolean 86 _ _ (1 ∷ []) _ _ (rw c.in-86.is at (c.in_ok-code.ensures told)) (refl, refl, tt) (rw c.in-1.is at (c.in_ok-byte-in-86.ensures.ok told))
+    data_value boolean 86 _ _ (1 ∷ []) _ _ (rw c.in-86.is at (c.in_ok-code.ensures told)) (refl, refl, tt)
+    (rw c.in-1.is at (c.in_ok-byte-in-86.ensures.ok told))
 
 pub returns-in_default-2 : goal.returns-in_default-2
 returns-in_default-2 g c = λ told.
-    bad_refused boolean 1 86 _ _ (c.in_ok-byte-in-86.field-0 ∷ []) _ _ _ (λ v. refl) refl (rw c.in-86.is at (c.in_ok-code.ensures told)) (c.in_ok-byte-in-86.ensures.ok told) refl
-    (λ p d. not_boolean c.in_ok-byte-in-86.field-0 p (search rules) (search rules) d.1) c.refuse.ensures.answer (answered _ _ _ _ c.refuse.ensures.kept c.refuse.ensures.answer)
+    bad_refused boolean 1 86 _ _ (c.in_ok-byte-in-86.field-0 ∷ []) _ _ _ (λ v. refl) refl (rw c.in-86.is at (c.in_ok-code.ensures told))
+    (c.in_ok-byte-in-86.ensures.ok told) refl
+    (λ p d. not_boolean c.in_ok-byte-in-86.field-0 p (search rules) (search rules) d.1) c.refuse.ensures.answer
+    (answered _ _ _ _ c.refuse.ensures.kept c.refuse.ensures.answer)

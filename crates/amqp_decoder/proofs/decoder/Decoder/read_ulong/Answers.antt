@@ -26,4 +26,5 @@ pub returns-in-None : goal.returns-in-None
 returns-in-None g c = λ told.
     let d = rw c.in-None.is at (c.in_ok-value.ensures.ok told) in
     let b = c.in_ok-code.ensures told in
-    other_refused ulong 5 _ _ _ _ _ (λ v. refl) b d.0 c.refuse_code.ensures.answer (answered_later (ap (λ (x : State). x.failed) d.1) (answered_so c.ulong_data.new.self _ _ c.refuse_code.ensures.kept))
+    other_refused ulong 5 _ _ _ _ _ (λ v. refl) b d.0 c.refuse_code.ensures.answer
+    (answered_later (ap (λ (x : State). x.failed) d.1) (answered_so c.ulong_data.new.self _ _ c.refuse_code.ensures.kept))

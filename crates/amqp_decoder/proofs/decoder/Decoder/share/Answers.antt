@@ -8,7 +8,8 @@ use Rattle.amqp_decoder.proofs.decoder.Decoder.share.Goals as goal
 pub overflow_add-last : goal.overflow_add-last
 overflow_add-last g c =
     let few : c.self.inside.depth ≤ length c.self.inside.frames = omega arith in
-    let first : c.descriptors_in-first.result ≡ shared_in c.self.inside.depth c.self.inside.frames = c.descriptors_in-first.ensures ∙ shared_front c.self.inside.depth c.self.inside.frames few in
+    let first : c.descriptors_in-first.result ≡ shared_in c.self.inside.depth c.self.inside.frames =
+    c.descriptors_in-first.ensures ∙ shared_front c.self.inside.depth c.self.inside.frames few in
     let least = few_shared c.self.inside.depth c.self.inside.frames c.self.inside.top.last c.self.invariant.1 in
     omega (arith, c.requires)
 
@@ -16,7 +17,8 @@ pub invariant_of-self : goal.invariant_of-self
 invariant_of-self g c =
     let n = c.descriptors_in-first.result in
     let rows : c.self.inside.depth ≤ length c.self.inside.frames = omega arith in
-    let first : n ≡ shared_in c.self.inside.depth c.self.inside.frames = c.descriptors_in-first.ensures ∙ shared_front c.self.inside.depth c.self.inside.frames rows in
+    let first : n ≡ shared_in c.self.inside.depth c.self.inside.frames =
+    c.descriptors_in-first.ensures ∙ shared_front c.self.inside.depth c.self.inside.frames rows in
     let among = shared_among c.self.inside.depth c.self.inside.frames c.self.inside.top.last c.self.invariant.1 in (
       c.self.invariant.0,
       nested_last _ _ _ n c.self.invariant.1 (omega arith) (omega arith),
@@ -31,8 +33,10 @@ invariant_of-self-2 g c =
     let d = c.self.inside.depth in
     let fs = c.self.inside.frames in
     let n = c.descriptors_in-first.result in
-    let put = put_behind c.self.inside.descriptors.items c.args.descriptors.items c.append.new.self.items d fs c.self.inside.top.last n c.args.code (n + c.len.result)
-    c.self.invariant.1 (omega (arith, c.self.invariant.2)) (omega arith) c.descriptors_in-first.ensures (search rules) c.requires.coded (omega arith) in
+    let put = put_behind c.self.inside.descriptors.items c.args.descriptors.items c.append.new.self.items d fs c.self.inside.top.last n
+    c.args.code (n + c.len.result)
+    c.self.invariant.1 (omega (arith, c.self.invariant.2)) (omega arith) c.descriptors_in-first.ensures (search rules)
+    c.requires.coded (omega arith) in
     let deep : length c.args.self.now.saved ≡ d = ap (λ (st : State). length st.saved) (sym c.self.view_is) ∙ length-stack _ _ _ in
     let limit : c.args.self.now.nesting ≡ 128 = ap (λ (st : State). st.nesting) (sym c.self.view_is) in (
       c.self.invariant.0,
@@ -40,7 +44,10 @@ invariant_of-self-2 g c =
       search rules,
       λ e. absurd (cc),
       bounded_as _ _ _ _ _ _ (λ e. absurd (cc)) c.self.invariant.4,
-      elim c.requires.room [ inl flat ↦ inr (inr (subst HasFlatItems (sym put.1) flat)) | inr fits ↦ inl (omega (arith, deep, limit, fits)) ],
+      elim c.requires.room [
+        | inl flat ↦ inr (inr (subst HasFlatItems (sym put.1) flat))
+        | inr fits ↦ inl (omega (arith, deep, limit, fits))
+      ],
     )
 
 pub returns-clause-ok : goal.returns-clause-ok
@@ -48,6 +55,9 @@ returns-clause-ok g c =
     let d = c.self.inside.depth in
     let fs = c.self.inside.frames in
     let n = c.descriptors_in-first.result in
-    let put = put_behind c.self.inside.descriptors.items c.args.descriptors.items c.append.new.self.items d fs c.self.inside.top.last n c.args.code (n + c.len.result)
-    c.self.invariant.1 (omega (arith, c.self.invariant.2)) (omega arith) c.descriptors_in-first.ensures (search rules) c.requires.coded (omega arith) in
-    rw (← c.self.view_is) (same_view _ _ _ _ _ _ _ _ _ _ (ap (λ x. record { place = InArray; items = Some c.args.count; left = c.self.inside.top.left; shared = x }) put.1) put.2)
+    let put = put_behind c.self.inside.descriptors.items c.args.descriptors.items c.append.new.self.items d fs c.self.inside.top.last n
+    c.args.code (n + c.len.result)
+    c.self.invariant.1 (omega (arith, c.self.invariant.2)) (omega arith) c.descriptors_in-first.ensures (search rules)
+    c.requires.coded (omega arith) in
+    rw (← c.self.view_is) (same_view _ _ _ _ _ _ _ _ _ _
+    (ap (λ x. record { place = InArray; items = Some c.args.count; left = c.self.inside.top.left; shared = x }) put.1) put.2)

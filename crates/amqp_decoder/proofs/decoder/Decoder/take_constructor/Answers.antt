@@ -18,20 +18,27 @@ returns-then-count-eq0-clause-ok g c = λ told none here. no_items _ _ c.if-coun
 
 pub returns-then-has_width_zero-clause-err : goal.returns-then-has_width_zero-clause-err
 returns-then-has_width_zero-clause-err g c = λ told none.
-    stopped_zero _ _ _ _ _ _ _ _ c.if-count-eq0.false (c.in_ok-descriptors.ensures.ok told none) c.if-has_width_zero.true (known_zero c.in_ok-descriptors.code c.has_width_zero.result c.has_width_zero.ensures) c.refuse.ensures.answer
+    stopped_zero _ _ _ _ _ _ _ _ c.if-count-eq0.false (c.in_ok-descriptors.ensures.ok told none) c.if-has_width_zero.true
+    (known_zero c.in_ok-descriptors.code c.has_width_zero.result c.has_width_zero.ensures) c.refuse.ensures.answer
     (answered _ _ _ _ c.refuse.ensures.kept c.refuse.ensures.answer)
 
 pub returns-in_err-check_items-clause-err : goal.returns-in_err-check_items-clause-err
 returns-in_err-check_items-clause-err g c = λ told none.
     let p = err_from_is_err_and c.from_residual-in_err-check_items.result c.from_residual-in_err-check_items.ensures.1 in
-    rw (p.1, p.2) (stopped_nested _ _ _ _ _ c.is_flat.result _ _ c.if-count-eq0.false (c.in_ok-descriptors.ensures.ok told none) (rw c.deref.ensures.value at c.is_flat.ensures.is) c.in_err-check_items.ensures.err)
+    rw (p.1, p.2) (stopped_nested _ _ _ _ _ c.is_flat.result _ _ c.if-count-eq0.false (c.in_ok-descriptors.ensures.ok told none)
+    (rw c.deref.ensures.value at c.is_flat.ensures.is) c.in_err-check_items.ensures.err)
 
 pub share-requires-clause-room : goal.share-requires-clause-room
 share-requires-clause-room g c =
     let fits = c.in_ok-check_items.ensures.ok in
-    elim fits.0 [ inl x ↦ inl ((rw c.deref.ensures.value at c.is_flat.ensures.flat) x) | inr few ↦ inr (subst (λ (st : State). length st.saved ≤ st.nesting) (sym fits.1) few) ]
+    elim fits.0 [
+      | inl x ↦ inl ((rw c.deref.ensures.value at c.is_flat.ensures.flat) x)
+      | inr few ↦ inr (subst (λ (st : State). length st.saved ≤ st.nesting) (sym fits.1) few)
+    ]
 
 pub returns-clause-ok : goal.returns-clause-ok
 returns-clause-ok g c = λ told none here.
     let took = c.in_ok-descriptors.ensures.ok told none in
-    ok_map _ _ _ (λ x h. shares_all _ _ _ _ _ _ _ c.has_width_zero.result c.is_flat.result c.if-count-eq0.false here took c.if-has_width_zero.false (known_zero c.in_ok-descriptors.code c.has_width_zero.result c.has_width_zero.ensures) (rw c.deref.ensures.value at c.is_flat.ensures.is) c.in_ok-check_items.ensures.ok h) c.share.ensures.ok
+    ok_map _ _ _ (λ x h. shares_all _ _ _ _ _ _ _ c.has_width_zero.result c.is_flat.result c.if-count-eq0.false here took
+    c.if-has_width_zero.false (known_zero c.in_ok-descriptors.code c.has_width_zero.result c.has_width_zero.ensures)
+    (rw c.deref.ensures.value at c.is_flat.ensures.is) c.in_ok-check_items.ensures.ok h) c.share.ensures.ok

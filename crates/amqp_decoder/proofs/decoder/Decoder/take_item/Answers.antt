@@ -2,4 +2,11 @@ use Rattle.amqp_decoder.proofs.Rows.{room_less}
 use Rattle.amqp_decoder.proofs.decoder.Decoder.take_item.Goals as goal
 
 pub invariant_of-self : goal.invariant_of-self
-invariant_of-self g c = (c.self.invariant.0, c.self.invariant.1, c.self.invariant.2, c.self.invariant.3, c.self.invariant.4, room_less c.self.inside.descriptors.items c.self.inside.depth c.self.inside.top _ c.saturating_sub-self-inside.ensures c.self.invariant.5)
+invariant_of-self g c = (
+  c.self.invariant.0,
+  c.self.invariant.1,
+  c.self.invariant.2,
+  c.self.invariant.3,
+  c.self.invariant.4,
+  room_less c.self.inside.descriptors.items c.self.inside.depth c.self.inside.top _ c.saturating_sub-self-inside.ensures c.self.invariant.5,
+)

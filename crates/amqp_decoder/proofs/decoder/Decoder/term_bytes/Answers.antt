@@ -11,14 +11,16 @@ pub returns-in_err-keep_data-clause-err : goal.returns-in_err-keep_data-clause-e
 returns-in_err-keep_data-clause-err g c = λ told.
     let p = err_from_is_err_and c.from_residual-in_err-keep_data.result c.from_residual-in_err-keep_data.ensures.1 in
     let constructor = c.in_ok-code.ensures.ok told in
-    rw (p.1, p.2) (no_data_kept c.in_ok-code.code _ _ _ _ _ _ constructor (c.in_err-keep_data.ensures.err told (known_code c.in_ok-code.code _ constructor.is)))
+    rw (p.1, p.2) (no_data_kept c.in_ok-code.code _ _ _ _ _ _ constructor
+    (c.in_err-keep_data.ensures.err told (known_code c.in_ok-code.code _ constructor.is)))
 
 pub returns-in_err-check_term-clause-err : goal.returns-in_err-check_term-clause-err
 returns-in_err-check_term-clause-err g c = λ told.
     let p = err_from_is_err_and c.from_residual-in_err-check_term.result c.from_residual-in_err-check_term.ensures.1 in
     let constructor = c.in_ok-code.ensures.ok told in
     let data_ = c.in_ok-keep_data.ensures.ok told (known_code c.in_ok-code.code _ constructor.is) in
-    rw (p.1, p.2) (no_term_kept c.in_ok-code.code _ _ _ _ _ _ _ _ c.new-bytes.ensures.items constructor data_ (rw c.as_slice.ensures.value at (c.in_err-check_term.ensures.err told)))
+    rw (p.1, p.2) (no_term_kept c.in_ok-code.code _ _ _ _ _ _ _ _ c.new-bytes.ensures.items constructor data_
+    (rw c.as_slice.ensures.value at (c.in_err-check_term.ensures.err told)))
 
 pub returns-clause-ok : goal.returns-clause-ok
 returns-clause-ok g c = λ told.

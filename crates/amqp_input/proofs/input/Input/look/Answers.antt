@@ -15,6 +15,8 @@ returns-clause-new g c =
     let few : c.in_ok-more.more ≤ length c.pull_full.new.buffer = omega (arith, c.in_ok-more.ensures.fits, c.pull_full.auto.buffer) in
     rw (← c.self.view_is) (λ told.
     looked_is _ _ _ _ _ _
-    (looked_more start end_ a c.in_ok-more.more l c.copy_within.new.self c.pull_full.new.buffer _ _ _ is (search rules) within c.copy_within.ensures.after c.copy_within.ensures.len few (c.in_ok-more.ensures.bytes told))
-    (looked_count start end_ a c.in_ok-more.more c.args.count l c.pull_full.new.buffer _ _ is within (search rules) room few (c.in_ok-more.ensures.bytes told) (λ h. c.in_ok-more.ensures.all told (omega (arith, c.pull_full.auto.buffer, h))))
+    (looked_more start end_ a c.in_ok-more.more l c.copy_within.new.self c.pull_full.new.buffer _ _ _ is (search rules) within
+    c.copy_within.ensures.after c.copy_within.ensures.len few (c.in_ok-more.ensures.bytes told))
+    (looked_count start end_ a c.in_ok-more.more c.args.count l c.pull_full.new.buffer _ _ is within (search rules) room few
+    (c.in_ok-more.ensures.bytes told) (λ h. c.in_ok-more.ensures.all told (omega (arith, c.pull_full.auto.buffer, h))))
     c.pull_full.ensures.named c.in_ok-more.ensures.kept)

@@ -8,5 +8,8 @@ returns-in-Some-clause-ok g c = λ told.
     let is = c.in_ok-look.ensures.new told in
     let few = c.if-len-start.false in
     let low = c.requires in
-    let found = c.in-Some.ensures.lookup.0 in
-    (looks_once _ _ _ (omega (arith, few, low)) is, named_front _ _ _ c.args.start c.args.len c.looked.result.now _ _ is c.looked.ensures.bytes (omega (arith, few, low)) found.1 found.2 c.section_of_name.ensures)
+    let found = c.in-Some.ensures.lookup.0 in (
+      looks_once _ _ _ (omega (arith, few, low)) is,
+      named_front _ _ _ c.args.start c.args.len c.looked.result.now _ _ is c.looked.ensures.bytes (omega (arith, few, low)) found.1 found.2
+          c.section_of_name.ensures,
+    )
