@@ -13,7 +13,8 @@ use amqp_encoder::{Encoder, Measurement};
 use amqp_wire::Error;
 use std::alloc::Global;
 
-/// The value that the input begins with. What follows it is left.
+/// The value that the input begins with. What follows it is left. An error is `Memory`, where reading the type takes
+/// memory, or names a fault of an input that begins with no value.
 pub fn from_slice<T: Deserialize>(input: &[u8], alloc: Global) -> Result<T, Error>
     ensures found { IfOk result (λ v. (n : ℕ) × BeginsWith T.reading input.now v n) }
     ensures one { IfOk result (λ v. (w : _) (m : ℕ) → BeginsWith T.reading input.now w m → T.reading.same v w) }
@@ -24,7 +25,7 @@ pub fn from_slice<T: Deserialize>(input: &[u8], alloc: Global) -> Result<T, Erro
     Ok(value)
 }
 
-/// The value that the input begins with, and how many bytes it takes.
+/// The value that the input begins with, and how many bytes it takes. It is refused as `from_slice` is.
 pub fn from_slice_counted<T: Deserialize>(input: &[u8], alloc: Global) -> Result<(T, usize), Error>
     ensures found { IfOk result (λ r. BeginsWith T.reading input.now r.0 r.1) }
     ensures one { IfOk result (λ r. (w : _) (m : ℕ) → BeginsWith T.reading input.now w m → T.reading.same r.0 w × (r.1 ≡ m)) }

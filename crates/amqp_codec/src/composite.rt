@@ -22,7 +22,9 @@ use std::alloc::Global;
 /// The table of a composite: the code and the name of its descriptor, and the kinds of its fields in order.
 #[derive(Clone, Copy)]
 pub struct Table {
+    /// The code and the name of the descriptor.
     pub descriptor: (u64, &'static str),
+    /// The kind of each field.
     pub fields: &'static [FieldKind],
 }
 
@@ -38,12 +40,12 @@ pub trait Composite: Sized + Drop {
         ensures name { result.descriptor.1.now ≡ table.name }
         ensures kinds { result.fields.now ≡ kinds_of (slots table.fields) };
 
-    /// A value whose optional fields are absent and whose default fields hold their defaults; a mandatory
-    /// field holds anything.
+    /// A value whose optional fields are absent and whose default fields hold their defaults. What a mandatory field
+    /// holds doesn't matter: it is read before the value is answered.
     fn blank(alloc: Global) -> Self
         ensures { IsBlank table.fields result };
 
-    /// Reads a field that is there and isn't null.
+    /// Reads the field of this number, from 0 on, whose item is there and isn't null. It is refused as its type is.
     fn fill_field<R: ByteSource>(
         &mut self,
         index: usize,
@@ -114,7 +116,8 @@ impl<C: CompositeTerm> DeserializeTerm for C {
     ghost agreement = { C.agrees };
 }
 
-/// Reads a composite: a described list under the code or the name of its table.
+/// Reads a composite: a described list under the code or the name of its table. Another descriptor is `WrongDescriptor`;
+/// the list is refused as `read_list` refuses it.
 pub fn read_composite<C: Composite, R: ByteSource>(
     decoder: &mut Decoder<R>,
     alloc: Global,
@@ -128,7 +131,7 @@ pub fn read_composite<C: Composite, R: ByteSource>(
     Ok(value)
 }
 
-/// Writes a composite under its table's code.
+/// Writes a composite under its table's code. It is refused as its fields are, by the encoder's errors.
 pub fn write_composite<C: Composite>(value: &C, encoder: &mut Encoder) -> Result<(), Error>
     ensures { WritesTerms (canonical_term (table_of C.table) value.now ∷ []) encoder.old result encoder.new }
 {

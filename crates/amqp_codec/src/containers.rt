@@ -1,4 +1,4 @@
-//! Optional values, boxes, and references, which are written only.
+//! Optional values and boxes, which are read and written; and references, which are written only.
 ghost use Rattle.amqp_codec.specs.OptionType.{option_of};
 ghost use Rattle.amqp_codec.specs.Wrappers.{boxed};
 ghost use Rattle.amqp_codec.specs.Agreement.{box_agreement, option_one, option_agreement, option_writing, via_writing};

@@ -30,12 +30,12 @@ pub trait FieldList: Sized + Drop {
     fn kinds() -> &'static [FieldKind]
         ensures { result.now ≡ kinds_of (slots list.fields) };
 
-    /// A value whose optional fields are absent and whose default fields hold their defaults; a mandatory
-    /// field holds anything.
+    /// A value whose optional fields are absent and whose default fields hold their defaults. What a mandatory field
+    /// holds doesn't matter: it is read before the value is answered.
     fn blank(alloc: Global) -> Self
         ensures { IsBlank list.fields result };
 
-    /// Reads a field that is there and isn't null.
+    /// Reads the field of this number, from 0 on, whose item is there and isn't null. It is refused as its type is.
     fn fill_field<R: ByteSource>(
         &mut self,
         index: usize,
@@ -55,7 +55,7 @@ pub trait FieldList: Sized + Drop {
             → WritesTerms (canon_at list.fields index self.now ∷ []) encoder.old result encoder.new };
 }
 
-/// Reads a value into its place.
+/// Reads a value into its place. It is refused as its type is.
 pub fn read_into<T: DeserializeTerm, R: ByteSource>(
     place: &mut T,
     decoder: &mut Decoder<R>,
@@ -133,7 +133,7 @@ fn read_item<L: FieldList, R: ByteSource>(
     }
 }
 
-/// Writes a value as the list of its fields, without the nulls at its end.
+/// Writes a value as the list of its fields, without the nulls at its end. It is refused as its fields are.
 pub fn write_list<L: FieldList>(value: &L, encoder: &mut Encoder) -> Result<(), Error>
     ensures { WritesTerms (canonical_list (slots L.list.fields) value.now ∷ []) encoder.old result encoder.new }
 {

@@ -28,7 +28,8 @@ pub fn reading_is_spelling<T: DeserializeTerm>()
 {}
 
 /// What `to_vec`, `encoded_len` and `append_to_vec` say of a value's canonical terms, they say of the canonical term
-/// and text that the laws below speak of. It can't be written only where it is refused, or is longer than the machine counts.
+/// and text that the laws below speak of. Where it can't be written, the model refuses it for that reason, or its text is
+/// longer than the machine counts.
 pub fn one_term_is_written<T: DeserializeTerm>()
     ensures is_value { (v : T) → T.writing.is_value v → T.term.is_value v }
     ensures text { (v : T) → row_text (T.writing.canons v) ≡ written T.term v }

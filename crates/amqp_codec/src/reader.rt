@@ -13,8 +13,9 @@ use std::io::ErrorKind;
 use std::marker::{Brand, PhantomData};
 
 /// The value that the reader's bytes begin with, however it gives them. The reader is left behind the value.
-/// An error is `Memory`, where reading the type takes memory, `Read` of a reader that has failed, and always where it
-/// begins to fail, or a fault of bytes that begin with no value; how many bytes were taken then isn't said.
+/// An error is `Memory`, where reading the type takes memory; `Read`, where the reader has failed; or it names a fault of
+/// bytes that begin with no value. Where the reader begins to fail, it is always `Read`. Nothing says how many bytes were
+/// taken then.
 pub fn from_reader<T: Deserialize, R: ByteSource>(reader: &mut R, alloc: Global) -> Result<T, Error>
     ensures found { Tells R.remaining → IfOk result (λ v. (n : ℕ) × BeginsWith T.reading (known (R.remaining reader.old)) v n) }
     ensures one { Tells R.remaining → IfOk result (λ v. (w : _) (m : ℕ)

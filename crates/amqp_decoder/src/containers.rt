@@ -109,7 +109,7 @@ impl<R: ByteSource> Decoder<R> {
         }
     }
 
-    /// Begins a map (Part 1, section 1.6.23), and answers how many values it holds, keys and what they lead to;
+    /// Begins a map (Part 1, section 1.6.23), and answers how many items it holds, each key and each value being one;
     /// `OddCount` where the number is odd.
     #[inline]
     pub fn begin_map(&mut self) -> Result<u32, Error>

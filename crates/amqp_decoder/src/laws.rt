@@ -40,7 +40,7 @@ pub fn lists()
         → NextWithParts st (container list items) (row_standings c.mid (items_of items) c.bytes c.last c.items) after }
 {}
 
-/// The same of a map, whose items are its keys and what they lead to in turn (Part 1, section 1.6.23).
+/// The same of a map, whose items are its keys and values in turn (Part 1, section 1.6.23).
 pub fn maps()
     ensures taken { (st after : State) (items : Terms) → Contains map st (items_of items) after ↔ Next st (container map items) after }
     ensures stands { (st after : State) (items : Terms) (c : Contains map st (items_of items) after)

@@ -1,7 +1,7 @@
 //! A type of a user's own: a duration, which is written as a list of one uint.
 ghost use Rattle.amqp_codec.specs.Types.{field, list_of, mandatory, none, one_term, unchanged, refl, agreement, uint_type, writing_of};
 
-use fe2o3_amqp_types::codec::kernel::{FieldKind, FieldList, fill, read_list, write_list};
+use fe2o3_amqp_types::codec::kernel::{FieldKind, FieldList, read_into, read_list, write_list};
 use fe2o3_amqp_types::codec::{
     ByteSource, Decoder, DeserializeTerm, Encoder, Error, Serialize, SerializeTerm,
 };
@@ -34,7 +34,7 @@ impl FieldList for Seconds {
         decoder: &mut Decoder<R>,
         alloc: Global,
     ) -> Result<(), Error> {
-        fill(&mut self.count, decoder, alloc)
+        read_into(&mut self.count, decoder, alloc)
     }
 
     fn is_null_field(&self, _index: usize) -> bool {
