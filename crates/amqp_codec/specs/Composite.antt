@@ -1,7 +1,7 @@
 -- The type of a composite: a described list whose items fit its table (Part 1, sections 1.4 and 1.5).
 use Rattle.std.proofs.Common.{◌≡◌, ℕ, ◌+◌, ◌<◌, ◌≤◌, true, List, [], ◌∷◌, Some, get_or, length, length-append, refl, sym, ap, ◌∙◌, subst}
 use Rattle.std.proofs.Common.{arith, cond, eqb, ltb}
-use Rattle.amqp_model.specs.Term.{Descriptor, name, code, ulong, symbol, Term, described}
+use Rattle.amqp_model.specs.Term.{Descriptor, name, code, ulong, symbol, Term}
 use Rattle.amqp_model.specs.Spelling.{Names}
 use Rattle.amqp_model.specs.Standing.{Standing}
 use Rattle.amqp_model.specs.Text.{shortest, wide, with_size, spell}
