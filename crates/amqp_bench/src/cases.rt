@@ -12,7 +12,16 @@ pub(crate) enum Case {
     Strings,
     Map,
     Binary,
+    Tiny,
 }
+
+pub(crate) const CASES: [Case; 5] = [
+    Case::Uints,
+    Case::Strings,
+    Case::Map,
+    Case::Binary,
+    Case::Tiny,
+];
 
 /// What a case writes.
 #[derive(Drop)]
@@ -29,6 +38,18 @@ impl Case {
             Case::Strings => "a list of 1,000 short strings",
             Case::Map => "a map of 1,000 entries",
             Case::Binary => "a binary of 1 MiB",
+            Case::Tiny => "a binary of 5 bytes",
+        }
+    }
+
+    /// The word that an argument names it by.
+    pub(crate) fn word(self) -> &'static str {
+        match self {
+            Case::Uints => "uints",
+            Case::Strings => "strings",
+            Case::Map => "map",
+            Case::Binary => "binary",
+            Case::Tiny => "tiny",
         }
     }
 
@@ -39,7 +60,25 @@ impl Case {
         match self {
             Case::Uints => 10_000,
             Case::Strings | Case::Map => 1000,
-            Case::Binary => 1,
+            Case::Binary | Case::Tiny => 1,
+        }
+    }
+
+    /// How often a round writes or reads it, so that the clock's own time doesn't count.
+    pub(crate) fn times(self) -> u32
+        ensures { result ≤ 1000 }
+    {
+        match self {
+            Case::Uints | Case::Strings | Case::Map | Case::Binary => 1,
+            Case::Tiny => 1000,
+        }
+    }
+
+    fn length(self) -> usize {
+        match self {
+            Case::Uints | Case::Strings | Case::Map => 0,
+            Case::Binary => 1_048_576,
+            Case::Tiny => 5,
         }
     }
 
@@ -57,7 +96,7 @@ impl Case {
                 .push(format!(in alloc; "text {}", number % 1000)?)?;
             number = number.wrapping_mul(1_664_525).wrapping_add(1_013_904_223);
         }
-        content.bytes.resize(1_048_576, 0x61)?;
+        content.bytes.resize(self.length(), 0x61)?;
         Ok(content)
     }
 
@@ -79,7 +118,7 @@ impl Case {
             Case::Uints => read_uints(&mut decoder),
             Case::Strings => read_strings(&mut decoder, alloc),
             Case::Map => read_map(&mut decoder, alloc),
-            Case::Binary => Ok(decoder.read_binary(alloc)?.len() as u64),
+            Case::Binary | Case::Tiny => Ok(decoder.read_binary(alloc)?.len() as u64),
         }
     }
 
@@ -88,7 +127,7 @@ impl Case {
             Case::Uints => write_uints(&content.numbers, encoder),
             Case::Strings => write_strings(&content.texts, encoder),
             Case::Map => write_map(content, encoder),
-            Case::Binary => encoder.write_binary(&content.bytes),
+            Case::Binary | Case::Tiny => encoder.write_binary(&content.bytes),
         }
     }
 }

@@ -45,6 +45,7 @@ pub struct Encoder {
 
 impl Encoder {
     /// An encoder that measures, and makes every refusal.
+    #[inline(always)]
     pub fn measuring(alloc: Global) -> Encoder
         ensures { BeginsMeasuring result }
     {
@@ -55,6 +56,7 @@ impl Encoder {
     }
 
     /// An encoder that fills the room of a buffer, up to `limit` bytes in all.
+    #[inline(always)]
     pub fn filling(alloc: Global, sizes: Vec<Size>, buffer: Vec<u8>, limit: usize) -> Encoder
         requires { limit ≤ vec_capacity buffer }
         ensures { BeginsFilling result sizes.items buffer.items limit }
@@ -67,6 +69,7 @@ impl Encoder {
 
     /// What was measured. An error is the encoder's refusal, or `InvalidValue` where it has refused nothing but a
     /// container is still open or it doesn't measure.
+    #[inline(always)]
     pub fn into_measurement(self) -> Result<Measurement, Error>
         ensures { MatchResult result (λ m. Finds self m.len m.sizes.items) (λ e. (answer_of self ≡ Err e)
             ⊎ ((e ≡ InvalidValue) × ((len : ℕ) (sizes : List Size) → Finds self len sizes → ⊥) × (answer_of self ≡ Ok tt))) }
@@ -83,6 +86,7 @@ impl Encoder {
     }
 
     /// The buffer, also after a refusal.
+    #[inline(always)]
     pub fn into_buffer(self) -> Vec<u8>
         ensures { result.items ≡ bytes_of self }
     {

@@ -50,6 +50,7 @@ impl Model for Fill {
 }
 
 impl Fill {
+    #[inline(always)]
     pub(crate) fn new(sizes: Vec<Size>, out: Vec<u8>, limit: usize) -> Fill
         requires { limit ≤ vec_capacity out }
         ensures { result ≡ to_fill sizes.items out.items limit }
@@ -65,6 +66,7 @@ impl Fill {
         }
     }
 
+    #[inline(always)]
     pub(crate) fn into_buffer(self) -> Vec<u8>
         ensures { result.items ≡ self.out }
     {
@@ -93,9 +95,7 @@ impl Fill {
         if head.len() > room || body.len() > room - head.len() {
             return Err(Error::InvalidValue);
         }
-        if self.out.extend_from_slice(head).is_err() {
-            unreachable!();
-        }
+        push_each(&mut self.out, head);
         if !body.is_empty() && self.out.extend_from_slice(body).is_err() {
             unreachable!();
         }
@@ -223,7 +223,7 @@ impl Fill {
         ensures kept { take (length self.old.out) self.new.out ≡ self.old.out }
     {
         match self.place {
-            Place::Alone => self.emit(bytes, &[]),
+            Place::Alone => self.emit(&[], bytes),
             Place::First | Place::Later => Err(Error::LazyInArray),
         }
     }

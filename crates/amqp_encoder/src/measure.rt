@@ -48,6 +48,7 @@ impl Model for Measure {
 }
 
 impl Measure {
+    #[inline(always)]
     pub(crate) fn new(alloc: Global) -> Measure
         ensures { result ≡ at_start }
     {
@@ -63,6 +64,7 @@ impl Measure {
 
     /// The length of all that was written, and the sizes of its containers in the order in which they
     /// begin; refused where one is still open.
+    #[inline(always)]
     pub(crate) fn finish(self) -> Result<(usize, Vec<Size>), Error>
         ensures { MatchResult result (λ r. (self.outer ≡ []) × (r.0 ≡ self.frame.content) × (r.1.items ≡ self.sizes))
             (λ e. (e ≡ InvalidValue) × (1 ≤ length self.outer)) }
