@@ -1,9 +1,10 @@
 //! Sources: where the bytes come from that are read.
 ghost use Rattle.std.specs.Prelude.{◌≡◌, ℕ, ◌≤◌, ◌<◌, List, [], ◌++◌, length, take, Bool, true, false, Option, Some, IfOk, OnErr, IsErr};
-ghost use Rattle.std.specs.Prelude.{◌⊎◌};
+ghost use Rattle.std.specs.Prelude.{◌⊎◌, Ok};
 ghost use Rattle.std.specs.Io.KnownBytes.{Consumes, IsAtEnd};
-ghost use Rattle.amqp_wire.specs.Sources.{known, Tells};
+ghost use Rattle.amqp_wire.specs.Sources.{known, Tells, AddsNext};
 
+use std::alloc::AllocError;
 use std::io::ErrorKind;
 
 /// A source of bytes. It gives them in order and each once, in pieces of any length. Where it has failed, it has failed for good,
@@ -29,6 +30,34 @@ pub trait ByteSource {
         ensures fails { OnErr result (failed self.new ≡ true) }
         ensures stays { failed self.old ≡ true → IsErr result }
         ensures named { name self.new ≡ name self.old };
+
+    /// Fills the whole buffer with the source's next bytes, where they are at hand, and answers true; else takes nothing, and answers
+    /// false, which says nothing of what a pull would give. A source that has failed answers false. It is the quick way to a few
+    /// bytes, behind which `pull` stands; by default none are at hand.
+    #[inline]
+    fn pull_ready(&mut self, buffer: &mut [u8]) -> bool
+        ensures taken { result ≡ true → Consumes (remaining self.old) (remaining self.new) buffer.new }
+        ensures left { result ≡ false → remaining self.new ≡ remaining self.old }
+        ensures kept { failed self.new ≡ failed self.old }
+        ensures stays { failed self.old ≡ true → result ≡ false }
+        ensures named { name self.new ≡ name self.old }
+    {
+        false
+    }
+
+    /// Adds the source's next `count` bytes, where all of them are at hand, and answers true; else takes and adds nothing, and
+    /// answers false, as `pull_ready` does. An `Err` is a refused growth; then nothing is taken and nothing added.
+    #[inline]
+    fn append_ready(&mut self, count: usize, bytes: &mut Vec<u8>) -> Result<bool, AllocError>
+        ensures taken { result ≡ Ok true
+            → AddsNext (remaining self.old) (remaining self.new) count bytes.old.items bytes.new.items }
+        ensures left { (result ≡ Ok true → ⊥) → (remaining self.new ≡ remaining self.old) × (bytes.new.items ≡ bytes.old.items) }
+        ensures kept { failed self.new ≡ failed self.old }
+        ensures stays { failed self.old ≡ true → result ≡ Ok false }
+        ensures named { name self.new ≡ name self.old }
+    {
+        Ok(false)
+    }
 
     /// Whether a pull has failed.
     fn failed(&self) -> bool
@@ -79,6 +108,30 @@ impl ByteSource for &[u8] {
         Ok(n)
     }
 
+    #[inline(always)]
+    fn pull_ready(&mut self, buffer: &mut [u8]) -> bool {
+        let bytes: &[u8] = *self;
+        if buffer.len() > bytes.len() {
+            return false;
+        }
+        let (taken, left) = bytes.split_at(buffer.len());
+        buffer.copy_from_slice(taken);
+        *self = left;
+        true
+    }
+
+    #[inline(always)]
+    fn append_ready(&mut self, count: usize, bytes: &mut Vec<u8>) -> Result<bool, AllocError> {
+        let all: &[u8] = *self;
+        if count > all.len() {
+            return Ok(false);
+        }
+        let (taken, behind) = all.split_at(count);
+        bytes.extend_from_slice(taken)?;
+        *self = behind;
+        Ok(true)
+    }
+
     fn failed(&self) -> bool {
         false
     }
@@ -93,6 +146,16 @@ impl<R: ByteSource> ByteSource for &mut R {
 
     fn pull(&mut self, buffer: &mut [u8]) -> Result<usize, ErrorKind> {
         (**self).pull(buffer)
+    }
+
+    #[inline(always)]
+    fn pull_ready(&mut self, buffer: &mut [u8]) -> bool {
+        (**self).pull_ready(buffer)
+    }
+
+    #[inline(always)]
+    fn append_ready(&mut self, count: usize, bytes: &mut Vec<u8>) -> Result<bool, AllocError> {
+        (**self).append_ready(count, bytes)
     }
 
     fn failed(&self) -> bool {
