@@ -63,6 +63,21 @@ pub filled_all : (p K L b : List ℕ) (n : ℕ) → p ≡ [] → n ≤ length b 
 filled_all p K L b n e h f g =
     omega (arith, ap length e, ap length f, ap length g, length-append p K, length-append (take n b) L, length-take-le n b h)
 
+-- what the source had at hand, where nothing was looked at
+pub ready_bytes : (start end_ : ℕ) (l K L s : List ℕ) (n : ℕ) → end_ - start ≡ 0 → length s ≡ n → K ≡ s ++ L
+    → pending start end_ l ++ K ≡ s ++ drop n (pending start end_ l ++ K)
+ready_bytes start end_ l K L s n e long f =
+    front_is s (pending start end_ l ++ K) L n long (ap (λ x. x ++ K) (pending_none start end_ l e) ∙ f)
+
+pub ready_there : (p K L s : List ℕ) (n : ℕ) → length s ≡ n → K ≡ s ++ L → n ≤ length (p ++ K)
+ready_there p K L s n long f = omega (arith, long, ap length f, length-append s L, length-append p K)
+
+pub ready_rest : (start end_ : ℕ) (l K L s : List ℕ) (n : ℕ) → end_ - start ≡ 0 → length s ≡ n → K ≡ s ++ L
+    → pending start end_ l ++ L ≡ drop n (pending start end_ l ++ K)
+ready_rest start end_ l K L s n e long f =
+    ap (λ x. x ++ L) (pending_none start end_ l e)
+    ∙ rest_is s (pending start end_ l ++ K) L n long (ap (λ x. x ++ K) (pending_none start end_ l e) ∙ f)
+
 -- a state behind n bytes, by its parts
 pub moved_is : (st : State) (r : List ℕ) (a s : ℕ) (f : Bool) (n : ℕ) → r ≡ drop n st.rest → a ≡ st.ahead - n
     → s ≡ st.source → f ≡ st.failed

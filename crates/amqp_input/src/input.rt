@@ -1,9 +1,10 @@
 //! The bytes of a source, which are looked at before they are taken.
-ghost use Rattle.std.specs.Prelude.{◌≤◌, ◌≡◌, ◌<◌, ◌++◌, length, take, drop, min, max, false, true, IfOk, OnErr};
+ghost use Rattle.std.specs.Prelude.{◌≤◌, ◌≡◌, ◌<◌, ◌++◌, length, take, drop, min, max, false, true, Ok, IfOk, OnErr};
 ghost use Rattle.amqp_wire.specs.Sources.{known, Tells};
 ghost use Rattle.amqp_input.specs.State.{after_look, after_bytes};
 
 use amqp_wire::{ByteSource, pull_full};
+use std::alloc::AllocError;
 use std::io::ErrorKind;
 use std::marker::Model;
 
@@ -103,6 +104,35 @@ impl<R: ByteSource> Input<R> {
             done += self.fill(&mut buffer[done..])?;
         }
         Ok(done)
+    }
+
+    /// Fills the buffer with the next bytes, which are taken, where none is looked at and the source has all of them at hand; else
+    /// answers false, and takes nothing.
+    #[inline(always)]
+    pub fn pull_ready(&mut self, buffer: &mut [u8]) -> bool
+        ensures bytes { Tells R.remaining → result ≡ true → self.old.rest ≡ buffer.new ++ drop (length buffer.old) self.old.rest }
+        ensures new { Tells R.remaining → result ≡ true → self.new ≡ after_bytes (length buffer.old) self.old }
+        ensures left { result ≡ false → self.new ≡ self.old }
+    {
+        if self.start < self.end {
+            return false;
+        }
+        self.source.pull_ready(buffer)
+    }
+
+    /// Adds the next `count` bytes, which are taken, where none is looked at and the source has all of them at hand; else answers
+    /// false, and takes and adds nothing. An error is a refused growth, which takes nothing either.
+    #[inline(always)]
+    pub fn append_ready(&mut self, count: usize, bytes: &mut Vec<u8>) -> Result<bool, AllocError>
+        ensures there { Tells R.remaining → result ≡ Ok true → count ≤ length self.old.rest }
+        ensures bytes { Tells R.remaining → result ≡ Ok true → bytes.new.items ≡ bytes.old.items ++ take count self.old.rest }
+        ensures new { Tells R.remaining → result ≡ Ok true → self.new ≡ after_bytes count self.old }
+        ensures left { (result ≡ Ok true → ⊥) → (self.new ≡ self.old) × (bytes.new.items ≡ bytes.old.items) }
+    {
+        if self.start < self.end {
+            return Ok(false);
+        }
+        self.source.append_ready(count, bytes)
     }
 
     /// How many bytes are looked at.
