@@ -98,7 +98,7 @@ impl<R: ByteSource> Decoder<R> {
     }
 
     /// The error of a decoder that has refused.
-    #[inline]
+    #[inline(always)]
     pub fn check(&self) -> Result<(), Error>
         ensures error { MatchResult result (λ _. self.now.error ≡ None) (λ e. self.now.error ≡ Some e) }
         ensures room { HasRoom self.now }

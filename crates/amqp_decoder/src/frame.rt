@@ -43,7 +43,7 @@ impl OpenContainer {
     };
 
     /// No item is left.
-    #[inline]
+    #[inline(always)]
     pub(crate) fn is_done(&self) -> bool
         ensures { IsTrue result ↔ (items_of self.now.place self.now.items ≡ Some 0) }
     {

@@ -78,7 +78,8 @@ impl<R: ByteSource> Decoder<R> {
             format_code::UINT_0 => Ok(0),
             format_code::SMALL_UINT => Ok(u32::from(self.byte()?)),
             format_code::UINT => Ok(u32::from_be_bytes(self.take()?)),
-            code => Err(self.refuse_code(code)),
+            // A return of its own keeps the number apart from the parts of an error, so that it stays in a register.
+            code => return Err(self.refuse_code(code)),
         }
     }
 

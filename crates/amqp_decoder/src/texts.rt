@@ -44,8 +44,8 @@ impl<R: ByteSource> Decoder<R> {
     }
 
     // The same, in pieces that suit the length.
-    #[inline]
-    pub(crate) fn keep(&mut self, len: u32, text: &mut Vec<u8>) -> Result<(), Error>
+    #[cold]
+    fn keep_in_pieces(&mut self, len: u32, text: &mut Vec<u8>) -> Result<(), Error>
         ensures ok { Tells R.remaining → IfOk result (λ _. (len ≤ length self.old.rest)
             × (text.new.items ≡ text.old.items ++ take len self.old.rest) × (self.new ≡ after_bytes len self.old)) }
         ensures err { Tells R.remaining → IfErr result (λ e. Misses true len self.old e self.new) }
@@ -57,8 +57,21 @@ impl<R: ByteSource> Decoder<R> {
         }
     }
 
+    // The same, at once where the bytes are at hand.
+    #[inline(always)]
+    pub(crate) fn keep(&mut self, len: u32, text: &mut Vec<u8>) -> Result<(), Error>
+        ensures ok { Tells R.remaining → IfOk result (λ _. (len ≤ length self.old.rest)
+            × (text.new.items ≡ text.old.items ++ take len self.old.rest) × (self.new ≡ after_bytes len self.old)) }
+        ensures err { Tells R.remaining → IfErr result (λ e. Misses true len self.old e self.new) }
+    {
+        if self.append_ready(len, text)? {
+            return Ok(());
+        }
+        self.keep_in_pieces(len, text)
+    }
+
     // The length of what a size of one byte or of four announces.
-    #[inline]
+    #[inline(always)]
     pub(crate) fn text_len(&mut self, wide: bool) -> Result<u32, Error>
         ensures ok { Tells R.remaining → IfOk result (λ n. ReadsSize (cond wide 4 1) self.old n self.new) }
         ensures err { Tells R.remaining → IfErr result (λ e. SizedFault false (cond wide 4 1) self.old e self.new) }
@@ -69,7 +82,7 @@ impl<R: ByteSource> Decoder<R> {
     }
 
     // What a size of one byte or of four announces.
-    #[inline]
+    #[inline(always)]
     pub(crate) fn text_data(&mut self, wide: bool, alloc: Global) -> Result<Vec<u8>, Error>
         ensures ok { Tells R.remaining → IfOk result (λ text. ReadsSized (cond wide 4 1) self.old text.items self.new) }
         ensures err { Tells R.remaining → IfErr result (λ e. SizedFault true (cond wide 4 1) self.old e self.new) }
@@ -81,7 +94,7 @@ impl<R: ByteSource> Decoder<R> {
     }
 
     // The content of a value that has these two constructors.
-    #[inline]
+    #[inline(always)]
     fn content(&mut self, narrow: u8, wide: u8, alloc: Global) -> Result<Vec<u8>, Error>
         ensures ok { Tells R.remaining → IfOk result (λ text. ReadsText narrow wide self.old text.items self.new) }
         ensures err { Tells R.remaining → IfErr result (λ e. AnswersFault true (TextFault narrow wide) self.old e self.new) }

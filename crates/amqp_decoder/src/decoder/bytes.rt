@@ -1,10 +1,11 @@
 //! How bytes are taken, within those that the open container has left.
-ghost use Rattle.std.specs.Prelude.{◌≤◌, ◌≡◌, ◌<◌, [], ◌∷◌, length, false, Some, None, IfOk, IfErr, cond, ◌^◌};
+ghost use Rattle.std.specs.Prelude.{◌≤◌, ◌≡◌, ◌<◌, [], ◌∷◌, ◌++◌, length, take, true, false, Ok, Some, None, IfOk, IfErr, cond, ◌^◌};
 ghost use Rattle.std.specs.Int.{bytes_high_first};
 ghost use Rattle.amqp_wire.specs.Codes.{refusal_of};
+ghost use Rattle.amqp_wire.specs.declared.error.Error.TheVariants.{Memory};
 ghost use Rattle.amqp_wire.specs.Sources.{Tells};
 ghost use Rattle.amqp_decoder.specs.State.{after_bytes, announced, Has, lower};
-ghost use Rattle.amqp_decoder.specs.Steps.{Pulls, Misses, Takes, FallsShort, RefusesSize, NoRoom, Stops};
+ghost use Rattle.amqp_decoder.specs.Steps.{Answers, Pulls, Misses, Takes, FallsShort, RefusesSize, NoRoom, Stops};
 
 use super::Decoder;
 use amqp_wire::{ByteSource, Error, format_code};
@@ -14,7 +15,7 @@ const SKIP: usize = 256;
 
 impl<R: ByteSource> Decoder<R> {
     // How many bytes are left in the open container.
-    #[inline]
+    #[inline(always)]
     pub(crate) fn left(&self) -> Option<u32>
         ensures { result ≡ self.now.top.left }
     {
@@ -22,7 +23,7 @@ impl<R: ByteSource> Decoder<R> {
     }
 
     // So many bytes are left in the open container.
-    #[inline]
+    #[inline(always)]
     fn set_left(&mut self, left: Option<u32>)
         requires { self.old.top.left ≡ None → left ≡ None }
         ensures { self.new ≡ record self.old { top = record self.old.top { left = left } } }
@@ -55,6 +56,40 @@ impl<R: ByteSource> Decoder<R> {
             return Err(self.refuse(Error::Cut));
         }
         Ok(())
+    }
+
+    // Fills the whole buffer with the next bytes, where they are at hand; else nothing is taken.
+    #[inline(always)]
+    fn pull_ready(&mut self, buffer: &mut [u8]) -> bool
+        ensures taken { Tells R.remaining → result ≡ true → Pulls self.old buffer.new self.new }
+        ensures left { result ≡ false → self.new ≡ self.old }
+    {
+        self.input.pull_ready(buffer)
+    }
+
+    // The next bytes, however the source gives them.
+    #[cold]
+    fn pull_bytes<const N: usize>(&mut self) -> Result<[u8; N], Error>
+        ensures ok { Tells R.remaining → IfOk result (λ bytes. Pulls self.old bytes self.new) }
+        ensures err { Tells R.remaining → IfErr result (λ e. Misses false N self.old e self.new) }
+    {
+        let mut bytes = [0; N];
+        self.pull_all(&mut bytes)?;
+        Ok(bytes)
+    }
+
+    // Adds the next so many bytes, where they are at hand; else nothing is taken and nothing added.
+    #[inline(always)]
+    pub(crate) fn append_ready(&mut self, count: u32, bytes: &mut Vec<u8>) -> Result<bool, Error>
+        ensures taken { Tells R.remaining → result ≡ Ok true → (count ≤ length self.old.rest)
+            × (bytes.new.items ≡ bytes.old.items ++ take count self.old.rest) × (self.new ≡ after_bytes count self.old) }
+        ensures left { result ≡ Ok false → (self.new ≡ self.old) × (bytes.new.items ≡ bytes.old.items) }
+        ensures err { IfErr result (λ e. (e ≡ Memory) × Answers self.old e self.new) }
+    {
+        match self.input.append_ready(count as usize, bytes) {
+            Ok(done) => Ok(done),
+            Err(_) => Err(self.refuse(Error::Memory)),
+        }
     }
 
     // Takes and drops so many bytes.
@@ -99,7 +134,7 @@ impl<R: ByteSource> Decoder<R> {
     }
 
     // So many bytes of the open container are taken.
-    #[inline]
+    #[inline(always)]
     pub(crate) fn lower(&mut self, count: u32) -> Result<(), Error>
         ensures room { IfOk result (λ _. Has self.old.top.left count) }
         ensures new { IfOk result (λ _. self.new ≡ record self.old { top = record self.old.top { left = lower self.old.top.left count } }) }
@@ -117,20 +152,22 @@ impl<R: ByteSource> Decoder<R> {
     }
 
     // The next bytes of a value.
-    #[inline]
+    #[inline(always)]
     pub(crate) fn take<const N: usize>(&mut self) -> Result<[u8; N], Error>
         requires { N < 256 }
         ensures ok { Tells R.remaining → IfOk result (λ bytes. Takes self.old bytes self.new) }
         ensures err { Tells R.remaining → IfErr result (λ e. FallsShort N self.old e self.new) }
     {
-        let mut bytes = [0; N];
         self.lower(N as u32)?;
-        self.pull_all(&mut bytes)?;
-        Ok(bytes)
+        let mut bytes = [0; N];
+        if self.pull_ready(&mut bytes) {
+            return Ok(bytes);
+        }
+        self.pull_bytes()
     }
 
     // The next byte of a value.
-    #[inline]
+    #[inline(always)]
     pub(crate) fn byte(&mut self) -> Result<u8, Error>
         ensures ok { Tells R.remaining → IfOk result (λ b. Takes self.old (b ∷ []) self.new) }
         ensures err { Tells R.remaining → IfErr result (λ e. FallsShort 1 self.old e self.new) }

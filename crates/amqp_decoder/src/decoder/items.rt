@@ -10,7 +10,7 @@ use amqp_wire::{ByteSource, Error};
 
 impl<R: ByteSource> Decoder<R> {
     // No item is left in the open container.
-    #[inline]
+    #[inline(always)]
     pub(crate) fn is_done(&self) -> bool
         ensures { IsTrue result ↔ (self.now.top.items ≡ Some 0) }
     {
@@ -18,7 +18,7 @@ impl<R: ByteSource> Decoder<R> {
     }
 
     // A value is left.
-    #[inline]
+    #[inline(always)]
     pub(crate) fn check_item(&mut self) -> Result<(), Error>
         ensures { AnswersRead false IsLeft (λ st e. (st.top.items ≡ Some 0) × (e ≡ Error.Missing)) self.old result self.new }
     {
@@ -30,7 +30,7 @@ impl<R: ByteSource> Decoder<R> {
     }
 
     // An item of the open container is taken.
-    #[inline]
+    #[inline(always)]
     pub(crate) fn take_item(&mut self)
         ensures { self.new ≡ record self.old { top = record self.old.top { items = lower self.old.top.items 1 } } }
     {
@@ -54,7 +54,7 @@ impl<R: ByteSource> Decoder<R> {
     }
 
     // The next value's first code, which is taken.
-    #[inline]
+    #[inline(always)]
     pub(crate) fn begin(&mut self) -> Result<u8, Error>
         ensures { Tells R.remaining → AnswersRead false ReadsCode BeginFault self.old result self.new }
     {

@@ -15,7 +15,7 @@ use amqp_wire::{ByteSource, Descriptor, Error, format_code};
 
 impl<R: ByteSource> Decoder<R> {
     // The first code of the constructor that the items share.
-    #[inline]
+    #[inline(always)]
     pub(crate) fn shared_code(&self) -> Option<u8>
         ensures { MatchOption result (self.now.top.shared ≡ None) (λ c. IsFirstShared self.now.top.shared c) }
     {

@@ -1,10 +1,9 @@
-use Rattle.std.proofs.lemmas.Result.{err_from_is_err_and}
-use Rattle.std.proofs.lemmas.List.{length-replicate}
+use Rattle.std.proofs.Common.{refl, ◌∙◌}
+use Rattle.amqp_decoder.proofs.ReadPrimitives.{err_map}
 use Rattle.amqp_decoder.proofs.Steps.{short_of_missed}
 use Rattle.amqp_decoder.proofs.decoder.Decoder.take.Goals as goal
 
-pub returns-in_err-pull_all-clause-err : goal.returns-in_err-pull_all-clause-err
-returns-in_err-pull_all-clause-err g c = λ told.
-    let p = err_from_is_err_and c.from_residual-in_err-pull_all.result c.from_residual-in_err-pull_all.ensures.1 in
-    rw (p.1, p.2) (short_of_missed _ _ _ _ _ _ (length-replicate _ _) c.in_ok-lower.ensures.room c.in_ok-lower.ensures.new
-    (c.in_err-pull_all.ensures.err told))
+pub returns-clause-err : goal.returns-clause-err
+returns-clause-err g c = λ told.
+    let is = c.pull_ready.ensures.left c.if-pull_ready.false ∙ c.in_ok-lower.ensures.new in
+    err_map _ _ _ (λ e h. short_of_missed _ _ _ _ _ _ refl c.in_ok-lower.ensures.room is h) (c.pull_bytes.ensures.err told)
