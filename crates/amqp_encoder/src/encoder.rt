@@ -45,7 +45,7 @@ pub struct Encoder {
 
 impl Encoder {
     /// An encoder that measures, and makes every refusal.
-    #[inline(always)]
+    #[inline]
     pub fn measuring(alloc: Global) -> Encoder
         ensures { BeginsMeasuring result }
     {
@@ -121,10 +121,20 @@ impl Encoder {
         }
     }
 
-    #[cold]
-    #[inline(never)]
+    #[inline(always)]
     fn stop(&mut self, error: Error) -> Result<(), Error>
         ensures same { result ≡ Err error }
+        ensures stopped { self.new.pass ≡ Stopped error }
+        ensures bytes { bytes_of self.new ≡ bytes_of self.old }
+    {
+        self.stop_for(error);
+        Err(error)
+    }
+
+    // It stands apart, so that what `settle` inlines stays small.
+    #[cold]
+    #[inline(never)]
+    fn stop_for(&mut self, error: Error)
         ensures stopped { self.new.pass ≡ Stopped error }
         ensures bytes { bytes_of self.new ≡ bytes_of self.old }
     {
@@ -132,7 +142,6 @@ impl Encoder {
             Pass::Filling(fill) => self.kept = fill.into_buffer(),
             Pass::Measuring(_) | Pass::Stopped(_) => {}
         }
-        Err(error)
     }
 
     /// Refuses the value for a reason of its type's own, or for want of memory of its own.

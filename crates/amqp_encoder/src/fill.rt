@@ -91,8 +91,8 @@ impl Fill {
         if self.out.len() > self.limit {
             return Err(Error::InvalidValue);
         }
-        let room = self.limit - self.out.len();
-        if head.len() > room || body.len() > room - head.len() {
+        let len = head.len() + body.len();
+        if self.limit - self.out.len() < len {
             return Err(Error::InvalidValue);
         }
         push_each(&mut self.out, head);
@@ -102,41 +102,20 @@ impl Fill {
         Ok(())
     }
 
-    #[inline(always)]
-    fn emit_byte(&mut self, byte: u8) -> Result<(), Error>
-        ensures does { Does (emit (byte ∷ []) self.old) result self.new }
-        ensures kept { take (length self.old.out) self.new.out ≡ self.old.out }
-    {
-        if self.out.len() >= self.limit {
-            return Err(Error::InvalidValue);
-        }
-        self.out.push_reserved(byte);
-        Ok(())
-    }
-
-    #[inline(always)]
-    fn emit_two(&mut self, first: u8, second: u8) -> Result<(), Error>
-        ensures does { Does (emit (first ∷ second ∷ []) self.old) result self.new }
-        ensures kept { take (length self.old.out) self.new.out ≡ self.old.out }
-    {
-        if self.out.len() >= self.limit || self.limit - self.out.len() < 2 {
-            return Err(Error::InvalidValue);
-        }
-        self.out.push_reserved(first);
-        self.out.push_reserved(second);
-        Ok(())
-    }
-
-    /// Writes a few bytes, which is faster one by one than by a call that copies them.
+    /// Writes a few bytes: one by one, which is faster than a call that copies them, and into a buffer that is taken out
+    /// for it, so that no byte may be a part of the encoder.
     #[inline(always)]
     fn emit_each(&mut self, bytes: &[u8]) -> Result<(), Error>
         ensures does { Does (emit bytes.now self.old) result self.new }
         ensures kept { take (length self.old.out) self.new.out ≡ self.old.out }
     {
-        if self.out.len() > self.limit || self.limit - self.out.len() < bytes.len() {
+        if self.out.len() + bytes.len() > self.limit {
             return Err(Error::InvalidValue);
         }
-        push_each(&mut self.out, bytes);
+        let empty = Vec::new(*self.out.allocator());
+        let mut out = std::mem::replace(&mut self.out, empty);
+        push_each(&mut out, bytes);
+        std::mem::forget(std::mem::replace(&mut self.out, out));
         Ok(())
     }
 
@@ -164,12 +143,21 @@ impl Fill {
     {
         match self.place {
             Place::Alone => match shortest {
-                Shortest::Code(code) => self.emit_byte(code),
-                Shortest::Byte(code, byte) => self.emit_two(code, byte),
+                Shortest::Code(code) => self.emit_each(&[code]),
+                Shortest::Byte(code, byte) => self.emit_each(&[code, byte]),
                 Shortest::Wide => self.emit_each(&wide),
             },
-            Place::First | Place::Later => self.put_in_array(wide),
+            Place::First | Place::Later => self.put_item(wide),
         }
+    }
+
+    #[inline(always)]
+    fn put_item<const N: usize>(&mut self, wide: [u8; N]) -> Result<(), Error>
+        requires { 1 ≤ N }
+        ensures does { Does (fill_value (fixed_text self.old.place Wide wide.entry) self.old) result self.new }
+        ensures kept { take (length self.old.out) self.new.out ≡ self.old.out }
+    {
+        self.put_in_array(wide)
     }
 
     // It stands apart, so that what `put` inlines stays small.
@@ -194,15 +182,14 @@ impl Fill {
         if bytes.len() > 0xffff_ffff {
             return Err(Error::TooLarge);
         }
+        if let Place::Alone = self.place
+            && bytes.len() < 256
+        {
+            return self.emit(&[short, bytes.len() as u8], bytes);
+        }
         let [a, b, c, d] = (bytes.len() as u32).to_be_bytes();
         match self.place {
-            Place::Alone => {
-                if bytes.len() < 256 {
-                    self.emit(&[short, bytes.len() as u8], bytes)
-                } else {
-                    self.emit(&[wide, a, b, c, d], bytes)
-                }
-            }
+            Place::Alone => self.emit(&[wide, a, b, c, d], bytes),
             Place::First => self.emit_value(&[wide, a, b, c, d], bytes),
             Place::Later => self.emit_value(&[a, b, c, d], bytes),
         }

@@ -90,6 +90,7 @@ impl Measure {
     }
 
     /// A value whose constructor ends in this code begins. The items of an array share one constructor.
+    #[inline(always)]
     fn enter(&mut self, code: u8) -> Result<(), Error>
         ensures does { Does (enter code self.old) result self.new }
         ensures within { self.new.outer ≡ self.old.outer }
@@ -110,6 +111,7 @@ impl Measure {
     }
 
     /// A value of so many bytes ends.
+    #[inline(always)]
     fn leave(&mut self, len: usize) -> Result<(), Error>
         ensures { Does (leave len self.old) result self.new }
     {
@@ -132,13 +134,35 @@ impl Measure {
         ensures { Does (measure_value (slice_index wide.now 0) (length (fixed_text self.old.frame.place shortest wide.now)) self.old) result
             self.new }
     {
-        let len = match self.top.place {
-            Place::Alone => shortest.len(wide.len()),
-            Place::First => wide.len(),
-            Place::Later => wide.len() - 1,
-        };
-        self.enter(wide[0])?;
+        match self.top.place {
+            Place::Alone => self.count(wide[0], shortest.len(wide.len())),
+            Place::First => self.count_item(wide[0], wide.len()),
+            Place::Later => self.count_item(wide[0], wide.len() - 1),
+        }
+    }
+
+    /// A value of so many bytes, whose constructor ends in this code.
+    #[inline(always)]
+    fn count(&mut self, code: u8, len: usize) -> Result<(), Error>
+        ensures { Does (measure_value code len self.old) result self.new }
+    {
+        self.enter(code)?;
         self.leave(len)
+    }
+
+    #[inline(always)]
+    fn count_item(&mut self, code: u8, len: usize) -> Result<(), Error>
+        ensures { Does (measure_value code len self.old) result self.new }
+    {
+        self.count_apart(code, len)
+    }
+
+    // It stands apart, so that what `put` inlines stays small.
+    #[inline(never)]
+    fn count_apart(&mut self, code: u8, len: usize) -> Result<(), Error>
+        ensures { Does (measure_value code len self.old) result self.new }
+    {
+        self.count(code, len)
     }
 
     /// A binary or a string, with the code that it has in an array.
@@ -160,8 +184,7 @@ impl Measure {
             Place::Alone | Place::First => 5,
             Place::Later => 4,
         };
-        self.enter(code)?;
-        self.leave(head + len)
+        self.count(code, head + len)
     }
 
     pub(crate) fn put_symbol(&mut self, code: u8, text: &str) -> Result<(), Error>
@@ -176,10 +199,7 @@ impl Measure {
         ensures { Does (measure_null_at self.old.frame.place self.old) result self.new }
     {
         match self.top.place {
-            Place::Alone => {
-                self.enter(0x40)?;
-                self.leave(1)
-            }
+            Place::Alone => self.count(0x40, 1),
             Place::First | Place::Later => Err(Error::ZeroWidthItems),
         }
     }
@@ -193,8 +213,7 @@ impl Measure {
                 if nesting > NESTING || self.depth > NESTING - nesting {
                     return Err(Error::Depth);
                 }
-                self.enter(0)?;
-                self.leave(len)
+                self.count(0, len)
             }
             Place::First | Place::Later => Err(Error::LazyInArray),
         }
