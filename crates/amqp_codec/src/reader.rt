@@ -8,7 +8,7 @@ ghost use Rattle.amqp_codec.specs.Reading.{BeginsWith, IsUnreadable};
 use crate::Deserialize;
 use amqp_decoder::Decoder;
 use amqp_wire::{ByteSource, Error};
-use std::alloc::Global;
+use std::alloc::{AllocError, Global};
 use std::io::ErrorKind;
 use std::marker::{Brand, PhantomData};
 
@@ -58,6 +58,16 @@ impl<S: ByteSource, N: Name> ByteSource for Named<S, N> {
 
     fn pull(&mut self, buffer: &mut [u8]) -> Result<usize, ErrorKind> {
         self.source.pull(buffer)
+    }
+
+    #[inline(always)]
+    fn pull_ready(&mut self, buffer: &mut [u8]) -> bool {
+        self.source.pull_ready(buffer)
+    }
+
+    #[inline(always)]
+    fn append_ready(&mut self, count: usize, bytes: &mut Vec<u8>) -> Result<bool, AllocError> {
+        self.source.append_ready(count, bytes)
     }
 
     fn failed(&self) -> bool {
