@@ -1,4 +1,4 @@
 //! The kernel: one reader and one writer for all lists of fields, for all composites, and for all sums of composites.
 pub use crate::composite::{Composite, CompositeTerm, Table, read_composite, write_composite};
 pub use crate::fields::{FieldKind, FieldList, read_fields, read_into, read_list, write_list};
-pub use crate::sums::{Sum, is_null_sum, read_as, read_sum};
+pub use crate::sums::{Sum, is_null_sum, read_as, read_sum, write_as};

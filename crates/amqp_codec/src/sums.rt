@@ -8,11 +8,13 @@ ghost use Rattle.amqp_decoder.specs.Reading.{AnswersRead};
 ghost use Rattle.amqp_decoder.specs.Primitives.{ReadsValue};
 ghost use Rattle.amqp_codec.specs.Fields.{take_memory};
 ghost use Rattle.amqp_codec.specs.FieldReading.{FieldsFault};
-ghost use Rattle.amqp_codec.specs.Written.{canon_of};
+ghost use Rattle.amqp_codec.specs.Written.{WritesTerms, canon_of};
 ghost use Rattle.amqp_codec.specs.Choices.{ChoiceRead, sum_of, sum_writing};
 
+use crate::SerializeTerm;
 use crate::kernel::{Composite, read_fields};
 use amqp_decoder::Decoder;
+use amqp_encoder::Encoder;
 use amqp_wire::{ByteSource, Error};
 use std::alloc::Global;
 
@@ -60,6 +62,19 @@ pub fn read_as<C: Composite, S: From<C> + Drop, R: ByteSource>(
 {
     let member: C = read_fields(decoder, alloc)?;
     Ok(S::from(member))
+}
+
+/// Writes the member that a sum of composites holds, which is how the sum is written. It is refused as its member is, by the
+/// encoder's errors.
+pub fn write_as<S: Sum, C: SerializeTerm>(
+    _sum: &S,
+    member: &C,
+    encoder: &mut Encoder,
+) -> Result<(), Error>
+    ensures written { (held : S) → _sum.now ≡ held → canon_of (sum_writing S.sum) held ≡ canon_of C.writing member.now
+        → WritesTerms ((sum_writing S.sum).canons _sum.now) encoder.old result encoder.new }
+{
+    member.serialize(encoder)
 }
 
 /// Whether a sum of composites is null, which it never is.

@@ -4,7 +4,7 @@ ghost use Rattle.amqp_codec.specs.Choices.{sum_one, sum_agreement, sum_writing};
 ghost use Rattle.amqp_delivery.specs.Tables.{delivery_state, delivery_states};
 
 use crate::{Accepted, Received, Released};
-use amqp_codec::kernel::{Sum, is_null_sum, read_as, read_sum};
+use amqp_codec::kernel::{Sum, is_null_sum, read_as, read_sum, write_as};
 use amqp_codec::{ByteSource, Decoder, DeserializeTerm, Encoder, Error, Serialize, SerializeTerm};
 use std::alloc::Global;
 
@@ -76,9 +76,9 @@ impl Serialize for DeliveryState {
 
     fn serialize(&self, encoder: &mut Encoder) -> Result<(), Error> {
         match self {
-            DeliveryState::Received(received) => received.serialize(encoder),
-            DeliveryState::Accepted(accepted) => accepted.serialize(encoder),
-            DeliveryState::Released(released) => released.serialize(encoder),
+            DeliveryState::Received(received) => write_as(self, received, encoder),
+            DeliveryState::Accepted(accepted) => write_as(self, accepted, encoder),
+            DeliveryState::Released(released) => write_as(self, released, encoder),
         }
     }
 
