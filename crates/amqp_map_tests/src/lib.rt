@@ -1,0 +1,5 @@
+//! Tests of maps that keep the order of their keys.
+#![tactic(auto)]
+
+#[cfg(test)]
+mod calls;

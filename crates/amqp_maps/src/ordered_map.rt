@@ -1,0 +1,155 @@
+//! `OrderedMap`, its calls, its clone and its iterators.
+ghost use Rattle.std.specs.Prelude.{◌≡◌, ◌<◌, ◌^◌, ◌↔◌, [], length, IsTrue, IsSome, IsOk, IfOk, IfErr, OnOk, OnErr};
+ghost use Rattle.std.specs.List.{AllZip};
+ghost use Rattle.std.specs.Map.{lookup, remove_entry, values_of};
+ghost use Rattle.std.specs.Map.Iter.{ShowsInOrder, ShowsInReverse, ShowsValuesInOrder, GivesInOrder, GivesInReverse, deref, deref_pair};
+ghost use Rattle.std.specs.Option.{option_copied};
+ghost use Rattle.indexmap.specs.IndexMap.{insert_entry};
+ghost use Rattle.amqp_wire.specs.declared.error.Error.TheVariants.{Memory};
+ghost use Rattle.amqp_maps.specs.Pairs.{HaveDistinctKeys};
+
+use amqp_wire::Error;
+use indexmap::IndexMap;
+use indexmap::map::{IntoIter, Iter, Values};
+use std::alloc::{AllocError, Global};
+use std::hash::Hash;
+use std::marker::Model;
+
+/// A map whose pairs stand in the order in which their keys were inserted first. No two of its keys are equal. A key is found by
+/// its hash.
+///
+/// It counts as the list of its pairs: two maps with the same pairs in another order are not equal, since the standard has the
+/// order of a map's pairs count. Equality, order and hash are those of the list, a pair by its key and then by its value.
+#[derive(Debug, Drop)]
+pub struct OrderedMap<K: Eq + Hash, V> {
+    pairs: IndexMap<K, V>,
+}
+
+impl<K: Eq + Hash, V> Model for OrderedMap<K, V> {
+    ghost use Rattle.std.specs.Prelude.{List};
+    ghost use Rattle.amqp_maps.specs.Pairs.{HaveDistinctKeys};
+
+    ghost Value = { List (K × V) };
+
+    ghost view = { λ m. m.pairs.entries };
+
+    ghost invariant = { λ m. HaveDistinctKeys K.eq m.pairs.entries };
+}
+
+impl<K: Eq + Hash, V> OrderedMap<K, V> {
+    /// A map without pairs. Takes no memory.
+    pub fn new(alloc: Global) -> OrderedMap<K, V>
+        ensures { result ≡ [] }
+    {
+        OrderedMap {
+            pairs: IndexMap::new(alloc),
+        }
+    }
+
+    /// The value of a key.
+    pub fn get(&self, key: &K) -> Option<&V>
+        ensures { option_copied result ≡ lookup (K.eq key.now) self.now }
+    {
+        self.pairs.get(key)
+    }
+
+    /// The number of pairs.
+    pub fn len(&self) -> usize
+        ensures length { result ≡ length self.now }
+        ensures distinct { HaveDistinctKeys K.eq self.now }
+    {
+        self.pairs.len()
+    }
+
+    /// Whether there are no pairs.
+    pub fn is_empty(&self) -> bool
+        ensures { IsTrue result ↔ (self.now ≡ []) }
+    {
+        self.pairs.is_empty()
+    }
+
+    /// The pairs in order, each as a key and a value.
+    pub fn iter(&self) -> Iter<'_, K, V>
+        ensures pairs { result ≡ self.now }
+        ensures in_order { ShowsInOrder (deref_pair {K = K} {X = V}) }
+        ensures in_reverse { ShowsInReverse (deref_pair {K = K} {X = V}) }
+        ensures distinct { HaveDistinctKeys K.eq self.now }
+        ensures fits { length self.now < 2 ^ 63 }
+    {
+        self.pairs.iter()
+    }
+
+    /// The values in the order of their keys.
+    pub fn values(&self) -> Values<'_, K, V>
+        ensures values { result ≡ values_of self.now }
+        ensures in_order { ShowsInOrder (deref {X = V}) }
+        ensures in_reverse { ShowsInReverse (deref {X = V}) }
+        ensures fits { length self.now < 2 ^ 63 }
+    {
+        self.pairs.values()
+    }
+}
+
+impl<K: Eq + Hash + Drop, V> OrderedMap<K, V> {
+    /// Inserts a pair. A key that is there keeps its place, and its value is replaced and handed back; a new key goes last.
+    ///
+    /// # Errors
+    ///
+    /// `Memory`, where a new key wants memory and is refused it: the map stays as it was, and the pair is dropped.
+    pub fn insert(&mut self, key: K, value: V) -> Result<Option<V>, Error>
+    where
+        V: Drop,
+        ensures replaced { IfOk result (λ old. old ≡ lookup (K.eq key) self.old) }
+        ensures inserted { OnOk result (self.new ≡ insert_entry K.eq self.old key value) }
+        ensures unchanged { OnErr result (self.new ≡ self.old) }
+        ensures memory { IfErr result (λ e. e ≡ Memory) }
+        ensures known { IsSome (lookup (K.eq key) self.old) → IsOk result }
+    {
+        Ok(self.pairs.insert(key, value)?)
+    }
+
+    /// Removes a key, and hands back its value. The other pairs keep their order.
+    pub fn shift_remove(&mut self, key: &K) -> Option<V>
+        ensures value { result ≡ lookup (K.eq key.now) self.old }
+        ensures removed { self.new ≡ remove_entry (K.eq key.now) self.old }
+    {
+        self.pairs.shift_remove(key)
+    }
+}
+
+impl<K: Eq + Hash + Clone, V: Clone> Clone for OrderedMap<K, V> {
+    ghost is_clone = { AllZip (λ p q. K.is_clone p.0 q.0 × V.is_clone p.1 q.1) };
+
+    // It wants memory, and fails too where a key's clone isn't equal to the key, or hashes otherwise.
+    fn clone(&self) -> Result<OrderedMap<K, V>, AllocError> {
+        Ok(OrderedMap {
+            pairs: self.pairs.clone()?,
+        })
+    }
+}
+
+impl<K: Eq + Hash + Drop, V: Drop> IntoIterator for OrderedMap<K, V> {
+    type Item = (K, V);
+
+    type IntoIter = IntoIter<K, V>;
+
+    ghost into_iter_gives = { λ m r. (r ≡ m) × (length m < 2 ^ 63) × GivesInOrder (K × V) × GivesInReverse (K × V)
+        × HaveDistinctKeys K.eq m };
+
+    fn into_iter(self) -> IntoIter<K, V> {
+        self.pairs.into_iter()
+    }
+}
+
+impl<'a, K: Eq + Hash, V> IntoIterator for &'a OrderedMap<K, V> {
+    type Item = (&'a K, &'a V);
+
+    type IntoIter = Iter<'a, K, V>;
+
+    ghost into_iter_gives = { λ m r. (r ≡ m.now) × (length m.now < 2 ^ 63) × ShowsInOrder (deref_pair {K = K} {X = V})
+        × HaveDistinctKeys K.eq m.now };
+
+    fn into_iter(self) -> Iter<'a, K, V> {
+        self.iter()
+    }
+}
