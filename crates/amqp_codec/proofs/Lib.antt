@@ -10,3 +10,5 @@ pub mod FromReader
 pub mod SumMembers
 mod ListReads
 pub mod RestrictedReads
+pub mod EachWritten
+pub mod ItemsSteps

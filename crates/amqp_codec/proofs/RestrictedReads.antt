@@ -14,7 +14,8 @@ use Rattle.amqp_decoder.proofs.Steps.{answered_later}
 use Rattle.amqp_codec.specs.PrimitiveTermLaws.{leaf_injective}
 use Rattle.amqp_codec.specs.Reading.{value_one}
 use Rattle.amqp_codec.specs.RefusalLaws.{refused_first}
-use Rattle.amqp_codec.specs.Restricted.{Base, IsUnknown, MeansRestricted, RestrictedFault, no_primitive, of_no_value}
+use Rattle.amqp_codec.specs.PrimitiveTypes.{Base}
+use Rattle.amqp_codec.specs.Restricted.{IsUnknown, MeansRestricted, RestrictedFault, no_primitive, of_no_value}
 
 module _ {A V : Type 0} (base : Base A) (unknown : Error) (table : V → A) where
   abbrev means : Standing → Term → V → Type 0
@@ -47,7 +48,7 @@ module _ {A V : Type 0} (base : Base A) (unknown : Error) (table : V → A) wher
       (λ t. t) no_primitive (λ none v b x. none (table v) b (as_primitive st v b x)) h
 
   one_primitive : (s : Standing) (t : Term) (a b : A) → t ≡ leaf (base.make a) → t ≡ leaf (base.make b) → a ≡ b
-  one_primitive s t a b h i = base.is_kind.injective a b (leaf_injective (base.make a) (base.make b) (sym h ∙ i))
+  one_primitive s t a b h i = base.injective a b (leaf_injective (base.make a) (base.make b) (sym h ∙ i))
 
   one_read : (st : State) (a b : A) (x y : State) → ReadsValue (Means base.make) st a x → ReadsValue (Means base.make) st b y → a ≡ b
   one_read st a b x y h k = (value_one (λ c d. c ≡ d) (Means base.make) one_primitive st a b x y h k).0

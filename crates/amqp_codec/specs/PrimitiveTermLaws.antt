@@ -28,7 +28,7 @@ reads_leaf p (described d t) h = absurd h
 reads_leaf p (kept b) h = absurd h
 reads_leaf p (barred r) h = absurd h
 
-data_valid : (F : Format) (p : Primitive) (b : List ℕ) → PrimitiveData F p b → IsValid p
+pub data_valid : (F : Format) (p : Primitive) (b : List ℕ) → PrimitiveData F p b → IsValid p
 data_valid (fixed w v) p b h = h.2
 data_valid (variable w v) p b h = h.4
 data_valid (compound k w) p b h = absurd h

@@ -1,9 +1,15 @@
--- The types of primitives.
-use Rattle.std.proofs.Common.{◌≡◌, ℕ, ◌<◌, ◌^◌, Bool, true, false, List, refl, sym, ◌∙◌, arith}
-use Rattle.amqp_model.specs.Term.{Primitive, boolean, ubyte, ushort, uint, ulong, symbol, Term, leaf}
+-- The types of primitives (Part 1, section 1.6).
+use Rattle.std.proofs.Common.{◌≡◌, ℕ, ◌<◌, ◌^◌, ℤ, pos, Bool, true, false, List, [], length, refl, sym, ap, ◌∙◌, arith}
+use Rattle.std.specs.Prelude.{FitsSigned}
+use Rattle.std.specs.Int.{w8, w16, w32, w64}
+use Rattle.std.specs.Char.{IsScalar}
+use Rattle.std.specs.Str.{IsUtf8}
+use Rattle.amqp_model.specs.Term.{Primitive, null, boolean, ubyte, ushort, uint, ulong, byte, short, int, long, char, timestamp, decimal32}
+use Rattle.amqp_model.specs.Term.{decimal64, decimal128, uuid, binary, string, symbol, Term, leaf}
 use Rattle.amqp_model.specs.Ranges.{IsInRange}
 use Rattle.amqp_model.specs.Items.{is_null_primitive}
-use Rattle.amqp_input.specs.Kinds.{booleans, uints, ulongs, symbols}
+use Rattle.amqp_input.specs.Kinds.{nulls, booleans, ubytes, ushorts, uints, ulongs, bytes, shorts, ints, longs, decimals32, decimals64}
+use Rattle.amqp_input.specs.Kinds.{decimals128, chars, timestamps, uuids, binaries, strings, symbols}
 use Rattle.amqp_decoder.specs.Primitives.{PrimitiveFault}
 use Rattle.amqp_decoder.proofs.NotMemory.{primitive_not_memory}
 use Rattle.amqp_decoder.proofs.Misspelled.{primitive_misspelled}
@@ -13,11 +19,11 @@ use Rattle.amqp_codec.specs.Faults.{Faults}
 use Rattle.amqp_codec.specs.PrimitiveTermLaws.{leaf_injective, leaf_writable}
 use Rattle.amqp_codec.specs.TermType.{TermType, view_of, equality}
 
--- The values of A are the primitives of one kind.
-pub record IsKind {A : Type 0} (make : A → Primitive) (range : A → Type 0) : Type 0 where
+-- The values of A in the range are the primitives of one kind, which are null or not.
+pub record IsKind {A : Type 0} (make : A → Primitive) (range : A → Type 0) (is_never_null : Bool) : Type 0 where
   pub injective : (v w : A) → make v ≡ make w → v ≡ w
   pub in_range : (v : A) → range v → IsInRange (make v)
-  pub not_null : (v : A) → is_null_primitive (make v) ≡ false
+  pub not_null : is_never_null ≡ true → (v : A) → is_null_primitive (make v) ≡ false
 
 -- Why no primitive of a kind is read.
 abbrev pub primitive_faults : ℕ → Faults
@@ -28,56 +34,185 @@ primitive_faults k = record {
   misspelled = λ st e _ i. primitive_misspelled k st e i;
 }
 
-module _ {A : Type 0} (make : A → Primitive) (range : A → Type 0) (laws : IsKind make range) where
+module _ {A : Type 0} (make : A → Primitive) (range : A → Type 0) {is_never_null : Bool} (laws : IsKind make range is_never_null) where
   abbrev primitive_canon : A → Term
   primitive_canon v = leaf (make v)
 
-  pub primitive_exact : IsExact range primitive_canon (λ v w. v ≡ w) (λ _. 1) true
+  pub primitive_exact : IsExact range primitive_canon (λ v w. v ≡ w) (λ _. 1) is_never_null
   primitive_exact = record {
     sameness = equality (view_of range (MeansExactly range primitive_canon) primitive_canon)
         (λ s t v w h k. laws.injective v w (leaf_injective (make v) (make w) (sym h.0 ∙ k.0)));
     plain = λ v. tt;
-    not_null = λ _. laws.not_null;
+    not_null = laws.not_null;
     valued = laws.in_range;
     free = λ v i r h. h;
     writable = λ v s i h r. leaf_writable s (primitive_canon v) (make v) r h refl;
     counted = λ v. omega arith;
   }
 
-  -- k: the kind, of those of Part 1, section 1.6
-  abbrev pub primitive_type : ℕ → Bool → TermType A
-  primitive_type k takes_memory = exact primitive_exact (primitive_faults k) takes_memory
+  -- kind: of those of Part 1, section 1.6
+  abbrev pub primitive_type : (kind : ℕ) (takes_memory : Bool) → TermType A
+  primitive_type kind takes_memory = exact primitive_exact (primitive_faults kind) takes_memory
 
-pub boolean_kind : IsKind boolean (λ _. Unit {0})
-boolean_kind = record { injective = λ v w e. cc; in_range = λ v i. tt; not_null = λ v. refl }
+-- A primitive type of the standard: the values of A that are in their range are its primitives, none of which is null.
+pub record Base (A : Type 0) : Type 0 where
+  pub make : A → Primitive
+  -- of those of Part 1, section 1.6
+  pub kind : ℕ
+  pub injective : (v w : A) → make v ≡ make w → v ≡ w
+  pub not_null : (v : A) → is_null_primitive (make v) ≡ false
 
-pub ubyte_kind : IsKind ubyte (λ n. n < 2 ^ 8)
-ubyte_kind = record { injective = λ v w e. cc; in_range = λ v i. i; not_null = λ v. refl }
+-- The value is in the range of its kind.
+abbrev pub IsOf : {A : Type 0} → Base A → A → Type 0
+IsOf base v = IsInRange (base.make v)
 
-pub ushort_kind : IsKind ushort (λ n. n < 2 ^ 16)
-ushort_kind = record { injective = λ v w e. cc; in_range = λ v i. i; not_null = λ v. refl }
+pub base_is_kind : {A : Type 0} (base : Base A) → IsKind base.make (IsOf base) true
+base_is_kind base = record { injective = base.injective; in_range = λ v i. i; not_null = λ _. base.not_null }
 
-pub uint_kind : IsKind uint (λ n. n < 2 ^ 32)
-uint_kind = record { injective = λ v w e. cc; in_range = λ v i. i; not_null = λ v. refl }
+-- What a primitive is made of.
+abbrev pub truth : Primitive → Bool
+truth (boolean b) = b
+truth _ = false
 
-pub ulong_kind : IsKind ulong (λ n. n < 2 ^ 64)
-ulong_kind = record { injective = λ v w e. cc; in_range = λ v i. i; not_null = λ v. refl }
+abbrev pub number : Primitive → ℕ
+number (ubyte n) = n
+number (ushort n) = n
+number (uint n) = n
+number (ulong n) = n
+number (char n) = n
+number _ = 0
 
-pub symbol_kind : IsKind symbol (λ _. Unit {0})
-symbol_kind = record { injective = λ v w e. cc; in_range = λ v i. i; not_null = λ v. refl }
+abbrev pub integer : Primitive → ℤ
+integer (byte z) = z
+integer (short z) = z
+integer (int z) = z
+integer (long z) = z
+integer (timestamp z) = z
+integer _ = pos 0
 
--- Part 1, section 1.6.2
+abbrev pub content : Primitive → List ℕ
+content (decimal32 b) = b
+content (decimal64 b) = b
+content (decimal128 b) = b
+content (uuid b) = b
+content (binary b) = b
+content (string b) = b
+content (symbol b) = b
+content _ = []
+
+-- Part 1, sections 1.6.2 to 1.6.21. A symbol that isn't ASCII is a value that can't be written.
+abbrev pub boolean_base : Base Bool
+boolean_base = record { make = boolean; kind = booleans; injective = λ v w. ap truth; not_null = λ v. refl }
+
+abbrev pub ubyte_base : Base ℕ
+ubyte_base = record { make = ubyte; kind = ubytes; injective = λ v w. ap number; not_null = λ v. refl }
+
+abbrev pub ushort_base : Base ℕ
+ushort_base = record { make = ushort; kind = ushorts; injective = λ v w. ap number; not_null = λ v. refl }
+
+abbrev pub uint_base : Base ℕ
+uint_base = record { make = uint; kind = uints; injective = λ v w. ap number; not_null = λ v. refl }
+
+abbrev pub ulong_base : Base ℕ
+ulong_base = record { make = ulong; kind = ulongs; injective = λ v w. ap number; not_null = λ v. refl }
+
+abbrev pub byte_base : Base ℤ
+byte_base = record { make = byte; kind = bytes; injective = λ v w. ap integer; not_null = λ v. refl }
+
+abbrev pub short_base : Base ℤ
+short_base = record { make = short; kind = shorts; injective = λ v w. ap integer; not_null = λ v. refl }
+
+abbrev pub int_base : Base ℤ
+int_base = record { make = int; kind = ints; injective = λ v w. ap integer; not_null = λ v. refl }
+
+abbrev pub long_base : Base ℤ
+long_base = record { make = long; kind = longs; injective = λ v w. ap integer; not_null = λ v. refl }
+
+abbrev pub decimal32_base : Base (List ℕ)
+decimal32_base = record { make = decimal32; kind = decimals32; injective = λ v w. ap content; not_null = λ v. refl }
+
+abbrev pub decimal64_base : Base (List ℕ)
+decimal64_base = record { make = decimal64; kind = decimals64; injective = λ v w. ap content; not_null = λ v. refl }
+
+abbrev pub decimal128_base : Base (List ℕ)
+decimal128_base = record { make = decimal128; kind = decimals128; injective = λ v w. ap content; not_null = λ v. refl }
+
+abbrev pub char_base : Base ℕ
+char_base = record { make = char; kind = chars; injective = λ v w. ap number; not_null = λ v. refl }
+
+abbrev pub timestamp_base : Base ℤ
+timestamp_base = record { make = timestamp; kind = timestamps; injective = λ v w. ap integer; not_null = λ v. refl }
+
+abbrev pub uuid_base : Base (List ℕ)
+uuid_base = record { make = uuid; kind = uuids; injective = λ v w. ap content; not_null = λ v. refl }
+
+abbrev pub binary_base : Base (List ℕ)
+binary_base = record { make = binary; kind = binaries; injective = λ v w. ap content; not_null = λ v. refl }
+
+abbrev pub string_base : Base (List ℕ)
+string_base = record { make = string; kind = strings; injective = λ v w. ap content; not_null = λ v. refl }
+
+abbrev pub symbol_base : Base (List ℕ)
+symbol_base = record { make = symbol; kind = symbols; injective = λ v w. ap content; not_null = λ v. refl }
+
+-- The types that are their primitives, and those of which others are made: milliseconds since 1970, and bytes.
 abbrev pub boolean_type : TermType Bool
-boolean_type = primitive_type boolean (λ _. Unit {0}) boolean_kind booleans false
+boolean_type = primitive_type boolean (λ _. Unit {0}) (base_is_kind boolean_base) booleans false
 
--- Part 1, section 1.6.5
+abbrev pub ubyte_type : TermType ℕ
+ubyte_type = primitive_type ubyte (λ n. n < 2 ^ 8) (base_is_kind ubyte_base) ubytes false
+
+abbrev pub ushort_type : TermType ℕ
+ushort_type = primitive_type ushort (λ n. n < 2 ^ 16) (base_is_kind ushort_base) ushorts false
+
 abbrev pub uint_type : TermType ℕ
-uint_type = primitive_type uint (λ n. n < 2 ^ 32) uint_kind uints false
+uint_type = primitive_type uint (λ n. n < 2 ^ 32) (base_is_kind uint_base) uints false
 
--- Part 1, section 1.6.6
 abbrev pub ulong_type : TermType ℕ
-ulong_type = primitive_type ulong (λ n. n < 2 ^ 64) ulong_kind ulongs false
+ulong_type = primitive_type ulong (λ n. n < 2 ^ 64) (base_is_kind ulong_base) ulongs false
 
--- Part 1, section 1.6.21: the bytes of a symbol. One that isn't ASCII is a value that can't be written.
+abbrev pub byte_type : TermType ℤ
+byte_type = primitive_type byte (λ z. FitsSigned w8 z) (base_is_kind byte_base) bytes false
+
+abbrev pub short_type : TermType ℤ
+short_type = primitive_type short (λ z. FitsSigned w16 z) (base_is_kind short_base) shorts false
+
+abbrev pub int_type : TermType ℤ
+int_type = primitive_type int (λ z. FitsSigned w32 z) (base_is_kind int_base) ints false
+
+abbrev pub long_type : TermType ℤ
+long_type = primitive_type long (λ z. FitsSigned w64 z) (base_is_kind long_base) longs false
+
+abbrev pub char_type : TermType ℕ
+char_type = primitive_type char (λ n. IsScalar n) (base_is_kind char_base) chars false
+
+abbrev pub milliseconds_type : TermType ℤ
+milliseconds_type = primitive_type timestamp (λ z. FitsSigned w64 z) (base_is_kind timestamp_base) timestamps false
+
+abbrev pub decimal32_bytes_type : TermType (List ℕ)
+decimal32_bytes_type = primitive_type decimal32 (λ b. length b ≡ 4) (base_is_kind decimal32_base) decimals32 false
+
+abbrev pub decimal64_bytes_type : TermType (List ℕ)
+decimal64_bytes_type = primitive_type decimal64 (λ b. length b ≡ 8) (base_is_kind decimal64_base) decimals64 false
+
+abbrev pub decimal128_bytes_type : TermType (List ℕ)
+decimal128_bytes_type = primitive_type decimal128 (λ b. length b ≡ 16) (base_is_kind decimal128_base) decimals128 false
+
+abbrev pub uuid_bytes_type : TermType (List ℕ)
+uuid_bytes_type = primitive_type uuid (λ b. length b ≡ 16) (base_is_kind uuid_base) uuids false
+
+abbrev pub binary_bytes_type : TermType (List ℕ)
+binary_bytes_type = primitive_type binary (λ _. Unit {0}) (base_is_kind binary_base) binaries true
+
+abbrev pub string_bytes_type : TermType (List ℕ)
+string_bytes_type = primitive_type string (λ s. IsUtf8 s) (base_is_kind string_base) strings true
+
 abbrev pub symbol_bytes_type : TermType (List ℕ)
-symbol_bytes_type = primitive_type symbol (λ _. Unit {0}) symbol_kind symbols true
+symbol_bytes_type = primitive_type symbol (λ _. Unit {0}) (base_is_kind symbol_base) symbols true
+
+-- Part 1, section 1.6.1: null, by the one value of a type
+pub null_is_kind : IsKind (λ (_ : Unit {0}). null) (λ _. Unit {0}) false
+null_is_kind = record { injective = λ v w e. refl; in_range = λ v i. i; not_null = λ n. cc }
+
+abbrev pub null_type : TermType (Unit {0})
+null_type = primitive_type (λ (_ : Unit {0}). null) (λ _. Unit {0}) null_is_kind nulls false

@@ -1,10 +1,9 @@
 -- Restricted types: each value is one of a primitive type's, a number or a text, and the table of a type says which.
-use Rattle.std.proofs.Common.{◌≡◌, ℕ, ◌<◌, ◌^◌, Bool, true, false, List, Result, Ok, Err, sym, subst}
-use Rattle.amqp_model.specs.Term.{Primitive, boolean, ubyte, ushort, uint, symbol, Term, leaf}
+use Rattle.std.proofs.Common.{◌≡◌, ℕ, Bool, true, false, List, Result, Ok, Err, sym, subst}
+use Rattle.amqp_model.specs.Term.{Term, leaf}
 use Rattle.amqp_model.specs.Standing.{Standing}
 use Rattle.amqp_wire.specs.declared.error.Error.{Error}
 use Rattle.amqp_wire.specs.declared.error.Error.TheVariants.{Memory, UnknownText, UnknownNumber}
-use Rattle.amqp_input.specs.Kinds.{booleans, ubytes, ushorts, uints, symbols}
 use Rattle.amqp_decoder.specs.State.{State}
 use Rattle.amqp_decoder.specs.Misspelled.{IsMisspelling, NothingStands}
 use Rattle.amqp_decoder.specs.Reading.{AnswersRead}
@@ -15,35 +14,7 @@ use Rattle.amqp_decoder.proofs.Misspelled.{primitive_misspelled}
 use Rattle.amqp_codec.specs.ExactType.{MeansExactly, exact}
 use Rattle.amqp_codec.specs.Faults.{Faults}
 use Rattle.amqp_codec.specs.TermType.{TermType}
-use Rattle.amqp_codec.specs.PrimitiveTypes.{IsKind, primitive_exact, boolean_kind, ubyte_kind, ushort_kind, uint_kind, symbol_kind}
-
--- A primitive type, some values of which are those of a restricted type.
-pub record Base (A : Type 0) : Type 1 where
-  pub make : A → Primitive
-  pub range : A → Type 0
-  pub is_kind : IsKind make range
-  -- of those of Part 1, section 1.6
-  pub kind : ℕ
-
--- Part 1, section 1.6.2
-abbrev pub boolean_base : Base Bool
-boolean_base = record { make = boolean; range = λ _. Unit {0}; is_kind = boolean_kind; kind = booleans }
-
--- Part 1, section 1.6.3
-abbrev pub ubyte_base : Base ℕ
-ubyte_base = record { make = ubyte; range = λ n. n < 2 ^ 8; is_kind = ubyte_kind; kind = ubytes }
-
--- Part 1, section 1.6.4
-abbrev pub ushort_base : Base ℕ
-ushort_base = record { make = ushort; range = λ n. n < 2 ^ 16; is_kind = ushort_kind; kind = ushorts }
-
--- Part 1, section 1.6.5
-abbrev pub uint_base : Base ℕ
-uint_base = record { make = uint; range = λ n. n < 2 ^ 32; is_kind = uint_kind; kind = uints }
-
--- Part 1, section 1.6.21
-abbrev pub symbol_base : Base (List ℕ)
-symbol_base = record { make = symbol; range = λ _. Unit {0}; is_kind = symbol_kind; kind = symbols }
+use Rattle.amqp_codec.specs.PrimitiveTypes.{IsKind, Base, IsOf, primitive_exact, symbol_base}
 
 -- No value has this number or text.
 abbrev pub IsUnknown : {A V : Type 0} → (V → A) → A → Type 0
@@ -105,12 +76,12 @@ module _ {A V : Type 0} (base : Base A) (unknown : Error) (table : V → A) wher
 abbrev pub IsDistinct : {A V : Type 0} → (V → A) → Type 0
 IsDistinct {V = V} table = (v w : V) → table v ≡ table w → v ≡ w
 
-module _ {A V : Type 0} (base : Base A) (table : V → A) (distinct : IsDistinct table) (in_range : (v : V) → base.range (table v)) where
-  pub restricted_kind : IsKind (λ v. base.make (table v)) (λ _. Unit {0})
+module _ {A V : Type 0} (base : Base A) (table : V → A) (distinct : IsDistinct table) (in_range : (v : V) → IsOf base (table v)) where
+  pub restricted_kind : IsKind (λ v. base.make (table v)) (λ _. Unit {0}) true
   restricted_kind = record {
-    injective = λ v w e. distinct v w (base.is_kind.injective (table v) (table w) e);
-    in_range = λ v _. base.is_kind.in_range (table v) (in_range v);
-    not_null = λ v. base.is_kind.not_null (table v);
+    injective = λ v w e. distinct v w (base.injective (table v) (table w) e);
+    in_range = λ v _. in_range v;
+    not_null = λ _ v. base.not_null (table v);
   }
 
   -- The type of a table, the error for all else, and whether reading it takes memory.

@@ -1,11 +1,12 @@
 -- Types that are read and written as another: boxes, newtypes, texts by their bytes.
 use Rattle.std.proofs.Common.{◌≡◌, true, refl, subst, sym}
-use Rattle.std.specs.Prelude.{string_bytes}
+use Rattle.std.specs.Prelude.{String, string_bytes}
 use Rattle.std.specs.declared.boxed.Box.{Box}
+use Rattle.std.specs.declared.rc.Rc.{Rc}
 use Rattle.amqp_model.specs.FieldType.{Norm, normal, unchanged, by_norm}
 use Rattle.amqp_wire.specs.declared.symbol.Symbol.{Symbol}
 use Rattle.amqp_codec.specs.TermType.{TermType, Sameness, Rewrites, IgnoresStanding, view_in}
-use Rattle.amqp_codec.specs.PrimitiveTypes.{symbol_bytes_type}
+use Rattle.amqp_codec.specs.PrimitiveTypes.{string_bytes_type, symbol_bytes_type}
 
 module _ {V T : Type 0} (u : TermType T) (to : V → T) (n : Norm V) (is : (v : V) → to (normal n v) ≡ normal u.norm (to v)) where
   -- what holds of the normal value there holds of it here
@@ -61,6 +62,22 @@ box_normal (by_norm f) b = refl
 -- A box is as its value.
 abbrev pub boxed : {T Z : Type 0} → TermType T → TermType (Box T Z)
 boxed u = record (via u (λ b. b.value) (norm_box u.norm) (box_normal u.norm)) { takes_memory = true }
+
+abbrev pub norm_rc : {T Z : Type 0} → Norm T → Norm (Rc T Z)
+norm_rc unchanged = unchanged
+norm_rc (by_norm f) = by_norm (λ r. record r { value = f r.value })
+
+pub rc_normal : {T Z : Type 0} (n : Norm T) (r : Rc T Z) → (normal (norm_rc n) r).value ≡ normal n r.value
+rc_normal unchanged r = refl
+rc_normal (by_norm f) r = refl
+
+-- A value that several own is as the value.
+abbrev pub reference_counted : {T Z : Type 0} → TermType T → TermType (Rc T Z)
+reference_counted u = record (via u (λ r. r.value) (norm_rc u.norm) (rc_normal u.norm)) { takes_memory = true }
+
+-- Part 1, section 1.6.20
+abbrev pub string_type : {Z : Type 0} → TermType (String Z)
+string_type = via string_bytes_type string_bytes unchanged (λ v. refl)
 
 -- Part 1, section 1.6.21
 abbrev pub symbol_type : TermType Symbol

@@ -1,13 +1,14 @@
-//! Optional values and boxes, which are read and written; and references, which are written only.
+//! Optional values, boxes and values that several own, which are read and written; and references, which are written only.
 ghost use Rattle.amqp_codec.specs.OptionType.{option_of};
-ghost use Rattle.amqp_codec.specs.Wrappers.{boxed};
-ghost use Rattle.amqp_codec.specs.Agreement.{box_agreement, option_one, option_agreement, option_writing, via_writing};
+ghost use Rattle.amqp_codec.specs.Wrappers.{boxed, reference_counted};
+ghost use Rattle.amqp_codec.specs.Agreement.{box_agreement, rc_agreement, option_one, option_agreement, option_writing, via_writing};
 
 use crate::{DeserializeTerm, Serialize, SerializeTerm};
 use amqp_decoder::Decoder;
 use amqp_encoder::Encoder;
 use amqp_wire::{ByteSource, Error, format_code};
 use std::alloc::Global;
+use std::rc::Rc;
 
 impl<T: SerializeTerm> Serialize for Option<T> {
     ghost writing = { option_writing T.writing };
@@ -89,6 +90,40 @@ impl<T: DeserializeTerm> DeserializeTerm for Box<T> {
     ghost agreement = { box_agreement T.agreement };
 }
 
+impl<T: Serialize> Serialize for Rc<T> {
+    ghost writing = { via_writing (λ v. v.value) T.writing };
+
+    fn serialize(&self, encoder: &mut Encoder) -> Result<(), Error> {
+        self.as_ref().serialize(encoder)
+    }
+
+    fn in_type(&self) {
+        self.as_ref().in_type()
+    }
+}
+
+impl<T: SerializeTerm> SerializeTerm for Rc<T> {
+    fn is_null(&self) -> bool {
+        self.as_ref().is_null()
+    }
+
+    ghost is_term = { λ v. T.is_term v.value };
+}
+
+impl<T: DeserializeTerm> DeserializeTerm for Rc<T> {
+    ghost term = { reference_counted T.term };
+
+    fn read_value<R: ByteSource>(decoder: &mut Decoder<R>, alloc: Global) -> Result<Rc<T>, Error> {
+        let value = T::read_value(decoder, alloc)?;
+        match Rc::new(alloc, value) {
+            Ok(shared) => Ok(shared),
+            Err(_) => Err(decoder.refuse(Error::Memory)),
+        }
+    }
+
+    ghost agreement = { rc_agreement T.agreement };
+}
+
 impl<T: Serialize> Serialize for &T {
     ghost writing = { via_writing (λ v. v.now) T.writing };
 
@@ -104,6 +139,26 @@ impl<T: Serialize> Serialize for &T {
 impl<T: SerializeTerm> SerializeTerm for &T {
     fn is_null(&self) -> bool {
         SerializeTerm::is_null(*self)
+    }
+
+    ghost is_term = { λ v. T.is_term v.now };
+}
+
+impl<T: Serialize> Serialize for &mut T {
+    ghost writing = { via_writing (λ v. v.now) T.writing };
+
+    fn serialize(&self, encoder: &mut Encoder) -> Result<(), Error> {
+        (**self).serialize(encoder)
+    }
+
+    fn in_type(&self) {
+        (**self).in_type()
+    }
+}
+
+impl<T: SerializeTerm> SerializeTerm for &mut T {
+    fn is_null(&self) -> bool {
+        (**self).is_null()
     }
 
     ghost is_term = { λ v. T.is_term v.now };

@@ -7,7 +7,9 @@ ghost use Rattle.amqp_model.specs.FieldType.{normal};
 ghost use Rattle.amqp_wire.specs.declared.error.Error.{Error};
 ghost use Rattle.amqp_encoder.specs.Passes.{row_text};
 ghost use Rattle.amqp_encoder.specs.Refused.{TermHasCause};
+ghost use Rattle.std.specs.Bool.{Decides};
 ghost use Rattle.amqp_codec.specs.Spelled.{IsSpelled, IsWritable, written};
+ghost use Rattle.amqp_codec.specs.Keys.{ComparesTexts};
 ghost use Rattle.amqp_codec.specs.Written.{AreWritable, AreUnwritable};
 ghost use Rattle.std.specs.Prelude.{take};
 ghost use Rattle.amqp_decoder.specs.State.{State};
@@ -15,7 +17,7 @@ ghost use Rattle.amqp_decoder.specs.Reading.{PeeksCode};
 ghost use Rattle.amqp_codec.specs.EitherType.{EitherFault};
 ghost use Rattle.amqp_codec.specs.Reading.{BeginsWith};
 
-use crate::{Canonical, Deserialize, DeserializeTerm};
+use crate::{Canonical, Deserialize, DeserializeTerm, MapKey};
 
 /// What is read from the front of an input is what that front spells, whatever stands behind it; and nothing behind it
 /// is looked at. So an error that says of bytes that they are no term is answered only of such (`IsUnreadable::unspelled`).
@@ -73,6 +75,14 @@ pub fn one_text_for_one_value<T: DeserializeTerm>()
         → written T.term v ≡ written T.term w → T.term.same v w }
     ensures unchanged { (v w : T) → T.term.is_value v → IsWritable T.term v → IsSpelled T.term (written T.term v) w
         → written T.term w ≡ written T.term v }
+{}
+
+/// Two keys are equal if they are one value. So where they can be written, they are equal exactly if their canonical texts are;
+/// and equal keys are hashed alike.
+pub fn keys_are_compared_by_their_texts<K: MapKey>()
+    ensures values { (v w : K) → Decides (K.eq v w) (K.term.same v w) }
+    ensures texts { ComparesTexts K.term K.eq }
+    ensures hashes { (v w : K) → K.eq v w ≡ true → K.hash_input v ≡ K.hash_input w }
 {}
 
 /// No spelling of a value of a least type is shorter than its canonical text, where its term holds no array.

@@ -5,12 +5,16 @@ mod calls;
 mod composite;
 mod containers;
 mod fields;
+mod integers;
 pub mod kernel;
+mod keys;
 pub mod laws;
+mod lists;
 mod primitives;
 mod reader;
 pub mod restricted;
 mod sums;
+mod texts;
 mod traits;
 
 pub use amqp_decoder::Decoder;
@@ -19,5 +23,6 @@ pub use amqp_wire::{ByteSource, Descriptor, Error, ReadSource, Symbol};
 pub use calls::{
     append_to_vec, canonical_text, encoded_len, from_slice, from_slice_counted, to_vec,
 };
+pub use keys::MapKey;
 pub use reader::from_reader;
 pub use traits::{Canonical, Deserialize, DeserializeTerm, Serialize, SerializeTerm};

@@ -1,14 +1,41 @@
-//! The primitive types of std, and symbols (Part 1, section 1.6).
+//! Null, booleans and characters (Part 1, sections 1.6.1, 1.6.2 and 1.6.16).
 ghost use Rattle.std.specs.Prelude.{refl};
-ghost use Rattle.amqp_codec.specs.PrimitiveTypes.{boolean_type, uint_type, ulong_type};
-ghost use Rattle.amqp_codec.specs.Wrappers.{symbol_type};
+ghost use Rattle.amqp_codec.specs.PrimitiveTypes.{null_type, boolean_type, char_type};
 ghost use Rattle.amqp_codec.specs.Agreement.{one_term, agreement, writing_of};
 
 use crate::{DeserializeTerm, Serialize, SerializeTerm};
 use amqp_decoder::Decoder;
 use amqp_encoder::Encoder;
-use amqp_wire::{ByteSource, Error, Symbol};
+use amqp_wire::{ByteSource, Error};
 use std::alloc::Global;
+
+impl Serialize for () {
+    ghost writing = { writing_of null_type refl };
+
+    fn serialize(&self, encoder: &mut Encoder) -> Result<(), Error> {
+        encoder.write_null()
+    }
+
+    fn in_type(&self) {}
+}
+
+impl SerializeTerm for () {
+    fn is_null(&self) -> bool {
+        true
+    }
+
+    ghost is_term = { one_term null_type refl };
+}
+
+impl DeserializeTerm for () {
+    ghost term = { null_type };
+
+    fn read_value<R: ByteSource>(decoder: &mut Decoder<R>, _alloc: Global) -> Result<(), Error> {
+        decoder.read_null()
+    }
+
+    ghost agreement = { agreement null_type refl };
+}
 
 impl Serialize for bool {
     ghost writing = { writing_of boolean_type refl };
@@ -38,11 +65,11 @@ impl DeserializeTerm for bool {
     ghost agreement = { agreement boolean_type refl };
 }
 
-impl Serialize for u32 {
-    ghost writing = { writing_of uint_type refl };
+impl Serialize for char {
+    ghost writing = { writing_of char_type refl };
 
     fn serialize(&self, encoder: &mut Encoder) -> Result<(), Error> {
-        encoder.write_uint(*self)
+        encoder.write_char(*self)
     }
 
     fn in_type(&self) {
@@ -50,78 +77,20 @@ impl Serialize for u32 {
     }
 }
 
-impl SerializeTerm for u32 {
+impl SerializeTerm for char {
     fn is_null(&self) -> bool {
         false
     }
 
-    ghost is_term = { one_term uint_type refl };
+    ghost is_term = { one_term char_type refl };
 }
 
-impl DeserializeTerm for u32 {
-    ghost term = { uint_type };
+impl DeserializeTerm for char {
+    ghost term = { char_type };
 
-    fn read_value<R: ByteSource>(decoder: &mut Decoder<R>, _alloc: Global) -> Result<u32, Error> {
-        decoder.read_uint()
+    fn read_value<R: ByteSource>(decoder: &mut Decoder<R>, _alloc: Global) -> Result<char, Error> {
+        decoder.read_char()
     }
 
-    ghost agreement = { agreement uint_type refl };
-}
-
-impl Serialize for u64 {
-    ghost writing = { writing_of ulong_type refl };
-
-    fn serialize(&self, encoder: &mut Encoder) -> Result<(), Error> {
-        encoder.write_ulong(*self)
-    }
-
-    fn in_type(&self) {
-        let _value = *self;
-    }
-}
-
-impl SerializeTerm for u64 {
-    fn is_null(&self) -> bool {
-        false
-    }
-
-    ghost is_term = { one_term ulong_type refl };
-}
-
-impl DeserializeTerm for u64 {
-    ghost term = { ulong_type };
-
-    fn read_value<R: ByteSource>(decoder: &mut Decoder<R>, _alloc: Global) -> Result<u64, Error> {
-        decoder.read_ulong()
-    }
-
-    ghost agreement = { agreement ulong_type refl };
-}
-
-impl Serialize for Symbol {
-    ghost writing = { writing_of symbol_type refl };
-
-    fn serialize(&self, encoder: &mut Encoder) -> Result<(), Error> {
-        encoder.write_symbol(self.as_str())
-    }
-
-    fn in_type(&self) {}
-}
-
-impl SerializeTerm for Symbol {
-    fn is_null(&self) -> bool {
-        false
-    }
-
-    ghost is_term = { one_term symbol_type refl };
-}
-
-impl DeserializeTerm for Symbol {
-    ghost term = { symbol_type };
-
-    fn read_value<R: ByteSource>(decoder: &mut Decoder<R>, alloc: Global) -> Result<Symbol, Error> {
-        decoder.read_symbol(alloc)
-    }
-
-    ghost agreement = { agreement symbol_type refl };
+    ghost agreement = { agreement char_type refl };
 }

@@ -6,7 +6,7 @@ ghost use Rattle.amqp_wire.specs.Sources.{Tells};
 ghost use Rattle.amqp_decoder.specs.Reading.{AnswersRead};
 ghost use Rattle.amqp_decoder.specs.Primitives.{ReadsValue, Means, PrimitiveFault};
 ghost use Rattle.amqp_codec.specs.Written.{WritesTerms};
-ghost use Rattle.amqp_codec.specs.Restricted.{boolean_base, ubyte_base, ushort_base, uint_base, symbol_base};
+ghost use Rattle.amqp_codec.specs.PrimitiveTypes.{boolean_base, ubyte_base, ushort_base, uint_base, symbol_base};
 ghost use Rattle.amqp_codec.specs.Restricted.{ReadsRestricted, IsUnknown, Converts};
 
 use amqp_decoder::Decoder;
@@ -16,7 +16,7 @@ use std::alloc::Global;
 
 /// A primitive type, some numbers of which are those of a restricted type.
 pub trait Base: Sized + Drop {
-    ghost use Rattle.amqp_codec.specs.Restricted.{Base};
+    ghost use Rattle.amqp_codec.specs.PrimitiveTypes.{Base};
 
     ghost base: { Base Self };
 

@@ -1,10 +1,14 @@
 //! How a receiver settles deliveries (Part 2, section 2.8.3).
 ghost use Rattle.std.specs.Prelude.{◌≡◌, refl};
 ghost use Rattle.amqp_codec.specs.Agreement.{one_term, agreement, writing_of};
+ghost use Rattle.amqp_codec.specs.KeyLaws.{key_of, variants_decide};
 ghost use Rattle.amqp_definitions.specs.Transport.{receiver_settle_mode_numbers, receiver_settle_mode_type};
+ghost use Rattle.amqp_definitions.specs.contracts.receiver_settle_mode.ReceiverSettleMode.{the_type};
 
 use amqp_codec::restricted::{RestrictedNumber, read_number, write_number};
-use amqp_codec::{ByteSource, Decoder, DeserializeTerm, Encoder, Error, Serialize, SerializeTerm};
+use amqp_codec::{
+    ByteSource, Decoder, DeserializeTerm, Encoder, Error, MapKey, Serialize, SerializeTerm,
+};
 use std::alloc::Global;
 
 /// How the receiver of a link settles its deliveries.
@@ -83,4 +87,8 @@ impl DeserializeTerm for ReceiverSettleMode {
     }
 
     ghost agreement = { agreement receiver_settle_mode_type refl };
+}
+
+impl MapKey for ReceiverSettleMode {
+    ghost is_key = { key_of refl (variants_decide the_type tt) };
 }

@@ -1,10 +1,14 @@
 //! Roles (Part 2, section 2.8.1).
 ghost use Rattle.std.specs.Prelude.{◌≡◌, refl};
 ghost use Rattle.amqp_codec.specs.Agreement.{one_term, agreement, writing_of};
+ghost use Rattle.amqp_codec.specs.KeyLaws.{key_of, variants_decide};
 ghost use Rattle.amqp_definitions.specs.Transport.{role_numbers, role_type};
+ghost use Rattle.amqp_definitions.specs.contracts.role.Role.{the_type};
 
 use amqp_codec::restricted::{RestrictedNumber, read_number, write_number};
-use amqp_codec::{ByteSource, Decoder, DeserializeTerm, Encoder, Error, Serialize, SerializeTerm};
+use amqp_codec::{
+    ByteSource, Decoder, DeserializeTerm, Encoder, Error, MapKey, Serialize, SerializeTerm,
+};
 use std::alloc::Global;
 
 /// Which end of a link a peer is.
@@ -86,4 +90,8 @@ impl DeserializeTerm for Role {
     }
 
     ghost agreement = { agreement role_type refl };
+}
+
+impl MapKey for Role {
+    ghost is_key = { key_of refl (variants_decide the_type tt) };
 }

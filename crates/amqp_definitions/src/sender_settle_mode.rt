@@ -1,10 +1,14 @@
 //! How a sender settles deliveries (Part 2, section 2.8.2).
 ghost use Rattle.std.specs.Prelude.{◌≡◌, refl};
 ghost use Rattle.amqp_codec.specs.Agreement.{one_term, agreement, writing_of};
+ghost use Rattle.amqp_codec.specs.KeyLaws.{key_of, variants_decide};
 ghost use Rattle.amqp_definitions.specs.Transport.{sender_settle_mode_numbers, sender_settle_mode_type};
+ghost use Rattle.amqp_definitions.specs.contracts.sender_settle_mode.SenderSettleMode.{the_type};
 
 use amqp_codec::restricted::{RestrictedNumber, read_number, write_number};
-use amqp_codec::{ByteSource, Decoder, DeserializeTerm, Encoder, Error, Serialize, SerializeTerm};
+use amqp_codec::{
+    ByteSource, Decoder, DeserializeTerm, Encoder, Error, MapKey, Serialize, SerializeTerm,
+};
 use std::alloc::Global;
 
 /// How the sender of a link settles its deliveries.
@@ -87,4 +91,8 @@ impl DeserializeTerm for SenderSettleMode {
     }
 
     ghost agreement = { agreement sender_settle_mode_type refl };
+}
+
+impl MapKey for SenderSettleMode {
+    ghost is_key = { key_of refl (variants_decide the_type tt) };
 }

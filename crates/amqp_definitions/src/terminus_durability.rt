@@ -1,10 +1,14 @@
 //! What of a terminus is durable (Part 3, section 3.5.5).
 ghost use Rattle.std.specs.Prelude.{refl};
 ghost use Rattle.amqp_codec.specs.Agreement.{one_term, agreement, writing_of};
+ghost use Rattle.amqp_codec.specs.KeyLaws.{key_of, variants_decide};
 ghost use Rattle.amqp_definitions.specs.Termini.{terminus_durability_numbers, terminus_durability_type};
+ghost use Rattle.amqp_definitions.specs.contracts.terminus_durability.TerminusDurability.{the_type};
 
 use amqp_codec::restricted::{RestrictedNumber, read_number, write_number};
-use amqp_codec::{ByteSource, Decoder, DeserializeTerm, Encoder, Error, Serialize, SerializeTerm};
+use amqp_codec::{
+    ByteSource, Decoder, DeserializeTerm, Encoder, Error, MapKey, Serialize, SerializeTerm,
+};
 use std::alloc::Global;
 
 /// What of a terminus is kept durably.
@@ -71,4 +75,8 @@ impl DeserializeTerm for TerminusDurability {
     }
 
     ghost agreement = { agreement terminus_durability_type refl };
+}
+
+impl MapKey for TerminusDurability {
+    ghost is_key = { key_of refl (variants_decide the_type tt) };
 }

@@ -8,7 +8,7 @@ use Rattle.memchr.specs.Find.{IsFirstByte, is_byte}
 use Rattle.amqp_lines.specs.Lines.{HasNo}
 use Rattle.amqp_lines.specs.Answers.{type_name, Asks, StandsFor}
 use Rattle.amqp_lines.specs.declared.request.TypeName.{TypeName}
-use Rattle.amqp_lines.specs.declared.request.TypeName.TheVariants.{Accepted, DeliveryState, Received, Released}
+use Rattle.amqp_lines.specs.declared.request.TypeName.TheVariants.{Accepted, Boolean, DeliveryState, Received, Released}
 use Rattle.amqp_lines.proofs.Pieces.{first_none, first_some}
 
 all_differ : ℕ → List ℕ → Bool
@@ -31,6 +31,7 @@ tested c (b ∷ bs) h = let (d, e) = differing c b bs h in (d, tested c bs e)
 no_space : (named : TypeName) → HasNo 32 (type_name named)
 unfolding all_differ
 no_space Accepted = tested 32 (type_name Accepted) refl
+no_space Boolean = tested 32 (type_name Boolean) refl
 no_space DeliveryState = tested 32 (type_name DeliveryState) refl
 no_space Received = tested 32 (type_name Received) refl
 no_space Released = tested 32 (type_name Released) refl

@@ -5,6 +5,7 @@ use Rattle.hex.specs.Hex.{decode_of, encode_lower}
 use Rattle.amqp_wire.specs.declared.error.Error.{Error}
 use Rattle.amqp_wire.specs.declared.error.Error.TheVariants.{Memory, Read}
 use Rattle.amqp_codec.specs.TermType.{TermType}
+use Rattle.amqp_codec.specs.PrimitiveTypes.{boolean_type}
 use Rattle.amqp_codec.specs.Composite.{composite}
 use Rattle.amqp_codec.specs.Reading.{reading_of, IsUnreadable}
 use Rattle.amqp_codec.specs.Rewritten.{IsRewritten, IsUnwritten}
@@ -14,7 +15,7 @@ use Rattle.amqp_lines.specs.Lines.{TakesLine}
 use Rattle.amqp_lines.specs.declared.answer.Answer.{Answer}
 use Rattle.amqp_lines.specs.declared.answer.Answer.TheVariants.{Rewritten, Refused, NoRequest}
 use Rattle.amqp_lines.specs.declared.request.TypeName.{TypeName}
-use Rattle.amqp_lines.specs.declared.request.TypeName.TheVariants.{Accepted, DeliveryState, Received, Released}
+use Rattle.amqp_lines.specs.declared.request.TypeName.TheVariants.{Accepted, Boolean, DeliveryState, Received, Released}
 
 -- Memory ran out, or the reader or the writer failed.
 abbrev pub IsOutside : Error → Type 0
@@ -29,6 +30,7 @@ IsOverfull input = IfSome input (λ bytes. 18446744073709551615 ≤ length bytes
 -- The name of a type in a line.
 abbrev pub type_name : TypeName → List ℕ
 type_name Accepted = codes "accepted"
+type_name Boolean = codes "boolean"
 type_name DeliveryState = codes "delivery-state"
 type_name Received = codes "received"
 type_name Released = codes "released"
@@ -67,12 +69,14 @@ NoTextOf u input e = IsUnreadable (reading_of u) input e ⊎ IsUnwritten (readin
 -- The same of the type with that name.
 abbrev pub IsText : TypeName → List ℕ → List ℕ → ℕ → Type 0
 IsText Accepted = TextOf (composite accepted)
+IsText Boolean = TextOf boolean_type
 IsText DeliveryState = TextOf delivery_state
 IsText Received = TextOf (composite received)
 IsText Released = TextOf (composite released)
 
 abbrev pub HasNoText : TypeName → List ℕ → Error → Type 0
 HasNoText Accepted = NoTextOf (composite accepted)
+HasNoText Boolean = NoTextOf boolean_type
 HasNoText DeliveryState = NoTextOf delivery_state
 HasNoText Received = NoTextOf (composite received)
 HasNoText Released = NoTextOf (composite released)

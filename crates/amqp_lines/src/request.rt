@@ -6,6 +6,7 @@ ghost use Rattle.amqp_lines.specs.declared.request.TypeName.{TypeName};
 
 use fe2o3_amqp_types::codec::{Error, canonical_text};
 use fe2o3_amqp_types::messaging::{Accepted, DeliveryState, Received, Released};
+use fe2o3_amqp_types::primitives::Boolean;
 use memchr::memchr;
 use std::alloc::Global;
 
@@ -13,6 +14,7 @@ use std::alloc::Global;
 #[derive(Clone, Copy, Debug, PartialEq, Eq)]
 pub(crate) enum TypeName {
     Accepted,
+    Boolean,
     DeliveryState,
     Received,
     Released,
@@ -25,6 +27,7 @@ impl TypeName {
     {
         match name {
             b"accepted" => Some(TypeName::Accepted),
+            b"boolean" => Some(TypeName::Boolean),
             b"delivery-state" => Some(TypeName::DeliveryState),
             b"received" => Some(TypeName::Received),
             b"released" => Some(TypeName::Released),
@@ -43,6 +46,7 @@ impl TypeName {
     {
         match self {
             TypeName::Accepted => canonical_text::<Accepted>(input, alloc),
+            TypeName::Boolean => canonical_text::<Boolean>(input, alloc),
             TypeName::DeliveryState => canonical_text::<DeliveryState>(input, alloc),
             TypeName::Received => canonical_text::<Received>(input, alloc),
             TypeName::Released => canonical_text::<Released>(input, alloc),

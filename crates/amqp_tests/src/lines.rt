@@ -55,6 +55,10 @@ fn refusals_and_digits(rt: HostRuntime) -> Result<(), Fail> {
             "no 27 WrongType\nno 0 Line\n",
         ),
         (
+            "boolean 5601\nboolean 42ff\nboolean 5602\nboolean 43",
+            "ok 41 0\nok 42 1\nno 12 BadBool\nno 27 WrongType\n",
+        ),
+        (
             "delivery-state 00532545\naccepted 00532445",
             "no 9 WrongDescriptor\nok 00532445 0\n",
         ),

@@ -2,7 +2,8 @@ use Rattle.std.proofs.Common.{subst}
 use Rattle.std.proofs.lemmas.Result.{err_from_is_err_and}
 use Rattle.amqp_wire.specs.declared.error.Error.TheVariants.{UnknownText}
 use Rattle.amqp_decoder.proofs.Steps.{answered}
-use Rattle.amqp_codec.specs.Restricted.{symbol_base, IsUnknown}
+use Rattle.amqp_codec.specs.PrimitiveTypes.{symbol_base}
+use Rattle.amqp_codec.specs.Restricted.{IsUnknown}
 use Rattle.amqp_codec.proofs.RestrictedReads.{restricted_refused, restricted_unknown, symbol_read, symbol_refused}
 use Rattle.amqp_codec.proofs.restricted.read_text.Goals as goal
 

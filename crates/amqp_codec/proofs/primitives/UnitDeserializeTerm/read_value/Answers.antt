@@ -1,0 +1,8 @@
+use Rattle.std.proofs.Common.{false, rules}
+use Rattle.amqp_model.specs.Term.{null}
+use Rattle.amqp_input.specs.Kinds.{nulls}
+use Rattle.amqp_codec.proofs.PrimitiveReads.{kind_read}
+use Rattle.amqp_codec.proofs.primitives.UnitDeserializeTerm.read_value.Goals as goal
+
+pub returns : goal.returns
+returns g c tells = kind_read false (λ _. null) (λ _. Unit {0}) nulls _ _ _ (search rules) (c.read_null.ensures tells)

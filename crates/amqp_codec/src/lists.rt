@@ -1,0 +1,93 @@
+//! Lists of values of one type (Part 1, section 1.6.22), and what they share with arrays: their items, one after another.
+ghost use Rattle.std.specs.Prelude.{◌≡◌, All, Ok, refl, true};
+ghost use Rattle.std.specs.List.{flat_map};
+ghost use Rattle.amqp_model.specs.Term.{list};
+ghost use Rattle.amqp_encoder.specs.Passes.{answer_of};
+ghost use Rattle.amqp_wire.specs.Sources.{Tells};
+ghost use Rattle.amqp_decoder.specs.Reading.{AnswersRead};
+ghost use Rattle.amqp_codec.specs.Written.{WritesTerms};
+ghost use Rattle.amqp_codec.specs.Agreement.{via_writing, via_agreement};
+ghost use Rattle.amqp_codec.specs.ItemsReading.{ReadsRow, RowFault};
+ghost use Rattle.amqp_codec.specs.ItemsWriting.{items_writing};
+ghost use Rattle.amqp_codec.specs.VecType.{vec_of, vec_agreement};
+
+use crate::{DeserializeTerm, Serialize, SerializeTerm};
+use amqp_decoder::Decoder;
+use amqp_encoder::Encoder;
+use amqp_wire::{ByteSource, Error};
+use std::alloc::Global;
+
+/// Writes the values one after another, to an encoder that has refused nothing. It is refused as they are.
+pub fn write_each<T: Serialize>(values: &[T], encoder: &mut Encoder) -> Result<(), Error>
+    requires going { answer_of encoder.now ≡ Ok tt }
+    ensures { WritesTerms (flat_map T.writing.canons values.now) encoder.old result encoder.new }
+{
+    for value in values {
+        value.serialize(encoder)?;
+    }
+    Ok(())
+}
+
+/// Promises that the values are of their type. Takes no memory.
+pub fn each_in_type<T: Serialize>(values: &[T])
+    ensures { All T.writing.is_value values.now }
+{
+    for value in values {
+        value.in_type();
+    }
+}
+
+/// Reads so many values one after another. The count reserves nothing: memory is taken as values come, and `Memory` is
+/// answered where that is refused. An error of a value is the first of these that can't be read.
+pub fn read_each<T: DeserializeTerm, R: ByteSource>(
+    count: u32,
+    decoder: &mut Decoder<R>,
+    alloc: Global,
+) -> Result<Vec<T>, Error>
+    ensures { Tells R.remaining → AnswersRead true (λ st v b. ReadsRow count T.term.means st v.items b)
+        (RowFault count T.term.means T.term.faults.fault) decoder.old result decoder.new }
+{
+    let mut values = Vec::new(alloc);
+    for _ in 0..count {
+        let value = T::read_value(decoder, alloc)?;
+        if values.push(value).is_err() {
+            return Err(decoder.refuse(Error::Memory));
+        }
+    }
+    Ok(values)
+}
+
+impl<T: SerializeTerm> Serialize for Vec<T> {
+    ghost writing = { via_writing (λ v. v.items) (items_writing list tt T.writing) };
+
+    fn serialize(&self, encoder: &mut Encoder) -> Result<(), Error> {
+        encoder.begin_list()?;
+        write_each(self.as_slice(), encoder)?;
+        encoder.end_list()
+    }
+
+    fn in_type(&self) {
+        each_in_type(self.as_slice())
+    }
+}
+
+impl<T: SerializeTerm> SerializeTerm for Vec<T> {
+    fn is_null(&self) -> bool {
+        false
+    }
+
+    ghost is_term = { λ v. refl };
+}
+
+impl<T: DeserializeTerm> DeserializeTerm for Vec<T> {
+    ghost term = { vec_of T.term };
+
+    fn read_value<R: ByteSource>(decoder: &mut Decoder<R>, alloc: Global) -> Result<Vec<T>, Error> {
+        let count = decoder.begin_list()?;
+        let values = read_each(count, decoder, alloc)?;
+        decoder.end_list()?;
+        Ok(values)
+    }
+
+    ghost agreement = { vec_agreement T.agreement };
+}

@@ -1,0 +1,32 @@
+use Rattle.std.proofs.Common.{refl}
+use Rattle.std.proofs.lemmas.Result.{err_from_is_err_and}
+use Rattle.amqp_codec.proofs.ItemsSteps.{open_refused, row_refused, end_refused, all_read}
+use Rattle.amqp_containers.specs.ArrayType.{array_opening}
+use Rattle.amqp_containers.proofs.array.ArrayDeserializeTerm.read_value.Goals as goal
+
+pub returns-in_err-count : goal.returns-in_err-count
+returns-in_err-count g c tells =
+    let p = err_from_is_err_and c.from_residual.result c.from_residual.ensures.1 in
+    rw (p.1, p.2)
+    (open_refused array_opening g.T.DeserializeTerm.term (λ v. v.0.items) _ _ _ c.begin_array.ensures.room
+    (c.in_err-count.ensures.opened tells))
+
+pub returns-in_err-items : goal.returns-in_err-items
+returns-in_err-items g c tells =
+    let p = err_from_is_err_and c.from_residual-in_err-items.result c.from_residual-in_err-items.ensures.1 in
+    rw (p.1, p.2)
+    (row_refused array_opening g.T.DeserializeTerm.term (λ v. v.0.items) (λ v. v.items) (λ v. v.0) (λ v. refl) _ _ _ _ _
+    c.begin_array.ensures.room
+    (c.in_ok-count.ensures.opened tells) (c.in_err-items.ensures tells))
+
+pub returns-in_err-end_array : goal.returns-in_err-end_array
+returns-in_err-end_array g c tells =
+    let p = err_from_is_err_and c.from_residual-in_err-end_array.result c.from_residual-in_err-end_array.ensures.1 in
+    rw (p.1, p.2)
+    (end_refused array_opening g.T.DeserializeTerm.term (λ v. v.0.items) _ _ _ (record { 0 = c.in_ok-items.items }) _ _ _
+    c.begin_array.ensures.room (c.in_ok-count.ensures.opened tells) (c.in_ok-items.ensures tells) (c.in_err-end_array.ensures tells))
+
+pub returns : goal.returns
+returns g c tells =
+    all_read array_opening g.T.DeserializeTerm.term (λ v. v.0.items) _ _ _ (record { 0 = c.in_ok-items.items }) _ _
+    (c.in_ok-count.ensures.opened tells) (c.in_ok-items.ensures tells) (c.in_ok-end_array.ensures tells)

@@ -1,0 +1,67 @@
+//! Decimal numbers of 32 bits (Part 1, section 1.6.13), as their bytes.
+ghost use Rattle.std.specs.Prelude.{◌≡◌, refl};
+ghost use Rattle.amqp_codec.specs.Agreement.{one_term, agreement, writing_of};
+ghost use Rattle.amqp_primitives.specs.Types.{decimal32_type};
+
+use amqp_codec::{ByteSource, Decoder, DeserializeTerm, Encoder, Error, Serialize, SerializeTerm};
+use std::alloc::Global;
+
+/// A decimal number of 32 bits (Part 1, section 1.6.13): the bytes of IEEE 754's decimal32, which are kept as they are. Two are
+/// equal if their bytes are, and are ordered by them.
+#[derive(Clone, Debug, PartialEq, Eq, PartialOrd, Ord, Hash, Drop)]
+pub struct Dec32(pub [u8; 4]);
+
+impl Dec32 {
+    /// The 4 bytes, the most significant first.
+    pub fn as_slice(&self) -> &[u8]
+        ensures { result.now ≡ self.now.0 }
+    {
+        &self.0
+    }
+
+    /// The 4 bytes, moved out of the number.
+    pub fn into_inner(self) -> [u8; 4]
+        ensures { result ≡ self.0 }
+    {
+        let Dec32(bytes) = self;
+        bytes
+    }
+}
+
+impl From<[u8; 4]> for Dec32 {
+    ghost from_gives = { λ bytes number. number.0 ≡ bytes };
+
+    fn from(bytes: [u8; 4]) -> Dec32 {
+        Dec32(bytes)
+    }
+}
+
+impl Serialize for Dec32 {
+    ghost writing = { writing_of decimal32_type refl };
+
+    fn serialize(&self, encoder: &mut Encoder) -> Result<(), Error> {
+        encoder.write_dec32(self.0)
+    }
+
+    fn in_type(&self) {
+        let _bytes = self.0;
+    }
+}
+
+impl SerializeTerm for Dec32 {
+    fn is_null(&self) -> bool {
+        false
+    }
+
+    ghost is_term = { one_term decimal32_type refl };
+}
+
+impl DeserializeTerm for Dec32 {
+    ghost term = { decimal32_type };
+
+    fn read_value<R: ByteSource>(decoder: &mut Decoder<R>, _alloc: Global) -> Result<Dec32, Error> {
+        Ok(Dec32(decoder.read_dec32()?))
+    }
+
+    ghost agreement = { agreement decimal32_type refl };
+}

@@ -1,0 +1,67 @@
+//! Decimal numbers of 64 bits (Part 1, section 1.6.14), as their bytes.
+ghost use Rattle.std.specs.Prelude.{◌≡◌, refl};
+ghost use Rattle.amqp_codec.specs.Agreement.{one_term, agreement, writing_of};
+ghost use Rattle.amqp_primitives.specs.Types.{decimal64_type};
+
+use amqp_codec::{ByteSource, Decoder, DeserializeTerm, Encoder, Error, Serialize, SerializeTerm};
+use std::alloc::Global;
+
+/// A decimal number of 64 bits (Part 1, section 1.6.14): the bytes of IEEE 754's decimal64, which are kept as they are. Two are
+/// equal if their bytes are, and are ordered by them.
+#[derive(Clone, Debug, PartialEq, Eq, PartialOrd, Ord, Hash, Drop)]
+pub struct Dec64(pub [u8; 8]);
+
+impl Dec64 {
+    /// The 8 bytes, the most significant first.
+    pub fn as_slice(&self) -> &[u8]
+        ensures { result.now ≡ self.now.0 }
+    {
+        &self.0
+    }
+
+    /// The 8 bytes, moved out of the number.
+    pub fn into_inner(self) -> [u8; 8]
+        ensures { result ≡ self.0 }
+    {
+        let Dec64(bytes) = self;
+        bytes
+    }
+}
+
+impl From<[u8; 8]> for Dec64 {
+    ghost from_gives = { λ bytes number. number.0 ≡ bytes };
+
+    fn from(bytes: [u8; 8]) -> Dec64 {
+        Dec64(bytes)
+    }
+}
+
+impl Serialize for Dec64 {
+    ghost writing = { writing_of decimal64_type refl };
+
+    fn serialize(&self, encoder: &mut Encoder) -> Result<(), Error> {
+        encoder.write_dec64(self.0)
+    }
+
+    fn in_type(&self) {
+        let _bytes = self.0;
+    }
+}
+
+impl SerializeTerm for Dec64 {
+    fn is_null(&self) -> bool {
+        false
+    }
+
+    ghost is_term = { one_term decimal64_type refl };
+}
+
+impl DeserializeTerm for Dec64 {
+    ghost term = { decimal64_type };
+
+    fn read_value<R: ByteSource>(decoder: &mut Decoder<R>, _alloc: Global) -> Result<Dec64, Error> {
+        Ok(Dec64(decoder.read_dec64()?))
+    }
+
+    ghost agreement = { agreement decimal64_type refl };
+}

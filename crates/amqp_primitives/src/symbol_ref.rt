@@ -1,0 +1,53 @@
+//! Symbols whose text is borrowed (Part 1, section 1.6.21).
+ghost use Rattle.std.specs.Prelude.{◌≡◌, refl};
+ghost use Rattle.amqp_codec.specs.Agreement.{writing_of, via_writing};
+ghost use Rattle.amqp_codec.specs.PrimitiveTypes.{symbol_bytes_type};
+
+use amqp_codec::{Encoder, Error, Serialize, SerializeTerm};
+
+/// A symbol whose text is borrowed, for writing alone. One that isn't ASCII is refused in writing, by `Error::NonAscii`.
+#[derive(Clone, Debug, PartialEq, Eq, PartialOrd, Ord, Hash, Drop)]
+pub struct SymbolRef<'a>(pub &'a str);
+
+impl<'a> SymbolRef<'a> {
+    /// The text of the symbol.
+    pub fn as_str(&self) -> &'a str
+        ensures { result.now ≡ self.now.0.now }
+    {
+        self.0
+    }
+
+    /// The text of the symbol, moved out of it.
+    pub fn into_inner(self) -> &'a str
+        ensures { result.now ≡ self.entry.0.now }
+    {
+        let SymbolRef(text) = self;
+        text
+    }
+}
+
+impl<'a> From<&'a str> for SymbolRef<'a> {
+    ghost from_gives = { λ text symbol. symbol.0.now ≡ text.now };
+
+    fn from(text: &'a str) -> SymbolRef<'a> {
+        SymbolRef(text)
+    }
+}
+
+impl Serialize for SymbolRef<'_> {
+    ghost writing = { via_writing (λ v. v.0.now) (writing_of symbol_bytes_type refl) };
+
+    fn serialize(&self, encoder: &mut Encoder) -> Result<(), Error> {
+        encoder.write_symbol(self.as_str())
+    }
+
+    fn in_type(&self) {}
+}
+
+impl SerializeTerm for SymbolRef<'_> {
+    fn is_null(&self) -> bool {
+        false
+    }
+
+    ghost is_term = { λ v. refl };
+}
