@@ -1,32 +1,67 @@
 //! The values that are written and read.
 ghost use Rattle.std.specs.Prelude.{◌≤◌};
 
+use amqp_calls::{from_slice, to_vec};
+use amqp_containers::Array;
 use amqp_decoder::Decoder;
-use amqp_encoder::{Encoder, Measurement};
+use amqp_encoder::Encoder;
 use amqp_wire::Error;
 use std::alloc::Global;
 
+/// What is written or read by the bare calls of an encoder and a decoder; or a value of a type, by `to_vec` and
+/// `from_slice`.
 #[derive(Clone, Copy)]
 pub(crate) enum Case {
     Uints,
+    Ulongs,
     Strings,
     Map,
     Binary,
     Tiny,
+    UintVec,
+    UlongArray,
 }
 
-pub(crate) const CASES: [Case; 5] = [
+pub(crate) const CASES: [Case; 8] = [
     Case::Uints,
+    Case::Ulongs,
     Case::Strings,
     Case::Map,
     Case::Binary,
     Case::Tiny,
+    Case::UintVec,
+    Case::UlongArray,
 ];
+
+/// Cases whose times are compared: a type's, and that of the bare calls for the same bytes.
+pub(crate) const COMPARED: [(Case, Case); 2] = [
+    (Case::UintVec, Case::Uints),
+    (Case::UlongArray, Case::Ulongs),
+];
+
+#[derive(Clone, Copy)]
+pub(crate) enum Way {
+    Writing,
+    Reading,
+}
+
+pub(crate) const WAYS: [Way; 2] = [Way::Writing, Way::Reading];
+
+impl Way {
+    /// The word that an argument names it by.
+    pub(crate) fn word(self) -> &'static str {
+        match self {
+            Way::Writing => "writing",
+            Way::Reading => "reading",
+        }
+    }
+}
 
 /// What a case writes.
 #[derive(Drop)]
 pub(crate) struct Content {
     numbers: Vec<u32>,
+    longs: Array<u64>,
     texts: Vec<String>,
     bytes: Vec<u8>,
 }
@@ -35,10 +70,13 @@ impl Case {
     pub(crate) fn name(self) -> &'static str {
         match self {
             Case::Uints => "a list of 10,000 uints",
+            Case::Ulongs => "an array of 10,000 ulongs",
             Case::Strings => "a list of 1,000 short strings",
             Case::Map => "a map of 1,000 entries",
             Case::Binary => "a binary of 1 MiB",
             Case::Tiny => "a binary of 5 bytes",
+            Case::UintVec => "a Vec<u32> of 10,000",
+            Case::UlongArray => "an Array<u64> of 10,000",
         }
     }
 
@@ -46,10 +84,13 @@ impl Case {
     pub(crate) fn word(self) -> &'static str {
         match self {
             Case::Uints => "uints",
+            Case::Ulongs => "ulongs",
             Case::Strings => "strings",
             Case::Map => "map",
             Case::Binary => "binary",
             Case::Tiny => "tiny",
+            Case::UintVec => "vec",
+            Case::UlongArray => "array",
         }
     }
 
@@ -58,7 +99,7 @@ impl Case {
         ensures { result ≤ 10000 }
     {
         match self {
-            Case::Uints => 10_000,
+            Case::Uints | Case::Ulongs | Case::UintVec | Case::UlongArray => 10_000,
             Case::Strings | Case::Map => 1000,
             Case::Binary | Case::Tiny => 1,
         }
@@ -69,65 +110,97 @@ impl Case {
         ensures { result ≤ 1000 }
     {
         match self {
-            Case::Uints | Case::Strings | Case::Map | Case::Binary => 1,
             Case::Tiny => 1000,
+            _ => 1,
         }
     }
 
     fn length(self) -> usize {
         match self {
-            Case::Uints | Case::Strings | Case::Map => 0,
             Case::Binary => 1_048_576,
             Case::Tiny => 5,
+            _ => 0,
         }
     }
 
     pub(crate) fn content(self, alloc: Global) -> Result<Content, Error> {
         let mut content = Content {
             numbers: Vec::new(alloc),
+            longs: Array::from(Vec::new(alloc)),
             texts: Vec::new(alloc),
             bytes: Vec::new(alloc),
         };
         let mut number = 1u32;
-        for _ in 0..self.values() {
+        for index in 0..self.values() {
             content.numbers.push(number % 1000)?;
-            content
-                .texts
-                .push(format!(in alloc; "text {}", number % 1000)?)?;
+            content.longs.push(u64::from(number % 1000))?;
+            content.texts.push(format!(in alloc; "text {index}")?)?;
             number = number.wrapping_mul(1_664_525).wrapping_add(1_013_904_223);
         }
         content.bytes.resize(self.length(), 0x61)?;
         Ok(content)
     }
 
+    /// Writes or reads it, and answers a number that hangs on all of it.
+    pub(crate) fn run(
+        self,
+        way: Way,
+        content: &Content,
+        text: &[u8],
+        alloc: Global,
+    ) -> Result<u64, Error> {
+        match way {
+            Way::Writing => Ok(self.write(content, alloc)?.len() as u64),
+            Way::Reading => self.read(text, alloc),
+        }
+    }
+
     /// The canonical text: measured, and filled into one buffer.
     pub(crate) fn write(self, content: &Content, alloc: Global) -> Result<Vec<u8>, Error> {
+        match self {
+            Case::UintVec => to_vec(&content.numbers, alloc),
+            Case::UlongArray => to_vec(&content.longs, alloc),
+            _ => self.write_bare(content, alloc),
+        }
+    }
+
+    fn write_bare(self, content: &Content, alloc: Global) -> Result<Vec<u8>, Error> {
         let mut encoder = Encoder::measuring(alloc);
         self.serialize(content, &mut encoder)?;
-        let Measurement { len, sizes } = encoder.into_measurement()?;
+        let len = encoder.measured()?;
         let buffer = Vec::with_capacity(alloc, len)?;
-        let mut encoder = Encoder::filling(alloc, sizes, buffer, len);
+        encoder.fill(alloc, buffer, len);
         self.serialize(content, &mut encoder)?;
         Ok(encoder.into_buffer())
     }
 
-    /// Reads the text, and answers the sum of its numbers and of the lengths of its texts and bytes.
-    pub(crate) fn read(self, text: &[u8], alloc: Global) -> Result<u64, Error> {
-        let mut decoder = Decoder::new(text, alloc);
-        match self {
-            Case::Uints => read_uints(&mut decoder),
-            Case::Strings => read_strings(&mut decoder, alloc),
-            Case::Map => read_map(&mut decoder, alloc),
-            Case::Binary | Case::Tiny => Ok(decoder.read_binary(alloc)?.len() as u64),
-        }
-    }
-
     fn serialize(self, content: &Content, encoder: &mut Encoder) -> Result<(), Error> {
         match self {
-            Case::Uints => write_uints(&content.numbers, encoder),
+            Case::Uints | Case::UintVec => write_uints(&content.numbers, encoder),
+            Case::Ulongs | Case::UlongArray => write_ulongs(&content.longs, encoder),
             Case::Strings => write_strings(&content.texts, encoder),
             Case::Map => write_map(content, encoder),
             Case::Binary | Case::Tiny => encoder.write_binary(&content.bytes),
+        }
+    }
+
+    // The sum of its numbers and of the lengths of its texts and bytes, or the number of a type's values.
+    fn read(self, text: &[u8], alloc: Global) -> Result<u64, Error> {
+        match self {
+            Case::UintVec => Ok(from_slice::<Vec<u32>>(text, alloc)?.len() as u64),
+            Case::UlongArray => Ok(from_slice::<Array<u64>>(text, alloc)?.len() as u64),
+            _ => self.read_bare(text, alloc),
+        }
+    }
+
+    fn read_bare(self, text: &[u8], alloc: Global) -> Result<u64, Error> {
+        let mut decoder = Decoder::new(text, alloc);
+        match self {
+            Case::Uints | Case::UintVec => read_uints(&mut decoder),
+            Case::Ulongs | Case::UlongArray => read_ulongs(&mut decoder, alloc),
+            Case::Strings => read_strings(&mut decoder, alloc),
+            Case::Map => read_map(&mut decoder, alloc),
+            Case::Binary | Case::Tiny => Ok(decoder.read_binary(alloc)?.len() as u64),
         }
     }
 }
@@ -138,6 +211,14 @@ fn write_uints(numbers: &[u32], encoder: &mut Encoder) -> Result<(), Error> {
         encoder.write_uint(*number)?;
     }
     encoder.end_list()
+}
+
+fn write_ulongs(numbers: &[u64], encoder: &mut Encoder) -> Result<(), Error> {
+    encoder.begin_array()?;
+    for number in numbers {
+        encoder.write_ulong(*number)?;
+    }
+    encoder.end_array()
 }
 
 fn write_strings(texts: &[String], encoder: &mut Encoder) -> Result<(), Error> {
@@ -163,6 +244,15 @@ fn read_uints(decoder: &mut Decoder<&[u8]>) -> Result<u64, Error> {
         sum = sum.wrapping_add(u64::from(decoder.read_uint()?));
     }
     decoder.end_list()?;
+    Ok(sum)
+}
+
+fn read_ulongs(decoder: &mut Decoder<&[u8]>, alloc: Global) -> Result<u64, Error> {
+    let mut sum = 0u64;
+    for _ in 0..decoder.begin_array(alloc)? {
+        sum = sum.wrapping_add(decoder.read_ulong()?);
+    }
+    decoder.end_array()?;
     Ok(sum)
 }
 

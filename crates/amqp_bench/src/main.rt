@@ -1,11 +1,11 @@
 //! The program `amqp-bench`: what writing and reading take, in nanoseconds a value. With the argument `run` it measures
-//! every case; with `writing` or `reading`, a case's word and a number it does so many rounds of that one, for a profiler;
-//! else it prints nothing.
+//! every case, and compares types with the bare calls for the same bytes; with `writing` or `reading`, a case's word and a
+//! number it does so many rounds of that one, for a profiler; else it prints nothing.
 #![tactic(auto)]
 
 mod cases;
 
-use cases::{CASES, Case};
+use cases::{CASES, COMPARED, Case, WAYS, Way};
 use std::env;
 use std::time::Instant;
 
@@ -19,10 +19,7 @@ fn main(rt: HostRuntime) -> Result<(), anyhow::Error> {
     if let [what] = arguments.as_slice()
         && what.as_str() == "run"
     {
-        for case in CASES {
-            print_writing(&rt, case, ROUNDS)?;
-            print_reading(&rt, case, ROUNDS)?;
-        }
+        print_all(&rt)?;
     }
     if let [what, word, rounds] = arguments.as_slice() {
         print_one(&rt, what.as_str(), word.as_str(), rounds.as_str())?;
@@ -30,65 +27,74 @@ fn main(rt: HostRuntime) -> Result<(), anyhow::Error> {
     Ok(())
 }
 
-fn print_one(rt: &HostRuntime, what: &str, word: &str, rounds: &str) -> Result<(), anyhow::Error> {
-    let rounds = rounds.parse()?;
-    for case in CASES {
-        if case.word() == word && what == "writing" {
-            print_writing(rt, case, rounds)?;
+fn print_all(rt: &HostRuntime) -> Result<(), anyhow::Error> {
+    for way in WAYS {
+        for case in CASES {
+            print_case(rt, way, case, ROUNDS)?;
         }
-        if case.word() == word && what == "reading" {
-            print_reading(rt, case, rounds)?;
+        for (case, bare) in COMPARED {
+            print_ratio(rt, way, case, bare)?;
         }
     }
     Ok(())
 }
 
-// The best of some rounds.
-fn print_writing(rt: &HostRuntime, case: Case, rounds: u32) -> Result<(), anyhow::Error> {
-    let content = case.content(rt.alloc())?;
-    let mut best = u128::MAX;
-    for _ in 0..rounds {
-        let mut written = 0usize;
-        let start = Instant::now(rt)?;
-        for _ in 0..case.times() {
-            written = case.write(&content, rt.alloc())?.len();
-        }
-        let taken = start.elapsed(rt)?.as_nanos();
-        if written > 0 && taken < best {
-            best = taken;
+fn print_one(rt: &HostRuntime, what: &str, word: &str, rounds: &str) -> Result<(), anyhow::Error> {
+    let rounds = rounds.parse()?;
+    for way in WAYS {
+        for case in CASES {
+            if way.word() == what && case.word() == word {
+                print_case(rt, way, case, rounds)?;
+            }
         }
     }
-    print(rt, "writing", case, best)
+    Ok(())
 }
 
-// The best of some rounds.
-fn print_reading(rt: &HostRuntime, case: Case, rounds: u32) -> Result<(), anyhow::Error> {
+// The nanoseconds of the best of some rounds.
+fn best(rt: &HostRuntime, way: Way, case: Case, rounds: u32) -> Result<u128, anyhow::Error> {
     let content = case.content(rt.alloc())?;
     let text = case.write(&content, rt.alloc())?;
     let mut best = u128::MAX;
     for _ in 0..rounds {
-        let mut sum = 0u64;
+        let mut done = 0u64;
         let start = Instant::now(rt)?;
         for _ in 0..case.times() {
-            sum = case.read(&text, rt.alloc())?;
+            done = case.run(way, &content, &text, rt.alloc())?;
         }
         let taken = start.elapsed(rt)?.as_nanos();
-        if sum > 0 && taken < best {
+        if done > 0 && taken < best {
             best = taken;
         }
     }
-    print(rt, "reading", case, best)
+    Ok(best)
 }
 
 // In tenths of a nanosecond a value.
-fn print(rt: &HostRuntime, what: &str, case: Case, nanoseconds: u128) -> Result<(), anyhow::Error> {
+fn print_case(rt: &HostRuntime, way: Way, case: Case, rounds: u32) -> Result<(), anyhow::Error> {
     let values = (case.values() as u128) * (case.times() as u128);
-    let tenths = nanoseconds.saturating_mul(10) / values.max(1);
+    let tenths = best(rt, way, case, rounds)?.saturating_mul(10) / values.max(1);
     println!(rt;
-        "{what} {}: {}.{} ns a value",
+        "{} {}: {}.{} ns a value",
+        way.word(),
         case.name(),
         tenths / 10,
         tenths % 10
+    )?;
+    Ok(())
+}
+
+// In hundredths.
+fn print_ratio(rt: &HostRuntime, way: Way, case: Case, other: Case) -> Result<(), anyhow::Error> {
+    let taken = best(rt, way, case, ROUNDS)?.saturating_mul(100);
+    let hundredths = taken / best(rt, way, other, ROUNDS)?.max(1);
+    println!(rt;
+        "{} {}: {}.{:02} times {}",
+        way.word(),
+        case.name(),
+        hundredths / 100,
+        hundredths % 100,
+        other.name()
     )?;
     Ok(())
 }

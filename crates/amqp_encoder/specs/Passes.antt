@@ -1,11 +1,12 @@
 -- Whole passes over some terms in a row, as the sections of a message are.
-use Rattle.std.specs.Prelude.{◌≡◌, ◌≤◌, ℕ, List, length, map, flat_map, Result}
+use Rattle.std.specs.Prelude.{◌≡◌, ◌≤◌, ◌⊎◌, ℕ, List, length, map, flat_map, Result, Ok, Err}
 use Rattle.amqp_model.specs.Term.{Refusal, Term, container}
 use Rattle.amqp_model.specs.Items.{terms_of}
 use Rattle.amqp_model.specs.Text.{Alone, texts, all_sizes}
 use Rattle.amqp_model.specs.Ranges.{EverywhereIn, IsValue}
 use Rattle.amqp_model.specs.Refusals.{SomewhereIn, IsRefused}
 use Rattle.amqp_wire.specs.declared.error.Error.{Error}
+use Rattle.amqp_wire.specs.declared.error.Error.TheVariants.{InvalidValue}
 use Rattle.amqp_encoder.specs.declared.size.Size.{Size}
 use Rattle.amqp_encoder.specs.declared.encoder.Encoder.{Encoder}
 use Rattle.amqp_encoder.specs.declared.encoder.Pass.TheVariants.{Measuring, Filling}
@@ -66,3 +67,8 @@ BeginsFilling e sizes out limit = e.pass ≡ Filling (to_fill sizes out limit)
 -- nothing is open, and this is the length, and these are the sizes
 abbrev pub Finds : Encoder → ℕ → List Size → Type 0
 Finds e len sizes = Found e.pass len sizes
+
+-- why it has found nothing: its refusal; or it has refused nothing, but it fills, or something is open
+abbrev pub FindsNone : Encoder → Error → Type 0
+FindsNone s e =
+    (answer_of s ≡ Err e) ⊎ ((e ≡ InvalidValue) × ((len : ℕ) (sizes : List Size) → Finds s len sizes → ⊥) × (answer_of s ≡ Ok tt))

@@ -1,29 +1,20 @@
 //! What values are written to.
-ghost use Rattle.std.specs.Prelude.{◌≡◌, ◌≤◌, ◌⊎◌, ℕ, [], ◌∷◌, length, Some, None, OnOk, IfErr, MatchResult, List, Ok, Err};
+ghost use Rattle.std.specs.Prelude.{◌≡◌, ◌≤◌, ℕ, [], ◌∷◌, length, Some, None, OnOk, IfOk, IfErr, List, Ok, Err};
 ghost use Rattle.std.specs.Vec.{vec_capacity};
 ghost use Rattle.amqp_model.specs.Term.{Primitive, null, symbol, list, map, array};
-ghost use Rattle.amqp_wire.specs.declared.error.Error.TheVariants.{InvalidValue};
 ghost use Rattle.amqp_encoder.specs.declared.encoder.Pass.TheVariants.{Stopped};
 ghost use Rattle.amqp_encoder.specs.Values.{container_of, descriptor_of};
 ghost use Rattle.amqp_encoder.specs.Spelled.{IsFixed, IsVariable};
 ghost use Rattle.amqp_encoder.specs.Tokens.{put, keep, begin, end, begin_described, end_described, refuse};
 ghost use Rattle.amqp_encoder.specs.Writes.{Writes, bytes_of};
-ghost use Rattle.amqp_encoder.specs.Passes.{BeginsMeasuring, BeginsFilling, Finds, answer_of};
+ghost use Rattle.amqp_encoder.specs.Passes.{BeginsMeasuring, BeginsFilling, Finds, FindsNone, answer_of};
 
-use crate::Size;
 use crate::fill::Fill;
 use crate::kinds::{Container, Shortest};
 use crate::measure::Measure;
+use crate::size::Size;
 use amqp_wire::{Descriptor, Error, format_code};
 use std::alloc::Global;
-
-/// What a measuring pass found: the length of the text, and the sizes of its containers in the order in
-/// which they begin.
-#[derive(Drop)]
-pub struct Measurement {
-    pub len: usize,
-    pub sizes: Vec<Size>,
-}
 
 #[derive(Drop)]
 pub(crate) enum Pass {
@@ -55,34 +46,37 @@ impl Encoder {
         }
     }
 
-    /// An encoder that fills the room of a buffer, up to `limit` bytes in all.
+    /// The length of what was measured. An error is the encoder's refusal, or `InvalidValue` where it has refused nothing but
+    /// a container is still open or it doesn't measure.
     #[inline(always)]
-    pub fn filling(alloc: Global, sizes: Vec<Size>, buffer: Vec<u8>, limit: usize) -> Encoder
-        requires { limit ≤ vec_capacity buffer }
-        ensures { BeginsFilling result sizes.items buffer.items limit }
+    pub fn measured(&self) -> Result<usize, Error>
+        ensures found { IfOk result (λ len. (sizes : List Size) × Finds self.now len sizes) }
+        ensures refused { IfErr result (λ e. FindsNone self.now e) }
     {
-        Encoder {
-            pass: Pass::Filling(Fill::new(sizes, buffer, limit)),
-            kept: Vec::new(alloc),
+        match &self.pass {
+            Pass::Measuring(measure) => measure.measured(),
+            Pass::Filling(_) => Err(Error::InvalidValue),
+            Pass::Stopped(error) => Err(*error),
         }
     }
 
-    /// What was measured. An error is the encoder's refusal, or `InvalidValue` where it has refused nothing but a
-    /// container is still open or it doesn't measure.
+    /// Goes over to filling the room of a buffer, up to `limit` bytes in all, with the sizes that were measured. An encoder
+    /// that has refused takes the buffer, and answers its error as before.
     #[inline(always)]
-    pub fn into_measurement(self) -> Result<Measurement, Error>
-        ensures { MatchResult result (λ m. Finds self m.len m.sizes.items) (λ e. (answer_of self ≡ Err e)
-            ⊎ ((e ≡ InvalidValue) × ((len : ℕ) (sizes : List Size) → Finds self len sizes → ⊥) × (answer_of self ≡ Ok tt))) }
+    pub fn fill(&mut self, alloc: Global, buffer: Vec<u8>, limit: usize)
+        requires { limit ≤ vec_capacity buffer }
+        ensures begun { (len : ℕ) (sizes : List Size) → Finds self.old len sizes → BeginsFilling self.new sizes buffer.items limit }
+        ensures stays { (e : Error) → answer_of self.old ≡ Err e → (answer_of self.new ≡ Err e) × (bytes_of self.new ≡ buffer.items) }
     {
-        let Encoder { pass, kept: _ } = self;
-        match pass {
-            Pass::Measuring(measure) => {
-                let (len, sizes) = measure.finish()?;
-                Ok(Measurement { len, sizes })
+        let sizes = match &mut self.pass {
+            Pass::Measuring(measure) => measure.take_sizes(alloc),
+            Pass::Filling(_) => Vec::new(alloc),
+            Pass::Stopped(_) => {
+                self.kept = buffer;
+                return;
             }
-            Pass::Filling(_) => Err(Error::InvalidValue),
-            Pass::Stopped(error) => Err(error),
-        }
+        };
+        self.pass = Pass::Filling(Fill::new(sizes, buffer, limit));
     }
 
     /// The buffer, also after a refusal.

@@ -11,11 +11,10 @@ ghost use Rattle.amqp_encoder.specs.Filling.{emit, fill_value, fill_null_at, fil
 ghost use Rattle.amqp_encoder.specs.Filling.{fill_end};
 ghost use Rattle.amqp_encoder.specs.Gives.{Does, fixed_text, fill_bytes};
 
-use crate::Size;
 use crate::descriptors::{head_of, text_of};
 use crate::frame::is_filled_up;
 use crate::kinds::{Container, Place, Shortest};
-use crate::size::{MAX_CONTENT, ROW};
+use crate::size::{MAX_CONTENT, ROW, Size};
 use amqp_wire::{Descriptor, Error, format_code};
 use std::marker::Model;
 

@@ -7,9 +7,8 @@ ghost use Rattle.amqp_encoder.specs.Opening.{opening, filler, content_length};
 ghost use Rattle.amqp_encoder.specs.State.{seen, holding, describing};
 ghost use Rattle.amqp_encoder.specs.Measuring.{is_full, size_of};
 
-use crate::Size;
 use crate::kinds::{Container, Kind, Place};
-use crate::size::MAX_CONTENT;
+use crate::size::{MAX_CONTENT, Size};
 use amqp_wire::Error;
 
 /// An open container, or the row of values that stand in none.

@@ -11,5 +11,4 @@ mod measure;
 mod primitives;
 mod size;
 
-pub use encoder::{Encoder, Measurement};
-pub use size::Size;
+pub use encoder::Encoder;

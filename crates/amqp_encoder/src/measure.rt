@@ -12,11 +12,10 @@ ghost use Rattle.amqp_encoder.specs.Measuring.{enter, leave, measure_value, meas
 ghost use Rattle.amqp_encoder.specs.Measuring.{measure_begin_described, measure_end_described, form_after};
 ghost use Rattle.amqp_encoder.specs.Gives.{Gives, Does, fixed_text, variable_length, measure_bytes, measure_symbol, Closes};
 
-use crate::Size;
 use crate::descriptors::{check_symbol, head_of, len_of, text_of};
 use crate::frame::{MeasuredContainer, opening_len};
 use crate::kinds::{Container, Place, Shortest};
-use crate::size::{NESTING, ROW};
+use crate::size::{NESTING, ROW, Size};
 use amqp_wire::{Descriptor, Error};
 use std::alloc::Global;
 use std::marker::Model;
@@ -62,24 +61,24 @@ impl Measure {
         }
     }
 
-    /// The length of all that was written, and the sizes of its containers in the order in which they
-    /// begin; refused where one is still open.
+    /// The length of all that was written; refused where a container is still open.
     #[inline(always)]
-    pub(crate) fn finish(self) -> Result<(usize, Vec<Size>), Error>
-        ensures { MatchResult result (λ r. (self.outer ≡ []) × (r.0 ≡ self.frame.content) × (r.1.items ≡ self.sizes))
-            (λ e. (e ≡ InvalidValue) × (1 ≤ length self.outer)) }
+    pub(crate) fn measured(&self) -> Result<usize, Error>
+        ensures { MatchResult result (λ len. (self.now.outer ≡ []) × (len ≡ self.now.frame.content))
+            (λ e. (e ≡ InvalidValue) × (1 ≤ length self.now.outer)) }
     {
         if self.is_open() {
             return Err(Error::InvalidValue);
         }
-        let Measure {
-            top,
-            frames: _,
-            depth: _,
-            sizes,
-            descriptors: _,
-        } = self;
-        Ok((top.content, sizes))
+        Ok(self.top.content)
+    }
+
+    /// The sizes of the containers in the order in which they begin, which are moved out of it.
+    #[inline(always)]
+    pub(crate) fn take_sizes(&mut self, alloc: Global) -> Vec<Size>
+        ensures { result.items ≡ self.old.sizes }
+    {
+        std::mem::replace(&mut self.sizes, Vec::new(alloc))
     }
 
     fn is_open(&self) -> bool

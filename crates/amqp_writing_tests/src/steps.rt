@@ -1,5 +1,5 @@
 //! The calls of an encoder as steps.
-use amqp_encoder::{Encoder, Measurement};
+use amqp_encoder::Encoder;
 use amqp_wire::{Descriptor, Error};
 use std::alloc::Global;
 
@@ -102,22 +102,26 @@ pub(crate) fn write(steps: &[Step<'_>], encoder: &mut Encoder, alloc: Global) ->
 }
 
 /// What a measuring pass over the steps answers.
-pub(crate) fn measure(steps: &[Step<'_>], alloc: Global) -> Result<Measurement, Error> {
-    let mut encoder = Encoder::measuring(alloc);
-    write(steps, &mut encoder, alloc)?;
-    encoder.into_measurement()
+pub(crate) fn measure(
+    steps: &[Step<'_>],
+    encoder: &mut Encoder,
+    alloc: Global,
+) -> Result<usize, Error> {
+    write(steps, encoder, alloc)?;
+    encoder.measured()
 }
 
 /// Puts the bytes of the steps behind those that a buffer has. After a refusal the buffer has these alone.
 pub(crate) fn append(steps: &[Step<'_>], buffer: &mut Vec<u8>, alloc: Global) -> Result<(), Error> {
-    let Measurement { len, sizes } = measure(steps, alloc)?;
+    let mut encoder = Encoder::measuring(alloc);
+    let len = measure(steps, &mut encoder, alloc)?;
     let before = buffer.len();
     let Some(limit) = before.checked_add(len) else {
         return Err(Error::TooLarge);
     };
     buffer.reserve_exact(len)?;
     let room = std::mem::replace(buffer, Vec::new(alloc));
-    let mut encoder = Encoder::filling(alloc, sizes, room, limit);
+    encoder.fill(alloc, room, limit);
     let outcome = write(steps, &mut encoder, alloc);
     *buffer = encoder.into_buffer();
     if outcome.is_err() {

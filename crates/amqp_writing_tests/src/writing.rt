@@ -28,15 +28,21 @@ fn check(rows: Rows<'_>, alloc: Global) -> Result<(), Fail> {
 /// Steps, and why they are refused.
 type Refusals<'a> = &'a [(&'a [Step<'a>], Error)];
 
-/// Each row is refused so, and leaves a buffer as it was.
+/// Whether the steps are refused so, and leave a buffer as it was.
+fn is_refused_whole(steps: &[Step<'_>], error: Error, alloc: Global) -> Result<bool, Fail> {
+    let mut buffer = [0xaa, 0xbb].to_vec(alloc)?;
+    let outcome = append(steps, &mut buffer, alloc);
+    Ok(
+        outcome == Err(error)
+            && measure(steps, &mut Encoder::measuring(alloc), alloc).err() == Some(error)
+            && buffer.as_slice() == [0xaa, 0xbb].as_slice(),
+    )
+}
+
+/// Each row is refused so.
 fn check_refusals(rows: Refusals<'_>, alloc: Global) -> Result<(), Fail> {
     for (steps, error) in rows {
-        let mut buffer = [0xaa, 0xbb].to_vec(alloc)?;
-        let outcome = append(steps, &mut buffer, alloc);
-        if measure(steps, alloc).err() != Some(*error)
-            || outcome != Err(*error)
-            || buffer.as_slice() != [0xaa, 0xbb].as_slice()
-        {
+        if !is_refused_whole(steps, *error, alloc)? {
             return Err(Fail::new(format_args!("{error:?} is not what is answered")));
         }
     }
@@ -211,30 +217,48 @@ fn every_primitive_kind(rt: HostRuntime) -> Result<(), Fail> {
     )
 }
 
-#[test]
-fn long_binaries(rt: HostRuntime) -> Result<(), Fail> {
-    for (len, front, whole) in [(255, "a0ff61", 257), (256, "b00000010061", 261)] {
-        let written = digits(&[Step::Binary(len)], rt.alloc())?;
-        assert!(rt; written.as_str().starts_with(front));
-        assert_eq!(rt; written.len() / 2, whole);
-    }
-    for (len, front, whole) in [
-        (252, "c0ff01a0fc61", 257),
-        (253, "d00000010300000001a0fd61", 264),
-        (256, "d00000010900000001b00000010061", 270),
-    ] {
-        let written = digits(
-            &[Step::BeginList, Step::Binary(len), Step::EndList],
-            rt.alloc(),
-        )?;
-        assert!(rt; written.as_str().starts_with(front));
-        assert_eq!(rt; written.len() / 2, whole);
+/// Steps, the digits with which what they write begins, and how many bytes it has.
+type Fronts<'a> = &'a [(&'a [Step<'a>], &'a str, usize)];
+
+/// What each row writes begins so, and is so long.
+fn check_fronts(rows: Fronts<'_>, alloc: Global) -> Result<(), Fail> {
+    for (steps, front, whole) in rows {
+        let written = digits(steps, alloc)?;
+        if !written.as_str().starts_with(*front) || written.len() / 2 != *whole {
+            return Err(Fail::new(format_args!("{front} begins something else")));
+        }
     }
     Ok(())
 }
 
 #[test]
-fn refused_arrays(rt: HostRuntime) -> Result<(), Fail> {
+fn long_binaries(rt: HostRuntime) -> Result<(), Fail> {
+    check_fronts(
+        &[
+            (&[Step::Binary(255)], "a0ff61", 257),
+            (&[Step::Binary(256)], "b00000010061", 261),
+            (
+                &[Step::BeginList, Step::Binary(252), Step::EndList],
+                "c0ff01a0fc61",
+                257,
+            ),
+            (
+                &[Step::BeginList, Step::Binary(253), Step::EndList],
+                "d00000010300000001a0fd61",
+                264,
+            ),
+            (
+                &[Step::BeginList, Step::Binary(256), Step::EndList],
+                "d00000010900000001b00000010061",
+                270,
+            ),
+        ],
+        rt.alloc(),
+    )
+}
+
+#[test]
+fn mixed_arrays(rt: HostRuntime) -> Result<(), Fail> {
     check_refusals(
         &[
             (
@@ -274,6 +298,15 @@ fn refused_arrays(rt: HostRuntime) -> Result<(), Fail> {
                 ],
                 Error::MixedArray,
             ),
+        ],
+        rt.alloc(),
+    )
+}
+
+#[test]
+fn items_that_no_array_holds(rt: HostRuntime) -> Result<(), Fail> {
+    check_refusals(
+        &[
             (
                 &[Step::BeginArray, Step::Null, Step::EndArray],
                 Error::ZeroWidthItems,
@@ -324,48 +357,63 @@ fn refused_calls(rt: HostRuntime) -> Result<(), Fail> {
     )
 }
 
+/// Whether these steps are written in 128 lists, and refused in one more.
+fn is_bounded(inner: &[Step<'_>], alloc: Global) -> Result<bool, Fail> {
+    let deepest = nested(128, Step::BeginList, inner, Step::EndList, alloc)?;
+    let mut written = Vec::new(alloc);
+    append(&deepest, &mut written, alloc)?;
+    let deeper = nested(129, Step::BeginList, inner, Step::EndList, alloc)?;
+    Ok(written.len() > 128 && is_refused_whole(&deeper, Error::Depth, alloc)?)
+}
+
 #[test]
 fn nesting(rt: HostRuntime) -> Result<(), Fail> {
+    assert!(rt; is_bounded(&[], rt.alloc())?);
     let array = [Step::BeginArray, Step::Uint(1), Step::EndArray];
-    for inner in [&[][..], &array[..]] {
-        let steps = nested(128, Step::BeginList, inner, Step::EndList, rt.alloc())?;
-        let mut written = Vec::new(rt.alloc());
-        append(&steps, &mut written, rt.alloc())?;
-        assert!(rt; written.len() > 128);
-        let steps = nested(129, Step::BeginList, inner, Step::EndList, rt.alloc())?;
-        check_refusals(&[(&steps, Error::Depth)], rt.alloc())?;
-    }
+    assert!(rt; is_bounded(&array, rt.alloc())?);
     Ok(())
+}
+
+/// Whether the encoder answers this error to each step.
+fn is_refused(steps: &[Step<'_>], error: Error, encoder: &mut Encoder, alloc: Global) -> bool {
+    for step in steps {
+        if take_step(*step, encoder, alloc) != Err(error) {
+            return false;
+        }
+    }
+    encoder.check() == Err(error)
 }
 
 #[test]
 fn the_same_error_again(rt: HostRuntime) {
     let mut encoder = Encoder::measuring(rt.alloc());
-    for step in [Step::EndMap, Step::Refuse(Error::Custom(1)), Step::Null] {
-        let outcome = take_step(step, &mut encoder, rt.alloc());
-        assert_eq!(rt; outcome, Err(Error::InvalidValue));
+    let steps = [Step::EndMap, Step::Refuse(Error::Custom(1)), Step::Null];
+    assert!(rt; is_refused(&steps, Error::InvalidValue, &mut encoder, rt.alloc()));
+}
+
+/// Whether the list that is measured is ended, and how long it is.
+fn measured_list(
+    count: u32,
+    item: &[u8],
+    alloc: Global,
+) -> Result<(bool, Result<usize, Error>), Error> {
+    let mut encoder = Encoder::measuring(alloc);
+    encoder.begin_list()?;
+    for _ in 0..count {
+        encoder.write_binary(item)?;
     }
-    assert_eq!(rt; encoder.check(), Err(Error::InvalidValue));
+    let is_ended = encoder.end_list().is_ok();
+    Ok((is_ended, encoder.measured()))
 }
 
 #[test]
 fn sizes_past_32_bits(rt: HostRuntime) -> Result<(), Fail> {
     let mut bytes: Vec<u8> = Vec::new(rt.alloc());
     bytes.resize(1_048_576, 0)?;
-    for (count, outcome) in [(4095u32, Ok(4_293_939_204)), (4096, Err(Error::TooLarge))] {
-        let mut encoder = Encoder::measuring(rt.alloc());
-        encoder.begin_list()?;
-        for _ in 0..count {
-            encoder.write_binary(&bytes)?;
-        }
-        let ended = encoder.end_list();
-        let len = match encoder.into_measurement() {
-            Ok(found) => Ok(found.len),
-            Err(error) => Err(error),
-        };
-        assert_eq!(rt; ended.is_ok(), len.is_ok());
-        assert_eq!(rt; len, outcome);
-    }
+    let fits = measured_list(4095, &bytes, rt.alloc())?;
+    assert!(rt; fits == (true, Ok(4_293_939_204)));
+    let past = measured_list(4096, &bytes, rt.alloc())?;
+    assert!(rt; past == (false, Err(Error::TooLarge)));
     Ok(())
 }
 
@@ -373,11 +421,26 @@ fn sizes_past_32_bits(rt: HostRuntime) -> Result<(), Fail> {
 fn a_room_that_is_too_small(rt: HostRuntime) -> Result<(), Fail> {
     let buffer = [0xaa, 0xbb].to_vec(rt.alloc())?;
     let limit = buffer.len();
-    let mut encoder = Encoder::filling(rt.alloc(), Vec::new(rt.alloc()), buffer, limit);
+    let mut encoder = Encoder::measuring(rt.alloc());
+    encoder.fill(rt.alloc(), buffer, limit);
+    assert_eq!(rt; encoder.measured(), Err(Error::InvalidValue));
     assert_eq!(rt; encoder.write_uint(1), Err(Error::InvalidValue));
     let buffer = encoder.into_buffer();
     assert_eq!(rt; buffer.as_slice(), [0xaa, 0xbb].as_slice());
     Ok(())
+}
+
+/// Whether the steps are written so behind two bytes of a buffer, or refused for want of memory alone, which leaves it.
+fn is_written_or_left(
+    steps: &[Step<'_>],
+    text: &[u8],
+    buffer: &mut Vec<u8>,
+    alloc: Global,
+) -> bool {
+    match append(steps, buffer, alloc) {
+        Ok(()) => buffer.as_slice() == text,
+        Err(error) => error.number() == 21 && buffer.as_slice() == [0xaa, 0xbb].as_slice(),
+    }
 }
 
 // Each growth is refused in turn by hand: `rt try --test --fail-alloc N`, for N from 1 on.
@@ -393,16 +456,10 @@ fn want_of_memory_leaves_the_buffer(rt: HostRuntime) {
             &[0xaa, 0xbb, 0, 0xa3, 1, 0x61, 0x52, 1],
         ),
     ];
-    for (steps, text) in rows {
+    for (steps, text) in &rows {
         let Ok(mut buffer) = [0xaa, 0xbb].to_vec(rt.alloc()) else {
             continue;
         };
-        match append(steps, &mut buffer, rt.alloc()) {
-            Ok(()) => assert_eq!(rt; buffer.as_slice(), text),
-            Err(error) => {
-                assert_eq!(rt; error.number(), 21);
-                assert_eq!(rt; buffer.as_slice(), [0xaa, 0xbb].as_slice());
-            }
-        }
+        assert!(rt; is_written_or_left(steps, text, &mut buffer, rt.alloc()));
     }
 }
