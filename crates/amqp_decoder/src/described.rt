@@ -104,9 +104,11 @@ impl<R: ByteSource> Decoder<R> {
     /// that is neither a symbol nor a ulong, `NonAscii` where it is a symbol with a byte above 0x7f, and `Depth` past
     /// 128 nested values.
     pub fn begin_described(&mut self, alloc: Global) -> Result<Descriptor, Error>
-        ensures { Tells R.remaining → AnswersRead true (λ st d st'. OpensDescribed st (descriptor_of d) st') OpenFault
+        ensures opened { Tells R.remaining → AnswersRead true (λ st d st'. OpensDescribed st (descriptor_of d) st') OpenFault
             self.old result self.new }
+        ensures nesting { self.old.nesting ≡ 128 }
     {
+        self.room();
         self.begin_descriptor()?;
         let descriptor = self.next_descriptor(alloc)?;
         match self.enter_described() {

@@ -239,49 +239,76 @@ fn len(input: &[u8]) -> Result<u64, Error> {
     Ok(term_len(input)? as u64)
 }
 
+/// So many described values in one another around this code are read so, value by value and as one term.
+fn check_nested(
+    depth: usize,
+    end: u8,
+    wanted: Result<u64, Error>,
+    whole: Result<u64, Error>,
+    alloc: Global,
+) -> Result<(), Fail> {
+    let mut input = Vec::new(alloc);
+    for _ in 0..depth {
+        input.extend_from_slice(&[0x00, 0x44])?;
+    }
+    input.push(end)?;
+    let input = input.as_slice();
+    if is_read(Row::Described, input, wanted, alloc)
+        && is_read(Row::Term, input, whole, alloc)
+        && len(input) == whole
+    {
+        Ok(())
+    } else {
+        Err(Fail::new(format_args!("{depth} values around {end} are read otherwise")))
+    }
+}
+
 #[test]
 fn nesting(rt: HostRuntime) -> Result<(), Fail> {
-    for (depth, end, wanted, whole) in [
-        (128, 0x40, Ok(128), Ok(257)),
-        (129, 0x40, Err(Error::Depth), Err(Error::Depth)),
-        (128, 0x45, Err(Error::Depth), Err(Error::Depth)),
-    ] {
-        let mut input = Vec::new(rt.alloc());
-        for _ in 0..depth {
-            input.extend_from_slice(&[0x00, 0x44])?;
-        }
-        input.push(end)?;
-        assert!(rt; is_read(Row::Described, input.as_slice(), wanted, rt.alloc()));
-        assert!(rt; is_read(Row::Term, input.as_slice(), whole, rt.alloc()));
-        assert_eq!(rt; len(input.as_slice()), whole);
-    }
-    Ok(())
+    check_nested(128, 0x40, Ok(128), Ok(257), rt.alloc())?;
+    check_nested(129, 0x40, Err(Error::Depth), Err(Error::Depth), rt.alloc())?;
+    check_nested(128, 0x45, Err(Error::Depth), Err(Error::Depth), rt.alloc())
 }
 
 /// An array of one empty list that a code describes.
 const WHOLE: &str = "e00d01005324d00000000400000000";
 
+/// Each term has this length.
+fn check_lengths(rows: &[(&str, Result<u64, Error>)], alloc: Global) -> Result<(), Fail> {
+    for (digits, wanted) in rows {
+        let input = hex::decode(alloc, digits)?;
+        if len(input.as_slice()) != *wanted {
+            return Err(Fail::new(format_args!("{digits} has another length")));
+        }
+    }
+    Ok(())
+}
+
+/// Whether each front of the term is cut.
+fn is_cut_everywhere(term: &[u8]) -> bool {
+    for count in 0..term.len() {
+        if len(&term[..count]) != Err(Error::Cut) {
+            return false;
+        }
+    }
+    true
+}
+
 #[test]
 fn lengths(rt: HostRuntime) -> Result<(), Fail> {
-    for (digits, wanted) in [
-        ("5207ff", Ok(2)),
-        ("e002ff41", Err(Error::ZeroWidthItems)),
-        ("c00301a005", Err(Error::Size)),
-        ("c1020143", Err(Error::OddCount)),
-        ("730000d800", Err(Error::BadChar)),
-        (WHOLE, Ok(15)),
-    ] {
-        let input = hex::decode(rt.alloc(), digits)?;
-        assert_eq!(rt; len(input.as_slice()), wanted, "of {digits}");
-    }
+    check_lengths(
+        &[
+            ("5207ff", Ok(2)),
+            ("e002ff41", Err(Error::ZeroWidthItems)),
+            ("c00301a005", Err(Error::Size)),
+            ("c1020143", Err(Error::OddCount)),
+            ("730000d800", Err(Error::BadChar)),
+            (WHOLE, Ok(15)),
+        ],
+        rt.alloc(),
+    )?;
     let whole = hex::decode(rt.alloc(), WHOLE)?;
-    for k in 0..15 {
-        assert_eq!(rt;
-            len(whole.get(..k).unwrap_or(&[])),
-            Err(Error::Cut),
-            "of {k} bytes"
-        );
-    }
+    assert!(rt; is_cut_everywhere(whole.as_slice()));
     Ok(())
 }
 
@@ -301,8 +328,7 @@ fn terms(rt: HostRuntime) -> Result<(), Fail> {
 }
 
 /// The items of an array of described values, by both calls that begin one.
-fn read_shared(input: &[u8], alloc: Global) -> Result<u64, Error> {
-    let mut decoder = Decoder::new(input, alloc);
+fn read_shared<R: ByteSource>(decoder: &mut Decoder<R>, alloc: Global) -> Result<u64, Error> {
     let count = decoder.begin_array(alloc)?;
     let mut sum: u64 = 0;
     for index in 0..count {
@@ -321,53 +347,81 @@ fn read_shared(input: &[u8], alloc: Global) -> Result<u64, Error> {
     Ok(sum)
 }
 
-#[test]
-fn shared_descriptors(rt: HostRuntime) -> Result<(), Fail> {
-    for (digits, wanted) in [
-        ("e0080300532450010203", Ok(3006)),
-        ("e0080200a30162500102", Ok(2003)),
-        ("e0080200a30163500102", Err(Error::WrongDescriptor)),
-        ("e0070300532450010203", Err(Error::Size)),
-    ] {
-        let input = hex::decode(rt.alloc(), digits)?;
-        assert_eq!(rt;
-            read_shared(input.as_slice(), rt.alloc()),
-            wanted,
-            "of {digits}"
-        );
+/// Each array is read so.
+fn check_shared(rows: &[(&str, Result<u64, Error>)], alloc: Global) -> Result<(), Fail> {
+    for (digits, wanted) in rows {
+        let input = hex::decode(alloc, digits)?;
+        let mut decoder = Decoder::new(input.as_slice(), alloc);
+        if read_shared(&mut decoder, alloc) != *wanted {
+            return Err(Fail::new(format_args!("{digits} is read otherwise")));
+        }
     }
     Ok(())
+}
+
+#[test]
+fn shared_descriptors(rt: HostRuntime) -> Result<(), Fail> {
+    check_shared(
+        &[
+            ("e0080300532450010203", Ok(3006)),
+            ("e0080200a30162500102", Ok(2003)),
+            ("e0080200a30163500102", Err(Error::WrongDescriptor)),
+            ("e0070300532450010203", Err(Error::Size)),
+        ],
+        rt.alloc(),
+    )
+}
+
+fn read_accepted<R: ByteSource>(decoder: &mut Decoder<R>) -> Result<(), Error> {
+    decoder.begin_one_of(&[(0x24, "amqp:accepted:list")])?;
+    decoder.begin_list()?;
+    decoder.end_list()?;
+    decoder.end_described()
 }
 
 #[test]
 fn what_stands_behind(rt: HostRuntime) -> Result<(), Fail> {
     let mut source: &[u8] = &[0x00, 0x53, 0x24, 0x45, 0xff];
     let mut decoder = Decoder::new(&mut source, rt.alloc());
-    decoder.begin_one_of(&[(0x24, "amqp:accepted:list")])?;
-    decoder.begin_list()?;
-    decoder.end_list()?;
-    decoder.end_described()?;
+    read_accepted(&mut decoder)?;
     let _ = decoder.into_source();
     assert_eq!(rt; source, [0xff].as_slice());
     Ok(())
 }
 
-#[test]
-fn sections(rt: HostRuntime) -> Result<(), Fail> {
-    for (digits, section) in [
-        ("00537540", Some(0x75)),
-        ("00800000000000000078", Some(0x78)),
-        ("00a310616d71703a6865616465723a6c69737445", Some(0x70)),
-        ("0053", None),
-        ("005324", None),
-        ("405375", None),
-        ("", None),
-    ] {
-        let input = hex::decode(rt.alloc(), digits)?;
-        let mut decoder = Decoder::new(input.as_slice(), rt.alloc());
-        assert_eq!(rt; decoder.peek_section()?, section, "of {digits}");
-        assert_eq!(rt; decoder.unread(), input.len(), "of {digits}");
-        assert_eq!(rt; decoder.at_end()?, input.is_empty(), "of {digits}");
+/// The section that is ahead, how many bytes are left then, and whether the input ends here.
+fn look_ahead(input: &[u8], alloc: Global) -> Result<(Option<u8>, usize, bool), Error> {
+    let mut decoder = Decoder::new(input, alloc);
+    let section = decoder.peek_section()?;
+    let left = decoder.unread();
+    let ends = decoder.at_end()?;
+    Ok((section, left, ends))
+}
+
+/// Before each input this section is ahead, and nothing is taken by that.
+fn check_sections(rows: &[(&str, Option<u8>)], alloc: Global) -> Result<(), Fail> {
+    for (digits, wanted) in rows {
+        let input = hex::decode(alloc, digits)?;
+        let (section, left, ends) = look_ahead(input.as_slice(), alloc)?;
+        if section != *wanted || left != input.len() || ends != input.is_empty() {
+            return Err(Fail::new(format_args!("{digits} is looked at otherwise")));
+        }
     }
     Ok(())
+}
+
+#[test]
+fn sections(rt: HostRuntime) -> Result<(), Fail> {
+    check_sections(
+        &[
+            ("00537540", Some(0x75)),
+            ("00800000000000000078", Some(0x78)),
+            ("00a310616d71703a6865616465723a6c69737445", Some(0x70)),
+            ("0053", None),
+            ("005324", None),
+            ("405375", None),
+            ("", None),
+        ],
+        rt.alloc(),
+    )
 }

@@ -1,7 +1,7 @@
 //! Each reading call once, with the values and the errors that it answers.
 use crate::steps::{Step, check};
 use amqp_decoder::Decoder;
-use amqp_wire::{Descriptor, Error};
+use amqp_wire::{ByteSource, Descriptor, Error};
 use std::alloc::Global;
 use std::test::Fail;
 
@@ -65,14 +65,14 @@ const HELD: &[u8] = &[
     0x40, 0xe0, 0x07, 0x01, 0x00, 0xa3, 0x01, 0x63, 0x50, 0x09, 0xc0, 0x02, 0x01, 0x43,
 ];
 
-fn read_texts(decoder: &mut Decoder<&[u8]>, alloc: Global) -> Result<usize, Error> {
+fn read_texts<R: ByteSource>(decoder: &mut Decoder<R>, alloc: Global) -> Result<usize, Error> {
     let binary = decoder.read_binary(alloc)?.len();
     let string = decoder.read_string(alloc)?.as_str().len();
     let symbol = decoder.read_symbol(alloc)?.as_str().len();
     Ok(binary.saturating_add(string).saturating_add(symbol))
 }
 
-fn read_described(decoder: &mut Decoder<&[u8]>, alloc: Global) -> Result<usize, Error> {
+fn read_described<R: ByteSource>(decoder: &mut Decoder<R>, alloc: Global) -> Result<usize, Error> {
     let Descriptor::Name(name) = decoder.begin_described(alloc)? else {
         return Err(Error::InvalidValue);
     };
@@ -81,7 +81,7 @@ fn read_described(decoder: &mut Decoder<&[u8]>, alloc: Global) -> Result<usize, 
     Ok(name.as_str().len())
 }
 
-fn read_array(decoder: &mut Decoder<&[u8]>, alloc: Global) -> Result<(), Error> {
+fn read_array<R: ByteSource>(decoder: &mut Decoder<R>, alloc: Global) -> Result<(), Error> {
     decoder.begin_array(alloc)?;
     decoder.begin_described(alloc)?;
     decoder.read_ubyte()?;

@@ -1,6 +1,6 @@
 //! The calls of a decoder, and what each answers, as steps.
 use amqp_decoder::Decoder;
-use amqp_wire::Error;
+use amqp_wire::{ByteSource, Error};
 use std::alloc::Global;
 use std::test::Fail;
 
@@ -37,49 +37,61 @@ pub(crate) enum Step {
     Check,
 }
 
+// Whether this value is read.
+fn is_value<T: PartialEq + Drop>(read: Result<T, Error>, value: T) -> Result<bool, Error> {
+    match read {
+        Ok(found) => Ok(found == value),
+        Err(error) => Err(error),
+    }
+}
+
 // Whether the step's number is read.
-fn is_number(decoder: &mut Decoder<&[u8]>, step: Step) -> Result<bool, Error> {
+fn is_number<R: ByteSource>(decoder: &mut Decoder<R>, step: Step) -> Result<bool, Error> {
     match step {
-        Step::Ubyte(value) => Ok(decoder.read_ubyte()? == value),
-        Step::Ushort(value) => Ok(decoder.read_ushort()? == value),
-        Step::Uint(value) => Ok(decoder.read_uint()? == value),
-        Step::Ulong(value) => Ok(decoder.read_ulong()? == value),
-        Step::Byte(value) => Ok(decoder.read_byte()? == value),
-        Step::Short(value) => Ok(decoder.read_short()? == value),
-        Step::Int(value) => Ok(decoder.read_int()? == value),
-        Step::Long(value) => Ok(decoder.read_long()? == value),
-        Step::Timestamp(value) => Ok(decoder.read_timestamp()? == value),
+        Step::Ubyte(value) => is_value(decoder.read_ubyte(), value),
+        Step::Ushort(value) => is_value(decoder.read_ushort(), value),
+        Step::Uint(value) => is_value(decoder.read_uint(), value),
+        Step::Ulong(value) => is_value(decoder.read_ulong(), value),
+        Step::Byte(value) => is_value(decoder.read_byte(), value),
+        Step::Short(value) => is_value(decoder.read_short(), value),
+        Step::Int(value) => is_value(decoder.read_int(), value),
+        Step::Long(value) => is_value(decoder.read_long(), value),
+        Step::Timestamp(value) => is_value(decoder.read_timestamp(), value),
         _ => Ok(false),
     }
 }
 
 // Whether the step's other primitive is read.
-fn is_primitive(decoder: &mut Decoder<&[u8]>, step: Step) -> Result<bool, Error> {
+fn is_primitive<R: ByteSource>(decoder: &mut Decoder<R>, step: Step) -> Result<bool, Error> {
     match step {
         Step::Null => decoder.read_null().map(|()| true),
-        Step::Bool(value) => Ok(decoder.read_bool()? == value),
-        Step::Dec32(value) => Ok(decoder.read_dec32()? == value),
-        Step::Dec64(value) => Ok(decoder.read_dec64()? == value),
-        Step::Dec128(value) => Ok(decoder.read_dec128()? == value),
-        Step::Char(value) => Ok(decoder.read_char()? == value),
-        Step::Uuid(value) => Ok(decoder.read_uuid()? == value),
+        Step::Bool(value) => is_value(decoder.read_bool(), value),
+        Step::Dec32(value) => is_value(decoder.read_dec32(), value),
+        Step::Dec64(value) => is_value(decoder.read_dec64(), value),
+        Step::Dec128(value) => is_value(decoder.read_dec128(), value),
+        Step::Char(value) => is_value(decoder.read_char(), value),
+        Step::Uuid(value) => is_value(decoder.read_uuid(), value),
         _ => is_number(decoder, step),
     }
 }
 
 // Whether the step is answered so.
-fn is_answered(decoder: &mut Decoder<&[u8]>, step: Step, alloc: Global) -> Result<bool, Error> {
+fn is_answered<R: ByteSource>(
+    decoder: &mut Decoder<R>,
+    step: Step,
+    alloc: Global,
+) -> Result<bool, Error> {
     match step {
         Step::Term => Ok(!decoder.read_term(alloc)?.is_empty()),
-        Step::BeginList(count) => Ok(decoder.begin_list()? == count),
+        Step::BeginList(count) => is_value(decoder.begin_list(), count),
         Step::EndList => decoder.end_list().map(|()| true),
         Step::EndMap => decoder.end_map().map(|()| true),
-        Step::BeginArray(count) => Ok(decoder.begin_array(alloc)? == count),
-        Step::BeginDescribed(code) => Ok(decoder.begin_one_of(&[(code, "of no name")])? == 0),
+        Step::BeginArray(count) => is_value(decoder.begin_array(alloc), count),
+        Step::BeginDescribed(code) => is_value(decoder.begin_one_of(&[(code, "of no name")]), 0),
         Step::EndDescribed => decoder.end_described().map(|()| true),
-        Step::PeekCode(code) => Ok(decoder.peek_code()? == code),
-        Step::PeekSection(section) => Ok(decoder.peek_section()? == section),
-        Step::AtEnd(ends) => Ok(decoder.at_end()? == ends),
+        Step::PeekCode(code) => is_value(decoder.peek_code(), code),
+        Step::PeekSection(section) => is_value(decoder.peek_section(), section),
+        Step::AtEnd(ends) => is_value(decoder.at_end(), ends),
         Step::Check => decoder.check().map(|()| true),
         _ => is_primitive(decoder, step),
     }

@@ -16,10 +16,11 @@ use amqp_lengths::NESTING;
 use amqp_wire::{ByteSource, Error};
 
 impl<R: ByteSource> Decoder<R> {
-    // No more containers are open than may be nested.
+    // No more containers are open than may be nested, which is 128 deep.
     #[inline]
     pub(crate) fn room(&self)
-        ensures { HasRoom self.now }
+        ensures room { HasRoom self.now }
+        ensures limit { self.now.nesting ≡ 128 }
     {
         let _depth = &self.depth;
     }

@@ -2,23 +2,23 @@ use Rattle.std.proofs.lemmas.Result.{err_from_is_err_and}
 use Rattle.amqp_decoder.proofs.Descriptors.{begun_describable, any_unbegun, any_missed, any_deep, any_entered}
 use Rattle.amqp_decoder.proofs.decoder.Decoder.begin_described.Goals as goal
 
-pub returns-in_err-begin_descriptor : goal.returns-in_err-begin_descriptor
-returns-in_err-begin_descriptor g c = λ told.
+pub returns-in_err-begin_descriptor-clause-opened : goal.returns-in_err-begin_descriptor-clause-opened
+returns-in_err-begin_descriptor-clause-opened g c = λ told.
     let p = err_from_is_err_and c.from_residual.result c.from_residual.ensures.1 in
     rw (p.1, p.2) (any_unbegun _ _ _ (c.in_err-begin_descriptor.ensures.err told))
 
-pub returns-in_err-descriptor : goal.returns-in_err-descriptor
-returns-in_err-descriptor g c = λ told.
+pub returns-in_err-descriptor-clause-opened : goal.returns-in_err-descriptor-clause-opened
+returns-in_err-descriptor-clause-opened g c = λ told.
     let p = err_from_is_err_and c.from_residual-in_err-descriptor.result c.from_residual-in_err-descriptor.ensures.1 in
     let begun = c.in_ok-begin_descriptor.ensures.ok told in
     rw (p.1, p.2) (any_missed _ _ _ _ begun (c.in_err-descriptor.ensures.err told (begun_describable _ _ begun)))
 
-pub returns-in-Ok : goal.returns-in-Ok
-returns-in-Ok g c = λ told.
+pub returns-in-Ok-clause-opened : goal.returns-in-Ok-clause-opened
+returns-in-Ok-clause-opened g c = λ told.
     let begun = c.in_ok-begin_descriptor.ensures.ok told in
     any_entered _ _ _ _ _ begun (c.in_ok-descriptor.ensures.ok told (begun_describable _ _ begun)) c.in-Ok.ensures.ok
 
-pub returns-in-Err : goal.returns-in-Err
-returns-in-Err g c = λ told.
+pub returns-in-Err-clause-opened : goal.returns-in-Err-clause-opened
+returns-in-Err-clause-opened g c = λ told.
     let begun = c.in_ok-begin_descriptor.ensures.ok told in
     any_deep _ _ _ _ _ _ begun (c.in_ok-descriptor.ensures.ok told (begun_describable _ _ begun)) c.in-Err.ensures.err

@@ -3,5 +3,5 @@ use Rattle.amqp_decoder.specs.Rooms.{HasRoom}
 use Rattle.amqp_decoder.proofs.Rows.{length-stack}
 use Rattle.amqp_decoder.proofs.decoder.Decoder.room.Goals as goal
 
-pub returns : goal.returns
-returns g c = subst HasRoom c.self.view_is (rw length-stack c.self.invariant.5)
+pub returns-clause-room : goal.returns-clause-room
+returns-clause-room g c = subst HasRoom c.self.view_is (rw length-stack c.self.invariant.5)
