@@ -1,13 +1,12 @@
 -- How what a type's traits say of writing is tied to its record.
-use Rattle.std.proofs.Common.{◌≡◌, true, List, [], ◌∷◌, Option, Some, None, IfSome, Box, refl}
-use Rattle.std.specs.declared.rc.Rc.{Rc}
+use Rattle.std.proofs.Common.{◌≡◌, true, List, [], ◌∷◌, Option, Some, None, IfSome, refl}
 use Rattle.amqp_model.specs.Term.{null, Term, Terms, leaf, container, described, kept, barred, none, more}
 use Rattle.amqp_model.specs.Ranges.{Everywhere, EverywhereIn, IsValue}
 use Rattle.amqp_model.specs.Kinds.{option_canon}
 use Rattle.amqp_model.specs.FieldType.{Norm, normal}
 use Rattle.amqp_codec.specs.TermType.{TermType, KeepsNoBytes, KeepNoBytes}
 use Rattle.amqp_codec.specs.OptionType.{option_of}
-use Rattle.amqp_codec.specs.Wrappers.{via, boxed, reference_counted}
+use Rattle.amqp_codec.specs.Wrappers.{via, Holds, held}
 use Rattle.amqp_codec.specs.Written.{IsProper, AreProper, Writing, IsOneTerm}
 
 -- The canonical terms and the values of the traits are those of the record.
@@ -80,17 +79,12 @@ option_agreement {u = u} {w = w} t = record {
   value_from = some_as u.is_value w.is_value t.value_from;
 }
 
-pub box_agreement : {T Z : Type 0} {u : TermType T} {w : Writing T} → Agreement u w
-    → Agreement (boxed {Z = Z} u) (via_writing (λ (b : Box T Z). b.value) w)
-box_agreement t =
-    record { canons_is = λ b. t.canons_is b.value; value_to = λ b. t.value_to b.value; value_from = λ b. t.value_from b.value }
-
-pub rc_agreement : {T Z : Type 0} {u : TermType T} {w : Writing T} → Agreement u w
-    → Agreement (reference_counted {Z = Z} u) (via_writing (λ (r : Rc T Z). r.value) w)
-rc_agreement t =
-    record { canons_is = λ r. t.canons_is r.value; value_to = λ r. t.value_to r.value; value_from = λ r. t.value_from r.value }
-
 pub via_agreement : {V T : Type 0} {u : TermType T} {w : Writing T} (to : V → T) (n : Norm V)
     (is : (v : V) → to (normal n v) ≡ normal u.norm (to v)) → Agreement u w → Agreement (via u to n is) (via_writing to w)
 via_agreement to n is a =
     record { canons_is = λ v. a.canons_is (to v); value_to = λ v. a.value_to (to v); value_from = λ v. a.value_from (to v) }
+
+pub held_agreement : {W T : Type 0} {u : TermType T} {w : Writing T} (h : Holds W T) → Agreement u w
+    → Agreement (held h u) (via_writing h.get w)
+held_agreement h a =
+    record { canons_is = λ v. a.canons_is (h.get v); value_to = λ v. a.value_to (h.get v); value_from = λ v. a.value_from (h.get v) }

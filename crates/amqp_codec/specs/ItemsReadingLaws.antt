@@ -26,7 +26,7 @@ count_items : (ts : Terms) → length (items_of ts) ≡ count ts
 count_items none = refl
 count_items (more t ts) = ap suc (count_items ts)
 
-row_many : (ts : Terms) (st : State) (b : List ℕ) (st' : State) (row : Row st (items_of ts) b st')
+pub row_many : (ts : Terms) (st : State) (b : List ℕ) (st' : State) (row : Row st (items_of ts) b st')
     → length (row_standings st (items_of ts) b st' row) ≡ count ts
 row_many none st b st' row = refl
 row_many (more t ts) st b st' (s, o, e, h, row) = ap suc (row_many ts (after_value (length s) st) o st' row)

@@ -5,6 +5,10 @@ use Rattle.amqp_model.specs.FieldType.{normal}
 use Rattle.amqp_codec.specs.TermType.{TermType}
 use Rattle.amqp_codec.specs.Spelled.{written, IsWritable}
 
+-- The value is one of its type, and each that is the same is its own normal value.
+abbrev pub IsOwnKey : {T : Type 0} → TermType T → T → Type 0
+IsOwnKey {T} u v = u.is_value v × ((w : T) → u.same v w → u.same (normal u.norm w) w)
+
 -- Keys are equal if they are one value, and each is its own normal value.
 pub record IsKey {T : Type 0} (u : TermType T) (eq : T → T → Bool) : Type 0 where
   pub decides : (v w : T) → Decides (eq v w) (u.same v w)

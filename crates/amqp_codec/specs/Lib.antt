@@ -6,7 +6,6 @@ pub mod PrimitiveTermLaws
 pub mod NullLaws
 pub mod ExactType
 pub mod PrimitiveTypes
-pub mod Restricted
 pub mod OptionType
 pub mod Wrappers
 pub mod KeptBytesLaws
@@ -17,13 +16,12 @@ pub mod MisspellingLaws
 pub mod OtherSource
 pub mod MeaningLaws
 pub mod ListType
+pub mod DescribedTermLaws
 pub mod DescribedType
 pub mod Composite
 pub mod EitherType
 pub mod NullTextLaws
 pub mod Spelled
-pub mod DistinctDescriptorLaws
-pub mod NeverType
 pub mod Written
 pub mod ProperLaws
 pub mod Agreement
@@ -32,8 +30,6 @@ pub mod RefusalLaws
 pub mod FieldReading
 pub mod PeekLaws
 pub mod Members
-pub mod Choices
-pub mod Rewritten
 pub mod TermLaws
 pub mod SpellingLaws
 pub mod ReasonLaws
@@ -44,7 +40,12 @@ pub mod Each
 pub mod EachLaws
 pub mod FormLaws
 pub mod PlacingLaws
+pub mod TreeLaws
+pub mod EqualKeys
+pub mod TreeType
 pub mod ItemsType
+pub mod DescribedPairType
+pub mod DescribedPairWriting
 pub mod ItemsReading
 pub mod ItemsReadingLaws
 pub mod ListOrArrayType
@@ -53,6 +54,6 @@ pub mod VecType
 pub mod Pairs
 pub mod PairLaws
 pub mod MapType
+pub mod MapWriting
 pub mod MapReading
 pub mod MapReadingLaws
-pub mod Types

@@ -1,7 +1,7 @@
 -- The pairs that are read are those of the map that stands there, and the faults of reading are its.
-use Rattle.std.proofs.Common.{◌≡◌, inl, inr, ◌⊎◌, ℕ, ◌+◌, ◌*◌, ◌<◌, suc, true, false, ◌&&◌, List, [], ◌∷◌, ◌++◌, length, refl, sym, ap, ◌∙◌}
+use Rattle.std.proofs.Common.{◌≡◌, inl, inr, ◌⊎◌, ℕ, ◌+◌, ◌*◌, ◌<◌, false, ◌&&◌, List, [], ◌∷◌, ◌++◌, length, refl, sym, ap, ◌∙◌}
 use Rattle.std.proofs.Common.{subst, arith, length-append}
-use Rattle.amqp_model.specs.Term.{map, Term, Terms, container, none, more, count}
+use Rattle.amqp_model.specs.Term.{map, Term, Terms, container, count}
 use Rattle.amqp_model.specs.Items.{items_of}
 use Rattle.amqp_model.specs.Standing.{Standing, Parts}
 use Rattle.amqp_model.specs.FieldType.{normal}
@@ -12,10 +12,11 @@ use Rattle.amqp_decoder.specs.State.{State, after_value}
 use Rattle.amqp_decoder.specs.OtherSource.{Setting, under, KeepsError, value as value_elsewhere, opens, open_fault, close_fault}
 use Rattle.amqp_decoder.specs.Rooms.{HasRoom}
 use Rattle.amqp_decoder.specs.Misspelled.{IsMisspelling, NothingStands}
-use Rattle.amqp_decoder.specs.Primitives.{ReadsValue}
-use Rattle.amqp_decoder.specs.Containers.{Opens, CloseFault}
-use Rattle.amqp_decoder.specs.Items.{Contains, Row, row_standings}
-use Rattle.amqp_decoder.proofs.ContainerTerms.{whole_with_parts}
+use Rattle.amqp_decoder.specs.Primitives.{standing, Stands, ReadsValue}
+use Rattle.amqp_decoder.specs.Containers.{Opens}
+use Rattle.amqp_decoder.specs.Items.{Contains, row_standings}
+use Rattle.amqp_decoder.proofs.ContainerTerms.{whole_with_parts, parts, together, used_up}
+use Rattle.amqp_decoder.proofs.OneReading.{value_same, stands_same}
 use Rattle.amqp_decoder.proofs.Misspelled.{open_misspelled}
 use Rattle.amqp_decoder.proofs.NothingInside.{nothing_in_container, nothing_at_end}
 use Rattle.amqp_decoder.proofs.NotMemory.{open_not_memory, close_not_memory}
@@ -24,10 +25,12 @@ use Rattle.amqp_codec.specs.Faults.{Faults}
 use Rattle.amqp_codec.specs.TermType.{TermType}
 use Rattle.amqp_codec.specs.EitherType.{IsEither}
 use Rattle.amqp_codec.specs.ItemsReading.{ReadsEach}
-use Rattle.amqp_codec.specs.ItemsReadingLaws.{Taken, each_taken, taken_long}
-use Rattle.amqp_codec.specs.Pairs.{in_turn, MeansMap}
-use Rattle.amqp_codec.specs.MapType.{map_type}
-use Rattle.amqp_codec.specs.MapReading.{ReadsPairs, Pairs, ReadsPairsRow, PairsFault, at_key, twice, at_value, MapRead, MapFault}
+use Rattle.amqp_codec.specs.EachLaws.{values_many}
+use Rattle.amqp_codec.specs.ItemsType.{items_cases}
+use Rattle.amqp_codec.specs.ItemsReadingLaws.{each_taken, taken_each, taken_long, row_many}
+use Rattle.amqp_codec.specs.Pairs.{in_turn, PairsMean, IsNew, HaveOtherKeys, MeansMap}
+use Rattle.amqp_codec.specs.MapType.{map_type, mean_as}
+use Rattle.amqp_codec.specs.MapReading.{Pairs, ReadsFewer, PairsFault, at_key, twice, at_value, MapRead, MapFault}
 use Rattle.amqp_codec.specs.MapReading.{unopened, at_pair, unclosed}
 
 pub twice_as_many : {K V : Type 0} (ps : List (K × V)) → length (in_turn ps) ≡ 2 * length ps
@@ -73,14 +76,19 @@ module _ {K V : Type 0} (key : TermType K) (value : TermType V) where
   pairs_elsewhere c st (p ∷ ps) b (m, n, h, k, r) =
       (under c m, under c n, value_elsewhere c key.means h, value_elsewhere c value.means k, pairs_elsewhere c n ps b r)
 
+  fewer_elsewhere : (c : Setting) (n : ℕ) (st : State) (ps : List (K × V)) (mid : State) → ReadsFewer key value n st ps mid
+      → ReadsFewer key value n (under c st) ps (under c mid)
+  fewer_elsewhere c n st ps mid h =
+      record { fewer = h.fewer; each = pairs_elsewhere c st ps mid h.each; others = h.others }
+
   row_elsewhere : (c : Setting) (n : ℕ) (st : State) (e : Error) → KeepsError c e → PairsFault key value n st e
       → PairsFault key value n (under c st) e
-  row_elsewhere c n st e keeps (at_key ps mid h l f) =
-      at_key ps (under c mid) (pairs_elsewhere c st ps mid h) l (key.faults.fault_elsewhere c mid e keeps f)
-  row_elsewhere c n st e keeps (twice ps mid after k h l r same is) =
-      twice ps (under c mid) (under c after) k (pairs_elsewhere c st ps mid h) l (value_elsewhere c key.means r) same is
-  row_elsewhere c n st e keeps (at_value ps mid after k h l r f) =
-      at_value ps (under c mid) (under c after) k (pairs_elsewhere c st ps mid h) l (value_elsewhere c key.means r)
+  row_elsewhere c n st e keeps (at_key ps mid h f) =
+      at_key ps (under c mid) (fewer_elsewhere c n st ps mid h) (key.faults.fault_elsewhere c mid e keeps f)
+  row_elsewhere c n st e keeps (twice ps mid after k h r same is) =
+      twice ps (under c mid) (under c after) k (fewer_elsewhere c n st ps mid h) (value_elsewhere c key.means r) same is
+  row_elsewhere c n st e keeps (at_value ps mid after k h r new f) =
+      at_value ps (under c mid) (under c after) k (fewer_elsewhere c n st ps mid h) (value_elsewhere c key.means r) new
       (value.faults.fault_elsewhere c after e keeps f)
 
   pub map_elsewhere : (c : Setting) (st : State) (e : Error) → KeepsError c e → MapFault key value st e → MapFault key value (under c st) e
@@ -91,9 +99,9 @@ module _ {K V : Type 0} (key : TermType K) (value : TermType V) where
       (close_fault c keeps f)
 
   row_not_memory : (n : ℕ) (st : State) → PairsFault key value n st Memory → ⊥
-  row_not_memory n st (at_key ps mid h l f) = key.faults.not_memory mid f
-  row_not_memory n st (twice ps mid after k h l r same is) = cc
-  row_not_memory n st (at_value ps mid after k h l r f) = value.faults.not_memory after f
+  row_not_memory n st (at_key ps mid h f) = key.faults.not_memory mid f
+  row_not_memory n st (twice ps mid after k h r same is) = cc
+  row_not_memory n st (at_value ps mid after k h r new f) = value.faults.not_memory after f
 
   pub map_not_memory : (st : State) → MapFault key value st Memory → ⊥
   map_not_memory st (unopened h) = open_not_memory map st h
@@ -102,19 +110,19 @@ module _ {K V : Type 0} (key : TermType K) (value : TermType V) where
 
   row_misspelled : (st : State) (n : ℕ) (first : State) (e : Error) → IsMisspelling e → Opens map st (2 * n) first
       → PairsFault key value n first e → NothingStands st
-  row_misspelled st n first e is o (at_key ps mid h l f) =
-      let t = each_taken Turn first (in_turn ps) mid (pairs_in_turn first ps mid h) in
+  row_misspelled st n first e is o (at_key ps mid h f) =
+      let t = each_taken Turn first (in_turn ps) mid (pairs_in_turn first ps mid h.each) in
       nothing_in_container map tt st (2 * n) first mid (items_of t.terms) t.bytes o t.row
-      (omega (arith, l, taken_long Turn first (in_turn ps) mid t, twice_as_many ps))
+      (omega (arith, h.fewer, taken_long Turn first (in_turn ps) mid t, twice_as_many ps))
       (key.faults.misspelled mid e (room_row (items_of t.terms) first t.bytes mid t.row (room_inside map st (2 * n) first o)) is f)
-  row_misspelled st n first e is o (twice ps mid after k h l r same d) = absurd (subst IsMisspelling d is)
-  row_misspelled st n first e is o (at_value ps mid after k h l r f) =
-      let t = each_taken Turn first (in_turn ps ++ inl k ∷ []) after (key_in_turn first ps k mid after h r) in
+  row_misspelled st n first e is o (twice ps mid after k h r same d) = absurd (subst IsMisspelling d is)
+  row_misspelled st n first e is o (at_value ps mid after k h r new f) =
+      let t = each_taken Turn first (in_turn ps ++ inl k ∷ []) after (key_in_turn first ps k mid after h.each r) in
       let one : length (in_turn ps ++ inl k ∷ []) ≡ length (in_turn ps) + 1 = length-append (in_turn ps) (inl k ∷ []) in
       nothing_in_container map tt st (2 * n) first after (items_of t.terms) t.bytes o t.row
       (omega (
         arith,
-        l,
+        h.fewer,
         taken_long Turn first (in_turn ps ++ inl k ∷ []) after t,
         one,
         twice_as_many ps,
@@ -137,8 +145,8 @@ module _ {K V : Type 0} (key : TermType K) (value : TermType V) where
   }
 
   -- The type of maps of these keys and values.
-  abbrev pub map_of : ((k : K) → key.same (normal key.norm k) k) → TermType (List (K × V))
-  map_of own = map_type key value own map_faults
+  abbrev pub map_of : TermType (List (K × V))
+  map_of = map_type key value map_faults
 
   -- the pairs that were read are those of the map that stood there
   pub map_value : (st : State) (ps : List (K × V)) (b : State) → MapRead key value st ps b
@@ -155,3 +163,128 @@ module _ {K V : Type 0} (key : TermType K) (value : TermType V) where
         moved = w.next.moved;
         meant = ((refl, row_standings h.first (items_of t.terms) t.bytes h.last t.row, λ _. w.parts, t.meant), h.row.others);
       }
+
+  -- reading pairs refuses nothing, and the source doesn't begin to fail
+  pub pairs_still : (st : State) (ps : List (K × V)) (b : State) → Pairs key value st ps b
+      → (b.error ≡ st.error) × (b.failed ≡ st.failed)
+  pairs_still st [] b h = (ap (λ (x : State). x.error) h, ap (λ (x : State). x.failed) h)
+  pairs_still st (p ∷ ps) b (m, n, h, k, r) =
+      let i = pairs_still n ps b r in (
+        i.0 ∙ ap (λ (x : State). x.error) k.moved ∙ ap (λ (x : State). x.error) h.moved,
+        i.1 ∙ ap (λ (x : State). x.failed) k.moved ∙ ap (λ (x : State). x.failed) h.moved,
+      )
+
+  -- one more
+  pub pairs_more : (st : State) (ps : List (K × V)) (k : K) (v : V) (mid after b : State) → Pairs key value st ps mid
+      → ReadsValue key.means mid k after → ReadsValue value.means after v b → Pairs key value st (ps ++ (k, v) ∷ []) b
+  pairs_more st [] k v mid after b h r q = (after, b, subst (λ (x : State). ReadsValue key.means x k after) h r, q, refl)
+  pairs_more st (p ∷ ps) k v mid after b (m, n, h, j, rest) r q = (m, n, h, j, pairs_more n ps k v mid after b rest r q)
+
+  new_more : (k l : K) (v : V) (ps : List (K × V)) → (key.same k l → ⊥) → IsNew key.same k ps → IsNew key.same k (ps ++ (l, v) ∷ [])
+  new_more k l v [] n h = (n, tt)
+  new_more k l v (p ∷ ps) n h = (h.0, new_more k l v ps n h.1)
+
+  pub others_more : (ps : List (K × V)) (k : K) (v : V) → HaveOtherKeys key.same ps → IsNew key.same k ps
+      → HaveOtherKeys key.same (ps ++ (k, v) ∷ [])
+  others_more [] k v h n = (tt, tt)
+  others_more (p ∷ ps) k v h n =
+      (new_more p.0 k v ps (λ s. n.0 (key.sameness.sym p.0 k s)) h.0, others_more ps k v h.1 n.1)
+
+  -- What stands behind fewer pairs than are read: one more, whose key is new if no two are the same.
+  pub record Behind (mid : State) (ps qs : List (K × V)) : Type 0 where
+    pub pair : K × V
+    pub after : State
+    pub behind : State
+    pub at_key : ReadsValue key.means mid pair.0 after
+    pub at_value : ReadsValue value.means after pair.1 behind
+    pub new : HaveOtherKeys key.same qs → (k : K) → key.same k pair.0 → IsNew key.same k ps
+    pub among : (k : K) → IsNew key.same k qs → key.same k pair.0 → ⊥
+
+  one_key : (st a b : State) (k l : K) → ReadsValue key.means st k a → ReadsValue key.means st l b → key.same k l × (a ≡ b)
+  one_key st a b k l h j =
+      let x = value_same key.means st a b k l h j in (key.sameness.one x.0 x.1 k l x.2 x.3, x.4)
+
+  pub pairs_behind : (st mid last : State) (ps qs : List (K × V)) → Pairs key value st ps mid → Pairs key value st qs last
+      → length ps < length qs → Behind mid ps qs
+  pairs_behind st mid last [] [] h k l = absurd (omega (arith, l))
+  pairs_behind st mid last [] (q ∷ qs) h (m, n, r, v, k) l = record {
+    pair = q;
+    after = m;
+    behind = n;
+    at_key = subst (λ (x : State). ReadsValue key.means x q.0 m) (sym h) r;
+    at_value = v;
+    new = λ o k e. tt;
+    among = λ k i e. i.0 e;
+  }
+  pairs_behind st mid last (p ∷ ps) [] h k l = absurd (omega (arith, l))
+  pairs_behind st mid last (p ∷ ps) (q ∷ qs) (m, n, r, v, h) (x, y, s, w, k) l =
+      let one = one_key st m x p.0 q.0 r s in
+      let w' : ReadsValue value.means m q.1 y = subst (λ (z : State). ReadsValue value.means z q.1 y) (sym one.1) w in
+      let to : y ≡ n = (value_same value.means m y n q.1 p.1 w' v).4 in
+      let b = pairs_behind n mid last ps qs h (subst (λ (z : State). Pairs key value z qs last) to k) (omega (arith, l)) in
+      record {
+        pair = b.pair;
+        after = b.after;
+        behind = b.behind;
+        at_key = b.at_key;
+        at_value = b.at_value;
+        new = λ o k e. (
+          λ same. b.among q.0 o.0
+              (key.sameness.trans q.0 k b.pair.0
+              (key.sameness.trans q.0 p.0 k (key.sameness.sym p.0 q.0 one.0) (key.sameness.sym k p.0 same)) e),
+          b.new o.1 k e,
+        );
+        among = λ k i e. b.among k i.1 e;
+      }
+
+  -- as many pairs end at one state
+  pub pairs_end : (st mid last : State) (ps qs : List (K × V)) → Pairs key value st ps mid → Pairs key value st qs last
+      → length ps ≡ length qs → last ≡ mid
+  pairs_end st mid last [] [] h k l = k ∙ sym h
+  pairs_end st mid last [] (q ∷ qs) h k l = absurd (omega (arith, l))
+  pairs_end st mid last (p ∷ ps) [] h k l = absurd (omega (arith, l))
+  pairs_end st mid last (p ∷ ps) (q ∷ qs) (m, n, r, v, h) (x, y, s, w, k) l =
+      let one = one_key st m x p.0 q.0 r s in
+      let w' : ReadsValue value.means m q.1 y = subst (λ (z : State). ReadsValue value.means z q.1 y) (sym one.1) w in
+      let to : y ≡ n = (value_same value.means m y n q.1 p.1 w' v).4 in
+      pairs_end n mid last ps qs h (subst (λ (z : State). Pairs key value z qs last) to k) (omega (arith, l))
+
+  -- and those of each map that stands there are read
+  abbrev Meant : Standing → Term → List (K × V) → Type 0
+  Meant = MeansMap (key.ignores_standing && value.ignores_standing) key.means value.means key.same
+
+  next_pairs : (st : State) (ps : List (K × V)) (b : State) (bytes : List ℕ) (ts : Terms) (ss : List Standing)
+      → (key.ignores_standing && value.ignores_standing ≡ false → Parts (standing st.top.shared bytes) (container map ts) ss)
+      → PairsMean key.means value.means ss ts ps → HaveOtherKeys key.same ps → Stands st bytes (container map ts)
+      → b ≡ after_value (length bytes) st → MapRead key value st ps b
+  next_pairs st ps b bytes ts ss p m others stands moved =
+      let c = parts map tt st ts b (record { bytes = bytes; stands = stands; moved = moved }) in
+      let w = whole_with_parts map tt st ts b c in
+      let zs = row_standings c.mid (items_of ts) c.bytes c.last c.items in
+      let same = (stands_same st w.next.bytes bytes (container map ts) (container map ts) w.next.stands stands).0 in
+      let z : Parts (standing st.top.shared bytes) (container map ts) zs =
+      subst (λ b. Parts (standing st.top.shared b) (container map ts) zs) same w.parts in
+      let n = mean_as key value (standing st.top.shared bytes) ts ss zs ps (row_many ts c.mid c.bytes c.last c.items) p (λ _. z) m in
+      let t = together ts c.mid c.bytes c.last c.items in
+      let all : c.count ≡ count ts =
+      used_up c.mid.top.items c.count (count ts) (ap (λ (x : State). x.top.items) c.opened.data_.entered) t.items
+      (sym (ap (λ (x : State). x.top.items) t.moved) ∙ c.closed.items) in
+      let pairs : c.count ≡ 2 * length ps = all ∙ sym (values_many Turn ss ts (in_turn ps) m) ∙ twice_as_many ps in
+      record {
+        pairs = length ps;
+        first = c.mid;
+        opened = subst (λ n. Opens map st n c.mid) pairs c.opened;
+        last = c.last;
+        row = record {
+          long = refl;
+          each = in_turn_pairs c.mid ps c.last (taken_each Turn ts c.mid c.bytes c.last c.items (in_turn ps) n);
+          others = others;
+        };
+        closed = c.closed;
+      }
+
+  pub value_map : (st : State) (ps : List (K × V)) (b : State) → ReadsValue Meant st ps b → MapRead key value st ps b
+  value_map st ps b h =
+      items_cases (key.ignores_standing && value.ignores_standing) Turn map (standing st.top.shared h.bytes) (in_turn ps)
+      (λ t. Stands st h.bytes t → MapRead key value st ps b)
+      (λ ts ss p m stands. next_pairs st ps b h.bytes ts ss p m h.meant.1 stands h.moved) h.term h.meant.0 h.stands

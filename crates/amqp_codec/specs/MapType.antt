@@ -29,6 +29,7 @@ use Rattle.amqp_codec.specs.EitherType.{IsEither}
 use Rattle.amqp_codec.specs.Each.{EachSpells}
 use Rattle.amqp_codec.specs.EachLaws.{stand_many}
 use Rattle.amqp_codec.specs.ItemsType.{items_cases, container_cases, by_test}
+use Rattle.amqp_codec.specs.Keys.{IsOwnKey}
 use Rattle.amqp_codec.specs.PlacingLaws.{placed, canonical_parts}
 use Rattle.amqp_codec.specs.Pairs.{in_turn, PairsMean, pair_canons, count_pairs, HaveOtherKeys, OfPairs, SamePairs, with_values}
 use Rattle.amqp_codec.specs.Pairs.{norm_values}
@@ -44,8 +45,7 @@ map_not_list e = cc
 map_flawless : (ts : Terms) → IsFlawless (container map ts)
 map_flawless ts = record { unbarred = λ r e. cc; unmixed = λ h. h; no_null = λ h. h; no_kept = λ h. h; ascii = λ h. h }
 
--- A key is its own normal value.
-module _ {K V : Type 0} (key : TermType K) (value : TermType V) (own : (k : K) → key.same (normal key.norm k) k) where
+module _ {K V : Type 0} (key : TermType K) (value : TermType V) where
   abbrev ignores : Bool
   ignores = key.ignores_standing && value.ignores_standing
 
@@ -53,7 +53,7 @@ module _ {K V : Type 0} (key : TermType K) (value : TermType V) (own : (k : K) �
   means = MeansMap ignores key.means value.means key.same
 
   abbrev Values : List (K × V) → Type 0
-  Values ps = OfPairs key.is_value value.is_value ps × HaveOtherKeys key.same ps
+  Values ps = OfPairs (IsOwnKey key) value.is_value ps × HaveOtherKeys key.same ps
 
   abbrev canons : List (K × V) → Terms
   canons = pair_canons key.canon value.canon
@@ -126,15 +126,15 @@ module _ {K V : Type 0} (key : TermType K) (value : TermType V) (own : (k : K) �
   rewritten_means : (s : Standing) (ps : List (K × V)) → Values ps → IsUnrefused (canon ps) → StandsCanonically s (canon ps)
       → (ts : Terms) → EachExpandsTo (canons ps) ts → means s (container map ts) (normals ps)
   rewritten_means s ps i f c ts r =
-      let x = canonical_parts map s (canons ps) ts (pairs_even key value ps, pairs_valued key value ps i.0) f c r in
-      ((refl, x.0, λ _. x.1, pairs_mean key value own x.0 ps ts i.0 x.2 r), keys_normal key value ps i.1)
+      let x = canonical_parts map s (canons ps) ts (pairs_even key.canon value.canon ps, pairs_valued key value ps i.0) f c r in
+      ((refl, x.0, λ _. x.1, pairs_mean key value x.0 ps ts i.0 x.2 r), keys_normal key value ps i.1)
 
   map_read : (ps : List (K × V)) → Values ps → IsFree (canon ps) → (t : Term) × ExpandsTo (canon ps) t
   map_read ps i f = let r = pairs_read key value ps i.0 f in (container map r.0, (refl, r.1))
 
   pub map_rewrites : (ps : List (K × V)) → Rewrites (view ps) (view (normal (norm_values value.norm) ps))
   map_rewrites ps = normally (λ qs. Rewrites (view ps) (view qs)) ps (record {
-    valued = λ i. (pairs_even key value ps, pairs_valued key value ps i.0);
+    valued = λ i. (pairs_even key.canon value.canon ps, pairs_valued key value ps i.0);
     reads = map_read ps;
     means = λ s t i f c. container_cases map (canons ps) (λ t. means s t (normals ps)) (rewritten_means s ps i f c) t;
     canon = ap (container map) (pairs_canon_normal key value ps);
@@ -146,7 +146,7 @@ module _ {K V : Type 0} (key : TermType K) (value : TermType V) (own : (k : K) �
     plain = pairs_plain key value k v ps;
     means = λ s z t m. by_pairs s ps (λ t. means z t ps) (λ ts ss p n. ((refl, ss, λ e. absurd (clash l e), n), m.1)) t m;
     canon_means = λ s i f. (
-      (refl, map_of (λ x. s) (in_turn ps), λ e. absurd (clash l e), pairs_canon_mean key value own k v s ps i.0 f),
+      (refl, map_of (λ x. s) (in_turn ps), λ e. absurd (clash l e), pairs_canon_mean key value k v s ps i.0 f),
       keys_normal key value ps i.1,
     );
   }
@@ -246,7 +246,7 @@ module _ {K V : Type 0} (key : TermType K) (value : TermType V) (own : (k : K) �
   -- The type of maps; why none is read is said where their reading is.
   abbrev pub map_type : Faults → TermType (List (K × V))
   map_type faults = record {
-    is_value = λ ps. OfPairs key.is_value value.is_value ps × HaveOtherKeys key.same ps;
+    is_value = λ ps. OfPairs (IsOwnKey key) value.is_value ps × HaveOtherKeys key.same ps;
     means = MeansMap (key.ignores_standing && value.ignores_standing) key.means value.means key.same;
     faults = faults;
     canon = λ ps. container map (pair_canons key.canon value.canon ps);

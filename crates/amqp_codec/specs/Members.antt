@@ -20,7 +20,7 @@ use Rattle.amqp_decoder.proofs.OneReading.{next_same}
 use Rattle.amqp_decoder.proofs.NotMemory.{one_of_not_memory, end_not_memory}
 use Rattle.amqp_wire.specs.declared.error.Error.TheVariants.{Memory}
 use Rattle.amqp_codec.specs.Faults.{Faults}
-use Rattle.amqp_codec.specs.RefusalLaws.{no_memory, refused_first, refused_later}
+use Rattle.amqp_codec.specs.RefusalLaws.{no_memory, described_going, described_sound, refused_first, refused_later}
 
 -- The members: their codes and names in order, and how what each describes is read.
 pub record Members (V : Type 0) : Type 1 where
@@ -134,16 +134,10 @@ module _ {V : Type 0} (m : Members V) (means : Standing → Term → V → Type 
 
   pub opened_going : (ms : List Member) (st : State) (i : ℕ) (inner : State) → OpensOneOf ms st i inner
       → (st.error ≡ None) × (inner.error ≡ None)
-  opened_going ms st i inner o =
-      let going = o.opens.begun.going in (
-        going,
-        ap (λ (x : State). x.error) o.opens.opened ∙ ap (λ (x : State). x.error) o.opens.descriptor.took.moved
-            ∙ ap (λ (x : State). x.error) o.opens.begun.moved ∙ going,
-      )
+  opened_going ms st i inner o = (o.opens.begun.going, described_going o.opens)
 
   pub opened_failed : (ms : List Member) (st : State) (i : ℕ) (inner : State) → OpensOneOf ms st i inner → inner.failed ≡ st.failed
-  opened_failed ms st i inner o = ap (λ (x : State). x.failed) o.opens.opened ∙ ap (λ (x : State). x.failed) o.opens.descriptor.took.moved
-      ∙ ap (λ (x : State). x.failed) o.opens.begun.moved
+  opened_failed ms st i inner o = described_sound o.opens
 
   -- what a member describes isn't read
   pub unread : (ms : List Member) (st : State) (i : ℕ) (inner : State) (e : Error) (new : State) → map as_name ms ≡ m.names

@@ -1,8 +1,8 @@
 -- Terms that nothing but their size refuses.
-use Rattle.std.proofs.Common.{◌≡◌, ℕ, inl, inr, refl}
+use Rattle.std.proofs.Common.{◌≡◌, inl, inr, refl}
 use Rattle.amqp_model.specs.Term.{Primitive, symbol, Refusal, too_large, non_ascii, zero_width_items, mixed_array, lazy_in_array, list}
-use Rattle.amqp_model.specs.Term.{Terms, Term, leaf, container, described, barred, code}
-use Rattle.amqp_model.specs.Spelling.{IsValid}
+use Rattle.amqp_model.specs.Term.{Descriptor, Terms, Term, leaf, container, described, barred}
+use Rattle.amqp_model.specs.Spelling.{IsValid, descriptor_value}
 use Rattle.amqp_model.specs.Refusals.{HasMixedItems, HasNullItem, HasKeptItem, IsNonAscii, HasNonAscii, IsRefused}
 
 -- It is barred for no reason, and has no other flaw than its size.
@@ -32,6 +32,7 @@ leaf_flawless p v = record { unbarred = λ r e. cc; unmixed = λ h. h; no_null =
 pub list_flawless : (ts : Terms) → IsFlawless (container list ts)
 list_flawless ts = record { unbarred = λ r e. cc; unmixed = λ h. h; no_null = λ h. h; no_kept = λ h. h; ascii = λ h. h }
 
--- a value that is described by a code
-pub code_flawless : (n : ℕ) (t : Term) → IsFlawless (described (code n) t)
-code_flawless n t = record { unbarred = λ r e. cc; unmixed = λ h. h; no_null = λ h. h; no_kept = λ h. h; ascii = λ h. h }
+-- a value whose descriptor can be spelled
+pub described_flawless : (d : Descriptor) (t : Term) → IsValid (descriptor_value d) → IsFlawless (described d t)
+described_flawless d t v =
+    record { unbarred = λ r e. cc; unmixed = λ h. h; no_null = λ h. h; no_kept = λ h. h; ascii = valid_ascii (descriptor_value d) v }

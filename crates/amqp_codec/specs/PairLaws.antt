@@ -12,6 +12,7 @@ use Rattle.amqp_codec.specs.NullsAlike.{all_nulls_alike}
 use Rattle.amqp_codec.specs.TermType.{TermType, KeepNoBytes}
 use Rattle.amqp_codec.specs.Each.{EachSpells, EachCanonical}
 use Rattle.amqp_codec.specs.EachLaws.{read_none, read_more}
+use Rattle.amqp_codec.specs.Keys.{IsOwnKey}
 use Rattle.amqp_codec.specs.Pairs.{in_turn, PairsMean, pair_canons, count_pairs, IsNew, HaveOtherKeys, OfPairs, SamePairs, with_values}
 use Rattle.amqp_codec.specs.Pairs.{norm_values}
 
@@ -22,6 +23,11 @@ values_normal {K} {V} unchanged ps = same_pairs ps
     same_pairs [] = refl
     same_pairs (p ∷ ps) = ap (λ qs. p ∷ qs) (same_pairs ps)
 values_normal (by_norm f) ps = refl
+
+-- each pair is a key and a value
+pub pairs_even : {K V : Type 0} (key : K → Term) (value : V → Term) (ps : List (K × V)) → count (pair_canons key value ps) % 2 ≡ 0
+pairs_even key value [] = refl
+pairs_even key value (p ∷ ps) = omega (arith, pairs_even key value ps)
 
 -- by induction on the pairs
 pub pairs_induct : {K V : Type 0} (keys : Standing → Term → K → Type 0) (values : Standing → Term → V → Type 0)
@@ -64,7 +70,7 @@ module _ {K V : Type 0} (key : TermType K) (value : TermType V) where
   canons = pair_canons key.canon value.canon
 
   abbrev Values : List (K × V) → Type 0
-  Values = OfPairs key.is_value value.is_value
+  Values = OfPairs (IsOwnKey key) value.is_value
 
   abbrev normals : List (K × V) → List (K × V)
   normals = with_values (normal value.norm)
@@ -107,7 +113,11 @@ module _ {K V : Type 0} (key : TermType K) (value : TermType V) where
 
   pub same_values : (ps qs : List (K × V)) → Same ps qs → Values ps → Values qs
   same_values = by_same (λ ps qs. Values ps → Values qs) (λ i. i)
-      (λ p q ps qs a b s h i. ((key.sameness.agrees p.0 q.0 a).value i.0, (value.sameness.agrees p.1 q.1 b).value i.1, h i.2))
+      (λ p q ps qs a b s h i. (
+        ((key.sameness.agrees p.0 q.0 a).value i.0.0, λ l e. i.0.1 l (key.sameness.trans p.0 q.0 l a e)),
+        (value.sameness.agrees p.1 q.1 b).value i.1,
+        h i.2,
+      ))
 
   pub same_canons : (ps qs : List (K × V)) → Same ps qs → canons ps ≡ canons qs
   same_canons = by_same (λ ps qs. canons ps ≡ canons qs) refl
@@ -169,20 +179,16 @@ module _ {K V : Type 0} (key : TermType K) (value : TermType V) where
   pairs_plain l w [] = tt
   pairs_plain l w (p ∷ ps) = ((key.standing_ignored l p.0).plain, ((value.standing_ignored w p.1).plain, pairs_plain l w ps))
 
-  pub pairs_even : (ps : List (K × V)) → count (canons ps) % 2 ≡ 0
-  pairs_even [] = refl
-  pairs_even (p ∷ ps) = omega (arith, pairs_even ps)
-
   -- what is written is read again
   pub pairs_valued : (ps : List (K × V)) → Values ps → EverywhereIn IsValue (canons ps)
   pairs_valued [] i = tt
-  pairs_valued (p ∷ ps) i = ((key.rewrites p.0).valued i.0, ((value.rewrites p.1).valued i.1, pairs_valued ps i.2))
+  pairs_valued (p ∷ ps) i = ((key.rewrites p.0).valued i.0.0, ((value.rewrites p.1).valued i.1, pairs_valued ps i.2))
 
   pub pairs_read : (ps : List (K × V)) → Values ps → ((r : Refusal) → BarsAny r (canons ps) → ⊥)
       → (ts : Terms) × EachExpandsTo (canons ps) ts
   pairs_read [] i f = (none, tt)
   pairs_read (p ∷ ps) i f =
-      let x = (key.rewrites p.0).reads i.0 (λ r h. f r (inl h)) in
+      let x = (key.rewrites p.0).reads i.0.0 (λ r h. f r (inl h)) in
       let y = (value.rewrites p.1).reads i.1 (λ r h. f r (inr (inl h))) in
       let xs = pairs_read ps i.2 (λ r h. f r (inr (inr h))) in
       (more x.0 (more y.0 xs.0), (x.1, (y.1, xs.1)))
@@ -206,7 +212,11 @@ module _ {K V : Type 0} (key : TermType K) (value : TermType V) where
   -- of pairs that are meant
   pub pairs_value : (ss : List Standing) (ts : Terms) (ps : List (K × V)) → Mean ss ts ps → Values ps
   pairs_value = by_induct (λ ss ts ps. Values ps) tt
-      (λ s z t r p ss ts ps m n i. ((key.meant s t p.0 m).value, (value.meant z r p.1 n).value, i))
+      (λ s z t r p ss ts ps m n i. (
+        ((key.meant s t p.0 m).value, λ l e. key.own s t l ((key.sameness.agrees p.0 l e).means s t m)),
+        (value.meant z r p.1 n).value,
+        i,
+      ))
 
   pub pairs_own : (ss : List Standing) (ts : Terms) (ps : List (K × V)) → Mean ss ts ps → Same (normals ps) ps
   pairs_own = by_induct (λ ss ts ps. Same (normals ps) ps) tt
@@ -248,30 +258,29 @@ module _ {K V : Type 0} (key : TermType K) (value : TermType V) where
         | inr a ↦ elim a [ inl b ↦ (value.meant z r p.1 n).writable e.1.0 x b | inr b ↦ i e.1.1 x b ]
       ])
 
-  -- where a key is its own normal value
-  module _ (own : (k : K) → key.same (normal key.norm k) k) where
-    pub pairs_mean : (ss : List Standing) (ps : List (K × V)) (ts : Terms) → Values ps → EachCanonical ss (canons ps)
-        → EachExpandsTo (canons ps) ts → Mean ss ts (normals ps)
-    pairs_mean [] [] none i c r = tt
-    pairs_mean [] [] (more t ts) i c r = absurd r
-    pairs_mean [] (p ∷ ps) ts i c r = absurd c
-    pairs_mean (s ∷ ss) [] ts i c r = absurd c
-    pairs_mean (s ∷ []) (p ∷ ps) ts i c r = absurd c.1
-    pairs_mean (s ∷ z ∷ ss) (p ∷ ps) none i c r = absurd r
-    pairs_mean (s ∷ z ∷ ss) (p ∷ ps) (more t none) i c r = absurd r.1
-    pairs_mean (s ∷ z ∷ ss) (p ∷ ps) (more t (more y ts)) i c r = (
-      (key.sameness.agrees (normal key.norm p.0) p.0 (own p.0)).means s t ((key.rewrites p.0).means s t i.0 c.0.0 c.0.1 r.0),
-      ((value.rewrites p.1).means z y i.1 c.1.0.0 c.1.0.1 r.1.0, pairs_mean ss ps ts i.2 c.1.1 r.1.1),
-    )
+  pub pairs_mean : (ss : List Standing) (ps : List (K × V)) (ts : Terms) → Values ps → EachCanonical ss (canons ps)
+      → EachExpandsTo (canons ps) ts → Mean ss ts (normals ps)
+  pairs_mean [] [] none i c r = tt
+  pairs_mean [] [] (more t ts) i c r = absurd r
+  pairs_mean [] (p ∷ ps) ts i c r = absurd c
+  pairs_mean (s ∷ ss) [] ts i c r = absurd c
+  pairs_mean (s ∷ []) (p ∷ ps) ts i c r = absurd c.1
+  pairs_mean (s ∷ z ∷ ss) (p ∷ ps) none i c r = absurd r
+  pairs_mean (s ∷ z ∷ ss) (p ∷ ps) (more t none) i c r = absurd r.1
+  pairs_mean (s ∷ z ∷ ss) (p ∷ ps) (more t (more y ts)) i c r = (
+    (key.sameness.agrees (normal key.norm p.0) p.0 (i.0.1 p.0 (key.sameness.refl p.0))).means s t
+        ((key.rewrites p.0).means s t i.0.0 c.0.0 c.0.1 r.0),
+    ((value.rewrites p.1).means z y i.1 c.1.0.0 c.1.0.1 r.1.0, pairs_mean ss ps ts i.2 c.1.1 r.1.1),
+  )
 
-    pub pairs_canon_mean : key.ignores_standing ≡ true → value.ignores_standing ≡ true → (s : Standing) (ps : List (K × V)) → Values ps
-        → ((r : Refusal) → BarsAny r (canons ps) → ⊥) → Mean (map (λ x. s) (in_turn ps)) (canons ps) (normals ps)
-    pairs_canon_mean l w s [] i f = tt
-    pairs_canon_mean l w s (p ∷ ps) i f = (
-      (key.sameness.agrees (normal key.norm p.0) p.0 (own p.0)).means s (key.canon p.0)
-          ((key.standing_ignored l p.0).canon_means s i.0 (λ r h. f r (inl h))),
-      (
-        (value.standing_ignored w p.1).canon_means s i.1 (λ r h. f r (inr (inl h))),
-        pairs_canon_mean l w s ps i.2 (λ r h. f r (inr (inr h))),
-      ),
-    )
+  pub pairs_canon_mean : key.ignores_standing ≡ true → value.ignores_standing ≡ true → (s : Standing) (ps : List (K × V)) → Values ps
+      → ((r : Refusal) → BarsAny r (canons ps) → ⊥) → Mean (map (λ x. s) (in_turn ps)) (canons ps) (normals ps)
+  pairs_canon_mean l w s [] i f = tt
+  pairs_canon_mean l w s (p ∷ ps) i f = (
+    (key.sameness.agrees (normal key.norm p.0) p.0 (i.0.1 p.0 (key.sameness.refl p.0))).means s (key.canon p.0)
+        ((key.standing_ignored l p.0).canon_means s i.0.0 (λ r h. f r (inl h))),
+    (
+      (value.standing_ignored w p.1).canon_means s i.1 (λ r h. f r (inr (inl h))),
+      pairs_canon_mean l w s ps i.2 (λ r h. f r (inr (inr h))),
+    ),
+  )

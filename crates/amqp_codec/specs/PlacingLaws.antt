@@ -3,7 +3,7 @@ use Rattle.std.proofs.Common.{◌≡◌, inl, inr, ℕ, ◌+◌, ◌≤◌, ◌<
 use Rattle.std.proofs.Common.{append_assoc, le_of_suc-le-suc, lt_of_not-le}
 use Rattle.amqp_model.specs.Term.{Refusal, depth, Container, list, map, array, Descriptor, Term, Terms, container, none, more, count}
 use Rattle.amqp_model.specs.Constructors.{Format, fixed, variable, compound, unknown, format}
-use Rattle.amqp_model.specs.Spelling.{Names, IsValid, descriptor_value, ContainerData, HasWidthZero, Constructor, data_of, items_of}
+use Rattle.amqp_model.specs.Spelling.{Names, IsValid, descriptor_value, ContainerData, Constructor, data_of, items_of}
 use Rattle.amqp_model.specs.Spelling.{elements_of}
 use Rattle.amqp_model.specs.Spelling.{shared_data_of, enc}
 use Rattle.amqp_model.specs.Standing.{Standing, whole, part, StandWhole, StandAsData, StandInArray, StandIn, Parts}
@@ -35,7 +35,7 @@ list_placed none b h = ([], (h, refl), (tt, tt))
 list_placed (more t ts) b (first, second, e, s, rest) =
     let r = list_placed ts second rest in (whole first ∷ r.0, (first, second, r.0, e, s, r.1, refl), ((s, r.2.0), tt))
 
-names_valid : (d : Descriptor) (b : List ℕ) → Names d b → IsValid (descriptor_value d)
+pub names_valid : (d : Descriptor) (b : List ℕ) → Names d b → IsValid (descriptor_value d)
 names_valid d b (c, x, e, h) = data_valid (format c) (descriptor_value d) x h
 
 constructor_named : (ds : List Descriptor) (c : ℕ) (b : List ℕ) → Constructor ds c b → AreNamed ds

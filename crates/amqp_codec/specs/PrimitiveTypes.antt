@@ -38,10 +38,12 @@ module _ {A : Type 0} (make : A → Primitive) (range : A → Type 0) {is_never_
   abbrev primitive_canon : A → Term
   primitive_canon v = leaf (make v)
 
-  pub primitive_exact : IsExact range primitive_canon (λ v w. v ≡ w) (λ _. 1) is_never_null
+  pub primitive_exact : IsExact range range primitive_canon (λ v w. v ≡ w) (λ _. 1) is_never_null
   primitive_exact = record {
     sameness = equality (view_of range (MeansExactly range primitive_canon) primitive_canon)
         (λ s t v w h k. laws.injective v w (leaf_injective (make v) (make w) (sym h.0 ∙ k.0)));
+    value = λ v i. i;
+    meant = λ v i f. i;
     plain = λ v. tt;
     not_null = laws.not_null;
     valued = laws.in_range;
@@ -68,6 +70,10 @@ IsOf base v = IsInRange (base.make v)
 
 pub base_is_kind : {A : Type 0} (base : Base A) → IsKind base.make (IsOf base) true
 base_is_kind base = record { injective = base.injective; in_range = λ v i. i; not_null = λ _. base.not_null }
+
+-- The type of the values that are in their range.
+abbrev pub primitive_of : {A : Type 0} → Base A → (takes_memory : Bool) → TermType A
+primitive_of base = primitive_type base.make (IsOf base) (base_is_kind base) base.kind
 
 -- What a primitive is made of.
 abbrev pub truth : Primitive → Bool
@@ -157,58 +163,58 @@ symbol_base = record { make = symbol; kind = symbols; injective = λ v w. ap con
 
 -- The types that are their primitives, and those of which others are made: milliseconds since 1970, and bytes.
 abbrev pub boolean_type : TermType Bool
-boolean_type = primitive_type boolean (λ _. Unit {0}) (base_is_kind boolean_base) booleans false
+boolean_type = primitive_of boolean_base false
 
 abbrev pub ubyte_type : TermType ℕ
-ubyte_type = primitive_type ubyte (λ n. n < 2 ^ 8) (base_is_kind ubyte_base) ubytes false
+ubyte_type = primitive_of ubyte_base false
 
 abbrev pub ushort_type : TermType ℕ
-ushort_type = primitive_type ushort (λ n. n < 2 ^ 16) (base_is_kind ushort_base) ushorts false
+ushort_type = primitive_of ushort_base false
 
 abbrev pub uint_type : TermType ℕ
-uint_type = primitive_type uint (λ n. n < 2 ^ 32) (base_is_kind uint_base) uints false
+uint_type = primitive_of uint_base false
 
 abbrev pub ulong_type : TermType ℕ
-ulong_type = primitive_type ulong (λ n. n < 2 ^ 64) (base_is_kind ulong_base) ulongs false
+ulong_type = primitive_of ulong_base false
 
 abbrev pub byte_type : TermType ℤ
-byte_type = primitive_type byte (λ z. FitsSigned w8 z) (base_is_kind byte_base) bytes false
+byte_type = primitive_of byte_base false
 
 abbrev pub short_type : TermType ℤ
-short_type = primitive_type short (λ z. FitsSigned w16 z) (base_is_kind short_base) shorts false
+short_type = primitive_of short_base false
 
 abbrev pub int_type : TermType ℤ
-int_type = primitive_type int (λ z. FitsSigned w32 z) (base_is_kind int_base) ints false
+int_type = primitive_of int_base false
 
 abbrev pub long_type : TermType ℤ
-long_type = primitive_type long (λ z. FitsSigned w64 z) (base_is_kind long_base) longs false
+long_type = primitive_of long_base false
 
 abbrev pub char_type : TermType ℕ
-char_type = primitive_type char (λ n. IsScalar n) (base_is_kind char_base) chars false
+char_type = primitive_of char_base false
 
 abbrev pub milliseconds_type : TermType ℤ
-milliseconds_type = primitive_type timestamp (λ z. FitsSigned w64 z) (base_is_kind timestamp_base) timestamps false
+milliseconds_type = primitive_of timestamp_base false
 
 abbrev pub decimal32_bytes_type : TermType (List ℕ)
-decimal32_bytes_type = primitive_type decimal32 (λ b. length b ≡ 4) (base_is_kind decimal32_base) decimals32 false
+decimal32_bytes_type = primitive_of decimal32_base false
 
 abbrev pub decimal64_bytes_type : TermType (List ℕ)
-decimal64_bytes_type = primitive_type decimal64 (λ b. length b ≡ 8) (base_is_kind decimal64_base) decimals64 false
+decimal64_bytes_type = primitive_of decimal64_base false
 
 abbrev pub decimal128_bytes_type : TermType (List ℕ)
-decimal128_bytes_type = primitive_type decimal128 (λ b. length b ≡ 16) (base_is_kind decimal128_base) decimals128 false
+decimal128_bytes_type = primitive_of decimal128_base false
 
 abbrev pub uuid_bytes_type : TermType (List ℕ)
-uuid_bytes_type = primitive_type uuid (λ b. length b ≡ 16) (base_is_kind uuid_base) uuids false
+uuid_bytes_type = primitive_of uuid_base false
 
 abbrev pub binary_bytes_type : TermType (List ℕ)
-binary_bytes_type = primitive_type binary (λ _. Unit {0}) (base_is_kind binary_base) binaries true
+binary_bytes_type = primitive_of binary_base true
 
 abbrev pub string_bytes_type : TermType (List ℕ)
-string_bytes_type = primitive_type string (λ s. IsUtf8 s) (base_is_kind string_base) strings true
+string_bytes_type = primitive_of string_base true
 
 abbrev pub symbol_bytes_type : TermType (List ℕ)
-symbol_bytes_type = primitive_type symbol (λ _. Unit {0}) (base_is_kind symbol_base) symbols true
+symbol_bytes_type = primitive_of symbol_base true
 
 -- Part 1, section 1.6.1: null, by the one value of a type
 pub null_is_kind : IsKind (λ (_ : Unit {0}). null) (λ _. Unit {0}) false

@@ -1,11 +1,12 @@
 -- Refusals of a call that is made of other calls.
 use Rattle.std.proofs.Common.{◌≡◌, inl, inr, ℕ, Bool, true, false, None, ◌⊎◌, ap, ◌∙◌}
-use Rattle.amqp_model.specs.Term.{Container}
+use Rattle.amqp_model.specs.Term.{Container, Descriptor}
 use Rattle.amqp_wire.specs.declared.error.Error.{Error}
 use Rattle.amqp_decoder.specs.State.{State}
 use Rattle.amqp_decoder.specs.Steps.{IsExcused}
 use Rattle.amqp_decoder.specs.Reading.{RefusesRead}
 use Rattle.amqp_decoder.specs.Containers.{Opens}
+use Rattle.amqp_decoder.specs.Described.{OpensDescribed}
 use Rattle.amqp_decoder.proofs.Steps.{answered_later}
 
 -- a call that takes memory at most where another does
@@ -24,6 +25,15 @@ opened_going o = ap (λ (x : State). x.error) o.data_.entered ∙ ap (λ (x : St
 
 pub opened_sound : {kind : Container} {st first : State} {n : ℕ} → Opens kind st n first → first.failed ≡ st.failed
 opened_sound o = ap (λ (x : State). x.failed) o.data_.entered ∙ ap (λ (x : State). x.failed) o.data_.header.took.moved
+    ∙ ap (λ (x : State). x.failed) o.begun.moved
+
+-- and so of a described value
+pub described_going : {st inner : State} {d : Descriptor} → OpensDescribed st d inner → inner.error ≡ None
+described_going o = ap (λ (x : State). x.error) o.opened ∙ ap (λ (x : State). x.error) o.descriptor.took.moved
+    ∙ ap (λ (x : State). x.error) o.begun.moved ∙ o.begun.going
+
+pub described_sound : {st inner : State} {d : Descriptor} → OpensDescribed st d inner → inner.failed ≡ st.failed
+described_sound o = ap (λ (x : State). x.failed) o.opened ∙ ap (λ (x : State). x.failed) o.descriptor.took.moved
     ∙ ap (λ (x : State). x.failed) o.begun.moved
 
 -- nothing that could be read stands there, unless the refusal is excused

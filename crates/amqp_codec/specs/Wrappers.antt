@@ -51,29 +51,36 @@ via u to n is = record {
   least = λ l b t v. u.least l b t (to v);
 }
 
-abbrev pub norm_box : {T Z : Type 0} → Norm T → Norm (Box T Z)
-norm_box unchanged = unchanged
-norm_box (by_norm f) = by_norm (λ b. record b { value = f b.value })
+-- A value of W holds one of T, which can be replaced.
+pub record Holds (W T : Type 0) : Type 0 where
+  pub get : W → T
+  pub put : T → W → W
+  pub is_put : (v : T) (w : W) → get (put v w) ≡ v
 
-pub box_normal : {T Z : Type 0} (n : Norm T) (b : Box T Z) → (normal (norm_box n) b).value ≡ normal n b.value
-box_normal unchanged b = refl
-box_normal (by_norm f) b = refl
+abbrev pub norm_held : {W T : Type 0} → Holds W T → Norm T → Norm W
+norm_held h unchanged = unchanged
+norm_held h (by_norm f) = by_norm (λ w. h.put (f (h.get w)) w)
 
--- A box is as its value.
+pub held_normal : {W T : Type 0} (h : Holds W T) (n : Norm T) (w : W) → h.get (normal (norm_held h n) w) ≡ normal n (h.get w)
+held_normal h unchanged w = refl
+held_normal h (by_norm f) w = h.is_put (f (h.get w)) w
+
+-- What holds a value is as the value, and takes memory.
+abbrev pub held : {W T : Type 0} → Holds W T → TermType T → TermType W
+held h u = record (via u h.get (norm_held h u.norm) (held_normal h u.norm)) { takes_memory = true }
+
+abbrev pub in_box : {T Z : Type 0} → Holds (Box T Z) T
+in_box = record { get = λ b. b.value; put = λ v b. record b { value = v }; is_put = λ v b. refl }
+
 abbrev pub boxed : {T Z : Type 0} → TermType T → TermType (Box T Z)
-boxed u = record (via u (λ b. b.value) (norm_box u.norm) (box_normal u.norm)) { takes_memory = true }
+boxed = held in_box
 
-abbrev pub norm_rc : {T Z : Type 0} → Norm T → Norm (Rc T Z)
-norm_rc unchanged = unchanged
-norm_rc (by_norm f) = by_norm (λ r. record r { value = f r.value })
+-- a value that several own
+abbrev pub in_rc : {T Z : Type 0} → Holds (Rc T Z) T
+in_rc = record { get = λ r. r.value; put = λ v r. record r { value = v }; is_put = λ v r. refl }
 
-pub rc_normal : {T Z : Type 0} (n : Norm T) (r : Rc T Z) → (normal (norm_rc n) r).value ≡ normal n r.value
-rc_normal unchanged r = refl
-rc_normal (by_norm f) r = refl
-
--- A value that several own is as the value.
 abbrev pub reference_counted : {T Z : Type 0} → TermType T → TermType (Rc T Z)
-reference_counted u = record (via u (λ r. r.value) (norm_rc u.norm) (rc_normal u.norm)) { takes_memory = true }
+reference_counted = held in_rc
 
 -- Part 1, section 1.6.20
 abbrev pub string_type : {Z : Type 0} → TermType (String Z)

@@ -1,7 +1,7 @@
 //! Optional values, boxes and values that several own, which are read and written; and references, which are written only.
 ghost use Rattle.amqp_codec.specs.OptionType.{option_of};
-ghost use Rattle.amqp_codec.specs.Wrappers.{boxed, reference_counted};
-ghost use Rattle.amqp_codec.specs.Agreement.{box_agreement, rc_agreement, option_one, option_agreement, option_writing, via_writing};
+ghost use Rattle.amqp_codec.specs.Wrappers.{boxed, in_box, reference_counted, in_rc};
+ghost use Rattle.amqp_codec.specs.Agreement.{option_one, option_agreement, option_writing, via_writing, held_agreement};
 
 use crate::{DeserializeTerm, Serialize, SerializeTerm};
 use amqp_decoder::Decoder;
@@ -87,7 +87,7 @@ impl<T: DeserializeTerm> DeserializeTerm for Box<T> {
         }
     }
 
-    ghost agreement = { box_agreement T.agreement };
+    ghost agreement = { held_agreement in_box T.agreement };
 }
 
 impl<T: Serialize> Serialize for Rc<T> {
@@ -121,7 +121,7 @@ impl<T: DeserializeTerm> DeserializeTerm for Rc<T> {
         }
     }
 
-    ghost agreement = { rc_agreement T.agreement };
+    ghost agreement = { held_agreement in_rc T.agreement };
 }
 
 impl<T: Serialize> Serialize for &T {

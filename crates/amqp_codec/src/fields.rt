@@ -5,6 +5,7 @@ ghost use Rattle.amqp_model.specs.Items.{is_null};
 ghost use Rattle.amqp_model.specs.Fields.{kinds_of, canonical_terms, canonical_items};
 ghost use Rattle.amqp_model.specs.Composite.{MeansList, canonical_list};
 ghost use Rattle.amqp_encoder.specs.Passes.{answer_of};
+ghost use Rattle.amqp_codec.specs.Slots.{MeansSome};
 ghost use Rattle.amqp_codec.specs.Fields.{slots, canon_at, take_memory};
 ghost use Rattle.amqp_codec.specs.Written.{WritesTerms};
 ghost use Rattle.amqp_wire.specs.Sources.{Tells};
@@ -64,6 +65,19 @@ pub fn read_into<T: DeserializeTerm, R: ByteSource>(
     ensures { Tells R.remaining → Fills T.term.takes_memory T.term.means T.term.faults.fault decoder.old place.new result decoder.new }
 {
     *place = T::read_value(decoder, alloc)?;
+    Ok(())
+}
+
+/// Reads a value into the place of an optional one. It is refused as its type is.
+pub fn read_some<T: DeserializeTerm, R: ByteSource>(
+    place: &mut Option<T>,
+    decoder: &mut Decoder<R>,
+    alloc: Global,
+) -> Result<(), Error>
+    ensures { Tells R.remaining → Fills T.term.takes_memory (λ s t. MeansSome (T.term.means s t)) T.term.faults.fault
+        decoder.old place.new result decoder.new }
+{
+    *place = Some(T::read_value(decoder, alloc)?);
     Ok(())
 }
 

@@ -1,0 +1,4 @@
+pub mod Depths
+pub mod Passes
+pub mod Rewrites
+pub mod FromReader

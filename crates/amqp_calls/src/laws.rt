@@ -1,0 +1,106 @@
+//! The laws of every type of terms, over the bytes that spell its values.
+ghost use Rattle.std.specs.Prelude.{◌≡◌, ◌≤◌, ℕ, Bool, true, false, List, ◌++◌, length};
+ghost use Rattle.amqp_model.specs.Term.{Refusal, too_large};
+ghost use Rattle.amqp_model.specs.Ranges.{Everywhere, IsNoArray, IsBytes};
+ghost use Rattle.amqp_model.specs.Refusals.{Refuses};
+ghost use Rattle.amqp_model.specs.FieldType.{normal};
+ghost use Rattle.amqp_wire.specs.declared.error.Error.{Error};
+ghost use Rattle.amqp_encoder.specs.Passes.{row_text};
+ghost use Rattle.amqp_encoder.specs.Refused.{TermHasCause};
+ghost use Rattle.std.specs.Bool.{Decides};
+ghost use Rattle.amqp_codec.specs.Spelled.{IsSpelled, IsWritable, written};
+ghost use Rattle.amqp_codec.specs.Keys.{ComparesTexts};
+ghost use Rattle.amqp_codec.specs.Written.{AreWritable, AreUnwritable};
+ghost use Rattle.std.specs.Prelude.{take};
+ghost use Rattle.amqp_decoder.specs.State.{State};
+ghost use Rattle.amqp_decoder.specs.Reading.{PeeksCode};
+ghost use Rattle.amqp_codec.specs.EitherType.{EitherFault};
+ghost use Rattle.amqp_codec.specs.Reading.{BeginsWith};
+
+use amqp_codec::{Canonical, Deserialize, DeserializeTerm, MapKey};
+
+/// What is read from the front of an input is what that front spells, whatever stands behind it; and nothing behind it
+/// is looked at. So an error that says of bytes that they are no term is answered only of such (`IsUnreadable::unspelled`).
+pub fn reading_is_spelling<T: DeserializeTerm>()
+    ensures spelled { (input : List ℕ) (v : T) (n : ℕ) → BeginsWith ⟦<T as Deserialize>⟧.reading input v n
+        → (n ≤ length input) × IsSpelled T.term (take n input) v }
+    ensures read { (b more : List ℕ) (v : T) → IsSpelled T.term b v → BeginsWith ⟦<T as Deserialize>⟧.reading (b ++ more) v (length b) }
+    ensures no_more { ⟦<T as Deserialize>⟧.reading.looks_on ≡ false }
+    ensures one_term { ⟦<T as Deserialize>⟧.reading.one_term ≡ true }
+{}
+
+/// What `to_vec`, `encoded_len` and `append_to_vec` say of a value's canonical terms, they say of the canonical term
+/// and text that the laws below speak of. Where it can't be written, the model refuses it for that reason, or its text is
+/// longer than the machine counts.
+pub fn one_term_is_written<T: DeserializeTerm>()
+    ensures is_value { (v : T) → T.writing.is_value v → T.term.is_value v }
+    ensures text { (v : T) → row_text (T.writing.canons v) ≡ written T.term v }
+    ensures writable { (v : T) → AreWritable (T.writing.canons v) → IsWritable T.term v }
+    ensures refused { (v : T) (e : Error) → T.writing.is_value v → AreUnwritable (T.writing.canons v) e → TermHasCause (T.term.canon v) e }
+{}
+
+/// What `canonical_text` promises holds of a type of terms without a condition: anything may follow a text, each text is
+/// read, as its value again, and it is the shortest where the type is least.
+pub fn terms_are_read_again<T: DeserializeTerm>()
+    ensures follows { (more : List ℕ) → ⟦<T as Canonical>⟧.follows more }
+    ensures kept { (v : T) → ⟦<T as Canonical>⟧.kept v }
+    ensures lasts { (v : T) → ⟦<T as Canonical>⟧.lasts v }
+    ensures least { ⟦<T as Canonical>⟧.is_least ≡ T.term.is_least }
+{}
+
+/// No input has two fronts that spell values, and no front spells two values.
+pub fn one_value<T: DeserializeTerm>()
+    ensures value { (b c x y : List ℕ) (v w : T) → IsSpelled T.term b v → IsSpelled T.term c w → b ++ x ≡ c ++ y → T.term.same v w }
+    ensures front { (b c x y : List ℕ) (v w : T) → IsSpelled T.term b v → IsSpelled T.term c w → b ++ x ≡ c ++ y → b ≡ c }
+{}
+
+/// What was read can be written, but where its size passes 32 bits.
+pub fn what_is_read_is_writable<T: DeserializeTerm>()
+    ensures { (b : List ℕ) (v : T) (r : Refusal) → IsSpelled T.term b v → Refuses r (T.term.canon v) → r ≡ too_large }
+{}
+
+/// The canonical text of a value that can be written is read as the value, normalised; what was read is its own
+/// normal value.
+pub fn canonical_text_is_read_again<T: DeserializeTerm>()
+    ensures again { (v : T) → T.term.is_value v → IsWritable T.term v → IsSpelled T.term (written T.term v) (normal T.term.norm v) }
+    ensures own { (b : List ℕ) (v : T) → IsSpelled T.term b v → T.term.same (normal T.term.norm v) v }
+    ensures values { (b : List ℕ) (v : T) → IsSpelled T.term b v → T.term.is_value v }
+{}
+
+/// All spellings of a value have one canonical text, different values have different ones, and what a canonical
+/// text is read as is written as that text again.
+pub fn one_text_for_one_value<T: DeserializeTerm>()
+    ensures same { (v w : T) → T.term.same v w → written T.term v ≡ written T.term w }
+    ensures apart { (b c : List ℕ) (v w : T) → IsSpelled T.term b v → IsSpelled T.term c w → IsWritable T.term v → IsWritable T.term w
+        → written T.term v ≡ written T.term w → T.term.same v w }
+    ensures unchanged { (v w : T) → T.term.is_value v → IsWritable T.term v → IsSpelled T.term (written T.term v) w
+        → written T.term w ≡ written T.term v }
+{}
+
+/// Two keys are equal if they are one value. So where they can be written, they are equal exactly if their canonical texts are;
+/// and equal keys are hashed alike.
+pub fn keys_are_compared_by_their_texts<K: MapKey>()
+    ensures values { (v w : K) → Decides (K.eq v w) (K.term.same v w) }
+    ensures texts { ComparesTexts K.term K.eq }
+    ensures hashes { (v w : K) → K.eq v w ≡ true → K.hash_input v ≡ K.hash_input w }
+{}
+
+/// No spelling of a value of a least type is shorter than its canonical text, where its term holds no array.
+pub fn canonical_text_is_least<T: DeserializeTerm>()
+    ensures { T.term.is_least ≡ true → (b : List ℕ) (v : T) → IsBytes b → Everywhere IsNoArray (T.term.canon v) → IsSpelled T.term b v
+        → length (written T.term v) ≤ length b }
+{}
+
+/// A sum of two types that are told from each other by the first code names a fault of the type that the code tells, and no
+/// other's.
+pub fn faults_of_a_sum<A: DeserializeTerm, B: DeserializeTerm>()
+    ensures first { (is_first : ℕ → Bool) (st mid : State) (c : ℕ) (e : Error) → PeeksCode st c mid → is_first c ≡ true
+        → EitherFault is_first A.term.faults B.term.faults st e → A.term.faults.fault mid e }
+    ensures second { (is_first : ℕ → Bool) (st mid : State) (c : ℕ) (e : Error) → PeeksCode st c mid → is_first c ≡ false
+        → EitherFault is_first A.term.faults B.term.faults st e → B.term.faults.fault mid e }
+{}
+
+/// A value has no more values in it than the bytes that spell it.
+pub fn count_is_bounded<T: DeserializeTerm>()
+    ensures { (b : List ℕ) (v : T) → IsSpelled T.term b v → T.term.count v ≤ length b }
+{}

@@ -1,0 +1,13 @@
+//! The calls on whole values, and the laws of what they read and write.
+#![tactic(auto)]
+
+mod calls;
+pub mod laws;
+mod reader;
+
+pub use amqp_codec::{Canonical, Deserialize, DeserializeTerm, Serialize, SerializeTerm};
+pub use amqp_wire::ReadSource;
+pub use calls::{
+    append_to_vec, canonical_text, encoded_len, from_slice, from_slice_counted, to_vec,
+};
+pub use reader::from_reader;

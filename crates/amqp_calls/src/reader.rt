@@ -1,0 +1,104 @@
+//! Whole values from a reader.
+ghost use Rattle.std.specs.Prelude.{◌≡◌, ◌⊎◌, ℕ, true, false, drop, IfOk, IfErr, MatchResult};
+ghost use Rattle.amqp_wire.specs.declared.error.Error.TheVariants.{Memory};
+ghost use Rattle.amqp_wire.specs.Sources.{known, Tells};
+ghost use Rattle.amqp_decoder.specs.Steps.{IsReadError};
+ghost use Rattle.amqp_codec.specs.Reading.{BeginsWith, IsUnreadable};
+
+use amqp_codec::Deserialize;
+use amqp_decoder::Decoder;
+use amqp_wire::{ByteSource, Error};
+use std::alloc::{AllocError, Global};
+use std::io::ErrorKind;
+use std::marker::{Brand, PhantomData};
+
+/// The value that the reader's bytes begin with, however it gives them. The reader is left behind the value.
+/// An error is `Memory`, where reading the type takes memory; `Read`, where the reader has failed; or it names a fault of
+/// bytes that begin with no value. Where the reader begins to fail, it is always `Read`. Nothing says how many bytes were
+/// taken then.
+pub fn from_reader<T: Deserialize, R: ByteSource>(reader: &mut R, alloc: Global) -> Result<T, Error>
+    ensures found { Tells R.remaining → IfOk result (λ v. (n : ℕ) × BeginsWith T.reading (known (R.remaining reader.old)) v n) }
+    ensures one { Tells R.remaining → IfOk result (λ v. (w : _) (m : ℕ)
+        → BeginsWith T.reading (known (R.remaining reader.old)) w m → T.reading.same v w) }
+    ensures behind { Tells R.remaining → T.reading.looks_on ≡ false
+        → IfOk result (λ v. (w : _) (n : ℕ) → BeginsWith T.reading (known (R.remaining reader.old)) w n
+        → known (R.remaining reader.new) ≡ drop n (known (R.remaining reader.old))) }
+    ensures refused { Tells R.remaining → IfErr result (λ e. ((T.reading.takes_memory ≡ true) × (e ≡ Memory))
+        ⊎ ((IsReadError e × (R.failed reader.new ≡ true)) ⊎ IsUnreadable T.reading (known (R.remaining reader.old)) e)) }
+    ensures failing { Tells R.remaining → MatchResult result (λ _. R.failed reader.new ≡ R.failed reader.old)
+        (λ e. (R.failed reader.new ≡ R.failed reader.old) ⊎ IsReadError e) }
+{
+    let (read, _reader) = read_named::<T, _, Brand>(reader, alloc);
+    read
+}
+
+// The name of a source, which a call picks.
+trait Name {
+    ghost name: { ℕ };
+}
+
+impl Name for Brand {
+    ghost name = { 0 };
+}
+
+// A source of that name. So the one that a decoder gives back is the one that it was made of.
+#[derive(Drop)]
+struct Named<S: ByteSource, N: Name> {
+    source: S,
+    of: PhantomData<N>,
+    ghost is_named: { S.name source ≡ N.name },
+}
+
+impl<S: ByteSource, N: Name> ByteSource for Named<S, N> {
+    ghost remaining = { λ s. S.remaining s.source };
+
+    ghost failed = { λ s. S.failed s.source };
+
+    ghost name = { λ s. S.name s.source };
+
+    fn pull(&mut self, buffer: &mut [u8]) -> Result<usize, ErrorKind> {
+        self.source.pull(buffer)
+    }
+
+    #[inline(always)]
+    fn pull_ready(&mut self, buffer: &mut [u8]) -> bool {
+        self.source.pull_ready(buffer)
+    }
+
+    #[inline(always)]
+    fn append_ready(&mut self, count: usize, bytes: &mut Vec<u8>) -> Result<bool, AllocError> {
+        self.source.append_ready(count, bytes)
+    }
+
+    fn failed(&self) -> bool {
+        self.source.failed()
+    }
+}
+
+// The value that the source's bytes begin with, and the source, which is left behind it.
+fn read_named<T: Deserialize, S: ByteSource, N: Name>(
+    source: S,
+    alloc: Global,
+) -> (Result<T, Error>, S)
+    requires { S.name source ≡ N.name }
+    ensures named { S.name result.1 ≡ S.name source }
+    ensures found { Tells S.remaining → IfOk result.0 (λ v. (n : ℕ) × BeginsWith T.reading (known (S.remaining source)) v n) }
+    ensures one { Tells S.remaining → IfOk result.0 (λ v. (w : _) (m : ℕ)
+        → BeginsWith T.reading (known (S.remaining source)) w m → T.reading.same v w) }
+    ensures behind { Tells S.remaining → T.reading.looks_on ≡ false
+        → IfOk result.0 (λ v. (w : _) (n : ℕ) → BeginsWith T.reading (known (S.remaining source)) w n
+        → known (S.remaining result.1) ≡ drop n (known (S.remaining source))) }
+    ensures refused { Tells S.remaining → IfErr result.0 (λ e. ((T.reading.takes_memory ≡ true) × (e ≡ Memory))
+        ⊎ ((IsReadError e × (S.failed result.1 ≡ true)) ⊎ IsUnreadable T.reading (known (S.remaining source)) e)) }
+    ensures failing { Tells S.remaining → MatchResult result.0 (λ _. S.failed result.1 ≡ S.failed source)
+        (λ e. (S.failed result.1 ≡ S.failed source) ⊎ IsReadError e) }
+{
+    let named = Named::<S, N> {
+        source,
+        of: PhantomData,
+    };
+    let mut decoder = Decoder::new(named, alloc);
+    let read = T::deserialize(&mut decoder, alloc);
+    let Named { source, .. } = decoder.into_source();
+    (read, source)
+}

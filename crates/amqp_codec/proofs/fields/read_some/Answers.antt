@@ -1,0 +1,29 @@
+use Rattle.std.proofs.Common.{Bool, Option, Some, None}
+use Rattle.std.proofs.lemmas.Result.{err_from_is_err_and}
+use Rattle.amqp_model.specs.Term.{Term}
+use Rattle.amqp_model.specs.Standing.{Standing}
+use Rattle.amqp_wire.specs.declared.error.Error.{Error}
+use Rattle.amqp_decoder.specs.State.{State}
+use Rattle.amqp_decoder.specs.Reading.{RefusesRead}
+use Rattle.amqp_decoder.specs.Primitives.{ReadsValue}
+use Rattle.amqp_codec.specs.Slots.{MeansSome}
+use Rattle.amqp_codec.specs.RefusalLaws.{NoneStands, refused_first}
+use Rattle.amqp_codec.proofs.fields.read_some.Goals as goal
+
+module _ {T : Type 0} (means : Standing → Term → T → Type 0) where
+  -- where no value stands, none stands that is there
+  none_there : (st : State) → NoneStands (ReadsValue means) st → NoneStands (ReadsValue (λ s t. MeansSome (means s t))) st
+  none_there st none None b h = h.meant
+  none_there st none (Some v) b h =
+      none v b (record { bytes = h.bytes; term = h.term; stands = h.stands; moved = h.moved; meant = h.meant })
+
+  some_refused : {takes : Bool} {fault : State → Error → Type 0} (st : State) (e : Error) (new : State)
+      → RefusesRead takes (ReadsValue means) fault st e new
+      → RefusesRead takes (ReadsValue (λ s t. MeansSome (means s t))) fault st e new
+  some_refused {fault = fault} st e new =
+      refused_first (ReadsValue means) fault (ReadsValue (λ s t. MeansSome (means s t))) fault st e new (λ t. t) (λ x. x) (none_there st)
+
+pub returns-in_err-read_value : goal.returns-in_err-read_value
+returns-in_err-read_value g c tells =
+    let p = err_from_is_err_and c.from_residual.result c.from_residual.ensures.1 in
+    rw (p.1, p.2) (some_refused g.T.DeserializeTerm.term.means _ _ _ (c.in_err-read_value.ensures tells))

@@ -1,0 +1,2 @@
+pub mod SumMembers
+pub mod RestrictedReads

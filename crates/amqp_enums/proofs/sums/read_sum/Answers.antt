@@ -1,0 +1,49 @@
+use Rattle.std.proofs.lemmas.Result.{err_from_is_err_and}
+use Rattle.amqp_enums.specs.Choices.{members_of, sum_of}
+use Rattle.amqp_codec.specs.Members.{unopened, unread, unended, read_whole, within}
+use Rattle.amqp_enums.proofs.SumMembers.{are_members}
+use Rattle.amqp_enums.proofs.sums.read_sum.Goals as goal
+
+pub returns-in_err-place : goal.returns-in_err-place
+returns-in_err-place g c tells =
+    let s = g.S.Sum.sum in
+    let ms = c.descriptors.result.now in
+    let names = c.descriptors.ensures in
+    let p = err_from_is_err_and c.from_residual.result c.from_residual.ensures.1 in
+    rw (p.1, p.2)
+    (unopened (members_of s.choices) (sum_of s).means (are_members s) ms _ _ _ names (c.in_err-place.ensures.opened tells))
+
+pub returns-in_err-value : goal.returns-in_err-value
+returns-in_err-value g c tells =
+    let s = g.S.Sum.sum in
+    let ms = c.descriptors.result.now in
+    let names = c.descriptors.ensures in
+    let opened = c.in_ok-place.ensures.opened tells in
+    let few = within (members_of s.choices) (sum_of s).means (are_members s) ms _ _ _ names opened in
+    let p = err_from_is_err_and c.from_residual-in_err-value.result c.from_residual-in_err-value.ensures.1 in
+    rw (p.1, p.2)
+    (unread (members_of s.choices) (sum_of s).means (are_members s) ms _ _ _ _ _ names opened (c.in_err-value.ensures few tells))
+
+pub returns-in_err-end_described : goal.returns-in_err-end_described
+returns-in_err-end_described g c tells =
+    let s = g.S.Sum.sum in
+    let ms = c.descriptors.result.now in
+    let names = c.descriptors.ensures in
+    let opened = c.in_ok-place.ensures.opened tells in
+    let few = within (members_of s.choices) (sum_of s).means (are_members s) ms _ _ _ names opened in
+    let read = c.in_ok-value.ensures few tells in
+    let p = err_from_is_err_and c.from_residual-in_err-end_described.result c.from_residual-in_err-end_described.ensures.1 in
+    rw (p.1, p.2)
+    (unended (members_of s.choices) (sum_of s).means (are_members s) ms _ _ _ _ _ _ _ names opened read c.in_err-end_described.ensures)
+
+pub returns : goal.returns
+returns g c tells =
+    let s = g.S.Sum.sum in
+    let ms = c.descriptors.result.now in
+    let names = c.descriptors.ensures in
+    let opened = c.in_ok-place.ensures.opened tells in
+    let few = within (members_of s.choices) (sum_of s).means (are_members s) ms _ _ _ names opened in
+    let read = c.in_ok-value.ensures few tells in
+    let nesting = c.in_ok-place.ensures.nesting tells in
+    let ended = c.in_ok-end_described.ensures in
+    read_whole (members_of s.choices) (sum_of s).means (are_members s) ms _ _ _ _ _ _ names nesting opened read ended

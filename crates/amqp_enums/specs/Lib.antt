@@ -1,0 +1,5 @@
+pub mod Restricted
+pub mod DistinctDescriptorLaws
+pub mod NeverType
+pub mod Choices
+pub mod Types

@@ -1,0 +1,171 @@
+//! Restricted types: each value is a number of a primitive type, or a text, which is a symbol.
+ghost use Rattle.std.specs.Prelude.{◌≡◌, ◌∷◌, [], IfErr, IfOk, false, true, string_bytes};
+ghost use Rattle.amqp_model.specs.Term.{leaf};
+ghost use Rattle.amqp_wire.specs.declared.error.Error.TheVariants.{Memory, UnknownNumber, UnknownText};
+ghost use Rattle.amqp_wire.specs.Sources.{Tells};
+ghost use Rattle.amqp_decoder.specs.Reading.{AnswersRead};
+ghost use Rattle.amqp_decoder.specs.Primitives.{ReadsValue, Means, PrimitiveFault};
+ghost use Rattle.amqp_codec.specs.Written.{WritesTerms};
+ghost use Rattle.amqp_codec.specs.PrimitiveTypes.{boolean_base, ubyte_base, ushort_base, uint_base, symbol_base};
+ghost use Rattle.amqp_enums.specs.Restricted.{ReadsRestricted, IsUnknown, Converts};
+
+use amqp_decoder::Decoder;
+use amqp_encoder::Encoder;
+use amqp_wire::{ByteSource, Error, Symbol};
+use std::alloc::Global;
+
+/// A primitive type, some numbers of which are those of a restricted type.
+pub trait Base: Sized + Drop {
+    ghost use Rattle.amqp_codec.specs.PrimitiveTypes.{Base};
+
+    ghost base: { Base Self };
+
+    /// Reads a number.
+    fn read<R: ByteSource>(decoder: &mut Decoder<R>) -> Result<Self, Error>
+        ensures { Tells R.remaining → AnswersRead false (ReadsValue (Means base.make)) (PrimitiveFault base.kind)
+            decoder.old result decoder.new };
+
+    /// Writes the number.
+    fn write(self, encoder: &mut Encoder) -> Result<(), Error>
+        ensures { WritesTerms (leaf (base.make self) ∷ []) encoder.old result encoder.new };
+}
+
+impl Base for bool {
+    ghost base = { boolean_base };
+
+    fn read<R: ByteSource>(decoder: &mut Decoder<R>) -> Result<bool, Error> {
+        decoder.read_bool()
+    }
+
+    fn write(self, encoder: &mut Encoder) -> Result<(), Error> {
+        encoder.write_bool(self)
+    }
+}
+
+impl Base for u8 {
+    ghost base = { ubyte_base };
+
+    fn read<R: ByteSource>(decoder: &mut Decoder<R>) -> Result<u8, Error> {
+        decoder.read_ubyte()
+    }
+
+    fn write(self, encoder: &mut Encoder) -> Result<(), Error> {
+        encoder.write_ubyte(self)
+    }
+}
+
+impl Base for u16 {
+    ghost base = { ushort_base };
+
+    fn read<R: ByteSource>(decoder: &mut Decoder<R>) -> Result<u16, Error> {
+        decoder.read_ushort()
+    }
+
+    fn write(self, encoder: &mut Encoder) -> Result<(), Error> {
+        encoder.write_ushort(self)
+    }
+}
+
+impl Base for u32 {
+    ghost base = { uint_base };
+
+    fn read<R: ByteSource>(decoder: &mut Decoder<R>) -> Result<u32, Error> {
+        decoder.read_uint()
+    }
+
+    fn write(self, encoder: &mut Encoder) -> Result<(), Error> {
+        encoder.write_uint(self)
+    }
+}
+
+/// A type each value of which is a number of its own.
+pub trait RestrictedNumber: Sized + Drop {
+    ghost use Rattle.std.specs.Prelude.{MatchOption};
+
+    /// The primitive type of the numbers.
+    type Number: Base;
+
+    // The table: the number of each value.
+    ghost numbers: { Self → Self.Number };
+
+    /// The value's number.
+    fn number(&self) -> Self::Number
+        ensures { result ≡ numbers self.now };
+
+    /// The value that has this number.
+    fn from_number(number: Self::Number) -> Option<Self>
+        ensures { MatchOption result (IsUnknown numbers number) (λ value. numbers value ≡ number) };
+}
+
+/// Reads a value by its number. Takes no memory. Any other number of the primitive type is `UnknownNumber`.
+pub fn read_number<T: RestrictedNumber, R: ByteSource>(decoder: &mut Decoder<R>) -> Result<T, Error>
+    ensures { Tells R.remaining → ReadsRestricted T.Number.base UnknownNumber T.numbers false decoder.old result decoder.new }
+{
+    let number = T::Number::read(decoder)?;
+    match T::from_number(number) {
+        Some(value) => Ok(value),
+        None => Err(decoder.refuse(Error::UnknownNumber)),
+    }
+}
+
+/// Writes the value's number.
+pub fn write_number<T: RestrictedNumber>(value: &T, encoder: &mut Encoder) -> Result<(), Error>
+    ensures { WritesTerms (leaf (T.Number.base.make (T.numbers value.now)) ∷ []) encoder.old result encoder.new }
+{
+    value.number().write(encoder)
+}
+
+/// A type each value of which is a text of its own.
+pub trait RestrictedText: Sized + Drop {
+    ghost use Rattle.std.specs.Prelude.{MatchOption, ℕ, List};
+
+    // The table: the text of each value.
+    ghost texts: { Self → List ℕ };
+
+    /// The value's text.
+    fn text(&self) -> &'static str
+        ensures { result.now ≡ texts self.now };
+
+    /// The value that has this text.
+    fn from_text(text: &str) -> Option<Self>
+        ensures { MatchOption result (IsUnknown texts text.now) (λ value. texts value ≡ text.now) };
+}
+
+/// Reads a value by its text, for which it takes memory. Any other symbol is `UnknownText`.
+pub fn read_text<T: RestrictedText, R: ByteSource>(
+    decoder: &mut Decoder<R>,
+    alloc: Global,
+) -> Result<T, Error>
+    ensures { Tells R.remaining → ReadsRestricted symbol_base UnknownText T.texts true decoder.old result decoder.new }
+{
+    let symbol = decoder.read_symbol(alloc)?;
+    match T::from_text(symbol.as_str()) {
+        Some(value) => Ok(value),
+        None => Err(decoder.refuse(Error::UnknownText)),
+    }
+}
+
+/// Writes the value's text.
+pub fn write_text<T: RestrictedText>(value: &T, encoder: &mut Encoder) -> Result<(), Error>
+    ensures { WritesTerms (leaf (symbol_base.make (T.texts value.now)) ∷ []) encoder.old result encoder.new }
+{
+    encoder.write_symbol(value.text())
+}
+
+/// The value's text as a symbol. The only error is `Memory`.
+pub fn symbol_of<T: RestrictedText>(value: &T, alloc: Global) -> Result<Symbol, Error>
+    ensures text { IfOk result (λ symbol. string_bytes symbol.0 ≡ T.texts value.now) }
+    ensures refused { IfErr result (λ e. e ≡ Memory) }
+{
+    Ok(String::from_str(alloc, value.text())?.into())
+}
+
+/// The value that has this text, or the symbol again.
+pub fn from_symbol<T: RestrictedText>(symbol: Symbol) -> Result<T, Symbol>
+    ensures { Converts T.texts (string_bytes symbol.0) symbol result }
+{
+    match T::from_text(symbol.as_str()) {
+        Some(value) => Ok(value),
+        None => Err(symbol),
+    }
+}
