@@ -6,24 +6,27 @@ use std::borrow::CowStr;
 use std::rc::Rc;
 use std::test::Fail;
 
-// The canonical text in hexadecimal digits.
-fn digits_of<T: Serialize>(value: &T, alloc: Global) -> Result<String, Fail> {
+// The value is written so.
+fn check<T: Serialize>(value: &T, digits: &str, alloc: Global) -> Result<(), Fail> {
     let text = to_vec(value, alloc)?;
-    Ok(hex::encode(alloc, &text)?)
+    let written = hex::encode(alloc, &text)?;
+    if written.as_str() == digits {
+        Ok(())
+    } else {
+        Err(Fail::new(format_args!("{written} is written for {digits}")))
+    }
 }
 
 #[test]
 fn numbers(rt: HostRuntime) -> Result<(), Fail> {
-    for (value, want) in [(0, "43"), (255, "52ff"), (256, "7000000100")] {
-        assert_eq!(rt; digits_of::<Uint>(&value, rt.alloc())?.as_str(), want);
-    }
-    for (value, want) in [(-128, "5480"), (128, "7100000080")] {
-        assert_eq!(rt; digits_of::<i32>(&value, rt.alloc())?.as_str(), want);
-    }
-    assert_eq!(rt; digits_of::<i64>(&-1, rt.alloc())?.as_str(), "55ff");
-    assert_eq!(rt; digits_of(&'é', rt.alloc())?.as_str(), "73000000e9");
-    assert_eq!(rt; digits_of(&(), rt.alloc())?.as_str(), "40");
-    Ok(())
+    check::<Uint>(&0, "43", rt.alloc())?;
+    check::<Uint>(&255, "52ff", rt.alloc())?;
+    check::<Uint>(&256, "7000000100", rt.alloc())?;
+    check::<i32>(&-128, "5480", rt.alloc())?;
+    check::<i32>(&128, "7100000080", rt.alloc())?;
+    check::<i64>(&-1, "55ff", rt.alloc())?;
+    check(&'é', "73000000e9", rt.alloc())?;
+    check(&(), "40", rt.alloc())
 }
 
 #[test]
@@ -41,17 +44,20 @@ fn binaries_of_both_widths(rt: HostRuntime) -> Result<(), Fail> {
 
 #[test]
 fn written_only(rt: HostRuntime) -> Result<(), Fail> {
-    assert_eq!(rt; digits_of(&"é", rt.alloc())?.as_str(), "a102c3a9");
+    check(&"é", "a102c3a9", rt.alloc())?;
     let borrowed: CowStr<'_> = CowStr::Borrowed("a");
-    assert_eq!(rt; digits_of(&borrowed, rt.alloc())?.as_str(), "a10161");
-    let owned: CowStr<'_> = CowStr::Owned(String::from_str(rt.alloc(), "b")?);
-    assert_eq!(rt; digits_of(&owned, rt.alloc())?.as_str(), "a10162");
-    assert_eq!(rt; digits_of(&SymbolRef("a"), rt.alloc())?.as_str(), "a30161");
+    check(&borrowed, "a10161", rt.alloc())?;
+    check(&SymbolRef("a"), "a30161", rt.alloc())?;
     let refused = to_vec(&SymbolRef("é"), rt.alloc());
     assert_eq!(rt; refused.err(), Some(Error::NonAscii));
-    let shared = Rc::new(rt.alloc(), 7u32)?;
-    assert_eq!(rt; digits_of(&shared, rt.alloc())?.as_str(), "5207");
     let mut number = 8u32;
-    assert_eq!(rt; digits_of(&&mut number, rt.alloc())?.as_str(), "5208");
-    Ok(())
+    check(&&mut number, "5208", rt.alloc())
+}
+
+#[test]
+fn written_as_what_they_own(rt: HostRuntime) -> Result<(), Fail> {
+    let owned: CowStr<'_> = CowStr::Owned(String::from_str(rt.alloc(), "b")?);
+    check(&owned, "a10162", rt.alloc())?;
+    let shared = Rc::new(rt.alloc(), 7u32)?;
+    check(&shared, "5207", rt.alloc())
 }

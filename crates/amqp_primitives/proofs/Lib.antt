@@ -1,1 +1,1 @@
-mod NewtypeReads
+pub mod NewtypeReads

@@ -1,6 +1,8 @@
 -- The types of this crate: each is as what it is made of.
 use Rattle.std.proofs.Common.{refl}
-use Rattle.amqp_codec.specs.Types.{TermType, via, unchanged}
+use Rattle.amqp_model.specs.FieldType.{unchanged}
+use Rattle.amqp_codec.specs.TermType.{TermType}
+use Rattle.amqp_codec.specs.Wrappers.{via}
 use Rattle.amqp_codec.specs.PrimitiveTypes.{decimal32_bytes_type, decimal64_bytes_type, decimal128_bytes_type, milliseconds_type}
 use Rattle.amqp_codec.specs.PrimitiveTypes.{uuid_bytes_type, binary_bytes_type}
 use Rattle.amqp_primitives.specs.declared.dec32.Dec32.{Dec32}

@@ -1,9 +1,13 @@
 //! Bytes (Part 1, section 1.6.19).
 ghost use Rattle.std.specs.Prelude.{◌≡◌, refl};
+ghost use Rattle.std.proofs.lemmas.Slice.Eq.{bytes_eq-Decides};
 ghost use Rattle.amqp_codec.specs.Agreement.{one_term, agreement, writing_of};
+ghost use Rattle.amqp_codec.specs.KeyLaws.{key_of};
 ghost use Rattle.amqp_primitives.specs.Types.{binary_type};
 
-use amqp_codec::{ByteSource, Decoder, DeserializeTerm, Encoder, Error, Serialize, SerializeTerm};
+use amqp_codec::{
+    ByteSource, Decoder, DeserializeTerm, Encoder, Error, MapKey, Serialize, SerializeTerm,
+};
 use std::alloc::Global;
 
 /// Bytes without a meaning of their own (Part 1, section 1.6.19). More than 4,294,967,295 can't be written, and are refused by
@@ -65,4 +69,8 @@ impl DeserializeTerm for Binary {
     }
 
     ghost agreement = { agreement binary_type refl };
+}
+
+impl MapKey for Binary {
+    ghost is_key = { key_of refl (λ v w. bytes_eq-Decides v.0.items w.0.items) };
 }

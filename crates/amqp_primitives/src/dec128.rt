@@ -1,9 +1,13 @@
 //! Decimal numbers of 128 bits (Part 1, section 1.6.15), as their bytes.
 ghost use Rattle.std.specs.Prelude.{◌≡◌, refl};
+ghost use Rattle.std.proofs.lemmas.Slice.Eq.{bytes_eq-Decides};
 ghost use Rattle.amqp_codec.specs.Agreement.{one_term, agreement, writing_of};
+ghost use Rattle.amqp_codec.specs.KeyLaws.{key_of};
 ghost use Rattle.amqp_primitives.specs.Types.{decimal128_type};
 
-use amqp_codec::{ByteSource, Decoder, DeserializeTerm, Encoder, Error, Serialize, SerializeTerm};
+use amqp_codec::{
+    ByteSource, Decoder, DeserializeTerm, Encoder, Error, MapKey, Serialize, SerializeTerm,
+};
 use std::alloc::Global;
 
 /// A decimal number of 128 bits (Part 1, section 1.6.15): the bytes of IEEE 754's decimal128, which are kept as they are. Two are
@@ -67,4 +71,8 @@ impl DeserializeTerm for Dec128 {
     }
 
     ghost agreement = { agreement decimal128_type refl };
+}
+
+impl MapKey for Dec128 {
+    ghost is_key = { key_of refl (λ v w. bytes_eq-Decides v.0 w.0) };
 }

@@ -1,9 +1,13 @@
 //! Decimal numbers of 32 bits (Part 1, section 1.6.13), as their bytes.
 ghost use Rattle.std.specs.Prelude.{◌≡◌, refl};
+ghost use Rattle.std.proofs.lemmas.Slice.Eq.{bytes_eq-Decides};
 ghost use Rattle.amqp_codec.specs.Agreement.{one_term, agreement, writing_of};
+ghost use Rattle.amqp_codec.specs.KeyLaws.{key_of};
 ghost use Rattle.amqp_primitives.specs.Types.{decimal32_type};
 
-use amqp_codec::{ByteSource, Decoder, DeserializeTerm, Encoder, Error, Serialize, SerializeTerm};
+use amqp_codec::{
+    ByteSource, Decoder, DeserializeTerm, Encoder, Error, MapKey, Serialize, SerializeTerm,
+};
 use std::alloc::Global;
 
 /// A decimal number of 32 bits (Part 1, section 1.6.13): the bytes of IEEE 754's decimal32, which are kept as they are. Two are
@@ -64,4 +68,8 @@ impl DeserializeTerm for Dec32 {
     }
 
     ghost agreement = { agreement decimal32_type refl };
+}
+
+impl MapKey for Dec32 {
+    ghost is_key = { key_of refl (λ v w. bytes_eq-Decides v.0 w.0) };
 }

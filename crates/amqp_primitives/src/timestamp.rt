@@ -1,9 +1,13 @@
 //! Points in time (Part 1, section 1.6.17).
 ghost use Rattle.std.specs.Prelude.{◌≡◌, refl};
+ghost use Rattle.std.specs.Cmp.{signed_Decides};
 ghost use Rattle.amqp_codec.specs.Agreement.{one_term, agreement, writing_of};
+ghost use Rattle.amqp_codec.specs.KeyLaws.{key_of};
 ghost use Rattle.amqp_primitives.specs.Types.{timestamp_type};
 
-use amqp_codec::{ByteSource, Decoder, DeserializeTerm, Encoder, Error, Serialize, SerializeTerm};
+use amqp_codec::{
+    ByteSource, Decoder, DeserializeTerm, Encoder, Error, MapKey, Serialize, SerializeTerm,
+};
 use std::alloc::Global;
 
 /// A point in time (Part 1, section 1.6.17): milliseconds since the start of 1970 in UTC, negative before it.
@@ -58,4 +62,8 @@ impl DeserializeTerm for Timestamp {
     }
 
     ghost agreement = { agreement timestamp_type refl };
+}
+
+impl MapKey for Timestamp {
+    ghost is_key = { key_of refl (λ v w. signed_Decides v.0 w.0) };
 }

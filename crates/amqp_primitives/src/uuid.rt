@@ -1,9 +1,13 @@
 //! Universally unique identifiers (Part 1, section 1.6.18).
 ghost use Rattle.std.specs.Prelude.{◌≡◌, refl};
+ghost use Rattle.std.proofs.lemmas.Slice.Eq.{bytes_eq-Decides};
 ghost use Rattle.amqp_codec.specs.Agreement.{one_term, agreement, writing_of};
+ghost use Rattle.amqp_codec.specs.KeyLaws.{key_of};
 ghost use Rattle.amqp_primitives.specs.Types.{uuid_type};
 
-use amqp_codec::{ByteSource, Decoder, DeserializeTerm, Encoder, Error, Serialize, SerializeTerm};
+use amqp_codec::{
+    ByteSource, Decoder, DeserializeTerm, Encoder, Error, MapKey, Serialize, SerializeTerm,
+};
 use std::alloc::Global;
 
 /// A universally unique identifier (Part 1, section 1.6.18; RFC 4122): its 16 bytes. Which of its forms they have is not looked at.
@@ -63,4 +67,8 @@ impl DeserializeTerm for Uuid {
     }
 
     ghost agreement = { agreement uuid_type refl };
+}
+
+impl MapKey for Uuid {
+    ghost is_key = { key_of refl (λ v w. bytes_eq-Decides v.0 w.0) };
 }
