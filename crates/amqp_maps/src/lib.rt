@@ -3,6 +3,8 @@
 
 mod compared;
 mod ordered_map;
+mod read;
+mod written;
 
 pub use indexmap::map::{IntoIter, Iter, Values};
 pub use ordered_map::OrderedMap;

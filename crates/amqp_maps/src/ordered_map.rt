@@ -20,6 +20,9 @@ use std::marker::Model;
 ///
 /// It counts as the list of its pairs: two maps with the same pairs in another order are not equal, since the standard has the
 /// order of a map's pairs count. Equality, order and hash are those of the list, a pair by its key and then by its value.
+///
+/// Where keys and values are read and written, so is it (section 1.6.23), by its pairs in their order. A map with an odd number of items
+/// is refused by `OddCount`, and one with two equal keys by `DuplicateKey`, right behind the second of them. The count reserves no memory.
 #[derive(Debug, Drop)]
 pub struct OrderedMap<K: Eq + Hash, V> {
     pairs: IndexMap<K, V>,
