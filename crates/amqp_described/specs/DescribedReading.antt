@@ -1,0 +1,44 @@
+-- How a described value is read: its descriptor, and then what it describes (Part 1, section 1.2).
+use Rattle.amqp_model.specs.Term.{Descriptor}
+use Rattle.amqp_wire.specs.declared.error.Error.{Error}
+use Rattle.amqp_wire.specs.declared.error.Error.TheVariants.{Memory}
+use Rattle.amqp_decoder.specs.State.{State}
+use Rattle.amqp_decoder.specs.Rooms.{HasRoom}
+use Rattle.amqp_decoder.specs.Misspelled.{IsMisspelling, NothingStands}
+use Rattle.amqp_decoder.specs.Described.{OpensDescribed, OpenFault}
+use Rattle.amqp_decoder.specs.OtherSource.{Setting, under, KeepsError, opens_described, open_described_fault}
+use Rattle.amqp_decoder.proofs.Misspelled.{described_misspelled}
+use Rattle.amqp_decoder.proofs.NothingInside.{nothing_described}
+use Rattle.amqp_decoder.proofs.NotMemory.{open_described_not_memory}
+use Rattle.amqp_decoder.proofs.Rooms.{room_in_described}
+use Rattle.amqp_codec.specs.Faults.{Faults}
+
+-- Why no described value is read: none is opened, or one is, and what it describes isn't read.
+pub data DescribedValueFault (fault : State → Error → Type 0) (st : State) (e : Error) : Type 0 where
+  unopened : OpenFault st e → DescribedValueFault fault st e
+  in_value : {d : Descriptor} {inner : State} → OpensDescribed st d inner → fault inner e → DescribedValueFault fault st e
+
+module _ (f : Faults) where
+  pub described_not_memory : (st : State) → DescribedValueFault f.fault st Memory → ⊥
+  described_not_memory st (unopened h) = open_described_not_memory st h
+  described_not_memory st (in_value {d} {inner} o h) = f.not_memory inner h
+
+  pub described_elsewhere : (c : Setting) (st : State) (e : Error) → KeepsError c e → DescribedValueFault f.fault st e
+      → DescribedValueFault f.fault (under c st) e
+  described_elsewhere c st e k (unopened h) = unopened (open_described_fault c k h)
+  described_elsewhere c st e k (in_value {d} {inner} o h) = in_value (opens_described c o) (f.fault_elsewhere c inner e k h)
+
+  pub described_misspelled_in : (st : State) (e : Error) → HasRoom st → IsMisspelling e → DescribedValueFault f.fault st e
+      → NothingStands st
+  described_misspelled_in st e room i (unopened h) = described_misspelled st e i h
+  described_misspelled_in st e room i (in_value {d} {inner} o h) =
+      nothing_described st d inner o (f.misspelled inner e (room_in_described st d inner o) i h)
+
+  -- Why no value is read behind a descriptor of its own, by why what it describes isn't.
+  abbrev pub described_faults : Faults
+  described_faults = record {
+    fault = DescribedValueFault f.fault;
+    not_memory = described_not_memory;
+    fault_elsewhere = described_elsewhere;
+    misspelled = described_misspelled_in;
+  }

@@ -1,0 +1,2 @@
+pub mod DescribedReading
+pub mod DescribedType

@@ -1,0 +1,6 @@
+//! Described values: a value of any type behind a descriptor of its own (Part 1, section 1.2).
+#![tactic(auto)]
+
+mod described;
+
+pub use described::Described;
