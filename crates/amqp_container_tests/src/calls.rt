@@ -1,27 +1,55 @@
-//! The calls of arrays.
-use amqp_containers::Array;
+//! The calls of arrays, and of values that stand one after another.
+use amqp_containers::{Array, TransparentVec};
 use std::test::Fail;
 
 #[test]
 fn calls_of_an_array(rt: HostRuntime) -> Result<(), Fail> {
-    let mut array: Array<u32> = Array::from(Vec::new(rt.alloc()));
+    let alloc = rt.alloc();
+    let mut array: Array<u32> = Array::from(Vec::new(alloc));
     assert!(rt; array.is_empty());
-    array.push(3)?;
-    array.push(1)?;
+    for item in [3, 1] {
+        array.push(item)?;
+    }
     assert_eq!(rt; array.len(), 2);
-    assert!(rt; !array.is_empty());
     assert_eq!(rt; array.get(1).copied(), Some(1));
-    assert_eq!(rt; array.get(2).copied(), None);
-    let mut copy = array.clone()?;
+    let copy = array.clone()?;
     assert_eq!(rt; copy, array);
-    copy.push(0)?;
-    assert!(rt; array < copy);
-    let mut items = array.iter();
-    assert_eq!(rt; items.next().copied(), Some(3));
-    assert_eq!(rt; items.next().copied(), Some(1));
-    assert_eq!(rt; items.next().copied(), None);
-    let mut moved = copy.into_iter();
-    assert_eq!(rt; moved.next(), Some(3));
-    assert_eq!(rt; array.into_inner().as_slice(), [3, 1].as_slice());
+    array.push(0)?;
+    assert!(rt; copy < array);
+    let lent: Vec<u32> = copy.iter().copied().collect(alloc)?;
+    assert_eq!(rt; lent.as_slice(), [3, 1].as_slice());
+    let lent: Vec<u32> = (&array).into_iter().copied().collect(alloc)?;
+    assert_eq!(rt; lent.as_slice(), [3, 1, 0].as_slice());
+    let moved: Vec<u32> = copy.into_iter().collect(alloc)?;
+    assert_eq!(rt; moved.as_slice(), [3, 1].as_slice());
+    assert_eq!(rt; array.into_inner().as_slice(), [3, 1, 0].as_slice());
+    Ok(())
+}
+
+#[test]
+fn calls_of_values_with_nothing_around_them(rt: HostRuntime) -> Result<(), Fail> {
+    let alloc = rt.alloc();
+    let mut values: TransparentVec<u32> = TransparentVec::new(Vec::new(alloc));
+    assert!(rt; values.is_empty());
+    for item in [3, 1] {
+        values.push(item)?;
+    }
+    assert_eq!(rt; values.len(), 2);
+    assert_eq!(rt; values.get(1).copied(), Some(1));
+    let copy = values.clone()?;
+    assert_eq!(rt; copy, values);
+    values.push(0)?;
+    assert!(rt; copy < values);
+    let lent: Vec<u32> = copy.iter().copied().collect(alloc)?;
+    assert_eq!(rt; lent.as_slice(), [3, 1].as_slice());
+    let lent: Vec<u32> = (&values).into_iter().copied().collect(alloc)?;
+    assert_eq!(rt; lent.as_slice(), [3, 1, 0].as_slice());
+    let moved: Vec<u32> = copy.into_iter().collect(alloc)?;
+    assert_eq!(rt; moved.as_slice(), [3, 1].as_slice());
+    assert_eq!(rt; values.into_inner().as_slice(), [3, 1, 0].as_slice());
+    assert_eq!(rt;
+        TransparentVec::from(moved).into_inner().as_slice(),
+        [3, 1].as_slice()
+    );
     Ok(())
 }

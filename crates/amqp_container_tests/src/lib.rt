@@ -1,8 +1,10 @@
-//! Tests of lists and arrays: worked rows, the calls of arrays, and what isn't written.
+//! Tests of lists, arrays, values with nothing around them and described values: worked rows, their calls, and what isn't written.
 #![tactic(auto)]
 
 #[cfg(test)]
 mod calls;
+#[cfg(test)]
+mod described;
 #[cfg(test)]
 mod rows;
 #[cfg(test)]

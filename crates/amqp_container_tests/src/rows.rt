@@ -1,12 +1,13 @@
 //! Inputs of lists and arrays, and the canonical text of each, or why it is refused.
-use amqp_codec::{Canonical, Symbol, canonical_text};
+use amqp_calls::canonical_text;
+use amqp_codec::{Canonical, Symbol};
 use amqp_containers::Array;
 use amqp_delivery::Accepted;
 use std::alloc::Global;
 use std::test::Fail;
 
 /// An input, and its canonical text or the name of its error.
-type Row = (&'static str, &'static str);
+pub(crate) type Row = (&'static str, &'static str);
 
 fn answer<T: Canonical>(digits: &str, alloc: Global) -> Result<String, Fail> {
     let input = hex::decode(alloc, digits)?;
@@ -16,15 +17,15 @@ fn answer<T: Canonical>(digits: &str, alloc: Global) -> Result<String, Fail> {
     }
 }
 
-// The first row whose input has another answer.
-fn first_wrong<T: Canonical>(rows: &[Row], alloc: Global) -> Result<Option<&'static str>, Fail> {
-    for row in rows {
-        let (input, wanted) = *row;
-        if answer::<T>(input, alloc)?.as_str() != wanted {
-            return Ok(Some(input));
+/// Each input has its answer.
+pub(crate) fn check<T: Canonical>(rows: &[Row], alloc: Global) -> Result<(), Fail> {
+    for (input, wanted) in rows {
+        let found = answer::<T>(*input, alloc)?;
+        if found.as_str() != *wanted {
+            return Err(Fail::new(format_args!("{input} is answered by {found}")));
         }
     }
-    Ok(None)
+    Ok(())
 }
 
 const LISTS_OF_UINTS: [Row; 18] = [
@@ -126,43 +127,25 @@ const LISTS_OF_LISTS: [Row; 3] = [
 #[test]
 fn lists(rt: HostRuntime) -> Result<(), Fail> {
     let alloc = rt.alloc();
-    assert_eq!(rt; first_wrong::<Vec<u32>>(&LISTS_OF_UINTS, alloc)?, None);
-    assert_eq!(rt;
-        first_wrong::<Vec<Option<u32>>>(&LISTS_OF_OPTIONS, alloc)?,
-        None
-    );
-    assert_eq!(rt; first_wrong::<Vec<Vec<u32>>>(&LISTS_OF_LISTS, alloc)?, None);
+    check::<Vec<u32>>(&LISTS_OF_UINTS, alloc)?;
+    check::<Vec<Option<u32>>>(&LISTS_OF_OPTIONS, alloc)?;
+    check::<Vec<Vec<u32>>>(&LISTS_OF_LISTS, alloc)?;
     Ok(())
 }
 
 #[test]
 fn lists_of_symbols(rt: HostRuntime) -> Result<(), Fail> {
-    assert_eq!(rt;
-        first_wrong::<Vec<Symbol>>(&LISTS_OF_SYMBOLS, rt.alloc())?,
-        None
-    );
+    check::<Vec<Symbol>>(&LISTS_OF_SYMBOLS, rt.alloc())?;
     Ok(())
 }
 
 #[test]
 fn arrays(rt: HostRuntime) -> Result<(), Fail> {
     let alloc = rt.alloc();
-    assert_eq!(rt; first_wrong::<Array<u32>>(&ARRAYS_OF_UINTS, alloc)?, None);
-    assert_eq!(rt;
-        first_wrong::<Array<bool>>(&ARRAYS_OF_BOOLEANS, alloc)?,
-        None
-    );
-    assert_eq!(rt;
-        first_wrong::<Array<Vec<u32>>>(&ARRAYS_OF_LISTS, alloc)?,
-        None
-    );
-    assert_eq!(rt;
-        first_wrong::<Array<Array<bool>>>(&ARRAYS_OF_ARRAYS, alloc)?,
-        None
-    );
-    assert_eq!(rt;
-        first_wrong::<Array<Accepted>>(&ARRAYS_OF_ACCEPTED, alloc)?,
-        None
-    );
+    check::<Array<u32>>(&ARRAYS_OF_UINTS, alloc)?;
+    check::<Array<bool>>(&ARRAYS_OF_BOOLEANS, alloc)?;
+    check::<Array<Vec<u32>>>(&ARRAYS_OF_LISTS, alloc)?;
+    check::<Array<Array<bool>>>(&ARRAYS_OF_ARRAYS, alloc)?;
+    check::<Array<Accepted>>(&ARRAYS_OF_ACCEPTED, alloc)?;
     Ok(())
 }

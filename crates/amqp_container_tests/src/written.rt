@@ -1,5 +1,6 @@
 //! Lists and arrays that are written, and arrays that aren't.
-use amqp_codec::{Error, Serialize, Symbol, encoded_len, from_slice, to_vec};
+use amqp_calls::{encoded_len, from_slice, to_vec};
+use amqp_codec::{Deserialize, Error, Serialize, Symbol};
 use amqp_containers::Array;
 use amqp_delivery::{Accepted, DeliveryState, Released};
 use std::alloc::Global;
@@ -20,44 +21,49 @@ fn one_symbol(letters: usize, alloc: Global) -> Result<Vec<Symbol>, Fail> {
     Ok(list)
 }
 
+// The value is written so, and that is read as the value.
+fn check_both_ways<T: Serialize + Deserialize + PartialEq>(
+    value: &T,
+    digits: &str,
+    alloc: Global,
+) -> Result<(), Fail> {
+    let text = to_vec(value, alloc)?;
+    let written = hex::encode(alloc, &text)?;
+    let read: T = from_slice(text.as_slice(), alloc)?;
+    if read != *value || written.as_str() != digits {
+        return Err(Fail::new(format_args!("{written} is written for {digits}")));
+    }
+    Ok(())
+}
+
 #[test]
 fn values_both_ways(rt: HostRuntime) -> Result<(), Fail> {
-    let alloc = rt.alloc();
-    let list: Vec<u32> = [0, 7].to_vec(alloc)?;
+    let list: Vec<u32> = [0, 7].to_vec(rt.alloc())?;
+    check_both_ways(&list, "c00402435207", rt.alloc())?;
+    let array = Array::from([1u32, 2].to_vec(rt.alloc())?);
+    check_both_ways(&array, "e00a02700000000100000002", rt.alloc())
+}
+
+// The text of a list of one symbol of so many letters has this length, begins so, and is read as the list.
+fn check_symbol(letters: usize, len: usize, begins: &str, alloc: Global) -> Result<(), Fail> {
+    let list = one_symbol(letters, alloc)?;
     let text = to_vec(&list, alloc)?;
-    assert_eq!(rt; hex::encode(alloc, &text)?.as_str(), "c00402435207");
-    let read: Vec<u32> = from_slice(text.as_slice(), alloc)?;
-    assert_eq!(rt; read, list);
-    let array = Array::from([1u32, 2].to_vec(alloc)?);
-    let text = to_vec(&array, alloc)?;
-    assert_eq!(rt;
-        hex::encode(alloc, &text)?.as_str(),
-        "e00a02700000000100000002"
-    );
-    let read: Array<u32> = from_slice(text.as_slice(), alloc)?;
-    assert_eq!(rt; read, array);
+    let read: Vec<Symbol> = from_slice(text.as_slice(), alloc)?;
+    let written = hex::encode(alloc, &text)?;
+    if encoded_len(&list, alloc)? != len
+        || text.len() != len
+        || read != list
+        || !written.as_str().starts_with(begins)
+    {
+        return Err(Fail::new(format_args!("{letters} letters")));
+    }
     Ok(())
 }
 
 #[test]
 fn short_and_wide_lists(rt: HostRuntime) -> Result<(), Fail> {
-    let alloc = rt.alloc();
-    for (letters, len, begins) in [
-        (252, 257, "c0ff01a3fc6161"),
-        (253, 264, "d00000010300000001a3fd6161"),
-    ] {
-        let list = one_symbol(letters, alloc)?;
-        assert_eq!(rt; encoded_len(&list, alloc)?, len);
-        let text = to_vec(&list, alloc)?;
-        assert_eq!(rt; text.len(), len);
-        assert!(rt;
-            hex::encode(alloc, &text)?.starts_with(begins),
-            "of {letters}"
-        );
-        let read: Vec<Symbol> = from_slice(text.as_slice(), alloc)?;
-        assert_eq!(rt; read, list);
-    }
-    Ok(())
+    check_symbol(252, 257, "c0ff01a3fc6161", rt.alloc())?;
+    check_symbol(253, 264, "d00000010300000001a3fd6161", rt.alloc())
 }
 
 #[test]

@@ -1,0 +1,2 @@
+pub mod MultipleReads
+pub mod MultipleWrites

@@ -1,5 +1,5 @@
 //! Arrays of values of one type (Part 1, section 1.6.24).
-ghost use Rattle.std.specs.Prelude.{◌≡◌, ◌↔◌, ◌++◌, ◌∷◌, [], IsTrue, IfOk, IfErr, OnOk, OnErr, length, slice_get, option_map, refl};
+ghost use Rattle.std.specs.Prelude.{◌≡◌, ◌++◌, ◌∷◌, [], IfErr, OnOk, OnErr, refl};
 ghost use Rattle.std.specs.Slice.Iter.{iter_rest};
 ghost use Rattle.std.specs.Vec.Iter.{into_iter_items};
 ghost use Rattle.amqp_model.specs.Term.{array};
@@ -14,51 +14,18 @@ use amqp_decoder::Decoder;
 use amqp_encoder::Encoder;
 use amqp_wire::{ByteSource, Error};
 use std::alloc::Global;
+use std::ops::Deref;
 use std::slice::Iter;
 use std::vec::IntoIter;
 
 /// Values of one type, which share a constructor where they are written (Part 1, section 1.2.4). They are refused in
 /// writing by `MixedArray`, where their constructors differ; by `ZeroWidthItems`, where one is null; and by
-/// `LazyInArray`, where one keeps its bytes.
-#[derive(Debug, PartialEq, Eq, PartialOrd, Ord, Hash, Drop)]
+/// `LazyInArray`, where one keeps its bytes. It lends the calls of its vector that change nothing, as `len`, `get` and
+/// `iter`. A copy wants memory, and each of its items is a copy of the one in its place.
+#[derive(Clone, Debug, PartialEq, Eq, PartialOrd, Ord, Hash, Drop)]
 pub struct Array<T>(pub Vec<T>);
 
 impl<T> Array<T> {
-    /// How many items it holds.
-    pub fn len(&self) -> usize
-        ensures { result ≡ length self.now.0.items }
-    {
-        self.0.len()
-    }
-
-    /// Whether it holds none.
-    pub fn is_empty(&self) -> bool
-        ensures { IsTrue result ↔ (self.now.0.items ≡ []) }
-    {
-        self.0.is_empty()
-    }
-
-    /// The item at this place, from 0 on, or none past the last.
-    pub fn get(&self, index: usize) -> Option<&T>
-        ensures { option_map (λ item. item.now) result ≡ slice_get self.now.0.items index }
-    {
-        self.0.get(index)
-    }
-
-    /// The items in order.
-    pub fn iter(&self) -> Iter<'_, T>
-        ensures { iter_rest result ≡ self.now.0.items }
-    {
-        self.0.iter()
-    }
-
-    /// The items in order, which are moved out of it.
-    pub fn into_iter(self) -> IntoIter<T, Global>
-        ensures { into_iter_items result ≡ self.0.items }
-    {
-        self.into_inner().into_iter()
-    }
-
     /// The items, which are moved out of it.
     pub fn into_inner(self) -> Vec<T>
         ensures { result ≡ self.0 }
@@ -81,16 +48,6 @@ impl<T> Array<T> {
             Err(_) => Err(Error::Memory),
         }
     }
-
-    /// A copy, each item of which is a copy of the one in its place; `Memory` where memory for it is refused.
-    pub fn clone(&self) -> Result<Array<T>, Error>
-    where
-        T: Clone,
-        ensures equal { ((v w : T) → T.is_clone v w → w ≡ v) → IfOk result (λ copy. copy.0.items ≡ self.now.0.items) }
-        ensures memory { IfErr result (λ e. e ≡ Memory) }
-    {
-        Ok(Array(self.0.clone()?))
-    }
 }
 
 impl<T> From<Vec<T>> for Array<T> {
@@ -98,6 +55,40 @@ impl<T> From<Vec<T>> for Array<T> {
 
     fn from(values: Vec<T>) -> Array<T> {
         Array(values)
+    }
+}
+
+impl<T> Deref for Array<T> {
+    type Target = Vec<T>;
+
+    ghost deref_gives = { λ array items. items ≡ array.0 };
+
+    fn deref(&self) -> &Vec<T> {
+        &self.0
+    }
+}
+
+impl<T: Drop> IntoIterator for Array<T> {
+    type Item = T;
+
+    type IntoIter = IntoIter<T, Global>;
+
+    ghost into_iter_gives = { λ array items. into_iter_items items ≡ array.0.items };
+
+    fn into_iter(self) -> IntoIter<T, Global> {
+        self.into_inner().into_iter()
+    }
+}
+
+impl<'a, T> IntoIterator for &'a Array<T> {
+    type Item = &'a T;
+
+    type IntoIter = Iter<'a, T>;
+
+    ghost into_iter_gives = { λ array items. iter_rest items ≡ array.now.0.items };
+
+    fn into_iter(self) -> Iter<'a, T> {
+        self.0.iter()
     }
 }
 

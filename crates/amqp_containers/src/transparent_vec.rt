@@ -1,17 +1,19 @@
 //! Values that stand one after another, with nothing around them.
-ghost use Rattle.std.specs.Prelude.{◌≡◌, ◌↔◌, ◌++◌, ◌∷◌, [], IsTrue, IfOk, IfErr, OnOk, OnErr, length};
+ghost use Rattle.std.specs.Prelude.{◌≡◌, ◌++◌, ◌∷◌, [], IfErr, OnOk, OnErr};
 ghost use Rattle.std.specs.Slice.Iter.{iter_rest};
 ghost use Rattle.std.specs.Vec.Iter.{into_iter_items};
 ghost use Rattle.amqp_wire.specs.declared.error.Error.TheVariants.{Memory};
 
 use amqp_wire::Error;
 use std::alloc::Global;
+use std::ops::Deref;
 use std::slice::Iter;
 use std::vec::IntoIter;
 
 /// Values of one type that stand one after another, with nothing around them: no list, and no single term. So stand the
-/// sections of a message's body, where it has several (Part 3, section 3.2).
-#[derive(Debug, PartialEq, Eq, PartialOrd, Ord, Hash, Drop)]
+/// sections of a message's body, where it has several (Part 3, section 3.2). It lends the calls of its vector that change
+/// nothing, as `len`, `get` and `iter`. A copy wants memory, and each of its values is a copy of the one in its place.
+#[derive(Clone, Debug, PartialEq, Eq, PartialOrd, Ord, Hash, Drop)]
 pub struct TransparentVec<T>(Vec<T>);
 
 impl<T> TransparentVec<T> {
@@ -20,34 +22,6 @@ impl<T> TransparentVec<T> {
         ensures { result.0 ≡ values }
     {
         TransparentVec(values)
-    }
-
-    /// How many values it holds.
-    pub fn len(&self) -> usize
-        ensures { result ≡ length self.now.0.items }
-    {
-        self.0.len()
-    }
-
-    /// Whether it holds none.
-    pub fn is_empty(&self) -> bool
-        ensures { IsTrue result ↔ (self.now.0.items ≡ []) }
-    {
-        self.0.is_empty()
-    }
-
-    /// The values in order.
-    pub fn iter(&self) -> Iter<'_, T>
-        ensures { iter_rest result ≡ self.now.0.items }
-    {
-        self.0.iter()
-    }
-
-    /// The values in order, which are moved out of it.
-    pub fn into_iter(self) -> IntoIter<T, Global>
-        ensures { into_iter_items result ≡ self.0.items }
-    {
-        self.into_inner().into_iter()
     }
 
     /// The values, which are moved out of it.
@@ -72,22 +46,46 @@ impl<T> TransparentVec<T> {
             Err(_) => Err(Error::Memory),
         }
     }
-
-    /// A copy, each value of which is a copy of the one in its place; `Memory` where memory for it is refused.
-    pub fn clone(&self) -> Result<TransparentVec<T>, Error>
-    where
-        T: Clone,
-        ensures equal { ((v w : T) → T.is_clone v w → w ≡ v) → IfOk result (λ copy. copy.0.items ≡ self.now.0.items) }
-        ensures memory { IfErr result (λ e. e ≡ Memory) }
-    {
-        Ok(TransparentVec(self.0.clone()?))
-    }
 }
 
 impl<T> From<Vec<T>> for TransparentVec<T> {
     ghost from_gives = { λ values run. run.0 ≡ values };
 
     fn from(values: Vec<T>) -> TransparentVec<T> {
-        TransparentVec(values)
+        TransparentVec::new(values)
+    }
+}
+
+impl<T> Deref for TransparentVec<T> {
+    type Target = Vec<T>;
+
+    ghost deref_gives = { λ run values. values ≡ run.0 };
+
+    fn deref(&self) -> &Vec<T> {
+        &self.0
+    }
+}
+
+impl<T: Drop> IntoIterator for TransparentVec<T> {
+    type Item = T;
+
+    type IntoIter = IntoIter<T, Global>;
+
+    ghost into_iter_gives = { λ run values. into_iter_items values ≡ run.0.items };
+
+    fn into_iter(self) -> IntoIter<T, Global> {
+        self.into_inner().into_iter()
+    }
+}
+
+impl<'a, T> IntoIterator for &'a TransparentVec<T> {
+    type Item = &'a T;
+
+    type IntoIter = Iter<'a, T>;
+
+    ghost into_iter_gives = { λ run values. iter_rest values ≡ run.now.0.items };
+
+    fn into_iter(self) -> Iter<'a, T> {
+        self.0.iter()
     }
 }

@@ -1,0 +1,122 @@
+//! Fields of several values (Part 1, section 1.4). A composite holds their values in an array, and where there may be none in
+//! an option of one: what is read there, when it is null, and what is written.
+ghost use Rattle.std.specs.Prelude.{◌≡◌, [], ◌∷◌, true};
+ghost use Rattle.amqp_model.specs.Items.{is_null};
+ghost use Rattle.amqp_wire.specs.Sources.{Tells};
+ghost use Rattle.amqp_decoder.specs.Reading.{AnswersRead};
+ghost use Rattle.amqp_decoder.specs.Primitives.{ReadsValue};
+ghost use Rattle.amqp_codec.specs.FieldReading.{Fills};
+ghost use Rattle.amqp_codec.specs.Written.{WritesTerms};
+ghost use Rattle.amqp_containers.specs.Several.{MeansMultiple, MeansAtLeastOne, multiple_faults, mandatory_faults};
+ghost use Rattle.amqp_containers.specs.Several.{multiple_canon, mandatory_multiple_canon};
+
+use crate::Array;
+use amqp_codec::{DeserializeTerm, Serialize};
+use amqp_decoder::Decoder;
+use amqp_encoder::Encoder;
+use amqp_wire::{ByteSource, Error, format_code};
+use std::alloc::Global;
+
+// The items of an array, of which there may be none, or one value by itself.
+fn read_several<T: DeserializeTerm, R: ByteSource>(
+    decoder: &mut Decoder<R>,
+    alloc: Global,
+) -> Result<Option<Array<T>>, Error>
+    ensures { Tells R.remaining → AnswersRead true (ReadsValue (MeansMultiple T.term)) (multiple_faults T.term).fault
+        decoder.old result decoder.new }
+{
+    let mut alone = Array(Vec::new(alloc));
+    match decoder.peek_code()? {
+        format_code::ARRAY_8 | format_code::ARRAY_32 => {
+            let items: Array<T> = Array::read_value(decoder, alloc)?;
+            if items.is_empty() {
+                return Ok(None);
+            }
+            Ok(Some(items))
+        }
+        _ => {
+            let item = T::read_value(decoder, alloc)?;
+            if alone.push(item).is_err() {
+                return Err(decoder.refuse(Error::Memory));
+            }
+            Ok(Some(alone))
+        }
+    }
+}
+
+/// Reads a field that may have no values into its place: the items of an array, of which none are `None`, or one value by
+/// itself. It is refused as an array of such values is, or as one of them is.
+pub fn read_multiple<T: DeserializeTerm, R: ByteSource>(
+    place: &mut Option<Array<T>>,
+    decoder: &mut Decoder<R>,
+    alloc: Global,
+) -> Result<(), Error>
+    ensures { Tells R.remaining → Fills true (MeansMultiple T.term) (multiple_faults T.term).fault
+        decoder.old place.new result decoder.new }
+{
+    *place = read_several(decoder, alloc)?;
+    Ok(())
+}
+
+/// Reads a field that has at least one value into its place. It is refused as `read_multiple` refuses it, and by
+/// `EmptyMultiple` where an array without items stands.
+pub fn read_mandatory_multiple<T: DeserializeTerm, R: ByteSource>(
+    place: &mut Array<T>,
+    decoder: &mut Decoder<R>,
+    alloc: Global,
+) -> Result<(), Error>
+    ensures { Tells R.remaining → Fills true (MeansAtLeastOne T.term) (mandatory_faults T.term).fault
+        decoder.old place.new result decoder.new }
+{
+    match read_several(decoder, alloc)? {
+        Some(items) => {
+            *place = items;
+            Ok(())
+        }
+        None => Err(decoder.refuse(Error::EmptyMultiple)),
+    }
+}
+
+/// Whether a field that may have no values is written as null: it has none.
+pub fn is_null_multiple<T: DeserializeTerm>(field: &Option<Array<T>>) -> bool
+    ensures { result ≡ is_null (multiple_canon T.term.canon field.now) }
+{
+    match field {
+        Some(items) => items.is_empty(),
+        None => true,
+    }
+}
+
+/// Writes a field that may have no values: an array of them, also of one, and null for none. It is refused as the array is.
+pub fn write_multiple<T: DeserializeTerm>(
+    field: &Option<Array<T>>,
+    encoder: &mut Encoder,
+) -> Result<(), Error>
+    ensures { WritesTerms (multiple_canon T.term.canon field.now ∷ []) encoder.old result encoder.new }
+{
+    match field {
+        Some(items) if !items.is_empty() => items.serialize(encoder),
+        _ => encoder.write_null(),
+    }
+}
+
+/// Whether a field that has at least one value is written as null, which it never is.
+pub fn is_null_mandatory_multiple<T: DeserializeTerm>(_field: &Array<T>) -> bool
+    ensures { result ≡ is_null (mandatory_multiple_canon T.term.canon _field.now) }
+{
+    false
+}
+
+/// Writes a field that has at least one value, as an array of them, also of one. It is refused as the array is, and by
+/// `EmptyMultiple` where it has none.
+pub fn write_mandatory_multiple<T: DeserializeTerm>(
+    field: &Array<T>,
+    encoder: &mut Encoder,
+) -> Result<(), Error>
+    ensures { WritesTerms (mandatory_multiple_canon T.term.canon field.now ∷ []) encoder.old result encoder.new }
+{
+    if field.is_empty() {
+        return encoder.refuse(Error::EmptyMultiple);
+    }
+    field.serialize(encoder)
+}
