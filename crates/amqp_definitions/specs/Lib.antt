@@ -1,2 +1,4 @@
 pub mod Transport
 pub mod Termini
+pub mod Transactions
+pub mod Security

@@ -1,6 +1,8 @@
 -- The restricted types of termini (Part 3, section 3.5): the number or the text of each value.
 use Rattle.std.proofs.Common.{ℕ, ◌<◌, ◌^◌, List, codes, rules}
-use Rattle.amqp_codec.specs.Types.{TermType, IsDistinct, uint_base, restricted_number, restricted_text}
+use Rattle.amqp_enums.specs.Types.{TermType, IsDistinct, uint_base, restricted_number, restricted_text}
+use Rattle.amqp_definitions.specs.declared.distribution_mode.DistributionMode.{DistributionMode}
+use Rattle.amqp_definitions.specs.declared.distribution_mode.DistributionMode.TheVariants as mode
 use Rattle.amqp_definitions.specs.declared.terminus_durability.TerminusDurability.{TerminusDurability}
 use Rattle.amqp_definitions.specs.declared.terminus_durability.TerminusDurability.TheVariants as durability
 use Rattle.amqp_definitions.specs.declared.terminus_expiry_policy.TerminusExpiryPolicy.{TerminusExpiryPolicy}
@@ -33,3 +35,14 @@ terminus_expiry_policy_distinct v w e = search rules
 
 abbrev pub terminus_expiry_policy_type : TermType TerminusExpiryPolicy
 terminus_expiry_policy_type = restricted_text terminus_expiry_policy_texts terminus_expiry_policy_distinct
+
+-- 3.5.7, of symbol
+abbrev pub distribution_mode_texts : DistributionMode → List ℕ
+distribution_mode_texts mode.Move = codes "move"
+distribution_mode_texts mode.Copy = codes "copy"
+
+pub distribution_mode_distinct : IsDistinct distribution_mode_texts
+distribution_mode_distinct v w e = search rules
+
+abbrev pub distribution_mode_type : TermType DistributionMode
+distribution_mode_type = restricted_text distribution_mode_texts distribution_mode_distinct

@@ -1,6 +1,7 @@
--- The restricted types of links and deliveries (Part 2, section 2.8): the number of each value.
-use Rattle.std.proofs.Common.{ℕ, ◌<◌, ◌^◌, Bool, true, false, rules}
-use Rattle.amqp_codec.specs.Types.{TermType, IsDistinct, boolean_base, ubyte_base, restricted_number}
+-- The types of links and deliveries (Part 2, section 2.8): the number of each value.
+use Rattle.std.proofs.Common.{ℕ, ◌<◌, ◌^◌, Bool, true, false, refl, rules}
+use Rattle.amqp_enums.specs.Types.{TermType, IsDistinct, boolean_base, ubyte_base, restricted_number, uint_type, via, unchanged}
+use Rattle.amqp_definitions.specs.declared.handle.Handle.{Handle}
 use Rattle.amqp_definitions.specs.declared.role.Role.{Role}
 use Rattle.amqp_definitions.specs.declared.role.Role.TheVariants as role
 use Rattle.amqp_definitions.specs.declared.sender_settle_mode.SenderSettleMode.{SenderSettleMode}
@@ -48,3 +49,7 @@ receiver_settle_mode_in_range v = search rules
 abbrev pub receiver_settle_mode_type : TermType ReceiverSettleMode
 receiver_settle_mode_type =
     restricted_number ubyte_base receiver_settle_mode_numbers receiver_settle_mode_distinct receiver_settle_mode_in_range
+
+-- 2.8.4, a uint
+abbrev pub handle_type : TermType Handle
+handle_type = via uint_type (λ v. v.0) unchanged (λ v. refl)

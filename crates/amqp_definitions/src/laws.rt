@@ -1,7 +1,10 @@
-//! What holds of the restricted types beyond the laws of every type. The functions do nothing; their contracts are proved.
+//! What holds of the types of this crate beyond the laws of every type. The functions do nothing; their contracts are proved.
 ghost use Rattle.std.specs.Prelude.{◌≡◌, false};
 
-use crate::{ReceiverSettleMode, Role, SenderSettleMode, TerminusDurability, TerminusExpiryPolicy};
+use crate::{
+    Handle, ReceiverSettleMode, Role, SaslCode, SenderSettleMode, TerminusDurability,
+    TerminusExpiryPolicy,
+};
 use amqp_codec::Deserialize;
 
 /// Numbers are read without memory, so that `from_slice` answers `Memory` for none of them.
@@ -9,6 +12,8 @@ pub fn reading_takes_no_memory()
     ensures role { ⟦<Role as Deserialize>⟧.reading.takes_memory ≡ false }
     ensures sender_settle_mode { ⟦<SenderSettleMode as Deserialize>⟧.reading.takes_memory ≡ false }
     ensures receiver_settle_mode { ⟦<ReceiverSettleMode as Deserialize>⟧.reading.takes_memory ≡ false }
+    ensures handle { ⟦<Handle as Deserialize>⟧.reading.takes_memory ≡ false }
+    ensures sasl_code { ⟦<SaslCode as Deserialize>⟧.reading.takes_memory ≡ false }
     ensures terminus_durability { ⟦<TerminusDurability as Deserialize>⟧.reading.takes_memory ≡ false }
 {}
 
@@ -18,4 +23,5 @@ pub fn defaults()
     ensures receiver_settle_mode { (v : _) → ⟦<ReceiverSettleMode as Default>⟧.is_default v → v ≡ ReceiverSettleMode.First }
     ensures durability { (v : _) → ⟦<TerminusDurability as Default>⟧.is_default v → v ≡ TerminusDurability.None }
     ensures expiry_policy { (v : _) → ⟦<TerminusExpiryPolicy as Default>⟧.is_default v → v ≡ TerminusExpiryPolicy.SessionEnd }
+    ensures handle { (v : _) → ⟦<Handle as Default>⟧.is_default v → v.0 ≡ 4294967295 }
 {}

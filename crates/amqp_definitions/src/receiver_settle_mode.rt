@@ -5,10 +5,10 @@ ghost use Rattle.amqp_codec.specs.KeyLaws.{key_of, variants_decide};
 ghost use Rattle.amqp_definitions.specs.Transport.{receiver_settle_mode_numbers, receiver_settle_mode_type};
 ghost use Rattle.amqp_definitions.specs.contracts.receiver_settle_mode.ReceiverSettleMode.{the_type};
 
-use amqp_codec::restricted::{RestrictedNumber, read_number, write_number};
 use amqp_codec::{
     ByteSource, Decoder, DeserializeTerm, Encoder, Error, MapKey, Serialize, SerializeTerm,
 };
+use amqp_enums::restricted::{RestrictedNumber, read_number, write_number};
 use std::alloc::Global;
 
 /// How the receiver of a link settles its deliveries.

@@ -5,10 +5,10 @@ ghost use Rattle.amqp_codec.specs.KeyLaws.{key_of, variants_decide};
 ghost use Rattle.amqp_definitions.specs.Transport.{role_numbers, role_type};
 ghost use Rattle.amqp_definitions.specs.contracts.role.Role.{the_type};
 
-use amqp_codec::restricted::{RestrictedNumber, read_number, write_number};
 use amqp_codec::{
     ByteSource, Decoder, DeserializeTerm, Encoder, Error, MapKey, Serialize, SerializeTerm,
 };
+use amqp_enums::restricted::{RestrictedNumber, read_number, write_number};
 use std::alloc::Global;
 
 /// Which end of a link a peer is.

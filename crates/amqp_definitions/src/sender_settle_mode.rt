@@ -5,10 +5,10 @@ ghost use Rattle.amqp_codec.specs.KeyLaws.{key_of, variants_decide};
 ghost use Rattle.amqp_definitions.specs.Transport.{sender_settle_mode_numbers, sender_settle_mode_type};
 ghost use Rattle.amqp_definitions.specs.contracts.sender_settle_mode.SenderSettleMode.{the_type};
 
-use amqp_codec::restricted::{RestrictedNumber, read_number, write_number};
 use amqp_codec::{
     ByteSource, Decoder, DeserializeTerm, Encoder, Error, MapKey, Serialize, SerializeTerm,
 };
+use amqp_enums::restricted::{RestrictedNumber, read_number, write_number};
 use std::alloc::Global;
 
 /// How the sender of a link settles its deliveries.

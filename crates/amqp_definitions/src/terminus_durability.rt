@@ -5,10 +5,10 @@ ghost use Rattle.amqp_codec.specs.KeyLaws.{key_of, variants_decide};
 ghost use Rattle.amqp_definitions.specs.Termini.{terminus_durability_numbers, terminus_durability_type};
 ghost use Rattle.amqp_definitions.specs.contracts.terminus_durability.TerminusDurability.{the_type};
 
-use amqp_codec::restricted::{RestrictedNumber, read_number, write_number};
 use amqp_codec::{
     ByteSource, Decoder, DeserializeTerm, Encoder, Error, MapKey, Serialize, SerializeTerm,
 };
+use amqp_enums::restricted::{RestrictedNumber, read_number, write_number};
 use std::alloc::Global;
 
 /// What of a terminus is kept durably.

@@ -1,6 +1,10 @@
 //! Restricted types in every spelling, and what is no value of them.
-use crate::{ReceiverSettleMode, Role, SenderSettleMode, TerminusDurability, TerminusExpiryPolicy};
-use amqp_codec::{Canonical, Deserialize, Error, Symbol, from_slice, to_vec};
+use crate::{
+    DistributionMode, Handle, ReceiverSettleMode, Role, SaslCode, SenderSettleMode,
+    TerminusDurability, TerminusExpiryPolicy, TxnCapability,
+};
+use amqp_calls::{from_slice, to_vec};
+use amqp_codec::{Canonical, Deserialize, Error, Symbol};
 use std::alloc::Global;
 use std::test::Fail;
 
@@ -178,6 +182,80 @@ fn expiry_policies(rt: HostRuntime) -> Result<(), Fail> {
             rt.alloc()
         )?
     );
+    Ok(())
+}
+
+#[test]
+fn modes_and_capabilities(rt: HostRuntime) -> Result<(), Fail> {
+    for (text, mode) in [
+        ("move", DistributionMode::Move),
+        ("copy", DistributionMode::Copy),
+    ] {
+        let spelling = spelled(text, rt.alloc())?;
+        assert!(rt;
+            is_rewritten(&spelling, &mode, &spelling, rt.alloc())?,
+            "of {text}"
+        );
+        assert_eq!(rt; DistributionMode::try_from(text).ok(), Some(mode));
+    }
+    for (text, capability) in [
+        ("amqp:local-transactions", TxnCapability::LocalTransactions),
+        (
+            "amqp:distributed-transactions",
+            TxnCapability::DistributedTransactions,
+        ),
+        (
+            "amqp:promotable-transactions",
+            TxnCapability::PromotableTransactions,
+        ),
+        ("amqp:multi-txns-per-ssn", TxnCapability::MultiTxnsPerSsn),
+        ("amqp:multi-ssns-per-txn", TxnCapability::MultiSsnsPerTxn),
+    ] {
+        let spelling = spelled(text, rt.alloc())?;
+        assert!(rt;
+            is_rewritten(&spelling, &capability, &spelling, rt.alloc())?,
+            "of {text}"
+        );
+        assert_eq!(rt; TxnCapability::try_from(text).ok(), Some(capability));
+    }
+    Ok(())
+}
+
+#[test]
+fn codes_and_handles(rt: HostRuntime) -> Result<(), Fail> {
+    for (number, code) in [
+        (0, SaslCode::Ok),
+        (1, SaslCode::Auth),
+        (2, SaslCode::Sys),
+        (3, SaslCode::SysPerm),
+        (4, SaslCode::SysTemp),
+    ] {
+        let text = [0x50, number];
+        assert!(rt;
+            is_rewritten(&text, &code, &text, rt.alloc())?,
+            "of {number}"
+        );
+        assert_eq!(rt; u8::from(code), number);
+    }
+    let rows: [(&[u8], Handle, &[u8]); 3] = [
+        (&[0x52, 0x00], Handle(0), &[0x43]),
+        (
+            &[0x70, 0x00, 0x00, 0x00, 0x07],
+            Handle::from(7),
+            &[0x52, 0x07],
+        ),
+        (
+            &[0x70, 0xff, 0xff, 0xff, 0xff],
+            Handle::default(),
+            &[0x70, 0xff, 0xff, 0xff, 0xff],
+        ),
+    ];
+    for (input, handle, text) in rows {
+        assert!(rt;
+            is_rewritten(input, &handle, text, rt.alloc())?,
+            "of {input:?}"
+        );
+    }
     Ok(())
 }
 

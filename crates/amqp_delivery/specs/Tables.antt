@@ -1,11 +1,17 @@
--- The tables of the delivery states (Part 3, section 3.4).
-use Rattle.amqp_codec.specs.Types.{inl, inr, codes, refl, unchanged, TermType, uint_type, ulong_type, mandatory, none, field}
-use Rattle.amqp_codec.specs.Types.{Table, Choices, no_more, member, Chosen, SumOf, sum_of}
+-- The tables of the delivery states (Part 3, section 3.4) and of transactions (Part 4, section 4.5).
+use Rattle.amqp_enums.specs.Types.{inl, inr, codes, refl, unchanged, TermType, boolean_type, uint_type, ulong_type, mandatory, optional}
+use Rattle.amqp_enums.specs.Types.{none, field, Table, Choices, no_more, member, Chosen, SumOf, sum_of}
+use Rattle.amqp_primitives.specs.Types.{binary_type}
 use Rattle.amqp_delivery.specs.declared.accepted.Accepted.{Accepted}
+use Rattle.amqp_delivery.specs.declared.declare.Declare.{Declare}
+use Rattle.amqp_delivery.specs.declared.declared.Declared.{Declared}
+use Rattle.amqp_delivery.specs.declared.discharge.Discharge.{Discharge}
 use Rattle.amqp_delivery.specs.declared.received.Received.{Received}
 use Rattle.amqp_delivery.specs.declared.released.Released.{Released}
 use Rattle.amqp_delivery.specs.declared.state.DeliveryState.{DeliveryState}
 use Rattle.amqp_delivery.specs.declared.state.DeliveryState.TheVariants as state
+use Rattle.amqp_delivery.specs.declared.outcome.Outcome.{Outcome}
+use Rattle.amqp_delivery.specs.declared.outcome.Outcome.TheVariants as outcome_of
 
 -- Part 3, section 3.4.2
 abbrev pub accepted : Table Accepted
@@ -41,22 +47,79 @@ released = record {
   is_small = refl;
 }
 
+-- Part 4, section 4.5.2
+abbrev pub declare : Table Declare
+declare = record {
+  code = 0x31;
+  name = codes "amqp:declare:list";
+  fields = field (λ v. v.global_id) (optional binary_type refl refl) none;
+  norm = unchanged;
+  norm_is = λ v. (refl, tt);
+  is_small = refl;
+}
+
+-- Part 4, section 4.5.3
+abbrev pub discharge : Table Discharge
+discharge = record {
+  code = 0x32;
+  name = codes "amqp:discharge:list";
+  fields = field (λ v. v.txn_id) (mandatory binary_type refl refl)
+      (field (λ v. v.fail) (optional boolean_type refl refl) none);
+  norm = unchanged;
+  norm_is = λ v. (refl, (refl, tt));
+  is_small = refl;
+}
+
+-- Part 4, section 4.5.5
+abbrev pub declared : Table Declared
+declared = record {
+  code = 0x33;
+  name = codes "amqp:declared:list";
+  fields = field (λ v. v.txn_id) (mandatory binary_type refl refl) none;
+  norm = unchanged;
+  norm_is = λ v. (refl, tt);
+  is_small = refl;
+}
+
 -- The states in their order, and the one that a value is.
 abbrev pub states : Choices DeliveryState
 states =
     member received state.Received
     (member accepted state.Accepted
     (member released state.Released
-    no_more))
+    (member declared state.Declared
+    no_more)))
 
 abbrev pub state_of : (v : DeliveryState) → Chosen states v
 state_of (state.Received v) = (inl v, refl)
 state_of (state.Accepted v) = (inr (inl v), refl)
 state_of (state.Released v) = (inr (inr (inl v)), refl)
+state_of (state.Declared v) = (inr (inr (inr (inl v))), refl)
 
 -- Part 3, section 3.4: a state is the member whose descriptor stands there
 abbrev pub delivery_states : SumOf DeliveryState
-delivery_states = record { choices = states; choice = state_of; apart = refl; chosen = (λ v. refl, (λ v. refl, (λ v. refl, tt))) }
+delivery_states = record {
+  choices = states;
+  choice = state_of;
+  apart = refl;
+  chosen = (λ v. refl, (λ v. refl, (λ v. refl, (λ v. refl, tt))));
+}
 
 abbrev pub delivery_state : TermType DeliveryState
 delivery_state = sum_of delivery_states
+
+-- The outcomes in their order, and the one that a value is.
+abbrev pub ends : Choices Outcome
+ends = member accepted outcome_of.Accepted (member released outcome_of.Released (member declared outcome_of.Declared no_more))
+
+abbrev pub end_of : (v : Outcome) → Chosen ends v
+end_of (outcome_of.Accepted v) = (inl v, refl)
+end_of (outcome_of.Released v) = (inr (inl v), refl)
+end_of (outcome_of.Declared v) = (inr (inr (inl v)), refl)
+
+-- Part 3, section 3.4: of an outcome likewise
+abbrev pub outcomes : SumOf Outcome
+outcomes = record { choices = ends; choice = end_of; apart = refl; chosen = (λ v. refl, (λ v. refl, (λ v. refl, tt))) }
+
+abbrev pub outcome : TermType Outcome
+outcome = sum_of outcomes

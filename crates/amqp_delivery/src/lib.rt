@@ -1,13 +1,25 @@
-//! Delivery states (Part 3, section 3.4).
+//! Delivery states (Part 3, section 3.4), and what is said of transactions (Part 4, section 4.5).
 #![tactic(auto)]
 
 mod accepted;
+mod declare;
+mod declared;
+mod discharge;
 pub mod laws;
+mod names;
+mod outcome;
+mod outcome_members;
 mod received;
 mod released;
 mod state;
+mod state_members;
 
 pub use accepted::Accepted;
+pub use declare::Declare;
+pub use declared::Declared;
+pub use discharge::Discharge;
+pub use names::TransactionId;
+pub use outcome::Outcome;
 pub use received::Received;
 pub use released::Released;
 pub use state::DeliveryState;

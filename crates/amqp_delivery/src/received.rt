@@ -1,5 +1,5 @@
 //! The received state (Part 3, section 3.4.1).
-ghost use Rattle.amqp_codec.specs.Types.{composite, one_term, refl, agreement, writing_of};
+ghost use Rattle.amqp_enums.specs.Types.{composite, one_term, refl, agreement, writing_of};
 ghost use Rattle.amqp_delivery.specs.Tables.{received};
 
 use amqp_codec::kernel::{Composite, CompositeTerm, FieldKind, Table, read_into, write_composite};

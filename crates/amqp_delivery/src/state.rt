@@ -1,11 +1,11 @@
 //! The state of a delivery (Part 3, section 3.4).
 ghost use Rattle.std.specs.Prelude.{◌≡◌};
-ghost use Rattle.amqp_codec.specs.Choices.{sum_one, sum_agreement, sum_writing};
+ghost use Rattle.amqp_enums.specs.Choices.{sum_one, sum_agreement, sum_writing};
 ghost use Rattle.amqp_delivery.specs.Tables.{delivery_state, delivery_states};
 
-use crate::{Accepted, Received, Released};
-use amqp_codec::kernel::{Sum, is_null_sum, read_as, read_sum, write_as};
+use crate::{Accepted, Declared, Received, Released};
 use amqp_codec::{ByteSource, Decoder, DeserializeTerm, Encoder, Error, Serialize, SerializeTerm};
+use amqp_enums::{Sum, is_null_sum, read_as, read_sum, write_as};
 use std::alloc::Global;
 
 /// The state of a delivery. Any other descriptor is refused by `WrongDescriptor`.
@@ -14,6 +14,7 @@ pub enum DeliveryState {
     Received(Received),
     Accepted(Accepted),
     Released(Released),
+    Declared(Declared),
 }
 
 impl From<Received> for DeliveryState {
@@ -46,6 +47,16 @@ impl From<Released> for DeliveryState {
     }
 }
 
+impl From<Declared> for DeliveryState {
+    ghost use Rattle.amqp_delivery.specs.declared.state.DeliveryState.TheVariants as state;
+
+    ghost from_gives = { λ member sum. sum ≡ state.Declared member };
+
+    fn from(declared: Declared) -> DeliveryState {
+        DeliveryState::Declared(declared)
+    }
+}
+
 impl Sum for DeliveryState {
     ghost sum = { delivery_states };
 
@@ -54,6 +65,7 @@ impl Sum for DeliveryState {
             Received::DESCRIPTOR,
             Accepted::DESCRIPTOR,
             Released::DESCRIPTOR,
+            Declared::DESCRIPTOR,
         ]
     }
 
@@ -66,6 +78,7 @@ impl Sum for DeliveryState {
             0 => read_as::<Received, _, _>(decoder, alloc),
             1 => read_as::<Accepted, _, _>(decoder, alloc),
             2 => read_as::<Released, _, _>(decoder, alloc),
+            3 => read_as::<Declared, _, _>(decoder, alloc),
             _ => Err(decoder.refuse(Error::WrongDescriptor)),
         }
     }
@@ -79,6 +92,7 @@ impl Serialize for DeliveryState {
             DeliveryState::Received(received) => write_as(self, received, encoder),
             DeliveryState::Accepted(accepted) => write_as(self, accepted, encoder),
             DeliveryState::Released(released) => write_as(self, released, encoder),
+            DeliveryState::Declared(declared) => write_as(self, declared, encoder),
         }
     }
 
@@ -87,6 +101,7 @@ impl Serialize for DeliveryState {
             DeliveryState::Received(received) => received.in_type(),
             DeliveryState::Accepted(accepted) => accepted.in_type(),
             DeliveryState::Released(released) => released.in_type(),
+            DeliveryState::Declared(declared) => declared.in_type(),
         }
     }
 }

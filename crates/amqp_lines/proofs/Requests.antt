@@ -8,7 +8,9 @@ use Rattle.memchr.specs.Find.{IsFirstByte, is_byte}
 use Rattle.amqp_lines.specs.Lines.{HasNo}
 use Rattle.amqp_lines.specs.Answers.{type_name, Asks, StandsFor}
 use Rattle.amqp_lines.specs.declared.request.TypeName.{TypeName}
-use Rattle.amqp_lines.specs.declared.request.TypeName.TheVariants.{Accepted, Boolean, DeliveryState, Received, Released}
+use Rattle.amqp_lines.specs.declared.request.TypeName.TheVariants.{Accepted, Boolean, Declare, Declared, DeliveryState}
+use Rattle.amqp_lines.specs.declared.request.TypeName.TheVariants.{Discharge, ErrorCondition, Outcome, Received}
+use Rattle.amqp_lines.specs.declared.request.TypeName.TheVariants.{Released, SaslChallenge, SaslInit, SaslOutcome, SaslResponse}
 use Rattle.amqp_lines.proofs.Pieces.{first_none, first_some}
 
 all_differ : ℕ → List ℕ → Bool
@@ -32,9 +34,18 @@ no_space : (named : TypeName) → HasNo 32 (type_name named)
 unfolding all_differ
 no_space Accepted = tested 32 (type_name Accepted) refl
 no_space Boolean = tested 32 (type_name Boolean) refl
+no_space Declare = tested 32 (type_name Declare) refl
+no_space Declared = tested 32 (type_name Declared) refl
 no_space DeliveryState = tested 32 (type_name DeliveryState) refl
+no_space Discharge = tested 32 (type_name Discharge) refl
+no_space ErrorCondition = tested 32 (type_name ErrorCondition) refl
+no_space Outcome = tested 32 (type_name Outcome) refl
 no_space Received = tested 32 (type_name Received) refl
 no_space Released = tested 32 (type_name Released) refl
+no_space SaslChallenge = tested 32 (type_name SaslChallenge) refl
+no_space SaslInit = tested 32 (type_name SaslInit) refl
+no_space SaslOutcome = tested 32 (type_name SaslOutcome) refl
+no_space SaslResponse = tested 32 (type_name SaslResponse) refl
 
 -- what stands before the first c
 split_once : (c : ℕ) (a b x y : List ℕ) → HasNo c a → HasNo c b → a ++ (c ∷ x) ≡ b ++ (c ∷ y) → (a ≡ b) × (x ≡ y)

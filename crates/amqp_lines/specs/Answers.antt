@@ -8,14 +8,18 @@ use Rattle.amqp_codec.specs.TermType.{TermType}
 use Rattle.amqp_codec.specs.PrimitiveTypes.{boolean_type}
 use Rattle.amqp_codec.specs.Composite.{composite}
 use Rattle.amqp_codec.specs.Reading.{reading_of, IsUnreadable}
-use Rattle.amqp_codec.specs.Rewritten.{IsRewritten, IsUnwritten}
-use Rattle.amqp_delivery.specs.Tables.{accepted, received, released, delivery_state}
+use Rattle.amqp_calls.specs.Rewritten.{IsRewritten, IsUnwritten}
+use Rattle.amqp_errors.specs.Conditions.{condition_type}
+use Rattle.amqp_delivery.specs.Tables.{accepted, received, released, declare, declared, discharge, delivery_state, outcome}
+use Rattle.amqp_sasl.specs.Tables.{sasl_init, sasl_challenge, sasl_response, sasl_outcome}
 use Rattle.amqp_wire.specs.Error.{number_of, name_of}
 use Rattle.amqp_lines.specs.Lines.{TakesLine}
 use Rattle.amqp_lines.specs.declared.answer.Answer.{Answer}
 use Rattle.amqp_lines.specs.declared.answer.Answer.TheVariants.{Rewritten, Refused, NoRequest}
 use Rattle.amqp_lines.specs.declared.request.TypeName.{TypeName}
-use Rattle.amqp_lines.specs.declared.request.TypeName.TheVariants.{Accepted, Boolean, DeliveryState, Received, Released}
+use Rattle.amqp_lines.specs.declared.request.TypeName.TheVariants.{Accepted, Boolean, Declare, Declared, DeliveryState}
+use Rattle.amqp_lines.specs.declared.request.TypeName.TheVariants.{Discharge, ErrorCondition, Outcome, Received}
+use Rattle.amqp_lines.specs.declared.request.TypeName.TheVariants.{Released, SaslChallenge, SaslInit, SaslOutcome, SaslResponse}
 
 -- Memory ran out, or the reader or the writer failed.
 abbrev pub IsOutside : Error → Type 0
@@ -31,9 +35,18 @@ IsOverfull input = IfSome input (λ bytes. 18446744073709551615 ≤ length bytes
 abbrev pub type_name : TypeName → List ℕ
 type_name Accepted = codes "accepted"
 type_name Boolean = codes "boolean"
+type_name Declare = codes "declare"
+type_name Declared = codes "declared"
 type_name DeliveryState = codes "delivery-state"
+type_name Discharge = codes "discharge"
+type_name ErrorCondition = codes "error-condition"
+type_name Outcome = codes "outcome"
 type_name Received = codes "received"
 type_name Released = codes "released"
+type_name SaslChallenge = codes "sasl-challenge"
+type_name SaslInit = codes "sasl-init"
+type_name SaslOutcome = codes "sasl-outcome"
+type_name SaslResponse = codes "sasl-response"
 
 -- The digits stand for the bytes: an even, positive number of them, or `-` for none.
 abbrev pub StandsFor : List ℕ → List ℕ → Type 0
@@ -70,16 +83,34 @@ NoTextOf u input e = IsUnreadable (reading_of u) input e ⊎ IsUnwritten (readin
 abbrev pub IsText : TypeName → List ℕ → List ℕ → ℕ → Type 0
 IsText Accepted = TextOf (composite accepted)
 IsText Boolean = TextOf boolean_type
+IsText Declare = TextOf (composite declare)
+IsText Declared = TextOf (composite declared)
 IsText DeliveryState = TextOf delivery_state
+IsText Discharge = TextOf (composite discharge)
+IsText ErrorCondition = TextOf condition_type
+IsText Outcome = TextOf outcome
 IsText Received = TextOf (composite received)
 IsText Released = TextOf (composite released)
+IsText SaslChallenge = TextOf (composite sasl_challenge)
+IsText SaslInit = TextOf (composite sasl_init)
+IsText SaslOutcome = TextOf (composite sasl_outcome)
+IsText SaslResponse = TextOf (composite sasl_response)
 
 abbrev pub HasNoText : TypeName → List ℕ → Error → Type 0
 HasNoText Accepted = NoTextOf (composite accepted)
 HasNoText Boolean = NoTextOf boolean_type
+HasNoText Declare = NoTextOf (composite declare)
+HasNoText Declared = NoTextOf (composite declared)
 HasNoText DeliveryState = NoTextOf delivery_state
+HasNoText Discharge = NoTextOf (composite discharge)
+HasNoText ErrorCondition = NoTextOf condition_type
+HasNoText Outcome = NoTextOf outcome
 HasNoText Received = NoTextOf (composite received)
 HasNoText Released = NoTextOf (composite released)
+HasNoText SaslChallenge = NoTextOf (composite sasl_challenge)
+HasNoText SaslInit = NoTextOf (composite sasl_init)
+HasNoText SaslOutcome = NoTextOf (composite sasl_outcome)
+HasNoText SaslResponse = NoTextOf (composite sasl_response)
 
 -- The line is answered so, and this says whether that is `ok`: by the canonical text and the number of the bytes behind
 -- the value, or by why there is none, which may be want of memory.

@@ -5,8 +5,11 @@ ghost use Rattle.amqp_lines.specs.Answers.{type_name, StandsFor, Asks, IsText, H
 ghost use Rattle.amqp_lines.specs.declared.request.TypeName.{TypeName};
 
 use fe2o3_amqp_types::codec::{Error, canonical_text};
-use fe2o3_amqp_types::messaging::{Accepted, DeliveryState, Received, Released};
+use fe2o3_amqp_types::definitions::ErrorCondition;
+use fe2o3_amqp_types::messaging::{Accepted, DeliveryState, Outcome, Received, Released};
 use fe2o3_amqp_types::primitives::Boolean;
+use fe2o3_amqp_types::sasl::{SaslChallenge, SaslInit, SaslOutcome, SaslResponse};
+use fe2o3_amqp_types::transaction::{Declare, Declared, Discharge};
 use memchr::memchr;
 use std::alloc::Global;
 
@@ -15,9 +18,18 @@ use std::alloc::Global;
 pub(crate) enum TypeName {
     Accepted,
     Boolean,
+    Declare,
+    Declared,
     DeliveryState,
+    Discharge,
+    ErrorCondition,
+    Outcome,
     Received,
     Released,
+    SaslChallenge,
+    SaslInit,
+    SaslOutcome,
+    SaslResponse,
 }
 
 impl TypeName {
@@ -28,9 +40,18 @@ impl TypeName {
         match name {
             b"accepted" => Some(TypeName::Accepted),
             b"boolean" => Some(TypeName::Boolean),
+            b"declare" => Some(TypeName::Declare),
+            b"declared" => Some(TypeName::Declared),
             b"delivery-state" => Some(TypeName::DeliveryState),
+            b"discharge" => Some(TypeName::Discharge),
+            b"error-condition" => Some(TypeName::ErrorCondition),
+            b"outcome" => Some(TypeName::Outcome),
             b"received" => Some(TypeName::Received),
             b"released" => Some(TypeName::Released),
+            b"sasl-challenge" => Some(TypeName::SaslChallenge),
+            b"sasl-init" => Some(TypeName::SaslInit),
+            b"sasl-outcome" => Some(TypeName::SaslOutcome),
+            b"sasl-response" => Some(TypeName::SaslResponse),
             _ => None,
         }
     }
@@ -47,9 +68,18 @@ impl TypeName {
         match self {
             TypeName::Accepted => canonical_text::<Accepted>(input, alloc),
             TypeName::Boolean => canonical_text::<Boolean>(input, alloc),
+            TypeName::Declare => canonical_text::<Declare>(input, alloc),
+            TypeName::Declared => canonical_text::<Declared>(input, alloc),
             TypeName::DeliveryState => canonical_text::<DeliveryState>(input, alloc),
+            TypeName::Discharge => canonical_text::<Discharge>(input, alloc),
+            TypeName::ErrorCondition => canonical_text::<ErrorCondition>(input, alloc),
+            TypeName::Outcome => canonical_text::<Outcome>(input, alloc),
             TypeName::Received => canonical_text::<Received>(input, alloc),
             TypeName::Released => canonical_text::<Released>(input, alloc),
+            TypeName::SaslChallenge => canonical_text::<SaslChallenge>(input, alloc),
+            TypeName::SaslInit => canonical_text::<SaslInit>(input, alloc),
+            TypeName::SaslOutcome => canonical_text::<SaslOutcome>(input, alloc),
+            TypeName::SaslResponse => canonical_text::<SaslResponse>(input, alloc),
         }
     }
 }

@@ -22,22 +22,28 @@ fn received() -> Received {
     }
 }
 
+// The value's text of so many bytes stands behind `aa bb`.
+fn check_appended<T: Serialize>(
+    value: &T,
+    len: usize,
+    wanted: &str,
+    alloc: Global,
+) -> Result<(), Fail> {
+    let (outcome, digits) = appended(value, alloc)?;
+    if outcome != Ok(len) || digits.as_str() != wanted {
+        return Err(Fail::new(format_args!("{digits} stands for {wanted}")));
+    }
+    Ok(())
+}
+
 #[test]
 fn text_is_appended(rt: HostRuntime) -> Result<(), Fail> {
-    let (outcome, digits) = appended(&Accepted {}, rt.alloc())?;
-    assert_eq!(rt; outcome, Ok(4));
-    assert_eq!(rt; digits.as_str(), "aabb00532445");
-    let (outcome, digits) = appended(&DeliveryState::from(received()), rt.alloc())?;
-    assert_eq!(rt; outcome, Ok(10));
-    assert_eq!(rt; digits.as_str(), "aabb005323c005025209530d");
-    let (outcome, digits) = appended(&Some(true), rt.alloc())?;
-    assert_eq!(rt; outcome, Ok(1));
-    assert_eq!(rt; digits.as_str(), "aabb41");
+    check_appended(&Accepted {}, 4, "aabb00532445", rt.alloc())?;
+    let state = DeliveryState::from(received());
+    check_appended(&state, 10, "aabb005323c005025209530d", rt.alloc())?;
+    check_appended(&Some(true), 1, "aabb41", rt.alloc())?;
     let none: Option<Box<u32>> = None;
-    let (outcome, digits) = appended(&&none, rt.alloc())?;
-    assert_eq!(rt; outcome, Ok(1));
-    assert_eq!(rt; digits.as_str(), "aabb40");
-    Ok(())
+    check_appended(&&none, 1, "aabb40", rt.alloc())
 }
 
 #[test]

@@ -1,6 +1,6 @@
 //! Worked rows of the delivery states: values and codes in errors by calls, and the rest as lines of the program.
 use amqp_lines::run;
-use fe2o3_amqp_types::codec::{Deserialize, Error, from_slice, to_vec};
+use fe2o3_amqp_types::codec::{Deserialize, Error, Serialize, from_slice, to_vec};
 use fe2o3_amqp_types::messaging::{Accepted, DeliveryState, Received, Released};
 use std::alloc::Global;
 use std::test::Fail;
@@ -74,11 +74,27 @@ fn lines_of_the_program(rt: HostRuntime) -> Result<(), Fail> {
     Ok(())
 }
 
-#[test]
-fn accepted_is_written(rt: HostRuntime) -> Result<(), Fail> {
-    let text = to_vec(&Accepted {}, rt.alloc())?;
-    assert_eq!(rt; text.as_slice(), [0x00, 0x53, 0x24, 0x45].as_slice());
+// The value is written so, and that is read as the value.
+fn check_both_ways<T: Serialize + Deserialize + PartialEq>(
+    value: &T,
+    digits: &str,
+    alloc: Global,
+) -> Result<(), Fail> {
+    let wanted = hex::decode(alloc, digits)?;
+    let text = to_vec(value, alloc)?;
+    if text != wanted {
+        return Err(Fail::new(format_args!("{digits} isn't written")));
+    }
+    let read: T = from_slice(text.as_slice(), alloc)?;
+    if read != *value {
+        return Err(Fail::new(format_args!("{digits} is read otherwise")));
+    }
     Ok(())
+}
+
+#[test]
+fn accepted_both_ways(rt: HostRuntime) -> Result<(), Fail> {
+    check_both_ways(&Accepted {}, "00532445", rt.alloc())
 }
 
 #[test]
@@ -87,46 +103,43 @@ fn received_both_ways(rt: HostRuntime) -> Result<(), Fail> {
         section_number: 9,
         section_offset: 13,
     };
-    let text = to_vec(&received, rt.alloc())?;
-    let digits = hex::encode(rt.alloc(), &text)?;
-    assert_eq!(rt; digits.as_str(), "005323c005025209530d");
-    let read: Received = from_slice(text.as_slice(), rt.alloc())?;
-    assert_eq!(rt; read, received);
-    let state: DeliveryState = from_slice(text.as_slice(), rt.alloc())?;
-    assert_eq!(rt; state, DeliveryState::from(received));
-    let text = to_vec(&state, rt.alloc())?;
-    let digits = hex::encode(rt.alloc(), &text)?;
-    assert_eq!(rt; digits.as_str(), "005323c005025209530d");
-    Ok(())
+    check_both_ways(&received, "005323c005025209530d", rt.alloc())?;
+    let state = DeliveryState::from(received);
+    check_both_ways(&state, "005323c005025209530d", rt.alloc())
 }
 
 #[test]
 fn released_both_ways(rt: HostRuntime) -> Result<(), Fail> {
-    let text = to_vec(&Released {}, rt.alloc())?;
-    assert_eq!(rt; text.as_slice(), [0x00, 0x53, 0x26, 0x45].as_slice());
-    let read: Released = from_slice(text.as_slice(), rt.alloc())?;
-    assert_eq!(rt; read, Released {});
-    let state: DeliveryState = from_slice(text.as_slice(), rt.alloc())?;
-    assert_eq!(rt; state, DeliveryState::from(Released {}));
-    let again = to_vec(&state, rt.alloc())?;
-    assert_eq!(rt; again, text);
+    check_both_ways(&Released {}, "00532645", rt.alloc())?;
+    let state = DeliveryState::from(Released {});
+    check_both_ways(&state, "00532645", rt.alloc())
+}
+
+// Each text is refused so.
+fn check_refusals<T: Deserialize>(rows: &[(&str, Error)], alloc: Global) -> Result<(), Fail> {
+    for (digits, error) in rows {
+        if refusal::<T>(*digits, alloc)? != Some(*error) {
+            return Err(Fail::new(format_args!("{digits} is refused otherwise")));
+        }
+    }
     Ok(())
 }
 
 #[test]
 fn refused_codes(rt: HostRuntime) -> Result<(), Fail> {
-    for (digits, error) in [
-        ("00532400532445", Error::WrongType(0)),
-        ("40", Error::WrongType(0x40)),
-        ("99", Error::UnknownCode(0x99)),
-        ("7200000000", Error::FloatCode(0x72)),
-        ("008245", Error::FloatCode(0x82)),
-        ("009945", Error::UnknownCode(0x99)),
-    ] {
-        let refused = refusal::<Accepted>(digits, rt.alloc())?;
-        assert_eq!(rt; refused, Some(error), "of {digits}");
-    }
-    let refused = refusal::<Received>("005323c0050253095209", rt.alloc())?;
-    assert_eq!(rt; refused, Some(Error::WrongType(0x53)));
-    Ok(())
+    check_refusals::<Accepted>(
+        &[
+            ("00532400532445", Error::WrongType(0)),
+            ("40", Error::WrongType(0x40)),
+            ("99", Error::UnknownCode(0x99)),
+            ("7200000000", Error::FloatCode(0x72)),
+            ("008245", Error::FloatCode(0x82)),
+            ("009945", Error::UnknownCode(0x99)),
+        ],
+        rt.alloc(),
+    )?;
+    check_refusals::<Received>(
+        &[("005323c0050253095209", Error::WrongType(0x53))],
+        rt.alloc(),
+    )
 }

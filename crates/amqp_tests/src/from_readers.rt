@@ -16,63 +16,96 @@ fn left_behind<T: Deserialize>(
     let bytes = hex::decode(alloc, digits)?;
     let mut reader = Dripping::new(bytes.as_slice(), calls);
     let read: Result<T, Error> = from_reader(&mut reader, alloc);
-    let number = read.err().map(|error| error.number());
+    let number = match read {
+        Ok(_) => None,
+        Err(error) => Some(error.number()),
+    };
     Ok((number, hex::encode(alloc, reader.bytes)?))
+}
+
+// Whether the next value of the reader is this one.
+fn is_next<T: Deserialize + PartialEq>(
+    value: &T,
+    reader: &mut &[u8],
+    alloc: Global,
+) -> Result<bool, Error> {
+    let read: T = from_reader(reader, alloc)?;
+    Ok(read == *value)
 }
 
 #[test]
 fn the_next_byte_is_left(rt: HostRuntime) -> Result<(), Fail> {
     let bytes = hex::decode(rt.alloc(), "00532445ff")?;
     let mut reader = bytes.as_slice();
-    let accepted: Accepted = from_reader(&mut reader, rt.alloc())?;
-    assert_eq!(rt; accepted, Accepted {});
+    assert!(rt; is_next(&Accepted {}, &mut reader, rt.alloc())?);
     assert_eq!(rt; reader, [0xff].as_slice());
+    Ok(())
+}
+
+#[test]
+fn values_in_a_row(rt: HostRuntime) -> Result<(), Fail> {
     let bytes = hex::decode(rt.alloc(), "005323c005025209530d00532445")?;
     let mut reader = bytes.as_slice();
-    let first: DeliveryState = from_reader(&mut reader, rt.alloc())?;
-    let second: DeliveryState = from_reader(&mut reader, rt.alloc())?;
-    let received = Received {
+    let first = DeliveryState::from(Received {
         section_number: 9,
         section_offset: 13,
-    };
-    assert_eq!(rt; first, DeliveryState::from(received));
-    assert_eq!(rt; second, DeliveryState::from(Accepted {}));
-    assert_eq!(rt; reader.len(), 0);
+    });
+    assert!(rt; is_next(&first, &mut reader, rt.alloc())?);
+    let second = DeliveryState::from(Accepted {});
+    assert!(rt; is_next(&second, &mut reader, rt.alloc())?);
+    assert!(rt; reader.is_empty());
+    Ok(())
+}
+
+// Over this input each call fails in turn, and after them the byte behind it is left.
+fn check_failures(digits: &str, alloc: Global) -> Result<(), Fail> {
+    let input = format!(in alloc; "{digits}ff")?;
+    let calls = digits.len() / 2;
+    for call in 0..calls {
+        let (number, _) = left_behind::<DeliveryState>(input.as_str(), call, alloc)?;
+        if number != Some(22) {
+            return Err(Fail::new(format_args!("{digits} at {call}")));
+        }
+    }
+    let (number, left) = left_behind::<DeliveryState>(input.as_str(), calls, alloc)?;
+    if number.is_some() || left.as_str() != "ff" {
+        return Err(Fail::new(format_args!("{digits} is read otherwise")));
+    }
     Ok(())
 }
 
 #[test]
 fn each_call_fails_in_turn(rt: HostRuntime) -> Result<(), Fail> {
-    for digits in [
-        "00532445",
-        "005324c00000",
+    check_failures("00532445", rt.alloc())?;
+    check_failures("005324c00000", rt.alloc())?;
+    check_failures(
         "00a312616d71703a61636365707465643a6c697374c00100",
-        "005323c005025209530d",
-    ] {
-        let input = format!(in rt.alloc(); "{digits}ff")?;
-        let calls = digits.len() / 2;
-        for call in 0..calls {
-            let (number, _) = left_behind::<DeliveryState>(input.as_str(), call, rt.alloc())?;
-            assert_eq!(rt; number, Some(22), "of {digits} at {call}");
+        rt.alloc(),
+    )?;
+    check_failures("005323c005025209530d", rt.alloc())
+}
+
+// Each input is refused by the error of this number.
+fn check_refusals(rows: &[(&str, u8)], alloc: Global) -> Result<(), Fail> {
+    for (digits, number) in rows {
+        let (refused, _) = left_behind::<Accepted>(*digits, 100, alloc)?;
+        if refused != Some(*number) {
+            return Err(Fail::new(format_args!("{digits} is refused otherwise")));
         }
-        let (number, left) = left_behind::<DeliveryState>(input.as_str(), calls, rt.alloc())?;
-        assert_eq!(rt; number, None, "of {digits}");
-        assert_eq!(rt; left.as_str(), "ff", "of {digits}");
     }
     Ok(())
 }
 
 #[test]
 fn faults_have_their_names(rt: HostRuntime) -> Result<(), Fail> {
-    for (digits, number) in [
-        ("", Error::Cut.number()),
-        ("005324", Error::Cut.number()),
-        ("40", Error::WrongType(0x40).number()),
-        ("00532545", Error::WrongDescriptor.number()),
-        ("005324c0020140", Error::Surplus.number()),
-    ] {
-        let (refused, _) = left_behind::<Accepted>(digits, 100, rt.alloc())?;
-        assert_eq!(rt; refused, Some(number), "of {digits}");
-    }
-    Ok(())
+    check_refusals(
+        &[
+            ("", Error::Cut.number()),
+            ("005324", Error::Cut.number()),
+            ("40", Error::WrongType(0x40).number()),
+            ("00532545", Error::WrongDescriptor.number()),
+            ("005324c0020140", Error::Surplus.number()),
+        ],
+        rt.alloc(),
+    )
 }

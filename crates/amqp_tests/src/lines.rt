@@ -1,16 +1,45 @@
 //! The engine of the program, over text in memory and over readers and writers that fail.
 use amqp_lines::run;
 use fe2o3_amqp_types::codec::Error;
+use std::alloc::Global;
 use std::io;
 use std::io::{ErrorKind, Read, Write};
 use std::test::Fail;
+
+// Whether every line is `ok`, and what is answered.
+fn answer(input: &str, alloc: Global) -> Result<(bool, Vec<u8>), Error> {
+    let mut output = Vec::new(alloc);
+    let all_ok = run(input.as_bytes(), &mut output, alloc)?;
+    Ok((all_ok, output))
+}
+
+// Each input is answered so.
+fn check_answers(rows: &[(&str, &str)], alloc: Global) -> Result<(), Fail> {
+    for (input, wanted) in rows {
+        let (_, output) = answer(*input, alloc)?;
+        if output.as_slice() != wanted.as_bytes() {
+            return Err(Fail::new(format_args!("{input} is answered otherwise")));
+        }
+    }
+    Ok(())
+}
+
+// Each input is one line of another form.
+fn check_other_forms(inputs: &[&str], alloc: Global) -> Result<(), Fail> {
+    for input in inputs {
+        let (all_ok, output) = answer(*input, alloc)?;
+        if all_ok || output.as_slice() != b"no 0 Line\n".as_slice() {
+            return Err(Fail::new(format_args!("{input} is answered otherwise")));
+        }
+    }
+    Ok(())
+}
 
 #[test]
 fn lines_are_answered_in_order(rt: HostRuntime) -> Result<(), Fail> {
     let input =
         "accepted 005324c00000\nreceived 005323c005025209530dff\ndelivery-state 005323c005025209530d";
-    let mut output = Vec::new(rt.alloc());
-    let all_ok = run(input.as_bytes(), &mut output, rt.alloc())?;
+    let (all_ok, output) = answer(input, rt.alloc())?;
     assert!(rt; all_ok);
     let want = "ok 00532445 0\nok 005323c005025209530d 1\nok 005323c005025209530d 0\n";
     assert_eq!(rt; output.as_slice(), want.as_bytes());
@@ -19,94 +48,87 @@ fn lines_are_answered_in_order(rt: HostRuntime) -> Result<(), Fail> {
 
 #[test]
 fn lines_of_another_form(rt: HostRuntime) -> Result<(), Fail> {
-    for input in [
-        "bogus 00",
-        "accepted 0",
-        "accepted",
-        "\n",
-        "accepted zz\n",
-        "accepted ",
-        "accepted  00532445",
-        "accepted 00532445 ",
-        " accepted 00532445",
-        "accepted 00532445\r\n",
-        "Accepted 00532445",
-        "accepted --",
-    ] {
-        let mut output = Vec::new(rt.alloc());
-        let all_ok = run(input.as_bytes(), &mut output, rt.alloc())?;
-        assert!(rt; !all_ok, "of {input}");
-        assert_eq!(rt; output.as_slice(), b"no 0 Line\n".as_slice(), "of {input}");
-    }
-    Ok(())
+    check_other_forms(
+        &[
+            "bogus 00",
+            "accepted 0",
+            "accepted",
+            "\n",
+            "accepted zz\n",
+            "accepted ",
+            "accepted  00532445",
+            "accepted 00532445 ",
+            " accepted 00532445",
+            "accepted 00532445\r\n",
+            "Accepted 00532445",
+            "accepted --",
+        ],
+        rt.alloc(),
+    )
 }
 
 #[test]
 fn refusals_and_digits(rt: HostRuntime) -> Result<(), Fail> {
-    for (input, want) in [
-        ("", ""),
-        ("accepted -\n", "no 1 Cut\n"),
-        ("accepted 005324C00000\n", "ok 00532445 0\n"),
-        ("accepted 005324c0020140", "no 7 Surplus\n"),
-        ("accepted 005324c0020040", "no 4 Size\n"),
-        ("received 005323c0020140", "no 8 Missing\n"),
-        (
-            "accepted 00532400532445\n\n",
-            "no 27 WrongType\nno 0 Line\n",
-        ),
-        (
-            "boolean 5601\nboolean 42ff\nboolean 5602\nboolean 43",
-            "ok 41 0\nok 42 1\nno 12 BadBool\nno 27 WrongType\n",
-        ),
-        (
-            "delivery-state 00532545\naccepted 00532445",
-            "no 9 WrongDescriptor\nok 00532445 0\n",
-        ),
-    ] {
-        let mut output = Vec::new(rt.alloc());
-        run(input.as_bytes(), &mut output, rt.alloc())?;
-        assert_eq!(rt; output.as_slice(), want.as_bytes(), "of {input}");
-    }
-    Ok(())
+    check_answers(
+        &[
+            ("", ""),
+            ("accepted -\n", "no 1 Cut\n"),
+            ("accepted 005324C00000\n", "ok 00532445 0\n"),
+            ("accepted 005324c0020140", "no 7 Surplus\n"),
+            ("accepted 005324c0020040", "no 4 Size\n"),
+            ("received 005323c0020140", "no 8 Missing\n"),
+            (
+                "accepted 00532400532445\n\n",
+                "no 27 WrongType\nno 0 Line\n",
+            ),
+            (
+                "boolean 5601\nboolean 42ff\nboolean 5602\nboolean 43",
+                "ok 41 0\nok 42 1\nno 12 BadBool\nno 27 WrongType\n",
+            ),
+            (
+                "delivery-state 00532545\naccepted 00532445",
+                "no 9 WrongDescriptor\nok 00532445 0\n",
+            ),
+        ],
+        rt.alloc(),
+    )
 }
 
 #[test]
 fn released_by_code_and_by_name(rt: HostRuntime) -> Result<(), Fail> {
-    for (input, want) in [
-        ("released 005326c00000", "ok 00532645 0\n"),
-        ("released 00532645ff\n", "ok 00532645 1\n"),
-        (
-            "released 0080000000000000002645\nreleased 00a312616d71703a72656c65617365643a6c697374c00100",
-            "ok 00532645 0\nok 00532645 0\n",
-        ),
-        (
-            "delivery-state 005326d00000000400000000\ndelivery-state 00532645",
-            "ok 00532645 0\nok 00532645 0\n",
-        ),
-        (
-            "delivery-state 00a312616d71703a72656c65617365643a6c69737445",
-            "ok 00532645 0\n",
-        ),
-        (
-            "delivery-state 00b300000012616d71703a72656c65617365643a6c69737445",
-            "ok 00532645 0\n",
-        ),
-        ("released 005326c0020140", "no 7 Surplus\n"),
-        ("delivery-state 005326c0020140", "no 7 Surplus\n"),
-        (
-            "released 00532445\naccepted 00532645",
-            "no 9 WrongDescriptor\nno 9 WrongDescriptor\n",
-        ),
-        (
-            "delivery-state 00a312616d71703a52656c65617365643a6c69737445",
-            "no 9 WrongDescriptor\n",
-        ),
-    ] {
-        let mut output = Vec::new(rt.alloc());
-        run(input.as_bytes(), &mut output, rt.alloc())?;
-        assert_eq!(rt; output.as_slice(), want.as_bytes(), "of {input}");
-    }
-    Ok(())
+    check_answers(
+        &[
+            ("released 005326c00000", "ok 00532645 0\n"),
+            ("released 00532645ff\n", "ok 00532645 1\n"),
+            (
+                "released 0080000000000000002645\nreleased 00a312616d71703a72656c65617365643a6c697374c00100",
+                "ok 00532645 0\nok 00532645 0\n",
+            ),
+            (
+                "delivery-state 005326d00000000400000000\ndelivery-state 00532645",
+                "ok 00532645 0\nok 00532645 0\n",
+            ),
+            (
+                "delivery-state 00a312616d71703a72656c65617365643a6c69737445",
+                "ok 00532645 0\n",
+            ),
+            (
+                "delivery-state 00b300000012616d71703a72656c65617365643a6c69737445",
+                "ok 00532645 0\n",
+            ),
+            ("released 005326c0020140", "no 7 Surplus\n"),
+            ("delivery-state 005326c0020140", "no 7 Surplus\n"),
+            (
+                "released 00532445\naccepted 00532645",
+                "no 9 WrongDescriptor\nno 9 WrongDescriptor\n",
+            ),
+            (
+                "delivery-state 00a312616d71703a52656c65617365643a6c69737445",
+                "no 9 WrongDescriptor\n",
+            ),
+        ],
+        rt.alloc(),
+    )
 }
 
 // Gives one byte a call, and fails once none is left.

@@ -3,6 +3,10 @@ use fe2o3_amqp_types::codec::Error;
 use std::io::ErrorKind;
 use std::test::Fail;
 
+fn is_named(error: Error, number: u8, name: &str) -> bool {
+    error.number() == number && error.name() == name
+}
+
 #[test]
 fn numbers_and_names(rt: HostRuntime) -> Result<(), Fail> {
     let names = [
@@ -15,9 +19,8 @@ fn numbers_and_names(rt: HostRuntime) -> Result<(), Fail> {
         (Error::Custom(7), 29, "Custom"),
         (Error::Limit, 31, "Limit"),
     ];
-    for (error, number, name) in names {
-        assert_eq!(rt; error.number(), number);
-        assert_eq!(rt; error.name(), name);
+    for (error, number, name) in &names {
+        assert!(rt; is_named(*error, *number, *name), "of {name}");
     }
     let printed = Error::UnknownCode(9).to_string(rt.alloc())?;
     assert_eq!(rt; printed.as_str(), "no constructor has the code 0x09");

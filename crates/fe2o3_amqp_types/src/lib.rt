@@ -4,19 +4,24 @@
 
 /// Reading and writing of whole values (Part 1, sections 1.2 to 1.6).
 pub mod codec {
+    pub use amqp_calls::{
+        ReadSource, append_to_vec, canonical_text, encoded_len, from_reader, from_slice,
+        from_slice_counted, to_vec,
+    };
     pub use amqp_codec::{
         ByteSource, Canonical, Decoder, Descriptor, Deserialize, DeserializeTerm, Encoder, Error,
-        ReadSource, Serialize, SerializeTerm, Symbol, append_to_vec, canonical_text, encoded_len,
-        from_reader, from_slice, from_slice_counted, kernel, to_vec,
+        Serialize, SerializeTerm, Symbol, kernel,
     };
     pub use amqp_containers::{Array, TransparentVec};
+    pub use amqp_described::Described;
     pub use amqp_primitives::{Binary, ByteBuf, Dec32, Dec64, Dec128, SymbolRef, Timestamp, Uuid};
 }
 
 /// The primitive types (Part 1, section 1.6), and the standard's names of those of std.
 pub mod primitives {
-    pub use amqp_codec::Symbol;
+    pub use amqp_codec::{Descriptor, Symbol};
     pub use amqp_containers::{Array, TransparentVec};
+    pub use amqp_described::Described;
     pub use amqp_primitives::{Binary, ByteBuf, Dec32, Dec64, Dec128, SymbolRef, Timestamp, Uuid};
 
     pub type Boolean = bool;
@@ -40,13 +45,41 @@ pub mod primitives {
     pub type Char = char;
 }
 
-/// The types of links and sessions (Part 2).
+/// The types of connections, sessions and links (Part 2).
 pub mod definitions {
-    pub use amqp_definitions::{ReceiverSettleMode, Role, SenderSettleMode};
+    pub use amqp_definitions::{
+        DeliveryNumber, DeliveryTag, Handle, IetfLanguageTag, MAJOR, MIN_MAX_FRAME_SIZE, MINOR,
+        MessageFormat, Milliseconds, PORT, REVISION, ReceiverSettleMode, Role, SECURE_PORT,
+        Seconds, SenderSettleMode, SequenceNo, TransferNumber,
+    };
+    pub use amqp_errors::{AmqpError, ConnectionError, ErrorCondition, LinkError, SessionError};
 }
 
 /// The types of messaging (Part 3).
 pub mod messaging {
-    pub use amqp_definitions::{TerminusDurability, TerminusExpiryPolicy};
-    pub use amqp_delivery::{Accepted, DeliveryState, Received, Released};
+    pub use amqp_definitions::{DistributionMode, TerminusDurability, TerminusExpiryPolicy};
+    pub use amqp_delivery::{Accepted, DeliveryState, Outcome, Received, Released};
+}
+
+/// The types of the security layer (Part 5).
+pub mod sasl {
+    pub use amqp_definitions::SaslCode;
+    pub use amqp_sasl::{ANONYMOUS, SaslChallenge, SaslInit, SaslOutcome, SaslResponse};
+
+    /// Its version.
+    pub mod constant {
+        pub use amqp_sasl::{SASL_MAJOR, SASL_MINOR, SASL_REVISION};
+    }
+}
+
+/// The states of connections and sessions (Part 2, sections 2.4.6 and 2.5.5).
+pub mod states {
+    pub use amqp_definitions::{ConnectionState, SessionState};
+}
+
+/// The types of transactions (Part 4).
+pub mod transaction {
+    pub use amqp_definitions::TxnCapability;
+    pub use amqp_delivery::{Declare, Declared, Discharge, TransactionId};
+    pub use amqp_errors::TransactionError;
 }

@@ -1,0 +1,93 @@
+//! The request for a transaction (Part 4, section 4.5.2).
+ghost use Rattle.std.specs.Prelude.{◌≡◌};
+ghost use Rattle.amqp_enums.specs.Types.{composite, one_term, refl, agreement, writing_of};
+ghost use Rattle.amqp_delivery.specs.Tables.{declare};
+
+use crate::TransactionId;
+use amqp_codec::kernel::{Composite, CompositeTerm, FieldKind, Table, read_some, write_composite};
+use amqp_codec::{ByteSource, Decoder, Encoder, Error, Serialize, SerializeTerm};
+use std::alloc::Global;
+
+/// Asks the coordinator for a transaction.
+#[derive(Clone, Debug, PartialEq, Eq, Drop)]
+pub struct Declare {
+    /// The identifier of a transaction over several resources, of which the new one is a part.
+    pub global_id: Option<TransactionId>,
+}
+
+impl Declare {
+    /// The code and the name of its descriptor.
+    pub const DESCRIPTOR: (u64, &'static str) = (0x31, "amqp:declare:list");
+
+    /// A request with this identifier.
+    pub fn new(global_id: Option<TransactionId>) -> Declare
+        ensures { result.global_id ≡ global_id }
+    {
+        Declare { global_id }
+    }
+}
+
+impl Composite for Declare {
+    ghost table = { declare };
+
+    fn table() -> Table {
+        Table {
+            descriptor: Declare::DESCRIPTOR,
+            fields: &[FieldKind::Optional],
+        }
+    }
+
+    fn blank(_alloc: Global) -> Declare {
+        Declare { global_id: None }
+    }
+
+    fn fill_field<R: ByteSource>(
+        &mut self,
+        index: usize,
+        decoder: &mut Decoder<R>,
+        alloc: Global,
+    ) -> Result<(), Error> {
+        match index {
+            0 => read_some(&mut self.global_id, decoder, alloc),
+            _ => Err(decoder.refuse(Error::Surplus)),
+        }
+    }
+
+    fn is_null_field(&self, index: usize) -> bool {
+        match index {
+            0 => self.global_id.is_none(),
+            _ => true,
+        }
+    }
+
+    fn write_field(&self, index: usize, encoder: &mut Encoder) -> Result<(), Error> {
+        match index {
+            0 => self.global_id.serialize(encoder),
+            _ => encoder.check(),
+        }
+    }
+}
+
+impl Serialize for Declare {
+    ghost writing = { writing_of (composite declare) refl };
+
+    fn serialize(&self, encoder: &mut Encoder) -> Result<(), Error> {
+        write_composite(self, encoder)
+    }
+
+    fn in_type(&self) {
+        self.global_id.in_type();
+    }
+}
+
+impl SerializeTerm for Declare {
+    fn is_null(&self) -> bool {
+        false
+    }
+
+    ghost is_term = { one_term (composite declare) refl };
+}
+
+impl CompositeTerm for Declare {
+    ghost agrees = { agreement (composite declare) refl };
+}

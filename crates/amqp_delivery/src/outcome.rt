@@ -1,0 +1,126 @@
+//! The outcome of a delivery (Part 3, section 3.4).
+ghost use Rattle.std.specs.Prelude.{◌≡◌};
+ghost use Rattle.amqp_enums.specs.Choices.{sum_one, sum_agreement, sum_writing};
+ghost use Rattle.amqp_delivery.specs.Members.{as_state};
+ghost use Rattle.amqp_delivery.specs.Tables.{outcome, outcomes};
+
+use crate::{Accepted, Declared, DeliveryState, Released};
+use amqp_codec::{ByteSource, Decoder, DeserializeTerm, Encoder, Error, Serialize, SerializeTerm};
+use amqp_enums::{Sum, is_null_sum, read_as, read_sum, write_as};
+use std::alloc::Global;
+
+/// The outcome of a delivery: a state in which it ends. Any other descriptor is refused by `WrongDescriptor`.
+#[derive(Clone, Debug, PartialEq, Eq, Drop)]
+pub enum Outcome {
+    Accepted(Accepted),
+    Released(Released),
+    Declared(Declared),
+}
+
+impl From<Accepted> for Outcome {
+    ghost use Rattle.amqp_delivery.specs.declared.outcome.Outcome.TheVariants as outcome;
+
+    ghost from_gives = { λ member sum. sum ≡ outcome.Accepted member };
+
+    fn from(accepted: Accepted) -> Outcome {
+        Outcome::Accepted(accepted)
+    }
+}
+
+impl From<Released> for Outcome {
+    ghost use Rattle.amqp_delivery.specs.declared.outcome.Outcome.TheVariants as outcome;
+
+    ghost from_gives = { λ member sum. sum ≡ outcome.Released member };
+
+    fn from(released: Released) -> Outcome {
+        Outcome::Released(released)
+    }
+}
+
+impl From<Declared> for Outcome {
+    ghost use Rattle.amqp_delivery.specs.declared.outcome.Outcome.TheVariants as outcome;
+
+    ghost from_gives = { λ member sum. sum ≡ outcome.Declared member };
+
+    fn from(declared: Declared) -> Outcome {
+        Outcome::Declared(declared)
+    }
+}
+
+impl From<Outcome> for DeliveryState {
+    ghost from_gives = { λ outcome state. state ≡ as_state outcome };
+
+    fn from(outcome: Outcome) -> DeliveryState {
+        match outcome {
+            Outcome::Accepted(accepted) => DeliveryState::Accepted(accepted),
+            Outcome::Released(released) => DeliveryState::Released(released),
+            Outcome::Declared(declared) => DeliveryState::Declared(declared),
+        }
+    }
+}
+
+impl Sum for Outcome {
+    ghost sum = { outcomes };
+
+    fn descriptors() -> &'static [(u64, &'static str)] {
+        &[
+            Accepted::DESCRIPTOR,
+            Released::DESCRIPTOR,
+            Declared::DESCRIPTOR,
+        ]
+    }
+
+    fn read_member<R: ByteSource>(
+        place: usize,
+        decoder: &mut Decoder<R>,
+        alloc: Global,
+    ) -> Result<Outcome, Error> {
+        match place {
+            0 => read_as::<Accepted, _, _>(decoder, alloc),
+            1 => read_as::<Released, _, _>(decoder, alloc),
+            2 => read_as::<Declared, _, _>(decoder, alloc),
+            _ => Err(decoder.refuse(Error::WrongDescriptor)),
+        }
+    }
+}
+
+impl Serialize for Outcome {
+    ghost writing = { sum_writing outcomes };
+
+    fn serialize(&self, encoder: &mut Encoder) -> Result<(), Error> {
+        match self {
+            Outcome::Accepted(accepted) => write_as(self, accepted, encoder),
+            Outcome::Released(released) => write_as(self, released, encoder),
+            Outcome::Declared(declared) => write_as(self, declared, encoder),
+        }
+    }
+
+    fn in_type(&self) {
+        match self {
+            Outcome::Accepted(accepted) => accepted.in_type(),
+            Outcome::Released(released) => released.in_type(),
+            Outcome::Declared(declared) => declared.in_type(),
+        }
+    }
+}
+
+impl SerializeTerm for Outcome {
+    fn is_null(&self) -> bool {
+        is_null_sum(self)
+    }
+
+    ghost is_term = { sum_one outcomes };
+}
+
+impl DeserializeTerm for Outcome {
+    ghost term = { outcome };
+
+    fn read_value<R: ByteSource>(
+        decoder: &mut Decoder<R>,
+        alloc: Global,
+    ) -> Result<Outcome, Error> {
+        read_sum(decoder, alloc)
+    }
+
+    ghost agreement = { sum_agreement outcomes };
+}

@@ -1,0 +1,100 @@
+//! Which member an outcome is, and the member itself.
+ghost use Rattle.std.specs.Prelude.{◌≡◌, None, Ok, MatchOption, IsErrAnd, is_some, ok_or};
+ghost use Rattle.amqp_delivery.specs.Members.{outcome_accepted, outcome_released, outcome_declared};
+
+use crate::{Accepted, Declared, Outcome, Released};
+
+impl Outcome {
+    /// Whether it is the accepted outcome.
+    pub fn is_accepted(&self) -> bool
+        ensures { result ≡ is_some (outcome_accepted self.now) }
+    {
+        matches!(self, Outcome::Accepted(_))
+    }
+
+    /// Whether it is the released outcome.
+    pub fn is_released(&self) -> bool
+        ensures { result ≡ is_some (outcome_released self.now) }
+    {
+        matches!(self, Outcome::Released(_))
+    }
+
+    /// Whether it is the outcome of a declared transaction.
+    pub fn is_declared(&self) -> bool
+        ensures { result ≡ is_some (outcome_declared self.now) }
+    {
+        matches!(self, Outcome::Declared(_))
+    }
+
+    /// The accepted outcome, or else the error.
+    pub fn accepted_or<E: Drop>(self, error: E) -> Result<Accepted, E>
+        ensures { result ≡ ok_or (outcome_accepted self) error }
+    {
+        match self {
+            Outcome::Accepted(accepted) => Ok(accepted),
+            _ => Err(error),
+        }
+    }
+
+    /// The released outcome, or else the error.
+    pub fn released_or<E: Drop>(self, error: E) -> Result<Released, E>
+        ensures { result ≡ ok_or (outcome_released self) error }
+    {
+        match self {
+            Outcome::Released(released) => Ok(released),
+            _ => Err(error),
+        }
+    }
+
+    /// The outcome of a declared transaction, or else the error.
+    pub fn declared_or<E: Drop>(self, error: E) -> Result<Declared, E>
+        ensures { result ≡ ok_or (outcome_declared self) error }
+    {
+        match self {
+            Outcome::Declared(declared) => Ok(declared),
+            _ => Err(error),
+        }
+    }
+
+    /// The accepted outcome, or else the error that the closure makes of the whole. It isn't called otherwise.
+    pub fn accepted_or_else<E, F: FnOnce(Outcome) -> E + Drop>(
+        self,
+        make_error: F,
+    ) -> Result<Accepted, E>
+        requires { outcome_accepted self ≡ None → F.pre make_error self }
+        ensures { MatchOption (outcome_accepted self) (IsErrAnd result (F.post make_error self)) (λ member. result ≡ Ok member) }
+    {
+        match self {
+            Outcome::Accepted(member) => Ok(member),
+            other => Err(make_error(other)),
+        }
+    }
+
+    /// The released outcome, or else the error that the closure makes of the whole. It isn't called otherwise.
+    pub fn released_or_else<E, F: FnOnce(Outcome) -> E + Drop>(
+        self,
+        make_error: F,
+    ) -> Result<Released, E>
+        requires { outcome_released self ≡ None → F.pre make_error self }
+        ensures { MatchOption (outcome_released self) (IsErrAnd result (F.post make_error self)) (λ member. result ≡ Ok member) }
+    {
+        match self {
+            Outcome::Released(member) => Ok(member),
+            other => Err(make_error(other)),
+        }
+    }
+
+    /// The outcome of a declared transaction, or else the error that the closure makes of the whole. It isn't called otherwise.
+    pub fn declared_or_else<E, F: FnOnce(Outcome) -> E + Drop>(
+        self,
+        make_error: F,
+    ) -> Result<Declared, E>
+        requires { outcome_declared self ≡ None → F.pre make_error self }
+        ensures { MatchOption (outcome_declared self) (IsErrAnd result (F.post make_error self)) (λ member. result ≡ Ok member) }
+    {
+        match self {
+            Outcome::Declared(member) => Ok(member),
+            other => Err(make_error(other)),
+        }
+    }
+}

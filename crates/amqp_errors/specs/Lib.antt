@@ -1,0 +1,4 @@
+pub mod TextTable
+pub mod NormalType
+pub mod Texts
+pub mod Conditions

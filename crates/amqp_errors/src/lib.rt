@@ -1,0 +1,17 @@
+//! Error conditions (Part 2, sections 2.8.14 to 2.8.18; Part 4, section 4.5.8): texts that say what went wrong.
+#![tactic(auto)]
+
+mod amqp_error;
+mod connection_error;
+mod error_condition;
+pub mod laws;
+mod link_error;
+mod session_error;
+mod transaction_error;
+
+pub use amqp_error::AmqpError;
+pub use connection_error::ConnectionError;
+pub use error_condition::ErrorCondition;
+pub use link_error::LinkError;
+pub use session_error::SessionError;
+pub use transaction_error::TransactionError;
