@@ -5,7 +5,8 @@ use amqp_calls::{from_slice, to_vec};
 use amqp_containers::Array;
 use amqp_decoder::Decoder;
 use amqp_encoder::Encoder;
-use amqp_wire::Error;
+use amqp_maps::OrderedMap;
+use amqp_wire::{Error, Symbol};
 use std::alloc::Global;
 
 /// What is written or read by the bare calls of an encoder and a decoder; or a value of a type, by `to_vec` and
@@ -16,27 +17,36 @@ pub(crate) enum Case {
     Ulongs,
     Strings,
     Map,
+    Symbols,
     Binary,
     Tiny,
     UintVec,
     UlongArray,
+    SymbolMap,
+    LargeMap,
 }
 
-pub(crate) const CASES: [Case; 8] = [
+pub(crate) const CASES: [Case; 11] = [
     Case::Uints,
     Case::Ulongs,
     Case::Strings,
     Case::Map,
+    Case::Symbols,
     Case::Binary,
     Case::Tiny,
     Case::UintVec,
     Case::UlongArray,
+    Case::SymbolMap,
+    Case::LargeMap,
 ];
 
-/// Cases whose times are compared: a type's, and that of the bare calls for the same bytes.
-pub(crate) const COMPARED: [(Case, Case); 2] = [
+/// Cases whose times are compared: a type's, and that of the bare calls for the same bytes; and a map's, and that of one with
+/// a sixteenth of its entries.
+pub(crate) const COMPARED: [(Case, Case); 4] = [
     (Case::UintVec, Case::Uints),
     (Case::UlongArray, Case::Ulongs),
+    (Case::SymbolMap, Case::Symbols),
+    (Case::LargeMap, Case::SymbolMap),
 ];
 
 #[derive(Clone, Copy)]
@@ -63,6 +73,7 @@ pub(crate) struct Content {
     numbers: Vec<u32>,
     longs: Array<u64>,
     texts: Vec<String>,
+    symbols: OrderedMap<Symbol, u32>,
     bytes: Vec<u8>,
 }
 
@@ -73,10 +84,13 @@ impl Case {
             Case::Ulongs => "an array of 10,000 ulongs",
             Case::Strings => "a list of 1,000 short strings",
             Case::Map => "a map of 1,000 entries",
+            Case::Symbols => "a map of 1,000 symbols",
             Case::Binary => "a binary of 1 MiB",
             Case::Tiny => "a binary of 5 bytes",
             Case::UintVec => "a Vec<u32> of 10,000",
             Case::UlongArray => "an Array<u64> of 10,000",
+            Case::SymbolMap => "an OrderedMap<Symbol, u32> of 1,000",
+            Case::LargeMap => "an OrderedMap<Symbol, u32> of 16,000",
         }
     }
 
@@ -87,20 +101,24 @@ impl Case {
             Case::Ulongs => "ulongs",
             Case::Strings => "strings",
             Case::Map => "map",
+            Case::Symbols => "symbols",
             Case::Binary => "binary",
             Case::Tiny => "tiny",
             Case::UintVec => "vec",
             Case::UlongArray => "array",
+            Case::SymbolMap => "ordered",
+            Case::LargeMap => "large",
         }
     }
 
     /// How many values are counted: items, entries, or the one.
     pub(crate) fn values(self) -> u32
-        ensures { result ≤ 10000 }
+        ensures { result ≤ 16000 }
     {
         match self {
             Case::Uints | Case::Ulongs | Case::UintVec | Case::UlongArray => 10_000,
-            Case::Strings | Case::Map => 1000,
+            Case::Strings | Case::Map | Case::Symbols | Case::SymbolMap => 1000,
+            Case::LargeMap => 16_000,
             Case::Binary | Case::Tiny => 1,
         }
     }
@@ -128,6 +146,7 @@ impl Case {
             numbers: Vec::new(alloc),
             longs: Array::from(Vec::new(alloc)),
             texts: Vec::new(alloc),
+            symbols: OrderedMap::new(alloc),
             bytes: Vec::new(alloc),
         };
         let mut number = 1u32;
@@ -135,6 +154,8 @@ impl Case {
             content.numbers.push(number % 1000)?;
             content.longs.push(u64::from(number % 1000))?;
             content.texts.push(format!(in alloc; "text {index}")?)?;
+            let name = Symbol::from(format!(in alloc; "text {index}")?);
+            content.symbols.insert(name, number % 1000)?;
             number = number.wrapping_mul(1_664_525).wrapping_add(1_013_904_223);
         }
         content.bytes.resize(self.length(), 0x61)?;
@@ -160,6 +181,7 @@ impl Case {
         match self {
             Case::UintVec => to_vec(&content.numbers, alloc),
             Case::UlongArray => to_vec(&content.longs, alloc),
+            Case::SymbolMap | Case::LargeMap => to_vec(&content.symbols, alloc),
             _ => self.write_bare(content, alloc),
         }
     }
@@ -180,6 +202,9 @@ impl Case {
             Case::Ulongs | Case::UlongArray => write_ulongs(&content.longs, encoder),
             Case::Strings => write_strings(&content.texts, encoder),
             Case::Map => write_map(content, encoder),
+            Case::Symbols | Case::SymbolMap | Case::LargeMap => {
+                write_symbols(&content.symbols, encoder)
+            }
             Case::Binary | Case::Tiny => encoder.write_binary(&content.bytes),
         }
     }
@@ -189,6 +214,9 @@ impl Case {
         match self {
             Case::UintVec => Ok(from_slice::<Vec<u32>>(text, alloc)?.len() as u64),
             Case::UlongArray => Ok(from_slice::<Array<u64>>(text, alloc)?.len() as u64),
+            Case::SymbolMap | Case::LargeMap => {
+                Ok(from_slice::<OrderedMap<Symbol, u32>>(text, alloc)?.len() as u64)
+            }
             _ => self.read_bare(text, alloc),
         }
     }
@@ -200,6 +228,7 @@ impl Case {
             Case::Ulongs | Case::UlongArray => read_ulongs(&mut decoder, alloc),
             Case::Strings => read_strings(&mut decoder, alloc),
             Case::Map => read_map(&mut decoder, alloc),
+            Case::Symbols | Case::SymbolMap | Case::LargeMap => read_symbols(&mut decoder, alloc),
             Case::Binary | Case::Tiny => Ok(decoder.read_binary(alloc)?.len() as u64),
         }
     }
@@ -238,6 +267,15 @@ fn write_map(content: &Content, encoder: &mut Encoder) -> Result<(), Error> {
     encoder.end_map()
 }
 
+fn write_symbols(entries: &OrderedMap<Symbol, u32>, encoder: &mut Encoder) -> Result<(), Error> {
+    encoder.begin_map()?;
+    for (name, number) in entries {
+        encoder.write_symbol(name.as_str())?;
+        encoder.write_uint(*number)?;
+    }
+    encoder.end_map()
+}
+
 fn read_uints(decoder: &mut Decoder<&[u8]>) -> Result<u64, Error> {
     let mut sum = 0u64;
     for _ in 0..decoder.begin_list()? {
@@ -269,6 +307,16 @@ fn read_map(decoder: &mut Decoder<&[u8]>, alloc: Global) -> Result<u64, Error> {
     let mut sum = 0u64;
     for _ in 0..decoder.begin_map()? / 2 {
         sum = sum.wrapping_add(decoder.read_string(alloc)?.len() as u64);
+        sum = sum.wrapping_add(u64::from(decoder.read_uint()?));
+    }
+    decoder.end_map()?;
+    Ok(sum)
+}
+
+fn read_symbols(decoder: &mut Decoder<&[u8]>, alloc: Global) -> Result<u64, Error> {
+    let mut sum = 0u64;
+    for _ in 0..decoder.begin_map()? / 2 {
+        sum = sum.wrapping_add(decoder.read_symbol(alloc)?.as_str().len() as u64);
         sum = sum.wrapping_add(u64::from(decoder.read_uint()?));
     }
     decoder.end_map()?;

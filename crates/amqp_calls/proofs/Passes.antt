@@ -9,11 +9,10 @@ use Rattle.amqp_wire.specs.declared.error.Error.{Error}
 use Rattle.amqp_wire.specs.declared.error.Error.TheVariants.{Memory}
 use Rattle.amqp_encoder.specs.declared.size.Size.{Size}
 use Rattle.amqp_encoder.specs.declared.encoder.Encoder.{Encoder}
-use Rattle.amqp_encoder.specs.declared.encoder.Pass.{Pass}
-use Rattle.amqp_encoder.specs.declared.encoder.Pass.TheVariants.{Measuring, Filling, Stopped}
-use Rattle.amqp_encoder.specs.Writes.{Found, Follows, bytes_of}
+use Rattle.amqp_encoder.specs.State.{Pass, Measuring, Filling, Stopped}
+use Rattle.amqp_encoder.specs.Writes.{Found, Follows, pass_of, bytes_of}
 use Rattle.amqp_encoder.specs.Passes.{row_text, as_size, BeginsMeasuring, BeginsFilling, Finds, FindsNone}
-use Rattle.amqp_encoder.proofs.Rows.{HasFound, HasFilled}
+use Rattle.amqp_encoder.proofs.Rows.{HasFound, HasFilled, filled_bytes}
 use Rattle.amqp_encoder.proofs.Rows as rows
 use Rattle.amqp_encoder.specs.Refused.{KnowDepths}
 use Rattle.amqp_codec.specs.Written.{GivesUp, WritesTerms, AreProper, AreUnwritable, AreWritable, AreMeasured}
@@ -44,13 +43,13 @@ module _ (ts : List Term) (proper : AreProper ts) where
       elim (w.calls d.0 d.1) [
         | inr g ↦ inl (memory e r i g.answer)
         | inl c ↦
-            let f : HasFound d.0 ts new.pass (Err e) = rw i at (rows.measured d.0 ts old r new (proper_values ts proper) b c) in
+            let f : HasFound d.0 ts (pass_of new) (Err e) = rw i at (rows.measured d.0 ts old r new (proper_values ts proper) b c) in
             elim f [ inl m ↦ inl m.0 | inr u ↦ inr (unwritable d.0 ts e proper d.1 u) ]
       ]
 
   module _ (old new : Encoder) (r : Result (Unit {0}) Error) (begins : BeginsMeasuring old) (went : r ≡ Ok tt)
       (wrote : WritesTerms ts old r new) where
-    found_by : (deep : List ℕ → ℕ) → KnowDepths deep ts → HasFound deep ts new.pass (Ok tt)
+    found_by : (deep : List ℕ → ℕ) → KnowDepths deep ts → HasFound deep ts (pass_of new) (Ok tt)
     found_by deep k =
         elim (wrote.calls deep k) [
           | inr g ↦ absurd (not_memory r went g.answer)
@@ -62,7 +61,7 @@ module _ (ts : List Term) (proper : AreProper ts) where
     ended (Ok len) h k = (
       h.0,
       (λ deep d. (let f = found_by deep d in
-          let q = found_same new.pass (length (row_text ts)) len (map as_size (all_sizes (terms_of ts))) h.0 f.0 h.1 in
+          let q = found_same (pass_of new) (length (row_text ts)) len (map as_size (all_sizes (terms_of ts))) h.0 f.0 h.1 in
           rw (q.0, q.1) f.1)),
       h.1,
     )
@@ -96,7 +95,7 @@ module _ (ts : List Term) (proper : AreProper ts) where
   module _ (len : ℕ) (sizes : List Size) (out : List ℕ) (limit : ℕ) (old new : Encoder) (r : Result (Unit {0}) Error)
       (measured : AreMeasured ts len sizes) (room : length out + len ≤ limit) (begins : BeginsFilling old sizes out limit)
       (wrote : WritesTerms ts old r new) where
-    filled_by : HasFilled (depths ts proper).0 (out ++ row_text ts) new.pass new.kept.items r ⊎ GivesUp old r new
+    filled_by : HasFilled (depths ts proper).0 (out ++ row_text ts) new r ⊎ GivesUp old r new
     filled_by = let d = depths ts proper in
         elim (wrote.calls d.0 d.1) [
           | inl c ↦ inl (rows.written d.0 ts len sizes out limit old r new (measured d.0 d.1) room begins c)
@@ -115,5 +114,6 @@ module _ (ts : List Term) (proper : AreProper ts) where
     pub front_kept : (n : ℕ) → n ≡ length out → take n (bytes_of new) ≡ out
     front_kept n i =
         let d = depths ts proper in
-        let k : Follows out (bytes_of new) = elim (wrote.calls d.0 d.1) [ inl c ↦ rw begins at c.kept | inr g ↦ rw begins at g.kept ] in
+        let kept = filled_bytes old _ begins in
+        let k : Follows out (bytes_of new) = elim (wrote.calls d.0 d.1) [ inl c ↦ rw kept at c.kept | inr g ↦ rw kept at g.kept ] in
         rw (i, k.1) (take-append_seam out k.0)

@@ -8,11 +8,10 @@ use Rattle.amqp_model.specs.Items.{terms_of}
 use Rattle.amqp_wire.specs.declared.error.Error.{Error}
 use Rattle.amqp_wire.specs.declared.error.Error.TheVariants.{Memory}
 use Rattle.amqp_encoder.specs.declared.encoder.Encoder.{Encoder}
-use Rattle.amqp_encoder.specs.declared.encoder.Pass.{Pass}
-use Rattle.amqp_encoder.specs.declared.encoder.Pass.TheVariants.{Measuring, Filling, Stopped}
+use Rattle.amqp_encoder.specs.State.{Pass, Measuring, Filling, Stopped}
 use Rattle.amqp_encoder.specs.Tokens.{Token, tokens, all_tokens, begin, end, begin_described, end_described, refuse}
 use Rattle.amqp_encoder.specs.Passes.{row_tokens}
-use Rattle.amqp_encoder.specs.Writes.{Runs, Writes, IsGoing, AnyMayRunOut, steps, outcome, bytes_of}
+use Rattle.amqp_encoder.specs.Writes.{Runs, Writes, IsGoing, AnyMayRunOut, steps, outcome, pass_of, bytes_of}
 use Rattle.amqp_encoder.proofs.Rows.{row_calls}
 use Rattle.amqp_encoder.proofs.Joined.{steps_stopped, nothing, join, cut, on, was_going}
 use Rattle.amqp_encoder.specs.Refused.{KnowDepths}
@@ -62,14 +61,14 @@ has_refused (Filling f) new ts r w = inl (refl, elim w.state [ inl h ↦ h | inr
 -- a type refuses its value, since it ran out of memory of its own
 pub gave_up : (ts : List Term) (a b : Encoder) (r : Result (Unit {0}) Error) → Writes a (refuse Memory ∷ []) r b → WritesTerms ts a r b
 gave_up ts a b r w = record {
-  calls = λ deep k. (elim (has_refused a.pass b.pass (row_tokens deep ts) r w.runs) [
+  calls = λ deep k. (elim (has_refused (pass_of a) (pass_of b) (row_tokens deep ts) r w.runs) [
     | inl h ↦ inr (record { was_going = h.0; answer = w.runs.answer ∙ ap outcome h.1; state = h.1; kept = w.kept })
     | inr h ↦ inl (record { runs = h; kept = w.kept })
   ]);
 }
 
 -- no term
-pub no_terms : (s : Encoder) (r : Result (Unit {0}) Error) → r ≡ outcome s.pass → WritesTerms [] s r s
+pub no_terms : (s : Encoder) (r : Result (Unit {0}) Error) → r ≡ outcome (pass_of s) → WritesTerms [] s r s
 no_terms s r h = record { calls = λ deep k. inl (nothing s r h) }
 
 -- some terms and then others

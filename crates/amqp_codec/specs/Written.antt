@@ -10,19 +10,19 @@ use Rattle.amqp_model.specs.Items.{terms_of}
 use Rattle.amqp_wire.specs.declared.error.Error.{Error}
 use Rattle.amqp_wire.specs.declared.error.Error.TheVariants.{Memory, Depth, TooLarge}
 use Rattle.amqp_encoder.specs.declared.encoder.Encoder.{Encoder}
-use Rattle.amqp_encoder.specs.declared.encoder.Pass.TheVariants.{Stopped}
+use Rattle.amqp_encoder.specs.State.{Stopped}
 use Rattle.amqp_encoder.specs.declared.size.Size.{Size}
 use Rattle.amqp_encoder.specs.Measuring.{MAX}
 use Rattle.amqp_encoder.specs.Passes.{row_text, row_tokens, answer_of, IsMeasured}
 use Rattle.amqp_encoder.specs.Reasons.{HasReason}
 use Rattle.amqp_encoder.specs.Refused.{KnowDepths}
-use Rattle.amqp_encoder.specs.Writes.{Writes, Follows, bytes_of}
+use Rattle.amqp_encoder.specs.Writes.{Writes, Follows, pass_of, bytes_of}
 
 -- The type of a value ran out of memory of its own, and refused the value for that.
 pub record GivesUp (old : Encoder) (result : Result (Unit {0}) Error) (new : Encoder) : Type 0 where
   pub was_going : answer_of old ≡ Ok tt
   pub answer : result ≡ Err Memory
-  pub state : new.pass ≡ Stopped Memory
+  pub state : pass_of new ≡ Stopped Memory
   pub kept : Follows (bytes_of old) (bytes_of new)
 
 -- The calls for the terms were made in their order, up to a refusal; or a type ran out of memory of its own.

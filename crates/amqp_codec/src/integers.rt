@@ -13,6 +13,7 @@ use std::alloc::Global;
 impl Serialize for u8 {
     ghost writing = { writing_of ubyte_type refl };
 
+    #[inline(always)]
     fn serialize(&self, encoder: &mut Encoder) -> Result<(), Error> {
         encoder.write_ubyte(*self)
     }
@@ -43,6 +44,7 @@ impl DeserializeTerm for u8 {
 impl Serialize for u16 {
     ghost writing = { writing_of ushort_type refl };
 
+    #[inline(always)]
     fn serialize(&self, encoder: &mut Encoder) -> Result<(), Error> {
         encoder.write_ushort(*self)
     }
@@ -73,6 +75,7 @@ impl DeserializeTerm for u16 {
 impl Serialize for u32 {
     ghost writing = { writing_of uint_type refl };
 
+    #[inline(always)]
     fn serialize(&self, encoder: &mut Encoder) -> Result<(), Error> {
         encoder.write_uint(*self)
     }
@@ -103,6 +106,7 @@ impl DeserializeTerm for u32 {
 impl Serialize for u64 {
     ghost writing = { writing_of ulong_type refl };
 
+    #[inline(always)]
     fn serialize(&self, encoder: &mut Encoder) -> Result<(), Error> {
         encoder.write_ulong(*self)
     }
@@ -133,6 +137,7 @@ impl DeserializeTerm for u64 {
 impl Serialize for i8 {
     ghost writing = { writing_of byte_type refl };
 
+    #[inline(always)]
     fn serialize(&self, encoder: &mut Encoder) -> Result<(), Error> {
         encoder.write_byte(*self)
     }
@@ -163,6 +168,7 @@ impl DeserializeTerm for i8 {
 impl Serialize for i16 {
     ghost writing = { writing_of short_type refl };
 
+    #[inline(always)]
     fn serialize(&self, encoder: &mut Encoder) -> Result<(), Error> {
         encoder.write_short(*self)
     }
@@ -193,6 +199,7 @@ impl DeserializeTerm for i16 {
 impl Serialize for i32 {
     ghost writing = { writing_of int_type refl };
 
+    #[inline(always)]
     fn serialize(&self, encoder: &mut Encoder) -> Result<(), Error> {
         encoder.write_int(*self)
     }
@@ -223,6 +230,7 @@ impl DeserializeTerm for i32 {
 impl Serialize for i64 {
     ghost writing = { writing_of long_type refl };
 
+    #[inline(always)]
     fn serialize(&self, encoder: &mut Encoder) -> Result<(), Error> {
         encoder.write_long(*self)
     }

@@ -8,8 +8,7 @@ use Rattle.amqp_model.specs.Refusals.{Somewhere}
 use Rattle.amqp_wire.specs.declared.error.Error.{Error}
 use Rattle.amqp_wire.specs.declared.error.Error.TheVariants.{OddCount, Depth, TooLarge, InvalidValue}
 use Rattle.amqp_encoder.specs.Opening.{opening}
-use Rattle.amqp_encoder.specs.declared.encoder.Pass.{Pass}
-use Rattle.amqp_encoder.specs.declared.encoder.Pass.TheVariants.{Measuring, Filling, Stopped}
+use Rattle.amqp_encoder.specs.State.{Pass, Measuring, Filling, Stopped}
 use Rattle.amqp_encoder.specs.Tokens.{Token, put, keep, begin, end, begin_described, end_described, refuse, TakesMemory, tokens}
 use Rattle.amqp_encoder.specs.State.{Open, Measured, Filled, at_start}
 use Rattle.amqp_encoder.specs.Measuring.{◌>>=◌, checked, enter, take_form, leave, measure_value, measure_null_at, measure_checked}

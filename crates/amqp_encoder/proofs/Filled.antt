@@ -10,7 +10,7 @@ use Rattle.amqp_model.specs.Spelling.{descriptor_value}
 use Rattle.amqp_model.specs.Text.{Place, Alone, First, Later, next, first_place, primitive_text, descriptor_text, text, texts, sizes_of}
 use Rattle.amqp_model.specs.Text.{all_sizes}
 use Rattle.amqp_encoder.specs.declared.size.Size.{Size}
-use Rattle.amqp_encoder.specs.declared.encoder.Pass.TheVariants.{Filling}
+use Rattle.amqp_encoder.specs.State.{Filling}
 use Rattle.amqp_encoder.specs.Tokens.{Token, put, keep, begin, end, begin_described, end_described, tokens, all_tokens}
 use Rattle.amqp_encoder.specs.State.{Filled}
 use Rattle.amqp_encoder.specs.Opening.{opening}

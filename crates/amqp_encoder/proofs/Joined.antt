@@ -6,11 +6,10 @@ use Rattle.amqp_wire.specs.declared.error.Error.{Error}
 use Rattle.amqp_wire.specs.declared.error.Error.TheVariants.{Memory}
 use Rattle.amqp_encoder.specs.Tokens.{Token}
 use Rattle.amqp_encoder.specs.State.{Filled}
-use Rattle.amqp_encoder.specs.Writes.{step, steps, fill, filling, outcome, Runs, Writes, Follows, bytes_of, MayRunOut, AnyMayRunOut}
-use Rattle.amqp_encoder.specs.Writes.{RunsOut, IsGoing}
+use Rattle.amqp_encoder.specs.Writes.{step, steps, fill, filling, outcome, Runs, Writes, Follows, MayRunOut, AnyMayRunOut}
+use Rattle.amqp_encoder.specs.Writes.{RunsOut, IsGoing, pass_of, bytes_of}
 use Rattle.amqp_encoder.specs.declared.encoder.Encoder.{Encoder}
-use Rattle.amqp_encoder.specs.declared.encoder.Pass.{Pass}
-use Rattle.amqp_encoder.specs.declared.encoder.Pass.TheVariants.{Measuring, Filling, Stopped}
+use Rattle.amqp_encoder.specs.State.{Pass, Measuring, Filling, Stopped}
 
 pub steps-append : (s : Pass) (xs ys : List Token) → steps s (xs ++ ys) ≡ steps (steps s xs) ys
 unfolding steps
@@ -112,8 +111,8 @@ pub on : (a b c : List ℕ) → Follows a b → Follows b c → Follows a c
 on a b c h k = (h.0 ++ k.0, rw (k.1, h.1) (append_assoc a h.0 k.0))
 
 -- no call
-pub nothing : (s : Encoder) → (r : Result (Unit {0}) Error) → r ≡ outcome s.pass → Writes s [] r s
-nothing s r h = record { runs = nothing_runs s.pass r h; kept = stays (bytes_of s) }
+pub nothing : (s : Encoder) → (r : Result (Unit {0}) Error) → r ≡ outcome (pass_of s) → Writes s [] r s
+nothing s r h = record { runs = nothing_runs (pass_of s) r h; kept = stays (bytes_of s) }
 
 -- one after another
 pub join : (a : Encoder) (xs : List Token) (r : Result (Unit {0}) Error) (b : Encoder) (ys : List Token)
@@ -121,7 +120,7 @@ pub join : (a : Encoder) (xs : List Token) (r : Result (Unit {0}) Error) (b : En
     r ≡ Ok tt → Writes a xs r b → Writes b ys s c → Writes a (xs ++ ys) s c
 join a xs r b ys s c ok h k =
     record {
-      runs = join_runs a.pass xs r b.pass ys s c.pass ok h.runs k.runs;
+      runs = join_runs (pass_of a) xs r (pass_of b) ys s (pass_of c) ok h.runs k.runs;
       kept = on (bytes_of a) (bytes_of b) (bytes_of c) h.kept k.kept;
     }
 
@@ -130,11 +129,12 @@ going_then a b ts g (inl h) = going_before a ts (rw h at g)
 going_then a b ts g (inr h) = let e : Err Memory ≡ Ok tt = sym (ap outcome h.1) ∙ g in cc
 
 -- calls are answered Ok by an encoder that has refused nothing
-pub was_going : (a : Encoder) (ts : List Token) (r : Result (Unit {0}) Error) (b : Encoder) → r ≡ Ok tt → Writes a ts r b → IsGoing a.pass
-was_going a ts r b ok w = going_then a.pass b.pass ts (sym w.runs.answer ∙ ok) w.runs.state
+pub was_going : (a : Encoder) (ts : List Token) (r : Result (Unit {0}) Error) (b : Encoder) → r ≡ Ok tt → Writes a ts r b
+    → IsGoing (pass_of a)
+was_going a ts r b ok w = going_then (pass_of a) (pass_of b) ts (sym w.runs.answer ∙ ok) w.runs.state
 
 -- after a refusal nothing more is written
 pub cut : (a : Encoder) (xs : List Token) (r : Result (Unit {0}) Error) (b : Encoder) (ys : List Token)
     (s : Result (Unit {0}) Error) (e y : Error) →
     r ≡ Err e → s ≡ Err y → y ≡ e → Writes a xs r b → Writes a (xs ++ ys) s b
-cut a xs r b ys s e y i j k h = record { runs = cut_runs a.pass xs r b.pass ys s e y i j k h.runs; kept = h.kept }
+cut a xs r b ys s e y i j k h = record { runs = cut_runs (pass_of a) xs r (pass_of b) ys s e y i j k h.runs; kept = h.kept }

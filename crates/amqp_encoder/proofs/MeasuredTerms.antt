@@ -17,7 +17,7 @@ use Rattle.amqp_model.specs.Ranges.{Everywhere, EverywhereIn, IsValue, IsInRange
 use Rattle.amqp_wire.specs.Refusals.{error_of}
 use Rattle.amqp_wire.specs.declared.error.Error.TheVariants.{OddCount, Depth, ZeroWidthItems, NonAscii, MixedArray, TooLarge, LazyInArray}
 use Rattle.amqp_encoder.specs.declared.size.Size.{Size}
-use Rattle.amqp_encoder.specs.declared.encoder.Pass.TheVariants.{Measuring}
+use Rattle.amqp_encoder.specs.State.{Measuring}
 use Rattle.amqp_encoder.specs.Tokens.{Token, put, keep, begin, end, begin_described, end_described, refuse, tokens, all_tokens}
 use Rattle.amqp_encoder.specs.State.{Open}
 use Rattle.amqp_encoder.specs.Opening.{opening}

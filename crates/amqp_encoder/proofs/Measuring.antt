@@ -11,8 +11,7 @@ use Rattle.amqp_model.specs.Refusals.{HasForm, IsNonAscii, IsLong, HasFlaw}
 use Rattle.amqp_wire.specs.declared.error.Error.{Error}
 use Rattle.amqp_wire.specs.declared.error.Error.TheVariants.{NonAscii, MixedArray, TooLarge}
 use Rattle.amqp_encoder.specs.declared.size.Size.{Size}
-use Rattle.amqp_encoder.specs.declared.encoder.Pass.{Pass}
-use Rattle.amqp_encoder.specs.declared.encoder.Pass.TheVariants.{Measuring, Stopped}
+use Rattle.amqp_encoder.specs.State.{Pass, Measuring, Stopped}
 use Rattle.amqp_encoder.specs.Tokens.{Token, put, tokens, all_tokens}
 use Rattle.amqp_encoder.specs.State.{Open, Measured}
 use Rattle.amqp_encoder.specs.Measuring.{◌>>=◌, MAX, is_full, take_form, enter, leave, all_ascii, checked, measure_value, measure_put}

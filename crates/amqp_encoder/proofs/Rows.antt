@@ -11,13 +11,14 @@ use Rattle.amqp_wire.specs.declared.error.Error.{Error}
 use Rattle.amqp_wire.specs.declared.error.Error.TheVariants.{Memory}
 use Rattle.amqp_encoder.specs.declared.size.Size.{Size}
 use Rattle.amqp_encoder.specs.declared.encoder.Encoder.{Encoder}
-use Rattle.amqp_encoder.specs.declared.encoder.Pass.{Pass}
-use Rattle.amqp_encoder.specs.declared.encoder.Pass.TheVariants.{Measuring, Filling, Stopped}
+use Rattle.amqp_encoder.specs.State.{Pass, Measuring, Filling, Stopped}
 use Rattle.amqp_encoder.specs.Tokens.{Token, tokens, all_tokens}
-use Rattle.amqp_encoder.specs.State.{at_start, to_fill}
+use Rattle.amqp_encoder.specs.State.{Measured, Filled, at_start, to_fill}
+use Rattle.amqp_encoder.specs.declared.encoder.Mode.{Mode}
+use Rattle.amqp_encoder.specs.declared.encoder.Mode.TheVariants as mode
 use Rattle.amqp_encoder.specs.Sound.{levels, all_levels}
 use Rattle.amqp_encoder.specs.Reasons.{HasReason, nest_by, nests_by, array_nest_by, RowRefused}
-use Rattle.amqp_encoder.specs.Writes.{steps, outcome, Runs, Writes, bytes_in, Found}
+use Rattle.amqp_encoder.specs.Writes.{steps, outcome, Runs, Writes, pass_in, pass_of, bytes_of, Found}
 use Rattle.amqp_encoder.specs.Passes.{row_text, row_tokens, AreValues, HoldOthers, AreRefused, as_size, IsMeasured, BeginsMeasuring}
 use Rattle.amqp_encoder.specs.Passes.{BeginsFilling}
 use Rattle.amqp_encoder.proofs.ContainerTerms.{holds}
@@ -36,6 +37,15 @@ row_calls deep (t ∷ ts) = ap (λ r. tokens deep t ++ r) (row_calls deep ts)
 steps_none : (s : Pass) → steps s [] ≡ s
 unfolding steps
 steps_none s = refl
+
+in_filling : (k : Mode) (m : Measured) (f g : Filled) → pass_in k m f ≡ Filling g → f ≡ g
+in_filling mode.Measuring m f g h = cc
+in_filling mode.Filling m f g h = cc
+in_filling (mode.Stopped e) m f g h = cc
+
+-- the buffer of an encoder that fills
+pub filled_bytes : (e : Encoder) (f : Filled) → pass_of e ≡ Filling f → bytes_of e ≡ f.out
+filled_bytes e f h = ap (λ g. g.out) (in_filling e.mode e.measure e.fill f h)
 
 -- what holds somewhere for one reason holds for another
 mutual
@@ -150,8 +160,8 @@ module _ (deep : List ℕ → ℕ) where
       ]
 
   pub measured : (ts : List Term) (old : Encoder) (r : Result (Unit {0}) Error) (new : Encoder) → AreValues ts → BeginsMeasuring old
-      → Writes old (row_tokens deep ts) r new → HasFound ts new.pass r
-  measured ts old r new v i w = found ts r new.pass v (rw i at w.runs)
+      → Writes old (row_tokens deep ts) r new → HasFound ts (pass_of new) r
+  measured ts old r new v i w = found ts r (pass_of new) v (rw i at w.runs)
 
   filled_row : (ts : List Term) (out : List ℕ) (limit len : ℕ) (sizes : List Size) → IsMeasured deep ts len sizes
       → length out + len ≤ limit →
@@ -162,22 +172,22 @@ module _ (deep : List ℕ → ℕ) where
       (fill_terms deep (terms_of ts) Alone [] [] out limit [] m.fits (omega (arith, m.levels)) (omega (arith, m.exact)) ∙ steps_none _)
 
   -- what a filling pass wrote
-  abbrev pub HasFilled : List ℕ → Pass → List ℕ → Result (Unit {0}) Error → Type 0
-  HasFilled bytes new saved r = (r ≡ Ok tt) × (bytes_in new saved ≡ bytes)
+  abbrev pub HasFilled : List ℕ → Encoder → Result (Unit {0}) Error → Type 0
+  HasFilled bytes new r = (r ≡ Ok tt) × (bytes_of new ≡ bytes)
 
-  wrote : (ts : List Term) (out saved : List ℕ) (limit len : ℕ) (sizes : List Size) (r : Result (Unit {0}) Error) (new : Pass)
+  wrote : (ts : List Term) (out : List ℕ) (limit len : ℕ) (sizes : List Size) (r : Result (Unit {0}) Error) (new : Encoder)
       → IsMeasured deep ts len sizes → length out + len ≤ limit →
-      Runs (Filling (to_fill sizes out limit)) (row_tokens deep ts) r new → HasFilled (out ++ row_text ts) new saved r
-  wrote ts out saved limit len sizes r new m h w =
+      Runs (Filling (to_fill sizes out limit)) (row_tokens deep ts) r (pass_of new) → HasFilled (out ++ row_text ts) new r
+  wrote ts out limit len sizes r new m h w =
       elim w.state [
         | inr o ↦ absurd (filling_never _ _ o.0)
-        | inl q ↦ rw (w.answer, q, filled_row ts out limit len sizes m h) (refl, refl)
+        | inl q ↦ let e = q ∙ filled_row ts out limit len sizes m h in (w.answer ∙ ap outcome e, filled_bytes new _ e)
       ]
 
   pub written : (ts : List Term) (len : ℕ) (sizes : List Size) (out : List ℕ) (limit : ℕ) (old : Encoder) (r : Result (Unit {0}) Error)
       (new : Encoder) → IsMeasured deep ts len sizes → length out + len ≤ limit → BeginsFilling old sizes out limit →
-      Writes old (row_tokens deep ts) r new → HasFilled (out ++ row_text ts) new.pass new.kept.items r
-  written ts len sizes out limit old r new m h i w = wrote ts out new.kept.items limit len sizes r new.pass m h (rw i at w.runs)
+      Writes old (row_tokens deep ts) r new → HasFilled (out ++ row_text ts) new r
+  written ts len sizes out limit old r new m h i w = wrote ts out limit len sizes r new m h (rw i at w.runs)
 
   going_on : (ts : List Term) (out : List ℕ) (limit len : ℕ) (sizes : List Size) (first rest : List Token) (r : Result (Unit {0}) Error)
       (new : Pass) → IsMeasured deep ts len sizes → length out + len ≤ limit →
@@ -194,4 +204,4 @@ module _ (deep : List ℕ → ℕ) where
       (r : Result (Unit {0}) Error) (new : Encoder) → IsMeasured deep ts len sizes → length out + len ≤ limit
       → BeginsFilling old sizes out limit → first ++ rest ≡ row_tokens deep ts → Writes old first r new → r ≡ Ok tt
   answered ts len sizes out limit old first rest r new m h i j w =
-      going_on ts out limit len sizes first rest r new.pass m h j (rw i at w.runs)
+      going_on ts out limit len sizes first rest r (pass_of new) m h j (rw i at w.runs)

@@ -4,13 +4,12 @@ use Rattle.std.specs.Prelude.{Result, Ok, Err, OnOk, IfErr, IsOk}
 use Rattle.std.proofs.lemmas.List.{append-nil, take-append-drop}
 use Rattle.amqp_wire.specs.declared.error.Error.{Error}
 use Rattle.amqp_encoder.specs.Tokens.{Token, TakesMemory}
-use Rattle.amqp_encoder.specs.State.{Measured, Filled}
+use Rattle.amqp_encoder.specs.State.{Measured, Filled, Pass, Measuring, Filling, Stopped}
 use Rattle.amqp_encoder.specs.Gives.{Gives, Does}
 use Rattle.amqp_encoder.specs.Writes.{measure, fill, steps, measuring, filling, outcome, IsGoing, AnyMayRunOut, Runs, Writes, Follows}
-use Rattle.amqp_encoder.specs.Writes.{bytes_of}
+use Rattle.amqp_encoder.specs.Writes.{pass_in, pass_of, bytes_of}
 use Rattle.amqp_encoder.specs.declared.encoder.Encoder.{Encoder}
-use Rattle.amqp_encoder.specs.declared.encoder.Pass.{Pass}
-use Rattle.amqp_encoder.specs.declared.encoder.Pass.TheVariants.{Measuring, Filling, Stopped}
+use Rattle.amqp_encoder.specs.declared.encoder.Mode.TheVariants as mode
 
 going : (r : Result Measured Error) → IsOk r → IsGoing (measuring r)
 going (Ok m) h = refl
@@ -33,9 +32,15 @@ filled m n (Err x) new t h e f = record { answer = sym (ap outcome f); state = i
 from_take : (a b : List ℕ) → take (length a) b ≡ a → Follows a b
 from_take a b h = (drop (length a) b, sym (rw h at (take-append-drop (length a) b)))
 
-weaken : (n : Pass) (new mid : Encoder) (o : Result (Unit {0}) Error) → OnOk o (new ≡ mid) → mid.pass ≡ n → OnOk o (new.pass ≡ n)
-weaken n new mid (Ok u) e x = ap (λ k. k.pass) e ∙ x
+weaken : (n : Pass) (new mid : Encoder) (o : Result (Unit {0}) Error) → OnOk o (new ≡ mid) → pass_of mid ≡ n → OnOk o (pass_of new ≡ n)
+weaken n new mid (Ok u) e x = ap pass_of e ∙ x
 weaken n new mid (Err y) e x = tt
+
+pub measures : (e : Encoder) → e.mode ≡ mode.Measuring → pass_of e ≡ Measuring e.measure
+measures e i = ap (λ k. pass_in k e.measure e.fill) i
+
+fills : (e : Encoder) → e.mode ≡ mode.Filling → pass_of e ≡ Filling e.fill
+fills e i = ap (λ k. pass_in k e.measure e.fill) i
 
 -- a call that takes no memory is one that might
 pub at_most : {X : Type 0} (takes : Type 0) (r : Result X Error) (o : Result (Unit {0}) Error) (new : X)
@@ -43,30 +48,31 @@ pub at_most : {X : Type 0} (takes : Type 0) (r : Result X Error) (o : Result (Un
 at_most takes r (Ok u) new h = h
 at_most takes r (Err e) new h = inl h
 
-pub settled_measuring : (old mid new : Encoder) (m n : Measured) (o r : Result (Unit {0}) Error) (t : Token) → old.pass ≡ Measuring m
-    → Gives (TakesMemory m.frame.place t) (measure t m) o n → mid.pass ≡ Measuring n → mid.kept ≡ old.kept → r ≡ o
-    → OnOk o (new ≡ mid) → IfErr o (λ e. new.pass ≡ Stopped e) → bytes_of new ≡ bytes_of mid → Writes old (t ∷ []) r new
-settled_measuring old mid new m n o r t i h x y q e f k = record {
-  runs = rw (i, q) (measured m n o new.pass t h (weaken _ new mid o e x) f);
-  kept = ([], (k ∙ (rw (x, i, y) (sym (append-nil old.kept.items)))));
+pub settled_measuring : (old mid new : Encoder) (o r : Result (Unit {0}) Error) (t : Token) → old.mode ≡ mode.Measuring
+    → Gives (TakesMemory old.measure.frame.place t) (measure t old.measure) o mid.measure → mid.mode ≡ old.mode → mid.fill ≡ old.fill
+    → r ≡ o → OnOk o (new ≡ mid) → IfErr o (λ e. pass_of new ≡ Stopped e) → bytes_of new ≡ bytes_of mid → Writes old (t ∷ []) r new
+settled_measuring old mid new o r t i h j x q e f k = record {
+  runs = rw (measures old i, q) (measured old.measure mid.measure o (pass_of new) t h (weaken _ new mid o e (measures mid (j ∙ i))) f);
+  kept = ([], k ∙ ap (λ g. g.out) x ∙ sym (append-nil (bytes_of old)));
 }
 
-pub settled_filling : (old mid new : Encoder) (m n : Filled) (o r : Result (Unit {0}) Error) (t : Token) → old.pass ≡ Filling m
-    → Does (fill t m) o n → take (length m.out) n.out ≡ m.out → mid.pass ≡ Filling n → r ≡ o
-    → OnOk o (new ≡ mid) → IfErr o (λ e. new.pass ≡ Stopped e) → bytes_of new ≡ bytes_of mid → Writes old (t ∷ []) r new
-settled_filling old mid new m n o r t i h w x q e f k = record {
-  runs = rw (i, q) (filled m n o new.pass t h (weaken _ new mid o e x) f);
-  kept = (let g : Follows m.out n.out = from_take m.out n.out w in rw (k, x, i) g);
+pub settled_filling : (old mid new : Encoder) (o r : Result (Unit {0}) Error) (t : Token) → old.mode ≡ mode.Filling
+    → Does (fill t old.fill) o mid.fill → take (length old.fill.out) mid.fill.out ≡ old.fill.out → mid.mode ≡ old.mode
+    → r ≡ o → OnOk o (new ≡ mid) → IfErr o (λ e. pass_of new ≡ Stopped e) → bytes_of new ≡ bytes_of mid → Writes old (t ∷ []) r new
+settled_filling old mid new o r t i h w j q e f k = record {
+  runs = rw (fills old i, q) (filled old.fill mid.fill o (pass_of new) t h (weaken _ new mid o e (fills mid (j ∙ i))) f);
+  kept = rw k (from_take old.fill.out mid.fill.out w);
 }
 
-stopped_runs : (old new : Pass) (x : Error) (t : Token) → old ≡ Stopped x → new ≡ Stopped x → Runs old (t ∷ []) (Err x) new
+stopped_runs : (s : Pass) (x : Error) (t : Token) → s ≡ Stopped x → Runs s (t ∷ []) (Err x) s
 unfolding steps
-stopped_runs old new x t i j = rw (j, i) (record { answer = refl; state = inl refl })
+stopped_runs s x t i = rw i (record { answer = refl; state = inl refl })
 
-pub stopped : (old new : Encoder) (x : Error) (t : Token) → old.pass ≡ Stopped x → new.pass ≡ Stopped x → new.kept ≡ old.kept
-    → Writes old (t ∷ []) (Err x) new
-stopped old new x t i j k =
-    record { runs = stopped_runs old.pass new.pass x t i j; kept = ([], rw (i, j, k) (sym (append-nil old.kept.items))) }
+pub stopped : (s : Encoder) (x : Error) (t : Token) → s.mode ≡ mode.Stopped x → Writes s (t ∷ []) (Err x) s
+stopped s x t i = record {
+  runs = stopped_runs (pass_of s) x t (ap (λ k. pass_in k s.measure s.fill) i);
+  kept = ([], sym (append-nil (bytes_of s)));
+}
 
 -- the same call by another name
 pub instead : {X : Type 0} (r s : Result X Error) (o : Result (Unit {0}) Error) (new : X) → r ≡ s → Does r o new → Does s o new

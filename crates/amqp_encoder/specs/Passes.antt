@@ -9,12 +9,12 @@ use Rattle.amqp_wire.specs.declared.error.Error.{Error}
 use Rattle.amqp_wire.specs.declared.error.Error.TheVariants.{InvalidValue}
 use Rattle.amqp_encoder.specs.declared.size.Size.{Size}
 use Rattle.amqp_encoder.specs.declared.encoder.Encoder.{Encoder}
-use Rattle.amqp_encoder.specs.declared.encoder.Pass.TheVariants.{Measuring, Filling}
+use Rattle.amqp_encoder.specs.State.{Measuring, Filling}
 use Rattle.amqp_encoder.specs.Tokens.{Token, tokens}
 use Rattle.amqp_encoder.specs.State.{at_start, to_fill}
 use Rattle.amqp_encoder.specs.Sound.{AreSound, all_levels}
 use Rattle.amqp_encoder.specs.Reasons.{nests_by, RowRefused}
-use Rattle.amqp_encoder.specs.Writes.{outcome, Found}
+use Rattle.amqp_encoder.specs.Writes.{outcome, pass_of, Found}
 
 -- the bytes of the terms, one after another
 abbrev pub row_text : List Term → List ℕ
@@ -56,17 +56,17 @@ pub record IsMeasured (deep : List ℕ → ℕ) (ts : List Term) (len : ℕ) (si
 
 -- what an encoder answers from here on
 abbrev pub answer_of : Encoder → Result (Unit {0}) Error
-answer_of e = outcome e.pass
+answer_of e = outcome (pass_of e)
 
 abbrev pub BeginsMeasuring : Encoder → Type 0
-BeginsMeasuring e = e.pass ≡ Measuring at_start
+BeginsMeasuring e = pass_of e ≡ Measuring at_start
 
 abbrev pub BeginsFilling : Encoder → List Size → List ℕ → ℕ → Type 0
-BeginsFilling e sizes out limit = e.pass ≡ Filling (to_fill sizes out limit)
+BeginsFilling e sizes out limit = pass_of e ≡ Filling (to_fill sizes out limit)
 
 -- nothing is open, and this is the length, and these are the sizes
 abbrev pub Finds : Encoder → ℕ → List Size → Type 0
-Finds e len sizes = Found e.pass len sizes
+Finds e len sizes = Found (pass_of e) len sizes
 
 -- why it has found nothing: its refusal; or it has refused nothing, but it fills, or something is open
 abbrev pub FindsNone : Encoder → Error → Type 0

@@ -2,6 +2,7 @@
 use Rattle.std.specs.Prelude.{ℕ, List, [], Option, Some, None}
 use Rattle.amqp_model.specs.Term.{Container, list}
 use Rattle.amqp_model.specs.Text.{Place, first_place}
+use Rattle.amqp_wire.specs.declared.error.Error.{Error}
 use Rattle.amqp_encoder.specs.declared.size.Size.{Size}
 use Rattle.amqp_encoder.specs.declared.frame.MeasuredContainer.{MeasuredContainer}
 use Rattle.amqp_encoder.specs.Values.{kind_of, place_of}
@@ -50,6 +51,12 @@ pub record Filled : Type 0 where
   pub sizes : List Size
   pub out : List ℕ
   pub limit : ℕ
+
+-- What is seen of an encoder: it measures, or it fills, or it has refused for this reason.
+pub data Pass : Type 0 where
+  Measuring : Measured → Pass
+  Filling : Filled → Pass
+  Stopped : Error → Pass
 
 abbrev pub at_start : Measured
 at_start = record { frame = holding list 0 0; outer = []; sizes = []; descriptors = [] }

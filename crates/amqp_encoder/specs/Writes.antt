@@ -3,15 +3,15 @@ use Rattle.std.specs.Prelude.{◌≡◌, ℕ, List, [], ◌∷◌, ◌++◌, Res
 use Rattle.amqp_wire.specs.declared.error.Error.{Error}
 use Rattle.amqp_wire.specs.declared.error.Error.TheVariants.{Memory}
 use Rattle.amqp_encoder.specs.Tokens.{Token, put, keep, begin, end, begin_described, end_described, refuse, TakesMemory}
-use Rattle.amqp_encoder.specs.State.{Measured, Filled}
+use Rattle.amqp_encoder.specs.State.{Measured, Filled, Pass, Measuring, Filling, Stopped}
 use Rattle.amqp_encoder.specs.Measuring.{measure_put, measure_keep, measure_begin, measure_end, measure_begin_described}
 use Rattle.amqp_encoder.specs.Measuring.{measure_end_described}
 use Rattle.std.specs.Prelude.{length}
 use Rattle.amqp_encoder.specs.Filling.{fill_put, fill_keep, fill_begin, fill_begin_described, fill_end}
 use Rattle.amqp_encoder.specs.declared.size.Size.{Size}
 use Rattle.amqp_encoder.specs.declared.encoder.Encoder.{Encoder}
-use Rattle.amqp_encoder.specs.declared.encoder.Pass.{Pass}
-use Rattle.amqp_encoder.specs.declared.encoder.Pass.TheVariants.{Measuring, Filling, Stopped}
+use Rattle.amqp_encoder.specs.declared.encoder.Mode.{Mode}
+use Rattle.amqp_encoder.specs.declared.encoder.Mode.TheVariants as mode
 
 abbrev pub measure : Token → Measured → Result Measured Error
 measure (put p) m = measure_put p m
@@ -76,21 +76,25 @@ pub record Runs (old : Pass) (ts : List Token) (result : Result (Unit {0}) Error
   pub answer : result ≡ outcome new
   pub state : (new ≡ steps old ts) ⊎ RunsOut old ts new
 
--- the buffer's bytes: those that a filling pass has written behind what was there
-abbrev pub bytes_in : Pass → List ℕ → List ℕ
-bytes_in (Measuring m) kept = kept
-bytes_in (Filling f) kept = f.out
-bytes_in (Stopped e) kept = kept
+-- the pass that runs, of the two whose states are kept
+abbrev pub pass_in : Mode → Measured → Filled → Pass
+pass_in mode.Measuring m f = Measuring m
+pass_in mode.Filling m f = Filling f
+pass_in (mode.Stopped e) m f = Stopped e
 
+abbrev pub pass_of : Encoder → Pass
+pass_of e = pass_in e.mode e.measure e.fill
+
+-- the buffer's bytes: those that a filling pass has written behind what was there
 abbrev pub bytes_of : Encoder → List ℕ
-bytes_of e = bytes_in e.pass e.kept.items
+bytes_of e = e.fill.out
 
 abbrev pub Follows : List ℕ → List ℕ → Type 0
 Follows a b = (rest : List ℕ) × (b ≡ a ++ rest)
 
 -- the same of an encoder, whose buffer keeps what it has
 pub record Writes (old : Encoder) (ts : List Token) (result : Result (Unit {0}) Error) (new : Encoder) : Type 0 where
-  pub runs : Runs old.pass ts result new.pass
+  pub runs : Runs (pass_of old) ts result (pass_of new)
   pub kept : Follows (bytes_of old) (bytes_of new)
 
 -- What a measuring pass found: nothing is open, and this is the length, and these are the sizes.

@@ -2,11 +2,11 @@
 ghost use Rattle.std.specs.Prelude.{◌≡◌, ◌≤◌, ℕ, [], ◌∷◌, length, Some, None, OnOk, IfOk, IfErr, List, Ok, Err};
 ghost use Rattle.std.specs.Vec.{vec_capacity};
 ghost use Rattle.amqp_model.specs.Term.{Primitive, null, symbol, list, map, array};
-ghost use Rattle.amqp_encoder.specs.declared.encoder.Pass.TheVariants.{Stopped};
+ghost use Rattle.amqp_encoder.specs.State.{Stopped};
 ghost use Rattle.amqp_encoder.specs.Values.{container_of, descriptor_of};
 ghost use Rattle.amqp_encoder.specs.Spelled.{IsFixed, IsVariable};
 ghost use Rattle.amqp_encoder.specs.Tokens.{put, keep, begin, end, begin_described, end_described, refuse};
-ghost use Rattle.amqp_encoder.specs.Writes.{Writes, bytes_of};
+ghost use Rattle.amqp_encoder.specs.Writes.{Writes, pass_of, bytes_of};
 ghost use Rattle.amqp_encoder.specs.Passes.{BeginsMeasuring, BeginsFilling, Finds, FindsNone, answer_of};
 
 use crate::fill::Fill;
@@ -16,10 +16,11 @@ use crate::size::Size;
 use amqp_wire::{Descriptor, Error, format_code};
 use std::alloc::Global;
 
-#[derive(Drop)]
-pub(crate) enum Pass {
-    Measuring(Measure),
-    Filling(Fill),
+/// Which pass runs, or why none does.
+#[derive(Clone, Copy)]
+pub(crate) enum Mode {
+    Measuring,
+    Filling,
     Stopped(Error),
 }
 
@@ -29,20 +30,22 @@ pub(crate) enum Pass {
 /// first item of an array.
 #[derive(Drop)]
 pub struct Encoder {
-    pass: Pass,
-    // The buffer, once a filling pass has been refused.
-    kept: Vec<u8>,
+    mode: Mode,
+    // Both passes stand side by side, so that going over from one to the other writes no row anew.
+    measure: Measure,
+    fill: Fill,
 }
 
 impl Encoder {
     /// An encoder that measures, and makes every refusal.
-    #[inline]
+    #[inline(always)]
     pub fn measuring(alloc: Global) -> Encoder
         ensures { BeginsMeasuring result }
     {
         Encoder {
-            pass: Pass::Measuring(Measure::new(alloc)),
-            kept: Vec::new(alloc),
+            mode: Mode::Measuring,
+            measure: Measure::new(alloc),
+            fill: Fill::new(alloc),
         }
     }
 
@@ -53,10 +56,10 @@ impl Encoder {
         ensures found { IfOk result (λ len. (sizes : List Size) × Finds self.now len sizes) }
         ensures refused { IfErr result (λ e. FindsNone self.now e) }
     {
-        match &self.pass {
-            Pass::Measuring(measure) => measure.measured(),
-            Pass::Filling(_) => Err(Error::InvalidValue),
-            Pass::Stopped(error) => Err(*error),
+        match self.mode {
+            Mode::Measuring => self.measure.measured(),
+            Mode::Filling => Err(Error::InvalidValue),
+            Mode::Stopped(error) => Err(error),
         }
     }
 
@@ -68,15 +71,11 @@ impl Encoder {
         ensures begun { (len : ℕ) (sizes : List Size) → Finds self.old len sizes → BeginsFilling self.new sizes buffer.items limit }
         ensures stays { (e : Error) → answer_of self.old ≡ Err e → (answer_of self.new ≡ Err e) × (bytes_of self.new ≡ buffer.items) }
     {
-        let sizes = match &mut self.pass {
-            Pass::Measuring(measure) => measure.take_sizes(alloc),
-            Pass::Filling(_) => Vec::new(alloc),
-            Pass::Stopped(_) => {
-                self.kept = buffer;
-                return;
-            }
-        };
-        self.pass = Pass::Filling(Fill::new(sizes, buffer, limit));
+        let sizes = self.measure.take_sizes(alloc);
+        self.fill.start(sizes, buffer, limit);
+        if let Mode::Measuring = self.mode {
+            self.mode = Mode::Filling;
+        }
     }
 
     /// The buffer, also after a refusal.
@@ -84,20 +83,21 @@ impl Encoder {
     pub fn into_buffer(self) -> Vec<u8>
         ensures { result.items ≡ bytes_of self }
     {
-        let Encoder { pass, kept } = self;
-        match pass {
-            Pass::Filling(fill) => fill.into_buffer(),
-            Pass::Measuring(_) | Pass::Stopped(_) => kept,
-        }
+        let Encoder {
+            mode: _,
+            measure: _,
+            fill,
+        } = self;
+        fill.into_buffer()
     }
 
     /// The error of an encoder that has refused.
     pub fn check(&self) -> Result<(), Error>
         ensures { result ≡ answer_of self.now }
     {
-        match &self.pass {
-            Pass::Measuring(_) | Pass::Filling(_) => Ok(()),
-            Pass::Stopped(error) => Err(*error),
+        match self.mode {
+            Mode::Measuring | Mode::Filling => Ok(()),
+            Mode::Stopped(error) => Err(error),
         }
     }
 
@@ -106,35 +106,15 @@ impl Encoder {
     fn settle(&mut self, outcome: Result<(), Error>) -> Result<(), Error>
         ensures same { result ≡ outcome }
         ensures going { OnOk outcome (self.new ≡ self.old) }
-        ensures stopped { IfErr outcome (λ e. self.new.pass ≡ Stopped e) }
+        ensures stopped { IfErr outcome (λ e. pass_of self.new ≡ Stopped e) }
         ensures bytes { bytes_of self.new ≡ bytes_of self.old }
     {
         match outcome {
             Ok(()) => Ok(()),
-            Err(error) => self.stop(error),
-        }
-    }
-
-    #[inline(always)]
-    fn stop(&mut self, error: Error) -> Result<(), Error>
-        ensures same { result ≡ Err error }
-        ensures stopped { self.new.pass ≡ Stopped error }
-        ensures bytes { bytes_of self.new ≡ bytes_of self.old }
-    {
-        self.stop_for(error);
-        Err(error)
-    }
-
-    // It stands apart, so that what `settle` inlines stays small.
-    #[cold]
-    #[inline(never)]
-    fn stop_for(&mut self, error: Error)
-        ensures stopped { self.new.pass ≡ Stopped error }
-        ensures bytes { bytes_of self.new ≡ bytes_of self.old }
-    {
-        match std::mem::replace(&mut self.pass, Pass::Stopped(error)) {
-            Pass::Filling(fill) => self.kept = fill.into_buffer(),
-            Pass::Measuring(_) | Pass::Stopped(_) => {}
+            Err(error) => {
+                self.mode = Mode::Stopped(error);
+                Err(error)
+            }
         }
     }
 
@@ -142,10 +122,10 @@ impl Encoder {
     pub fn refuse(&mut self, error: Error) -> Result<(), Error>
         ensures { Writes self.old (refuse error ∷ []) result self.new }
     {
-        match &self.pass {
-            Pass::Measuring(_) => self.settle(Err(error)),
-            Pass::Filling(_) => self.settle(Err(error)),
-            Pass::Stopped(error) => Err(*error),
+        match self.mode {
+            Mode::Measuring => self.settle(Err(error)),
+            Mode::Filling => self.settle(Err(error)),
+            Mode::Stopped(error) => Err(error),
         }
     }
 
@@ -159,16 +139,16 @@ impl Encoder {
         requires { 1 ≤ N }
         ensures { (p : Primitive) → IsFixed p shortest wide.entry → Writes self.old (put p ∷ []) result self.new }
     {
-        match &mut self.pass {
-            Pass::Measuring(measure) => {
-                let outcome = measure.put(shortest, &wide);
+        match self.mode {
+            Mode::Measuring => {
+                let outcome = self.measure.put(shortest, &wide);
                 self.settle(outcome)
             }
-            Pass::Filling(fill) => {
-                let outcome = fill.put(shortest, wide);
+            Mode::Filling => {
+                let outcome = self.fill.put(shortest, wide);
                 self.settle(outcome)
             }
-            Pass::Stopped(error) => Err(*error),
+            Mode::Stopped(error) => Err(error),
         }
     }
 
@@ -176,16 +156,16 @@ impl Encoder {
     pub(crate) fn put_bytes(&mut self, short: u8, wide: u8, bytes: &[u8]) -> Result<(), Error>
         ensures { (p : Primitive) → IsVariable p short wide bytes.now → Writes self.old (put p ∷ []) result self.new }
     {
-        match &mut self.pass {
-            Pass::Measuring(measure) => {
-                let outcome = measure.put_bytes(wide, bytes.len());
+        match self.mode {
+            Mode::Measuring => {
+                let outcome = self.measure.put_bytes(wide, bytes.len());
                 self.settle(outcome)
             }
-            Pass::Filling(fill) => {
-                let outcome = fill.put_bytes(short, wide, bytes);
+            Mode::Filling => {
+                let outcome = self.fill.put_bytes(short, wide, bytes);
                 self.settle(outcome)
             }
-            Pass::Stopped(error) => Err(*error),
+            Mode::Stopped(error) => Err(error),
         }
     }
 
@@ -193,20 +173,20 @@ impl Encoder {
     pub fn write_symbol(&mut self, text: &str) -> Result<(), Error>
         ensures { Writes self.old (put (symbol text.now) ∷ []) result self.new }
     {
-        match &mut self.pass {
-            Pass::Measuring(measure) => {
-                let outcome = measure.put_symbol(format_code::SYMBOL_32, text);
+        match self.mode {
+            Mode::Measuring => {
+                let outcome = self.measure.put_symbol(format_code::SYMBOL_32, text);
                 self.settle(outcome)
             }
-            Pass::Filling(fill) => {
-                let outcome = fill.put_bytes(
+            Mode::Filling => {
+                let outcome = self.fill.put_bytes(
                     format_code::SYMBOL_8,
                     format_code::SYMBOL_32,
                     text.as_bytes(),
                 );
                 self.settle(outcome)
             }
-            Pass::Stopped(error) => Err(*error),
+            Mode::Stopped(error) => Err(error),
         }
     }
 
@@ -214,16 +194,16 @@ impl Encoder {
     pub fn write_null(&mut self) -> Result<(), Error>
         ensures { Writes self.old (put null ∷ []) result self.new }
     {
-        match &mut self.pass {
-            Pass::Measuring(measure) => {
-                let outcome = measure.put_null();
+        match self.mode {
+            Mode::Measuring => {
+                let outcome = self.measure.put_null();
                 self.settle(outcome)
             }
-            Pass::Filling(fill) => {
-                let outcome = fill.put_null();
+            Mode::Filling => {
+                let outcome = self.fill.put_null();
                 self.settle(outcome)
             }
-            Pass::Stopped(error) => Err(*error),
+            Mode::Stopped(error) => Err(error),
         }
     }
 
@@ -232,48 +212,48 @@ impl Encoder {
     pub fn write_term(&mut self, bytes: &[u8], nesting: usize) -> Result<(), Error>
         ensures { Writes self.old (keep bytes.now nesting ∷ []) result self.new }
     {
-        match &mut self.pass {
-            Pass::Measuring(measure) => {
-                let outcome = measure.keep(bytes.len(), nesting);
+        match self.mode {
+            Mode::Measuring => {
+                let outcome = self.measure.keep(bytes.len(), nesting);
                 self.settle(outcome)
             }
-            Pass::Filling(fill) => {
-                let outcome = fill.keep(bytes);
+            Mode::Filling => {
+                let outcome = self.fill.keep(bytes);
                 self.settle(outcome)
             }
-            Pass::Stopped(error) => Err(*error),
+            Mode::Stopped(error) => Err(error),
         }
     }
 
     fn begin(&mut self, container: Container) -> Result<(), Error>
         ensures { Writes self.old (begin (container_of container) ∷ []) result self.new }
     {
-        match &mut self.pass {
-            Pass::Measuring(measure) => {
-                let outcome = measure.begin(container);
+        match self.mode {
+            Mode::Measuring => {
+                let outcome = self.measure.begin(container);
                 self.settle(outcome)
             }
-            Pass::Filling(fill) => {
-                let outcome = fill.begin(container);
+            Mode::Filling => {
+                let outcome = self.fill.begin(container);
                 self.settle(outcome)
             }
-            Pass::Stopped(error) => Err(*error),
+            Mode::Stopped(error) => Err(error),
         }
     }
 
     fn end(&mut self, container: Container) -> Result<(), Error>
         ensures { Writes self.old (end (container_of container) ∷ []) result self.new }
     {
-        match &mut self.pass {
-            Pass::Measuring(measure) => {
-                let outcome = measure.end(container);
+        match self.mode {
+            Mode::Measuring => {
+                let outcome = self.measure.end(container);
                 self.settle(outcome)
             }
-            Pass::Filling(fill) => {
-                let outcome = fill.end();
+            Mode::Filling => {
+                let outcome = self.fill.end();
                 self.settle(outcome)
             }
-            Pass::Stopped(error) => Err(*error),
+            Mode::Stopped(error) => Err(error),
         }
     }
 
@@ -323,16 +303,16 @@ impl Encoder {
     pub fn begin_described(&mut self, descriptor: &Descriptor) -> Result<(), Error>
         ensures { Writes self.old (begin_described (descriptor_of descriptor.now) ∷ []) result self.new }
     {
-        match &mut self.pass {
-            Pass::Measuring(measure) => {
-                let outcome = measure.begin_described(descriptor);
+        match self.mode {
+            Mode::Measuring => {
+                let outcome = self.measure.begin_described(descriptor);
                 self.settle(outcome)
             }
-            Pass::Filling(fill) => {
-                let outcome = fill.begin_described(descriptor);
+            Mode::Filling => {
+                let outcome = self.fill.begin_described(descriptor);
                 self.settle(outcome)
             }
-            Pass::Stopped(error) => Err(*error),
+            Mode::Stopped(error) => Err(error),
         }
     }
 
@@ -340,16 +320,16 @@ impl Encoder {
     pub fn end_described(&mut self) -> Result<(), Error>
         ensures { Writes self.old (end_described ∷ []) result self.new }
     {
-        match &mut self.pass {
-            Pass::Measuring(measure) => {
-                let outcome = measure.end_described();
+        match self.mode {
+            Mode::Measuring => {
+                let outcome = self.measure.end_described();
                 self.settle(outcome)
             }
-            Pass::Filling(fill) => {
-                let outcome = fill.end();
+            Mode::Filling => {
+                let outcome = self.fill.end();
                 self.settle(outcome)
             }
-            Pass::Stopped(error) => Err(*error),
+            Mode::Stopped(error) => Err(error),
         }
     }
 }

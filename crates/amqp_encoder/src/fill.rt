@@ -16,6 +16,7 @@ use crate::frame::is_filled_up;
 use crate::kinds::{Container, Place, Shortest};
 use crate::size::{MAX_CONTENT, ROW, Size};
 use amqp_wire::{Descriptor, Error, format_code};
+use std::alloc::Global;
 use std::marker::Model;
 
 #[derive(Drop)]
@@ -49,20 +50,34 @@ impl Model for Fill {
 }
 
 impl Fill {
+    /// With no room to fill yet.
     #[inline(always)]
-    pub(crate) fn new(sizes: Vec<Size>, out: Vec<u8>, limit: usize) -> Fill
-        requires { limit ≤ vec_capacity out }
-        ensures { result ≡ to_fill sizes.items out.items limit }
+    pub(crate) fn new(alloc: Global) -> Fill
+        ensures { result ≡ to_fill [] [] 0 }
     {
         Fill {
             place: Place::Alone,
             places: [Place::Alone; ROW],
             depth: 0,
-            sizes,
+            sizes: Vec::new(alloc),
             next: 0,
-            limit,
-            out,
+            limit: 0,
+            out: Vec::new(alloc),
         }
+    }
+
+    /// Begins to fill the room of a buffer. What is left in the row is not seen.
+    #[inline(always)]
+    pub(crate) fn start(&mut self, sizes: Vec<Size>, out: Vec<u8>, limit: usize)
+        requires { limit ≤ vec_capacity out }
+        ensures { self.new ≡ to_fill sizes.items out.items limit }
+    {
+        self.place = Place::Alone;
+        self.depth = 0;
+        self.sizes = sizes;
+        self.next = 0;
+        self.limit = limit;
+        self.out = out;
     }
 
     #[inline(always)]
@@ -174,6 +189,7 @@ impl Fill {
     }
 
     /// A binary, a string or a symbol, with its codes.
+    #[inline(always)]
     pub(crate) fn put_bytes(&mut self, short: u8, wide: u8, bytes: &[u8]) -> Result<(), Error>
         ensures does { Does (fill_bytes short wide bytes.now self.old) result self.new }
         ensures kept { take (length self.old.out) self.new.out ≡ self.old.out }

@@ -174,6 +174,7 @@ impl Measure {
         self.put_variable(code, len)
     }
 
+    #[inline(always)]
     fn put_variable(&mut self, code: u8, len: usize) -> Result<(), Error>
         requires { len < 2 ^ 32 }
         ensures { Does (measure_value code (variable_length self.old.frame.place len) self.old) result self.new }

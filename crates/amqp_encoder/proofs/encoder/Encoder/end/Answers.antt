@@ -4,13 +4,13 @@ use Rattle.amqp_encoder.proofs.encoder.Encoder.end.Goals as goal
 
 pub returns-in-Measuring : goal.returns-in-Measuring
 returns-in-Measuring c =
-    settled_measuring _ _ _ _ _ _ _ _ c.in-Measuring.is (at_most _ _ _ _ c.end-outcome.ensures) refl refl c.settle.ensures.same
+    settled_measuring _ _ _ _ _ _ c.in-Measuring.is (at_most _ _ _ _ c.end-outcome.ensures) refl refl c.settle.ensures.same
     c.settle.ensures.going c.settle.ensures.stopped c.settle.ensures.bytes
 
 pub returns-in-Filling : goal.returns-in-Filling
 returns-in-Filling c =
-    settled_filling _ _ _ _ _ _ _ _ c.in-Filling.is (c.end-outcome-in-Filling.ensures.does) c.end-outcome-in-Filling.ensures.kept refl
+    settled_filling _ _ _ _ _ _ c.in-Filling.is (c.end-outcome-in-Filling.ensures.does) c.end-outcome-in-Filling.ensures.kept refl
     c.settle-in-Filling.ensures.same c.settle-in-Filling.ensures.going c.settle-in-Filling.ensures.stopped c.settle-in-Filling.ensures.bytes
 
 pub returns-in-Stopped : goal.returns-in-Stopped
-returns-in-Stopped c = stopped _ _ _ _ c.in-Stopped.is refl refl
+returns-in-Stopped c = stopped _ _ _ c.in-Stopped.is

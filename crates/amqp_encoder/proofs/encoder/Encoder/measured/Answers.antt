@@ -2,11 +2,11 @@ use Rattle.std.proofs.Common.{◌≡◌, refl, sym, ℕ, [], List}
 use Rattle.std.specs.Prelude.{Result, Ok, Err, IfOk, MatchResult, length, ◌≤◌}
 use Rattle.amqp_wire.specs.declared.error.Error.{Error}
 use Rattle.amqp_wire.specs.declared.error.Error.TheVariants.{InvalidValue}
-use Rattle.amqp_encoder.specs.declared.encoder.Pass.{Pass}
-use Rattle.amqp_encoder.specs.declared.encoder.Pass.TheVariants.{Measuring}
+use Rattle.amqp_encoder.specs.State.{Pass, Measuring}
 use Rattle.amqp_encoder.specs.declared.size.Size.{Size}
 use Rattle.amqp_encoder.specs.State.{Measured}
 use Rattle.amqp_encoder.specs.Writes.{Found}
+use Rattle.amqp_encoder.proofs.Settled.{measures}
 use Rattle.amqp_encoder.proofs.encoder.Encoder.measured.Goals as goal
 
 found : (s : Pass) (m : Measured) (r : Result ℕ Error) → s ≡ Measuring m
@@ -16,4 +16,4 @@ found s m (Ok len) i h = (m.sizes, rw i (h.0, sym h.1, refl))
 found s m (Err e) i h = tt
 
 pub returns-in-Measuring-clause-found : goal.returns-in-Measuring-clause-found
-returns-in-Measuring-clause-found c = found _ _ _ c.in-Measuring.is c.measured.ensures
+returns-in-Measuring-clause-found c = found _ _ _ (measures _ c.in-Measuring.is) c.measured.ensures

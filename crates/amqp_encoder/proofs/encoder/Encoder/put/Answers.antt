@@ -5,16 +5,17 @@ use Rattle.amqp_encoder.proofs.encoder.Encoder.put.Goals as goal
 
 pub returns-in-Measuring : goal.returns-in-Measuring
 returns-in-Measuring g c p h =
-    settled_measuring _ _ _ _ _ _ _ _ c.in-Measuring.is
-    (at_most _ _ _ _ (instead _ _ _ _ (measured_fixed p c.args.shortest c.args.wide _ c.in-Measuring.measure h refl) c.put-outcome.ensures))
+    settled_measuring _ _ _ _ _ _ c.in-Measuring.is
+    (at_most _ _ _ _
+    (instead _ _ _ _ (measured_fixed p c.args.shortest c.args.wide _ c.args.self.now.measure h refl) c.put-outcome.ensures))
     refl refl c.settle.ensures.same c.settle.ensures.going c.settle.ensures.stopped c.settle.ensures.bytes
 
 pub returns-in-Filling : goal.returns-in-Filling
 returns-in-Filling g c p h =
-    settled_filling _ _ _ _ _ _ _ _ c.in-Filling.is
-    (instead _ _ _ _ (filled_fixed p c.args.shortest c.args.wide c.in-Filling.fill h) c.put-outcome-in-Filling.ensures.does)
+    settled_filling _ _ _ _ _ _ c.in-Filling.is
+    (instead _ _ _ _ (filled_fixed p c.args.shortest c.args.wide c.args.self.now.fill h) c.put-outcome-in-Filling.ensures.does)
     c.put-outcome-in-Filling.ensures.kept refl c.settle-in-Filling.ensures.same c.settle-in-Filling.ensures.going
     c.settle-in-Filling.ensures.stopped c.settle-in-Filling.ensures.bytes
 
 pub returns-in-Stopped : goal.returns-in-Stopped
-returns-in-Stopped g c p h = stopped _ _ _ _ c.in-Stopped.is refl refl
+returns-in-Stopped g c p h = stopped _ _ _ c.in-Stopped.is

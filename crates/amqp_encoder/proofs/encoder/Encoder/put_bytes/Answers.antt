@@ -5,14 +5,14 @@ use Rattle.amqp_encoder.proofs.encoder.Encoder.put_bytes.Goals as goal
 
 pub returns-in-Measuring : goal.returns-in-Measuring
 returns-in-Measuring c p h =
-    settled_measuring _ _ _ _ _ _ _ _ c.in-Measuring.is (at_most _ _ _ _ (instead _ _ _ _ (sym (h.measured _)) c.put_bytes-outcome.ensures))
+    settled_measuring _ _ _ _ _ _ c.in-Measuring.is (at_most _ _ _ _ (instead _ _ _ _ (sym (h.measured _)) c.put_bytes-outcome.ensures))
     refl refl c.settle.ensures.same c.settle.ensures.going c.settle.ensures.stopped c.settle.ensures.bytes
 
 pub returns-in-Filling : goal.returns-in-Filling
 returns-in-Filling c p h =
-    settled_filling _ _ _ _ _ _ _ _ c.in-Filling.is (instead _ _ _ _ (sym (h.filled _)) c.put_bytes-outcome-in-Filling.ensures.does)
+    settled_filling _ _ _ _ _ _ c.in-Filling.is (instead _ _ _ _ (sym (h.filled _)) c.put_bytes-outcome-in-Filling.ensures.does)
     c.put_bytes-outcome-in-Filling.ensures.kept refl c.settle-in-Filling.ensures.same c.settle-in-Filling.ensures.going
     c.settle-in-Filling.ensures.stopped c.settle-in-Filling.ensures.bytes
 
 pub returns-in-Stopped : goal.returns-in-Stopped
-returns-in-Stopped c p h = stopped _ _ _ _ c.in-Stopped.is refl refl
+returns-in-Stopped c p h = stopped _ _ _ c.in-Stopped.is
