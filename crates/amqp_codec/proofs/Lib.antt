@@ -9,3 +9,4 @@ pub mod EachWritten
 pub mod PairsWritten
 pub mod ItemsSteps
 pub mod MapSteps
+pub mod BTreeMapSteps

@@ -111,12 +111,12 @@ module _ {K V : Type 0} (key : TermType K) (value : TermType V) where
       (λ none ps b h. (let x = value_map key value st ps b h in none (2 * x.pairs) x.first x.opened)) r
 
   -- what else stands there was opened so too
-  record Others (n : ℕ) (first : State) (ps : List (K × V)) (b : State) : Type 0 where
-    last : State
-    others : ReadsPairsRow key value n first ps last
-    closed : Closes InMap last b
+  pub record Others (n : ℕ) (first : State) (ps : List (K × V)) (b : State) : Type 0 where
+    pub last : State
+    pub others : ReadsPairsRow key value n first ps last
+    pub closed : Closes InMap last b
 
-  others_in : (st : State) (n : ℕ) (first : State) (ps : List (K × V)) (b : State) → Opens map st (2 * n) first
+  pub others_in : (st : State) (n : ℕ) (first : State) (ps : List (K × V)) (b : State) → Opens map st (2 * n) first
       → ReadsValue Meant st ps b → Others n first ps b
   others_in st n first ps b h k =
       let x = value_map key value st ps b k in

@@ -57,3 +57,7 @@ pub mod MapType
 pub mod MapWriting
 pub mod MapReading
 pub mod MapReadingLaws
+pub mod FoundKeys
+pub mod KeyOrder
+pub mod BTreeMapType
+pub mod BTreeMaps

@@ -42,7 +42,7 @@ use Rattle.amqp_codec.specs.PairLaws.{standings_many, pairs_nested, pairs_writab
 map_not_list : map ≡ list → ⊥
 map_not_list e = cc
 
-map_flawless : (ts : Terms) → IsFlawless (container map ts)
+pub map_flawless : (ts : Terms) → IsFlawless (container map ts)
 map_flawless ts = record { unbarred = λ r e. cc; unmixed = λ h. h; no_null = λ h. h; no_kept = λ h. h; ascii = λ h. h }
 
 module _ {K V : Type 0} (key : TermType K) (value : TermType V) where

@@ -85,11 +85,11 @@ canon_is : {T : Type 0} {u : TermType T} {w : Writing T} → Agreement u w → (
 canon_is a v = ap first_term (a.canons_is v)
 
 -- keys that are their own normal values
-own_keys : {K V : Type 0} (key : TermType K) (P : V → Type 0) → ((k : K) → key.same (normal key.norm k) k) → (ps : List (K × V))
+pub own_keys : {K V : Type 0} (key : TermType K) (P : V → Type 0) → ((k : K) → key.same (normal key.norm k) k) → (ps : List (K × V))
     → OfPairs key.is_value P ps → OfPairs (IsOwnKey key) P ps
 own_keys key P own = pairs_as key.is_value (IsOwnKey key) P P (λ k h. (h, λ l e. own l)) (λ v h. h)
 
-any_keys : {K V : Type 0} (key : TermType K) (P : V → Type 0) (ps : List (K × V)) → OfPairs (IsOwnKey key) P ps
+pub any_keys : {K V : Type 0} (key : TermType K) (P : V → Type 0) (ps : List (K × V)) → OfPairs (IsOwnKey key) P ps
     → OfPairs key.is_value P ps
 any_keys key P = pairs_as (IsOwnKey key) key.is_value P P (λ k h. h.0) (λ v h. h)
 

@@ -1,6 +1,7 @@
 //! The traits of a type that is read and written, for the types of std and for what is made of any types.
 #![tactic(auto)]
 
+mod btree_maps;
 mod composite;
 mod containers;
 mod fields;

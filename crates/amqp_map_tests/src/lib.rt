@@ -1,4 +1,4 @@
-//! Tests of maps that keep the order of their keys.
+//! Tests of maps that keep the order in which their keys came, and of maps in the order of their keys.
 #![tactic(auto)]
 
 #[cfg(test)]

@@ -1,8 +1,10 @@
 //! Inputs of maps, and the canonical text of each, or why it is refused.
 use amqp_calls::{canonical_text, from_slice};
-use amqp_codec::{Canonical, Error};
+use amqp_codec::{Canonical, Error, MapKey, Symbol};
 use amqp_maps::OrderedMap;
+use amqp_primitives::{Binary, Dec32, Dec64, Dec128, Timestamp, Uuid};
 use std::alloc::Global;
+use std::collections::BTreeMap;
 use std::test::Fail;
 
 /// An input, and its canonical text or the name of its error.
@@ -38,10 +40,14 @@ const UINTS_BY_STRINGS: [Row; 8] = [
     ("45", "WrongType"),
 ];
 
-const BOOLEANS_BY_UINTS: [Row; 15] = [
+const BOOLEANS_BY_UINTS: [Row; 3] = [
     ("c106044341520142", "c106044341520142"),
     ("c106045201424341", "c106045201424341"),
     ("c10702700000000141", "c10402520141"),
+];
+
+// Of an `OrderedMap` and of a `BTreeMap`.
+const REFUSED_BOOLEANS_BY_UINTS: [Row; 12] = [
     ("c106044341520042", "DuplicateKey"),
     ("c1080643415201414342", "DuplicateKey"),
     ("c106044341520099", "DuplicateKey"),
@@ -61,6 +67,28 @@ const MAPS_BY_UINTS: [Row; 2] = [
     ("c1090243c1050443414342", "DuplicateKey"),
 ];
 
+// Read in any order, and written in that of the keys.
+const BOOLEANS_IN_ORDER: [Row; 7] = [
+    ("c106045202414342", "c106044342520241"),
+    ("c106044342520241", "c106044342520241"),
+    ("d100000009000000045202414342", "c106044342520241"),
+    ("c109047000000001414342", "c106044342520141"),
+    ("c10a06520341520142520241", "c10a06520142520241520341"),
+    ("c10100", "c10100"),
+    ("d10000000400000000", "c10100"),
+];
+
+const UINTS_IN_ORDER_OF_STRINGS: [Row; 3] = [
+    ("c10b04a101625201a101615202", "c10b04a101615202a101625201"),
+    ("c10a04a1016243a102616243", "c10a04a102616243a1016243"),
+    ("c10904a1016143a1016199", "DuplicateKey"),
+];
+
+const MAPS_IN_ORDER: [Row; 2] = [
+    ("c10a0243c106045202414342", "c10a0243c106044342520241"),
+    ("c1090243c1050443414342", "DuplicateKey"),
+];
+
 #[test]
 fn maps(rt: HostRuntime) -> Result<(), Fail> {
     let alloc = rt.alloc();
@@ -73,8 +101,84 @@ fn maps(rt: HostRuntime) -> Result<(), Fail> {
         None
     );
     assert_eq!(rt;
+        first_wrong::<OrderedMap<u32, bool>>(&REFUSED_BOOLEANS_BY_UINTS, alloc)?,
+        None
+    );
+    assert_eq!(rt;
         first_wrong::<OrderedMap<u32, OrderedMap<u32, bool>>>(&MAPS_BY_UINTS, alloc)?,
         None
+    );
+    Ok(())
+}
+
+#[test]
+fn maps_in_order_of_keys(rt: HostRuntime) -> Result<(), Fail> {
+    let alloc = rt.alloc();
+    assert_eq!(rt;
+        first_wrong::<BTreeMap<u32, bool>>(&BOOLEANS_IN_ORDER, alloc)?,
+        None
+    );
+    assert_eq!(rt;
+        first_wrong::<BTreeMap<u32, bool>>(&REFUSED_BOOLEANS_BY_UINTS, alloc)?,
+        None
+    );
+    assert_eq!(rt;
+        first_wrong::<BTreeMap<String, u32>>(&UINTS_IN_ORDER_OF_STRINGS, alloc)?,
+        None
+    );
+    assert_eq!(rt;
+        first_wrong::<BTreeMap<u32, BTreeMap<u32, bool>>>(&MAPS_IN_ORDER, alloc)?,
+        None
+    );
+    Ok(())
+}
+
+// Whether a greater key with true and a smaller one with false, whose items have these digits, are written the smaller first.
+fn is_put_in_order<K: MapKey + Ord>(
+    size: &str,
+    greater: &str,
+    smaller: &str,
+    alloc: Global,
+) -> Result<bool, Fail> {
+    let input = format!(in alloc; "c1{size}04{greater}41{smaller}42")?;
+    let wanted = format!(in alloc; "c1{size}04{smaller}42{greater}41")?;
+    Ok(answer::<BTreeMap<K, bool>>(input.as_str(), alloc)? == wanted)
+}
+
+#[test]
+fn keys_of_each_type(rt: HostRuntime) -> Result<(), Fail> {
+    let alloc = rt.alloc();
+    assert!(rt; is_put_in_order::<bool>("05", "41", "42", alloc)?);
+    assert!(rt; is_put_in_order::<u8>("07", "50ff", "5000", alloc)?);
+    assert!(rt; is_put_in_order::<u16>("09", "600100", "600001", alloc)?);
+    assert!(rt; is_put_in_order::<u64>("07", "53ff", "5301", alloc)?);
+    assert!(rt; is_put_in_order::<i8>("07", "5101", "51ff", alloc)?);
+    assert!(rt; is_put_in_order::<i16>("09", "610001", "61ffff", alloc)?);
+    assert!(rt; is_put_in_order::<i32>("07", "5401", "54ff", alloc)?);
+    assert!(rt; is_put_in_order::<i64>("07", "5501", "55ff", alloc)?);
+    assert!(rt; is_put_in_order::<char>("0d", "7300000062", "7300000061", alloc)?);
+    assert!(rt; is_put_in_order::<Symbol>("09", "a30162", "a30161", alloc)?);
+    assert!(rt; is_put_in_order::<Binary>("09", "a001ff", "a00100", alloc)?);
+    assert!(rt;
+        is_put_in_order::<Timestamp>("15", "830000000000000001", "83ffffffffffffffff", alloc)?
+    );
+    assert!(rt; is_put_in_order::<Dec32>("0d", "7401000000", "7400ffffff", alloc)?);
+    assert!(rt; is_put_in_order::<Dec64>("15", "840100000000000000", "8400ffffffffffffff", alloc)?);
+    assert!(rt;
+        is_put_in_order::<Dec128>(
+            "25",
+            "9401000000000000000000000000000000",
+            "9400ffffffffffffffffffffffffffffff",
+            alloc
+        )?
+    );
+    assert!(rt;
+        is_put_in_order::<Uuid>(
+            "25",
+            "9801000000000000000000000000000000",
+            "9800ffffffffffffffffffffffffffffff",
+            alloc
+        )?
     );
     Ok(())
 }
@@ -90,6 +194,26 @@ fn want_of_memory_is_named(rt: HostRuntime) {
     }
     match canonical_text::<OrderedMap<String, u32>>(input, rt.alloc()) {
         Ok((text, _)) => assert_eq!(rt; text.as_slice(), input.as_slice()),
+        Err(error) => assert_eq!(rt; error, Error::Memory),
+    }
+}
+
+// The same of a map in the order of its keys.
+#[test]
+fn want_of_memory_in_order_is_named(rt: HostRuntime) {
+    let input = &[0xc1, 0x06, 0x04, 0x52, 0x02, 0x41, 0x43, 0x42];
+    let wanted = &[0xc1, 0x06, 0x04, 0x43, 0x42, 0x52, 0x02, 0x41];
+    let read: Result<BTreeMap<u32, bool>, Error> = from_slice(input, rt.alloc());
+    match read {
+        Ok(map) => {
+            assert_eq!(rt; map.len(), 2);
+            assert_eq!(rt; map.get(&2), Some(&true));
+            assert_eq!(rt; map.get(&0), Some(&false));
+        }
+        Err(error) => assert_eq!(rt; error, Error::Memory),
+    }
+    match canonical_text::<BTreeMap<u32, bool>>(input, rt.alloc()) {
+        Ok((text, _)) => assert_eq!(rt; text.as_slice(), wanted.as_slice()),
         Err(error) => assert_eq!(rt; error, Error::Memory),
     }
 }

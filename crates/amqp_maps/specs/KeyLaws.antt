@@ -1,54 +1,17 @@
--- What a map finds by the equality of keys, said by the sameness of their type.
-use Rattle.std.proofs.Common.{◌≡◌, Bool, true, false, Option, Some, None, is_some, Result, Ok, Err, List, [], ◌∷◌, ◌++◌, Bor, sym, ◌∙◌}
-use Rattle.std.specs.Option.{option_copied}
+-- What an insertion does, said by the sameness of the keys' type.
+use Rattle.std.proofs.Common.{◌≡◌, Bool, false, Result, Ok, Err, List, [], ◌∷◌, ◌++◌, ◌∙◌}
 use Rattle.std.specs.Result.{is_err, OnOk}
-use Rattle.std.specs.Map.{lookup}
-use Rattle.std.proofs.lemmas.Map.{NonePasses, lookup-none, none_passes_from_lookup}
 use Rattle.indexmap.specs.IndexMap.{insert_entry}
 use Rattle.indexmap.proofs.MapLemmas.{absent_from_lookup, insert_entry-absent}
 use Rattle.amqp_model.specs.ItemLaws.{clash}
 use Rattle.amqp_codec.specs.TermType.{TermType}
-use Rattle.amqp_codec.specs.ItemsType.{by_test}
 use Rattle.amqp_codec.specs.Keys.{IsKey}
+use Rattle.amqp_codec.specs.FoundKeys.{new_unfound}
 use Rattle.amqp_codec.specs.Pairs.{IsNew}
 
--- whether there is a value is whether one was found
-nothing_found : {V : Type 0} (o : Option (Bor V)) (b : Bool) (l : Option V) → b ≡ false → b ≡ is_some o → option_copied o ≡ l → l ≡ None
-nothing_found None b l f e h = sym h
-nothing_found (Some v) b l f e h = absurd (clash e f)
-
-something_found : {V : Type 0} (o : Option (Bor V)) (b : Bool) (l : Option V) → b ≡ true → b ≡ is_some o → option_copied o ≡ l
-    → l ≡ None → ⊥
-something_found None b l t e h n = clash t e
-something_found (Some v) b l t e h n = absurd (cc)
-
 module _ {K : Type 0} {u : TermType K} {eq : K → K → Bool} (key : IsKey u eq) {V : Type 0} where
-  others_new : (k : K) (ps : List (K × V)) → NonePasses (eq k) ps → IsNew u.same k ps
-  others_new k [] h = tt
-  others_new k (p ∷ ps) h = (λ s. clash ((key.decides k p.0).1 s) h.0, others_new k ps h.1)
-
-  new_others : (k : K) (ps : List (K × V)) → IsNew u.same k ps → NonePasses (eq k) ps
-  new_others k [] h = tt
-  new_others k (p ∷ ps) h = (
-    by_test (eq k p.0) (eq k p.0 ≡ false) (λ e. absurd (h.0 ((key.decides k p.0).0 e))) (λ e. e),
-    new_others k ps h.1,
-  )
-
-  -- a key isn't found exactly if it is none of the pairs'
-  new_unfound : (k : K) (ps : List (K × V)) → IsNew u.same k ps → lookup (eq k) ps ≡ None
-  new_unfound k ps h = lookup-none (eq k) ps (new_others k ps h)
-
-  pub unfound_new : (o : Option (Bor V)) (b : Bool) (k : K) (ps : List (K × V)) → b ≡ false → b ≡ is_some o
-      → option_copied o ≡ lookup (eq k) ps → IsNew u.same k ps
-  unfound_new o b k ps f e h =
-      others_new k ps (none_passes_from_lookup (eq k) ps (nothing_found o b (lookup (eq k) ps) f e h))
-
-  pub found_known : (o : Option (Bor V)) (b : Bool) (k : K) (ps : List (K × V)) → b ≡ true → b ≡ is_some o
-      → option_copied o ≡ lookup (eq k) ps → IsNew u.same k ps → ⊥
-  found_known o b k ps t e h new = something_found o b (lookup (eq k) ps) t e h (new_unfound k ps new)
-
   -- a new key goes last, where the insertion isn't refused
   pub inserted_last : {A E : Type 0} (r : Result A E) (b : Bool) (k : K) (v : V) (ps qs : List (K × V)) → b ≡ false → b ≡ is_err r
       → OnOk r (qs ≡ insert_entry eq ps k v) → IsNew u.same k ps → qs ≡ ps ++ (k, v) ∷ []
-  inserted_last (Ok x) b k v ps qs f e h new = h ∙ insert_entry-absent eq k v ps (absent_from_lookup (eq k) ps (new_unfound k ps new))
+  inserted_last (Ok x) b k v ps qs f e h new = h ∙ insert_entry-absent eq k v ps (absent_from_lookup (eq k) ps (new_unfound key k ps new))
   inserted_last (Err x) b k v ps qs f e h new = absurd (clash e f)

@@ -4,7 +4,8 @@ use Rattle.amqp_decoder.proofs.Steps.{answered}
 use Rattle.amqp_codec.specs.MapReading.{ReadsFewer}
 use Rattle.amqp_codec.specs.MapReadingLaws.{pairs_more, others_more}
 use Rattle.amqp_codec.proofs.MapSteps.{key_refused, key_twice, value_refused, no_room}
-use Rattle.amqp_maps.specs.KeyLaws.{unfound_new, found_known, inserted_last}
+use Rattle.amqp_codec.specs.FoundKeys.{unfound_new, found_known}
+use Rattle.amqp_maps.specs.KeyLaws.{inserted_last}
 use Rattle.amqp_maps.proofs.read.read_pairs.Goals as goal
 
 pub returns-in_err-key : goal.returns-in_err-key

@@ -1,0 +1,64 @@
+use Rattle.std.proofs.lemmas.Result.{err_from_is_err_and}
+use Rattle.amqp_decoder.proofs.Steps.{answered}
+use Rattle.amqp_codec.specs.FoundKeys.{unfound_new, found_known}
+use Rattle.amqp_codec.specs.BTreeMaps.{key_by_order, order_of_keys}
+use Rattle.amqp_codec.proofs.MapSteps.{key_refused, key_twice, value_refused, no_room}
+use Rattle.amqp_codec.proofs.BTreeMapSteps.{fewer_so_far, known_to_pairs, new_to_pairs, one_more_so_far, row_refused_in_order}
+use Rattle.amqp_codec.proofs.btree_maps.read_in_order.Goals as goal
+
+pub returns-in_err-key : goal.returns-in_err-key
+returns-in_err-key g c tells =
+    let key = g.K.DeserializeTerm.term in
+    let value = g.V.DeserializeTerm.term in
+    let p = err_from_is_err_and c.from_residual.result c.from_residual.ensures.1 in
+    rw (p.1, p.2)
+    (row_refused_in_order key value g.K.Ord.cmp c.args.count _ _ _
+    (key_refused key value c.args.count _ _ _ _ _
+    (fewer_so_far key value g.K.Ord.cmp c.loop.invariant c.args.count c.loop-test.true tells) (c.in_err-key.ensures tells)))
+
+pub returns-then-is_some : goal.returns-then-is_some
+returns-then-is_some g c tells =
+    let key = g.K.DeserializeTerm.term in
+    let value = g.V.DeserializeTerm.term in
+    let known = found_known (key_by_order g.met.K.MapKey.is_key g.met.K.Ord.total g.met.K.Ord.matches_eq) c.get.result c.is_some.result
+    c.in_ok-key.key c.loop.map.entries c.if-is_some.true c.is_some.ensures c.get.ensures.value in
+    row_refused_in_order key value g.K.Ord.cmp c.args.count _ _ _
+    (key_twice key value c.args.count _ _ _ c.in_ok-key.key _ _ _
+    (fewer_so_far key value g.K.Ord.cmp c.loop.invariant c.args.count c.loop-test.true tells) (c.in_ok-key.ensures tells)
+    (known_to_pairs key value g.K.Ord.cmp c.loop.invariant c.in_ok-key.key known) c.refuse.ensures.answer
+    (answered _ _ _ _ c.refuse.ensures.kept c.refuse.ensures.answer))
+
+pub returns-in_err-value : goal.returns-in_err-value
+returns-in_err-value g c tells =
+    let key = g.K.DeserializeTerm.term in
+    let value = g.V.DeserializeTerm.term in
+    let p = err_from_is_err_and c.from_residual-in_err-value.result c.from_residual-in_err-value.ensures.1 in
+    let new = unfound_new (key_by_order g.met.K.MapKey.is_key g.met.K.Ord.total g.met.K.Ord.matches_eq) c.get.result c.is_some.result
+    c.in_ok-key.key c.loop.map.entries c.if-is_some.false c.is_some.ensures c.get.ensures.value in
+    rw (p.1, p.2)
+    (row_refused_in_order key value g.K.Ord.cmp c.args.count _ _ _
+    (value_refused key value c.args.count _ _ _ c.in_ok-key.key _ _ _
+    (fewer_so_far key value g.K.Ord.cmp c.loop.invariant c.args.count c.loop-test.true tells) (c.in_ok-key.ensures tells)
+    (new_to_pairs key value g.K.Ord.cmp c.loop.invariant c.in_ok-key.key new) (c.in_err-value.ensures tells)))
+
+pub returns-then-is_err : goal.returns-then-is_err
+returns-then-is_err g c tells =
+    let key = g.K.DeserializeTerm.term in
+    let value = g.V.DeserializeTerm.term in
+    row_refused_in_order key value g.K.Ord.cmp c.args.count _ _ _
+    (no_room key value c.args.count _ _ _ c.in_ok-key.key _ c.in_ok-value.value _ _ _ (c.loop.invariant.each tells)
+    (c.in_ok-key.ensures tells) (c.in_ok-value.ensures tells) c.refuse-then-is_err.ensures.answer
+    (answered _ _ _ _ c.refuse-then-is_err.ensures.kept c.refuse-then-is_err.ensures.answer))
+
+pub loop-preserved : goal.loop-preserved
+loop-preserved g c =
+    let key = g.K.DeserializeTerm.term in
+    let value = g.V.DeserializeTerm.term in
+    let is_key = g.met.K.MapKey.is_key in
+    let total = g.met.K.Ord.total in
+    let ties = g.met.K.Ord.matches_eq in
+    let new = unfound_new (key_by_order is_key total ties) c.get.result c.is_some.result c.in_ok-key.key c.loop.map.entries
+    c.if-is_some.false c.is_some.ensures c.get.ensures.value in
+    one_more_so_far key value g.K.Ord.cmp c.loop.invariant c.insert.result c.is_err.result (order_of_keys is_key total ties)
+    c.in_ok-key.key c.in_ok-value.value _ _ c.insert.new.self c.if-is_err.false c.is_err.ensures.value c.insert.ensures.entries new
+    c.in_ok-key.ensures c.in_ok-value.ensures
