@@ -138,25 +138,3 @@ fn items_of_other_descriptors(rt: HostRuntime) -> Result<(), Fail> {
     assert_eq!(rt; refusal(&array.into_inner(), alloc), None);
     Ok(())
 }
-
-// An array is read and written again.
-fn written_again(alloc: Global) -> Result<Vec<u8>, Error> {
-    let input = [0xe0, 0x08, 0x02, 0x00, 0xa3, 0x01, 0x61, 0x52, 0x07, 0x08];
-    let array: Array<Described<u32>> = from_slice(&input, alloc)?;
-    to_vec(&array, alloc)
-}
-
-// Each growth is refused in turn by hand: `rt try --test --fail-alloc N`, for N from 1 on.
-#[test]
-fn want_of_memory_is_named(rt: HostRuntime) {
-    match written_again(rt.alloc()) {
-        Ok(text) => assert_eq!(rt;
-            text.as_slice(),
-            [
-                0xe0, 0x0e, 0x02, 0x00, 0xa3, 0x01, 0x61, 0x70, 0, 0, 0, 7, 0, 0, 0, 8,
-            ]
-            .as_slice()
-        ),
-        Err(error) => assert_eq!(rt; error, Error::Memory),
-    }
-}

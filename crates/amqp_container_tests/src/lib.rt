@@ -6,6 +6,8 @@ mod calls;
 #[cfg(test)]
 mod described;
 #[cfg(test)]
+mod growth;
+#[cfg(test)]
 mod rows;
 #[cfg(test)]
 mod written;

@@ -3,6 +3,7 @@
 #![tactic(auto)]
 
 mod array;
+pub mod laws;
 pub mod multiple;
 mod transparent_vec;
 

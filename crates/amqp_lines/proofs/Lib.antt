@@ -1,3 +1,4 @@
 mod Pieces
 mod Requests
 mod Progress
+mod Rows

@@ -1,19 +1,23 @@
 -- A line asks for one thing: the first space ends the type's name.
-use Rattle.std.proofs.Common.{◌≡◌, ℕ, suc, ◌+◌, ◌-◌, Bool, true, false, ◌&&◌, not, eqb, eq-eqb, List, [], ◌∷◌, ◌++◌, length, take, drop}
-use Rattle.std.proofs.Common.{get_or, slice_index, Some, None, refl, sym, ap, ◌∙◌, subst, arith}
+use Rattle.std.proofs.Common.{◌≡◌, ◌<◌, ℕ, suc, ◌+◌, ◌-◌, Bool, Bor, true, false, ◌&&◌, not}
+use Rattle.std.proofs.Common.{eqb, eq-eqb, List, [], ◌∷◌, ◌++◌, length, take, drop}
+use Rattle.std.proofs.Common.{get_or, map, slice_index, Some, None, refl, sym, ap, ◌∙◌, subst, arith}
+use Rattle.std.specs.List.{list_all}
 use Rattle.std.proofs.lemmas.Bool.{eqb-true}
+use Rattle.std.proofs.lemmas.List.Folds.{list_all_at}
 use Rattle.std.proofs.lemmas.List.{take_all, length-drop}
 use Rattle.std.proofs.Math.Seq.{split_at}
+use denote.Enum.Declared.{tag_of}
 use Rattle.memchr.specs.Find.{IsFirstByte, is_byte}
 use Rattle.amqp_lines.specs.Lines.{HasNo}
 use Rattle.amqp_lines.specs.Answers.{type_name, Asks, StandsFor}
 use Rattle.amqp_lines.specs.declared.request.TypeName.{TypeName}
-use Rattle.amqp_lines.specs.declared.request.TypeName.TheVariants.{Accepted, Boolean, Declare, Declared, DeliveryState}
-use Rattle.amqp_lines.specs.declared.request.TypeName.TheVariants.{Discharge, ErrorCondition, Outcome, Received}
-use Rattle.amqp_lines.specs.declared.request.TypeName.TheVariants.{Released, SaslChallenge, SaslInit, SaslOutcome, SaslResponse}
+use Rattle.amqp_lines.specs.declared.request.TheConstants.{NAMES}
+use Rattle.amqp_lines.specs.contracts.request.TypeName.{the_type}
+use Rattle.amqp_lines.proofs.Rows.{each_listed}
 use Rattle.amqp_lines.proofs.Pieces.{first_none, first_some}
 
-all_differ : ℕ → List ℕ → Bool
+abbrev all_differ : ℕ → List ℕ → Bool
 all_differ c [] = true
 all_differ c (b ∷ bs) = not (eqb b c) && all_differ c bs
 
@@ -25,27 +29,34 @@ differing c b bs h = go (eqb b c) refl h
     go false e h = (λ f. (let g = eq-eqb b c f in cc), h)
 
 tested : (c : ℕ) (bs : List ℕ) → all_differ c bs ≡ true → HasNo c bs
-unfolding all_differ
 tested c [] h = tt
 tested c (b ∷ bs) h = let (d, e) = differing c b bs h in (d, tested c bs e)
 
+abbrev Row : Type 0
+Row = Bor (List ℕ) × TypeName
+
+abbrev has_no_space : Row → Bool
+has_no_space row = all_differ 32 row.0.now
+
+abbrev table : List Row
+table = map {B = Row} (λ row. (record { ref_ptr = (0, 0); now = row.0.now }, row.1)) NAMES.now
+
+-- what every row passes, the one at a place does
+passed : (test : Row → Bool) (rows : List Row) (k : ℕ) (d : Row) → list_all test rows ≡ true → k < length rows
+    → test (get_or rows k d) ≡ true
+passed test rows k d h w = go (test (get_or rows k d)) refl
+  where
+    go : (b : Bool) → test (get_or rows k d) ≡ b → test (get_or rows k d) ≡ true
+    go true e = e
+    go false e = let f = list_all_at test rows k d w e in let g : true ≡ false = sym h ∙ f in absurd (cc)
+
 -- no name of a type has a space
 no_space : (named : TypeName) → HasNo 32 (type_name named)
-unfolding all_differ
-no_space Accepted = tested 32 (type_name Accepted) refl
-no_space Boolean = tested 32 (type_name Boolean) refl
-no_space Declare = tested 32 (type_name Declare) refl
-no_space Declared = tested 32 (type_name Declared) refl
-no_space DeliveryState = tested 32 (type_name DeliveryState) refl
-no_space Discharge = tested 32 (type_name Discharge) refl
-no_space ErrorCondition = tested 32 (type_name ErrorCondition) refl
-no_space Outcome = tested 32 (type_name Outcome) refl
-no_space Received = tested 32 (type_name Received) refl
-no_space Released = tested 32 (type_name Released) refl
-no_space SaslChallenge = tested 32 (type_name SaslChallenge) refl
-no_space SaslInit = tested 32 (type_name SaslInit) refl
-no_space SaslOutcome = tested 32 (type_name SaslOutcome) refl
-no_space SaslResponse = tested 32 (type_name SaslResponse) refl
+no_space named =
+    let spare : Row = (record { ref_ptr = (0, 0); now = type_name named }, named) in
+    let (w, e) = each_listed the_type tt type_name table spare refl named in
+    tested 32 (type_name named)
+    (subst (λ name. all_differ 32 name ≡ true) (sym e) (passed has_no_space table (tag_of the_type named) spare refl w))
 
 -- what stands before the first c
 split_once : (c : ℕ) (a b x y : List ℕ) → HasNo c a → HasNo c b → a ++ (c ∷ x) ≡ b ++ (c ∷ y) → (a ≡ b) × (x ≡ y)

@@ -11,15 +11,15 @@ use Rattle.amqp_codec.specs.Reading.{reading_of, IsUnreadable}
 use Rattle.amqp_calls.specs.Rewritten.{IsRewritten, IsUnwritten}
 use Rattle.amqp_errors.specs.Conditions.{condition_type}
 use Rattle.amqp_delivery.specs.Tables.{accepted, received, released, declare, declared, discharge, delivery_state, outcome}
-use Rattle.amqp_sasl.specs.Tables.{sasl_init, sasl_challenge, sasl_response, sasl_outcome}
+use Rattle.amqp_sasl.specs.Tables.{sasl_mechanisms, sasl_init, sasl_challenge, sasl_response, sasl_outcome}
 use Rattle.amqp_wire.specs.Error.{number_of, name_of}
 use Rattle.amqp_lines.specs.Lines.{TakesLine}
 use Rattle.amqp_lines.specs.declared.answer.Answer.{Answer}
 use Rattle.amqp_lines.specs.declared.answer.Answer.TheVariants.{Rewritten, Refused, NoRequest}
 use Rattle.amqp_lines.specs.declared.request.TypeName.{TypeName}
-use Rattle.amqp_lines.specs.declared.request.TypeName.TheVariants.{Accepted, Boolean, Declare, Declared, DeliveryState}
-use Rattle.amqp_lines.specs.declared.request.TypeName.TheVariants.{Discharge, ErrorCondition, Outcome, Received}
-use Rattle.amqp_lines.specs.declared.request.TypeName.TheVariants.{Released, SaslChallenge, SaslInit, SaslOutcome, SaslResponse}
+use Rattle.amqp_lines.specs.declared.request.TypeName.TheVariants.{Accepted, Boolean, Declare, Declared, DeliveryState, Discharge}
+use Rattle.amqp_lines.specs.declared.request.TypeName.TheVariants.{ErrorCondition, Outcome, Received, Released, SaslChallenge, SaslInit}
+use Rattle.amqp_lines.specs.declared.request.TypeName.TheVariants.{SaslMechanisms, SaslOutcome, SaslResponse}
 
 -- Memory ran out, or the reader or the writer failed.
 abbrev pub IsOutside : Error → Type 0
@@ -45,6 +45,7 @@ type_name Received = codes "received"
 type_name Released = codes "released"
 type_name SaslChallenge = codes "sasl-challenge"
 type_name SaslInit = codes "sasl-init"
+type_name SaslMechanisms = codes "sasl-mechanisms"
 type_name SaslOutcome = codes "sasl-outcome"
 type_name SaslResponse = codes "sasl-response"
 
@@ -93,6 +94,7 @@ IsText Received = TextOf (composite received)
 IsText Released = TextOf (composite released)
 IsText SaslChallenge = TextOf (composite sasl_challenge)
 IsText SaslInit = TextOf (composite sasl_init)
+IsText SaslMechanisms = TextOf (composite sasl_mechanisms)
 IsText SaslOutcome = TextOf (composite sasl_outcome)
 IsText SaslResponse = TextOf (composite sasl_response)
 
@@ -109,6 +111,7 @@ HasNoText Received = NoTextOf (composite received)
 HasNoText Released = NoTextOf (composite released)
 HasNoText SaslChallenge = NoTextOf (composite sasl_challenge)
 HasNoText SaslInit = NoTextOf (composite sasl_init)
+HasNoText SaslMechanisms = NoTextOf (composite sasl_mechanisms)
 HasNoText SaslOutcome = NoTextOf (composite sasl_outcome)
 HasNoText SaslResponse = NoTextOf (composite sasl_response)
 

@@ -1,14 +1,16 @@
 //! What a line asks for: the canonical text of a value of a type.
-ghost use Rattle.std.specs.Prelude.{◌≡◌, ◌≤◌, ◌⊎◌, ℕ, List, length, IfOk, IfErr, MatchOption};
+ghost use Rattle.std.specs.Prelude.{◌≡◌, ◌≤◌, ◌⊎◌, ℕ, List, length, IfOk, IfErr, MatchOption, position, true};
 ghost use Rattle.amqp_wire.specs.declared.error.Error.TheVariants.{Memory};
 ghost use Rattle.amqp_lines.specs.Answers.{type_name, StandsFor, Asks, IsText, HasNoText};
+ghost use Rattle.amqp_lines.specs.Rows.{in_order, has_name};
+ghost use Rattle.amqp_lines.specs.contracts.request.TypeName.{the_type};
 ghost use Rattle.amqp_lines.specs.declared.request.TypeName.{TypeName};
 
 use fe2o3_amqp_types::codec::{Error, canonical_text};
 use fe2o3_amqp_types::definitions::ErrorCondition;
 use fe2o3_amqp_types::messaging::{Accepted, DeliveryState, Outcome, Received, Released};
 use fe2o3_amqp_types::primitives::Boolean;
-use fe2o3_amqp_types::sasl::{SaslChallenge, SaslInit, SaslOutcome, SaslResponse};
+use fe2o3_amqp_types::sasl::{SaslChallenge, SaslInit, SaslMechanisms, SaslOutcome, SaslResponse};
 use fe2o3_amqp_types::transaction::{Declare, Declared, Discharge};
 use memchr::memchr;
 use std::alloc::Global;
@@ -28,8 +30,44 @@ pub(crate) enum TypeName {
     Released,
     SaslChallenge,
     SaslInit,
+    SaslMechanisms,
     SaslOutcome,
     SaslResponse,
+}
+
+/// The types' names in lines, in the order of `TypeName`.
+const NAMES: &[(&str, TypeName)] = &[
+    ("accepted", TypeName::Accepted),
+    ("boolean", TypeName::Boolean),
+    ("declare", TypeName::Declare),
+    ("declared", TypeName::Declared),
+    ("delivery-state", TypeName::DeliveryState),
+    ("discharge", TypeName::Discharge),
+    ("error-condition", TypeName::ErrorCondition),
+    ("outcome", TypeName::Outcome),
+    ("received", TypeName::Received),
+    ("released", TypeName::Released),
+    ("sasl-challenge", TypeName::SaslChallenge),
+    ("sasl-init", TypeName::SaslInit),
+    ("sasl-mechanisms", TypeName::SaslMechanisms),
+    ("sasl-outcome", TypeName::SaslOutcome),
+    ("sasl-response", TypeName::SaslResponse),
+];
+
+// The place of the row with this name.
+fn place_of(rows: &[(&str, TypeName)], name: &[u8]) -> Option<usize>
+    ensures { result ≡ position (has_name name.now) rows.now }
+{
+    rows.iter().position(|row| row.0.as_bytes() == name)
+}
+
+// The type that has this name in a table of all types.
+fn named(rows: &[(&str, TypeName)], name: &[u8]) -> Option<TypeName>
+    requires { in_order the_type type_name 0 rows.now ≡ true }
+    ensures { MatchOption result ((named : TypeName) → type_name named ≡ name.now → ⊥) (λ named. type_name named ≡ name.now) }
+{
+    let place = place_of(rows, name)?;
+    Some(rows[place].1)
 }
 
 impl TypeName {
@@ -37,23 +75,7 @@ impl TypeName {
     fn from_bytes(name: &[u8]) -> Option<TypeName>
         ensures { MatchOption result ((named : TypeName) → type_name named ≡ name.now → ⊥) (λ named. type_name named ≡ name.now) }
     {
-        match name {
-            b"accepted" => Some(TypeName::Accepted),
-            b"boolean" => Some(TypeName::Boolean),
-            b"declare" => Some(TypeName::Declare),
-            b"declared" => Some(TypeName::Declared),
-            b"delivery-state" => Some(TypeName::DeliveryState),
-            b"discharge" => Some(TypeName::Discharge),
-            b"error-condition" => Some(TypeName::ErrorCondition),
-            b"outcome" => Some(TypeName::Outcome),
-            b"received" => Some(TypeName::Received),
-            b"released" => Some(TypeName::Released),
-            b"sasl-challenge" => Some(TypeName::SaslChallenge),
-            b"sasl-init" => Some(TypeName::SaslInit),
-            b"sasl-outcome" => Some(TypeName::SaslOutcome),
-            b"sasl-response" => Some(TypeName::SaslResponse),
-            _ => None,
-        }
+        named(NAMES, name)
     }
 
     /// The canonical text of the type's value that the input begins with, and how many bytes that value takes.
@@ -78,6 +100,7 @@ impl TypeName {
             TypeName::Released => canonical_text::<Released>(input, alloc),
             TypeName::SaslChallenge => canonical_text::<SaslChallenge>(input, alloc),
             TypeName::SaslInit => canonical_text::<SaslInit>(input, alloc),
+            TypeName::SaslMechanisms => canonical_text::<SaslMechanisms>(input, alloc),
             TypeName::SaslOutcome => canonical_text::<SaslOutcome>(input, alloc),
             TypeName::SaslResponse => canonical_text::<SaslResponse>(input, alloc),
         }

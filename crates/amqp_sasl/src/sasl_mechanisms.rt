@@ -1,8 +1,11 @@
 //! The mechanisms that a server offers (Part 5, section 5.3.3.1).
+ghost use Rattle.std.specs.Prelude.{◌≡◌, ◌∷◌, [], IfErr, IfOk, codes, map, string_bytes};
 ghost use Rattle.std.specs.List.{AllZip};
+ghost use Rattle.amqp_wire.specs.declared.error.Error.TheVariants.{Memory};
 ghost use Rattle.amqp_enums.specs.Types.{composite, one_term, refl, agreement, writing_of};
 ghost use Rattle.amqp_sasl.specs.Tables.{sasl_mechanisms};
 
+use crate::constants::ANONYMOUS;
 use amqp_codec::kernel::{Composite, CompositeTerm, FieldKind, Table, write_composite};
 use amqp_codec::{ByteSource, Decoder, Encoder, Error, Serialize, SerializeTerm, Symbol};
 use amqp_containers::Array;
@@ -22,6 +25,20 @@ pub struct SaslMechanisms {
 impl SaslMechanisms {
     /// The code and the name of its descriptor.
     pub const DESCRIPTOR: (u64, &'static str) = (0x40, "amqp:sasl-mechanisms:list");
+
+    /// The frame that offers `ANONYMOUS` alone, which stands for the default. The only error is want of memory.
+    pub fn default_in(alloc: Global) -> Result<SaslMechanisms, Error>
+        ensures anonymous { IfOk result (λ mechanisms. map (λ symbol. string_bytes symbol.0) mechanisms.sasl_server_mechanisms.0.items
+            ≡ codes "ANONYMOUS" ∷ []) }
+        ensures refused { IfErr result (λ e. e ≡ Memory) }
+    {
+        let anonymous = Symbol::from(String::from_str(alloc, ANONYMOUS)?);
+        let mut mechanisms = Array::from(Vec::new(alloc));
+        mechanisms.push(anonymous)?;
+        Ok(SaslMechanisms {
+            sasl_server_mechanisms: mechanisms,
+        })
+    }
 }
 
 impl Clone for SaslMechanisms {

@@ -4,6 +4,8 @@
 #[cfg(test)]
 mod appending;
 #[cfg(test)]
+mod conditions;
+#[cfg(test)]
 mod delivery;
 #[cfg(test)]
 mod first_look;
@@ -11,6 +13,10 @@ mod first_look;
 mod from_readers;
 #[cfg(test)]
 mod lines;
+#[cfg(test)]
+mod members;
+#[cfg(test)]
+mod type_lines;
 pub mod user_type;
 #[cfg(test)]
 mod wire;

@@ -10,10 +10,11 @@ pub mod codec {
     };
     pub use amqp_codec::{
         ByteSource, Canonical, Decoder, Descriptor, Deserialize, DeserializeTerm, Encoder, Error,
-        Serialize, SerializeTerm, Symbol, kernel,
+        MapKey, Serialize, SerializeTerm, Symbol, kernel,
     };
     pub use amqp_containers::{Array, TransparentVec};
     pub use amqp_described::Described;
+    pub use amqp_maps::OrderedMap;
     pub use amqp_primitives::{Binary, ByteBuf, Dec32, Dec64, Dec128, SymbolRef, Timestamp, Uuid};
 }
 
@@ -22,6 +23,7 @@ pub mod primitives {
     pub use amqp_codec::{Descriptor, Symbol};
     pub use amqp_containers::{Array, TransparentVec};
     pub use amqp_described::Described;
+    pub use amqp_maps::OrderedMap;
     pub use amqp_primitives::{Binary, ByteBuf, Dec32, Dec64, Dec128, SymbolRef, Timestamp, Uuid};
 
     pub type Boolean = bool;
@@ -64,7 +66,9 @@ pub mod messaging {
 /// The types of the security layer (Part 5).
 pub mod sasl {
     pub use amqp_definitions::SaslCode;
-    pub use amqp_sasl::{ANONYMOUS, SaslChallenge, SaslInit, SaslOutcome, SaslResponse};
+    pub use amqp_sasl::{
+        ANONYMOUS, SaslChallenge, SaslInit, SaslMechanisms, SaslOutcome, SaslResponse,
+    };
 
     /// Its version.
     pub mod constant {

@@ -1,0 +1,52 @@
+//! Values that are read and written again while memory is refused. Each growth is refused in turn by hand:
+//! `rt try --test --fail-alloc N`, for N from 1 on.
+use amqp_calls::{from_slice, to_vec};
+use amqp_codec::{Deserialize, Error, Serialize};
+use amqp_containers::Array;
+use amqp_described::Described;
+use std::alloc::Global;
+use std::test::Fail;
+
+fn written_again<T: Deserialize + Serialize>(
+    input: &[u8],
+    alloc: Global,
+) -> Result<Vec<u8>, Error> {
+    let value: T = from_slice(input, alloc)?;
+    to_vec(&value, alloc)
+}
+
+// Where a growth is refused, that is the error; and the next time, when none is, the text is the canonical one.
+fn check_growth<T: Deserialize + Serialize>(
+    input: &[u8],
+    wanted: &[u8],
+    alloc: Global,
+) -> Result<(), Fail> {
+    let text = match written_again::<T>(input, alloc) {
+        Err(Error::Memory) => written_again::<T>(input, alloc)?,
+        first => first?,
+    };
+    if text.as_slice() != wanted {
+        return Err(Fail::new(format_args!("{input:?} is written otherwise")));
+    }
+    Ok(())
+}
+
+#[test]
+fn array_of_described_values(rt: HostRuntime) -> Result<(), Fail> {
+    check_growth::<Array<Described<u32>>>(
+        &[0xe0, 0x08, 0x02, 0x00, 0xa3, 0x01, 0x61, 0x52, 0x07, 0x08],
+        &[
+            0xe0, 0x0e, 0x02, 0x00, 0xa3, 0x01, 0x61, 0x70, 0, 0, 0, 7, 0, 0, 0, 8,
+        ],
+        rt.alloc(),
+    )
+}
+
+#[test]
+fn list_of_strings(rt: HostRuntime) -> Result<(), Fail> {
+    check_growth::<Vec<String>>(
+        &[0xc0, 0x0a, 0x02, 0xa1, 0x01, 0x61, 0xb1, 0, 0, 0, 1, 0x62],
+        &[0xc0, 0x07, 0x02, 0xa1, 0x01, 0x61, 0xa1, 0x01, 0x62],
+        rt.alloc(),
+    )
+}
