@@ -1,1 +1,1 @@
-mod DescribedReads
+pub mod DescribedReads

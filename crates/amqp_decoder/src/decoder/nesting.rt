@@ -16,9 +16,10 @@ use amqp_lengths::NESTING;
 use amqp_wire::{ByteSource, Error};
 
 impl<R: ByteSource> Decoder<R> {
-    // No more containers are open than may be nested, which is 128 deep.
+    /// Promises that no more containers and described values are open than may be nested, which is 128 deep, but where
+    /// nothing is left in the innermost, or it is an array of primitives.
     #[inline]
-    pub(crate) fn room(&self)
+    pub fn room(&self)
         ensures room { HasRoom self.now }
         ensures limit { self.now.nesting ≡ 128 }
     {

@@ -1,0 +1,177 @@
+use Rattle.std.proofs.Common.{sym, arith, refl, ◌∙◌}
+use Rattle.std.specs.List.{flat_map}
+use Rattle.std.proofs.lemmas.Result.{err_from_is_err_and}
+use Rattle.amqp_model.specs.Term.{list, map, array}
+use Rattle.amqp_input.specs.Members.{descriptor_of}
+use Rattle.amqp_codec.proofs.Joining.{no_terms, container_wraps, described_wraps, open_refused, inner_refused, all_written}
+use Rattle.amqp_codec.proofs.Joining.{terms_join, terms_cut}
+use Rattle.amqp_values.proofs.ValuesWritten.{open_map, shut_map, barred_written, as_read}
+use Rattle.amqp_codec.proofs.EachWritten.{next_written, next_refused, all_written_so}
+use Rattle.amqp_values.specs.Values.{pairs_of}
+use Rattle.amqp_values.specs.Canon.{value_canon, value_canons, pair_canon, list_canon, array_canon, described_canon}
+use Rattle.amqp_values.proofs.written.+writing.Goals as goal
+
+pub write_value-returns-in_err-begin_list-in-List : goal.write_value-returns-in_err-begin_list-in-List
+write_value-returns-in_err-begin_list-in-List t c =
+    rw (c.in-List.is, list_canon c.in-List.values)
+    (open_refused (container_wraps list (flat_map value_canons c.in-List.values.items)) _ _ _ _ _ c.in_err-begin_list-in-List.was
+    (err_from_is_err_and c.from_residual-in_err-begin_list-in-List.result c.from_residual-in_err-begin_list-in-List.ensures.1)
+    c.begin_list.ensures)
+
+pub write_value-returns-in_err-write_values-in-List : goal.write_value-returns-in_err-write_values-in-List
+write_value-returns-in_err-write_values-in-List t c =
+    rw (c.in-List.is, list_canon c.in-List.values)
+    (inner_refused (container_wraps list (flat_map value_canons c.in-List.values.items)) _ _ _ _ _ _ _
+    c.in_ok-begin_list-in-List.was c.in_err-write_values-in-List.was
+    (err_from_is_err_and c.from_residual-in_err-write_values-in-List.result c.from_residual-in_err-write_values-in-List.ensures.1)
+    c.begin_list.ensures (rw c.as_slice-in-List.ensures.value at c.write_values.ensures))
+
+pub write_value-returns-in_ok-write_values-in-List : goal.write_value-returns-in_ok-write_values-in-List
+write_value-returns-in_ok-write_values-in-List t c =
+    rw (c.in-List.is, list_canon c.in-List.values)
+    (all_written (container_wraps list (flat_map value_canons c.in-List.values.items)) _ _ _ _ _ _ _
+    c.in_ok-begin_list-in-List.was c.in_ok-write_values-in-List.was c.begin_list.ensures
+    (rw c.as_slice-in-List.ensures.value at c.write_values.ensures) c.end_list.ensures)
+
+pub write_value-returns-in_err-begin_array-in-Array : goal.write_value-returns-in_err-begin_array-in-Array
+write_value-returns-in_err-begin_array-in-Array t c =
+    rw (c.in-Array.is, array_canon c.in-Array.values)
+    (open_refused (container_wraps array (flat_map value_canons c.in-Array.values.0.items)) _ _ _ _ _ c.in_err-begin_array-in-Array.was
+    (err_from_is_err_and c.from_residual-in_err-begin_array-in-Array.result c.from_residual-in_err-begin_array-in-Array.ensures.1)
+    c.begin_array.ensures)
+
+pub write_value-returns-in_err-write_values-in-Array : goal.write_value-returns-in_err-write_values-in-Array
+write_value-returns-in_err-write_values-in-Array t c =
+    rw (c.in-Array.is, array_canon c.in-Array.values)
+    (inner_refused (container_wraps array (flat_map value_canons c.in-Array.values.0.items)) _ _ _ _ _ _ _
+    c.in_ok-begin_array-in-Array.was c.in_err-write_values-in-Array.was
+    (err_from_is_err_and c.from_residual-in_err-write_values-in-Array.result c.from_residual-in_err-write_values-in-Array.ensures.1)
+    c.begin_array.ensures (rw c.as_slice-in-Array.ensures.value at c.write_values-in-Array.ensures))
+
+pub write_value-returns-in_ok-write_values-in-Array : goal.write_value-returns-in_ok-write_values-in-Array
+write_value-returns-in_ok-write_values-in-Array t c =
+    rw (c.in-Array.is, array_canon c.in-Array.values)
+    (all_written (container_wraps array (flat_map value_canons c.in-Array.values.0.items)) _ _ _ _ _ _ _
+    c.in_ok-begin_array-in-Array.was c.in_ok-write_values-in-Array.was c.begin_array.ensures
+    (rw c.as_slice-in-Array.ensures.value at c.write_values-in-Array.ensures) c.end_array.ensures)
+
+pub write_value-returns-in_err-begin_described-in-Described : goal.write_value-returns-in_err-begin_described-in-Described
+write_value-returns-in_err-begin_described-in-Described t c =
+    let v = c.in-Described.value.value in
+    rw (c.in-Described.is, described_canon c.in-Described.value)
+    (open_refused (described_wraps (descriptor_of v.descriptor) (value_canon v.value)) _ _ _ _ _
+    c.in_err-begin_described-in-Described.was (err_from_is_err_and c.from_residual.result c.from_residual.ensures.1)
+    (rw (as_read v.descriptor) at (rw c.deref.ensures at c.begin_described.ensures)))
+
+pub write_value-returns-in_err-write_value-in-Described : goal.write_value-returns-in_err-write_value-in-Described
+write_value-returns-in_err-write_value-in-Described t c =
+    let v = c.in-Described.value.value in
+    rw (c.in-Described.is, described_canon c.in-Described.value)
+    (inner_refused (described_wraps (descriptor_of v.descriptor) (value_canon v.value)) _ _ _ _ _ _ _
+    c.in_ok-begin_described-in-Described.was c.in_err-write_value-in-Described.was
+    (err_from_is_err_and c.from_residual-in_err-write_value-in-Described.result c.from_residual-in_err-write_value-in-Described.ensures.1)
+    (rw (as_read v.descriptor) at (rw c.deref.ensures at c.begin_described.ensures))
+    (rw c.deref-in-Described.ensures at c.write_value.ensures))
+
+pub write_value-returns-in_ok-write_value-in-Described : goal.write_value-returns-in_ok-write_value-in-Described
+write_value-returns-in_ok-write_value-in-Described t c =
+    let v = c.in-Described.value.value in
+    rw (c.in-Described.is, described_canon c.in-Described.value)
+    (all_written (described_wraps (descriptor_of v.descriptor) (value_canon v.value)) _ _ _ _ _ _ _
+    c.in_ok-begin_described-in-Described.was c.in_ok-write_value-in-Described.was
+    (rw (as_read v.descriptor) at (rw c.deref.ensures at c.begin_described.ensures))
+    (rw c.deref-in-Described.ensures at c.write_value.ensures) c.end_described.ensures)
+
+pub write_values-loop-index-init : goal.write_values-loop-index-init
+write_values-loop-index-init t c = no_terms _ _ (sym c.requires.going)
+
+pub write_values-returns-in_err-write_value : goal.write_values-returns-in_err-write_value
+write_values-returns-in_err-write_value t c =
+    next_refused value_canons c.args.values.now c.loop-index.index _ _ _ _ _ _ _ c.loop-index-test.true c.index-values-index.is
+    c.in_err-write_value.was (err_from_is_err_and c.from_residual.result c.from_residual.ensures.1) c.loop-index.invariant
+    c.write_value.ensures
+
+pub write_values-loop-index-preserved : goal.write_values-loop-index-preserved
+write_values-loop-index-preserved t c =
+    next_written value_canons c.args.values.now c.loop-index.index _ _ _ _ _ c.loop-index-test.true c.index-values-index.is
+    c.in_ok-write_value.was c.loop-index.invariant c.write_value.ensures
+
+pub write_values-returns : goal.write_values-returns
+write_values-returns t c =
+    all_written_so value_canons c.args.values.now c.loop-index.index _ _ (omega (arith, c.loop-index-test.false)) c.loop-index.invariant
+
+pub write_pairs-loop-index-init : goal.write_pairs-loop-index-init
+write_pairs-loop-index-init t c = no_terms _ _ (sym c.requires.going)
+
+pub write_pairs-returns-in_err-write_value : goal.write_pairs-returns-in_err-write_value
+write_pairs-returns-in_err-write_value t c =
+    let p = c.index-pairs-index.result in
+    next_refused pair_canon c.args.pairs.now c.loop-index.index _ _ _ _ _ _ _ c.loop-index-test.true c.index-pairs-index.is
+    c.in_err-write_value.was (err_from_is_err_and c.from_residual.result c.from_residual.ensures.1) c.loop-index.invariant
+    (terms_cut (value_canons p.0) (value_canons p.1) _ _ _ _ _ c.in_err-write_value.was (_, c.in_err-write_value.was, refl)
+    c.write_value.ensures)
+
+pub write_pairs-returns-in_err-write_value-2 : goal.write_pairs-returns-in_err-write_value-2
+write_pairs-returns-in_err-write_value-2 t c =
+    let p = c.index-pairs-index.result in
+    next_refused pair_canon c.args.pairs.now c.loop-index.index _ _ _ _ _ _ _ c.loop-index-test.true c.index-pairs-index.is
+    c.in_err-write_value-2.was
+    (err_from_is_err_and c.from_residual-in_err-write_value-2.result c.from_residual-in_err-write_value-2.ensures.1)
+    c.loop-index.invariant
+    (terms_join (value_canons p.0) (value_canons p.1) _ _ _ _ _ c.in_ok-write_value.was c.write_value.ensures
+    c.write_value-in-loop-index.ensures)
+
+pub write_pairs-loop-index-preserved : goal.write_pairs-loop-index-preserved
+write_pairs-loop-index-preserved t c =
+    let p = c.index-pairs-index.result in
+    next_written pair_canon c.args.pairs.now c.loop-index.index _ _ _ _ _ c.loop-index-test.true c.index-pairs-index.is
+    c.in_ok-write_value-2.was c.loop-index.invariant
+    (terms_join (value_canons p.0) (value_canons p.1) _ _ _ _ _ c.in_ok-write_value.was c.write_value.ensures
+    c.write_value-in-loop-index.ensures)
+
+pub write_pairs-returns : goal.write_pairs-returns
+write_pairs-returns t c =
+    all_written_so pair_canon c.args.pairs.now c.loop-index.index _ _ (omega (arith, c.loop-index-test.false)) c.loop-index.invariant
+
+pub write_value-returns-then-has_equal_keys : goal.write_value-returns-then-has_equal_keys
+write_value-returns-then-has_equal_keys t c =
+    rw (
+      c.in-Map.is,
+      shut_map c.in-Map.map (sym (rw c.as_slice-in-Map.ensures.value at c.has_equal_keys.ensures)
+          ∙ c.if-has_equal_keys.true),
+    )
+    (barred_written _ _ _ c.refuse.ensures)
+
+pub write_value-returns-in_err-begin_map-in-Map : goal.write_value-returns-in_err-begin_map-in-Map
+write_value-returns-in_err-begin_map-in-Map t c =
+    rw (
+      c.in-Map.is,
+      open_map c.in-Map.map (sym (rw c.as_slice-in-Map.ensures.value at c.has_equal_keys.ensures)
+          ∙ c.if-has_equal_keys.false),
+    )
+    (open_refused (container_wraps map (flat_map pair_canon (pairs_of c.in-Map.map))) _ _ _ _ _ c.in_err-begin_map-in-Map.was
+    (err_from_is_err_and c.from_residual-in_err-begin_map-in-Map.result c.from_residual-in_err-begin_map-in-Map.ensures.1)
+    c.begin_map.ensures)
+
+pub write_value-returns-in_err-write_pairs-in-Map : goal.write_value-returns-in_err-write_pairs-in-Map
+write_value-returns-in_err-write_pairs-in-Map t c =
+    rw (
+      c.in-Map.is,
+      open_map c.in-Map.map (sym (rw c.as_slice-in-Map.ensures.value at c.has_equal_keys.ensures)
+          ∙ c.if-has_equal_keys.false),
+    )
+    (inner_refused (container_wraps map (flat_map pair_canon (pairs_of c.in-Map.map))) _ _ _ _ _ _ _
+    c.in_ok-begin_map-in-Map.was c.in_err-write_pairs-in-Map.was
+    (err_from_is_err_and c.from_residual-in_err-write_pairs-in-Map.result c.from_residual-in_err-write_pairs-in-Map.ensures.1)
+    c.begin_map.ensures (rw c.as_slice-in-Map-2.ensures.value at c.write_pairs.ensures))
+
+pub write_value-returns-in_ok-write_pairs-in-Map : goal.write_value-returns-in_ok-write_pairs-in-Map
+write_value-returns-in_ok-write_pairs-in-Map t c =
+    rw (
+      c.in-Map.is,
+      open_map c.in-Map.map (sym (rw c.as_slice-in-Map.ensures.value at c.has_equal_keys.ensures)
+          ∙ c.if-has_equal_keys.false),
+    )
+    (all_written (container_wraps map (flat_map pair_canon (pairs_of c.in-Map.map))) _ _ _ _ _ _ _
+    c.in_ok-begin_map-in-Map.was c.in_ok-write_pairs-in-Map.was c.begin_map.ensures
+    (rw c.as_slice-in-Map-2.ensures.value at c.write_pairs.ensures) c.end_map.ensures)

@@ -1,0 +1,64 @@
+-- What a value of any kind is written as (Part 1, section 1.6): its term, in which a map with equal keys is refused.
+use Rattle.std.proofs.Common.{◌≡◌, List, [], ◌∷◌, map as map_list, cond, refl, ap, ◌∙◌, sym, Global, Vec}
+use Rattle.std.specs.List.{flat_map}
+use Rattle.std.proofs.lemmas.List.Concat.{flat_map-cons}
+use Rattle.std.specs.declared.boxed.Box.{Box}
+use Rattle.amqp_model.specs.Term.{duplicate_key, list, map, array, Term, container, described, barred, more}
+use Rattle.amqp_model.specs.Items.{terms_of}
+use Rattle.amqp_model.specs.Ranges.{Everywhere, IsValue}
+use Rattle.amqp_input.specs.Members.{descriptor_of}
+use Rattle.amqp_codec.specs.EqualKeys.{barred_maps, all_barred_maps, has_equal_keys, maps_plain, maps_valued}
+use Rattle.amqp_codec.specs.Agreement.{plain_proper}
+use Rattle.amqp_codec.specs.Written.{AreProper, Writing}
+use Rattle.amqp_containers.specs.declared.array.Array.{Array}
+use Rattle.amqp_described.specs.declared.described.Described.{Described}
+use Rattle.amqp_values.specs.declared.map.ValueMap.{ValueMap}
+use Rattle.amqp_values.specs.declared.value.Value.{Value, List as ListOf, Map as MapOf, Array as ArrayOf, Described as DescribedOf}
+use Rattle.amqp_values.specs.Equality.{turn_terms}
+use Rattle.amqp_values.specs.Values.{value_term, pairs_of, list_is, array_is, described_is, map_is, values_are_trees}
+
+-- The canonical term of a value.
+abbrev pub value_canon : Value → Term
+value_canon v = barred_maps (value_term v)
+
+abbrev pub value_canons : Value → List Term
+value_canons v = value_canon v ∷ []
+
+-- The canonical terms of a key and its value.
+abbrev pub pair_canon : Value × Value → List Term
+pair_canon p = value_canon p.0 ∷ value_canon p.1 ∷ []
+
+each_barred : (vs : List Value) → all_barred_maps (terms_of (map_list value_term vs)) ≡ terms_of (flat_map value_canons vs)
+each_barred [] = refl
+each_barred (v ∷ vs) = ap (more (value_canon v)) (each_barred vs) ∙ ap terms_of (sym (flat_map-cons value_canons v vs))
+
+turns_barred : (ps : List (Value × Value)) → all_barred_maps (turn_terms ps) ≡ terms_of (flat_map pair_canon ps)
+turns_barred [] = refl
+turns_barred (p ∷ ps) =
+    ap (λ ts. more (value_canon p.0) (more (value_canon p.1) ts)) (turns_barred ps)
+    ∙ ap terms_of (sym (flat_map-cons pair_canon p ps))
+
+pub list_canon : (v : Vec Value Global) → value_canon (ListOf v) ≡ container list (terms_of (flat_map value_canons v.items))
+list_canon v = ap barred_maps (list_is v) ∙ ap (container list) (each_barred v.items)
+
+pub array_canon : (v : Array Value) → value_canon (ArrayOf v) ≡ container array (terms_of (flat_map value_canons v.0.items))
+array_canon v = ap barred_maps (array_is v) ∙ ap (container array) (each_barred v.0.items)
+
+pub described_canon : (v : Box (Described Value) Global)
+    → value_canon (DescribedOf v) ≡ described (descriptor_of v.value.descriptor) (value_canon v.value.value)
+described_canon v = ap barred_maps (described_is v)
+
+pub map_canon : (m : ValueMap)
+    → value_canon (MapOf m)
+    ≡ cond (has_equal_keys (turn_terms (pairs_of m))) (barred duplicate_key) (container map (terms_of (flat_map pair_canon (pairs_of m))))
+map_canon m =
+    ap barred_maps (map_is m)
+    ∙ ap (λ ts. cond (has_equal_keys (turn_terms (pairs_of m))) (barred duplicate_key) (container map ts)) (turns_barred (pairs_of m))
+
+pub value_proper : (v : Value) → Everywhere IsValue (value_term v) → AreProper (value_canon v ∷ [])
+value_proper v i =
+    (plain_proper (value_canon v) (maps_plain (value_term v) (values_are_trees v)) (maps_valued (value_term v) i), tt)
+
+-- How a value is written.
+abbrev pub value_writing : Writing Value
+value_writing = record { canons = value_canons; is_value = λ v. Everywhere IsValue (value_term v); proper = value_proper }

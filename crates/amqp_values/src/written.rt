@@ -1,0 +1,88 @@
+//! How values of any kind are written: as their kind is, and those that hold others with what stands in them.
+ghost use Rattle.std.specs.Prelude.{◌≡◌, Ok, refl};
+ghost use Rattle.std.specs.List.{flat_map};
+ghost use Rattle.amqp_encoder.specs.Passes.{answer_of};
+ghost use Rattle.amqp_codec.specs.Written.{WritesTerms};
+ghost use Rattle.amqp_values.specs.Canon.{value_canons, pair_canon};
+
+use crate::Value;
+use crate::keys::has_equal_keys;
+use amqp_encoder::Encoder;
+use amqp_wire::Error;
+
+// Writes a value. A map with equal keys is refused by `DuplicateKey`.
+#[cycle(writing)]
+pub(crate) fn write_value(value: &Value, encoder: &mut Encoder) -> Result<(), Error>
+    ensures { WritesTerms (value_canons value.now) encoder.old result encoder.new }
+{
+    match value {
+        Value::Null => encoder.write_null(),
+        Value::Bool(value) => encoder.write_bool(*value),
+        Value::Ubyte(value) => encoder.write_ubyte(*value),
+        Value::Ushort(value) => encoder.write_ushort(*value),
+        Value::Uint(value) => encoder.write_uint(*value),
+        Value::Ulong(value) => encoder.write_ulong(*value),
+        Value::Byte(value) => encoder.write_byte(*value),
+        Value::Short(value) => encoder.write_short(*value),
+        Value::Int(value) => encoder.write_int(*value),
+        Value::Long(value) => encoder.write_long(*value),
+        Value::Decimal32(value) => encoder.write_dec32(value.0),
+        Value::Decimal64(value) => encoder.write_dec64(value.0),
+        Value::Decimal128(value) => encoder.write_dec128(value.0),
+        Value::Char(value) => encoder.write_char(*value),
+        Value::Timestamp(value) => encoder.write_timestamp(value.0),
+        Value::Uuid(value) => encoder.write_uuid(value.0),
+        Value::Binary(value) => encoder.write_binary(value.as_slice()),
+        Value::String(value) => encoder.write_string(value.as_str()),
+        Value::Symbol(value) => encoder.write_symbol(value.as_str()),
+        Value::Described(value) => {
+            encoder.begin_described(&value.descriptor)?;
+            write_value(&value.value, encoder)?;
+            encoder.end_described()
+        }
+        Value::List(values) => {
+            encoder.begin_list()?;
+            write_values(values.as_slice(), encoder)?;
+            encoder.end_list()
+        }
+        Value::Map(map) => {
+            if has_equal_keys(map.0.as_slice()) {
+                return encoder.refuse(Error::DuplicateKey);
+            }
+            encoder.begin_map()?;
+            write_pairs(map.0.as_slice(), encoder)?;
+            encoder.end_map()
+        }
+        Value::Array(values) => {
+            encoder.begin_array()?;
+            write_values(values.0.as_slice(), encoder)?;
+            encoder.end_array()
+        }
+    }
+}
+
+// Writes values one after another, to an encoder that has refused nothing.
+#[cycle(writing)]
+fn write_values(values: &[Value], encoder: &mut Encoder) -> Result<(), Error>
+    requires going { answer_of encoder.now ≡ Ok tt }
+    ensures { WritesTerms (flat_map value_canons values.now) encoder.old result encoder.new }
+{
+    for index in 0..values.len() {
+        write_value(&values[index], encoder)?;
+    }
+    Ok(())
+}
+
+// Writes keys and values in turn, to an encoder that has refused nothing.
+#[cycle(writing)]
+fn write_pairs(pairs: &[(Value, Value)], encoder: &mut Encoder) -> Result<(), Error>
+    requires going { answer_of encoder.now ≡ Ok tt }
+    ensures { WritesTerms (flat_map pair_canon pairs.now) encoder.old result encoder.new }
+{
+    for index in 0..pairs.len() {
+        let pair = &pairs[index];
+        write_value(&pair.0, encoder)?;
+        write_value(&pair.1, encoder)?;
+    }
+    Ok(())
+}
