@@ -85,17 +85,23 @@ module _ {K V : Type 0} (key : TermType K) (value : TermType V) where
         let y = value_same key.means mid x.after after x.pair.0 k x.at_key r in
         none x.pair.1 x.behind (subst (λ (z : State). ReadsValue value.means z x.pair.1 x.behind) y.4 x.at_value))) refused
 
-    -- or memory for the pair was wanted
-    pub no_room : (st : State) (ps : List (K × V)) (mid : State) (k : K) (after : State) (v : V) (last : State) (e : Error) (new : State)
-        → Pairs key value st ps mid → ReadsValue key.means mid k after → ReadsValue value.means after v last → e ≡ Memory
-        → Answers last e new → RefusesRead true row row_fault st e new
-    no_room st ps mid k after v last e new h r q is kept = record {
-      kept = answered_later
-          (ap (λ (x : State). x.failed) q.moved ∙ ap (λ (x : State). x.failed) r.moved ∙ (pairs_still key value st ps mid h).1) kept;
+    -- or memory for a pair of the key was wanted, before its value was read
+    pub no_place : (st : State) (ps : List (K × V)) (mid : State) (k : K) (after : State) (e : Error) (new : State)
+        → Pairs key value st ps mid → ReadsValue key.means mid k after → e ≡ Memory → Answers after e new
+        → RefusesRead true row row_fault st e new
+    no_place st ps mid k after e new h r is kept = record {
+      kept = answered_later (ap (λ (x : State). x.failed) r.moved ∙ (pairs_still key value st ps mid h).1) kept;
       again = λ d x. absurd (let going = was_going st ps mid h r.stands.going in cc);
       named = λ _. inl (inl (refl, is));
       none = inl (inl (refl, is));
     }
+
+    -- or behind it
+    pub no_room : (st : State) (ps : List (K × V)) (mid : State) (k : K) (after : State) (v : V) (last : State) (e : Error) (new : State)
+        → Pairs key value st ps mid → ReadsValue key.means mid k after → ReadsValue value.means after v last → e ≡ Memory
+        → Answers last e new → RefusesRead true row row_fault st e new
+    no_room st ps mid k after v last e new h r q is kept =
+        no_place st ps mid k after e new h r is (answered_later (ap (λ (x : State). x.failed) q.moved) kept)
 
   -- a whole map
   abbrev Meant : Standing → Term → List (K × V) → Type 0

@@ -1,6 +1,5 @@
 -- What a map finds by the equality of keys, said by the sameness of their type.
-use Rattle.std.proofs.Common.{◌≡◌, Bool, true, false, Option, Some, None, is_some, List, [], ◌∷◌, Bor, sym}
-use Rattle.std.specs.Option.{option_copied}
+use Rattle.std.proofs.Common.{◌≡◌, ◌∙◌, Bool, true, false, Option, Some, None, is_some, List, [], ◌∷◌, refl, sym, ap}
 use Rattle.std.specs.Map.{lookup}
 use Rattle.std.proofs.lemmas.Map.{NonePasses, lookup-none, none_passes_from_lookup}
 use Rattle.amqp_model.specs.ItemLaws.{clash}
@@ -9,15 +8,9 @@ use Rattle.amqp_codec.specs.ItemsType.{by_test}
 use Rattle.amqp_codec.specs.Keys.{IsKey}
 use Rattle.amqp_codec.specs.Pairs.{IsNew}
 
--- whether there is a value is whether one was found
-nothing_found : {V : Type 0} (o : Option (Bor V)) (b : Bool) (l : Option V) → b ≡ false → b ≡ is_some o → option_copied o ≡ l → l ≡ None
-nothing_found None b l f e h = sym h
-nothing_found (Some v) b l f e h = absurd (clash e f)
-
-something_found : {V : Type 0} (o : Option (Bor V)) (b : Bool) (l : Option V) → b ≡ true → b ≡ is_some o → option_copied o ≡ l
-    → l ≡ None → ⊥
-something_found None b l t e h n = clash t e
-something_found (Some v) b l t e h n = absurd (cc)
+none_there : {V : Type 0} (o : Option V) → is_some o ≡ false → o ≡ None
+none_there None e = refl
+none_there (Some v) e = absurd (clash refl e)
 
 module _ {K : Type 0} {u : TermType K} {eq : K → K → Bool} (key : IsKey u eq) {V : Type 0} where
   others_new : (k : K) (ps : List (K × V)) → NonePasses (eq k) ps → IsNew u.same k ps
@@ -35,11 +28,9 @@ module _ {K : Type 0} {u : TermType K} {eq : K → K → Bool} (key : IsKey u eq
   pub new_unfound : (k : K) (ps : List (K × V)) → IsNew u.same k ps → lookup (eq k) ps ≡ None
   new_unfound k ps h = lookup-none (eq k) ps (new_others k ps h)
 
-  pub unfound_new : (o : Option (Bor V)) (b : Bool) (k : K) (ps : List (K × V)) → b ≡ false → b ≡ is_some o
-      → option_copied o ≡ lookup (eq k) ps → IsNew u.same k ps
-  unfound_new o b k ps f e h =
-      others_new k ps (none_passes_from_lookup (eq k) ps (nothing_found o b (lookup (eq k) ps) f e h))
+  -- b: whether it is found
+  pub unfound_new : (b : Bool) (k : K) (ps : List (K × V)) → b ≡ false → b ≡ is_some (lookup (eq k) ps) → IsNew u.same k ps
+  unfound_new b k ps f e = others_new k ps (none_passes_from_lookup (eq k) ps (none_there (lookup (eq k) ps) (sym e ∙ f)))
 
-  pub found_known : (o : Option (Bor V)) (b : Bool) (k : K) (ps : List (K × V)) → b ≡ true → b ≡ is_some o
-      → option_copied o ≡ lookup (eq k) ps → IsNew u.same k ps → ⊥
-  found_known o b k ps t e h new = something_found o b (lookup (eq k) ps) t e h (new_unfound k ps new)
+  pub found_known : (b : Bool) (k : K) (ps : List (K × V)) → b ≡ true → b ≡ is_some (lookup (eq k) ps) → IsNew u.same k ps → ⊥
+  found_known b k ps t e new = clash t (e ∙ ap is_some (new_unfound k ps new))

@@ -1,5 +1,6 @@
 //! `BTreeMap` as a map (Part 1, section 1.6.23): it is written in the order of its keys, and read from pairs in any order.
-ghost use Rattle.std.specs.Prelude.{◌≡◌, true, Ok, refl};
+ghost use Rattle.std.specs.Prelude.{◌≡◌, true, Ok, refl, is_some};
+ghost use Rattle.std.specs.BTreeMap.{get};
 ghost use Rattle.std.specs.List.Sorted.{IsStrictlySortedBy};
 ghost use Rattle.amqp_wire.specs.Sources.{Tells};
 ghost use Rattle.amqp_decoder.specs.Reading.{AnswersRead};
@@ -12,7 +13,7 @@ ghost use Rattle.amqp_codec.specs.Written.{WritesTerms};
 ghost use Rattle.amqp_codec.specs.BTreeMapType.{btree_map_of};
 ghost use Rattle.amqp_codec.specs.BTreeMaps.{ReadsInOrder, btree_map_agreement};
 
-use crate::kernel::write_pair;
+use crate::kernel::{pair_in_type, write_pair};
 use crate::{DeserializeTerm, MapKey, Serialize, SerializeTerm};
 use amqp_decoder::Decoder;
 use amqp_encoder::Encoder;
@@ -39,8 +40,7 @@ fn entries_in_type<K: SerializeTerm + Ord, V: SerializeTerm>(entries: &BTreeMap<
     ensures { OfPairs K.writing.is_value V.writing.is_value entries.now.entries }
 {
     for (key, value) in entries {
-        key.in_type();
-        value.in_type();
+        pair_in_type(key, value);
     }
 }
 
@@ -67,6 +67,13 @@ impl<K: SerializeTerm + Ord, V: SerializeTerm> SerializeTerm for BTreeMap<K, V> 
     ghost is_term = { λ m. refl };
 }
 
+// Whether a key is equal to one of the map's.
+fn is_known<K: Ord, V>(map: &BTreeMap<K, V>, key: &K) -> bool
+    ensures { result ≡ is_some (get K.cmp map.now key.now) }
+{
+    map.contains_key(key)
+}
+
 // Reads so many pairs, in whatever order they stand. The count reserves nothing: memory is taken as pairs come, and `Memory`
 // is answered where that is refused. A key that is equal to one before it is `DuplicateKey`, before its value is read. Any
 // other error is of the first key or value that can't be read.
@@ -81,7 +88,7 @@ fn read_in_order<K: MapKey + Ord, V: DeserializeTerm, R: ByteSource>(
     let mut map = BTreeMap::new(alloc);
     for _ in 0..count {
         let key = K::read_value(decoder, alloc)?;
-        if map.get(&key).is_some() {
+        if is_known(&map, &key) {
             return Err(decoder.refuse(Error::DuplicateKey));
         }
         let value = V::read_value(decoder, alloc)?;

@@ -5,4 +5,4 @@ pub use crate::fields::{
     FieldKind, FieldList, read_fields, read_into, read_list, read_some, write_list,
 };
 pub use crate::lists::{each_in_type, read_each, write_each};
-pub use crate::maps::write_pair;
+pub use crate::maps::{pair_in_type, write_pair};

@@ -1,4 +1,4 @@
-//! What the writers of maps share (Part 1, section 1.6.23): a key and its value.
+//! What maps share in writing (Part 1, section 1.6.23): a key and its value.
 ghost use Rattle.std.specs.Prelude.{[], ◌∷◌};
 ghost use Rattle.amqp_codec.specs.Written.{WritesTerms, canon_of};
 
@@ -16,4 +16,13 @@ pub fn write_pair<K: SerializeTerm, V: SerializeTerm>(
 {
     key.serialize(encoder)?;
     value.serialize(encoder)
+}
+
+/// Promises that a key and its value are of their types. Takes no memory.
+pub fn pair_in_type<K: SerializeTerm, V: SerializeTerm>(key: &K, value: &V)
+    ensures key { K.writing.is_value key.now }
+    ensures value { V.writing.is_value value.now }
+{
+    key.in_type();
+    value.in_type();
 }

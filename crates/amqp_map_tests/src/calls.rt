@@ -77,11 +77,12 @@ fn symbols_are_keys(rt: HostRuntime) -> Result<(), Fail> {
     Ok(())
 }
 
-// Each growth is refused in turn by hand: `rt try --test --fail-alloc N`, for N from 1 on.
+// Twenty keys take three growths, of four allocations each. Each is refused in turn by hand: `rt try --test --fail-alloc N`, for N from 1
+// to 12.
 #[test]
 fn refused_growth(rt: HostRuntime) -> Result<(), Fail> {
     let mut map = OrderedMap::new(rt.alloc());
-    for key in 0..9u32 {
+    for key in 0..20u32 {
         let was = map.len();
         match map.insert(key, key) {
             Ok(old) => assert_eq!(rt; old, None),

@@ -3,5 +3,6 @@
 
 #[cfg(test)]
 mod calls;
+pub mod port;
 #[cfg(test)]
 mod rows;

@@ -1,4 +1,5 @@
 //! Inputs of maps, and the canonical text of each, or why it is refused.
+use crate::port::Port;
 use amqp_calls::{canonical_text, from_slice};
 use amqp_codec::{Canonical, Error, MapKey, Symbol};
 use amqp_maps::OrderedMap;
@@ -105,6 +106,14 @@ fn maps(rt: HostRuntime) -> Result<(), Fail> {
         None
     );
     assert_eq!(rt;
+        first_wrong::<OrderedMap<Port, bool>>(&BOOLEANS_BY_UINTS, alloc)?,
+        None
+    );
+    assert_eq!(rt;
+        first_wrong::<OrderedMap<Port, bool>>(&REFUSED_BOOLEANS_BY_UINTS, alloc)?,
+        None
+    );
+    assert_eq!(rt;
         first_wrong::<OrderedMap<u32, OrderedMap<u32, bool>>>(&MAPS_BY_UINTS, alloc)?,
         None
     );
@@ -183,37 +192,36 @@ fn keys_of_each_type(rt: HostRuntime) -> Result<(), Fail> {
     Ok(())
 }
 
-// Each growth is refused in turn by hand: `rt try --test --fail-alloc N`, for N from 1 on.
-#[test]
-fn want_of_memory_is_named(rt: HostRuntime) {
-    let input = &[0xc1, 0x06, 0x02, 0xa1, 0x01, 0x61, 0x52, 0x01];
-    let read: Result<OrderedMap<String, u32>, Error> = from_slice(input, rt.alloc());
-    match read {
-        Ok(map) => assert_eq!(rt; map.values().next(), Some(&1)),
-        Err(error) => assert_eq!(rt; error, Error::Memory),
-    }
-    match canonical_text::<OrderedMap<String, u32>>(input, rt.alloc()) {
-        Ok((text, _)) => assert_eq!(rt; text.as_slice(), input.as_slice()),
-        Err(error) => assert_eq!(rt; error, Error::Memory),
-    }
+// Twelve pairs in the order of their keys, which take more growths than one of either map.
+const TWELVE: &str =
+    "c12518524041524141524241524341524441524541524641524741524841524941524a41524b41";
+
+// Whether the map is read, and written so, unless memory is wanted.
+fn is_rewritten_or_wants_memory<T: Canonical>(input: &[u8], wanted: &[u8], alloc: Global) -> bool {
+    let is_read = match from_slice::<T>(input, alloc) {
+        Ok(_) => true,
+        Err(error) => error == Error::Memory,
+    };
+    is_read
+        && match canonical_text::<T>(input, alloc) {
+            Ok((text, _)) => text.as_slice() == wanted,
+            Err(error) => error == Error::Memory,
+        }
 }
 
-// The same of a map in the order of its keys.
+// Each allocation is refused in turn by hand: `rt try --test --fail-alloc N`, for N from 1 to 39.
 #[test]
-fn want_of_memory_in_order_is_named(rt: HostRuntime) {
-    let input = &[0xc1, 0x06, 0x04, 0x52, 0x02, 0x41, 0x43, 0x42];
-    let wanted = &[0xc1, 0x06, 0x04, 0x43, 0x42, 0x52, 0x02, 0x41];
-    let read: Result<BTreeMap<u32, bool>, Error> = from_slice(input, rt.alloc());
-    match read {
-        Ok(map) => {
-            assert_eq!(rt; map.len(), 2);
-            assert_eq!(rt; map.get(&2), Some(&true));
-            assert_eq!(rt; map.get(&0), Some(&false));
-        }
-        Err(error) => assert_eq!(rt; error, Error::Memory),
-    }
-    match canonical_text::<BTreeMap<u32, bool>>(input, rt.alloc()) {
-        Ok((text, _)) => assert_eq!(rt; text.as_slice(), wanted.as_slice()),
-        Err(error) => assert_eq!(rt; error, Error::Memory),
-    }
+fn want_of_memory_is_named(rt: HostRuntime) -> Result<(), Fail> {
+    let alloc = rt.alloc();
+    let texts = &[0xc1, 0x06, 0x02, 0xa1, 0x01, 0x61, 0x52, 0x01];
+    assert!(rt; is_rewritten_or_wants_memory::<OrderedMap<String, u32>>(texts, texts, alloc));
+    let given = &[0xc1, 0x06, 0x04, 0x52, 0x02, 0x41, 0x43, 0x42];
+    let sorted = &[0xc1, 0x06, 0x04, 0x43, 0x42, 0x52, 0x02, 0x41];
+    assert!(rt; is_rewritten_or_wants_memory::<BTreeMap<u32, bool>>(given, sorted, alloc));
+    let Ok(twelve) = hex::decode(alloc, TWELVE) else {
+        return Ok(());
+    };
+    assert!(rt; is_rewritten_or_wants_memory::<OrderedMap<u32, bool>>(&twelve, &twelve, alloc));
+    assert!(rt; is_rewritten_or_wants_memory::<BTreeMap<u32, bool>>(&twelve, &twelve, alloc));
+    Ok(())
 }

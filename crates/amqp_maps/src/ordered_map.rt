@@ -49,6 +49,14 @@ impl<K: Eq + Hash, V> OrderedMap<K, V> {
         }
     }
 
+    // The map of these pairs.
+    pub(crate) fn of_pairs(pairs: IndexMap<K, V>) -> OrderedMap<K, V>
+        ensures { result ≡ pairs.entries }
+    {
+        let _distinct = pairs.len();
+        OrderedMap { pairs }
+    }
+
     /// The value of a key.
     pub fn get(&self, key: &K) -> Option<&V>
         ensures { option_copied result ≡ lookup (K.eq key.now) self.now }

@@ -1,5 +1,9 @@
 //! Reading of maps: their pairs, one after another (Part 1, section 1.6.23).
-ghost use Rattle.std.specs.Prelude.{true};
+ghost use Rattle.std.specs.Prelude.{◌≡◌, ◌⊎◌, true, None, IsSome, OnOk, IfOk, IfErr};
+ghost use Rattle.indexmap.specs.IndexMap.{get, insert_entry};
+ghost use Rattle.indexmap.specs.Entry.{entry_map_ref, map_with_value};
+ghost use Rattle.indexmap.specs.declared.map.entry.Entry.TheVariants.{Vacant};
+ghost use Rattle.amqp_wire.specs.declared.error.Error.TheVariants.{Memory, DuplicateKey};
 ghost use Rattle.amqp_wire.specs.Sources.{Tells};
 ghost use Rattle.amqp_decoder.specs.Reading.{AnswersRead};
 ghost use Rattle.amqp_codec.specs.MapReading.{ReadsPairsRow, PairsFault};
@@ -10,11 +14,31 @@ use crate::OrderedMap;
 use amqp_codec::{DeserializeTerm, MapKey};
 use amqp_decoder::Decoder;
 use amqp_wire::{ByteSource, Error};
+use indexmap::IndexMap;
+use indexmap::map::{Entry, VacantEntry};
 use std::alloc::Global;
 
-// Reads so many pairs one after another. The count reserves nothing: memory is taken as pairs come, and `Memory` is answered
+// The place behind the last pair, with room, for a key that none of them has. A key that one of them has is `DuplicateKey`, and
+// memory for the room that is refused is `Memory`.
+fn new_place<K: MapKey, V: DeserializeTerm>(
+    pairs: &mut IndexMap<K, V>,
+    key: K,
+) -> Result<VacantEntry<'_, K, V>, Error>
+    ensures same_pairs { IfOk result (λ place. (entry_map_ref (Vacant place)).ghost_name ≡ pairs.entry.ghost_name) }
+    ensures last { IfOk result (λ place. (v : V) → (map_with_value (Vacant place) v).entries ≡ insert_entry K.eq pairs.old.entries key v) }
+    ensures new { OnOk result (get K.eq pairs.old key ≡ None) }
+    ensures refused { IfErr result (λ e. (e ≡ Memory) ⊎ ((e ≡ DuplicateKey) × IsSome (get K.eq pairs.old key))) }
+{
+    match pairs.entry(key) {
+        Ok(Entry::Vacant(place)) => Ok(place),
+        Ok(Entry::Occupied(_)) => Err(Error::DuplicateKey),
+        Err(_) => Err(Error::Memory),
+    }
+}
+
+// Reads so many pairs one after another. The count reserves nothing: memory is taken as keys come, and `Memory` is answered
 // where that is refused. A key that is equal to one before it is `DuplicateKey`, before its value is read. Any other error is
-// of the first key or value that can't be read.
+// of the first key or value that can't be read. Each key is hashed once.
 fn read_pairs<K: MapKey, V: DeserializeTerm, R: ByteSource>(
     count: u32,
     decoder: &mut Decoder<R>,
@@ -23,18 +47,18 @@ fn read_pairs<K: MapKey, V: DeserializeTerm, R: ByteSource>(
     ensures { Tells R.remaining → AnswersRead true (λ st pairs b. ReadsPairsRow K.term V.term count st pairs b)
         (PairsFault K.term V.term count) decoder.old result decoder.new }
 {
-    let mut pairs = OrderedMap::new(alloc);
+    let mut pairs = IndexMap::new(alloc);
     for _ in 0..count {
         let key = K::read_value(decoder, alloc)?;
-        if pairs.get(&key).is_some() {
-            return Err(decoder.refuse(Error::DuplicateKey));
-        }
-        let value = V::read_value(decoder, alloc)?;
-        if pairs.insert(key, value).is_err() {
-            return Err(decoder.refuse(Error::Memory));
+        match new_place(&mut pairs, key) {
+            Ok(place) => {
+                let value = V::read_value(decoder, alloc)?;
+                place.insert(value);
+            }
+            Err(error) => return Err(decoder.refuse(error)),
         }
     }
-    Ok(pairs)
+    Ok(OrderedMap::of_pairs(pairs))
 }
 
 impl<K: MapKey, V: DeserializeTerm> DeserializeTerm for OrderedMap<K, V> {

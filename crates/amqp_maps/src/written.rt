@@ -7,7 +7,7 @@ ghost use Rattle.amqp_codec.specs.MapWriting.{turn_terms, map_writing};
 ghost use Rattle.amqp_codec.specs.Written.{WritesTerms};
 
 use crate::OrderedMap;
-use amqp_codec::kernel::write_pair;
+use amqp_codec::kernel::{pair_in_type, write_pair};
 use amqp_codec::{Encoder, Error, Serialize, SerializeTerm};
 use std::hash::Hash;
 
@@ -30,8 +30,7 @@ fn pairs_in_type<K: SerializeTerm + Eq + Hash, V: SerializeTerm>(map: &OrderedMa
     ensures { OfPairs K.writing.is_value V.writing.is_value map.now }
 {
     for (key, value) in map {
-        key.in_type();
-        value.in_type();
+        pair_in_type(key, value);
     }
 }
 

@@ -16,12 +16,12 @@ returns-in_err-key g c tells =
     (key_refused key value c.args.count _ _ _ _ _
     (fewer_so_far key value g.K.Ord.cmp c.loop.invariant c.args.count c.loop-test.true tells) (c.in_err-key.ensures tells)))
 
-pub returns-then-is_some : goal.returns-then-is_some
-returns-then-is_some g c tells =
+pub returns-then-is_known : goal.returns-then-is_known
+returns-then-is_known g c tells =
     let key = g.K.DeserializeTerm.term in
     let value = g.V.DeserializeTerm.term in
-    let known = found_known (key_by_order g.met.K.MapKey.is_key g.met.K.Ord.total g.met.K.Ord.matches_eq) c.get.result c.is_some.result
-    c.in_ok-key.key c.loop.map.entries c.if-is_some.true c.is_some.ensures c.get.ensures.value in
+    let known = found_known (key_by_order g.met.K.MapKey.is_key g.met.K.Ord.total g.met.K.Ord.matches_eq) c.is_known.result
+    c.in_ok-key.key c.loop.map.entries c.if-is_known.true c.is_known.ensures in
     row_refused_in_order key value g.K.Ord.cmp c.args.count _ _ _
     (key_twice key value c.args.count _ _ _ c.in_ok-key.key _ _ _
     (fewer_so_far key value g.K.Ord.cmp c.loop.invariant c.args.count c.loop-test.true tells) (c.in_ok-key.ensures tells)
@@ -33,8 +33,8 @@ returns-in_err-value g c tells =
     let key = g.K.DeserializeTerm.term in
     let value = g.V.DeserializeTerm.term in
     let p = err_from_is_err_and c.from_residual-in_err-value.result c.from_residual-in_err-value.ensures.1 in
-    let new = unfound_new (key_by_order g.met.K.MapKey.is_key g.met.K.Ord.total g.met.K.Ord.matches_eq) c.get.result c.is_some.result
-    c.in_ok-key.key c.loop.map.entries c.if-is_some.false c.is_some.ensures c.get.ensures.value in
+    let new = unfound_new (key_by_order g.met.K.MapKey.is_key g.met.K.Ord.total g.met.K.Ord.matches_eq) c.is_known.result
+    c.in_ok-key.key c.loop.map.entries c.if-is_known.false c.is_known.ensures in
     rw (p.1, p.2)
     (row_refused_in_order key value g.K.Ord.cmp c.args.count _ _ _
     (value_refused key value c.args.count _ _ _ c.in_ok-key.key _ _ _
@@ -57,8 +57,8 @@ loop-preserved g c =
     let is_key = g.met.K.MapKey.is_key in
     let total = g.met.K.Ord.total in
     let ties = g.met.K.Ord.matches_eq in
-    let new = unfound_new (key_by_order is_key total ties) c.get.result c.is_some.result c.in_ok-key.key c.loop.map.entries
-    c.if-is_some.false c.is_some.ensures c.get.ensures.value in
+    let new = unfound_new (key_by_order is_key total ties) c.is_known.result c.in_ok-key.key c.loop.map.entries c.if-is_known.false
+    c.is_known.ensures in
     one_more_so_far key value g.K.Ord.cmp c.loop.invariant c.insert.result c.is_err.result (order_of_keys is_key total ties)
     c.in_ok-key.key c.in_ok-value.value _ _ c.insert.new.self c.if-is_err.false c.is_err.ensures.value c.insert.ensures.entries new
     c.in_ok-key.ensures c.in_ok-value.ensures

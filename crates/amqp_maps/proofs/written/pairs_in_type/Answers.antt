@@ -9,7 +9,7 @@ loop-key-init g c =
 pub loop-key-preserved : goal.loop-key-preserved
 loop-key-preserved g c =
     pair_of_types g.K.Serialize.writing.is_value g.V.Serialize.writing.is_value _ _ _ (c.in-Some.key.now, c.in-Some.value.now)
-    c.in-Some.ensures.steps c.loop-key.invariant c.in_type.ensures c.in_type-in-loop-key.ensures
+    c.in-Some.ensures.steps c.loop-key.invariant c.pair_in_type.ensures.key c.pair_in_type.ensures.value
 
 pub returns : goal.returns
 returns g c =
