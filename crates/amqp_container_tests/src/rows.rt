@@ -1,32 +1,9 @@
 //! Inputs of lists and arrays, and the canonical text of each, or why it is refused.
-use amqp_calls::canonical_text;
-use amqp_codec::{Canonical, Symbol};
+use amqp_codec::Symbol;
 use amqp_containers::Array;
 use amqp_delivery::Accepted;
-use std::alloc::Global;
+use amqp_rows::{Row, check};
 use std::test::Fail;
-
-/// An input, and its canonical text or the name of its error.
-pub(crate) type Row = (&'static str, &'static str);
-
-fn answer<T: Canonical>(digits: &str, alloc: Global) -> Result<String, Fail> {
-    let input = hex::decode(alloc, digits)?;
-    match canonical_text::<T>(input.as_slice(), alloc) {
-        Ok((text, _)) => Ok(hex::encode(alloc, &text)?),
-        Err(error) => Ok(String::from_str(alloc, error.name())?),
-    }
-}
-
-/// Each input has its answer.
-pub(crate) fn check<T: Canonical>(rows: &[Row], alloc: Global) -> Result<(), Fail> {
-    for (input, wanted) in rows {
-        let found = answer::<T>(*input, alloc)?;
-        if found.as_str() != *wanted {
-            return Err(Fail::new(format_args!("{input} is answered by {found}")));
-        }
-    }
-    Ok(())
-}
 
 const LISTS_OF_UINTS: [Row; 18] = [
     ("c00402435207", "c00402435207"),

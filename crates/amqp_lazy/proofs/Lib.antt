@@ -1,0 +1,2 @@
+mod WholeTerms
+mod TermReads

@@ -1,0 +1,100 @@
+//! `LazyValue`, the bytes of one term.
+ghost use Rattle.std.specs.Prelude.{◌≡◌, refl};
+ghost use Rattle.amqp_lazy.specs.LazyType.{lazy_type, lazy_writing, lazy_agreement, SpellsTerm};
+
+use crate::nesting::nesting_of;
+use amqp_codec::{DeserializeTerm, Serialize, SerializeTerm};
+use amqp_decoder::Decoder;
+use amqp_encoder::Encoder;
+use amqp_wire::{ByteSource, Error, format_code};
+use std::alloc::{AllocError, Global};
+use std::marker::Model;
+
+/// The bytes of one term of any kind, its constructor included, as they were read (Part 1, section 1.2). It is written as these bytes,
+/// so that a value can be handed on without being understood.
+///
+/// What is read is checked to spell a term that nests at most 128 deep, and refused as `amqp_decoder::term_len` refuses it; that no two
+/// keys of a map in it are equal isn't looked at. What stands in it counts in how deep values nest, in reading and in writing.
+/// As an item of an array, whose constructor is shared, it is refused by `LazyInArray`, in reading and in writing.
+#[derive(Debug, Drop)]
+pub struct LazyValue {
+    bytes: Vec<u8>,
+    // how deep the term nests
+    nesting: usize,
+}
+
+impl Model for LazyValue {
+    ghost use Rattle.std.specs.Prelude.{ℕ, Vec};
+    ghost use Rattle.std.specs.Global.{Global};
+    ghost use Rattle.amqp_lazy.specs.LazyType.{SpellsNested};
+
+    ghost Value = { Vec ℕ Global };
+
+    ghost view = { λ v. v.bytes };
+
+    ghost invariant = { λ v. SpellsNested v.nesting v.bytes.items };
+}
+
+impl LazyValue {
+    /// The bytes, which spell one term.
+    pub fn as_slice(&self) -> &[u8]
+        ensures bytes { result.now ≡ self.now.items }
+        ensures term { SpellsTerm self.now.items }
+    {
+        self.bytes.as_slice()
+    }
+}
+
+impl Clone for LazyValue {
+    ghost is_clone = { λ v w. w.items ≡ v.items };
+
+    // It wants memory for the bytes.
+    fn clone(&self) -> Result<LazyValue, AllocError> {
+        Ok(LazyValue {
+            bytes: self.bytes.clone()?,
+            nesting: self.nesting,
+        })
+    }
+}
+
+impl Serialize for LazyValue {
+    ghost writing = { lazy_writing };
+
+    fn serialize(&self, encoder: &mut Encoder) -> Result<(), Error> {
+        encoder.write_term(self.bytes.as_slice(), self.nesting)
+    }
+
+    fn in_type(&self) {
+        let _bytes = self.as_slice();
+    }
+}
+
+impl SerializeTerm for LazyValue {
+    fn is_null(&self) -> bool {
+        match self.as_slice() {
+            [code] => *code == format_code::NULL,
+            _ => false,
+        }
+    }
+
+    ghost is_term = { λ v. refl };
+}
+
+impl DeserializeTerm for LazyValue {
+    ghost term = { lazy_type };
+
+    // What is read is a term; of a source that doesn't give the bytes that it tells of, what isn't one is `InvalidValue`.
+    fn read_value<R: ByteSource>(
+        decoder: &mut Decoder<R>,
+        alloc: Global,
+    ) -> Result<LazyValue, Error> {
+        decoder.room();
+        let bytes = decoder.read_term(alloc)?;
+        match nesting_of(bytes.as_slice()) {
+            Some(nesting) => Ok(LazyValue { bytes, nesting }),
+            None => Err(decoder.refuse(Error::InvalidValue)),
+        }
+    }
+
+    ghost agreement = { lazy_agreement };
+}

@@ -1,0 +1,8 @@
+//! Values of any kind that are kept as the bytes that they were read from (Part 1, section 1.2).
+#![tactic(auto)]
+
+mod compared;
+mod lazy_value;
+mod nesting;
+
+pub use lazy_value::LazyValue;
