@@ -1,7 +1,9 @@
--- The types of links and deliveries (Part 2, section 2.8): the number of each value.
+-- The types of connections, links and deliveries (Part 2, sections 2.7.1 and 2.8): the number of each value.
 use Rattle.std.proofs.Common.{ℕ, ◌<◌, ◌^◌, Bool, true, false, refl, rules}
-use Rattle.amqp_enums.specs.Types.{TermType, IsDistinct, boolean_base, ubyte_base, restricted_number, uint_type, via, unchanged}
+use Rattle.amqp_enums.specs.Types.{TermType, IsDistinct, boolean_base, ubyte_base, restricted_number, ushort_type, uint_type, via, unchanged}
+use Rattle.amqp_definitions.specs.declared.channel_max.ChannelMax.{ChannelMax}
 use Rattle.amqp_definitions.specs.declared.handle.Handle.{Handle}
+use Rattle.amqp_definitions.specs.declared.max_frame_size.MaxFrameSize.{MaxFrameSize}
 use Rattle.amqp_definitions.specs.declared.role.Role.{Role}
 use Rattle.amqp_definitions.specs.declared.role.Role.TheVariants as role
 use Rattle.amqp_definitions.specs.declared.sender_settle_mode.SenderSettleMode.{SenderSettleMode}
@@ -53,3 +55,11 @@ receiver_settle_mode_type =
 -- 2.8.4, a uint
 abbrev pub handle_type : TermType Handle
 handle_type = via uint_type (λ v. v.0) unchanged (λ v. refl)
+
+-- 2.7.1, a uint
+abbrev pub max_frame_size_type : TermType MaxFrameSize
+max_frame_size_type = via uint_type (λ v. v.0) unchanged (λ v. refl)
+
+-- 2.7.1, a ushort
+abbrev pub channel_max_type : TermType ChannelMax
+channel_max_type = via ushort_type (λ v. v.0) unchanged (λ v. refl)

@@ -2,11 +2,13 @@
 //! text of its own. And the names and constants of Part 2.
 #![tactic(auto)]
 
+mod channel_max;
 mod connection_state;
 mod constants;
 mod distribution_mode;
 mod handle;
 pub mod laws;
+mod max_frame_size;
 mod names;
 mod receiver_settle_mode;
 mod role;
@@ -19,10 +21,12 @@ mod terminus_expiry_policy;
 mod tests;
 mod txn_capability;
 
+pub use channel_max::ChannelMax;
 pub use connection_state::ConnectionState;
 pub use constants::{MAJOR, MIN_MAX_FRAME_SIZE, MINOR, PORT, REVISION, SECURE_PORT};
 pub use distribution_mode::DistributionMode;
 pub use handle::Handle;
+pub use max_frame_size::MaxFrameSize;
 pub use names::{
     DeliveryNumber, DeliveryTag, IetfLanguageTag, MessageFormat, Milliseconds, Seconds, SequenceNo,
     TransferNumber,
