@@ -165,13 +165,13 @@ module _ {V : Type 0} (term : V → Term) (are : (v : V) → IsTree (term v)) wh
       by_test (same_term (term v) (term w)) (same_term (term v) (term w) ≡ false)
       (λ e. absurd (h ((terms_decide (term v) (term w) (are v)).0 e))) (λ e. e)
 
-  not_among : (k : V) (ps : List (V × V)) → IsNew Same k ps → is_among_keys (term k) (canons_of term (turns ps)) ≡ false
+  pub not_among : (k : V) (ps : List (V × V)) → IsNew Same k ps → is_among_keys (term k) (canons_of term (turns ps)) ≡ false
   not_among k [] h = refl
   not_among k (p ∷ ps) h =
       either_false (same_term (term k) (term p.0)) (is_among_keys (term k) (canons_of term (turns ps))) (differ k p.0 h.0)
       (not_among k ps h.1)
 
-  among_not : (k : V) (ps : List (V × V)) → is_among_keys (term k) (canons_of term (turns ps)) ≡ false → IsNew Same k ps
+  pub among_not : (k : V) (ps : List (V × V)) → is_among_keys (term k) (canons_of term (turns ps)) ≡ false → IsNew Same k ps
   among_not k [] h = tt
   among_not k (p ∷ ps) h =
       let n = neither (same_term (term k) (term p.0)) (is_among_keys (term k) (canons_of term (turns ps))) h in
@@ -189,7 +189,7 @@ module _ {V : Type 0} (term : V → Term) (are : (v : V) → IsTree (term v)) wh
       let n = neither (is_among_keys (term p.0) (canons_of term (turns ps))) (has_equal_keys (canons_of term (turns ps))) h in
       (among_not p.0 ps n.0, differ_keys ps n.1)
 
-  turns_canons : (ps : List (V × V)) → pair_canons term term ps ≡ canons_of term (turns ps)
+  pub turns_canons : (ps : List (V × V)) → pair_canons term term ps ≡ canons_of term (turns ps)
   turns_canons [] = refl
   turns_canons (p ∷ ps) = ap (λ ts. more (term p.0) (more (term p.1) ts)) (turns_canons ps)
 

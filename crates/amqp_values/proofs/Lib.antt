@@ -1,2 +1,7 @@
+mod CopiesMade
+mod DistinctKeys
+mod FormatCodes
+mod Places
 pub mod Same
 pub mod ValuesWritten
+pub mod ValueSteps

@@ -1,20 +1,23 @@
 -- What a value of any kind is written as (Part 1, section 1.6): its term, in which a map with equal keys is refused.
-use Rattle.std.proofs.Common.{◌≡◌, List, [], ◌∷◌, map as map_list, cond, refl, ap, ◌∙◌, sym, Global, Vec}
+use Rattle.std.proofs.Common.{◌≡◌, false, List, [], ◌∷◌, map as map_list, cond, refl, ap, ◌∙◌, sym, Global, Vec}
 use Rattle.std.specs.List.{flat_map}
 use Rattle.std.proofs.lemmas.List.Concat.{flat_map-cons}
 use Rattle.std.specs.declared.boxed.Box.{Box}
 use Rattle.amqp_model.specs.Term.{duplicate_key, list, map, array, Term, container, described, barred, more}
-use Rattle.amqp_model.specs.Items.{terms_of}
-use Rattle.amqp_model.specs.Ranges.{Everywhere, IsValue}
+use Rattle.amqp_model.specs.Items.{terms_of, is_null}
 use Rattle.amqp_input.specs.Members.{descriptor_of}
-use Rattle.amqp_codec.specs.EqualKeys.{barred_maps, all_barred_maps, has_equal_keys, maps_plain, maps_valued}
+use Rattle.amqp_codec.specs.EqualKeys.{barred_maps, all_barred_maps, has_equal_keys, maps_plain, maps_valued, maps_null}
 use Rattle.amqp_codec.specs.Agreement.{plain_proper}
 use Rattle.amqp_codec.specs.Written.{AreProper, Writing}
 use Rattle.amqp_containers.specs.declared.array.Array.{Array}
 use Rattle.amqp_described.specs.declared.described.Described.{Described}
 use Rattle.amqp_values.specs.declared.map.ValueMap.{ValueMap}
 use Rattle.amqp_values.specs.declared.value.Value.{Value, List as ListOf, Map as MapOf, Array as ArrayOf, Described as DescribedOf}
+use Rattle.amqp_values.specs.declared.value.Value.{Null, Bool, Ubyte, Ushort, Uint, Ulong, Byte, Short, Int, Long, Decimal32, Decimal64}
+use Rattle.amqp_values.specs.declared.value.Value.{Decimal128, Char, Timestamp, Uuid, Binary, String, Symbol, Described', List', Map'}
+use Rattle.amqp_values.specs.declared.value.Value.{Array'}
 use Rattle.amqp_values.specs.Equality.{turn_terms}
+use Rattle.amqp_values.specs.Typing.{IsTyped}
 use Rattle.amqp_values.specs.Values.{value_term, pairs_of, list_is, array_is, described_is, map_is, values_are_trees}
 
 -- The canonical term of a value.
@@ -55,10 +58,42 @@ map_canon m =
     ap barred_maps (map_is m)
     ∙ ap (λ ts. cond (has_equal_keys (turn_terms (pairs_of m))) (barred duplicate_key) (container map ts)) (turns_barred (pairs_of m))
 
-pub value_proper : (v : Value) → Everywhere IsValue (value_term v) → AreProper (value_canon v ∷ [])
+pub value_proper : (v : Value) → IsTyped v → AreProper (value_canon v ∷ [])
 value_proper v i =
     (plain_proper (value_canon v) (maps_plain (value_term v) (values_are_trees v)) (maps_valued (value_term v) i), tt)
 
+term_not_null : (v : Value) → (v ≡ Null → ⊥) → is_null (value_term v) ≡ false
+term_not_null Null n = absurd (n refl)
+term_not_null (Bool b) n = refl
+term_not_null (Ubyte x) n = refl
+term_not_null (Ushort x) n = refl
+term_not_null (Uint x) n = refl
+term_not_null (Ulong x) n = refl
+term_not_null (Byte z) n = refl
+term_not_null (Short z) n = refl
+term_not_null (Int z) n = refl
+term_not_null (Long z) n = refl
+term_not_null (Decimal32 d) n = refl
+term_not_null (Decimal64 d) n = refl
+term_not_null (Decimal128 d) n = refl
+term_not_null (Char x) n = refl
+term_not_null (Timestamp t) n = refl
+term_not_null (Uuid u) n = refl
+term_not_null (Binary b) n = refl
+term_not_null (String s) n = refl
+term_not_null (Symbol s) n = refl
+term_not_null (Described' p d v) n = refl
+term_not_null (List' shape vs) n = refl
+term_not_null (Map' shape ps) n = refl
+term_not_null (Array' shape vs) n = refl
+
+-- No value but null is written as null.
+pub not_null : (v : Value) → (v ≡ Null → ⊥) → is_null (value_canon v) ≡ false
+not_null v n = maps_null (value_term v) ∙ term_not_null v n
+
+pub map_not_null : (m : ValueMap) → is_null (value_canon (MapOf m)) ≡ false
+map_not_null m = maps_null (value_term (MapOf m)) ∙ ap is_null (map_is m)
+
 -- How a value is written.
 abbrev pub value_writing : Writing Value
-value_writing = record { canons = value_canons; is_value = λ v. Everywhere IsValue (value_term v); proper = value_proper }
+value_writing = record { canons = value_canons; is_value = IsTyped; proper = value_proper }

@@ -1,3 +1,11 @@
 pub mod Values
 pub mod Equality
+pub mod Typing
 pub mod Canon
+pub mod Maps
+pub mod Copies
+pub mod FormatCodes
+pub mod Taken
+pub mod ValueMembers
+pub mod Levels
+pub mod ValueType

@@ -57,11 +57,11 @@ abbrev mutual
 abbrev pub pairs_of : ValueMap → List (Value × Value)
 pairs_of m = (out-ValueMap m).0.items
 
-row_is : (n : Count) (row : Row_of-Value n) → row_terms row ≡ terms_of (map_list value_term (items-the_row-Value n row))
+pub row_is : (n : Count) (row : Row_of-Value n) → row_terms row ≡ terms_of (map_list value_term (items-the_row-Value n row))
 row_is n end_of-Value = refl
 row_is n (more_of-Value v rest) = ap (more (value_term v)) (row_is _ rest)
 
-pairs_is : (n : Count) (row : Row_of-ValueMap-0-2 n)
+pub pairs_is : (n : Count) (row : Row_of-ValueMap-0-2 n)
     → pair_terms row ≡ pair_canons value_term value_term (items-the_row-ValueMap-0-2 n row)
 pairs_is n end_of-ValueMap-0-2 = refl
 pairs_is n (more_of-ValueMap-0-2 k v rest) = ap (λ ts. more (value_term k) (more (value_term v) ts)) (pairs_is _ rest)

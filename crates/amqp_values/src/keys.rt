@@ -8,7 +8,7 @@ use crate::Value;
 use crate::equality::same_value;
 
 // Whether a key is among those of the pairs from a place on.
-fn is_among(key: &Value, pairs: &[(Value, Value)], start: usize) -> bool
+pub(crate) fn is_among(key: &Value, pairs: &[(Value, Value)], start: usize) -> bool
     requires { start ≤ length pairs.now }
     ensures { result ≡ is_among_keys (value_term key.now) (turn_terms (drop start pairs.now)) }
 {

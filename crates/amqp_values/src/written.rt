@@ -2,15 +2,19 @@
 ghost use Rattle.std.specs.Prelude.{◌≡◌, Ok, refl};
 ghost use Rattle.std.specs.List.{flat_map};
 ghost use Rattle.amqp_encoder.specs.Passes.{answer_of};
+ghost use Rattle.amqp_codec.specs.Agreement.{via_writing};
 ghost use Rattle.amqp_codec.specs.Written.{WritesTerms};
-ghost use Rattle.amqp_values.specs.Canon.{value_canons, pair_canon};
+ghost use Rattle.amqp_values.specs.declared.value.Value.{Map as MapOf};
+ghost use Rattle.amqp_values.specs.Canon.{value_canons, pair_canon, value_writing};
 
-use crate::Value;
 use crate::keys::has_equal_keys;
+use crate::typing::{map_typed, value_typed};
+use crate::{Value, ValueMap};
+use amqp_codec::{Serialize, SerializeTerm};
 use amqp_encoder::Encoder;
 use amqp_wire::Error;
 
-// Writes a value. A map with equal keys is refused by `DuplicateKey`.
+// Writes a value.
 #[cycle(writing)]
 pub(crate) fn write_value(value: &Value, encoder: &mut Encoder) -> Result<(), Error>
     ensures { WritesTerms (value_canons value.now) encoder.old result encoder.new }
@@ -45,14 +49,7 @@ pub(crate) fn write_value(value: &Value, encoder: &mut Encoder) -> Result<(), Er
             write_values(values.as_slice(), encoder)?;
             encoder.end_list()
         }
-        Value::Map(map) => {
-            if has_equal_keys(map.0.as_slice()) {
-                return encoder.refuse(Error::DuplicateKey);
-            }
-            encoder.begin_map()?;
-            write_pairs(map.0.as_slice(), encoder)?;
-            encoder.end_map()
-        }
+        Value::Map(map) => write_map(map, encoder),
         Value::Array(values) => {
             encoder.begin_array()?;
             write_values(values.0.as_slice(), encoder)?;
@@ -73,6 +70,19 @@ fn write_values(values: &[Value], encoder: &mut Encoder) -> Result<(), Error>
     Ok(())
 }
 
+// Writes a map. One with equal keys is refused by `DuplicateKey`.
+#[cycle(writing)]
+fn write_map(map: &ValueMap, encoder: &mut Encoder) -> Result<(), Error>
+    ensures { WritesTerms (value_canons (MapOf map.now)) encoder.old result encoder.new }
+{
+    if has_equal_keys(map.0.as_slice()) {
+        return encoder.refuse(Error::DuplicateKey);
+    }
+    encoder.begin_map()?;
+    write_pairs(map.0.as_slice(), encoder)?;
+    encoder.end_map()
+}
+
 // Writes keys and values in turn, to an encoder that has refused nothing.
 #[cycle(writing)]
 fn write_pairs(pairs: &[(Value, Value)], encoder: &mut Encoder) -> Result<(), Error>
@@ -85,4 +95,44 @@ fn write_pairs(pairs: &[(Value, Value)], encoder: &mut Encoder) -> Result<(), Er
         write_value(&pair.1, encoder)?;
     }
     Ok(())
+}
+
+impl Serialize for Value {
+    ghost writing = { value_writing };
+
+    fn serialize(&self, encoder: &mut Encoder) -> Result<(), Error> {
+        write_value(self, encoder)
+    }
+
+    fn in_type(&self) {
+        value_typed(self)
+    }
+}
+
+impl SerializeTerm for Value {
+    fn is_null(&self) -> bool {
+        matches!(self, Value::Null)
+    }
+
+    ghost is_term = { λ v. refl };
+}
+
+impl Serialize for ValueMap {
+    ghost writing = { via_writing MapOf value_writing };
+
+    fn serialize(&self, encoder: &mut Encoder) -> Result<(), Error> {
+        write_map(self, encoder)
+    }
+
+    fn in_type(&self) {
+        map_typed(self)
+    }
+}
+
+impl SerializeTerm for ValueMap {
+    fn is_null(&self) -> bool {
+        false
+    }
+
+    ghost is_term = { λ v. refl };
 }

@@ -133,45 +133,28 @@ pub write_pairs-returns : goal.write_pairs-returns
 write_pairs-returns t c =
     all_written_so pair_canon c.args.pairs.now c.loop-index.index _ _ (omega (arith, c.loop-index-test.false)) c.loop-index.invariant
 
-pub write_value-returns-then-has_equal_keys : goal.write_value-returns-then-has_equal_keys
-write_value-returns-then-has_equal_keys t c =
-    rw (
-      c.in-Map.is,
-      shut_map c.in-Map.map (sym (rw c.as_slice-in-Map.ensures.value at c.has_equal_keys.ensures)
-          ∙ c.if-has_equal_keys.true),
-    )
+pub write_map-returns-then-has_equal_keys : goal.write_map-returns-then-has_equal_keys
+write_map-returns-then-has_equal_keys t c =
+    rw (shut_map c.args.map.now (sym (rw c.as_slice.ensures.value at c.has_equal_keys.ensures) ∙ c.if-has_equal_keys.true))
     (barred_written _ _ _ c.refuse.ensures)
 
-pub write_value-returns-in_err-begin_map-in-Map : goal.write_value-returns-in_err-begin_map-in-Map
-write_value-returns-in_err-begin_map-in-Map t c =
-    rw (
-      c.in-Map.is,
-      open_map c.in-Map.map (sym (rw c.as_slice-in-Map.ensures.value at c.has_equal_keys.ensures)
-          ∙ c.if-has_equal_keys.false),
-    )
-    (open_refused (container_wraps map (flat_map pair_canon (pairs_of c.in-Map.map))) _ _ _ _ _ c.in_err-begin_map-in-Map.was
-    (err_from_is_err_and c.from_residual-in_err-begin_map-in-Map.result c.from_residual-in_err-begin_map-in-Map.ensures.1)
-    c.begin_map.ensures)
+pub write_map-returns-in_err-begin_map : goal.write_map-returns-in_err-begin_map
+write_map-returns-in_err-begin_map t c =
+    rw (open_map c.args.map.now (sym (rw c.as_slice.ensures.value at c.has_equal_keys.ensures) ∙ c.if-has_equal_keys.false))
+    (open_refused (container_wraps map (flat_map pair_canon (pairs_of c.args.map.now))) _ _ _ _ _ c.in_err-begin_map.was
+    (err_from_is_err_and c.from_residual.result c.from_residual.ensures.1) c.begin_map.ensures)
 
-pub write_value-returns-in_err-write_pairs-in-Map : goal.write_value-returns-in_err-write_pairs-in-Map
-write_value-returns-in_err-write_pairs-in-Map t c =
-    rw (
-      c.in-Map.is,
-      open_map c.in-Map.map (sym (rw c.as_slice-in-Map.ensures.value at c.has_equal_keys.ensures)
-          ∙ c.if-has_equal_keys.false),
-    )
-    (inner_refused (container_wraps map (flat_map pair_canon (pairs_of c.in-Map.map))) _ _ _ _ _ _ _
-    c.in_ok-begin_map-in-Map.was c.in_err-write_pairs-in-Map.was
-    (err_from_is_err_and c.from_residual-in_err-write_pairs-in-Map.result c.from_residual-in_err-write_pairs-in-Map.ensures.1)
-    c.begin_map.ensures (rw c.as_slice-in-Map-2.ensures.value at c.write_pairs.ensures))
+pub write_map-returns-in_err-write_pairs : goal.write_map-returns-in_err-write_pairs
+write_map-returns-in_err-write_pairs t c =
+    rw (open_map c.args.map.now (sym (rw c.as_slice.ensures.value at c.has_equal_keys.ensures) ∙ c.if-has_equal_keys.false))
+    (inner_refused (container_wraps map (flat_map pair_canon (pairs_of c.args.map.now))) _ _ _ _ _ _ _
+    c.in_ok-begin_map.was c.in_err-write_pairs.was
+    (err_from_is_err_and c.from_residual-in_err-write_pairs.result c.from_residual-in_err-write_pairs.ensures.1)
+    c.begin_map.ensures (rw c.as_slice-2.ensures.value at c.write_pairs.ensures))
 
-pub write_value-returns-in_ok-write_pairs-in-Map : goal.write_value-returns-in_ok-write_pairs-in-Map
-write_value-returns-in_ok-write_pairs-in-Map t c =
-    rw (
-      c.in-Map.is,
-      open_map c.in-Map.map (sym (rw c.as_slice-in-Map.ensures.value at c.has_equal_keys.ensures)
-          ∙ c.if-has_equal_keys.false),
-    )
-    (all_written (container_wraps map (flat_map pair_canon (pairs_of c.in-Map.map))) _ _ _ _ _ _ _
-    c.in_ok-begin_map-in-Map.was c.in_ok-write_pairs-in-Map.was c.begin_map.ensures
-    (rw c.as_slice-in-Map-2.ensures.value at c.write_pairs.ensures) c.end_map.ensures)
+pub write_map-returns : goal.write_map-returns
+write_map-returns t c =
+    rw (open_map c.args.map.now (sym (rw c.as_slice.ensures.value at c.has_equal_keys.ensures) ∙ c.if-has_equal_keys.false))
+    (all_written (container_wraps map (flat_map pair_canon (pairs_of c.args.map.now))) _ _ _ _ _ _ _
+    c.in_ok-begin_map.was c.in_ok-write_pairs.was c.begin_map.ensures
+    (rw c.as_slice-2.ensures.value at c.write_pairs.ensures) c.end_map.ensures)

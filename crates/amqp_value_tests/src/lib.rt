@@ -1,0 +1,11 @@
+//! Tests of values of any kind.
+#![tactic(auto)]
+
+#[cfg(test)]
+mod calls;
+#[cfg(test)]
+mod lazy;
+#[cfg(test)]
+mod nests;
+#[cfg(test)]
+mod values;

@@ -1,0 +1,465 @@
+use Rattle.std.proofs.Common.{◌/◌, refl, ap, ◌∙◌, arith, length, length-append, [], ◌∷◌, true, false}
+use Rattle.std.proofs.lemmas.Result.{err_from_is_err_and}
+use Rattle.amqp_model.specs.Term.{list, map, array, described}
+use Rattle.amqp_input.specs.Members.{descriptor_of}
+use Rattle.amqp_decoder.proofs.Steps.{answered}
+use Rattle.amqp_codec.specs.VecType.{list_opening}
+use Rattle.amqp_codec.specs.ItemsReadingLaws.{each_more}
+use Rattle.amqp_codec.specs.MapReading.{ReadsFewer}
+use Rattle.amqp_codec.specs.MapReadingLaws.{pairs_more, others_more}
+use Rattle.amqp_codec.proofs.ItemsSteps.{pushed, value_refused, no_room, open_refused, row_refused, end_refused, all_read}
+use Rattle.amqp_codec.proofs.MapSteps.{by_two, key_refused, key_twice}
+use Rattle.amqp_codec.proofs.MapSteps as maps
+use Rattle.amqp_containers.specs.ArrayType.{array_opening}
+use Rattle.amqp_described.specs.declared.described.Described.{Described}
+use Rattle.amqp_described.proofs.DescribedReads as reads
+use Rattle.amqp_kinds.specs.declared.kind.Kind.TheVariants as kind
+use Rattle.amqp_values.specs.declared.value.Value.{Value}
+use Rattle.amqp_values.specs.Values.{value_term, list_is, array_is, map_is, described_is}
+use Rattle.amqp_values.specs.ValueMembers.{ValueMeans, IsOfItems, IsDescribed, IsOfPairs, described_member, list_member, array_member}
+use Rattle.amqp_values.specs.ValueMembers.{map_member}
+use Rattle.amqp_values.specs.ValueMembers.{null_member, bool_member, ubyte_member, ushort_member, uint_member, ulong_member, byte_member}
+use Rattle.amqp_values.specs.ValueMembers.{short_member, int_member, long_member, decimal32_member, decimal64_member, decimal128_member}
+use Rattle.amqp_values.specs.ValueMembers.{char_member}
+use Rattle.amqp_values.specs.ValueMembers.{timestamp_member, uuid_member, binary_member, string_member, symbol_member}
+use Rattle.amqp_values.specs.Levels.{value_with, value_in, faults_at}
+use Rattle.amqp_values.proofs.ValueSteps.{bounded_peeked, peek_refused, kind_answers, list_deeper, array_deeper, described_deeper}
+use Rattle.amqp_values.proofs.ValueSteps.{bounded_inside, some_left, bounded_behind, bounded_after, bounded_in_pairs, as_member}
+use Rattle.amqp_values.proofs.ValueSteps.{key_new, key_known}
+use Rattle.amqp_values.proofs.ValueSteps.{less_bounded, less_refused, less_read, less_row_refused, less_row, less_pairs_refused}
+use Rattle.amqp_values.proofs.ValueSteps.{less_pairs}
+use Rattle.amqp_values.proofs.read.+reading.Goals as goal
+
+pub read_any-returns-in_err-code : goal.read_any-returns-in_err-code
+read_any-returns-in_err-code g t c tells bounded =
+    let p = err_from_is_err_and c.from_residual.result c.from_residual.ensures.1 in
+    rw (p.1, p.2) (peek_refused _ _ _ _ (c.in_err-code.ensures tells))
+
+pub read_any-returns-in-Null : goal.read_any-returns-in-Null
+read_any-returns-in-Null g t c tells bounded =
+    kind_answers kind.Null null_member false (faults_at c.args.levels) _ _ _ _ _
+    (c.in_ok-code.ensures tells) c.in-Null.ensures (c.read_as.ensures tells)
+
+pub read_any-returns-in-Bool : goal.read_any-returns-in-Bool
+read_any-returns-in-Bool g t c tells bounded =
+    kind_answers kind.Bool bool_member false (faults_at c.args.levels) _ _ _ _ _
+    (c.in_ok-code.ensures tells) c.in-Bool.ensures (c.read_as-in-Bool.ensures tells)
+
+pub read_any-returns-in-Ubyte : goal.read_any-returns-in-Ubyte
+read_any-returns-in-Ubyte g t c tells bounded =
+    kind_answers kind.Ubyte ubyte_member false (faults_at c.args.levels) _ _ _ _ _
+    (c.in_ok-code.ensures tells) c.in-Ubyte.ensures (c.read_as-in-Ubyte.ensures tells)
+
+pub read_any-returns-in-Ushort : goal.read_any-returns-in-Ushort
+read_any-returns-in-Ushort g t c tells bounded =
+    kind_answers kind.Ushort ushort_member false (faults_at c.args.levels) _ _ _ _ _
+    (c.in_ok-code.ensures tells) c.in-Ushort.ensures (c.read_as-in-Ushort.ensures tells)
+
+pub read_any-returns-in-Uint : goal.read_any-returns-in-Uint
+read_any-returns-in-Uint g t c tells bounded =
+    kind_answers kind.Uint uint_member false (faults_at c.args.levels) _ _ _ _ _
+    (c.in_ok-code.ensures tells) c.in-Uint.ensures (c.read_as-in-Uint.ensures tells)
+
+pub read_any-returns-in-Ulong : goal.read_any-returns-in-Ulong
+read_any-returns-in-Ulong g t c tells bounded =
+    kind_answers kind.Ulong ulong_member false (faults_at c.args.levels) _ _ _ _ _
+    (c.in_ok-code.ensures tells) c.in-Ulong.ensures (c.read_as-in-Ulong.ensures tells)
+
+pub read_any-returns-in-Byte : goal.read_any-returns-in-Byte
+read_any-returns-in-Byte g t c tells bounded =
+    kind_answers kind.Byte byte_member false (faults_at c.args.levels) _ _ _ _ _
+    (c.in_ok-code.ensures tells) c.in-Byte.ensures (c.read_as-in-Byte.ensures tells)
+
+pub read_any-returns-in-Short : goal.read_any-returns-in-Short
+read_any-returns-in-Short g t c tells bounded =
+    kind_answers kind.Short short_member false (faults_at c.args.levels) _ _ _ _ _
+    (c.in_ok-code.ensures tells) c.in-Short.ensures (c.read_as-in-Short.ensures tells)
+
+pub read_any-returns-in-Int : goal.read_any-returns-in-Int
+read_any-returns-in-Int g t c tells bounded =
+    kind_answers kind.Int int_member false (faults_at c.args.levels) _ _ _ _ _
+    (c.in_ok-code.ensures tells) c.in-Int.ensures (c.read_as-in-Int.ensures tells)
+
+pub read_any-returns-in-Long : goal.read_any-returns-in-Long
+read_any-returns-in-Long g t c tells bounded =
+    kind_answers kind.Long long_member false (faults_at c.args.levels) _ _ _ _ _
+    (c.in_ok-code.ensures tells) c.in-Long.ensures (c.read_as-in-Long.ensures tells)
+
+pub read_any-returns-in-Decimal32 : goal.read_any-returns-in-Decimal32
+read_any-returns-in-Decimal32 g t c tells bounded =
+    kind_answers kind.Decimal32 decimal32_member false (faults_at c.args.levels) _ _ _ _ _
+    (c.in_ok-code.ensures tells) c.in-Decimal32.ensures (c.read_as-in-Decimal32.ensures tells)
+
+pub read_any-returns-in-Decimal64 : goal.read_any-returns-in-Decimal64
+read_any-returns-in-Decimal64 g t c tells bounded =
+    kind_answers kind.Decimal64 decimal64_member false (faults_at c.args.levels) _ _ _ _ _
+    (c.in_ok-code.ensures tells) c.in-Decimal64.ensures (c.read_as-in-Decimal64.ensures tells)
+
+pub read_any-returns-in-Decimal128 : goal.read_any-returns-in-Decimal128
+read_any-returns-in-Decimal128 g t c tells bounded =
+    kind_answers kind.Decimal128 decimal128_member false (faults_at c.args.levels) _ _ _ _ _
+    (c.in_ok-code.ensures tells) c.in-Decimal128.ensures (c.read_as-in-Decimal128.ensures tells)
+
+pub read_any-returns-in-Char : goal.read_any-returns-in-Char
+read_any-returns-in-Char g t c tells bounded =
+    kind_answers kind.Char char_member false (faults_at c.args.levels) _ _ _ _ _
+    (c.in_ok-code.ensures tells) c.in-Char.ensures (c.read_as-in-Char.ensures tells)
+
+pub read_any-returns-in-Timestamp : goal.read_any-returns-in-Timestamp
+read_any-returns-in-Timestamp g t c tells bounded =
+    kind_answers kind.Timestamp timestamp_member false (faults_at c.args.levels) _ _ _ _ _
+    (c.in_ok-code.ensures tells) c.in-Timestamp.ensures (c.read_as-in-Timestamp.ensures tells)
+
+pub read_any-returns-in-Uuid : goal.read_any-returns-in-Uuid
+read_any-returns-in-Uuid g t c tells bounded =
+    kind_answers kind.Uuid uuid_member false (faults_at c.args.levels) _ _ _ _ _
+    (c.in_ok-code.ensures tells) c.in-Uuid.ensures (c.read_as-in-Uuid.ensures tells)
+
+pub read_any-returns-in-Binary : goal.read_any-returns-in-Binary
+read_any-returns-in-Binary g t c tells bounded =
+    kind_answers kind.Binary binary_member true (faults_at c.args.levels) _ _ _ _ _
+    (c.in_ok-code.ensures tells) c.in-Binary.ensures (c.read_as-in-Binary.ensures tells)
+
+pub read_any-returns-in-String : goal.read_any-returns-in-String
+read_any-returns-in-String g t c tells bounded =
+    kind_answers kind.String string_member true (faults_at c.args.levels) _ _ _ _ _
+    (c.in_ok-code.ensures tells) c.in-String.ensures (c.read_as-in-String.ensures tells)
+
+pub read_any-returns-in-Symbol : goal.read_any-returns-in-Symbol
+read_any-returns-in-Symbol g t c tells bounded =
+    kind_answers kind.Symbol symbol_member true (faults_at c.args.levels) _ _ _ _ _
+    (c.in_ok-code.ensures tells) c.in-Symbol.ensures (c.read_as-in-Symbol.ensures tells)
+
+pub read_any-returns-in-Described : goal.read_any-returns-in-Described
+read_any-returns-in-Described g t c tells bounded =
+    kind_answers kind.Described described_member true (faults_at c.args.levels) _ _ _ _ _
+    (c.in_ok-code.ensures tells) c.in-Described.ensures
+    (c.read_described.ensures tells (bounded_peeked c.args.levels _ _ _ (c.in_ok-code.ensures tells) bounded))
+
+pub read_any-returns-in-List : goal.read_any-returns-in-List
+read_any-returns-in-List g t c tells bounded =
+    kind_answers kind.List list_member true (faults_at c.args.levels) _ _ _ _ _ (c.in_ok-code.ensures tells) c.in-List.ensures
+    (c.read_list.ensures tells (bounded_peeked c.args.levels _ _ _ (c.in_ok-code.ensures tells) bounded))
+
+pub read_any-returns-in-Map : goal.read_any-returns-in-Map
+read_any-returns-in-Map g t c tells bounded =
+    kind_answers kind.Map map_member true (faults_at c.args.levels) _ _ _ _ _ (c.in_ok-code.ensures tells) c.in-Map.ensures
+    (c.read_map.ensures tells (bounded_peeked c.args.levels _ _ _ (c.in_ok-code.ensures tells) bounded))
+
+pub read_any-returns-in-Array : goal.read_any-returns-in-Array
+read_any-returns-in-Array g t c tells bounded =
+    kind_answers kind.Array array_member true (faults_at c.args.levels) _ _ _ _ _ (c.in_ok-code.ensures tells) c.in-Array.ensures
+    (c.read_array.ensures tells (bounded_peeked c.args.levels _ _ _ (c.in_ok-code.ensures tells) bounded))
+
+pub read_row-returns-in_err-value : goal.read_row-returns-in_err-value
+read_row-returns-in_err-value g t c tells bounded =
+    let p = err_from_is_err_and c.from_residual.result c.from_residual.ensures.1 in
+    let each = c.loop.invariant.each tells bounded in
+    rw (p.1, p.2)
+    (value_refused c.args.count ValueMeans (value_in c.args.levels).faults.fault (λ vs. vs) _ _ _ _ _
+    (omega (arith, c.loop-test.true, c.loop.invariant.long)) each
+    (c.in_err-value.ensures tells (bounded_behind c.args.levels _ _ _ each bounded)))
+
+pub read_row-returns-then-is_err : goal.read_row-returns-then-is_err
+read_row-returns-then-is_err g t c tells bounded =
+    let each = c.loop.invariant.each tells bounded in
+    no_room c.args.count ValueMeans (value_in c.args.levels).faults.fault (λ vs. vs) _ _ _ _ _ _ c.refuse.ensures.answer
+    (answered _ _ _ _ c.refuse.ensures.kept c.refuse.ensures.answer)
+    (each_more ValueMeans _ _ _ _ _ each (c.in_ok-value.ensures tells (bounded_behind c.args.levels _ _ _ each bounded)))
+
+pub read_row-loop-preserved : goal.read_row-loop-preserved
+read_row-loop-preserved g t c =
+    let e = pushed c.push.result c.is_err.result c.push.new.self.items _ _ c.if-is_err.false c.is_err.ensures.value c.push.ensures.items in
+    record {
+      long = ap length e ∙ length-append c.loop.values.items (c.in_ok-value.value ∷ []) ∙ omega (arith, c.loop.invariant.long);
+      each = λ tells bounded.
+          (let each = c.loop.invariant.each tells bounded in
+          rw e (each_more ValueMeans _ _ _ _ _ each (c.in_ok-value.ensures tells (bounded_behind c.args.levels _ _ _ each bounded))));
+    }
+
+pub read_list-returns-in_err-count : goal.read_list-returns-in_err-count
+read_list-returns-in_err-count g t c tells bounded =
+    let p = err_from_is_err_and c.from_residual.result c.from_residual.ensures.1 in
+    rw (p.1, p.2)
+    (as_member (IsOfItems list) _ _ _ _
+    (open_refused list_opening (value_with (faults_at c.args.levels)) (λ vs. vs) _ _ _ tt (c.in_err-count.ensures tells)))
+
+pub read_list-returns-in_err-inner : goal.read_list-returns-in_err-inner
+read_list-returns-in_err-inner g t c tells bounded =
+    absurd (some_left c.args.levels _ _ (list_deeper list _ _ _ (c.in_ok-count.ensures tells)) bounded
+    c.in_err-inner.ensures.err.0)
+
+pub read_list-returns-in_err-values : goal.read_list-returns-in_err-values
+read_list-returns-in_err-values g t c tells bounded =
+    let p = err_from_is_err_and c.from_residual-in_err-values.result c.from_residual-in_err-values.ensures.1 in
+    let opened = c.in_ok-count.ensures tells in
+    let less = c.in_ok-inner.ensures.ok in
+    let inside = bounded_inside c.args.levels c.in_ok-inner.inner _ _ (list_deeper list _ _ _ opened) bounded less.0 in
+    rw (p.1, p.2)
+    (as_member (IsOfItems list) _ _ _ _
+    (row_refused list_opening (value_with (faults_at c.args.levels)) (λ vs. vs) (λ vs. vs) (λ vs. vs) (λ vs. refl) _ _ _ _ _ tt
+    opened
+    (less_row_refused c.args.levels c.in_ok-inner.inner _ _ less.0 less.1 c.in_ok-count.count _ _
+    (c.in_err-values.ensures tells (less_bounded c.args.levels c.in_ok-inner.inner _ _ less.0 less.1 inside)))))
+
+pub read_list-returns-in_err-end_list : goal.read_list-returns-in_err-end_list
+read_list-returns-in_err-end_list g t c tells bounded =
+    let p = err_from_is_err_and c.from_residual-in_err-end_list.result c.from_residual-in_err-end_list.ensures.1 in
+    let opened = c.in_ok-count.ensures tells in
+    let less = c.in_ok-inner.ensures.ok in
+    let inside = bounded_inside c.args.levels c.in_ok-inner.inner _ _ (list_deeper list _ _ _ opened) bounded less.0 in
+    let row = less_row c.args.levels c.in_ok-inner.inner _ _ less.0 less.1 c.in_ok-count.count
+    c.in_ok-values.values.items _
+    (c.in_ok-values.ensures tells (less_bounded c.args.levels c.in_ok-inner.inner _ _ less.0 less.1 inside)) in
+    rw (p.1, p.2)
+    (as_member (IsOfItems list) _ _ _ _
+    (end_refused list_opening (value_with (faults_at c.args.levels)) (λ vs. vs) _ _ _ c.in_ok-values.values.items _ _ _ tt opened row
+    (c.in_err-end_list.ensures tells)))
+
+pub read_list-returns : goal.read_list-returns
+read_list-returns g t c tells bounded =
+    let opened = c.in_ok-count.ensures tells in
+    let less = c.in_ok-inner.ensures.ok in
+    let inside = bounded_inside c.args.levels c.in_ok-inner.inner _ _ (list_deeper list _ _ _ opened) bounded less.0 in
+    let row = less_row c.args.levels c.in_ok-inner.inner _ _ less.0 less.1 c.in_ok-count.count
+    c.in_ok-values.values.items _
+    (c.in_ok-values.ensures tells (less_bounded c.args.levels c.in_ok-inner.inner _ _ less.0 less.1 inside)) in (
+      c.in_ok-values.values.items,
+      list_is c.in_ok-values.values,
+      all_read list_opening (value_with (faults_at c.args.levels)) (λ vs. vs) _ _ _ c.in_ok-values.values.items _ _ opened row
+          (c.in_ok-end_list.ensures tells),
+    )
+
+pub read_array-returns-in_err-count : goal.read_array-returns-in_err-count
+read_array-returns-in_err-count g t c tells bounded =
+    let p = err_from_is_err_and c.from_residual.result c.from_residual.ensures.1 in
+    rw (p.1, p.2)
+    (as_member (IsOfItems array) _ _ _ _
+    (open_refused array_opening (value_with (faults_at c.args.levels)) (λ vs. vs) _ _ _
+    c.begin_array.ensures.room (c.in_err-count.ensures.opened tells)))
+
+pub read_array-returns-in_err-inner : goal.read_array-returns-in_err-inner
+read_array-returns-in_err-inner g t c tells bounded =
+    absurd (some_left c.args.levels _ _ (array_deeper _ _ _ (c.in_ok-count.ensures.opened tells)) bounded
+    c.in_err-inner.ensures.err.0)
+
+pub read_array-returns-in_err-values : goal.read_array-returns-in_err-values
+read_array-returns-in_err-values g t c tells bounded =
+    let p = err_from_is_err_and c.from_residual-in_err-values.result c.from_residual-in_err-values.ensures.1 in
+    let opened = c.in_ok-count.ensures.opened tells in
+    let less = c.in_ok-inner.ensures.ok in
+    let inside = bounded_inside c.args.levels c.in_ok-inner.inner _ _ (array_deeper _ _ _ opened) bounded less.0 in
+    rw (p.1, p.2)
+    (as_member (IsOfItems array) _ _ _ _
+    (row_refused array_opening (value_with (faults_at c.args.levels)) (λ vs. vs) (λ vs. vs) (λ vs. vs) (λ vs. refl) _ _ _ _ _
+    c.begin_array.ensures.room
+    opened
+    (less_row_refused c.args.levels c.in_ok-inner.inner _ _ less.0 less.1 c.in_ok-count.count _ _
+    (c.in_err-values.ensures tells (less_bounded c.args.levels c.in_ok-inner.inner _ _ less.0 less.1 inside)))))
+
+pub read_array-returns-in_err-end_array : goal.read_array-returns-in_err-end_array
+read_array-returns-in_err-end_array g t c tells bounded =
+    let p = err_from_is_err_and c.from_residual-in_err-end_array.result c.from_residual-in_err-end_array.ensures.1 in
+    let opened = c.in_ok-count.ensures.opened tells in
+    let less = c.in_ok-inner.ensures.ok in
+    let inside = bounded_inside c.args.levels c.in_ok-inner.inner _ _ (array_deeper _ _ _ opened) bounded less.0 in
+    let row = less_row c.args.levels c.in_ok-inner.inner _ _ less.0 less.1 c.in_ok-count.count
+    c.in_ok-values.values.items _
+    (c.in_ok-values.ensures tells (less_bounded c.args.levels c.in_ok-inner.inner _ _ less.0 less.1 inside)) in
+    rw (p.1, p.2)
+    (as_member (IsOfItems array) _ _ _ _
+    (end_refused array_opening (value_with (faults_at c.args.levels)) (λ vs. vs) _ _ _ c.in_ok-values.values.items _ _ _
+    c.begin_array.ensures.room opened row
+    (c.in_err-end_array.ensures tells)))
+
+pub read_array-returns : goal.read_array-returns
+read_array-returns g t c tells bounded =
+    let opened = c.in_ok-count.ensures.opened tells in
+    let less = c.in_ok-inner.ensures.ok in
+    let inside = bounded_inside c.args.levels c.in_ok-inner.inner _ _ (array_deeper _ _ _ opened) bounded less.0 in
+    let row = less_row c.args.levels c.in_ok-inner.inner _ _ less.0 less.1 c.in_ok-count.count
+    c.in_ok-values.values.items _
+    (c.in_ok-values.ensures tells (less_bounded c.args.levels c.in_ok-inner.inner _ _ less.0 less.1 inside)) in (
+      c.in_ok-values.values.items,
+      array_is (record { 0 = c.in_ok-values.values }),
+      all_read array_opening (value_with (faults_at c.args.levels)) (λ vs. vs) _ _ _ c.in_ok-values.values.items _ _ opened row
+          (c.in_ok-end_array.ensures tells),
+    )
+
+pub read_described-returns-in_err-descriptor : goal.read_described-returns-in_err-descriptor
+read_described-returns-in_err-descriptor g t c tells bounded =
+    let p = err_from_is_err_and c.from_residual.result c.from_residual.ensures.1 in
+    rw (p.1, p.2)
+    (as_member IsDescribed _ _ _ _
+    (reads.open_refused (value_with (faults_at c.args.levels)) _ _ _ c.begin_described.ensures.nesting
+    (c.in_err-descriptor.ensures.opened tells)))
+
+pub read_described-returns-in_err-inner : goal.read_described-returns-in_err-inner
+read_described-returns-in_err-inner g t c tells bounded =
+    absurd (some_left c.args.levels _ _ (described_deeper _ _ _ (c.in_ok-descriptor.ensures.opened tells)) bounded
+    c.in_err-inner.ensures.err.0)
+
+pub read_described-returns-in_err-value : goal.read_described-returns-in_err-value
+read_described-returns-in_err-value g t c tells bounded =
+    let p = err_from_is_err_and c.from_residual-in_err-value.result c.from_residual-in_err-value.ensures.1 in
+    let opened = c.in_ok-descriptor.ensures.opened tells in
+    let less = c.in_ok-inner.ensures.ok in
+    let inside = bounded_inside c.args.levels c.in_ok-inner.inner _ _ (described_deeper _ _ _ opened) bounded less.0 in
+    rw (p.1, p.2)
+    (as_member IsDescribed _ _ _ _
+    (reads.value_refused (value_with (faults_at c.args.levels)) _ _ _ c.begin_described.ensures.nesting opened _ _
+    (less_refused c.args.levels c.in_ok-inner.inner _ _ less.0 less.1 _ _
+    (c.in_err-value.ensures tells (less_bounded c.args.levels c.in_ok-inner.inner _ _ less.0 less.1 inside)))))
+
+pub read_described-returns-in_err-end_described : goal.read_described-returns-in_err-end_described
+read_described-returns-in_err-end_described g t c tells bounded =
+    let p = err_from_is_err_and c.from_residual-in_err-end_described.result c.from_residual-in_err-end_described.ensures.1 in
+    let opened = c.in_ok-descriptor.ensures.opened tells in
+    let less = c.in_ok-inner.ensures.ok in
+    let inside = bounded_inside c.args.levels c.in_ok-inner.inner _ _ (described_deeper _ _ _ opened) bounded less.0 in
+    let value = less_read c.args.levels c.in_ok-inner.inner _ _ less.0 less.1 c.in_ok-value.value _
+    (c.in_ok-value.ensures tells (less_bounded c.args.levels c.in_ok-inner.inner _ _ less.0 less.1 inside)) in
+    rw (p.1, p.2)
+    (as_member IsDescribed _ _ _ _
+    (reads.end_refused (value_with (faults_at c.args.levels)) _ _ _ c.begin_described.ensures.nesting opened c.in_ok-value.value _ _ _
+    value c.in_err-end_described.ensures))
+
+pub read_described-returns-in-Ok : goal.read_described-returns-in-Ok
+read_described-returns-in-Ok g t c tells bounded =
+    let opened = c.in_ok-descriptor.ensures.opened tells in
+    let less = c.in_ok-inner.ensures.ok in
+    let inside = bounded_inside c.args.levels c.in_ok-inner.inner _ _ (described_deeper _ _ _ opened) bounded less.0 in
+    let value = less_read c.args.levels c.in_ok-inner.inner _ _ less.0 less.1 c.in_ok-value.value _
+    (c.in_ok-value.ensures tells (less_bounded c.args.levels c.in_ok-inner.inner _ _ less.0 less.1 inside)) in
+    let whole : Described Value = record { descriptor = c.in_ok-descriptor.descriptor; value = c.in_ok-value.value } in (
+      whole,
+      described_is c.in-Ok.boxed
+          ∙ ap (λ (z : Described Value). described (descriptor_of z.descriptor) (value_term z.value)) c.in-Ok.ensures.ok,
+      reads.whole_read (value_with (faults_at c.args.levels)) _ _ _ _ whole c.begin_described.ensures.nesting opened
+          c.descriptor_typed.ensures value c.in_ok-end_described.ensures,
+    )
+
+pub read_pairs-returns-in_err-key : goal.read_pairs-returns-in_err-key
+read_pairs-returns-in_err-key g t c tells bounded =
+    let part = value_in c.args.levels in
+    let p = err_from_is_err_and c.from_residual.result c.from_residual.ensures.1 in
+    let each = c.loop.invariant.each tells bounded in
+    let fewer : ReadsFewer part part c.args.count c.args.decoder.now c.loop.pairs.items c.loop.decoder = record {
+      fewer = omega (arith, c.loop-test.true, c.loop.invariant.long);
+      each = each;
+      others = c.loop.invariant.others;
+    } in
+    rw (p.1, p.2)
+    (key_refused part part c.args.count _ _ _ _ _ fewer
+    (c.in_err-key.ensures tells (bounded_in_pairs part part c.args.levels _ _ _ each bounded)))
+
+pub read_pairs-returns-then-is_among : goal.read_pairs-returns-then-is_among
+read_pairs-returns-then-is_among g t c tells bounded =
+    let part = value_in c.args.levels in
+    let each = c.loop.invariant.each tells bounded in
+    let fewer : ReadsFewer part part c.args.count c.args.decoder.now c.loop.pairs.items c.loop.decoder = record {
+      fewer = omega (arith, c.loop-test.true, c.loop.invariant.long);
+      each = each;
+      others = c.loop.invariant.others;
+    } in
+    key_twice part part c.args.count _ _ _ c.in_ok-key.key _ _ _ fewer
+    (c.in_ok-key.ensures tells (bounded_in_pairs part part c.args.levels _ _ _ each bounded))
+    (key_known c.in_ok-key.key c.loop.pairs.items c.is_among.result c.if-is_among.true (rw c.as_slice.ensures.value at c.is_among.ensures))
+    c.refuse.ensures.answer (answered _ _ _ _ c.refuse.ensures.kept c.refuse.ensures.answer)
+
+pub read_pairs-returns-in_err-value : goal.read_pairs-returns-in_err-value
+read_pairs-returns-in_err-value g t c tells bounded =
+    let part = value_in c.args.levels in
+    let p = err_from_is_err_and c.from_residual-in_err-value.result c.from_residual-in_err-value.ensures.1 in
+    let each = c.loop.invariant.each tells bounded in
+    let fewer : ReadsFewer part part c.args.count c.args.decoder.now c.loop.pairs.items c.loop.decoder = record {
+      fewer = omega (arith, c.loop-test.true, c.loop.invariant.long);
+      each = each;
+      others = c.loop.invariant.others;
+    } in
+    let inside = bounded_in_pairs part part c.args.levels _ _ _ each bounded in
+    let key = c.in_ok-key.ensures tells inside in
+    rw (p.1, p.2)
+    (maps.value_refused part part c.args.count _ _ _ c.in_ok-key.key _ _ _ fewer key
+    (key_new c.in_ok-key.key c.loop.pairs.items c.is_among.result c.if-is_among.false (rw c.as_slice.ensures.value at c.is_among.ensures))
+    (c.in_err-value.ensures tells (bounded_after c.args.levels _ _ _ key inside)))
+
+pub read_pairs-returns-then-is_err : goal.read_pairs-returns-then-is_err
+read_pairs-returns-then-is_err g t c tells bounded =
+    let part = value_in c.args.levels in
+    let each = c.loop.invariant.each tells bounded in
+    let inside = bounded_in_pairs part part c.args.levels _ _ _ each bounded in
+    let key = c.in_ok-key.ensures tells inside in
+    maps.no_room part part c.args.count _ _ _ c.in_ok-key.key _ c.in_ok-value.value _ _ _ each key
+    (c.in_ok-value.ensures tells (bounded_after c.args.levels _ _ _ key inside)) c.refuse-then-is_err.ensures.answer
+    (answered _ _ _ _ c.refuse-then-is_err.ensures.kept c.refuse-then-is_err.ensures.answer)
+
+pub read_pairs-loop-preserved : goal.read_pairs-loop-preserved
+read_pairs-loop-preserved g t c =
+    let part = value_in c.args.levels in
+    let new = key_new c.in_ok-key.key c.loop.pairs.items c.is_among.result c.if-is_among.false
+    (rw c.as_slice.ensures.value at c.is_among.ensures) in
+    let e = pushed c.push.result c.is_err.result c.push.new.self.items _ _ c.if-is_err.false c.is_err.ensures.value c.push.ensures.items in
+    record {
+      long = ap length e ∙ length-append c.loop.pairs.items ((c.in_ok-key.key, c.in_ok-value.value) ∷ [])
+          ∙ omega (arith, c.loop.invariant.long);
+      others = rw e
+          (others_more part part c.loop.pairs.items c.in_ok-key.key c.in_ok-value.value c.loop.invariant.others new);
+      each = λ tells bounded.
+          (let each = c.loop.invariant.each tells bounded in
+          let inside = bounded_in_pairs part part c.args.levels _ _ _ each bounded in
+          let key = c.in_ok-key.ensures tells inside in
+          rw e
+          (pairs_more part part _ c.loop.pairs.items c.in_ok-key.key c.in_ok-value.value _ _ _ each key
+          (c.in_ok-value.ensures tells (bounded_after c.args.levels _ _ _ key inside))));
+    }
+
+pub read_map-returns-in_err-count : goal.read_map-returns-in_err-count
+read_map-returns-in_err-count g t c tells bounded =
+    let part = value_with (faults_at c.args.levels) in
+    let p = err_from_is_err_and c.from_residual.result c.from_residual.ensures.1 in
+    rw (p.1, p.2) (as_member IsOfPairs _ _ _ _ (maps.open_refused part part _ _ _ (c.in_err-count.ensures tells)))
+
+pub read_map-returns-in_err-inner : goal.read_map-returns-in_err-inner
+read_map-returns-in_err-inner g t c tells bounded =
+    absurd (some_left c.args.levels _ _ (list_deeper map _ _ _ (c.in_ok-count.ensures tells)) bounded
+    c.in_err-inner.ensures.err.0)
+
+pub read_map-returns-in_err-pairs : goal.read_map-returns-in_err-pairs
+read_map-returns-in_err-pairs g t c tells bounded =
+    let part = value_with (faults_at c.args.levels) in
+    let p = err_from_is_err_and c.from_residual-in_err-pairs.result c.from_residual-in_err-pairs.ensures.1 in
+    let opened = c.in_ok-count.ensures tells in
+    let less = c.in_ok-inner.ensures.ok in
+    let inside = bounded_inside c.args.levels c.in_ok-inner.inner _ _ (list_deeper map _ _ _ opened) bounded less.0 in
+    rw (p.1, p.2)
+    (as_member IsOfPairs _ _ _ _
+    (maps.row_refused part part _ _ _ _ _ (by_two opened)
+    (less_pairs_refused c.args.levels c.in_ok-inner.inner _ _ less.0 less.1 (c.in_ok-count.count / 2) _ _
+    (c.in_err-pairs.ensures tells (less_bounded c.args.levels c.in_ok-inner.inner _ _ less.0 less.1 inside)))))
+
+pub read_map-returns-in_err-end_map : goal.read_map-returns-in_err-end_map
+read_map-returns-in_err-end_map g t c tells bounded =
+    let part = value_with (faults_at c.args.levels) in
+    let p = err_from_is_err_and c.from_residual-in_err-end_map.result c.from_residual-in_err-end_map.ensures.1 in
+    let opened = c.in_ok-count.ensures tells in
+    let less = c.in_ok-inner.ensures.ok in
+    let inside = bounded_inside c.args.levels c.in_ok-inner.inner _ _ (list_deeper map _ _ _ opened) bounded less.0 in
+    let row = less_pairs c.args.levels c.in_ok-inner.inner _ _ less.0 less.1 (c.in_ok-count.count / 2) c.in_ok-pairs.pairs.items _
+    (c.in_ok-pairs.ensures tells (less_bounded c.args.levels c.in_ok-inner.inner _ _ less.0 less.1 inside)) in
+    rw (p.1, p.2)
+    (as_member IsOfPairs _ _ _ _
+    (maps.end_refused part part _ _ _ c.in_ok-pairs.pairs.items _ _ _ (by_two opened) row (c.in_err-end_map.ensures tells)))
+
+pub read_map-returns : goal.read_map-returns
+read_map-returns g t c tells bounded =
+    let part = value_with (faults_at c.args.levels) in
+    let opened = c.in_ok-count.ensures tells in
+    let less = c.in_ok-inner.ensures.ok in
+    let inside = bounded_inside c.args.levels c.in_ok-inner.inner _ _ (list_deeper map _ _ _ opened) bounded less.0 in
+    let row = less_pairs c.args.levels c.in_ok-inner.inner _ _ less.0 less.1 (c.in_ok-count.count / 2) c.in_ok-pairs.pairs.items _
+    (c.in_ok-pairs.ensures tells (less_bounded c.args.levels c.in_ok-inner.inner _ _ less.0 less.1 inside)) in (
+      c.in_ok-pairs.pairs.items,
+      map_is (record { 0 = c.in_ok-pairs.pairs }),
+      maps.all_read part part _ _ _ c.in_ok-pairs.pairs.items _ _ (by_two opened) row (c.in_ok-end_map.ensures tells),
+    )
