@@ -11,7 +11,9 @@ use Rattle.amqp_codec.specs.Reading.{reading_of, IsUnreadable}
 use Rattle.amqp_calls.specs.Rewritten.{IsRewritten, IsUnwritten}
 use Rattle.amqp_errors.specs.Conditions.{condition_type}
 use Rattle.amqp_delivery.specs.Tables.{accepted, received, released, declare, declared, discharge, delivery_state, outcome}
+use Rattle.amqp_performatives.specs.Tables.{disposition, transfer}
 use Rattle.amqp_sasl.specs.Tables.{sasl_mechanisms, sasl_init, sasl_challenge, sasl_response, sasl_outcome}
+use Rattle.amqp_values.specs.ValueType.{value_type}
 use Rattle.amqp_wire.specs.Error.{number_of, name_of}
 use Rattle.amqp_lines.specs.Lines.{TakesLine}
 use Rattle.amqp_lines.specs.declared.answer.Answer.{Answer}
@@ -19,7 +21,7 @@ use Rattle.amqp_lines.specs.declared.answer.Answer.TheVariants.{Rewritten, Refus
 use Rattle.amqp_lines.specs.declared.request.TypeName.{TypeName}
 use Rattle.amqp_lines.specs.declared.request.TypeName.TheVariants.{Accepted, Boolean, Declare, Declared, DeliveryState, Discharge}
 use Rattle.amqp_lines.specs.declared.request.TypeName.TheVariants.{ErrorCondition, Outcome, Received, Released, SaslChallenge, SaslInit}
-use Rattle.amqp_lines.specs.declared.request.TypeName.TheVariants.{SaslMechanisms, SaslOutcome, SaslResponse}
+use Rattle.amqp_lines.specs.declared.request.TypeName.TheVariants.{SaslMechanisms, SaslOutcome, SaslResponse, Disposition, Transfer, Value}
 
 -- Memory ran out, or the reader or the writer failed.
 abbrev pub IsOutside : Error → Type 0
@@ -39,6 +41,7 @@ type_name Declare = codes "declare"
 type_name Declared = codes "declared"
 type_name DeliveryState = codes "delivery-state"
 type_name Discharge = codes "discharge"
+type_name Disposition = codes "disposition"
 type_name ErrorCondition = codes "error-condition"
 type_name Outcome = codes "outcome"
 type_name Received = codes "received"
@@ -48,6 +51,8 @@ type_name SaslInit = codes "sasl-init"
 type_name SaslMechanisms = codes "sasl-mechanisms"
 type_name SaslOutcome = codes "sasl-outcome"
 type_name SaslResponse = codes "sasl-response"
+type_name Transfer = codes "transfer"
+type_name Value = codes "value"
 
 -- The digits stand for the bytes: an even, positive number of them, or `-` for none.
 abbrev pub StandsFor : List ℕ → List ℕ → Type 0
@@ -88,6 +93,7 @@ IsText Declare = TextOf (composite declare)
 IsText Declared = TextOf (composite declared)
 IsText DeliveryState = TextOf delivery_state
 IsText Discharge = TextOf (composite discharge)
+IsText Disposition = TextOf (composite disposition)
 IsText ErrorCondition = TextOf condition_type
 IsText Outcome = TextOf outcome
 IsText Received = TextOf (composite received)
@@ -97,6 +103,8 @@ IsText SaslInit = TextOf (composite sasl_init)
 IsText SaslMechanisms = TextOf (composite sasl_mechanisms)
 IsText SaslOutcome = TextOf (composite sasl_outcome)
 IsText SaslResponse = TextOf (composite sasl_response)
+IsText Transfer = TextOf (composite transfer)
+IsText Value = TextOf value_type
 
 abbrev pub HasNoText : TypeName → List ℕ → Error → Type 0
 HasNoText Accepted = NoTextOf (composite accepted)
@@ -105,6 +113,7 @@ HasNoText Declare = NoTextOf (composite declare)
 HasNoText Declared = NoTextOf (composite declared)
 HasNoText DeliveryState = NoTextOf delivery_state
 HasNoText Discharge = NoTextOf (composite discharge)
+HasNoText Disposition = NoTextOf (composite disposition)
 HasNoText ErrorCondition = NoTextOf condition_type
 HasNoText Outcome = NoTextOf outcome
 HasNoText Received = NoTextOf (composite received)
@@ -114,6 +123,8 @@ HasNoText SaslInit = NoTextOf (composite sasl_init)
 HasNoText SaslMechanisms = NoTextOf (composite sasl_mechanisms)
 HasNoText SaslOutcome = NoTextOf (composite sasl_outcome)
 HasNoText SaslResponse = NoTextOf (composite sasl_response)
+HasNoText Transfer = NoTextOf (composite transfer)
+HasNoText Value = NoTextOf value_type
 
 -- The line is answered so, and this says whether that is `ok`: by the canonical text and the number of the bytes behind
 -- the value, or by why there is none, which may be want of memory.

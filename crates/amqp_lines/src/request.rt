@@ -9,7 +9,8 @@ ghost use Rattle.amqp_lines.specs.declared.request.TypeName.{TypeName};
 use fe2o3_amqp_types::codec::{Error, canonical_text};
 use fe2o3_amqp_types::definitions::ErrorCondition;
 use fe2o3_amqp_types::messaging::{Accepted, DeliveryState, Outcome, Received, Released};
-use fe2o3_amqp_types::primitives::Boolean;
+use fe2o3_amqp_types::performatives::{Disposition, Transfer};
+use fe2o3_amqp_types::primitives::{Boolean, Value};
 use fe2o3_amqp_types::sasl::{SaslChallenge, SaslInit, SaslMechanisms, SaslOutcome, SaslResponse};
 use fe2o3_amqp_types::transaction::{Declare, Declared, Discharge};
 use memchr::memchr;
@@ -24,6 +25,7 @@ pub(crate) enum TypeName {
     Declared,
     DeliveryState,
     Discharge,
+    Disposition,
     ErrorCondition,
     Outcome,
     Received,
@@ -33,6 +35,8 @@ pub(crate) enum TypeName {
     SaslMechanisms,
     SaslOutcome,
     SaslResponse,
+    Transfer,
+    Value,
 }
 
 /// The types' names in lines, in the order of `TypeName`.
@@ -43,6 +47,7 @@ const NAMES: &[(&str, TypeName)] = &[
     ("declared", TypeName::Declared),
     ("delivery-state", TypeName::DeliveryState),
     ("discharge", TypeName::Discharge),
+    ("disposition", TypeName::Disposition),
     ("error-condition", TypeName::ErrorCondition),
     ("outcome", TypeName::Outcome),
     ("received", TypeName::Received),
@@ -52,6 +57,8 @@ const NAMES: &[(&str, TypeName)] = &[
     ("sasl-mechanisms", TypeName::SaslMechanisms),
     ("sasl-outcome", TypeName::SaslOutcome),
     ("sasl-response", TypeName::SaslResponse),
+    ("transfer", TypeName::Transfer),
+    ("value", TypeName::Value),
 ];
 
 // The place of the row with this name.
@@ -94,6 +101,7 @@ impl TypeName {
             TypeName::Declared => canonical_text::<Declared>(input, alloc),
             TypeName::DeliveryState => canonical_text::<DeliveryState>(input, alloc),
             TypeName::Discharge => canonical_text::<Discharge>(input, alloc),
+            TypeName::Disposition => canonical_text::<Disposition>(input, alloc),
             TypeName::ErrorCondition => canonical_text::<ErrorCondition>(input, alloc),
             TypeName::Outcome => canonical_text::<Outcome>(input, alloc),
             TypeName::Received => canonical_text::<Received>(input, alloc),
@@ -103,6 +111,8 @@ impl TypeName {
             TypeName::SaslMechanisms => canonical_text::<SaslMechanisms>(input, alloc),
             TypeName::SaslOutcome => canonical_text::<SaslOutcome>(input, alloc),
             TypeName::SaslResponse => canonical_text::<SaslResponse>(input, alloc),
+            TypeName::Transfer => canonical_text::<Transfer>(input, alloc),
+            TypeName::Value => canonical_text::<Value>(input, alloc),
         }
     }
 }

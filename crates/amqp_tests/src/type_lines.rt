@@ -23,6 +23,22 @@ const BOOLEANS: &[Row] = &[
     ("boolean 820000000000000000", "no 3 FloatCode"),
 ];
 
+/// Values of any kind.
+const VALUES: &[Row] = &[
+    ("value 5207ff", "ok 5207 1"),
+    ("value 7000000007", "ok 5207 0"),
+    ("value e00100", "ok e0020040 0"),
+    ("value e0020040", "ok e0020040 0"),
+    ("value 0080000000000000002445", "ok 00532445 0"),
+    ("value e002ff41", "no 11 ZeroWidthItems"),
+    ("value f000000005ffffffff40", "no 11 ZeroWidthItems"),
+    ("value c106044341520042", "no 6 DuplicateKey"),
+    ("value c1020143", "no 5 OddCount"),
+    ("value 7200000000", "no 3 FloatCode"),
+    ("value 99", "no 2 UnknownCode"),
+    ("value -", "no 1 Cut"),
+];
+
 /// Composites without fields, whose descriptors are codes in each spelling, and names in both widths.
 const ACCEPTED_AND_RELEASED: &[Row] = &[
     ("accepted 00532445", "ok 00532445 0"),
@@ -313,6 +329,148 @@ const SASL_EXCHANGE: &[Row] = &[
     ("sasl-outcome 00534445", "no 8 Missing"),
 ];
 
+/// A mandatory handle, and ten fields that may be left out, each by itself.
+const TRANSFERS: &[Row] = &[
+    (
+        "transfer 005314c00b054343a004000000014341",
+        "ok 005314c00b054343a004000000014341 0",
+    ),
+    (
+        "transfer 005314c0150b4343a00400000000708001370042404040404041",
+        "ok 005314c0150b4343a00400000000708001370042404040404041 0",
+    ),
+    ("transfer 005314c0020143", "ok 005314c0020143 0"),
+    ("transfer 005314c003015207", "ok 005314c003015207 0"),
+    ("transfer 005314c00402435201", "ok 005314c00402435201 0"),
+    (
+        "transfer 005314c006034340a00101",
+        "ok 005314c006034340a00101 0",
+    ),
+    ("transfer 005314c0050443404043", "ok 005314c0050443404043 0"),
+    (
+        "transfer 005314c006054340404042",
+        "ok 005314c006054340404042 0",
+    ),
+    (
+        "transfer 005314c006054340404041",
+        "ok 005314c006054340404041 0",
+    ),
+    (
+        "transfer 005314c00706434040404041",
+        "ok 005314c00706434040404041 0",
+    ),
+    (
+        "transfer 005314c009074340404040405000",
+        "ok 005314c009074340404040405000 0",
+    ),
+    (
+        "transfer 005314c009074340404040405001",
+        "ok 005314c009074340404040405001 0",
+    ),
+    (
+        "transfer 005314c00c084340404040404000532445",
+        "ok 005314c00c084340404040404000532445 0",
+    ),
+    (
+        "transfer 005314c00a09434040404040404041",
+        "ok 005314c00a09434040404040404041 0",
+    ),
+    (
+        "transfer 005314c00b0a43404040404040404041",
+        "ok 005314c00b0a43404040404040404041 0",
+    ),
+    (
+        "transfer 005314c00c0b4340404040404040404041",
+        "ok 005314c00c0b4340404040404040404041 0",
+    ),
+    (
+        "transfer 005314c00c0b4340404040424040424242",
+        "ok 005314c0020143 0",
+    ),
+    (
+        "transfer 005314c00c0b4340404040404040404040",
+        "ok 005314c0020143 0",
+    ),
+    ("transfer 005314d0000000050000000143", "ok 005314c0020143 0"),
+    (
+        "transfer 00a312616d71703a7472616e736665723a6c697374c0020143",
+        "ok 005314c0020143 0",
+    ),
+    ("transfer 00531445", "no 8 Missing"),
+    ("transfer 005314c0020140", "no 8 Missing"),
+    ("transfer 005314c003024043", "no 8 Missing"),
+    (
+        "transfer 005314c00d0c434040404040404040404040",
+        "no 7 Surplus",
+    ),
+    ("transfer 005314c003015000", "no 27 WrongType"),
+    ("transfer 005314c00706434040404043", "no 27 WrongType"),
+    (
+        "transfer 005314c009074340404040405002",
+        "no 17 UnknownNumber",
+    ),
+    (
+        "transfer 005314c00c084340404040404000533045",
+        "no 9 WrongDescriptor",
+    ),
+    ("transfer 005314c003014340", "no 4 Size"),
+    ("transfer 005314c00201", "no 1 Cut"),
+    ("transfer 005315c003024243", "no 9 WrongDescriptor"),
+];
+
+/// A role and a number, and four fields that may be left out, each by itself.
+const DISPOSITIONS: &[Row] = &[
+    (
+        "disposition 005315c009054143404100532445",
+        "ok 005315c009054143404100532445 0",
+    ),
+    ("disposition 005315c003024243", "ok 005315c003024243 0"),
+    ("disposition 005315c003024143", "ok 005315c003024143 0"),
+    ("disposition 005315c004024252ff", "ok 005315c004024252ff 0"),
+    (
+        "disposition 005315c0050342435207",
+        "ok 005315c0050342435207 0",
+    ),
+    (
+        "disposition 005315c0050442434041",
+        "ok 005315c0050442434041 0",
+    ),
+    (
+        "disposition 005315c009054243404000532445",
+        "ok 005315c009054243404000532445 0",
+    ),
+    (
+        "disposition 005315c00706424340404041",
+        "ok 005315c00706424340404041 0",
+    ),
+    (
+        "disposition 005315c00706424340424042",
+        "ok 005315c003024243 0",
+    ),
+    (
+        "disposition 005315c00706424340404040",
+        "ok 005315c003024243 0",
+    ),
+    ("disposition 005315c00402560143", "ok 005315c003024143 0"),
+    (
+        "disposition 00a315616d71703a646973706f736974696f6e3a6c697374c003024243",
+        "ok 005315c003024243 0",
+    ),
+    ("disposition 00531545", "no 8 Missing"),
+    ("disposition 005315c0020142", "no 8 Missing"),
+    ("disposition 005315c003024043", "no 8 Missing"),
+    ("disposition 005315c00402560243", "no 12 BadBool"),
+    ("disposition 005315c0050442434043", "no 27 WrongType"),
+    (
+        "disposition 005315c009054243404000533045",
+        "no 9 WrongDescriptor",
+    ),
+    ("disposition 005315c0080742434040404040", "no 7 Surplus"),
+    ("disposition 005315c00402424340", "no 4 Size"),
+    ("disposition 005315c0030242", "no 1 Cut"),
+    ("disposition 005314c0020143", "no 9 WrongDescriptor"),
+];
+
 // Each row's line is answered by its answer.
 fn check_rows(rows: &[Row], alloc: Global) -> Result<(), Fail> {
     for (line, answer) in rows {
@@ -331,6 +489,11 @@ fn check_rows(rows: &[Row], alloc: Global) -> Result<(), Fail> {
 #[test]
 fn booleans(rt: HostRuntime) -> Result<(), Fail> {
     check_rows(BOOLEANS, rt.alloc())
+}
+
+#[test]
+fn values(rt: HostRuntime) -> Result<(), Fail> {
+    check_rows(VALUES, rt.alloc())
 }
 
 #[test]
@@ -376,4 +539,14 @@ fn sasl_init(rt: HostRuntime) -> Result<(), Fail> {
 #[test]
 fn sasl_exchange(rt: HostRuntime) -> Result<(), Fail> {
     check_rows(SASL_EXCHANGE, rt.alloc())
+}
+
+#[test]
+fn transfers(rt: HostRuntime) -> Result<(), Fail> {
+    check_rows(TRANSFERS, rt.alloc())
+}
+
+#[test]
+fn dispositions(rt: HostRuntime) -> Result<(), Fail> {
+    check_rows(DISPOSITIONS, rt.alloc())
 }

@@ -14,8 +14,10 @@ pub mod codec {
     };
     pub use amqp_containers::{Array, TransparentVec};
     pub use amqp_described::Described;
+    pub use amqp_lazy::LazyValue;
     pub use amqp_maps::OrderedMap;
     pub use amqp_primitives::{Binary, ByteBuf, Dec32, Dec64, Dec128, SymbolRef, Timestamp, Uuid};
+    pub use amqp_values::{Value, ValueMap};
 }
 
 /// The primitive types (Part 1, section 1.6), and the standard's names of those of std.
@@ -23,8 +25,10 @@ pub mod primitives {
     pub use amqp_codec::{Descriptor, Symbol};
     pub use amqp_containers::{Array, TransparentVec};
     pub use amqp_described::Described;
+    pub use amqp_lazy::LazyValue;
     pub use amqp_maps::OrderedMap;
     pub use amqp_primitives::{Binary, ByteBuf, Dec32, Dec64, Dec128, SymbolRef, Timestamp, Uuid};
+    pub use amqp_values::{Value, ValueMap};
 
     pub type Boolean = bool;
 
@@ -61,6 +65,12 @@ pub mod definitions {
 pub mod messaging {
     pub use amqp_definitions::{DistributionMode, TerminusDurability, TerminusExpiryPolicy};
     pub use amqp_delivery::{Accepted, DeliveryState, Outcome, Received, Released};
+}
+
+/// What the frames of connections, sessions and links hold (Part 2, section 2.7).
+pub mod performatives {
+    pub use amqp_definitions::{ChannelMax, MaxFrameSize};
+    pub use amqp_performatives::{Disposition, Transfer};
 }
 
 /// The types of the security layer (Part 5).
