@@ -2,3 +2,4 @@ pub mod TextTable
 pub mod NormalType
 pub mod Texts
 pub mod Conditions
+pub mod Tables

@@ -1,8 +1,10 @@
-//! Error conditions (Part 2, sections 2.8.14 to 2.8.18; Part 4, section 4.5.8): texts that say what went wrong.
+//! Errors (Part 2, section 2.8.14) and their conditions (Part 2, sections 2.8.15 to 2.8.18; Part 4, section 4.5.8): texts that say
+//! what went wrong.
 #![tactic(auto)]
 
 mod amqp_error;
 mod connection_error;
+mod error;
 mod error_condition;
 pub mod laws;
 mod link_error;
@@ -11,6 +13,7 @@ mod transaction_error;
 
 pub use amqp_error::AmqpError;
 pub use connection_error::ConnectionError;
+pub use error::Error;
 pub use error_condition::ErrorCondition;
 pub use link_error::LinkError;
 pub use session_error::SessionError;
