@@ -4,7 +4,7 @@ ghost use Rattle.amqp_enums.specs.Choices.{sum_one, sum_agreement, sum_writing};
 ghost use Rattle.amqp_delivery.specs.Members.{as_state};
 ghost use Rattle.amqp_delivery.specs.Tables.{outcome, outcomes};
 
-use crate::{Accepted, Declared, DeliveryState, Released};
+use crate::{Accepted, Declared, DeliveryState, Modified, Rejected, Released};
 use amqp_codec::{ByteSource, Decoder, DeserializeTerm, Encoder, Error, Serialize, SerializeTerm};
 use amqp_enums::{Sum, is_null_sum, read_as, read_sum, write_as};
 use std::alloc::Global;
@@ -13,7 +13,9 @@ use std::alloc::Global;
 #[derive(Clone, Debug, PartialEq, Eq, Drop)]
 pub enum Outcome {
     Accepted(Accepted),
+    Rejected(Rejected),
     Released(Released),
+    Modified(Modified),
     Declared(Declared),
 }
 
@@ -27,6 +29,16 @@ impl From<Accepted> for Outcome {
     }
 }
 
+impl From<Rejected> for Outcome {
+    ghost use Rattle.amqp_delivery.specs.declared.outcome.Outcome.TheVariants as outcome;
+
+    ghost from_gives = { λ member sum. sum ≡ outcome.Rejected member };
+
+    fn from(rejected: Rejected) -> Outcome {
+        Outcome::Rejected(rejected)
+    }
+}
+
 impl From<Released> for Outcome {
     ghost use Rattle.amqp_delivery.specs.declared.outcome.Outcome.TheVariants as outcome;
 
@@ -34,6 +46,16 @@ impl From<Released> for Outcome {
 
     fn from(released: Released) -> Outcome {
         Outcome::Released(released)
+    }
+}
+
+impl From<Modified> for Outcome {
+    ghost use Rattle.amqp_delivery.specs.declared.outcome.Outcome.TheVariants as outcome;
+
+    ghost from_gives = { λ member sum. sum ≡ outcome.Modified member };
+
+    fn from(modified: Modified) -> Outcome {
+        Outcome::Modified(modified)
     }
 }
 
@@ -53,7 +75,9 @@ impl From<Outcome> for DeliveryState {
     fn from(outcome: Outcome) -> DeliveryState {
         match outcome {
             Outcome::Accepted(accepted) => DeliveryState::Accepted(accepted),
+            Outcome::Rejected(rejected) => DeliveryState::Rejected(rejected),
             Outcome::Released(released) => DeliveryState::Released(released),
+            Outcome::Modified(modified) => DeliveryState::Modified(modified),
             Outcome::Declared(declared) => DeliveryState::Declared(declared),
         }
     }
@@ -65,7 +89,9 @@ impl Sum for Outcome {
     fn descriptors() -> &'static [(u64, &'static str)] {
         &[
             Accepted::DESCRIPTOR,
+            Rejected::DESCRIPTOR,
             Released::DESCRIPTOR,
+            Modified::DESCRIPTOR,
             Declared::DESCRIPTOR,
         ]
     }
@@ -77,8 +103,10 @@ impl Sum for Outcome {
     ) -> Result<Outcome, Error> {
         match place {
             0 => read_as::<Accepted, _, _>(decoder, alloc),
-            1 => read_as::<Released, _, _>(decoder, alloc),
-            2 => read_as::<Declared, _, _>(decoder, alloc),
+            1 => read_as::<Rejected, _, _>(decoder, alloc),
+            2 => read_as::<Released, _, _>(decoder, alloc),
+            3 => read_as::<Modified, _, _>(decoder, alloc),
+            4 => read_as::<Declared, _, _>(decoder, alloc),
             _ => Err(decoder.refuse(Error::WrongDescriptor)),
         }
     }
@@ -90,7 +118,9 @@ impl Serialize for Outcome {
     fn serialize(&self, encoder: &mut Encoder) -> Result<(), Error> {
         match self {
             Outcome::Accepted(accepted) => write_as(self, accepted, encoder),
+            Outcome::Rejected(rejected) => write_as(self, rejected, encoder),
             Outcome::Released(released) => write_as(self, released, encoder),
+            Outcome::Modified(modified) => write_as(self, modified, encoder),
             Outcome::Declared(declared) => write_as(self, declared, encoder),
         }
     }
@@ -98,7 +128,9 @@ impl Serialize for Outcome {
     fn in_type(&self) {
         match self {
             Outcome::Accepted(accepted) => accepted.in_type(),
+            Outcome::Rejected(rejected) => rejected.in_type(),
             Outcome::Released(released) => released.in_type(),
+            Outcome::Modified(modified) => modified.in_type(),
             Outcome::Declared(declared) => declared.in_type(),
         }
     }

@@ -1,8 +1,9 @@
 //! Which member an outcome is, and the member itself.
 ghost use Rattle.std.specs.Prelude.{◌≡◌, None, Ok, MatchOption, IsErrAnd, is_some, ok_or};
-ghost use Rattle.amqp_delivery.specs.Members.{outcome_accepted, outcome_released, outcome_declared};
+ghost use Rattle.amqp_delivery.specs.Members.{outcome_accepted, outcome_rejected, outcome_released, outcome_modified};
+ghost use Rattle.amqp_delivery.specs.Members.{outcome_declared};
 
-use crate::{Accepted, Declared, Outcome, Released};
+use crate::{Accepted, Declared, Modified, Outcome, Rejected, Released};
 
 impl Outcome {
     /// Whether it is the accepted outcome.
@@ -12,11 +13,25 @@ impl Outcome {
         matches!(self, Outcome::Accepted(_))
     }
 
+    /// Whether it is the rejected outcome.
+    pub fn is_rejected(&self) -> bool
+        ensures { result ≡ is_some (outcome_rejected self.now) }
+    {
+        matches!(self, Outcome::Rejected(_))
+    }
+
     /// Whether it is the released outcome.
     pub fn is_released(&self) -> bool
         ensures { result ≡ is_some (outcome_released self.now) }
     {
         matches!(self, Outcome::Released(_))
+    }
+
+    /// Whether it is the modified outcome.
+    pub fn is_modified(&self) -> bool
+        ensures { result ≡ is_some (outcome_modified self.now) }
+    {
+        matches!(self, Outcome::Modified(_))
     }
 
     /// Whether it is the outcome of a declared transaction.
@@ -36,12 +51,32 @@ impl Outcome {
         }
     }
 
+    /// The rejected outcome, or else the error.
+    pub fn rejected_or<E: Drop>(self, error: E) -> Result<Rejected, E>
+        ensures { result ≡ ok_or (outcome_rejected self) error }
+    {
+        match self {
+            Outcome::Rejected(rejected) => Ok(rejected),
+            _ => Err(error),
+        }
+    }
+
     /// The released outcome, or else the error.
     pub fn released_or<E: Drop>(self, error: E) -> Result<Released, E>
         ensures { result ≡ ok_or (outcome_released self) error }
     {
         match self {
             Outcome::Released(released) => Ok(released),
+            _ => Err(error),
+        }
+    }
+
+    /// The modified outcome, or else the error.
+    pub fn modified_or<E: Drop>(self, error: E) -> Result<Modified, E>
+        ensures { result ≡ ok_or (outcome_modified self) error }
+    {
+        match self {
+            Outcome::Modified(modified) => Ok(modified),
             _ => Err(error),
         }
     }
@@ -70,6 +105,20 @@ impl Outcome {
         }
     }
 
+    /// The rejected outcome, or else the error that the closure makes of the whole. It isn't called otherwise.
+    pub fn rejected_or_else<E, F: FnOnce(Outcome) -> E + Drop>(
+        self,
+        make_error: F,
+    ) -> Result<Rejected, E>
+        requires { outcome_rejected self ≡ None → F.pre make_error self }
+        ensures { MatchOption (outcome_rejected self) (IsErrAnd result (F.post make_error self)) (λ member. result ≡ Ok member) }
+    {
+        match self {
+            Outcome::Rejected(member) => Ok(member),
+            other => Err(make_error(other)),
+        }
+    }
+
     /// The released outcome, or else the error that the closure makes of the whole. It isn't called otherwise.
     pub fn released_or_else<E, F: FnOnce(Outcome) -> E + Drop>(
         self,
@@ -80,6 +129,20 @@ impl Outcome {
     {
         match self {
             Outcome::Released(member) => Ok(member),
+            other => Err(make_error(other)),
+        }
+    }
+
+    /// The modified outcome, or else the error that the closure makes of the whole. It isn't called otherwise.
+    pub fn modified_or_else<E, F: FnOnce(Outcome) -> E + Drop>(
+        self,
+        make_error: F,
+    ) -> Result<Modified, E>
+        requires { outcome_modified self ≡ None → F.pre make_error self }
+        ensures { MatchOption (outcome_modified self) (IsErrAnd result (F.post make_error self)) (λ member. result ≡ Ok member) }
+    {
+        match self {
+            Outcome::Modified(member) => Ok(member),
             other => Err(make_error(other)),
         }
     }

@@ -3,7 +3,7 @@ ghost use Rattle.std.specs.Prelude.{◌≡◌};
 ghost use Rattle.amqp_enums.specs.Choices.{sum_one, sum_agreement, sum_writing};
 ghost use Rattle.amqp_delivery.specs.Tables.{delivery_state, delivery_states};
 
-use crate::{Accepted, Declared, Received, Released};
+use crate::{Accepted, Declared, Modified, Received, Rejected, Released, TransactionalState};
 use amqp_codec::{ByteSource, Decoder, DeserializeTerm, Encoder, Error, Serialize, SerializeTerm};
 use amqp_enums::{Sum, is_null_sum, read_as, read_sum, write_as};
 use std::alloc::Global;
@@ -13,8 +13,11 @@ use std::alloc::Global;
 pub enum DeliveryState {
     Received(Received),
     Accepted(Accepted),
+    Rejected(Rejected),
     Released(Released),
+    Modified(Modified),
     Declared(Declared),
+    TransactionalState(TransactionalState),
 }
 
 impl From<Received> for DeliveryState {
@@ -37,6 +40,16 @@ impl From<Accepted> for DeliveryState {
     }
 }
 
+impl From<Rejected> for DeliveryState {
+    ghost use Rattle.amqp_delivery.specs.declared.state.DeliveryState.TheVariants as state;
+
+    ghost from_gives = { λ member sum. sum ≡ state.Rejected member };
+
+    fn from(rejected: Rejected) -> DeliveryState {
+        DeliveryState::Rejected(rejected)
+    }
+}
+
 impl From<Released> for DeliveryState {
     ghost use Rattle.amqp_delivery.specs.declared.state.DeliveryState.TheVariants as state;
 
@@ -44,6 +57,16 @@ impl From<Released> for DeliveryState {
 
     fn from(released: Released) -> DeliveryState {
         DeliveryState::Released(released)
+    }
+}
+
+impl From<Modified> for DeliveryState {
+    ghost use Rattle.amqp_delivery.specs.declared.state.DeliveryState.TheVariants as state;
+
+    ghost from_gives = { λ member sum. sum ≡ state.Modified member };
+
+    fn from(modified: Modified) -> DeliveryState {
+        DeliveryState::Modified(modified)
     }
 }
 
@@ -57,6 +80,16 @@ impl From<Declared> for DeliveryState {
     }
 }
 
+impl From<TransactionalState> for DeliveryState {
+    ghost use Rattle.amqp_delivery.specs.declared.state.DeliveryState.TheVariants as state;
+
+    ghost from_gives = { λ member sum. sum ≡ state.TransactionalState member };
+
+    fn from(state: TransactionalState) -> DeliveryState {
+        DeliveryState::TransactionalState(state)
+    }
+}
+
 impl Sum for DeliveryState {
     ghost sum = { delivery_states };
 
@@ -64,8 +97,11 @@ impl Sum for DeliveryState {
         &[
             Received::DESCRIPTOR,
             Accepted::DESCRIPTOR,
+            Rejected::DESCRIPTOR,
             Released::DESCRIPTOR,
+            Modified::DESCRIPTOR,
             Declared::DESCRIPTOR,
+            TransactionalState::DESCRIPTOR,
         ]
     }
 
@@ -77,8 +113,11 @@ impl Sum for DeliveryState {
         match place {
             0 => read_as::<Received, _, _>(decoder, alloc),
             1 => read_as::<Accepted, _, _>(decoder, alloc),
-            2 => read_as::<Released, _, _>(decoder, alloc),
-            3 => read_as::<Declared, _, _>(decoder, alloc),
+            2 => read_as::<Rejected, _, _>(decoder, alloc),
+            3 => read_as::<Released, _, _>(decoder, alloc),
+            4 => read_as::<Modified, _, _>(decoder, alloc),
+            5 => read_as::<Declared, _, _>(decoder, alloc),
+            6 => read_as::<TransactionalState, _, _>(decoder, alloc),
             _ => Err(decoder.refuse(Error::WrongDescriptor)),
         }
     }
@@ -91,8 +130,11 @@ impl Serialize for DeliveryState {
         match self {
             DeliveryState::Received(received) => write_as(self, received, encoder),
             DeliveryState::Accepted(accepted) => write_as(self, accepted, encoder),
+            DeliveryState::Rejected(rejected) => write_as(self, rejected, encoder),
             DeliveryState::Released(released) => write_as(self, released, encoder),
+            DeliveryState::Modified(modified) => write_as(self, modified, encoder),
             DeliveryState::Declared(declared) => write_as(self, declared, encoder),
+            DeliveryState::TransactionalState(state) => write_as(self, state, encoder),
         }
     }
 
@@ -100,8 +142,11 @@ impl Serialize for DeliveryState {
         match self {
             DeliveryState::Received(received) => received.in_type(),
             DeliveryState::Accepted(accepted) => accepted.in_type(),
+            DeliveryState::Rejected(rejected) => rejected.in_type(),
             DeliveryState::Released(released) => released.in_type(),
+            DeliveryState::Modified(modified) => modified.in_type(),
             DeliveryState::Declared(declared) => declared.in_type(),
+            DeliveryState::TransactionalState(state) => state.in_type(),
         }
     }
 }

@@ -1,8 +1,9 @@
 //! Which member a delivery state is, and the member itself.
 ghost use Rattle.std.specs.Prelude.{◌≡◌, None, Ok, MatchOption, IsErrAnd, is_some, ok_or};
-ghost use Rattle.amqp_delivery.specs.Members.{state_received, state_accepted, state_released, state_declared, is_terminal};
+ghost use Rattle.amqp_delivery.specs.Members.{state_received, state_accepted, state_rejected, state_released};
+ghost use Rattle.amqp_delivery.specs.Members.{state_modified, state_declared, is_terminal};
 
-use crate::{Accepted, Declared, DeliveryState, Received, Released};
+use crate::{Accepted, Declared, DeliveryState, Modified, Received, Rejected, Released};
 
 impl DeliveryState {
     /// Whether the delivery ends in it, so that no other state follows.
@@ -10,9 +11,12 @@ impl DeliveryState {
         ensures { result ≡ is_terminal self.now }
     {
         match self {
-            DeliveryState::Received(_) => false,
-            DeliveryState::Accepted(_) | DeliveryState::Released(_) | DeliveryState::Declared(_) =>
-                true,
+            DeliveryState::Received(_) | DeliveryState::TransactionalState(_) => false,
+            DeliveryState::Accepted(_)
+            | DeliveryState::Rejected(_)
+            | DeliveryState::Released(_)
+            | DeliveryState::Modified(_)
+            | DeliveryState::Declared(_) => true,
         }
     }
 
@@ -30,11 +34,25 @@ impl DeliveryState {
         matches!(self, DeliveryState::Accepted(_))
     }
 
+    /// Whether it is the rejected outcome.
+    pub fn is_rejected(&self) -> bool
+        ensures { result ≡ is_some (state_rejected self.now) }
+    {
+        matches!(self, DeliveryState::Rejected(_))
+    }
+
     /// Whether it is the released outcome.
     pub fn is_released(&self) -> bool
         ensures { result ≡ is_some (state_released self.now) }
     {
         matches!(self, DeliveryState::Released(_))
+    }
+
+    /// Whether it is the modified outcome.
+    pub fn is_modified(&self) -> bool
+        ensures { result ≡ is_some (state_modified self.now) }
+    {
+        matches!(self, DeliveryState::Modified(_))
     }
 
     /// The received state, or else the error.
@@ -57,12 +75,32 @@ impl DeliveryState {
         }
     }
 
+    /// The rejected outcome, or else the error.
+    pub fn rejected_or<E: Drop>(self, error: E) -> Result<Rejected, E>
+        ensures { result ≡ ok_or (state_rejected self) error }
+    {
+        match self {
+            DeliveryState::Rejected(rejected) => Ok(rejected),
+            _ => Err(error),
+        }
+    }
+
     /// The released outcome, or else the error.
     pub fn released_or<E: Drop>(self, error: E) -> Result<Released, E>
         ensures { result ≡ ok_or (state_released self) error }
     {
         match self {
             DeliveryState::Released(released) => Ok(released),
+            _ => Err(error),
+        }
+    }
+
+    /// The modified outcome, or else the error.
+    pub fn modified_or<E: Drop>(self, error: E) -> Result<Modified, E>
+        ensures { result ≡ ok_or (state_modified self) error }
+    {
+        match self {
+            DeliveryState::Modified(modified) => Ok(modified),
             _ => Err(error),
         }
     }
@@ -91,6 +129,20 @@ impl DeliveryState {
         }
     }
 
+    /// The rejected outcome, or else the error that the closure makes of the whole. It isn't called otherwise.
+    pub fn rejected_or_else<E, F: FnOnce(DeliveryState) -> E + Drop>(
+        self,
+        make_error: F,
+    ) -> Result<Rejected, E>
+        requires { state_rejected self ≡ None → F.pre make_error self }
+        ensures { MatchOption (state_rejected self) (IsErrAnd result (F.post make_error self)) (λ member. result ≡ Ok member) }
+    {
+        match self {
+            DeliveryState::Rejected(member) => Ok(member),
+            other => Err(make_error(other)),
+        }
+    }
+
     /// The released outcome, or else the error that the closure makes of the whole. It isn't called otherwise.
     pub fn released_or_else<E, F: FnOnce(DeliveryState) -> E + Drop>(
         self,
@@ -101,6 +153,20 @@ impl DeliveryState {
     {
         match self {
             DeliveryState::Released(member) => Ok(member),
+            other => Err(make_error(other)),
+        }
+    }
+
+    /// The modified outcome, or else the error that the closure makes of the whole. It isn't called otherwise.
+    pub fn modified_or_else<E, F: FnOnce(DeliveryState) -> E + Drop>(
+        self,
+        make_error: F,
+    ) -> Result<Modified, E>
+        requires { state_modified self ≡ None → F.pre make_error self }
+        ensures { MatchOption (state_modified self) (IsErrAnd result (F.post make_error self)) (λ member. result ≡ Ok member) }
+    {
+        match self {
+            DeliveryState::Modified(member) => Ok(member),
             other => Err(make_error(other)),
         }
     }

@@ -36,7 +36,7 @@ const LINES: &str = "\
     received 005323c003015209\n\
     received 005323c00402405309\n\
     received 00532345\n\
-    delivery-state 00532545\n";
+    delivery-state 00532845\n";
 
 /// What it answers to each in turn.
 const ANSWERS: &str = "\

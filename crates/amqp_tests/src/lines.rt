@@ -86,7 +86,7 @@ fn refusals_and_digits(rt: HostRuntime) -> Result<(), Fail> {
                 "ok 41 0\nok 42 1\nno 12 BadBool\nno 27 WrongType\n",
             ),
             (
-                "delivery-state 00532545\naccepted 00532445",
+                "delivery-state 00532845\naccepted 00532445",
                 "no 9 WrongDescriptor\nok 00532445 0\n",
             ),
         ],
