@@ -1,0 +1,75 @@
+//! Lifetime of a node: delete on close (Part 3, section 3.5.10).
+ghost use Rattle.amqp_enums.specs.Types.{composite, one_term, refl, agreement, writing_of};
+ghost use Rattle.amqp_termini.specs.Tables.{delete_on_close};
+
+use amqp_codec::kernel::{Composite, CompositeTerm, Table, write_composite};
+use amqp_codec::{ByteSource, Decoder, Encoder, Error, Serialize, SerializeTerm};
+use std::alloc::Global;
+
+/// The node lives until the link that made it is closed.
+#[derive(Clone, Debug, PartialEq, Eq, Default, Drop)]
+pub struct DeleteOnClose {}
+
+impl DeleteOnClose {
+    /// The code and the name of its descriptor.
+    pub const DESCRIPTOR: (u64, &'static str) = (0x2b, "amqp:delete-on-close:list");
+
+    /// It says nothing more.
+    pub fn new() -> DeleteOnClose {
+        DeleteOnClose {}
+    }
+}
+
+impl Composite for DeleteOnClose {
+    ghost table = { delete_on_close };
+
+    fn table() -> Table {
+        Table {
+            descriptor: DeleteOnClose::DESCRIPTOR,
+            fields: &[],
+        }
+    }
+
+    fn blank(_alloc: Global) -> DeleteOnClose {
+        DeleteOnClose {}
+    }
+
+    fn fill_field<R: ByteSource>(
+        &mut self,
+        _index: usize,
+        decoder: &mut Decoder<R>,
+        _alloc: Global,
+    ) -> Result<(), Error> {
+        Err(decoder.refuse(Error::Surplus))
+    }
+
+    fn is_null_field(&self, _index: usize) -> bool {
+        true
+    }
+
+    fn write_field(&self, _index: usize, encoder: &mut Encoder) -> Result<(), Error> {
+        encoder.check()
+    }
+}
+
+impl Serialize for DeleteOnClose {
+    ghost writing = { writing_of (composite delete_on_close) refl };
+
+    fn serialize(&self, encoder: &mut Encoder) -> Result<(), Error> {
+        write_composite(self, encoder)
+    }
+
+    fn in_type(&self) {}
+}
+
+impl SerializeTerm for DeleteOnClose {
+    fn is_null(&self) -> bool {
+        false
+    }
+
+    ghost is_term = { one_term (composite delete_on_close) refl };
+}
+
+impl CompositeTerm for DeleteOnClose {
+    ghost agrees = { agreement (composite delete_on_close) refl };
+}

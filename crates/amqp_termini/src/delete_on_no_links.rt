@@ -1,0 +1,75 @@
+//! Lifetime of a node: delete on no links (Part 3, section 3.5.11).
+ghost use Rattle.amqp_enums.specs.Types.{composite, one_term, refl, agreement, writing_of};
+ghost use Rattle.amqp_termini.specs.Tables.{delete_on_no_links};
+
+use amqp_codec::kernel::{Composite, CompositeTerm, Table, write_composite};
+use amqp_codec::{ByteSource, Decoder, Encoder, Error, Serialize, SerializeTerm};
+use std::alloc::Global;
+
+/// The node lives until there is no link to it.
+#[derive(Clone, Debug, PartialEq, Eq, Default, Drop)]
+pub struct DeleteOnNoLinks {}
+
+impl DeleteOnNoLinks {
+    /// The code and the name of its descriptor.
+    pub const DESCRIPTOR: (u64, &'static str) = (0x2c, "amqp:delete-on-no-links:list");
+
+    /// It says nothing more.
+    pub fn new() -> DeleteOnNoLinks {
+        DeleteOnNoLinks {}
+    }
+}
+
+impl Composite for DeleteOnNoLinks {
+    ghost table = { delete_on_no_links };
+
+    fn table() -> Table {
+        Table {
+            descriptor: DeleteOnNoLinks::DESCRIPTOR,
+            fields: &[],
+        }
+    }
+
+    fn blank(_alloc: Global) -> DeleteOnNoLinks {
+        DeleteOnNoLinks {}
+    }
+
+    fn fill_field<R: ByteSource>(
+        &mut self,
+        _index: usize,
+        decoder: &mut Decoder<R>,
+        _alloc: Global,
+    ) -> Result<(), Error> {
+        Err(decoder.refuse(Error::Surplus))
+    }
+
+    fn is_null_field(&self, _index: usize) -> bool {
+        true
+    }
+
+    fn write_field(&self, _index: usize, encoder: &mut Encoder) -> Result<(), Error> {
+        encoder.check()
+    }
+}
+
+impl Serialize for DeleteOnNoLinks {
+    ghost writing = { writing_of (composite delete_on_no_links) refl };
+
+    fn serialize(&self, encoder: &mut Encoder) -> Result<(), Error> {
+        write_composite(self, encoder)
+    }
+
+    fn in_type(&self) {}
+}
+
+impl SerializeTerm for DeleteOnNoLinks {
+    fn is_null(&self) -> bool {
+        false
+    }
+
+    ghost is_term = { one_term (composite delete_on_no_links) refl };
+}
+
+impl CompositeTerm for DeleteOnNoLinks {
+    ghost agrees = { agreement (composite delete_on_no_links) refl };
+}

@@ -1,0 +1,75 @@
+//! Lifetime of a node: delete on no links or messages (Part 3, section 3.5.13).
+ghost use Rattle.amqp_enums.specs.Types.{composite, one_term, refl, agreement, writing_of};
+ghost use Rattle.amqp_termini.specs.Tables.{delete_on_no_links_or_messages};
+
+use amqp_codec::kernel::{Composite, CompositeTerm, Table, write_composite};
+use amqp_codec::{ByteSource, Decoder, Encoder, Error, Serialize, SerializeTerm};
+use std::alloc::Global;
+
+/// The node lives until there is neither a link to it nor a message on it.
+#[derive(Clone, Debug, PartialEq, Eq, Default, Drop)]
+pub struct DeleteOnNoLinksOrMessages {}
+
+impl DeleteOnNoLinksOrMessages {
+    /// The code and the name of its descriptor.
+    pub const DESCRIPTOR: (u64, &'static str) = (0x2e, "amqp:delete-on-no-links-or-messages:list");
+
+    /// It says nothing more.
+    pub fn new() -> DeleteOnNoLinksOrMessages {
+        DeleteOnNoLinksOrMessages {}
+    }
+}
+
+impl Composite for DeleteOnNoLinksOrMessages {
+    ghost table = { delete_on_no_links_or_messages };
+
+    fn table() -> Table {
+        Table {
+            descriptor: DeleteOnNoLinksOrMessages::DESCRIPTOR,
+            fields: &[],
+        }
+    }
+
+    fn blank(_alloc: Global) -> DeleteOnNoLinksOrMessages {
+        DeleteOnNoLinksOrMessages {}
+    }
+
+    fn fill_field<R: ByteSource>(
+        &mut self,
+        _index: usize,
+        decoder: &mut Decoder<R>,
+        _alloc: Global,
+    ) -> Result<(), Error> {
+        Err(decoder.refuse(Error::Surplus))
+    }
+
+    fn is_null_field(&self, _index: usize) -> bool {
+        true
+    }
+
+    fn write_field(&self, _index: usize, encoder: &mut Encoder) -> Result<(), Error> {
+        encoder.check()
+    }
+}
+
+impl Serialize for DeleteOnNoLinksOrMessages {
+    ghost writing = { writing_of (composite delete_on_no_links_or_messages) refl };
+
+    fn serialize(&self, encoder: &mut Encoder) -> Result<(), Error> {
+        write_composite(self, encoder)
+    }
+
+    fn in_type(&self) {}
+}
+
+impl SerializeTerm for DeleteOnNoLinksOrMessages {
+    fn is_null(&self) -> bool {
+        false
+    }
+
+    ghost is_term = { one_term (composite delete_on_no_links_or_messages) refl };
+}
+
+impl CompositeTerm for DeleteOnNoLinksOrMessages {
+    ghost agrees = { agreement (composite delete_on_no_links_or_messages) refl };
+}

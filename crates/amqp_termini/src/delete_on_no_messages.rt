@@ -1,0 +1,75 @@
+//! Lifetime of a node: delete on no messages (Part 3, section 3.5.12).
+ghost use Rattle.amqp_enums.specs.Types.{composite, one_term, refl, agreement, writing_of};
+ghost use Rattle.amqp_termini.specs.Tables.{delete_on_no_messages};
+
+use amqp_codec::kernel::{Composite, CompositeTerm, Table, write_composite};
+use amqp_codec::{ByteSource, Decoder, Encoder, Error, Serialize, SerializeTerm};
+use std::alloc::Global;
+
+/// The node lives until there is no message on it.
+#[derive(Clone, Debug, PartialEq, Eq, Default, Drop)]
+pub struct DeleteOnNoMessages {}
+
+impl DeleteOnNoMessages {
+    /// The code and the name of its descriptor.
+    pub const DESCRIPTOR: (u64, &'static str) = (0x2d, "amqp:delete-on-no-messages:list");
+
+    /// It says nothing more.
+    pub fn new() -> DeleteOnNoMessages {
+        DeleteOnNoMessages {}
+    }
+}
+
+impl Composite for DeleteOnNoMessages {
+    ghost table = { delete_on_no_messages };
+
+    fn table() -> Table {
+        Table {
+            descriptor: DeleteOnNoMessages::DESCRIPTOR,
+            fields: &[],
+        }
+    }
+
+    fn blank(_alloc: Global) -> DeleteOnNoMessages {
+        DeleteOnNoMessages {}
+    }
+
+    fn fill_field<R: ByteSource>(
+        &mut self,
+        _index: usize,
+        decoder: &mut Decoder<R>,
+        _alloc: Global,
+    ) -> Result<(), Error> {
+        Err(decoder.refuse(Error::Surplus))
+    }
+
+    fn is_null_field(&self, _index: usize) -> bool {
+        true
+    }
+
+    fn write_field(&self, _index: usize, encoder: &mut Encoder) -> Result<(), Error> {
+        encoder.check()
+    }
+}
+
+impl Serialize for DeleteOnNoMessages {
+    ghost writing = { writing_of (composite delete_on_no_messages) refl };
+
+    fn serialize(&self, encoder: &mut Encoder) -> Result<(), Error> {
+        write_composite(self, encoder)
+    }
+
+    fn in_type(&self) {}
+}
+
+impl SerializeTerm for DeleteOnNoMessages {
+    fn is_null(&self) -> bool {
+        false
+    }
+
+    ghost is_term = { one_term (composite delete_on_no_messages) refl };
+}
+
+impl CompositeTerm for DeleteOnNoMessages {
+    ghost agrees = { agreement (composite delete_on_no_messages) refl };
+}

@@ -1,0 +1,25 @@
+//! The ends of links (Part 3, section 3.5), and the coordinator of transactions (Part 4, section 4.5.1), to which a link may go.
+#![tactic(auto)]
+
+mod coordinator;
+mod delete_on_close;
+mod delete_on_no_links;
+mod delete_on_no_links_or_messages;
+mod delete_on_no_messages;
+pub mod laws;
+mod lifetime_policy;
+mod names;
+mod source;
+mod target;
+mod target_archetype;
+
+pub use coordinator::Coordinator;
+pub use delete_on_close::DeleteOnClose;
+pub use delete_on_no_links::DeleteOnNoLinks;
+pub use delete_on_no_links_or_messages::DeleteOnNoLinksOrMessages;
+pub use delete_on_no_messages::DeleteOnNoMessages;
+pub use lifetime_policy::LifetimePolicy;
+pub use names::{Address, FilterSet, NodeProperties};
+pub use source::Source;
+pub use target::Target;
+pub use target_archetype::TargetArchetype;
