@@ -8,6 +8,7 @@ use amqp_codec::kernel::{
 use amqp_codec::{ByteSource, Decoder, Encoder, Error, Serialize, SerializeTerm};
 use amqp_definitions::{DeliveryNumber, Role};
 use amqp_delivery::DeliveryState;
+use amqp_fields::field_in_type;
 use std::alloc::Global;
 
 /// The state of deliveries in a row, and whether they are settled.
@@ -114,7 +115,7 @@ impl Serialize for Disposition {
         self.first.in_type();
         self.last.in_type();
         self.settled.in_type();
-        self.state.in_type();
+        field_in_type(&self.state);
         self.batchable.in_type();
     }
 }

@@ -8,6 +8,7 @@ use amqp_codec::kernel::{
 use amqp_codec::{ByteSource, Decoder, Encoder, Error, Serialize, SerializeTerm};
 use amqp_definitions::{DeliveryNumber, DeliveryTag, Handle, MessageFormat, ReceiverSettleMode};
 use amqp_delivery::DeliveryState;
+use amqp_fields::field_in_type;
 use std::alloc::Global;
 
 /// A message, or a part of one, goes over a link.
@@ -152,7 +153,7 @@ impl Serialize for Transfer {
         self.settled.in_type();
         self.more.in_type();
         self.rcv_settle_mode.in_type();
-        self.state.in_type();
+        field_in_type(&self.state);
         self.resume.in_type();
         self.aborted.in_type();
         self.batchable.in_type();
