@@ -8,4 +8,6 @@ mod lazy;
 #[cfg(test)]
 mod nests;
 #[cfg(test)]
+mod order;
+#[cfg(test)]
 mod values;

@@ -1,7 +1,9 @@
 mod CopiesMade
 mod DistinctKeys
 mod FormatCodes
+mod Ordered
 mod Places
 pub mod Same
+mod ValuesFed
 pub mod ValuesWritten
 pub mod ValueSteps

@@ -6,6 +6,11 @@ pub mod Maps
 pub mod Copies
 pub mod FormatCodes
 pub mod Taken
+pub mod Boxed
 pub mod ValueMembers
 pub mod Levels
 pub mod ValueType
+pub mod Labels
+pub mod Order
+pub mod OrderLaws
+pub mod Hashed

@@ -4,17 +4,22 @@
 mod copied;
 mod equality;
 mod format_code;
+mod hashed;
+mod into_value;
 mod keys;
+pub mod leaf;
 mod made;
 mod map;
 mod map_calls;
 mod map_iter;
+mod order;
 mod read;
 mod taken;
 mod typing;
 mod value;
 mod written;
 
+pub use into_value::IntoValue;
 pub use map::ValueMap;
 pub use map_iter::{ValueMapIter, ValueMapValues};
 pub use value::Value;

@@ -1,10 +1,13 @@
-//! Values of any kind that are made of what a primitive kind's own type holds (Part 1, section 1.6).
+//! Values of any kind that are made of what a kind's own type holds (Part 1, section 1.6).
 ghost use Rattle.std.specs.Prelude.{◌≡◌};
 ghost use Rattle.amqp_values.specs.declared.value.Value.{Null, Bool, Ubyte, Ushort, Uint, Ulong, Byte, Short, Int, Long, Decimal32};
 ghost use Rattle.amqp_values.specs.declared.value.Value.{Decimal64, Decimal128, Char, Timestamp as TimestampOf, Uuid as UuidOf};
 ghost use Rattle.amqp_values.specs.declared.value.Value.{Binary as BinaryOf, String as StringOf, Symbol as SymbolOf};
+ghost use Rattle.amqp_values.specs.declared.value.Value.{Described as DescribedOf, List as ListOf, Map as MapOf, Array as ArrayOf};
 
-use crate::Value;
+use crate::{Value, ValueMap};
+use amqp_containers::Array;
+use amqp_described::Described;
 use amqp_primitives::{Binary, Dec32, Dec64, Dec128, Timestamp, Uuid};
 use amqp_wire::Symbol;
 
@@ -157,5 +160,37 @@ impl From<Symbol> for Value {
 
     fn from(own: Symbol) -> Value {
         Value::Symbol(own)
+    }
+}
+
+impl From<Box<Described<Value>>> for Value {
+    ghost from_gives = { λ own value. value ≡ DescribedOf own };
+
+    fn from(own: Box<Described<Value>>) -> Value {
+        Value::Described(own)
+    }
+}
+
+impl From<Vec<Value>> for Value {
+    ghost from_gives = { λ own value. value ≡ ListOf own };
+
+    fn from(own: Vec<Value>) -> Value {
+        Value::List(own)
+    }
+}
+
+impl From<ValueMap> for Value {
+    ghost from_gives = { λ own value. value ≡ MapOf own };
+
+    fn from(own: ValueMap) -> Value {
+        Value::Map(own)
+    }
+}
+
+impl From<Array<Value>> for Value {
+    ghost from_gives = { λ own value. value ≡ ArrayOf own };
+
+    fn from(own: Array<Value>) -> Value {
+        Value::Array(own)
     }
 }
