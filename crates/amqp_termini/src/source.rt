@@ -4,7 +4,7 @@ ghost use Rattle.amqp_enums.specs.Types.{composite, one_term, refl, agreement, w
 ghost use Rattle.amqp_termini.specs.Made.{default_source, source_at};
 ghost use Rattle.amqp_termini.specs.Tables.{source};
 
-use crate::{Address, FilterSet, NodeProperties};
+use crate::{Address, FilterSet, NodeProperties, SourceBuilder};
 use amqp_codec::kernel::{
     Composite, CompositeTerm, FieldKind, Table, read_into, read_some, write_composite,
 };
@@ -46,6 +46,13 @@ pub struct Source {
 impl Source {
     /// The code and the name of its descriptor.
     pub const DESCRIPTOR: (u64, &'static str) = (0x28, "amqp:source:list");
+
+    /// A source to be made call by call, in which every field is left out.
+    pub fn builder() -> SourceBuilder
+        ensures { result ≡ default_source }
+    {
+        SourceBuilder::new()
+    }
 }
 
 /// Every field is left out.

@@ -4,7 +4,7 @@ ghost use Rattle.amqp_enums.specs.Types.{composite, one_term, refl, agreement, w
 ghost use Rattle.amqp_termini.specs.Made.{default_target, target_at};
 ghost use Rattle.amqp_termini.specs.Tables.{target};
 
-use crate::{Address, NodeProperties};
+use crate::{Address, NodeProperties, TargetBuilder};
 use amqp_codec::kernel::{
     Composite, CompositeTerm, FieldKind, Table, read_into, read_some, write_composite,
 };
@@ -37,6 +37,13 @@ pub struct Target {
 impl Target {
     /// The code and the name of its descriptor.
     pub const DESCRIPTOR: (u64, &'static str) = (0x29, "amqp:target:list");
+
+    /// A target to be made call by call, in which every field is left out.
+    pub fn builder() -> TargetBuilder
+        ensures { result.target ≡ default_target }
+    {
+        TargetBuilder::new()
+    }
 }
 
 /// Every field is left out.

@@ -1,0 +1,230 @@
+//! Sources that are made call by call (Part 3, section 3.5.3).
+ghost use Rattle.std.specs.Prelude.{◌≡◌, Some, IfErr, IfOk, IsSomeAnd};
+ghost use Rattle.amqp_wire.specs.declared.error.Error.TheVariants.{Memory};
+ghost use Rattle.amqp_values.specs.Values.{value_term};
+ghost use Rattle.amqp_termini.specs.Made.{default_source};
+ghost use Rattle.amqp_termini.specs.Properties.{with_pair, filter_term, Inserts, InsertsLifetime, InsertsModes};
+
+use crate::properties::{inserted, with_lifetime, with_modes};
+use crate::{Address, FilterSet, LifetimePolicy, Source, SupportedDistModes};
+use amqp_codec::{Error, Symbol};
+use amqp_containers::Array;
+use amqp_definitions::{DistributionMode, Seconds, TerminusDurability, TerminusExpiryPolicy};
+use amqp_delivery::Outcome;
+use amqp_described::Described;
+use amqp_fields::Fields;
+use amqp_values::Value;
+use std::alloc::Global;
+use std::marker::Model;
+
+// A filter's value, or null. The only error is `Memory`.
+fn filter_value(value: Option<Described<Value>>, alloc: Global) -> Result<Value, Error>
+    ensures value { IfOk result (λ made. value_term made ≡ filter_term value) }
+    ensures refused { IfErr result (λ e. e ≡ Memory) }
+{
+    match value {
+        Some(described) => Ok(Value::Described(Box::new(alloc, described)?)),
+        None => Ok(Value::Null),
+    }
+}
+
+/// A source that is made call by call. A field that no call sets is left out.
+#[derive(Clone, Debug, Drop)]
+pub struct SourceBuilder {
+    source: Source,
+}
+
+impl Model for SourceBuilder {
+    ghost use Rattle.amqp_termini.specs.declared.source.Source.{Source};
+
+    ghost Value = { Source };
+
+    ghost use Rattle.amqp_termini.specs.contracts.source.Source.{the_row};
+
+    ghost coded = { the_row.coded };
+
+    ghost view = { λ b. b.source };
+}
+
+/// Every field is left out.
+impl Default for SourceBuilder {
+    ghost is_default = { λ builder. builder ≡ default_source };
+
+    fn default() -> SourceBuilder {
+        SourceBuilder::new()
+    }
+}
+
+impl SourceBuilder {
+    /// Every field is left out.
+    pub fn new() -> SourceBuilder
+        ensures { result ≡ default_source }
+    {
+        SourceBuilder {
+            source: Source::default(),
+        }
+    }
+
+    /// The address of the node.
+    pub fn address(mut self, address: Address) -> SourceBuilder
+        ensures { result ≡ record self { address = Some address } }
+    {
+        self.source.address = Some(address);
+        self
+    }
+
+    /// What of it is kept durably.
+    pub fn durable(mut self, durability: TerminusDurability) -> SourceBuilder
+        ensures { result ≡ record self { durable = durability } }
+    {
+        self.source.durable = durability;
+        self
+    }
+
+    /// When it begins to expire.
+    pub fn expiry_policy(mut self, policy: TerminusExpiryPolicy) -> SourceBuilder
+        ensures { result ≡ record self { expiry_policy = policy } }
+    {
+        self.source.expiry_policy = policy;
+        self
+    }
+
+    /// How long it is kept after that, in seconds.
+    pub fn timeout(mut self, seconds: Seconds) -> SourceBuilder
+        ensures { result ≡ record self { timeout = seconds } }
+    {
+        self.source.timeout = seconds;
+        self
+    }
+
+    /// Whether the peer is to make a node for it.
+    pub fn dynamic(mut self, dynamic: bool) -> SourceBuilder
+        ensures { result ≡ record self { dynamic = dynamic } }
+    {
+        self.source.dynamic = dynamic;
+        self
+    }
+
+    /// The properties of the node that is made, in place of any before.
+    pub fn dynamic_node_properties(mut self, properties: Fields) -> SourceBuilder
+        ensures { result ≡ record self { dynamic_node_properties = Some properties } }
+    {
+        self.source.dynamic_node_properties = Some(properties);
+        self
+    }
+
+    /// How the node gives its messages to links.
+    pub fn distribution_mode(mut self, mode: DistributionMode) -> SourceBuilder
+        ensures { result ≡ record self { distribution_mode = Some mode } }
+    {
+        self.source.distribution_mode = Some(mode);
+        self
+    }
+
+    /// Which messages go over the link, in place of any filters before.
+    pub fn filter(mut self, filters: FilterSet) -> SourceBuilder
+        ensures { result ≡ record self { filter = Some filters } }
+    {
+        self.source.filter = Some(filters);
+        self
+    }
+
+    /// The outcome of deliveries that are settled without one.
+    pub fn default_outcome(mut self, outcome: Outcome) -> SourceBuilder
+        ensures { result ≡ record self { default_outcome = Some outcome } }
+    {
+        self.source.default_outcome = Some(outcome);
+        self
+    }
+
+    /// The outcomes that may be chosen for deliveries, by their descriptors.
+    pub fn outcomes(mut self, outcomes: Array<Symbol>) -> SourceBuilder
+        ensures { result ≡ record self { outcomes = Some outcomes } }
+    {
+        self.source.outcomes = Some(outcomes);
+        self
+    }
+
+    /// What else the source can do.
+    pub fn capabilities(mut self, capabilities: Array<Symbol>) -> SourceBuilder
+        ensures { result ≡ record self { capabilities = Some capabilities } }
+    {
+        self.source.capabilities = Some(capabilities);
+        self
+    }
+
+    /// Puts the lifetime into the properties of the node that is made, under `lifetime-policy` (Part 3, section 3.5.9). The only error is
+    /// `Memory`, which drops the builder.
+    pub fn add_lifetime_policy(
+        mut self,
+        policy: LifetimePolicy,
+        alloc: Global,
+    ) -> Result<SourceBuilder, Error>
+        ensures inserted { IfOk result (λ made. IsSomeAnd made.dynamic_node_properties
+            (InsertsLifetime self.dynamic_node_properties policy)) }
+        ensures others { IfOk result (λ made. made ≡ record self { dynamic_node_properties = made.dynamic_node_properties }) }
+        ensures refused { IfErr result (λ e. e ≡ Memory) }
+    {
+        let properties = self.source.dynamic_node_properties.take();
+        self.source.dynamic_node_properties = Some(with_lifetime(properties, policy, alloc)?);
+        Ok(self)
+    }
+
+    /// Puts the modes into the properties of the node that is made, under `supported-dist-modes` (Part 3, section 3.5.9). The only error is
+    /// `Memory`, which drops the builder.
+    pub fn add_supported_dist_modes(
+        mut self,
+        modes: SupportedDistModes,
+        alloc: Global,
+    ) -> Result<SourceBuilder, Error>
+        ensures inserted { IfOk result (λ made. IsSomeAnd made.dynamic_node_properties
+            (InsertsModes self.dynamic_node_properties modes)) }
+        ensures others { IfOk result (λ made. made ≡ record self { dynamic_node_properties = made.dynamic_node_properties }) }
+        ensures refused { IfErr result (λ e. e ≡ Memory) }
+    {
+        let properties = self.source.dynamic_node_properties.take();
+        self.source.dynamic_node_properties = Some(with_modes(properties, modes, alloc)?);
+        Ok(self)
+    }
+
+    /// Puts a filter under this name, or null under it where there is none (Part 3, section 3.5.8). The only error is `Memory`, which
+    /// drops the builder.
+    pub fn add_to_filter(
+        mut self,
+        name: Symbol,
+        value: Option<Described<Value>>,
+        alloc: Global,
+    ) -> Result<SourceBuilder, Error>
+        ensures inserted { IfOk result (λ made. IsSomeAnd made.filter (Inserts self.filter name (filter_term value))) }
+        ensures others { IfOk result (λ made. made ≡ record self { filter = made.filter }) }
+        ensures refused { IfErr result (λ e. e ≡ Memory) }
+    {
+        let filters = self.source.filter.take();
+        let value = filter_value(value, alloc)?;
+        self.source.filter = Some(inserted(filters, name, value, alloc)?);
+        Ok(self)
+    }
+
+    /// Puts a value under this name into the filters, described or not, as peers do that don't follow the standard (Part 3, section 3.5.8,
+    /// has filters described). The only error is `Memory`, which drops the builder.
+    pub fn add_to_filter_using_legacy_format(
+        mut self,
+        name: Symbol,
+        value: Value,
+        alloc: Global,
+    ) -> Result<SourceBuilder, Error>
+        ensures inserted { IfOk result (λ made. made ≡ record self { filter = Some (with_pair self.filter name value) }) }
+        ensures refused { IfErr result (λ e. e ≡ Memory) }
+    {
+        let filters = self.source.filter.take();
+        self.source.filter = Some(inserted(filters, name, value, alloc)?);
+        Ok(self)
+    }
+
+    /// The source.
+    pub fn build(self) -> Source
+        ensures { result ≡ self }
+    {
+        self.source
+    }
+}
