@@ -10,4 +10,6 @@ mod nests;
 #[cfg(test)]
 mod order;
 #[cfg(test)]
+mod simple;
+#[cfg(test)]
 mod values;

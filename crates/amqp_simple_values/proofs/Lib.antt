@@ -1,0 +1,2 @@
+mod SimpleReads
+mod RootsDecide

@@ -1,0 +1,5 @@
+pub mod Simple
+pub mod Taken
+pub mod Equality
+pub mod SimpleType
+pub mod Order

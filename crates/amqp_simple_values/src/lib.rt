@@ -1,0 +1,15 @@
+//! Values of any kind but lists, maps and arrays (Part 3, section 3.2.5).
+#![tactic(auto)]
+
+mod conversions;
+mod copied;
+mod equality;
+mod format_code;
+mod made;
+mod order;
+mod read;
+mod simple;
+mod taken;
+mod written;
+
+pub use simple::SimpleValue;
