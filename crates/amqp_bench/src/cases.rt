@@ -1,11 +1,13 @@
 //! The values that are written and read.
 ghost use Rattle.std.specs.Prelude.{◌≤◌};
 
+use crate::frames::{ATTACH, FLOW, TRANSFER};
 use amqp_calls::{from_slice, to_vec};
 use amqp_containers::Array;
 use amqp_decoder::Decoder;
 use amqp_encoder::Encoder;
 use amqp_maps::OrderedMap;
+use amqp_performatives::{Attach, Flow, Transfer};
 use amqp_wire::{Error, Symbol};
 use std::alloc::Global;
 
@@ -24,9 +26,12 @@ pub(crate) enum Case {
     UlongArray,
     SymbolMap,
     LargeMap,
+    Attach,
+    Transfer,
+    Flow,
 }
 
-pub(crate) const CASES: [Case; 11] = [
+pub(crate) const CASES: [Case; 14] = [
     Case::Uints,
     Case::Ulongs,
     Case::Strings,
@@ -38,6 +43,9 @@ pub(crate) const CASES: [Case; 11] = [
     Case::UlongArray,
     Case::SymbolMap,
     Case::LargeMap,
+    Case::Attach,
+    Case::Transfer,
+    Case::Flow,
 ];
 
 /// Cases whose times are compared: a type's, and that of the bare calls for the same bytes; and a map's, and that of one with
@@ -75,6 +83,9 @@ pub(crate) struct Content {
     texts: Vec<String>,
     symbols: OrderedMap<Symbol, u32>,
     bytes: Vec<u8>,
+    attach: Attach,
+    transfer: Transfer,
+    flow: Flow,
 }
 
 impl Case {
@@ -91,6 +102,9 @@ impl Case {
             Case::UlongArray => "an Array<u64> of 10,000",
             Case::SymbolMap => "an OrderedMap<Symbol, u32> of 1,000",
             Case::LargeMap => "an OrderedMap<Symbol, u32> of 16,000",
+            Case::Attach => "an attach of 14 fields",
+            Case::Transfer => "a transfer",
+            Case::Flow => "a flow of 11 fields",
         }
     }
 
@@ -108,6 +122,9 @@ impl Case {
             Case::UlongArray => "array",
             Case::SymbolMap => "ordered",
             Case::LargeMap => "large",
+            Case::Attach => "attach",
+            Case::Transfer => "transfer",
+            Case::Flow => "flow",
         }
     }
 
@@ -119,7 +136,7 @@ impl Case {
             Case::Uints | Case::Ulongs | Case::UintVec | Case::UlongArray => 10_000,
             Case::Strings | Case::Map | Case::Symbols | Case::SymbolMap => 1000,
             Case::LargeMap => 16_000,
-            Case::Binary | Case::Tiny => 1,
+            Case::Binary | Case::Tiny | Case::Attach | Case::Transfer | Case::Flow => 1,
         }
     }
 
@@ -128,7 +145,7 @@ impl Case {
         ensures { result ≤ 1000 }
     {
         match self {
-            Case::Tiny => 1000,
+            Case::Tiny | Case::Attach | Case::Transfer | Case::Flow => 1000,
             _ => 1,
         }
     }
@@ -148,6 +165,9 @@ impl Case {
             texts: Vec::new(alloc),
             symbols: OrderedMap::new(alloc),
             bytes: Vec::new(alloc),
+            attach: from_slice(ATTACH, alloc)?,
+            transfer: from_slice(TRANSFER, alloc)?,
+            flow: from_slice(FLOW, alloc)?,
         };
         let mut number = 1u32;
         for index in 0..self.values() {
@@ -182,6 +202,9 @@ impl Case {
             Case::UintVec => to_vec(&content.numbers, alloc),
             Case::UlongArray => to_vec(&content.longs, alloc),
             Case::SymbolMap | Case::LargeMap => to_vec(&content.symbols, alloc),
+            Case::Attach => to_vec(&content.attach, alloc),
+            Case::Transfer => to_vec(&content.transfer, alloc),
+            Case::Flow => to_vec(&content.flow, alloc),
             _ => self.write_bare(content, alloc),
         }
     }
@@ -205,7 +228,7 @@ impl Case {
             Case::Symbols | Case::SymbolMap | Case::LargeMap => {
                 write_symbols(&content.symbols, encoder)
             }
-            Case::Binary | Case::Tiny => encoder.write_binary(&content.bytes),
+            _ => encoder.write_binary(&content.bytes),
         }
     }
 
@@ -217,6 +240,9 @@ impl Case {
             Case::SymbolMap | Case::LargeMap => {
                 Ok(from_slice::<OrderedMap<Symbol, u32>>(text, alloc)?.len() as u64)
             }
+            Case::Attach => Ok(u64::from(from_slice::<Attach>(text, alloc)?.handle.0)),
+            Case::Transfer => Ok(u64::from(from_slice::<Transfer>(text, alloc)?.handle.0)),
+            Case::Flow => Ok(u64::from(from_slice::<Flow>(text, alloc)?.incoming_window)),
             _ => self.read_bare(text, alloc),
         }
     }
@@ -229,7 +255,7 @@ impl Case {
             Case::Strings => read_strings(&mut decoder, alloc),
             Case::Map => read_map(&mut decoder, alloc),
             Case::Symbols | Case::SymbolMap | Case::LargeMap => read_symbols(&mut decoder, alloc),
-            Case::Binary | Case::Tiny => Ok(decoder.read_binary(alloc)?.len() as u64),
+            _ => Ok(decoder.read_binary(alloc)?.len() as u64),
         }
     }
 }

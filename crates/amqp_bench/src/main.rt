@@ -4,6 +4,7 @@
 #![tactic(auto)]
 
 mod cases;
+mod frames;
 
 use cases::{CASES, COMPARED, Case, WAYS, Way};
 use std::env;

@@ -7,12 +7,21 @@ ghost use Rattle.amqp_lines.specs.contracts.request.TypeName.{the_type};
 ghost use Rattle.amqp_lines.specs.declared.request.TypeName.{TypeName};
 
 use fe2o3_amqp_types::codec::{Error, canonical_text};
+use fe2o3_amqp_types::definitions;
 use fe2o3_amqp_types::definitions::ErrorCondition;
-use fe2o3_amqp_types::messaging::{Accepted, DeliveryState, Outcome, Received, Released};
-use fe2o3_amqp_types::performatives::{Disposition, Transfer};
-use fe2o3_amqp_types::primitives::{Boolean, Value};
+use fe2o3_amqp_types::messaging::{
+    Accepted, DeleteOnClose, DeleteOnNoLinks, DeleteOnNoLinksOrMessages, DeleteOnNoMessages,
+    DeliveryState, LifetimePolicy, Modified, Outcome, Received, Rejected, Released, Source, Target,
+    TargetArchetype,
+};
+use fe2o3_amqp_types::performatives::{
+    Attach, Begin, Close, Detach, Disposition, End, Flow, Open, Performative, Transfer,
+};
+use fe2o3_amqp_types::primitives::{Boolean, SimpleValue, Value};
 use fe2o3_amqp_types::sasl::{SaslChallenge, SaslInit, SaslMechanisms, SaslOutcome, SaslResponse};
-use fe2o3_amqp_types::transaction::{Declare, Declared, Discharge};
+use fe2o3_amqp_types::transaction::{
+    Coordinator, Declare, Declared, Discharge, TransactionalState,
+};
 use memchr::memchr;
 use std::alloc::Global;
 
@@ -20,21 +29,43 @@ use std::alloc::Global;
 #[derive(Clone, Copy, Debug, PartialEq, Eq)]
 pub(crate) enum TypeName {
     Accepted,
+    Attach,
+    Begin,
     Boolean,
+    Close,
+    Coordinator,
     Declare,
     Declared,
+    DeleteOnClose,
+    DeleteOnNoLinks,
+    DeleteOnNoLinksOrMessages,
+    DeleteOnNoMessages,
     DeliveryState,
+    Detach,
     Discharge,
     Disposition,
+    End,
+    Error,
     ErrorCondition,
+    Flow,
+    LifetimePolicy,
+    Modified,
+    Open,
     Outcome,
+    Performative,
     Received,
+    Rejected,
     Released,
     SaslChallenge,
     SaslInit,
     SaslMechanisms,
     SaslOutcome,
     SaslResponse,
+    SimpleValue,
+    Source,
+    Target,
+    TargetArchetype,
+    TransactionalState,
     Transfer,
     Value,
 }
@@ -42,21 +73,46 @@ pub(crate) enum TypeName {
 /// The types' names in lines, in the order of `TypeName`.
 const NAMES: &[(&str, TypeName)] = &[
     ("accepted", TypeName::Accepted),
+    ("attach", TypeName::Attach),
+    ("begin", TypeName::Begin),
     ("boolean", TypeName::Boolean),
+    ("close", TypeName::Close),
+    ("coordinator", TypeName::Coordinator),
     ("declare", TypeName::Declare),
     ("declared", TypeName::Declared),
+    ("delete-on-close", TypeName::DeleteOnClose),
+    ("delete-on-no-links", TypeName::DeleteOnNoLinks),
+    (
+        "delete-on-no-links-or-messages",
+        TypeName::DeleteOnNoLinksOrMessages,
+    ),
+    ("delete-on-no-messages", TypeName::DeleteOnNoMessages),
     ("delivery-state", TypeName::DeliveryState),
+    ("detach", TypeName::Detach),
     ("discharge", TypeName::Discharge),
     ("disposition", TypeName::Disposition),
+    ("end", TypeName::End),
+    ("error", TypeName::Error),
     ("error-condition", TypeName::ErrorCondition),
+    ("flow", TypeName::Flow),
+    ("lifetime-policy", TypeName::LifetimePolicy),
+    ("modified", TypeName::Modified),
+    ("open", TypeName::Open),
     ("outcome", TypeName::Outcome),
+    ("performative", TypeName::Performative),
     ("received", TypeName::Received),
+    ("rejected", TypeName::Rejected),
     ("released", TypeName::Released),
     ("sasl-challenge", TypeName::SaslChallenge),
     ("sasl-init", TypeName::SaslInit),
     ("sasl-mechanisms", TypeName::SaslMechanisms),
     ("sasl-outcome", TypeName::SaslOutcome),
     ("sasl-response", TypeName::SaslResponse),
+    ("simple-value", TypeName::SimpleValue),
+    ("source", TypeName::Source),
+    ("target", TypeName::Target),
+    ("target-archetype", TypeName::TargetArchetype),
+    ("transactional-state", TypeName::TransactionalState),
     ("transfer", TypeName::Transfer),
     ("value", TypeName::Value),
 ];
@@ -96,21 +152,45 @@ impl TypeName {
     {
         match self {
             TypeName::Accepted => canonical_text::<Accepted>(input, alloc),
+            TypeName::Attach => canonical_text::<Attach>(input, alloc),
+            TypeName::Begin => canonical_text::<Begin>(input, alloc),
             TypeName::Boolean => canonical_text::<Boolean>(input, alloc),
+            TypeName::Close => canonical_text::<Close>(input, alloc),
+            TypeName::Coordinator => canonical_text::<Coordinator>(input, alloc),
             TypeName::Declare => canonical_text::<Declare>(input, alloc),
             TypeName::Declared => canonical_text::<Declared>(input, alloc),
+            TypeName::DeleteOnClose => canonical_text::<DeleteOnClose>(input, alloc),
+            TypeName::DeleteOnNoLinks => canonical_text::<DeleteOnNoLinks>(input, alloc),
+            TypeName::DeleteOnNoLinksOrMessages => {
+                canonical_text::<DeleteOnNoLinksOrMessages>(input, alloc)
+            }
+            TypeName::DeleteOnNoMessages => canonical_text::<DeleteOnNoMessages>(input, alloc),
             TypeName::DeliveryState => canonical_text::<DeliveryState>(input, alloc),
+            TypeName::Detach => canonical_text::<Detach>(input, alloc),
             TypeName::Discharge => canonical_text::<Discharge>(input, alloc),
             TypeName::Disposition => canonical_text::<Disposition>(input, alloc),
+            TypeName::End => canonical_text::<End>(input, alloc),
+            TypeName::Error => canonical_text::<definitions::Error>(input, alloc),
             TypeName::ErrorCondition => canonical_text::<ErrorCondition>(input, alloc),
+            TypeName::Flow => canonical_text::<Flow>(input, alloc),
+            TypeName::LifetimePolicy => canonical_text::<LifetimePolicy>(input, alloc),
+            TypeName::Modified => canonical_text::<Modified>(input, alloc),
+            TypeName::Open => canonical_text::<Open>(input, alloc),
             TypeName::Outcome => canonical_text::<Outcome>(input, alloc),
+            TypeName::Performative => canonical_text::<Performative>(input, alloc),
             TypeName::Received => canonical_text::<Received>(input, alloc),
+            TypeName::Rejected => canonical_text::<Rejected>(input, alloc),
             TypeName::Released => canonical_text::<Released>(input, alloc),
             TypeName::SaslChallenge => canonical_text::<SaslChallenge>(input, alloc),
             TypeName::SaslInit => canonical_text::<SaslInit>(input, alloc),
             TypeName::SaslMechanisms => canonical_text::<SaslMechanisms>(input, alloc),
             TypeName::SaslOutcome => canonical_text::<SaslOutcome>(input, alloc),
             TypeName::SaslResponse => canonical_text::<SaslResponse>(input, alloc),
+            TypeName::SimpleValue => canonical_text::<SimpleValue>(input, alloc),
+            TypeName::Source => canonical_text::<Source>(input, alloc),
+            TypeName::Target => canonical_text::<Target>(input, alloc),
+            TypeName::TargetArchetype => canonical_text::<TargetArchetype>(input, alloc),
+            TypeName::TransactionalState => canonical_text::<TransactionalState>(input, alloc),
             TypeName::Transfer => canonical_text::<Transfer>(input, alloc),
             TypeName::Value => canonical_text::<Value>(input, alloc),
         }

@@ -8,6 +8,8 @@ mod conditions;
 #[cfg(test)]
 mod delivery;
 #[cfg(test)]
+mod error_lines;
+#[cfg(test)]
 mod first_look;
 #[cfg(test)]
 mod from_readers;
@@ -16,7 +18,15 @@ mod lines;
 #[cfg(test)]
 mod members;
 #[cfg(test)]
+mod outcome_lines;
+#[cfg(test)]
+mod performative_lines;
+#[cfg(test)]
+mod termini_lines;
+#[cfg(test)]
 mod type_lines;
 pub mod user_type;
+#[cfg(test)]
+mod value_lines;
 #[cfg(test)]
 mod wire;

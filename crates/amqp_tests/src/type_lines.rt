@@ -5,7 +5,7 @@ use std::alloc::Global;
 use std::test::Fail;
 
 /// A line, and its answer.
-type Row = (&'static str, &'static str);
+pub(crate) type Row = (&'static str, &'static str);
 
 /// Booleans, in each of their spellings.
 const BOOLEANS: &[Row] = &[
@@ -472,7 +472,7 @@ const DISPOSITIONS: &[Row] = &[
 ];
 
 // Each row's line is answered by its answer.
-fn check_rows(rows: &[Row], alloc: Global) -> Result<(), Fail> {
+pub(crate) fn check_rows(rows: &[Row], alloc: Global) -> Result<(), Fail> {
     for (line, answer) in rows {
         let mut wanted = String::new(alloc);
         wanted.push_str(*answer)?;

@@ -17,7 +17,8 @@ pub mod codec {
     pub use amqp_lazy::LazyValue;
     pub use amqp_maps::OrderedMap;
     pub use amqp_primitives::{Binary, ByteBuf, Dec32, Dec64, Dec128, SymbolRef, Timestamp, Uuid};
-    pub use amqp_values::{Value, ValueMap};
+    pub use amqp_simple_values::SimpleValue;
+    pub use amqp_values::{IntoValue, Value, ValueMap};
 }
 
 /// The primitive types (Part 1, section 1.6), and the standard's names of those of std.
@@ -28,7 +29,8 @@ pub mod primitives {
     pub use amqp_lazy::LazyValue;
     pub use amqp_maps::OrderedMap;
     pub use amqp_primitives::{Binary, ByteBuf, Dec32, Dec64, Dec128, SymbolRef, Timestamp, Uuid};
-    pub use amqp_values::{Value, ValueMap};
+    pub use amqp_simple_values::SimpleValue;
+    pub use amqp_values::{IntoValue, Value, ValueMap};
 
     pub type Boolean = bool;
 
@@ -58,19 +60,32 @@ pub mod definitions {
         MessageFormat, Milliseconds, PORT, REVISION, ReceiverSettleMode, Role, SECURE_PORT,
         Seconds, SenderSettleMode, SequenceNo, TransferNumber,
     };
-    pub use amqp_errors::{AmqpError, ConnectionError, ErrorCondition, LinkError, SessionError};
+    pub use amqp_errors::{
+        AmqpError, ConnectionError, Error, ErrorCondition, LinkError, SessionError,
+    };
+    pub use amqp_fields::Fields;
 }
 
 /// The types of messaging (Part 3).
 pub mod messaging {
     pub use amqp_definitions::{DistributionMode, TerminusDurability, TerminusExpiryPolicy};
-    pub use amqp_delivery::{Accepted, DeliveryState, Outcome, Received, Released};
+    pub use amqp_delivery::{
+        Accepted, DeliveryState, Modified, Outcome, Received, Rejected, Released,
+    };
+    pub use amqp_termini::{
+        Address, DeleteOnClose, DeleteOnNoLinks, DeleteOnNoLinksOrMessages, DeleteOnNoMessages,
+        FilterSet, LifetimePolicy, NodeProperties, Source, SourceBuilder, SupportedDistModes,
+        Target, TargetArchetype, TargetBuilder,
+    };
 }
 
 /// What the frames of connections, sessions and links hold (Part 2, section 2.7).
 pub mod performatives {
     pub use amqp_definitions::{ChannelMax, MaxFrameSize};
-    pub use amqp_performatives::{Disposition, Transfer};
+    pub use amqp_performatives::{
+        Attach, Begin, Close, Detach, Disposition, End, Flow, Open, Performative, Transfer,
+        Unsettled,
+    };
 }
 
 /// The types of the security layer (Part 5).
@@ -94,6 +109,7 @@ pub mod states {
 /// The types of transactions (Part 4).
 pub mod transaction {
     pub use amqp_definitions::TxnCapability;
-    pub use amqp_delivery::{Declare, Declared, Discharge, TransactionId};
+    pub use amqp_delivery::{Declare, Declared, Discharge, TransactionId, TransactionalState};
     pub use amqp_errors::TransactionError;
+    pub use amqp_termini::Coordinator;
 }
