@@ -20,6 +20,7 @@ pub(crate) enum Case {
     Strings,
     Map,
     Symbols,
+    KeptSymbols,
     Binary,
     Tiny,
     UintVec,
@@ -31,12 +32,13 @@ pub(crate) enum Case {
     Flow,
 }
 
-pub(crate) const CASES: [Case; 14] = [
+pub(crate) const CASES: [Case; 15] = [
     Case::Uints,
     Case::Ulongs,
     Case::Strings,
     Case::Map,
     Case::Symbols,
+    Case::KeptSymbols,
     Case::Binary,
     Case::Tiny,
     Case::UintVec,
@@ -48,12 +50,13 @@ pub(crate) const CASES: [Case; 14] = [
     Case::Flow,
 ];
 
-/// Cases whose times are compared: a type's, and that of the bare calls for the same bytes; and a map's, and that of one with
-/// a sixteenth of its entries.
-pub(crate) const COMPARED: [(Case, Case); 4] = [
+/// Cases whose times are compared: a type's, and that of the bare calls for the same bytes, which for a map keep its entries or
+/// don't; and a map's, and that of one with a sixteenth of its entries.
+pub(crate) const COMPARED: [(Case, Case); 5] = [
     (Case::UintVec, Case::Uints),
     (Case::UlongArray, Case::Ulongs),
     (Case::SymbolMap, Case::Symbols),
+    (Case::SymbolMap, Case::KeptSymbols),
     (Case::LargeMap, Case::SymbolMap),
 ];
 
@@ -96,6 +99,7 @@ impl Case {
             Case::Strings => "a list of 1,000 short strings",
             Case::Map => "a map of 1,000 entries",
             Case::Symbols => "a map of 1,000 symbols",
+            Case::KeptSymbols => "a map of 1,000 symbols, kept in a row",
             Case::Binary => "a binary of 1 MiB",
             Case::Tiny => "a binary of 5 bytes",
             Case::UintVec => "a Vec<u32> of 10,000",
@@ -116,6 +120,7 @@ impl Case {
             Case::Strings => "strings",
             Case::Map => "map",
             Case::Symbols => "symbols",
+            Case::KeptSymbols => "kept",
             Case::Binary => "binary",
             Case::Tiny => "tiny",
             Case::UintVec => "vec",
@@ -134,7 +139,7 @@ impl Case {
     {
         match self {
             Case::Uints | Case::Ulongs | Case::UintVec | Case::UlongArray => 10_000,
-            Case::Strings | Case::Map | Case::Symbols | Case::SymbolMap => 1000,
+            Case::Strings | Case::Map | Case::Symbols | Case::KeptSymbols | Case::SymbolMap => 1000,
             Case::LargeMap => 16_000,
             Case::Binary | Case::Tiny | Case::Attach | Case::Transfer | Case::Flow => 1,
         }
@@ -225,7 +230,7 @@ impl Case {
             Case::Ulongs | Case::UlongArray => write_ulongs(&content.longs, encoder),
             Case::Strings => write_strings(&content.texts, encoder),
             Case::Map => write_map(content, encoder),
-            Case::Symbols | Case::SymbolMap | Case::LargeMap => {
+            Case::Symbols | Case::KeptSymbols | Case::SymbolMap | Case::LargeMap => {
                 write_symbols(&content.symbols, encoder)
             }
             _ => encoder.write_binary(&content.bytes),
@@ -255,6 +260,7 @@ impl Case {
             Case::Strings => read_strings(&mut decoder, alloc),
             Case::Map => read_map(&mut decoder, alloc),
             Case::Symbols | Case::SymbolMap | Case::LargeMap => read_symbols(&mut decoder, alloc),
+            Case::KeptSymbols => Ok(kept_symbols(&mut decoder, alloc)?.len() as u64),
             _ => Ok(decoder.read_binary(alloc)?.len() as u64),
         }
     }
@@ -347,4 +353,18 @@ fn read_symbols(decoder: &mut Decoder<&[u8]>, alloc: Global) -> Result<u64, Erro
     }
     decoder.end_map()?;
     Ok(sum)
+}
+
+// The entries in a row, each with the memory of its key.
+fn kept_symbols(decoder: &mut Decoder<&[u8]>, alloc: Global) -> Result<Vec<(Symbol, u32)>, Error> {
+    let mut entries = Vec::new(alloc);
+    for _ in 0..decoder.begin_map()? / 2 {
+        let name = decoder.read_symbol(alloc)?;
+        let number = decoder.read_uint()?;
+        if entries.push((name, number)).is_err() {
+            return Err(Error::Memory);
+        }
+    }
+    decoder.end_map()?;
+    Ok(entries)
 }

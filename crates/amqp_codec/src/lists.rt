@@ -1,8 +1,7 @@
 //! Lists of values of one type (Part 1, section 1.6.22), and what they share with arrays: their items, one after another.
-ghost use Rattle.std.specs.Prelude.{◌≡◌, All, Ok, refl, true};
+ghost use Rattle.std.specs.Prelude.{All, refl, true};
 ghost use Rattle.std.specs.List.{flat_map};
 ghost use Rattle.amqp_model.specs.Term.{list};
-ghost use Rattle.amqp_encoder.specs.Passes.{answer_of};
 ghost use Rattle.amqp_wire.specs.Sources.{Tells};
 ghost use Rattle.amqp_decoder.specs.Reading.{AnswersRead};
 ghost use Rattle.amqp_codec.specs.Written.{WritesTerms};
@@ -17,11 +16,11 @@ use amqp_encoder::Encoder;
 use amqp_wire::{ByteSource, Error};
 use std::alloc::Global;
 
-/// Writes the values one after another, to an encoder that has refused nothing. It is refused as they are.
+/// Writes the values one after another. It is refused as they are, and by an encoder that has refused before.
 pub fn write_each<T: Serialize>(values: &[T], encoder: &mut Encoder) -> Result<(), Error>
-    requires going { answer_of encoder.now ≡ Ok tt }
     ensures { WritesTerms (flat_map T.writing.canons values.now) encoder.old result encoder.new }
 {
+    encoder.check()?;
     for value in values {
         value.serialize(encoder)?;
     }

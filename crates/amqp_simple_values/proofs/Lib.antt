@@ -1,2 +1,1 @@
 mod SimpleReads
-mod RootsDecide

@@ -3,6 +3,7 @@ mod DistinctKeys
 mod FormatCodes
 mod Ordered
 mod Places
+pub mod RootsDecide
 pub mod Same
 mod ValuesFed
 pub mod ValuesWritten

@@ -15,31 +15,15 @@ use Rattle.amqp_values.specs.declared.value.Value.{Decimal64, Decimal128, Char, 
 use Rattle.amqp_values.specs.declared.value.Value.{Map', Array'}
 use Rattle.amqp_values.specs.Values.{value_term}
 use Rattle.amqp_values.specs.Equality.{turn_terms}
+use Rattle.amqp_values.proofs.RootsDecide.{held, roots_decide}
 use Rattle.amqp_values.specs.Labels.{Label, label_of, label_cmp}
 use Rattle.amqp_values.specs.OrderLaws.{label_tied}
-use Rattle.amqp_values.specs.Order.{Trees, node, no_tree, one_more, tree_of, trees_of, tree_cmp, trees_cmp, term_cmp, terms_cmp, value_cmp}
-
-abbrev held : Term → Trees
-held (container k ts) = trees_of ts
-held (described d t) = one_more (tree_of t) no_tree
-held _ = no_tree
-
-by_parts : (t u : Term) → term_cmp t u ≡ ordering_then (label_cmp (label_of t) (label_of u)) (trees_cmp (held t) (held u))
-by_parts t u = ap₂ tree_cmp (parts t) (parts u)
-  where
-    parts : (t : Term) → tree_of t ≡ node (label_of t) (held t)
-    parts (leaf p) = refl
-    parts (container k ts) = refl
-    parts (described d t) = refl
-    parts (kept b) = refl
-    parts (barred r) = refl
+use Rattle.amqp_values.specs.Order.{no_tree, trees_cmp, terms_cmp, value_cmp}
 
 -- where labels differ, they decide
 pub differs : (v w : Value) (l m : Label) (o : Ordering) → l ≡ label_of (value_term v) → m ≡ label_of (value_term w) → label_cmp l m ≡ o
     → value_cmp v w ≡ ordering_then o (trees_cmp (held (value_term v)) (held (value_term w)))
-differs v w l m o e f g =
-    by_parts (value_term v) (value_term w)
-    ∙ ap (λ a. ordering_then a (trees_cmp (held (value_term v)) (held (value_term w)))) (sym (ap₂ label_cmp e f) ∙ g)
+differs v w l m o e f g = roots_decide (value_term v) (value_term w) l m o e f g
 
 -- the place of a value's kind is that of its variant
 its_place : (v : Value) → (label_of (value_term v)).place ≡ tag_of the_type v

@@ -1,7 +1,7 @@
 use Rattle.std.proofs.Common.{sym, ◌∙◌}
 use Rattle.amqp_values.specs.Labels.{label}
 use Rattle.amqp_simple_values.specs.Simple.{simple_term}
-use Rattle.amqp_simple_values.proofs.RootsDecide.{roots_decide}
+use Rattle.amqp_values.proofs.RootsDecide.{roots_decide}
 use Rattle.amqp_simple_values.proofs.order.compare.Goals as goal
 
 pub returns-in-Less : goal.returns-in-Less
