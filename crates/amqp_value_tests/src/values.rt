@@ -6,6 +6,7 @@ use amqp_containers::Array;
 use amqp_maps::OrderedMap;
 use amqp_rows::{Row, check};
 use amqp_values::{Value, ValueMap};
+use amqp_wire::format_code;
 use std::alloc::Global;
 use std::test::Fail;
 
@@ -111,6 +112,15 @@ const MAPS: [Row; 8] = [
     ("c1050443414441", "c1050443414441"),
 ];
 
+const NO_MAPS: [Row; 6] = [
+    ("", "Cut"),
+    ("40", "WrongType"),
+    ("45", "WrongType"),
+    ("99", "UnknownCode"),
+    ("e0020040", "WrongType"),
+    ("005324c10100", "WrongType"),
+];
+
 const ARRAYS: [Row; 12] = [
     ("e00100", "e0020040"),
     ("e0020040", "e0020040"),
@@ -164,6 +174,13 @@ fn values_that_hold_others(rt: HostRuntime) -> Result<(), Fail> {
     check::<Value>(&LISTS, alloc)?;
     check::<Value>(&MAPS, alloc)?;
     check::<Value>(&ARRAYS, alloc)
+}
+
+#[test]
+fn maps_by_themselves(rt: HostRuntime) -> Result<(), Fail> {
+    let alloc = rt.alloc();
+    check::<ValueMap>(&MAPS, alloc)?;
+    check::<ValueMap>(&NO_MAPS, alloc)
 }
 
 #[test]
@@ -226,6 +243,30 @@ fn as_deep_as_values_may_nest(rt: HostRuntime) -> Result<(), Fail> {
         refusal(chain(128, 0x45, alloc)?.as_slice(), alloc),
         Some(Error::Depth)
     );
+    Ok(())
+}
+
+// A map that holds so many levels of lists.
+fn keyed(levels: u8, alloc: Global) -> Result<Vec<u8>, Fail> {
+    let held = nested(levels, alloc)?;
+    let mut text: Vec<u8> = Vec::new(alloc);
+    text.push(format_code::MAP_32)?;
+    text.extend_from_slice(&(5 + 9 * u32::from(levels) + 1).to_be_bytes())?;
+    text.extend_from_slice(&2u32.to_be_bytes())?;
+    text.push(format_code::UINT_0)?;
+    text.extend_from_slice(held.as_slice())?;
+    Ok(text)
+}
+
+#[test]
+fn as_deep_as_values_of_a_map_may_nest(rt: HostRuntime) -> Result<(), Fail> {
+    let alloc = rt.alloc();
+    let deep = keyed(127, alloc)?;
+    let (text, _) = canonical_text::<ValueMap>(deep.as_slice(), alloc)?;
+    assert!(rt; text.as_slice().len() <= deep.len());
+    let deeper = keyed(128, alloc)?;
+    let refused = canonical_text::<ValueMap>(deeper.as_slice(), alloc);
+    assert_eq!(rt; refused.err(), Some(Error::Depth));
     Ok(())
 }
 

@@ -1,6 +1,7 @@
 mod CopiesMade
 mod DistinctKeys
 mod FormatCodes
+mod MapReads
 mod Ordered
 mod Places
 pub mod RootsDecide

@@ -10,6 +10,7 @@ pub mod Boxed
 pub mod ValueMembers
 pub mod Levels
 pub mod ValueType
+pub mod ValueMapType
 pub mod Labels
 pub mod Order
 pub mod OrderLaws

@@ -12,6 +12,7 @@ ghost use Rattle.amqp_kinds.specs.KindReading.{ReadsMember};
 ghost use Rattle.amqp_values.specs.ValueMembers.{ValueMeans, IsOfItems, MeansValues, IsDescribed, MeansDescribed, IsOfPairs, MeansPairs};
 ghost use Rattle.amqp_values.specs.Levels.{faults_of, faults_at, value_in, IsBounded, AnswersEach};
 ghost use Rattle.amqp_values.specs.ValueType.{value_type, value_agreement};
+ghost use Rattle.amqp_values.specs.ValueMapType.{value_map_type, value_map_agreement};
 
 use crate::keys::is_among;
 use crate::typing::descriptor_typed;
@@ -205,4 +206,21 @@ impl DeserializeTerm for Value {
     }
 
     ghost agreement = { value_agreement };
+}
+
+impl DeserializeTerm for ValueMap {
+    ghost term = { value_map_type };
+
+    fn read_value<R: ByteSource>(
+        decoder: &mut Decoder<R>,
+        alloc: Global,
+    ) -> Result<ValueMap, Error> {
+        decoder.room();
+        let count = decoder.begin_map()?;
+        let pairs = read_pairs(count / 2, decoder, LEVELS - 1, alloc)?;
+        decoder.end_map()?;
+        Ok(ValueMap(pairs))
+    }
+
+    ghost agreement = { value_map_agreement };
 }
