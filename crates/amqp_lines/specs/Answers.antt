@@ -9,12 +9,17 @@ use Rattle.amqp_codec.specs.PrimitiveTypes.{boolean_type}
 use Rattle.amqp_codec.specs.Composite.{composite}
 use Rattle.amqp_codec.specs.Reading.{reading_of, IsUnreadable}
 use Rattle.amqp_calls.specs.Rewritten.{IsRewritten, IsUnwritten}
-use Rattle.fe2o3_amqp_types.specs.Types.{accepted, attach, begin, close, condition_type, coordinator, declare, declared}
-use Rattle.fe2o3_amqp_types.specs.Types.{delete_on_close, delete_on_no_links, delete_on_no_links_or_messages}
-use Rattle.fe2o3_amqp_types.specs.Types.{delete_on_no_messages, delivery_state, detach, discharge, disposition, ending, error, flow}
-use Rattle.fe2o3_amqp_types.specs.Types.{lifetime_policy, modified, opening, outcome, performative, received, rejected, released}
-use Rattle.fe2o3_amqp_types.specs.Types.{sasl_challenge, sasl_init, sasl_mechanisms, sasl_outcome, sasl_response, simple_type}
-use Rattle.fe2o3_amqp_types.specs.Types.{source, target, target_archetype, transactional_state, transfer, value_type}
+use Rattle.amqp_delivery.specs.Tables.{accepted, declare, declared, delivery_state, discharge, modified, outcome, received}
+use Rattle.amqp_delivery.specs.Tables.{rejected, released, transactional_state}
+use Rattle.amqp_errors.specs.Conditions.{condition_type}
+use Rattle.amqp_errors.specs.Tables.{error}
+use Rattle.amqp_performatives.specs.Tables.{attach, begin, close, detach, disposition, ending, flow, opening, performative}
+use Rattle.amqp_performatives.specs.Tables.{transfer}
+use Rattle.amqp_sasl.specs.Tables.{sasl_challenge, sasl_init, sasl_mechanisms, sasl_outcome, sasl_response}
+use Rattle.amqp_simple_values.specs.SimpleType.{simple_type}
+use Rattle.amqp_termini.specs.Tables.{coordinator, delete_on_close, delete_on_no_links, delete_on_no_links_or_messages}
+use Rattle.amqp_termini.specs.Tables.{delete_on_no_messages, lifetime_policy, source, target, target_archetype}
+use Rattle.amqp_values.specs.ValueType.{value_type}
 use Rattle.amqp_wire.specs.Error.{number_of, name_of}
 use Rattle.amqp_lines.specs.Lines.{TakesLine}
 use Rattle.amqp_lines.specs.declared.answer.Answer.{Answer}
