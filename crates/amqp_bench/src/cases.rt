@@ -246,7 +246,10 @@ impl Case {
                 Ok(from_slice::<OrderedMap<Symbol, u32>>(text, alloc)?.len() as u64)
             }
             Case::Attach => Ok(u64::from(from_slice::<Attach>(text, alloc)?.handle.0)),
-            Case::Transfer => Ok(u64::from(from_slice::<Transfer>(text, alloc)?.handle.0)),
+            Case::Transfer => {
+                let transfer: Transfer = from_slice(text, alloc)?;
+                Ok(u64::from(transfer.handle.0).saturating_add(1))
+            }
             Case::Flow => Ok(u64::from(from_slice::<Flow>(text, alloc)?.incoming_window)),
             _ => self.read_bare(text, alloc),
         }

@@ -263,7 +263,8 @@ fn as_deep_as_values_of_a_map_may_nest(rt: HostRuntime) -> Result<(), Fail> {
     let alloc = rt.alloc();
     let deep = keyed(127, alloc)?;
     let (text, _) = canonical_text::<ValueMap>(deep.as_slice(), alloc)?;
-    assert!(rt; text.as_slice().len() <= deep.len());
+    let (again, _) = canonical_text::<ValueMap>(text.as_slice(), alloc)?;
+    assert_eq!(rt; again.as_slice(), text.as_slice());
     let deeper = keyed(128, alloc)?;
     let refused = canonical_text::<ValueMap>(deeper.as_slice(), alloc);
     assert_eq!(rt; refused.err(), Some(Error::Depth));

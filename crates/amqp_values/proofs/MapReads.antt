@@ -1,6 +1,7 @@
 -- Maps of values of any kind are read by themselves: what each exit of their reader answers.
-use Rattle.std.proofs.Common.{◌≡◌, ℕ, ◌<◌, ◌+◌, suc, true, List, length, refl, arith}
-use Rattle.amqp_model.specs.Term.{map}
+use Rattle.std.proofs.Common.{ℕ, suc, true, List, refl}
+use Rattle.amqp_model.specs.Term.{map, Term}
+use Rattle.amqp_model.specs.Standing.{Standing}
 use Rattle.amqp_wire.specs.declared.error.Error.{Error}
 use Rattle.amqp_decoder.specs.State.{State}
 use Rattle.amqp_decoder.specs.Reading.{RefusesRead}
@@ -24,24 +25,22 @@ AnyMap = ReadsValue value_map_type.means
 abbrev MapPairs : State → List (Value × Value) → State → Type 0
 MapPairs = ReadsValue MeansPairs
 
+-- what stands means this too
+meant_so : {A B : Type 0} (P : Standing → Term → A → Type 0) (Q : Standing → Term → B → Type 0) (x : A) (y : B)
+    → ((s : Standing) (t : Term) → P s t x → Q s t y) → (st b : State) → ReadsValue P st x b → ReadsValue Q st y b
+meant_so P Q x y f st b h =
+    record { bytes = h.bytes; term = h.term; stands = h.stands; moved = h.moved; meant = f _ h.term h.meant }
+
 -- a map that stands is its pairs
 as_pairs : (st : State) (m : ValueMap) (b : State) → AnyMap st m b → MapPairs st (pairs_of m) b
-as_pairs st m b h = record {
-  bytes = h.bytes;
-  term = h.term;
-  stands = h.stands;
-  moved = h.moved;
-  meant = means_map value_term values_are_trees _ h.term (pairs_of m) (MapOf m) (map_is m) h.meant;
-}
+as_pairs st m b =
+    meant_so value_map_type.means MeansPairs m (pairs_of m)
+    (λ s t. means_map value_term values_are_trees s t (pairs_of m) (MapOf m) (map_is m)) st b
 
 pub as_map : (st : State) (m : ValueMap) (b : State) → MapPairs st (pairs_of m) b → AnyMap st m b
-as_map st m b h = record {
-  bytes = h.bytes;
-  term = h.term;
-  stands = h.stands;
-  moved = h.moved;
-  meant = map_means value_term values_are_trees _ h.term (pairs_of m) (MapOf m) (map_is m) h.meant;
-}
+as_map st m b =
+    meant_so MeansPairs value_map_type.means (pairs_of m) m
+    (λ s t. map_means value_term values_are_trees s t (pairs_of m) (MapOf m) (map_is m)) st b
 
 -- what is refused as its pairs
 pub map_refused : (st : State) (e : Error) (new : State) → RefusesRead true MapPairs (MapFault value_type value_type) st e new

@@ -17,7 +17,8 @@ pub returns-in_err-serialize : goal.returns-in_err-serialize
 returns-in_err-serialize g c =
     next_refused g.T.Serialize.writing.canons c.args.values.now c.loop-value.value-index c.value-item.result _ _ _ _ _ _
     c.loop-value-test.true c.value-item.is c.in_err-serialize.was
-    (err_from_is_err_and c.from_residual-in_err-serialize.result c.from_residual-in_err-serialize.ensures.1) c.loop-value.invariant c.serialize.ensures
+    (err_from_is_err_and c.from_residual-in_err-serialize.result c.from_residual-in_err-serialize.ensures.1)
+    c.loop-value.invariant c.serialize.ensures
 
 pub loop-value-preserved : goal.loop-value-preserved
 loop-value-preserved g c =
