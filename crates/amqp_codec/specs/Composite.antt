@@ -24,7 +24,7 @@ use Rattle.std.proofs.lemmas.List.Quantifiers.{position-Some}
 use Rattle.std.proofs.lemmas.Slice.Eq.{bytes_eq-Decides}
 use Rattle.amqp_decoder.specs.State.{State}
 use Rattle.amqp_codec.specs.OtherSource.{fields_read, fields_faults, member_faults}
-use Rattle.amqp_input.specs.Members.{is_named, name_place}
+use Rattle.amqp_lookahead.specs.Members.{is_named, name_place}
 use Rattle.amqp_codec.specs.FieldReading.{FieldsRead}
 use Rattle.amqp_codec.specs.Members.{Members, TermRead, TermMeant, IsSum}
 use Rattle.amqp_codec.specs.Fields.{Fields, slots, take_memory}

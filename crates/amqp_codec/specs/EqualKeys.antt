@@ -15,7 +15,7 @@ use Rattle.amqp_model.specs.Term.{name, code, Term, Terms, leaf, container, desc
 use Rattle.amqp_model.specs.Spelling.{descriptor_value}
 use Rattle.amqp_model.specs.Ranges.{Everywhere, EverywhereIn, IsValue}
 use Rattle.amqp_model.specs.Items.{is_null, IsFree, BarsAny}
-use Rattle.amqp_input.specs.Kinds.{kind_of}
+use Rattle.amqp_lookahead.specs.Kinds.{kind_of}
 use Rattle.amqp_codec.specs.PrimitiveTypes.{truth, number, integer, content}
 use Rattle.amqp_codec.specs.TermType.{KeepsNoBytes, KeepNoBytes}
 use Rattle.amqp_codec.specs.TreeLaws.{IsTree, AreTrees}

@@ -10,8 +10,8 @@ use Rattle.amqp_model.specs.Spelling.{PrimitiveData, ContainerData, HasWidthZero
 use Rattle.amqp_model.specs.Text.{wide, form, primitive_form, wide_code}
 use Rattle.amqp_model.specs.Items.{IsFree}
 use Rattle.amqp_model.specs.Refusals.{core, HasForm}
-use Rattle.amqp_input.specs.Kinds.{kind_of, kind_at, nulls}
-use Rattle.amqp_input.proofs.KindsOfCodes.{kind_data, one_code}
+use Rattle.amqp_lookahead.specs.Kinds.{kind_of, kind_at, nulls}
+use Rattle.amqp_lookahead.proofs.KindsOfCodes.{kind_data, one_code}
 use Rattle.amqp_codec.specs.TermType.{IsKept}
 
 -- the codes in an array of the kinds but null, by their places

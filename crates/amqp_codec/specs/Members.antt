@@ -10,12 +10,12 @@ use Rattle.amqp_decoder.specs.OtherSource.{Setting, under}
 use Rattle.amqp_decoder.specs.Reading.{RefusesRead}
 use Rattle.amqp_decoder.specs.Primitives.{standing, Stands, ReadsValue}
 use Rattle.amqp_decoder.specs.Containers.{ClosesDescribed, EndFault}
-use Rattle.amqp_input.specs.Members.{Member, as_name, is_named, name_place}
+use Rattle.amqp_lookahead.specs.Members.{Member, as_name, is_named, name_place}
 use Rattle.amqp_decoder.specs.Described.{OpensDescribed, OpensOneOf, OneOfFault}
 use Rattle.amqp_decoder.proofs.NothingInside.{opens_described_same}
 use Rattle.amqp_decoder.specs.Items.{Next}
 use Rattle.amqp_decoder.proofs.Descriptions.{described_term, term_described}
-use Rattle.amqp_input.proofs.Members.{place_is}
+use Rattle.amqp_lookahead.proofs.Members.{place_is}
 use Rattle.amqp_decoder.proofs.OneReading.{next_same}
 use Rattle.amqp_decoder.proofs.NotMemory.{one_of_not_memory, end_not_memory}
 use Rattle.amqp_wire.specs.declared.error.Error.TheVariants.{Memory}

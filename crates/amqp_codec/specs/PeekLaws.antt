@@ -16,8 +16,8 @@ use Rattle.amqp_decoder.specs.Primitives.{standing, SpellsAs, Stands, ReadsValue
 use Rattle.amqp_decoder.proofs.ReadPrimitives.{value_leaf, begun_same, fault_not_leaf, code_value}
 use Rattle.amqp_decoder.proofs.Steps.{has_less}
 use Rattle.amqp_decoder.proofs.Peeks.{begun-peeked}
-use Rattle.amqp_input.specs.Kinds.{nulls}
-use Rattle.amqp_input.proofs.KindsOfCodes.{kind_data, one_code}
+use Rattle.amqp_lookahead.specs.Kinds.{nulls}
+use Rattle.amqp_lookahead.proofs.KindsOfCodes.{kind_data, one_code}
 use Rattle.amqp_codec.specs.NullLaws.{null_primitive}
 use Rattle.amqp_codec.specs.RefusalLaws.{NoneStands}
 

@@ -8,8 +8,8 @@ use Rattle.amqp_model.specs.Term.{Primitive, null, boolean, ubyte, ushort, uint,
 use Rattle.amqp_model.specs.Term.{decimal64, decimal128, uuid, binary, string, symbol, Term, leaf}
 use Rattle.amqp_model.specs.Ranges.{IsInRange}
 use Rattle.amqp_model.specs.Items.{is_null_primitive}
-use Rattle.amqp_input.specs.Kinds.{nulls, booleans, ubytes, ushorts, uints, ulongs, bytes, shorts, ints, longs, decimals32, decimals64}
-use Rattle.amqp_input.specs.Kinds.{decimals128, chars, timestamps, uuids, binaries, strings, symbols}
+use Rattle.amqp_lookahead.specs.Kinds.{nulls, booleans, ubytes, ushorts, uints, ulongs, bytes, shorts, ints, longs, decimals32, decimals64}
+use Rattle.amqp_lookahead.specs.Kinds.{decimals128, chars, timestamps, uuids, binaries, strings, symbols}
 use Rattle.amqp_decoder.specs.Primitives.{PrimitiveFault}
 use Rattle.amqp_decoder.proofs.NotMemory.{primitive_not_memory}
 use Rattle.amqp_decoder.proofs.Misspelled.{primitive_misspelled}

@@ -16,7 +16,7 @@ use Rattle.amqp_decoder.specs.Steps.{Takes}
 use Rattle.amqp_decoder.specs.Containers.{ReadsHeader}
 use Rattle.amqp_decoder.specs.Arrays.{TakesConstructor, IsFlat, Shares, no_items, shared_by, Starts, EntersArray, OpensArray}
 use Rattle.amqp_decoder.specs.Items.{Next, row_standings, NextWithParts, ContainsArray}
-use Rattle.amqp_input.proofs.Looks.{front_is}
+use Rattle.amqp_lookahead.proofs.Looks.{front_is}
 use Rattle.amqp_decoder.proofs.ReadPrimitives.{minus-minus, begun_same}
 use Rattle.amqp_decoder.proofs.Peeks.{constructor_some}
 use Rattle.amqp_decoder.proofs.Opening.{header_same, one_width, took_both}

@@ -23,7 +23,7 @@ use Rattle.amqp_decoder.proofs.ReadPrimitives.{has_front, has_rest, took_none}
 use Rattle.amqp_decoder.proofs.Opening.{took_both, after_data-after_data}
 use Rattle.amqp_decoder.proofs.Descriptors.{fault_not_names}
 use Rattle.amqp_decoder.proofs.Steps.{answered_took, not_lacking}
-use Rattle.amqp_input.proofs.Looks.{front_is, rest_is}
+use Rattle.amqp_lookahead.proofs.Looks.{front_is, rest_is}
 
 -- a known code whose data has no bytes
 pub known_zero : (c : ℕ) (none : Bool) → IsTrue none ↔ ((0x40 ≤ c) × (c ≤ 0x45)) → IsKnown (format c) → IsTrue none

@@ -16,7 +16,7 @@ use Rattle.amqp_decoder.specs.Reading.{IsFirst}
 use Rattle.amqp_decoder.specs.Primitives.{standing, SpellsAs}
 use Rattle.amqp_decoder.specs.Containers.{place_of, is_list, IsCount, Counts, ReadsHeader}
 use Rattle.amqp_decoder.specs.Items.{Row, Next, row_standings, NextWithParts, Contains}
-use Rattle.amqp_input.proofs.Looks.{front_is}
+use Rattle.amqp_lookahead.proofs.Looks.{front_is}
 use Rattle.amqp_decoder.proofs.Steps.{has_none, lower_none}
 use Rattle.amqp_decoder.proofs.ReadPrimitives.{has_add, has_front, has_rest, lower-lower, minus-minus, after_code, after_data-after_value}
 use Rattle.amqp_decoder.proofs.Opening.{after_data-after_data, took_both}

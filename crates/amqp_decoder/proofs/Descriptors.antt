@@ -14,14 +14,14 @@ use Rattle.amqp_wire.specs.declared.descriptor.Descriptor.{Descriptor as Descrip
 use Rattle.amqp_decoder.specs.State.{State, Has, after_bytes, after_data, descriptor_of}
 use Rattle.amqp_decoder.specs.Steps.{Answers, IsExcused, Pulls, Takes, FallsShort}
 use Rattle.amqp_decoder.specs.Reading.{RefusesRead, IsFirst, ReadsCode, BeginFault}
-use Rattle.amqp_input.specs.Kinds.{kind_at}
+use Rattle.amqp_lookahead.specs.Kinds.{kind_at}
 use Rattle.amqp_decoder.specs.Primitives.{LacksData, IsWhole, AnswersFault, ReadsSize, SizedFault, ReadsSized, ReadsData, LacksDataOf}
-use Rattle.amqp_input.specs.Members.{Member, place_of}
+use Rattle.amqp_lookahead.specs.Members.{Member, place_of}
 use Rattle.amqp_decoder.specs.Described.{IsMark, IsUnmarked, IsDescriptor, IsDescribable, TakesDescriptor, in_described, OpensOneOf}
 use Rattle.amqp_decoder.specs.Described.{DescribedFault, not_begun, other_code, too_deep, other_kind, symbol_code, IsDescriptorKind}
 use Rattle.amqp_decoder.specs.Described.{DescriptorFault, no_code, no_kind, no_data, non_ascii, MissesDescriptor, TakesPlace, MissesName}
 use Rattle.amqp_decoder.specs.Described.{OneOfFault, OpenFault, not_open, nameless, not_described, no_descriptor, no_member, OpensDescribed}
-use Rattle.amqp_input.proofs.KindsOfCodes.{kind_data, kind_is, not_two}
+use Rattle.amqp_lookahead.proofs.KindsOfCodes.{kind_data, kind_is, not_two}
 use Rattle.amqp_decoder.proofs.ReadPrimitives.{has_add, has_rest, lower-lower, minus-minus, after_code, begun_same, fault_not_begun}
 use Rattle.amqp_decoder.proofs.ReadPrimitives.{data_not_lacking, data_whole, whole_same, took_none}
 use Rattle.amqp_decoder.proofs.SizedTexts.{sized_cut, no_text_value}

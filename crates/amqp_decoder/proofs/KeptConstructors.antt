@@ -13,12 +13,12 @@ use Rattle.amqp_lengths.specs.Lengths.{Marks}
 use Rattle.amqp_lengths.proofs.Descriptors.{marks_more, marks_done}
 use Rattle.amqp_decoder.specs.State.{State}
 use Rattle.amqp_decoder.specs.Steps.{Answers, Takes, Lacks, Stops}
-use Rattle.amqp_input.specs.Kinds.{kind_at}
+use Rattle.amqp_lookahead.specs.Kinds.{kind_at}
 use Rattle.amqp_decoder.specs.Primitives.{LacksData, IsWhole}
 use Rattle.amqp_decoder.specs.Described.{other_kind, DescriptorFault, no_code, no_kind, no_data, non_ascii}
 use Rattle.amqp_decoder.specs.Arrays.{TakesMarks, ConstructorFault}
 use Rattle.amqp_decoder.specs.Terms.{Keeps, IsSymbol, SymbolFault, no_text, no_ascii, IsConstructor}
-use Rattle.amqp_input.proofs.KindsOfCodes.{not_two, not_three}
+use Rattle.amqp_lookahead.proofs.KindsOfCodes.{not_two, not_three}
 use Rattle.amqp_decoder.proofs.SizedTexts.{no_text_value}
 use Rattle.amqp_decoder.proofs.Constructed.{TookNamed, ends_known, stopped_code, stopped_mark, stopped_unknown}
 use Rattle.amqp_decoder.proofs.Steps.{answered, answered_so, answered_took, stopped_as, stopped_later}

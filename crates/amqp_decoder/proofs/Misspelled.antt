@@ -9,9 +9,9 @@ use Rattle.amqp_model.specs.Spelling.{PrimitiveData, IsKnown, data_of, enc}
 use Rattle.amqp_model.proofs.Forms.{primitive_known}
 use Rattle.amqp_wire.specs.declared.error.Error.{Error}
 use Rattle.amqp_wire.specs.Codes.{refusal_of}
-use Rattle.amqp_input.specs.Kinds.{kind_of, kind_under, kind_at}
-use Rattle.amqp_input.specs.Members.{Member}
-use Rattle.amqp_input.proofs.KindsOfCodes.{kind_data}
+use Rattle.amqp_lookahead.specs.Kinds.{kind_of, kind_under, kind_at}
+use Rattle.amqp_lookahead.specs.Members.{Member}
+use Rattle.amqp_lookahead.proofs.KindsOfCodes.{kind_data}
 use Rattle.amqp_decoder.specs.declared.frame.OpenKind.{OpenKind}
 use Rattle.amqp_decoder.specs.State.{State, Has, after_value}
 use Rattle.amqp_decoder.specs.Reading.{IsFirst, ReadsCode, BeginFault}

@@ -15,7 +15,7 @@ use Rattle.amqp_decoder.specs.Containers.{EndFault, other_place, nothing_open, i
 use Rattle.amqp_decoder.specs.Containers.{HeaderFault, no_size, impossible, no_count, no_content, EnterFault, no_header, odd_count, no_room}
 use Rattle.amqp_decoder.specs.Containers.{too_deep, OpenFault}
 use Rattle.amqp_decoder.specs.Containers as containers
-use Rattle.amqp_input.specs.Members.{Member}
+use Rattle.amqp_lookahead.specs.Members.{Member}
 use Rattle.amqp_decoder.specs.Described.{other_kind, DescribedFault, DescriptorFault, no_kind, non_ascii, OneOfFault, not_described}
 use Rattle.amqp_decoder.specs.Described.{no_descriptor, no_member}
 use Rattle.amqp_decoder.specs.Described as described

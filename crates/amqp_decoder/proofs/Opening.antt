@@ -17,8 +17,8 @@ use Rattle.amqp_decoder.specs.Containers.{place_of, is_list, IsCount, Counts, Is
 use Rattle.amqp_decoder.specs.Containers.{no_count, no_content, Unopened, Enters, EnterFault, no_header, odd_count, no_room, too_deep}
 use Rattle.amqp_decoder.specs.Containers.{Opens, OpenFault, not_begun, wrong_code, no_data}
 use Rattle.amqp_decoder.proofs.Steps.{answered_begun, answered_took, not_lacking}
-use Rattle.amqp_input.proofs.Looks.{front_is}
-use Rattle.amqp_input.proofs.KindsOfCodes.{OneOf}
+use Rattle.amqp_lookahead.proofs.Looks.{front_is}
+use Rattle.amqp_lookahead.proofs.KindsOfCodes.{OneOf}
 use Rattle.amqp_decoder.proofs.ReadPrimitives.{has_add, has_rest, lower-lower, minus-minus, after_code, begun_same, fault_not_begun}
 use Rattle.amqp_decoder.proofs.ReadPrimitives.{took_none}
 

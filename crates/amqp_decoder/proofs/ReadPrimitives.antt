@@ -15,12 +15,12 @@ use Rattle.amqp_wire.specs.Codes.{refusal_of}
 use Rattle.amqp_decoder.specs.State.{State, Has, lower, after_data, after_value}
 use Rattle.amqp_decoder.specs.Steps.{Answers, SourceFailed, IsExcused, Takes, Lacks, FallsShort}
 use Rattle.amqp_decoder.specs.Reading.{RefusesRead, AnswersRead, IsFirst, ReadsCode, BeginFault, missing, no_code}
-use Rattle.amqp_input.specs.Kinds.{kind_of, kind_at, kind_under, codes_of}
+use Rattle.amqp_lookahead.specs.Kinds.{kind_of, kind_at, kind_under, codes_of}
 use Rattle.amqp_decoder.specs.Primitives.{standing, SpellsAs, ReadsValue, Means, ReadsPrimitive, LacksData, IsWhole, bad, PrimitiveFault}
 use Rattle.amqp_decoder.specs.Primitives.{not_begun, wrong_code, no_data, bad_data, FixedFault, unbegun, other_code, too_few, ReadsFixed}
 use Rattle.amqp_decoder.specs.Primitives.{AnswersFault, LacksDataOf}
 use Rattle.amqp_decoder.proofs.Steps.{answered_begun, answered_took, has_none, lower_none, not_lacking, not_begun_done, not_begun_lacking}
-use Rattle.amqp_input.proofs.KindsOfCodes.{kind_data, kind_is, one_code}
+use Rattle.amqp_lookahead.proofs.KindsOfCodes.{kind_data, kind_is, one_code}
 
 pub has_add : (o : Option ℕ) (m n : ℕ) → Has o m → Has (lower o m) n → Has o (m + n)
 has_add None m n h k = tt

@@ -13,11 +13,11 @@ use Rattle.amqp_model.specs.Spelling.{PrimitiveData, IsValid}
 use Rattle.amqp_model.proofs.Bytes.{field}
 use Rattle.amqp_wire.specs.Codes.{refusal_of}
 use Rattle.amqp_decoder.specs.Reading.{RefusesRead, AnswersRead, ReadsCode, BeginFault}
-use Rattle.amqp_input.specs.Kinds.{kind_of, kind_at, kind_under, codes_of}
+use Rattle.amqp_lookahead.specs.Kinds.{kind_of, kind_at, kind_under, codes_of}
 use Rattle.amqp_decoder.specs.Primitives.{ReadsValue, Means, LacksData, IsWhole, bad, PrimitiveFault, not_begun, wrong_code, no_data}
 use Rattle.amqp_decoder.specs.Primitives.{bad_data, AnswersFault, ReadsSize, SizedFault, ReadsSized, ReadsText, TextFault, no_text}
 use Rattle.amqp_decoder.specs.Primitives.{no_text_code, narrow_short, wide_short}
-use Rattle.amqp_input.proofs.KindsOfCodes.{kind_is, not_two}
+use Rattle.amqp_lookahead.proofs.KindsOfCodes.{kind_is, not_two}
 use Rattle.amqp_decoder.proofs.ReadPrimitives.{kind_failed, refused_kind, data_value}
 use Rattle.amqp_decoder.proofs.Steps.{answered_begun, answered_later, answered_took, excused_by_source, missed_lacks}
 

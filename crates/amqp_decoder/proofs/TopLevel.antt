@@ -1,7 +1,7 @@
 -- What is found at the top level.
 use Rattle.std.proofs.Common.{◌≡◌, ℕ, false, inl, inr, Option, Some, Result, Ok, Err, IfOk, IfErr, ◌↔◌, subst}
 use Rattle.amqp_wire.specs.declared.error.Error.{Error}
-use Rattle.amqp_input.specs.Sections.{IsSectionAhead}
+use Rattle.amqp_lookahead.specs.Sections.{IsSectionAhead}
 use Rattle.amqp_decoder.specs.State.{State}
 use Rattle.amqp_decoder.specs.Steps.{Answers, SourceFailed}
 use Rattle.amqp_decoder.specs.Reading.{AnswersRead}

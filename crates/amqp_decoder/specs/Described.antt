@@ -10,8 +10,8 @@ use Rattle.amqp_decoder.specs.declared.frame.OpenKind.TheVariants.{InDescribed}
 use Rattle.amqp_decoder.specs.State.{State}
 use Rattle.amqp_decoder.specs.Steps.{Answers, IsExcused, SourceFailed, Takes, Lacks}
 use Rattle.amqp_decoder.specs.Reading.{ReadsCode, BeginFault}
-use Rattle.amqp_input.specs.Kinds.{kind_at, ulongs, symbols}
-use Rattle.amqp_input.specs.Members.{Member, place_of}
+use Rattle.amqp_lookahead.specs.Kinds.{kind_at, ulongs, symbols}
+use Rattle.amqp_lookahead.specs.Members.{Member, place_of}
 use Rattle.amqp_decoder.specs.Primitives.{LacksData, IsWhole}
 
 -- The first of the descriptors that are shared.

@@ -6,7 +6,7 @@ use Rattle.amqp_model.specs.Constructors.{Format, fixed, variable, compound, unk
 use Rattle.amqp_model.specs.Standing.{Standing}
 use Rattle.amqp_wire.specs.declared.error.Error.{Error}
 use Rattle.amqp_wire.specs.declared.error.Error.TheVariants.{Size, Depth}
-use Rattle.amqp_input.specs.Members.{Member}
+use Rattle.amqp_lookahead.specs.Members.{Member}
 use Rattle.amqp_decoder.specs.declared.frame.OpenKind.{OpenKind}
 use Rattle.amqp_decoder.specs.declared.frame.OpenKind.TheVariants.{InArray}
 use Rattle.amqp_decoder.specs.State.{State, in_container}

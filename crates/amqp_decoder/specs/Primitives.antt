@@ -12,7 +12,7 @@ use Rattle.amqp_wire.specs.Codes.{refusal_of}
 use Rattle.amqp_decoder.specs.State.{State, Has, lower, after_value}
 use Rattle.amqp_decoder.specs.Steps.{Answers, IsExcused, SourceFailed, Takes, Lacks}
 use Rattle.amqp_decoder.specs.Reading.{ReadsCode, BeginFault}
-use Rattle.amqp_input.specs.Kinds.{kind_at, booleans, chars, strings, symbols}
+use Rattle.amqp_lookahead.specs.Kinds.{kind_at, booleans, chars, strings, symbols}
 
 -- How a value stands: as bytes of its own, or as the data of an array's item under the constructor that is shared.
 abbrev pub standing : Option (List Descriptor × ℕ) → List ℕ → Standing

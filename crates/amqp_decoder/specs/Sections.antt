@@ -2,7 +2,7 @@
 use Rattle.std.specs.Prelude.{◌≡◌, ◌≤◌, ◌↔◌, ℕ, Bool, IsTrue, [], length, min, Option, Some, None}
 use Rattle.amqp_wire.specs.declared.error.Error.{Error}
 use Rattle.amqp_wire.specs.declared.error.Error.TheVariants.{InvalidValue}
-use Rattle.amqp_input.specs.Sections.{IsSectionAhead}
+use Rattle.amqp_lookahead.specs.Sections.{IsSectionAhead}
 use Rattle.amqp_decoder.specs.declared.frame.OpenKind.TheVariants.{Top}
 use Rattle.amqp_decoder.specs.State.{State, top_level, after_look}
 

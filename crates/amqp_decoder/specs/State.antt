@@ -4,7 +4,7 @@ use Rattle.std.specs.Prelude.{None, unwrap_or}
 use Rattle.amqp_model.specs.Term.{Descriptor}
 use Rattle.amqp_wire.specs.declared.error.Error.{Error}
 use Rattle.amqp_wire.specs.declared.descriptor.Descriptor.{Descriptor as DescriptorValue}
-pub use Rattle.amqp_input.specs.Members.{descriptor_of}
+pub use Rattle.amqp_lookahead.specs.Members.{descriptor_of}
 use Rattle.amqp_decoder.specs.declared.frame.OpenContainer.{OpenContainer}
 use Rattle.amqp_decoder.specs.declared.frame.OpenKind.{OpenKind}
 use Rattle.amqp_decoder.specs.declared.frame.OpenKind.TheVariants.{Top, InArray, InDescribed, InList, InMap}

@@ -11,7 +11,7 @@ mod sections;
 mod shared;
 
 use crate::frame::{OpenContainer, ROW};
-use amqp_input::Input;
+use amqp_lookahead::Input;
 use amqp_wire::{ByteSource, Descriptor, Error};
 use std::alloc::Global;
 use std::marker::Model;

@@ -7,7 +7,7 @@ ghost use Rattle.amqp_wire.specs.declared.error.Error.TheVariants.{Memory};
 ghost use Rattle.amqp_model.specs.Term.{name as of_name};
 ghost use Rattle.amqp_wire.specs.Sources.{Tells};
 ghost use Rattle.amqp_wire.specs.Codes.{refusal_of};
-ghost use Rattle.amqp_input.specs.Members.{place_of as place_in};
+ghost use Rattle.amqp_lookahead.specs.Members.{place_of as place_in};
 ghost use Rattle.amqp_decoder.specs.State.{after_bytes, descriptor_of};
 ghost use Rattle.amqp_decoder.specs.Steps.{Answers};
 ghost use Rattle.amqp_decoder.specs.Reading.{ReadsCode};
@@ -19,7 +19,7 @@ ghost use Rattle.amqp_decoder.specs.Described.{OneOfFault};
 
 use crate::Decoder;
 use crate::frame::OpenKind;
-use amqp_input::names::{Members, next_front, place_of, place_of_code, place_of_name};
+use amqp_lookahead::names::{Members, next_front, place_of, place_of_code, place_of_name};
 use amqp_wire::{ByteSource, Descriptor, Error, format_code};
 use std::alloc::Global;
 

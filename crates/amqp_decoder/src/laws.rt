@@ -9,7 +9,7 @@ ghost use Rattle.amqp_decoder.specs.State.{State, Has, after_look, after_bytes, 
 ghost use Rattle.amqp_decoder.specs.Steps.{Takes};
 ghost use Rattle.amqp_decoder.specs.Reading.{ReadsCode, PeeksCode};
 ghost use Rattle.amqp_decoder.specs.Primitives.{standing, Stands, ReadsValue, PrimitiveFault};
-ghost use Rattle.amqp_input.specs.Members.{Member};
+ghost use Rattle.amqp_lookahead.specs.Members.{Member};
 ghost use Rattle.amqp_wire.specs.declared.error.Error.{Error};
 ghost use Rattle.amqp_wire.specs.declared.error.Error.TheVariants.{Memory};
 ghost use Rattle.amqp_decoder.specs.OtherSource.{Setting, under, KeepsError};

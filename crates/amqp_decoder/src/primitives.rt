@@ -6,8 +6,8 @@ ghost use Rattle.amqp_wire.specs.Sources.{Tells};
 ghost use Rattle.amqp_decoder.specs.Reading.{AnswersRead};
 ghost use Rattle.amqp_decoder.specs.Primitives.{ReadsFixed, FixedFault, AnswersFault, ReadsValue, Means, PrimitiveFault, ReadsData};
 ghost use Rattle.amqp_decoder.specs.Primitives.{LacksDataOf};
-ghost use Rattle.amqp_input.specs.Kinds.{kind_at, nulls, booleans, ubytes, ushorts, uints, ulongs, bytes, shorts, ints, longs, decimals32};
-ghost use Rattle.amqp_input.specs.Kinds.{decimals64, decimals128, chars, timestamps, uuids};
+ghost use Rattle.amqp_lookahead.specs.Kinds.{kind_at, nulls, booleans, ubytes, ushorts, uints, ulongs, bytes, shorts, ints, longs, decimals32};
+ghost use Rattle.amqp_lookahead.specs.Kinds.{decimals64, decimals128, chars, timestamps, uuids};
 
 use crate::Decoder;
 use amqp_wire::{ByteSource, Error, format_code};

@@ -3,7 +3,7 @@ ghost use Rattle.std.specs.Prelude.{◌<◌, ◌≤◌, ◌≡◌, ◌++◌, ℕ
 ghost use Rattle.std.specs.Prelude.{false};
 ghost use Rattle.amqp_model.specs.Term.{binary, string, symbol};
 ghost use Rattle.amqp_wire.specs.Sources.{Tells};
-ghost use Rattle.amqp_input.specs.Kinds.{binaries, strings, symbols};
+ghost use Rattle.amqp_lookahead.specs.Kinds.{binaries, strings, symbols};
 ghost use Rattle.amqp_decoder.specs.State.{after_bytes};
 ghost use Rattle.amqp_decoder.specs.Steps.{Answers, Misses};
 ghost use Rattle.amqp_decoder.specs.Reading.{AnswersRead};

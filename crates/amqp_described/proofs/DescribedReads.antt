@@ -8,7 +8,7 @@ use Rattle.amqp_wire.specs.declared.error.Error.{Error}
 use Rattle.amqp_wire.specs.declared.descriptor.Descriptor.{Descriptor as DescriptorValue}
 use Rattle.amqp_wire.specs.declared.descriptor.Descriptor.TheVariants.{Name, Code}
 use Rattle.amqp_encoder.specs.Values.{descriptor_of as written_descriptor}
-use Rattle.amqp_input.specs.Members.{descriptor_of}
+use Rattle.amqp_lookahead.specs.Members.{descriptor_of}
 use Rattle.amqp_decoder.specs.declared.frame.OpenKind.TheVariants.{InDescribed}
 use Rattle.amqp_decoder.specs.State.{State, after_value}
 use Rattle.amqp_decoder.specs.Reading.{RefusesRead}

@@ -2,7 +2,7 @@
 use Rattle.std.proofs.Common.{◌≡◌, true, refl}
 use Rattle.amqp_model.specs.Term.{Descriptor}
 use Rattle.amqp_model.specs.FieldType.{Norm, normal, unchanged, by_norm}
-use Rattle.amqp_input.specs.Members.{descriptor_of}
+use Rattle.amqp_lookahead.specs.Members.{descriptor_of}
 use Rattle.amqp_codec.specs.TermType.{TermType}
 use Rattle.amqp_codec.specs.DescribedPairType.{any_descriptor, norm_second, described_pair}
 use Rattle.amqp_codec.specs.DescribedPairWriting.{pair_writing, pair_agreement}

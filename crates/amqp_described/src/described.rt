@@ -3,7 +3,7 @@ ghost use Rattle.std.specs.Prelude.{◌≡◌, IfOk, IfErr, refl};
 ghost use Rattle.amqp_model.specs.Spelling.{descriptor_value};
 ghost use Rattle.amqp_model.specs.Ranges.{IsInRange};
 ghost use Rattle.amqp_wire.specs.declared.error.Error.TheVariants.{Memory};
-ghost use Rattle.amqp_input.specs.Members.{descriptor_of};
+ghost use Rattle.amqp_lookahead.specs.Members.{descriptor_of};
 ghost use Rattle.amqp_codec.specs.Agreement.{via_writing};
 ghost use Rattle.amqp_codec.specs.DescribedPairType.{any_descriptor};
 ghost use Rattle.amqp_codec.specs.DescribedPairWriting.{pair_writing};

@@ -4,7 +4,7 @@ use Rattle.amqp_model.specs.Term.{Primitive, Term, leaf, symbol}
 use Rattle.amqp_model.specs.Standing.{Standing}
 use Rattle.amqp_wire.specs.declared.error.Error.{Error}
 use Rattle.amqp_wire.specs.declared.symbol.Symbol.{Symbol}
-use Rattle.amqp_input.specs.Kinds.{symbols}
+use Rattle.amqp_lookahead.specs.Kinds.{symbols}
 use Rattle.amqp_decoder.specs.State.{State}
 use Rattle.amqp_decoder.specs.Steps.{Answers}
 use Rattle.amqp_decoder.specs.Reading.{RefusesRead}

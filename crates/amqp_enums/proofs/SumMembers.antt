@@ -10,7 +10,7 @@ use Rattle.amqp_model.specs.Term.{Term, Descriptor, described}
 use Rattle.amqp_model.specs.Standing.{Standing, whole}
 use Rattle.amqp_decoder.specs.State.{State}
 use Rattle.amqp_decoder.specs.Items.{Next}
-use Rattle.amqp_input.specs.Members.{is_named}
+use Rattle.amqp_lookahead.specs.Members.{is_named}
 use Rattle.amqp_codec.specs.Members.{TermRead, TermMeant, IsSum}
 use Rattle.amqp_codec.specs.Composite.{Table, composite_is_sum, named_describes, first_place, only_place}
 use Rattle.amqp_enums.specs.DistinctDescriptorLaws.{differ, one_table}

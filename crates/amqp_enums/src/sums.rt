@@ -3,7 +3,7 @@
 ghost use Rattle.std.specs.Prelude.{◌≡◌, ◌<◌, length, map};
 ghost use Rattle.amqp_model.specs.Items.{is_null};
 ghost use Rattle.amqp_wire.specs.Sources.{Tells};
-ghost use Rattle.amqp_input.specs.Members.{as_name};
+ghost use Rattle.amqp_lookahead.specs.Members.{as_name};
 ghost use Rattle.amqp_decoder.specs.Reading.{AnswersRead};
 ghost use Rattle.amqp_decoder.specs.Primitives.{ReadsValue};
 ghost use Rattle.amqp_codec.specs.Fields.{take_memory};

@@ -5,8 +5,8 @@ use Rattle.amqp_model.specs.Term.{Primitive, ulong, symbol}
 use Rattle.amqp_model.specs.ItemLaws.{clash}
 use Rattle.amqp_wire.specs.declared.error.Error.{Error}
 use Rattle.amqp_wire.specs.declared.symbol.Symbol.{Symbol}
-use Rattle.amqp_input.specs.Kinds.{kind_of, kind_at, codes_of, ulongs, symbols}
-use Rattle.amqp_input.proofs.KindsOfCodes.{OneOf, kind_data, kind_codes}
+use Rattle.amqp_lookahead.specs.Kinds.{kind_of, kind_at, codes_of, ulongs, symbols}
+use Rattle.amqp_lookahead.proofs.KindsOfCodes.{OneOf, kind_data, kind_codes}
 use Rattle.amqp_decoder.specs.State.{State}
 use Rattle.amqp_decoder.specs.Reading.{RefusesRead, PeeksCode}
 use Rattle.amqp_decoder.specs.Primitives.{ReadsValue, Means}

@@ -6,8 +6,8 @@ use Rattle.std.proofs.lemmas.List.{drop_at}
 use Rattle.amqp_model.specs.Term.{Primitive, Container, list, map, array, Descriptor, Term, leaf, container, described, kept, barred, count}
 use Rattle.amqp_model.specs.Constructors.{Format, fixed, variable, compound, unknown, format}
 use Rattle.amqp_model.specs.Spelling.{PrimitiveData, ContainerData, Constructor, data_of, items_of, elements_of, enc}
-use Rattle.amqp_input.specs.Kinds.{kind_of, kind_under, kind_at as number_at}
-use Rattle.amqp_input.proofs.KindsOfCodes.{kind_data}
+use Rattle.amqp_lookahead.specs.Kinds.{kind_of, kind_under, kind_at as number_at}
+use Rattle.amqp_lookahead.proofs.KindsOfCodes.{kind_data}
 use Rattle.amqp_decoder.specs.State.{State, after_value}
 use Rattle.amqp_decoder.specs.Reading.{ReadsCode, IsFirst, PeeksCode}
 use Rattle.amqp_decoder.specs.Primitives.{standing, SpellsAs, Stands}

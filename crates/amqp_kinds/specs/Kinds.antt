@@ -2,7 +2,7 @@
 use Rattle.std.specs.Prelude.{ℕ, cond, eqb, List, [], ◌∷◌, get_or, unwrap_or}
 use Rattle.amqp_model.specs.Term.{Container, list, map, array, Term, leaf, container, described, kept, barred}
 use Rattle.amqp_model.specs.Constructors.{Format, fixed, variable, compound, unknown, format}
-use Rattle.amqp_input.specs.Kinds.{kind_of, kind_under}
+use Rattle.amqp_lookahead.specs.Kinds.{kind_of, kind_under}
 use Rattle.amqp_kinds.specs.declared.kind.Kind.{Kind}
 use Rattle.amqp_kinds.specs.declared.kind.Kind.TheVariants as kind
 

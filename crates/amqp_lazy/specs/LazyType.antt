@@ -14,7 +14,7 @@ use Rattle.amqp_model.specs.Items.{is_null}
 use Rattle.amqp_model.specs.ItemLaws.{clash}
 use Rattle.amqp_model.specs.FieldType.{unchanged}
 use Rattle.amqp_model.proofs.Unique.{one_term}
-use Rattle.amqp_input.proofs.KindsOfCodes.{kind_data, one_code}
+use Rattle.amqp_lookahead.proofs.KindsOfCodes.{kind_data, one_code}
 use Rattle.amqp_decoder.specs.Terms.{TermFault}
 use Rattle.amqp_decoder.proofs.NotMemory.{term_not_memory}
 use Rattle.amqp_decoder.proofs.Misspelled.{term_misspelled}

@@ -5,7 +5,7 @@ use Rattle.indexmap.specs.IndexMap.{insert_entry}
 use Rattle.amqp_model.specs.Term.{null, symbol, list, array, code, Term, leaf, container, described, none}
 use Rattle.amqp_model.specs.Items.{terms_of}
 use Rattle.amqp_wire.specs.declared.symbol.Symbol.{Symbol}
-use Rattle.amqp_input.specs.Members.{descriptor_of}
+use Rattle.amqp_lookahead.specs.Members.{descriptor_of}
 use Rattle.amqp_containers.specs.declared.array.Array.{Array}
 use Rattle.amqp_described.specs.declared.described.Described.{Described}
 use Rattle.amqp_definitions.specs.declared.distribution_mode.DistributionMode.{DistributionMode}

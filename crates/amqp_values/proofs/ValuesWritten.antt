@@ -9,7 +9,7 @@ use Rattle.amqp_wire.specs.declared.error.Error.TheVariants.{DuplicateKey}
 use Rattle.amqp_encoder.specs.declared.encoder.Encoder.{Encoder}
 use Rattle.amqp_encoder.specs.Tokens.{refuse}
 use Rattle.amqp_encoder.specs.Values.{descriptor_of as written_descriptor}
-use Rattle.amqp_input.specs.Members.{descriptor_of}
+use Rattle.amqp_lookahead.specs.Members.{descriptor_of}
 use Rattle.amqp_wire.specs.declared.descriptor.Descriptor.{Descriptor as DescriptorValue}
 use Rattle.amqp_wire.specs.declared.descriptor.Descriptor.TheVariants.{Name, Code}
 use Rattle.amqp_encoder.specs.Writes.{Writes}

@@ -5,7 +5,7 @@ use Rattle.std.proofs.lemmas.List.Concat.{flat_map-cons}
 use Rattle.std.specs.declared.boxed.Box.{Box}
 use Rattle.amqp_model.specs.Term.{duplicate_key, list, map, array, Term, container, described, barred, more}
 use Rattle.amqp_model.specs.Items.{terms_of, is_null}
-use Rattle.amqp_input.specs.Members.{descriptor_of}
+use Rattle.amqp_lookahead.specs.Members.{descriptor_of}
 use Rattle.amqp_codec.specs.EqualKeys.{barred_maps, all_barred_maps, has_equal_keys, maps_plain, maps_valued, maps_null}
 use Rattle.amqp_codec.specs.Agreement.{plain_proper}
 use Rattle.amqp_codec.specs.Written.{AreProper, Writing}

@@ -1,6 +1,6 @@
 -- What copies of values have in common with them: their terms.
 use Rattle.amqp_model.specs.Term.{Term, described}
-use Rattle.amqp_input.specs.Members.{descriptor_of}
+use Rattle.amqp_lookahead.specs.Members.{descriptor_of}
 use Rattle.amqp_described.specs.declared.described.Described.{Described}
 use Rattle.amqp_values.specs.declared.value.Value.{Value}
 use Rattle.amqp_values.specs.Values.{value_term}

@@ -6,7 +6,7 @@ use Rattle.std.specs.Cmp.Lexicographic.{slice_cmp}
 use Rattle.std.specs.Hash as fed
 use Rattle.amqp_model.specs.Term.{Primitive, Container, list, map, array, Descriptor, name, code, Term, leaf, container, described}
 use Rattle.amqp_model.specs.Term.{kept, barred}
-use Rattle.amqp_input.specs.Kinds.{kind_of}
+use Rattle.amqp_lookahead.specs.Kinds.{kind_of}
 use Rattle.amqp_codec.specs.PrimitiveTypes.{truth as truth_of, number as number_of, integer as integer_of, content}
 use Rattle.amqp_values.specs.declared.leaf.Leaf.{Leaf}
 

@@ -1,8 +1,8 @@
 -- Why no value of any kind is read: by its kind, and by why those that it holds aren't.
 use Rattle.std.proofs.Common.{ℕ, ◌+◌, ◌<◌, zero, suc, true, List, length, Result, Ok, Err, Global, Vec}
 use Rattle.amqp_wire.specs.declared.error.Error.{Error}
-use Rattle.amqp_input.specs.Kinds.{nulls, booleans, ubytes, ushorts, uints, ulongs, bytes, shorts, ints, longs, decimals32, decimals64}
-use Rattle.amqp_input.specs.Kinds.{decimals128, chars, timestamps, uuids, binaries, strings, symbols}
+use Rattle.amqp_lookahead.specs.Kinds.{nulls, booleans, ubytes, ushorts, uints, ulongs, bytes, shorts, ints, longs, decimals32, decimals64}
+use Rattle.amqp_lookahead.specs.Kinds.{decimals128, chars, timestamps, uuids, binaries, strings, symbols}
 use Rattle.amqp_decoder.specs.State.{State}
 use Rattle.amqp_decoder.specs.Reading.{RefusesRead}
 use Rattle.amqp_codec.specs.Faults.{Faults}

@@ -15,7 +15,7 @@ use Rattle.std.proofs.lemmas.Slice.Eq.{bytes_eq-Decides}
 use Rattle.amqp_model.specs.Term.{Primitive, null, boolean, ubyte, ushort, uint, ulong, byte, short, int, long, char, timestamp, decimal32}
 use Rattle.amqp_model.specs.Term.{decimal64, decimal128, uuid, binary, string, symbol, Container, list, map, array, Descriptor, name, code}
 use Rattle.amqp_model.specs.Term.{Term, Terms, leaf, container, described, kept, barred, none, more}
-use Rattle.amqp_input.specs.Kinds.{kind_of}
+use Rattle.amqp_lookahead.specs.Kinds.{kind_of}
 use Rattle.amqp_codec.specs.EqualKeys.{primitives_decide}
 use Rattle.amqp_codec.specs.PrimitiveTypes.{truth as truth_of, number as number_of, integer as integer_of, content}
 use Rattle.amqp_codec.specs.TreeLaws.{IsTree, AreTrees}

@@ -5,7 +5,7 @@ use Rattle.std.specs.declared.boxed.Box.{Box}
 use Rattle.amqp_model.specs.Spelling.{descriptor_value}
 use Rattle.amqp_model.specs.Items.{terms_of}
 use Rattle.amqp_model.specs.Ranges.{Everywhere, EverywhereIn, IsInRange, IsValue}
-use Rattle.amqp_input.specs.Members.{descriptor_of}
+use Rattle.amqp_lookahead.specs.Members.{descriptor_of}
 use Rattle.amqp_codec.specs.PairLaws.{pairs_even}
 use Rattle.amqp_containers.specs.declared.array.Array.{Array}
 use Rattle.amqp_described.specs.declared.described.Described.{Described}

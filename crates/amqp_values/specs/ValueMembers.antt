@@ -7,7 +7,7 @@ use Rattle.amqp_model.specs.Term.{described}
 use Rattle.amqp_model.specs.Standing.{Standing}
 use Rattle.amqp_model.specs.Ranges.{IsInRange}
 use Rattle.amqp_wire.specs.declared.symbol.Symbol.{Symbol as OwnSymbol}
-use Rattle.amqp_input.specs.Members.{descriptor_of}
+use Rattle.amqp_lookahead.specs.Members.{descriptor_of}
 use Rattle.amqp_codec.specs.Each.{canons_of}
 use Rattle.amqp_codec.specs.ItemsType.{MeansItems}
 use Rattle.amqp_codec.specs.DescribedPairType.{MeansPair, any_descriptor}

@@ -8,7 +8,7 @@ use Rattle.amqp_model.specs.Term.{described, none, more}
 use Rattle.amqp_model.specs.Items.{terms_of}
 use Rattle.amqp_codec.specs.Pairs.{pair_canons}
 use Rattle.amqp_codec.specs.TreeLaws.{IsTree, AreTrees}
-use Rattle.amqp_input.specs.Members.{descriptor_of}
+use Rattle.amqp_lookahead.specs.Members.{descriptor_of}
 use Rattle.amqp_containers.specs.declared.array.Array.{Array}
 use Rattle.amqp_described.specs.declared.described.Described.{Described}
 use Rattle.amqp_values.specs.declared.map.ValueMap.{ValueMap, out-ValueMap, items-the_row-ValueMap-0-2, items_hidden-the_row-ValueMap-0-2-1}

@@ -2,7 +2,7 @@
 ghost use Rattle.std.specs.Prelude.{◌≡◌, map};
 ghost use Rattle.amqp_model.specs.Spelling.{descriptor_value};
 ghost use Rattle.amqp_model.specs.Items.{terms_of};
-ghost use Rattle.amqp_input.specs.Members.{descriptor_of};
+ghost use Rattle.amqp_lookahead.specs.Members.{descriptor_of};
 ghost use Rattle.amqp_codec.specs.EqualKeys.{same_primitive, same_term, same_terms};
 ghost use Rattle.amqp_values.specs.Values.{value_term};
 ghost use Rattle.amqp_values.specs.Equality.{value_eq, map_eq, turn_terms, values_per, values_equiv, maps_per, maps_equiv};

@@ -1,7 +1,7 @@
 //! What values of any kind are but for the values that they hold, by which they are ordered and hashed. For types that are ordered and
 //! hashed as `Value` is.
 ghost use Rattle.std.specs.Prelude.{◌≡◌};
-ghost use Rattle.amqp_input.specs.Members.{descriptor_of};
+ghost use Rattle.amqp_lookahead.specs.Members.{descriptor_of};
 ghost use Rattle.amqp_values.specs.Values.{value_term};
 ghost use Rattle.amqp_values.specs.Labels.{label, bare, with_number, with_integer, with_bytes, descriptor_label, label_of};
 

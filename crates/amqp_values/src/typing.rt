@@ -2,7 +2,7 @@
 ghost use Rattle.std.specs.Prelude.{All};
 ghost use Rattle.amqp_model.specs.Ranges.{IsInRange};
 ghost use Rattle.amqp_model.specs.Spelling.{descriptor_value};
-ghost use Rattle.amqp_input.specs.Members.{descriptor_of};
+ghost use Rattle.amqp_lookahead.specs.Members.{descriptor_of};
 ghost use Rattle.amqp_values.specs.declared.value.Value.{Map as MapOf};
 ghost use Rattle.amqp_values.specs.Typing.{IsTyped, IsTypedPair};
 

@@ -1,7 +1,7 @@
 //! What stands at the top level: the end of the input, or the next section of a message (Part 3, section 3.2).
 ghost use Rattle.std.specs.Prelude.{◌≡◌, ℕ, [], Some, IfOk, IfErr, ◌↔◌, IsTrue, false};
 ghost use Rattle.amqp_wire.specs.Sources.{Tells};
-ghost use Rattle.amqp_input.specs.Sections.{IsSectionAhead};
+ghost use Rattle.amqp_lookahead.specs.Sections.{IsSectionAhead};
 ghost use Rattle.amqp_decoder.specs.State.{top_level};
 ghost use Rattle.amqp_decoder.specs.declared.frame.OpenKind.TheVariants.{Top};
 ghost use Rattle.amqp_decoder.specs.Sections.{LooksOn};

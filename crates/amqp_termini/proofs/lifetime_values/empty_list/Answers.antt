@@ -1,7 +1,7 @@
 use Rattle.std.proofs.Common.{map, ap, ◌∙◌}
 use Rattle.amqp_model.specs.Term.{list, code, container, described}
 use Rattle.amqp_model.specs.Items.{terms_of}
-use Rattle.amqp_input.specs.Members.{descriptor_of}
+use Rattle.amqp_lookahead.specs.Members.{descriptor_of}
 use Rattle.amqp_values.specs.Values.{value_term, list_is}
 use Rattle.amqp_termini.proofs.lifetime_values.empty_list.Goals as goal
 

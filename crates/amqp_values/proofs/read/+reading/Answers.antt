@@ -1,7 +1,7 @@
 use Rattle.std.proofs.Common.{◌/◌, refl, ap, ◌∙◌, arith, length, length-append, [], ◌∷◌, true, false}
 use Rattle.std.proofs.lemmas.Result.{err_from_is_err_and}
 use Rattle.amqp_model.specs.Term.{list, map, array, described}
-use Rattle.amqp_input.specs.Members.{descriptor_of}
+use Rattle.amqp_lookahead.specs.Members.{descriptor_of}
 use Rattle.amqp_decoder.proofs.Steps.{answered}
 use Rattle.amqp_codec.specs.VecType.{list_opening}
 use Rattle.amqp_codec.specs.ItemsReadingLaws.{each_more}

@@ -2,7 +2,7 @@ use Rattle.std.proofs.Common.{sym, arith, refl, ◌∙◌}
 use Rattle.std.specs.List.{flat_map}
 use Rattle.std.proofs.lemmas.Result.{err_from_is_err_and}
 use Rattle.amqp_model.specs.Term.{list, map, array}
-use Rattle.amqp_input.specs.Members.{descriptor_of}
+use Rattle.amqp_lookahead.specs.Members.{descriptor_of}
 use Rattle.amqp_codec.proofs.Joining.{no_terms, container_wraps, described_wraps, open_refused, inner_refused, all_written}
 use Rattle.amqp_codec.proofs.Joining.{terms_join, terms_cut}
 use Rattle.amqp_values.proofs.ValuesWritten.{open_map, shut_map, barred_written, as_read}

@@ -1,6 +1,6 @@
 use Rattle.std.proofs.Common.{false, rules}
 use Rattle.amqp_model.specs.Term.{null}
-use Rattle.amqp_input.specs.Kinds.{nulls}
+use Rattle.amqp_lookahead.specs.Kinds.{nulls}
 use Rattle.amqp_codec.proofs.PrimitiveReads.{kind_read}
 use Rattle.amqp_codec.proofs.primitives.UnitDeserializeTerm.read_value.Goals as goal
 

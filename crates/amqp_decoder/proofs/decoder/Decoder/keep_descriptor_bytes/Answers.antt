@@ -1,6 +1,6 @@
 use Rattle.std.proofs.lemmas.Result.{err_from_is_err_and}
 use Rattle.std.proofs.Common.{refl, rules}
-use Rattle.amqp_input.proofs.KindsOfCodes.{kind_is}
+use Rattle.amqp_lookahead.proofs.KindsOfCodes.{kind_is}
 use Rattle.amqp_decoder.proofs.ReadPrimitives.{ok_map, err_map}
 use Rattle.amqp_decoder.proofs.KeptConstructors.{keeps_named, keeps_ulong_0, small_ulong_means, ulong_means, symbol_8_means}
 use Rattle.amqp_decoder.proofs.KeptConstructors.{symbol_32_means, unnamed_code, unnamed_ulong, unnamed_symbol, unnamed_other}

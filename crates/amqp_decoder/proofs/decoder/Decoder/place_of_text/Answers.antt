@@ -3,9 +3,9 @@ use Rattle.std.proofs.Common.{arith, refl}
 use Rattle.std.proofs.lemmas.List.{length-take-le}
 use Rattle.amqp_wire.specs.Sources.{Tells}
 use Rattle.amqp_decoder.specs.State.{after_bytes}
-use Rattle.amqp_input.specs.Members.{FrontIs}
+use Rattle.amqp_lookahead.specs.Members.{FrontIs}
 use Rattle.amqp_decoder.proofs.SizedTexts.{kept_more}
-use Rattle.amqp_input.proofs.Fronts.{ascii_both, no_place}
+use Rattle.amqp_lookahead.proofs.Fronts.{ascii_both, no_place}
 use Rattle.amqp_decoder.proofs.decoder.Decoder.place_of_text.Goals as goal
 
 pub loop-left-preserved : goal.loop-left-preserved

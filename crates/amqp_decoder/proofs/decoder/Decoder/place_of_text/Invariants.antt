@@ -1,7 +1,7 @@
 use Rattle.std.proofs.Common.{◌≡◌, ◌-◌, ◌≤◌, ◌↔◌, IsTrue, length, take, IfSome, IsAscii}
 use Rattle.amqp_wire.specs.Sources.{Tells}
 use Rattle.amqp_decoder.specs.State.{after_bytes}
-use Rattle.amqp_input.specs.Members.{FrontIs}
+use Rattle.amqp_lookahead.specs.Members.{FrontIs}
 use Rattle.amqp_decoder.proofs.decoder.Decoder.place_of_text.Given as goal
 
 abbrev pub invariant-loop-left : goal.invariant-loop-left

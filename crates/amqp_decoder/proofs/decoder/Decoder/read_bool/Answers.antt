@@ -1,7 +1,7 @@
 use Rattle.std.proofs.Common.{rules, [], ◌∷◌, refl}
 use Rattle.std.proofs.lemmas.Result.{err_from_is_err_and}
 use Rattle.amqp_model.specs.Term.{boolean}
-use Rattle.amqp_input.proofs.KindsOfCodes.{not_three}
+use Rattle.amqp_lookahead.proofs.KindsOfCodes.{not_three}
 use Rattle.amqp_decoder.proofs.ReadPrimitives.{refused_first, short_refused, other_refused, data_value, code_value, bad_refused}
 use Rattle.amqp_decoder.proofs.ReadPrimitives.{not_boolean}
 use Rattle.amqp_decoder.proofs.Steps.{answered, answered_so}

@@ -3,7 +3,7 @@ use Rattle.std.proofs.lemmas.Result.{err_from_is_err_and}
 use Rattle.std.proofs.lemmas.Int.{to_z-of_z}
 use Rattle.std.specs.Int.{w8, w64}
 use Rattle.amqp_model.specs.Term.{long}
-use Rattle.amqp_input.proofs.KindsOfCodes.{not_two}
+use Rattle.amqp_lookahead.proofs.KindsOfCodes.{not_two}
 use Rattle.amqp_decoder.proofs.ReadPrimitives.{refused_first, short_refused, other_refused, data_value}
 use Rattle.amqp_decoder.proofs.Steps.{answered_so}
 use Rattle.amqp_decoder.proofs.decoder.Decoder.read_long.Goals as goal

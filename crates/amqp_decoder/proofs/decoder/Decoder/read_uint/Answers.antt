@@ -1,7 +1,7 @@
 use Rattle.std.proofs.Common.{rules, Some, [], ◌∷◌, refl, ap, sym}
 use Rattle.std.proofs.lemmas.Result.{err_from_is_err_and}
 use Rattle.amqp_model.specs.Term.{uint}
-use Rattle.amqp_input.proofs.KindsOfCodes.{not_three}
+use Rattle.amqp_lookahead.proofs.KindsOfCodes.{not_three}
 use Rattle.amqp_decoder.proofs.ReadPrimitives.{refused_first, short_refused, other_refused, data_value, code_value}
 use Rattle.amqp_decoder.proofs.Steps.{answered_so}
 use Rattle.amqp_decoder.proofs.decoder.Decoder.read_uint.Goals as goal

@@ -1,6 +1,6 @@
 use Rattle.std.proofs.Common.{rules, refl}
 use Rattle.std.proofs.lemmas.Result.{err_from_is_err_and}
-use Rattle.amqp_input.proofs.KindsOfCodes.{not_three}
+use Rattle.amqp_lookahead.proofs.KindsOfCodes.{not_three}
 use Rattle.amqp_decoder.proofs.ReadPrimitives.{short_data}
 use Rattle.amqp_decoder.proofs.decoder.Decoder.ulong_data.Goals as goal
 

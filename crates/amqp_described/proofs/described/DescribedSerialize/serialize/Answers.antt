@@ -1,5 +1,5 @@
 use Rattle.std.proofs.lemmas.Result.{err_from_is_err_and}
-use Rattle.amqp_input.specs.Members.{descriptor_of}
+use Rattle.amqp_lookahead.specs.Members.{descriptor_of}
 use Rattle.amqp_codec.specs.Written.{canon_of}
 use Rattle.amqp_codec.proofs.Joining.{described_wraps, open_refused, inner_refused, all_written}
 use Rattle.amqp_described.proofs.DescribedReads.{as_read}

@@ -2,7 +2,7 @@ use Rattle.std.proofs.Common.{true}
 use Rattle.std.proofs.lemmas.Result.{err_from_is_err_and}
 use Rattle.amqp_model.specs.Term.{symbol}
 use Rattle.amqp_wire.specs.declared.error.Error.{Error}
-use Rattle.amqp_input.specs.Kinds.{symbols}
+use Rattle.amqp_lookahead.specs.Kinds.{symbols}
 use Rattle.amqp_decoder.specs.State.{State}
 use Rattle.amqp_decoder.specs.Reading.{RefusesRead}
 use Rattle.amqp_decoder.specs.Primitives.{ReadsValue, Means, PrimitiveFault}

@@ -1,0 +1,138 @@
+//! The sections of a message, by the descriptors that they begin with (Part 3, section 3.2).
+ghost use Rattle.std.specs.Prelude.{◌≡◌, ◌<◌, ◌≤◌, ◌+◌, ◌^◌, ◌↔◌, ℕ, map, Some, true, IfOk, IfSome, OnErr, option_map};
+ghost use Rattle.std.specs.Int.{bytes_high_first};
+ghost use Rattle.amqp_model.specs.Term.{code as of_code, name as of_name};
+ghost use Rattle.amqp_wire.specs.Sources.{Tells};
+ghost use Rattle.amqp_lookahead.specs.Members.{as_name};
+ghost use Rattle.amqp_lookahead.specs.Sections.{LooksOn, sections, IsOfSection, IsNameAhead, IsLongNameAhead, IsLongCodeAhead, IsSectionAhead};
+
+use crate::Input;
+use crate::input::LOOK;
+use crate::names::{Members, place_of_code, place_of_name};
+use amqp_wire::{ByteSource, format_code};
+use std::io::ErrorKind;
+
+/// The sections by the codes and names of their descriptors, from the code 0x70 on.
+const SECTIONS: Members<'static> = &[
+    (0x70, "amqp:header:list"),
+    (0x71, "amqp:delivery-annotations:map"),
+    (0x72, "amqp:message-annotations:map"),
+    (0x73, "amqp:properties:list"),
+    (0x74, "amqp:application-properties:map"),
+    (0x75, "amqp:data:binary"),
+    (0x76, "amqp:amqp-sequence:list"),
+    (0x77, "amqp:amqp-value:*"),
+    (0x78, "amqp:footer:map"),
+];
+
+/// The members that a section may be.
+fn section_members() -> Members<'static>
+    ensures { map as_name result.now ≡ sections }
+{
+    SECTIONS
+}
+
+/// The code of the first section.
+const FIRST: u8 = 0x70;
+
+/// The code of the section at a place.
+fn section_at(place: Option<usize>) -> Option<u8>
+    requires { IfSome place (λ i. i < 9) }
+    ensures { result ≡ option_map (λ i. 0x70 + i) place }
+{
+    match place {
+        Some(place) => Some(FIRST + place as u8),
+        None => None,
+    }
+}
+
+/// The section with this code.
+fn section_of_code(code: u64) -> Option<u8>
+    ensures { (c : ℕ) → (result ≡ Some c) ↔ IsOfSection c (of_code code) }
+{
+    section_at(place_of_code(section_members(), code))
+}
+
+/// The code of the section with this name.
+fn section_of_name(name: &[u8]) -> Option<u8>
+    ensures { (c : ℕ) → (result ≡ Some c) ↔ IsOfSection c (of_name name.now) }
+{
+    section_at(place_of_name(section_members(), name))
+}
+
+/// The size of a text that these bytes are.
+fn text_size(bytes: [u8; 4]) -> usize
+    ensures fits { result < 256 ^ 4 }
+    ensures value { bytes_high_first 4 result ≡ bytes }
+{
+    u32::from_be_bytes(bytes) as usize
+}
+
+impl<R: ByteSource> Input<R> {
+    // The section that these bytes name, so many that begin so far behind the next one.
+    fn section_named(&mut self, start: usize, len: usize) -> Result<Option<u8>, ErrorKind>
+        requires { start ≤ 64 }
+        ensures ok { Tells R.remaining → IfOk result (λ section. LooksOn self.old self.new
+            × ((c : ℕ) → (section ≡ Some c) ↔ IsNameAhead start len self.old.rest c)) }
+        ensures fails { OnErr result (self.new.failed ≡ true) }
+    {
+        if len > LOOK - start {
+            return Ok(None);
+        }
+        self.look(start + len)?;
+        match self.looked().get(start..start + len) {
+            Some(name) => Ok(section_of_name(name)),
+            None => Ok(None),
+        }
+    }
+
+    // The section whose name stands next behind a size of four bytes.
+    fn section_of_symbol(&mut self) -> Result<Option<u8>, ErrorKind>
+        ensures ok { Tells R.remaining → IfOk result (λ section. LooksOn self.old self.new
+            × ((c : ℕ) → (section ≡ Some c) ↔ IsLongNameAhead self.old.rest c)) }
+        ensures fails { OnErr result (self.new.failed ≡ true) }
+    {
+        self.look(6)?;
+        let &[_, _, a, b, c, d, ..] = self.looked() else {
+            return Ok(None);
+        };
+        self.section_named(6, text_size([a, b, c, d]))
+    }
+
+    // The section whose code stands next as eight bytes.
+    fn section_of_ulong(&mut self) -> Result<Option<u8>, ErrorKind>
+        ensures ok { Tells R.remaining → IfOk result (λ section. LooksOn self.old self.new
+            × ((c : ℕ) → (section ≡ Some c) ↔ IsLongCodeAhead self.old.rest c)) }
+        ensures fails { OnErr result (self.new.failed ≡ true) }
+    {
+        self.look(10)?;
+        let &[_, _, a, b, c, d, e, f, g, h, ..] = self.looked() else {
+            return Ok(None);
+        };
+        let code = u64::from_be_bytes([a, b, c, d, e, f, g, h]);
+        Ok(section_of_code(code))
+    }
+
+    /// The code of the section whose whole descriptor, in any of its spellings, stands next within 64 bytes; `None` where
+    /// none does. Nothing is taken, and at most 64 bytes are looked at. An error is the source's, which has failed.
+    pub fn section_ahead(&mut self) -> Result<Option<u8>, ErrorKind>
+        ensures ok { Tells R.remaining → IfOk result (λ section. LooksOn self.old self.new
+            × ((c : ℕ) → (section ≡ Some c) ↔ IsSectionAhead self.old.rest c)) }
+        ensures fails { OnErr result (self.new.failed ≡ true) }
+    {
+        self.look(3)?;
+        let &[first, code, next, ..] = self.looked() else {
+            return Ok(None);
+        };
+        if first != format_code::DESCRIBED {
+            return Ok(None);
+        }
+        match code {
+            format_code::SMALL_ULONG => Ok(section_of_code(u64::from(next))),
+            format_code::ULONG => self.section_of_ulong(),
+            format_code::SYMBOL_8 => self.section_named(3, usize::from(next)),
+            format_code::SYMBOL_32 => self.section_of_symbol(),
+            _ => Ok(None),
+        }
+    }
+}
