@@ -8,11 +8,11 @@ use Rattle.amqp_codec.specs.MapReadingLaws.{map_of}
 use Rattle.amqp_containers.specs.MultipleFields.{multiple, normal_multiple}
 use Rattle.amqp_primitives.specs.Types.{binary_type}
 use Rattle.amqp_primitives.specs.declared.binary.Binary.{Binary}
-use Rattle.amqp_definitions.specs.Defaults.{false_by_default}
-use Rattle.amqp_definitions.specs.Transport.{channel_max_type, handle_type, max_frame_size_type, role_type}
-use Rattle.amqp_definitions.specs.Transport.{sender_settle_mode_type, receiver_settle_mode_type}
-use Rattle.amqp_definitions.specs.TransportDefaults.{greatest_frame_size, greatest_channel, greatest_handle}
-use Rattle.amqp_definitions.specs.TransportDefaults.{mixed_by_default, first_by_default}
+use Rattle.amqp_restricted_types.specs.Defaults.{false_by_default}
+use Rattle.amqp_restricted_types.specs.Transport.{channel_max_type, handle_type, max_frame_size_type, role_type}
+use Rattle.amqp_restricted_types.specs.Transport.{sender_settle_mode_type, receiver_settle_mode_type}
+use Rattle.amqp_restricted_types.specs.TransportDefaults.{greatest_frame_size, greatest_channel, greatest_handle}
+use Rattle.amqp_restricted_types.specs.TransportDefaults.{mixed_by_default, first_by_default}
 use Rattle.amqp_fields.specs.FieldsType.{fields_type}
 use Rattle.amqp_errors.specs.Tables.{error, norm_error}
 use Rattle.amqp_delivery.specs.Tables.{delivery_state}

@@ -6,7 +6,7 @@ use amqp_codec::kernel::{
     Composite, CompositeTerm, FieldKind, Table, read_into, read_some, write_composite,
 };
 use amqp_codec::{ByteSource, Decoder, Encoder, Error, Serialize, SerializeTerm};
-use amqp_definitions::{DeliveryNumber, Role};
+use amqp_restricted_types::{DeliveryNumber, Role};
 use amqp_delivery::DeliveryState;
 use amqp_fields::field_in_type;
 use std::alloc::Global;

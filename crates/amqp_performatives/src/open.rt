@@ -8,7 +8,7 @@ use amqp_codec::kernel::{
 use amqp_codec::{ByteSource, Decoder, Encoder, Error, Serialize, SerializeTerm, Symbol};
 use amqp_containers::Array;
 use amqp_containers::multiple::{is_null_multiple, read_multiple, write_multiple};
-use amqp_definitions::{ChannelMax, IetfLanguageTag, MaxFrameSize, Milliseconds};
+use amqp_restricted_types::{ChannelMax, IetfLanguageTag, MaxFrameSize, Milliseconds};
 use amqp_fields::{Fields, field_in_type};
 use std::alloc::Global;
 

@@ -3,7 +3,7 @@ ghost use Rattle.std.specs.Prelude.{[], ◌∷◌};
 ghost use Rattle.amqp_codec.specs.Written.{WritesTerms};
 
 use amqp_codec::{DeserializeTerm, Encoder, Error};
-use amqp_definitions::DeliveryTag;
+use amqp_restricted_types::DeliveryTag;
 use amqp_delivery::DeliveryState;
 use amqp_maps::OrderedMap;
 

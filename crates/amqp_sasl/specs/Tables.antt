@@ -2,7 +2,7 @@
 use Rattle.amqp_enums.specs.Types.{codes, refl, unchanged, string_type, symbol_type, mandatory, optional, none, field, Table}
 use Rattle.amqp_containers.specs.MultipleFields.{mandatory_multiple}
 use Rattle.amqp_primitives.specs.Types.{binary_type}
-use Rattle.amqp_definitions.specs.Security.{sasl_code_type}
+use Rattle.amqp_restricted_types.specs.Security.{sasl_code_type}
 use Rattle.amqp_sasl.specs.declared.sasl_mechanisms.SaslMechanisms.{SaslMechanisms}
 use Rattle.amqp_sasl.specs.declared.sasl_init.SaslInit.{SaslInit}
 use Rattle.amqp_sasl.specs.declared.sasl_challenge.SaslChallenge.{SaslChallenge}

@@ -6,7 +6,7 @@ use amqp_codec::kernel::{
     Composite, CompositeTerm, FieldKind, Table, read_into, read_some, write_composite,
 };
 use amqp_codec::{ByteSource, Decoder, Encoder, Error, Serialize, SerializeTerm};
-use amqp_definitions::SaslCode;
+use amqp_restricted_types::SaslCode;
 use amqp_primitives::Binary;
 use std::alloc::Global;
 

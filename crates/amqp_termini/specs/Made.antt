@@ -1,8 +1,8 @@
 -- Termini that calls make, and the member that a target is.
 use Rattle.std.specs.Prelude.{Option, Some, None, false, String}
 use Rattle.std.specs.declared.alloc.Global.{Global}
-use Rattle.amqp_definitions.specs.declared.terminus_durability.TerminusDurability.TheVariants as durability
-use Rattle.amqp_definitions.specs.declared.terminus_expiry_policy.TerminusExpiryPolicy.TheVariants as policy
+use Rattle.amqp_restricted_types.specs.declared.terminus_durability.TerminusDurability.TheVariants as durability
+use Rattle.amqp_restricted_types.specs.declared.terminus_expiry_policy.TerminusExpiryPolicy.TheVariants as policy
 use Rattle.amqp_termini.specs.declared.source.Source.{Source}
 use Rattle.amqp_termini.specs.declared.target.Target.{Target}
 use Rattle.amqp_termini.specs.declared.coordinator.Coordinator.{Coordinator}

@@ -8,8 +8,8 @@ use Rattle.amqp_wire.specs.declared.symbol.Symbol.{Symbol}
 use Rattle.amqp_lookahead.specs.Members.{descriptor_of}
 use Rattle.amqp_containers.specs.declared.array.Array.{Array}
 use Rattle.amqp_described.specs.declared.described.Described.{Described}
-use Rattle.amqp_definitions.specs.declared.distribution_mode.DistributionMode.{DistributionMode}
-use Rattle.amqp_definitions.specs.Termini.{distribution_mode_texts}
+use Rattle.amqp_restricted_types.specs.declared.distribution_mode.DistributionMode.{DistributionMode}
+use Rattle.amqp_restricted_types.specs.Termini.{distribution_mode_texts}
 use Rattle.amqp_values.specs.declared.value.Value.{Value}
 use Rattle.amqp_values.specs.Values.{value_term}
 use Rattle.amqp_termini.specs.declared.lifetime_policy.LifetimePolicy.{LifetimePolicy}

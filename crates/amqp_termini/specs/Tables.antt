@@ -4,10 +4,10 @@ use Rattle.amqp_model.specs.FieldType.{normal}
 use Rattle.amqp_enums.specs.Types.{inl, inr, codes, refl, unchanged, by_norm, TermType, boolean_type, uint_type, string_type, symbol_type}
 use Rattle.amqp_enums.specs.Types.{optional, default, none, field, Table, Choices, no_more, member, Chosen, SumOf, sum_of}
 use Rattle.amqp_containers.specs.MultipleFields.{multiple, normal_multiple}
-use Rattle.amqp_definitions.specs.Defaults.{false_by_default}
-use Rattle.amqp_definitions.specs.Termini.{terminus_durability_type, terminus_expiry_policy_type, distribution_mode_type}
-use Rattle.amqp_definitions.specs.TerminiDefaults.{not_durable_by_default, session_end_by_default, zero_by_default}
-use Rattle.amqp_definitions.specs.Transactions.{txn_capability_type}
+use Rattle.amqp_restricted_types.specs.Defaults.{false_by_default}
+use Rattle.amqp_restricted_types.specs.Termini.{terminus_durability_type, terminus_expiry_policy_type, distribution_mode_type}
+use Rattle.amqp_restricted_types.specs.TerminiDefaults.{not_durable_by_default, session_end_by_default, zero_by_default}
+use Rattle.amqp_restricted_types.specs.Transactions.{txn_capability_type}
 use Rattle.amqp_fields.specs.FieldsType.{fields_type}
 use Rattle.amqp_delivery.specs.Tables.{outcome}
 use Rattle.amqp_termini.specs.declared.source.Source.{Source}

@@ -7,7 +7,7 @@ use amqp_codec::kernel::{Composite, CompositeTerm, FieldKind, Table, write_compo
 use amqp_codec::{ByteSource, Decoder, Encoder, Error, Serialize, SerializeTerm};
 use amqp_containers::Array;
 use amqp_containers::multiple::{is_null_multiple, read_multiple, write_multiple};
-use amqp_definitions::TxnCapability;
+use amqp_restricted_types::TxnCapability;
 use std::alloc::Global;
 
 /// The target of a link over which transactions are declared and discharged.

@@ -9,7 +9,7 @@ use crate::properties::{inserted, with_lifetime, with_modes};
 use crate::{Address, FilterSet, LifetimePolicy, Source, SupportedDistModes};
 use amqp_codec::{Error, Symbol};
 use amqp_containers::Array;
-use amqp_definitions::{DistributionMode, Seconds, TerminusDurability, TerminusExpiryPolicy};
+use amqp_restricted_types::{DistributionMode, Seconds, TerminusDurability, TerminusExpiryPolicy};
 use amqp_delivery::Outcome;
 use amqp_described::Described;
 use amqp_fields::Fields;

@@ -4,13 +4,13 @@ ghost use Rattle.amqp_wire.specs.declared.error.Error.TheVariants.{Memory};
 ghost use Rattle.amqp_values.specs.Values.{value_term};
 ghost use Rattle.amqp_codec.specs.Agreement.{agreement};
 ghost use Rattle.amqp_containers.specs.ArrayType.{array_of, array_agreement};
-ghost use Rattle.amqp_definitions.specs.Termini.{distribution_mode_type};
+ghost use Rattle.amqp_restricted_types.specs.Termini.{distribution_mode_type};
 ghost use Rattle.amqp_termini.specs.Properties.{InsertsModes, mode_term, modes_term};
 
 use crate::properties::with_modes;
 use amqp_codec::{ByteSource, Decoder, DeserializeTerm, Encoder, Error, Serialize, SerializeTerm};
 use amqp_containers::Array;
-use amqp_definitions::DistributionMode;
+use amqp_restricted_types::DistributionMode;
 use amqp_fields::Fields;
 use amqp_values::Value;
 use std::alloc::Global;
@@ -25,7 +25,7 @@ pub struct SupportedDistModes {
 
 impl Model for SupportedDistModes {
     ghost use Rattle.amqp_containers.specs.declared.array.Array.{Array};
-    ghost use Rattle.amqp_definitions.specs.declared.distribution_mode.DistributionMode.{DistributionMode};
+    ghost use Rattle.amqp_restricted_types.specs.declared.distribution_mode.DistributionMode.{DistributionMode};
 
     ghost Value = { Array DistributionMode };
 

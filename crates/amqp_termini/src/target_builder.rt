@@ -8,7 +8,7 @@ use crate::properties::{with_lifetime, with_modes};
 use crate::{Address, LifetimePolicy, SupportedDistModes, Target};
 use amqp_codec::{Error, Symbol};
 use amqp_containers::Array;
-use amqp_definitions::{Seconds, TerminusDurability, TerminusExpiryPolicy};
+use amqp_restricted_types::{Seconds, TerminusDurability, TerminusExpiryPolicy};
 use amqp_fields::Fields;
 use std::alloc::Global;
 

@@ -2,7 +2,7 @@
 use crate::written::check;
 use amqp_codec::{Descriptor, Error, Symbol};
 use amqp_containers::Array;
-use amqp_definitions::{DistributionMode, TerminusDurability, TerminusExpiryPolicy};
+use amqp_restricted_types::{DistributionMode, TerminusDurability, TerminusExpiryPolicy};
 use amqp_delivery::{Accepted, Outcome};
 use amqp_described::Described;
 use amqp_fields::Fields;

@@ -2,7 +2,7 @@
 use crate::written::check;
 use amqp_calls::to_vec;
 use amqp_codec::Error;
-use amqp_definitions::DistributionMode;
+use amqp_restricted_types::DistributionMode;
 use amqp_termini::{DeleteOnClose, LifetimePolicy, SupportedDistModes, TargetBuilder};
 use std::alloc::Global;
 use std::test::Fail;

@@ -2,7 +2,7 @@
 use amqp_calls::{from_slice, to_vec};
 use amqp_codec::{Error, Serialize};
 use amqp_containers::Array;
-use amqp_definitions::{DistributionMode, TxnCapability};
+use amqp_restricted_types::{DistributionMode, TxnCapability};
 use amqp_fields::Fields;
 use amqp_termini::{
     Coordinator, DeleteOnClose, DeleteOnNoLinks, DeleteOnNoLinksOrMessages, DeleteOnNoMessages,

@@ -55,7 +55,7 @@ pub mod primitives {
 
 /// The types of connections, sessions and links (Part 2).
 pub mod definitions {
-    pub use amqp_definitions::{
+    pub use amqp_restricted_types::{
         DeliveryNumber, DeliveryTag, Handle, IetfLanguageTag, MAJOR, MIN_MAX_FRAME_SIZE, MINOR,
         MessageFormat, Milliseconds, PORT, REVISION, ReceiverSettleMode, Role, SECURE_PORT,
         Seconds, SenderSettleMode, SequenceNo, TransferNumber,
@@ -68,7 +68,7 @@ pub mod definitions {
 
 /// The types of messaging (Part 3).
 pub mod messaging {
-    pub use amqp_definitions::{DistributionMode, TerminusDurability, TerminusExpiryPolicy};
+    pub use amqp_restricted_types::{DistributionMode, TerminusDurability, TerminusExpiryPolicy};
     pub use amqp_delivery::{
         Accepted, DeliveryState, Modified, Outcome, Received, Rejected, Released,
     };
@@ -81,7 +81,7 @@ pub mod messaging {
 
 /// What the frames of connections, sessions and links hold (Part 2, section 2.7).
 pub mod performatives {
-    pub use amqp_definitions::{ChannelMax, MaxFrameSize};
+    pub use amqp_restricted_types::{ChannelMax, MaxFrameSize};
     pub use amqp_performatives::{
         Attach, Begin, Close, Detach, Disposition, End, Flow, Open, Performative, Transfer,
         Unsettled,
@@ -90,7 +90,7 @@ pub mod performatives {
 
 /// The types of the security layer (Part 5).
 pub mod sasl {
-    pub use amqp_definitions::SaslCode;
+    pub use amqp_restricted_types::SaslCode;
     pub use amqp_sasl::{
         ANONYMOUS, SaslChallenge, SaslInit, SaslMechanisms, SaslOutcome, SaslResponse,
     };
@@ -103,12 +103,12 @@ pub mod sasl {
 
 /// The states of connections and sessions (Part 2, sections 2.4.6 and 2.5.5).
 pub mod states {
-    pub use amqp_definitions::{ConnectionState, SessionState};
+    pub use amqp_restricted_types::{ConnectionState, SessionState};
 }
 
 /// The types of transactions (Part 4).
 pub mod transaction {
-    pub use amqp_definitions::TxnCapability;
+    pub use amqp_restricted_types::TxnCapability;
     pub use amqp_delivery::{Declare, Declared, Discharge, TransactionId, TransactionalState};
     pub use amqp_errors::TransactionError;
     pub use amqp_termini::Coordinator;
