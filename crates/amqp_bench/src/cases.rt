@@ -2,7 +2,7 @@
 ghost use Rattle.std.specs.Prelude.{◌≤◌};
 
 use crate::frames::{ATTACH, FLOW, TRANSFER};
-use amqp_calls::{from_slice, to_vec};
+use amqp_read_write::{from_slice, to_vec};
 use amqp_containers::Array;
 use amqp_decoder::Decoder;
 use amqp_encoder::Encoder;

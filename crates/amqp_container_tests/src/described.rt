@@ -1,5 +1,5 @@
 //! Described values: inputs and the canonical text of each, or why it is refused; arrays and lists of them.
-use amqp_calls::{from_slice, to_vec};
+use amqp_read_write::{from_slice, to_vec};
 use amqp_codec::{Descriptor, Error, Serialize, Symbol};
 use amqp_containers::Array;
 use amqp_described::Described;

@@ -3,7 +3,7 @@ use crate::{
     DistributionMode, Handle, ReceiverSettleMode, Role, SaslCode, SenderSettleMode,
     TerminusDurability, TerminusExpiryPolicy, TxnCapability,
 };
-use amqp_calls::{from_slice, to_vec};
+use amqp_read_write::{from_slice, to_vec};
 use amqp_codec::{Canonical, Deserialize, Error, Symbol};
 use std::alloc::Global;
 use std::test::Fail;

@@ -1,7 +1,7 @@
 //! Rows of tests: inputs of a type, and the canonical text of each, or why it is refused.
 #![tactic(auto)]
 
-use amqp_calls::canonical_text;
+use amqp_read_write::canonical_text;
 use amqp_codec::Canonical;
 use std::alloc::Global;
 use std::test::Fail;

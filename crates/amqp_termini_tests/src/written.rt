@@ -1,5 +1,5 @@
 //! What is written, and what targets of both kinds are taken back as.
-use amqp_calls::{from_slice, to_vec};
+use amqp_read_write::{from_slice, to_vec};
 use amqp_codec::{Error, Serialize};
 use amqp_containers::Array;
 use amqp_restricted_types::{DistributionMode, TxnCapability};

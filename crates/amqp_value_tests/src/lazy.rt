@@ -1,6 +1,6 @@
 //! Values that are kept as their bytes: what they hold, where they may stand, and how deep they may nest.
 use crate::nests::nested;
-use amqp_calls::{from_slice, from_slice_counted, to_vec};
+use amqp_read_write::{from_slice, from_slice_counted, to_vec};
 use amqp_codec::{Error, Symbol};
 use amqp_containers::Array;
 use amqp_lazy::LazyValue;

@@ -1,5 +1,5 @@
 //! The order and the hash of values of any kind, and maps whose keys they are.
-use amqp_calls::from_slice;
+use amqp_read_write::from_slice;
 use amqp_codec::Error;
 use amqp_containers::Array;
 use amqp_maps::OrderedMap;

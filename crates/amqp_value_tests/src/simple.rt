@@ -1,5 +1,5 @@
 //! Simple values: what they are made of and give back, and how each kind is read and written.
-use amqp_calls::from_slice;
+use amqp_read_write::from_slice;
 use amqp_codec::{DeserializeTerm, Error, Symbol};
 use amqp_containers::Array;
 use amqp_described::Described;

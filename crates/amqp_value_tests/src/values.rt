@@ -1,6 +1,6 @@
 //! Values of any kind: inputs and the canonical text of each, or why it is refused.
 use crate::nests::{chain, nested};
-use amqp_calls::{canonical_text, from_slice, to_vec};
+use amqp_read_write::{canonical_text, from_slice, to_vec};
 use amqp_codec::{Error, Symbol};
 use amqp_containers::Array;
 use amqp_maps::OrderedMap;

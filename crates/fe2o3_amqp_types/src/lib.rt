@@ -4,7 +4,7 @@
 
 /// Reading and writing of whole values (Part 1, sections 1.2 to 1.6).
 pub mod codec {
-    pub use amqp_calls::{
+    pub use amqp_read_write::{
         ReadSource, append_to_vec, canonical_text, encoded_len, from_reader, from_slice,
         from_slice_counted, to_vec,
     };

@@ -1,4 +1,0 @@
-use Rattle.amqp_calls.proofs.calls.from_slice.Goals as goal
-
-pub returns-clause-one : goal.returns-clause-one
-returns-clause-one g c w m k = (c.in_ok-value.ensures.one w m k).0

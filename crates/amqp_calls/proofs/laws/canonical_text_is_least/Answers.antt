@@ -1,5 +1,0 @@
-use Rattle.amqp_codec.specs.TermLaws.{text_least}
-use Rattle.amqp_calls.proofs.laws.canonical_text_is_least.Goals as goal
-
-pub returns : goal.returns
-returns g c = text_least g.T.DeserializeTerm.term

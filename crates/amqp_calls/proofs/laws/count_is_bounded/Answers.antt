@@ -1,5 +1,0 @@
-use Rattle.amqp_codec.specs.TermLaws.{count_bounded}
-use Rattle.amqp_calls.proofs.laws.count_is_bounded.Goals as goal
-
-pub returns : goal.returns
-returns g c = count_bounded g.T.DeserializeTerm.term

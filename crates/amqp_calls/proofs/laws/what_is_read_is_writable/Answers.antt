@@ -1,5 +1,0 @@
-use Rattle.amqp_codec.specs.TermLaws.{spelled_writable}
-use Rattle.amqp_calls.proofs.laws.what_is_read_is_writable.Goals as goal
-
-pub returns : goal.returns
-returns g c = spelled_writable g.T.DeserializeTerm.term

@@ -1,4 +1,0 @@
-use Rattle.amqp_calls.proofs.reader.from_reader.Given as goal
-
-abbrev pub ghosts-read_named : goal.ghosts-read_named
-ghosts-read_named g a = record { name = a.source.ghost_name }

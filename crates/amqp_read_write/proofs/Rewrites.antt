@@ -1,0 +1,70 @@
+-- What the laws make of a text that was written after its value was read.
+use Rattle.std.proofs.Common.{◌≡◌, ◌⊎◌, inl, inr, ℕ, ◌≤◌, Bool, true, List, [], ◌++◌, length, sym, ap, ◌∙◌, subst}
+use Rattle.std.proofs.lemmas.List.{append-nil}
+use Rattle.amqp_model.specs.Term.{Term}
+use Rattle.amqp_wire.specs.declared.error.Error.{Error}
+use Rattle.amqp_wire.specs.declared.error.Error.TheVariants.{Memory}
+use Rattle.amqp_encoder.specs.Passes.{row_text}
+use Rattle.amqp_codec.specs.Reading.{Reading, BeginsWith, IsUnreadable, read_one}
+use Rattle.amqp_codec.specs.Rewriting.{Rewriting}
+use Rattle.amqp_read_write.specs.Rewritten.{IsRewritten, IsReadAgain, AreReadAgain, IsOneText, IsOfNoOther, IsUnchanged, IsShortest, IsUnwritten}
+use Rattle.amqp_codec.specs.Written.{AreWritable, AreUnwritable}
+
+module _ {T : Type 0} {r : Reading T} {canons : T → List Term} {is_value : T → Type 0} {follows : List ℕ → Type 0} {again : T → T}
+    {kept lasts : T → Type 0} {is_least : Bool} (laws : Rewriting r canons is_value follows again kept lasts is_least) where
+  own_text : (input : List ℕ) (v : T) (n : ℕ) → BeginsWith r input v n → AreWritable (canons v)
+      → BeginsWith r (row_text (canons v)) (again v) (length (row_text (canons v)))
+  own_text input v n h f =
+      let text = row_text (canons v) in
+      subst (λ b. BeginsWith r b (again v) (length text)) (append-nil text)
+      (laws.reads_again v [] (laws.value input v n h) (laws.lasting input v n h) f laws.alone)
+
+  pub every_text : AreReadAgain r canons is_value follows again lasts
+  every_text = record { read = laws.reads_again; text = laws.text_again }
+
+  module _ (input text : List ℕ) (n : ℕ) (h : IsRewritten r canons input text n) where
+    canons_are : (v : T) → BeginsWith r input v n → canons h.value ≡ canons v
+    canons_are v k = laws.canons_same h.value v (h.one v n k)
+
+    text_is : (v : T) → BeginsWith r input v n → text ≡ row_text (canons v)
+    text_is v k = h.text_is ∙ ap row_text (canons_are v k)
+
+    writable : (v : T) → BeginsWith r input v n → AreWritable (canons v)
+    writable v k = subst AreWritable (canons_are v k) h.writable
+
+    pub read_again : IsReadAgain r follows again kept input text n
+    read_again = record {
+      read = λ v more k f. subst (λ b. BeginsWith r (b ++ more) (again v) (length b)) (sym (text_is v k))
+          (laws.reads_again v more (laws.value input v n k) (laws.lasting input v n k) (writable v k) f);
+      itself = λ v k s. laws.own input v n k s;
+    }
+
+    pub one_text : IsOneText r canons input text n
+    one_text v w other m k l s = ap row_text (sym (laws.canons_same v w s)) ∙ sym (text_is v k)
+
+    pub no_other : IsOfNoOther r canons kept input text n
+    no_other v w other m k l kv kw f e =
+        let a = own_text input v n k (writable v k) in
+        let b = subst (λ x. BeginsWith r x (again w) (length x)) (e ∙ text_is v k) (own_text other w m l f) in
+        let s = (read_one r (row_text (canons v)) (again v) (again w) (length (row_text (canons v)))
+        (length (row_text (canons v))) a b).0 in
+        r.same_trans v (again v) w (r.same_sym (again v) v (laws.own input v n k kv))
+        (r.same_trans (again v) (again w) w s (laws.own other w m l kw))
+
+    pub unchanged : IsUnchanged r canons text
+    unchanged w m k =
+        let v = h.value in
+        let i = laws.value input v n h.read in
+        let a = subst (λ x. BeginsWith r x (again v) (length x)) (sym h.text_is) (own_text input v n h.read h.writable) in
+        let o = read_one r text w (again v) m (length text) k a in
+        (ap row_text (laws.canons_same w (again v) o.0) ∙ (laws.text_again v i h.writable ∙ sym h.text_is), o.1)
+
+    pub shortest : is_least ≡ true → IsShortest r canons input text n
+    shortest l v w other m k j s bytes none = subst (λ b. length b ≤ m) (one_text v w other m k j s) (laws.least l other w m bytes none j)
+
+  -- what was read is refused for its size
+  pub unwritten : (input : List ℕ) (v : T) (n : ℕ) (e : Error) → BeginsWith r input v n → (e ≡ Memory) ⊎ AreUnwritable (canons v) e
+      → (e ≡ Memory) ⊎ (IsUnreadable r input e ⊎ IsUnwritten r canons input e)
+  unwritten input v n e h (inl m) = inl m
+  unwritten input v n e h (inr u) =
+      inr (inr (record { value = v; length = n; read = h; unwritable = u; large = laws.large input v n e h u }))

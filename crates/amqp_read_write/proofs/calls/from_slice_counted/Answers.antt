@@ -1,0 +1,35 @@
+use Rattle.std.proofs.Common.{arith, refl}
+use Rattle.std.proofs.lemmas.Result.{err_from_is_err_and}
+use Rattle.amqp_codec.specs.Reading.{read_one, read_bounded, is_read, memory_wanted}
+use Rattle.amqp_read_write.proofs.FromReader.{refused_whole}
+use Rattle.amqp_read_write.proofs.calls.from_slice_counted.Goals as goal
+
+pub returns-clause-found : goal.returns-clause-found
+returns-clause-found g c =
+    let read = rw c.new-decoder.ensures at (c.in_ok-value.ensures (λ s. (s.now, refl))) in
+    is_read g.T.Deserialize.reading c.args.input.now _ c.deserialize-read.new.decoder _ read (omega (arith, c.unread-left.ensures.count))
+
+pub returns-clause-one : goal.returns-clause-one
+returns-clause-one g c = λ w m k.
+    let read = rw c.new-decoder.ensures at (c.in_ok-value.ensures (λ s. (s.now, refl))) in
+    read_one g.T.Deserialize.reading c.args.input.now _ w _ m
+    (is_read g.T.Deserialize.reading c.args.input.now _ c.deserialize-read.new.decoder _ read
+    (omega (arith, c.unread-left.ensures.count))) k
+
+pub returns-clause-bounded : goal.returns-clause-bounded
+returns-clause-bounded g c =
+    let read = rw c.new-decoder.ensures at (c.in_ok-value.ensures (λ s. (s.now, refl))) in
+    omega (arith, c.unread-left.ensures.count, read_bounded g.T.Deserialize.reading c.args.input.now _ c.deserialize-read.new.decoder read)
+
+pub returns-in_err-value-clause-refused : goal.returns-in_err-value-clause-refused
+returns-in_err-value-clause-refused g c =
+    let p = err_from_is_err_and c.from_residual.result c.from_residual.ensures.1 in
+    rw (p.1, p.2) (refused_whole g.T.Deserialize.reading c.args.input.now _ c.deserialize-read.new.decoder c.unread-left.ensures.whole
+    (rw c.new-decoder.ensures at (c.in_err-value.ensures (λ s. (s.now, refl)))))
+
+pub returns-in_err-value-clause-memory : goal.returns-in_err-value-clause-memory
+returns-in_err-value-clause-memory g c =
+    let p = err_from_is_err_and c.from_residual.result c.from_residual.ensures.1 in
+    rw (p.1, p.2) (memory_wanted g.T.Deserialize.reading c.args.input.now _
+    (refused_whole g.T.Deserialize.reading c.args.input.now _ c.deserialize-read.new.decoder c.unread-left.ensures.whole
+    (rw c.new-decoder.ensures at (c.in_err-value.ensures (λ s. (s.now, refl))))))

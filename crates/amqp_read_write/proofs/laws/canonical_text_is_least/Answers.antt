@@ -1,0 +1,5 @@
+use Rattle.amqp_codec.specs.TermLaws.{text_least}
+use Rattle.amqp_read_write.proofs.laws.canonical_text_is_least.Goals as goal
+
+pub returns : goal.returns
+returns g c = text_least g.T.DeserializeTerm.term

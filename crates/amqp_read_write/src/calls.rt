@@ -1,0 +1,134 @@
+//! Whole values from bytes and to bytes.
+ghost use Rattle.std.specs.Prelude.{◌≡◌, ◌≤◌, ◌⊎◌, ◌++◌, ℕ, List, true, length, IfOk, IfErr, OnOk, OnErr};
+ghost use Rattle.amqp_wire.specs.declared.error.Error.TheVariants.{Memory};
+ghost use Rattle.amqp_encoder.specs.declared.size.Size.{Size};
+ghost use Rattle.amqp_encoder.specs.Passes.{row_text, BeginsMeasuring, Finds};
+ghost use Rattle.amqp_codec.specs.Reading.{BeginsWith, IsUnreadable};
+ghost use Rattle.amqp_read_write.specs.Rewritten.{IsRewritten, IsReadAgain, AreReadAgain, IsOneText, IsOfNoOther, IsUnchanged, IsShortest};
+ghost use Rattle.amqp_read_write.specs.Rewritten.{IsUnwritten};
+ghost use Rattle.amqp_codec.specs.Written.{AreMeasured, AreUnwritable, AreWritable};
+
+use amqp_codec::{Canonical, Deserialize, Serialize};
+use amqp_decoder::Decoder;
+use amqp_encoder::Encoder;
+use amqp_wire::Error;
+use std::alloc::Global;
+
+/// The value that the input begins with. What follows it is left. An error is `Memory`, where reading the type takes
+/// memory, or names a fault of an input that begins with no value.
+pub fn from_slice<T: Deserialize>(input: &[u8], alloc: Global) -> Result<T, Error>
+    ensures found { IfOk result (λ v. (n : ℕ) × BeginsWith T.reading input.now v n) }
+    ensures one { IfOk result (λ v. (w : _) (m : ℕ) → BeginsWith T.reading input.now w m → T.reading.same v w) }
+    ensures refused { IfErr result (λ e. ((T.reading.takes_memory ≡ true) × (e ≡ Memory)) ⊎ IsUnreadable T.reading input.now e) }
+    ensures memory { IfErr result (λ e. e ≡ Memory → T.reading.takes_memory ≡ true) }
+{
+    let (value, _) = from_slice_counted(input, alloc)?;
+    Ok(value)
+}
+
+/// The value that the input begins with, and how many bytes it takes. It is refused as `from_slice` is.
+pub fn from_slice_counted<T: Deserialize>(input: &[u8], alloc: Global) -> Result<(T, usize), Error>
+    ensures found { IfOk result (λ r. BeginsWith T.reading input.now r.0 r.1) }
+    ensures one { IfOk result (λ r. (w : _) (m : ℕ) → BeginsWith T.reading input.now w m → T.reading.same r.0 w × (r.1 ≡ m)) }
+    ensures bounded { IfOk result (λ r. T.reading.count r.0 ≤ r.1) }
+    ensures refused { IfErr result (λ e. ((T.reading.takes_memory ≡ true) × (e ≡ Memory)) ⊎ IsUnreadable T.reading input.now e) }
+    ensures memory { IfErr result (λ e. e ≡ Memory → T.reading.takes_memory ≡ true) }
+{
+    let mut decoder = Decoder::new(input, alloc);
+    let read = T::deserialize(&mut decoder, alloc);
+    let left = decoder.unread();
+    let value = read?;
+    Ok((value, input.len().saturating_sub(left)))
+}
+
+/// The canonical text of the value: that of each of its canonical terms, one after another (Part 1, section 1.6).
+/// It is measured first, so that its bytes are reserved once and exactly. An error is a reason why the terms
+/// can't be written, or `Memory`.
+pub fn to_vec<T: Serialize>(value: &T, alloc: Global) -> Result<Vec<u8>, Error>
+    ensures is_value { T.writing.is_value value.now }
+    ensures text { IfOk result (λ text. text.items ≡ row_text (T.writing.canons value.now)) }
+    ensures writable { OnOk result (AreWritable (T.writing.canons value.now)) }
+    ensures refused { IfErr result (λ e. (e ≡ Memory) ⊎ AreUnwritable (T.writing.canons value.now) e) }
+{
+    let mut encoder = Encoder::measuring(alloc);
+    let len = measure(value, &mut encoder)?;
+    let buffer = Vec::with_capacity(alloc, len)?;
+    encoder.fill(alloc, buffer, len);
+    value.serialize(&mut encoder)?;
+    Ok(encoder.into_buffer())
+}
+
+/// The length in bytes of the value's canonical text, refused as `to_vec` is.
+pub fn encoded_len<T: Serialize>(value: &T, alloc: Global) -> Result<usize, Error>
+    ensures is_value { T.writing.is_value value.now }
+    ensures len { IfOk result (λ len. len ≡ length (row_text (T.writing.canons value.now))) }
+    ensures writable { OnOk result (AreWritable (T.writing.canons value.now)) }
+    ensures refused { IfErr result (λ e. (e ≡ Memory) ⊎ AreUnwritable (T.writing.canons value.now) e) }
+{
+    measure(value, &mut Encoder::measuring(alloc))
+}
+
+/// Appends the value's canonical text to the buffer, and answers its length in bytes. The room is reserved once
+/// and exactly. It is refused as `to_vec` is, and then leaves the buffer's content as it was.
+pub fn append_to_vec<T: Serialize>(
+    value: &T,
+    buffer: &mut Vec<u8>,
+    alloc: Global,
+) -> Result<usize, Error>
+    ensures is_value { T.writing.is_value value.now }
+    ensures text { OnOk result (buffer.new.items ≡ buffer.old.items ++ row_text (T.writing.canons value.now)) }
+    ensures len { IfOk result (λ len. len ≡ length (row_text (T.writing.canons value.now))) }
+    ensures writable { OnOk result (AreWritable (T.writing.canons value.now)) }
+    ensures refused { IfErr result (λ e. (e ≡ Memory) ⊎ AreUnwritable (T.writing.canons value.now) e) }
+    ensures kept { OnErr result (buffer.new.items ≡ buffer.old.items) }
+{
+    let mut encoder = Encoder::measuring(alloc);
+    let len = measure(value, &mut encoder)?;
+    let before = buffer.len();
+    buffer.reserve_exact(len)?;
+    let room = std::mem::replace(buffer, Vec::new(alloc));
+    encoder.fill(alloc, room, before + len);
+    let outcome = value.serialize(&mut encoder);
+    *buffer = encoder.into_buffer();
+    match outcome {
+        Ok(()) => Ok(len),
+        Err(error) => {
+            buffer.truncate(before);
+            Err(error)
+        }
+    }
+}
+
+/// The canonical text of the value that the input begins with, and how many bytes that value takes there.
+/// An error is `Memory`, a fault of an input that begins with no value, or `TooLarge`.
+pub fn canonical_text<T: Canonical>(input: &[u8], alloc: Global) -> Result<(Vec<u8>, usize), Error>
+    ensures text { IfOk result (λ r. IsRewritten T.reading T.writing.canons input.now r.0.items r.1) }
+    ensures read_again { IfOk result (λ r. IsReadAgain T.reading T.follows T.again T.kept input.now r.0.items r.1) }
+    ensures one_text { IfOk result (λ r. IsOneText T.reading T.writing.canons input.now r.0.items r.1) }
+    ensures no_other { IfOk result (λ r. IsOfNoOther T.reading T.writing.canons T.kept input.now r.0.items r.1) }
+    ensures every_text { AreReadAgain T.reading T.writing.canons T.writing.is_value T.follows T.again T.lasts }
+    ensures unchanged { IfOk result (λ r. IsUnchanged T.reading T.writing.canons r.0.items) }
+    ensures shortest { T.is_least ≡ true → IfOk result (λ r. IsShortest T.reading T.writing.canons input.now r.0.items r.1) }
+    ensures refused { IfErr result (λ e.
+        (e ≡ Memory) ⊎ (IsUnreadable T.reading input.now e ⊎ IsUnwritten T.reading T.writing.canons input.now e)) }
+{
+    let (value, len) = from_slice_counted::<T>(input, alloc)?;
+    let text = to_vec(&value, alloc)?;
+    Ok((text, len))
+}
+
+// The length of the canonical text, of which the encoder keeps the sizes; or why there is none.
+#[inline(always)]
+fn measure<T: Serialize>(value: &T, encoder: &mut Encoder) -> Result<usize, Error>
+    requires { BeginsMeasuring encoder.old }
+    ensures is_value { T.writing.is_value value.now }
+    ensures measured { IfOk result (λ len.
+        (sizes : List Size) × AreMeasured (T.writing.canons value.now) len sizes × Finds encoder.new len sizes) }
+    ensures len { IfOk result (λ len. len ≡ length (row_text (T.writing.canons value.now))) }
+    ensures writable { OnOk result (AreWritable (T.writing.canons value.now)) }
+    ensures refused { IfErr result (λ e. (e ≡ Memory) ⊎ AreUnwritable (T.writing.canons value.now) e) }
+{
+    value.in_type();
+    value.serialize(encoder)?;
+    encoder.measured()
+}
