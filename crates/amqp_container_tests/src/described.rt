@@ -1,9 +1,9 @@
 //! Described values: inputs and the canonical text of each, or why it is refused; arrays and lists of them.
-use amqp_read_write::{from_slice, to_vec};
 use amqp_codec::{Descriptor, Error, Serialize, Symbol};
 use amqp_containers::Array;
 use amqp_described::Described;
-use amqp_rows::{Row, check};
+use amqp_read_write::{from_slice, to_vec};
+use amqp_test_rows::{Row, check};
 use std::alloc::Global;
 use std::test::Fail;
 

@@ -1,9 +1,9 @@
 //! Values that are read and written again while memory is refused. Each growth is refused in turn by hand:
 //! `rt try --test --fail-alloc N`, for N from 1 on.
-use amqp_read_write::{from_slice, to_vec};
 use amqp_codec::{Deserialize, Error, Serialize};
 use amqp_containers::Array;
 use amqp_described::Described;
+use amqp_read_write::{from_slice, to_vec};
 use std::alloc::Global;
 use std::test::Fail;
 

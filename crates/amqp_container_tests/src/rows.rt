@@ -2,7 +2,7 @@
 use amqp_codec::Symbol;
 use amqp_containers::Array;
 use amqp_delivery::Accepted;
-use amqp_rows::{Row, check};
+use amqp_test_rows::{Row, check};
 use std::test::Fail;
 
 const LISTS_OF_UINTS: [Row; 18] = [

@@ -1,8 +1,8 @@
 //! Lists and arrays that are written, and arrays that aren't.
-use amqp_read_write::{encoded_len, from_slice, to_vec};
 use amqp_codec::{Deserialize, Error, Serialize, Symbol};
 use amqp_containers::Array;
 use amqp_delivery::{Accepted, DeliveryState, Released};
+use amqp_read_write::{encoded_len, from_slice, to_vec};
 use std::alloc::Global;
 use std::test::Fail;
 

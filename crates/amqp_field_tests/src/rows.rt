@@ -1,8 +1,8 @@
 //! Inputs of offers and of mechanisms, and the canonical text of each, or why it is refused; and what is written.
 use crate::Offer;
-use amqp_read_write::{canonical_text, from_slice, to_vec};
 use amqp_codec::{Canonical, Error, Symbol};
 use amqp_containers::Array;
+use amqp_read_write::{canonical_text, from_slice, to_vec};
 use amqp_sasl::SaslMechanisms;
 use std::alloc::Global;
 use std::test::Fail;

@@ -1,9 +1,9 @@
 //! Inputs of maps, and the canonical text of each, or why it is refused.
 use crate::port::Port;
-use amqp_read_write::{canonical_text, from_slice};
 use amqp_codec::{Canonical, Error, MapKey, Symbol};
 use amqp_maps::OrderedMap;
 use amqp_primitives::{Binary, Dec32, Dec64, Dec128, Timestamp, Uuid};
+use amqp_read_write::{canonical_text, from_slice};
 use std::alloc::Global;
 use std::collections::BTreeMap;
 use std::test::Fail;

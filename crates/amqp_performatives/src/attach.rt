@@ -10,8 +10,8 @@ use amqp_codec::kernel::{
 use amqp_codec::{ByteSource, Decoder, Encoder, Error, Serialize, SerializeTerm, Symbol};
 use amqp_containers::Array;
 use amqp_containers::multiple::{is_null_multiple, read_multiple, write_multiple};
-use amqp_restricted_types::{Handle, ReceiverSettleMode, Role, SenderSettleMode, SequenceNo};
 use amqp_fields::{Fields, field_in_type};
+use amqp_restricted_types::{Handle, ReceiverSettleMode, Role, SenderSettleMode, SequenceNo};
 use amqp_termini::{Source, TargetArchetype};
 use std::alloc::Global;
 

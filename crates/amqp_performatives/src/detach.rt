@@ -6,9 +6,9 @@ use amqp_codec::kernel::{
     Composite, CompositeTerm, FieldKind, Table, read_into, read_some, write_composite,
 };
 use amqp_codec::{ByteSource, Decoder, Encoder, Error as CodecError, Serialize, SerializeTerm};
-use amqp_restricted_types::Handle;
 use amqp_errors::Error;
 use amqp_fields::field_in_type;
+use amqp_restricted_types::Handle;
 use std::alloc::Global;
 
 /// Detaches a link from its session.

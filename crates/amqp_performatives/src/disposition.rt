@@ -6,9 +6,9 @@ use amqp_codec::kernel::{
     Composite, CompositeTerm, FieldKind, Table, read_into, read_some, write_composite,
 };
 use amqp_codec::{ByteSource, Decoder, Encoder, Error, Serialize, SerializeTerm};
-use amqp_restricted_types::{DeliveryNumber, Role};
 use amqp_delivery::DeliveryState;
 use amqp_fields::field_in_type;
+use amqp_restricted_types::{DeliveryNumber, Role};
 use std::alloc::Global;
 
 /// The state of deliveries in a row, and whether they are settled.

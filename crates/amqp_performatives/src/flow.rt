@@ -6,8 +6,8 @@ use amqp_codec::kernel::{
     Composite, CompositeTerm, FieldKind, Table, read_into, read_some, write_composite,
 };
 use amqp_codec::{ByteSource, Decoder, Encoder, Error, Serialize, SerializeTerm};
-use amqp_restricted_types::{Handle, SequenceNo, TransferNumber};
 use amqp_fields::{Fields, field_in_type};
+use amqp_restricted_types::{Handle, SequenceNo, TransferNumber};
 use std::alloc::Global;
 
 /// Tells how much of a session, or of a link, may flow.

@@ -6,9 +6,11 @@ use amqp_codec::kernel::{
     Composite, CompositeTerm, FieldKind, Table, read_into, read_some, write_composite,
 };
 use amqp_codec::{ByteSource, Decoder, Encoder, Error, Serialize, SerializeTerm};
-use amqp_restricted_types::{DeliveryNumber, DeliveryTag, Handle, MessageFormat, ReceiverSettleMode};
 use amqp_delivery::DeliveryState;
 use amqp_fields::field_in_type;
+use amqp_restricted_types::{
+    DeliveryNumber, DeliveryTag, Handle, MessageFormat, ReceiverSettleMode,
+};
 use std::alloc::Global;
 
 /// A message, or a part of one, goes over a link.

@@ -3,9 +3,9 @@ ghost use Rattle.std.specs.Prelude.{[], ◌∷◌};
 ghost use Rattle.amqp_codec.specs.Written.{WritesTerms};
 
 use amqp_codec::{DeserializeTerm, Encoder, Error};
-use amqp_restricted_types::DeliveryTag;
 use amqp_delivery::DeliveryState;
 use amqp_maps::OrderedMap;
+use amqp_restricted_types::DeliveryTag;
 
 /// The states of unsettled deliveries by their tags. A delivery of which no state is known has none.
 pub type Unsettled = OrderedMap<DeliveryTag, Option<DeliveryState>>;

@@ -3,8 +3,8 @@ use crate::{
     DistributionMode, Handle, ReceiverSettleMode, Role, SaslCode, SenderSettleMode,
     TerminusDurability, TerminusExpiryPolicy, TxnCapability,
 };
-use amqp_read_write::{from_slice, to_vec};
 use amqp_codec::{Canonical, Deserialize, Error, Symbol};
+use amqp_read_write::{from_slice, to_vec};
 use std::alloc::Global;
 use std::test::Fail;
 

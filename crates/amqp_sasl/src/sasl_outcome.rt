@@ -6,8 +6,8 @@ use amqp_codec::kernel::{
     Composite, CompositeTerm, FieldKind, Table, read_into, read_some, write_composite,
 };
 use amqp_codec::{ByteSource, Decoder, Encoder, Error, Serialize, SerializeTerm};
-use amqp_restricted_types::SaslCode;
 use amqp_primitives::Binary;
+use amqp_restricted_types::SaslCode;
 use std::alloc::Global;
 
 /// How the exchange ended.

@@ -11,9 +11,9 @@ use amqp_codec::kernel::{
 use amqp_codec::{ByteSource, Decoder, Encoder, Error, Serialize, SerializeTerm, Symbol};
 use amqp_containers::Array;
 use amqp_containers::multiple::{is_null_multiple, read_multiple, write_multiple};
-use amqp_restricted_types::{DistributionMode, Seconds, TerminusDurability, TerminusExpiryPolicy};
 use amqp_delivery::Outcome;
 use amqp_fields::field_in_type;
+use amqp_restricted_types::{DistributionMode, Seconds, TerminusDurability, TerminusExpiryPolicy};
 use std::alloc::Global;
 
 /// Where the messages of a link come from.

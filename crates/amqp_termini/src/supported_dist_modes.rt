@@ -10,8 +10,8 @@ ghost use Rattle.amqp_termini.specs.Properties.{InsertsModes, mode_term, modes_t
 use crate::properties::with_modes;
 use amqp_codec::{ByteSource, Decoder, DeserializeTerm, Encoder, Error, Serialize, SerializeTerm};
 use amqp_containers::Array;
-use amqp_restricted_types::DistributionMode;
 use amqp_fields::Fields;
+use amqp_restricted_types::DistributionMode;
 use amqp_values::Value;
 use std::alloc::Global;
 use std::marker::Model;

@@ -8,8 +8,8 @@ use crate::properties::{with_lifetime, with_modes};
 use crate::{Address, LifetimePolicy, SupportedDistModes, Target};
 use amqp_codec::{Error, Symbol};
 use amqp_containers::Array;
-use amqp_restricted_types::{Seconds, TerminusDurability, TerminusExpiryPolicy};
 use amqp_fields::Fields;
+use amqp_restricted_types::{Seconds, TerminusDurability, TerminusExpiryPolicy};
 use std::alloc::Global;
 
 /// A target that is made call by call. A field that no call sets is left out.

@@ -2,10 +2,10 @@
 use crate::written::check;
 use amqp_codec::{Descriptor, Error, Symbol};
 use amqp_containers::Array;
-use amqp_restricted_types::{DistributionMode, TerminusDurability, TerminusExpiryPolicy};
 use amqp_delivery::{Accepted, Outcome};
 use amqp_described::Described;
 use amqp_fields::Fields;
+use amqp_restricted_types::{DistributionMode, TerminusDurability, TerminusExpiryPolicy};
 use amqp_termini::{
     DeleteOnClose, LifetimePolicy, Source, SourceBuilder, SupportedDistModes, Target, TargetBuilder,
 };

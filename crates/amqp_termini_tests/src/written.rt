@@ -1,9 +1,9 @@
 //! What is written, and what targets of both kinds are taken back as.
-use amqp_read_write::{from_slice, to_vec};
 use amqp_codec::{Error, Serialize};
 use amqp_containers::Array;
-use amqp_restricted_types::{DistributionMode, TxnCapability};
 use amqp_fields::Fields;
+use amqp_read_write::{from_slice, to_vec};
+use amqp_restricted_types::{DistributionMode, TxnCapability};
 use amqp_termini::{
     Coordinator, DeleteOnClose, DeleteOnNoLinks, DeleteOnNoLinksOrMessages, DeleteOnNoMessages,
     LifetimePolicy, Source, SupportedDistModes, Target, TargetArchetype,

@@ -1,11 +1,11 @@
 //! Values that are kept as their bytes: what they hold, where they may stand, and how deep they may nest.
 use crate::nests::nested;
-use amqp_read_write::{from_slice, from_slice_counted, to_vec};
 use amqp_codec::{Error, Symbol};
 use amqp_containers::Array;
 use amqp_lazy::LazyValue;
 use amqp_maps::OrderedMap;
-use amqp_rows::{Row, check};
+use amqp_read_write::{from_slice, from_slice_counted, to_vec};
+use amqp_test_rows::{Row, check};
 use std::alloc::Global;
 use std::test::Fail;
 

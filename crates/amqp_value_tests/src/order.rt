@@ -1,8 +1,8 @@
 //! The order and the hash of values of any kind, and maps whose keys they are.
-use amqp_read_write::from_slice;
 use amqp_codec::Error;
 use amqp_containers::Array;
 use amqp_maps::OrderedMap;
+use amqp_read_write::from_slice;
 use amqp_values::{IntoValue, Value, ValueMap};
 use std::alloc::Global;
 use std::cmp::Ordering;

@@ -1,12 +1,12 @@
 //! Simple values: what they are made of and give back, and how each kind is read and written.
-use amqp_read_write::from_slice;
 use amqp_codec::{DeserializeTerm, Error, Symbol};
 use amqp_containers::Array;
 use amqp_described::Described;
 use amqp_maps::OrderedMap;
 use amqp_primitives::{Binary, Dec32, Dec64, Dec128, Timestamp, Uuid};
-use amqp_rows::{Row, check};
+use amqp_read_write::from_slice;
 use amqp_simple_values::SimpleValue;
+use amqp_test_rows::{Row, check};
 use amqp_values::{Value, ValueMap};
 use amqp_wire::Descriptor;
 use std::alloc::Global;

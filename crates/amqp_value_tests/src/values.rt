@@ -1,10 +1,10 @@
 //! Values of any kind: inputs and the canonical text of each, or why it is refused.
 use crate::nests::{chain, nested};
-use amqp_read_write::{canonical_text, from_slice, to_vec};
 use amqp_codec::{Error, Symbol};
 use amqp_containers::Array;
 use amqp_maps::OrderedMap;
-use amqp_rows::{Row, check};
+use amqp_read_write::{canonical_text, from_slice, to_vec};
+use amqp_test_rows::{Row, check};
 use amqp_values::{Value, ValueMap};
 use amqp_wire::format_code;
 use std::alloc::Global;

@@ -4,10 +4,6 @@
 
 /// Reading and writing of whole values (Part 1, sections 1.2 to 1.6).
 pub mod codec {
-    pub use amqp_read_write::{
-        ReadSource, append_to_vec, canonical_text, encoded_len, from_reader, from_slice,
-        from_slice_counted, to_vec,
-    };
     pub use amqp_codec::{
         ByteSource, Canonical, Decoder, Descriptor, Deserialize, DeserializeTerm, Encoder, Error,
         MapKey, Serialize, SerializeTerm, Symbol, kernel,
@@ -17,6 +13,10 @@ pub mod codec {
     pub use amqp_lazy::LazyValue;
     pub use amqp_maps::OrderedMap;
     pub use amqp_primitives::{Binary, ByteBuf, Dec32, Dec64, Dec128, SymbolRef, Timestamp, Uuid};
+    pub use amqp_read_write::{
+        ReadSource, append_to_vec, canonical_text, encoded_len, from_reader, from_slice,
+        from_slice_counted, to_vec,
+    };
     pub use amqp_simple_values::SimpleValue;
     pub use amqp_values::{IntoValue, Value, ValueMap};
 }
@@ -55,23 +55,23 @@ pub mod primitives {
 
 /// The types of connections, sessions and links (Part 2).
 pub mod definitions {
+    pub use amqp_errors::{
+        AmqpError, ConnectionError, Error, ErrorCondition, LinkError, SessionError,
+    };
+    pub use amqp_fields::Fields;
     pub use amqp_restricted_types::{
         DeliveryNumber, DeliveryTag, Handle, IetfLanguageTag, MAJOR, MIN_MAX_FRAME_SIZE, MINOR,
         MessageFormat, Milliseconds, PORT, REVISION, ReceiverSettleMode, Role, SECURE_PORT,
         Seconds, SenderSettleMode, SequenceNo, TransferNumber,
     };
-    pub use amqp_errors::{
-        AmqpError, ConnectionError, Error, ErrorCondition, LinkError, SessionError,
-    };
-    pub use amqp_fields::Fields;
 }
 
 /// The types of messaging (Part 3).
 pub mod messaging {
-    pub use amqp_restricted_types::{DistributionMode, TerminusDurability, TerminusExpiryPolicy};
     pub use amqp_delivery::{
         Accepted, DeliveryState, Modified, Outcome, Received, Rejected, Released,
     };
+    pub use amqp_restricted_types::{DistributionMode, TerminusDurability, TerminusExpiryPolicy};
     pub use amqp_termini::{
         Address, DeleteOnClose, DeleteOnNoLinks, DeleteOnNoLinksOrMessages, DeleteOnNoMessages,
         FilterSet, LifetimePolicy, NodeProperties, Source, SourceBuilder, SupportedDistModes,
@@ -81,11 +81,11 @@ pub mod messaging {
 
 /// What the frames of connections, sessions and links hold (Part 2, section 2.7).
 pub mod performatives {
-    pub use amqp_restricted_types::{ChannelMax, MaxFrameSize};
     pub use amqp_performatives::{
         Attach, Begin, Close, Detach, Disposition, End, Flow, Open, Performative, Transfer,
         Unsettled,
     };
+    pub use amqp_restricted_types::{ChannelMax, MaxFrameSize};
 }
 
 /// The types of the security layer (Part 5).
@@ -108,8 +108,8 @@ pub mod states {
 
 /// The types of transactions (Part 4).
 pub mod transaction {
-    pub use amqp_restricted_types::TxnCapability;
     pub use amqp_delivery::{Declare, Declared, Discharge, TransactionId, TransactionalState};
     pub use amqp_errors::TransactionError;
+    pub use amqp_restricted_types::TxnCapability;
     pub use amqp_termini::Coordinator;
 }

@@ -1,8 +1,8 @@
 //! Rows of tests: inputs of a type, and the canonical text of each, or why it is refused.
 #![tactic(auto)]
 
-use amqp_read_write::canonical_text;
 use amqp_codec::Canonical;
+use amqp_read_write::canonical_text;
 use std::alloc::Global;
 use std::test::Fail;
 
