@@ -7,7 +7,7 @@ use Rattle.amqp_model.specs.Term.{map, Term}
 use Rattle.amqp_model.specs.ItemLaws.{clash}
 use Rattle.amqp_model.specs.Standing.{Standing}
 use Rattle.amqp_wire.specs.declared.error.Error.{Error}
-use Rattle.amqp_decoder.specs.declared.frame.OpenKind.TheVariants.{InMap}
+use Rattle.amqp_decoder.specs.declared.frame.Place.TheVariants.{InMap}
 use Rattle.amqp_decoder.specs.State.{State}
 use Rattle.amqp_decoder.specs.Reading.{RefusesRead}
 use Rattle.amqp_decoder.specs.Primitives.{ReadsValue}

@@ -5,10 +5,10 @@ use Rattle.amqp_model.specs.Term.{null, list, Term, leaf, count}
 use Rattle.amqp_model.specs.Items.{is_null, terms_of}
 use Rattle.amqp_model.specs.ItemLaws.{clash, items_of-terms_of}
 use Rattle.amqp_model.specs.Slot.{is_required}
-use Rattle.amqp_model.specs.Fields.{Fits, kinds_of}
-use Rattle.amqp_model.specs.declared.tables.FieldKind.TheVariants.{Mandatory}
+use Rattle.amqp_model.specs.Fields.{Fits, rules_of}
+use Rattle.amqp_model.specs.declared.tables.FieldRule.TheVariants.{Mandatory}
 use Rattle.amqp_wire.specs.declared.error.Error.{Error}
-use Rattle.amqp_decoder.specs.declared.frame.OpenKind.TheVariants.{InList}
+use Rattle.amqp_decoder.specs.declared.frame.Place.TheVariants.{InList}
 use Rattle.amqp_decoder.specs.State.{State, after_value}
 use Rattle.amqp_decoder.specs.Items.{Row}
 use Rattle.amqp_decoder.proofs.ContainerTerms.{Together, together, used_up, row_joined, row_of_one}
@@ -24,7 +24,7 @@ use Rattle.amqp_encoder.proofs.Refused.{count_of}
 use Rattle.amqp_codec.specs.Fields.{Fields, slots, take_memory}
 use Rattle.amqp_codec.specs.FieldReading.{absence, absent, MeansAt, FaultAt, FitsFront, KeepsBut, FitsAt, ItemRead, ItemFault, no_item}
 use Rattle.amqp_codec.specs.FieldReading.{null_item, in_item, FieldsSoFar, FieldsRead, FieldsFault, FillsField, ReadsItem, filled_at}
-use Rattle.amqp_codec.specs.FieldReading.{unfilled_at, no_list, at_item, left_out, not_ended, kind_at, front_null, front_filled}
+use Rattle.amqp_codec.specs.FieldReading.{unfilled_at, no_list, at_item, left_out, not_ended, rule_at, front_null, front_filled}
 use Rattle.amqp_codec.specs.FieldReading.{front_missing, front_end, front_start, fits_value, fits_null, fits_few, IsBlank}
 use Rattle.amqp_codec.specs.RefusalLaws.{no_memory, opened_going, opened_sound, refused_first, refused_later}
 use Rattle.amqp_codec.specs.PeekLaws.{peeked_failed, peeked_going, not_null, value_peeked}
@@ -59,7 +59,7 @@ module _ {V : Type 0} (fs : Fields V) where
   so_far_going st n i v mid h = h.opens.begun.going
 
   -- an item was read
-  pub one_more : (st : State) (n i : ℕ) (v w : V) (mid b : State) → i < n → i < length (kinds_of (slots fs)) → FieldsSoFar fs st n i v mid
+  pub one_more : (st : State) (n i : ℕ) (v w : V) (mid b : State) → i < n → i < length (rules_of (slots fs)) → FieldsSoFar fs st n i v mid
       → ItemRead fs i v w mid b → FieldsSoFar fs st n (suc i) w b
   one_more st n i v w mid b l k h r =
       let long : length h.terms ≡ i = h.long ∙ omega (arith, l) in
@@ -79,8 +79,8 @@ module _ {V : Type 0} (fs : Fields V) where
       }
 
   -- an item is left out
-  pub one_less : (st : State) (n i : ℕ) (v : V) (mid : State) → n ≤ i → i < length (kinds_of (slots fs))
-      → is_required (kind_at fs i) ≡ false → FieldsSoFar fs st n i v mid → FieldsSoFar fs st n (suc i) v mid
+  pub one_less : (st : State) (n i : ℕ) (v : V) (mid : State) → n ≤ i → i < length (rules_of (slots fs))
+      → is_required (rule_at fs i) ≡ false → FieldsSoFar fs st n i v mid → FieldsSoFar fs st n (suc i) v mid
   one_less st n i v mid l k r h = record {
     first = h.first;
     opens = h.opens;
@@ -113,20 +113,20 @@ module _ {V : Type 0} (fs : Fields V) where
       record { last = c.last; b = b; count = long; others = r.0; bytes = r.1; each = r.3; front = r.2; closes = c.closed }
 
   next_fits : (i : ℕ) (terms ts rest : List Term) (mid last : State) (z : List ℕ) (w : V) → length terms ≡ i → i < length ts
-      → i < length (kinds_of (slots fs)) → Row mid rest z last → ts ≡ terms ++ rest → Fits (slots fs) ts w
+      → i < length (rules_of (slots fs)) → Row mid rest z last → ts ≡ terms ++ rest → Fits (slots fs) ts w
       → (b : State) × ReadsValue (FitsAt fs i) mid w b
   next_fits i terms ts [] mid last z w e l k r f m = absurd (omega (arith, ap length f, length-append terms [], e, l))
   next_fits i terms ts (t ∷ rest) mid last z w e l k (s, others, j, h, hs) f m =
       let at : get_or ts i (leaf null) ≡ t = the_item terms ts t rest i e f in
       (after_value (length s) mid, record { bytes = s; term = t; stands = h; moved = refl; meant = by_null (is_null t) refl at })
     where
-      at_required : (r : Bool) → is_required (kind_at fs i) ≡ r → is_null (get_or ts i (leaf null)) ≡ true
-          → is_required (kind_at fs i) ≡ false
+      at_required : (r : Bool) → is_required (rule_at fs i) ≡ r → is_null (get_or ts i (leaf null)) ≡ true
+          → is_required (rule_at fs i) ≡ false
       at_required false x z = x
       at_required true x z = absurd (fits_null fs i ts w Mandatory m k x z)
 
       by_null : (z : Bool) → is_null t ≡ z → get_or ts i (leaf null) ≡ t → FitsAt fs i (standing mid.top.shared s) t w
-      by_null true z at = inl (z, at_required (is_required (kind_at fs i)) refl (ap is_null at ∙ z))
+      by_null true z at = inl (z, at_required (is_required (rule_at fs i)) refl (ap is_null at ∙ z))
       by_null false z at =
           inr (
             z,
@@ -135,7 +135,7 @@ module _ {V : Type 0} (fs : Fields V) where
           )
 
   -- an item couldn't be read
-  pub item_refused : (st : State) (n i : ℕ) (v : V) (mid : State) (e : Error) (new : State) → i < n → i < length (kinds_of (slots fs))
+  pub item_refused : (st : State) (n i : ℕ) (v : V) (mid : State) (e : Error) (new : State) → i < n → i < length (rules_of (slots fs))
       → mid.error ≡ None → FieldsSoFar fs st n i v mid → RefusesRead (take_memory fs) (ReadsValue (FitsAt fs i)) (ItemFault fs i) mid e new
       → RefusesRead (take_memory fs) (FieldsRead fs) (FieldsFault fs) st e new
   item_refused st n i v mid e new l k going h r =
@@ -150,8 +150,8 @@ module _ {V : Type 0} (fs : Fields V) where
       r
 
   -- a required item is left out
-  pub left_out_refused : (st : State) (n i : ℕ) (v : V) (mid : State) (e : Error) (new : State) → n ≤ i → i < length (kinds_of (slots fs))
-      → absence (kind_at fs i) ≡ Some e → Answers mid e new → FieldsSoFar fs st n i v mid
+  pub left_out_refused : (st : State) (n i : ℕ) (v : V) (mid : State) (e : Error) (new : State) → n ≤ i → i < length (rules_of (slots fs))
+      → absence (rule_at fs i) ≡ Some e → Answers mid e new → FieldsSoFar fs st n i v mid
       → RefusesRead (take_memory fs) (FieldsRead fs) (FieldsFault fs) st e new
   left_out_refused st n i v mid e new l k is kept h = record {
     kept = answered_later (so_far_failed st n i v mid h) kept;
@@ -159,7 +159,7 @@ module _ {V : Type 0} (fs : Fields V) where
     named = λ _. inr (left_out h l k is);
     none = inr (λ w b q.
         let g = further st n i v w mid b h q in
-        fits_null fs i q.terms w Mandatory q.fits k (absent (kind_at fs i) e is)
+        fits_null fs i q.terms w Mandatory q.fits k (absent (rule_at fs i) e is)
         (ap is_null (past_end q.terms i (omega (arith, g.count, l)))));
   }
 
@@ -168,7 +168,7 @@ module _ {V : Type 0} (fs : Fields V) where
   nothing_taken (t ∷ ts) mid last s l h = absurd (omega arith)
 
   -- the list couldn't be closed
-  pub end_refused : (st : State) (n i : ℕ) (v : V) (mid : State) (e : Error) (new : State) → i ≡ length (kinds_of (slots fs))
+  pub end_refused : (st : State) (n i : ℕ) (v : V) (mid : State) (e : Error) (new : State) → i ≡ length (rules_of (slots fs))
       → mid.error ≡ None → FieldsSoFar fs st n i v mid
       → RefusesRead false (λ st (_ : Unit {0}) b. Closes InList st b) (CloseFault InList) mid e new
       → RefusesRead (take_memory fs) (FieldsRead fs) (FieldsFault fs) st e new
@@ -185,7 +185,7 @@ module _ {V : Type 0} (fs : Fields V) where
       r
 
   -- the list was closed: these are the fields
-  pub all_read : (st : State) (n i : ℕ) (v : V) (mid b : State) → i ≡ length (kinds_of (slots fs)) → FieldsSoFar fs st n i v mid
+  pub all_read : (st : State) (n i : ℕ) (v : V) (mid b : State) → i ≡ length (rules_of (slots fs)) → FieldsSoFar fs st n i v mid
       → Closes InList mid b → FieldsRead fs st v b
   all_read st n i v mid b all h c = record {
     terms = h.terms;
@@ -216,12 +216,12 @@ module _ {V : Type 0} (fs : Fields V) (i : ℕ) where
       (value_peeked (FitsAt fs i) st) r
 
   -- null was taken, and fits
-  pub null_read : (v : V) (st b : State) → is_required (kind_at fs i) ≡ false → ReadsValue (Means (λ (_ : Unit {0}). null)) st tt b
+  pub null_read : (v : V) (st b : State) → is_required (rule_at fs i) ≡ false → ReadsValue (Means (λ (_ : Unit {0}). null)) st tt b
       → ItemRead fs i v v st b
   null_read v st b r h = record { bytes = h.bytes; term = h.term; stands = h.stands; moved = h.moved; fits = inl (h.meant, r, refl) }
 
   -- null was taken, and doesn't fit
-  pub null_unfit : (st b : State) (e : Error) (new : State) → st.error ≡ None → absence (kind_at fs i) ≡ Some e → Answers b e new
+  pub null_unfit : (st b : State) (e : Error) (new : State) → st.error ≡ None → absence (rule_at fs i) ≡ Some e → Answers b e new
       → ReadsValue (Means (λ (_ : Unit {0}). null)) st tt b
       → RefusesRead (take_memory fs) (ReadsValue (FitsAt fs i)) (ItemFault fs i) st e new
   null_unfit st b e new going is kept h = record {
@@ -231,7 +231,7 @@ module _ {V : Type 0} (fs : Fields V) (i : ℕ) where
     none = inr (λ w c k.
         let o = stands_same st h.bytes k.bytes h.term k.term h.stands k.stands in
         let z : is_null k.term ≡ true = ap is_null (sym o.1 ∙ h.meant) in
-        elim k.meant [ inl x ↦ clash (absent (kind_at fs i) e is) x.1 | inr x ↦ clash z x.0 ]);
+        elim k.meant [ inl x ↦ clash (absent (rule_at fs i) e is) x.1 | inr x ↦ clash z x.0 ]);
   }
 
   -- the field was filled
@@ -258,7 +258,7 @@ module _ {V : Type 0} (fs : Fields V) (i : ℕ) where
       ])
       r
 
-  pub filled_step : (v w : V) (st mid : State) (c : ℕ) (r : Result (Unit {0}) Error) (b : State) → i < length (kinds_of (slots fs))
+  pub filled_step : (v w : V) (st mid : State) (c : ℕ) (r : Result (Unit {0}) Error) (b : State) → i < length (rules_of (slots fs))
       → PeeksCode st c mid → (c ≡ 0x40 → ⊥) → FillsField fs i v w mid r b → ReadsItem fs i v w st r b
   filled_step v w st mid c (Ok u) b k p other h = let x = filled_at fs i v w mid b k h in value_read v w st mid b c p x.0 x.1
   filled_step v w st mid c (Err e) b k p other h = value_refused st mid c e b p other (unfilled_at fs i v w mid e b k h)

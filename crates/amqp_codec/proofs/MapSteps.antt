@@ -5,7 +5,7 @@ use Rattle.amqp_model.specs.Standing.{Standing}
 use Rattle.amqp_model.specs.FieldType.{normal}
 use Rattle.amqp_wire.specs.declared.error.Error.{Error}
 use Rattle.amqp_wire.specs.declared.error.Error.TheVariants.{Memory, DuplicateKey}
-use Rattle.amqp_decoder.specs.declared.frame.OpenKind.TheVariants.{InMap}
+use Rattle.amqp_decoder.specs.declared.frame.Place.TheVariants.{InMap}
 use Rattle.amqp_decoder.specs.State.{State}
 use Rattle.amqp_decoder.specs.Steps.{Answers}
 use Rattle.amqp_decoder.specs.Reading.{RefusesRead}

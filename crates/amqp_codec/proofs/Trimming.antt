@@ -13,21 +13,21 @@ use Rattle.amqp_codec.specs.KeptBytesLaws.{nulls_alike-none_kept}
 use Rattle.amqp_codec.specs.Written.{WritesTerms}
 use Rattle.amqp_codec.proofs.Joining.{terms_join, terms_cut}
 use Rattle.amqp_model.specs.Items.{is_null, before_nulls, without_last_nulls}
-use Rattle.amqp_model.specs.Fields.{kinds_of, canonical_terms, canonical_items}
+use Rattle.amqp_model.specs.Fields.{rules_of, canonical_terms, canonical_items}
 use Rattle.amqp_codec.specs.Fields.{Fields, none, field, slots, canon_at}
 
 take_all : {V : Type 0} (fs : Fields V) (v : V)
-    → take (length (kinds_of (slots fs))) (canonical_terms (slots fs) v) ≡ canonical_terms (slots fs) v
+    → take (length (rules_of (slots fs))) (canonical_terms (slots fs) v) ≡ canonical_terms (slots fs) v
 take_all none v = refl
 take_all (field get f fs) v = ap (λ ts. f.slot.meaning.canon (get v) ∷ ts) (take_all fs v)
 
-trim_null : {V : Type 0} (fs : Fields V) (n : ℕ) (v : V) → n < length (kinds_of (slots fs)) → is_null (canon_at fs n v) ≡ true →
+trim_null : {V : Type 0} (fs : Fields V) (n : ℕ) (v : V) → n < length (rules_of (slots fs)) → is_null (canon_at fs n v) ≡ true →
     without_last_nulls (take (suc n) (canonical_terms (slots fs) v)) ≡ without_last_nulls (take n (canonical_terms (slots fs) v))
 trim_null none n v l z = absurd (omega arith)
 trim_null (field get f fs) zero v l z = rw z refl
 trim_null (field get f fs) (suc n) v l z = ap (before_nulls (f.slot.meaning.canon (get v))) (trim_null fs n v (omega arith) z)
 
-trim_value : {V : Type 0} (fs : Fields V) (n : ℕ) (v : V) → n < length (kinds_of (slots fs)) → is_null (canon_at fs n v) ≡ false →
+trim_value : {V : Type 0} (fs : Fields V) (n : ℕ) (v : V) → n < length (rules_of (slots fs)) → is_null (canon_at fs n v) ≡ false →
     without_last_nulls (take (suc n) (canonical_terms (slots fs) v)) ≡ take (suc n) (canonical_terms (slots fs) v)
 trim_value none n v l z = absurd (omega arith)
 trim_value (field get f fs) zero v l z = rw z refl
@@ -36,12 +36,12 @@ trim_value (field get f (field h r fs)) (suc n) v l z =
     ap (before_nulls (f.slot.meaning.canon (get v))) (trim_value (field h r fs) n v (omega arith) z)
 
 -- from the end
-pub trim_start : {V : Type 0} (fs : Fields V) (n : ℕ) (v : V) → n ≡ length (kinds_of (slots fs))
+pub trim_start : {V : Type 0} (fs : Fields V) (n : ℕ) (v : V) → n ≡ length (rules_of (slots fs))
     → without_last_nulls (take n (canonical_terms (slots fs) v)) ≡ canonical_items (slots fs) v
 unfolding canonical_items
 trim_start fs n v e = rw (e, take_all fs v) refl
 
-pub trim_step : {V : Type 0} (fs : Fields V) (n : ℕ) (v : V) → 0 < n → n ≤ length (kinds_of (slots fs))
+pub trim_step : {V : Type 0} (fs : Fields V) (n : ℕ) (v : V) → 0 < n → n ≤ length (rules_of (slots fs))
     → true ≡ is_null (canon_at fs (n - 1) v) →
     without_last_nulls (take n (canonical_terms (slots fs) v)) ≡ canonical_items (slots fs) v
     → without_last_nulls (take (n - 1) (canonical_terms (slots fs) v)) ≡ canonical_items (slots fs) v
@@ -54,26 +54,26 @@ pub trim_zero : {V : Type 0} (fs : Fields V) (n : ℕ) (v : V) → n ≤ 0
 trim_zero fs zero v p e = e
 trim_zero fs (suc n) v p e = absurd (omega arith)
 
-pub trim_end : {V : Type 0} (fs : Fields V) (n : ℕ) (v : V) → 0 < n → n ≤ length (kinds_of (slots fs))
+pub trim_end : {V : Type 0} (fs : Fields V) (n : ℕ) (v : V) → 0 < n → n ≤ length (rules_of (slots fs))
     → false ≡ is_null (canon_at fs (n - 1) v) →
     without_last_nulls (take n (canonical_terms (slots fs) v)) ≡ canonical_items (slots fs) v
     → take n (canonical_terms (slots fs) v) ≡ canonical_items (slots fs) v
 trim_end fs zero v p l z e = absurd (omega arith)
 trim_end fs (suc n) v p l z e = let k : suc n - 1 ≡ n = omega arith in sym (trim_value fs n v (omega arith) (rw k at (sym z))) ∙ e
 
-take_more : {V : Type 0} (fs : Fields V) (n : ℕ) (v : V) → n < length (kinds_of (slots fs))
+take_more : {V : Type 0} (fs : Fields V) (n : ℕ) (v : V) → n < length (rules_of (slots fs))
     → take (suc n) (canonical_terms (slots fs) v) ≡ take n (canonical_terms (slots fs) v) ++ canon_at fs n v ∷ []
 take_more none n v l = absurd (omega arith)
 take_more (field get f fs) zero v l = refl
 take_more (field get f fs) (suc n) v l = ap (λ ts. f.slot.meaning.canon (get v) ∷ ts) (take_more fs n v (omega arith))
 
 -- one more from the front
-pub take_next : {V : Type 0} (fs : Fields V) (n : ℕ) (v : V) → n < length (kinds_of (slots fs))
+pub take_next : {V : Type 0} (fs : Fields V) (n : ℕ) (v : V) → n < length (rules_of (slots fs))
     → take (n + 1) (canonical_terms (slots fs) v) ≡ take n (canonical_terms (slots fs) v) ++ canon_at fs n v ∷ []
 take_next fs n v l = rw add-one (take_more fs n v l)
 
 -- some more are left behind the first ones
-split_more : {V : Type 0} (fs : Fields V) (n m : ℕ) (v : V) → n < m → m ≤ length (kinds_of (slots fs))
+split_more : {V : Type 0} (fs : Fields V) (n m : ℕ) (v : V) → n < m → m ≤ length (rules_of (slots fs))
     → (rest : List Term) × (take m (canonical_terms (slots fs) v) ≡ (take n (canonical_terms (slots fs) v) ++ canon_at fs n v ∷ []) ++ rest)
 split_more none n m v l k = absurd (omega arith)
 split_more (field get f fs) n zero v l k = absurd (omega arith)
@@ -83,7 +83,7 @@ split_more (field get f fs) (suc n) (suc m) v l k = let r = split_more fs n m v 
 
 -- a field is refused behind the first ones
 pub item_refused : {V : Type 0} (fs : Fields V) (n m : ℕ) (v : V) (a b c : Encoder) (q r : Result (Unit {0}) Error) (e : Error) → n < m
-    → m ≤ length (kinds_of (slots fs)) → q ≡ Err e → (y : Error) × (r ≡ Err y) × (y ≡ e) →
+    → m ≤ length (rules_of (slots fs)) → q ≡ Err e → (y : Error) × (r ≡ Err y) × (y ≡ e) →
     WritesTerms (take n (canonical_terms (slots fs) v)) a (Ok tt) b → WritesTerms (canon_at fs n v ∷ []) b q c
     → WritesTerms (take m (canonical_terms (slots fs) v)) a r c
 item_refused fs n m v a b c q r e l k o p w x =
@@ -93,7 +93,7 @@ item_refused fs n m v a b c q r e l k o p w x =
 
 -- one more is written
 pub item_written : {V : Type 0} (fs : Fields V) (n : ℕ) (v : V) (a b c : Encoder) (q : Result (Unit {0}) Error)
-    → n < length (kinds_of (slots fs)) → q ≡ Ok tt →
+    → n < length (rules_of (slots fs)) → q ≡ Ok tt →
     WritesTerms (take n (canonical_terms (slots fs) v)) a (Ok tt) b → WritesTerms (canon_at fs n v ∷ []) b q c
     → WritesTerms (take (n + 1) (canonical_terms (slots fs) v)) a (Ok tt) c
 item_written fs n v a b c q l o w x =

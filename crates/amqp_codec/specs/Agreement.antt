@@ -2,7 +2,7 @@
 use Rattle.std.proofs.Common.{◌≡◌, true, List, [], ◌∷◌, Option, Some, None, IfSome, refl}
 use Rattle.amqp_model.specs.Term.{null, Term, Terms, leaf, container, described, kept, barred, none, more}
 use Rattle.amqp_model.specs.Ranges.{Everywhere, EverywhereIn, IsValue}
-use Rattle.amqp_model.specs.Kinds.{option_canon}
+use Rattle.amqp_model.specs.FieldRules.{option_canon}
 use Rattle.amqp_model.specs.FieldType.{Norm, normal}
 use Rattle.amqp_codec.specs.TermType.{TermType, KeepsNoBytes, KeepNoBytes}
 use Rattle.amqp_codec.specs.OptionType.{option_of}

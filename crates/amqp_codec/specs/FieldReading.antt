@@ -5,12 +5,12 @@ use Rattle.amqp_model.specs.Term.{null, list, Term, leaf}
 use Rattle.amqp_model.specs.Standing.{Standing}
 use Rattle.amqp_model.specs.Items.{is_null}
 use Rattle.amqp_model.specs.Slot.{is_required}
-use Rattle.amqp_model.specs.Fields.{Fits, kinds_of}
-use Rattle.amqp_model.specs.declared.tables.FieldKind.{FieldKind}
+use Rattle.amqp_model.specs.Fields.{Fits, rules_of}
+use Rattle.amqp_model.specs.declared.tables.FieldRule.{FieldRule}
 use Rattle.amqp_wire.specs.declared.error.Error.{Error}
 use Rattle.amqp_wire.specs.declared.error.Error.TheVariants.{Memory, Missing, EmptyMultiple}
-use Rattle.amqp_model.specs.declared.tables.FieldKind.TheVariants.{Mandatory, Optional, Default, Multiple, MandatoryMultiple}
-use Rattle.amqp_decoder.specs.declared.frame.OpenKind.TheVariants.{InList}
+use Rattle.amqp_model.specs.declared.tables.FieldRule.TheVariants.{Mandatory, Optional, Default, Multiple, MandatoryMultiple}
+use Rattle.amqp_decoder.specs.declared.frame.Place.TheVariants.{InList}
 use Rattle.amqp_decoder.specs.State.{State, after_value}
 use Rattle.amqp_decoder.specs.Reading.{RefusesRead, BeginFault, PeeksCode}
 use Rattle.amqp_decoder.specs.Primitives.{standing, Stands, ReadsValue, Means}
@@ -34,7 +34,7 @@ KeepsBut (field get f fs) (suc i) v w = (get w ≡ get v) × KeepsBut fs i v w
 -- each field but the required ones holds what null means
 abbrev pub IsBlank : {V : Type 0} → Fields V → V → Type 0
 IsBlank none v = Unit {0}
-IsBlank (field get f fs) v = (is_required f.slot.kind ≡ false → f.slot.meaning.means (leaf null) (get v)) × IsBlank fs v
+IsBlank (field get f fs) v = (is_required f.slot.rule ≡ false → f.slot.meaning.means (leaf null) (get v)) × IsBlank fs v
 
 -- A value was read into its place.
 abbrev pub Fills : {T : Type 0} → Bool → (Standing → Term → T → Type 0) → (State → Error → Type 0) → State → T
@@ -71,8 +71,8 @@ front_start none ts v b = tt
 front_start (field get f fs) ts v b = b
 
 -- a field without an item
-pub front_missing : {V : Type 0} (fs : Fields V) (n : ℕ) (ts : List Term) (v : V) (k : FieldKind) → n < length (kinds_of (slots fs))
-    → length ts ≤ n → is_required (get_or (kinds_of (slots fs)) n k) ≡ false → FitsFront fs n ts v → FitsFront fs (suc n) ts v
+pub front_missing : {V : Type 0} (fs : Fields V) (n : ℕ) (ts : List Term) (v : V) (k : FieldRule) → n < length (rules_of (slots fs))
+    → length ts ≤ n → is_required (get_or (rules_of (slots fs)) n k) ≡ false → FitsFront fs n ts v → FitsFront fs (suc n) ts v
 front_missing none n ts v k l few r m = tt
 front_missing (field get f fs) zero [] v k l few r m = (m.0 r, front_start fs [] v m.1)
 front_missing (field get f fs) zero (t ∷ ts) v k l few r m = absurd (omega arith)
@@ -80,8 +80,8 @@ front_missing (field get f fs) (suc n) [] v k l few r m = (m.0, front_missing fs
 front_missing (field get f fs) (suc n) (t ∷ ts) v k l few r m = (m.0, front_missing fs n ts v k (omega arith) (omega arith) r m.1)
 
 -- the next item is null
-pub front_null : {V : Type 0} (fs : Fields V) (n : ℕ) (ts : List Term) (v : V) (k : FieldKind) → n < length (kinds_of (slots fs))
-    → length ts ≡ n → is_required (get_or (kinds_of (slots fs)) n k) ≡ false → FitsFront fs n ts v
+pub front_null : {V : Type 0} (fs : Fields V) (n : ℕ) (ts : List Term) (v : V) (k : FieldRule) → n < length (rules_of (slots fs))
+    → length ts ≡ n → is_required (get_or (rules_of (slots fs)) n k) ≡ false → FitsFront fs n ts v
     → FitsFront fs (suc n) (ts ++ leaf null ∷ []) v
 front_null none n ts v k l e r m = tt
 front_null (field get f fs) zero [] v k l e r m = (m.0 r, front_start fs [] v m.1)
@@ -103,7 +103,7 @@ front_filled (field get f fs) (suc n) [] v w s t e a k m = absurd (omega arith)
 front_filled (field get f fs) (suc n) (u ∷ ts) v w s t e a k m = ((rw k.0 m.0), front_filled fs n ts v w s t (omega arith) a k.1 m.1)
 
 -- all fields were gone through
-pub front_end : {V : Type 0} (fs : Fields V) (n : ℕ) (ts : List Term) (v : V) → n ≡ length (kinds_of (slots fs)) → length ts ≤ n
+pub front_end : {V : Type 0} (fs : Fields V) (n : ℕ) (ts : List Term) (v : V) → n ≡ length (rules_of (slots fs)) → length ts ≤ n
     → FitsFront fs n ts v → Fits (slots fs) ts v
 unfolding Fits
 front_end none n [] v e few m = tt
@@ -122,8 +122,8 @@ fits_value (field get f fs) n [] v s m l z = absurd (omega arith)
 fits_value (field get f fs) zero (t ∷ ts) v s m l z = f.is_read s t (get v) z m.0
 fits_value (field get f fs) (suc n) (t ∷ ts) v s m l z = fits_value fs n ts v s m.1 (omega arith) z
 
-pub fits_null : {V : Type 0} (fs : Fields V) (n : ℕ) (ts : List Term) (v : V) (k : FieldKind) → Fits (slots fs) ts v
-    → n < length (kinds_of (slots fs)) → is_required (get_or (kinds_of (slots fs)) n k) ≡ true
+pub fits_null : {V : Type 0} (fs : Fields V) (n : ℕ) (ts : List Term) (v : V) (k : FieldRule) → Fits (slots fs) ts v
+    → n < length (rules_of (slots fs)) → is_required (get_or (rules_of (slots fs)) n k) ≡ true
     → is_null (get_or ts n (leaf null)) ≡ true → ⊥
 unfolding Fits
 fits_null none n ts v k m l r z = absurd (omega arith)
@@ -132,7 +132,7 @@ fits_null (field get f fs) zero (t ∷ ts) v k m l r z = f.slot.required (get v)
 fits_null (field get f fs) (suc n) [] v k m l r z = fits_null fs n [] v k m.1 (omega arith) r refl
 fits_null (field get f fs) (suc n) (t ∷ ts) v k m l r z = fits_null fs n ts v k m.1 (omega arith) r z
 
-pub fits_few : {V : Type 0} (fs : Fields V) (ts : List Term) (v : V) → Fits (slots fs) ts v → length ts ≤ length (kinds_of (slots fs))
+pub fits_few : {V : Type 0} (fs : Fields V) (ts : List Term) (v : V) → Fits (slots fs) ts v → length ts ≤ length (rules_of (slots fs))
 unfolding Fits
 fits_few none [] v m = omega arith
 fits_few none (t ∷ ts) v m = absurd m
@@ -140,7 +140,7 @@ fits_few (field get f fs) [] v m = omega arith
 fits_few (field get f fs) (t ∷ ts) v m = omega (arith, fits_few fs ts v m.1)
 
 -- What was read into a field, by its number.
-pub filled_at : {V : Type 0} (fs : Fields V) (n : ℕ) (v w : V) (st b : State) → n < length (kinds_of (slots fs))
+pub filled_at : {V : Type 0} (fs : Fields V) (n : ℕ) (v w : V) (st b : State) → n < length (rules_of (slots fs))
     → FillsField fs n v w st (Ok tt) b → ReadsValue (MeansAt fs n) st w b × KeepsBut fs n v w
 filled_at none n v w st b l h = absurd (omega arith)
 filled_at (field get f fs) zero v w st b l h =
@@ -150,7 +150,7 @@ filled_at (field get f fs) (suc n) v w st b l h =
     (record { bytes = r.0.bytes; term = r.0.term; stands = r.0.stands; moved = r.0.moved; meant = r.0.meant }, (h.0 refl, r.1))
 
 -- why none was
-pub unfilled_at : {V : Type 0} (fs : Fields V) (n : ℕ) (v w : V) (st : State) (e : Error) (b : State) → n < length (kinds_of (slots fs))
+pub unfilled_at : {V : Type 0} (fs : Fields V) (n : ℕ) (v w : V) (st : State) (e : Error) (b : State) → n < length (rules_of (slots fs))
     → FillsField fs n v w st (Err e) b → RefusesRead (take_memory fs) (ReadsValue (MeansAt fs n)) (FaultAt fs n) st e b
 unfilled_at none n v w st e b l h = absurd (omega arith)
 unfilled_at (field get f fs) zero v w st e b l h =
@@ -163,13 +163,13 @@ unfilled_at (field get f fs) (suc n) v w st e b l h =
     (λ none x c r. none x c (record { bytes = r.bytes; term = r.term; stands = r.stands; moved = r.moved; meant = r.meant }))
     (unfilled_at fs n v w st e b (omega arith) h.1)
 
--- The kind of a field by its number, mandatory past the last one.
-abbrev pub kind_at : {V : Type 0} → Fields V → ℕ → FieldKind
-kind_at fs i = get_or (kinds_of (slots fs)) i Mandatory
+-- The rule of a field by its number, mandatory past the last one.
+abbrev pub rule_at : {V : Type 0} → Fields V → ℕ → FieldRule
+rule_at fs i = get_or (rules_of (slots fs)) i Mandatory
 
 -- What an item means in its field: null where it may be left out, and else what the type of the field says.
 abbrev pub FitsAt : {V : Type 0} → Fields V → ℕ → Standing → Term → V → Type 0
-FitsAt fs i s t v = ((is_null t ≡ true) × (is_required (kind_at fs i) ≡ false)) ⊎ ((is_null t ≡ false) × MeansAt fs i s t v)
+FitsAt fs i s t v = ((is_null t ≡ true) × (is_required (rule_at fs i) ≡ false)) ⊎ ((is_null t ≡ false) × MeansAt fs i s t v)
 
 -- An item stood next, and was read into its field.
 pub record ItemRead {V : Type 0} (fs : Fields V) (i : ℕ) (v w : V) (st b : State) : Type 0 where
@@ -177,23 +177,23 @@ pub record ItemRead {V : Type 0} (fs : Fields V) (i : ℕ) (v w : V) (st b : Sta
   pub term : Term
   pub stands : Stands st bytes term
   pub moved : b ≡ after_value (length bytes) st
-  pub fits : ((term ≡ leaf null) × (is_required (kind_at fs i) ≡ false) × (w ≡ v))
+  pub fits : ((term ≡ leaf null) × (is_required (rule_at fs i) ≡ false) × (w ≡ v))
       ⊎ (MeansAt fs i (standing st.top.shared bytes) term w × KeepsBut fs i v w)
 
 -- Part 1, section 1.4: the error for a field that is null or left out, where it must be there.
-abbrev pub absence : FieldKind → Option Error
+abbrev pub absence : FieldRule → Option Error
 absence Mandatory = Some Missing
 absence MandatoryMultiple = Some EmptyMultiple
 absence _ = None
 
-pub absent : (k : FieldKind) (e : Error) → absence k ≡ Some e → is_required k ≡ true
+pub absent : (k : FieldRule) (e : Error) → absence k ≡ Some e → is_required k ≡ true
 absent Mandatory e h = refl
 absent MandatoryMultiple e h = refl
 absent Optional e h = cc
 absent Default e h = cc
 absent Multiple e h = cc
 
-pub not_absent : (k : FieldKind) → absence k ≡ None → is_required k ≡ false
+pub not_absent : (k : FieldRule) → absence k ≡ None → is_required k ≡ false
 not_absent Mandatory h = cc
 not_absent MandatoryMultiple h = cc
 not_absent Optional h = refl
@@ -204,7 +204,7 @@ not_absent Multiple h = refl
 -- field says.
 pub data ItemFault {V : Type 0} (fs : Fields V) (i : ℕ) (st : State) (e : Error) : Type 0 where
   no_item : BeginFault st e → ItemFault fs i st e
-  null_item : {b : State} → ReadsValue (Means (λ (_ : Unit {0}). null)) st tt b → absence (kind_at fs i) ≡ Some e → ItemFault fs i st e
+  null_item : {b : State} → ReadsValue (Means (λ (_ : Unit {0}). null)) st tt b → absence (rule_at fs i) ≡ Some e → ItemFault fs i st e
   in_item : {c : ℕ} {mid : State} → PeeksCode st c mid → (c ≡ 0x40 → ⊥) → FaultAt fs i mid e → ItemFault fs i st e
 
 abbrev pub ReadsItem : {V : Type 0} → Fields V → ℕ → V → V → State → Result (Unit {0}) Error → State → Type 0
@@ -230,11 +230,11 @@ pub record FieldsRead {V : Type 0} (fs : Fields V) (st : State) (v : V) (b : Sta
 -- Why no fields are read.
 pub data FieldsFault {V : Type 0} (fs : Fields V) (st : State) (e : Error) : Type 0 where
   no_list : OpenFault list st e → FieldsFault fs st e
-  at_item : {n i : ℕ} {v : V} {mid : State} → FieldsSoFar fs st n i v mid → i < n → i < length (kinds_of (slots fs))
+  at_item : {n i : ℕ} {v : V} {mid : State} → FieldsSoFar fs st n i v mid → i < n → i < length (rules_of (slots fs))
       → ItemFault fs i mid e → FieldsFault fs st e
-  left_out : {n i : ℕ} {v : V} {mid : State} → FieldsSoFar fs st n i v mid → n ≤ i → i < length (kinds_of (slots fs))
-      → absence (kind_at fs i) ≡ Some e → FieldsFault fs st e
-  not_ended : {n : ℕ} {v : V} {mid : State} → FieldsSoFar fs st n (length (kinds_of (slots fs))) v mid
+  left_out : {n i : ℕ} {v : V} {mid : State} → FieldsSoFar fs st n i v mid → n ≤ i → i < length (rules_of (slots fs))
+      → absence (rule_at fs i) ≡ Some e → FieldsFault fs st e
+  not_ended : {n : ℕ} {v : V} {mid : State} → FieldsSoFar fs st n (length (rules_of (slots fs))) v mid
       → CloseFault InList mid e → FieldsFault fs st e
 
 -- No fault of a field is want of memory.
@@ -243,7 +243,7 @@ fault_at_not_memory none i st f = f
 fault_at_not_memory (field get f fs) zero st x = f.faults.not_memory st x
 fault_at_not_memory (field get f fs) (suc i) st x = fault_at_not_memory fs i st x
 
-absence_not_memory : (k : FieldKind) → absence k ≡ Some Memory → ⊥
+absence_not_memory : (k : FieldRule) → absence k ≡ Some Memory → ⊥
 absence_not_memory Mandatory e = cc
 absence_not_memory MandatoryMultiple e = cc
 absence_not_memory Optional e = cc
@@ -252,11 +252,11 @@ absence_not_memory Multiple e = cc
 
 item_not_memory : {V : Type 0} (fs : Fields V) (i : ℕ) (st : State) → ItemFault fs i st Memory → ⊥
 item_not_memory fs i st (no_item f) = begin_not_memory st f
-item_not_memory fs i st (null_item h is) = absence_not_memory (kind_at fs i) is
+item_not_memory fs i st (null_item h is) = absence_not_memory (rule_at fs i) is
 item_not_memory fs i st (in_item {c} {mid} p n f) = fault_at_not_memory fs i mid f
 
 pub fields_not_memory : {V : Type 0} (fs : Fields V) (st : State) → FieldsFault fs st Memory → ⊥
 fields_not_memory fs st (no_list f) = open_not_memory list st f
 fields_not_memory fs st (at_item {n} {i} {v} {mid} h l k f) = item_not_memory fs i mid f
-fields_not_memory fs st (left_out {n} {i} h l k is) = absence_not_memory (kind_at fs i) is
+fields_not_memory fs st (left_out {n} {i} h l k is) = absence_not_memory (rule_at fs i) is
 fields_not_memory fs st (not_ended {n} {v} {mid} h f) = close_not_memory InList mid f

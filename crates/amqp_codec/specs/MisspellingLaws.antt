@@ -1,11 +1,11 @@
 -- A composite's fault by an error that says of bytes that they are no term stands only where no term does.
 use Rattle.std.proofs.Common.{◌≡◌, ℕ, zero, suc, Some, arith}
 use Rattle.amqp_model.specs.Term.{list}
-use Rattle.amqp_model.specs.declared.tables.FieldKind.{FieldKind}
-use Rattle.amqp_model.specs.declared.tables.FieldKind.TheVariants.{Mandatory, Optional, Default, Multiple, MandatoryMultiple}
+use Rattle.amqp_model.specs.declared.tables.FieldRule.{FieldRule}
+use Rattle.amqp_model.specs.declared.tables.FieldRule.TheVariants.{Mandatory, Optional, Default, Multiple, MandatoryMultiple}
 use Rattle.amqp_wire.specs.declared.error.Error.{Error}
 use Rattle.amqp_wire.specs.declared.error.Error.TheVariants.{Missing, EmptyMultiple}
-use Rattle.amqp_decoder.specs.declared.frame.OpenKind.TheVariants.{InList, InDescribed}
+use Rattle.amqp_decoder.specs.declared.frame.Place.TheVariants.{InList, InDescribed}
 use Rattle.amqp_decoder.specs.State.{State}
 use Rattle.amqp_decoder.specs.Rooms.{HasRoom}
 use Rattle.amqp_decoder.specs.Misspelled.{IsMisspelling, NothingStands}
@@ -27,7 +27,7 @@ empty_spelled : (e : Error) → Some EmptyMultiple ≡ Some e → IsMisspelling 
 empty_spelled EmptyMultiple h i = i
 empty_spelled _ h i = cc
 
-absence_spelled : (k : FieldKind) (e : Error) → absence k ≡ Some e → IsMisspelling e → ⊥
+absence_spelled : (k : FieldRule) (e : Error) → absence k ≡ Some e → IsMisspelling e → ⊥
 absence_spelled Mandatory e h i = missing_spelled e h i
 absence_spelled MandatoryMultiple e h i = empty_spelled e h i
 absence_spelled Optional e h i = cc

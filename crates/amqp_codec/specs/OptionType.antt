@@ -6,7 +6,7 @@ use Rattle.amqp_model.specs.Text.{form}
 use Rattle.amqp_model.specs.Items.{is_null}
 use Rattle.amqp_model.specs.ItemLaws.{clash}
 use Rattle.amqp_model.specs.FieldType.{Norm, normal, unchanged, by_norm}
-use Rattle.amqp_model.specs.Kinds.{option_canon, SameOption}
+use Rattle.amqp_model.specs.FieldRules.{option_canon, SameOption}
 use Rattle.amqp_model.specs.OptionLaws.{option_refl, option_sym, option_trans}
 use Rattle.amqp_wire.specs.declared.error.Error.{Error}
 use Rattle.amqp_decoder.specs.State.{State}

@@ -1,4 +1,4 @@
--- The fields of a composite, by their kinds: the model's slots with the laws that reading and writing need.
+-- The fields of a composite, by their rules: the model's slots with the laws that reading and writing need.
 use Rattle.std.proofs.Common.{◌≡◌, inl, inr, ℕ, Bool, true, false, cond, List, Option, Some, None, IfSome, refl, arith}
 use Rattle.amqp_model.specs.Term.{null, Term, leaf}
 use Rattle.amqp_model.specs.Standing.{Standing}
@@ -6,7 +6,7 @@ use Rattle.amqp_model.specs.Items.{is_null}
 use Rattle.amqp_model.specs.Ranges.{Everywhere, IsValue}
 use Rattle.amqp_model.specs.ItemLaws.{clash}
 use Rattle.amqp_model.specs.FieldType.{Meaning, NeverNull}
-use Rattle.amqp_model.specs.Kinds.{OptionMeans, option_canon, DefaultValue, DefaultMeans, default_canon}
+use Rattle.amqp_model.specs.FieldRules.{OptionMeans, option_canon, DefaultValue, DefaultMeans, default_canon}
 use Rattle.amqp_model.specs.Slot.{Slot}
 use Rattle.amqp_model.specs.Slot as slot
 use Rattle.amqp_model.specs.OptionLaws.{option_meaning}

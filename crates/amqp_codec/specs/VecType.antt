@@ -4,7 +4,7 @@ use Rattle.std.proofs.lemmas.List.{length-map}
 use Rattle.std.specs.declared.vec.Vec.{Vec}
 use Rattle.amqp_model.specs.Term.{list}
 use Rattle.amqp_model.specs.FieldType.{Norm, normal, unchanged, by_norm}
-use Rattle.amqp_decoder.specs.declared.frame.OpenKind.TheVariants.{InList}
+use Rattle.amqp_decoder.specs.declared.frame.Place.TheVariants.{InList}
 use Rattle.amqp_decoder.specs.Containers.{Opens, OpenFault}
 use Rattle.amqp_decoder.specs.OtherSource.{opens, open_fault}
 use Rattle.amqp_decoder.proofs.Misspelled.{open_misspelled}

@@ -1,7 +1,7 @@
 //! Composites, which are described lists of fields (Part 1, section 1.4).
 ghost use Rattle.std.specs.Prelude.{◌≡◌, ◌<◌, false, [], ◌∷◌, length};
 ghost use Rattle.amqp_model.specs.Items.{is_null};
-ghost use Rattle.amqp_model.specs.Fields.{kinds_of};
+ghost use Rattle.amqp_model.specs.Fields.{rules_of};
 ghost use Rattle.amqp_model.specs.Composite.{MeansComposite, canonical_term};
 ghost use Rattle.amqp_codec.specs.Fields.{slots, canon_at, take_memory};
 ghost use Rattle.amqp_codec.specs.Composite.{table_of, fields_of, composite_members};
@@ -12,20 +12,20 @@ ghost use Rattle.amqp_decoder.specs.Primitives.{ReadsValue};
 ghost use Rattle.amqp_codec.specs.Members.{MemberFault};
 ghost use Rattle.amqp_codec.specs.FieldReading.{FillsField, IsBlank};
 
-use crate::fields::{FieldKind, FieldList, read_fields, write_list};
+use crate::fields::{FieldRule, FieldList, read_fields, write_list};
 use crate::{DeserializeTerm, SerializeTerm};
 use amqp_decoder::Decoder;
 use amqp_encoder::Encoder;
 use amqp_wire::{ByteSource, Descriptor, Error};
 use std::alloc::Global;
 
-/// The table of a composite: the code and the name of its descriptor, and the kinds of its fields in order.
+/// The table of a composite: the code and the name of its descriptor, and the rules of its fields in order.
 #[derive(Clone, Copy)]
 pub struct Table {
     /// The code and the name of the descriptor.
     pub descriptor: (u64, &'static str),
-    /// The kind of each field.
-    pub fields: &'static [FieldKind],
+    /// The rule of each field.
+    pub fields: &'static [FieldRule],
 }
 
 /// A composite type: its table, and its fields by their numbers.
@@ -38,7 +38,7 @@ pub trait Composite: Sized + Drop {
     fn table() -> Table
         ensures code { result.descriptor.0 ≡ table.code }
         ensures name { result.descriptor.1.now ≡ table.name }
-        ensures kinds { result.fields.now ≡ kinds_of (slots table.fields) };
+        ensures rules { result.fields.now ≡ rules_of (slots table.fields) };
 
     /// A value whose optional fields are absent and whose default fields hold their defaults. What a mandatory field
     /// holds doesn't matter: it is read before the value is answered.
@@ -52,16 +52,16 @@ pub trait Composite: Sized + Drop {
         decoder: &mut Decoder<R>,
         alloc: Global,
     ) -> Result<(), Error>
-        ensures { Tells R.remaining → index < length (kinds_of (slots table.fields))
+        ensures { Tells R.remaining → index < length (rules_of (slots table.fields))
             → FillsField table.fields index self.old self.new decoder.old result decoder.new };
 
     /// Whether a field is written as null.
     fn is_null_field(&self, index: usize) -> bool
-        ensures { index < length (kinds_of (slots table.fields)) → result ≡ is_null (canon_at table.fields index self.now) };
+        ensures { index < length (rules_of (slots table.fields)) → result ≡ is_null (canon_at table.fields index self.now) };
 
     /// Writes a field that isn't null.
     fn write_field(&self, index: usize, encoder: &mut Encoder) -> Result<(), Error>
-        ensures { index < length (kinds_of (slots table.fields)) → is_null (canon_at table.fields index self.now) ≡ false
+        ensures { index < length (rules_of (slots table.fields)) → is_null (canon_at table.fields index self.now) ≡ false
             → WritesTerms (canon_at table.fields index self.now ∷ []) encoder.old result encoder.new };
 }
 
@@ -69,7 +69,7 @@ pub trait Composite: Sized + Drop {
 impl<C: Composite> FieldList for C {
     ghost list = { fields_of C.table };
 
-    fn kinds() -> &'static [FieldKind] {
+    fn field_rules() -> &'static [FieldRule] {
         C::table().fields
     }
 

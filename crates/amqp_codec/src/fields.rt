@@ -2,7 +2,7 @@
 //! items, defaults and trailing nulls.
 ghost use Rattle.std.specs.Prelude.{◌≡◌, ◌<◌, ◌≤◌, false, [], ◌∷◌, length, take, Ok};
 ghost use Rattle.amqp_model.specs.Items.{is_null};
-ghost use Rattle.amqp_model.specs.Fields.{kinds_of, canonical_terms, canonical_items};
+ghost use Rattle.amqp_model.specs.Fields.{rules_of, canonical_terms, canonical_items};
 ghost use Rattle.amqp_model.specs.Composite.{MeansList, canonical_list};
 ghost use Rattle.amqp_encoder.specs.Passes.{answer_of};
 ghost use Rattle.amqp_codec.specs.Slots.{MeansSome};
@@ -11,12 +11,12 @@ ghost use Rattle.amqp_codec.specs.Written.{WritesTerms};
 ghost use Rattle.amqp_wire.specs.Sources.{Tells};
 ghost use Rattle.amqp_decoder.specs.Reading.{AnswersRead};
 ghost use Rattle.amqp_decoder.specs.Primitives.{ReadsValue};
-ghost use Rattle.amqp_codec.specs.FieldReading.{FieldsRead, FieldsFault, Fills, FillsField, IsBlank, ReadsItem, absence, kind_at};
+ghost use Rattle.amqp_codec.specs.FieldReading.{FieldsRead, FieldsFault, Fills, FillsField, IsBlank, ReadsItem, absence, rule_at};
 
 use crate::DeserializeTerm;
 use amqp_decoder::Decoder;
 use amqp_encoder::Encoder;
-pub use amqp_model::tables::FieldKind;
+pub use amqp_model::tables::FieldRule;
 use amqp_wire::{ByteSource, Error, format_code};
 use std::alloc::Global;
 
@@ -27,9 +27,9 @@ pub trait FieldList: Sized + Drop {
 
     ghost list: { ListTable Self };
 
-    /// The kinds of the fields, in order.
-    fn kinds() -> &'static [FieldKind]
-        ensures { result.now ≡ kinds_of (slots list.fields) };
+    /// The rules of the fields, in order.
+    fn field_rules() -> &'static [FieldRule]
+        ensures { result.now ≡ rules_of (slots list.fields) };
 
     /// A value whose optional fields are absent and whose default fields hold their defaults. What a mandatory field
     /// holds doesn't matter: it is read before the value is answered.
@@ -43,16 +43,16 @@ pub trait FieldList: Sized + Drop {
         decoder: &mut Decoder<R>,
         alloc: Global,
     ) -> Result<(), Error>
-        ensures { Tells R.remaining → index < length (kinds_of (slots list.fields))
+        ensures { Tells R.remaining → index < length (rules_of (slots list.fields))
             → FillsField list.fields index self.old self.new decoder.old result decoder.new };
 
     /// Whether a field is written as null.
     fn is_null_field(&self, index: usize) -> bool
-        ensures { index < length (kinds_of (slots list.fields)) → result ≡ is_null (canon_at list.fields index self.now) };
+        ensures { index < length (rules_of (slots list.fields)) → result ≡ is_null (canon_at list.fields index self.now) };
 
     /// Writes a field that isn't null.
     fn write_field(&self, index: usize, encoder: &mut Encoder) -> Result<(), Error>
-        ensures { index < length (kinds_of (slots list.fields)) → is_null (canon_at list.fields index self.now) ≡ false
+        ensures { index < length (rules_of (slots list.fields)) → is_null (canon_at list.fields index self.now) ≡ false
             → WritesTerms (canon_at list.fields index self.now ∷ []) encoder.old result encoder.new };
 }
 
@@ -82,13 +82,13 @@ pub fn read_some<T: DeserializeTerm, R: ByteSource>(
 }
 
 // The error for a field that is null or left out, where it must be there.
-fn absence(kind: FieldKind) -> Option<Error>
-    ensures { result ≡ absence kind }
+fn absence(rule: FieldRule) -> Option<Error>
+    ensures { result ≡ absence rule }
 {
-    match kind {
-        FieldKind::Mandatory => Some(Error::Missing),
-        FieldKind::MandatoryMultiple => Some(Error::EmptyMultiple),
-        FieldKind::Optional | FieldKind::Default | FieldKind::Multiple => None,
+    match rule {
+        FieldRule::Mandatory => Some(Error::Missing),
+        FieldRule::MandatoryMultiple => Some(Error::EmptyMultiple),
+        FieldRule::Optional | FieldRule::Default | FieldRule::Multiple => None,
     }
 }
 
@@ -102,10 +102,10 @@ pub fn read_fields<L: FieldList, R: ByteSource>(
 {
     let count = decoder.begin_list()? as usize;
     let mut value = L::blank(alloc);
-    for (index, kind) in L::kinds().iter().enumerate() {
+    for (index, rule) in L::field_rules().iter().enumerate() {
         if index < count {
-            read_item(&mut value, index, *kind, decoder, alloc)?;
-        } else if let Some(error) = absence(*kind) {
+            read_item(&mut value, index, *rule, decoder, alloc)?;
+        } else if let Some(error) = absence(*rule) {
             return Err(decoder.refuse(error));
         }
     }
@@ -129,19 +129,19 @@ pub fn read_list<L: FieldList, R: ByteSource>(
 fn read_item<L: FieldList, R: ByteSource>(
     value: &mut L,
     index: usize,
-    kind: FieldKind,
+    rule: FieldRule,
     decoder: &mut Decoder<R>,
     alloc: Global,
 ) -> Result<(), Error>
-    requires within { index < length (kinds_of (slots L.list.fields)) }
-    requires its_kind { kind ≡ kind_at L.list.fields index }
+    requires within { index < length (rules_of (slots L.list.fields)) }
+    requires its_rule { rule ≡ rule_at L.list.fields index }
     ensures { Tells R.remaining → ReadsItem L.list.fields index value.old value.new decoder.old result decoder.new }
 {
     if decoder.peek_code()? != format_code::NULL {
         return value.fill_field(index, decoder, alloc);
     }
     decoder.read_null()?;
-    match absence(kind) {
+    match absence(rule) {
         Some(error) => Err(decoder.refuse(error)),
         None => Ok(()),
     }
@@ -159,10 +159,10 @@ pub fn write_list<L: FieldList>(value: &L, encoder: &mut Encoder) -> Result<(), 
 
 // How many fields there are without the nulls at the end.
 fn count_items<L: FieldList>(value: &L) -> usize
-    ensures within { result ≤ length (kinds_of (slots L.list.fields)) }
+    ensures within { result ≤ length (rules_of (slots L.list.fields)) }
     ensures trimmed { take result (canonical_terms (slots L.list.fields) value.now) ≡ canonical_items (slots L.list.fields) value.now }
 {
-    let mut count = L::kinds().len();
+    let mut count = L::field_rules().len();
     while count > 0 && value.is_null_field(count - 1) {
         count -= 1;
     }
@@ -171,7 +171,7 @@ fn count_items<L: FieldList>(value: &L) -> usize
 
 // Writes the first fields, so many of them.
 fn write_items<L: FieldList>(value: &L, count: usize, encoder: &mut Encoder) -> Result<(), Error>
-    requires within { count ≤ length (kinds_of (slots L.list.fields)) }
+    requires within { count ≤ length (rules_of (slots L.list.fields)) }
     requires going { answer_of encoder.now ≡ Ok tt }
     ensures { WritesTerms (take count (canonical_terms (slots L.list.fields) value.now)) encoder.old result encoder.new }
 {
@@ -184,7 +184,7 @@ fn write_items<L: FieldList>(value: &L, count: usize, encoder: &mut Encoder) -> 
 // Writes a field.
 #[tactic(auto, using(crate::proofs::Trimming::null_written))]
 fn write_item<L: FieldList>(value: &L, index: usize, encoder: &mut Encoder) -> Result<(), Error>
-    ensures { index < length (kinds_of (slots L.list.fields))
+    ensures { index < length (rules_of (slots L.list.fields))
         → WritesTerms (canon_at L.list.fields index value.now ∷ []) encoder.old result encoder.new }
 {
     if value.is_null_field(index) {

@@ -1,7 +1,7 @@
 -- The values of a field of several are written as an array of them.
 use Rattle.std.proofs.Common.{◌≡◌, List, [], ◌∷◌, map, Result, refl, subst}
 use Rattle.amqp_model.specs.Term.{array, Term}
-use Rattle.amqp_model.specs.Kinds.{array_or}
+use Rattle.amqp_model.specs.FieldRules.{array_or}
 use Rattle.amqp_wire.specs.declared.error.Error.{Error}
 use Rattle.amqp_encoder.specs.declared.encoder.Encoder.{Encoder}
 use Rattle.amqp_codec.specs.TermType.{TermType}

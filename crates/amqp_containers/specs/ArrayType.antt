@@ -2,7 +2,7 @@
 use Rattle.std.proofs.Common.{◌≡◌, ℕ, List, None, refl, ap, ◌∙◌, inl, inr}
 use Rattle.amqp_model.specs.Term.{array}
 use Rattle.amqp_model.specs.FieldType.{Norm, normal, unchanged, by_norm}
-use Rattle.amqp_decoder.specs.declared.frame.OpenKind.TheVariants.{InArray}
+use Rattle.amqp_decoder.specs.declared.frame.Place.TheVariants.{InArray}
 use Rattle.amqp_decoder.specs.State.{State}
 use Rattle.amqp_decoder.specs.Arrays.{no_items, shared_by, Starts, OpensArray, ArrayFault}
 use Rattle.amqp_decoder.specs.Rooms.{HasRoom}

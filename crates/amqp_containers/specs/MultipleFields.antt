@@ -1,11 +1,11 @@
--- The kinds of field of several values (Part 1, section 1.4), which are held in an array.
+-- The rules of fields of several values (Part 1, section 1.4), which are held in an array.
 use Rattle.std.proofs.Common.{◌≡◌, ℕ, true, false, List, [], ◌∷◌, Option, Some, None, refl, sym, ap, ◌∙◌, subst, arith}
 use Rattle.amqp_model.specs.Term.{null, empty_multiple, Term, leaf, barred}
 use Rattle.amqp_model.specs.FieldType.{normal, Meaning}
 use Rattle.amqp_model.specs.Standing.{Standing}
 use Rattle.amqp_model.specs.Ranges.{Everywhere, IsValue}
 use Rattle.amqp_model.specs.Items.{is_null, several, IsFree}
-use Rattle.amqp_model.specs.Kinds.{ArrayOf, SomeMean}
+use Rattle.amqp_model.specs.FieldRules.{ArrayOf, SomeMean}
 use Rattle.amqp_model.specs.Slot.{Slot}
 use Rattle.amqp_model.specs.Slot as slot
 use Rattle.amqp_model.specs.MultipleLaws.{multiple_meaning, mandatory_multiple_meaning}
@@ -115,7 +115,7 @@ module _ {T : Type 0} (u : TermType T) (is_never_null : u.is_never_null ≡ true
   abbrev pub multiple : Field (Option (Array T))
   multiple = record {
     slot = record {
-      kind = multiple_slot.kind;
+      rule = multiple_slot.rule;
       meaning = Several;
       required = multiple_slot.required;
       null_alike = multiple_slot.null_alike;

@@ -1,7 +1,7 @@
 -- What stands in a field of several values (Part 1, section 1.4): the items of an array, or one value by itself.
 use Rattle.std.proofs.Common.{◌≡◌, ◌⊎◌, ℕ, Bool, ◌||◌, eqb, List, [], ◌∷◌, map, Option, Some, None, subst}
 use Rattle.amqp_model.specs.Term.{null, empty_multiple, array, Term, leaf, barred}
-use Rattle.amqp_model.specs.Kinds.{option_canon, array_or}
+use Rattle.amqp_model.specs.FieldRules.{option_canon, array_or}
 use Rattle.amqp_model.specs.Standing.{Standing}
 use Rattle.amqp_model.specs.Ranges.{IsNoArray}
 use Rattle.amqp_wire.specs.declared.error.Error.{Error}

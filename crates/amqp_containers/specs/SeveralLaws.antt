@@ -9,7 +9,7 @@ use Rattle.amqp_model.specs.Ranges.{Everywhere, IsValue, IsNoArray}
 use Rattle.amqp_model.specs.Refusals.{IsItem, core}
 use Rattle.amqp_model.specs.Items.{items_of, is_null, several, IsFree}
 use Rattle.amqp_model.specs.ItemLaws.{clash}
-use Rattle.amqp_model.specs.Kinds.{SomeMean, array_or}
+use Rattle.amqp_model.specs.FieldRules.{SomeMean, array_or}
 use Rattle.amqp_model.proofs.Mixed.{one_form_shared}
 use Rattle.amqp_codec.specs.TermType.{TermType, KeepsNoBytes, IsNoShorter, IsLeaf, IsKept}
 use Rattle.amqp_codec.specs.FieldTypes.{anywhere, FieldMeant, standing_so, field_never_null, field_keeps_no_bytes}

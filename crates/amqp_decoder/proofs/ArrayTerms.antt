@@ -10,7 +10,7 @@ use Rattle.amqp_model.specs.Constructors.{Format, fixed, variable, compound, unk
 use Rattle.amqp_model.specs.Spelling.{Constructor, PrimitiveData, ContainerData, data_of, elements_of, shared_data_of}
 use Rattle.amqp_model.specs.Measures.{nest, nests, array_nest}
 use Rattle.amqp_model.specs.Standing.{Standing, StandInArray}
-use Rattle.amqp_decoder.specs.declared.frame.OpenKind.TheVariants.{InArray}
+use Rattle.amqp_decoder.specs.declared.frame.Place.TheVariants.{InArray}
 use Rattle.amqp_decoder.specs.State.{Open, State, Has, lower, after_data, after_value, in_container}
 use Rattle.amqp_decoder.specs.Steps.{Takes}
 use Rattle.amqp_decoder.specs.Containers.{ReadsHeader}

@@ -9,7 +9,7 @@ use Rattle.amqp_model.specs.Constructors.{Format, fixed, variable, compound, unk
 use Rattle.amqp_model.specs.Spelling.{IsSize, ContainerData, IsKnown, Constructor, data_of, enc, items_of as items_spelled}
 use Rattle.amqp_model.specs.Measures.{nest, nests}
 use Rattle.amqp_model.specs.Standing.{Standing, StandWhole, StandAsData, StandIn, Parts}
-use Rattle.amqp_decoder.specs.declared.frame.OpenKind.{OpenKind}
+use Rattle.amqp_decoder.specs.declared.frame.Place.{Place}
 use Rattle.amqp_decoder.specs.State.{Open, State, Has, lower, after_data, after_value, in_container, items_of as items_at}
 use Rattle.amqp_decoder.specs.Steps.{Takes}
 use Rattle.amqp_decoder.specs.Reading.{IsFirst}
@@ -300,7 +300,7 @@ used_up None n k e h f = absurd (cc)
 used_up (Some l) n k e h f = omega (arith, ap (λ o. unwrap_or o 0) e, ap (λ o. unwrap_or o 0) f)
 
 -- the container around one that was left
-left_is : (p : OpenKind) (n k b content : ℕ) (last at new : State) (outer : Open) (others : List Open)
+left_is : (p : Place) (n k b content : ℕ) (last at new : State) (outer : Open) (others : List Open)
     → last ≡ many k b (in_container p n content at) → last.saved ≡ outer ∷ others → new ≡ record last { top = outer; saved = others }
     → content ≡ b → new ≡ after_data b at
 left_is p n k b content last at new outer others is saved moved same =

@@ -7,7 +7,7 @@ use Rattle.amqp_model.specs.Term.{list, map, array, Descriptor, Term, leaf, cont
 use Rattle.amqp_model.specs.Spelling.{Names, enc, data_of}
 use Rattle.amqp_model.specs.Measures.{nest}
 use Rattle.amqp_model.specs.Standing.{part, Parts}
-use Rattle.amqp_decoder.specs.declared.frame.OpenKind.TheVariants.{InDescribed}
+use Rattle.amqp_decoder.specs.declared.frame.Place.TheVariants.{InDescribed}
 use Rattle.amqp_decoder.specs.State.{State, Open, Has, lower, after_data, after_value}
 use Rattle.amqp_decoder.specs.Steps.{Takes}
 use Rattle.amqp_decoder.specs.Reading.{IsFirst}

@@ -12,7 +12,7 @@ use Rattle.amqp_wire.specs.Codes.{refusal_of}
 use Rattle.amqp_lookahead.specs.Kinds.{kind_of, kind_under, kind_at}
 use Rattle.amqp_lookahead.specs.Members.{Member}
 use Rattle.amqp_lookahead.proofs.KindsOfCodes.{kind_data}
-use Rattle.amqp_decoder.specs.declared.frame.OpenKind.{OpenKind}
+use Rattle.amqp_decoder.specs.declared.frame.Place.{Place}
 use Rattle.amqp_decoder.specs.State.{State, Has, after_value}
 use Rattle.amqp_decoder.specs.Reading.{IsFirst, ReadsCode, BeginFault}
 use Rattle.amqp_decoder.specs.Primitives.{standing, SpellsAs, Stands, ReadsValue, Means, PrimitiveFault, not_begun, wrong_code, no_data}
@@ -225,7 +225,7 @@ one_of_misspelled members st e h (not_described f) = described_misspelled st e h
 one_of_misspelled members st e h (no_descriptor g none f) = described_misspelled st e h (nameless g none f)
 one_of_misspelled members st e h (no_member g t is) = absurd (subst IsMisspelling is h)
 
-pub end_misspelled : (place : OpenKind) (st : State) (e : Error) → IsMisspelling e → EndFault place st e → ⊥
+pub end_misspelled : (place : Place) (st : State) (e : Error) → IsMisspelling e → EndFault place st e → ⊥
 end_misspelled place st e h (other_place other is) = subst IsMisspelling is h
 end_misspelled place st e h (nothing_open none is) = subst IsMisspelling is h
 end_misspelled place st e h (items_left open_ some is) = subst IsMisspelling is h

@@ -5,8 +5,8 @@ use Rattle.amqp_model.specs.Constructors.{Format, fixed, variable, compound, unk
 use Rattle.amqp_wire.specs.Codes.{is_known, refusal_of}
 use Rattle.amqp_wire.specs.declared.error.Error.TheVariants.{Memory, UnknownCode, FloatCode, WrongType, BadBool, BadChar, BadUtf8, NonAscii}
 use Rattle.amqp_wire.specs.declared.error.Error.TheVariants.{InvalidValue}
-use Rattle.amqp_decoder.specs.declared.frame.OpenKind.{OpenKind}
-use Rattle.amqp_decoder.specs.declared.frame.OpenKind.TheVariants.{InArray}
+use Rattle.amqp_decoder.specs.declared.frame.Place.{Place}
+use Rattle.amqp_decoder.specs.declared.frame.Place.TheVariants.{InArray}
 use Rattle.amqp_decoder.specs.State.{State, in_container}
 use Rattle.amqp_decoder.specs.Steps.{Lacks, cut_open, cut_inside, too_long, SizeError, cut, wrong}
 use Rattle.amqp_decoder.specs.Reading.{BeginFault, missing, no_code}
@@ -84,12 +84,12 @@ primitive_not_memory k st (wrong_code {c} {m} g other is) = refusal_not_memory c
 primitive_not_memory k st (no_data {c} {m} g kind l) = data_not_memory (format c) m l
 primitive_not_memory k st (bad_data g kind t h none is) = bad_by (eqb k 1) (eqb k 13) (eqb k 17) (eqb k 18) is
 
-pub end_not_memory : (place : OpenKind) (st : State) → EndFault place st Memory → ⊥
+pub end_not_memory : (place : Place) (st : State) → EndFault place st Memory → ⊥
 end_not_memory place st (other_place f is) = cc
 end_not_memory place st (nothing_open f is) = cc
 end_not_memory place st (items_left open_ f is) = cc
 
-pub close_not_memory : (place : OpenKind) (st : State) → CloseFault place st Memory → ⊥
+pub close_not_memory : (place : Place) (st : State) → CloseFault place st Memory → ⊥
 close_not_memory place st (not_at_end f) = end_not_memory place st f
 close_not_memory place st (bytes_left_over open_ none f s) = size_not_memory 0 st s
 

@@ -4,8 +4,8 @@ use Rattle.std.proofs.Common.{arith}
 use Rattle.amqp_model.specs.Term.{Container, array, Term, container, described, Descriptor}
 use Rattle.amqp_model.specs.Items.{items_of}
 use Rattle.amqp_wire.specs.declared.error.Error.{Error}
-use Rattle.amqp_decoder.specs.declared.frame.OpenKind.{OpenKind}
-use Rattle.amqp_decoder.specs.declared.frame.OpenKind.TheVariants.{InArray}
+use Rattle.amqp_decoder.specs.declared.frame.Place.{Place}
+use Rattle.amqp_decoder.specs.declared.frame.Place.TheVariants.{InArray}
 use Rattle.amqp_decoder.specs.State.{State, Has, lower, after_value}
 use Rattle.amqp_decoder.specs.Reading.{after_peek, PeeksCode}
 use Rattle.amqp_decoder.specs.Primitives.{Stands}
@@ -44,7 +44,7 @@ counted (t ∷ ts) st b mid (s, r, e, k, row) =
     }
 
 -- A term that was opened and closed: its items were taken in a row.
-record Held (place : OpenKind) (first : State) : Type 0 where
+record Held (place : Place) (first : State) : Type 0 where
   pub items : List Term
   pub bytes : List ℕ
   pub last : State
@@ -53,11 +53,11 @@ record Held (place : OpenKind) (first : State) : Type 0 where
   pub closed : Closes place last after
 
 -- What was opened here has n items, and a term that stands here is taken so.
-record Holding (place : OpenKind) (st : State) (n : ℕ) (first : State) : Type 0 where
+record Holding (place : Place) (st : State) (n : ℕ) (first : State) : Type 0 where
   pub count : first.top.items ≡ Some n
   pub held : (s : List ℕ) (t : Term) → Stands st s t → Held place first
 
-held_count : (place : OpenKind) (n : ℕ) (first : State) (h : Held place first) → first.top.items ≡ Some n → n ≡ length h.items
+held_count : (place : Place) (n : ℕ) (first : State) (h : Held place first) → first.top.items ≡ Some n → n ≡ length h.items
 held_count place n first h count =
     let c = counted h.items first h.bytes h.last h.row in
     used_up first.top.items n (length h.items) count c.room (sym c.items ∙ h.closed.items)
@@ -67,7 +67,7 @@ nothing_next : (ts us : List Term) (st last : State) (b : List ℕ) → us ≡ t
 nothing_next ts [] st last b is some row none = omega (arith, ap length is)
 nothing_next ts (u ∷ us) st last b is some (s, r, e, k, row) none = none s u k
 
-held_nothing : (place : OpenKind) (st : State) (n : ℕ) (first mid : State) (ts : List Term) (b : List ℕ) → Holding place st n first
+held_nothing : (place : Place) (st : State) (n : ℕ) (first mid : State) (ts : List Term) (b : List ℕ) → Holding place st n first
     → Row first ts b mid → length ts < n → NothingStands mid → NothingStands st
 held_nothing place st n first mid ts b o row less none = λ s t k.
     let h = o.held s t k in
@@ -80,7 +80,7 @@ row_ends : (others : List Term) (st last : State) (b : List ℕ) → length othe
 row_ends [] st last b none (e, is) = is
 row_ends (t ∷ ts) st last b none row = absurd (omega arith)
 
-held_end : (place other : OpenKind) (st : State) (n : ℕ) (first last : State) (ts : List Term) (b : List ℕ) (e : Error)
+held_end : (place other : Place) (st : State) (n : ℕ) (first last : State) (ts : List Term) (b : List ℕ) (e : Error)
     → Holding place st n first → Row first ts b last → CloseFault other last e → IsMisspelling e → NothingStands st
 held_end place other st n first last ts b e o row (not_at_end f) bad = absurd (end_misspelled other last e bad f)
 held_end place other st n first last ts b e o row (bytes_left_over open_ none some f) bad = λ s t k.
@@ -111,7 +111,7 @@ nothing_in_container kind is st n first mid ts b o row less none =
     held_nothing (place_of kind) st n first mid ts b (opens_holding kind is st n first o) row less none
 
 pub nothing_at_end : (kind : Container) → IsRow kind
-    → (place : OpenKind) (st : State) (n : ℕ) (first last : State) (ts : List Term) (b : List ℕ) (e : Error) → Opens kind st n first
+    → (place : Place) (st : State) (n : ℕ) (first last : State) (ts : List Term) (b : List ℕ) (e : Error) → Opens kind st n first
     → Row first ts b last → IsMisspelling e → CloseFault place last e → NothingStands st
 nothing_at_end kind is place st n first last ts b e o row bad f =
     held_end (place_of kind) place st n first last ts b e (opens_holding kind is st n first o) row f bad
@@ -134,7 +134,7 @@ pub nothing_in_array : (st : State) (n : ℕ) (first mid : State) (ts : List Ter
 nothing_in_array st n first mid ts b room o row less none =
     held_nothing InArray st n first mid ts b (opens_array_holding st n first room o) row less none
 
-pub nothing_at_array_end : (place : OpenKind) (st : State) (n : ℕ) (first last : State) (ts : List Term) (b : List ℕ) (e : Error)
+pub nothing_at_array_end : (place : Place) (st : State) (n : ℕ) (first last : State) (ts : List Term) (b : List ℕ) (e : Error)
     → HasRoom st
     → OpensArray st n first → Row first ts b last → IsMisspelling e → CloseFault place last e → NothingStands st
 nothing_at_array_end place st n first last ts b e room o row bad f =

@@ -4,7 +4,7 @@ use Rattle.std.proofs.Common.{arith}
 use Rattle.amqp_model.specs.Term.{Term, Descriptor}
 use Rattle.amqp_model.specs.Standing.{Standing}
 use Rattle.amqp_model.proofs.Unique.{fronts, data_same}
-use Rattle.amqp_decoder.specs.declared.frame.OpenKind.{OpenKind}
+use Rattle.amqp_decoder.specs.declared.frame.Place.{Place}
 use Rattle.amqp_decoder.specs.State.{State, after_value}
 use Rattle.amqp_decoder.specs.Containers.{Closes}
 use Rattle.amqp_decoder.specs.Primitives.{standing, SpellsAs, Stands, ReadsValue}
@@ -47,7 +47,7 @@ row_front (t ∷ ts) (u ∷ us) st m z b c (s, o, e, k, r) (s', o', e', k', r') 
     (subst (λ x. Row (after_value (length x) st) us o' z) (sym same.0) r') (omega arith) in
     (i.0, i.1, ap₂ (λ (x : Term) (xs : List Term). x ∷ xs) (sym same.1) i.2, i.3)
 
-pub closes_same : (p : OpenKind) (st a b : State) → Closes p st a → Closes p st b → a ≡ b
+pub closes_same : (p : Place) (st a b : State) → Closes p st a → Closes p st b → a ≡ b
 closes_same p st a b x y =
     let e : x.outer ∷ x.others ≡ y.outer ∷ y.others = sym x.saved ∙ y.saved in
     x.moved ∙ ap (λ o. record st { top = o; saved = x.others }) (ap (λ l. get_or l 0 x.outer) e)

@@ -7,8 +7,8 @@ use Rattle.amqp_model.specs.Spelling.{IsKnown, HasWidthZero}
 use Rattle.amqp_wire.specs.declared.error.Error.{Error}
 use Rattle.amqp_wire.specs.declared.error.Error.TheVariants.{Depth, Memory, ZeroWidthItems}
 use Rattle.amqp_wire.specs.Codes.{refusal_of}
-use Rattle.amqp_decoder.specs.declared.frame.OpenKind.{OpenKind}
-use Rattle.amqp_decoder.specs.declared.frame.OpenKind.TheVariants.{InArray}
+use Rattle.amqp_decoder.specs.declared.frame.Place.{Place}
+use Rattle.amqp_decoder.specs.declared.frame.Place.TheVariants.{InArray}
 use Rattle.amqp_decoder.specs.State.{State, Has, in_container}
 use Rattle.amqp_decoder.specs.Steps.{Answers, IsExcused, NoRoom, Stops}
 use Rattle.amqp_decoder.specs.Reading.{RefusesRead, AnswersRead, ReadsCode, BeginFault}
@@ -38,7 +38,7 @@ pub shares_all : (n : ℕ) (st : State) (ds : List Descriptor) (c : ℕ) (m m' :
 shares_all n st ds c m m' new zero flat some here t wide zero_is flat_is (fits, same) is =
     shared_by ds c m some t (λ z. let x = (zero_is (known st ds c m t)).1 z in absurd (cc)) (fits_behind st ds c m flat t flat_is fits)
     (is ∙ ap (λ (z : State). record z { top = record z.top { place = InArray; items = Some n; shared = Some (ds, c) } }) same
-    ∙ ap (λ (p : OpenKind). record m { top = record m.top { place = p; items = Some n; shared = Some (ds, c) } })
+    ∙ ap (λ (p : Place). record m { top = record m.top { place = p; items = Some n; shared = Some (ds, c) } })
     (sym (ap (λ (z : State). z.top.place) t.took.moved ∙ here)))
 
 pub stopped_unconstructed : (n : ℕ) (st : State) (e : Error) (new : State) → Stops true (ConstructorFault st) st e new

@@ -1,8 +1,8 @@
 -- Where containers have room, and what keeps it.
 use Rattle.std.proofs.Common.{◌≡◌, ◌≤◌, ◌<◌, ℕ, inl, inr, Option, Some, None, List, [], ◌∷◌, length, refl, sym, ap, ◌∙◌, subst, arith}
 use Rattle.amqp_model.specs.Term.{Container, array, Term, Terms, container, Descriptor}
-use Rattle.amqp_decoder.specs.declared.frame.OpenKind.{OpenKind}
-use Rattle.amqp_decoder.specs.declared.frame.OpenKind.TheVariants.{InArray}
+use Rattle.amqp_decoder.specs.declared.frame.Place.{Place}
+use Rattle.amqp_decoder.specs.declared.frame.Place.TheVariants.{InArray}
 use Rattle.amqp_decoder.specs.State.{State, Has, lower, after_look, after_value, in_container}
 use Rattle.amqp_decoder.specs.Reading.{after_peek, PeeksCode}
 use Rattle.amqp_decoder.specs.Primitives.{standing, SpellsAs, Stands}
@@ -61,7 +61,7 @@ room_row (t ∷ ts) st b st' (first, others, e, k, row) room =
     room_row ts (after_value (length first) st) others st' row (room_past (length first) st room)
 
 -- a container or a described value is opened
-one_more : (place : OpenKind) (n content : ℕ) (st : State) → length st.saved < st.nesting → HasRoom (in_container place n content st)
+one_more : (place : Place) (n content : ℕ) (st : State) → length st.saved < st.nesting → HasRoom (in_container place n content st)
 one_more place n content st few = inl (omega (arith, few))
 
 pub room_inside : (kind : Container) (st : State) (n : ℕ) (st' : State) → Opens kind st n st' → HasRoom st'

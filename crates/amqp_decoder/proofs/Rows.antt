@@ -13,8 +13,8 @@ use Rattle.std.specs.Borrow.{Bor}
 use Rattle.std.specs.Option.{option_and}
 use Rattle.amqp_wire.specs.declared.error.Error.{Error}
 use Rattle.amqp_decoder.specs.declared.frame.OpenContainer.{OpenContainer}
-use Rattle.amqp_decoder.specs.declared.frame.OpenKind.{OpenKind}
-use Rattle.amqp_decoder.specs.declared.frame.OpenKind.TheVariants.{Top, InList, InMap, InArray, InDescribed}
+use Rattle.amqp_decoder.specs.declared.frame.Place.{Place}
+use Rattle.amqp_decoder.specs.declared.frame.Place.TheVariants.{Top, InList, InMap, InArray, InDescribed}
 use Rattle.amqp_decoder.specs.State.{DescriptorValues, Open, open_of, items_of, shared_of, descriptor_of, State, stack, unused, bytes_left}
 use Rattle.amqp_decoder.specs.State.{shared_in, AreNested, top_level, IsLevel, AreBounded, IsContainer}
 use Rattle.amqp_decoder.specs.Rooms.{IsRoomy}
@@ -71,7 +71,7 @@ pub nested_push : (d : ℕ) (fs : List OpenContainer) (f : OpenContainer) → d 
 nested_push d fs f h n =
     rw (add-one, get_or-set_same fs d f unused h) (omega arith, omega arith, nested_set d d fs f f.last (omega arith) n)
 
-bounded_set : (d i : ℕ) (fs : List OpenContainer) (f : OpenContainer) (p : OpenKind) (l : Option ℕ) → d ≤ i → AreBounded d fs p l
+bounded_set : (d i : ℕ) (fs : List OpenContainer) (f : OpenContainer) (p : Place) (l : Option ℕ) → d ≤ i → AreBounded d fs p l
     → AreBounded d (set fs i f) p l
 bounded_set zero i fs f p l h b = tt
 bounded_set (suc d) i fs f p l h b =
@@ -79,23 +79,23 @@ bounded_set (suc d) i fs f p l h b =
     rw (get_or-set_other fs i d f unused ne)
     (b.0, b.1, bounded_set d i fs f (get_or fs d unused).place (get_or fs d unused).left (omega arith) b.2)
 
-pub bounded_push : (d : ℕ) (fs : List OpenContainer) (f : OpenContainer) (p : OpenKind) (l : Option ℕ) → d < length fs
+pub bounded_push : (d : ℕ) (fs : List OpenContainer) (f : OpenContainer) (p : Place) (l : Option ℕ) → d < length fs
     → (p ≡ InDescribed → f.left ≡ None → l ≡ None) → IsLevel f → AreBounded d fs f.place f.left → AreBounded (d + 1) (set fs d f) p l
 bounded_push d fs f p l h open_ level b =
     rw (add-one, get_or-set_same fs d f unused h) (open_, level, bounded_set d d fs f f.place f.left (omega arith) b)
 
 -- the last frame of those has other bytes left, or stands elsewhere
-pub bounded_as : (d : ℕ) (fs : List OpenContainer) (p q : OpenKind) (l k : Option ℕ)
+pub bounded_as : (d : ℕ) (fs : List OpenContainer) (p q : Place) (l k : Option ℕ)
     → (q ≡ InDescribed → (p ≡ InDescribed) × (l ≡ None → k ≡ None)) → AreBounded d fs p l → AreBounded d fs q k
 bounded_as zero fs p q l k h b = tt
 bounded_as (suc d) fs p q l k h b = (λ e n. (h e).1 (b.0 (h e).0 n), b.1, b.2)
 
 -- the frame around the last one
-pub outer_frame : (d k : ℕ) (fs : List OpenContainer) (m : ℕ) (p : OpenKind) (l : Option ℕ) → d ≡ suc k → AreNested d fs m
+pub outer_frame : (d k : ℕ) (fs : List OpenContainer) (m : ℕ) (p : Place) (l : Option ℕ) → d ≡ suc k → AreNested d fs m
     → AreBounded d fs p l → AreNested (suc k) fs m × AreBounded (suc k) fs p l
 outer_frame d k fs m p l e n b = (subst (λ i. AreNested i fs m) e n, subst (λ i. AreBounded i fs p l) e b)
 
-container_items : (p : OpenKind) (n : ℕ) → IsContainer p → items_of p n ≡ Some n
+container_items : (p : Place) (n : ℕ) → IsContainer p → items_of p n ≡ Some n
 container_items InList n h = refl
 container_items InMap n h = refl
 container_items InArray n h = refl
@@ -103,12 +103,12 @@ container_items Top n h = absurd h
 container_items InDescribed n h = absurd h
 
 -- a container that is entered counts in nesting, or has no items
-pub room_inside : (o : Open) (d depth nesting : ℕ) (p : OpenKind) (n : ℕ) → o.items ≡ items_of p n → depth ≡ d → nesting ≡ 128
+pub room_inside : (o : Open) (d depth nesting : ℕ) (p : Place) (n : ℕ) → o.items ≡ items_of p n → depth ≡ d → nesting ≡ 128
     → IsContainer p → (depth < nesting) ⊎ (n ≡ 0) → IsRoomy 128 (d + 1) o
 room_inside o d depth nesting p n is e f h (inl few) = inl (omega arith)
 room_inside o d depth nesting p n is e f h (inr none) = inr (inl (is ∙ container_items p n h ∙ ap Some none))
 
-none_less : (p : OpenKind) (i k : ℕ) → k ≡ i - 1 → items_of p i ≡ Some 0 → items_of p k ≡ Some 0
+none_less : (p : Place) (i k : ℕ) → k ≡ i - 1 → items_of p i ≡ Some 0 → items_of p k ≡ Some 0
 none_less Top i k less e = absurd (cc)
 none_less InList i k less e = ap Some (omega (arith, ap (λ o. unwrap_or o 0) e))
 none_less InMap i k less e = ap Some (omega (arith, ap (λ o. unwrap_or o 0) e))
@@ -121,7 +121,7 @@ room_less ds d f k less (inl few) = inl few
 room_less ds d f k less (inr (inl none)) = inr (inl (none_less f.place f.items k less none))
 room_less ds d f k less (inr (inr flat)) = inr (inr flat)
 
-level_of : (p : OpenKind) (i : ℕ) (l : Option ℕ) (c : ℕ) (part : DescriptorValues) → p ≡ Top → l ≡ None → c ≡ 0
+level_of : (p : Place) (i : ℕ) (l : Option ℕ) (c : ℕ) (part : DescriptorValues) → p ≡ Top → l ≡ None → c ≡ 0
     → ◌≡◌ {A = Open} (record { place = p; items = items_of p i; left = l; shared = cond (eqb c 0) None (Some (map descriptor_of part, c)) })
     top_level
 level_of p i l c part e f g = rw (e, f, g) refl

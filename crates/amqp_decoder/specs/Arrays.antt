@@ -7,7 +7,7 @@ use Rattle.amqp_wire.specs.Codes.{refusal_of}
 use Rattle.amqp_wire.specs.declared.error.Error.{Error}
 use Rattle.amqp_wire.specs.declared.error.Error.TheVariants.{Depth, ZeroWidthItems}
 use Rattle.amqp_lengths.specs.Lengths.{Marks}
-use Rattle.amqp_decoder.specs.declared.frame.OpenKind.TheVariants.{InArray}
+use Rattle.amqp_decoder.specs.declared.frame.Place.TheVariants.{InArray}
 use Rattle.amqp_decoder.specs.State.{State, Has, in_container}
 use Rattle.amqp_decoder.specs.Steps.{Takes, Lacks, NoRoom}
 use Rattle.amqp_decoder.specs.Reading.{ReadsCode, BeginFault}

@@ -6,14 +6,14 @@ use Rattle.amqp_model.specs.Constructors.{compound, format}
 use Rattle.amqp_wire.specs.Codes.{refusal_of}
 use Rattle.amqp_wire.specs.declared.error.Error.{Error}
 use Rattle.amqp_wire.specs.declared.error.Error.TheVariants.{Surplus, InvalidValue, OddCount, Depth}
-use Rattle.amqp_decoder.specs.declared.frame.OpenKind.{OpenKind}
-use Rattle.amqp_decoder.specs.declared.frame.OpenKind.TheVariants.{InList, InMap, InArray}
+use Rattle.amqp_decoder.specs.declared.frame.Place.{Place}
+use Rattle.amqp_decoder.specs.declared.frame.Place.TheVariants.{InList, InMap, InArray}
 use Rattle.amqp_decoder.specs.State.{Open, State, Has, in_container}
 use Rattle.amqp_decoder.specs.Steps.{SizeError, Takes, Lacks, NoRoom}
 use Rattle.amqp_decoder.specs.Reading.{ReadsCode, BeginFault}
 
 -- A container of this kind is open, and no item of it is left.
-pub record AtEnd (place : OpenKind) (st : State) (st' : State) : Type 0 where
+pub record AtEnd (place : Place) (st : State) (st' : State) : Type 0 where
   pub going : st.error ≡ None
   pub here : st.top.place ≡ place
   pub items : st.top.items ≡ Some 0
@@ -23,20 +23,20 @@ pub record AtEnd (place : OpenKind) (st : State) (st' : State) : Type 0 where
   pub kept : st' ≡ st
 
 -- A container of this kind is open.
-pub record IsOpen (place : OpenKind) (st : State) : Type 0 where
+pub record IsOpen (place : Place) (st : State) : Type 0 where
   pub here : st.top.place ≡ place
   pub outer : Open
   pub others : List Open
   pub saved : st.saved ≡ outer ∷ others
 
 -- Why it isn't at its end: another kind is open or none, or items of it are left.
-pub data EndFault (place : OpenKind) (st : State) (e : Error) : Type 0 where
+pub data EndFault (place : Place) (st : State) (e : Error) : Type 0 where
   other_place : (st.top.place ≡ place → ⊥) → e ≡ InvalidValue → EndFault place st e
   nothing_open : st.saved ≡ [] → e ≡ InvalidValue → EndFault place st e
   items_left : IsOpen place st → (st.top.items ≡ Some 0 → ⊥) → e ≡ Surplus → EndFault place st e
 
 -- A container of this kind, of which nothing is left, was left.
-pub record Closes (place : OpenKind) (st : State) (st' : State) : Type 0 where
+pub record Closes (place : Place) (st : State) (st' : State) : Type 0 where
   pub going : st.error ≡ None
   pub here : st.top.place ≡ place
   pub items : st.top.items ≡ Some 0
@@ -47,12 +47,12 @@ pub record Closes (place : OpenKind) (st : State) (st' : State) : Type 0 where
   pub moved : st' ≡ record st { top = outer; saved = others }
 
 -- Why none is left: it isn't at its end, or it is, and bytes of it are left.
-pub data CloseFault (place : OpenKind) (st : State) (e : Error) : Type 0 where
+pub data CloseFault (place : Place) (st : State) (e : Error) : Type 0 where
   not_at_end : EndFault place st e → CloseFault place st e
   bytes_left_over : IsOpen place st → st.top.items ≡ Some 0 → (st.top.left ≡ Some 0 → ⊥) → SizeError 0 st e → CloseFault place st e
 
 -- The value behind a descriptor was taken: what it stands in has the bytes that are left.
-pub record ClosesDescribed (place : OpenKind) (st : State) (st' : State) : Type 0 where
+pub record ClosesDescribed (place : Place) (st : State) (st' : State) : Type 0 where
   pub going : st.error ≡ None
   pub here : st.top.place ≡ place
   pub items : st.top.items ≡ Some 0
@@ -62,7 +62,7 @@ pub record ClosesDescribed (place : OpenKind) (st : State) (st' : State) : Type 
   pub moved : st' ≡ record st { top = record outer { left = st.top.left }; saved = others }
 
 -- Where the items of a container stand.
-abbrev pub place_of : Container → OpenKind
+abbrev pub place_of : Container → Place
 place_of list = InList
 place_of map = InMap
 place_of array = InArray

@@ -6,7 +6,7 @@ use Rattle.amqp_model.specs.Spelling.{PrimitiveData, Names, descriptor_value}
 use Rattle.amqp_wire.specs.declared.error.Error.{Error}
 use Rattle.amqp_wire.specs.declared.error.Error.TheVariants.{Cut, Depth, BadDescriptor, NonAscii, WrongType, WrongDescriptor}
 use Rattle.amqp_wire.specs.Codes.{refusal_of}
-use Rattle.amqp_decoder.specs.declared.frame.OpenKind.TheVariants.{InDescribed}
+use Rattle.amqp_decoder.specs.declared.frame.Place.TheVariants.{InDescribed}
 use Rattle.amqp_decoder.specs.State.{State}
 use Rattle.amqp_decoder.specs.Steps.{Answers, IsExcused, SourceFailed, Takes, Lacks}
 use Rattle.amqp_decoder.specs.Reading.{ReadsCode, BeginFault}

@@ -2,7 +2,7 @@
 use Rattle.std.specs.Prelude.{◌≡◌, ℕ, List, [], ◌∷◌, ◌++◌, length}
 use Rattle.amqp_model.specs.Standing.{Standing, Parts}
 use Rattle.amqp_model.specs.Term.{Container, Descriptor, Term}
-use Rattle.amqp_decoder.specs.declared.frame.OpenKind.TheVariants.{InArray, InDescribed}
+use Rattle.amqp_decoder.specs.declared.frame.Place.TheVariants.{InArray, InDescribed}
 use Rattle.amqp_decoder.specs.State.{State, after_value}
 use Rattle.amqp_decoder.specs.Primitives.{standing, Stands}
 use Rattle.amqp_decoder.specs.Containers.{place_of, Opens, Closes, ClosesDescribed}

@@ -7,8 +7,8 @@ use Rattle.amqp_model.specs.Standing.{Standing}
 use Rattle.amqp_wire.specs.declared.error.Error.{Error}
 use Rattle.amqp_wire.specs.declared.error.Error.TheVariants.{Size, Depth}
 use Rattle.amqp_lookahead.specs.Members.{Member}
-use Rattle.amqp_decoder.specs.declared.frame.OpenKind.{OpenKind}
-use Rattle.amqp_decoder.specs.declared.frame.OpenKind.TheVariants.{InArray}
+use Rattle.amqp_decoder.specs.declared.frame.Place.{Place}
+use Rattle.amqp_decoder.specs.declared.frame.Place.TheVariants.{InArray}
 use Rattle.amqp_decoder.specs.State.{State, in_container}
 use Rattle.amqp_decoder.specs.Steps.{Takes, Lacks, cut_open, cut_inside, too_long, SizeError, cut, wrong, NoRoom}
 use Rattle.amqp_decoder.specs.Reading.{ReadsCode, BeginFault, missing, no_code, after_peek, PeeksCode}
@@ -170,15 +170,15 @@ module _ (c : Setting) where
   open_fault keeps (containers.wrong_code b n e) = containers.wrong_code (begun b) n e
   open_fault keeps (containers.no_data b f h) = containers.no_data (begun b) f (enter_fault keeps h)
 
-  is_open : {place : OpenKind} {st : State} → IsOpen place st → IsOpen place (at st)
+  is_open : {place : Place} {st : State} → IsOpen place st → IsOpen place (at st)
   is_open h = record { here = h.here; outer = h.outer; others = h.others; saved = h.saved }
 
-  pub end_fault : {place : OpenKind} {st : State} {e : Error} → KeepsError c e → EndFault place st e → EndFault place (at st) e
+  pub end_fault : {place : Place} {st : State} {e : Error} → KeepsError c e → EndFault place st e → EndFault place (at st) e
   end_fault keeps (other_place n e) = other_place n e
   end_fault keeps (nothing_open s e) = nothing_open s e
   end_fault keeps (items_left o n e) = items_left (is_open o) n e
 
-  pub closes : {place : OpenKind} {st st' : State} → Closes place st st' → Closes place (at st) (at st')
+  pub closes : {place : Place} {st st' : State} → Closes place st st' → Closes place (at st) (at st')
   closes h = record {
     going = h.going;
     here = h.here;
@@ -190,7 +190,7 @@ module _ (c : Setting) where
     moved = ap at h.moved;
   }
 
-  pub close_fault : {place : OpenKind} {st : State} {e : Error} → KeepsError c e → CloseFault place st e → CloseFault place (at st) e
+  pub close_fault : {place : Place} {st : State} {e : Error} → KeepsError c e → CloseFault place st e → CloseFault place (at st) e
   close_fault keeps (not_at_end h) = not_at_end (end_fault keeps h)
   close_fault keeps (bytes_left_over o i n h) = bytes_left_over (is_open o) i n (size_error h)
 
@@ -208,7 +208,7 @@ module _ (c : Setting) where
     opened = ap at h.opened;
   }
 
-  pub closes_described : {place : OpenKind} {st st' : State} → ClosesDescribed place st st' → ClosesDescribed place (at st) (at st')
+  pub closes_described : {place : Place} {st st' : State} → ClosesDescribed place st st' → ClosesDescribed place (at st) (at st')
   closes_described h =
       record { going = h.going; here = h.here; items = h.items; outer = h.outer; others = h.others; saved = h.saved; moved = ap at h.moved }
 

@@ -3,7 +3,7 @@ use Rattle.std.specs.Prelude.{◌≡◌, ◌≤◌, ◌↔◌, ℕ, Bool, IsTrue
 use Rattle.amqp_wire.specs.declared.error.Error.{Error}
 use Rattle.amqp_wire.specs.declared.error.Error.TheVariants.{InvalidValue}
 use Rattle.amqp_lookahead.specs.Sections.{IsSectionAhead}
-use Rattle.amqp_decoder.specs.declared.frame.OpenKind.TheVariants.{Top}
+use Rattle.amqp_decoder.specs.declared.frame.Place.TheVariants.{Top}
 use Rattle.amqp_decoder.specs.State.{State, top_level, after_look}
 
 -- Nothing is open.

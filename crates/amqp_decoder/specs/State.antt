@@ -6,14 +6,14 @@ use Rattle.amqp_wire.specs.declared.error.Error.{Error}
 use Rattle.amqp_wire.specs.declared.descriptor.Descriptor.{Descriptor as DescriptorValue}
 pub use Rattle.amqp_lookahead.specs.Members.{descriptor_of}
 use Rattle.amqp_decoder.specs.declared.frame.OpenContainer.{OpenContainer}
-use Rattle.amqp_decoder.specs.declared.frame.OpenKind.{OpenKind}
-use Rattle.amqp_decoder.specs.declared.frame.OpenKind.TheVariants.{Top, InArray, InDescribed, InList, InMap}
+use Rattle.amqp_decoder.specs.declared.frame.Place.{Place}
+use Rattle.amqp_decoder.specs.declared.frame.Place.TheVariants.{Top, InArray, InDescribed, InList, InMap}
 
 -- An open container: where its values stand, and how many items and how many bytes are left of it, without what
 -- stands in the containers that are open in it (at the top level neither is bounded). The items of an array share a
 -- constructor (Part 1, section 1.2.4): the descriptors that are still to be begun, and the code.
 pub record Open : Type 0 where
-  pub place : OpenKind
+  pub place : Place
   pub items : Option ℕ
   pub left : Option ℕ
   pub shared : Option (List Descriptor × ℕ)
@@ -40,7 +40,7 @@ pub record State : Type 0 where
 abbrev pub top_level : Open
 top_level = record { place = Top; items = None; left = None; shared = None }
 
-abbrev pub items_of : OpenKind → ℕ → Option ℕ
+abbrev pub items_of : Place → ℕ → Option ℕ
 items_of Top n = None
 items_of p n = Some n
 
@@ -84,13 +84,13 @@ IsLevel f = f.place ≡ Top → (f.left ≡ None) × (f.code ≡ 0)
 
 -- Each of the first n frames is so, and what is described in one of them, or stands behind them at this place and has so many
 -- bytes left, has no bound where the frame around it has none.
-abbrev pub AreBounded : ℕ → List OpenContainer → OpenKind → Option ℕ → Type 0
+abbrev pub AreBounded : ℕ → List OpenContainer → Place → Option ℕ → Type 0
 AreBounded zero fs p l = Unit {0}
 AreBounded (suc n) fs p l = (p ≡ InDescribed → (get_or fs n unused).left ≡ None → l ≡ None) × IsLevel (get_or fs n unused)
     × AreBounded n fs (get_or fs n unused).place (get_or fs n unused).left
 
 -- Where the items of a container stand.
-abbrev pub IsContainer : OpenKind → Type 0
+abbrev pub IsContainer : Place → Type 0
 IsContainer Top = ⊥
 IsContainer InList = Unit {0}
 IsContainer InMap = Unit {0}
@@ -136,7 +136,7 @@ after_value n st =
     }
 
 -- A container of n items in so many bytes is entered, and they are taken off the one around it.
-abbrev pub in_container : OpenKind → ℕ → ℕ → State → State
+abbrev pub in_container : Place → ℕ → ℕ → State → State
 in_container place n content st =
     record st {
       top = record { place = place; items = items_of place n; left = Some content; shared = None };

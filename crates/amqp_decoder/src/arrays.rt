@@ -7,7 +7,7 @@ ghost use Rattle.amqp_wire.specs.Codes.{refusal_of};
 ghost use Rattle.amqp_wire.specs.Sources.{Tells};
 ghost use Rattle.amqp_wire.specs.declared.descriptor.Descriptor.{Descriptor as DescriptorValue};
 ghost use Rattle.amqp_wire.specs.declared.error.Error.TheVariants.{Depth};
-ghost use Rattle.amqp_decoder.specs.declared.frame.OpenKind.TheVariants.{InArray};
+ghost use Rattle.amqp_decoder.specs.declared.frame.Place.TheVariants.{InArray};
 ghost use Rattle.amqp_decoder.specs.State.{State, Has, descriptor_of, in_container};
 ghost use Rattle.amqp_decoder.specs.Steps.{Answers, NoRoom, Stops};
 ghost use Rattle.amqp_decoder.specs.Reading.{AnswersRead};
@@ -18,8 +18,8 @@ ghost use Rattle.amqp_decoder.specs.Arrays.{TakesConstructor, ConstructorFault, 
 ghost use Rattle.amqp_decoder.specs.Arrays.{OpensArray, ArrayFault};
 
 use crate::Decoder;
-use crate::frame::{OpenContainer, OpenKind};
-use amqp_lengths::NESTING;
+use crate::frame::{OpenContainer, Place};
+use amqp_wire::nesting::NESTING;
 use amqp_wire::{ByteSource, Descriptor, Error, format_code};
 use std::alloc::Global;
 
@@ -116,7 +116,7 @@ impl<R: ByteSource> Decoder<R> {
         let inner = OpenContainer {
             items: 0,
             left: Some(content),
-            place: OpenKind::InArray,
+            place: Place::InArray,
             ..OpenContainer::TOP
         };
         self.enter(inner)
@@ -155,7 +155,7 @@ impl<R: ByteSource> Decoder<R> {
     pub fn end_array(&mut self) -> Result<(), Error>
         ensures { Tells R.remaining → AnswersRead false (λ st _ st'. Closes InArray st st') (CloseFault InArray) self.old result self.new }
     {
-        self.check_end(OpenKind::InArray)?;
+        self.check_end(Place::InArray)?;
         self.check_bytes()?;
         self.leave();
         self.drop_descriptors();

@@ -4,13 +4,13 @@ ghost use Rattle.amqp_model.specs.Term.{list, map};
 ghost use Rattle.amqp_wire.specs.Sources.{Tells};
 ghost use Rattle.amqp_decoder.specs.State.{Has, IsContainer, in_container};
 ghost use Rattle.amqp_decoder.specs.Steps.{Stops};
-ghost use Rattle.amqp_decoder.specs.declared.frame.OpenKind.TheVariants.{InList, InMap};
+ghost use Rattle.amqp_decoder.specs.declared.frame.Place.TheVariants.{InList, InMap};
 ghost use Rattle.amqp_decoder.specs.Reading.{AnswersRead};
 ghost use Rattle.amqp_decoder.specs.Containers.{Closes, CloseFault, IsPossible, ReadsHeader, HeaderFault, Unopened, Enters, EnterFault};
 ghost use Rattle.amqp_decoder.specs.Containers.{Opens, OpenFault};
 
 use crate::Decoder;
-use crate::frame::{OpenContainer, OpenKind};
+use crate::frame::{OpenContainer, Place};
 use amqp_wire::{ByteSource, Error, format_code};
 
 // How many bytes a size or a count has.
@@ -55,7 +55,7 @@ impl<R: ByteSource> Decoder<R> {
 
     // Opens a list or a map of so many items in so many bytes.
     #[inline]
-    fn open(&mut self, place: OpenKind, count: u32, content: u32) -> Result<u32, Error>
+    fn open(&mut self, place: Place, count: u32, content: u32) -> Result<u32, Error>
         requires { IsContainer place }
         ensures ok { IfOk result (λ n. (n ≡ count) × Has self.old.top.left content × (length self.old.saved < self.old.nesting)
             × (self.new ≡ in_container place count content self.old)) }
@@ -79,7 +79,7 @@ impl<R: ByteSource> Decoder<R> {
         ensures err { Tells R.remaining → IfErr result (λ e. Stops false (EnterFault list (cond wide 4 1) self.old) self.old e self.new) }
     {
         let (count, content) = self.header(wide, true)?;
-        self.open(OpenKind::InList, count, content)
+        self.open(Place::InList, count, content)
     }
 
     // Opens a map whose code was taken.
@@ -92,7 +92,7 @@ impl<R: ByteSource> Decoder<R> {
         if count % 2 == 1 {
             return Err(self.refuse(Error::OddCount));
         }
-        self.open(OpenKind::InMap, count, content)
+        self.open(Place::InMap, count, content)
     }
 
     /// Begins a list (Part 1, section 1.6.22), and answers how many values it holds; `Depth` past 128 nested
@@ -102,7 +102,7 @@ impl<R: ByteSource> Decoder<R> {
         ensures { Tells R.remaining → AnswersRead false (Opens list) (OpenFault list) self.old result self.new }
     {
         match self.begin()? {
-            format_code::LIST_0 => self.open(OpenKind::InList, 0, 0),
+            format_code::LIST_0 => self.open(Place::InList, 0, 0),
             format_code::LIST_8 => self.open_list(false),
             format_code::LIST_32 => self.open_list(true),
             code => Err(self.refuse_code(code)),
@@ -124,7 +124,7 @@ impl<R: ByteSource> Decoder<R> {
 
     // Ends the list or map that is open.
     #[inline]
-    fn close(&mut self, place: OpenKind) -> Result<(), Error>
+    fn close(&mut self, place: Place) -> Result<(), Error>
         ensures { Tells R.remaining → AnswersRead false (λ st _ st'. Closes place st st') (CloseFault place) self.old result self.new }
     {
         self.check_end(place)?;
@@ -138,7 +138,7 @@ impl<R: ByteSource> Decoder<R> {
     pub fn end_list(&mut self) -> Result<(), Error>
         ensures { Tells R.remaining → AnswersRead false (λ st _ st'. Closes InList st st') (CloseFault InList) self.old result self.new }
     {
-        self.close(OpenKind::InList)
+        self.close(Place::InList)
     }
 
     /// Ends the map that is open: `Surplus` where values are left, `InvalidValue` where none is open.
@@ -146,6 +146,6 @@ impl<R: ByteSource> Decoder<R> {
     pub fn end_map(&mut self) -> Result<(), Error>
         ensures { Tells R.remaining → AnswersRead false (λ st _ st'. Closes InMap st st') (CloseFault InMap) self.old result self.new }
     {
-        self.close(OpenKind::InMap)
+        self.close(Place::InMap)
     }
 }

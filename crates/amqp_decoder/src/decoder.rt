@@ -10,8 +10,9 @@ mod nesting;
 mod sections;
 mod shared;
 
-use crate::frame::{OpenContainer, ROW};
+use crate::frame::OpenContainer;
 use amqp_lookahead::Input;
+use amqp_wire::nesting::LEVELS;
 use amqp_wire::{ByteSource, Descriptor, Error};
 use std::alloc::Global;
 use std::marker::Model;
@@ -29,7 +30,7 @@ pub struct Decoder<R: ByteSource> {
     error: Option<Error>,
     depth: usize,
     descriptors: Vec<Descriptor>,
-    frames: [OpenContainer; ROW],
+    frames: [OpenContainer; LEVELS],
 }
 
 impl<R: ByteSource> Model for Decoder<R> {
@@ -74,7 +75,7 @@ impl<R: ByteSource> Decoder<R> {
             error: None,
             depth: 0,
             descriptors: Vec::new(alloc),
-            frames: [OpenContainer::TOP; ROW],
+            frames: [OpenContainer::TOP; LEVELS],
         }
     }
 

@@ -1,5 +1,5 @@
 //! Described values (Part 1, section 1.2).
-ghost use Rattle.amqp_decoder.specs.declared.frame.OpenKind.TheVariants.{InDescribed};
+ghost use Rattle.amqp_decoder.specs.declared.frame.Place.TheVariants.{InDescribed};
 ghost use Rattle.amqp_decoder.specs.Reading.{AnswersRead};
 ghost use Rattle.amqp_decoder.specs.Containers.{ClosesDescribed, EndFault};
 ghost use Rattle.std.specs.Prelude.{◌≡◌, ◌≤◌, ◌<◌, length, take, Some, None, IfOk, IfErr, MatchOption, IsAscii, true, false};
@@ -18,7 +18,7 @@ ghost use Rattle.amqp_decoder.specs.Described.{IsDescribable, DescribedFault, Mi
 ghost use Rattle.amqp_decoder.specs.Described.{OneOfFault};
 
 use crate::Decoder;
-use crate::frame::OpenKind;
+use crate::frame::Place;
 use amqp_lookahead::names::{Members, next_front, place_of, place_of_code, place_of_name};
 use amqp_wire::{ByteSource, Descriptor, Error, format_code};
 use std::alloc::Global;
@@ -185,7 +185,7 @@ impl<R: ByteSource> Decoder<R> {
     pub fn end_described(&mut self) -> Result<(), Error>
         ensures { AnswersRead false (λ st _ st'. ClosesDescribed InDescribed st st') (EndFault InDescribed) self.old result self.new }
     {
-        self.check_end(OpenKind::InDescribed)?;
+        self.check_end(Place::InDescribed)?;
         self.leave_described();
         Ok(())
     }

@@ -3,13 +3,10 @@
 ghost use Rattle.std.specs.Prelude.{◌≡◌, ◌↔◌, IsTrue, Some, length};
 ghost use Rattle.amqp_decoder.specs.State.{items_of, shared_in};
 
-/// 128 containers that count in nesting, and an array of primitives in them.
-pub(crate) const ROW: usize = 129;
-
 /// Where a value stands.
 #[derive(Clone, Copy, PartialEq, Eq)]
 #[repr(u8)]
-pub(crate) enum OpenKind {
+pub(crate) enum Place {
     Top,
     InList,
     InMap,
@@ -25,7 +22,7 @@ pub(crate) enum OpenKind {
 pub(crate) struct OpenContainer {
     pub items: u32,
     pub left: Option<u32>,
-    pub place: OpenKind,
+    pub place: Place,
     pub code: u8,
     pub first: u16,
     pub last: u16,
@@ -36,7 +33,7 @@ impl OpenContainer {
     pub(crate) const TOP: OpenContainer = OpenContainer {
         items: 0,
         left: None,
-        place: OpenKind::Top,
+        place: Place::Top,
         code: 0,
         first: 0,
         last: 0,
@@ -47,7 +44,7 @@ impl OpenContainer {
     pub(crate) fn is_done(&self) -> bool
         ensures { IsTrue result ↔ (items_of self.now.place self.now.items ≡ Some 0) }
     {
-        self.items == 0 && self.place != OpenKind::Top
+        self.items == 0 && self.place != Place::Top
     }
 }
 

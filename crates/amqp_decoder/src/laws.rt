@@ -3,8 +3,8 @@ ghost use Rattle.std.specs.Prelude.{◌≡◌, ◌<◌, ◌≤◌, ◌↔◌, �
 ghost use Rattle.amqp_model.specs.Term.{Container, Descriptor, Term, Terms, container, described, list, map, array};
 ghost use Rattle.amqp_model.specs.Items.{items_of};
 ghost use Rattle.amqp_model.specs.Standing.{Standing};
-ghost use Rattle.amqp_decoder.specs.declared.frame.OpenKind.{OpenKind};
-ghost use Rattle.amqp_decoder.specs.declared.frame.OpenKind.TheVariants.{InArray};
+ghost use Rattle.amqp_decoder.specs.declared.frame.Place.{Place};
+ghost use Rattle.amqp_decoder.specs.declared.frame.Place.TheVariants.{InArray};
 ghost use Rattle.amqp_decoder.specs.State.{State, Has, after_look, after_bytes, after_data, after_value};
 ghost use Rattle.amqp_decoder.specs.Steps.{Takes};
 ghost use Rattle.amqp_decoder.specs.Reading.{ReadsCode, PeeksCode};
@@ -90,7 +90,7 @@ pub fn one_reading()
     ensures opens { (kind : Container) (st after other : State) (n m : ℕ) → Opens kind st n after → Opens kind st m other
         → (n ≡ m) × (after ≡ other) }
     ensures opens_array { (st after other : State) (n m : ℕ) → OpensArray st n after → OpensArray st m other → (n ≡ m) × (after ≡ other) }
-    ensures closes { (place : OpenKind) (st after other : State) → Closes place st after → Closes place st other → after ≡ other }
+    ensures closes { (place : Place) (st after other : State) → Closes place st after → Closes place st other → after ≡ other }
 {}
 
 /// A type whose values terms mean, as they stand.
@@ -140,7 +140,7 @@ pub fn misspellings()
     ensures terms { (st : State) (e : Error) → IsMisspelling e → TermFault st e → NothingStands st }
     ensures in_array { (st first mid : State) (n : ℕ) (ts : List Term) (b : List ℕ) → HasRoom st → OpensArray st n first
         → Row first ts b mid → length ts < n → NothingStands mid → NothingStands st }
-    ensures at_array_end { (place : OpenKind) (st first last : State) (n : ℕ) (ts : List Term) (b : List ℕ) (e : Error) → HasRoom st
+    ensures at_array_end { (place : Place) (st first last : State) (n : ℕ) (ts : List Term) (b : List ℕ) (e : Error) → HasRoom st
         → OpensArray st n first → Row first ts b last → IsMisspelling e → CloseFault place last e → NothingStands st }
     ensures in_described { (st inner : State) (d : Descriptor) → OpensDescribed st d inner → NothingStands inner → NothingStands st }
 {}

@@ -19,7 +19,8 @@ ghost use Rattle.amqp_decoder.specs.Terms.{TakesTerm, TermFault};
 
 use crate::Decoder;
 use crate::containers::width;
-use amqp_lengths::{NESTING, len_of_term};
+use amqp_lengths::len_of_term;
+use amqp_wire::nesting::NESTING;
 use amqp_wire::{ByteSource, Error, format_code};
 use std::alloc::Global;
 

@@ -4,7 +4,7 @@ ghost use Rattle.amqp_enums.specs.Types.{composite, one_term, refl, agreement, w
 ghost use Rattle.amqp_delivery.specs.Tables.{declare};
 
 use crate::TransactionId;
-use amqp_codec::kernel::{Composite, CompositeTerm, FieldKind, Table, read_some, write_composite};
+use amqp_codec::kernel::{Composite, CompositeTerm, FieldRule, Table, read_some, write_composite};
 use amqp_codec::{ByteSource, Decoder, Encoder, Error, Serialize, SerializeTerm};
 use std::alloc::Global;
 
@@ -33,7 +33,7 @@ impl Composite for Declare {
     fn table() -> Table {
         Table {
             descriptor: Declare::DESCRIPTOR,
-            fields: &[FieldKind::Optional],
+            fields: &[FieldRule::Optional],
         }
     }
 

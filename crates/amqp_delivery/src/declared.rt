@@ -3,7 +3,7 @@ ghost use Rattle.amqp_enums.specs.Types.{composite, one_term, refl, agreement, w
 ghost use Rattle.amqp_delivery.specs.Tables.{declared};
 
 use crate::TransactionId;
-use amqp_codec::kernel::{Composite, CompositeTerm, FieldKind, Table, read_into, write_composite};
+use amqp_codec::kernel::{Composite, CompositeTerm, FieldRule, Table, read_into, write_composite};
 use amqp_codec::{ByteSource, Decoder, Encoder, Error, Serialize, SerializeTerm};
 use amqp_primitives::Binary;
 use std::alloc::Global;
@@ -26,7 +26,7 @@ impl Composite for Declared {
     fn table() -> Table {
         Table {
             descriptor: Declared::DESCRIPTOR,
-            fields: &[FieldKind::Mandatory],
+            fields: &[FieldRule::Mandatory],
         }
     }
 

@@ -4,7 +4,7 @@ ghost use Rattle.amqp_delivery.specs.Tables.{discharge};
 
 use crate::TransactionId;
 use amqp_codec::kernel::{
-    Composite, CompositeTerm, FieldKind, Table, read_into, read_some, write_composite,
+    Composite, CompositeTerm, FieldRule, Table, read_into, read_some, write_composite,
 };
 use amqp_codec::{ByteSource, Decoder, Encoder, Error, Serialize, SerializeTerm};
 use amqp_primitives::Binary;
@@ -30,7 +30,7 @@ impl Composite for Discharge {
     fn table() -> Table {
         Table {
             descriptor: Discharge::DESCRIPTOR,
-            fields: &[FieldKind::Mandatory, FieldKind::Optional],
+            fields: &[FieldRule::Mandatory, FieldRule::Optional],
         }
     }
 

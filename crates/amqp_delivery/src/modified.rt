@@ -2,7 +2,7 @@
 ghost use Rattle.amqp_enums.specs.Types.{composite, one_term, refl, agreement, writing_of};
 ghost use Rattle.amqp_delivery.specs.Tables.{modified};
 
-use amqp_codec::kernel::{Composite, CompositeTerm, FieldKind, Table, read_some, write_composite};
+use amqp_codec::kernel::{Composite, CompositeTerm, FieldRule, Table, read_some, write_composite};
 use amqp_codec::{ByteSource, Decoder, Encoder, Error, Serialize, SerializeTerm};
 use amqp_fields::{Fields, field_in_type};
 use std::alloc::Global;
@@ -30,9 +30,9 @@ impl Composite for Modified {
         Table {
             descriptor: Modified::DESCRIPTOR,
             fields: &[
-                FieldKind::Optional,
-                FieldKind::Optional,
-                FieldKind::Optional,
+                FieldRule::Optional,
+                FieldRule::Optional,
+                FieldRule::Optional,
             ],
         }
     }

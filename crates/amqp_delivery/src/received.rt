@@ -2,7 +2,7 @@
 ghost use Rattle.amqp_enums.specs.Types.{composite, one_term, refl, agreement, writing_of};
 ghost use Rattle.amqp_delivery.specs.Tables.{received};
 
-use amqp_codec::kernel::{Composite, CompositeTerm, FieldKind, Table, read_into, write_composite};
+use amqp_codec::kernel::{Composite, CompositeTerm, FieldRule, Table, read_into, write_composite};
 use amqp_codec::{ByteSource, Decoder, Encoder, Error, Serialize, SerializeTerm};
 use std::alloc::Global;
 
@@ -26,7 +26,7 @@ impl Composite for Received {
     fn table() -> Table {
         Table {
             descriptor: Received::DESCRIPTOR,
-            fields: &[FieldKind::Mandatory, FieldKind::Mandatory],
+            fields: &[FieldRule::Mandatory, FieldRule::Mandatory],
         }
     }
 

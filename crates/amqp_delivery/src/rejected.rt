@@ -2,7 +2,7 @@
 ghost use Rattle.amqp_enums.specs.Types.{composite, one_term, refl, agreement, writing_of};
 ghost use Rattle.amqp_delivery.specs.Tables.{rejected};
 
-use amqp_codec::kernel::{Composite, CompositeTerm, FieldKind, Table, read_some, write_composite};
+use amqp_codec::kernel::{Composite, CompositeTerm, FieldRule, Table, read_some, write_composite};
 use amqp_codec::{ByteSource, Decoder, Encoder, Error as CodecError, Serialize, SerializeTerm};
 use amqp_errors::Error;
 use amqp_fields::field_in_type;
@@ -26,7 +26,7 @@ impl Composite for Rejected {
     fn table() -> Table {
         Table {
             descriptor: Rejected::DESCRIPTOR,
-            fields: &[FieldKind::Optional],
+            fields: &[FieldRule::Optional],
         }
     }
 

@@ -4,7 +4,7 @@ ghost use Rattle.amqp_delivery.specs.Tables.{transactional_state};
 
 use crate::{Outcome, TransactionId};
 use amqp_codec::kernel::{
-    Composite, CompositeTerm, FieldKind, Table, read_into, read_some, write_composite,
+    Composite, CompositeTerm, FieldRule, Table, read_into, read_some, write_composite,
 };
 use amqp_codec::{ByteSource, Decoder, Encoder, Error, Serialize, SerializeTerm};
 use amqp_fields::field_in_type;
@@ -31,7 +31,7 @@ impl Composite for TransactionalState {
     fn table() -> Table {
         Table {
             descriptor: TransactionalState::DESCRIPTOR,
-            fields: &[FieldKind::Mandatory, FieldKind::Optional],
+            fields: &[FieldRule::Mandatory, FieldRule::Optional],
         }
     }
 

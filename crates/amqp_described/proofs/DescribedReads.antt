@@ -9,7 +9,7 @@ use Rattle.amqp_wire.specs.declared.descriptor.Descriptor.{Descriptor as Descrip
 use Rattle.amqp_wire.specs.declared.descriptor.Descriptor.TheVariants.{Name, Code}
 use Rattle.amqp_encoder.specs.Values.{descriptor_of as written_descriptor}
 use Rattle.amqp_lookahead.specs.Members.{descriptor_of}
-use Rattle.amqp_decoder.specs.declared.frame.OpenKind.TheVariants.{InDescribed}
+use Rattle.amqp_decoder.specs.declared.frame.Place.TheVariants.{InDescribed}
 use Rattle.amqp_decoder.specs.State.{State, after_value}
 use Rattle.amqp_decoder.specs.Reading.{RefusesRead}
 use Rattle.amqp_decoder.specs.Primitives.{standing, Stands, ReadsValue}

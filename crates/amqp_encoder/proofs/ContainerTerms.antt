@@ -82,7 +82,7 @@ describes Later bytes m i h = cc
 ends : (fs : List Open) (k : Container) (m : Measured) → AllPlain fs → Stays (end_in fs k m)
 ends [] k m h = tt
 ends (f ∷ fs) k m h =
-    either (not (holds_ m.frame.kind k) || not (ltb m.frame.index (length m.sizes))) (Err InvalidValue)
+    either (not (holds_ m.frame.container k) || not (ltb m.frame.index (length m.sizes))) (Err InvalidValue)
     (if is_odd_map k m.frame.count then Err OddCount else (size_of m.frame >>= closed k m f fs)) tt
     (either (is_odd_map k m.frame.count) (Err OddCount) (size_of m.frame >>= closed k m f fs) tt
     (then_ (size_of m.frame) (closed k m f fs) (λ s.
@@ -93,7 +93,7 @@ ends_described : (fs : List Open) (m : Measured) → AllPlain fs → Stays (end_
 ends_described [] m h = tt
 ends_described (f ∷ fs) m h =
     let inner : Measured = record { frame = record f { code = m.frame.code }; outer = fs; sizes = m.sizes; descriptors = m.descriptors } in
-    either (is_none m.frame.kind && eqb m.frame.count 1) (leave m.frame.content inner) (Err InvalidValue)
+    either (is_none m.frame.container && eqb m.frame.count 1) (leave m.frame.content inner) (Err InvalidValue)
     (leaves m.frame.content inner h) tt
 
 abbrev BeginsNone : Token → Type 0

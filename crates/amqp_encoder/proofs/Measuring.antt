@@ -27,7 +27,7 @@ use Rattle.amqp_encoder.proofs.Measured.{RefusedAt, too_long, too_many, other, A
 use Rattle.amqp_encoder.proofs.Lifted.{Tested}
 
 abbrev pub fr : Option Container → Place → ℕ → ℕ → ℕ → ℕ → ℕ → Open
-fr k p cd c n i s = record { kind = k; place = p; code = cd; content = c; count = n; index = i; form = s }
+fr k p cd c n i s = record { container = k; place = p; code = cd; content = c; count = n; index = i; form = s }
 
 abbrev pub mk : Open → List Open → List Size → List ℕ → Measured
 mk f outer sizes D = record { frame = f; outer = outer; sizes = sizes; descriptors = D }

@@ -4,7 +4,7 @@ use Rattle.std.specs.Prelude.{if◌then◌else◌, ltb, Ok, Err}
 use Rattle.amqp_wire.specs.declared.error.Error.TheVariants.{TooLarge}
 use Rattle.amqp_model.specs.Term.{Primitive, binary, string, symbol}
 use Rattle.amqp_model.specs.Text.{Place, Alone, First, Later, wide, spell, with_size, primitive_text}
-use Rattle.amqp_encoder.specs.declared.kinds.Shortest.{Shortest}
+use Rattle.amqp_encoder.specs.declared.places.Shortest.{Shortest}
 use Rattle.amqp_encoder.specs.State.{Measured, Filled}
 use Rattle.amqp_encoder.specs.Measuring.{◌>>=◌, short_enough, checked, measure_value, measure_put}
 use Rattle.amqp_encoder.specs.Filling.{fill_value, fill_put}

@@ -4,7 +4,7 @@ use Rattle.amqp_model.specs.Term.{Descriptor, name, code, symbol}
 use Rattle.amqp_model.specs.Text.{Place, Alone, First, Later, spell, with_size}
 use Rattle.amqp_wire.specs.declared.error.Error.{Error}
 use Rattle.amqp_wire.specs.declared.error.Error.TheVariants.{Memory, TooLarge, InvalidValue}
-use Rattle.amqp_encoder.specs.declared.kinds.Shortest.{Shortest}
+use Rattle.amqp_encoder.specs.declared.places.Shortest.{Shortest}
 use Rattle.amqp_encoder.specs.declared.frame.MeasuredContainer.{MeasuredContainer}
 use Rattle.amqp_encoder.specs.Values.{shortest_text}
 use Rattle.amqp_encoder.specs.State.{Open, Measured, Filled, seen}

@@ -27,7 +27,7 @@ is_none (Some x) = false
 
 -- a described value that has its value
 abbrev pub is_full : Open → Bool
-is_full o = is_none o.kind && not (eqb o.count 0)
+is_full o = is_none o.container && not (eqb o.count 0)
 
 -- the items of an array share one constructor, of which this code is the end
 abbrev pub take_form : Place → ℕ → Measured → Result Measured Error
@@ -125,7 +125,7 @@ closed k m f fs s = leave (length (opening f.place k m.frame.count m.frame.conte
 abbrev pub end_in : List Open → Container → Measured → Result Measured Error
 end_in [] k m = Err InvalidValue
 end_in (f ∷ fs) k m =
-    if not (holds m.frame.kind k) || not (ltb m.frame.index (length m.sizes)) then Err InvalidValue
+    if not (holds m.frame.container k) || not (ltb m.frame.index (length m.sizes)) then Err InvalidValue
     else (if is_odd_map k m.frame.count then Err OddCount else (size_of m.frame >>= closed k m f fs))
 
 abbrev pub measure_end : Container → Measured → Result Measured Error
@@ -162,7 +162,7 @@ measure_begin_described d m =
 abbrev pub end_described_in : List Open → Measured → Result Measured Error
 end_described_in [] m = Err InvalidValue
 end_described_in (f ∷ fs) m =
-    if is_none m.frame.kind && eqb m.frame.count 1
+    if is_none m.frame.container && eqb m.frame.count 1
     then leave m.frame.content
     (record { frame = record f { code = m.frame.code }; outer = fs; sizes = m.sizes; descriptors = m.descriptors })
     else Err InvalidValue

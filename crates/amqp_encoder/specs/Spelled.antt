@@ -2,7 +2,7 @@
 use Rattle.std.specs.Prelude.{◌≡◌, ℕ, List}
 use Rattle.amqp_model.specs.Term.{Primitive}
 use Rattle.amqp_model.specs.Text.{Place, Alone, wide, spell, primitive_text}
-use Rattle.amqp_encoder.specs.declared.kinds.Shortest.{Shortest}
+use Rattle.amqp_encoder.specs.declared.places.Shortest.{Shortest}
 use Rattle.amqp_encoder.specs.State.{Measured, Filled}
 use Rattle.amqp_encoder.specs.Values.{shortest_text}
 use Rattle.amqp_encoder.specs.Measuring.{measure_value, measure_put}

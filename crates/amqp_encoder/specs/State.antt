@@ -5,13 +5,13 @@ use Rattle.amqp_model.specs.Text.{Place, first_place}
 use Rattle.amqp_wire.specs.declared.error.Error.{Error}
 use Rattle.amqp_encoder.specs.declared.size.Size.{Size}
 use Rattle.amqp_encoder.specs.declared.frame.MeasuredContainer.{MeasuredContainer}
-use Rattle.amqp_encoder.specs.Values.{kind_of, place_of}
+use Rattle.amqp_encoder.specs.Values.{opened_of, place_of}
 
--- An open container, or a described value (of no kind): where its next value stands, the code of the items of the array
+-- An open container, or a described value (of no container): where its next value stands, the code of the items of the array
 -- that the next value is an item of, the bytes and the number of its values, its place among the sizes,
 -- and where the next value's constructor goes on among the descriptors.
 pub record Open : Type 0 where
-  pub kind : Option Container
+  pub container : Option Container
   pub place : Place
   pub code : ℕ
   pub content : ℕ
@@ -21,7 +21,7 @@ pub record Open : Type 0 where
 
 abbrev pub seen : MeasuredContainer → Open
 seen f = record {
-  kind = kind_of f.kind;
+  container = opened_of f.opened;
   place = place_of f.place;
   code = f.code;
   content = f.content;
@@ -31,10 +31,10 @@ seen f = record {
 }
 
 abbrev pub holding : Container → ℕ → ℕ → Open
-holding k index form = record { kind = Some k; place = first_place k; code = 0; content = 0; count = 0; index = index; form = form }
+holding k index form = record { container = Some k; place = first_place k; code = 0; content = 0; count = 0; index = index; form = form }
 
 abbrev pub describing : Open → ℕ → ℕ → Open
-describing o content form = record { kind = None; place = o.place; code = o.code; content = content; count = 0; index = 0; form = form }
+describing o content form = record { container = None; place = o.place; code = o.code; content = content; count = 0; index = 0; form = form }
 
 -- What is around comes innermost first. The sizes are those of each container that has begun, the descriptors those of the
 -- items of the arrays that are open, in canonical form, outermost array first.

@@ -3,17 +3,18 @@ ghost use Rattle.std.specs.Prelude.{◌≡◌, ◌≤◌, ℕ, [], ◌∷◌, le
 ghost use Rattle.std.specs.Vec.{vec_capacity};
 ghost use Rattle.amqp_model.specs.Term.{Primitive, null, symbol, list, map, array};
 ghost use Rattle.amqp_encoder.specs.State.{Stopped};
-ghost use Rattle.amqp_encoder.specs.Values.{container_of, descriptor_of};
+ghost use Rattle.amqp_wire.specs.Containers.{container_of};
+ghost use Rattle.amqp_encoder.specs.Values.{descriptor_of};
 ghost use Rattle.amqp_encoder.specs.Spelled.{IsFixed, IsVariable};
 ghost use Rattle.amqp_encoder.specs.Tokens.{put, keep, begin, end, begin_described, end_described, refuse};
 ghost use Rattle.amqp_encoder.specs.Writes.{Writes, pass_of, bytes_of};
 ghost use Rattle.amqp_encoder.specs.Passes.{BeginsMeasuring, BeginsFilling, Finds, FindsNone, answer_of};
 
 use crate::fill::Fill;
-use crate::kinds::{Container, Shortest};
+use crate::places::Shortest;
 use crate::measure::Measure;
 use crate::size::Size;
-use amqp_wire::{Descriptor, Error, format_code};
+use amqp_wire::{Container, Descriptor, Error, format_code};
 use std::alloc::Global;
 
 /// Which pass runs, or why none does.

@@ -4,25 +4,27 @@ ghost use Rattle.std.specs.Vec.{vec_capacity, vec_len};
 ghost use Rattle.amqp_model.specs.Term.{array};
 ghost use Rattle.amqp_model.specs.Text.{Alone, head, first_place};
 ghost use Rattle.amqp_encoder.specs.Opening.{opening};
-ghost use Rattle.amqp_encoder.specs.Values.{place_of, container_of, descriptor_of, shortest_text};
+ghost use Rattle.amqp_wire.specs.Containers.{container_of};
+ghost use Rattle.amqp_encoder.specs.Values.{place_of, descriptor_of, shortest_text};
 ghost use Rattle.amqp_encoder.specs.State.{to_fill};
-ghost use Rattle.amqp_encoder.specs.declared.kinds.Shortest.TheVariants.{Wide};
+ghost use Rattle.amqp_encoder.specs.declared.places.Shortest.TheVariants.{Wide};
 ghost use Rattle.amqp_encoder.specs.Filling.{emit, fill_value, fill_null_at, fill_keep, fill_open, fill_begin, fill_begin_described};
 ghost use Rattle.amqp_encoder.specs.Filling.{fill_end};
 ghost use Rattle.amqp_encoder.specs.Gives.{Does, fixed_text, fill_bytes};
 
 use crate::descriptors::{head_of, text_of};
 use crate::frame::is_filled_up;
-use crate::kinds::{Container, Place, Shortest};
-use crate::size::{MAX_CONTENT, ROW, Size};
-use amqp_wire::{Descriptor, Error, format_code};
+use crate::places::{Place, Shortest, first_place, is_list, short_code, wide_code};
+use crate::size::{MAX_CONTENT, Size};
+use amqp_wire::nesting::LEVELS;
+use amqp_wire::{Container, Descriptor, Error, format_code};
 use std::alloc::Global;
 use std::marker::Model;
 
 #[derive(Drop)]
 pub(crate) struct Fill {
     place: Place,
-    places: [Place; ROW],
+    places: [Place; LEVELS],
     depth: usize,
     sizes: Vec<Size>,
     next: usize,
@@ -57,7 +59,7 @@ impl Fill {
     {
         Fill {
             place: Place::Alone,
-            places: [Place::Alone; ROW],
+            places: [Place::Alone; LEVELS],
             depth: 0,
             sizes: Vec::new(alloc),
             next: 0,
@@ -235,7 +237,7 @@ impl Fill {
         ensures does { Does (fill_open (head.now ++ body.now) (place_of place) self.old) result self.new }
         ensures kept { take (length self.old.out) self.new.out ≡ self.old.out }
     {
-        if self.depth >= ROW {
+        if self.depth >= LEVELS {
             return Err(Error::Depth);
         }
         self.places[self.depth] = self.place;
@@ -266,7 +268,7 @@ impl Fill {
             (first_place (container_of container)) self.old) result self.new }
         ensures kept { take (length self.old.out) self.new.out ≡ self.old.out }
     {
-        let first = container.first_place();
+        let first = first_place(container);
         if is_filled_up(container, size) {
             return self.open_empty_array(first);
         }
@@ -275,7 +277,7 @@ impl Fill {
             Place::First => {
                 let [a, b, c, d] = (4 + size.content).to_be_bytes();
                 let [e, f, g, h] = size.count.to_be_bytes();
-                self.open(&[container.wide_code(), a, b, c, d, e, f, g, h], &[], first)
+                self.open(&[wide_code(container), a, b, c, d, e, f, g, h], &[], first)
             }
             Place::Later => {
                 let [a, b, c, d] = (4 + size.content).to_be_bytes();
@@ -291,12 +293,12 @@ impl Fill {
             self.old) result self.new }
         ensures kept { take (length self.old.out) self.new.out ≡ self.old.out }
     {
-        let first = container.first_place();
-        if container.is_list() && size.count == 0 {
+        let first = first_place(container);
+        if is_list(container) && size.count == 0 {
             return self.open(&[format_code::LIST_0], &[], first);
         }
         if size.content < 255 && size.count < 256 {
-            let short = container.short_code();
+            let short = short_code(container);
             return self.open(
                 &[short, size.content as u8 + 1, size.count as u8],
                 &[],
@@ -305,7 +307,7 @@ impl Fill {
         }
         let [a, b, c, d] = (4 + size.content).to_be_bytes();
         let [e, f, g, h] = size.count.to_be_bytes();
-        self.open(&[container.wide_code(), a, b, c, d, e, f, g, h], &[], first)
+        self.open(&[wide_code(container), a, b, c, d, e, f, g, h], &[], first)
     }
 
     /// An array without items holds the constructor of null.

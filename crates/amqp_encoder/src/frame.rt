@@ -2,19 +2,20 @@
 ghost use Rattle.std.specs.Prelude.{◌≡◌, ◌≤◌, length, []};
 ghost use Rattle.std.specs.Bool.{OnTrue, OnFalse};
 ghost use Rattle.amqp_model.specs.Term.{list, array};
-ghost use Rattle.amqp_encoder.specs.Values.{place_of, container_of};
+ghost use Rattle.amqp_wire.specs.Containers.{container_of};
+ghost use Rattle.amqp_encoder.specs.Values.{place_of};
 ghost use Rattle.amqp_encoder.specs.Opening.{opening, filler, content_length};
 ghost use Rattle.amqp_encoder.specs.State.{seen, holding, describing};
 ghost use Rattle.amqp_encoder.specs.Measuring.{is_full, size_of};
 
-use crate::kinds::{Container, Kind, Place};
+use crate::places::{Opened, Place, first_place};
 use crate::size::{MAX_CONTENT, Size};
-use amqp_wire::Error;
+use amqp_wire::{Container, Error};
 
 /// An open container, or the row of values that stand in none.
 #[derive(Clone, Copy)]
 pub(crate) struct MeasuredContainer {
-    pub(crate) kind: Kind,
+    pub(crate) opened: Opened,
     /// Where its next value stands.
     pub(crate) place: Place,
     /// The code of the items of the array that the next value is an item of, once it has one.
@@ -40,8 +41,8 @@ impl MeasuredContainer {
         ensures { seen result ≡ holding (container_of container) index form }
     {
         MeasuredContainer {
-            kind: Kind::Container(container),
-            place: container.first_place(),
+            opened: Opened::Container(container),
+            place: first_place(container),
             code: 0,
             content: 0,
             count: 0,
@@ -55,7 +56,7 @@ impl MeasuredContainer {
         ensures { seen result ≡ describing (seen self) content form }
     {
         MeasuredContainer {
-            kind: Kind::Described,
+            opened: Opened::Described,
             place: self.place,
             code: self.code,
             content,
@@ -69,7 +70,7 @@ impl MeasuredContainer {
     pub(crate) fn is_full(self) -> bool
         ensures { result ≡ is_full (seen self) }
     {
-        self.kind.is_described() && self.count != 0
+        self.opened.is_described() && self.count != 0
     }
 
     /// Its size; refused where that doesn't fit in four bytes.

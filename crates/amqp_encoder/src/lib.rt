@@ -5,7 +5,7 @@ mod descriptors;
 mod encoder;
 mod fill;
 mod frame;
-mod kinds;
+mod places;
 pub mod laws;
 mod measure;
 mod primitives;

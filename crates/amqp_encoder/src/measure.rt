@@ -4,7 +4,8 @@ ghost use Rattle.std.specs.Prelude.{MatchResult, IfOk, OnErr, IfErr, Result, Ok,
 ghost use Rattle.std.specs.Cmp.Lexicographic.{pointwise};
 ghost use Rattle.std.specs.Bool.{OnTrue, OnFalse};
 ghost use Rattle.amqp_wire.specs.declared.error.Error.TheVariants.{InvalidValue};
-ghost use Rattle.amqp_encoder.specs.Values.{place_of, container_of, descriptor_of};
+ghost use Rattle.amqp_wire.specs.Containers.{container_of};
+ghost use Rattle.amqp_encoder.specs.Values.{place_of, descriptor_of};
 ghost use Rattle.amqp_encoder.specs.Tokens.{TakesMemory, begin, begin_described};
 ghost use Rattle.amqp_encoder.specs.State.{at_start, seen};
 ghost use Rattle.amqp_encoder.specs.Opening.{opening};
@@ -14,16 +15,17 @@ ghost use Rattle.amqp_encoder.specs.Gives.{Gives, Does, fixed_text, variable_len
 
 use crate::descriptors::{check_symbol, head_of, len_of, text_of};
 use crate::frame::{MeasuredContainer, opening_len};
-use crate::kinds::{Container, Place, Shortest};
-use crate::size::{NESTING, ROW, Size};
-use amqp_wire::{Descriptor, Error};
+use crate::places::{Place, Shortest, around, is_odd, wide_code};
+use crate::size::Size;
+use amqp_wire::nesting::{LEVELS, NESTING};
+use amqp_wire::{Container, Descriptor, Error};
 use std::alloc::Global;
 use std::marker::Model;
 
 #[derive(Drop)]
 pub(crate) struct Measure {
     top: MeasuredContainer,
-    frames: [MeasuredContainer; ROW],
+    frames: [MeasuredContainer; LEVELS],
     depth: usize,
     sizes: Vec<Size>,
     /// The descriptors of the items of the arrays that are open, in canonical form, outermost array first.
@@ -54,7 +56,7 @@ impl Measure {
         let top = MeasuredContainer::outermost();
         Measure {
             top,
-            frames: [top; ROW],
+            frames: [top; LEVELS],
             depth: 0,
             sizes: Vec::new(alloc),
             descriptors: Vec::new(alloc),
@@ -250,10 +252,10 @@ impl Measure {
         ensures { Gives (TakesMemory self.old.frame.place (begin (container_of container)))
             (measure_begin (container_of container) self.old) result self.new }
     {
-        if self.depth > container.around() {
+        if self.depth > around(container) {
             return Err(Error::Depth);
         }
-        self.enter(container.wide_code())?;
+        self.enter(wide_code(container))?;
         let index = self.sizes.len();
         self.sizes.push(Size {
             content: 0,
@@ -268,10 +270,10 @@ impl Measure {
         ensures { Does (measure_end (container_of container) self.old) result self.new }
     {
         let inner = self.close()?;
-        if !inner.kind.is_container(container) || inner.index >= self.sizes.len() {
+        if !inner.opened.is_container(container) || inner.index >= self.sizes.len() {
             return Err(Error::InvalidValue);
         }
-        if container.is_odd(inner.count) {
+        if is_odd(container, inner.count) {
             return Err(Error::OddCount);
         }
         let size = inner.size()?;
@@ -345,7 +347,7 @@ impl Measure {
         ensures { Does (measure_end_described self.old) result self.new }
     {
         let inner = self.close()?;
-        if !inner.kind.is_described() || inner.count != 1 {
+        if !inner.opened.is_described() || inner.count != 1 {
             return Err(Error::InvalidValue);
         }
         self.top.code = inner.code;

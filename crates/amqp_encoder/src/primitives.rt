@@ -6,7 +6,7 @@ ghost use Rattle.amqp_encoder.specs.Tokens.{put};
 ghost use Rattle.amqp_encoder.specs.Writes.{Writes};
 
 use crate::Encoder;
-use crate::kinds::Shortest;
+use crate::places::Shortest;
 use amqp_wire::{Error, format_code};
 
 impl Encoder {

@@ -9,9 +9,3 @@ pub(crate) struct Size {
 
 /// The most content of a container: its size counts four bytes for the count too.
 pub(crate) const MAX_CONTENT: u32 = 0xffff_fffb;
-
-/// So many nested values count at most.
-pub(crate) const NESTING: usize = 128;
-
-/// Those, and an array of primitives in them.
-pub(crate) const ROW: usize = 129;

@@ -8,7 +8,7 @@ use crate::{
     AmqpError, ConnectionError, ErrorCondition, LinkError, SessionError, TransactionError,
 };
 use amqp_codec::kernel::{
-    Composite, CompositeTerm, FieldKind, Table, read_into, read_some, write_composite,
+    Composite, CompositeTerm, FieldRule, Table, read_into, read_some, write_composite,
 };
 use amqp_codec::{ByteSource, Decoder, Encoder, Error as CodecError, Serialize, SerializeTerm};
 use amqp_fields::{Fields, field_in_type};
@@ -124,9 +124,9 @@ impl Composite for Error {
         Table {
             descriptor: Error::DESCRIPTOR,
             fields: &[
-                FieldKind::Mandatory,
-                FieldKind::Optional,
-                FieldKind::Optional,
+                FieldRule::Mandatory,
+                FieldRule::Optional,
+                FieldRule::Optional,
             ],
         }
     }

@@ -2,7 +2,7 @@
 ghost use Rattle.amqp_enums.specs.Types.{composite, one_term, refl, agreement, writing_of};
 ghost use Rattle.amqp_field_tests.specs.Tables.{offer};
 
-use amqp_codec::kernel::{Composite, CompositeTerm, FieldKind, Table, read_into, write_composite};
+use amqp_codec::kernel::{Composite, CompositeTerm, FieldRule, Table, read_into, write_composite};
 use amqp_codec::{ByteSource, Decoder, Encoder, Error, Serialize, SerializeTerm, Symbol};
 use amqp_containers::Array;
 use amqp_containers::multiple::{is_null_multiple, read_multiple, write_multiple};
@@ -31,9 +31,9 @@ impl Composite for Offer {
         Table {
             descriptor: Offer::DESCRIPTOR,
             fields: &[
-                FieldKind::Multiple,
-                FieldKind::Mandatory,
-                FieldKind::Multiple,
+                FieldRule::Multiple,
+                FieldRule::Mandatory,
+                FieldRule::Multiple,
             ],
         }
     }

@@ -3,7 +3,8 @@ ghost use Rattle.std.specs.Prelude.{◌≡◌, ◌↔◌, IsTrue, MatchOption};
 ghost use Rattle.amqp_lengths.specs.Lengths.{IsTerm};
 ghost use Rattle.amqp_lazy.specs.LazyType.{SpellsNested};
 
-use amqp_lengths::{NESTING, len_of_term};
+use amqp_lengths::len_of_term;
+use amqp_wire::nesting::NESTING;
 
 // Whether the bytes are one term, which nests at most so deep.
 fn is_term(bytes: &[u8], nesting: usize) -> bool

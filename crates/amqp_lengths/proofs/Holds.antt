@@ -8,9 +8,10 @@ use Rattle.amqp_model.specs.Spelling.{IsSize}
 use Rattle.amqp_model.proofs.Bytes.{length-bytes}
 use Rattle.amqp_lengths.specs.Fronts.{IsFront, Refuses}
 use Rattle.amqp_lengths.specs.Pieces.{IsSized, HasSize}
-use Rattle.amqp_lengths.specs.Contents.{container_of, HasContent}
-use Rattle.amqp_lengths.specs.declared.contents.Kind.{Kind}
-use Rattle.amqp_lengths.specs.declared.contents.Kind.TheVariants.{List as a_list, Map as a_map, Array as an_array}
+use Rattle.amqp_wire.specs.Containers.{container_of}
+use Rattle.amqp_lengths.specs.Contents.{HasContent}
+use Rattle.amqp_wire.specs.declared.container.Container as code
+use Rattle.amqp_wire.specs.declared.container.Container.TheVariants.{List as a_list, Map as a_map, Array as an_array}
 use Rattle.amqp_lengths.proofs.Fronts.{refuses_begun, refuses_never}
 use Rattle.amqp_lengths.proofs.Announced.{size_same}
 
@@ -49,7 +50,7 @@ content_small_none kind w n content input e h small some =
     none_small size m items one (inl e) = omega arith
     none_small size m items one (inr (l, _, _, nothing)) = some (l, one ∙ nothing)
 
-pub list_kind : (kind : Kind) → container_of kind ≡ list → kind ≡ a_list
-list_kind a_list h = refl
-list_kind a_map h = cc
-list_kind an_array h = cc
+pub is_a_list : (held : code.Container) → container_of held ≡ list → held ≡ a_list
+is_a_list a_list h = refl
+is_a_list a_map h = cc
+is_a_list an_array h = cc

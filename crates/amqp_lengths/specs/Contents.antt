@@ -1,15 +1,8 @@
 -- The size, the count and the content of containers.
 use Rattle.std.specs.Prelude.{◌≡◌, ℕ, List}
-use Rattle.amqp_model.specs.Term.{Container, list, map, array}
+use Rattle.amqp_model.specs.Term.{Container}
 use Rattle.amqp_model.specs.Constructors.{compound}
 use Rattle.amqp_model.specs.Spelling.{ContainerData}
-use Rattle.amqp_lengths.specs.declared.contents.Kind.{Kind}
-use Rattle.amqp_lengths.specs.declared.contents.Kind.TheVariants.{List as a_list, Map as a_map, Array as an_array}
-
-abbrev pub container_of : Kind → Container
-container_of a_list = list
-container_of a_map = map
-container_of an_array = array
 
 -- The bytes are the size and the count of a container of n items under a width, and this content.
 abbrev pub IsContent : Container → ℕ → ℕ → List ℕ → List ℕ → Type 0

@@ -5,9 +5,9 @@ ghost use Rattle.amqp_lengths.specs.Pieces.{NamesAny};
 ghost use Rattle.amqp_lengths.specs.Lengths.{Constructs, HasConstructor};
 ghost use Rattle.amqp_lengths.specs.Faults.{DescriptorFault, ConstructorFault};
 
-use crate::lengths::NESTING;
 use crate::primitives::primitive_len;
 use amqp_wire::format_code::unknown;
+use amqp_wire::nesting::NESTING;
 use amqp_wire::{Error, format_code};
 
 /// A constructor: its code, how many descriptors it has, and its length.

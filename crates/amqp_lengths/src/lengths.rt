@@ -5,21 +5,18 @@ ghost use Rattle.amqp_model.specs.Spelling.{IsKnown};
 ghost use Rattle.amqp_wire.specs.declared.error.Error.TheVariants.{Cut};
 ghost use Rattle.amqp_lengths.specs.Fronts.{IsFront, Refuses, NoFront};
 ghost use Rattle.amqp_lengths.specs.Pieces.{width_of};
-ghost use Rattle.amqp_lengths.specs.Contents.{container_of};
+ghost use Rattle.amqp_wire.specs.Containers.{container_of};
 ghost use Rattle.amqp_lengths.specs.Lengths.{levels_of, Row, IsTerm, IsData, IsContainer, IsArray, HasElements, HasPairs, IsCutTerm};
 ghost use Rattle.amqp_wire.specs.declared.error.Error.{Error};
 ghost use Rattle.amqp_lengths.specs.Faults.{inside, TermFault, DataFault, ContainerFault, ItemsFault, ArrayFault, ElementsFault};
 ghost use Rattle.amqp_lengths.specs.Faults.{SharedFault, AsksMore};
 
 use crate::constructors::{Constructor, read_constructor};
-use crate::contents::{Kind, read_content};
+use crate::contents::read_content;
 use crate::primitives::primitive_len;
 use amqp_wire::format_code::{has_width_zero, is_compound};
-use amqp_wire::{Error, format_code};
-
-/// The greatest number of nodes that are nested in one another and count (Part 1, section 1.2, sets none), and of
-/// descriptors in one constructor.
-pub const NESTING: usize = 128;
+use amqp_wire::nesting::NESTING;
+use amqp_wire::{Container, Error, format_code};
 
 /// The length in bytes of the term that the input begins with, its constructor included (Part 1, section 1.2). What stands
 /// behind it isn't looked at. Takes no memory.
@@ -126,27 +123,27 @@ fn check_elements(content: &[u8], count: usize, nesting: usize) -> Result<(), Er
 }
 
 // A map has a value for each key.
-fn has_pairs(kind: Kind, count: usize) -> bool
-    ensures { IsTrue result ↔ HasPairs (container_of kind) count }
+fn has_pairs(container: Container, count: usize) -> bool
+    ensures { IsTrue result ↔ HasPairs (container_of container) count }
 {
-    match kind {
-        Kind::Map => count % 2 == 0,
-        Kind::List | Kind::Array => true,
+    match container {
+        Container::Map => count % 2 == 0,
+        Container::List | Container::Array => true,
     }
 }
 
 // The length of the data of a list or map.
 #[cycle(term)]
-fn list_len(input: &[u8], wide: bool, kind: Kind, nesting: usize) -> Result<usize, Error>
-    ensures found { IfOk result (λ n. IsFront (IsContainer (container_of kind) (width_of wide) nesting) input.now n) }
-    ensures refused { IfErr result (λ e. Refuses (IsContainer (container_of kind) (width_of wide) nesting) input.now e) }
-    ensures fault { IfErr result (λ e. ContainerFault (container_of kind) (width_of wide) nesting input.now e) }
+fn list_len(input: &[u8], wide: bool, container: Container, nesting: usize) -> Result<usize, Error>
+    ensures found { IfOk result (λ n. IsFront (IsContainer (container_of container) (width_of wide) nesting) input.now n) }
+    ensures refused { IfErr result (λ e. Refuses (IsContainer (container_of container) (width_of wide) nesting) input.now e) }
+    ensures fault { IfErr result (λ e. ContainerFault (container_of container) (width_of wide) nesting input.now e) }
 {
-    let parts = read_content(input, wide, kind)?;
+    let parts = read_content(input, wide, container)?;
     let Some(nesting) = nesting.checked_sub(1) else {
         return Err(Error::Depth);
     };
-    if !has_pairs(kind, parts.count) {
+    if !has_pairs(container, parts.count) {
         return Err(Error::OddCount);
     }
     check_items(parts.items, parts.count, nesting)?;
@@ -160,7 +157,7 @@ fn array_len(input: &[u8], wide: bool, nesting: usize) -> Result<usize, Error>
     ensures refused { IfErr result (λ e. Refuses (IsArray (width_of wide) nesting) input.now e) }
     ensures fault { IfErr result (λ e. ArrayFault (width_of wide) nesting input.now e) }
 {
-    let parts = read_content(input, wide, Kind::Array)?;
+    let parts = read_content(input, wide, Container::Array)?;
     check_elements(parts.items, parts.count, nesting)?;
     Ok(parts.len)
 }
@@ -176,10 +173,10 @@ fn data_len(code: u8, input: &[u8], nesting: usize) -> Result<usize, Error>
     match code {
         format_code::LIST_0 if nesting == 0 => Err(Error::Depth),
         format_code::LIST_0 => Ok(0),
-        format_code::LIST_8 => list_len(input, false, Kind::List, nesting),
-        format_code::LIST_32 => list_len(input, true, Kind::List, nesting),
-        format_code::MAP_8 => list_len(input, false, Kind::Map, nesting),
-        format_code::MAP_32 => list_len(input, true, Kind::Map, nesting),
+        format_code::LIST_8 => list_len(input, false, Container::List, nesting),
+        format_code::LIST_32 => list_len(input, true, Container::List, nesting),
+        format_code::MAP_8 => list_len(input, false, Container::Map, nesting),
+        format_code::MAP_32 => list_len(input, true, Container::Map, nesting),
         format_code::ARRAY_8 => array_len(input, false, nesting),
         format_code::ARRAY_32 => array_len(input, true, nesting),
         _ => primitive_len(code, input),

@@ -8,4 +8,4 @@ mod lengths;
 mod primitives;
 mod sizes;
 
-pub use lengths::{NESTING, len_of_term, term_len};
+pub use lengths::{len_of_term, term_len};

@@ -3,9 +3,9 @@ use Rattle.std.proofs.Common.{◌≡◌, ℕ, zero, suc, ◌≤◌, ◌<◌, ◌
 use Rattle.amqp_model.specs.Term.{null, Term, leaf}
 use Rattle.amqp_model.specs.Items.{is_null, is_left_out, before_nulls}
 use Rattle.amqp_model.specs.ItemLaws.{clash}
-use Rattle.amqp_model.specs.declared.tables.FieldKind.TheVariants.{Optional}
+use Rattle.amqp_model.specs.declared.tables.FieldRule.TheVariants.{Optional}
 use Rattle.amqp_model.specs.Slot.{Slot, is_required}
-use Rattle.amqp_model.specs.Fields.{Fields, none, field, kinds_of, Fits, canonical_items}
+use Rattle.amqp_model.specs.Fields.{Fields, none, field, rules_of, Fits, canonical_items}
 
 -- a null before nothing is left out
 before_none : (t : Term) (ts : List Term) → is_null t ≡ true → length ts ≤ 0 → length (before_nulls t ts) ≤ 0
@@ -30,7 +30,7 @@ canonical_fewest (field get s fs) (t ∷ ts) v h =
     before_more (s.meaning.canon (get v)) (canonical_items fs v) (length ts) (canonical_fewest fs ts v h.1)
 
 -- There are no more items than fields.
-pub fits_within : {V : Type 0} (fs : Fields V) (ts : List Term) (v : V) → Fits fs ts v → length ts ≤ length (kinds_of fs)
+pub fits_within : {V : Type 0} (fs : Fields V) (ts : List Term) (v : V) → Fits fs ts v → length ts ≤ length (rules_of fs)
 unfolding Fits
 fits_within none [] v h = omega arith
 fits_within none (t ∷ ts) v h = absurd h
@@ -45,21 +45,21 @@ fits_without_null none (t ∷ ts) v h = absurd h
 fits_without_null (field get s fs) [] v h = h
 fits_without_null (field get s fs) (t ∷ ts) v h = (h.0, fits_without_null fs ts v h.1)
 
-pub fits_with_null : {V : Type 0} (fs : Fields V) (ts : List Term) (v : V) → length ts < length (kinds_of fs) → Fits fs ts v
+pub fits_with_null : {V : Type 0} (fs : Fields V) (ts : List Term) (v : V) → length ts < length (rules_of fs) → Fits fs ts v
     → Fits fs (ts ++ leaf null ∷ []) v
 unfolding Fits
 fits_with_null none ts v l h = absurd (omega arith)
 fits_with_null (field get s fs) [] v l h = h
 fits_with_null (field get s fs) (t ∷ ts) v l h = (h.0, fits_with_null fs ts v (omega arith) h.1)
 
-is_there : {T : Type 0} (s : Slot T) (t : Term) (v : T) (b : Bool) → is_null t ≡ b → is_required s.kind ≡ true
+is_there : {T : Type 0} (s : Slot T) (t : Term) (v : T) (b : Bool) → is_null t ≡ b → is_required s.rule ≡ true
     → s.meaning.means t v → is_null t ≡ false
 is_there s t v true e r h = absurd (s.required v r (s.null_alike t v e h))
 is_there s t v false e r h = e
 
 -- An item of a field that null doesn't fit is there, and isn't null.
 pub fits_required : {V : Type 0} (fs : Fields V) (ts : List Term) (v : V) (k : ℕ) → Fits fs ts v
-    → is_required (get_or (kinds_of fs) k Optional) ≡ true → is_null (get_or ts k (leaf null)) ≡ false
+    → is_required (get_or (rules_of fs) k Optional) ≡ true → is_null (get_or ts k (leaf null)) ≡ false
 unfolding Fits
 fits_required none ts v k h r = absurd (clash r refl)
 fits_required (field get s fs) [] v zero h r = absurd (s.required (get v) r h.0)

@@ -3,7 +3,7 @@ use Rattle.std.proofs.Common.{◌≡◌, Bool, true, false, cond, refl, sym, ◌
 use Rattle.amqp_model.specs.Term.{Term, null, leaf}
 use Rattle.amqp_model.specs.Items.{is_null, IsFree}
 use Rattle.amqp_model.specs.FieldType.{normal, Meaning, NeverNull}
-use Rattle.amqp_model.specs.Kinds.{DefaultValue, DefaultMeans, default_canon}
+use Rattle.amqp_model.specs.FieldRules.{DefaultValue, DefaultMeans, default_canon}
 use Rattle.amqp_model.specs.ItemLaws.{clash}
 
 alike : (a b : Bool) → (a ≡ true → b ≡ true) → (b ≡ true → a ≡ true) → a ≡ b

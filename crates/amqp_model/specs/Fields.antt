@@ -4,16 +4,16 @@ use Rattle.amqp_model.specs.Term.{null, Term, leaf}
 use Rattle.amqp_model.specs.Items.{without_last_nulls}
 use Rattle.amqp_model.specs.FieldType.{normal}
 use Rattle.amqp_model.specs.Slot.{Slot}
-use Rattle.amqp_model.specs.declared.tables.FieldKind.{FieldKind}
+use Rattle.amqp_model.specs.declared.tables.FieldRule.{FieldRule}
 
 -- A table of the fields of V in their order: for each, how it is got from the value, and what terms mean in it.
 pub data Fields (V : Type 0) : Type 1 where
   none : Fields V
   field : {T : Type 0} → (V → T) → Slot T → Fields V → Fields V
 
-abbrev pub kinds_of : {V : Type 0} → Fields V → List FieldKind
-kinds_of none = []
-kinds_of (field get s fs) = s.kind ∷ kinds_of fs
+abbrev pub rules_of : {V : Type 0} → Fields V → List FieldRule
+rules_of none = []
+rules_of (field get s fs) = s.rule ∷ rules_of fs
 
 -- The items are the value: each means what its field holds, a missing one is as null, and there are no more than fields.
 unfoldable pub Fits : {V : Type 0} → Fields V → List Term → V → Type 0

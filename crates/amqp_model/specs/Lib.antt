@@ -10,7 +10,7 @@ pub mod Standing
 pub mod Items
 pub mod ItemLaws
 pub mod FieldType
-pub mod Kinds
+pub mod FieldRules
 pub mod OptionLaws
 pub mod DefaultLaws
 pub mod ArrayLaws

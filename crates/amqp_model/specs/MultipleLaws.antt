@@ -4,8 +4,8 @@ use Rattle.amqp_model.specs.Term.{Term, empty_multiple, null, leaf, barred}
 use Rattle.amqp_model.specs.Items.{is_null, several, IsFree}
 use Rattle.amqp_model.specs.ItemLaws.{items_of-terms_of, several_null}
 use Rattle.amqp_model.specs.FieldType.{normal, by_norm, Meaning}
-use Rattle.amqp_model.specs.Kinds.{SameOption, ArrayOf, SomeMean, MultipleMeans, array_or, multiple_canon, some_or_none, multiple_normal}
-use Rattle.amqp_model.specs.Kinds.{SameContents}
+use Rattle.amqp_model.specs.FieldRules.{SameOption, ArrayOf, SomeMean, MultipleMeans, array_or, multiple_canon, some_or_none, multiple_normal}
+use Rattle.amqp_model.specs.FieldRules.{SameContents}
 use Rattle.amqp_model.specs.OptionLaws.{option_refl, option_sym, option_trans, same_is_value}
 use Rattle.amqp_model.specs.ArrayLaws.{each_refl, each_sym, each_trans, each_same_value, each_same_canon, each_same_means, each_one}
 use Rattle.amqp_model.specs.ArrayLaws.{each_canon_means, each_norm_canon, each_norm_norm, each_value, each_own, each_free}

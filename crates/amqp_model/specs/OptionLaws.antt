@@ -4,7 +4,7 @@ use Rattle.amqp_model.specs.Term.{Term, null, leaf}
 use Rattle.amqp_model.specs.Items.{is_null, IsFree}
 use Rattle.amqp_model.specs.ItemLaws.{clash}
 use Rattle.amqp_model.specs.FieldType.{Norm, normal, unchanged, by_norm, Meaning, NeverNull}
-use Rattle.amqp_model.specs.Kinds.{OptionMeans, option_canon, option_norm, SameOption}
+use Rattle.amqp_model.specs.FieldRules.{OptionMeans, option_canon, option_norm, SameOption}
 
 none_normal : {T : Type 0} (n : Norm T) → normal (option_norm n) None ≡ None
 none_normal unchanged = refl

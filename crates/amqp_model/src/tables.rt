@@ -8,13 +8,13 @@ ghost use Rattle.amqp_model.specs.ItemLaws.{AreFree};
 ghost use Rattle.amqp_model.specs.Ranges.{IsNoArray};
 ghost use Rattle.amqp_model.specs.FieldType.{normal};
 ghost use Rattle.amqp_model.specs.Slot.{is_required, mandatory, optional, default, multiple, mandatory_multiple};
-ghost use Rattle.amqp_model.specs.Fields.{kinds_of, Fits, canonical_items, AreValues, Same};
+ghost use Rattle.amqp_model.specs.Fields.{rules_of, Fits, canonical_items, AreValues, Same};
 ghost use Rattle.amqp_model.specs.Composite.{MeansComposite, canonical_term};
-ghost use Rattle.amqp_model.specs.declared.tables.FieldKind.TheVariants.{Optional};
+ghost use Rattle.amqp_model.specs.declared.tables.FieldRule.TheVariants.{Optional};
 
-/// The kinds of field (Part 1, section 1.4).
+/// The rules of fields (Part 1, section 1.4).
 #[derive(Clone, Copy, Debug, PartialEq, Eq)]
-pub enum FieldKind {
+pub enum FieldRule {
     /// A value must be there.
     Mandatory,
     /// Null is no value.
@@ -75,11 +75,11 @@ pub fn same_values<C: HasTable>()
 
 /// There are no more items than fields; a null at the end is as a missing item, and neither fits a field that is required.
 pub fn missing_items<C: HasTable>()
-    ensures no_surplus { (items : List Term) (v : C) → Fits C.table.fields items v → length items ≤ length (kinds_of C.table.fields) }
-    ensures as_null { (items : List Term) (v : C) → length items < length (kinds_of C.table.fields)
+    ensures no_surplus { (items : List Term) (v : C) → Fits C.table.fields items v → length items ≤ length (rules_of C.table.fields) }
+    ensures as_null { (items : List Term) (v : C) → length items < length (rules_of C.table.fields)
         → (Fits C.table.fields (items ++ leaf null ∷ []) v ↔ Fits C.table.fields items v) }
     ensures required { (items : List Term) (v : C) (index : ℕ) → Fits C.table.fields items v
-        → is_required (get_or (kinds_of C.table.fields) index Optional) ≡ true → is_null (get_or items index (leaf null)) ≡ false }
+        → is_required (get_or (rules_of C.table.fields) index Optional) ≡ true → is_null (get_or items index (leaf null)) ≡ false }
 {}
 
 /// A composite is a described list whose items fit; its descriptor is the code or the name, and the canonical one is the code.
@@ -113,7 +113,7 @@ pub fn mandatory_and_optional_fields<T: HasFieldType>()
 /// A type of fields with a default value.
 pub trait HasDefault {
     ghost use Rattle.amqp_model.specs.FieldType.{FieldType};
-    ghost use Rattle.amqp_model.specs.Kinds.{DefaultValue};
+    ghost use Rattle.amqp_model.specs.FieldRules.{DefaultValue};
 
     ghost field_type: { FieldType Self };
 
@@ -134,7 +134,7 @@ pub fn default_fields<T: HasDefault>()
 /// A type whose values hold any number of items of another type.
 pub trait HasItems<A> {
     ghost use Rattle.amqp_model.specs.FieldType.{FieldType};
-    ghost use Rattle.amqp_model.specs.Kinds.{ArrayOf};
+    ghost use Rattle.amqp_model.specs.FieldRules.{ArrayOf};
 
     ghost item: { FieldType A };
 

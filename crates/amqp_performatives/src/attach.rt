@@ -5,7 +5,7 @@ ghost use Rattle.amqp_performatives.specs.Tables.{attach};
 use crate::Unsettled;
 use crate::unsettled::write_term;
 use amqp_codec::kernel::{
-    Composite, CompositeTerm, FieldKind, Table, read_into, read_some, write_composite,
+    Composite, CompositeTerm, FieldRule, Table, read_into, read_some, write_composite,
 };
 use amqp_codec::{ByteSource, Decoder, Encoder, Error, Serialize, SerializeTerm, Symbol};
 use amqp_containers::Array;
@@ -60,20 +60,20 @@ impl Composite for Attach {
         Table {
             descriptor: Attach::DESCRIPTOR,
             fields: &[
-                FieldKind::Mandatory,
-                FieldKind::Mandatory,
-                FieldKind::Mandatory,
-                FieldKind::Default,
-                FieldKind::Default,
-                FieldKind::Optional,
-                FieldKind::Optional,
-                FieldKind::Optional,
-                FieldKind::Default,
-                FieldKind::Optional,
-                FieldKind::Optional,
-                FieldKind::Multiple,
-                FieldKind::Multiple,
-                FieldKind::Optional,
+                FieldRule::Mandatory,
+                FieldRule::Mandatory,
+                FieldRule::Mandatory,
+                FieldRule::Default,
+                FieldRule::Default,
+                FieldRule::Optional,
+                FieldRule::Optional,
+                FieldRule::Optional,
+                FieldRule::Default,
+                FieldRule::Optional,
+                FieldRule::Optional,
+                FieldRule::Multiple,
+                FieldRule::Multiple,
+                FieldRule::Optional,
             ],
         }
     }

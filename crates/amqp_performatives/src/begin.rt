@@ -3,7 +3,7 @@ ghost use Rattle.amqp_enums.specs.Types.{composite, one_term, refl, agreement, w
 ghost use Rattle.amqp_performatives.specs.Tables.{begin};
 
 use amqp_codec::kernel::{
-    Composite, CompositeTerm, FieldKind, Table, read_into, read_some, write_composite,
+    Composite, CompositeTerm, FieldRule, Table, read_into, read_some, write_composite,
 };
 use amqp_codec::{ByteSource, Decoder, Encoder, Error, Serialize, SerializeTerm, Symbol};
 use amqp_containers::Array;
@@ -45,14 +45,14 @@ impl Composite for Begin {
         Table {
             descriptor: Begin::DESCRIPTOR,
             fields: &[
-                FieldKind::Optional,
-                FieldKind::Mandatory,
-                FieldKind::Mandatory,
-                FieldKind::Mandatory,
-                FieldKind::Default,
-                FieldKind::Multiple,
-                FieldKind::Multiple,
-                FieldKind::Optional,
+                FieldRule::Optional,
+                FieldRule::Mandatory,
+                FieldRule::Mandatory,
+                FieldRule::Mandatory,
+                FieldRule::Default,
+                FieldRule::Multiple,
+                FieldRule::Multiple,
+                FieldRule::Optional,
             ],
         }
     }

@@ -3,7 +3,7 @@ ghost use Rattle.std.specs.Prelude.{◌≡◌};
 ghost use Rattle.amqp_enums.specs.Types.{composite, one_term, refl, agreement, writing_of};
 ghost use Rattle.amqp_performatives.specs.Tables.{close};
 
-use amqp_codec::kernel::{Composite, CompositeTerm, FieldKind, Table, read_some, write_composite};
+use amqp_codec::kernel::{Composite, CompositeTerm, FieldRule, Table, read_some, write_composite};
 use amqp_codec::{ByteSource, Decoder, Encoder, Error as CodecError, Serialize, SerializeTerm};
 use amqp_errors::Error;
 use amqp_fields::field_in_type;
@@ -34,7 +34,7 @@ impl Composite for Close {
     fn table() -> Table {
         Table {
             descriptor: Close::DESCRIPTOR,
-            fields: &[FieldKind::Optional],
+            fields: &[FieldRule::Optional],
         }
     }
 

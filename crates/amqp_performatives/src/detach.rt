@@ -3,7 +3,7 @@ ghost use Rattle.amqp_enums.specs.Types.{composite, one_term, refl, agreement, w
 ghost use Rattle.amqp_performatives.specs.Tables.{detach};
 
 use amqp_codec::kernel::{
-    Composite, CompositeTerm, FieldKind, Table, read_into, read_some, write_composite,
+    Composite, CompositeTerm, FieldRule, Table, read_into, read_some, write_composite,
 };
 use amqp_codec::{ByteSource, Decoder, Encoder, Error as CodecError, Serialize, SerializeTerm};
 use amqp_errors::Error;
@@ -34,9 +34,9 @@ impl Composite for Detach {
         Table {
             descriptor: Detach::DESCRIPTOR,
             fields: &[
-                FieldKind::Mandatory,
-                FieldKind::Default,
-                FieldKind::Optional,
+                FieldRule::Mandatory,
+                FieldRule::Default,
+                FieldRule::Optional,
             ],
         }
     }

@@ -3,7 +3,7 @@ ghost use Rattle.amqp_enums.specs.Types.{composite, one_term, refl, agreement, w
 ghost use Rattle.amqp_performatives.specs.Tables.{disposition};
 
 use amqp_codec::kernel::{
-    Composite, CompositeTerm, FieldKind, Table, read_into, read_some, write_composite,
+    Composite, CompositeTerm, FieldRule, Table, read_into, read_some, write_composite,
 };
 use amqp_codec::{ByteSource, Decoder, Encoder, Error, Serialize, SerializeTerm};
 use amqp_delivery::DeliveryState;
@@ -40,12 +40,12 @@ impl Composite for Disposition {
         Table {
             descriptor: Disposition::DESCRIPTOR,
             fields: &[
-                FieldKind::Mandatory,
-                FieldKind::Mandatory,
-                FieldKind::Optional,
-                FieldKind::Default,
-                FieldKind::Optional,
-                FieldKind::Default,
+                FieldRule::Mandatory,
+                FieldRule::Mandatory,
+                FieldRule::Optional,
+                FieldRule::Default,
+                FieldRule::Optional,
+                FieldRule::Default,
             ],
         }
     }

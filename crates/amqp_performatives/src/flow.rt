@@ -3,7 +3,7 @@ ghost use Rattle.amqp_enums.specs.Types.{composite, one_term, refl, agreement, w
 ghost use Rattle.amqp_performatives.specs.Tables.{flow};
 
 use amqp_codec::kernel::{
-    Composite, CompositeTerm, FieldKind, Table, read_into, read_some, write_composite,
+    Composite, CompositeTerm, FieldRule, Table, read_into, read_some, write_composite,
 };
 use amqp_codec::{ByteSource, Decoder, Encoder, Error, Serialize, SerializeTerm};
 use amqp_fields::{Fields, field_in_type};
@@ -49,17 +49,17 @@ impl Composite for Flow {
         Table {
             descriptor: Flow::DESCRIPTOR,
             fields: &[
-                FieldKind::Optional,
-                FieldKind::Mandatory,
-                FieldKind::Mandatory,
-                FieldKind::Mandatory,
-                FieldKind::Optional,
-                FieldKind::Optional,
-                FieldKind::Optional,
-                FieldKind::Optional,
-                FieldKind::Default,
-                FieldKind::Default,
-                FieldKind::Optional,
+                FieldRule::Optional,
+                FieldRule::Mandatory,
+                FieldRule::Mandatory,
+                FieldRule::Mandatory,
+                FieldRule::Optional,
+                FieldRule::Optional,
+                FieldRule::Optional,
+                FieldRule::Optional,
+                FieldRule::Default,
+                FieldRule::Default,
+                FieldRule::Optional,
             ],
         }
     }

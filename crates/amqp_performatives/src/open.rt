@@ -3,7 +3,7 @@ ghost use Rattle.amqp_enums.specs.Types.{composite, one_term, refl, agreement, w
 ghost use Rattle.amqp_performatives.specs.Tables.{opening};
 
 use amqp_codec::kernel::{
-    Composite, CompositeTerm, FieldKind, Table, read_into, read_some, write_composite,
+    Composite, CompositeTerm, FieldRule, Table, read_into, read_some, write_composite,
 };
 use amqp_codec::{ByteSource, Decoder, Encoder, Error, Serialize, SerializeTerm, Symbol};
 use amqp_containers::Array;
@@ -49,16 +49,16 @@ impl Composite for Open {
         Table {
             descriptor: Open::DESCRIPTOR,
             fields: &[
-                FieldKind::Mandatory,
-                FieldKind::Optional,
-                FieldKind::Default,
-                FieldKind::Default,
-                FieldKind::Optional,
-                FieldKind::Multiple,
-                FieldKind::Multiple,
-                FieldKind::Multiple,
-                FieldKind::Multiple,
-                FieldKind::Optional,
+                FieldRule::Mandatory,
+                FieldRule::Optional,
+                FieldRule::Default,
+                FieldRule::Default,
+                FieldRule::Optional,
+                FieldRule::Multiple,
+                FieldRule::Multiple,
+                FieldRule::Multiple,
+                FieldRule::Multiple,
+                FieldRule::Optional,
             ],
         }
     }

@@ -3,7 +3,7 @@ ghost use Rattle.amqp_enums.specs.Types.{composite, one_term, refl, agreement, w
 ghost use Rattle.amqp_performatives.specs.Tables.{transfer};
 
 use amqp_codec::kernel::{
-    Composite, CompositeTerm, FieldKind, Table, read_into, read_some, write_composite,
+    Composite, CompositeTerm, FieldRule, Table, read_into, read_some, write_composite,
 };
 use amqp_codec::{ByteSource, Decoder, Encoder, Error, Serialize, SerializeTerm};
 use amqp_delivery::DeliveryState;
@@ -52,17 +52,17 @@ impl Composite for Transfer {
         Table {
             descriptor: Transfer::DESCRIPTOR,
             fields: &[
-                FieldKind::Mandatory,
-                FieldKind::Optional,
-                FieldKind::Optional,
-                FieldKind::Optional,
-                FieldKind::Optional,
-                FieldKind::Default,
-                FieldKind::Optional,
-                FieldKind::Optional,
-                FieldKind::Default,
-                FieldKind::Default,
-                FieldKind::Default,
+                FieldRule::Mandatory,
+                FieldRule::Optional,
+                FieldRule::Optional,
+                FieldRule::Optional,
+                FieldRule::Optional,
+                FieldRule::Default,
+                FieldRule::Optional,
+                FieldRule::Optional,
+                FieldRule::Default,
+                FieldRule::Default,
+                FieldRule::Default,
             ],
         }
     }

@@ -1,6 +1,6 @@
 -- Default values of fields.
 use Rattle.std.proofs.Common.{◌≡◌, Bool, true, false, not, refl}
-use Rattle.amqp_model.specs.Kinds.{DefaultValue}
+use Rattle.amqp_model.specs.FieldRules.{DefaultValue}
 use Rattle.amqp_codec.specs.FieldTypes.{field_type}
 use Rattle.amqp_enums.specs.Types.{boolean_type}
 

@@ -1,6 +1,6 @@
 -- The default values of termini (Part 3, sections 3.5.3 and 3.5.4).
 use Rattle.std.proofs.Common.{◌≡◌, ◌<◌, ◌^◌, Bool, true, false, refl, arith}
-use Rattle.amqp_model.specs.Kinds.{DefaultValue}
+use Rattle.amqp_model.specs.FieldRules.{DefaultValue}
 use Rattle.amqp_codec.specs.FieldTypes.{field_type}
 use Rattle.amqp_enums.specs.Types.{uint_type}
 use Rattle.amqp_restricted_types.specs.ToldByDefault.{numbered_default}

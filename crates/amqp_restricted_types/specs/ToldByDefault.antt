@@ -3,7 +3,7 @@ use Rattle.std.proofs.Common.{◌≡◌, ℕ, ap}
 use Rattle.std.specs.Prelude.{nat_eq}
 use Rattle.std.proofs.lemmas.Bool.Decides.{Decides-eqb}
 use Rattle.amqp_model.specs.FieldType.{Meaning, normal}
-use Rattle.amqp_model.specs.Kinds.{DefaultValue}
+use Rattle.amqp_model.specs.FieldRules.{DefaultValue}
 
 abbrev pub numbered_default : {T : Type 0} (m : Meaning T) (number : T → ℕ) (value : T)
     → ((v : T) → number v ≡ number value → m.same v value)

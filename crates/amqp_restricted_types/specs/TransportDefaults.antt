@@ -1,6 +1,6 @@
 -- The default values of performatives (Part 2, section 2.7).
 use Rattle.std.proofs.Common.{◌≡◌, ◌<◌, ◌^◌, Bool, true, false, refl, arith}
-use Rattle.amqp_model.specs.Kinds.{DefaultValue}
+use Rattle.amqp_model.specs.FieldRules.{DefaultValue}
 use Rattle.amqp_codec.specs.FieldTypes.{field_type}
 use Rattle.amqp_restricted_types.specs.ToldByDefault.{numbered_default}
 use Rattle.amqp_restricted_types.specs.Transport.{channel_max_type, handle_type, max_frame_size_type}

@@ -2,7 +2,7 @@
 ghost use Rattle.amqp_enums.specs.Types.{composite, one_term, refl, agreement, writing_of};
 ghost use Rattle.amqp_sasl.specs.Tables.{sasl_challenge};
 
-use amqp_codec::kernel::{Composite, CompositeTerm, FieldKind, Table, read_into, write_composite};
+use amqp_codec::kernel::{Composite, CompositeTerm, FieldRule, Table, read_into, write_composite};
 use amqp_codec::{ByteSource, Decoder, Encoder, Error, Serialize, SerializeTerm};
 use amqp_primitives::Binary;
 use std::alloc::Global;
@@ -25,7 +25,7 @@ impl Composite for SaslChallenge {
     fn table() -> Table {
         Table {
             descriptor: SaslChallenge::DESCRIPTOR,
-            fields: &[FieldKind::Mandatory],
+            fields: &[FieldRule::Mandatory],
         }
     }
 

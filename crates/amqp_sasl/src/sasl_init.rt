@@ -3,7 +3,7 @@ ghost use Rattle.amqp_enums.specs.Types.{composite, one_term, refl, agreement, w
 ghost use Rattle.amqp_sasl.specs.Tables.{sasl_init};
 
 use amqp_codec::kernel::{
-    Composite, CompositeTerm, FieldKind, Table, read_into, read_some, write_composite,
+    Composite, CompositeTerm, FieldRule, Table, read_into, read_some, write_composite,
 };
 use amqp_codec::{ByteSource, Decoder, Encoder, Error, Serialize, SerializeTerm, Symbol};
 use amqp_primitives::Binary;
@@ -32,9 +32,9 @@ impl Composite for SaslInit {
         Table {
             descriptor: SaslInit::DESCRIPTOR,
             fields: &[
-                FieldKind::Mandatory,
-                FieldKind::Optional,
-                FieldKind::Optional,
+                FieldRule::Mandatory,
+                FieldRule::Optional,
+                FieldRule::Optional,
             ],
         }
     }

@@ -6,7 +6,7 @@ ghost use Rattle.amqp_enums.specs.Types.{composite, one_term, refl, agreement, w
 ghost use Rattle.amqp_sasl.specs.Tables.{sasl_mechanisms};
 
 use crate::constants::ANONYMOUS;
-use amqp_codec::kernel::{Composite, CompositeTerm, FieldKind, Table, write_composite};
+use amqp_codec::kernel::{Composite, CompositeTerm, FieldRule, Table, write_composite};
 use amqp_codec::{ByteSource, Decoder, Encoder, Error, Serialize, SerializeTerm, Symbol};
 use amqp_containers::Array;
 use amqp_containers::multiple::{
@@ -57,7 +57,7 @@ impl Composite for SaslMechanisms {
     fn table() -> Table {
         Table {
             descriptor: SaslMechanisms::DESCRIPTOR,
-            fields: &[FieldKind::MandatoryMultiple],
+            fields: &[FieldRule::MandatoryMultiple],
         }
     }
 

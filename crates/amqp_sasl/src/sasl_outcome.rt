@@ -3,7 +3,7 @@ ghost use Rattle.amqp_enums.specs.Types.{composite, one_term, refl, agreement, w
 ghost use Rattle.amqp_sasl.specs.Tables.{sasl_outcome};
 
 use amqp_codec::kernel::{
-    Composite, CompositeTerm, FieldKind, Table, read_into, read_some, write_composite,
+    Composite, CompositeTerm, FieldRule, Table, read_into, read_some, write_composite,
 };
 use amqp_codec::{ByteSource, Decoder, Encoder, Error, Serialize, SerializeTerm};
 use amqp_primitives::Binary;
@@ -30,7 +30,7 @@ impl Composite for SaslOutcome {
     fn table() -> Table {
         Table {
             descriptor: SaslOutcome::DESCRIPTOR,
-            fields: &[FieldKind::Mandatory, FieldKind::Optional],
+            fields: &[FieldRule::Mandatory, FieldRule::Optional],
         }
     }
 

@@ -3,7 +3,7 @@ ghost use Rattle.std.specs.Prelude.{◌≡◌, None};
 ghost use Rattle.amqp_enums.specs.Types.{composite, one_term, refl, agreement, writing_of};
 ghost use Rattle.amqp_termini.specs.Tables.{coordinator};
 
-use amqp_codec::kernel::{Composite, CompositeTerm, FieldKind, Table, write_composite};
+use amqp_codec::kernel::{Composite, CompositeTerm, FieldRule, Table, write_composite};
 use amqp_codec::{ByteSource, Decoder, Encoder, Error, Serialize, SerializeTerm};
 use amqp_containers::Array;
 use amqp_containers::multiple::{is_null_multiple, read_multiple, write_multiple};
@@ -44,7 +44,7 @@ impl Composite for Coordinator {
     fn table() -> Table {
         Table {
             descriptor: Coordinator::DESCRIPTOR,
-            fields: &[FieldKind::Multiple],
+            fields: &[FieldRule::Multiple],
         }
     }
 

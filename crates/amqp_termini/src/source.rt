@@ -6,7 +6,7 @@ ghost use Rattle.amqp_termini.specs.Tables.{source};
 
 use crate::{Address, FilterSet, NodeProperties, SourceBuilder};
 use amqp_codec::kernel::{
-    Composite, CompositeTerm, FieldKind, Table, read_into, read_some, write_composite,
+    Composite, CompositeTerm, FieldRule, Table, read_into, read_some, write_composite,
 };
 use amqp_codec::{ByteSource, Decoder, Encoder, Error, Serialize, SerializeTerm, Symbol};
 use amqp_containers::Array;
@@ -95,17 +95,17 @@ impl Composite for Source {
         Table {
             descriptor: Source::DESCRIPTOR,
             fields: &[
-                FieldKind::Optional,
-                FieldKind::Default,
-                FieldKind::Default,
-                FieldKind::Default,
-                FieldKind::Default,
-                FieldKind::Optional,
-                FieldKind::Optional,
-                FieldKind::Optional,
-                FieldKind::Optional,
-                FieldKind::Multiple,
-                FieldKind::Multiple,
+                FieldRule::Optional,
+                FieldRule::Default,
+                FieldRule::Default,
+                FieldRule::Default,
+                FieldRule::Default,
+                FieldRule::Optional,
+                FieldRule::Optional,
+                FieldRule::Optional,
+                FieldRule::Optional,
+                FieldRule::Multiple,
+                FieldRule::Multiple,
             ],
         }
     }

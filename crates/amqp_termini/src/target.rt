@@ -6,7 +6,7 @@ ghost use Rattle.amqp_termini.specs.Tables.{target};
 
 use crate::{Address, NodeProperties, TargetBuilder};
 use amqp_codec::kernel::{
-    Composite, CompositeTerm, FieldKind, Table, read_into, read_some, write_composite,
+    Composite, CompositeTerm, FieldRule, Table, read_into, read_some, write_composite,
 };
 use amqp_codec::{ByteSource, Decoder, Encoder, Error, Serialize, SerializeTerm, Symbol};
 use amqp_containers::Array;
@@ -82,13 +82,13 @@ impl Composite for Target {
         Table {
             descriptor: Target::DESCRIPTOR,
             fields: &[
-                FieldKind::Optional,
-                FieldKind::Default,
-                FieldKind::Default,
-                FieldKind::Default,
-                FieldKind::Default,
-                FieldKind::Optional,
-                FieldKind::Multiple,
+                FieldRule::Optional,
+                FieldRule::Default,
+                FieldRule::Default,
+                FieldRule::Default,
+                FieldRule::Default,
+                FieldRule::Optional,
+                FieldRule::Multiple,
             ],
         }
     }

@@ -5,7 +5,7 @@ use Rattle.amqp_model.specs.Term.{Container, Descriptor, Term}
 use Rattle.amqp_model.specs.Standing.{Standing}
 use Rattle.amqp_model.specs.ItemLaws.{clash}
 use Rattle.amqp_wire.specs.declared.error.Error.{Error}
-use Rattle.amqp_decoder.specs.declared.frame.OpenKind.TheVariants.{InArray}
+use Rattle.amqp_decoder.specs.declared.frame.Place.TheVariants.{InArray}
 use Rattle.amqp_decoder.specs.State.{State, in_container}
 use Rattle.amqp_decoder.specs.Reading.{AnswersRead, RefusesRead, PeeksCode, BeginFault, after_peek}
 use Rattle.amqp_decoder.specs.Primitives.{ReadsValue}

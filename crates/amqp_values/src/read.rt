@@ -23,12 +23,9 @@ use amqp_decoder::Decoder;
 use amqp_described::Described;
 use amqp_kinds::{Kind, kind_of, read_as};
 use amqp_primitives::{Binary, Dec32, Dec64, Dec128, Timestamp, Uuid};
+use amqp_wire::nesting::LEVELS;
 use amqp_wire::{ByteSource, Error, Symbol};
 use std::alloc::Global;
-
-// How many levels of others a value may hold: containers and described values nest 128 deep, and the innermost of them may hold an array of
-// primitives besides.
-const LEVELS: usize = 129;
 
 // One level less. None is left only in an array as deep as one may stand, in which no other container opens.
 fn one_less<R: ByteSource>(decoder: &mut Decoder<R>, levels: usize) -> Result<usize, Error>

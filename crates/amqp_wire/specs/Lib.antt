@@ -1,4 +1,5 @@
 pub mod Codes
+pub mod Containers
 pub mod Error
 pub mod Refusals
 pub mod Sources

@@ -1,14 +1,17 @@
-//! What every layer of the AMQP 1.0 codec speaks of: errors, the sources that bytes are read from, symbols, descriptors, and the
-//! format codes of constructors (Part 1, sections 1.2 and 1.6).
+//! What every layer of the AMQP 1.0 codec speaks of: errors, the sources that bytes are read from, symbols, descriptors, the
+//! format codes of constructors, and how deep values nest (Part 1, sections 1.2 and 1.6).
 #![tactic(auto)]
 
+pub mod container;
 pub mod descriptor;
 pub mod error;
 pub mod format_code;
+pub mod nesting;
 pub mod read_source;
 pub mod source;
 pub mod symbol;
 
+pub use container::Container;
 pub use descriptor::Descriptor;
 pub use error::Error;
 pub use read_source::ReadSource;

@@ -5,14 +5,14 @@ ghost use Rattle.amqp_decoder.specs.Containers.{AtEnd, EndFault};
 ghost use Rattle.amqp_wire.specs.declared.error.Error.TheVariants.{Depth};
 ghost use Rattle.amqp_decoder.specs.Described.{in_described};
 ghost use Rattle.amqp_decoder.specs.State.{Open, IsContainer, unshared};
-ghost use Rattle.amqp_decoder.specs.declared.frame.OpenKind.TheVariants.{InDescribed};
+ghost use Rattle.amqp_decoder.specs.declared.frame.Place.TheVariants.{InDescribed};
 ghost use Rattle.amqp_decoder.specs.Reading.{AnswersRead};
 ghost use Rattle.amqp_decoder.specs.Rooms.{HasRoom};
 ghost use Rattle.amqp_decoder.specs.Steps.{RefusesSize};
 
 use super::Decoder;
-use crate::frame::{OpenContainer, OpenKind, ROW};
-use amqp_lengths::NESTING;
+use crate::frame::{OpenContainer, Place};
+use amqp_wire::nesting::{LEVELS, NESTING};
 use amqp_wire::{ByteSource, Error};
 
 impl<R: ByteSource> Decoder<R> {
@@ -53,7 +53,7 @@ impl<R: ByteSource> Decoder<R> {
         ensures err { IfErr result (λ e. (e ≡ Depth) × (129 ≤ length self.old.saved)
             × (self.new ≡ record self.old { error = Some Depth })) }
     {
-        if self.depth >= ROW {
+        if self.depth >= LEVELS {
             return Err(self.refuse(Error::Depth));
         }
         let last = self.top.last;
@@ -118,7 +118,7 @@ impl<R: ByteSource> Decoder<R> {
             self.depth += 1;
             self.top = OpenContainer {
                 items: 1,
-                place: OpenKind::InDescribed,
+                place: Place::InDescribed,
                 first: outer.first.saturating_add(1),
                 ..outer
             };
@@ -129,7 +129,7 @@ impl<R: ByteSource> Decoder<R> {
 
     // The open container is of this kind.
     #[inline]
-    pub(crate) fn is_in(&self, place: OpenKind) -> bool
+    pub(crate) fn is_in(&self, place: Place) -> bool
         ensures { IsTrue result ↔ (self.now.top.place ≡ place) }
     {
         self.top.place == place
@@ -137,7 +137,7 @@ impl<R: ByteSource> Decoder<R> {
 
     // The open container is of this kind, and no item of it is left.
     #[inline]
-    pub(crate) fn check_end(&mut self, place: OpenKind) -> Result<(), Error>
+    pub(crate) fn check_end(&mut self, place: Place) -> Result<(), Error>
         ensures { AnswersRead false (λ st _ st'. AtEnd place st st') (EndFault place) self.old result self.new }
     {
         self.check()?;

@@ -3,14 +3,14 @@ ghost use Rattle.std.specs.Prelude.{◌≡◌, ℕ, [], Some, IfOk, IfErr, ◌�
 ghost use Rattle.amqp_wire.specs.Sources.{Tells};
 ghost use Rattle.amqp_lookahead.specs.Sections.{IsSectionAhead};
 ghost use Rattle.amqp_decoder.specs.State.{top_level};
-ghost use Rattle.amqp_decoder.specs.declared.frame.OpenKind.TheVariants.{Top};
+ghost use Rattle.amqp_decoder.specs.declared.frame.Place.TheVariants.{Top};
 ghost use Rattle.amqp_decoder.specs.Sections.{LooksOn};
 ghost use Rattle.amqp_decoder.specs.Steps.{Answers, SourceFailed};
 ghost use Rattle.amqp_decoder.specs.Reading.{AnswersRead};
 ghost use Rattle.amqp_decoder.specs.Sections.{IsTop, NotTop, Ends, PeeksSection};
 
 use super::Decoder;
-use crate::frame::OpenKind;
+use crate::frame::Place;
 use amqp_wire::{ByteSource, Error};
 
 impl<R: ByteSource> Decoder<R> {
@@ -19,7 +19,7 @@ impl<R: ByteSource> Decoder<R> {
         ensures is { IsTrue result ↔ ((self.now.top.place ≡ Top) × (self.now.saved ≡ [])) }
         ensures level { self.now.top.place ≡ Top → self.now.top ≡ top_level }
     {
-        self.top.place == OpenKind::Top && self.depth == 0
+        self.top.place == Place::Top && self.depth == 0
     }
 
     // The code of the section whose descriptor stands next.

@@ -3,14 +3,14 @@ ghost use Rattle.std.specs.Prelude.{◌≤◌, ◌≡◌, ◌<◌, length, map, 
 ghost use Rattle.amqp_wire.specs.declared.error.Error.TheVariants.{Memory};
 ghost use Rattle.amqp_decoder.specs.Described.{IsUnmarked, IsMark};
 ghost use Rattle.amqp_decoder.specs.State.{descriptor_of};
-ghost use Rattle.amqp_decoder.specs.declared.frame.OpenKind.TheVariants.{InArray};
+ghost use Rattle.amqp_decoder.specs.declared.frame.Place.TheVariants.{InArray};
 ghost use Rattle.amqp_decoder.specs.Reading.{IsFirstShared};
 ghost use Rattle.amqp_model.specs.Constructors.{format};
 ghost use Rattle.amqp_decoder.specs.Arrays.{IsFlat};
 ghost use Rattle.amqp_decoder.specs.Steps.{Answers};
 
 use super::Decoder;
-use crate::frame::{OpenContainer, OpenKind, descriptors_in};
+use crate::frame::{OpenContainer, Place, descriptors_in};
 use amqp_wire::{ByteSource, Descriptor, Error, format_code};
 
 impl<R: ByteSource> Decoder<R> {
@@ -63,7 +63,7 @@ impl<R: ByteSource> Decoder<R> {
     {
         let first = descriptors_in(&self.frames[..self.depth]);
         let last = first + descriptors.len() as u16;
-        self.top.place = OpenKind::InArray;
+        self.top.place = Place::InArray;
         self.top.items = 0;
         self.top.last = first;
         self.descriptors.truncate(usize::from(first));

@@ -4,7 +4,7 @@ use Rattle.amqp_codec.proofs.fields.count_items.Goals as goal
 
 pub loop-count-init : goal.loop-count-init
 loop-count-init g c =
-    let all = ap length c.kinds-count.ensures in
+    let all = ap length c.field_rules-count.ensures in
     record { within = omega (arith, all); trims = trim_start g.L.FieldList.list.fields _ c.args.value.now all }
 
 pub loop-count-preserved : goal.loop-count-preserved

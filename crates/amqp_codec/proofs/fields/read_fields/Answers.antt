@@ -1,7 +1,7 @@
 use Rattle.std.proofs.Common.{Some, arith, add-one, ap, sym, ◌∙◌, ◌≡◌, ◌<◌, length, get_or}
 use Rattle.std.proofs.lemmas.Result.{err_from_is_err_and}
-use Rattle.amqp_model.specs.Fields.{kinds_of}
-use Rattle.amqp_model.specs.declared.tables.FieldKind.TheVariants.{Mandatory}
+use Rattle.amqp_model.specs.Fields.{rules_of}
+use Rattle.amqp_model.specs.declared.tables.FieldRule.TheVariants.{Mandatory}
 use Rattle.amqp_decoder.proofs.Steps.{answered}
 use Rattle.amqp_codec.specs.Fields.{slots}
 use Rattle.amqp_codec.specs.FieldReading.{absence, not_absent}
@@ -21,8 +21,8 @@ loop-index-init g c tells = none_so_far g.L.FieldList.list.fields _ _ _ _ (c.in_
 pub returns-in_err-read_item : goal.returns-in_err-read_item
 returns-in_err-read_item g c tells =
     let fs = g.L.FieldList.list.fields in
-    let within : c.loop-index.index < length (kinds_of (slots fs)) =
-    omega (arith, ap length c.kinds-kind-items.ensures, c.loop-index-test.true) in
+    let within : c.loop-index.index < length (rules_of (slots fs)) =
+    omega (arith, ap length c.field_rules-rule-items.ensures, c.loop-index-test.true) in
     let h = c.loop-index.invariant tells in
     let p = err_from_is_err_and c.from_residual-in_err-read_item.result c.from_residual-in_err-read_item.ensures.1 in
     rw (p.1, p.2) (item_refused fs _ _ _ _ _ _ _ c.if-index-count.true within (so_far_still fs _ _ _ _ _ h) h
@@ -32,9 +32,9 @@ pub returns-in-Some : goal.returns-in-Some
 returns-in-Some g c tells =
     let fs = g.L.FieldList.list.fields in
     let i = c.loop-index.index in
-    let within : i < length (kinds_of (slots fs)) = omega (arith, ap length c.kinds-kind-items.ensures, c.loop-index-test.true) in
+    let within : i < length (rules_of (slots fs)) = omega (arith, ap length c.field_rules-rule-items.ensures, c.loop-index-test.true) in
     left_out_refused fs _ _ _ _ _ _ _ c.if-index-count.false within
-    (ap (λ l. absence (get_or l i Mandatory)) (sym c.kinds-kind-items.ensures) ∙ sym c.in-Some.ensures
+    (ap (λ l. absence (get_or l i Mandatory)) (sym c.field_rules-rule-items.ensures) ∙ sym c.in-Some.ensures
     ∙ ap Some (sym c.refuse.ensures.answer)) (answered _ _ _ _ c.refuse.ensures.kept c.refuse.ensures.answer)
     (c.loop-index.invariant tells)
 
@@ -42,21 +42,21 @@ pub loop-index-preserved : goal.loop-index-preserved
 loop-index-preserved g c tells =
     let fs = g.L.FieldList.list.fields in
     let i = c.loop-index.index in
-    let within : i < length (kinds_of (slots fs)) = omega (arith, ap length c.kinds-kind-items.ensures, c.loop-index-test.true) in
+    let within : i < length (rules_of (slots fs)) = omega (arith, ap length c.field_rules-rule-items.ensures, c.loop-index-test.true) in
     let h = c.loop-index.invariant tells in
     elim c.if-index-count.branch [
       | then-index-count+in_ok-read_item w ↦
           rw (w.decoder-is, w.value-is, add-one)
           (one_more fs _ _ _ _ _ _ _ w.if-index-count.true within h (w.in_ok-read_item.ensures tells))
       | else-index-count+in_default w ↦ rw (w.decoder-is, w.value-is, add-one) (one_less fs _ _ _ _ _ w.if-index-count.false within
-          (not_absent _ (ap (λ l. absence (get_or l i Mandatory)) (sym c.kinds-kind-items.ensures) ∙ sym w.in_default.ensures)) h)
+          (not_absent _ (ap (λ l. absence (get_or l i Mandatory)) (sym c.field_rules-rule-items.ensures) ∙ sym w.in_default.ensures)) h)
     ]
 
 pub returns-in_err-end_list : goal.returns-in_err-end_list
 returns-in_err-end_list g c tells =
     let fs = g.L.FieldList.list.fields in
-    let all : c.loop-index.index ≡ length (kinds_of (slots fs)) =
-    omega (arith, ap length c.kinds-kind-items.ensures, c.loop-index-test.false, c.loop-index.auto.index-end) in
+    let all : c.loop-index.index ≡ length (rules_of (slots fs)) =
+    omega (arith, ap length c.field_rules-rule-items.ensures, c.loop-index-test.false, c.loop-index.auto.index-end) in
     let h = c.loop-index.invariant tells in
     let p = err_from_is_err_and c.from_residual-in_err-end_list.result c.from_residual-in_err-end_list.ensures.1 in
     rw (p.1, p.2) (end_refused fs _ _ _ _ _ _ _ all (so_far_still fs _ _ _ _ _ h) h (c.in_err-end_list.ensures tells))
@@ -64,6 +64,6 @@ returns-in_err-end_list g c tells =
 pub returns : goal.returns
 returns g c tells =
     let fs = g.L.FieldList.list.fields in
-    let all : c.loop-index.index ≡ length (kinds_of (slots fs)) =
-    omega (arith, ap length c.kinds-kind-items.ensures, c.loop-index-test.false, c.loop-index.auto.index-end) in
+    let all : c.loop-index.index ≡ length (rules_of (slots fs)) =
+    omega (arith, ap length c.field_rules-rule-items.ensures, c.loop-index-test.false, c.loop-index.auto.index-end) in
     all_read fs _ _ _ _ _ _ all (c.loop-index.invariant tells) (c.in_ok-end_list.ensures tells)

@@ -30,12 +30,12 @@ pub returns-in-Some : goal.returns-in-Some
 returns-in-Some g c tells =
     let peeked = c.in_ok-peek_code.ensures tells in
     null_unfit g.L.FieldList.list.fields c.args.index _ _ _ _ (peeked_going _ _ _ peeked).0
-    (ap absence (sym c.requires.its_kind) ∙ sym c.in-Some.ensures ∙ ap Some (sym c.refuse.ensures.answer))
+    (ap absence (sym c.requires.its_rule) ∙ sym c.in-Some.ensures ∙ ap Some (sym c.refuse.ensures.answer))
     (answered _ _ _ _ c.refuse.ensures.kept c.refuse.ensures.answer)
     ((value-peeked (Means (λ (_ : Unit {0}). null)) _ _ _ _ tt peeked).0 (c.in_ok-read_null.ensures tells))
 
 pub returns-in-None : goal.returns-in-None
 returns-in-None g c tells =
     null_read g.L.FieldList.list.fields c.args.index _ _ _
-    (not_absent _ (ap absence (sym c.requires.its_kind) ∙ sym c.in-None.ensures))
+    (not_absent _ (ap absence (sym c.requires.its_rule) ∙ sym c.in-None.ensures))
     ((value-peeked (Means (λ (_ : Unit {0}). null)) _ _ _ _ tt (c.in_ok-peek_code.ensures tells)).0 (c.in_ok-read_null.ensures tells))

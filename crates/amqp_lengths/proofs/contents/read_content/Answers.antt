@@ -1,7 +1,7 @@
 use Rattle.std.proofs.Common.{◌≡◌, length, ap, arith}
 use Rattle.std.proofs.lemmas.Result.{err_from_is_err_and}
-use Rattle.amqp_lengths.specs.Contents.{container_of}
-use Rattle.amqp_lengths.proofs.Holds.{content_short, content_small_none, list_kind}
+use Rattle.amqp_wire.specs.Containers.{container_of}
+use Rattle.amqp_lengths.proofs.Holds.{content_short, content_small_none, is_a_list}
 use Rattle.amqp_lengths.proofs.Faults.{content_cut, content_short_size, content_no_count, content_count}
 use Rattle.amqp_lengths.proofs.contents.read_content.Goals as goal
 
@@ -27,11 +27,11 @@ returns-then-not-is_empty-clause-fault c =
 
 pub returns-in_default-clause-refused : goal.returns-in_default-clause-refused
 returns-in_default-clause-refused c =
-    content_small_none _ _ _ _ _ _ c.in_ok-body.ensures.found (omega arith) (λ h. c.in_default.not-List (list_kind c.args.kind h.0))
+    content_small_none _ _ _ _ _ _ c.in_ok-body.ensures.found (omega arith) (λ h. c.in_default.not-List (is_a_list c.args.container h.0))
 
 pub returns-in_default-clause-fault : goal.returns-in_default-clause-fault
 returns-in_default-clause-fault c =
-    content_short_size _ _ _ _ _ c.in_ok-body.ensures.found (omega arith) (λ h. c.in_default.not-List (list_kind c.args.kind h.0))
+    content_short_size _ _ _ _ _ c.in_ok-body.ensures.found (omega arith) (λ h. c.in_default.not-List (is_a_list c.args.container h.0))
 
 pub returns-in_err-number-2-clause-fault : goal.returns-in_err-number-2-clause-fault
 returns-in_err-number-2-clause-fault c =

@@ -7,7 +7,7 @@ use Rattle.amqp_model.specs.Spelling.{HasWidthZero}
 use Rattle.amqp_lengths.specs.Fronts.{IsFront, Refuses}
 use Rattle.amqp_lengths.specs.Pieces.{width_of, PrimitiveOf}
 use Rattle.amqp_lengths.specs.declared.constructors.Constructor.{Constructor}
-use Rattle.amqp_lengths.specs.Contents.{container_of}
+use Rattle.amqp_wire.specs.Containers.{container_of}
 use Rattle.amqp_lengths.specs.Lengths.{levels_of, Constructs, Row, IsTerm, IsData, IsContainer, IsArray, HasElements}
 use Rattle.amqp_lengths.proofs.Fronts.{tail_all}
 use Rattle.amqp_lengths.proofs.Codes.{IsNoContainer, primitive_at, zero_at}
@@ -134,20 +134,20 @@ len_of_term-returns-in-None-clause-refused t c =
 pub list_len-returns-in_err-parts-clause-refused : goal.list_len-returns-in_err-parts-clause-refused
 list_len-returns-in_err-parts-clause-refused t c =
     let p = err_from_is_err_and c.from_residual.result c.from_residual.ensures.1 in
-    rw (p.1, p.2) (container_unbegun (container_of c.args.kind) (width_of c.args.wide) c.args.nesting c.args.input.now _
+    rw (p.1, p.2) (container_unbegun (container_of c.args.container) (width_of c.args.wide) c.args.nesting c.args.input.now _
     c.in_err-parts.ensures.refused)
 
 pub list_len-returns-then-not-has_pairs-clause-refused : goal.list_len-returns-then-not-has_pairs-clause-refused
 list_len-returns-then-not-has_pairs-clause-refused t c =
     let parts = c.in_ok-parts.parts in
-    container_odd (container_of c.args.kind) (width_of c.args.wide) c.args.nesting parts.count parts.len parts.items.now c.args.input.now _
+    container_odd (container_of c.args.container) (width_of c.args.wide) c.args.nesting parts.count parts.len parts.items.now c.args.input.now _
     c.in_ok-parts.ensures.found.spelled
     (λ h. let e = c.has_pairs.ensures.1 h in absurd (cc))
 
 pub list_len-check_items-requires : goal.list_len-check_items-requires
 list_len-check_items-requires t c =
     let parts = c.in_ok-parts.parts in
-    let less = content_length (container_of c.args.kind) (width_of c.args.wide) parts.count parts.len parts.items.now c.args.input.now
+    let less = content_length (container_of c.args.container) (width_of c.args.wide) parts.count parts.len parts.items.now c.args.input.now
     (width_some c.args.wide) c.in_ok-parts.ensures.found in
     (omega (arith, less), tt)
 
@@ -155,13 +155,13 @@ pub list_len-returns-in_err-check_items-clause-refused : goal.list_len-returns-i
 list_len-returns-in_err-check_items-clause-refused t c =
     let p = err_from_is_err_and c.from_residual-in_err-check_items.result c.from_residual-in_err-check_items.ensures.1 in
     let parts = c.in_ok-parts.parts in
-    rw (p.1, p.2) (container_bad (container_of c.args.kind) (width_of c.args.wide) c.args.nesting c.in-Some.nesting parts.count parts.len
+    rw (p.1, p.2) (container_bad (container_of c.args.container) (width_of c.args.wide) c.args.nesting c.in-Some.nesting parts.count parts.len
     parts.items.now c.args.input.now _ c.in_ok-parts.ensures.found.spelled (omega arith) c.in_err-check_items.ensures.refused)
 
 pub list_len-returns-clause-found : goal.list_len-returns-clause-found
 list_len-returns-clause-found t c =
     let parts = c.in_ok-parts.parts in
-    container_found (container_of c.args.kind) (width_of c.args.wide) c.args.nesting c.in-Some.nesting parts.count parts.len parts.items.now
+    container_found (container_of c.args.container) (width_of c.args.wide) c.args.nesting c.in-Some.nesting parts.count parts.len parts.items.now
     c.args.input.now c.in_ok-parts.ensures.found (omega arith) (c.has_pairs.ensures.0 (search rules)) c.in_ok-check_items.ensures.found
 
 pub data_len-returns-in-69-2-clause-found : goal.data_len-returns-in-69-2-clause-found
@@ -391,26 +391,26 @@ len_of_term-returns-in-None-clause-fault t c =
 pub list_len-returns-in_err-parts-clause-fault : goal.list_len-returns-in_err-parts-clause-fault
 list_len-returns-in_err-parts-clause-fault t c =
     let p = err_from_is_err_and c.from_residual.result c.from_residual.ensures.1 in
-    rw (p.1, p.2) (container_content (container_of c.args.kind) (width_of c.args.wide) c.args.nesting c.args.input.now _
+    rw (p.1, p.2) (container_content (container_of c.args.container) (width_of c.args.wide) c.args.nesting c.args.input.now _
     c.in_err-parts.ensures.fault)
 
 pub list_len-returns-in_default-clause-fault : goal.list_len-returns-in_default-clause-fault
 list_len-returns-in_default-clause-fault t c =
     let parts = c.in_ok-parts.parts in
-    let kind = container_of c.args.kind in
+    let kind = container_of c.args.container in
     container_deep kind (width_of c.args.wide) c.args.nesting c.args.input.now _
     (behind_content kind (width_of c.args.wide) parts.count parts.len parts.items.now c.args.input.now c.in_ok-parts.ensures.found)
     (omega arith)
 
 pub list_len-returns-then-not-has_pairs-clause-fault : goal.list_len-returns-then-not-has_pairs-clause-fault
 list_len-returns-then-not-has_pairs-clause-fault t c =
-    container_unpaired (container_of c.args.kind) (width_of c.args.wide) c.args.nesting c.args.input.now _ _ _
+    container_unpaired (container_of c.args.container) (width_of c.args.wide) c.args.nesting c.args.input.now _ _ _
     (behind_front _ _ _ c.in_ok-parts.ensures.found) (λ h. let e = c.has_pairs.ensures.1 h in absurd (cc))
 
 pub list_len-returns-in_err-check_items-clause-fault : goal.list_len-returns-in_err-check_items-clause-fault
 list_len-returns-in_err-check_items-clause-fault t c =
     let p = err_from_is_err_and c.from_residual-in_err-check_items.result c.from_residual-in_err-check_items.ensures.1 in
-    rw (p.1, p.2) (container_items (container_of c.args.kind) (width_of c.args.wide) c.args.nesting c.args.input.now _ _ c.in-Some.nesting _
+    rw (p.1, p.2) (container_items (container_of c.args.container) (width_of c.args.wide) c.args.nesting c.args.input.now _ _ c.in-Some.nesting _
     _ (behind_front _ _ _ c.in_ok-parts.ensures.found) (omega arith) c.in_err-check_items.ensures.fault)
 
 pub data_len-returns-in-69-clause-fault : goal.data_len-returns-in-69-clause-fault

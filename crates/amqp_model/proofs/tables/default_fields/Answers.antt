@@ -3,7 +3,7 @@ use Rattle.amqp_model.specs.Term.{Term, null, leaf}
 use Rattle.amqp_model.specs.Items.{is_null}
 use Rattle.amqp_model.specs.ItemLaws.{clash}
 use Rattle.amqp_model.specs.FieldType.{Meaning, NeverNull}
-use Rattle.amqp_model.specs.Kinds.{DefaultValue, DefaultMeans, default_canon}
+use Rattle.amqp_model.specs.FieldRules.{DefaultValue, DefaultMeans, default_canon}
 use Rattle.amqp_model.proofs.tables.default_fields.Goals as goal
 
 module _ {T : Type 0} (m : Meaning T) (never_null : NeverNull m) (d : DefaultValue m) where

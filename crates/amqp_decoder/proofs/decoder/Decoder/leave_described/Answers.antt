@@ -1,5 +1,5 @@
 use Rattle.std.proofs.Common.{arith, ◌≡◌, ◌-◌, suc, ap, ◌∙◌, inl}
-use Rattle.amqp_decoder.specs.declared.frame.OpenKind.TheVariants.{InDescribed}
+use Rattle.amqp_decoder.specs.declared.frame.Place.TheVariants.{InDescribed}
 use Rattle.amqp_decoder.specs.State.{State}
 use Rattle.amqp_decoder.proofs.Rows.{outer_frame, bounded_as}
 use Rattle.amqp_decoder.proofs.decoder.Decoder.leave_described.Goals as goal

@@ -1,5 +1,5 @@
 use Rattle.std.proofs.Common.{rules, arith, ◌≡◌, ◌≤◌, ◌+◌, Some, length, refl, ap, sym, subst, ◌∙◌, inl, inr}
-use Rattle.amqp_decoder.specs.declared.frame.OpenKind.TheVariants.{InArray}
+use Rattle.amqp_decoder.specs.declared.frame.Place.TheVariants.{InArray}
 use Rattle.amqp_decoder.specs.State.{State, shared_in}
 use Rattle.amqp_decoder.specs.Rooms.{HasFlatItems}
 use Rattle.amqp_decoder.proofs.Rows.{few_shared, shared_among, shared_front, nested_last, put_behind, same_view, bounded_as, length-stack}

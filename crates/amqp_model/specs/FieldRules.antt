@@ -1,4 +1,4 @@
--- What the kinds of field make of the type of a field (Part 1, section 1.4).
+-- What the rules of fields make of the type of a field (Part 1, section 1.4).
 use Rattle.std.specs.Prelude.{◌≡◌, ◌⊎◌, Bool, true, cond, List, [], ◌∷◌, map, Option, Some, None, option_map}
 use Rattle.std.specs.List.{AllZip}
 use Rattle.amqp_model.specs.Term.{null, array, Term, leaf, container}

@@ -1,11 +1,13 @@
-//! Where a value stands, and the kinds of value that hold others (Part 1, sections 1.2 and 1.6).
+//! Where a value stands, and what is open around it (Part 1, sections 1.2 and 1.6).
 ghost use Rattle.std.specs.Prelude.{◌≡◌, ◌≤◌, ℕ, List, length, Some};
 ghost use Rattle.amqp_model.specs.Term.{list, uint, ulong, int, long};
 ghost use Rattle.amqp_model.specs.Text.{next, wide, shortest, spell, short_code, wide_code, first_place};
-ghost use Rattle.amqp_encoder.specs.Values.{place_of, container_of, kind_of, shortest_text};
+ghost use Rattle.amqp_wire.specs.Containers.{container_of};
+ghost use Rattle.amqp_encoder.specs.Values.{place_of, opened_of, shortest_text};
 ghost use Rattle.amqp_encoder.specs.Measuring.{around, is_none, is_odd_map, holds};
 
-use amqp_wire::format_code;
+use amqp_wire::nesting::NESTING;
+use amqp_wire::{Container, format_code};
 
 /// Where a value stands: by itself, or as the first item of an array, which brings the constructor of
 /// all, or as a later one, which is data alone (Part 1, section 1.2.4).
@@ -28,103 +30,94 @@ impl Place {
     }
 }
 
-/// Part 1, sections 1.6.22 to 1.6.24.
-#[derive(Clone, Copy)]
-pub(crate) enum Container {
-    List,
-    Map,
-    Array,
+/// The container is a list.
+pub(crate) fn is_list(container: Container) -> bool
+    ensures { result ≡ holds (Some list) (container_of container) }
+{
+    match container {
+        Container::List => true,
+        Container::Map | Container::Array => false,
+    }
 }
 
-impl Container {
-    pub(crate) fn is_list(self) -> bool
-        ensures { result ≡ holds (Some list) (container_of self) }
-    {
-        match self {
-            Container::List => true,
-            Container::Map | Container::Array => false,
-        }
+/// The code with one byte for the size.
+pub(crate) fn short_code(container: Container) -> u8
+    ensures { result ≡ short_code (container_of container) }
+{
+    match container {
+        Container::List => format_code::LIST_8,
+        Container::Map => format_code::MAP_8,
+        Container::Array => format_code::ARRAY_8,
     }
+}
 
-    /// The code with one byte for the size.
-    pub(crate) fn short_code(self) -> u8
-        ensures { result ≡ short_code (container_of self) }
-    {
-        match self {
-            Container::List => format_code::LIST_8,
-            Container::Map => format_code::MAP_8,
-            Container::Array => format_code::ARRAY_8,
-        }
+/// The code with four bytes for the size.
+pub(crate) fn wide_code(container: Container) -> u8
+    ensures { result ≡ wide_code (container_of container) }
+{
+    match container {
+        Container::List => format_code::LIST_32,
+        Container::Map => format_code::MAP_32,
+        Container::Array => format_code::ARRAY_32,
     }
+}
 
-    /// The code with four bytes for the size.
-    pub(crate) fn wide_code(self) -> u8
-        ensures { result ≡ wide_code (container_of self) }
-    {
-        match self {
-            Container::List => format_code::LIST_32,
-            Container::Map => format_code::MAP_32,
-            Container::Array => format_code::ARRAY_32,
-        }
+/// Where the first item of the container stands.
+pub(crate) fn first_place(container: Container) -> Place
+    ensures { place_of result ≡ first_place (container_of container) }
+{
+    match container {
+        Container::List | Container::Map => Place::Alone,
+        Container::Array => Place::First,
     }
+}
 
-    /// Where its first item stands.
-    pub(crate) fn first_place(self) -> Place
-        ensures { place_of result ≡ first_place (container_of self) }
-    {
-        match self {
-            Container::List | Container::Map => Place::Alone,
-            Container::Array => Place::First,
-        }
+/// A map has a value for each key (Part 1, section 1.6.23).
+pub(crate) fn is_odd(container: Container, count: usize) -> bool
+    ensures { result ≡ is_odd_map (container_of container) count }
+{
+    match container {
+        Container::Map => count % 2 != 0,
+        Container::List | Container::Array => false,
     }
+}
 
-    /// A map has a value for each key (Part 1, section 1.6.23).
-    pub(crate) fn is_odd(self, count: usize) -> bool
-        ensures { result ≡ is_odd_map (container_of self) count }
-    {
-        match self {
-            Container::Map => count % 2 != 0,
-            Container::List | Container::Array => false,
-        }
-    }
-
-    /// How many containers may be open around it. An array counts in nesting once an item does, so it may
-    /// stand one deeper.
-    pub(crate) fn around(self) -> usize
-        ensures same { result ≡ around (container_of self) }
-        ensures within { result ≤ 128 }
-    {
-        match self {
-            Container::List | Container::Map => 127,
-            Container::Array => 128,
-        }
+/// How many containers may be open around it. An array counts in nesting once an item does, so it may
+/// stand one deeper.
+pub(crate) fn around(container: Container) -> usize
+    ensures same { result ≡ around (container_of container) }
+    ensures within { result ≤ NESTING }
+{
+    match container {
+        Container::List | Container::Map => NESTING - 1,
+        Container::Array => NESTING,
     }
 }
 
 /// What is open.
 #[derive(Clone, Copy)]
-pub(crate) enum Kind {
+pub(crate) enum Opened {
     Container(Container),
     Described,
 }
 
-impl Kind {
+impl Opened {
     pub(crate) fn is_described(self) -> bool
-        ensures { result ≡ is_none (kind_of self) }
+        ensures { result ≡ is_none (opened_of self) }
     {
         match self {
-            Kind::Container(_) => false,
-            Kind::Described => true,
+            Opened::Container(_) => false,
+            Opened::Described => true,
         }
     }
 
     pub(crate) fn is_container(self, container: Container) -> bool
-        ensures { result ≡ holds (kind_of self) (container_of container) }
+        ensures { result ≡ holds (opened_of self) (container_of container) }
     {
         match (self, container) {
-            (Kind::Container(Container::List), Container::List) => true,
-            (Kind::Container(Container::Map), Container::Map) => true,
-            (Kind::Container(Container::Array), Container::Array) => true,
+            (Opened::Container(Container::List), Container::List) => true,
+            (Opened::Container(Container::Map), Container::Map) => true,
+            (Opened::Container(Container::Array), Container::Array) => true,
             _ => false,
         }
     }
