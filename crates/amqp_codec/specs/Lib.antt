@@ -11,6 +11,7 @@ pub mod Wrappers
 pub mod KeptBytesLaws
 pub mod FieldTypes
 pub mod Slots
+pub mod Fieldless
 pub mod Fields
 pub mod MisspellingLaws
 pub mod OtherSource

@@ -52,16 +52,18 @@ pub trait Composite: Sized + Drop {
         decoder: &mut Decoder<R>,
         alloc: Global,
     ) -> Result<(), Error>
-        ensures { Tells R.remaining → index < length (rules_of (slots table.fields))
-            → FillsField table.fields index self.old self.new decoder.old result decoder.new };
+        requires within { index < length (rules_of (slots table.fields)) }
+        ensures { Tells R.remaining → FillsField table.fields index self.old self.new decoder.old result decoder.new };
 
-    /// Whether a field is written as null.
+    /// Whether the field of this number, from 0 on, is written as null.
     fn is_null_field(&self, index: usize) -> bool
-        ensures { index < length (rules_of (slots table.fields)) → result ≡ is_null (canon_at table.fields index self.now) };
+        requires within { index < length (rules_of (slots table.fields)) }
+        ensures { result ≡ is_null (canon_at table.fields index self.now) };
 
-    /// Writes a field that isn't null.
+    /// Writes the field of this number, from 0 on, which isn't null.
     fn write_field(&self, index: usize, encoder: &mut Encoder) -> Result<(), Error>
-        ensures { index < length (rules_of (slots table.fields)) → is_null (canon_at table.fields index self.now) ≡ false
+        requires within { index < length (rules_of (slots table.fields)) }
+        ensures { is_null (canon_at table.fields index self.now) ≡ false
             → WritesTerms (canon_at table.fields index self.now ∷ []) encoder.old result encoder.new };
 }
 

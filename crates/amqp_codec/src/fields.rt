@@ -43,16 +43,18 @@ pub trait FieldList: Sized + Drop {
         decoder: &mut Decoder<R>,
         alloc: Global,
     ) -> Result<(), Error>
-        ensures { Tells R.remaining → index < length (rules_of (slots list.fields))
-            → FillsField list.fields index self.old self.new decoder.old result decoder.new };
+        requires within { index < length (rules_of (slots list.fields)) }
+        ensures { Tells R.remaining → FillsField list.fields index self.old self.new decoder.old result decoder.new };
 
-    /// Whether a field is written as null.
+    /// Whether the field of this number, from 0 on, is written as null.
     fn is_null_field(&self, index: usize) -> bool
-        ensures { index < length (rules_of (slots list.fields)) → result ≡ is_null (canon_at list.fields index self.now) };
+        requires within { index < length (rules_of (slots list.fields)) }
+        ensures { result ≡ is_null (canon_at list.fields index self.now) };
 
-    /// Writes a field that isn't null.
+    /// Writes the field of this number, from 0 on, which isn't null.
     fn write_field(&self, index: usize, encoder: &mut Encoder) -> Result<(), Error>
-        ensures { index < length (rules_of (slots list.fields)) → is_null (canon_at list.fields index self.now) ≡ false
+        requires within { index < length (rules_of (slots list.fields)) }
+        ensures { is_null (canon_at list.fields index self.now) ≡ false
             → WritesTerms (canon_at list.fields index self.now ∷ []) encoder.old result encoder.new };
 }
 
@@ -79,6 +81,20 @@ pub fn read_some<T: DeserializeTerm, R: ByteSource>(
 {
     *place = Some(T::read_value(decoder, alloc)?);
     Ok(())
+}
+
+/// Writes a value as its type says.
+pub fn write_value<T: DeserializeTerm>(value: &T, encoder: &mut Encoder) -> Result<(), Error>
+    ensures { WritesTerms (T.term.canon value.now ∷ []) encoder.old result encoder.new }
+{
+    value.serialize(encoder)
+}
+
+/// Promises that what a field holds is a value of its type. Does nothing.
+pub fn value_in_type<T: DeserializeTerm>(value: &T)
+    ensures { T.term.is_value value.now }
+{
+    value.in_type();
 }
 
 // The error for a field that is null or left out, where it must be there.
@@ -184,8 +200,8 @@ fn write_items<L: FieldList>(value: &L, count: usize, encoder: &mut Encoder) -> 
 // Writes a field.
 #[tactic(auto, using(crate::proofs::Trimming::null_written))]
 fn write_item<L: FieldList>(value: &L, index: usize, encoder: &mut Encoder) -> Result<(), Error>
-    ensures { index < length (rules_of (slots L.list.fields))
-        → WritesTerms (canon_at L.list.fields index value.now ∷ []) encoder.old result encoder.new }
+    requires within { index < length (rules_of (slots L.list.fields)) }
+    ensures { WritesTerms (canon_at L.list.fields index value.now ∷ []) encoder.old result encoder.new }
 {
     if value.is_null_field(index) {
         encoder.write_null()

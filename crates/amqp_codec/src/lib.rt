@@ -4,6 +4,7 @@
 mod btree_maps;
 mod composite;
 mod containers;
+mod fieldless;
 mod fields;
 mod integers;
 pub mod kernel;

@@ -1,10 +1,9 @@
 //! The accepted outcome (Part 3, section 3.4.2).
 ghost use Rattle.amqp_enums.specs.Types.{composite, one_term, refl, agreement, writing_of};
-ghost use Rattle.amqp_delivery.specs.Tables.{accepted};
+ghost use Rattle.amqp_delivery.specs.Tables.{accepted, accepted_names};
 
-use amqp_codec::kernel::{Composite, CompositeTerm, Table, write_composite};
-use amqp_codec::{ByteSource, Decoder, Encoder, Error, Serialize, SerializeTerm};
-use std::alloc::Global;
+use amqp_codec::kernel::{CompositeTerm, Fieldless, write_composite};
+use amqp_codec::{Encoder, Error, Serialize, SerializeTerm};
 
 /// The delivery was processed successfully.
 #[derive(Clone, Debug, PartialEq, Eq, Drop)]
@@ -15,35 +14,15 @@ impl Accepted {
     pub const DESCRIPTOR: (u64, &'static str) = (0x24, "amqp:accepted:list");
 }
 
-impl Composite for Accepted {
-    ghost table = { accepted };
+impl Fieldless for Accepted {
+    ghost names = { accepted_names };
 
-    fn table() -> Table {
-        Table {
-            descriptor: Accepted::DESCRIPTOR,
-            fields: &[],
-        }
+    fn descriptor() -> (u64, &'static str) {
+        Accepted::DESCRIPTOR
     }
 
-    fn blank(_alloc: Global) -> Accepted {
+    fn value() -> Accepted {
         Accepted {}
-    }
-
-    fn fill_field<R: ByteSource>(
-        &mut self,
-        _index: usize,
-        decoder: &mut Decoder<R>,
-        _alloc: Global,
-    ) -> Result<(), Error> {
-        Err(decoder.refuse(Error::Surplus))
-    }
-
-    fn is_null_field(&self, _index: usize) -> bool {
-        true
-    }
-
-    fn write_field(&self, _index: usize, encoder: &mut Encoder) -> Result<(), Error> {
-        encoder.check()
     }
 }
 

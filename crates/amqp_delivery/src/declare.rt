@@ -49,21 +49,21 @@ impl Composite for Declare {
     ) -> Result<(), Error> {
         match index {
             0 => read_some(&mut self.global_id, decoder, alloc),
-            _ => Err(decoder.refuse(Error::Surplus)),
+            _ => unreachable!(),
         }
     }
 
     fn is_null_field(&self, index: usize) -> bool {
         match index {
             0 => self.global_id.is_none(),
-            _ => true,
+            _ => unreachable!(),
         }
     }
 
     fn write_field(&self, index: usize, encoder: &mut Encoder) -> Result<(), Error> {
         match index {
             0 => self.global_id.serialize(encoder),
-            _ => encoder.check(),
+            _ => unreachable!(),
         }
     }
 }

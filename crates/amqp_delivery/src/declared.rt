@@ -44,21 +44,21 @@ impl Composite for Declared {
     ) -> Result<(), Error> {
         match index {
             0 => read_into(&mut self.txn_id, decoder, alloc),
-            _ => Err(decoder.refuse(Error::Surplus)),
+            _ => unreachable!(),
         }
     }
 
     fn is_null_field(&self, index: usize) -> bool {
         match index {
             0 => false,
-            _ => true,
+            _ => unreachable!(),
         }
     }
 
     fn write_field(&self, index: usize, encoder: &mut Encoder) -> Result<(), Error> {
         match index {
             0 => self.txn_id.serialize(encoder),
-            _ => encoder.check(),
+            _ => unreachable!(),
         }
     }
 }

@@ -50,7 +50,7 @@ impl Composite for Discharge {
         match index {
             0 => read_into(&mut self.txn_id, decoder, alloc),
             1 => read_some(&mut self.fail, decoder, alloc),
-            _ => Err(decoder.refuse(Error::Surplus)),
+            _ => unreachable!(),
         }
     }
 
@@ -58,7 +58,7 @@ impl Composite for Discharge {
         match index {
             0 => false,
             1 => self.fail.is_none(),
-            _ => true,
+            _ => unreachable!(),
         }
     }
 
@@ -66,7 +66,7 @@ impl Composite for Discharge {
         match index {
             0 => self.txn_id.serialize(encoder),
             1 => self.fail.serialize(encoder),
-            _ => encoder.check(),
+            _ => unreachable!(),
         }
     }
 }

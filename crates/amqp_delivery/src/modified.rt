@@ -2,9 +2,11 @@
 ghost use Rattle.amqp_enums.specs.Types.{composite, one_term, refl, agreement, writing_of};
 ghost use Rattle.amqp_delivery.specs.Tables.{modified};
 
-use amqp_codec::kernel::{Composite, CompositeTerm, FieldRule, Table, read_some, write_composite};
+use amqp_codec::kernel::{
+    Composite, CompositeTerm, FieldRule, Table, read_some, value_in_type, write_composite,
+};
 use amqp_codec::{ByteSource, Decoder, Encoder, Error, Serialize, SerializeTerm};
-use amqp_fields::{Fields, field_in_type};
+use amqp_fields::Fields;
 use std::alloc::Global;
 
 /// The message was not processed, and is changed before it is sent again.
@@ -55,7 +57,7 @@ impl Composite for Modified {
             0 => read_some(&mut self.delivery_failed, decoder, alloc),
             1 => read_some(&mut self.undeliverable_here, decoder, alloc),
             2 => read_some(&mut self.message_annotations, decoder, alloc),
-            _ => Err(decoder.refuse(Error::Surplus)),
+            _ => unreachable!(),
         }
     }
 
@@ -64,7 +66,7 @@ impl Composite for Modified {
             0 => self.delivery_failed.is_none(),
             1 => self.undeliverable_here.is_none(),
             2 => self.message_annotations.is_none(),
-            _ => true,
+            _ => unreachable!(),
         }
     }
 
@@ -73,7 +75,7 @@ impl Composite for Modified {
             0 => self.delivery_failed.serialize(encoder),
             1 => self.undeliverable_here.serialize(encoder),
             2 => self.message_annotations.serialize(encoder),
-            _ => encoder.check(),
+            _ => unreachable!(),
         }
     }
 }
@@ -88,7 +90,7 @@ impl Serialize for Modified {
     fn in_type(&self) {
         self.delivery_failed.in_type();
         self.undeliverable_here.in_type();
-        field_in_type(&self.message_annotations);
+        value_in_type(&self.message_annotations);
     }
 }
 

@@ -46,14 +46,14 @@ impl Composite for Received {
         match index {
             0 => read_into(&mut self.section_number, decoder, alloc),
             1 => read_into(&mut self.section_offset, decoder, alloc),
-            _ => Err(decoder.refuse(Error::Surplus)),
+            _ => unreachable!(),
         }
     }
 
     fn is_null_field(&self, index: usize) -> bool {
         match index {
             0 | 1 => false,
-            _ => true,
+            _ => unreachable!(),
         }
     }
 
@@ -61,7 +61,7 @@ impl Composite for Received {
         match index {
             0 => self.section_number.serialize(encoder),
             1 => self.section_offset.serialize(encoder),
-            _ => encoder.check(),
+            _ => unreachable!(),
         }
     }
 }

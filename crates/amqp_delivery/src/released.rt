@@ -1,10 +1,9 @@
 //! The released outcome (Part 3, section 3.4.4).
 ghost use Rattle.amqp_enums.specs.Types.{composite, one_term, refl, agreement, writing_of};
-ghost use Rattle.amqp_delivery.specs.Tables.{released};
+ghost use Rattle.amqp_delivery.specs.Tables.{released, released_names};
 
-use amqp_codec::kernel::{Composite, CompositeTerm, Table, write_composite};
-use amqp_codec::{ByteSource, Decoder, Encoder, Error, Serialize, SerializeTerm};
-use std::alloc::Global;
+use amqp_codec::kernel::{CompositeTerm, Fieldless, write_composite};
+use amqp_codec::{Encoder, Error, Serialize, SerializeTerm};
 
 /// The delivery was not and will not be processed. Its message may be delivered again.
 #[derive(Clone, Debug, PartialEq, Eq, Drop)]
@@ -15,35 +14,15 @@ impl Released {
     pub const DESCRIPTOR: (u64, &'static str) = (0x26, "amqp:released:list");
 }
 
-impl Composite for Released {
-    ghost table = { released };
+impl Fieldless for Released {
+    ghost names = { released_names };
 
-    fn table() -> Table {
-        Table {
-            descriptor: Released::DESCRIPTOR,
-            fields: &[],
-        }
+    fn descriptor() -> (u64, &'static str) {
+        Released::DESCRIPTOR
     }
 
-    fn blank(_alloc: Global) -> Released {
+    fn value() -> Released {
         Released {}
-    }
-
-    fn fill_field<R: ByteSource>(
-        &mut self,
-        _index: usize,
-        decoder: &mut Decoder<R>,
-        _alloc: Global,
-    ) -> Result<(), Error> {
-        Err(decoder.refuse(Error::Surplus))
-    }
-
-    fn is_null_field(&self, _index: usize) -> bool {
-        true
-    }
-
-    fn write_field(&self, _index: usize, encoder: &mut Encoder) -> Result<(), Error> {
-        encoder.check()
     }
 }
 

@@ -4,10 +4,10 @@ ghost use Rattle.amqp_delivery.specs.Tables.{transactional_state};
 
 use crate::{Outcome, TransactionId};
 use amqp_codec::kernel::{
-    Composite, CompositeTerm, FieldRule, Table, read_into, read_some, write_composite,
+    Composite, CompositeTerm, FieldRule, Table, read_into, read_some, value_in_type,
+    write_composite,
 };
 use amqp_codec::{ByteSource, Decoder, Encoder, Error, Serialize, SerializeTerm};
-use amqp_fields::field_in_type;
 use amqp_primitives::Binary;
 use std::alloc::Global;
 
@@ -51,7 +51,7 @@ impl Composite for TransactionalState {
         match index {
             0 => read_into(&mut self.txn_id, decoder, alloc),
             1 => read_some(&mut self.outcome, decoder, alloc),
-            _ => Err(decoder.refuse(Error::Surplus)),
+            _ => unreachable!(),
         }
     }
 
@@ -59,7 +59,7 @@ impl Composite for TransactionalState {
         match index {
             0 => false,
             1 => self.outcome.is_none(),
-            _ => true,
+            _ => unreachable!(),
         }
     }
 
@@ -67,7 +67,7 @@ impl Composite for TransactionalState {
         match index {
             0 => self.txn_id.serialize(encoder),
             1 => self.outcome.serialize(encoder),
-            _ => encoder.check(),
+            _ => unreachable!(),
         }
     }
 }
@@ -81,7 +81,7 @@ impl Serialize for TransactionalState {
 
     fn in_type(&self) {
         self.txn_id.in_type();
-        field_in_type(&self.outcome);
+        value_in_type(&self.outcome);
     }
 }
 

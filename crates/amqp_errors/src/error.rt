@@ -8,10 +8,11 @@ use crate::{
     AmqpError, ConnectionError, ErrorCondition, LinkError, SessionError, TransactionError,
 };
 use amqp_codec::kernel::{
-    Composite, CompositeTerm, FieldRule, Table, read_into, read_some, write_composite,
+    Composite, CompositeTerm, FieldRule, Table, read_into, read_some, value_in_type,
+    write_composite,
 };
 use amqp_codec::{ByteSource, Decoder, Encoder, Error as CodecError, Serialize, SerializeTerm};
-use amqp_fields::{Fields, field_in_type};
+use amqp_fields::Fields;
 use std::alloc::Global;
 
 /// What went wrong.
@@ -149,7 +150,7 @@ impl Composite for Error {
             0 => read_into(&mut self.condition, decoder, alloc),
             1 => read_some(&mut self.description, decoder, alloc),
             2 => read_some(&mut self.info, decoder, alloc),
-            _ => Err(decoder.refuse(CodecError::Surplus)),
+            _ => unreachable!(),
         }
     }
 
@@ -158,7 +159,7 @@ impl Composite for Error {
             0 => false,
             1 => self.description.is_none(),
             2 => self.info.is_none(),
-            _ => true,
+            _ => unreachable!(),
         }
     }
 
@@ -167,7 +168,7 @@ impl Composite for Error {
             0 => self.condition.serialize(encoder),
             1 => self.description.serialize(encoder),
             2 => self.info.serialize(encoder),
-            _ => encoder.check(),
+            _ => unreachable!(),
         }
     }
 }
@@ -182,7 +183,7 @@ impl Serialize for Error {
     fn in_type(&self) {
         self.condition.in_type();
         self.description.in_type();
-        field_in_type(&self.info);
+        value_in_type(&self.info);
     }
 }
 

@@ -56,7 +56,7 @@ impl Composite for Offer {
             0 => read_multiple(&mut self.capabilities, decoder, alloc),
             1 => read_into(&mut self.number, decoder, alloc),
             2 => read_multiple(&mut self.ports, decoder, alloc),
-            _ => Err(decoder.refuse(Error::Surplus)),
+            _ => unreachable!(),
         }
     }
 
@@ -65,7 +65,7 @@ impl Composite for Offer {
             0 => is_null_multiple(&self.capabilities),
             1 => false,
             2 => is_null_multiple(&self.ports),
-            _ => true,
+            _ => unreachable!(),
         }
     }
 
@@ -74,7 +74,7 @@ impl Composite for Offer {
             0 => write_multiple(&self.capabilities, encoder),
             1 => self.number.serialize(encoder),
             2 => write_multiple(&self.ports, encoder),
-            _ => encoder.check(),
+            _ => unreachable!(),
         }
     }
 }

@@ -3,14 +3,14 @@ ghost use Rattle.amqp_enums.specs.Types.{composite, one_term, refl, agreement, w
 ghost use Rattle.amqp_performatives.specs.Tables.{attach};
 
 use crate::Unsettled;
-use crate::unsettled::write_term;
 use amqp_codec::kernel::{
-    Composite, CompositeTerm, FieldRule, Table, read_into, read_some, write_composite,
+    Composite, CompositeTerm, FieldRule, Table, read_into, read_some, value_in_type,
+    write_composite, write_value,
 };
 use amqp_codec::{ByteSource, Decoder, Encoder, Error, Serialize, SerializeTerm, Symbol};
 use amqp_containers::Array;
 use amqp_containers::multiple::{is_null_multiple, read_multiple, write_multiple};
-use amqp_fields::{Fields, field_in_type};
+use amqp_fields::Fields;
 use amqp_restricted_types::{Handle, ReceiverSettleMode, Role, SenderSettleMode, SequenceNo};
 use amqp_termini::{Source, TargetArchetype};
 use std::alloc::Global;
@@ -118,7 +118,7 @@ impl Composite for Attach {
             11 => read_multiple(&mut self.offered_capabilities, decoder, alloc),
             12 => read_multiple(&mut self.desired_capabilities, decoder, alloc),
             13 => read_some(&mut self.properties, decoder, alloc),
-            _ => Err(decoder.refuse(Error::Surplus)),
+            _ => unreachable!(),
         }
     }
 
@@ -138,7 +138,7 @@ impl Composite for Attach {
             11 => is_null_multiple(&self.offered_capabilities),
             12 => is_null_multiple(&self.desired_capabilities),
             13 => self.properties.is_none(),
-            _ => true,
+            _ => unreachable!(),
         }
     }
 
@@ -151,14 +151,14 @@ impl Composite for Attach {
             4 => self.rcv_settle_mode.serialize(encoder),
             5 => self.source.serialize(encoder),
             6 => self.target.serialize(encoder),
-            7 => write_term(&self.unsettled, encoder),
+            7 => write_value(&self.unsettled, encoder),
             8 => self.incomplete_unsettled.serialize(encoder),
             9 => self.initial_delivery_count.serialize(encoder),
             10 => self.max_message_size.serialize(encoder),
             11 => write_multiple(&self.offered_capabilities, encoder),
             12 => write_multiple(&self.desired_capabilities, encoder),
             13 => self.properties.serialize(encoder),
-            _ => encoder.check(),
+            _ => unreachable!(),
         }
     }
 }
@@ -176,15 +176,15 @@ impl Serialize for Attach {
         self.role.in_type();
         self.snd_settle_mode.in_type();
         self.rcv_settle_mode.in_type();
-        field_in_type(&self.source);
-        field_in_type(&self.target);
-        field_in_type(&self.unsettled);
+        value_in_type(&self.source);
+        value_in_type(&self.target);
+        value_in_type(&self.unsettled);
         self.incomplete_unsettled.in_type();
         self.initial_delivery_count.in_type();
         self.max_message_size.in_type();
         self.offered_capabilities.in_type();
         self.desired_capabilities.in_type();
-        field_in_type(&self.properties);
+        value_in_type(&self.properties);
     }
 }
 

@@ -3,12 +3,13 @@ ghost use Rattle.amqp_enums.specs.Types.{composite, one_term, refl, agreement, w
 ghost use Rattle.amqp_performatives.specs.Tables.{begin};
 
 use amqp_codec::kernel::{
-    Composite, CompositeTerm, FieldRule, Table, read_into, read_some, write_composite,
+    Composite, CompositeTerm, FieldRule, Table, read_into, read_some, value_in_type,
+    write_composite,
 };
 use amqp_codec::{ByteSource, Decoder, Encoder, Error, Serialize, SerializeTerm, Symbol};
 use amqp_containers::Array;
 use amqp_containers::multiple::{is_null_multiple, read_multiple, write_multiple};
-use amqp_fields::{Fields, field_in_type};
+use amqp_fields::Fields;
 use amqp_restricted_types::{Handle, TransferNumber};
 use std::alloc::Global;
 
@@ -85,7 +86,7 @@ impl Composite for Begin {
             5 => read_multiple(&mut self.offered_capabilities, decoder, alloc),
             6 => read_multiple(&mut self.desired_capabilities, decoder, alloc),
             7 => read_some(&mut self.properties, decoder, alloc),
-            _ => Err(decoder.refuse(Error::Surplus)),
+            _ => unreachable!(),
         }
     }
 
@@ -99,7 +100,7 @@ impl Composite for Begin {
             5 => is_null_multiple(&self.offered_capabilities),
             6 => is_null_multiple(&self.desired_capabilities),
             7 => self.properties.is_none(),
-            _ => true,
+            _ => unreachable!(),
         }
     }
 
@@ -113,7 +114,7 @@ impl Composite for Begin {
             5 => write_multiple(&self.offered_capabilities, encoder),
             6 => write_multiple(&self.desired_capabilities, encoder),
             7 => self.properties.serialize(encoder),
-            _ => encoder.check(),
+            _ => unreachable!(),
         }
     }
 }
@@ -133,7 +134,7 @@ impl Serialize for Begin {
         self.handle_max.in_type();
         self.offered_capabilities.in_type();
         self.desired_capabilities.in_type();
-        field_in_type(&self.properties);
+        value_in_type(&self.properties);
     }
 }
 

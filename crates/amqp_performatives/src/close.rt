@@ -3,10 +3,11 @@ ghost use Rattle.std.specs.Prelude.{◌≡◌};
 ghost use Rattle.amqp_enums.specs.Types.{composite, one_term, refl, agreement, writing_of};
 ghost use Rattle.amqp_performatives.specs.Tables.{close};
 
-use amqp_codec::kernel::{Composite, CompositeTerm, FieldRule, Table, read_some, write_composite};
+use amqp_codec::kernel::{
+    Composite, CompositeTerm, FieldRule, Table, read_some, value_in_type, write_composite,
+};
 use amqp_codec::{ByteSource, Decoder, Encoder, Error as CodecError, Serialize, SerializeTerm};
 use amqp_errors::Error;
-use amqp_fields::field_in_type;
 use std::alloc::Global;
 
 /// Closes a connection.
@@ -50,21 +51,21 @@ impl Composite for Close {
     ) -> Result<(), CodecError> {
         match index {
             0 => read_some(&mut self.error, decoder, alloc),
-            _ => Err(decoder.refuse(CodecError::Surplus)),
+            _ => unreachable!(),
         }
     }
 
     fn is_null_field(&self, index: usize) -> bool {
         match index {
             0 => self.error.is_none(),
-            _ => true,
+            _ => unreachable!(),
         }
     }
 
     fn write_field(&self, index: usize, encoder: &mut Encoder) -> Result<(), CodecError> {
         match index {
             0 => self.error.serialize(encoder),
-            _ => encoder.check(),
+            _ => unreachable!(),
         }
     }
 }
@@ -77,7 +78,7 @@ impl Serialize for Close {
     }
 
     fn in_type(&self) {
-        field_in_type(&self.error);
+        value_in_type(&self.error);
     }
 }
 

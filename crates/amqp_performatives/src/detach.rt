@@ -3,11 +3,11 @@ ghost use Rattle.amqp_enums.specs.Types.{composite, one_term, refl, agreement, w
 ghost use Rattle.amqp_performatives.specs.Tables.{detach};
 
 use amqp_codec::kernel::{
-    Composite, CompositeTerm, FieldRule, Table, read_into, read_some, write_composite,
+    Composite, CompositeTerm, FieldRule, Table, read_into, read_some, value_in_type,
+    write_composite,
 };
 use amqp_codec::{ByteSource, Decoder, Encoder, Error as CodecError, Serialize, SerializeTerm};
 use amqp_errors::Error;
-use amqp_fields::field_in_type;
 use amqp_restricted_types::Handle;
 use std::alloc::Global;
 
@@ -59,7 +59,7 @@ impl Composite for Detach {
             0 => read_into(&mut self.handle, decoder, alloc),
             1 => read_into(&mut self.closed, decoder, alloc),
             2 => read_some(&mut self.error, decoder, alloc),
-            _ => Err(decoder.refuse(CodecError::Surplus)),
+            _ => unreachable!(),
         }
     }
 
@@ -68,7 +68,7 @@ impl Composite for Detach {
             0 => false,
             1 => !self.closed,
             2 => self.error.is_none(),
-            _ => true,
+            _ => unreachable!(),
         }
     }
 
@@ -77,7 +77,7 @@ impl Composite for Detach {
             0 => self.handle.serialize(encoder),
             1 => self.closed.serialize(encoder),
             2 => self.error.serialize(encoder),
-            _ => encoder.check(),
+            _ => unreachable!(),
         }
     }
 }
@@ -92,7 +92,7 @@ impl Serialize for Detach {
     fn in_type(&self) {
         self.handle.in_type();
         self.closed.in_type();
-        field_in_type(&self.error);
+        value_in_type(&self.error);
     }
 }
 

@@ -3,11 +3,11 @@ ghost use Rattle.amqp_enums.specs.Types.{composite, one_term, refl, agreement, w
 ghost use Rattle.amqp_performatives.specs.Tables.{disposition};
 
 use amqp_codec::kernel::{
-    Composite, CompositeTerm, FieldRule, Table, read_into, read_some, write_composite,
+    Composite, CompositeTerm, FieldRule, Table, read_into, read_some, value_in_type,
+    write_composite,
 };
 use amqp_codec::{ByteSource, Decoder, Encoder, Error, Serialize, SerializeTerm};
 use amqp_delivery::DeliveryState;
-use amqp_fields::field_in_type;
 use amqp_restricted_types::{DeliveryNumber, Role};
 use std::alloc::Global;
 
@@ -74,7 +74,7 @@ impl Composite for Disposition {
             3 => read_into(&mut self.settled, decoder, alloc),
             4 => read_some(&mut self.state, decoder, alloc),
             5 => read_into(&mut self.batchable, decoder, alloc),
-            _ => Err(decoder.refuse(Error::Surplus)),
+            _ => unreachable!(),
         }
     }
 
@@ -86,7 +86,7 @@ impl Composite for Disposition {
             3 => !self.settled,
             4 => self.state.is_none(),
             5 => !self.batchable,
-            _ => true,
+            _ => unreachable!(),
         }
     }
 
@@ -98,7 +98,7 @@ impl Composite for Disposition {
             3 => self.settled.serialize(encoder),
             4 => self.state.serialize(encoder),
             5 => self.batchable.serialize(encoder),
-            _ => encoder.check(),
+            _ => unreachable!(),
         }
     }
 }
@@ -115,7 +115,7 @@ impl Serialize for Disposition {
         self.first.in_type();
         self.last.in_type();
         self.settled.in_type();
-        field_in_type(&self.state);
+        value_in_type(&self.state);
         self.batchable.in_type();
     }
 }

@@ -3,10 +3,11 @@ ghost use Rattle.amqp_enums.specs.Types.{composite, one_term, refl, agreement, w
 ghost use Rattle.amqp_performatives.specs.Tables.{flow};
 
 use amqp_codec::kernel::{
-    Composite, CompositeTerm, FieldRule, Table, read_into, read_some, write_composite,
+    Composite, CompositeTerm, FieldRule, Table, read_into, read_some, value_in_type,
+    write_composite,
 };
 use amqp_codec::{ByteSource, Decoder, Encoder, Error, Serialize, SerializeTerm};
-use amqp_fields::{Fields, field_in_type};
+use amqp_fields::Fields;
 use amqp_restricted_types::{Handle, SequenceNo, TransferNumber};
 use std::alloc::Global;
 
@@ -98,7 +99,7 @@ impl Composite for Flow {
             8 => read_into(&mut self.drain, decoder, alloc),
             9 => read_into(&mut self.echo, decoder, alloc),
             10 => read_some(&mut self.properties, decoder, alloc),
-            _ => Err(decoder.refuse(Error::Surplus)),
+            _ => unreachable!(),
         }
     }
 
@@ -115,7 +116,7 @@ impl Composite for Flow {
             8 => !self.drain,
             9 => !self.echo,
             10 => self.properties.is_none(),
-            _ => true,
+            _ => unreachable!(),
         }
     }
 
@@ -132,7 +133,7 @@ impl Composite for Flow {
             8 => self.drain.serialize(encoder),
             9 => self.echo.serialize(encoder),
             10 => self.properties.serialize(encoder),
-            _ => encoder.check(),
+            _ => unreachable!(),
         }
     }
 }
@@ -155,7 +156,7 @@ impl Serialize for Flow {
         self.available.in_type();
         self.drain.in_type();
         self.echo.in_type();
-        field_in_type(&self.properties);
+        value_in_type(&self.properties);
     }
 }
 

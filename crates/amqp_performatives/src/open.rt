@@ -3,12 +3,13 @@ ghost use Rattle.amqp_enums.specs.Types.{composite, one_term, refl, agreement, w
 ghost use Rattle.amqp_performatives.specs.Tables.{opening};
 
 use amqp_codec::kernel::{
-    Composite, CompositeTerm, FieldRule, Table, read_into, read_some, write_composite,
+    Composite, CompositeTerm, FieldRule, Table, read_into, read_some, value_in_type,
+    write_composite,
 };
 use amqp_codec::{ByteSource, Decoder, Encoder, Error, Serialize, SerializeTerm, Symbol};
 use amqp_containers::Array;
 use amqp_containers::multiple::{is_null_multiple, read_multiple, write_multiple};
-use amqp_fields::{Fields, field_in_type};
+use amqp_fields::Fields;
 use amqp_restricted_types::{ChannelMax, IetfLanguageTag, MaxFrameSize, Milliseconds};
 use std::alloc::Global;
 
@@ -95,7 +96,7 @@ impl Composite for Open {
             7 => read_multiple(&mut self.offered_capabilities, decoder, alloc),
             8 => read_multiple(&mut self.desired_capabilities, decoder, alloc),
             9 => read_some(&mut self.properties, decoder, alloc),
-            _ => Err(decoder.refuse(Error::Surplus)),
+            _ => unreachable!(),
         }
     }
 
@@ -111,7 +112,7 @@ impl Composite for Open {
             7 => is_null_multiple(&self.offered_capabilities),
             8 => is_null_multiple(&self.desired_capabilities),
             9 => self.properties.is_none(),
-            _ => true,
+            _ => unreachable!(),
         }
     }
 
@@ -127,7 +128,7 @@ impl Composite for Open {
             7 => write_multiple(&self.offered_capabilities, encoder),
             8 => write_multiple(&self.desired_capabilities, encoder),
             9 => self.properties.serialize(encoder),
-            _ => encoder.check(),
+            _ => unreachable!(),
         }
     }
 }
@@ -149,7 +150,7 @@ impl Serialize for Open {
         self.incoming_locales.in_type();
         self.offered_capabilities.in_type();
         self.desired_capabilities.in_type();
-        field_in_type(&self.properties);
+        value_in_type(&self.properties);
     }
 }
 

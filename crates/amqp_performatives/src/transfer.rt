@@ -3,11 +3,11 @@ ghost use Rattle.amqp_enums.specs.Types.{composite, one_term, refl, agreement, w
 ghost use Rattle.amqp_performatives.specs.Tables.{transfer};
 
 use amqp_codec::kernel::{
-    Composite, CompositeTerm, FieldRule, Table, read_into, read_some, write_composite,
+    Composite, CompositeTerm, FieldRule, Table, read_into, read_some, value_in_type,
+    write_composite,
 };
 use amqp_codec::{ByteSource, Decoder, Encoder, Error, Serialize, SerializeTerm};
 use amqp_delivery::DeliveryState;
-use amqp_fields::field_in_type;
 use amqp_restricted_types::{
     DeliveryNumber, DeliveryTag, Handle, MessageFormat, ReceiverSettleMode,
 };
@@ -101,7 +101,7 @@ impl Composite for Transfer {
             8 => read_into(&mut self.resume, decoder, alloc),
             9 => read_into(&mut self.aborted, decoder, alloc),
             10 => read_into(&mut self.batchable, decoder, alloc),
-            _ => Err(decoder.refuse(Error::Surplus)),
+            _ => unreachable!(),
         }
     }
 
@@ -118,7 +118,7 @@ impl Composite for Transfer {
             8 => !self.resume,
             9 => !self.aborted,
             10 => !self.batchable,
-            _ => true,
+            _ => unreachable!(),
         }
     }
 
@@ -135,7 +135,7 @@ impl Composite for Transfer {
             8 => self.resume.serialize(encoder),
             9 => self.aborted.serialize(encoder),
             10 => self.batchable.serialize(encoder),
-            _ => encoder.check(),
+            _ => unreachable!(),
         }
     }
 }
@@ -155,7 +155,7 @@ impl Serialize for Transfer {
         self.settled.in_type();
         self.more.in_type();
         self.rcv_settle_mode.in_type();
-        field_in_type(&self.state);
+        value_in_type(&self.state);
         self.resume.in_type();
         self.aborted.in_type();
         self.batchable.in_type();

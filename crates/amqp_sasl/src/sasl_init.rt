@@ -57,7 +57,7 @@ impl Composite for SaslInit {
             0 => read_into(&mut self.mechanism, decoder, alloc),
             1 => read_some(&mut self.initial_response, decoder, alloc),
             2 => read_some(&mut self.hostname, decoder, alloc),
-            _ => Err(decoder.refuse(Error::Surplus)),
+            _ => unreachable!(),
         }
     }
 
@@ -66,7 +66,7 @@ impl Composite for SaslInit {
             0 => false,
             1 => self.initial_response.is_none(),
             2 => self.hostname.is_none(),
-            _ => true,
+            _ => unreachable!(),
         }
     }
 
@@ -75,7 +75,7 @@ impl Composite for SaslInit {
             0 => self.mechanism.serialize(encoder),
             1 => self.initial_response.serialize(encoder),
             2 => self.hostname.serialize(encoder),
-            _ => encoder.check(),
+            _ => unreachable!(),
         }
     }
 }

@@ -75,21 +75,21 @@ impl Composite for SaslMechanisms {
     ) -> Result<(), Error> {
         match index {
             0 => read_mandatory_multiple(&mut self.sasl_server_mechanisms, decoder, alloc),
-            _ => Err(decoder.refuse(Error::Surplus)),
+            _ => unreachable!(),
         }
     }
 
     fn is_null_field(&self, index: usize) -> bool {
         match index {
             0 => is_null_mandatory_multiple(&self.sasl_server_mechanisms),
-            _ => true,
+            _ => unreachable!(),
         }
     }
 
     fn write_field(&self, index: usize, encoder: &mut Encoder) -> Result<(), Error> {
         match index {
             0 => write_mandatory_multiple(&self.sasl_server_mechanisms, encoder),
-            _ => encoder.check(),
+            _ => unreachable!(),
         }
     }
 }

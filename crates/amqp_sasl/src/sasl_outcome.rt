@@ -50,7 +50,7 @@ impl Composite for SaslOutcome {
         match index {
             0 => read_into(&mut self.code, decoder, alloc),
             1 => read_some(&mut self.additional_data, decoder, alloc),
-            _ => Err(decoder.refuse(Error::Surplus)),
+            _ => unreachable!(),
         }
     }
 
@@ -58,7 +58,7 @@ impl Composite for SaslOutcome {
         match index {
             0 => false,
             1 => self.additional_data.is_none(),
-            _ => true,
+            _ => unreachable!(),
         }
     }
 
@@ -66,7 +66,7 @@ impl Composite for SaslOutcome {
         match index {
             0 => self.code.serialize(encoder),
             1 => self.additional_data.serialize(encoder),
-            _ => encoder.check(),
+            _ => unreachable!(),
         }
     }
 }

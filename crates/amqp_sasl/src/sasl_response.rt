@@ -43,21 +43,21 @@ impl Composite for SaslResponse {
     ) -> Result<(), Error> {
         match index {
             0 => read_into(&mut self.response, decoder, alloc),
-            _ => Err(decoder.refuse(Error::Surplus)),
+            _ => unreachable!(),
         }
     }
 
     fn is_null_field(&self, index: usize) -> bool {
         match index {
             0 => false,
-            _ => true,
+            _ => unreachable!(),
         }
     }
 
     fn write_field(&self, index: usize, encoder: &mut Encoder) -> Result<(), Error> {
         match index {
             0 => self.response.serialize(encoder),
-            _ => encoder.check(),
+            _ => unreachable!(),
         }
     }
 }

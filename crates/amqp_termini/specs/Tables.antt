@@ -2,7 +2,8 @@
 use Rattle.std.specs.Prelude.{Bool, true, false, None, option_map}
 use Rattle.amqp_model.specs.FieldType.{normal}
 use Rattle.amqp_enums.specs.Types.{inl, inr, codes, refl, unchanged, by_norm, TermType, boolean_type, uint_type, string_type, symbol_type}
-use Rattle.amqp_enums.specs.Types.{optional, default, none, field, Table, Choices, no_more, member, Chosen, SumOf, sum_of}
+use Rattle.amqp_enums.specs.Types.{optional, default, none, field, Table, Names, fieldless}
+use Rattle.amqp_enums.specs.Types.{Choices, no_more, member, Chosen, SumOf, sum_of}
 use Rattle.amqp_containers.specs.MultipleFields.{multiple, normal_multiple}
 use Rattle.amqp_restricted_types.specs.Defaults.{false_by_default}
 use Rattle.amqp_restricted_types.specs.Termini.{terminus_durability_type, terminus_expiry_policy_type, distribution_mode_type}
@@ -85,48 +86,32 @@ coordinator = record {
 }
 
 -- Part 3, section 3.5.10
+abbrev pub delete_on_close_names : Names
+delete_on_close_names = record { code = 0x2b; name = codes "amqp:delete-on-close:list"; is_small = refl }
+
 abbrev pub delete_on_close : Table DeleteOnClose
-delete_on_close = record {
-  code = 0x2b;
-  name = codes "amqp:delete-on-close:list";
-  fields = none;
-  norm = unchanged;
-  norm_is = λ v. tt;
-  is_small = refl;
-}
+delete_on_close = fieldless delete_on_close_names
 
 -- Part 3, section 3.5.11
+abbrev pub delete_on_no_links_names : Names
+delete_on_no_links_names = record { code = 0x2c; name = codes "amqp:delete-on-no-links:list"; is_small = refl }
+
 abbrev pub delete_on_no_links : Table DeleteOnNoLinks
-delete_on_no_links = record {
-  code = 0x2c;
-  name = codes "amqp:delete-on-no-links:list";
-  fields = none;
-  norm = unchanged;
-  norm_is = λ v. tt;
-  is_small = refl;
-}
+delete_on_no_links = fieldless delete_on_no_links_names
 
 -- Part 3, section 3.5.12
+abbrev pub delete_on_no_messages_names : Names
+delete_on_no_messages_names = record { code = 0x2d; name = codes "amqp:delete-on-no-messages:list"; is_small = refl }
+
 abbrev pub delete_on_no_messages : Table DeleteOnNoMessages
-delete_on_no_messages = record {
-  code = 0x2d;
-  name = codes "amqp:delete-on-no-messages:list";
-  fields = none;
-  norm = unchanged;
-  norm_is = λ v. tt;
-  is_small = refl;
-}
+delete_on_no_messages = fieldless delete_on_no_messages_names
 
 -- Part 3, section 3.5.13
+abbrev pub delete_on_no_links_or_messages_names : Names
+delete_on_no_links_or_messages_names = record { code = 0x2e; name = codes "amqp:delete-on-no-links-or-messages:list"; is_small = refl }
+
 abbrev pub delete_on_no_links_or_messages : Table DeleteOnNoLinksOrMessages
-delete_on_no_links_or_messages = record {
-  code = 0x2e;
-  name = codes "amqp:delete-on-no-links-or-messages:list";
-  fields = none;
-  norm = unchanged;
-  norm_is = λ v. tt;
-  is_small = refl;
-}
+delete_on_no_links_or_messages = fieldless delete_on_no_links_or_messages_names
 
 -- The lifetimes in their order, and the one that a value is.
 abbrev pub lifetimes : Choices LifetimePolicy

@@ -60,21 +60,21 @@ impl Composite for Coordinator {
     ) -> Result<(), Error> {
         match index {
             0 => read_multiple(&mut self.capabilities, decoder, alloc),
-            _ => Err(decoder.refuse(Error::Surplus)),
+            _ => unreachable!(),
         }
     }
 
     fn is_null_field(&self, index: usize) -> bool {
         match index {
             0 => is_null_multiple(&self.capabilities),
-            _ => true,
+            _ => unreachable!(),
         }
     }
 
     fn write_field(&self, index: usize, encoder: &mut Encoder) -> Result<(), Error> {
         match index {
             0 => write_multiple(&self.capabilities, encoder),
-            _ => encoder.check(),
+            _ => unreachable!(),
         }
     }
 }

@@ -1,10 +1,9 @@
 //! Lifetime of a node: delete on close (Part 3, section 3.5.10).
 ghost use Rattle.amqp_enums.specs.Types.{composite, one_term, refl, agreement, writing_of};
-ghost use Rattle.amqp_termini.specs.Tables.{delete_on_close};
+ghost use Rattle.amqp_termini.specs.Tables.{delete_on_close, delete_on_close_names};
 
-use amqp_codec::kernel::{Composite, CompositeTerm, Table, write_composite};
-use amqp_codec::{ByteSource, Decoder, Encoder, Error, Serialize, SerializeTerm};
-use std::alloc::Global;
+use amqp_codec::kernel::{CompositeTerm, Fieldless, write_composite};
+use amqp_codec::{Encoder, Error, Serialize, SerializeTerm};
 
 /// The node lives until the link that made it is closed.
 #[derive(Clone, Debug, PartialEq, Eq, Default, Drop)]
@@ -20,35 +19,15 @@ impl DeleteOnClose {
     }
 }
 
-impl Composite for DeleteOnClose {
-    ghost table = { delete_on_close };
+impl Fieldless for DeleteOnClose {
+    ghost names = { delete_on_close_names };
 
-    fn table() -> Table {
-        Table {
-            descriptor: DeleteOnClose::DESCRIPTOR,
-            fields: &[],
-        }
+    fn descriptor() -> (u64, &'static str) {
+        DeleteOnClose::DESCRIPTOR
     }
 
-    fn blank(_alloc: Global) -> DeleteOnClose {
+    fn value() -> DeleteOnClose {
         DeleteOnClose {}
-    }
-
-    fn fill_field<R: ByteSource>(
-        &mut self,
-        _index: usize,
-        decoder: &mut Decoder<R>,
-        _alloc: Global,
-    ) -> Result<(), Error> {
-        Err(decoder.refuse(Error::Surplus))
-    }
-
-    fn is_null_field(&self, _index: usize) -> bool {
-        true
-    }
-
-    fn write_field(&self, _index: usize, encoder: &mut Encoder) -> Result<(), Error> {
-        encoder.check()
     }
 }
 

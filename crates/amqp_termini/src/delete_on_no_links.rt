@@ -1,10 +1,9 @@
 //! Lifetime of a node: delete on no links (Part 3, section 3.5.11).
 ghost use Rattle.amqp_enums.specs.Types.{composite, one_term, refl, agreement, writing_of};
-ghost use Rattle.amqp_termini.specs.Tables.{delete_on_no_links};
+ghost use Rattle.amqp_termini.specs.Tables.{delete_on_no_links, delete_on_no_links_names};
 
-use amqp_codec::kernel::{Composite, CompositeTerm, Table, write_composite};
-use amqp_codec::{ByteSource, Decoder, Encoder, Error, Serialize, SerializeTerm};
-use std::alloc::Global;
+use amqp_codec::kernel::{CompositeTerm, Fieldless, write_composite};
+use amqp_codec::{Encoder, Error, Serialize, SerializeTerm};
 
 /// The node lives until there is no link to it.
 #[derive(Clone, Debug, PartialEq, Eq, Default, Drop)]
@@ -20,35 +19,15 @@ impl DeleteOnNoLinks {
     }
 }
 
-impl Composite for DeleteOnNoLinks {
-    ghost table = { delete_on_no_links };
+impl Fieldless for DeleteOnNoLinks {
+    ghost names = { delete_on_no_links_names };
 
-    fn table() -> Table {
-        Table {
-            descriptor: DeleteOnNoLinks::DESCRIPTOR,
-            fields: &[],
-        }
+    fn descriptor() -> (u64, &'static str) {
+        DeleteOnNoLinks::DESCRIPTOR
     }
 
-    fn blank(_alloc: Global) -> DeleteOnNoLinks {
+    fn value() -> DeleteOnNoLinks {
         DeleteOnNoLinks {}
-    }
-
-    fn fill_field<R: ByteSource>(
-        &mut self,
-        _index: usize,
-        decoder: &mut Decoder<R>,
-        _alloc: Global,
-    ) -> Result<(), Error> {
-        Err(decoder.refuse(Error::Surplus))
-    }
-
-    fn is_null_field(&self, _index: usize) -> bool {
-        true
-    }
-
-    fn write_field(&self, _index: usize, encoder: &mut Encoder) -> Result<(), Error> {
-        encoder.check()
     }
 }
 

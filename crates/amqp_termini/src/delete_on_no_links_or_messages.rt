@@ -1,10 +1,9 @@
 //! Lifetime of a node: delete on no links or messages (Part 3, section 3.5.13).
 ghost use Rattle.amqp_enums.specs.Types.{composite, one_term, refl, agreement, writing_of};
-ghost use Rattle.amqp_termini.specs.Tables.{delete_on_no_links_or_messages};
+ghost use Rattle.amqp_termini.specs.Tables.{delete_on_no_links_or_messages, delete_on_no_links_or_messages_names};
 
-use amqp_codec::kernel::{Composite, CompositeTerm, Table, write_composite};
-use amqp_codec::{ByteSource, Decoder, Encoder, Error, Serialize, SerializeTerm};
-use std::alloc::Global;
+use amqp_codec::kernel::{CompositeTerm, Fieldless, write_composite};
+use amqp_codec::{Encoder, Error, Serialize, SerializeTerm};
 
 /// The node lives until there is neither a link to it nor a message on it.
 #[derive(Clone, Debug, PartialEq, Eq, Default, Drop)]
@@ -20,35 +19,15 @@ impl DeleteOnNoLinksOrMessages {
     }
 }
 
-impl Composite for DeleteOnNoLinksOrMessages {
-    ghost table = { delete_on_no_links_or_messages };
+impl Fieldless for DeleteOnNoLinksOrMessages {
+    ghost names = { delete_on_no_links_or_messages_names };
 
-    fn table() -> Table {
-        Table {
-            descriptor: DeleteOnNoLinksOrMessages::DESCRIPTOR,
-            fields: &[],
-        }
+    fn descriptor() -> (u64, &'static str) {
+        DeleteOnNoLinksOrMessages::DESCRIPTOR
     }
 
-    fn blank(_alloc: Global) -> DeleteOnNoLinksOrMessages {
+    fn value() -> DeleteOnNoLinksOrMessages {
         DeleteOnNoLinksOrMessages {}
-    }
-
-    fn fill_field<R: ByteSource>(
-        &mut self,
-        _index: usize,
-        decoder: &mut Decoder<R>,
-        _alloc: Global,
-    ) -> Result<(), Error> {
-        Err(decoder.refuse(Error::Surplus))
-    }
-
-    fn is_null_field(&self, _index: usize) -> bool {
-        true
-    }
-
-    fn write_field(&self, _index: usize, encoder: &mut Encoder) -> Result<(), Error> {
-        encoder.check()
     }
 }
 

@@ -6,13 +6,13 @@ ghost use Rattle.amqp_termini.specs.Tables.{source};
 
 use crate::{Address, FilterSet, NodeProperties, SourceBuilder};
 use amqp_codec::kernel::{
-    Composite, CompositeTerm, FieldRule, Table, read_into, read_some, write_composite,
+    Composite, CompositeTerm, FieldRule, Table, read_into, read_some, value_in_type,
+    write_composite,
 };
 use amqp_codec::{ByteSource, Decoder, Encoder, Error, Serialize, SerializeTerm, Symbol};
 use amqp_containers::Array;
 use amqp_containers::multiple::{is_null_multiple, read_multiple, write_multiple};
 use amqp_delivery::Outcome;
-use amqp_fields::field_in_type;
 use amqp_restricted_types::{DistributionMode, Seconds, TerminusDurability, TerminusExpiryPolicy};
 use std::alloc::Global;
 
@@ -132,7 +132,7 @@ impl Composite for Source {
             8 => read_some(&mut self.default_outcome, decoder, alloc),
             9 => read_multiple(&mut self.outcomes, decoder, alloc),
             10 => read_multiple(&mut self.capabilities, decoder, alloc),
-            _ => Err(decoder.refuse(Error::Surplus)),
+            _ => unreachable!(),
         }
     }
 
@@ -149,7 +149,7 @@ impl Composite for Source {
             8 => self.default_outcome.is_none(),
             9 => is_null_multiple(&self.outcomes),
             10 => is_null_multiple(&self.capabilities),
-            _ => true,
+            _ => unreachable!(),
         }
     }
 
@@ -166,7 +166,7 @@ impl Composite for Source {
             8 => self.default_outcome.serialize(encoder),
             9 => write_multiple(&self.outcomes, encoder),
             10 => write_multiple(&self.capabilities, encoder),
-            _ => encoder.check(),
+            _ => unreachable!(),
         }
     }
 }
@@ -184,10 +184,10 @@ impl Serialize for Source {
         self.expiry_policy.in_type();
         self.timeout.in_type();
         self.dynamic.in_type();
-        field_in_type(&self.dynamic_node_properties);
+        value_in_type(&self.dynamic_node_properties);
         self.distribution_mode.in_type();
-        field_in_type(&self.filter);
-        field_in_type(&self.default_outcome);
+        value_in_type(&self.filter);
+        value_in_type(&self.default_outcome);
         self.outcomes.in_type();
         self.capabilities.in_type();
     }

@@ -6,12 +6,12 @@ ghost use Rattle.amqp_termini.specs.Tables.{target};
 
 use crate::{Address, NodeProperties, TargetBuilder};
 use amqp_codec::kernel::{
-    Composite, CompositeTerm, FieldRule, Table, read_into, read_some, write_composite,
+    Composite, CompositeTerm, FieldRule, Table, read_into, read_some, value_in_type,
+    write_composite,
 };
 use amqp_codec::{ByteSource, Decoder, Encoder, Error, Serialize, SerializeTerm, Symbol};
 use amqp_containers::Array;
 use amqp_containers::multiple::{is_null_multiple, read_multiple, write_multiple};
-use amqp_fields::field_in_type;
 use amqp_restricted_types::{Seconds, TerminusDurability, TerminusExpiryPolicy};
 use std::alloc::Global;
 
@@ -111,7 +111,7 @@ impl Composite for Target {
             4 => read_into(&mut self.dynamic, decoder, alloc),
             5 => read_some(&mut self.dynamic_node_properties, decoder, alloc),
             6 => read_multiple(&mut self.capabilities, decoder, alloc),
-            _ => Err(decoder.refuse(Error::Surplus)),
+            _ => unreachable!(),
         }
     }
 
@@ -124,7 +124,7 @@ impl Composite for Target {
             4 => !self.dynamic,
             5 => self.dynamic_node_properties.is_none(),
             6 => is_null_multiple(&self.capabilities),
-            _ => true,
+            _ => unreachable!(),
         }
     }
 
@@ -137,7 +137,7 @@ impl Composite for Target {
             4 => self.dynamic.serialize(encoder),
             5 => self.dynamic_node_properties.serialize(encoder),
             6 => write_multiple(&self.capabilities, encoder),
-            _ => encoder.check(),
+            _ => unreachable!(),
         }
     }
 }
@@ -155,7 +155,7 @@ impl Serialize for Target {
         self.expiry_policy.in_type();
         self.timeout.in_type();
         self.dynamic.in_type();
-        field_in_type(&self.dynamic_node_properties);
+        value_in_type(&self.dynamic_node_properties);
         self.capabilities.in_type();
     }
 }

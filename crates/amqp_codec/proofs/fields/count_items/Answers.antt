@@ -13,11 +13,11 @@ loop-count-preserved g c =
     record {
       within = omega (arith, i.within);
       trims = trim_step g.L.FieldList.list.fields c.loop-count.count c.args.value.now (omega arith) i.within
-          (c.if-is_null_field.ensures (omega (arith, i.within))) i.trims;
+          c.if-is_null_field.ensures i.trims;
     }
 
 pub returns-else-is_null_field-clause-trimmed : goal.returns-else-is_null_field-clause-trimmed
 returns-else-is_null_field-clause-trimmed g c =
     let i = c.loop-count.invariant in
     trim_end g.L.FieldList.list.fields c.loop-count.count c.args.value.now (omega arith) i.within
-    (c.if-is_null_field.ensures (omega (arith, i.within))) i.trims
+    c.if-is_null_field.ensures i.trims

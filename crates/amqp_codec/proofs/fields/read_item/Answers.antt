@@ -18,7 +18,7 @@ returns-in_err-peek_code g c tells =
 pub returns-then-branch-ne-NULL : goal.returns-then-branch-ne-NULL
 returns-then-branch-ne-NULL g c tells =
     filled_step g.L.FieldList.list.fields c.args.index _ _ _ _ _ _ _ c.requires.within (c.in_ok-peek_code.ensures tells)
-    c.if-branch-ne-NULL.true (c.fill_field.ensures tells c.requires.within)
+    c.if-branch-ne-NULL.true (c.fill_field.ensures tells)
 
 pub returns-in_err-read_null : goal.returns-in_err-read_null
 returns-in_err-read_null g c tells =

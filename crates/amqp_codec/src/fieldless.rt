@@ -1,0 +1,58 @@
+//! Composites without fields (Part 1, section 1.4).
+ghost use Rattle.amqp_codec.specs.Fieldless.{fieldless};
+
+use crate::composite::{Composite, Table};
+use crate::fields::FieldRule;
+use amqp_decoder::Decoder;
+use amqp_encoder::Encoder;
+use amqp_wire::{ByteSource, Error};
+use std::alloc::Global;
+
+/// A composite type that has no fields: its descriptor, and its value.
+pub trait Fieldless: Sized + Drop {
+    ghost use Rattle.amqp_codec.specs.Fieldless.{Names};
+
+    ghost names: { Names };
+
+    /// The code and the name of its descriptor.
+    fn descriptor() -> (u64, &'static str)
+        ensures code { result.0 ≡ names.code }
+        ensures name { result.1.now ≡ names.name };
+
+    /// The value.
+    fn value() -> Self;
+}
+
+// No field is read or written.
+impl<F: Fieldless> Composite for F {
+    ghost table = { fieldless F.names };
+
+    fn table() -> Table {
+        let fields: &'static [FieldRule] = &[];
+        Table {
+            descriptor: F::descriptor(),
+            fields,
+        }
+    }
+
+    fn blank(_alloc: Global) -> F {
+        F::value()
+    }
+
+    fn fill_field<R: ByteSource>(
+        &mut self,
+        _index: usize,
+        _decoder: &mut Decoder<R>,
+        _alloc: Global,
+    ) -> Result<(), Error> {
+        unreachable!()
+    }
+
+    fn is_null_field(&self, _index: usize) -> bool {
+        unreachable!()
+    }
+
+    fn write_field(&self, _index: usize, _encoder: &mut Encoder) -> Result<(), Error> {
+        unreachable!()
+    }
+}
