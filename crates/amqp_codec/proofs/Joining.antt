@@ -1,5 +1,5 @@
 -- Terms that are written one after another, and terms that hold others.
-use Rattle.std.proofs.Common.{◌≡◌, ℕ, List, [], ◌∷◌, ◌++◌, refl, sym, ap, ◌∙◌, ◌⊎◌, inl, inr}
+use Rattle.std.proofs.Common.{◌≡◌, ℕ, List, [], ◌∷◌, ◌++◌, sym, ap, ◌∙◌, ◌⊎◌, inl, inr}
 use Rattle.std.specs.Prelude.{Result, Ok, Err}
 use Rattle.std.proofs.lemmas.List.{append-nil}
 use Rattle.std.proofs.lemmas.Grind.{flat_map-append}
@@ -8,12 +8,11 @@ use Rattle.amqp_model.specs.Items.{terms_of}
 use Rattle.amqp_wire.specs.declared.error.Error.{Error}
 use Rattle.amqp_wire.specs.declared.error.Error.TheVariants.{Memory}
 use Rattle.amqp_encoder.specs.declared.encoder.Encoder.{Encoder}
-use Rattle.amqp_encoder.specs.State.{Pass, Measuring, Filling, Stopped}
-use Rattle.amqp_encoder.specs.Tokens.{Token, tokens, all_tokens, begin, end, begin_described, end_described, refuse}
+use Rattle.amqp_encoder.specs.Tokens.{Token, tokens, all_tokens, begin, end, begin_described, end_described}
 use Rattle.amqp_encoder.specs.Passes.{row_tokens}
-use Rattle.amqp_encoder.specs.Writes.{Runs, Writes, IsGoing, AnyMayRunOut, steps, outcome, pass_of, bytes_of}
+use Rattle.amqp_encoder.specs.Writes.{Writes, outcome, pass_of, bytes_of}
 use Rattle.amqp_encoder.proofs.Rows.{row_calls}
-use Rattle.amqp_encoder.proofs.Joined.{steps_stopped, nothing, join, cut, on, was_going}
+use Rattle.amqp_encoder.proofs.Joined.{nothing, join, cut, on, was_going}
 use Rattle.amqp_encoder.specs.Refused.{KnowDepths}
 use Rattle.amqp_codec.specs.Written.{GivesUp, WritesTerms}
 
@@ -46,26 +45,6 @@ cut_up : (a : Encoder) (xs : List Token) (q : Result (Unit {0}) Error) (b : Enco
 cut_up a xs q b ys r e y i j k (inl w) = inl (cut a xs q b ys r e y i j k w)
 cut_up a xs q b ys r e y i j k (inr g) =
     inr (record { was_going = g.was_going; answer = j ∙ (ap Err k ∙ (sym i ∙ g.answer)); state = g.state; kept = g.kept })
-
-has_refused : (s new : Pass) (ts : List Token) (r : Result (Unit {0}) Error) → Runs s (refuse Memory ∷ []) r new
-    → (IsGoing s × (new ≡ Stopped Memory)) ⊎ Runs s ts r new
-unfolding steps AnyMayRunOut
-has_refused (Stopped e) new ts r w =
-    inr (record {
-      answer = w.answer;
-      state = elim w.state [ inl h ↦ inl (h ∙ sym (steps_stopped e ts)) | inr h ↦ absurd (elim h.0 [ inl k ↦ k | inr k ↦ k ]) ];
-    })
-has_refused (Measuring m) new ts r w = inl (refl, elim w.state [ inl h ↦ h | inr h ↦ h.1 ])
-has_refused (Filling f) new ts r w = inl (refl, elim w.state [ inl h ↦ h | inr h ↦ h.1 ])
-
--- a type refuses its value, since it ran out of memory of its own
-pub gave_up : (ts : List Term) (a b : Encoder) (r : Result (Unit {0}) Error) → Writes a (refuse Memory ∷ []) r b → WritesTerms ts a r b
-gave_up ts a b r w = record {
-  calls = λ deep k. (elim (has_refused (pass_of a) (pass_of b) (row_tokens deep ts) r w.runs) [
-    | inl h ↦ inr (record { was_going = h.0; answer = w.runs.answer ∙ ap outcome h.1; state = h.1; kept = w.kept })
-    | inr h ↦ inl (record { runs = h; kept = w.kept })
-  ]);
-}
 
 -- no term
 pub no_terms : (s : Encoder) (r : Result (Unit {0}) Error) → r ≡ outcome (pass_of s) → WritesTerms [] s r s

@@ -48,12 +48,6 @@ pub trim_step : {V : Type 0} (fs : Fields V) (n : ℕ) (v : V) → 0 < n → n �
 trim_step fs zero v p l z e = absurd (omega arith)
 trim_step fs (suc n) v p l z e = let k : suc n - 1 ≡ n = omega arith in rw k (sym (trim_null fs n v (omega arith) (rw k at (sym z))) ∙ e)
 
-pub trim_zero : {V : Type 0} (fs : Fields V) (n : ℕ) (v : V) → n ≤ 0
-    → without_last_nulls (take n (canonical_terms (slots fs) v)) ≡ canonical_items (slots fs) v
-    → take n (canonical_terms (slots fs) v) ≡ canonical_items (slots fs) v
-trim_zero fs zero v p e = e
-trim_zero fs (suc n) v p e = absurd (omega arith)
-
 pub trim_end : {V : Type 0} (fs : Fields V) (n : ℕ) (v : V) → 0 < n → n ≤ length (rules_of (slots fs))
     → false ≡ is_null (canon_at fs (n - 1) v) →
     without_last_nulls (take n (canonical_terms (slots fs) v)) ≡ canonical_items (slots fs) v

@@ -1,5 +1,5 @@
 -- Facts about terms that are one primitive.
-use Rattle.std.proofs.Common.{◌≡◌, ℕ, false, List, [], ◌∷◌, sym, ap, subst}
+use Rattle.std.proofs.Common.{◌≡◌, ℕ, List, [], ◌∷◌, sym, ap, subst}
 use Rattle.amqp_model.specs.Term.{Primitive, null, Refusal, too_large, Container, Term, Terms, leaf, container, described, kept, barred}
 use Rattle.amqp_model.specs.Term.{Descriptor}
 use Rattle.amqp_model.specs.Constructors.{Format, fixed, variable, compound, unknown, format}
@@ -7,16 +7,11 @@ use Rattle.amqp_model.specs.Spelling.{PrimitiveData, IsValid, data_of, enc}
 use Rattle.amqp_model.specs.Standing.{Standing, whole, part}
 use Rattle.amqp_model.specs.Refusals.{IsRefused}
 use Rattle.amqp_model.specs.Kept.{ExpandsTo}
-use Rattle.amqp_model.specs.Items.{is_null_primitive}
-use Rattle.amqp_model.specs.ItemLaws.{clash}
 use Rattle.amqp_codec.specs.TermType.{Spells}
 use Rattle.amqp_codec.specs.OnlySizeLaws.{size_alone, leaf_flawless}
 
 pub leaf_injective : (p q : Primitive) → leaf p ≡ leaf q → p ≡ q
 leaf_injective p q e = cc
-
-pub leaf_not_null : (p : Primitive) → is_null_primitive p ≡ false → leaf p ≡ leaf null → ⊥
-leaf_not_null p n e = clash (ap is_null_primitive (leaf_injective p null e)) n
 
 pub container_not_null : (k : Container) (ts : Terms) → container k ts ≡ leaf null → ⊥
 container_not_null k ts e = cc

@@ -211,9 +211,6 @@ module _ {T : Type 0} (u : TermType T) where
   as_several : (st : State) (v : Array T) (b : State) → AtLeastOne st v b → Several st (Some v) b
   as_several st v b h = record { bytes = h.bytes; term = h.term; stands = h.stands; moved = h.moved; meant = h.meant }
 
-  pub at_least_one : (st : State) (v : Array T) (b : State) → Several st (Some v) b → AtLeastOne st v b
-  at_least_one st v b h = record { bytes = h.bytes; term = h.term; stands = h.stands; moved = h.moved; meant = h.meant }
-
   pub mandatory_refused : (st : State) (e : Error) (new : State) → RefusesRead true Several SeveralFault st e new
       → RefusesRead true AtLeastOne (MandatoryFault u) st e new
   mandatory_refused st e new h =

@@ -203,10 +203,6 @@ one_constructor st ds es c k m m' t u =
     (sym t.took.rest ∙ u.took.rest) in
     (s.1.0, s.1.1, t.took.moved ∙ ap (λ l. after_data (length l) st) s.0 ∙ sym u.took.moved)
 
--- marks are taken one by one
-pub first_code : (st : State) (c : ℕ) (m : State) → Takes st (c ∷ []) m → TakesMarks st [] c m
-first_code st c m t = record { own = []; marks = refl; took = t }
-
 marked_none : (st : State) (ds : List Descriptor) (c : ℕ) (m : State) → TakesMarks st ds c m → st.top.shared ≡ None → m.top.shared ≡ None
 marked_none st ds c m t none = ap (λ (z : State). z.top.shared) t.took.moved ∙ none
 

@@ -8,7 +8,7 @@ use Rattle.amqp_model.specs.Constructors.{Format, variable, format}
 use Rattle.amqp_model.specs.Spelling.{PrimitiveData, Names, descriptor_value}
 use Rattle.amqp_model.proofs.Same.{names_same}
 use Rattle.amqp_wire.specs.declared.error.Error.{Error}
-use Rattle.amqp_wire.specs.declared.error.Error.TheVariants.{Depth, Memory, NonAscii, WrongDescriptor}
+use Rattle.amqp_wire.specs.declared.error.Error.TheVariants.{Depth, NonAscii, WrongDescriptor}
 use Rattle.amqp_wire.specs.Codes.{refusal_of}
 use Rattle.amqp_wire.specs.declared.descriptor.Descriptor.{Descriptor as DescriptorValue}
 use Rattle.amqp_decoder.specs.State.{State, Has, after_bytes, after_data, descriptor_of}
@@ -407,6 +407,3 @@ any_entered st m d named new g t (n, is) =
       descriptor = t;
       opened = is;
     }
-
-pub missed_copy : (st : State) (e : Error) (new : State) → (e ≡ Memory) × Answers st e new → MissesDescriptor true st e new
-missed_copy st e new (is, kept) = record { kept = kept; why = inl (inl (refl, is)) }

@@ -1,5 +1,5 @@
 -- Bytes that are taken and kept.
-use Rattle.std.proofs.Common.{arith, ◌≡◌, ◌≤◌, ◌<◌, ℕ, ◌^◌, ◌-◌, inl, inr, Bool, true, false, cond, Some, List, [], ◌∷◌, ◌++◌, length, take}
+use Rattle.std.proofs.Common.{arith, ◌≡◌, ◌≤◌, ◌<◌, ℕ, ◌^◌, ◌-◌, inl, inr, Bool, true, false, cond, Some, List, ◌++◌, length, take}
 use Rattle.std.proofs.Common.{drop, refl, sym, ap, ◌∙◌, subst, append_assoc, length-append, IsAscii}
 use Rattle.std.proofs.lemmas.List.{length-take-le, take-append-drop, drop_at}
 use Rattle.std.specs.List.{slice_range}
@@ -27,12 +27,6 @@ pub keeps_as : (P Q : List ℕ → Type 0) (a b : List ℕ) (st new : State) →
     → Keeps P a st b new → Keeps Q a st b new
 keeps_as P Q a b st new f h = record { own = h.own; is = f h.own h.is; took = h.took; added = h.added }
 
--- a byte that was taken is added
-pub keeps_code : (c : ℕ) (before after : List ℕ) (st m new : State) → Takes st (c ∷ []) m → after ≡ before ++ (c ∷ []) → new ≡ m
-    → Keeps (λ s. s ≡ c ∷ []) before st after new
-keeps_code c before after st m new t added same =
-    record { own = c ∷ []; is = refl; took = subst (Takes st (c ∷ [])) (sym same) t; added = added }
-
 pub keeps_next : (n : ℕ) (before after : List ℕ) (st m new : State) → Has st.top.left n
     → m ≡ record st { top = record st.top { left = lower st.top.left n } }
     → (n ≤ length m.rest) × (after ≡ before ++ take n m.rest) × (new ≡ after_bytes n m) → Keeps (λ s. length s ≡ n) before st after new
@@ -46,18 +40,6 @@ keeps_next n before after st m new room is (few, added, went) =
 digits : (wide : Bool) (n : ℕ) → drop (4 - cond wide 4 1) (bytes_high_first 4 n) ≡ bytes_high_first (cond wide 4 1) n
 digits true n = refl
 digits false n = refl
-
-pub keeps_number : (wide : Bool) (n k : ℕ) (before after bytes : List ℕ) (st new : State)
-    → Takes st (bytes_high_first (cond wide 4 1) n) new → bytes ≡ bytes_high_first 4 n → k ≡ 4 - cond wide 4 1
-    → after ≡ before ++ drop k bytes
-    → Keeps (λ s. s ≡ bytes_high_first (cond wide 4 1) n) before st after new
-keeps_number wide n k before after bytes st new t is skip added = record {
-  own = bytes_high_first (cond wide 4 1) n;
-  is = refl;
-  took = t;
-  added = added ∙ ap (λ l. before ++ drop k l) is ∙ ap (λ j. before ++ drop j (bytes_high_first 4 n)) skip
-      ∙ ap (λ l. before ++ l) (digits wide n);
-}
 
 -- a size and what it announces
 sized_own : (w n : ℕ) (x y : List ℕ) → n < 256 ^ w → x ≡ bytes_high_first w n → length y ≡ n → IsSized w y (x ++ y)

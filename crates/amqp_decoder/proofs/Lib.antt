@@ -22,4 +22,3 @@ pub mod KeptTerms
 pub mod TermErrors
 pub mod Misspelled
 pub mod NothingInside
-pub mod ItemsLeft

@@ -1,11 +1,11 @@
 -- How an array is begun: a code, a size, a count, and the constructor that its items share.
 use Rattle.std.proofs.Common.{◌≡◌, ◌≤◌, ◌<◌, ℕ, ◌⊎◌, inl, inr, Bool, true, false, ◌↔◌, IsTrue, Some, None, Result, Ok, Err, IfOk, IfErr}
-use Rattle.std.proofs.Common.{List, length, max, refl, sym, ap, ◌∙◌, subst, arith}
+use Rattle.std.proofs.Common.{List, length, max, sym, ap, ◌∙◌, subst, arith}
 use Rattle.amqp_model.specs.Term.{Descriptor, array}
 use Rattle.amqp_model.specs.Constructors.{compound, format}
 use Rattle.amqp_model.specs.Spelling.{IsKnown, HasWidthZero}
 use Rattle.amqp_wire.specs.declared.error.Error.{Error}
-use Rattle.amqp_wire.specs.declared.error.Error.TheVariants.{Depth, Memory, ZeroWidthItems}
+use Rattle.amqp_wire.specs.declared.error.Error.TheVariants.{Depth, ZeroWidthItems}
 use Rattle.amqp_wire.specs.Codes.{refusal_of}
 use Rattle.amqp_decoder.specs.declared.frame.Place.{Place}
 use Rattle.amqp_decoder.specs.declared.frame.Place.TheVariants.{InArray}
@@ -60,10 +60,6 @@ stopped_nested n st ds c m flat e new some t flat_is (not_flat, is, deep, kept) 
   why = inr (too_nested ds c m some t (λ f. let x = (flat_is (known st ds c m t)).1 f in
       absurd (cc)) (subst (λ (z : State). z.nesting < length z.saved) t.took.moved deep) is);
 }
-
-pub stopped_memory : (n : ℕ) (st : State) (ds : List Descriptor) (c : ℕ) (m : State) (e : Error) (new : State) → TakesConstructor st ds c m
-    → (e ≡ Memory) × Answers m e new → Stops true (SharesFault n st) st e new
-stopped_memory n st ds c m e new t (is, kept) = record { kept = answered_took t.took kept; why = inl (inl (refl, is)) }
 
 shares_not : (n : ℕ) (st : State) (e : Error) (st' : State) → SharesFault n st e → Shares n st st' → ⊥
 shares_not n st e st' (no_constructor f) (no_items ds c none t) = constructor_not st e ds c st' f t

@@ -4,7 +4,7 @@ use Rattle.std.proofs.Common.{option_map, List, length, take, drop, map, eqb, co
 use Rattle.std.proofs.Common.{unwrap_or, Bool, true, false, ltb, refl, ap, sym, ◌∙◌, arith, add-one}
 use Rattle.std.proofs.lemmas.List.{get_or-set_same, get_or-set_other, get_or-take, take_all, drop-take, drop-drop, drop_at, take_at}
 use Rattle.std.proofs.lemmas.List.{take-take, length-take-le}
-use Rattle.std.proofs.lemmas.Bool.{ltb-true, ltb-false, ne_eqb, eq-eqb}
+use Rattle.std.proofs.lemmas.Bool.{ltb-true, ltb-false, ne_eqb}
 use Rattle.std.proofs.Math.Seq.{drop-cons, take-nil}
 use Rattle.std.proofs.Math.ListN.{get_or-eq_default}
 use Rattle.std.proofs.lemmas.List.Sums.{sum_by_more}
@@ -206,15 +206,6 @@ pub found_mark : (r : Option (Bor DescriptorValue)) (l ds : DescriptorValues) (i
 found_mark None l ds i c first last e is some h few at_ there = let x = there (omega (arith, ap length e)) in absurd (cc)
 found_mark (Some x) l ds i c first last e is some h few at_ there =
     first_mark ds c first last x.now x.now some h few (at_ ∙ ap (λ k. get_or k i x.now) e ∙ ap (λ k. get_or ds k x.now) is)
-
-pub no_code_unmarked : (ds : DescriptorValues) (c first last : ℕ) → c ≡ 0 → IsUnmarked (shared_of ds c first last)
-no_code_unmarked ds c first last h =
-    subst IsUnmarked (ap (λ b. cond b None (Some (map descriptor_of (take (last - first) (drop first ds)), c))) (sym (eq-eqb c 0 h))) tt
-
-pub none_unmarked : (ds : DescriptorValues) (c first last : ℕ) → (c ≡ 0 → ⊥) → last ≤ first → IsUnmarked (shared_of ds c first last)
-none_unmarked ds c first last some h =
-    let none : last - first ≡ 0 = omega arith in
-    subst IsUnmarked (sym (some_shared ds c first last [] some (ap (λ k. take k (drop first ds)) none))) some
 
 drop_map : (l : DescriptorValues) → drop 1 (map descriptor_of l) ≡ map descriptor_of (drop 1 l)
 drop_map [] = refl

@@ -4,11 +4,11 @@ use Rattle.std.proofs.Common.{unwrap_or, refl, sym, ap, ◌∙◌, subst, arith,
 use Rattle.std.proofs.lemmas.List.{length-append}
 use Rattle.amqp_model.specs.Term.{Descriptor}
 use Rattle.amqp_wire.specs.declared.error.Error.{Error}
-use Rattle.amqp_wire.specs.declared.error.Error.TheVariants.{Cut, Missing}
+use Rattle.amqp_wire.specs.declared.error.Error.TheVariants.{Cut}
 use Rattle.amqp_decoder.specs.State.{State, Has, lower, after_value, announced}
 use Rattle.amqp_decoder.specs.Steps.{Answers, SourceFailed, IsExcused, Pulls, Misses, Takes, Lacks, cut_open, cut_inside, too_long}
 use Rattle.amqp_decoder.specs.Steps.{FallsShort, Stops, asked_in, SizeError, cut, wrong, RefusesSize}
-use Rattle.amqp_decoder.specs.Reading.{RefusesRead, IsLeft, IsFirst, IsFirstShared, ReadsCode, BeginFault, missing, no_code}
+use Rattle.amqp_decoder.specs.Reading.{RefusesRead, IsFirst, IsFirstShared, ReadsCode, BeginFault, no_code}
 
 -- a call that takes no memory is excused by its source alone
 pub source_failed : (e : Error) (st : State) → IsExcused false e st → SourceFailed e st
@@ -152,19 +152,6 @@ pub not_begun_lacking : (st : State) (e : Error) (c : ℕ) (b : State) → st.to
 not_begun_lacking st e c b none l h =
     let own : h.own ≡ c ∷ [] = subst (λ o. IsFirst o c h.own) none h.first in
     not_lacking 1 st e h.own (drop (length h.own) st.rest) l (omega (arith, ap length own)) h.room h.rest
-
--- no value is left
-pub begin_done : (st : State) (e : Error) (new : State)
-    → RefusesRead false IsLeft (λ st e. (st.top.items ≡ Some 0) × (e ≡ Missing)) st e new → RefusesRead false ReadsCode BeginFault st e new
-begin_done st e new r = record {
-  kept = r.kept;
-  again = r.again;
-  named = λ g. elim (r.named g) [ inl x ↦ inl x | inr (x, y) ↦ inr (missing x y) ];
-  none = elim r.none [
-    | inl x ↦ inl x
-    | inr f ↦ inr (λ v b h. f tt st (record { going = h.going; item = h.item; kept = refl }))
-  ];
-}
 
 -- its first byte can't be taken
 pub begin_short : (st : State) (e : Error) (new : State) → st.error ≡ None → Has st.top.items 1 → st.top.shared ≡ None

@@ -15,18 +15,17 @@ use Rattle.amqp_decoder.specs.Reading.{ReadsCode, BeginFault, missing, no_code, 
 use Rattle.amqp_decoder.specs.Primitives.{Stands, ReadsValue, LacksData, PrimitiveFault, not_begun, wrong_code, no_data, bad_data}
 use Rattle.amqp_decoder.specs.Containers as containers
 use Rattle.amqp_decoder.specs.Containers.{IsOpen, EndFault, other_place, nothing_open, items_left, Closes, CloseFault, not_at_end}
-use Rattle.amqp_decoder.specs.Containers.{bytes_left_over, ClosesDescribed, ReadsHeader, HeaderFault, no_size, impossible, no_count}
+use Rattle.amqp_decoder.specs.Containers.{bytes_left_over, ReadsHeader, HeaderFault, no_size, impossible, no_count}
 use Rattle.amqp_decoder.specs.Containers.{no_content, Enters, EnterFault, no_header, odd_count, no_room, too_deep, Opens, OpenFault}
 use Rattle.amqp_decoder.specs.Described as described
 use Rattle.amqp_decoder.specs.Described.{TakesDescriptor, OpensDescribed, TakesPlace, DescribedFault, other_code, DescriptorFault, no_kind}
 use Rattle.amqp_decoder.specs.Described.{non_ascii, not_open, nameless, OneOfFault, not_described, no_descriptor, no_member}
 use Rattle.amqp_decoder.specs.Arrays as arrays
-use Rattle.amqp_decoder.specs.Arrays.{IsFlat, TakesMarks, TakesConstructor, ConstructorFault, no_mark, too_many, no_known_code, Shares}
+use Rattle.amqp_decoder.specs.Arrays.{TakesMarks, TakesConstructor, ConstructorFault, no_mark, too_many, no_known_code, Shares}
 use Rattle.amqp_decoder.specs.Arrays.{no_items, shared_by, SharesFault, no_constructor, zero_width, too_nested, Starts, EntersArray}
 use Rattle.amqp_decoder.specs.Arrays.{EnterArrayFault, no_start, OpensArray, ArrayFault}
-use Rattle.amqp_decoder.specs.Rooms.{HasRoom}
 use Rattle.amqp_decoder.specs.Terms as terms
-use Rattle.amqp_decoder.specs.Terms.{LacksAnnounced, NoTerm, wrong_size, wrong_term, SpellingFault, no_term, TakesTerm, TermFault, in_array}
+use Rattle.amqp_decoder.specs.Terms.{LacksAnnounced, NoTerm, wrong_size, wrong_term, SpellingFault, no_term, TermFault, in_array}
 use Rattle.amqp_decoder.specs.Terms.{misspelled}
 use Rattle.amqp_lengths.proofs.RefusedBytes.{fault_refuses}
 use Rattle.amqp_lengths.proofs.DeeperFaults.{fault_deeper}
@@ -48,9 +47,6 @@ another source failed = record { source = source; failed = failed; deepen = λ n
 -- The same before a decoder of another source, which may have failed.
 abbrev pub elsewhere : ℕ → Bool → State → State
 elsewhere source failed st = record st { source = source; failed = failed }
-
-pub elsewhere_under : (source : ℕ) (failed : Bool) (st : State) → under (another source failed) st ≡ elsewhere source failed st
-elsewhere_under source failed st = refl
 
 -- An error by depth isn't kept by a greater bound.
 abbrev pub KeepsError : Setting → Error → Type 0
@@ -208,10 +204,6 @@ module _ (c : Setting) where
     opened = ap at h.opened;
   }
 
-  pub closes_described : {place : Place} {st st' : State} → ClosesDescribed place st st' → ClosesDescribed place (at st) (at st')
-  closes_described h =
-      record { going = h.going; here = h.here; items = h.items; outer = h.outer; others = h.others; saved = h.saved; moved = ap at h.moved }
-
   described_fault : {st : State} {e : Error} → KeepsError c e → DescribedFault st e → DescribedFault (at st) e
   described_fault keeps (described.not_begun h) = described.not_begun (begin_fault keeps h)
   described_fault keeps (other_code b n e) = other_code (begun b) n e
@@ -300,14 +292,6 @@ module _ (c : Setting) where
   array_fault keeps (arrays.not_begun h) = arrays.not_begun (begin_fault keeps h)
   array_fault keeps (arrays.wrong_code k m b n e) = arrays.wrong_code k (at m) (begun b) n e
   array_fault keeps (arrays.no_data k w m b f h) = arrays.no_data k w (at m) (begun b) f (enter_array_fault keeps h)
-
-  pub has_room : (st : State) → HasRoom st → HasRoom (at st)
-  has_room st (inl few) = let g = c.grows st.nesting in inl (omega (arith, few, g))
-  has_room st (inr h) = inr h
-
-  -- whole terms
-  pub takes_term : {st st' : State} {s : List ℕ} → TakesTerm st s st' → TakesTerm (at st) s (at st')
-  takes_term h = record { term = h.term; stands = stands h.stands; unshared = h.unshared; moved = ap at h.moved }
 
   announced_fault : (F : Format) (st : State) (e : Error) → LacksAnnounced F st e → LacksAnnounced F (at st) e
   announced_fault (fixed w v) st e h = data_fault (fixed w v) st e h

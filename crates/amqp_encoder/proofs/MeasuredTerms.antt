@@ -8,7 +8,7 @@ use Rattle.std.proofs.lemmas.Bool.{lt-ltb}
 use Rattle.std.proofs.lemmas.List.{append-nil, map-append, take_at, take_all, length-take, length-drop}
 use Rattle.std.proofs.Math.Seq.{set-append_seam}
 use Rattle.amqp_model.specs.Term as model
-use Rattle.amqp_model.specs.Term.{Primitive, null, Refusal, non_ascii, too_large, Container, array, Term, Terms, leaf, container, described}
+use Rattle.amqp_model.specs.Term.{null, non_ascii, too_large, Container, array, Term, Terms, leaf, container, described}
 use Rattle.amqp_model.specs.Term.{kept, barred, none, more, Descriptor, count}
 use Rattle.amqp_model.specs.Spelling.{descriptor_value}
 use Rattle.amqp_model.specs.Text.{Place, Alone, First, Later, next, first_place, wide, wide_code, descriptor_text, text, texts, sizes_of}
@@ -119,11 +119,6 @@ deep_container : (deep : List ℕ → ℕ) (k : Container) (d : ℕ) (ts : Terms
 deep_container deep model.list d ts h = omega arith
 deep_container deep model.map d ts h = omega arith
 deep_container deep model.array d ts h = omega arith
-
-low_container : (k : Container) (d : ℕ) → d ≤ around k → d ≤ 128
-low_container model.list d h = omega arith
-low_container model.map d h = omega arith
-low_container model.array d h = omega arith
 
 kept_size : (sizes all : List Size) (z s : Size) → set ((sizes ++ z ∷ []) ++ all) (length sizes) s ≡ sizes ++ (s ∷ all)
 kept_size sizes all z s = rw (append_assoc sizes (z ∷ []) all) (set-append_seam sizes z all s)

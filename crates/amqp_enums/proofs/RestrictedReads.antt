@@ -31,16 +31,6 @@ module _ {A V : Type 0} (base : Base A) (unknown : Error) (table : V → A) wher
   as_primitive : (st : State) (v : V) (b : State) → ReadsValue means st v b → ReadsValue (Means base.make) st (table v) b
   as_primitive st v b h = record { bytes = h.bytes; term = h.term; stands = h.stands; moved = h.moved; meant = h.meant.0 }
 
-  pub restricted_read : (st : State) (a : A) (v : V) (b : State) → ReadsValue (Means base.make) st a b → table v ≡ a
-      → ReadsValue means st v b
-  restricted_read st a v b h e = record {
-    bytes = h.bytes;
-    term = h.term;
-    stands = h.stands;
-    moved = h.moved;
-    meant = (h.meant ∙ ap (λ x. leaf (base.make x)) (sym e), tt);
-  }
-
   pub restricted_refused : {takes : Bool} (st : State) (e : Error) (new : State) → NoPrimitive takes st e new → NoValue takes st e new
   restricted_refused st e new h =
       refused_first (ReadsValue (Means base.make)) (PrimitiveFault base.kind) (ReadsValue means)

@@ -1,5 +1,5 @@
 -- Composites with different descriptors have terms of different forms.
-use Rattle.std.proofs.Common.{◌≡◌, inl, inr, ℕ, Bool, true, false, ◌&&◌, not, eqb, eq-eqb, List, [], ◌∷◌, Option, Some, None, refl, sym, ap}
+use Rattle.std.proofs.Common.{◌≡◌, ℕ, Bool, true, false, ◌&&◌, not, eqb, eq-eqb, List, [], ◌∷◌, Option, Some, None, refl, sym, ap}
 use Rattle.std.proofs.Common.{◌∙◌, subst, get_or}
 use Rattle.amqp_model.specs.Term.{list, Descriptor, name, code, Terms, container, described}
 use Rattle.amqp_model.specs.Text.{form}
@@ -7,9 +7,7 @@ use Rattle.amqp_model.specs.Composite.{Describes}
 use Rattle.amqp_model.specs.ItemLaws.{clash}
 use Rattle.amqp_model.specs.CompositeLaws.{by_cases}
 use Rattle.amqp_codec.specs.Composite.{Table, table_of, composite}
-use Rattle.amqp_codec.specs.Faults.{Faults}
-use Rattle.amqp_codec.specs.EitherType.{FormsApart, either_of}
-use Rattle.amqp_codec.specs.TermType.{TermType}
+use Rattle.amqp_codec.specs.EitherType.{FormsApart}
 
 -- two texts are one
 abbrev pub same_text : List ℕ → List ℕ → Bool
@@ -54,9 +52,3 @@ module _ {V W : Type 0} (c : Table V) (d : Table W) (h : differ c d ≡ true) wh
       (λ x ts p f. by_cases (table_of d) (λ r. form (described x (container list ts)) ≡ form r
       → ⊥) r b (λ y us q g. lists_apart x y ts us p q) n)
       m
-
--- what is apart from two types is apart from their sum
-pub apart_from_sum : {A B C : Type 0} (u : TermType A) (v : TermType B) (w : TermType C) (h : FormsApart v w) (faults : Faults)
-    → FormsApart u v → FormsApart u w → FormsApart u (either_of v w h faults)
-apart_from_sum u v w h faults f g s z t r a (inl b) m n = f s z t r a b m n
-apart_from_sum u v w h faults f g s z t r a (inr x) m n = g s z t r a x m n

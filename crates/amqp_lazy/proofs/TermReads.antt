@@ -22,15 +22,6 @@ own_means : (o : Option (List Descriptor × ℕ)) (s : List ℕ) (t : Term) (v :
 own_means None s t v m = (refl, m.0)
 own_means (Some x) s t v m = absurd m
 
-pub term_taken : (st : State) (v : Vec ℕ Global) (b : State) → Taken st v b → ReadsValue lazy_type.means st v b
-term_taken st v b h = record {
-  bytes = v.items;
-  term = h.term;
-  stands = h.stands;
-  moved = h.moved;
-  meant = means_own st.top.shared v.items h.term h.unshared h.stands.spelled;
-}
-
 value_taken : (st : State) (v : Vec ℕ Global) (b : State) → ReadsValue lazy_type.means st v b → Taken st v b
 value_taken st v b h =
     let own = own_means st.top.shared h.bytes h.term v.items h.meant in

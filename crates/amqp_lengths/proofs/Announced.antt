@@ -5,7 +5,7 @@ use Rattle.std.proofs.lemmas.List.{length-append}
 use Rattle.std.specs.Int.{bytes_high_first}
 use Rattle.amqp_model.specs.Term.{Primitive, Container, list, map, array, Term, leaf, container, described, kept, barred, Descriptor, count}
 use Rattle.amqp_model.specs.Constructors.{Format, fixed, variable, compound, unknown, format}
-use Rattle.amqp_model.specs.Spelling.{PrimitiveData, IsSize, ContainerData, Constructor, data_of, items_of, elements_of, enc}
+use Rattle.amqp_model.specs.Spelling.{PrimitiveData, IsSize, ContainerData, data_of, items_of, elements_of}
 use Rattle.amqp_model.proofs.Bytes.{length-bytes, front, field}
 use Rattle.amqp_lengths.specs.Announced.{SizeThen, content_size, IsAnnounced, WantsSized, Wants}
 
@@ -53,12 +53,6 @@ announced_data (container array ts) (e ∷ ds) c b h = absurd h
 announced_data (described d t) [] c b h = absurd h
 announced_data (kept k) ds c b h = absurd h
 announced_data (barred r) ds c b h = absurd h
-
--- a spelled term is a constructor and the data that it announces
-pub announced_term : (b : List ℕ) (t : Term) → enc b t → (ds : List Descriptor) × (c : ℕ) × (own data_ : List ℕ) × Constructor ds c own
-    × IsAnnounced (format c) data_ × (b ≡ own ++ data_)
-unfolding enc
-announced_term b t (ds, c, few, (own, data_, e, k, h)) = (ds, c, own, data_, k, announced_data t ds c data_ h, e)
 
 -- two sizes in front of one list
 pub size_same : (w size size' : ℕ) (behind behind' b b' x y : List ℕ) → size < 256 ^ w → size' < 256 ^ w

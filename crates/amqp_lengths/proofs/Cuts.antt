@@ -1,18 +1,16 @@
 -- Where the fault is Cut, bytes are missing.
 use Rattle.std.proofs.Common.{◌≡◌, ℕ, ◌<◌, Bool, true, false, cond, eqb, Result, Ok, Err, IfErr, List, [], ◌∷◌, ◌++◌, length, Option, Some}
-use Rattle.std.proofs.Common.{None, refl, sym, ap, ◌∙◌, subst, arith, append_assoc, append-nil}
+use Rattle.std.proofs.Common.{None, sym, ap, subst, arith}
 use Rattle.std.proofs.lemmas.List.{length-append}
 use Rattle.amqp_wire.specs.declared.error.Error.{Error}
 use Rattle.amqp_wire.specs.declared.error.Error.TheVariants.{Cut, UnknownCode, FloatCode, WrongType}
 use Rattle.amqp_wire.specs.Codes.{is_known, refusal_of}
 use Rattle.amqp_model.specs.Term.{Primitive, char, string, symbol, Container, array, Descriptor}
 use Rattle.amqp_model.specs.Constructors.{Format, compound, format}
-use Rattle.amqp_model.specs.Spelling.{IsKnown, Names, Constructor, descriptor_value}
-use Rattle.amqp_model.proofs.Bytes.{rest}
-use Rattle.amqp_model.proofs.Same.{constructor_same}
+use Rattle.amqp_model.specs.Spelling.{Constructor}
 use Rattle.amqp_lengths.specs.Fronts.{Behind}
 use Rattle.amqp_lengths.specs.Pieces.{value_of}
-use Rattle.amqp_lengths.specs.Announced.{IsAnnounced, Wants}
+use Rattle.amqp_lengths.specs.Announced.{Wants}
 use Rattle.amqp_lengths.specs.Lengths.{HasMarks}
 use Rattle.amqp_lengths.specs.Faults.{ValueFault, PrimitiveFault, primitive_wanting, primitive_no_value, DescriptorFault}
 use Rattle.amqp_lengths.specs.Faults.{descriptor_missing, descriptor_other, descriptor_unknown, descriptor_data, ConstructorFault}
@@ -23,8 +21,6 @@ use Rattle.amqp_lengths.specs.Faults.{container_content, container_deep, contain
 use Rattle.amqp_lengths.specs.Faults.{items_over, ArrayFault, array_content, array_elements, ElementsFault, elements_missing}
 use Rattle.amqp_lengths.specs.Faults.{elements_constructor, elements_over, elements_empty, elements_deep, elements_data, SharedFault}
 use Rattle.amqp_lengths.specs.Faults.{shared_fault, shared_over, AsksMore, for_code, for_descriptor, for_descriptor_data, for_data}
-use Rattle.amqp_lengths.proofs.Announced.{primitive_announced, announced_wants}
-use Rattle.amqp_lengths.proofs.Descriptors.{heads, marks_front}
 
 -- errors that aren't Cut
 either : (t : Bool) (x y : Error) → (x ≡ Cut → ⊥) → (y ≡ Cut → ⊥) → cond t x y ≡ Cut → ⊥
@@ -114,9 +110,6 @@ term_asks nesting input e (term_constructor k b x h) c = constructor_asks b x h 
 term_asks nesting input e (term_nests k b n z after there deep) c = absurd (cc)
 term_asks nesting input e (term_data k b x n z left after there is h) c = for_data n z after there (data_asks z left after x h c)
 
-pub cut_asks : (nesting : ℕ) (input : List ℕ) → TermFault nesting input Cut → AsksMore input
-cut_asks nesting input h = term_asks nesting input Cut h refl
-
 pub error_asks : (nesting : ℕ) (input : List ℕ) (r : Result ℕ Error) → IfErr r (λ e. TermFault nesting input e)
     → IfErr r (λ e. e ≡ Cut → AsksMore input)
 error_asks nesting input (Ok n) h = tt
@@ -126,41 +119,3 @@ error_asks nesting input (Err e) h = term_asks nesting input e h
 constructor_some : (ds : List Descriptor) (c : ℕ) (b y : List ℕ) → Constructor ds c b → [] ≡ b ++ y → ⊥
 constructor_some [] c b y (s, k) e = omega (arith, ap length e, ap length s, length-append b y)
 constructor_some (d ∷ ds) c b y (first, second, s, m, k) e = omega (arith, ap length e, ap length s, length-append b y)
-
-names_next : (ds : List Descriptor) (c : ℕ) (b y after : List ℕ) → Constructor ds c b → 0 ∷ after ≡ b ++ y
-    → (d : Descriptor) × (first other : List ℕ) × Names d first × (after ≡ first ++ other)
-names_next [] c b y after (s, known) e = absurd (subst (λ z. IsKnown (format z)) (sym (heads 0 c [] after b y s e).0) known)
-names_next (d ∷ ds) c b y after (first, second, s, m, k) e =
-    (d, first, second ++ y, m, (heads 0 0 (first ++ second) after b y s e).1 ∙ append_assoc first second y)
-
--- the constructor that stands behind some descriptors
-behind_marks : (n : ℕ) (ds : List Descriptor) (c : ℕ) (own data_ after : List ℕ) → Constructor ds c own
-    → Behind (HasMarks n) (own ++ data_) after → (r : List ℕ) × (fs : List Descriptor) × (after ≡ r ++ data_) × Constructor fs c r
-behind_marks n ds c own data_ after k there =
-    let (es, l, m) = there.spelled in
-    let (r, fs, is, _, q) = marks_front es there.front after ds c own data_ m k (sym there.is) in (r, fs, is, q)
-
-asks_not_whole : (ds : List Descriptor) (c : ℕ) (own data_ : List ℕ) → Constructor ds c own → IsAnnounced (format c) data_
-    → AsksMore (own ++ data_) → ⊥
-asks_not_whole ds c own data_ k all (for_code n few there) =
-    let (r, fs, is, q) = behind_marks n ds c own data_ [] k there in constructor_some fs c r data_ q is
-asks_not_whole ds c own data_ k all (for_descriptor n few there) =
-    let (r, fs, is, q) = behind_marks n ds c own data_ (0 ∷ []) k there in
-    let (d, first, other, (code, bytes, s, m), e) = names_next fs c r data_ [] q is in
-    omega (arith, ap length s, ap length e, length-append first other)
-asks_not_whole ds c own data_ k all (for_descriptor_data n z after few there code h) =
-    let (r, fs, is, q) = behind_marks n ds c own data_ (0 ∷ z ∷ after) k there in
-    let (d, first, other, (code', bytes, s, m), e) = names_next fs c r data_ (z ∷ after) q is in
-    let same = heads z code' bytes after first other s e in
-    announced_wants (format z) bytes other after
-    (subst (λ j. IsAnnounced (format j) bytes) (sym same.0) (primitive_announced (format code') (descriptor_value d) bytes m)) same.1 h
-asks_not_whole ds c own data_ k all (for_data n z after there h) =
-    let (es, l, few, q) = there.spelled in
-    let (same, (_, code)) = constructor_same ds es c z own there.front data_ after k q there.is in
-    announced_wants (format c) data_ [] after all (sym (append-nil data_ ∙ rest own there.front data_ after (ap length same) there.is))
-    (subst (λ j. Wants (format j) after) (sym code) h)
-
--- the data that a whole constructor announces lacks nothing
-pub whole_not_cut : (nesting : ℕ) (ds : List Descriptor) (c : ℕ) (own data_ : List ℕ) → Constructor ds c own → IsAnnounced (format c) data_
-    → TermFault nesting (own ++ data_) Cut → ⊥
-whole_not_cut nesting ds c own data_ k all h = asks_not_whole ds c own data_ k all (cut_asks nesting (own ++ data_) h)

@@ -1,12 +1,11 @@
 -- The faults that the errors of each function name.
 use Rattle.std.proofs.Common.{◌≡◌, ℕ, zero, suc, ◌+◌, ◌-◌, ◌<◌, ◌≤◌, ◌⊎◌, inl, inr, Result, Ok, Err, IfErr, List, [], ◌∷◌, ◌++◌, length}
-use Rattle.std.proofs.Common.{take, drop, get_or, Option, Some, None, unwrap_or, false, refl, sym, ap, ◌∙◌, subst, arith, append_assoc}
+use Rattle.std.proofs.Common.{take, drop, Option, Some, None, unwrap_or, refl, sym, ap, ◌∙◌, subst, arith, append_assoc}
 use Rattle.std.proofs.lemmas.List.{take-append-drop, length-drop, length-append, length-take-le}
-use Rattle.std.specs.Option.{MatchOption, SomeIff, is_some}
-use Rattle.std.specs.Char.{IsScalar}
-use Rattle.std.specs.Int.{bytes_high_first, from_be_bytes, w32}
+use Rattle.std.specs.Option.{MatchOption}
+use Rattle.std.specs.Int.{bytes_high_first}
 use Rattle.amqp_wire.specs.declared.error.Error.{Error}
-use Rattle.amqp_wire.specs.declared.error.Error.TheVariants.{Cut, Size, BadBool, BadChar, BadDescriptor}
+use Rattle.amqp_wire.specs.declared.error.Error.TheVariants.{Cut, Size, BadDescriptor}
 use Rattle.amqp_wire.specs.Codes.{refusal_of}
 use Rattle.amqp_model.specs.Term.{Primitive, Container, list}
 use Rattle.amqp_model.specs.Constructors.{Format, fixed, variable, compound, format}
@@ -67,21 +66,6 @@ pub variable_no_value : (F : Format) (w : ℕ) (value : List ℕ → Option Prim
 variable_no_value F w value content input n e is found h =
     primitive_no_value content (drop n input) e
     (behind_taken (HoldsBytes F content) input n (subst (λ G. HoldsBytes G content (take n input)) (sym is) found.spelled)) h
-
-pub boolean_fault : (b : List ℕ) → length b ≡ 1 → (get_or b 0 0 ≤ 1 → ⊥) → ValueFault (value_of (format 0x56) b) BadBool
-boolean_fault [] l h = absurd (omega arith)
-boolean_fault (zero ∷ []) l h = absurd (omega arith)
-boolean_fault (suc zero ∷ []) l h = absurd (omega arith)
-boolean_fault (suc (suc n) ∷ []) l h = refl
-boolean_fault (x ∷ y ∷ r) l h = absurd (omega arith)
-
-none_scalar : (o : Option ℕ) (n : ℕ) → SomeIff o (IsScalar n) n → is_some o ≡ false → IsScalar n → ⊥
-none_scalar None n h e s = h s
-none_scalar (Some x) n h e s = absurd (cc)
-
-pub char_fault : (b : List ℕ) (n : ℕ) (o : Option ℕ) → n ≡ from_be_bytes w32 b → SomeIff o (IsScalar n) n → is_some o ≡ false
-    → ValueFault (value_of (format 0x73) b) BadChar
-char_fault b n o is h e = (subst (λ k. IsScalar k → ⊥) is (none_scalar o n h e), refl)
 
 -- a code that is no descriptor's
 pub descriptor_code : (c : ℕ) (after : List ℕ) (o : Option Error) → (IsDescriptorCode c → ⊥)

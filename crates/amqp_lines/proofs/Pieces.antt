@@ -1,9 +1,9 @@
 -- Pieces of lines, and what a buffer holds of them.
 use Rattle.std.proofs.Common.{◌≡◌, inl, inr, ℕ, zero, suc, ◌+◌, ◌-◌, ◌<◌, ◌≤◌, Bool, true, List, [], ◌∷◌, ◌++◌, length, take, drop}
 use Rattle.std.proofs.Common.{slice_index, Option, Some, None, sym, ap, ◌∙◌, subst, arith, append_assoc, append-nil, MatchOption, IfSome}
-use Rattle.std.proofs.lemmas.List.{take-append-drop, drop-take, take_more, length-take}
+use Rattle.std.proofs.lemmas.List.{take-append-drop, drop-take, length-take}
 use Rattle.std.proofs.Common.{drop-drop}
-use Rattle.std.proofs.lemmas.Bool.{eq-eqb, eqb-true}
+use Rattle.std.proofs.lemmas.Bool.{eq-eqb}
 use Rattle.std.specs.Io.KnownBytes.{prepend_known, Consumes, Keeps, IsAtEnd}
 use Rattle.memchr.specs.Find.{IsFirstByte, is_byte}
 use Rattle.amqp_lines.specs.Lines.{HasNo, TakesLine, with_feed}
@@ -38,11 +38,6 @@ pub consumes_front : (bs : List ℕ) (m : ℕ) (known : Option (List ℕ))
     → Consumes (prepend_known bs known) (prepend_known (drop m bs) known) (take m bs)
 consumes_front bs m None = tt
 consumes_front bs m (Some xs) = ap (λ l. l ++ xs) (sym (take-append-drop m bs)) ∙ append_assoc (take m bs) (drop m bs) xs
-
-pub feed_taken : (bs : List ℕ) (n : ℕ) → IsFirstByte (is_byte 10) bs (Some n) → take (n + 1) bs ≡ take n bs ++ (10 ∷ [])
-feed_taken bs n h =
-    let l = h.0.high in
-    take_more bs n 0 (omega arith) ∙ ap (λ b. take n bs ++ (b ∷ [])) (eqb-true (slice_index bs n) 10 h.1)
 
 pub taken_piece : (start end_ len m : ℕ) (buffer : List ℕ) (known : Option (List ℕ)) (ended : Bool) → start + m ≤ end_
     → take m (left start end_ buffer) ≡ with_feed ended (take len (left start end_ buffer))

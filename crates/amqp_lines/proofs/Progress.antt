@@ -59,12 +59,6 @@ shorter (Some xs) None new line n t h = absurd h
 shorter (Some xs) (Some r) None line n t h = t
 shorter (Some xs) (Some r) (Some rest) line n t h = omega (arith, h, line_shortens r line rest t)
 
--- more lines were taken than a number counts
-pub overfull : (input now : Option (List ℕ)) (n : ℕ) → IsShorter input now n → IfSome input (λ xs. n ≤ length xs)
-overfull None now n h = tt
-overfull (Some xs) None n h = absurd h
-overfull (Some xs) (Some rest) n h = omega (arith, h)
-
 pub begun : (input now before : Option (List ℕ)) → Keeps input now → Progress input now before before 0 true
 begun input now before k =
     record { counted = unshortened input now k; output = []; appended = Appends-nil before; answered = begun_at input now k }

@@ -28,10 +28,6 @@ front_second l a b e =
     ap (λ x. x ++ take (length b) (drop (length a) l)) (sym (front_first l a b e)) ∙ whole in
     sym (drop_at a (take (length b) (drop (length a) l)) (length a) refl) ∙ ap (drop (length a)) same ∙ drop_at a b (length a) refl
 
--- a longer front is none of the names either
-pub begins_not_more : (m : Member) (n : ℕ) (s t : List ℕ) → BeginsNot m n s → BeginsNot m n (s ++ t)
-begins_not_more m n s t h long e = h long (front_first m.1.now s t e)
-
 not_false : (b : Bool) → false ≡ not b → b ≡ true
 not_false true e = refl
 not_false false e = cc

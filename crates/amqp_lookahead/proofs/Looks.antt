@@ -59,10 +59,6 @@ filled_bytes p K L b n e h f = front_is (take n b) (p ++ K) L n (length-take-le 
 pub filled_rest : (p K L b : List ℕ) (n : ℕ) → p ≡ [] → n ≤ length b → K ≡ take n b ++ L → p ++ L ≡ drop n (p ++ K)
 filled_rest p K L b n e h f = ap (λ x. x ++ L) e ∙ rest_is (take n b) (p ++ K) L n (length-take-le n b h) (ap (λ x. x ++ K) e ∙ f)
 
-pub filled_all : (p K L b : List ℕ) (n : ℕ) → p ≡ [] → n ≤ length b → K ≡ take n b ++ L → L ≡ [] → length (p ++ K) ≡ n
-filled_all p K L b n e h f g =
-    omega (arith, ap length e, ap length f, ap length g, length-append p K, length-append (take n b) L, length-take-le n b h)
-
 -- what the source had at hand, where nothing was looked at
 pub ready_bytes : (start end_ : ℕ) (l K L s : List ℕ) (n : ℕ) → end_ - start ≡ 0 → length s ≡ n → K ≡ s ++ L
     → pending start end_ l ++ K ≡ s ++ drop n (pending start end_ l ++ K)

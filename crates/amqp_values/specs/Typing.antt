@@ -1,18 +1,14 @@
 -- Values whose numbers and texts are of their types (Part 1, section 1.6).
 use Rattle.std.proofs.Common.{List, [], ◌∷◌, map as map_list, All, sym, subst, Global, Vec}
 use Rattle.std.proofs.lemmas.List.Elements.{All-head, All-tail}
-use Rattle.std.specs.declared.boxed.Box.{Box}
-use Rattle.amqp_model.specs.Spelling.{descriptor_value}
 use Rattle.amqp_model.specs.Items.{terms_of}
-use Rattle.amqp_model.specs.Ranges.{Everywhere, EverywhereIn, IsInRange, IsValue}
-use Rattle.amqp_lookahead.specs.Members.{descriptor_of}
+use Rattle.amqp_model.specs.Ranges.{Everywhere, EverywhereIn, IsValue}
 use Rattle.amqp_codec.specs.PairLaws.{pairs_even}
 use Rattle.amqp_containers.specs.declared.array.Array.{Array}
-use Rattle.amqp_described.specs.declared.described.Described.{Described}
 use Rattle.amqp_values.specs.declared.map.ValueMap.{ValueMap}
-use Rattle.amqp_values.specs.declared.value.Value.{Value, List as ListOf, Map as MapOf, Array as ArrayOf, Described as DescribedOf}
+use Rattle.amqp_values.specs.declared.value.Value.{Value, List as ListOf, Map as MapOf, Array as ArrayOf}
 use Rattle.amqp_values.specs.Equality.{turn_terms}
-use Rattle.amqp_values.specs.Values.{value_term, pairs_of, list_is, array_is, described_is, map_is}
+use Rattle.amqp_values.specs.Values.{value_term, pairs_of, list_is, array_is, map_is}
 
 -- Everything in the value is of its type.
 abbrev pub IsTyped : Value → Type 0
@@ -41,7 +37,3 @@ array_typed v h = subst (Everywhere IsValue) (sym (array_is v)) (tt, each_typed 
 pub map_typed : (m : ValueMap) → All IsTypedPair (pairs_of m) → IsTyped (MapOf m)
 map_typed m h =
     subst (Everywhere IsValue) (sym (map_is m)) (pairs_even value_term value_term (pairs_of m), turns_typed (pairs_of m) h)
-
-pub described_typed : (v : Box (Described Value) Global) → IsInRange (descriptor_value (descriptor_of v.value.descriptor))
-    → IsTyped v.value.value → IsTyped (DescribedOf v)
-described_typed v d h = subst (Everywhere IsValue) (sym (described_is v)) (d, h)

@@ -1,5 +1,5 @@
 -- What is known of the bytes of sources.
-use Rattle.std.proofs.Common.{◌≡◌, ◌≤◌, ℕ, ◌+◌, ◌<◌, List, [], ◌++◌, length, take, Option, Some, None, refl, sym, ap, ◌∙◌, subst, arith}
+use Rattle.std.proofs.Common.{◌≡◌, ◌≤◌, ℕ, ◌+◌, ◌<◌, List, [], ◌++◌, length, take, Option, Some, None, sym, ap, ◌∙◌, subst, arith}
 use Rattle.std.proofs.Common.{append_assoc, ◌⊎◌, inl, inr}
 use Rattle.std.proofs.lemmas.List.{length-take-le, take-append-le}
 use Rattle.std.proofs.lemmas.Slice.{take-put_mid_below}
@@ -17,10 +17,6 @@ consumed_known (Some xs) (Some ys) s t h = h
 pub ended_known : (a : Option (List ℕ)) → (x : List ℕ) × (a ≡ Some x) → IsAtEnd a → known a ≡ []
 ended_known None (x, e) h = absurd (cc)
 ended_known (Some xs) t h = h
-
-pub consumed_none : (a : Option (List ℕ)) → Consumes a a []
-consumed_none None = tt
-consumed_none (Some xs) = refl
 
 -- the first bytes of a buffer into whose middle some were written
 pub taken_more : (a n k : ℕ) (xs ys : List ℕ) → a ≤ length xs → n ≤ length ys → take (a + n) (put_mid a k xs ys) ≡ take a xs ++ take n ys
