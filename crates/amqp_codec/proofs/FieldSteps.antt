@@ -22,10 +22,11 @@ use Rattle.amqp_decoder.proofs.Steps.{answered_later}
 use Rattle.amqp_decoder.specs.Steps.{Answers}
 use Rattle.amqp_encoder.proofs.Refused.{count_of}
 use Rattle.amqp_codec.specs.Fields.{Fields, slots, take_memory}
-use Rattle.amqp_codec.specs.FieldReading.{absence, absent, MeansAt, FaultAt, FitsFront, KeepsBut, FitsAt, ItemRead, ItemFault, no_item}
-use Rattle.amqp_codec.specs.FieldReading.{null_item, in_item, FieldsSoFar, FieldsRead, FieldsFault, FillsField, ReadsItem, filled_at}
-use Rattle.amqp_codec.specs.FieldReading.{unfilled_at, no_list, at_item, left_out, not_ended, rule_at, front_null, front_filled}
-use Rattle.amqp_codec.specs.FieldReading.{front_missing, front_end, front_start, fits_value, fits_null, fits_few, IsBlank}
+use Rattle.amqp_codec.specs.FieldReading.{absence, MeansAt, FaultAt, FitsFront, KeepsBut, FitsAt, ItemRead, ItemFault, no_item, null_item}
+use Rattle.amqp_codec.specs.FieldReading.{in_item, FieldsSoFar, FieldsRead, FieldsFault, FillsField, ReadsItem, no_list, at_item, left_out}
+use Rattle.amqp_codec.specs.FieldReading.{not_ended, rule_at, IsBlank}
+use Rattle.amqp_codec.specs.FieldReadingLaws.{absent, filled_at, unfilled_at, front_null, front_filled, front_missing, front_end}
+use Rattle.amqp_codec.specs.FieldReadingLaws.{front_start, fits_value, fits_null, fits_few}
 use Rattle.amqp_codec.specs.RefusalLaws.{no_memory, opened_going, opened_sound, refused_first, refused_later}
 use Rattle.amqp_codec.specs.PeekLaws.{peeked_failed, peeked_going, not_null, value_peeked}
 

@@ -15,7 +15,7 @@ use Rattle.amqp_decoder.specs.Containers.{place_of, Closes, CloseFault}
 use Rattle.amqp_decoder.proofs.Steps.{answered_later}
 use Rattle.amqp_codec.specs.TermType.{TermType}
 use Rattle.amqp_codec.specs.RefusalLaws.{refused_first, refused_later}
-use Rattle.amqp_codec.specs.ItemsType.{MeansItems}
+use Rattle.amqp_codec.specs.Each.{MeansItems}
 use Rattle.amqp_codec.specs.ItemsReading.{ReadsEach, ReadsRow, RowFault, Opening, ItemsRead, ItemsFault, unopened, at_item, unclosed}
 use Rattle.amqp_codec.specs.ItemsReadingLaws.{each_next, each_end, each_still, items_value, value_items}
 

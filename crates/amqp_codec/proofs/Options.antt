@@ -10,7 +10,7 @@ use Rattle.amqp_decoder.specs.Primitives.{ReadsValue, Means, PrimitiveFault}
 use Rattle.amqp_decoder.proofs.Steps.{answered_later}
 use Rattle.amqp_decoder.proofs.Peeks.{value-peeked}
 use Rattle.amqp_codec.specs.TermType.{TermType}
-use Rattle.amqp_codec.specs.OptionType.{MeansOption, OptionFault}
+use Rattle.amqp_codec.specs.OptionMeaning.{MeansOption, OptionFault}
 use Rattle.amqp_codec.specs.RefusalLaws.{excused_as, no_memory, NoneStands, refused_later}
 use Rattle.amqp_codec.specs.PeekLaws.{peeked_failed, peeked_going, null_there, not_null}
 

@@ -20,13 +20,13 @@ use Rattle.amqp_codec.specs.TermType.{TermType, View, view_of, Agrees, Rewrites,
 use Rattle.amqp_codec.specs.PrimitiveTermLaws.{container_not_null}
 use Rattle.amqp_codec.specs.OnlySizeLaws.{size_alone}
 use Rattle.amqp_codec.specs.EachLaws.{read_more}
-use Rattle.amqp_codec.specs.ItemsType.{container_cases}
+use Rattle.amqp_codec.specs.ItemsTypeLaws.{container_cases}
 use Rattle.amqp_codec.specs.Keys.{IsOwnKey}
 use Rattle.amqp_codec.specs.Pairs.{pair_canons, count_pairs, OfPairs, SamePairs, with_values, norm_values, MeansMap}
 use Rattle.amqp_codec.specs.PairLaws.{pairs_refl, pairs_sym, pairs_trans, same_values}
 use Rattle.amqp_codec.specs.KeyOrder.{in_order, IsOrderOf, ordered, still_in_order, before_order, order_alike, once_in_order}
 use Rattle.amqp_codec.specs.KeyOrder.{sorted_others, others_sorted, same_in_order, sorted_alike, same_as_ordered}
-use Rattle.amqp_codec.specs.MapType.{map_flawless}
+use Rattle.amqp_codec.specs.MapTypeLaws.{map_flawless}
 use Rattle.amqp_codec.specs.MapReadingLaws.{map_of, map_faults}
 
 -- Values are normalised. A key is its own normal value.

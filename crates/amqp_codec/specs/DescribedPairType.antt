@@ -19,7 +19,7 @@ use Rattle.amqp_codec.specs.TermType.{TermType, View, view_of, Agrees, Sameness,
 use Rattle.amqp_codec.specs.TermType.{StandsCanonically, IsUnrefused, IsKept, IsPart}
 use Rattle.amqp_codec.specs.KeptBytesLaws.{plain_core}
 use Rattle.amqp_codec.specs.OnlySizeLaws.{size_alone, described_flawless}
-use Rattle.amqp_codec.specs.ItemsType.{by_test}
+use Rattle.amqp_codec.specs.ItemsTypeLaws.{by_test}
 use Rattle.amqp_codec.specs.DescribedTermLaws.{described_split, described_placed, described_part, described_reads, described_canonically}
 use Rattle.amqp_codec.specs.DescribedTermLaws.{under, under_one, under_none, one_descriptor}
 

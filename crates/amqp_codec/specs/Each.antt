@@ -1,9 +1,10 @@
 -- Values that terms mean one by one, as the items of a list or an array do.
-use Rattle.std.specs.Prelude.{◌≡◌, ◌⊎◌, ℕ, ◌+◌, List, [], ◌∷◌, map}
-use Rattle.amqp_model.specs.Term.{Container, list, map as map_kind, array, Descriptor, Term, Terms, none, more}
+use Rattle.std.specs.Prelude.{◌≡◌, ◌⊎◌, ℕ, ◌+◌, List, [], ◌∷◌, map, Bool, false}
+use Rattle.amqp_model.specs.Term.{Container, list, map as map_kind, array, Descriptor, Term, Terms, none, more, leaf, container, described}
+use Rattle.amqp_model.specs.Term.{kept, barred}
 use Rattle.amqp_model.specs.Constructors.{format}
 use Rattle.amqp_model.specs.Spelling.{HasWidthZero}
-use Rattle.amqp_model.specs.Standing.{Standing, part}
+use Rattle.amqp_model.specs.Standing.{Standing, part, Parts}
 use Rattle.amqp_model.specs.Items.{terms_of}
 use Rattle.amqp_model.specs.FieldType.{Norm, unchanged, by_norm}
 use Rattle.amqp_codec.specs.TermType.{Spells, StandsCanonically, IsUnrefused}
@@ -67,3 +68,12 @@ AreParts ds c (s ∷ ss) = ((x : List ℕ) × (s ≡ part ds c x)) × AreParts d
 abbrev pub Share : Container → List Standing → Type 0
 Share array ss = (ds : List Descriptor) × (c : ℕ) × AreParts ds c ss × (HasWidthZero (format c) → ⊥)
 Share _ ss = Unit {0}
+
+-- The items of a list or an array mean the values, as they stand in it. A type that doesn't look at that takes them anyhow.
+abbrev pub MeansItems : {T : Type 0} → Bool → (Standing → Term → T → Type 0) → Container → Standing → Term → List T → Type 0
+MeansItems ignores_standing means k s (container j ts) vs =
+    (j ≡ k) × (ss : List Standing) × (ignores_standing ≡ false → Parts s (container j ts) ss) × EachMeans means ss ts vs
+MeansItems ignores_standing means k s (leaf p) vs = ⊥
+MeansItems ignores_standing means k s (described d t) vs = ⊥
+MeansItems ignores_standing means k s (kept b) vs = ⊥
+MeansItems ignores_standing means k s (barred r) vs = ⊥

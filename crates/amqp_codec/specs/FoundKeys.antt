@@ -4,7 +4,7 @@ use Rattle.std.specs.Map.{lookup}
 use Rattle.std.proofs.lemmas.Map.{NonePasses, lookup-none, none_passes_from_lookup}
 use Rattle.amqp_model.specs.ItemLaws.{clash}
 use Rattle.amqp_codec.specs.TermType.{TermType}
-use Rattle.amqp_codec.specs.ItemsType.{by_test}
+use Rattle.amqp_codec.specs.ItemsTypeLaws.{by_test}
 use Rattle.amqp_codec.specs.Keys.{IsKey}
 use Rattle.amqp_codec.specs.Pairs.{IsNew}
 

@@ -17,9 +17,9 @@ use Rattle.amqp_decoder.proofs.NotMemory.{close_not_memory}
 use Rattle.amqp_decoder.proofs.Rooms.{room_row}
 use Rattle.amqp_codec.specs.Faults.{Faults}
 use Rattle.amqp_codec.specs.TermType.{TermType}
-use Rattle.amqp_codec.specs.Each.{EachMeans}
+use Rattle.amqp_codec.specs.Each.{EachMeans, MeansItems}
 use Rattle.amqp_codec.specs.EachLaws.{values_many}
-use Rattle.amqp_codec.specs.ItemsType.{MeansItems, items_cases, mean_as}
+use Rattle.amqp_codec.specs.ItemsTypeLaws.{items_cases, mean_as}
 use Rattle.amqp_codec.specs.ItemsReading.{ReadsEach, ReadsRow, RowFault, Held, Opening, ItemsRead, ItemsFault, unopened, at_item, unclosed}
 
 count_items : (ts : Terms) → length (items_of ts) ≡ count ts

@@ -9,7 +9,7 @@ use Rattle.std.specs.List.{AllByRecursion}
 use Rattle.std.specs.List.Sorted.{IsStrictlySortedBy}
 use Rattle.std.specs.Map.{keys_of}
 use Rattle.amqp_model.specs.ItemLaws.{clash}
-use Rattle.amqp_codec.specs.ItemsType.{by_test}
+use Rattle.amqp_codec.specs.ItemsTypeLaws.{by_test}
 use Rattle.amqp_codec.specs.Pairs.{IsNew, HaveOtherKeys, SamePairs, with_values}
 
 -- The pair in front of the first whose key isn't below its own.

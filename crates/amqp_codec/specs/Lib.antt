@@ -6,6 +6,8 @@ pub mod PrimitiveTermLaws
 pub mod NullLaws
 pub mod ExactType
 pub mod PrimitiveTypes
+pub mod OptionMeaning
+pub mod OptionTypeLaws
 pub mod OptionType
 pub mod Wrappers
 pub mod KeptBytesLaws
@@ -19,7 +21,9 @@ pub mod MeaningLaws
 pub mod ListType
 pub mod DescribedTermLaws
 pub mod DescribedType
+pub mod DescriptorLaws
 pub mod Composite
+pub mod CompositeLaws
 pub mod EitherType
 pub mod NullTextLaws
 pub mod Spelled
@@ -27,8 +31,11 @@ pub mod Written
 pub mod ProperLaws
 pub mod Agreement
 pub mod Reading
+pub mod ReadingLaws
+pub mod TermReading
 pub mod RefusalLaws
 pub mod FieldReading
+pub mod FieldReadingLaws
 pub mod PeekLaws
 pub mod Members
 pub mod TermLaws
@@ -44,6 +51,7 @@ pub mod PlacingLaws
 pub mod TreeLaws
 pub mod EqualKeys
 pub mod TreeType
+pub mod ItemsTypeLaws
 pub mod ItemsType
 pub mod DescribedPairType
 pub mod DescribedPairWriting
@@ -54,6 +62,7 @@ pub mod ItemsWriting
 pub mod VecType
 pub mod Pairs
 pub mod PairLaws
+pub mod MapTypeLaws
 pub mod MapType
 pub mod MapWriting
 pub mod MapReading

@@ -26,10 +26,11 @@ use Rattle.amqp_codec.specs.TermType.{TermType}
 use Rattle.amqp_codec.specs.EitherType.{IsEither}
 use Rattle.amqp_codec.specs.ItemsReading.{ReadsEach}
 use Rattle.amqp_codec.specs.EachLaws.{values_many}
-use Rattle.amqp_codec.specs.ItemsType.{items_cases}
+use Rattle.amqp_codec.specs.ItemsTypeLaws.{items_cases}
 use Rattle.amqp_codec.specs.ItemsReadingLaws.{each_taken, taken_each, taken_long, row_many}
 use Rattle.amqp_codec.specs.Pairs.{in_turn, PairsMean, IsNew, HaveOtherKeys, MeansMap}
-use Rattle.amqp_codec.specs.MapType.{map_type, mean_as}
+use Rattle.amqp_codec.specs.MapType.{map_type}
+use Rattle.amqp_codec.specs.MapTypeLaws.{mean_as}
 use Rattle.amqp_codec.specs.MapReading.{Pairs, ReadsFewer, PairsFault, at_key, twice, at_value, MapRead, MapFault}
 use Rattle.amqp_codec.specs.MapReading.{unopened, at_pair, unclosed}
 

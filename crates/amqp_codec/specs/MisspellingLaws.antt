@@ -13,7 +13,7 @@ use Rattle.amqp_decoder.proofs.Misspelled.{begin_misspelled, open_misspelled, on
 use Rattle.amqp_decoder.proofs.NothingInside.{nothing_in_container, nothing_at_end, nothing_described, nothing_peeked}
 use Rattle.amqp_decoder.proofs.Rooms.{room_row, room_peeked, room_inside, room_in_described}
 use Rattle.amqp_codec.specs.Fields.{Fields, none, field}
-use Rattle.amqp_codec.specs.FieldReading.{absence, kind_at, FaultAt, ItemFault, no_item, null_item, in_item, FieldsFault, no_list, at_item}
+use Rattle.amqp_codec.specs.FieldReading.{absence, rule_at, FaultAt, ItemFault, no_item, null_item, in_item, FieldsFault, no_list, at_item}
 use Rattle.amqp_codec.specs.FieldReading.{left_out, not_ended}
 use Rattle.amqp_codec.specs.Members as members
 use Rattle.amqp_codec.specs.Members.{Members, MemberFault, no_member, in_member}
@@ -42,7 +42,7 @@ module _ (e : Error) (is : IsMisspelling e) where
 
   item_misspelled : {V : Type 0} (fs : Fields V) (i : ℕ) (st : State) → HasRoom st → ItemFault fs i st e → NothingStands st
   item_misspelled fs i st room (no_item h) = begin_misspelled st e is h
-  item_misspelled fs i st room (null_item v k) = absurd (absence_spelled (kind_at fs i) e k is)
+  item_misspelled fs i st room (null_item v k) = absurd (absence_spelled (rule_at fs i) e k is)
   item_misspelled fs i st room (in_item {c} {mid} p n h) =
       nothing_peeked st c mid p (field_misspelled fs i mid (room_peeked st c mid p room) h)
 
@@ -51,7 +51,7 @@ module _ (e : Error) (is : IsMisspelling e) where
   fields_named fs st (at_item {n} {i} {v} {mid} s l k h) =
       nothing_in_container list tt st n s.first mid s.terms s.bytes s.opens s.each (omega (arith, s.long, l))
       (item_misspelled fs i mid (room_row s.terms s.first s.bytes mid s.each (room_inside list st n s.first s.opens)) h)
-  fields_named fs st (left_out {n} {i} s l k h) = absurd (absence_spelled (kind_at fs i) e h is)
+  fields_named fs st (left_out {n} {i} s l k h) = absurd (absence_spelled (rule_at fs i) e h is)
   fields_named fs st (not_ended {n} {v} {mid} s h) = nothing_at_end list tt InList st n s.first mid s.terms s.bytes e s.opens s.each is h
 
   member_named : {V : Type 0} (m : Members V) (st : State) → MemberFault m st e → NothingStands st

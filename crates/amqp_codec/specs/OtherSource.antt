@@ -10,8 +10,9 @@ use Rattle.amqp_decoder.specs.OtherSource.{closes, close_fault, opens_described,
 use Rattle.amqp_codec.specs.Faults.{Faults}
 use Rattle.amqp_codec.specs.MisspellingLaws.{fields_misspelled, member_misspelled}
 use Rattle.amqp_codec.specs.Fields.{Fields, none, field}
-use Rattle.amqp_codec.specs.FieldReading.{FaultAt, ItemFault, no_item, null_item, in_item, FieldsSoFar, FieldsRead, FieldsFault}
-use Rattle.amqp_codec.specs.FieldReading.{fields_not_memory, no_list, at_item, left_out, not_ended}
+use Rattle.amqp_codec.specs.FieldReading.{FaultAt, ItemFault, no_item, null_item, in_item, FieldsSoFar, FieldsRead, FieldsFault, no_list}
+use Rattle.amqp_codec.specs.FieldReading.{at_item, left_out, not_ended}
+use Rattle.amqp_codec.specs.FieldReadingLaws.{fields_not_memory}
 use Rattle.amqp_codec.specs.Members as members
 use Rattle.amqp_codec.specs.Members.{Members, MemberFault, member_not_memory, no_member, in_member}
 

@@ -12,7 +12,8 @@ use Rattle.amqp_wire.specs.declared.error.Error.TheVariants.{TooLarge}
 use Rattle.amqp_encoder.specs.Passes.{row_text}
 use Rattle.amqp_encoder.specs.Refused.{TermHasCause}
 use Rattle.amqp_codec.specs.TermType.{TermType}
-use Rattle.amqp_codec.specs.Reading.{Reading, BeginsWith, reading_of}
+use Rattle.amqp_codec.specs.Reading.{Reading, BeginsWith}
+use Rattle.amqp_codec.specs.TermReading.{reading_of}
 use Rattle.amqp_codec.specs.Written.{AreWritable, AreUnwritable, Writing}
 use Rattle.amqp_codec.specs.Spelled.{written}
 use Rattle.amqp_codec.specs.SpellingLaws.{read_spelled, spelled_read}

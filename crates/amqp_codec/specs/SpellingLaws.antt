@@ -4,7 +4,8 @@ use Rattle.std.proofs.lemmas.List.{length-drop, take_at}
 use Rattle.amqp_decoder.specs.State.{State, after_value}
 use Rattle.amqp_codec.specs.TermType.{TermType}
 use Rattle.amqp_codec.specs.Spelled.{IsSpelled}
-use Rattle.amqp_codec.specs.Reading.{BeginsWith, reading_of, start}
+use Rattle.amqp_codec.specs.Reading.{BeginsWith, start}
+use Rattle.amqp_codec.specs.TermReading.{reading_of}
 
 module _ {T : Type 0} (u : TermType T) where
   pub read_spelled : (input : List ℕ) (v : T) (n : ℕ) → BeginsWith (reading_of u) input v n

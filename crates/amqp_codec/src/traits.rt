@@ -8,7 +8,8 @@ ghost use Rattle.amqp_codec.specs.Agreement.{Agreement};
 ghost use Rattle.amqp_wire.specs.Sources.{Tells};
 ghost use Rattle.amqp_decoder.specs.Reading.{AnswersRead};
 ghost use Rattle.amqp_decoder.specs.Primitives.{ReadsValue};
-ghost use Rattle.amqp_codec.specs.Reading.{Reading, reading_of};
+ghost use Rattle.amqp_codec.specs.Reading.{Reading};
+ghost use Rattle.amqp_codec.specs.TermReading.{reading_of};
 ghost use Rattle.amqp_codec.specs.Rewriting.{Rewriting, rewrites};
 
 use amqp_decoder::Decoder;

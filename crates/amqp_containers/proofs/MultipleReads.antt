@@ -21,8 +21,8 @@ use Rattle.amqp_codec.specs.TermType.{TermType}
 use Rattle.amqp_codec.specs.RefusalLaws.{NoneStands, refused_first, refused_later}
 use Rattle.amqp_codec.specs.PeekLaws.{peeked_failed, peeked_going}
 use Rattle.amqp_codec.specs.EitherType.{in_first, in_second}
-use Rattle.amqp_codec.specs.Each.{EachMeans}
-use Rattle.amqp_codec.specs.ItemsType.{MeansItems, items_cases}
+use Rattle.amqp_codec.specs.Each.{EachMeans, MeansItems}
+use Rattle.amqp_codec.specs.ItemsTypeLaws.{items_cases}
 use Rattle.amqp_containers.specs.declared.array.Array.{Array}
 use Rattle.amqp_containers.specs.ArrayType.{array_of}
 use Rattle.amqp_containers.specs.Several.{is_array_code, MeansOne, MeansSeveral, MeansAtLeastOne, MeansMultiple, multiple_faults}

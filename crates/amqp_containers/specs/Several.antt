@@ -14,7 +14,7 @@ use Rattle.amqp_decoder.specs.Primitives.{ReadsValue}
 use Rattle.amqp_codec.specs.Faults.{Faults}
 use Rattle.amqp_codec.specs.TermType.{TermType, IsLeaf}
 use Rattle.amqp_codec.specs.EitherType.{either_faults}
-use Rattle.amqp_codec.specs.ItemsType.{MeansItems}
+use Rattle.amqp_codec.specs.Each.{MeansItems}
 use Rattle.amqp_containers.specs.ArrayType.{array_of}
 use Rattle.amqp_containers.specs.declared.array.Array.{Array}
 

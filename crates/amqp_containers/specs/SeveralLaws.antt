@@ -16,9 +16,9 @@ use Rattle.amqp_codec.specs.FieldTypes.{anywhere, FieldMeant, standing_so, field
 use Rattle.amqp_codec.specs.KeptBytesLaws.{reads_itself, plain_core}
 use Rattle.amqp_codec.specs.OnlySizeLaws.{IsFlawless, size_alone}
 use Rattle.amqp_codec.specs.FormLaws.{core_has_form}
-use Rattle.amqp_codec.specs.Each.{EachMeans, canons_of, count_all}
+use Rattle.amqp_codec.specs.Each.{EachMeans, canons_of, count_all, MeansItems}
 use Rattle.amqp_codec.specs.EachLaws.{each_induct, canons_valued, canons_plain}
-use Rattle.amqp_codec.specs.ItemsType.{MeansItems, items_cases, items_meant}
+use Rattle.amqp_codec.specs.ItemsTypeLaws.{items_cases, items_meant}
 use Rattle.amqp_containers.specs.Several.{AreLeaves, MeansOne, MeansSeveral}
 
 -- what holds of each array and of each term that is none, holds of all

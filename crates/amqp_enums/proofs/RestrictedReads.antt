@@ -12,7 +12,7 @@ use Rattle.amqp_decoder.specs.Primitives.{ReadsValue, Means, PrimitiveFault}
 use Rattle.amqp_decoder.proofs.ReadPrimitives.{kind_failed}
 use Rattle.amqp_decoder.proofs.Steps.{answered_later}
 use Rattle.amqp_codec.specs.PrimitiveTermLaws.{leaf_injective}
-use Rattle.amqp_codec.specs.Reading.{value_one}
+use Rattle.amqp_codec.specs.ReadingLaws.{value_one}
 use Rattle.amqp_codec.specs.RefusalLaws.{refused_first}
 use Rattle.amqp_codec.specs.PrimitiveTypes.{Base}
 use Rattle.amqp_enums.specs.Restricted.{IsUnknown, MeansRestricted, RestrictedFault, no_primitive, of_no_value}

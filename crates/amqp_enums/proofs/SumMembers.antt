@@ -12,7 +12,8 @@ use Rattle.amqp_decoder.specs.State.{State}
 use Rattle.amqp_decoder.specs.Items.{Next}
 use Rattle.amqp_lookahead.specs.Members.{is_named}
 use Rattle.amqp_codec.specs.Members.{TermRead, TermMeant, IsSum}
-use Rattle.amqp_codec.specs.Composite.{Table, composite_is_sum, named_describes, first_place, only_place}
+use Rattle.amqp_codec.specs.Composite.{Table}
+use Rattle.amqp_codec.specs.CompositeLaws.{composite_is_sum, named_describes, first_place, only_place}
 use Rattle.amqp_enums.specs.DistinctDescriptorLaws.{differ, one_table}
 use Rattle.amqp_enums.specs.Choices.{Choices, no_more, member, Choice, made, are_chosen, names_of, differs_from, are_apart, MeansChoice}
 use Rattle.amqp_enums.specs.Choices.{reads_at, members_of, typed, SumOf, choice_of, sum_of}

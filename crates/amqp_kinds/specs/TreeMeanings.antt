@@ -7,8 +7,8 @@ use Rattle.amqp_model.specs.Ranges.{Everywhere, EverywhereIn, IsValue, IsInRange
 use Rattle.amqp_model.specs.Items.{IsFree, BarsAny}
 use Rattle.amqp_model.specs.ItemLaws.{clash}
 use Rattle.amqp_codec.specs.EitherType.{IsEither}
-use Rattle.amqp_codec.specs.Each.{EachMeans, canons_of, IsListOrArray}
-use Rattle.amqp_codec.specs.ItemsType.{MeansItems, items_cases, by_test}
+use Rattle.amqp_codec.specs.Each.{EachMeans, canons_of, IsListOrArray, MeansItems}
+use Rattle.amqp_codec.specs.ItemsTypeLaws.{items_cases, by_test}
 use Rattle.amqp_codec.specs.DescribedPairType.{MeansPair, pair_cases, any_descriptor}
 use Rattle.amqp_codec.specs.Pairs.{in_turn, pair_canons, IsNew, HaveOtherKeys, MeansMap}
 use Rattle.amqp_codec.specs.TreeLaws.{IsTree}

@@ -7,7 +7,8 @@ use Rattle.amqp_wire.specs.declared.error.Error.TheVariants.{Memory, Read}
 use Rattle.amqp_codec.specs.TermType.{TermType}
 use Rattle.amqp_codec.specs.PrimitiveTypes.{boolean_type}
 use Rattle.amqp_codec.specs.Composite.{composite}
-use Rattle.amqp_codec.specs.Reading.{reading_of, IsUnreadable}
+use Rattle.amqp_codec.specs.Reading.{IsUnreadable}
+use Rattle.amqp_codec.specs.TermReading.{reading_of}
 use Rattle.amqp_read_write.specs.Rewritten.{IsRewritten, IsUnwritten}
 use Rattle.amqp_delivery.specs.Tables.{accepted, declare, declared, delivery_state, discharge, modified, outcome, received}
 use Rattle.amqp_delivery.specs.Tables.{rejected, released, transactional_state}

@@ -8,7 +8,8 @@ use Rattle.amqp_decoder.specs.State.{State}
 use Rattle.amqp_decoder.specs.OtherSource.{elsewhere}
 use Rattle.amqp_decoder.specs.Steps.{IsExcused, IsReadError}
 use Rattle.amqp_decoder.specs.Reading.{RefusesRead, AnswersRead}
-use Rattle.amqp_codec.specs.Reading.{Reading, start, BeginsWith, IsUnreadable, is_read, read_one}
+use Rattle.amqp_codec.specs.Reading.{Reading, start, BeginsWith, IsUnreadable}
+use Rattle.amqp_codec.specs.ReadingLaws.{is_read, read_one}
 
 module _ {T : Type 0} (r : Reading T) (input : List ℕ) (source : ℕ) (failed : Bool) where
   abbrev begin : State

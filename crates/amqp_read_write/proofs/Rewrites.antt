@@ -5,7 +5,8 @@ use Rattle.amqp_model.specs.Term.{Term}
 use Rattle.amqp_wire.specs.declared.error.Error.{Error}
 use Rattle.amqp_wire.specs.declared.error.Error.TheVariants.{Memory}
 use Rattle.amqp_encoder.specs.Passes.{row_text}
-use Rattle.amqp_codec.specs.Reading.{Reading, BeginsWith, IsUnreadable, read_one}
+use Rattle.amqp_codec.specs.Reading.{Reading, BeginsWith, IsUnreadable}
+use Rattle.amqp_codec.specs.ReadingLaws.{read_one}
 use Rattle.amqp_codec.specs.Rewriting.{Rewriting}
 use Rattle.amqp_read_write.specs.Rewritten.{IsRewritten, IsReadAgain, AreReadAgain, IsOneText, IsOfNoOther, IsUnchanged, IsShortest, IsUnwritten}
 use Rattle.amqp_codec.specs.Written.{AreWritable, AreUnwritable}

@@ -4,7 +4,8 @@ use Rattle.amqp_model.specs.Fields.{rules_of}
 use Rattle.amqp_model.specs.declared.tables.FieldRule.TheVariants.{Mandatory}
 use Rattle.amqp_decoder.proofs.Steps.{answered}
 use Rattle.amqp_codec.specs.Fields.{slots}
-use Rattle.amqp_codec.specs.FieldReading.{absence, not_absent}
+use Rattle.amqp_codec.specs.FieldReading.{absence}
+use Rattle.amqp_codec.specs.FieldReadingLaws.{not_absent}
 use Rattle.amqp_codec.proofs.FieldSteps.{open_refused, none_so_far, item_refused, left_out_refused, one_more, one_less, end_refused}
 use Rattle.amqp_codec.proofs.FieldSteps.{all_read, so_far_still}
 use Rattle.amqp_codec.proofs.fields.read_fields.Goals as goal

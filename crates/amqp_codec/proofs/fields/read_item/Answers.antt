@@ -4,7 +4,8 @@ use Rattle.amqp_model.specs.Term.{null}
 use Rattle.amqp_decoder.specs.Primitives.{Means}
 use Rattle.amqp_decoder.proofs.Steps.{answered}
 use Rattle.amqp_decoder.proofs.Peeks.{value-peeked}
-use Rattle.amqp_codec.specs.FieldReading.{absence, not_absent}
+use Rattle.amqp_codec.specs.FieldReading.{absence}
+use Rattle.amqp_codec.specs.FieldReadingLaws.{not_absent}
 use Rattle.amqp_codec.specs.PeekLaws.{peeked_going}
 use Rattle.amqp_codec.proofs.Options.{null_refused}
 use Rattle.amqp_codec.proofs.FieldSteps.{item_unbegun, filled_step, null_unfit, null_read}

@@ -1,6 +1,6 @@
 use Rattle.std.proofs.Common.{arith, refl}
 use Rattle.std.proofs.lemmas.Result.{err_from_is_err_and}
-use Rattle.amqp_codec.specs.Reading.{read_one, read_bounded, is_read, memory_wanted}
+use Rattle.amqp_codec.specs.ReadingLaws.{read_one, read_bounded, is_read, memory_wanted}
 use Rattle.amqp_read_write.proofs.FromReader.{refused_whole}
 use Rattle.amqp_read_write.proofs.calls.from_slice_counted.Goals as goal
 
