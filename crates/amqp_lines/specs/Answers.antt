@@ -13,8 +13,8 @@ use Rattle.amqp_delivery.specs.Tables.{accepted, declare, declared, delivery_sta
 use Rattle.amqp_delivery.specs.Tables.{rejected, released, transactional_state}
 use Rattle.amqp_errors.specs.Conditions.{condition_type}
 use Rattle.amqp_errors.specs.Tables.{error}
-use Rattle.amqp_performatives.specs.Tables.{attach, begin, close, detach, disposition, ending, flow, opening, performative}
-use Rattle.amqp_performatives.specs.Tables.{transfer}
+use Rattle.amqp_attach.specs.Tables.{attach, performative}
+use Rattle.amqp_performatives.specs.Tables.{begin, close, detach, disposition, ending, flow, opening, transfer}
 use Rattle.amqp_sasl.specs.Tables.{sasl_challenge, sasl_init, sasl_mechanisms, sasl_outcome, sasl_response}
 use Rattle.amqp_simple_values.specs.SimpleType.{simple_type}
 use Rattle.amqp_termini.specs.Tables.{coordinator, delete_on_close, delete_on_no_links, delete_on_no_links_or_messages}
