@@ -2,11 +2,12 @@
 ghost use Rattle.std.specs.Prelude.{◌≤◌};
 
 use crate::frames::{ATTACH, FLOW, TRANSFER};
+use amqp_attach::Attach;
 use amqp_containers::Array;
 use amqp_decoder::Decoder;
 use amqp_encoder::Encoder;
 use amqp_maps::OrderedMap;
-use amqp_performatives::{Attach, Flow, Transfer};
+use amqp_performatives::{Flow, Transfer};
 use amqp_read_write::{from_slice, to_vec};
 use amqp_wire::{Error, Symbol};
 use std::alloc::Global;

@@ -1,8 +1,7 @@
-//! Performatives: what the frames of connections, sessions, links and deliveries hold (Part 2, section 2.7). The frames themselves
-//! aren't here.
+//! Performatives but `Attach`: what the frames of connections, sessions, links and deliveries hold (Part 2, section 2.7). The
+//! frames themselves aren't here.
 #![tactic(auto)]
 
-mod attach;
 mod begin;
 mod close;
 mod detach;
@@ -10,11 +9,8 @@ mod disposition;
 mod end;
 mod flow;
 mod open;
-mod performative;
 mod transfer;
-mod unsettled;
 
-pub use attach::Attach;
 pub use begin::Begin;
 pub use close::Close;
 pub use detach::Detach;
@@ -22,6 +18,4 @@ pub use disposition::Disposition;
 pub use end::End;
 pub use flow::Flow;
 pub use open::Open;
-pub use performative::Performative;
 pub use transfer::Transfer;
-pub use unsettled::Unsettled;

@@ -81,10 +81,8 @@ pub mod messaging {
 
 /// What the frames of connections, sessions and links hold (Part 2, section 2.7).
 pub mod performatives {
-    pub use amqp_performatives::{
-        Attach, Begin, Close, Detach, Disposition, End, Flow, Open, Performative, Transfer,
-        Unsettled,
-    };
+    pub use amqp_attach::{Attach, Performative, Unsettled};
+    pub use amqp_performatives::{Begin, Close, Detach, Disposition, End, Flow, Open, Transfer};
     pub use amqp_restricted_types::{ChannelMax, MaxFrameSize};
 }
 

@@ -1,6 +1,6 @@
 //! The begin of a link (Part 2, section 2.7.3).
 ghost use Rattle.amqp_enums.specs.Types.{composite, one_term, refl, agreement, writing_of};
-ghost use Rattle.amqp_performatives.specs.Tables.{attach};
+ghost use Rattle.amqp_attach.specs.Tables.{attach};
 
 use crate::Unsettled;
 use amqp_codec::kernel::{

@@ -1,4 +1,4 @@
-use Rattle.amqp_performatives.proofs.performative.PerformativeSerialize.in_type.Goals as goal
+use Rattle.amqp_attach.proofs.performative.PerformativeSerialize.in_type.Goals as goal
 
 pub returns-in-Open : goal.returns-in-Open
 returns-in-Open c = rw c.in-Open.is c.in_type.ensures

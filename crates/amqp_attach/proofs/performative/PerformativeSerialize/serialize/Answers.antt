@@ -1,6 +1,6 @@
 use Rattle.std.proofs.Common.{refl}
-use Rattle.amqp_performatives.specs.declared.performative.Performative.TheVariants as performative
-use Rattle.amqp_performatives.proofs.performative.PerformativeSerialize.serialize.Goals as goal
+use Rattle.amqp_attach.specs.declared.performative.Performative.TheVariants as performative
+use Rattle.amqp_attach.proofs.performative.PerformativeSerialize.serialize.Goals as goal
 
 pub returns-in-Open : goal.returns-in-Open
 returns-in-Open c = c.write_as.ensures.written (performative.Open c.in-Open.opening) c.in-Open.is refl

@@ -1,11 +1,12 @@
 //! The performatives as one type (Part 2, section 2.7).
 ghost use Rattle.std.specs.Prelude.{◌≡◌};
 ghost use Rattle.amqp_enums.specs.Choices.{sum_one, sum_agreement, sum_writing};
-ghost use Rattle.amqp_performatives.specs.Tables.{performative, performatives};
+ghost use Rattle.amqp_attach.specs.Tables.{performative, performatives};
 
-use crate::{Attach, Begin, Close, Detach, Disposition, End, Flow, Open, Transfer};
+use crate::Attach;
 use amqp_codec::{ByteSource, Decoder, DeserializeTerm, Encoder, Error, Serialize, SerializeTerm};
 use amqp_enums::{Sum, is_null_sum, read_as, read_sum, write_as};
+use amqp_performatives::{Begin, Close, Detach, Disposition, End, Flow, Open, Transfer};
 use std::alloc::Global;
 
 /// What a frame of AMQP holds. Any other descriptor is refused by `WrongDescriptor`.
@@ -23,7 +24,7 @@ pub enum Performative {
 }
 
 impl From<Open> for Performative {
-    ghost use Rattle.amqp_performatives.specs.declared.performative.Performative.TheVariants as performative;
+    ghost use Rattle.amqp_attach.specs.declared.performative.Performative.TheVariants as performative;
 
     ghost from_gives = { λ member sum. sum ≡ performative.Open member };
 
@@ -33,7 +34,7 @@ impl From<Open> for Performative {
 }
 
 impl From<Begin> for Performative {
-    ghost use Rattle.amqp_performatives.specs.declared.performative.Performative.TheVariants as performative;
+    ghost use Rattle.amqp_attach.specs.declared.performative.Performative.TheVariants as performative;
 
     ghost from_gives = { λ member sum. sum ≡ performative.Begin member };
 
@@ -43,7 +44,7 @@ impl From<Begin> for Performative {
 }
 
 impl From<Attach> for Performative {
-    ghost use Rattle.amqp_performatives.specs.declared.performative.Performative.TheVariants as performative;
+    ghost use Rattle.amqp_attach.specs.declared.performative.Performative.TheVariants as performative;
 
     ghost from_gives = { λ member sum. sum ≡ performative.Attach member };
 
@@ -53,7 +54,7 @@ impl From<Attach> for Performative {
 }
 
 impl From<Flow> for Performative {
-    ghost use Rattle.amqp_performatives.specs.declared.performative.Performative.TheVariants as performative;
+    ghost use Rattle.amqp_attach.specs.declared.performative.Performative.TheVariants as performative;
 
     ghost from_gives = { λ member sum. sum ≡ performative.Flow member };
 
@@ -63,7 +64,7 @@ impl From<Flow> for Performative {
 }
 
 impl From<Transfer> for Performative {
-    ghost use Rattle.amqp_performatives.specs.declared.performative.Performative.TheVariants as performative;
+    ghost use Rattle.amqp_attach.specs.declared.performative.Performative.TheVariants as performative;
 
     ghost from_gives = { λ member sum. sum ≡ performative.Transfer member };
 
@@ -73,7 +74,7 @@ impl From<Transfer> for Performative {
 }
 
 impl From<Disposition> for Performative {
-    ghost use Rattle.amqp_performatives.specs.declared.performative.Performative.TheVariants as performative;
+    ghost use Rattle.amqp_attach.specs.declared.performative.Performative.TheVariants as performative;
 
     ghost from_gives = { λ member sum. sum ≡ performative.Disposition member };
 
@@ -83,7 +84,7 @@ impl From<Disposition> for Performative {
 }
 
 impl From<Detach> for Performative {
-    ghost use Rattle.amqp_performatives.specs.declared.performative.Performative.TheVariants as performative;
+    ghost use Rattle.amqp_attach.specs.declared.performative.Performative.TheVariants as performative;
 
     ghost from_gives = { λ member sum. sum ≡ performative.Detach member };
 
@@ -93,7 +94,7 @@ impl From<Detach> for Performative {
 }
 
 impl From<End> for Performative {
-    ghost use Rattle.amqp_performatives.specs.declared.performative.Performative.TheVariants as performative;
+    ghost use Rattle.amqp_attach.specs.declared.performative.Performative.TheVariants as performative;
 
     ghost from_gives = { λ member sum. sum ≡ performative.End member };
 
@@ -103,7 +104,7 @@ impl From<End> for Performative {
 }
 
 impl From<Close> for Performative {
-    ghost use Rattle.amqp_performatives.specs.declared.performative.Performative.TheVariants as performative;
+    ghost use Rattle.amqp_attach.specs.declared.performative.Performative.TheVariants as performative;
 
     ghost from_gives = { λ member sum. sum ≡ performative.Close member };
 

@@ -1,0 +1,10 @@
+//! The begin of a link, which holds its two ends (Part 2, section 2.7.3), and the performatives as one type (Part 2, section 2.7).
+#![tactic(auto)]
+
+mod attach;
+mod performative;
+mod unsettled;
+
+pub use attach::Attach;
+pub use performative::Performative;
+pub use unsettled::Unsettled;
