@@ -1,5 +1,4 @@
-//! Worked rows of the delivery states: values and codes in errors by calls, and the rest as lines of the program.
-use amqp_lines::run;
+//! Delivery states: values that are written and read, and the codes that errors hold.
 use fe2o3_amqp_types::codec::{Deserialize, Error, Serialize, from_slice, to_vec};
 use fe2o3_amqp_types::messaging::{Accepted, DeliveryState, Received, Released};
 use std::alloc::Global;
@@ -9,69 +8,6 @@ fn refusal<T: Deserialize>(digits: &str, alloc: Global) -> Result<Option<Error>,
     let input = hex::decode(alloc, digits)?;
     let read: Result<T, Error> = from_slice(input.as_slice(), alloc);
     Ok(read.err())
-}
-
-/// Inputs of the program.
-const LINES: &str = "\
-    accepted 005324c00000\n\
-    accepted 005324d00000000000000000\n\
-    accepted 0080000000000000002445\n\
-    accepted 00a312616d71703a61636365707465643a6c697374c00100\n\
-    accepted 00b300000012616d71703a61636365707465643a6c69737445\n\
-    accepted 00532445\n\
-    accepted -\n\
-    accepted 00532545\n\
-    accepted 004145\n\
-    accepted 005324c0020140\n\
-    accepted 00a302c3a945\n\
-    accepted 00a303616d7145\n\
-    accepted 00a313616d71703a61636365707465643a6c697374\n\
-    accepted 005324c00001\n\
-    accepted 005324d00000000300\n\
-    accepted 005324d000000003000000\n\
-    accepted 005324d00000000200000000\n\
-    accepted 005324d0ffffffff00000000\n\
-    received 005323c00502520953\n\
-    received 005323c006025209530d40\n\
-    received 005323c003015209\n\
-    received 005323c00402405309\n\
-    received 00532345\n\
-    delivery-state 00532845\n";
-
-/// What it answers to each in turn.
-const ANSWERS: &str = "\
-    ok 00532445 0\n\
-    ok 00532445 0\n\
-    ok 00532445 0\n\
-    ok 00532445 0\n\
-    ok 00532445 0\n\
-    ok 00532445 0\n\
-    no 1 Cut\n\
-    no 9 WrongDescriptor\n\
-    no 28 BadDescriptor\n\
-    no 7 Surplus\n\
-    no 15 NonAscii\n\
-    no 9 WrongDescriptor\n\
-    no 1 Cut\n\
-    no 4 Size\n\
-    no 1 Cut\n\
-    no 4 Size\n\
-    no 4 Size\n\
-    no 1 Cut\n\
-    no 1 Cut\n\
-    no 4 Size\n\
-    no 8 Missing\n\
-    no 8 Missing\n\
-    no 8 Missing\n\
-    no 9 WrongDescriptor\n";
-
-#[test]
-fn lines_of_the_program(rt: HostRuntime) -> Result<(), Fail> {
-    let mut output = Vec::new(rt.alloc());
-    run(LINES.as_bytes(), &mut output, rt.alloc())?;
-    let output = String::from_utf8(output)?;
-    assert_eq!(rt; output.as_str(), ANSWERS);
-    Ok(())
 }
 
 // The value is written so, and that is read as the value.

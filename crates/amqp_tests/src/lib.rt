@@ -1,4 +1,5 @@
-//! Tests that cross crates: worked rows of the types, and the program's engine over readers and writers.
+//! Tests that cross crates: calls on values of several crates, and the program's engine over readers and writers. What a line of the
+//! program says stands in the files of `amqp_worked_rows`.
 #![tactic(auto)]
 
 #[cfg(test)]
@@ -8,8 +9,6 @@ mod conditions;
 #[cfg(test)]
 mod delivery;
 #[cfg(test)]
-mod error_lines;
-#[cfg(test)]
 mod first_look;
 #[cfg(test)]
 mod from_readers;
@@ -17,16 +16,6 @@ mod from_readers;
 mod lines;
 #[cfg(test)]
 mod members;
-#[cfg(test)]
-mod outcome_lines;
-#[cfg(test)]
-mod performative_lines;
-#[cfg(test)]
-mod termini_lines;
-#[cfg(test)]
-mod type_lines;
 pub mod user_type;
-#[cfg(test)]
-mod value_lines;
 #[cfg(test)]
 mod wire;
