@@ -17,8 +17,6 @@ mod sender_settle_mode;
 mod session_state;
 mod terminus_durability;
 mod terminus_expiry_policy;
-#[cfg(test)]
-mod tests;
 mod txn_capability;
 
 pub use channel_max::ChannelMax;

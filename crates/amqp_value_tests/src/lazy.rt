@@ -1,76 +1,11 @@
-//! Values that are kept as their bytes: what they hold, where they may stand, and how deep they may nest.
+//! Values that are kept as their bytes: what they hold, where they aren't written, and how deep they may nest.
 use crate::nests::nested;
-use amqp_codec::{Error, Symbol};
+use amqp_codec::Error;
 use amqp_containers::Array;
 use amqp_lazy::LazyValue;
-use amqp_maps::OrderedMap;
 use amqp_read_write::{from_slice, from_slice_counted, to_vec};
-use amqp_test_rows::{Row, check};
 use std::alloc::Global;
 use std::test::Fail;
-
-const ALONE: [Row; 16] = [
-    ("5207", "5207"),
-    ("7000000007", "7000000007"),
-    ("40", "40"),
-    ("45", "45"),
-    ("c106044341520042", "c106044341520042"),
-    ("c1050443414341", "c1050443414341"),
-    ("e003015007", "e003015007"),
-    ("0053245207", "0053245207"),
-    (
-        "00a301610080000000000000000141",
-        "00a301610080000000000000000141",
-    ),
-    ("", "Cut"),
-    ("52", "Cut"),
-    ("c00402", "Cut"),
-    ("c00302435207", "Size"),
-    ("99", "UnknownCode"),
-    ("c1020143", "OddCount"),
-    ("e0020140", "ZeroWidthItems"),
-];
-
-const IN_LISTS: [Row; 5] = [
-    ("d00000000a00000002700000000743", "c00702700000000743"),
-    ("45", "45"),
-    ("c0020199", "UnknownCode"),
-    ("c0020152", "Size"),
-    ("40", "WrongType"),
-];
-
-const OPTIONAL: [Row; 3] = [("40", "40"), ("5207", "5207"), ("c00100", "c00100")];
-
-const IN_MAPS: [Row; 4] = [
-    ("c10602a301615207", "c10602a301615207"),
-    (
-        "d10000000c00000002a301617000000007",
-        "c10902a301617000000007",
-    ),
-    ("c10b04a301615207a301615207", "DuplicateKey"),
-    ("c10602a301615299", "c10602a301615299"),
-];
-
-const IN_ARRAYS: [Row; 3] = [
-    ("e003015007", "LazyInArray"),
-    ("e00100", "e0020040"),
-    ("e0020140", "ZeroWidthItems"),
-];
-
-#[test]
-fn kept_as_they_were_read(rt: HostRuntime) -> Result<(), Fail> {
-    let alloc = rt.alloc();
-    check::<LazyValue>(&ALONE, alloc)?;
-    check::<Option<LazyValue>>(&OPTIONAL, alloc)
-}
-
-#[test]
-fn in_containers(rt: HostRuntime) -> Result<(), Fail> {
-    let alloc = rt.alloc();
-    check::<Vec<LazyValue>>(&IN_LISTS, alloc)?;
-    check::<OrderedMap<Symbol, LazyValue>>(&IN_MAPS, alloc)?;
-    check::<Array<LazyValue>>(&IN_ARRAYS, alloc)
-}
 
 #[test]
 fn bytes_behind_are_left(rt: HostRuntime) -> Result<(), Fail> {

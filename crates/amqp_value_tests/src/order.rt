@@ -1,5 +1,4 @@
 //! The order and the hash of values of any kind, and maps whose keys they are.
-use amqp_codec::Error;
 use amqp_containers::Array;
 use amqp_maps::OrderedMap;
 use amqp_read_write::from_slice;
@@ -114,11 +113,6 @@ fn keys_of_any_kind(rt: HostRuntime) -> Result<(), Fail> {
     assert_eq!(rt; map.get(&Value::from(list()?)), Some(&3));
     assert_eq!(rt; map.get(&Value::Ulong(1)), Some(&2));
     assert_eq!(rt; map.get(&Value::Uint(1)), None);
-    let twice: Result<OrderedMap<Value, u32>, Error> = from_slice(
-        &[0xc1, 7, 4, 0x43, 0x43, 0x52, 0, 0x52, 1],
-        alloc,
-    );
-    assert_eq!(rt; twice.err(), Some(Error::DuplicateKey));
     Ok(())
 }
 

@@ -1,105 +1,39 @@
-//! Simple values: what they are made of and give back, and how each kind is read and written.
+//! Simple values: what they are made of and give back.
 use amqp_codec::{DeserializeTerm, Error, Symbol};
 use amqp_containers::Array;
 use amqp_described::Described;
-use amqp_maps::OrderedMap;
 use amqp_primitives::{Binary, Dec32, Dec64, Dec128, Timestamp, Uuid};
 use amqp_read_write::from_slice;
 use amqp_simple_values::SimpleValue;
-use amqp_test_rows::{Row, check};
 use amqp_values::{Value, ValueMap};
 use amqp_wire::Descriptor;
 use std::alloc::Global;
 use std::test::Fail;
 
-const KINDS: [Row; 27] = [
-    ("40", "40"),
-    ("41", "41"),
-    ("5600", "42"),
-    ("5007", "5007"),
-    ("600102", "600102"),
-    ("7000000007", "5207"),
-    ("43", "43"),
-    ("800000000000000007", "5307"),
-    ("44", "44"),
-    ("51ff", "51ff"),
-    ("61ff00", "61ff00"),
-    ("71ffffff80", "5480"),
-    ("81ffffffffffffff80", "5580"),
-    ("7401020304", "7401020304"),
-    ("840102030405060708", "840102030405060708"),
-    (
-        "940102030405060708090a0b0c0d0e0f10",
-        "940102030405060708090a0b0c0d0e0f10",
-    ),
-    ("7300000041", "7300000041"),
-    ("83ffffffffffffffff", "83ffffffffffffffff"),
-    (
-        "980102030405060708090a0b0c0d0e0f10",
-        "980102030405060708090a0b0c0d0e0f10",
-    ),
-    ("b00000000161", "a00161"),
-    ("b10000000161", "a10161"),
-    ("b30000000161", "a30161"),
-    ("00532445", "00532445"),
-    ("0044c00100", "004445"),
-    ("005324e0020040", "005324e0020040"),
-    ("008000000000000000245601", "00532441"),
-    ("5207ff", "5207"),
+/// A value of each kind.
+const KINDS: [&str; 21] = [
+    "40",
+    "41",
+    "5007",
+    "600102",
+    "5207",
+    "5307",
+    "51ff",
+    "61ff00",
+    "5480",
+    "5580",
+    "7401020304",
+    "840102030405060708",
+    "940102030405060708090a0b0c0d0e0f10",
+    "7300000041",
+    "83ffffffffffffffff",
+    "980102030405060708090a0b0c0d0e0f10",
+    "a00161",
+    "a10161",
+    "a30161",
+    "00532445",
+    "005324e0020040",
 ];
-
-const REFUSED: [Row; 16] = [
-    ("45", "InvalidValue"),
-    ("c00100", "InvalidValue"),
-    ("d00000000400000000", "InvalidValue"),
-    ("c10100", "InvalidValue"),
-    ("d10000000400000000", "InvalidValue"),
-    ("e0020040", "InvalidValue"),
-    ("f00000000500000000", "InvalidValue"),
-    ("c0", "InvalidValue"),
-    ("7200000000", "FloatCode"),
-    ("99", "UnknownCode"),
-    ("5602", "BadBool"),
-    ("a101ff", "BadUtf8"),
-    ("", "Cut"),
-    ("52", "Cut"),
-    ("004140", "BadDescriptor"),
-    ("005324c1020143", "OddCount"),
-];
-
-const IN_LISTS: [Row; 4] = [
-    ("c003024043", "c003024043"),
-    ("c0020145", "InvalidValue"),
-    ("e00402520102", "WrongType"),
-    ("c0020172", "FloatCode"),
-];
-
-const IN_ARRAYS: [Row; 3] = [
-    ("e00402520102", "e00a02700000000100000002"),
-    ("e0020145", "ZeroWidthItems"),
-    ("e00401c00100", "InvalidValue"),
-];
-
-const PROPERTIES: [Row; 3] = [
-    ("c10602a101615207", "c10602a101615207"),
-    ("c10502a1016145", "InvalidValue"),
-    ("c10b04a101615207a101615207", "DuplicateKey"),
-];
-
-#[test]
-fn each_kind_is_read(rt: HostRuntime) -> Result<(), Fail> {
-    let alloc = rt.alloc();
-    check::<SimpleValue>(&KINDS, alloc)?;
-    check::<SimpleValue>(&REFUSED, alloc)
-}
-
-#[test]
-fn containers_of_simple_values(rt: HostRuntime) -> Result<(), Fail> {
-    let alloc = rt.alloc();
-    check::<Vec<SimpleValue>>(&IN_LISTS, alloc)?;
-    check::<Array<SimpleValue>>(&IN_ARRAYS, alloc)?;
-    check::<OrderedMap<String, SimpleValue>>(&PROPERTIES, alloc)
-}
 
 // What such digits are read as.
 fn read<T: DeserializeTerm>(digits: &str, alloc: Global) -> Result<T, Fail> {
@@ -110,7 +44,7 @@ fn read<T: DeserializeTerm>(digits: &str, alloc: Global) -> Result<T, Fail> {
 #[test]
 fn as_values_of_any_kind_and_back(rt: HostRuntime) -> Result<(), Fail> {
     let alloc = rt.alloc();
-    for (digits, _) in &KINDS {
+    for digits in &KINDS {
         let value: Value = read(*digits, alloc)?;
         let simple: SimpleValue = read(*digits, alloc)?;
         let copy = simple.clone()?;

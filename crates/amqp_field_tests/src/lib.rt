@@ -1,8 +1,0 @@
-//! Tests of the kinds of field: a composite with fields of several values.
-#![tactic(auto)]
-
-mod offer;
-#[cfg(test)]
-mod rows;
-
-pub use offer::Offer;

@@ -1,0 +1,3 @@
+pub mod IdentifierType
+pub mod PortType
+pub mod Tables
