@@ -103,7 +103,7 @@ fn full_attach(alloc: Global) -> Result<Attach, Fail> {
     Ok(Attach {
         name: text_of("link", alloc)?,
         handle: Handle(2),
-        role: Role::Receiver,
+        role: Role::Sender,
         snd_settle_mode: SenderSettleMode::Unsettled,
         rcv_settle_mode: ReceiverSettleMode::Second,
         source: Some(boxed_source(alloc)?),
@@ -126,7 +126,7 @@ fn fields_of_an_attach(rt: HostRuntime) -> Result<(), Fail> {
         "005312c04c0e\
          a1046c696e6b\
          5202\
-         41\
+         42\
          5000\
          5001\
          005328c00401a10173\
@@ -251,7 +251,7 @@ fn full_disposition() -> Disposition {
     }
 }
 
-// Settled and batchable are both true, so it is also written without settled.
+// Role, settled and batchable are all written as true, so it is also written with another role and without settled.
 #[test]
 fn fields_of_a_disposition(rt: HostRuntime) -> Result<(), Fail> {
     let alloc = rt.alloc();
@@ -267,8 +267,9 @@ fn fields_of_a_disposition(rt: HostRuntime) -> Result<(), Fail> {
          41",
         alloc,
     )?;
+    disposition.role = Role::Sender;
     disposition.settled = false;
-    check(&disposition, "005315c00c064152015202400053264541", alloc)
+    check(&disposition, "005315c00c064252015202400053264541", alloc)
 }
 
 fn full_detach(alloc: Global) -> Result<Detach, Fail> {
