@@ -1,28 +1,14 @@
 //! What is written, and what targets of both kinds are taken back as.
-use amqp_codec::{Error, Serialize};
+use crate::parts::{check, text_of};
+use amqp_codec::Error;
 use amqp_containers::Array;
-use amqp_fields::Fields;
 use amqp_read_write::{from_slice, to_vec};
 use amqp_restricted_types::{DistributionMode, TxnCapability};
 use amqp_termini::{
     Coordinator, DeleteOnClose, DeleteOnNoLinks, DeleteOnNoLinksOrMessages, DeleteOnNoMessages,
     LifetimePolicy, Source, SupportedDistModes, Target, TargetArchetype,
 };
-use std::alloc::Global;
 use std::test::Fail;
-
-/// The value is written as the bytes with these digits.
-pub fn check<T: Serialize>(value: &T, digits: &str, alloc: Global) -> Result<(), Fail> {
-    let text = hex::encode(alloc, &to_vec(value, alloc)?)?;
-    if text.as_str() != digits {
-        return Err(Fail::new(format_args!("{digits} is written as {text}")));
-    }
-    Ok(())
-}
-
-fn text_of(text: &str, alloc: Global) -> Result<String, Error> {
-    Ok(String::from_str(alloc, text)?)
-}
 
 #[test]
 fn source_of_an_address(rt: HostRuntime) -> Result<(), Fail> {

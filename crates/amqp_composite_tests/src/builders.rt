@@ -1,33 +1,14 @@
 //! Each call of the builders once.
-use crate::written::check;
-use amqp_codec::{Descriptor, Error, Symbol};
-use amqp_containers::Array;
+use crate::parts::{check, fields_of, symbol_of, symbols_of};
+use amqp_codec::Descriptor;
 use amqp_delivery::{Accepted, Outcome};
 use amqp_described::Described;
-use amqp_fields::Fields;
 use amqp_restricted_types::{DistributionMode, TerminusDurability, TerminusExpiryPolicy};
 use amqp_termini::{
     DeleteOnClose, LifetimePolicy, Source, SourceBuilder, SupportedDistModes, Target, TargetBuilder,
 };
 use amqp_values::Value;
-use std::alloc::Global;
 use std::test::Fail;
-
-fn symbol_of(text: &str, alloc: Global) -> Result<Symbol, Error> {
-    Ok(Symbol::from(String::from_str(alloc, text)?))
-}
-
-fn symbols_of(text: &str, alloc: Global) -> Result<Array<Symbol>, Error> {
-    let mut symbols = Array::from(Vec::new(alloc));
-    symbols.push(symbol_of(text, alloc)?)?;
-    Ok(symbols)
-}
-
-fn fields_of(text: &str, value: Value, alloc: Global) -> Result<Fields, Error> {
-    let mut fields = Fields::new(alloc);
-    fields.insert(symbol_of(text, alloc)?, value)?;
-    Ok(fields)
-}
 
 #[test]
 fn calls_of_a_target_builder(rt: HostRuntime) -> Result<(), Fail> {
