@@ -3,10 +3,9 @@
 use crate::parts::{
     binary_of, check, error_of, fields_of, symbols_of, text_fields_of, text_of, two_symbols_of,
 };
+use amqp_attach::{Attach, Unsettled};
 use amqp_delivery::{Accepted, DeliveryState, Released};
-use amqp_performatives::{
-    Attach, Begin, Close, Detach, Disposition, End, Flow, Open, Transfer, Unsettled,
-};
+use amqp_performatives::{Begin, Close, Detach, Disposition, End, Flow, Open, Transfer};
 use amqp_restricted_types::{
     ChannelMax, Handle, MaxFrameSize, ReceiverSettleMode, Role, SenderSettleMode,
 };

@@ -11,8 +11,8 @@ ghost use Rattle.amqp_encoder.specs.Writes.{Writes, pass_of, bytes_of};
 ghost use Rattle.amqp_encoder.specs.Passes.{BeginsMeasuring, BeginsFilling, Finds, FindsNone, answer_of};
 
 use crate::fill::Fill;
-use crate::places::Shortest;
 use crate::measure::Measure;
+use crate::places::Shortest;
 use crate::size::Size;
 use amqp_wire::{Container, Descriptor, Error, format_code};
 use std::alloc::Global;

@@ -5,9 +5,9 @@ mod descriptors;
 mod encoder;
 mod fill;
 mod frame;
-mod places;
 pub mod laws;
 mod measure;
+mod places;
 mod primitives;
 mod size;
 

@@ -18,7 +18,11 @@ pub(crate) struct Content<'a> {
 }
 
 /// The content of a container. A list without items may have the size 0.
-pub(crate) fn read_content(input: &[u8], wide: bool, container: Container) -> Result<Content<'_>, Error>
+pub(crate) fn read_content(
+    input: &[u8],
+    wide: bool,
+    container: Container,
+) -> Result<Content<'_>, Error>
     ensures found { IfOk result (λ c. IsFront (IsContent (container_of container) (width_of wide) c.count c.items.now) input.now c.len) }
     ensures refused { IfErr result (λ e. Refuses (HasContent (container_of container) (width_of wide)) input.now e) }
     ensures fault { IfErr result (λ e. ContentFault (container_of container) (width_of wide) input.now e) }

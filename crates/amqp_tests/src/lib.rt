@@ -16,6 +16,5 @@ mod from_readers;
 mod lines;
 #[cfg(test)]
 mod members;
-pub mod user_type;
 #[cfg(test)]
 mod wire;

@@ -9,9 +9,8 @@ mod further;
 
 use answer::answer_to;
 use anyhow::bail;
-use std::env;
-use std::fs;
 use std::process::ExitCode;
+use std::{env, fs};
 
 fn main(rt: HostRuntime) -> Result<ExitCode, anyhow::Error> {
     let mut all_agree = true;
