@@ -6,8 +6,7 @@ use Rattle.amqp_enums.specs.Types.{composite, mandatory, optional, default, none
 use Rattle.amqp_containers.specs.MultipleFields.{multiple, normal_multiple}
 use Rattle.amqp_primitives.specs.Types.{binary_type}
 use Rattle.amqp_restricted_types.specs.Defaults.{false_by_default}
-use Rattle.amqp_restricted_types.specs.Transport.{channel_max_type, handle_type, max_frame_size_type, role_type}
-use Rattle.amqp_restricted_types.specs.Transport.{receiver_settle_mode_type}
+use Rattle.amqp_restricted_types.specs.Transport.{channel_max_type, handle_type, max_frame_size_type, role_type, receiver_settle_mode_type}
 use Rattle.amqp_restricted_types.specs.TransportDefaults.{greatest_frame_size, greatest_channel, greatest_handle}
 use Rattle.amqp_fields.specs.FieldsType.{fields_type}
 use Rattle.amqp_errors.specs.Tables.{error, norm_error}
