@@ -12,7 +12,7 @@ ghost use Rattle.amqp_decoder.specs.Primitives.{ReadsValue};
 ghost use Rattle.amqp_codec.specs.Members.{MemberFault};
 ghost use Rattle.amqp_codec.specs.FieldReading.{FillsField, IsBlank};
 
-use crate::fields::{FieldRule, FieldList, read_fields, write_list};
+use crate::fields::{FieldList, FieldRule, read_fields, write_list};
 use crate::{DeserializeTerm, SerializeTerm};
 use amqp_decoder::Decoder;
 use amqp_encoder::Encoder;

@@ -2,7 +2,7 @@
 //! pairs of maps.
 pub use crate::composite::{Composite, CompositeTerm, Table, read_composite, write_composite};
 pub use crate::fields::{
-    FieldRule, FieldList, read_fields, read_into, read_list, read_some, write_list,
+    FieldList, FieldRule, read_fields, read_into, read_list, read_some, write_list,
 };
 pub use crate::lists::{each_in_type, read_each, write_each};
 pub use crate::maps::{pair_in_type, write_pair};
