@@ -4,7 +4,7 @@ use Rattle.amqp_model.specs.Term.{Descriptor, name, code, Term}
 use Rattle.amqp_model.specs.Standing.{Standing}
 use Rattle.amqp_model.specs.Composite.{MeansComposite, MeansList, Describes}
 use Rattle.amqp_model.specs.DescribedLaws.{described_cases}
-use Rattle.amqp_codec.specs.ListType.{fields_value, value_fields}
+use Rattle.amqp_codec.specs.ListTypeLaws.{fields_value, value_fields}
 use Rattle.std.proofs.lemmas.Bool.{eqb-true}
 use Rattle.std.proofs.lemmas.List.Quantifiers.{position-Some}
 use Rattle.std.proofs.lemmas.Slice.Eq.{bytes_eq-Decides}

@@ -17,12 +17,17 @@ pub mod Fields
 pub mod MisspellingLaws
 pub mod OtherSource
 pub mod MeaningLaws
+pub mod ListTypeLaws
 pub mod ListType
 pub mod DescribedTermLaws
+pub mod Descriptors
+pub mod DescribedTypeLaws
 pub mod DescribedType
 pub mod DescriptorLaws
 pub mod Composite
 pub mod CompositeLaws
+pub mod EitherMeaning
+pub mod EitherTypeLaws
 pub mod EitherType
 pub mod NullTextLaws
 pub mod Spelled
@@ -37,6 +42,7 @@ pub mod FieldReading
 pub mod FieldReadingLaws
 pub mod PeekLaws
 pub mod Members
+pub mod MembersLaws
 pub mod TermLaws
 pub mod SpellingLaws
 pub mod ReasonLaws
@@ -52,6 +58,8 @@ pub mod EqualKeys
 pub mod TreeType
 pub mod ItemsTypeLaws
 pub mod ItemsType
+pub mod DescribedPairMeaning
+pub mod DescribedPairTypeLaws
 pub mod DescribedPairType
 pub mod DescribedPairWriting
 pub mod ItemsReading
@@ -68,5 +76,7 @@ pub mod MapReading
 pub mod MapReadingLaws
 pub mod FoundKeys
 pub mod KeyOrder
+pub mod BTreeMapMeaning
+pub mod BTreeMapTypeLaws
 pub mod BTreeMapType
 pub mod BTreeMaps

@@ -8,7 +8,7 @@ use Rattle.amqp_model.specs.ItemLaws.{clash}
 use Rattle.amqp_model.specs.FieldType.{normal}
 use Rattle.amqp_codec.specs.Faults.{Faults}
 use Rattle.amqp_codec.specs.TermType.{TermType}
-use Rattle.amqp_codec.specs.EitherType.{either}
+use Rattle.amqp_codec.specs.EitherMeaning.{either}
 use Rattle.amqp_codec.specs.ItemsTypeLaws.{by_test}
 use Rattle.amqp_codec.specs.Pairs.{in_turn, pair_canons, IsNew, HaveOtherKeys, OfPairs}
 use Rattle.amqp_codec.specs.PairLaws.{pairs_even}

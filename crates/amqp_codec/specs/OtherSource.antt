@@ -14,7 +14,8 @@ use Rattle.amqp_codec.specs.FieldReading.{FaultAt, ItemFault, no_item, null_item
 use Rattle.amqp_codec.specs.FieldReading.{at_item, left_out, not_ended}
 use Rattle.amqp_codec.specs.FieldReadingLaws.{fields_not_memory}
 use Rattle.amqp_codec.specs.Members as members
-use Rattle.amqp_codec.specs.Members.{Members, MemberFault, member_not_memory, no_member, in_member}
+use Rattle.amqp_codec.specs.Members.{Members, MemberFault, no_member, in_member}
+use Rattle.amqp_codec.specs.MembersLaws.{member_not_memory}
 
 module _ (c : Setting) where
   abbrev at : State → State

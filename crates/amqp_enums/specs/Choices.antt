@@ -12,7 +12,8 @@ use Rattle.amqp_decoder.specs.State.{State}
 use Rattle.amqp_decoder.specs.OtherSource.{Setting, under}
 use Rattle.amqp_codec.specs.Faults.{Faults}
 use Rattle.amqp_codec.specs.TermType.{TermType}
-use Rattle.amqp_codec.specs.EitherType.{either, IsEither, norm_either, either_of}
+use Rattle.amqp_codec.specs.EitherType.{either_of}
+use Rattle.amqp_codec.specs.EitherMeaning.{either, IsEither, norm_either}
 use Rattle.amqp_enums.specs.NeverType.{never_faults, never_type}
 use Rattle.amqp_codec.specs.Wrappers.{via}
 use Rattle.amqp_codec.specs.Fields.{slots, take_memory, either_first, either_second}

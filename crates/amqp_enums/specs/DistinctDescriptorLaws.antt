@@ -8,7 +8,8 @@ use Rattle.amqp_model.specs.ItemLaws.{clash}
 use Rattle.amqp_model.specs.CompositeLaws.{by_cases}
 use Rattle.amqp_codec.specs.Composite.{Table, table_of, composite}
 use Rattle.amqp_codec.specs.Faults.{Faults}
-use Rattle.amqp_codec.specs.EitherType.{FormsApart, either_of}
+use Rattle.amqp_codec.specs.EitherType.{either_of}
+use Rattle.amqp_codec.specs.EitherMeaning.{FormsApart}
 use Rattle.amqp_codec.specs.TermType.{TermType}
 
 -- two texts are one

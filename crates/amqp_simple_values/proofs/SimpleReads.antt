@@ -12,7 +12,7 @@ use Rattle.amqp_decoder.proofs.Peeks.{value-peeked}
 use Rattle.amqp_codec.specs.TreeType.{tree_term}
 use Rattle.amqp_codec.specs.RefusalLaws.{NoneStands, refused_later}
 use Rattle.amqp_codec.specs.PeekLaws.{peeked_failed, peeked_going}
-use Rattle.amqp_codec.specs.EitherType.{in_first, in_second}
+use Rattle.amqp_codec.specs.EitherMeaning.{in_first, in_second}
 use Rattle.amqp_kinds.specs.Kinds.{term_kind, kind_at}
 use Rattle.amqp_kinds.specs.KindLaws.{kind_there}
 use Rattle.amqp_values.specs.declared.value.Value.{Value}

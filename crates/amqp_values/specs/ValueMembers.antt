@@ -9,7 +9,7 @@ use Rattle.amqp_model.specs.Ranges.{IsInRange}
 use Rattle.amqp_wire.specs.declared.symbol.Symbol.{Symbol as OwnSymbol}
 use Rattle.amqp_lookahead.specs.Members.{descriptor_of}
 use Rattle.amqp_codec.specs.Each.{canons_of, MeansItems}
-use Rattle.amqp_codec.specs.DescribedPairType.{MeansPair, any_descriptor}
+use Rattle.amqp_codec.specs.DescribedPairMeaning.{MeansPair, any_descriptor}
 use Rattle.amqp_codec.specs.Pairs.{pair_canons, MeansMap}
 use Rattle.amqp_codec.specs.TreeType.{MeansTree, SameTree}
 use Rattle.amqp_codec.specs.PrimitiveTypes.{null_type, boolean_type, ubyte_type, ushort_type, uint_type, ulong_type, byte_type, short_type}
