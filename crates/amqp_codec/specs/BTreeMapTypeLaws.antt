@@ -23,8 +23,9 @@ use Rattle.amqp_codec.specs.ItemsTypeLaws.{container_cases}
 use Rattle.amqp_codec.specs.Keys.{IsOwnKey}
 use Rattle.amqp_codec.specs.Pairs.{pair_canons, count_pairs, OfPairs, SamePairs, norm_values}
 use Rattle.amqp_codec.specs.PairLaws.{same_values}
-use Rattle.amqp_codec.specs.KeyOrder.{in_order, IsOrderOf, ordered, still_in_order, before_order, order_alike, once_in_order, sorted_others}
-use Rattle.amqp_codec.specs.KeyOrder.{others_sorted, same_in_order, sorted_alike, same_as_ordered}
+use Rattle.amqp_codec.specs.KeyOrder.{in_order, IsOrderOf}
+use Rattle.amqp_codec.specs.KeyOrderLaws.{ordered, still_in_order, before_order, order_alike, once_in_order, sorted_others, others_sorted}
+use Rattle.amqp_codec.specs.KeyOrderLaws.{same_in_order, sorted_alike, same_as_ordered}
 use Rattle.amqp_codec.specs.MapTypeLaws.{map_flawless}
 use Rattle.amqp_codec.specs.MapReadingLaws.{map_of}
 use Rattle.amqp_codec.specs.BTreeMapMeaning.{norm_entries, MeansInOrder, AreInOrder}

@@ -10,7 +10,8 @@ use Rattle.amqp_codec.specs.TermType.{TermType}
 use Rattle.amqp_codec.specs.ListType.{ListTable, list_of}
 use Rattle.amqp_codec.specs.DescribedType.{described_by}
 use Rattle.amqp_codec.specs.Descriptors.{Descriptors}
-use Rattle.amqp_codec.specs.OtherSource.{fields_read, fields_faults, member_faults}
+use Rattle.amqp_codec.specs.OtherSource.{fields_faults, member_faults}
+use Rattle.amqp_codec.specs.OtherSourceLaws.{fields_read}
 use Rattle.amqp_codec.specs.FieldReading.{FieldsRead}
 use Rattle.amqp_codec.specs.Members.{Members}
 use Rattle.amqp_codec.specs.Fields.{Fields, slots, take_memory}

@@ -14,7 +14,9 @@ pub mod KeptBytesLaws
 pub mod FieldTypes
 pub mod Slots
 pub mod Fields
+pub mod FieldsLaws
 pub mod MisspellingLaws
+pub mod OtherSourceLaws
 pub mod OtherSource
 pub mod MeaningLaws
 pub mod ListTypeLaws
@@ -71,11 +73,13 @@ pub mod Pairs
 pub mod PairLaws
 pub mod MapTypeLaws
 pub mod MapType
+pub mod MapWritingLaws
 pub mod MapWriting
 pub mod MapReading
 pub mod MapReadingLaws
 pub mod FoundKeys
 pub mod KeyOrder
+pub mod KeyOrderLaws
 pub mod BTreeMapMeaning
 pub mod BTreeMapTypeLaws
 pub mod BTreeMapType

@@ -26,8 +26,8 @@ use Rattle.amqp_codec.specs.KeptBytesLaws.{plain_reads}
 use Rattle.amqp_codec.specs.PrimitiveTermLaws.{container_not_null}
 use Rattle.amqp_codec.specs.OnlySizeLaws.{size_alone, list_flawless}
 use Rattle.amqp_codec.specs.FieldReading.{FieldsRead}
-use Rattle.amqp_codec.specs.Fields.{Fields, slots, items, count_of, are_least, items_keeps_no_bytes, items_nested, items_counted}
-use Rattle.amqp_codec.specs.Fields.{items_writable, items_fewest, items_least}
+use Rattle.amqp_codec.specs.Fields.{Fields, slots, items, count_of, are_least}
+use Rattle.amqp_codec.specs.FieldsLaws.{items_keeps_no_bytes, items_nested, items_counted, items_writable, items_fewest, items_least}
 
 -- the items of a list stand in its data
 data_items : (F : Format) (ts : Terms) (b : List ℕ) → ContainerData F list (count ts) (ItemsStand ts) b

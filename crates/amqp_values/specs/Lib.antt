@@ -1,13 +1,17 @@
 pub mod Values
 pub mod Equality
+pub mod EqualityLaws
 pub mod Typing
 pub mod Canon
+pub mod CanonLaws
+pub mod ValueWriting
 pub mod Maps
 pub mod Copies
 pub mod FormatCodes
 pub mod Taken
 pub mod Boxed
 pub mod ValueMembers
+pub mod ValueMembersLaws
 pub mod Levels
 pub mod ValueType
 pub mod ValueMapType
