@@ -16,7 +16,8 @@ use Rattle.amqp_codec.specs.EitherMeaning.{in_first, in_second}
 use Rattle.amqp_kinds.specs.Kinds.{term_kind, kind_at}
 use Rattle.amqp_kinds.specs.KindLaws.{kind_there}
 use Rattle.amqp_values.specs.declared.value.Value.{Value}
-use Rattle.amqp_values.specs.Values.{value_term, values_are_trees}
+use Rattle.amqp_values.specs.Values.{value_term}
+use Rattle.amqp_values.specs.ValuesLaws.{values_are_trees}
 use Rattle.amqp_values.specs.ValueMembers.{ValueMeans}
 use Rattle.amqp_values.specs.ValueType.{value_type}
 use Rattle.amqp_simple_values.specs.declared.simple.SimpleValue.{SimpleValue}

@@ -18,7 +18,8 @@ use Rattle.amqp_values.specs.declared.value.Value.{Decimal128, Char, Timestamp, 
 use Rattle.amqp_values.specs.declared.value.Value.{Array'}
 use Rattle.amqp_values.specs.Equality.{turn_terms}
 use Rattle.amqp_values.specs.Typing.{IsTyped}
-use Rattle.amqp_values.specs.Values.{value_term, pairs_of, list_is, array_is, described_is, map_is, values_are_trees}
+use Rattle.amqp_values.specs.Values.{value_term, pairs_of}
+use Rattle.amqp_values.specs.ValuesLaws.{list_is, array_is, described_is, map_is, values_are_trees}
 use Rattle.amqp_values.specs.Canon.{value_canon, value_canons, pair_canon}
 
 each_barred : (vs : List Value) → all_barred_maps (terms_of (map_list value_term vs)) ≡ terms_of (flat_map value_canons vs)

@@ -8,7 +8,8 @@ use Rattle.amqp_codec.specs.EqualKeys.{same_term, terms_decide}
 use Rattle.amqp_codec.specs.TreeLaws.{IsTree}
 use Rattle.amqp_values.specs.declared.map.ValueMap.{ValueMap}
 use Rattle.amqp_values.specs.declared.value.Value.{Value, Map as MapOf}
-use Rattle.amqp_values.specs.Values.{value_term, pairs_of, map_is, values_are_trees}
+use Rattle.amqp_values.specs.Values.{value_term, pairs_of}
+use Rattle.amqp_values.specs.ValuesLaws.{map_is, values_are_trees}
 use Rattle.amqp_values.specs.Equality.{value_eq, turn_terms, map_eq}
 
 -- equality of trees

@@ -1,4 +1,5 @@
 pub mod Values
+pub mod ValuesLaws
 pub mod Equality
 pub mod EqualityLaws
 pub mod Typing

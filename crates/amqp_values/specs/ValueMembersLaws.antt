@@ -27,7 +27,8 @@ use Rattle.amqp_values.specs.declared.value.Value.{Value, Null, Bool, Ubyte, Ush
 use Rattle.amqp_values.specs.declared.value.Value.{Decimal64, Decimal128, Char, Timestamp, Uuid, Binary, String, Symbol, Described', List'}
 use Rattle.amqp_values.specs.declared.value.Value.{Map', Array', items-the_row-Value}
 use Rattle.amqp_values.specs.declared.map.ValueMap.{items-the_row-ValueMap-0-2}
-use Rattle.amqp_values.specs.Values.{value_term, values_are_trees, row_is, pairs_is}
+use Rattle.amqp_values.specs.Values.{value_term}
+use Rattle.amqp_values.specs.ValuesLaws.{values_are_trees, row_is, pairs_is}
 use Rattle.amqp_values.specs.ValueMembers.{ValueMeans, IsOfItems, MeansValues, IsDescribed, MeansDescribed, IsOfPairs, MeansPairs}
 
 -- what a value of each kind is made of

@@ -15,7 +15,8 @@ use Rattle.amqp_described.specs.declared.described.Described.{Described}
 use Rattle.amqp_described.proofs.DescribedReads as reads
 use Rattle.amqp_kinds.specs.declared.kind.Kind.TheVariants as kind
 use Rattle.amqp_values.specs.declared.value.Value.{Value}
-use Rattle.amqp_values.specs.Values.{value_term, list_is, array_is, map_is, described_is}
+use Rattle.amqp_values.specs.Values.{value_term}
+use Rattle.amqp_values.specs.ValuesLaws.{list_is, array_is, map_is, described_is}
 use Rattle.amqp_values.specs.ValueMembers.{ValueMeans, IsOfItems, IsDescribed, IsOfPairs}
 use Rattle.amqp_values.specs.ValueMembersLaws.{described_member, list_member, array_member, map_member, null_member, bool_member}
 use Rattle.amqp_values.specs.ValueMembersLaws.{ubyte_member, ushort_member, uint_member, ulong_member, byte_member, short_member}
