@@ -15,10 +15,11 @@ use Rattle.amqp_decoder.specs.Containers.{Opens, Closes}
 use Rattle.amqp_codec.specs.TermType.{TermType}
 use Rattle.amqp_codec.specs.RefusalLaws.{refused_first, refused_later, opened_going, opened_sound}
 use Rattle.amqp_codec.specs.Pairs.{IsNew, HaveOtherKeys, MeansMap}
-use Rattle.amqp_codec.specs.KeyOrder.{place, in_order, IsOrderOf, new_in_order, new_before, one_more_in_order, inserted_in_place}
+use Rattle.amqp_codec.specs.KeyOrder.{place, in_order, IsOrderOf}
+use Rattle.amqp_codec.specs.KeyOrderLaws.{new_in_order, new_before, one_more_in_order, inserted_in_place}
 use Rattle.amqp_codec.specs.MapReading.{Pairs, ReadsPairsRow, ReadsFewer, PairsFault, MapFault, at_pair}
 use Rattle.amqp_codec.specs.MapReadingLaws.{pairs_more, others_more}
-use Rattle.amqp_codec.specs.BTreeMapType.{MeansInOrder}
+use Rattle.amqp_codec.specs.BTreeMapMeaning.{MeansInOrder}
 use Rattle.amqp_codec.specs.BTreeMaps.{ReadsInOrder}
 use Rattle.amqp_codec.proofs.MapSteps.{others_in, all_read}
 

@@ -7,7 +7,7 @@ use Rattle.amqp_decoder.specs.Reading.{AnswersRead}
 use Rattle.amqp_decoder.specs.Primitives.{ReadsValue}
 use Rattle.amqp_codec.specs.Fields.{Fields, slots, take_memory}
 use Rattle.amqp_codec.specs.FieldReading.{FieldsRead, FieldsFault}
-use Rattle.amqp_codec.specs.ListType.{fields_value, value_fields}
+use Rattle.amqp_codec.specs.ListTypeLaws.{fields_value, value_fields}
 use Rattle.amqp_codec.specs.RefusalLaws.{refused_first}
 
 pub list_reads : {V : Type 0} (fs : Fields V) (old : State) (r : Result V Error) (new : State)

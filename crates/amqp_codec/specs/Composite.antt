@@ -8,8 +8,10 @@ use Rattle.amqp_model.specs.Composite as model
 use Rattle.std.proofs.lemmas.Bool.{ltb-true}
 use Rattle.amqp_codec.specs.TermType.{TermType}
 use Rattle.amqp_codec.specs.ListType.{ListTable, list_of}
-use Rattle.amqp_codec.specs.DescribedType.{Descriptors, described_by}
-use Rattle.amqp_codec.specs.OtherSource.{fields_read, fields_faults, member_faults}
+use Rattle.amqp_codec.specs.DescribedType.{described_by}
+use Rattle.amqp_codec.specs.Descriptors.{Descriptors}
+use Rattle.amqp_codec.specs.OtherSource.{fields_faults, member_faults}
+use Rattle.amqp_codec.specs.OtherSourceLaws.{fields_read}
 use Rattle.amqp_codec.specs.FieldReading.{FieldsRead}
 use Rattle.amqp_codec.specs.Members.{Members}
 use Rattle.amqp_codec.specs.Fields.{Fields, slots, take_memory}

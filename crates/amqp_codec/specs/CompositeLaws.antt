@@ -4,8 +4,8 @@ use Rattle.amqp_model.specs.Term.{Descriptor, name, code, Term}
 use Rattle.amqp_model.specs.Standing.{Standing}
 use Rattle.amqp_model.specs.Composite.{MeansComposite, MeansList, Describes}
 use Rattle.amqp_model.specs.DescribedLaws.{described_cases}
-use Rattle.amqp_codec.specs.ListType.{fields_value, value_fields}
-use Rattle.std.proofs.lemmas.Bool.{eqb-true}
+use Rattle.amqp_codec.specs.ListTypeLaws.{fields_value, value_fields}
+use Rattle.std.proofs.lemmas.Bool.{eqb-true, eq-eqb}
 use Rattle.std.proofs.lemmas.List.Quantifiers.{position-Some}
 use Rattle.std.proofs.lemmas.Slice.Eq.{bytes_eq-Decides}
 use Rattle.amqp_decoder.specs.State.{State}
@@ -18,6 +18,10 @@ use Rattle.amqp_codec.specs.Composite.{Table, table_of, composite_members}
 pub named_describes : {V : Type 0} (c : Table V) (d : Descriptor) → is_named d (c.code, c.name) ≡ true → Describes (table_of c) d
 named_describes c (code n) h = sym (eqb-true c.code n h)
 named_describes c (name s) h = sym ((bytes_eq-Decides c.name s).0 h)
+
+describes_named : {V : Type 0} (c : Table V) (d : Descriptor) → Describes (table_of c) d → is_named d (c.code, c.name) ≡ true
+describes_named c (code n) h = eq-eqb c.code n (sym h)
+describes_named c (name s) h = (bytes_eq-Decides c.name s).1 (sym h)
 
 pub only_place : (d : Descriptor) (m : ℕ × List ℕ) (i : ℕ) → name_place (m ∷ []) d ≡ Some i → is_named d m ≡ true
 only_place d m i h =

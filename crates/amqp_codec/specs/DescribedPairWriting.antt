@@ -4,7 +4,8 @@ use Rattle.amqp_model.specs.Term.{Term, described}
 use Rattle.amqp_model.specs.Ranges.{Everywhere}
 use Rattle.amqp_codec.specs.Faults.{Faults}
 use Rattle.amqp_codec.specs.TermType.{TermType}
-use Rattle.amqp_codec.specs.DescribedPairType.{DescriptorType, described_pair}
+use Rattle.amqp_codec.specs.DescribedPairType.{described_pair}
+use Rattle.amqp_codec.specs.DescribedPairMeaning.{DescriptorType}
 use Rattle.amqp_codec.specs.Written.{IsProper, AreProper, Writing, first_term, canon_of}
 use Rattle.amqp_codec.specs.Agreement.{Agreement}
 

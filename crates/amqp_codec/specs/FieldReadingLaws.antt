@@ -16,7 +16,8 @@ use Rattle.amqp_decoder.specs.Reading.{RefusesRead}
 use Rattle.amqp_decoder.specs.Primitives.{ReadsValue}
 use Rattle.amqp_decoder.proofs.NotMemory.{begin_not_memory, open_not_memory, close_not_memory}
 use Rattle.amqp_codec.specs.RefusalLaws.{refused_first}
-use Rattle.amqp_codec.specs.Fields.{Fields, none, field, slots, take_memory, either_first, either_second}
+use Rattle.amqp_codec.specs.Fields.{Fields, none, field, slots, take_memory}
+use Rattle.amqp_codec.specs.FieldsLaws.{either_first, either_second}
 use Rattle.amqp_codec.specs.FieldReading.{Keeps, KeepsBut, IsBlank, FillsField, MeansAt, FaultAt, FitsFront, rule_at, absence, ItemFault}
 use Rattle.amqp_codec.specs.FieldReading.{FieldsFault, no_item, null_item, in_item, no_list, at_item, left_out, not_ended}
 

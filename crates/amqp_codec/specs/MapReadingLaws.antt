@@ -23,7 +23,7 @@ use Rattle.amqp_decoder.proofs.NotMemory.{open_not_memory, close_not_memory}
 use Rattle.amqp_decoder.proofs.Rooms.{room_inside, room_row}
 use Rattle.amqp_codec.specs.Faults.{Faults}
 use Rattle.amqp_codec.specs.TermType.{TermType}
-use Rattle.amqp_codec.specs.EitherType.{IsEither}
+use Rattle.amqp_codec.specs.EitherMeaning.{IsEither}
 use Rattle.amqp_codec.specs.ItemsReading.{ReadsEach}
 use Rattle.amqp_codec.specs.EachLaws.{values_many}
 use Rattle.amqp_codec.specs.ItemsTypeLaws.{items_cases}

@@ -23,7 +23,7 @@ use Rattle.amqp_codec.specs.TermType.{TermType, View, view_of, Agrees, Rewrites,
 use Rattle.amqp_codec.specs.TermType.{StandsCanonically, IsUnrefused}
 use Rattle.amqp_codec.specs.PrimitiveTermLaws.{container_not_null}
 use Rattle.amqp_codec.specs.OnlySizeLaws.{IsFlawless, size_alone}
-use Rattle.amqp_codec.specs.EitherType.{IsEither}
+use Rattle.amqp_codec.specs.EitherMeaning.{IsEither}
 use Rattle.amqp_codec.specs.Each.{EachSpells}
 use Rattle.amqp_codec.specs.EachLaws.{stand_many}
 use Rattle.amqp_codec.specs.ItemsTypeLaws.{items_cases, container_cases, by_test}

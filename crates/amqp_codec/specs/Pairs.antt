@@ -5,7 +5,7 @@ use Rattle.std.specs.List.{AllZip}
 use Rattle.amqp_model.specs.Term.{map as map_kind, Term, Terms}
 use Rattle.amqp_model.specs.Standing.{Standing}
 use Rattle.amqp_model.specs.FieldType.{Norm, unchanged, by_norm}
-use Rattle.amqp_codec.specs.EitherType.{either, IsEither}
+use Rattle.amqp_codec.specs.EitherMeaning.{either, IsEither}
 use Rattle.amqp_codec.specs.Each.{EachMeans, canons_of, count_all, MeansItems}
 
 -- Keys and values in turn.

@@ -20,7 +20,7 @@ use Rattle.amqp_decoder.proofs.OneReading.{value_same}
 use Rattle.amqp_codec.specs.TermType.{TermType}
 use Rattle.amqp_codec.specs.RefusalLaws.{NoneStands, refused_first, refused_later}
 use Rattle.amqp_codec.specs.PeekLaws.{peeked_failed, peeked_going}
-use Rattle.amqp_codec.specs.EitherType.{in_first, in_second}
+use Rattle.amqp_codec.specs.EitherMeaning.{in_first, in_second}
 use Rattle.amqp_codec.specs.Each.{EachMeans, MeansItems}
 use Rattle.amqp_codec.specs.ItemsTypeLaws.{items_cases}
 use Rattle.amqp_containers.specs.declared.array.Array.{Array}

@@ -4,7 +4,8 @@ use Rattle.amqp_model.specs.Term.{Descriptor}
 use Rattle.amqp_model.specs.FieldType.{Norm, normal, unchanged, by_norm}
 use Rattle.amqp_lookahead.specs.Members.{descriptor_of}
 use Rattle.amqp_codec.specs.TermType.{TermType}
-use Rattle.amqp_codec.specs.DescribedPairType.{any_descriptor, norm_second, described_pair}
+use Rattle.amqp_codec.specs.DescribedPairType.{described_pair}
+use Rattle.amqp_codec.specs.DescribedPairMeaning.{any_descriptor, norm_second}
 use Rattle.amqp_codec.specs.DescribedPairWriting.{pair_writing, pair_agreement}
 use Rattle.amqp_codec.specs.Wrappers.{via}
 use Rattle.amqp_codec.specs.Written.{Writing}

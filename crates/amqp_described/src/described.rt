@@ -5,7 +5,7 @@ ghost use Rattle.amqp_model.specs.Ranges.{IsInRange};
 ghost use Rattle.amqp_wire.specs.declared.error.Error.TheVariants.{Memory};
 ghost use Rattle.amqp_lookahead.specs.Members.{descriptor_of};
 ghost use Rattle.amqp_codec.specs.Agreement.{via_writing};
-ghost use Rattle.amqp_codec.specs.DescribedPairType.{any_descriptor};
+ghost use Rattle.amqp_codec.specs.DescribedPairMeaning.{any_descriptor};
 ghost use Rattle.amqp_codec.specs.DescribedPairWriting.{pair_writing};
 ghost use Rattle.amqp_described.specs.DescribedType.{pair_of, described_of, described_agreement};
 

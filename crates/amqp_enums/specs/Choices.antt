@@ -12,12 +12,15 @@ use Rattle.amqp_decoder.specs.State.{State}
 use Rattle.amqp_decoder.specs.OtherSource.{Setting, under}
 use Rattle.amqp_codec.specs.Faults.{Faults}
 use Rattle.amqp_codec.specs.TermType.{TermType}
-use Rattle.amqp_codec.specs.EitherType.{either, IsEither, norm_either, either_of}
+use Rattle.amqp_codec.specs.EitherType.{either_of}
+use Rattle.amqp_codec.specs.EitherMeaning.{either, IsEither, norm_either}
 use Rattle.amqp_enums.specs.NeverType.{never_faults, never_type}
 use Rattle.amqp_codec.specs.Wrappers.{via}
-use Rattle.amqp_codec.specs.Fields.{slots, take_memory, either_first, either_second}
+use Rattle.amqp_codec.specs.Fields.{slots, take_memory}
+use Rattle.amqp_codec.specs.FieldsLaws.{either_first, either_second}
 use Rattle.amqp_codec.specs.FieldReading.{FieldsRead}
-use Rattle.amqp_codec.specs.OtherSource.{fields_read, fields_faults, member_faults}
+use Rattle.amqp_codec.specs.OtherSource.{fields_faults, member_faults}
+use Rattle.amqp_codec.specs.OtherSourceLaws.{fields_read}
 use Rattle.amqp_codec.specs.Members.{Members}
 use Rattle.amqp_codec.specs.Written.{AreProper, Writing, IsOneTerm}
 use Rattle.amqp_codec.specs.Agreement.{Agreement, proper}

@@ -7,7 +7,7 @@ use Rattle.amqp_model.specs.Composite.{Describes}
 use Rattle.amqp_model.specs.ItemLaws.{clash}
 use Rattle.amqp_model.specs.CompositeLaws.{by_cases}
 use Rattle.amqp_codec.specs.Composite.{Table, table_of, composite}
-use Rattle.amqp_codec.specs.EitherType.{FormsApart}
+use Rattle.amqp_codec.specs.EitherMeaning.{FormsApart}
 
 -- two texts are one
 abbrev pub same_text : List ℕ → List ℕ → Bool

@@ -6,10 +6,11 @@ use Rattle.amqp_model.specs.Standing.{Standing, whole}
 use Rattle.amqp_model.specs.Ranges.{Everywhere, EverywhereIn, IsValue, IsInRange}
 use Rattle.amqp_model.specs.Items.{IsFree, BarsAny}
 use Rattle.amqp_model.specs.ItemLaws.{clash}
-use Rattle.amqp_codec.specs.EitherType.{IsEither}
+use Rattle.amqp_codec.specs.EitherMeaning.{IsEither}
 use Rattle.amqp_codec.specs.Each.{EachMeans, canons_of, IsListOrArray, MeansItems}
 use Rattle.amqp_codec.specs.ItemsTypeLaws.{items_cases, by_test}
-use Rattle.amqp_codec.specs.DescribedPairType.{MeansPair, pair_cases, any_descriptor}
+use Rattle.amqp_codec.specs.DescribedPairMeaning.{MeansPair, any_descriptor}
+use Rattle.amqp_codec.specs.DescribedPairTypeLaws.{pair_cases}
 use Rattle.amqp_codec.specs.Pairs.{in_turn, pair_canons, IsNew, HaveOtherKeys, MeansMap}
 use Rattle.amqp_codec.specs.TreeLaws.{IsTree}
 use Rattle.amqp_codec.specs.TreeType.{MeansTree, SameTree, tree_term}

@@ -14,7 +14,7 @@ ghost use Rattle.amqp_codec.specs.Written.{AreWritable, AreUnwritable};
 ghost use Rattle.std.specs.Prelude.{take};
 ghost use Rattle.amqp_decoder.specs.State.{State};
 ghost use Rattle.amqp_decoder.specs.Reading.{PeeksCode};
-ghost use Rattle.amqp_codec.specs.EitherType.{EitherFault};
+ghost use Rattle.amqp_codec.specs.EitherMeaning.{EitherFault};
 ghost use Rattle.amqp_codec.specs.Reading.{BeginsWith};
 
 use amqp_codec::{Canonical, Deserialize, DeserializeTerm, MapKey};

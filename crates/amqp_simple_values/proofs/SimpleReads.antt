@@ -12,11 +12,12 @@ use Rattle.amqp_decoder.proofs.Peeks.{value-peeked}
 use Rattle.amqp_codec.specs.TreeType.{tree_term}
 use Rattle.amqp_codec.specs.RefusalLaws.{NoneStands, refused_later}
 use Rattle.amqp_codec.specs.PeekLaws.{peeked_failed, peeked_going}
-use Rattle.amqp_codec.specs.EitherType.{in_first, in_second}
+use Rattle.amqp_codec.specs.EitherMeaning.{in_first, in_second}
 use Rattle.amqp_kinds.specs.Kinds.{term_kind, kind_at}
 use Rattle.amqp_kinds.specs.KindLaws.{kind_there}
 use Rattle.amqp_values.specs.declared.value.Value.{Value}
-use Rattle.amqp_values.specs.Values.{value_term, values_are_trees}
+use Rattle.amqp_values.specs.Values.{value_term}
+use Rattle.amqp_values.specs.ValuesLaws.{values_are_trees}
 use Rattle.amqp_values.specs.ValueMembers.{ValueMeans}
 use Rattle.amqp_values.specs.ValueType.{value_type}
 use Rattle.amqp_simple_values.specs.declared.simple.SimpleValue.{SimpleValue}

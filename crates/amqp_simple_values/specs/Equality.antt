@@ -1,7 +1,8 @@
 -- Simple values are equal exactly if their terms are.
 use Rattle.std.specs.Prelude.{Bool}
 use Rattle.std.specs.Cmp.{IsPartialEquivalence, IsEquivalence}
-use Rattle.amqp_values.specs.Equality.{value_eq, values_per, values_equiv}
+use Rattle.amqp_values.specs.Equality.{value_eq}
+use Rattle.amqp_values.specs.EqualityLaws.{values_per, values_equiv}
 use Rattle.amqp_simple_values.specs.declared.simple.SimpleValue.{SimpleValue}
 use Rattle.amqp_simple_values.specs.Simple.{as_value}
 

@@ -10,7 +10,7 @@ use Rattle.amqp_codec.specs.TermType.{TermType}
 use Rattle.amqp_codec.specs.Wrappers.{via}
 use Rattle.amqp_codec.specs.Written.{Writing}
 use Rattle.amqp_kinds.specs.Kinds.{kind_at}
-use Rattle.amqp_values.specs.Canon.{value_writing}
+use Rattle.amqp_values.specs.ValueWriting.{value_writing}
 use Rattle.amqp_values.specs.ValueType.{value_type}
 use Rattle.amqp_simple_values.specs.declared.simple.SimpleValue.{SimpleValue}
 use Rattle.amqp_simple_values.specs.Simple.{as_value, is_container}

@@ -14,7 +14,7 @@ use Rattle.amqp_decoder.proofs.ReadPrimitives.{value_leaf, begun_same}
 use Rattle.amqp_decoder.proofs.Peeks.{value-peeked}
 use Rattle.amqp_codec.specs.PrimitiveTypes.{ulong_type}
 use Rattle.amqp_codec.specs.Wrappers.{symbol_type}
-use Rattle.amqp_codec.specs.EitherType.{in_first, in_second}
+use Rattle.amqp_codec.specs.EitherMeaning.{in_first, in_second}
 use Rattle.amqp_codec.specs.RefusalLaws.{no_memory, NoneStands, refused_later}
 use Rattle.amqp_codec.specs.PeekLaws.{peeked_failed, peeked_going}
 use Rattle.amqp_user_types.specs.declared.identifier.Identifier.{Identifier}

@@ -7,7 +7,8 @@ use Rattle.amqp_wire.specs.declared.symbol.Symbol.{Symbol}
 use Rattle.amqp_codec.specs.TermType.{TermType}
 use Rattle.amqp_codec.specs.PrimitiveTypes.{ulong_type}
 use Rattle.amqp_codec.specs.Wrappers.{via, symbol_type}
-use Rattle.amqp_codec.specs.EitherType.{FormsApart, either_of, either_faults}
+use Rattle.amqp_codec.specs.EitherType.{either_of, either_faults}
+use Rattle.amqp_codec.specs.EitherMeaning.{FormsApart}
 use Rattle.amqp_user_types.specs.declared.identifier.Identifier.{Identifier}
 use Rattle.amqp_user_types.specs.declared.identifier.Identifier.TheVariants as identifier
 

@@ -4,7 +4,8 @@ use Rattle.std.specs.Map.{remove_entry}
 use Rattle.indexmap.specs.IndexMap.{insert_entry}
 use Rattle.amqp_codec.specs.EqualKeys.{is_among_keys, has_equal_keys}
 use Rattle.amqp_values.specs.declared.value.Value.{Value}
-use Rattle.amqp_values.specs.Equality.{value_eq, turn_terms, values_equiv}
+use Rattle.amqp_values.specs.Equality.{value_eq, turn_terms}
+use Rattle.amqp_values.specs.EqualityLaws.{values_equiv}
 use Rattle.amqp_values.specs.Maps.{HaveDistinctKeys}
 use Rattle.amqp_values.specs.Values.{value_term}
 

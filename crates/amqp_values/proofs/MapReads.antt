@@ -12,7 +12,8 @@ use Rattle.amqp_codec.specs.MapReading.{ReadsPairsRow, ReadsFewer, PairsFault, M
 use Rattle.amqp_kinds.specs.TreeMeanings.{map_means, means_map}
 use Rattle.amqp_values.specs.declared.map.ValueMap.{ValueMap}
 use Rattle.amqp_values.specs.declared.value.Value.{Value, Map as MapOf}
-use Rattle.amqp_values.specs.Values.{value_term, values_are_trees, pairs_of, map_is}
+use Rattle.amqp_values.specs.Values.{value_term, pairs_of}
+use Rattle.amqp_values.specs.ValuesLaws.{values_are_trees, map_is}
 use Rattle.amqp_values.specs.ValueMembers.{MeansPairs}
 use Rattle.amqp_values.specs.Levels.{value_in, IsBounded}
 use Rattle.amqp_values.specs.ValueType.{value_type}

@@ -26,7 +26,8 @@ use Rattle.amqp_kinds.specs.Kinds.{kind_at}
 use Rattle.amqp_kinds.specs.KindReading.{IsMember, ReadsMember, KindFault, no_value, LevelFault, member_answers}
 use Rattle.amqp_kinds.specs.TreeMeanings.{turns_canons, not_among, among_not}
 use Rattle.amqp_values.specs.declared.value.Value.{Value}
-use Rattle.amqp_values.specs.Values.{value_term, values_are_trees}
+use Rattle.amqp_values.specs.Values.{value_term}
+use Rattle.amqp_values.specs.ValuesLaws.{values_are_trees}
 use Rattle.amqp_values.specs.Equality.{turn_terms}
 use Rattle.amqp_values.specs.ValueMembers.{ValueMeans}
 use Rattle.amqp_values.specs.Levels.{faults_of, faults_at, value_with, value_in, IsBounded}

@@ -18,7 +18,8 @@ use Rattle.amqp_codec.specs.Written.{WritesTerms}
 use Rattle.amqp_values.specs.declared.map.ValueMap.{ValueMap}
 use Rattle.amqp_values.specs.declared.value.Value.{Map as MapOf}
 use Rattle.amqp_values.specs.Values.{pairs_of}
-use Rattle.amqp_values.specs.Canon.{value_canon, pair_canon, map_canon}
+use Rattle.amqp_values.specs.Canon.{value_canon, pair_canon}
+use Rattle.amqp_values.specs.CanonLaws.{map_canon}
 use Rattle.amqp_values.specs.Equality.{turn_terms}
 
 -- a map without equal keys

@@ -1,15 +1,11 @@
 -- Values are equal exactly if their terms are.
-use Rattle.std.proofs.Common.{◌≡◌, Bool, true, List, ap, ◌∙◌, sym, refl, subst}
-use Rattle.std.specs.Bool.{Decides}
-use Rattle.std.specs.Cmp.{IsPartialEquivalence, IsEquivalence}
-use Rattle.std.proofs.lemmas.Bool.Decides.{same_from_decides}
-use Rattle.amqp_model.specs.Term.{map, Term, Terms, container}
-use Rattle.amqp_codec.specs.EqualKeys.{same_term, same_terms, terms_decide}
-use Rattle.amqp_codec.specs.TreeLaws.{IsTree}
+use Rattle.std.proofs.Common.{Bool, List}
+use Rattle.amqp_model.specs.Term.{Terms}
+use Rattle.amqp_codec.specs.EqualKeys.{same_term, same_terms}
 use Rattle.amqp_codec.specs.Pairs.{pair_canons}
 use Rattle.amqp_values.specs.declared.map.ValueMap.{ValueMap}
-use Rattle.amqp_values.specs.declared.value.Value.{Value, Map as MapOf}
-use Rattle.amqp_values.specs.Values.{value_term, pairs_of, map_is, values_are_trees}
+use Rattle.amqp_values.specs.declared.value.Value.{Value}
+use Rattle.amqp_values.specs.Values.{value_term, pairs_of}
 
 -- Two values are equal.
 abbrev pub value_eq : Value → Value → Bool
@@ -22,49 +18,3 @@ turn_terms ps = pair_canons value_term value_term ps
 -- Two maps are equal: their pairs are, in their order.
 abbrev pub map_eq : ValueMap → ValueMap → Bool
 map_eq m n = same_terms (turn_terms (pairs_of m)) (turn_terms (pairs_of n))
-
--- equality of trees
-module _ {V : Type 0} (term : V → Term) (are : (v : V) → IsTree (term v)) where
-  trees_decide : (v w : V) → Decides (same_term (term v) (term w)) (term v ≡ term w)
-  trees_decide v w = terms_decide (term v) (term w) (are v)
-
-  trees_symm : (v w : V) → same_term (term v) (term w) ≡ same_term (term w) (term v)
-  trees_symm v w =
-      let d = trees_decide w v in
-      same_from_decides _ _ (trees_decide v w) ((λ h. sym (d.0 h)), (λ e. d.1 (sym e)))
-
-  trees_trans : (v w x : V) → same_term (term v) (term w) ≡ true → same_term (term w) (term x) ≡ true
-      → same_term (term v) (term x) ≡ true
-  trees_trans v w x e f = (trees_decide v x).1 ((trees_decide v w).0 e ∙ (trees_decide w x).0 f)
-
-  trees_congr : (v w x : V) → same_term (term v) (term w) ≡ true → same_term (term v) (term x) ≡ same_term (term w) (term x)
-  trees_congr v w x e = ap (λ t. same_term t (term x)) ((trees_decide v w).0 e)
-
-  pub trees_per : IsPartialEquivalence (λ v w. same_term (term v) (term w))
-  trees_per = record { symm = trees_symm; trans = trees_trans }
-
-  pub trees_equiv : IsEquivalence (λ v w. same_term (term v) (term w))
-  trees_equiv = record { refl = λ v. (trees_decide v v).1 refl; symm = trees_symm; congr = trees_congr }
-
-pub values_per : IsPartialEquivalence value_eq
-values_per = trees_per value_term values_are_trees
-
-pub values_equiv : IsEquivalence value_eq
-values_equiv = trees_equiv value_term values_are_trees
-
--- Equality decides whether the terms are one.
-pub values_decide : (v w : Value) → Decides (value_eq v w) (value_term v ≡ value_term w)
-values_decide = trees_decide value_term values_are_trees
-
--- a map as the term of its pairs
-abbrev map_term : ValueMap → Term
-map_term m = container map (turn_terms (pairs_of m))
-
-maps_are_trees : (m : ValueMap) → IsTree (map_term m)
-maps_are_trees m = subst IsTree (map_is m) (values_are_trees (MapOf m))
-
-pub maps_per : IsPartialEquivalence map_eq
-maps_per = trees_per map_term maps_are_trees
-
-pub maps_equiv : IsEquivalence map_eq
-maps_equiv = trees_equiv map_term maps_are_trees

@@ -4,7 +4,8 @@ use Rattle.std.specs.Hash as fed
 use Rattle.amqp_model.specs.Term.{Term, Terms, leaf, container, described, kept, barred, none, more}
 use Rattle.amqp_values.specs.declared.value.Value.{Value}
 use Rattle.amqp_values.specs.Values.{value_term}
-use Rattle.amqp_values.specs.Equality.{value_eq, values_decide}
+use Rattle.amqp_values.specs.Equality.{value_eq}
+use Rattle.amqp_values.specs.EqualityLaws.{values_decide}
 use Rattle.amqp_values.specs.Labels.{label_of, label_fed}
 
 -- A term's label, and then the terms that it holds: those of a container one after another, and then a byte that is the place of no kind.

@@ -18,7 +18,8 @@ use Rattle.amqp_kinds.specs.declared.kind.Kind.{Kind}
 use Rattle.amqp_kinds.specs.declared.kind.Kind.TheVariants as kind
 use Rattle.amqp_kinds.specs.KindReading.{kind_faults}
 use Rattle.amqp_values.specs.declared.value.Value.{Value}
-use Rattle.amqp_values.specs.Values.{value_term, values_are_trees}
+use Rattle.amqp_values.specs.Values.{value_term}
+use Rattle.amqp_values.specs.ValuesLaws.{values_are_trees}
 use Rattle.amqp_values.specs.ValueMembers.{ValueMeans}
 
 -- The type of values, with why none is read.

@@ -20,8 +20,10 @@ use Rattle.amqp_codec.specs.EqualKeys.{primitives_decide}
 use Rattle.amqp_codec.specs.PrimitiveTypes.{truth as truth_of, number as number_of, integer as integer_of, content}
 use Rattle.amqp_codec.specs.TreeLaws.{IsTree, AreTrees}
 use Rattle.amqp_values.specs.declared.value.Value.{Value}
-use Rattle.amqp_values.specs.Values.{value_term, values_are_trees}
-use Rattle.amqp_values.specs.Equality.{value_eq, values_decide}
+use Rattle.amqp_values.specs.Values.{value_term}
+use Rattle.amqp_values.specs.ValuesLaws.{values_are_trees}
+use Rattle.amqp_values.specs.Equality.{value_eq}
+use Rattle.amqp_values.specs.EqualityLaws.{values_decide}
 use Rattle.amqp_values.specs.Labels.{Label, primitive_label, bare, descriptor_label, container_place, label_cmp}
 use Rattle.amqp_values.specs.Order.{Tree, Trees, node, no_tree, one_more, tree_of, trees_of, tree_cmp, trees_cmp, value_cmp}
 

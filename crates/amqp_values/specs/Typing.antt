@@ -8,7 +8,8 @@ use Rattle.amqp_containers.specs.declared.array.Array.{Array}
 use Rattle.amqp_values.specs.declared.map.ValueMap.{ValueMap}
 use Rattle.amqp_values.specs.declared.value.Value.{Value, List as ListOf, Map as MapOf, Array as ArrayOf}
 use Rattle.amqp_values.specs.Equality.{turn_terms}
-use Rattle.amqp_values.specs.Values.{value_term, pairs_of, list_is, array_is, map_is}
+use Rattle.amqp_values.specs.Values.{value_term, pairs_of}
+use Rattle.amqp_values.specs.ValuesLaws.{list_is, array_is, map_is}
 
 -- Everything in the value is of its type.
 abbrev pub IsTyped : Value → Type 0

@@ -7,7 +7,8 @@ use Rattle.amqp_codec.specs.TermType.{TermType}
 use Rattle.amqp_codec.specs.Wrappers.{via}
 use Rattle.amqp_values.specs.declared.map.ValueMap.{ValueMap}
 use Rattle.amqp_values.specs.declared.value.Value.{Map as MapOf}
-use Rattle.amqp_values.specs.Canon.{value_writing, map_not_null}
+use Rattle.amqp_values.specs.ValueWriting.{value_writing}
+use Rattle.amqp_values.specs.CanonLaws.{map_not_null}
 use Rattle.amqp_values.specs.ValueType.{value_type}
 
 -- A map is as its value of any kind, and its faults are those of a map of values.

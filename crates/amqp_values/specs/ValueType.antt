@@ -4,7 +4,7 @@ use Rattle.amqp_codec.specs.Agreement.{Agreement}
 use Rattle.amqp_codec.specs.TermType.{TermType}
 use Rattle.amqp_kinds.specs.KindReading.{level_faults}
 use Rattle.amqp_values.specs.declared.value.Value.{Value}
-use Rattle.amqp_values.specs.Canon.{value_writing}
+use Rattle.amqp_values.specs.ValueWriting.{value_writing}
 use Rattle.amqp_values.specs.Levels.{value_with, faults_at}
 
 abbrev pub value_type : TermType Value

@@ -4,7 +4,8 @@ ghost use Rattle.std.specs.List.{fold};
 ghost use Rattle.amqp_model.specs.Items.{terms_of};
 ghost use Rattle.amqp_codec.specs.KeyLaws.{key_of};
 ghost use Rattle.amqp_values.specs.Values.{value_term};
-ghost use Rattle.amqp_values.specs.Equality.{turn_terms, values_decide};
+ghost use Rattle.amqp_values.specs.Equality.{turn_terms};
+ghost use Rattle.amqp_values.specs.EqualityLaws.{values_decide};
 ghost use Rattle.amqp_values.specs.Hashed.{fed_term, fed_terms, value_fed, values_alike};
 
 use crate::Value;

@@ -5,7 +5,8 @@ ghost use Rattle.amqp_encoder.specs.Passes.{answer_of};
 ghost use Rattle.amqp_codec.specs.Agreement.{via_writing};
 ghost use Rattle.amqp_codec.specs.Written.{WritesTerms};
 ghost use Rattle.amqp_values.specs.declared.value.Value.{Map as MapOf};
-ghost use Rattle.amqp_values.specs.Canon.{value_canons, pair_canon, value_writing};
+ghost use Rattle.amqp_values.specs.Canon.{value_canons, pair_canon};
+ghost use Rattle.amqp_values.specs.ValueWriting.{value_writing};
 
 use crate::keys::has_equal_keys;
 use crate::typing::{map_typed, value_typed};

@@ -3,7 +3,7 @@ use Rattle.std.proofs.lemmas.Result.{err_from_is_err_and}
 use Rattle.amqp_model.specs.Composite.{MeansComposite}
 use Rattle.amqp_codec.specs.Composite.{table_of, composite_members}
 use Rattle.amqp_codec.specs.CompositeLaws.{composite_is_sum}
-use Rattle.amqp_codec.specs.Members.{unopened, unread, unended, read_whole}
+use Rattle.amqp_codec.specs.MembersLaws.{unopened, unread, unended, read_whole}
 use Rattle.amqp_codec.proofs.composite.read_composite.Goals as goal
 
 pub returns-in_err-begin_one_of : goal.returns-in_err-begin_one_of

@@ -4,7 +4,7 @@ use Rattle.std.proofs.lemmas.Result.{err_from_is_err_and}
 use Rattle.amqp_decoder.specs.Reading.{PeeksCode, BeginFault}
 use Rattle.amqp_codec.specs.RefusalLaws.{no_memory, refused_first}
 use Rattle.amqp_codec.specs.PeekLaws.{value_peeked}
-use Rattle.amqp_codec.specs.EitherType.{no_value}
+use Rattle.amqp_codec.specs.EitherMeaning.{no_value}
 use Rattle.amqp_containers.proofs.MultipleReads.{array_refused, items_read, no_items_read, item_refused, item_read}
 use Rattle.amqp_containers.proofs.multiple.read_several.Goals as goal
 

@@ -1,6 +1,6 @@
 use Rattle.std.proofs.lemmas.Result.{err_from_is_err_and}
 use Rattle.amqp_enums.specs.Choices.{members_of, sum_of}
-use Rattle.amqp_codec.specs.Members.{unopened, unread, unended, read_whole, within}
+use Rattle.amqp_codec.specs.MembersLaws.{unopened, unread, unended, read_whole, within}
 use Rattle.amqp_enums.proofs.SumMembers.{are_members}
 use Rattle.amqp_enums.proofs.sums.read_sum.Goals as goal
 

@@ -2,7 +2,8 @@ use Rattle.std.proofs.Common.{map, ap, ◌∙◌}
 use Rattle.amqp_model.specs.Term.{list, code, container, described}
 use Rattle.amqp_model.specs.Items.{terms_of}
 use Rattle.amqp_lookahead.specs.Members.{descriptor_of}
-use Rattle.amqp_values.specs.Values.{value_term, list_is}
+use Rattle.amqp_values.specs.Values.{value_term}
+use Rattle.amqp_values.specs.ValuesLaws.{list_is}
 use Rattle.amqp_termini.proofs.lifetime_values.empty_list.Goals as goal
 
 pub returns-clause-value : goal.returns-clause-value

@@ -15,13 +15,13 @@ use Rattle.amqp_described.specs.declared.described.Described.{Described}
 use Rattle.amqp_described.proofs.DescribedReads as reads
 use Rattle.amqp_kinds.specs.declared.kind.Kind.TheVariants as kind
 use Rattle.amqp_values.specs.declared.value.Value.{Value}
-use Rattle.amqp_values.specs.Values.{value_term, list_is, array_is, map_is, described_is}
-use Rattle.amqp_values.specs.ValueMembers.{ValueMeans, IsOfItems, IsDescribed, IsOfPairs, described_member, list_member, array_member}
-use Rattle.amqp_values.specs.ValueMembers.{map_member}
-use Rattle.amqp_values.specs.ValueMembers.{null_member, bool_member, ubyte_member, ushort_member, uint_member, ulong_member, byte_member}
-use Rattle.amqp_values.specs.ValueMembers.{short_member, int_member, long_member, decimal32_member, decimal64_member, decimal128_member}
-use Rattle.amqp_values.specs.ValueMembers.{char_member}
-use Rattle.amqp_values.specs.ValueMembers.{timestamp_member, uuid_member, binary_member, string_member, symbol_member}
+use Rattle.amqp_values.specs.Values.{value_term}
+use Rattle.amqp_values.specs.ValuesLaws.{list_is, array_is, map_is, described_is}
+use Rattle.amqp_values.specs.ValueMembers.{ValueMeans, IsOfItems, IsDescribed, IsOfPairs}
+use Rattle.amqp_values.specs.ValueMembersLaws.{described_member, list_member, array_member, map_member, null_member, bool_member}
+use Rattle.amqp_values.specs.ValueMembersLaws.{ubyte_member, ushort_member, uint_member, ulong_member, byte_member, short_member}
+use Rattle.amqp_values.specs.ValueMembersLaws.{int_member, long_member, decimal32_member, decimal64_member, decimal128_member, char_member}
+use Rattle.amqp_values.specs.ValueMembersLaws.{timestamp_member, uuid_member, binary_member, string_member, symbol_member}
 use Rattle.amqp_values.specs.Levels.{value_with, value_in, faults_at}
 use Rattle.amqp_values.proofs.ValueSteps.{bounded_peeked, peek_refused, kind_answers, list_deeper, array_deeper, described_deeper}
 use Rattle.amqp_values.proofs.ValueSteps.{bounded_inside, some_left, bounded_behind, bounded_after, bounded_in_pairs, as_member}

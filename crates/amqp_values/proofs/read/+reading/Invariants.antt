@@ -5,7 +5,8 @@ use Rattle.amqp_codec.specs.ItemsReading.{ReadsEach}
 use Rattle.amqp_codec.specs.MapReading.{Pairs}
 use Rattle.amqp_codec.specs.Pairs.{HaveOtherKeys}
 use Rattle.amqp_codec.specs.TreeType.{SameTree}
-use Rattle.amqp_values.specs.Values.{value_term, values_are_trees}
+use Rattle.amqp_values.specs.Values.{value_term}
+use Rattle.amqp_values.specs.ValuesLaws.{values_are_trees}
 use Rattle.amqp_values.specs.ValueMembers.{ValueMeans}
 use Rattle.amqp_values.specs.Levels.{value_in, IsBounded}
 use Rattle.amqp_values.proofs.read.+reading.Given as goal

@@ -4,7 +4,7 @@ use Rattle.amqp_decoder.specs.Reading.{PeeksCode, BeginFault}
 use Rattle.amqp_decoder.proofs.Steps.{answered}
 use Rattle.amqp_codec.specs.RefusalLaws.{no_memory, refused_first}
 use Rattle.amqp_codec.specs.PeekLaws.{value_peeked}
-use Rattle.amqp_codec.specs.EitherType.{no_value}
+use Rattle.amqp_codec.specs.EitherMeaning.{no_value}
 use Rattle.amqp_simple_values.specs.Simple.{is_container}
 use Rattle.amqp_simple_values.proofs.SimpleReads.{container_refused, value_refused, value_read, other_read}
 use Rattle.amqp_simple_values.proofs.read.SimpleValueDeserializeTerm.read_value.Goals as goal
