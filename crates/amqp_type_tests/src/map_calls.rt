@@ -3,6 +3,7 @@ use amqp_maps::OrderedMap;
 use amqp_wire::{Error, Symbol};
 use std::alloc::Global;
 use std::cmp::Ordering;
+use std::hash::{DefaultHasher, Hash, Hasher};
 use std::test::Fail;
 
 fn made(pairs: &[(u32, u32)], alloc: Global) -> Result<OrderedMap<u32, u32>, Error> {
@@ -64,6 +65,35 @@ fn maps_compare_as_lists_of_pairs(rt: HostRuntime) -> Result<(), Fail> {
     }
     let copy = map.clone()?;
     assert!(rt; copy == map);
+    Ok(())
+}
+
+#[test]
+fn pairs_in_their_order(rt: HostRuntime) -> Result<(), Fail> {
+    let map = made(&[(7, 1), (3, 2)], rt.alloc())?;
+    let keys: Vec<u32> = (&map).into_iter().map(|(key, _)| *key).collect(rt.alloc())?;
+    assert_eq!(rt; keys.as_slice(), [7, 3].as_slice());
+    let values: Vec<u32> = map.values().copied().collect(rt.alloc())?;
+    assert_eq!(rt; values.as_slice(), [1, 2].as_slice());
+    assert_eq!(rt; map.iter().next_back(), Some((&3, &2)));
+    let pairs: Vec<(u32, u32)> = map.into_iter().collect(rt.alloc())?;
+    assert_eq!(rt; pairs.as_slice(), [(7, 1), (3, 2)].as_slice());
+    Ok(())
+}
+
+fn hash_of<T: Hash>(value: &T) -> u64 {
+    let mut hasher = DefaultHasher::new();
+    value.hash(&mut hasher);
+    hasher.finish()
+}
+
+#[test]
+fn equal_maps_have_equal_hashes(rt: HostRuntime) -> Result<(), Fail> {
+    let map = made(&[(7, 1), (3, 2)], rt.alloc())?;
+    let equal = made(&[(7, 1), (3, 2)], rt.alloc())?;
+    let turned = made(&[(3, 2), (7, 1)], rt.alloc())?;
+    assert!(rt; hash_of(&map) == hash_of(&equal));
+    assert!(rt; hash_of(&map) != hash_of(&turned));
     Ok(())
 }
 
