@@ -36,7 +36,10 @@ fn pairs_in_their_order(rt: HostRuntime) -> Result<(), Fail> {
     map.insert(Value::Uint(7), Value::Null)?;
     map.insert(Value::Uint(3), Value::Bool(true))?;
     let mut lent = (&map).into_iter();
-    assert_eq!(rt; lent.next_back(), Some((&Value::Uint(3), &Value::Bool(true))));
+    assert_eq!(rt;
+        lent.next_back(),
+        Some((&Value::Uint(3), &Value::Bool(true)))
+    );
     assert_eq!(rt; lent.next(), Some((&Value::Uint(7), &Value::Null)));
     assert_eq!(rt; lent.next(), None);
     let mut moved = map.into_iter();

@@ -37,7 +37,10 @@ fn made_of_bytes_and_texts(rt: HostRuntime) -> Result<(), Fail> {
     let text = Value::from(String::from_str(alloc, "t")?);
     assert_eq!(rt; text, Value::String(String::from_str(alloc, "t")?));
     let symbol = Value::from(Symbol(String::from_str(alloc, "s")?));
-    assert_eq!(rt; symbol, Value::Symbol(Symbol(String::from_str(alloc, "s")?)));
+    assert_eq!(rt;
+        symbol,
+        Value::Symbol(Symbol(String::from_str(alloc, "s")?))
+    );
     Ok(())
 }
 
@@ -66,13 +69,22 @@ fn bytes_and_texts_taken_out(rt: HostRuntime) -> Result<(), Fail> {
     assert_eq!(rt; Dec128::try_from(wide), Ok(Dec128([3; 16])));
     let time = Value::Timestamp(Timestamp(-1));
     assert_eq!(rt; Timestamp::try_from(time), Ok(Timestamp(-1)));
-    assert_eq!(rt; Uuid::try_from(Value::Uuid(Uuid([4; 16]))), Ok(Uuid([4; 16])));
+    assert_eq!(rt;
+        Uuid::try_from(Value::Uuid(Uuid([4; 16]))),
+        Ok(Uuid([4; 16]))
+    );
     let binary = Binary(Vec::from_array(alloc, [5])?);
-    assert_eq!(rt; Binary::try_from(Value::Binary(binary.clone()?)), Ok(binary));
+    assert_eq!(rt;
+        Binary::try_from(Value::Binary(binary.clone()?)),
+        Ok(binary)
+    );
     let text = String::from_str(alloc, "t")?;
     assert_eq!(rt; String::try_from(Value::String(text.clone()?)), Ok(text));
     let symbol = Symbol(String::from_str(alloc, "s")?);
-    assert_eq!(rt; Symbol::try_from(Value::Symbol(symbol.clone()?)), Ok(symbol));
+    assert_eq!(rt;
+        Symbol::try_from(Value::Symbol(symbol.clone()?)),
+        Ok(symbol)
+    );
     Ok(())
 }
 
@@ -99,8 +111,10 @@ fn what_holds_others_taken_out(rt: HostRuntime) -> Result<(), Fail> {
         descriptor: Descriptor::Code(5),
         value: Value::Uint(7),
     };
-    let boxed: Result<Box<Described<Value>>, Value> =
-        Value::Described(Box::new(alloc, described())?).try_into();
+    let boxed: Result<Box<Described<Value>>, Value> = Value::Described(Box::new(
+        alloc,
+        described(),
+    )?).try_into();
     assert_eq!(rt; boxed.map(Box::into_inner), Ok(described()));
     Ok(())
 }
