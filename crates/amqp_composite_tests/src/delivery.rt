@@ -50,6 +50,21 @@ fn fields_of_a_received(rt: HostRuntime) -> Result<(), Fail> {
     )
 }
 
+// By the section first, then by the offset.
+#[test]
+fn order_of_received(rt: HostRuntime) {
+    let later = Received {
+        section_number: 300,
+        section_offset: 4294967298,
+    };
+    assert!(rt; full_received() < later);
+    let next_section = Received {
+        section_number: 301,
+        section_offset: 0,
+    };
+    assert!(rt; later < next_section);
+}
+
 #[test]
 fn accepted_has_no_fields(rt: HostRuntime) -> Result<(), Fail> {
     check(&Accepted {}, "00532445", rt.alloc())

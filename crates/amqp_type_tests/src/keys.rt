@@ -1,5 +1,7 @@
 //! Values of the primitive and of the restricted types as keys of maps: equal ones have equal hashes.
-use amqp_codec::MapKey;
+use amqp_codec::{Descriptor, MapKey};
+use amqp_containers::{Array, TransparentVec};
+use amqp_described::Described;
 use amqp_maps::OrderedMap;
 use amqp_primitives::{Binary, Dec32, Dec64, Dec128, Timestamp, Uuid};
 use amqp_restricted_types::{
@@ -7,7 +9,14 @@ use amqp_restricted_types::{
     TerminusExpiryPolicy, TxnCapability,
 };
 use std::alloc::Global;
+use std::hash::{DefaultHasher, Hash, Hasher};
 use std::test::Fail;
+
+pub(crate) fn hash_of<T: Hash>(value: &T) -> u64 {
+    let mut hasher = DefaultHasher::new();
+    value.hash(&mut hasher);
+    hasher.finish()
+}
 
 // In a map from the key to 1, what is equal to the key is found, and what isn't is no key.
 fn check_key<K: MapKey>(key: K, equal: &K, other: &K, alloc: Global) -> Result<(), Fail> {
@@ -88,4 +97,29 @@ fn restricted_texts(rt: HostRuntime) -> Result<(), Fail> {
     let other = TxnCapability::MultiTxnsPerSsn;
     let equal = TxnCapability::LocalTransactions;
     check_key(TxnCapability::LocalTransactions, &equal, &other, alloc)
+}
+
+fn described(value: u32) -> Described<u32> {
+    Described {
+        descriptor: Descriptor::Code(5),
+        value,
+    }
+}
+
+#[test]
+fn equal_containers_have_equal_hashes(rt: HostRuntime) -> Result<(), Fail> {
+    let alloc = rt.alloc();
+    let array = Array::from(Vec::from_array(alloc, [1, 2])?);
+    let copy = array.clone()?;
+    assert!(rt; hash_of(&array) == hash_of(&copy));
+    let turned = Array::from(Vec::from_array(alloc, [2, 1])?);
+    assert!(rt; hash_of(&array) != hash_of(&turned));
+    let values = TransparentVec::from(Vec::from_array(alloc, [1, 2])?);
+    let copy = values.clone()?;
+    assert!(rt; hash_of(&values) == hash_of(&copy));
+    let turned = TransparentVec::from(Vec::from_array(alloc, [2, 1])?);
+    assert!(rt; hash_of(&values) != hash_of(&turned));
+    assert!(rt; hash_of(&described(7)) == hash_of(&described(7)));
+    assert!(rt; hash_of(&described(7)) != hash_of(&described(8)));
+    Ok(())
 }

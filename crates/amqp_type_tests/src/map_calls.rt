@@ -1,9 +1,9 @@
 //! The calls of a map, and what no contract says of it: that a refused growth changes nothing in fact.
+use crate::keys::hash_of;
 use amqp_maps::OrderedMap;
 use amqp_wire::{Error, Symbol};
 use std::alloc::Global;
 use std::cmp::Ordering;
-use std::hash::{DefaultHasher, Hash, Hasher};
 use std::test::Fail;
 
 fn made(pairs: &[(u32, u32)], alloc: Global) -> Result<OrderedMap<u32, u32>, Error> {
@@ -79,12 +79,6 @@ fn pairs_in_their_order(rt: HostRuntime) -> Result<(), Fail> {
     let pairs: Vec<(u32, u32)> = map.into_iter().collect(rt.alloc())?;
     assert_eq!(rt; pairs.as_slice(), [(7, 1), (3, 2)].as_slice());
     Ok(())
-}
-
-fn hash_of<T: Hash>(value: &T) -> u64 {
-    let mut hasher = DefaultHasher::new();
-    value.hash(&mut hasher);
-    hasher.finish()
 }
 
 #[test]
