@@ -71,11 +71,14 @@ fn maps_compare_as_lists_of_pairs(rt: HostRuntime) -> Result<(), Fail> {
 #[test]
 fn pairs_in_their_order(rt: HostRuntime) -> Result<(), Fail> {
     let map = made(&[(7, 1), (3, 2)], rt.alloc())?;
-    let keys: Vec<u32> = (&map).into_iter().map(|(key, _)| *key).collect(rt.alloc())?;
-    assert_eq!(rt; keys.as_slice(), [7, 3].as_slice());
-    let values: Vec<u32> = map.values().copied().collect(rt.alloc())?;
-    assert_eq!(rt; values.as_slice(), [1, 2].as_slice());
-    assert_eq!(rt; map.iter().next_back(), Some((&3, &2)));
+    let mut lent = (&map).into_iter();
+    assert_eq!(rt; lent.next_back(), Some((&3, &2)));
+    assert_eq!(rt; lent.next(), Some((&7, &1)));
+    assert_eq!(rt; lent.next(), None);
+    let mut values = map.values();
+    assert_eq!(rt; values.next(), Some(&1));
+    assert_eq!(rt; values.next(), Some(&2));
+    assert_eq!(rt; values.next(), None);
     let pairs: Vec<(u32, u32)> = map.into_iter().collect(rt.alloc())?;
     assert_eq!(rt; pairs.as_slice(), [(7, 1), (3, 2)].as_slice());
     Ok(())

@@ -111,11 +111,11 @@ fn what_holds_others_taken_out(rt: HostRuntime) -> Result<(), Fail> {
         descriptor: Descriptor::Code(5),
         value: Value::Uint(7),
     };
-    let boxed: Result<Box<Described<Value>>, Value> = Value::Described(Box::new(
-        alloc,
-        described(),
-    )?).try_into();
-    assert_eq!(rt; boxed.map(Box::into_inner), Ok(described()));
+    let boxed = Value::Described(Box::new(alloc, described())?);
+    let Ok(taken) = Box::<Described<Value>>::try_from(boxed) else {
+        return Err(Fail::new(format_args!("a described value is given back")));
+    };
+    assert_eq!(rt; Box::into_inner(taken), described());
     Ok(())
 }
 
@@ -129,7 +129,7 @@ fn other_kinds_are_given_back(rt: HostRuntime) -> Result<(), Fail> {
     assert_eq!(rt; given, Err(Value::String(text()?)));
     let given = ValueMap::try_from(Value::List(one_item(alloc)?));
     assert_eq!(rt; given, Err(Value::List(one_item(alloc)?)));
-    let given: Result<Vec<Value>, Value> = Value::Array(Array(one_item(alloc)?)).try_into();
+    let given = Vec::try_from(Value::Array(Array(one_item(alloc)?)));
     assert_eq!(rt; given, Err(Value::Array(Array(one_item(alloc)?))));
     Ok(())
 }
