@@ -21,4 +21,6 @@ mod primitives_written;
 #[cfg(test)]
 mod restricted;
 #[cfg(test)]
+mod states;
+#[cfg(test)]
 mod written;
