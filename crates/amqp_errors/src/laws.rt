@@ -47,6 +47,6 @@ pub fn texts_are_least()
     ensures session_error { ⟦<SessionError as Canonical>⟧.is_least ≡ true }
     ensures link_error { ⟦<LinkError as Canonical>⟧.is_least ≡ true }
     ensures transaction_error { ⟦<TransactionError as Canonical>⟧.is_least ≡ true }
-    ensures condition { ⟦<ErrorCondition as Canonical>⟧.is_least ≡ true }
+    ensures error_condition { ⟦<ErrorCondition as Canonical>⟧.is_least ≡ true }
     ensures error { ⟦<Error as Canonical>⟧.is_least ≡ true }
 {}
