@@ -17,7 +17,7 @@ pub fn copies_are_equal<T: Clone>()
 {}
 
 /// An array is least exactly where its items are; but of a text in which an array stands that says nothing. A field of several values
-/// is always least: what it holds stands in an array, but for none and for one.
+/// is always least: it is null where it holds none, and else what it holds stands in an array.
 pub fn texts_are_least<T: DeserializeTerm>()
     ensures array { ⟦<Array<T> as Canonical>⟧.is_least ≡ T.term.is_least }
     ensures multiple { (n : T.term.is_never_null ≡ true) (s : T.term.ignores_standing ≡ true) (l : AreLeaves T.term)
