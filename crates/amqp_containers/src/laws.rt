@@ -30,6 +30,6 @@ pub fn texts_are_least<T: DeserializeTerm>()
 /// that begins with it.
 pub fn orders<T: Ord>()
     ensures array { (a b : Array T) → ⟦<Array<T> as Ord>⟧.cmp a b ≡ slice_cmp T.cmp a.0.items b.0.items }
-    ensures transparent_vec { (a b : _) (v w : _) → ⟦<TransparentVec<T> as Deref>⟧.deref_gives a v → ⟦<TransparentVec<T> as Deref>⟧.deref_gives b w
-        → ⟦<TransparentVec<T> as Ord>⟧.cmp a b ≡ slice_cmp T.cmp v.items w.items }
+    ensures transparent_vec { (a b : _) (v w : _) → ⟦<TransparentVec<T> as Deref>⟧.deref_gives a v
+        → ⟦<TransparentVec<T> as Deref>⟧.deref_gives b w → ⟦<TransparentVec<T> as Ord>⟧.cmp a b ≡ slice_cmp T.cmp v.items w.items }
 {}
