@@ -27,4 +27,6 @@ mod primitives_written;
 #[cfg(test)]
 mod restricted;
 #[cfg(test)]
+mod states;
+#[cfg(test)]
 mod written;
