@@ -1,12 +1,35 @@
 //! What holds of arrays beyond the laws of every type. The functions do nothing; their contracts are proved.
-ghost use Rattle.std.specs.Prelude.{◌≡◌};
+ghost use Rattle.std.specs.Prelude.{◌≡◌, true};
+ghost use Rattle.std.specs.Cmp.Lexicographic.{slice_cmp};
 ghost use Rattle.amqp_containers.specs.declared.array.Array.{Array};
+ghost use Rattle.amqp_containers.specs.MultipleFields.{multiple, mandatory_multiple};
+ghost use Rattle.amqp_containers.specs.Several.{AreLeaves};
 
-use crate::Array;
+use crate::{Array, TransparentVec};
+use amqp_codec::{Canonical, DeserializeTerm};
+use std::ops::Deref;
 
 /// Where copies of items are equal to them, a copy of an array has the items of the array.
 #[tactic(auto, using(std::proofs::lemmas::List::Elements::same_from_all_zip))]
 pub fn copies_are_equal<T: Clone>()
     ensures { ((x y : T) → T.is_clone x y → y ≡ x) → (array copy : Array T) → ⟦<Array<T> as Clone>⟧.is_clone array copy
         → copy.0.items ≡ array.0.items }
+{}
+
+/// An array is least exactly where its items are; but of a text in which an array stands that says nothing. A field of several values
+/// is always least: it is null where it holds none, and else what it holds stands in an array.
+pub fn texts_are_least<T: DeserializeTerm>()
+    ensures array { ⟦<Array<T> as Canonical>⟧.is_least ≡ T.term.is_least }
+    ensures multiple { (n : T.term.is_never_null ≡ true) (s : T.term.ignores_standing ≡ true) (l : AreLeaves T.term)
+        → (multiple T.term n s l).laws.is_least ≡ true }
+    ensures mandatory_multiple { (n : T.term.is_never_null ≡ true) (s : T.term.ignores_standing ≡ true) (l : AreLeaves T.term)
+        → (mandatory_multiple T.term n s l).laws.is_least ≡ true }
+{}
+
+/// Arrays, and values that stand one after another, are ordered by the first values that differ, and a row stands before a longer one
+/// that begins with it.
+pub fn orders<T: Ord>()
+    ensures array { (a b : Array T) → ⟦<Array<T> as Ord>⟧.cmp a b ≡ slice_cmp T.cmp a.0.items b.0.items }
+    ensures transparent_vec { (a b : _) (v w : _) → ⟦<TransparentVec<T> as Deref>⟧.deref_gives a v
+        → ⟦<TransparentVec<T> as Deref>⟧.deref_gives b w → ⟦<TransparentVec<T> as Ord>⟧.cmp a b ≡ slice_cmp T.cmp v.items w.items }
 {}

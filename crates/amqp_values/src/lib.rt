@@ -7,6 +7,7 @@ mod format_code;
 mod hashed;
 mod into_value;
 mod keys;
+pub mod laws;
 pub mod leaf;
 mod made;
 mod map;

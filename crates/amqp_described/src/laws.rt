@@ -1,0 +1,29 @@
+//! What holds of described values beyond the laws of every type. The functions do nothing; their contracts are proved.
+ghost use Rattle.std.specs.Prelude.{◌≡◌};
+ghost use Rattle.std.specs.Ordering.{nat_cmp, ordering_then};
+ghost use Rattle.std.specs.declared.cmp.Ordering.TheVariants.{Less, Greater};
+ghost use Rattle.amqp_wire.specs.declared.descriptor.Descriptor.TheVariants as descriptor;
+ghost use Rattle.amqp_described.specs.declared.described.Described.{Described};
+
+use crate::Described;
+use amqp_codec::{Canonical, DeserializeTerm};
+use amqp_wire::{Descriptor, Symbol};
+
+/// A described value is least exactly where the value behind the descriptor is.
+pub fn texts_are_least<T: DeserializeTerm>()
+    ensures described { ⟦<Described<T> as Canonical>⟧.is_least ≡ T.term.is_least }
+{}
+
+/// Descriptors are ordered with the names first, as symbols, and then the codes.
+pub fn descriptors_are_ordered()
+    ensures names { (s t : _) → ⟦<Descriptor as Ord>⟧.cmp (descriptor.Name s) (descriptor.Name t) ≡ ⟦<Symbol as Ord>⟧.cmp s t }
+    ensures name_first { (s : _) (n : _) → ⟦<Descriptor as Ord>⟧.cmp (descriptor.Name s) (descriptor.Code n) ≡ Less }
+    ensures code_last { (n : _) (s : _) → ⟦<Descriptor as Ord>⟧.cmp (descriptor.Code n) (descriptor.Name s) ≡ Greater }
+    ensures codes { (n m : _) → ⟦<Descriptor as Ord>⟧.cmp (descriptor.Code n) (descriptor.Code m) ≡ nat_cmp n m }
+{}
+
+/// Described values are ordered by their descriptors, and then by what stands behind them.
+pub fn orders<T: Ord>()
+    ensures described { (a b : Described T) → ⟦<Described<T> as Ord>⟧.cmp a b
+        ≡ ordering_then (⟦<Descriptor as Ord>⟧.cmp a.descriptor b.descriptor) (T.cmp a.value b.value) }
+{}
