@@ -2,5 +2,6 @@
 #![tactic(auto)]
 
 mod described;
+pub mod laws;
 
 pub use described::Described;

@@ -2,6 +2,7 @@
 #![tactic(auto)]
 
 mod compared;
+pub mod laws;
 mod ordered_map;
 mod read;
 mod written;
