@@ -4,12 +4,6 @@ use Rattle.amqp_model.specs.FieldType.{unchanged}
 use Rattle.amqp_codec.specs.Fields.{none}
 use Rattle.amqp_codec.specs.Composite.{Table}
 
--- What describes it.
-pub record Names : Type 0 where
-  pub code : ℕ
-  pub name : List ℕ
-  -- the code takes two bytes at most
-  pub is_small : ltb code 256 ≡ true
-
-abbrev pub fieldless : {V : Type 0} → Names → Table V
-fieldless n = record { code = n.code; name = n.name; fields = none; norm = unchanged; norm_is = λ v. tt; is_small = n.is_small }
+-- by its code, which takes two bytes at most, and its name
+abbrev pub fieldless : {V : Type 0} (code : ℕ) → List ℕ → ltb code 256 ≡ true → Table V
+fieldless code name small = record { code = code; name = name; fields = none; norm = unchanged; norm_is = λ v. tt; is_small = small }

@@ -1,6 +1,4 @@
 //! Composites without fields (Part 1, section 1.4).
-ghost use Rattle.amqp_codec.specs.Fieldless.{fieldless};
-
 use crate::composite::{Composite, Table};
 use crate::fields::FieldRule;
 use amqp_decoder::Decoder;
@@ -10,14 +8,18 @@ use std::alloc::Global;
 
 /// A composite type that has no fields: its descriptor, and its value.
 pub trait Fieldless: Sized + Drop {
-    ghost use Rattle.amqp_codec.specs.Fieldless.{Names};
+    ghost use Rattle.std.specs.Prelude.{◌≡◌};
+    ghost use Rattle.amqp_codec.specs.Composite.{Table};
+    ghost use Rattle.amqp_codec.specs.Fields.{none};
 
-    ghost names: { Names };
+    ghost table: { Table Self };
+
+    ghost no_fields: { table.fields ≡ none };
 
     /// The code and the name of its descriptor.
     fn descriptor() -> (u64, &'static str)
-        ensures code { result.0 ≡ names.code }
-        ensures name { result.1.now ≡ names.name };
+        ensures code { result.0 ≡ table.code }
+        ensures name { result.1.now ≡ table.name };
 
     /// The value.
     fn value() -> Self;
@@ -25,7 +27,7 @@ pub trait Fieldless: Sized + Drop {
 
 // No field is read or written.
 impl<F: Fieldless> Composite for F {
-    ghost table = { fieldless F.names };
+    ghost table = { F.table };
 
     fn table() -> Table {
         let fields: &'static [FieldRule] = &[];

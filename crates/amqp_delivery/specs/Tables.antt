@@ -2,7 +2,7 @@
 use Rattle.std.specs.Prelude.{option_map}
 use Rattle.amqp_model.specs.FieldType.{normal}
 use Rattle.amqp_enums.specs.Types.{inl, inr, codes, refl, unchanged, by_norm, TermType, boolean_type, uint_type, ulong_type, mandatory, optional}
-use Rattle.amqp_enums.specs.Types.{composite, none, field, Table, Names, fieldless, Choices, no_more, member, Chosen, SumOf, sum_of}
+use Rattle.amqp_enums.specs.Types.{composite, none, field, Table, fieldless, Choices, no_more, member, Chosen, SumOf, sum_of}
 use Rattle.amqp_primitives.specs.Types.{binary_type}
 use Rattle.amqp_fields.specs.FieldsType.{fields_type}
 use Rattle.amqp_errors.specs.Tables.{error, norm_error}
@@ -21,11 +21,8 @@ use Rattle.amqp_delivery.specs.declared.outcome.Outcome.{Outcome}
 use Rattle.amqp_delivery.specs.declared.outcome.Outcome.TheVariants as outcome_of
 
 -- Part 3, section 3.4.2
-abbrev pub accepted_names : Names
-accepted_names = record { code = 0x24; name = codes "amqp:accepted:list"; is_small = refl }
-
 abbrev pub accepted : Table Accepted
-accepted = fieldless accepted_names
+accepted = fieldless 0x24 (codes "amqp:accepted:list") refl
 
 -- Part 3, section 3.4.1
 abbrev pub received : Table Received
@@ -54,11 +51,8 @@ rejected = record {
 }
 
 -- Part 3, section 3.4.4
-abbrev pub released_names : Names
-released_names = record { code = 0x26; name = codes "amqp:released:list"; is_small = refl }
-
 abbrev pub released : Table Released
-released = fieldless released_names
+released = fieldless 0x26 (codes "amqp:released:list") refl
 
 -- Part 3, section 3.4.5
 abbrev pub modified : Table Modified

@@ -1,6 +1,6 @@
 //! The accepted outcome (Part 3, section 3.4.2).
 ghost use Rattle.amqp_enums.specs.Types.{composite, one_term, refl, agreement, writing_of};
-ghost use Rattle.amqp_delivery.specs.Tables.{accepted, accepted_names};
+ghost use Rattle.amqp_delivery.specs.Tables.{accepted};
 
 use amqp_codec::kernel::{CompositeTerm, Fieldless, write_composite};
 use amqp_codec::{Encoder, Error, Serialize, SerializeTerm};
@@ -15,7 +15,9 @@ impl Accepted {
 }
 
 impl Fieldless for Accepted {
-    ghost names = { accepted_names };
+    ghost table = { accepted };
+
+    ghost no_fields = { refl };
 
     fn descriptor() -> (u64, &'static str) {
         Accepted::DESCRIPTOR

@@ -1,6 +1,6 @@
 //! The released outcome (Part 3, section 3.4.4).
 ghost use Rattle.amqp_enums.specs.Types.{composite, one_term, refl, agreement, writing_of};
-ghost use Rattle.amqp_delivery.specs.Tables.{released, released_names};
+ghost use Rattle.amqp_delivery.specs.Tables.{released};
 
 use amqp_codec::kernel::{CompositeTerm, Fieldless, write_composite};
 use amqp_codec::{Encoder, Error, Serialize, SerializeTerm};
@@ -15,7 +15,9 @@ impl Released {
 }
 
 impl Fieldless for Released {
-    ghost names = { released_names };
+    ghost table = { released };
+
+    ghost no_fields = { refl };
 
     fn descriptor() -> (u64, &'static str) {
         Released::DESCRIPTOR

@@ -2,7 +2,7 @@
 use Rattle.std.specs.Prelude.{Bool, true, false, None, option_map}
 use Rattle.amqp_model.specs.FieldType.{normal}
 use Rattle.amqp_enums.specs.Types.{inl, inr, codes, refl, unchanged, by_norm, TermType, boolean_type, uint_type, string_type, symbol_type}
-use Rattle.amqp_enums.specs.Types.{optional, default, none, field, Table, Names, fieldless}
+use Rattle.amqp_enums.specs.Types.{optional, default, none, field, Table, fieldless}
 use Rattle.amqp_enums.specs.Types.{Choices, no_more, member, Chosen, SumOf, sum_of}
 use Rattle.amqp_containers.specs.MultipleFields.{multiple, normal_multiple}
 use Rattle.amqp_restricted_types.specs.Defaults.{false_by_default}
@@ -86,32 +86,20 @@ coordinator = record {
 }
 
 -- Part 3, section 3.5.10
-abbrev pub delete_on_close_names : Names
-delete_on_close_names = record { code = 0x2b; name = codes "amqp:delete-on-close:list"; is_small = refl }
-
 abbrev pub delete_on_close : Table DeleteOnClose
-delete_on_close = fieldless delete_on_close_names
+delete_on_close = fieldless 0x2b (codes "amqp:delete-on-close:list") refl
 
 -- Part 3, section 3.5.11
-abbrev pub delete_on_no_links_names : Names
-delete_on_no_links_names = record { code = 0x2c; name = codes "amqp:delete-on-no-links:list"; is_small = refl }
-
 abbrev pub delete_on_no_links : Table DeleteOnNoLinks
-delete_on_no_links = fieldless delete_on_no_links_names
+delete_on_no_links = fieldless 0x2c (codes "amqp:delete-on-no-links:list") refl
 
 -- Part 3, section 3.5.12
-abbrev pub delete_on_no_messages_names : Names
-delete_on_no_messages_names = record { code = 0x2d; name = codes "amqp:delete-on-no-messages:list"; is_small = refl }
-
 abbrev pub delete_on_no_messages : Table DeleteOnNoMessages
-delete_on_no_messages = fieldless delete_on_no_messages_names
+delete_on_no_messages = fieldless 0x2d (codes "amqp:delete-on-no-messages:list") refl
 
 -- Part 3, section 3.5.13
-abbrev pub delete_on_no_links_or_messages_names : Names
-delete_on_no_links_or_messages_names = record { code = 0x2e; name = codes "amqp:delete-on-no-links-or-messages:list"; is_small = refl }
-
 abbrev pub delete_on_no_links_or_messages : Table DeleteOnNoLinksOrMessages
-delete_on_no_links_or_messages = fieldless delete_on_no_links_or_messages_names
+delete_on_no_links_or_messages = fieldless 0x2e (codes "amqp:delete-on-no-links-or-messages:list") refl
 
 -- The lifetimes in their order, and the one that a value is.
 abbrev pub lifetimes : Choices LifetimePolicy

@@ -1,6 +1,6 @@
 //! Lifetime of a node: delete on close (Part 3, section 3.5.10).
 ghost use Rattle.amqp_enums.specs.Types.{composite, one_term, refl, agreement, writing_of};
-ghost use Rattle.amqp_termini.specs.Tables.{delete_on_close, delete_on_close_names};
+ghost use Rattle.amqp_termini.specs.Tables.{delete_on_close};
 
 use amqp_codec::kernel::{CompositeTerm, Fieldless, write_composite};
 use amqp_codec::{Encoder, Error, Serialize, SerializeTerm};
@@ -20,7 +20,9 @@ impl DeleteOnClose {
 }
 
 impl Fieldless for DeleteOnClose {
-    ghost names = { delete_on_close_names };
+    ghost table = { delete_on_close };
+
+    ghost no_fields = { refl };
 
     fn descriptor() -> (u64, &'static str) {
         DeleteOnClose::DESCRIPTOR

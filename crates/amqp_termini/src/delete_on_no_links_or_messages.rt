@@ -1,6 +1,6 @@
 //! Lifetime of a node: delete on no links or messages (Part 3, section 3.5.13).
 ghost use Rattle.amqp_enums.specs.Types.{composite, one_term, refl, agreement, writing_of};
-ghost use Rattle.amqp_termini.specs.Tables.{delete_on_no_links_or_messages, delete_on_no_links_or_messages_names};
+ghost use Rattle.amqp_termini.specs.Tables.{delete_on_no_links_or_messages};
 
 use amqp_codec::kernel::{CompositeTerm, Fieldless, write_composite};
 use amqp_codec::{Encoder, Error, Serialize, SerializeTerm};
@@ -20,7 +20,9 @@ impl DeleteOnNoLinksOrMessages {
 }
 
 impl Fieldless for DeleteOnNoLinksOrMessages {
-    ghost names = { delete_on_no_links_or_messages_names };
+    ghost table = { delete_on_no_links_or_messages };
+
+    ghost no_fields = { refl };
 
     fn descriptor() -> (u64, &'static str) {
         DeleteOnNoLinksOrMessages::DESCRIPTOR
