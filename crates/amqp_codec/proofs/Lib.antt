@@ -2,6 +2,7 @@ pub mod Joining
 pub mod Trimming
 pub mod PrimitiveReads
 pub mod Options
+pub mod NoFields
 pub mod FieldSteps
 mod HeldReads
 mod ListReads

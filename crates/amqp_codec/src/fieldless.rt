@@ -10,11 +10,11 @@ use std::alloc::Global;
 pub trait Fieldless: Sized + Drop {
     ghost use Rattle.std.specs.Prelude.{◌≡◌};
     ghost use Rattle.amqp_codec.specs.Composite.{Table};
-    ghost use Rattle.amqp_codec.specs.Fields.{none};
+    ghost use Rattle.amqp_codec.specs.Fieldless.{HasNoFields};
 
     ghost table: { Table Self };
 
-    ghost no_fields: { table.fields ≡ none };
+    ghost no_fields: { HasNoFields table.fields };
 
     /// The code and the name of its descriptor.
     fn descriptor() -> (u64, &'static str)
@@ -29,6 +29,7 @@ pub trait Fieldless: Sized + Drop {
 impl<F: Fieldless> Composite for F {
     ghost table = { F.table };
 
+    #[tactic(auto, using(crate::proofs::NoFields::no_rules))]
     fn table() -> Table {
         let fields: &'static [FieldRule] = &[];
         Table {
@@ -37,6 +38,7 @@ impl<F: Fieldless> Composite for F {
         }
     }
 
+    #[tactic(auto, using(crate::proofs::NoFields::blank))]
     fn blank(_alloc: Global) -> F {
         F::value()
     }

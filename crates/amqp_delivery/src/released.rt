@@ -1,5 +1,5 @@
 //! The released outcome (Part 3, section 3.4.4).
-ghost use Rattle.amqp_enums.specs.Types.{composite, one_term, refl, agreement, writing_of};
+ghost use Rattle.amqp_enums.specs.Types.{composite, has_none, one_term, refl, agreement, writing_of};
 ghost use Rattle.amqp_delivery.specs.Tables.{released};
 
 use amqp_codec::kernel::{CompositeTerm, Fieldless, write_composite};
@@ -17,7 +17,7 @@ impl Released {
 impl Fieldless for Released {
     ghost table = { released };
 
-    ghost no_fields = { refl };
+    ghost no_fields = { has_none _ };
 
     fn descriptor() -> (u64, &'static str) {
         Released::DESCRIPTOR

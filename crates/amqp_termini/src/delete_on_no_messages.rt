@@ -1,5 +1,5 @@
 //! Lifetime of a node: delete on no messages (Part 3, section 3.5.12).
-ghost use Rattle.amqp_enums.specs.Types.{composite, one_term, refl, agreement, writing_of};
+ghost use Rattle.amqp_enums.specs.Types.{composite, has_none, one_term, refl, agreement, writing_of};
 ghost use Rattle.amqp_termini.specs.Tables.{delete_on_no_messages};
 
 use amqp_codec::kernel::{CompositeTerm, Fieldless, write_composite};
@@ -22,7 +22,7 @@ impl DeleteOnNoMessages {
 impl Fieldless for DeleteOnNoMessages {
     ghost table = { delete_on_no_messages };
 
-    ghost no_fields = { refl };
+    ghost no_fields = { has_none _ };
 
     fn descriptor() -> (u64, &'static str) {
         DeleteOnNoMessages::DESCRIPTOR
