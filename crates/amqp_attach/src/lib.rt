@@ -2,6 +2,7 @@
 #![tactic(auto)]
 
 mod attach;
+pub mod laws;
 mod performative;
 mod unsettled;
 

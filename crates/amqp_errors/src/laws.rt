@@ -1,13 +1,17 @@
 //! What holds of error conditions beyond the laws of every type. The functions do nothing; their contracts are proved.
-ghost use Rattle.std.specs.Prelude.{◌≡◌, string_bytes};
+ghost use Rattle.std.specs.Prelude.{◌≡◌, true, string_bytes};
 ghost use Rattle.amqp_wire.specs.declared.symbol.Symbol.{Symbol};
 ghost use Rattle.amqp_errors.specs.Texts.{amqp_error_texts, connection_error_texts, session_error_texts};
 ghost use Rattle.amqp_errors.specs.Texts.{link_error_texts, transaction_error_texts};
 ghost use Rattle.amqp_errors.specs.Conditions.{IsUnlisted, norm_condition};
 ghost use Rattle.amqp_errors.specs.declared.error_condition.ErrorCondition.TheVariants as condition;
 
-/// A `Custom` of a listed text stands for the listed error, as which it is read back; a `Custom` of any other text for itself, and
-/// so does every other condition.
+use crate::{
+    AmqpError, ConnectionError, Error, ErrorCondition, LinkError, SessionError, TransactionError,
+};
+use amqp_codec::Canonical;
+
+/// A `Custom` of a listed text stands for the listed error, as which it is read back; a `Custom` of any other text for itself.
 pub fn normal_conditions()
     ensures amqp_errors { (s : Symbol) (e : _) → string_bytes s.0 ≡ amqp_error_texts e
         → norm_condition (condition.Custom s) ≡ condition.AmqpError e }
@@ -20,4 +24,29 @@ pub fn normal_conditions()
     ensures transaction_errors { (s : Symbol) (e : _) → string_bytes s.0 ≡ transaction_error_texts e
         → norm_condition (condition.Custom s) ≡ condition.TransactionError e }
     ensures others { (s : Symbol) → IsUnlisted (string_bytes s.0) → norm_condition (condition.Custom s) ≡ condition.Custom s }
+{}
+
+/// Every other condition stands for itself.
+pub fn listed_conditions_are_normal()
+    ensures amqp_errors { (e : _) → norm_condition (condition.AmqpError e) ≡ condition.AmqpError e }
+    ensures connection_errors { (e : _) → norm_condition (condition.ConnectionError e) ≡ condition.ConnectionError e }
+    ensures session_errors { (e : _) → norm_condition (condition.SessionError e) ≡ condition.SessionError e }
+    ensures link_errors { (e : _) → norm_condition (condition.LinkError e) ≡ condition.LinkError e }
+    ensures transaction_errors { (e : _) → norm_condition (condition.TransactionError e) ≡ condition.TransactionError e }
+{}
+
+/// The canonical text of a condition is read again as the condition that it stands for.
+pub fn conditions_are_read_again()
+    ensures again { (v : _) → ⟦<ErrorCondition as Canonical>⟧.again v ≡ norm_condition v }
+{}
+
+/// No spelling of a value of these is shorter than its canonical text, where no array stands in it.
+pub fn texts_are_least()
+    ensures amqp_error { ⟦<AmqpError as Canonical>⟧.is_least ≡ true }
+    ensures connection_error { ⟦<ConnectionError as Canonical>⟧.is_least ≡ true }
+    ensures session_error { ⟦<SessionError as Canonical>⟧.is_least ≡ true }
+    ensures link_error { ⟦<LinkError as Canonical>⟧.is_least ≡ true }
+    ensures transaction_error { ⟦<TransactionError as Canonical>⟧.is_least ≡ true }
+    ensures error_condition { ⟦<ErrorCondition as Canonical>⟧.is_least ≡ true }
+    ensures error { ⟦<Error as Canonical>⟧.is_least ≡ true }
 {}

@@ -8,6 +8,7 @@ mod detach;
 mod disposition;
 mod end;
 mod flow;
+pub mod laws;
 mod open;
 mod transfer;
 

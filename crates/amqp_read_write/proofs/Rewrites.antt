@@ -8,7 +8,7 @@ use Rattle.amqp_encoder.specs.Passes.{row_text}
 use Rattle.amqp_codec.specs.Reading.{Reading, BeginsWith, IsUnreadable}
 use Rattle.amqp_codec.specs.ReadingLaws.{read_one}
 use Rattle.amqp_codec.specs.Rewriting.{Rewriting}
-use Rattle.amqp_read_write.specs.Rewritten.{IsRewritten, IsReadAgain, AreReadAgain, IsOneText, IsOfNoOther, IsUnchanged, IsShortest, IsUnwritten}
+use Rattle.amqp_read_write.specs.Rewritten.{IsRewritten, IsReadAgain, AreReadAgain, IsOneText, IsOfNoOther, IsUnchanged, IsShortest, AreShortest, IsUnwritten}
 use Rattle.amqp_codec.specs.Written.{AreWritable, AreUnwritable}
 
 module _ {T : Type 0} {r : Reading T} {canons : T → List Term} {is_value : T → Type 0} {follows : List ℕ → Type 0} {again : T → T}
@@ -22,6 +22,9 @@ module _ {T : Type 0} {r : Reading T} {canons : T → List Term} {is_value : T �
 
   pub every_text : AreReadAgain r canons is_value follows again lasts
   every_text = record { read = laws.reads_again; text = laws.text_again }
+
+  pub all_shortest : is_least ≡ true → AreShortest r canons
+  all_shortest l v input n k bytes none = laws.least l input v n bytes none k
 
   module _ (input text : List ℕ) (n : ℕ) (h : IsRewritten r canons input text n) where
     canons_are : (v : T) → BeginsWith r input v n → canons h.value ≡ canons v

@@ -45,6 +45,11 @@ IsShortest {T} r canons input text n =
     (v w : T) (other : List ℕ) (m : ℕ) → BeginsWith r input v n → BeginsWith r other w m → r.same v w → IsBytes other
     → HoldNoArray (canons w) → length text ≤ m
 
+-- No spelling of a value is shorter than its canonical text, where no array stands in its canonical terms.
+abbrev pub AreShortest : {T : Type 0} → Reading T → (T → List Term) → Type 0
+AreShortest {T} r canons = (v : T) (input : List ℕ) (n : ℕ) → BeginsWith r input v n → IsBytes input → HoldNoArray (canons v)
+    → length (row_text (canons v)) ≤ n
+
 -- The canonical text of every value that can be written is read to its end, before whatever may follow, as what the text of
 -- that value is read as; and this has the same canonical text.
 pub record AreReadAgain {T : Type 0} (r : Reading T) (canons : T → List Term) (is_value : T → Type 0) (follows : List ℕ → Type 0)

@@ -4,7 +4,7 @@ ghost use Rattle.amqp_wire.specs.declared.error.Error.TheVariants.{Memory};
 ghost use Rattle.amqp_encoder.specs.declared.size.Size.{Size};
 ghost use Rattle.amqp_encoder.specs.Passes.{row_text, BeginsMeasuring, Finds};
 ghost use Rattle.amqp_codec.specs.Reading.{BeginsWith, IsUnreadable};
-ghost use Rattle.amqp_read_write.specs.Rewritten.{IsRewritten, IsReadAgain, AreReadAgain, IsOneText, IsOfNoOther, IsUnchanged, IsShortest};
+ghost use Rattle.amqp_read_write.specs.Rewritten.{IsRewritten, IsReadAgain, AreReadAgain, IsOneText, IsOfNoOther, IsUnchanged, IsShortest, AreShortest};
 ghost use Rattle.amqp_read_write.specs.Rewritten.{IsUnwritten};
 ghost use Rattle.amqp_codec.specs.Written.{AreMeasured, AreUnwritable, AreWritable};
 
@@ -18,7 +18,7 @@ use std::alloc::Global;
 /// memory, or names a fault of an input that begins with no value.
 pub fn from_slice<T: Deserialize>(input: &[u8], alloc: Global) -> Result<T, Error>
     ensures found { IfOk result (λ v. (n : ℕ) × BeginsWith T.reading input.now v n) }
-    ensures one { IfOk result (λ v. (w : _) (m : ℕ) → BeginsWith T.reading input.now w m → T.reading.same v w) }
+    ensures one { (v w : _) (n m : ℕ) → BeginsWith T.reading input.now v n → BeginsWith T.reading input.now w m → T.reading.same v w }
     ensures refused { IfErr result (λ e. ((T.reading.takes_memory ≡ true) × (e ≡ Memory)) ⊎ IsUnreadable T.reading input.now e) }
     ensures memory { IfErr result (λ e. e ≡ Memory → T.reading.takes_memory ≡ true) }
 {
@@ -26,11 +26,13 @@ pub fn from_slice<T: Deserialize>(input: &[u8], alloc: Global) -> Result<T, Erro
     Ok(value)
 }
 
-/// The value that the input begins with, and how many bytes it takes. It is refused as `from_slice` is.
+/// The value that the input begins with, and how many bytes it takes. It is refused as `from_slice` is. No input begins with two
+/// values, and no value that an input begins with has more values in it than it takes bytes.
 pub fn from_slice_counted<T: Deserialize>(input: &[u8], alloc: Global) -> Result<(T, usize), Error>
     ensures found { IfOk result (λ r. BeginsWith T.reading input.now r.0 r.1) }
-    ensures one { IfOk result (λ r. (w : _) (m : ℕ) → BeginsWith T.reading input.now w m → T.reading.same r.0 w × (r.1 ≡ m)) }
-    ensures bounded { IfOk result (λ r. T.reading.count r.0 ≤ r.1) }
+    ensures one { (v w : _) (n m : ℕ) → BeginsWith T.reading input.now v n → BeginsWith T.reading input.now w m
+        → T.reading.same v w × (n ≡ m) }
+    ensures bounded { (v : _) (n : ℕ) → BeginsWith T.reading input.now v n → T.reading.count v ≤ n }
     ensures refused { IfErr result (λ e. ((T.reading.takes_memory ≡ true) × (e ≡ Memory)) ⊎ IsUnreadable T.reading input.now e) }
     ensures memory { IfErr result (λ e. e ≡ Memory → T.reading.takes_memory ≡ true) }
 {
@@ -108,7 +110,8 @@ pub fn canonical_text<T: Canonical>(input: &[u8], alloc: Global) -> Result<(Vec<
     ensures no_other { IfOk result (λ r. IsOfNoOther T.reading T.writing.canons T.kept input.now r.0.items r.1) }
     ensures every_text { AreReadAgain T.reading T.writing.canons T.writing.is_value T.follows T.again T.lasts }
     ensures unchanged { IfOk result (λ r. IsUnchanged T.reading T.writing.canons r.0.items) }
-    ensures shortest { T.is_least ≡ true → IfOk result (λ r. IsShortest T.reading T.writing.canons input.now r.0.items r.1) }
+    ensures shortest { T.is_least ≡ true → AreShortest T.reading T.writing.canons }
+    ensures no_shorter { T.is_least ≡ true → IfOk result (λ r. IsShortest T.reading T.writing.canons input.now r.0.items r.1) }
     ensures refused { IfErr result (λ e.
         (e ≡ Memory) ⊎ (IsUnreadable T.reading input.now e ⊎ IsUnwritten T.reading T.writing.canons input.now e)) }
 {

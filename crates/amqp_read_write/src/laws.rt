@@ -1,5 +1,5 @@
 //! The laws of every type of terms, over the bytes that spell its values.
-ghost use Rattle.std.specs.Prelude.{◌≡◌, ◌≤◌, ℕ, Bool, true, false, List, ◌++◌, length};
+ghost use Rattle.std.specs.Prelude.{◌≡◌, ◌≤◌, ℕ, Bool, true, false, ◌&&◌, List, ◌++◌, length};
 ghost use Rattle.amqp_model.specs.Term.{Refusal, too_large};
 ghost use Rattle.amqp_model.specs.Ranges.{Everywhere, IsNoArray, IsBytes};
 ghost use Rattle.amqp_model.specs.Refusals.{Refuses};
@@ -17,7 +17,9 @@ ghost use Rattle.amqp_decoder.specs.Reading.{PeeksCode};
 ghost use Rattle.amqp_codec.specs.EitherMeaning.{EitherFault};
 ghost use Rattle.amqp_codec.specs.Reading.{BeginsWith};
 
-use amqp_codec::{Canonical, Deserialize, DeserializeTerm, MapKey};
+use amqp_codec::{Canonical, Deserialize, DeserializeTerm, MapKey, Symbol};
+use std::collections::BTreeMap;
+use std::rc::Rc;
 
 /// What is read from the front of an input is what that front spells, whatever stands behind it; and nothing behind it
 /// is looked at. So an error that says of bytes that they are no term is answered only of such (`IsUnreadable::unspelled`).
@@ -89,6 +91,32 @@ pub fn keys_are_compared_by_their_texts<K: MapKey>()
 pub fn canonical_text_is_least<T: DeserializeTerm>()
     ensures { T.term.is_least ≡ true → (b : List ℕ) (v : T) → IsBytes b → Everywhere IsNoArray (T.term.canon v) → IsSpelled T.term b v
         → length (written T.term v) ≤ length b }
+{}
+
+/// No spelling of a value of these is shorter than its canonical text: these types are least.
+pub fn texts_are_least()
+    ensures null { ⟦<() as Canonical>⟧.is_least ≡ true }
+    ensures boolean { ⟦<bool as Canonical>⟧.is_least ≡ true }
+    ensures ubyte { ⟦<u8 as Canonical>⟧.is_least ≡ true }
+    ensures ushort { ⟦<u16 as Canonical>⟧.is_least ≡ true }
+    ensures uint { ⟦<u32 as Canonical>⟧.is_least ≡ true }
+    ensures ulong { ⟦<u64 as Canonical>⟧.is_least ≡ true }
+    ensures byte { ⟦<i8 as Canonical>⟧.is_least ≡ true }
+    ensures short { ⟦<i16 as Canonical>⟧.is_least ≡ true }
+    ensures int { ⟦<i32 as Canonical>⟧.is_least ≡ true }
+    ensures long { ⟦<i64 as Canonical>⟧.is_least ≡ true }
+    ensures character { ⟦<char as Canonical>⟧.is_least ≡ true }
+    ensures string { ⟦<String as Canonical>⟧.is_least ≡ true }
+    ensures symbol { ⟦<Symbol as Canonical>⟧.is_least ≡ true }
+{}
+
+/// What is made of other types is least exactly where they are.
+pub fn texts_of_parts_are_least<K: MapKey + Ord, T: DeserializeTerm>()
+    ensures option { ⟦<Option<T> as Canonical>⟧.is_least ≡ T.term.is_least }
+    ensures boxed { ⟦<Box<T> as Canonical>⟧.is_least ≡ T.term.is_least }
+    ensures counted { ⟦<Rc<T> as Canonical>⟧.is_least ≡ T.term.is_least }
+    ensures list { ⟦<Vec<T> as Canonical>⟧.is_least ≡ T.term.is_least }
+    ensures map { ⟦<BTreeMap<K, T> as Canonical>⟧.is_least ≡ (K.term.is_least && T.term.is_least) }
 {}
 
 /// A sum of two types that are told from each other by the first code names a fault of the type that the code tells, and no

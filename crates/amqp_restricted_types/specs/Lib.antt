@@ -6,3 +6,4 @@ pub mod Defaults
 pub mod ToldByDefault
 pub mod TransportDefaults
 pub mod TerminiDefaults
+pub mod Orders

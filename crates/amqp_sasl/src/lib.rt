@@ -2,6 +2,7 @@
 #![tactic(auto)]
 
 mod constants;
+pub mod laws;
 mod sasl_challenge;
 mod sasl_init;
 mod sasl_mechanisms;

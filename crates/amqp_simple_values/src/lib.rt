@@ -5,6 +5,7 @@ mod conversions;
 mod copied;
 mod equality;
 mod format_code;
+pub mod laws;
 mod made;
 mod order;
 mod read;

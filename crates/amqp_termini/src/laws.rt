@@ -1,10 +1,11 @@
 //! What holds of the types of termini beyond the laws of every type. The functions do nothing; their contracts are proved.
-ghost use Rattle.std.specs.Prelude.{◌≡◌, false};
+ghost use Rattle.std.specs.Prelude.{◌≡◌, true, false};
 
 use crate::{
-    DeleteOnClose, DeleteOnNoLinks, DeleteOnNoLinksOrMessages, DeleteOnNoMessages, LifetimePolicy,
+    Coordinator, DeleteOnClose, DeleteOnNoLinks, DeleteOnNoLinksOrMessages, DeleteOnNoMessages,
+    LifetimePolicy, Source, SupportedDistModes, Target, TargetArchetype,
 };
-use amqp_codec::Deserialize;
+use amqp_codec::{Canonical, Deserialize};
 
 /// Lifetimes are read without memory, so that `from_slice` answers `Memory` for none of them.
 pub fn reading_takes_no_memory()
@@ -13,4 +14,18 @@ pub fn reading_takes_no_memory()
     ensures delete_on_no_messages { ⟦<DeleteOnNoMessages as Deserialize>⟧.reading.takes_memory ≡ false }
     ensures delete_on_no_links_or_messages { ⟦<DeleteOnNoLinksOrMessages as Deserialize>⟧.reading.takes_memory ≡ false }
     ensures lifetime_policy { ⟦<LifetimePolicy as Deserialize>⟧.reading.takes_memory ≡ false }
+{}
+
+/// No spelling of a value of these is shorter than its canonical text, where no array stands in it.
+pub fn texts_are_least()
+    ensures source { ⟦<Source as Canonical>⟧.is_least ≡ true }
+    ensures target { ⟦<Target as Canonical>⟧.is_least ≡ true }
+    ensures coordinator { ⟦<Coordinator as Canonical>⟧.is_least ≡ true }
+    ensures target_archetype { ⟦<TargetArchetype as Canonical>⟧.is_least ≡ true }
+    ensures delete_on_close { ⟦<DeleteOnClose as Canonical>⟧.is_least ≡ true }
+    ensures delete_on_no_links { ⟦<DeleteOnNoLinks as Canonical>⟧.is_least ≡ true }
+    ensures delete_on_no_messages { ⟦<DeleteOnNoMessages as Canonical>⟧.is_least ≡ true }
+    ensures delete_on_no_links_or_messages { ⟦<DeleteOnNoLinksOrMessages as Canonical>⟧.is_least ≡ true }
+    ensures lifetime_policy { ⟦<LifetimePolicy as Canonical>⟧.is_least ≡ true }
+    ensures supported_dist_modes { ⟦<SupportedDistModes as Canonical>⟧.is_least ≡ true }
 {}

@@ -1,7 +1,7 @@
 //! Values from readers: over a slice, over a reader that gives one byte a call, and over one that fails at its k-th call
 //! for every k.
 use amqp_reading_tests::Dripping;
-use fe2o3_amqp_types::codec::{Deserialize, Error, from_reader};
+use fe2o3_amqp_types::codec::{ByteSource, Deserialize, Error, ReadSource, from_reader};
 use fe2o3_amqp_types::messaging::{Accepted, DeliveryState, Received};
 use std::alloc::Global;
 use std::test::Fail;
@@ -54,6 +54,19 @@ fn values_in_a_row(rt: HostRuntime) -> Result<(), Fail> {
     let second = DeliveryState::from(Accepted {});
     assert!(rt; is_next(&second, &mut reader, rt.alloc())?);
     assert!(rt; reader.is_empty());
+    Ok(())
+}
+
+#[test]
+fn any_reader_is_a_source(rt: HostRuntime) -> Result<(), Fail> {
+    let bytes = hex::decode(rt.alloc(), "00532445ff")?;
+    let mut source = ReadSource::new(bytes.as_slice());
+    let read: Accepted = from_reader(&mut source, rt.alloc())?;
+    assert_eq!(rt; read, Accepted {});
+    assert_eq!(rt; source.reader, [0xff].as_slice());
+    assert!(rt; !source.failed());
+    let refused: Result<Accepted, Error> = from_reader(&mut source, rt.alloc());
+    assert_eq!(rt; refused, Err(Error::UnknownCode(0xff)));
     Ok(())
 }
 

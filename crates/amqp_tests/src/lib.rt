@@ -13,6 +13,8 @@ mod first_look;
 #[cfg(test)]
 mod from_readers;
 #[cfg(test)]
+mod iterators;
+#[cfg(test)]
 mod lines;
 #[cfg(test)]
 mod members;

@@ -1,6 +1,6 @@
 //! Each type's conversions once, and the value that a text is read as.
 use crate::written::check_read;
-use amqp_codec::Symbol;
+use amqp_codec::{Descriptor, Symbol};
 use amqp_primitives::{Binary, ByteBuf, Dec32, Dec64, Dec128, SymbolRef, Timestamp, Uuid};
 use std::test::Fail;
 
@@ -60,5 +60,22 @@ fn symbols(rt: HostRuntime) -> Result<(), Fail> {
     let symbol = SymbolRef::from("a");
     assert_eq!(rt; symbol.as_str(), "a");
     assert_eq!(rt; symbol.into_inner(), "a");
+    Ok(())
+}
+
+// Values are ordered by their bytes or texts, and a name comes before each code.
+#[test]
+fn orders(rt: HostRuntime) -> Result<(), Fail> {
+    let alloc = rt.alloc();
+    assert!(rt; Dec32([1; 4]) < Dec32([2; 4]));
+    assert!(rt; Dec64([1; 8]) < Dec64([2; 8]));
+    assert!(rt; Dec128([1; 16]) < Dec128([2; 16]));
+    let short = Binary(Vec::from_array(alloc, [1])?);
+    assert!(rt; short < Binary(Vec::from_array(alloc, [1, 0])?));
+    let first = Symbol(String::from_str(alloc, "a")?);
+    assert!(rt; first < Symbol(String::from_str(alloc, "b")?));
+    assert!(rt; SymbolRef("a") < SymbolRef("b"));
+    assert!(rt; Descriptor::Code(1) < Descriptor::Code(2));
+    assert!(rt; Descriptor::Name(first) < Descriptor::Code(0));
     Ok(())
 }

@@ -9,9 +9,15 @@ mod containers_written;
 #[cfg(test)]
 mod conversions;
 #[cfg(test)]
+mod copies;
+#[cfg(test)]
 mod described;
 #[cfg(test)]
 mod growth;
+#[cfg(test)]
+mod keys;
+#[cfg(test)]
+mod limits;
 #[cfg(test)]
 mod map_calls;
 #[cfg(test)]
@@ -20,5 +26,7 @@ mod mechanisms;
 mod primitives_written;
 #[cfg(test)]
 mod restricted;
+#[cfg(test)]
+mod states;
 #[cfg(test)]
 mod written;

@@ -1,4 +1,5 @@
 //! The calls of a map, and what no contract says of it: that a refused growth changes nothing in fact.
+use crate::keys::hash_of;
 use amqp_maps::OrderedMap;
 use amqp_wire::{Error, Symbol};
 use std::alloc::Global;
@@ -64,6 +65,32 @@ fn maps_compare_as_lists_of_pairs(rt: HostRuntime) -> Result<(), Fail> {
     }
     let copy = map.clone()?;
     assert!(rt; copy == map);
+    Ok(())
+}
+
+#[test]
+fn pairs_in_their_order(rt: HostRuntime) -> Result<(), Fail> {
+    let map = made(&[(7, 1), (3, 2)], rt.alloc())?;
+    let mut lent = (&map).into_iter();
+    assert_eq!(rt; lent.next_back(), Some((&3, &2)));
+    assert_eq!(rt; lent.next(), Some((&7, &1)));
+    assert_eq!(rt; lent.next(), None);
+    let mut values = map.values();
+    assert_eq!(rt; values.next(), Some(&1));
+    assert_eq!(rt; values.next(), Some(&2));
+    assert_eq!(rt; values.next(), None);
+    let pairs: Vec<(u32, u32)> = map.into_iter().collect(rt.alloc())?;
+    assert_eq!(rt; pairs.as_slice(), [(7, 1), (3, 2)].as_slice());
+    Ok(())
+}
+
+#[test]
+fn equal_maps_have_equal_hashes(rt: HostRuntime) -> Result<(), Fail> {
+    let map = made(&[(7, 1), (3, 2)], rt.alloc())?;
+    let equal = made(&[(7, 1), (3, 2)], rt.alloc())?;
+    let turned = made(&[(3, 2), (7, 1)], rt.alloc())?;
+    assert!(rt; hash_of(&map) == hash_of(&equal));
+    assert!(rt; hash_of(&map) != hash_of(&turned));
     Ok(())
 }
 

@@ -1,7 +1,7 @@
 //! Canonical texts of values, those of types that are written only among them.
-use crate::written::{check_written, refusal};
-use amqp_codec::Error;
-use amqp_primitives::{Binary, SymbolRef};
+use crate::written::{check_both_ways, check_written, refusal};
+use amqp_codec::{Error, Symbol};
+use amqp_primitives::{Binary, Dec32, Dec64, Dec128, SymbolRef, Timestamp, Uuid};
 use amqp_read_write::to_vec;
 use std::borrow::CowStr;
 use std::rc::Rc;
@@ -17,6 +17,51 @@ fn numbers(rt: HostRuntime) -> Result<(), Fail> {
     check_written::<i64>(&-1, "55ff", rt.alloc())?;
     check_written(&'é', "73000000e9", rt.alloc())?;
     check_written(&(), "40", rt.alloc())
+}
+
+#[test]
+fn numbers_both_ways(rt: HostRuntime) -> Result<(), Fail> {
+    let alloc = rt.alloc();
+    check_both_ways(&(), "40", alloc)?;
+    check_both_ways(&true, "41", alloc)?;
+    check_both_ways(&false, "42", alloc)?;
+    check_both_ways(&7u8, "5007", alloc)?;
+    check_both_ways(&258u16, "600102", alloc)?;
+    check_both_ways(&7u32, "5207", alloc)?;
+    check_both_ways(&0u64, "44", alloc)?;
+    check_both_ways(&255u64, "53ff", alloc)?;
+    check_both_ways(&256u64, "800000000000000100", alloc)?;
+    check_both_ways(&-1i8, "51ff", alloc)?;
+    check_both_ways(&-2i16, "61fffe", alloc)?;
+    check_both_ways(&-1i32, "54ff", alloc)?;
+    check_both_ways(&127i64, "557f", alloc)?;
+    check_both_ways(&128i64, "810000000000000080", alloc)?;
+    check_both_ways(&'a', "7300000061", alloc)
+}
+
+#[test]
+fn bytes_and_texts_both_ways(rt: HostRuntime) -> Result<(), Fail> {
+    let alloc = rt.alloc();
+    check_both_ways(&Dec32([1; 4]), "7401010101", alloc)?;
+    check_both_ways(&Dec64([2; 8]), "840202020202020202", alloc)?;
+    let wide = Dec128([3; 16]);
+    check_both_ways(&wide, "9403030303030303030303030303030303", alloc)?;
+    check_both_ways(&Timestamp(-2), "83fffffffffffffffe", alloc)?;
+    let uuid = Uuid([4; 16]);
+    check_both_ways(&uuid, "9804040404040404040404040404040404", alloc)?;
+    check_both_ways(&Binary(Vec::from_array(alloc, [5, 6])?), "a0020506", alloc)?;
+    check_both_ways(&String::from_str(alloc, "a")?, "a10161", alloc)?;
+    check_both_ways(&Symbol(String::from_str(alloc, "a")?), "a30161", alloc)
+}
+
+#[test]
+fn wrapped_values_both_ways(rt: HostRuntime) -> Result<(), Fail> {
+    let alloc = rt.alloc();
+    check_both_ways(&Some(7u32), "5207", alloc)?;
+    let none: Option<u32> = None;
+    check_both_ways(&none, "40", alloc)?;
+    check_both_ways(&Box::new(alloc, 7u32)?, "5207", alloc)?;
+    check_both_ways(&Rc::new(alloc, 7u32)?, "5207", alloc)
 }
 
 #[test]

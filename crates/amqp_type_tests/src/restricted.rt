@@ -20,6 +20,7 @@ fn roles(rt: HostRuntime) -> Result<(), Fail> {
     for (digits, role) in [("42", Role::Sender), ("41", Role::Receiver)] {
         check_both_ways(&role, digits, rt.alloc())?;
         assert_eq!(rt; Role::from(bool::from(&role)), role);
+        assert_eq!(rt; bool::from(role), digits == "41");
     }
     assert!(rt; Role::Sender < Role::Receiver);
     Ok(())
@@ -113,6 +114,35 @@ fn modes_and_capabilities(rt: HostRuntime) -> Result<(), Fail> {
 }
 
 #[test]
+fn calls_of_a_mode(rt: HostRuntime) -> Result<(), Fail> {
+    let mode = DistributionMode::Move;
+    assert_eq!(rt; mode.as_str(), "move");
+    let symbol = mode.to_symbol(rt.alloc())?;
+    assert_eq!(rt; symbol.as_str(), "move");
+    assert_eq!(rt; DistributionMode::try_from(symbol).ok(), Some(mode));
+    assert_eq!(rt; DistributionMode::try_from("Move").err(), Some("Move"));
+    let symbol = Symbol(String::from_str(rt.alloc(), "other")?);
+    let given = DistributionMode::try_from(symbol).err();
+    assert!(rt; given.is_some_and(|symbol| symbol.as_str() == "other"));
+    Ok(())
+}
+
+#[test]
+fn calls_of_a_capability(rt: HostRuntime) -> Result<(), Fail> {
+    let capability = TxnCapability::MultiSsnsPerTxn;
+    assert!(rt; TxnCapability::LocalTransactions < capability);
+    assert_eq!(rt; capability.as_str(), "amqp:multi-ssns-per-txn");
+    let symbol = capability.to_symbol(rt.alloc())?;
+    assert_eq!(rt; symbol.as_str(), "amqp:multi-ssns-per-txn");
+    assert_eq!(rt; TxnCapability::try_from(symbol).ok(), Some(capability));
+    assert_eq!(rt; TxnCapability::try_from("move").err(), Some("move"));
+    let symbol = Symbol(String::from_str(rt.alloc(), "other")?);
+    let given = TxnCapability::try_from(symbol).err();
+    assert!(rt; given.is_some_and(|symbol| symbol.as_str() == "other"));
+    Ok(())
+}
+
+#[test]
 fn codes_and_handles(rt: HostRuntime) -> Result<(), Fail> {
     for (number, digits, code) in [
         (0, "5000", SaslCode::Ok),
@@ -122,6 +152,7 @@ fn codes_and_handles(rt: HostRuntime) -> Result<(), Fail> {
         (4, "5004", SaslCode::SysTemp),
     ] {
         check_both_ways(&code, digits, rt.alloc())?;
+        assert_eq!(rt; u8::from(&code), number);
         assert_eq!(rt; u8::from(code), number);
     }
     check_both_ways(&Handle(0), "43", rt.alloc())?;

@@ -30,6 +30,26 @@ fn calls_of_a_map(rt: HostRuntime) -> Result<(), Fail> {
 }
 
 #[test]
+fn pairs_in_their_order(rt: HostRuntime) -> Result<(), Fail> {
+    let alloc = rt.alloc();
+    let mut map = ValueMap::new(alloc);
+    map.insert(Value::Uint(7), Value::Null)?;
+    map.insert(Value::Uint(3), Value::Bool(true))?;
+    let mut lent = (&map).into_iter();
+    assert_eq!(rt;
+        lent.next_back(),
+        Some((&Value::Uint(3), &Value::Bool(true)))
+    );
+    assert_eq!(rt; lent.next(), Some((&Value::Uint(7), &Value::Null)));
+    assert_eq!(rt; lent.next(), None);
+    let mut moved = map.into_iter();
+    assert_eq!(rt; moved.next(), Some((Value::Uint(7), Value::Null)));
+    assert_eq!(rt; moved.next(), Some((Value::Uint(3), Value::Bool(true))));
+    assert_eq!(rt; moved.next(), None);
+    Ok(())
+}
+
+#[test]
 fn what_is_taken_out(rt: HostRuntime) -> Result<(), Fail> {
     assert_eq!(rt; u32::try_from(Value::Uint(7)), Ok(7));
     assert_eq!(rt; u32::try_from(Value::Ulong(7)), Err(Value::Ulong(7)));

@@ -5,6 +5,7 @@ use amqp_containers::Array;
 use amqp_lazy::LazyValue;
 use amqp_read_write::{from_slice, from_slice_counted, to_vec};
 use std::alloc::Global;
+use std::hash::{DefaultHasher, Hash, Hasher};
 use std::test::Fail;
 
 #[test]
@@ -17,6 +18,24 @@ fn bytes_behind_are_left(rt: HostRuntime) -> Result<(), Fail> {
     assert_eq!(rt; copy, value);
     let other: LazyValue = from_slice(&[0x52, 8], alloc)?;
     assert!(rt; value < other);
+    Ok(())
+}
+
+fn hash_of(value: &LazyValue) -> u64 {
+    let mut hasher = DefaultHasher::new();
+    value.hash(&mut hasher);
+    hasher.finish()
+}
+
+// Other spellings of a value are other bytes.
+#[test]
+fn equal_bytes_have_equal_hashes(rt: HostRuntime) -> Result<(), Fail> {
+    let alloc = rt.alloc();
+    let value: LazyValue = from_slice(&[0x52, 7], alloc)?;
+    let equal: LazyValue = from_slice(&[0x52, 7, 0xff], alloc)?;
+    assert!(rt; value == equal && hash_of(&value) == hash_of(&equal));
+    let wide: LazyValue = from_slice(&[0x70, 0, 0, 0, 7], alloc)?;
+    assert!(rt; value != wide && hash_of(&value) != hash_of(&wide));
     Ok(())
 }
 

@@ -4,6 +4,8 @@
 #[cfg(test)]
 mod calls;
 #[cfg(test)]
+mod conversions;
+#[cfg(test)]
 mod lazy;
 #[cfg(test)]
 mod nests;

@@ -2,12 +2,15 @@
 use amqp_codec::{DeserializeTerm, Error, Symbol};
 use amqp_containers::Array;
 use amqp_described::Described;
+use amqp_maps::OrderedMap;
 use amqp_primitives::{Binary, Dec32, Dec64, Dec128, Timestamp, Uuid};
 use amqp_read_write::from_slice;
 use amqp_simple_values::SimpleValue;
 use amqp_values::{Value, ValueMap};
 use amqp_wire::Descriptor;
 use std::alloc::Global;
+use std::cmp::Ordering;
+use std::hash::{DefaultHasher, Hash, Hasher};
 use std::test::Fail;
 
 /// A value of each kind.
@@ -125,6 +128,31 @@ fn texts_and_back(rt: HostRuntime) -> Result<(), Fail> {
     let simple = SimpleValue::from(binary.clone()?);
     assert_eq!(rt; simple, read("a0020102", alloc)?);
     assert_eq!(rt; Binary::try_from(simple), Ok(binary));
+    Ok(())
+}
+
+fn hash_of<T: Hash>(value: &T) -> u64 {
+    let mut hasher = DefaultHasher::new();
+    value.hash(&mut hasher);
+    hasher.finish()
+}
+
+// The kinds are ordered as they are declared, and values of one kind by what they hold.
+#[test]
+fn order_and_hashes(rt: HostRuntime) -> Result<(), Fail> {
+    let alloc = rt.alloc();
+    assert!(rt; SimpleValue::Uint(9) < SimpleValue::Ulong(1));
+    assert!(rt; SimpleValue::Uint(1) < SimpleValue::Uint(9));
+    let text = SimpleValue::from_str_in("a", alloc)?;
+    assert!(rt; SimpleValue::Null < text);
+    let equal = SimpleValue::from_str_in("a", alloc)?;
+    assert_eq!(rt; text.cmp(&equal), Ordering::Equal);
+    assert!(rt; hash_of(&text) == hash_of(&equal));
+    let other = SimpleValue::from_str_in("b", alloc)?;
+    assert!(rt; text < other && hash_of(&text) != hash_of(&other));
+    let mut map: OrderedMap<SimpleValue, u32> = OrderedMap::new(alloc);
+    map.insert(text, 1)?;
+    assert_eq!(rt; map.get(&equal), Some(&1));
     Ok(())
 }
 

@@ -11,14 +11,17 @@ pub mod codec {
     pub use amqp_containers::{Array, TransparentVec};
     pub use amqp_described::Described;
     pub use amqp_lazy::LazyValue;
-    pub use amqp_maps::OrderedMap;
+    pub use amqp_maps::{
+        IntoIter as OrderedMapIntoIter, Iter as OrderedMapIter, OrderedMap,
+        Values as OrderedMapValues,
+    };
     pub use amqp_primitives::{Binary, ByteBuf, Dec32, Dec64, Dec128, SymbolRef, Timestamp, Uuid};
     pub use amqp_read_write::{
         ReadSource, append_to_vec, canonical_text, encoded_len, from_reader, from_slice,
         from_slice_counted, to_vec,
     };
     pub use amqp_simple_values::SimpleValue;
-    pub use amqp_values::{IntoValue, Value, ValueMap};
+    pub use amqp_values::{IntoValue, Value, ValueMap, ValueMapIter, ValueMapValues};
 }
 
 /// The primitive types (Part 1, section 1.6), and the standard's names of those of std.

@@ -1,13 +1,13 @@
 use Rattle.std.proofs.lemmas.Result.{err_from_is_err_and}
-use Rattle.amqp_read_write.proofs.Rewrites.{read_again, one_text, no_other, every_text, unchanged, shortest, unwritten}
+use Rattle.amqp_read_write.proofs.Rewrites.{read_again, one_text, no_other, every_text, unchanged, shortest, all_shortest, unwritten}
 use Rattle.amqp_read_write.proofs.calls.canonical_text.Goals as goal
 
 pub returns-clause-text : goal.returns-clause-text
 returns-clause-text g c = record {
   value = c.in_ok-value.value;
   read = c.in_ok-value.ensures.found;
-  one = λ w m k. (c.in_ok-value.ensures.one w m k).0;
-  bounded = c.in_ok-value.ensures.bounded;
+  one = λ w m k. (c.in_ok-value.ensures.one _ w _ m c.in_ok-value.ensures.found k).0;
+  bounded = c.in_ok-value.ensures.bounded _ _ c.in_ok-value.ensures.found;
   writable = c.in_ok-text.ensures.writable;
   text_is = c.in_ok-text.ensures.text;
 }
@@ -28,7 +28,10 @@ pub returns-clause-unchanged : goal.returns-clause-unchanged
 returns-clause-unchanged g c = unchanged g.met.T.Canonical.rewrites _ _ _ (returns-clause-text g c)
 
 pub returns-clause-shortest : goal.returns-clause-shortest
-returns-clause-shortest g c = shortest g.met.T.Canonical.rewrites _ _ _ (returns-clause-text g c)
+returns-clause-shortest g c = all_shortest g.met.T.Canonical.rewrites
+
+pub returns-clause-no_shorter : goal.returns-clause-no_shorter
+returns-clause-no_shorter g c = shortest g.met.T.Canonical.rewrites _ _ _ (returns-clause-text g c)
 
 pub returns-in_err-text-clause-refused : goal.returns-in_err-text-clause-refused
 returns-in_err-text-clause-refused g c =

@@ -1,4 +1,4 @@
 use Rattle.amqp_read_write.proofs.calls.from_slice.Goals as goal
 
 pub returns-clause-one : goal.returns-clause-one
-returns-clause-one g c w m k = (c.in_ok-value.ensures.one w m k).0
+returns-clause-one g c v w n m h k = (c.in_ok-value.ensures.one v w n m h k).0

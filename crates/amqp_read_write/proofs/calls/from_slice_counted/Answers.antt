@@ -10,16 +10,11 @@ returns-clause-found g c =
     is_read g.T.Deserialize.reading c.args.input.now _ c.deserialize-read.new.decoder _ read (omega (arith, c.unread-left.ensures.count))
 
 pub returns-clause-one : goal.returns-clause-one
-returns-clause-one g c = λ w m k.
-    let read = rw c.new-decoder.ensures at (c.in_ok-value.ensures (λ s. (s.now, refl))) in
-    read_one g.T.Deserialize.reading c.args.input.now _ w _ m
-    (is_read g.T.Deserialize.reading c.args.input.now _ c.deserialize-read.new.decoder _ read
-    (omega (arith, c.unread-left.ensures.count))) k
+returns-clause-one g c v w n m h k = read_one g.T.Deserialize.reading c.args.input.now v w n m h k
 
 pub returns-clause-bounded : goal.returns-clause-bounded
-returns-clause-bounded g c =
-    let read = rw c.new-decoder.ensures at (c.in_ok-value.ensures (λ s. (s.now, refl))) in
-    omega (arith, c.unread-left.ensures.count, read_bounded g.T.Deserialize.reading c.args.input.now _ c.deserialize-read.new.decoder read)
+returns-clause-bounded g c v n h =
+    omega (arith, h.left, read_bounded g.T.Deserialize.reading c.args.input.now v h.after h.read)
 
 pub returns-in_err-value-clause-refused : goal.returns-in_err-value-clause-refused
 returns-in_err-value-clause-refused g c =

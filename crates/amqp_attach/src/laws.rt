@@ -1,0 +1,12 @@
+//! What holds of these types beyond the laws of every type. The function does nothing; its contract is proved.
+ghost use Rattle.std.specs.Prelude.{◌≡◌, true};
+
+use crate::{Attach, Performative, Unsettled};
+use amqp_codec::Canonical;
+
+/// No spelling of a value of these is shorter than its canonical text, where no array stands in it.
+pub fn texts_are_least()
+    ensures attach { ⟦<Attach as Canonical>⟧.is_least ≡ true }
+    ensures performative { ⟦<Performative as Canonical>⟧.is_least ≡ true }
+    ensures unsettled { ⟦<Unsettled as Canonical>⟧.is_least ≡ true }
+{}

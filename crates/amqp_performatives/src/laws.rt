@@ -1,0 +1,17 @@
+//! What holds of performatives beyond the laws of every type. The function does nothing; its contract is proved.
+ghost use Rattle.std.specs.Prelude.{◌≡◌, true};
+
+use crate::{Begin, Close, Detach, Disposition, End, Flow, Open, Transfer};
+use amqp_codec::Canonical;
+
+/// No spelling of a value of these is shorter than its canonical text, where no array stands in it.
+pub fn texts_are_least()
+    ensures open { ⟦<Open as Canonical>⟧.is_least ≡ true }
+    ensures begin { ⟦<Begin as Canonical>⟧.is_least ≡ true }
+    ensures flow { ⟦<Flow as Canonical>⟧.is_least ≡ true }
+    ensures transfer { ⟦<Transfer as Canonical>⟧.is_least ≡ true }
+    ensures disposition { ⟦<Disposition as Canonical>⟧.is_least ≡ true }
+    ensures detach { ⟦<Detach as Canonical>⟧.is_least ≡ true }
+    ensures end { ⟦<End as Canonical>⟧.is_least ≡ true }
+    ensures close { ⟦<Close as Canonical>⟧.is_least ≡ true }
+{}
