@@ -1,2 +1,3 @@
 pub mod MultipleReads
 pub mod MultipleWrites
+pub mod CopiesEqual

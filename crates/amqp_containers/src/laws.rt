@@ -1,19 +1,32 @@
-//! What holds of arrays beyond the laws of every type. The functions do nothing; their contracts are proved.
-ghost use Rattle.std.specs.Prelude.{◌≡◌, true};
+//! What holds of arrays, and of values that stand one after another, beyond the laws of every type. The functions do nothing; their
+//! contracts are proved.
+ghost use Rattle.std.specs.Prelude.{◌≡◌, true, IsTrue};
+ghost use Rattle.std.specs.List.{AllZip};
 ghost use Rattle.std.specs.Cmp.Lexicographic.{slice_cmp};
 ghost use Rattle.amqp_containers.specs.declared.array.Array.{Array};
+ghost use Rattle.amqp_containers.specs.declared.transparent_vec.TransparentVec.{TransparentVec};
 ghost use Rattle.amqp_containers.specs.MultipleFields.{multiple, mandatory_multiple};
 ghost use Rattle.amqp_containers.specs.Several.{AreLeaves};
+ghost use Rattle.amqp_containers.specs.Transparent.{vec_in};
 
 use crate::{Array, TransparentVec};
 use amqp_codec::{Canonical, DeserializeTerm};
 use std::ops::Deref;
 
-/// Where copies of items are equal to them, a copy of an array has the items of the array.
-#[tactic(auto, using(std::proofs::lemmas::List::Elements::same_from_all_zip))]
-pub fn copies_are_equal<T: Clone>()
-    ensures { ((x y : T) → T.is_clone x y → y ≡ x) → (array copy : Array T) → ⟦<Array<T> as Clone>⟧.is_clone array copy
-        → copy.0.items ≡ array.0.items }
+/// A copy has as many items, and each is a copy of the one in its place.
+pub fn items_are_copied<T: Clone>()
+    ensures array { (array copy : Array T) → ⟦<Array<T> as Clone>⟧.is_clone array copy → AllZip T.is_clone array.0.items copy.0.items }
+    ensures transparent_vec { (run copy : TransparentVec T) → ⟦<TransparentVec<T> as Clone>⟧.is_clone run copy
+        → AllZip T.is_clone (vec_in run).items (vec_in copy).items }
+{}
+
+/// Where copies of items are equal to them, so is a copy of what holds them.
+#[tactic(auto, using(crate::proofs::CopiesEqual::equal_all_zip))]
+pub fn copies_are_equal<T: Clone + PartialEq>()
+    ensures array { ((x y : T) → T.is_clone x y → IsTrue (T.eq x y)) → (array copy : Array T) → ⟦<Array<T> as Clone>⟧.is_clone array copy
+        → IsTrue (⟦<Array<T> as PartialEq>⟧.eq array copy) }
+    ensures transparent_vec { ((x y : T) → T.is_clone x y → IsTrue (T.eq x y)) → (run copy : TransparentVec T)
+        → ⟦<TransparentVec<T> as Clone>⟧.is_clone run copy → IsTrue (⟦<TransparentVec<T> as PartialEq>⟧.eq run copy) }
 {}
 
 /// An array is least exactly where its items are; but of a text in which an array stands that says nothing. A field of several values

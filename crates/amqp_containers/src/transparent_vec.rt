@@ -3,6 +3,7 @@ ghost use Rattle.std.specs.Prelude.{◌≡◌, ◌++◌, ◌∷◌, [], IfErr, O
 ghost use Rattle.std.specs.Slice.Iter.{iter_rest};
 ghost use Rattle.std.specs.Vec.Iter.{into_iter_items};
 ghost use Rattle.amqp_wire.specs.declared.error.Error.TheVariants.{Memory};
+ghost use Rattle.amqp_containers.specs.Transparent.{vec_in};
 
 use amqp_wire::Error;
 use std::alloc::Global;
@@ -19,14 +20,14 @@ pub struct TransparentVec<T>(Vec<T>);
 impl<T> TransparentVec<T> {
     /// The values in their order.
     pub fn new(values: Vec<T>) -> TransparentVec<T>
-        ensures { result.0 ≡ values }
+        ensures { vec_in result ≡ values }
     {
         TransparentVec(values)
     }
 
     /// The values, which are moved out of it.
     pub fn into_inner(self) -> Vec<T>
-        ensures { result ≡ self.0 }
+        ensures { result ≡ vec_in self }
     {
         let TransparentVec(values) = self;
         values
@@ -37,8 +38,8 @@ impl<T> TransparentVec<T> {
     pub fn push(&mut self, value: T) -> Result<(), Error>
     where
         T: Drop,
-        ensures added { OnOk result (self.new.0.items ≡ self.old.0.items ++ value ∷ []) }
-        ensures kept { OnErr result (self.new.0.items ≡ self.old.0.items) }
+        ensures added { OnOk result ((vec_in self.new).items ≡ (vec_in self.old).items ++ value ∷ []) }
+        ensures kept { OnErr result ((vec_in self.new).items ≡ (vec_in self.old).items) }
         ensures memory { IfErr result (λ e. e ≡ Memory) }
     {
         match self.0.push(value) {
@@ -49,7 +50,7 @@ impl<T> TransparentVec<T> {
 }
 
 impl<T> From<Vec<T>> for TransparentVec<T> {
-    ghost from_gives = { λ values run. run.0 ≡ values };
+    ghost from_gives = { λ values run. vec_in run ≡ values };
 
     fn from(values: Vec<T>) -> TransparentVec<T> {
         TransparentVec::new(values)
@@ -59,7 +60,7 @@ impl<T> From<Vec<T>> for TransparentVec<T> {
 impl<T> Deref for TransparentVec<T> {
     type Target = Vec<T>;
 
-    ghost deref_gives = { λ run values. values ≡ run.0 };
+    ghost deref_gives = { λ run values. values ≡ vec_in run };
 
     fn deref(&self) -> &Vec<T> {
         &self.0
@@ -71,7 +72,7 @@ impl<T: Drop> IntoIterator for TransparentVec<T> {
 
     type IntoIter = IntoIter<T, Global>;
 
-    ghost into_iter_gives = { λ run values. into_iter_items values ≡ run.0.items };
+    ghost into_iter_gives = { λ run values. into_iter_items values ≡ (vec_in run).items };
 
     fn into_iter(self) -> IntoIter<T, Global> {
         self.into_inner().into_iter()
@@ -83,7 +84,7 @@ impl<'a, T> IntoIterator for &'a TransparentVec<T> {
 
     type IntoIter = Iter<'a, T>;
 
-    ghost into_iter_gives = { λ run values. iter_rest values ≡ run.now.0.items };
+    ghost into_iter_gives = { λ run values. iter_rest values ≡ (vec_in run.now).items };
 
     fn into_iter(self) -> Iter<'a, T> {
         self.0.iter()

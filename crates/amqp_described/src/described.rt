@@ -33,7 +33,7 @@ impl<T> Described<T> {
     where
         T: Clone + Drop,
         ensures descriptor { IfOk result (λ copy. descriptor_of copy.descriptor ≡ descriptor_of self.now.descriptor) }
-        ensures equal { ((v w : T) → T.is_clone v w → w ≡ v) → IfOk result (λ copy. copy.value ≡ self.now.value) }
+        ensures value { IfOk result (λ copy. T.is_clone self.now.value copy.value) }
         ensures memory { IfErr result (λ e. e ≡ Memory) }
     {
         Ok(Described {

@@ -1,8 +1,9 @@
 //! What holds of described values beyond the laws of every type. The functions do nothing; their contracts are proved.
-ghost use Rattle.std.specs.Prelude.{◌≡◌};
+ghost use Rattle.std.specs.Prelude.{◌≡◌, IsTrue};
 ghost use Rattle.std.specs.Ordering.{nat_cmp, ordering_then};
 ghost use Rattle.std.specs.declared.cmp.Ordering.TheVariants.{Less, Greater};
 ghost use Rattle.amqp_wire.specs.declared.descriptor.Descriptor.TheVariants as descriptor;
+ghost use Rattle.amqp_lookahead.specs.Members.{descriptor_of};
 ghost use Rattle.amqp_described.specs.declared.described.Described.{Described};
 
 use crate::Described;
@@ -26,4 +27,11 @@ pub fn descriptors_are_ordered()
 pub fn orders<T: Ord>()
     ensures described { (a b : Described T) → ⟦<Described<T> as Ord>⟧.cmp a b
         ≡ ordering_then (⟦<Descriptor as Ord>⟧.cmp a.descriptor b.descriptor) (T.cmp a.value b.value) }
+{}
+
+/// Where copies of values are equal to them, so is a copy of a described value, as `Described::clone` makes it.
+pub fn copies_are_equal<T: Clone + PartialEq>()
+    ensures { ((v w : T) → T.is_clone v w → IsTrue (T.eq v w)) → (described copy : Described T)
+        → descriptor_of copy.descriptor ≡ descriptor_of described.descriptor → T.is_clone described.value copy.value
+        → IsTrue (⟦<Described<T> as PartialEq>⟧.eq described copy) }
 {}

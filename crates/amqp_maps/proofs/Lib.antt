@@ -1,1 +1,2 @@
 pub mod PairsRead
+pub mod CopiesEqual

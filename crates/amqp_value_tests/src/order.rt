@@ -1,8 +1,9 @@
-//! The order and the hash of values of any kind, and maps whose keys they are.
+//! The order and the hash of values of any kind and of maps of them, and maps whose keys they are.
 use amqp_containers::Array;
 use amqp_maps::OrderedMap;
 use amqp_read_write::from_slice;
 use amqp_values::{IntoValue, Value, ValueMap};
+use amqp_wire::Error;
 use std::alloc::Global;
 use std::cmp::Ordering;
 use std::hash::{DefaultHasher, Hash, Hasher};
@@ -59,6 +60,15 @@ const HOLDERS: [&[u8]; 16] = [
     &[0xe0, 10, 2, 0x70, 0, 0, 0, 1, 0, 0, 0, 2],
 ];
 
+/// Texts of maps, each before the next.
+const MAPS: [&[u8]; 5] = [
+    &[0xc1, 1, 0],
+    &[0xc1, 3, 2, 0x40, 0x40],
+    &[0xc1, 6, 4, 0x40, 0x40, 0x52, 1, 0x40],
+    &[0xc1, 4, 2, 0x40, 0x52, 1],
+    &[0xc1, 4, 2, 0x52, 1, 0x40],
+];
+
 fn ascending(alloc: Global) -> Result<Vec<Value>, Fail> {
     let mut row: Vec<Value> = Vec::new(alloc);
     for text in LEAVES.iter() {
@@ -70,7 +80,7 @@ fn ascending(alloc: Global) -> Result<Vec<Value>, Fail> {
     Ok(row)
 }
 
-fn hash_of(value: &Value) -> u64 {
+fn hash_of<T: Hash>(value: &T) -> u64 {
     let mut hasher = DefaultHasher::new();
     value.hash(&mut hasher);
     hasher.finish()
@@ -99,6 +109,40 @@ fn equal_values_have_equal_hashes(rt: HostRuntime) -> Result<(), Fail> {
             assert_eq!(rt; hash_of(&copy) == hash_of(&row[right]), left == right);
         }
     }
+    Ok(())
+}
+
+#[test]
+fn each_map_before_the_next(rt: HostRuntime) -> Result<(), Fail> {
+    let alloc = rt.alloc();
+    let mut row: Vec<ValueMap> = Vec::new(alloc);
+    for text in MAPS.iter() {
+        row.push(from_slice(text, alloc)?)?;
+    }
+    for left in 0..row.len() {
+        let copy = row[left].clone()?;
+        for right in 0..row.len() {
+            let order = left.cmp(&right);
+            assert_eq!(rt; row[left].cmp(&row[right]), order);
+            assert_eq!(rt; row[left].partial_cmp(&row[right]), Some(order));
+            assert_eq!(rt; row[left] == row[right], order == Ordering::Equal);
+            assert_eq!(rt; hash_of(&copy) == hash_of(&row[right]), left == right);
+        }
+    }
+    Ok(())
+}
+
+#[test]
+fn keys_that_are_maps(rt: HostRuntime) -> Result<(), Fail> {
+    let alloc = rt.alloc();
+    let one: &[u8] = &[0xc1, 6, 2, 0xc1, 1, 0, 0x52, 7];
+    let map: OrderedMap<ValueMap, u32> = from_slice(one, alloc)?;
+    assert_eq!(rt; map.get(&ValueMap::new(alloc)), Some(&7));
+    let twice: &[u8] = &[
+        0xc1, 17, 4, 0xc1, 1, 0, 0x52, 7, 0xd1, 0, 0, 0, 4, 0, 0, 0, 0, 0x52, 8,
+    ];
+    let refused: Result<OrderedMap<ValueMap, u32>, Error> = from_slice(twice, alloc);
+    assert_eq!(rt; refused.err(), Some(Error::DuplicateKey));
     Ok(())
 }
 

@@ -1,11 +1,11 @@
 -- Equality of values and of maps is an equivalence, and decides whether their terms are one.
-use Rattle.std.proofs.Common.{◌≡◌, true, ap, ◌∙◌, sym, refl, subst}
+use Rattle.std.proofs.Common.{◌≡◌, true, ap, ap₂, ◌∙◌, sym, refl, subst}
 use Rattle.std.specs.Bool.{Decides}
 use Rattle.std.specs.Cmp.{IsPartialEquivalence, IsEquivalence}
 use Rattle.std.proofs.lemmas.Bool.Decides.{same_from_decides}
 use Rattle.amqp_model.specs.Term.{map, Term, container}
 use Rattle.amqp_codec.specs.EqualKeys.{same_term, terms_decide}
-use Rattle.amqp_codec.specs.TreeLaws.{IsTree}
+use Rattle.amqp_codec.specs.TreeLaws.{IsTree, AreTrees}
 use Rattle.amqp_values.specs.declared.map.ValueMap.{ValueMap}
 use Rattle.amqp_values.specs.declared.value.Value.{Value, Map as MapOf}
 use Rattle.amqp_values.specs.Values.{value_term, pairs_of}
@@ -57,3 +57,17 @@ maps_per = trees_per map_term maps_are_trees
 
 pub maps_equiv : IsEquivalence map_eq
 maps_equiv = trees_equiv map_term maps_are_trees
+
+-- its keys and values in turn are trees
+pub turns_are_trees : (m : ValueMap) → AreTrees (turn_terms (pairs_of m))
+turns_are_trees m = maps_are_trees m
+
+-- Equality of maps decides whether the terms of their keys and values in turn are one,
+pub maps_decide : (m n : ValueMap) → Decides (map_eq m n) (turn_terms (pairs_of m) ≡ turn_terms (pairs_of n))
+maps_decide m n = let d = trees_decide map_term maps_are_trees m n in (λ e. cc (d.0 e), λ e. d.1 (ap (container map) e))
+
+-- and whether they are one as values of any kind.
+pub maps_decide_values : (m n : ValueMap) → Decides (map_eq m n) (value_term (MapOf m) ≡ value_term (MapOf n))
+maps_decide_values m n =
+    subst (λ b. Decides b (value_term (MapOf m) ≡ value_term (MapOf n))) (ap₂ same_term (map_is m) (map_is n))
+    (values_decide (MapOf m) (MapOf n))

@@ -1,10 +1,12 @@
--- The order of values of any kind: that of their terms, each of which is a label and the terms that it holds.
+-- The order of values of any kind and of maps of them: that of their terms, each of which is a label and the terms that it holds.
 use Rattle.std.specs.declared.cmp.Ordering.{Ordering}
 use Rattle.std.specs.declared.cmp.Ordering.TheVariants.{Less, Equal, Greater}
 use Rattle.std.specs.Ordering.{ordering_then}
 use Rattle.amqp_model.specs.Term.{Term, Terms, leaf, container, described, kept, barred, none, more}
+use Rattle.amqp_values.specs.declared.map.ValueMap.{ValueMap}
 use Rattle.amqp_values.specs.declared.value.Value.{Value}
-use Rattle.amqp_values.specs.Values.{value_term}
+use Rattle.amqp_values.specs.Values.{value_term, pairs_of}
+use Rattle.amqp_values.specs.Equality.{turn_terms}
 use Rattle.amqp_values.specs.Labels.{Label, label_of, label_cmp}
 
 -- A label, and what stands under it.
@@ -49,3 +51,7 @@ terms_cmp ts us = trees_cmp (trees_of ts) (trees_of us)
 -- The order of values.
 abbrev pub value_cmp : Value → Value → Ordering
 value_cmp v w = term_cmp (value_term v) (value_term w)
+
+-- The order of maps: that of the rows of their keys and values in turn.
+abbrev pub map_cmp : ValueMap → ValueMap → Ordering
+map_cmp m n = terms_cmp (turn_terms (pairs_of m)) (turn_terms (pairs_of n))

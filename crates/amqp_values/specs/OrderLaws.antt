@@ -1,4 +1,4 @@
--- The order of values is total, and agrees with their equality.
+-- The orders of values and of maps are total, and agree with their equality.
 use Rattle.std.proofs.Common.{◌≡◌, ℕ, Bool, true, false, eqb, cond, refl, sym, ap, ap₂, ◌∙◌, subst}
 use Rattle.std.proofs.lemmas.Bool.{true≢false}
 use Rattle.std.specs.Bool.{beq, nat_lt, one_answer}
@@ -19,13 +19,14 @@ use Rattle.amqp_lookahead.specs.Kinds.{kind_of}
 use Rattle.amqp_codec.specs.EqualKeys.{primitives_decide}
 use Rattle.amqp_codec.specs.PrimitiveTypes.{truth as truth_of, number as number_of, integer as integer_of, content}
 use Rattle.amqp_codec.specs.TreeLaws.{IsTree, AreTrees}
+use Rattle.amqp_values.specs.declared.map.ValueMap.{ValueMap}
 use Rattle.amqp_values.specs.declared.value.Value.{Value}
-use Rattle.amqp_values.specs.Values.{value_term}
+use Rattle.amqp_values.specs.Values.{value_term, pairs_of}
 use Rattle.amqp_values.specs.ValuesLaws.{values_are_trees}
-use Rattle.amqp_values.specs.Equality.{value_eq}
-use Rattle.amqp_values.specs.EqualityLaws.{values_decide}
+use Rattle.amqp_values.specs.Equality.{value_eq, turn_terms, map_eq}
+use Rattle.amqp_values.specs.EqualityLaws.{values_decide, turns_are_trees, maps_decide}
 use Rattle.amqp_values.specs.Labels.{Label, primitive_label, bare, descriptor_label, container_place, label_cmp}
-use Rattle.amqp_values.specs.Order.{Tree, Trees, node, no_tree, one_more, tree_of, trees_of, tree_cmp, trees_cmp, value_cmp}
+use Rattle.amqp_values.specs.Order.{Tree, Trees, node, no_tree, one_more, tree_of, trees_of, tree_cmp, trees_cmp, value_cmp, map_cmp}
 
 -- what comes first and what comes then are both equal
 both_equal : (a b : Ordering) → ordering_then a b ≡ Equal → (a ≡ Equal) × (b ≡ Equal)
@@ -240,3 +241,22 @@ values_tied v w =
 
 pub values_po : IsPartialOrder value_eq (as_partial_cmp value_cmp)
 values_po = po values_total values_tied
+
+-- maps, by the rows of their keys and values in turn
+rows_total : IsTotalOrder trees_cmp
+rows_total = record { antisymm = trees_flip; trans = trees_chain; congr = λ xs ys zs e. ap (λ x. trees_cmp x zs) (trees_tied xs ys e) }
+
+pub maps_total : IsTotalOrder map_cmp
+maps_total = on_total (λ m. trees_of (turn_terms (pairs_of m))) rows_total
+
+pub maps_tied : (m n : ValueMap) → map_eq m n ≡ eq_by_cmp map_cmp m n
+maps_tied m n =
+    let ts = turn_terms (pairs_of m) in
+    let us = turn_terms (pairs_of n) in
+    one_answer (map_eq m n) (is_eq (map_cmp m n)) (maps_decide m n) (
+      λ e. one_row ts us (turns_are_trees m) (turns_are_trees n) (trees_tied _ _ ((Equal-is (map_cmp m n)).0 e)),
+      λ e. (Equal-is (map_cmp m n)).1 (subst (λ xs. trees_cmp (trees_of ts) (trees_of xs) ≡ Equal) e (tied_itself rows_total (trees_of ts))),
+    )
+
+pub maps_po : IsPartialOrder map_eq (as_partial_cmp map_cmp)
+maps_po = po maps_total maps_tied

@@ -1,15 +1,15 @@
-//! The hash of values of any kind: equal values have one.
+//! The hash of values of any kind and of maps of them: equal ones have one hash.
 ghost use Rattle.std.specs.Prelude.{◌≡◌, map, refl};
 ghost use Rattle.std.specs.List.{fold};
 ghost use Rattle.amqp_model.specs.Items.{terms_of};
 ghost use Rattle.amqp_codec.specs.KeyLaws.{key_of};
 ghost use Rattle.amqp_values.specs.Values.{value_term};
 ghost use Rattle.amqp_values.specs.Equality.{turn_terms};
-ghost use Rattle.amqp_values.specs.EqualityLaws.{values_decide};
-ghost use Rattle.amqp_values.specs.Hashed.{fed_term, fed_terms, value_fed, values_alike};
+ghost use Rattle.amqp_values.specs.EqualityLaws.{values_decide, maps_decide_values};
+ghost use Rattle.amqp_values.specs.Hashed.{fed_term, fed_terms, value_fed, values_alike, map_fed, maps_alike};
 
-use crate::Value;
 use crate::leaf::leaf_of;
+use crate::{Value, ValueMap};
 use amqp_codec::MapKey;
 use std::hash::{Hash, Hasher};
 
@@ -66,4 +66,18 @@ impl Hash for Value {
 
 impl MapKey for Value {
     ghost is_key = { key_of refl values_decide };
+}
+
+impl Hash for ValueMap {
+    ghost hash_input = { map_fed };
+
+    ghost respects_eq = { maps_alike };
+
+    fn hash<H: Hasher>(&self, state: &mut H) {
+        hash_pairs(self.0.as_slice(), state);
+    }
+}
+
+impl MapKey for ValueMap {
+    ghost is_key = { key_of refl maps_decide_values };
 }

@@ -1,14 +1,15 @@
-//! The order of values of any kind: by their kinds, in the order of the variants, and within a kind by what they hold.
+//! The order of values of any kind: by their kinds, in the order of the variants, and within a kind by what they hold. That of maps of
+//! them is by their pairs.
 ghost use Rattle.std.specs.Prelude.{◌≡◌, map, refl};
 ghost use Rattle.std.specs.Ordering.{as_partial_cmp};
 ghost use Rattle.amqp_model.specs.Items.{terms_of};
 ghost use Rattle.amqp_values.specs.Values.{value_term};
 ghost use Rattle.amqp_values.specs.Equality.{turn_terms};
-ghost use Rattle.amqp_values.specs.Order.{value_cmp, terms_cmp};
-ghost use Rattle.amqp_values.specs.OrderLaws.{values_po, values_total, values_tied};
+ghost use Rattle.amqp_values.specs.Order.{value_cmp, terms_cmp, map_cmp};
+ghost use Rattle.amqp_values.specs.OrderLaws.{values_po, values_total, values_tied, maps_po, maps_total, maps_tied};
 
-use crate::Value;
 use crate::leaf::leaf_of;
+use crate::{Value, ValueMap};
 use std::cmp::Ordering;
 
 // How a value stands to another: first by what they are but for the values that they hold, and then by those.
@@ -95,5 +96,29 @@ impl Ord for Value {
 
     fn cmp(&self, other: &Value) -> Ordering {
         compare_values(self, other)
+    }
+}
+
+impl PartialOrd for ValueMap {
+    ghost partial_cmp = { as_partial_cmp map_cmp };
+
+    ghost laws = { maps_po };
+
+    fn partial_cmp(&self, other: &ValueMap) -> Option<Ordering> {
+        Some(compare_pairs(self.0.as_slice(), other.0.as_slice()))
+    }
+}
+
+impl Ord for ValueMap {
+    ghost cmp = { map_cmp };
+
+    ghost total = { maps_total };
+
+    ghost matches_partial_cmp = { λ m n. refl };
+
+    ghost matches_eq = { maps_tied };
+
+    fn cmp(&self, other: &ValueMap) -> Ordering {
+        compare_pairs(self.0.as_slice(), other.0.as_slice())
     }
 }
