@@ -37,3 +37,9 @@ pub returns-in_err-text-clause-refused : goal.returns-in_err-text-clause-refused
 returns-in_err-text-clause-refused g c =
     let p = err_from_is_err_and c.from_residual-in_err-text.result c.from_residual-in_err-text.ensures.1 in
     rw (p.1, p.2) (unwritten g.met.T.Canonical.rewrites c.args.input.now _ _ _ c.in_ok-value.ensures.found c.in_err-text.ensures.refused)
+
+pub returns-in_err-value-clause-shortest : goal.returns-in_err-value-clause-shortest
+returns-in_err-value-clause-shortest g c = all_shortest g.met.T.Canonical.rewrites
+
+pub returns-in_err-text-clause-shortest : goal.returns-in_err-text-clause-shortest
+returns-in_err-text-clause-shortest g c = all_shortest g.met.T.Canonical.rewrites

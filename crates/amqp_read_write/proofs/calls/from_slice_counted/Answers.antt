@@ -28,3 +28,6 @@ returns-in_err-value-clause-memory g c =
     rw (p.1, p.2) (memory_wanted g.T.Deserialize.reading c.args.input.now _
     (refused_whole g.T.Deserialize.reading c.args.input.now _ c.deserialize-read.new.decoder c.unread-left.ensures.whole
     (rw c.new-decoder.ensures at (c.in_err-value.ensures (λ s. (s.now, refl))))))
+
+pub returns-in_err-value-clause-one : goal.returns-in_err-value-clause-one
+returns-in_err-value-clause-one g c v w n m h k = read_one g.T.Deserialize.reading c.args.input.now v w n m h k
