@@ -10,7 +10,7 @@ use amqp_values::Value;
 use std::alloc::Global;
 use std::test::Fail;
 
-pub(crate) fn full_error(alloc: Global) -> Result<Error, Fail> {
+fn full_error(alloc: Global) -> Result<Error, Fail> {
     let info = fields_of("i", Value::Ubyte(7), alloc)?;
     Ok(Error {
         condition: ErrorCondition::SessionError(SessionError::ErrantLink),
@@ -32,7 +32,7 @@ fn fields_of_an_error(rt: HostRuntime) -> Result<(), Fail> {
     )
 }
 
-pub(crate) fn full_received() -> Received {
+fn full_received() -> Received {
     Received {
         section_number: 300,
         section_offset: 4294967297,
@@ -50,21 +50,6 @@ fn fields_of_a_received(rt: HostRuntime) -> Result<(), Fail> {
     )
 }
 
-// By the section first, then by the offset.
-#[test]
-fn order_of_received(rt: HostRuntime) {
-    let later = Received {
-        section_number: 300,
-        section_offset: 4294967298,
-    };
-    assert!(rt; full_received() < later);
-    let next_section = Received {
-        section_number: 301,
-        section_offset: 0,
-    };
-    assert!(rt; later < next_section);
-}
-
 #[test]
 fn accepted_has_no_fields(rt: HostRuntime) -> Result<(), Fail> {
     check(&Accepted {}, "00532445", rt.alloc())
@@ -75,7 +60,7 @@ fn released_has_no_fields(rt: HostRuntime) -> Result<(), Fail> {
     check(&Released {}, "00532645", rt.alloc())
 }
 
-pub(crate) fn full_rejected(alloc: Global) -> Result<Rejected, Fail> {
+fn full_rejected(alloc: Global) -> Result<Rejected, Fail> {
     Ok(Rejected {
         error: Some(error_of("x", "y", alloc)?),
     })
@@ -91,7 +76,7 @@ fn field_of_a_rejected(rt: HostRuntime) -> Result<(), Fail> {
     )
 }
 
-pub(crate) fn full_modified(alloc: Global) -> Result<Modified, Fail> {
+fn full_modified(alloc: Global) -> Result<Modified, Fail> {
     Ok(Modified {
         delivery_failed: Some(true),
         undeliverable_here: Some(false),
@@ -120,7 +105,7 @@ fn delivery_failed() -> Modified {
     }
 }
 
-pub(crate) fn full_transactional_state(alloc: Global) -> Result<TransactionalState, Fail> {
+fn full_transactional_state(alloc: Global) -> Result<TransactionalState, Fail> {
     Ok(TransactionalState {
         txn_id: binary_of(&[7], alloc)?,
         outcome: Some(Outcome::Modified(delivery_failed())),
@@ -139,7 +124,7 @@ fn fields_of_a_transactional_state(rt: HostRuntime) -> Result<(), Fail> {
     )
 }
 
-pub(crate) fn full_declared(alloc: Global) -> Result<Declared, Fail> {
+fn full_declared(alloc: Global) -> Result<Declared, Fail> {
     Ok(Declared {
         txn_id: binary_of(&[1, 2], alloc)?,
     })
@@ -151,7 +136,7 @@ fn field_of_a_declared(rt: HostRuntime) -> Result<(), Fail> {
     check(&full_declared(alloc)?, "005333c00501a0020102", alloc)
 }
 
-pub(crate) fn full_declare(alloc: Global) -> Result<Declare, Fail> {
+fn full_declare(alloc: Global) -> Result<Declare, Fail> {
     Ok(Declare {
         global_id: Some(binary_of(&[3], alloc)?),
     })
@@ -163,7 +148,7 @@ fn field_of_a_declare(rt: HostRuntime) -> Result<(), Fail> {
     check(&full_declare(alloc)?, "005331c00401a00103", alloc)
 }
 
-pub(crate) fn full_discharge(alloc: Global) -> Result<Discharge, Fail> {
+fn full_discharge(alloc: Global) -> Result<Discharge, Fail> {
     Ok(Discharge {
         txn_id: binary_of(&[4, 5], alloc)?,
         fail: Some(true),

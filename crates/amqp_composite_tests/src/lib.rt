@@ -1,29 +1,18 @@
-//! Tests of composites: each built field by field, written and copied; types that are one of several, and their members; errors by their
-//! texts; what is made by a call; the builders of sources and targets, and lifetimes.
+//! Tests of composites: each built field by field and written; the builders of sources and targets, and lifetimes.
 #![tactic(auto)]
 
 #[cfg(test)]
 mod builders;
 #[cfg(test)]
-mod copies;
-#[cfg(test)]
 mod delivery;
 #[cfg(test)]
-mod errors;
-#[cfg(test)]
 mod growth;
-#[cfg(test)]
-mod makers;
-#[cfg(test)]
-mod members;
 #[cfg(test)]
 mod parts;
 #[cfg(test)]
 mod performatives;
 #[cfg(test)]
 mod sasl;
-#[cfg(test)]
-mod sums;
 #[cfg(test)]
 mod termini;
 #[cfg(test)]

@@ -69,12 +69,3 @@ pub fn error_of(condition: &str, description: &str, alloc: Global) -> Result<Err
         info: None,
     })
 }
-
-/// A copy of the value is equal to it.
-pub fn check_copy<T: Clone + PartialEq + Drop>(value: &T) -> Result<(), Fail> {
-    let copy = value.clone()?;
-    if copy != *value {
-        return Err(Fail::new(format_args!("a copy differs")));
-    }
-    Ok(())
-}

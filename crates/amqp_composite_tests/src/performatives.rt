@@ -14,7 +14,7 @@ use amqp_values::Value;
 use std::alloc::Global;
 use std::test::Fail;
 
-pub(crate) fn full_open(alloc: Global) -> Result<Open, Fail> {
+fn full_open(alloc: Global) -> Result<Open, Fail> {
     Ok(Open {
         container_id: text_of("c", alloc)?,
         hostname: Some(text_of("h", alloc)?),
@@ -49,7 +49,7 @@ fn fields_of_an_open(rt: HostRuntime) -> Result<(), Fail> {
     )
 }
 
-pub(crate) fn full_begin(alloc: Global) -> Result<Begin, Fail> {
+fn full_begin(alloc: Global) -> Result<Begin, Fail> {
     Ok(Begin {
         remote_channel: Some(3),
         next_outgoing_id: 4,
@@ -98,7 +98,7 @@ fn two_unsettled(alloc: Global) -> Result<Unsettled, Fail> {
     Ok(unsettled)
 }
 
-pub(crate) fn full_attach(alloc: Global) -> Result<Attach, Fail> {
+fn full_attach(alloc: Global) -> Result<Attach, Fail> {
     Ok(Attach {
         name: text_of("link", alloc)?,
         handle: Handle(2),
@@ -141,7 +141,7 @@ fn fields_of_an_attach(rt: HostRuntime) -> Result<(), Fail> {
     )
 }
 
-pub(crate) fn full_flow(alloc: Global) -> Result<Flow, Fail> {
+fn full_flow(alloc: Global) -> Result<Flow, Fail> {
     Ok(Flow {
         next_incoming_id: Some(1),
         incoming_window: 2,
@@ -186,7 +186,7 @@ fn fields_of_a_flow(rt: HostRuntime) -> Result<(), Fail> {
     )
 }
 
-pub(crate) fn full_transfer(alloc: Global) -> Result<Transfer, Fail> {
+fn full_transfer(alloc: Global) -> Result<Transfer, Fail> {
     Ok(Transfer {
         handle: Handle(1),
         delivery_id: Some(2),
@@ -239,7 +239,7 @@ fn fields_of_a_transfer(rt: HostRuntime) -> Result<(), Fail> {
     )
 }
 
-pub(crate) fn full_disposition() -> Disposition {
+fn full_disposition() -> Disposition {
     Disposition {
         role: Role::Receiver,
         first: 1,
@@ -271,7 +271,7 @@ fn fields_of_a_disposition(rt: HostRuntime) -> Result<(), Fail> {
     check(&disposition, "005315c00c064252015202400053264541", alloc)
 }
 
-pub(crate) fn full_detach(alloc: Global) -> Result<Detach, Fail> {
+fn full_detach(alloc: Global) -> Result<Detach, Fail> {
     Ok(Detach {
         handle: Handle(3),
         closed: true,
@@ -292,7 +292,7 @@ fn fields_of_a_detach(rt: HostRuntime) -> Result<(), Fail> {
     )
 }
 
-pub(crate) fn full_end(alloc: Global) -> Result<End, Fail> {
+fn full_end(alloc: Global) -> Result<End, Fail> {
     Ok(End {
         error: Some(error_of("x", "y", alloc)?),
     })
@@ -308,7 +308,7 @@ fn field_of_an_end(rt: HostRuntime) -> Result<(), Fail> {
     )
 }
 
-pub(crate) fn full_close(alloc: Global) -> Result<Close, Fail> {
+fn full_close(alloc: Global) -> Result<Close, Fail> {
     Ok(Close {
         error: Some(error_of("x", "y", alloc)?),
     })

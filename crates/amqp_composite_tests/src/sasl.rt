@@ -6,7 +6,7 @@ use amqp_sasl::{SaslChallenge, SaslInit, SaslMechanisms, SaslOutcome, SaslRespon
 use std::alloc::Global;
 use std::test::Fail;
 
-pub(crate) fn full_mechanisms(alloc: Global) -> Result<SaslMechanisms, Fail> {
+fn full_mechanisms(alloc: Global) -> Result<SaslMechanisms, Fail> {
     Ok(SaslMechanisms {
         sasl_server_mechanisms: two_symbols_of("PLAIN", "EXTERNAL", alloc)?,
     })
@@ -23,7 +23,7 @@ fn field_of_mechanisms(rt: HostRuntime) -> Result<(), Fail> {
     )
 }
 
-pub(crate) fn full_init(alloc: Global) -> Result<SaslInit, Fail> {
+fn full_init(alloc: Global) -> Result<SaslInit, Fail> {
     Ok(SaslInit {
         mechanism: symbol_of("PLAIN", alloc)?,
         initial_response: Some(binary_of(&[0, 1, 2], alloc)?),
@@ -44,7 +44,7 @@ fn fields_of_an_init(rt: HostRuntime) -> Result<(), Fail> {
     )
 }
 
-pub(crate) fn full_challenge(alloc: Global) -> Result<SaslChallenge, Fail> {
+fn full_challenge(alloc: Global) -> Result<SaslChallenge, Fail> {
     Ok(SaslChallenge {
         challenge: binary_of(&[1, 2], alloc)?,
     })
@@ -56,7 +56,7 @@ fn field_of_a_challenge(rt: HostRuntime) -> Result<(), Fail> {
     check(&full_challenge(alloc)?, "005342c00501a0020102", alloc)
 }
 
-pub(crate) fn full_response(alloc: Global) -> Result<SaslResponse, Fail> {
+fn full_response(alloc: Global) -> Result<SaslResponse, Fail> {
     Ok(SaslResponse {
         response: binary_of(&[3, 4, 5], alloc)?,
     })
@@ -68,7 +68,7 @@ fn field_of_a_response(rt: HostRuntime) -> Result<(), Fail> {
     check(&full_response(alloc)?, "005343c00601a003030405", alloc)
 }
 
-pub(crate) fn full_outcome(alloc: Global) -> Result<SaslOutcome, Fail> {
+fn full_outcome(alloc: Global) -> Result<SaslOutcome, Fail> {
     Ok(SaslOutcome {
         code: SaslCode::Auth,
         additional_data: Some(binary_of(&[6], alloc)?),

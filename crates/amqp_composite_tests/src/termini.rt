@@ -11,7 +11,7 @@ use amqp_values::Value;
 use std::alloc::Global;
 use std::test::Fail;
 
-pub(crate) fn full_source(alloc: Global) -> Result<Source, Fail> {
+fn full_source(alloc: Global) -> Result<Source, Fail> {
     Ok(Source {
         address: Some(text_of("a", alloc)?),
         durable: TerminusDurability::UnsettledState,
@@ -48,7 +48,7 @@ fn fields_of_a_source(rt: HostRuntime) -> Result<(), Fail> {
     )
 }
 
-pub(crate) fn full_target(alloc: Global) -> Result<Target, Fail> {
+fn full_target(alloc: Global) -> Result<Target, Fail> {
     Ok(Target {
         address: Some(text_of("a", alloc)?),
         durable: TerminusDurability::Configuration,
@@ -77,7 +77,7 @@ fn fields_of_a_target(rt: HostRuntime) -> Result<(), Fail> {
     )
 }
 
-pub(crate) fn full_coordinator(alloc: Global) -> Result<Coordinator, Fail> {
+fn full_coordinator(alloc: Global) -> Result<Coordinator, Fail> {
     let mut capabilities = Array::from(Vec::new(alloc));
     capabilities.push(TxnCapability::LocalTransactions)?;
     capabilities.push(TxnCapability::MultiTxnsPerSsn)?;
