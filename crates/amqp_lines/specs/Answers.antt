@@ -81,57 +81,6 @@ type_name line_type.TransactionalState = codes "transactional-state"
 type_name line_type.Transfer = codes "transfer"
 type_name line_type.Value = codes "value"
 
--- A type of terms, with the type of its values.
-pub record AnyType : Type 1 where
-  pub T : Type 0
-  pub type : TermType T
-
-abbrev pub any_type : {T : Type 0} → TermType T → AnyType
-any_type {T} u = record { T = T; type = u }
-
--- The type that the name stands for.
-abbrev pub type_of : TypeName → AnyType
-type_of line_type.Accepted = any_type (composite accepted)
-type_of line_type.Attach = any_type (composite attach)
-type_of line_type.Begin = any_type (composite begin)
-type_of line_type.Boolean = any_type boolean_type
-type_of line_type.Close = any_type (composite close)
-type_of line_type.Coordinator = any_type (composite coordinator)
-type_of line_type.Declare = any_type (composite declare)
-type_of line_type.Declared = any_type (composite declared)
-type_of line_type.DeleteOnClose = any_type (composite delete_on_close)
-type_of line_type.DeleteOnNoLinks = any_type (composite delete_on_no_links)
-type_of line_type.DeleteOnNoLinksOrMessages = any_type (composite delete_on_no_links_or_messages)
-type_of line_type.DeleteOnNoMessages = any_type (composite delete_on_no_messages)
-type_of line_type.DeliveryState = any_type delivery_state
-type_of line_type.Detach = any_type (composite detach)
-type_of line_type.Discharge = any_type (composite discharge)
-type_of line_type.Disposition = any_type (composite disposition)
-type_of line_type.End = any_type (composite ending)
-type_of line_type.Error = any_type (composite error)
-type_of line_type.ErrorCondition = any_type condition_type
-type_of line_type.Flow = any_type (composite flow)
-type_of line_type.LifetimePolicy = any_type lifetime_policy
-type_of line_type.Modified = any_type (composite modified)
-type_of line_type.Open = any_type (composite opening)
-type_of line_type.Outcome = any_type outcome
-type_of line_type.Performative = any_type performative
-type_of line_type.Received = any_type (composite received)
-type_of line_type.Rejected = any_type (composite rejected)
-type_of line_type.Released = any_type (composite released)
-type_of line_type.SaslChallenge = any_type (composite sasl_challenge)
-type_of line_type.SaslInit = any_type (composite sasl_init)
-type_of line_type.SaslMechanisms = any_type (composite sasl_mechanisms)
-type_of line_type.SaslOutcome = any_type (composite sasl_outcome)
-type_of line_type.SaslResponse = any_type (composite sasl_response)
-type_of line_type.SimpleValue = any_type simple_type
-type_of line_type.Source = any_type (composite source)
-type_of line_type.Target = any_type (composite target)
-type_of line_type.TargetArchetype = any_type target_archetype
-type_of line_type.TransactionalState = any_type (composite transactional_state)
-type_of line_type.Transfer = any_type (composite transfer)
-type_of line_type.Value = any_type value_type
-
 -- The digits stand for the bytes: an even, positive number of them, or `-` for none.
 abbrev pub StandsFor : List ℕ → List ℕ → Type 0
 StandsFor digits input = ((digits ≡ codes "-") × (input ≡ [])) ⊎ ((digits ≡ [] → ⊥) × (decode_of digits ≡ Ok input))
@@ -165,10 +114,88 @@ NoTextOf u input e = IsUnreadable (reading_of u) input e ⊎ IsUnwritten (readin
 
 -- The same of the type with that name.
 abbrev pub IsText : TypeName → List ℕ → List ℕ → ℕ → Type 0
-IsText named = TextOf (type_of named).type
+IsText line_type.Accepted = TextOf (composite accepted)
+IsText line_type.Attach = TextOf (composite attach)
+IsText line_type.Begin = TextOf (composite begin)
+IsText line_type.Boolean = TextOf boolean_type
+IsText line_type.Close = TextOf (composite close)
+IsText line_type.Coordinator = TextOf (composite coordinator)
+IsText line_type.Declare = TextOf (composite declare)
+IsText line_type.Declared = TextOf (composite declared)
+IsText line_type.DeleteOnClose = TextOf (composite delete_on_close)
+IsText line_type.DeleteOnNoLinks = TextOf (composite delete_on_no_links)
+IsText line_type.DeleteOnNoLinksOrMessages = TextOf (composite delete_on_no_links_or_messages)
+IsText line_type.DeleteOnNoMessages = TextOf (composite delete_on_no_messages)
+IsText line_type.DeliveryState = TextOf delivery_state
+IsText line_type.Detach = TextOf (composite detach)
+IsText line_type.Discharge = TextOf (composite discharge)
+IsText line_type.Disposition = TextOf (composite disposition)
+IsText line_type.End = TextOf (composite ending)
+IsText line_type.Error = TextOf (composite error)
+IsText line_type.ErrorCondition = TextOf condition_type
+IsText line_type.Flow = TextOf (composite flow)
+IsText line_type.LifetimePolicy = TextOf lifetime_policy
+IsText line_type.Modified = TextOf (composite modified)
+IsText line_type.Open = TextOf (composite opening)
+IsText line_type.Outcome = TextOf outcome
+IsText line_type.Performative = TextOf performative
+IsText line_type.Received = TextOf (composite received)
+IsText line_type.Rejected = TextOf (composite rejected)
+IsText line_type.Released = TextOf (composite released)
+IsText line_type.SaslChallenge = TextOf (composite sasl_challenge)
+IsText line_type.SaslInit = TextOf (composite sasl_init)
+IsText line_type.SaslMechanisms = TextOf (composite sasl_mechanisms)
+IsText line_type.SaslOutcome = TextOf (composite sasl_outcome)
+IsText line_type.SaslResponse = TextOf (composite sasl_response)
+IsText line_type.SimpleValue = TextOf simple_type
+IsText line_type.Source = TextOf (composite source)
+IsText line_type.Target = TextOf (composite target)
+IsText line_type.TargetArchetype = TextOf target_archetype
+IsText line_type.TransactionalState = TextOf (composite transactional_state)
+IsText line_type.Transfer = TextOf (composite transfer)
+IsText line_type.Value = TextOf value_type
 
 abbrev pub HasNoText : TypeName → List ℕ → Error → Type 0
-HasNoText named = NoTextOf (type_of named).type
+HasNoText line_type.Accepted = NoTextOf (composite accepted)
+HasNoText line_type.Attach = NoTextOf (composite attach)
+HasNoText line_type.Begin = NoTextOf (composite begin)
+HasNoText line_type.Boolean = NoTextOf boolean_type
+HasNoText line_type.Close = NoTextOf (composite close)
+HasNoText line_type.Coordinator = NoTextOf (composite coordinator)
+HasNoText line_type.Declare = NoTextOf (composite declare)
+HasNoText line_type.Declared = NoTextOf (composite declared)
+HasNoText line_type.DeleteOnClose = NoTextOf (composite delete_on_close)
+HasNoText line_type.DeleteOnNoLinks = NoTextOf (composite delete_on_no_links)
+HasNoText line_type.DeleteOnNoLinksOrMessages = NoTextOf (composite delete_on_no_links_or_messages)
+HasNoText line_type.DeleteOnNoMessages = NoTextOf (composite delete_on_no_messages)
+HasNoText line_type.DeliveryState = NoTextOf delivery_state
+HasNoText line_type.Detach = NoTextOf (composite detach)
+HasNoText line_type.Discharge = NoTextOf (composite discharge)
+HasNoText line_type.Disposition = NoTextOf (composite disposition)
+HasNoText line_type.End = NoTextOf (composite ending)
+HasNoText line_type.Error = NoTextOf (composite error)
+HasNoText line_type.ErrorCondition = NoTextOf condition_type
+HasNoText line_type.Flow = NoTextOf (composite flow)
+HasNoText line_type.LifetimePolicy = NoTextOf lifetime_policy
+HasNoText line_type.Modified = NoTextOf (composite modified)
+HasNoText line_type.Open = NoTextOf (composite opening)
+HasNoText line_type.Outcome = NoTextOf outcome
+HasNoText line_type.Performative = NoTextOf performative
+HasNoText line_type.Received = NoTextOf (composite received)
+HasNoText line_type.Rejected = NoTextOf (composite rejected)
+HasNoText line_type.Released = NoTextOf (composite released)
+HasNoText line_type.SaslChallenge = NoTextOf (composite sasl_challenge)
+HasNoText line_type.SaslInit = NoTextOf (composite sasl_init)
+HasNoText line_type.SaslMechanisms = NoTextOf (composite sasl_mechanisms)
+HasNoText line_type.SaslOutcome = NoTextOf (composite sasl_outcome)
+HasNoText line_type.SaslResponse = NoTextOf (composite sasl_response)
+HasNoText line_type.SimpleValue = NoTextOf simple_type
+HasNoText line_type.Source = NoTextOf (composite source)
+HasNoText line_type.Target = NoTextOf (composite target)
+HasNoText line_type.TargetArchetype = NoTextOf target_archetype
+HasNoText line_type.TransactionalState = NoTextOf (composite transactional_state)
+HasNoText line_type.Transfer = NoTextOf (composite transfer)
+HasNoText line_type.Value = NoTextOf value_type
 
 -- The line is answered so, and this says whether that is `ok`: by the canonical text and the number of the bytes behind
 -- the value, or by why there is none, which may be want of memory.
