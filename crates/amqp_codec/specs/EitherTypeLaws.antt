@@ -7,7 +7,6 @@ use Rattle.amqp_model.specs.Text.{form}
 use Rattle.amqp_model.specs.Items.{is_null}
 use Rattle.amqp_model.specs.FieldType.{Norm, normal, unchanged, by_norm}
 use Rattle.amqp_wire.specs.declared.error.Error.{Error}
-use Rattle.amqp_wire.specs.declared.error.Error.TheVariants.{Memory}
 use Rattle.amqp_decoder.specs.State.{State}
 use Rattle.amqp_decoder.specs.Reading.{PeeksCode}
 use Rattle.amqp_decoder.specs.Rooms.{HasRoom}
@@ -16,9 +15,10 @@ use Rattle.amqp_decoder.proofs.Misspelled.{begin_misspelled}
 use Rattle.amqp_decoder.proofs.NothingInside.{nothing_peeked}
 use Rattle.amqp_decoder.proofs.Rooms.{room_peeked}
 use Rattle.amqp_decoder.specs.OtherSource.{Setting, under, KeepsError, begin_fault, peeked}
-use Rattle.amqp_decoder.proofs.NotMemory.{begin_not_memory}
+use Rattle.amqp_decoder.proofs.NotOutside.{begin_not_outside}
 use Rattle.amqp_decoder.proofs.ReadPrimitives.{begun_same, fault_not_begun}
 use Rattle.amqp_model.specs.ItemLaws.{clash}
+use Rattle.amqp_decoder.specs.Steps.{IsOutside}
 use Rattle.amqp_codec.specs.Faults.{Faults}
 use Rattle.amqp_codec.specs.TermType.{TermType, View, view_of, Agrees, Rewrites, IgnoresStanding, Meant, IsNoShorter}
 use Rattle.amqp_codec.specs.EitherMeaning.{either, IsEither, SameEither, each_normal, norm_either, FormsApart, EitherFault, no_value}
@@ -127,10 +127,10 @@ module _ {A B : Type 0} (u : TermType A) (w : TermType B) where
   either_least l b t (inr x) = w.least (second_so u.is_least w.is_least l) b t x
 
 module _ (is_first : ℕ → Bool) (f g : Faults) where
-  pub either_not_memory : (st : State) → EitherFault is_first f g st Memory → ⊥
-  either_not_memory st (no_value h) = begin_not_memory st h
-  either_not_memory st (in_first {c} {mid} p is h) = f.not_memory mid h
-  either_not_memory st (in_second {c} {mid} p is h) = g.not_memory mid h
+  pub either_not_outside : {e : Error} → IsOutside e → (st : State) → EitherFault is_first f g st e → ⊥
+  either_not_outside out st (no_value h) = begin_not_outside out st h
+  either_not_outside out st (in_first {c} {mid} p is h) = f.not_outside _ out mid h
+  either_not_outside out st (in_second {c} {mid} p is h) = g.not_outside _ out mid h
 
   pub either_elsewhere : (s : Setting) (st : State) (e : Error) → KeepsError s e → EitherFault is_first f g st e
       → EitherFault is_first f g (under s st) e

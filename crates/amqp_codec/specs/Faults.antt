@@ -1,16 +1,16 @@
 -- Which errors a read may answer of what stands before a decoder.
 use Rattle.amqp_wire.specs.declared.error.Error.{Error}
-use Rattle.amqp_wire.specs.declared.error.Error.TheVariants.{Memory}
 use Rattle.amqp_decoder.specs.State.{State}
 use Rattle.amqp_decoder.specs.OtherSource.{Setting, under, KeepsError}
 use Rattle.amqp_decoder.specs.Rooms.{HasRoom}
 use Rattle.amqp_decoder.specs.Misspelled.{IsMisspelling, NothingStands}
+use Rattle.amqp_decoder.specs.Steps.{IsOutside}
 
 pub record Faults : Type 1 where
   -- the error names a fault of what stands there
   pub fault : State → Error → Type 0
-  -- it isn't want of memory
-  pub not_memory : (st : State) → fault st Memory → ⊥
+  -- it is neither want of memory nor the source's
+  pub not_outside : (e : Error) → IsOutside e → (st : State) → fault st e → ⊥
   -- it hangs neither on the source nor, unless it is `Depth`, on how deep values may nest
   pub fault_elsewhere : (c : Setting) (st : State) (e : Error) → KeepsError c e → fault st e → fault (under c st) e
   -- where it says of bytes that they are no term, none stands there

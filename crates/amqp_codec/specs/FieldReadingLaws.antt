@@ -1,6 +1,7 @@
 -- Lemmas of how the fields of a composite are read, one after another.
-use Rattle.std.proofs.Common.{◌≡◌, ℕ, zero, suc, ◌<◌, ◌≤◌, true, false, List, [], ◌∷◌, ◌++◌, length, get_or, Some, None, Ok, Err, refl}
-use Rattle.std.proofs.Common.{arith}
+use Rattle.std.proofs.Common.{subst, ◌≡◌, ℕ, zero, suc, ◌<◌, ◌≤◌, true, false, List, [], ◌∷◌, ◌++◌, length, get_or, Some, None, Ok, Err, refl}
+use Rattle.std.proofs.Common.{arith, ap, sym, unwrap_or}
+use Rattle.amqp_wire.specs.declared.error.Error.TheVariants.{Missing}
 use Rattle.amqp_model.specs.Term.{null, list, Term, leaf}
 use Rattle.amqp_model.specs.Standing.{Standing}
 use Rattle.amqp_model.specs.Items.{is_null}
@@ -8,13 +9,13 @@ use Rattle.amqp_model.specs.Slot.{is_required}
 use Rattle.amqp_model.specs.Fields.{Fits, rules_of}
 use Rattle.amqp_model.specs.declared.tables.FieldRule.{FieldRule}
 use Rattle.amqp_wire.specs.declared.error.Error.{Error}
-use Rattle.amqp_wire.specs.declared.error.Error.TheVariants.{Memory}
 use Rattle.amqp_model.specs.declared.tables.FieldRule.TheVariants.{Mandatory, Optional, Default, Multiple, MandatoryMultiple}
 use Rattle.amqp_decoder.specs.declared.frame.Place.TheVariants.{InList}
 use Rattle.amqp_decoder.specs.State.{State}
 use Rattle.amqp_decoder.specs.Reading.{RefusesRead}
 use Rattle.amqp_decoder.specs.Primitives.{ReadsValue}
-use Rattle.amqp_decoder.proofs.NotMemory.{begin_not_memory, open_not_memory, close_not_memory}
+use Rattle.amqp_decoder.proofs.NotOutside.{begin_not_outside, open_not_outside, close_not_outside}
+use Rattle.amqp_decoder.specs.Steps.{IsOutside}
 use Rattle.amqp_codec.specs.RefusalLaws.{refused_first}
 use Rattle.amqp_codec.specs.Fields.{Fields, none, field, slots, take_memory}
 use Rattle.amqp_codec.specs.FieldsLaws.{either_first, either_second}
@@ -133,25 +134,25 @@ not_absent Default h = refl
 not_absent Multiple h = refl
 
 -- No fault of a field is want of memory.
-fault_at_not_memory : {V : Type 0} (fs : Fields V) (i : ℕ) (st : State) → FaultAt fs i st Memory → ⊥
-fault_at_not_memory none i st f = f
-fault_at_not_memory (field get f fs) zero st x = f.faults.not_memory st x
-fault_at_not_memory (field get f fs) (suc i) st x = fault_at_not_memory fs i st x
+fault_at_not_outside : {e : Error} → IsOutside e → {V : Type 0} (fs : Fields V) (i : ℕ) (st : State) → FaultAt fs i st e → ⊥
+fault_at_not_outside out none i st f = f
+fault_at_not_outside out (field get f fs) zero st x = f.faults.not_outside _ out st x
+fault_at_not_outside out (field get f fs) (suc i) st x = fault_at_not_outside out fs i st x
 
-absence_not_memory : (k : FieldRule) → absence k ≡ Some Memory → ⊥
-absence_not_memory Mandatory e = cc
-absence_not_memory MandatoryMultiple e = cc
-absence_not_memory Optional e = cc
-absence_not_memory Default e = cc
-absence_not_memory Multiple e = cc
+absence_not_outside : {e : Error} → IsOutside e → (k : FieldRule) → absence k ≡ Some e → ⊥
+absence_not_outside out Mandatory h = subst IsOutside (sym (ap (λ x. unwrap_or x Missing) h)) out
+absence_not_outside out MandatoryMultiple h = subst IsOutside (sym (ap (λ x. unwrap_or x Missing) h)) out
+absence_not_outside out Optional h = cc
+absence_not_outside out Default h = cc
+absence_not_outside out Multiple h = cc
 
-item_not_memory : {V : Type 0} (fs : Fields V) (i : ℕ) (st : State) → ItemFault fs i st Memory → ⊥
-item_not_memory fs i st (no_item f) = begin_not_memory st f
-item_not_memory fs i st (null_item h is) = absence_not_memory (rule_at fs i) is
-item_not_memory fs i st (in_item {c} {mid} p n f) = fault_at_not_memory fs i mid f
+item_not_outside : {e : Error} → IsOutside e → {V : Type 0} (fs : Fields V) (i : ℕ) (st : State) → ItemFault fs i st e → ⊥
+item_not_outside out fs i st (no_item f) = begin_not_outside out st f
+item_not_outside out fs i st (null_item h is) = absence_not_outside out (rule_at fs i) is
+item_not_outside out fs i st (in_item {c} {mid} p n f) = fault_at_not_outside out fs i mid f
 
-pub fields_not_memory : {V : Type 0} (fs : Fields V) (st : State) → FieldsFault fs st Memory → ⊥
-fields_not_memory fs st (no_list f) = open_not_memory list st f
-fields_not_memory fs st (at_item {n} {i} {v} {mid} h l k f) = item_not_memory fs i mid f
-fields_not_memory fs st (left_out {n} {i} h l k is) = absence_not_memory (rule_at fs i) is
-fields_not_memory fs st (not_ended {n} {v} {mid} h f) = close_not_memory InList mid f
+pub fields_not_outside : {e : Error} → IsOutside e → {V : Type 0} (fs : Fields V) (st : State) → FieldsFault fs st e → ⊥
+fields_not_outside out fs st (no_list f) = open_not_outside out list st f
+fields_not_outside out fs st (at_item {n} {i} {v} {mid} h l k f) = item_not_outside out fs i mid f
+fields_not_outside out fs st (left_out {n} {i} h l k is) = absence_not_outside out (rule_at fs i) is
+fields_not_outside out fs st (not_ended {n} {v} {mid} h f) = close_not_outside out InList mid f

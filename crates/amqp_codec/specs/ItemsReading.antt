@@ -4,7 +4,6 @@ use Rattle.amqp_model.specs.Term.{Container, Term, Terms, container}
 use Rattle.amqp_model.specs.Items.{items_of}
 use Rattle.amqp_model.specs.Standing.{Standing}
 use Rattle.amqp_wire.specs.declared.error.Error.{Error}
-use Rattle.amqp_wire.specs.declared.error.Error.TheVariants.{Memory}
 use Rattle.amqp_decoder.specs.State.{State}
 use Rattle.amqp_decoder.specs.OtherSource.{Setting, under, KeepsError}
 use Rattle.amqp_decoder.specs.Rooms.{HasRoom}
@@ -12,6 +11,7 @@ use Rattle.amqp_decoder.specs.Misspelled.{IsMisspelling, NothingStands}
 use Rattle.amqp_decoder.specs.Primitives.{ReadsValue}
 use Rattle.amqp_decoder.specs.Containers.{place_of, Closes, CloseFault}
 use Rattle.amqp_decoder.specs.Items.{Next, NextWithParts, Row, row_standings}
+use Rattle.amqp_decoder.specs.Steps.{IsOutside}
 use Rattle.amqp_codec.specs.Each.{IsListOrArray}
 
 -- The values were read one after another.
@@ -64,7 +64,7 @@ pub record Opening : Type 1 where
       → NextWithParts st (container kind ts) (row_standings h.first (items_of ts) h.bytes h.last h.row) st'
   pub held : (st : State) (ts : Terms) (st' : State) → fits st → Next st (container kind ts) st' → Held kind opens st (items_of ts) st'
   -- of the faults, of another source and of what is no term
-  pub not_memory : (st : State) → fault st Memory → ⊥
+  pub not_outside : (e : Error) → IsOutside e → (st : State) → fault st e → ⊥
   pub opens_elsewhere : (c : Setting) (st : State) (n : ℕ) (first : State) → opens st n first → opens (under c st) n (under c first)
   pub fault_elsewhere : (c : Setting) (st : State) (e : Error) → KeepsError c e → fault st e → fault (under c st) e
   pub misspelled : (st : State) (e : Error) → HasRoom st → IsMisspelling e → fault st e → NothingStands st

@@ -4,7 +4,6 @@ use Rattle.amqp_model.specs.Term.{Container, Term, Terms, container, none, more,
 use Rattle.amqp_model.specs.Items.{items_of}
 use Rattle.amqp_model.specs.Standing.{Standing, Parts}
 use Rattle.amqp_wire.specs.declared.error.Error.{Error}
-use Rattle.amqp_wire.specs.declared.error.Error.TheVariants.{Memory}
 use Rattle.amqp_decoder.specs.State.{State, after_value}
 use Rattle.amqp_decoder.specs.OtherSource.{Setting, under, KeepsError, value, close_fault}
 use Rattle.amqp_decoder.specs.Rooms.{HasRoom}
@@ -13,8 +12,9 @@ use Rattle.amqp_decoder.specs.Primitives.{standing, Stands, ReadsValue}
 use Rattle.amqp_decoder.specs.Items.{Next, NextWithParts, Row, row_standings}
 use Rattle.amqp_decoder.proofs.ContainerTerms.{together, used_up}
 use Rattle.amqp_decoder.proofs.OneReading.{value_same, stands_same}
-use Rattle.amqp_decoder.proofs.NotMemory.{close_not_memory}
+use Rattle.amqp_decoder.proofs.NotOutside.{close_not_outside}
 use Rattle.amqp_decoder.proofs.Rooms.{room_row}
+use Rattle.amqp_decoder.specs.Steps.{IsOutside}
 use Rattle.amqp_codec.specs.Faults.{Faults}
 use Rattle.amqp_codec.specs.TermType.{TermType}
 use Rattle.amqp_codec.specs.Each.{EachMeans, MeansItems}
@@ -118,10 +118,10 @@ module _ {T : Type 0} (o : Opening) (means : Standing → Term → T → Type 0)
   abbrev Fault : State → Error → Type 0
   Fault = ItemsFault o means f.fault
 
-  pub items_not_memory : (st : State) → Fault st Memory → ⊥
-  items_not_memory st (unopened h) = o.not_memory st h
-  items_not_memory st (at_item {n} {first} k h) = f.not_memory h.mid h.named
-  items_not_memory st (unclosed {n} {first} {vs} {last} k h c) = close_not_memory _ last c
+  pub items_not_outside : {e : Error} → IsOutside e → (st : State) → Fault st e → ⊥
+  items_not_outside out st (unopened h) = o.not_outside _ out st h
+  items_not_outside out st (at_item {n} {first} k h) = f.not_outside _ out h.mid h.named
+  items_not_outside out st (unclosed {n} {first} {vs} {last} k h c) = close_not_outside out _ last c
 
   pub items_elsewhere : (c : Setting) (st : State) (e : Error) → KeepsError c e → Fault st e → Fault (under c st) e
   items_elsewhere c st e keeps (unopened h) = unopened (o.fault_elsewhere c st e keeps h)

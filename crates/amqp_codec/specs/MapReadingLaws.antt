@@ -6,7 +6,6 @@ use Rattle.amqp_model.specs.Items.{items_of}
 use Rattle.amqp_model.specs.Standing.{Standing, Parts}
 use Rattle.amqp_model.specs.FieldType.{normal}
 use Rattle.amqp_wire.specs.declared.error.Error.{Error}
-use Rattle.amqp_wire.specs.declared.error.Error.TheVariants.{Memory}
 use Rattle.amqp_decoder.specs.declared.frame.Place.TheVariants.{InMap}
 use Rattle.amqp_decoder.specs.State.{State, after_value}
 use Rattle.amqp_decoder.specs.OtherSource.{Setting, under, KeepsError, value as value_elsewhere, opens, open_fault, close_fault}
@@ -19,8 +18,9 @@ use Rattle.amqp_decoder.proofs.ContainerTerms.{whole_with_parts, parts, together
 use Rattle.amqp_decoder.proofs.OneReading.{value_same, stands_same}
 use Rattle.amqp_decoder.proofs.Misspelled.{open_misspelled}
 use Rattle.amqp_decoder.proofs.NothingInside.{nothing_in_container, nothing_at_end}
-use Rattle.amqp_decoder.proofs.NotMemory.{open_not_memory, close_not_memory}
+use Rattle.amqp_decoder.proofs.NotOutside.{open_not_outside, close_not_outside}
 use Rattle.amqp_decoder.proofs.Rooms.{room_inside, room_row}
+use Rattle.amqp_decoder.specs.Steps.{IsOutside}
 use Rattle.amqp_codec.specs.Faults.{Faults}
 use Rattle.amqp_codec.specs.TermType.{TermType}
 use Rattle.amqp_codec.specs.EitherMeaning.{IsEither}
@@ -99,15 +99,15 @@ module _ {K V : Type 0} (key : TermType K) (value : TermType V) where
       unclosed (opens c o) (record { long = r.long; each = pairs_elsewhere c first ps last r.each; others = r.others })
       (close_fault c keeps f)
 
-  row_not_memory : (n : ℕ) (st : State) → PairsFault key value n st Memory → ⊥
-  row_not_memory n st (at_key ps mid h f) = key.faults.not_memory mid f
-  row_not_memory n st (twice ps mid after k h r same is) = cc
-  row_not_memory n st (at_value ps mid after k h r new f) = value.faults.not_memory after f
+  row_not_outside : {e : Error} → IsOutside e → (n : ℕ) (st : State) → PairsFault key value n st e → ⊥
+  row_not_outside out n st (at_key ps mid h f) = key.faults.not_outside _ out mid f
+  row_not_outside out n st (twice ps mid after k h r same is) = subst IsOutside is out
+  row_not_outside out n st (at_value ps mid after k h r new f) = value.faults.not_outside _ out after f
 
-  pub map_not_memory : (st : State) → MapFault key value st Memory → ⊥
-  map_not_memory st (unopened h) = open_not_memory map st h
-  map_not_memory st (at_pair {n} {first} o f) = row_not_memory n first f
-  map_not_memory st (unclosed {n} {first} {ps} {last} o r f) = close_not_memory _ last f
+  pub map_not_outside : {e : Error} → IsOutside e → (st : State) → MapFault key value st e → ⊥
+  map_not_outside out st (unopened h) = open_not_outside out map st h
+  map_not_outside out st (at_pair {n} {first} o f) = row_not_outside out n first f
+  map_not_outside out st (unclosed {n} {first} {ps} {last} o r f) = close_not_outside out _ last f
 
   row_misspelled : (st : State) (n : ℕ) (first : State) (e : Error) → IsMisspelling e → Opens map st (2 * n) first
       → PairsFault key value n first e → NothingStands st
@@ -140,7 +140,7 @@ module _ {K V : Type 0} (key : TermType K) (value : TermType V) where
   abbrev pub map_faults : Faults
   map_faults = record {
     fault = MapFault key value;
-    not_memory = map_not_memory;
+    not_outside = λ e out. map_not_outside out;
     fault_elsewhere = map_elsewhere;
     misspelled = map_misspelled;
   }

@@ -16,15 +16,15 @@ use Rattle.amqp_decoder.specs.Items.{Next}
 use Rattle.amqp_decoder.proofs.Descriptions.{described_term, term_described}
 use Rattle.amqp_lookahead.proofs.Members.{place_is}
 use Rattle.amqp_decoder.proofs.OneReading.{next_same}
-use Rattle.amqp_decoder.proofs.NotMemory.{one_of_not_memory, end_not_memory}
-use Rattle.amqp_wire.specs.declared.error.Error.TheVariants.{Memory}
+use Rattle.amqp_decoder.proofs.NotOutside.{one_of_not_outside, end_not_outside}
+use Rattle.amqp_decoder.specs.Steps.{IsOutside}
 use Rattle.amqp_codec.specs.RefusalLaws.{no_memory, described_going, described_sound, refused_first, refused_later}
 use Rattle.amqp_codec.specs.Members.{Members, MemberRead, MemberFault, IsSum, no_member, in_member, not_ended}
 
-pub member_not_memory : {V : Type 0} (m : Members V) (st : State) → MemberFault m st Memory → ⊥
-member_not_memory m st (no_member {ms} names f) = one_of_not_memory ms st f
-member_not_memory m st (in_member {d} {i} {inner} o at f) = (m.faults i).not_memory inner f
-member_not_memory m st (not_ended {d} {i} {inner} {last} {v} o at q f) = end_not_memory InDescribed last f
+pub member_not_outside : {e : Error} → IsOutside e → {V : Type 0} (m : Members V) (st : State) → MemberFault m st e → ⊥
+member_not_outside out m st (no_member {ms} names f) = one_of_not_outside out ms st f
+member_not_outside out m st (in_member {d} {i} {inner} o at f) = (m.faults i).not_outside _ out inner f
+member_not_outside out m st (not_ended {d} {i} {inner} {last} {v} o at q f) = end_not_outside out InDescribed last f
 
 one_place : {i j : ℕ} {o p : Option ℕ} → o ≡ p → o ≡ Some i → p ≡ Some j → i ≡ j
 one_place {i} {j} e f g = ap (λ x. Rattle.std.proofs.Common.unwrap_or x i) (sym f ∙ e ∙ g)

@@ -6,14 +6,14 @@ use Rattle.amqp_model.specs.OptionLaws.{option_refl, option_sym, option_trans}
 use Rattle.amqp_codec.specs.Faults.{Faults}
 use Rattle.amqp_codec.specs.TermType.{TermType}
 use Rattle.amqp_codec.specs.OptionMeaning.{MeansOption, OptionFault, norm_option, count_option}
-use Rattle.amqp_codec.specs.OptionTypeLaws.{option_not_memory, option_elsewhere, option_misspelled, option_agrees, option_one}
+use Rattle.amqp_codec.specs.OptionTypeLaws.{option_not_outside, option_elsewhere, option_misspelled, option_agrees, option_one}
 use Rattle.amqp_codec.specs.OptionTypeLaws.{option_rewrites, option_norm_norm, option_own, option_meant, option_formed, option_ignores}
 use Rattle.amqp_codec.specs.OptionTypeLaws.{option_least}
 
 abbrev pub option_faults : Faults → Faults
 option_faults f = record {
   fault = OptionFault f.fault;
-  not_memory = option_not_memory f;
+  not_outside = λ e out. option_not_outside out f;
   fault_elsewhere = option_elsewhere f;
   misspelled = option_misspelled f;
 }

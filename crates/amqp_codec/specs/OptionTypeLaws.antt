@@ -15,8 +15,8 @@ use Rattle.amqp_decoder.specs.Misspelled.{IsMisspelling, NothingStands}
 use Rattle.amqp_decoder.proofs.Misspelled.{begin_misspelled}
 use Rattle.amqp_decoder.proofs.NothingInside.{nothing_peeked}
 use Rattle.amqp_decoder.proofs.Rooms.{room_peeked}
-use Rattle.amqp_decoder.proofs.NotMemory.{begin_not_memory}
-use Rattle.amqp_wire.specs.declared.error.Error.TheVariants.{Memory}
+use Rattle.amqp_decoder.proofs.NotOutside.{begin_not_outside}
+use Rattle.amqp_decoder.specs.Steps.{IsOutside}
 use Rattle.amqp_codec.specs.NullsAlike.{nulls_alike}
 use Rattle.amqp_codec.specs.Faults.{Faults}
 use Rattle.amqp_codec.specs.TermType.{TermType, View, view_of, view_in, Agrees, Rewrites, IgnoresStanding, Meant, IsNoShorter}
@@ -24,9 +24,9 @@ use Rattle.amqp_codec.specs.PrimitiveTermLaws.{reads_leaf}
 use Rattle.amqp_codec.specs.NullLaws.{nulls_alike-null, is_null-nulls_alike, null_form, null_meant, null_least}
 use Rattle.amqp_codec.specs.OptionMeaning.{MeansOption, OptionFault, keep, norm_option, count_option}
 
-pub option_not_memory : (f : Faults) (st : State) → OptionFault f.fault st Memory → ⊥
-option_not_memory f st (inl h) = begin_not_memory st h
-option_not_memory f st (inr (c, mid, p, n, h)) = f.not_memory mid h
+pub option_not_outside : {e : Error} → IsOutside e → (f : Faults) (st : State) → OptionFault f.fault st e → ⊥
+option_not_outside out f st (inl h) = begin_not_outside out st h
+option_not_outside out f st (inr (c, mid, p, n, h)) = f.not_outside _ out mid h
 
 pub option_elsewhere : (f : Faults) (s : Setting) (st : State) (e : Error) → KeepsError s e → OptionFault f.fault st e
     → OptionFault f.fault (under s st) e

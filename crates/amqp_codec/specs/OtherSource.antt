@@ -3,16 +3,16 @@ use Rattle.amqp_codec.specs.Faults.{Faults}
 use Rattle.amqp_codec.specs.MisspellingLaws.{fields_misspelled, member_misspelled}
 use Rattle.amqp_codec.specs.Fields.{Fields}
 use Rattle.amqp_codec.specs.FieldReading.{FieldsFault}
-use Rattle.amqp_codec.specs.FieldReadingLaws.{fields_not_memory}
+use Rattle.amqp_codec.specs.FieldReadingLaws.{fields_not_outside}
 use Rattle.amqp_codec.specs.Members.{Members, MemberFault}
-use Rattle.amqp_codec.specs.MembersLaws.{member_not_memory}
+use Rattle.amqp_codec.specs.MembersLaws.{member_not_outside}
 use Rattle.amqp_codec.specs.OtherSourceLaws.{fields_fault, member_fault}
 
 -- Why the fields of a table aren't read.
 abbrev pub fields_faults : {V : Type 0} → Fields V → Faults
 fields_faults fs = record {
   fault = FieldsFault fs;
-  not_memory = fields_not_memory fs;
+  not_outside = λ e out. fields_not_outside out fs;
   fault_elsewhere = λ c st e keeps. fields_fault c e keeps fs st;
   misspelled = fields_misspelled fs;
 }
@@ -21,7 +21,7 @@ fields_faults fs = record {
 abbrev pub member_faults : {V : Type 0} → Members V → Faults
 member_faults m = record {
   fault = MemberFault m;
-  not_memory = member_not_memory m;
+  not_outside = λ e out. member_not_outside out m;
   fault_elsewhere = λ c st e keeps. member_fault c e keeps m st;
   misspelled = member_misspelled m;
 }

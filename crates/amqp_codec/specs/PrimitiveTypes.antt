@@ -11,7 +11,7 @@ use Rattle.amqp_model.specs.Items.{is_null_primitive}
 use Rattle.amqp_lookahead.specs.Kinds.{nulls, booleans, ubytes, ushorts, uints, ulongs, bytes, shorts, ints, longs, decimals32, decimals64}
 use Rattle.amqp_lookahead.specs.Kinds.{decimals128, chars, timestamps, uuids, binaries, strings, symbols}
 use Rattle.amqp_decoder.specs.Primitives.{PrimitiveFault}
-use Rattle.amqp_decoder.proofs.NotMemory.{primitive_not_memory}
+use Rattle.amqp_decoder.proofs.NotOutside.{primitive_not_outside}
 use Rattle.amqp_decoder.proofs.Misspelled.{primitive_misspelled}
 use Rattle.amqp_decoder.specs.OtherSource.{primitive_fault}
 use Rattle.amqp_codec.specs.ExactType.{MeansExactly, IsExact, exact}
@@ -29,7 +29,7 @@ pub record IsKind {A : Type 0} (make : A → Primitive) (range : A → Type 0) (
 abbrev pub primitive_faults : ℕ → Faults
 primitive_faults k = record {
   fault = PrimitiveFault k;
-  not_memory = primitive_not_memory k;
+  not_outside = λ e out. primitive_not_outside out k;
   fault_elsewhere = λ c st e. primitive_fault c;
   misspelled = λ st e _ i. primitive_misspelled k st e i;
 }

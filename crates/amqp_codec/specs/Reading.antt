@@ -4,10 +4,11 @@ use Rattle.amqp_model.specs.Term.{Term}
 use Rattle.amqp_model.specs.Spelling.{enc}
 use Rattle.amqp_model.specs.Measures.{nest}
 use Rattle.amqp_wire.specs.declared.error.Error.{Error}
-use Rattle.amqp_wire.specs.declared.error.Error.TheVariants.{Memory, Depth}
+use Rattle.amqp_wire.specs.declared.error.Error.TheVariants.{Depth}
 use Rattle.amqp_decoder.specs.State.{State, top_level}
 use Rattle.amqp_decoder.specs.OtherSource.{elsewhere}
 use Rattle.amqp_decoder.specs.Misspelled.{IsMisspelling}
+use Rattle.amqp_decoder.specs.Steps.{IsOutside}
 
 -- The bytes in front were taken, and none behind them from the source, unless the type looks on.
 pub record Taken (looks_on : Bool) (st : State) (b : State) : Type 0 where
@@ -49,9 +50,9 @@ pub record Reading (T : Type 0) : Type 1 where
   pub same : T → T → Type 0
   -- from the first state the value is read, and the second is left
   pub reads : State → T → State → Type 0
-  -- the error names a fault that stands there; it isn't want of memory
+  -- the error names a fault that stands there; it is neither want of memory nor the source's
   pub fault : State → Error → Type 0
-  pub not_memory : (st : State) → fault st Memory → ⊥
+  pub not_outside : (e : Error) → IsOutside e → (st : State) → fault st e → ⊥
   -- reading it takes memory
   pub takes_memory : Bool
   -- the values in it

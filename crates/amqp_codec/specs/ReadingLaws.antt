@@ -1,5 +1,5 @@
 -- Lemmas of what it is to read a value: of the terms of a type, and of a whole input.
-use Rattle.std.proofs.Common.{◌≡◌, inl, inr, ℕ, ◌+◌, ◌≤◌, Bool, true, false, List, length, max, None, ◌⊎◌, refl, ap, ◌∙◌, subst, arith, ◌-◌}
+use Rattle.std.proofs.Common.{sym, ◌≡◌, inl, inr, ℕ, ◌+◌, ◌≤◌, Bool, true, false, List, length, max, None, ◌⊎◌, refl, ap, ◌∙◌, subst, arith, ◌-◌}
 use Rattle.std.proofs.Common.{length-append}
 use Rattle.std.proofs.lemmas.List.{length-drop}
 use Rattle.amqp_model.specs.Term.{Term}
@@ -14,6 +14,7 @@ use Rattle.amqp_decoder.specs.OtherSource.{Setting, under}
 use Rattle.amqp_decoder.specs.Misspelled.{IsMisspelling}
 use Rattle.amqp_decoder.specs.Primitives.{standing, SpellsAs, ReadsValue}
 use Rattle.amqp_decoder.proofs.OneReading.{value_same}
+use Rattle.amqp_decoder.specs.Steps.{IsOutside}
 use Rattle.amqp_codec.specs.TermType.{TermType}
 use Rattle.amqp_codec.specs.Reading.{Taken, Stays, looking, AreAlike, start, IsUnspelled, Reading, BeginsWith, IsUnreadable}
 
@@ -150,4 +151,4 @@ is_read r input v b n h e = record { after = b; read = h; left = omega (arith, e
 pub memory_wanted : {T : Type 0} (r : Reading T) (input : List ℕ) (e : Error) → ((r.takes_memory ≡ true) × (e ≡ Memory))
     ⊎ IsUnreadable r input e → e ≡ Memory → r.takes_memory ≡ true
 memory_wanted r input e (inl x) is = x.0
-memory_wanted r input e (inr x) is = absurd (r.not_memory (start input) (subst (r.fault (start input)) is x.fault))
+memory_wanted r input e (inr x) is = absurd (r.not_outside e (subst IsOutside (sym is) tt) (start input) x.fault)

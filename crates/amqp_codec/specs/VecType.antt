@@ -10,7 +10,7 @@ use Rattle.amqp_decoder.specs.OtherSource.{opens, open_fault}
 use Rattle.amqp_decoder.proofs.Misspelled.{open_misspelled}
 use Rattle.amqp_decoder.proofs.NothingInside.{nothing_in_container, nothing_at_end}
 use Rattle.amqp_decoder.proofs.Rooms.{room_inside}
-use Rattle.amqp_decoder.proofs.NotMemory.{open_not_memory}
+use Rattle.amqp_decoder.proofs.NotOutside.{open_not_outside}
 use Rattle.amqp_decoder.proofs.Opening.{opens_same}
 use Rattle.amqp_decoder.proofs.ContainerTerms.{whole_with_parts, parts}
 use Rattle.amqp_codec.specs.TermType.{TermType}
@@ -41,7 +41,7 @@ list_opening = record {
       (record { count = h.count; mid = h.first; opened = h.opened; bytes = h.bytes; last = h.last; items = h.row; closed = h.closed });
   held = λ st ts st' fits n. (let c = parts list tt st ts st' n in
       record { count = c.count; first = c.mid; opened = c.opened; bytes = c.bytes; last = c.last; row = c.items; closed = c.closed });
-  not_memory = open_not_memory list;
+  not_outside = λ e out. open_not_outside out list;
   opens_elsewhere = λ c st n first o. opens c o;
   fault_elsewhere = λ c st e keeps h. open_fault c keeps h;
   misspelled = λ st e room is h. open_misspelled list tt st e is h;

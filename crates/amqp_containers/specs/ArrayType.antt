@@ -11,7 +11,7 @@ use Rattle.amqp_decoder.proofs.ArrayTerms.{whole_array_with_parts, array_parts, 
 use Rattle.amqp_decoder.proofs.Misspelled.{array_misspelled}
 use Rattle.amqp_decoder.proofs.NothingInside.{nothing_in_array, nothing_at_array_end}
 use Rattle.amqp_decoder.proofs.Rooms.{room_for_array, room_in_array}
-use Rattle.amqp_decoder.proofs.NotMemory.{array_not_memory}
+use Rattle.amqp_decoder.proofs.NotOutside.{array_not_outside}
 use Rattle.amqp_codec.specs.TermType.{TermType}
 use Rattle.amqp_codec.specs.Each.{norm_items}
 use Rattle.amqp_codec.specs.ItemsReading.{Opening}
@@ -59,7 +59,7 @@ array_opening = record {
       (record { count = h.count; mid = h.first; opened = h.opened; bytes = h.bytes; last = h.last; items = h.row; closed = h.closed });
   held = λ st ts st' fits n. (let c = array_parts st ts st' (room_for_array st ts n.bytes fits n.stands) n in
       record { count = c.count; first = c.mid; opened = c.opened; bytes = c.bytes; last = c.last; row = c.items; closed = c.closed });
-  not_memory = array_not_memory;
+  not_outside = λ e out. array_not_outside out;
   opens_elsewhere = λ c st n first o. opens_array c o;
   fault_elsewhere = λ c st e keeps h. array_fault c keeps h;
   misspelled = array_misspelled;

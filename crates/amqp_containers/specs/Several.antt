@@ -5,12 +5,13 @@ use Rattle.amqp_model.specs.FieldRules.{option_canon, array_or}
 use Rattle.amqp_model.specs.Standing.{Standing}
 use Rattle.amqp_model.specs.Ranges.{IsNoArray}
 use Rattle.amqp_wire.specs.declared.error.Error.{Error}
-use Rattle.amqp_wire.specs.declared.error.Error.TheVariants.{Memory, EmptyMultiple}
+use Rattle.amqp_wire.specs.declared.error.Error.TheVariants.{EmptyMultiple}
 use Rattle.amqp_decoder.specs.State.{State}
 use Rattle.amqp_decoder.specs.OtherSource.{Setting, under, KeepsError, value}
 use Rattle.amqp_decoder.specs.Rooms.{HasRoom}
 use Rattle.amqp_decoder.specs.Misspelled.{IsMisspelling, NothingStands}
 use Rattle.amqp_decoder.specs.Primitives.{ReadsValue}
+use Rattle.amqp_decoder.specs.Steps.{IsOutside}
 use Rattle.amqp_codec.specs.Faults.{Faults}
 use Rattle.amqp_codec.specs.TermType.{TermType, IsLeaf}
 use Rattle.amqp_codec.specs.EitherType.{either_faults}
@@ -66,9 +67,9 @@ pub data MandatoryFault {T : Type 0} (u : TermType T) (st : State) (e : Error) :
   no_items : {b : State} → ReadsValue (MeansMultiple u) st None b → e ≡ EmptyMultiple → MandatoryFault u st e
 
 module _ {T : Type 0} (u : TermType T) where
-  pub mandatory_not_memory : (st : State) → MandatoryFault u st Memory → ⊥
-  mandatory_not_memory st (not_read h) = (multiple_faults u).not_memory st h
-  mandatory_not_memory st (no_items h is) = cc
+  pub mandatory_not_outside : {e : Error} → IsOutside e → (st : State) → MandatoryFault u st e → ⊥
+  mandatory_not_outside out st (not_read h) = (multiple_faults u).not_outside _ out st h
+  mandatory_not_outside out st (no_items h is) = subst IsOutside is out
 
   pub mandatory_elsewhere : (c : Setting) (st : State) (e : Error) → KeepsError c e → MandatoryFault u st e
       → MandatoryFault u (under c st) e
@@ -82,7 +83,7 @@ module _ {T : Type 0} (u : TermType T) where
   abbrev pub mandatory_faults : Faults
   mandatory_faults = record {
     fault = MandatoryFault u;
-    not_memory = mandatory_not_memory;
+    not_outside = λ e out. mandatory_not_outside out;
     fault_elsewhere = mandatory_elsewhere;
     misspelled = mandatory_misspelled;
   }

@@ -15,7 +15,7 @@ pub mod OpenedArrays
 pub mod ArrayTerms
 pub mod Rooms
 pub mod KeptBytes
-pub mod NotMemory
+pub mod NotOutside
 pub mod KeptConstructors
 pub mod KeptData
 pub mod KeptTerms

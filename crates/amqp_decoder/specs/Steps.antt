@@ -8,6 +8,12 @@ abbrev pub IsReadError : Error → Type 0
 IsReadError (Read k) = Unit {0}
 IsReadError _ = ⊥
 
+-- It says nothing of bytes: memory was wanted, or the source has failed.
+abbrev pub IsOutside : Error → Type 0
+IsOutside Memory = Unit {0}
+IsOutside (Read k) = Unit {0}
+IsOutside _ = ⊥
+
 -- The error is kept for each later call, and it is the source's where that began to fail.
 pub record Answers (st : State) (e : Error) (st' : State) : Type 0 where
   pub error : st'.error ≡ Some e

@@ -6,12 +6,11 @@ ghost use Rattle.amqp_model.specs.Standing.{Standing};
 ghost use Rattle.amqp_decoder.specs.declared.frame.Place.{Place};
 ghost use Rattle.amqp_decoder.specs.declared.frame.Place.TheVariants.{InArray};
 ghost use Rattle.amqp_decoder.specs.State.{State, Has, after_look, after_bytes, after_data, after_value};
-ghost use Rattle.amqp_decoder.specs.Steps.{Takes};
+ghost use Rattle.amqp_decoder.specs.Steps.{Takes, IsOutside};
 ghost use Rattle.amqp_decoder.specs.Reading.{ReadsCode, PeeksCode};
 ghost use Rattle.amqp_decoder.specs.Primitives.{standing, Stands, ReadsValue, PrimitiveFault};
 ghost use Rattle.amqp_lookahead.specs.Members.{Member};
 ghost use Rattle.amqp_wire.specs.declared.error.Error.{Error};
-ghost use Rattle.amqp_wire.specs.declared.error.Error.TheVariants.{Memory};
 ghost use Rattle.amqp_decoder.specs.OtherSource.{Setting, under, KeepsError};
 ghost use Rattle.amqp_decoder.specs.Misspelled.{IsMisspelling, NothingStands};
 ghost use Rattle.amqp_decoder.specs.Terms.{TermFault};
@@ -117,15 +116,15 @@ pub fn rows()
         → Row st (ts ++ us) (b ++ c) after }
 {}
 
-/// A fault is the same before another source, and where values may nest deeper unless it is `Depth`; and none is want of memory.
+/// A fault is the same before another source, and where values may nest deeper unless it is `Depth`; and none is want of memory or the source's.
 pub fn faults()
     ensures arrays { (c : Setting) (st : State) (e : Error) → KeepsError c e → ArrayFault st e → ArrayFault (under c st) e }
     ensures described { (c : Setting) (st : State) (e : Error) → KeepsError c e → OpenDescribedFault st e
         → OpenDescribedFault (under c st) e }
     ensures terms { (c : Setting) (st : State) (e : Error) → KeepsError c e → TermFault st e → TermFault (under c st) e }
-    ensures no_array { (st : State) → ArrayFault st Memory → ⊥ }
-    ensures no_described { (st : State) → OpenDescribedFault st Memory → ⊥ }
-    ensures no_term { (st : State) → TermFault st Memory → ⊥ }
+    ensures no_array { (st : State) (e : Error) → IsOutside e → ArrayFault st e → ⊥ }
+    ensures no_described { (st : State) (e : Error) → IsOutside e → OpenDescribedFault st e → ⊥ }
+    ensures no_term { (st : State) (e : Error) → IsOutside e → TermFault st e → ⊥ }
 {}
 
 /// An error that says of bytes that they are no term, whatever type is read, names a fault only where no term stands; and where

@@ -1,7 +1,6 @@
 -- How a described value is read: its descriptor, and then what it describes (Part 1, section 1.2).
 use Rattle.amqp_model.specs.Term.{Descriptor}
 use Rattle.amqp_wire.specs.declared.error.Error.{Error}
-use Rattle.amqp_wire.specs.declared.error.Error.TheVariants.{Memory}
 use Rattle.amqp_decoder.specs.State.{State}
 use Rattle.amqp_decoder.specs.Rooms.{HasRoom}
 use Rattle.amqp_decoder.specs.Misspelled.{IsMisspelling, NothingStands}
@@ -9,8 +8,9 @@ use Rattle.amqp_decoder.specs.Described.{OpensDescribed, OpenFault}
 use Rattle.amqp_decoder.specs.OtherSource.{Setting, under, KeepsError, opens_described, open_described_fault}
 use Rattle.amqp_decoder.proofs.Misspelled.{described_misspelled}
 use Rattle.amqp_decoder.proofs.NothingInside.{nothing_described}
-use Rattle.amqp_decoder.proofs.NotMemory.{open_described_not_memory}
+use Rattle.amqp_decoder.proofs.NotOutside.{open_described_not_outside}
 use Rattle.amqp_decoder.proofs.Rooms.{room_in_described}
+use Rattle.amqp_decoder.specs.Steps.{IsOutside}
 use Rattle.amqp_codec.specs.Faults.{Faults}
 
 -- Why no described value is read: none is opened, or one is, and what it describes isn't read.
@@ -19,9 +19,9 @@ pub data DescribedValueFault (fault : State → Error → Type 0) (st : State) (
   in_value : {d : Descriptor} {inner : State} → OpensDescribed st d inner → fault inner e → DescribedValueFault fault st e
 
 module _ (f : Faults) where
-  pub described_not_memory : (st : State) → DescribedValueFault f.fault st Memory → ⊥
-  described_not_memory st (unopened h) = open_described_not_memory st h
-  described_not_memory st (in_value {d} {inner} o h) = f.not_memory inner h
+  pub described_not_outside : {e : Error} → IsOutside e → (st : State) → DescribedValueFault f.fault st e → ⊥
+  described_not_outside out st (unopened h) = open_described_not_outside out st h
+  described_not_outside out st (in_value {d} {inner} o h) = f.not_outside _ out inner h
 
   pub described_elsewhere : (c : Setting) (st : State) (e : Error) → KeepsError c e → DescribedValueFault f.fault st e
       → DescribedValueFault f.fault (under c st) e
@@ -38,7 +38,7 @@ module _ (f : Faults) where
   abbrev pub described_faults : Faults
   described_faults = record {
     fault = DescribedValueFault f.fault;
-    not_memory = described_not_memory;
+    not_outside = λ e out. described_not_outside out;
     fault_elsewhere = described_elsewhere;
     misspelled = described_misspelled_in;
   }

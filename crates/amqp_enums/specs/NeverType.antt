@@ -7,7 +7,7 @@ use Rattle.amqp_codec.specs.TermType.{TermType, view_of, equality}
 abbrev pub never_faults : Faults
 never_faults = record {
   fault = λ st e. ⊥;
-  not_memory = λ st f. f;
+  not_outside = λ e out st f. f;
   fault_elsewhere = λ c st e keeps f. f;
   misspelled = λ st e room is f. absurd f;
 }

@@ -3,14 +3,15 @@ use Rattle.std.proofs.Common.{◌≡◌, ℕ, Bool, true, false, List, Result, O
 use Rattle.amqp_model.specs.Term.{Term, leaf}
 use Rattle.amqp_model.specs.Standing.{Standing}
 use Rattle.amqp_wire.specs.declared.error.Error.{Error}
-use Rattle.amqp_wire.specs.declared.error.Error.TheVariants.{Memory, UnknownText, UnknownNumber}
+use Rattle.amqp_wire.specs.declared.error.Error.TheVariants.{UnknownText, UnknownNumber}
 use Rattle.amqp_decoder.specs.State.{State}
 use Rattle.amqp_decoder.specs.Misspelled.{IsMisspelling, NothingStands}
 use Rattle.amqp_decoder.specs.Reading.{AnswersRead}
 use Rattle.amqp_decoder.specs.Primitives.{ReadsValue, Means, PrimitiveFault}
 use Rattle.amqp_decoder.specs.OtherSource.{Setting, under, KeepsError, value, primitive_fault}
-use Rattle.amqp_decoder.proofs.NotMemory.{primitive_not_memory}
+use Rattle.amqp_decoder.proofs.NotOutside.{primitive_not_outside}
 use Rattle.amqp_decoder.proofs.Misspelled.{primitive_misspelled}
+use Rattle.amqp_decoder.specs.Steps.{IsOutside}
 use Rattle.amqp_codec.specs.ExactType.{MeansExactly, exact}
 use Rattle.amqp_codec.specs.Faults.{Faults}
 use Rattle.amqp_codec.specs.TermType.{TermType}
@@ -36,6 +37,11 @@ unknown_not_misspelled UnknownNumber h i = i
 unknown_not_misspelled UnknownText h i = i
 unknown_not_misspelled _ h i = absurd h
 
+unknown_not_outside : (e : Error) → IsUnknownError e → IsOutside e → ⊥
+unknown_not_outside UnknownNumber h out = out
+unknown_not_outside UnknownText h out = out
+unknown_not_outside _ h out = absurd h
+
 -- The term is the value's number or text.
 abbrev pub MeansRestricted : {A V : Type 0} → Base A → (V → A) → Standing → Term → V → Type 0
 MeansRestricted base table = MeansExactly (λ _. Unit {0}) (λ v. leaf (base.make (table v)))
@@ -51,9 +57,9 @@ module _ {A V : Type 0} (base : Base A) (unknown : Error) (table : V → A) wher
   ReadsRestricted takes_memory = AnswersRead takes_memory (ReadsValue (MeansRestricted base table)) RestrictedFault
 
   module _ (is : IsUnknownError unknown) where
-    pub restricted_not_memory : (st : State) → RestrictedFault st Memory → ⊥
-    restricted_not_memory st (no_primitive h) = primitive_not_memory base.kind st h
-    restricted_not_memory st (of_no_value h none e) = subst IsUnknownError (sym e) is
+    pub restricted_not_outside : {e : Error} → IsOutside e → (st : State) → RestrictedFault st e → ⊥
+    restricted_not_outside out st (no_primitive h) = primitive_not_outside out base.kind st h
+    restricted_not_outside out st (of_no_value h none e) = unknown_not_outside unknown is (subst IsOutside e out)
 
     pub restricted_elsewhere : (c : Setting) (st : State) (e : Error) → KeepsError c e → RestrictedFault st e
         → RestrictedFault (under c st) e
@@ -67,7 +73,7 @@ module _ {A V : Type 0} (base : Base A) (unknown : Error) (table : V → A) wher
     abbrev pub restricted_faults : Faults
     restricted_faults = record {
       fault = RestrictedFault;
-      not_memory = restricted_not_memory;
+      not_outside = λ e out. restricted_not_outside out;
       fault_elsewhere = restricted_elsewhere;
       misspelled = λ st e _. restricted_misspelled st e;
     }

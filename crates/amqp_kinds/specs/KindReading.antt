@@ -3,7 +3,6 @@ use Rattle.std.proofs.Common.{◌≡◌, ℕ, Bool, true, Result, Ok, Err, ap, �
 use Rattle.amqp_model.specs.Term.{Term}
 use Rattle.amqp_model.specs.Standing.{Standing}
 use Rattle.amqp_wire.specs.declared.error.Error.{Error}
-use Rattle.amqp_wire.specs.declared.error.Error.TheVariants.{Memory}
 use Rattle.amqp_decoder.specs.State.{State}
 use Rattle.amqp_decoder.specs.Reading.{BeginFault, PeeksCode, AnswersRead, RefusesRead}
 use Rattle.amqp_decoder.specs.Primitives.{standing, ReadsValue}
@@ -13,8 +12,9 @@ use Rattle.amqp_decoder.specs.OtherSource.{Setting, under, KeepsError, begin_fau
 use Rattle.amqp_decoder.proofs.Misspelled.{begin_misspelled}
 use Rattle.amqp_decoder.proofs.NothingInside.{nothing_peeked}
 use Rattle.amqp_decoder.proofs.Rooms.{room_peeked}
-use Rattle.amqp_decoder.proofs.NotMemory.{begin_not_memory}
+use Rattle.amqp_decoder.proofs.NotOutside.{begin_not_outside}
 use Rattle.amqp_decoder.proofs.Peeks.{value-peeked}
+use Rattle.amqp_decoder.specs.Steps.{IsOutside}
 use Rattle.amqp_codec.specs.Faults.{Faults}
 use Rattle.amqp_codec.specs.TreeLaws.{IsTree}
 use Rattle.amqp_codec.specs.TreeType.{MeansTree, tree_term}
@@ -30,9 +30,9 @@ pub data KindFault (faults : Kind → Faults) (st : State) (e : Error) : Type 0 
   of_kind : {c : ℕ} {mid : State} → PeeksCode st c mid → (faults (kind_at c)).fault mid e → KindFault faults st e
 
 module _ (faults : Kind → Faults) where
-  pub kind_not_memory : (st : State) → KindFault faults st Memory → ⊥
-  kind_not_memory st (no_value h) = begin_not_memory st h
-  kind_not_memory st (of_kind {c} {mid} p h) = (faults (kind_at c)).not_memory mid h
+  pub kind_not_outside : {e : Error} → IsOutside e → (st : State) → KindFault faults st e → ⊥
+  kind_not_outside out st (no_value h) = begin_not_outside out st h
+  kind_not_outside out st (of_kind {c} {mid} p h) = (faults (kind_at c)).not_outside _ out mid h
 
   pub kind_elsewhere : (s : Setting) (st : State) (e : Error) → KeepsError s e → KindFault faults st e → KindFault faults (under s st) e
   kind_elsewhere s st e k (no_value h) = no_value (begin_fault s k h)
@@ -46,7 +46,7 @@ module _ (faults : Kind → Faults) where
   abbrev pub kind_faults : Faults
   kind_faults = record {
     fault = KindFault faults;
-    not_memory = kind_not_memory;
+    not_outside = λ e out. kind_not_outside out;
     fault_elsewhere = kind_elsewhere;
     misspelled = kind_misspelled;
   }
@@ -59,7 +59,7 @@ pub record LevelFault (faults : ℕ → Faults) (st : State) (e : Error) : Type 
 abbrev pub level_faults : (ℕ → Faults) → Faults
 level_faults faults = record {
   fault = LevelFault faults;
-  not_memory = λ st h. (faults h.levels).not_memory st h.named;
+  not_outside = λ e out st h. (faults h.levels).not_outside e out st h.named;
   fault_elsewhere = λ s st e k h. record { levels = h.levels; named = (faults h.levels).fault_elsewhere s st e k h.named };
   misspelled = λ st e room i h. (faults h.levels).misspelled st e room i h.named;
 }

@@ -16,7 +16,7 @@ use Rattle.amqp_model.specs.FieldType.{unchanged}
 use Rattle.amqp_model.proofs.Unique.{one_term}
 use Rattle.amqp_lookahead.proofs.KindsOfCodes.{kind_data, one_code}
 use Rattle.amqp_decoder.specs.Terms.{TermFault}
-use Rattle.amqp_decoder.proofs.NotMemory.{term_not_memory}
+use Rattle.amqp_decoder.proofs.NotOutside.{term_not_outside}
 use Rattle.amqp_decoder.proofs.Misspelled.{term_misspelled}
 use Rattle.amqp_decoder.specs.OtherSource.{term_fault}
 use Rattle.amqp_codec.specs.Faults.{Faults}
@@ -48,7 +48,7 @@ lazy_canon v = kept v
 abbrev pub lazy_faults : Faults
 lazy_faults = record {
   fault = TermFault;
-  not_memory = term_not_memory;
+  not_outside = λ e out. term_not_outside out;
   fault_elsewhere = λ c st e. term_fault c;
   misspelled = λ st e _ i. term_misspelled st e i;
 }

@@ -1,8 +1,9 @@
 -- The type of simple values (Part 3, section 3.2.5).
 use Rattle.std.proofs.Common.{◌≡◌, ℕ, Bool, refl, subst}
 use Rattle.amqp_model.specs.FieldType.{unchanged}
-use Rattle.amqp_wire.specs.declared.error.Error.TheVariants.{Memory, InvalidValue}
+use Rattle.amqp_wire.specs.declared.error.Error.TheVariants.{InvalidValue}
 use Rattle.amqp_decoder.specs.Misspelled.{IsMisspelling}
+use Rattle.amqp_decoder.specs.Steps.{IsOutside}
 use Rattle.amqp_codec.specs.Agreement.{Agreement, via_writing}
 use Rattle.amqp_codec.specs.EitherType.{either_faults}
 use Rattle.amqp_codec.specs.Faults.{Faults}
@@ -19,14 +20,11 @@ use Rattle.amqp_simple_values.specs.Simple.{as_value, is_container}
 abbrev pub is_container_code : ℕ → Bool
 is_container_code c = is_container (kind_at c)
 
-pub never_memory : Memory ≡ InvalidValue → ⊥
-never_memory h = cc
-
 -- Whatever stands there, it is no simple value.
 abbrev pub never_simple : Faults
 never_simple = record {
   fault = λ st e. e ≡ InvalidValue;
-  not_memory = λ st h. never_memory h;
+  not_outside = λ e out st h. subst IsOutside h out;
   fault_elsewhere = λ c st e keeps h. h;
   misspelled = λ st e room i h. absurd (subst IsMisspelling h i);
 }

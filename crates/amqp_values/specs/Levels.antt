@@ -56,7 +56,7 @@ faults_of f kind.Array = items_faults array_opening ValueMeans f
 abbrev pub no_faults : Faults
 no_faults = record {
   fault = λ st e. ⊥;
-  not_memory = λ st h. h;
+  not_outside = λ e out st h. h;
   fault_elsewhere = λ c st e k h. h;
   misspelled = λ st e room i h. absurd h;
 }

@@ -1,5 +1,5 @@
 use Rattle.amqp_decoder.specs.OtherSource.{array_fault, open_described_fault, term_fault}
-use Rattle.amqp_decoder.proofs.NotMemory.{array_not_memory, open_described_not_memory, term_not_memory}
+use Rattle.amqp_decoder.proofs.NotOutside.{array_not_outside, open_described_not_outside, term_not_outside}
 use Rattle.amqp_decoder.proofs.laws.faults.Goals as goal
 
 pub returns-clause-arrays : goal.returns-clause-arrays
@@ -12,10 +12,10 @@ pub returns-clause-terms : goal.returns-clause-terms
 returns-clause-terms c s st e = term_fault s
 
 pub returns-clause-no_array : goal.returns-clause-no_array
-returns-clause-no_array c = array_not_memory
+returns-clause-no_array c = λ st e out. array_not_outside out st
 
 pub returns-clause-no_described : goal.returns-clause-no_described
-returns-clause-no_described c = open_described_not_memory
+returns-clause-no_described c = λ st e out. open_described_not_outside out st
 
 pub returns-clause-no_term : goal.returns-clause-no_term
-returns-clause-no_term c = term_not_memory
+returns-clause-no_term c = λ st e out. term_not_outside out st
