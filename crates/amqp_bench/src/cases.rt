@@ -4,8 +4,8 @@ ghost use Rattle.std.specs.Prelude.{◌≤◌};
 use crate::frames::{ATTACH, FLOW, TRANSFER};
 use amqp_attach::Attach;
 use amqp_containers::Array;
-use amqp_decoder::Decoder;
-use amqp_encoder::Encoder;
+use amqp_decoder::{Decoder, decoder_of};
+use amqp_encoder::{Encoder, begin_filling, buffer_of, measured_len, measuring_encoder};
 use amqp_maps::OrderedMap;
 use amqp_performatives::{Flow, Transfer};
 use amqp_read_write::{from_slice, to_vec};
@@ -216,13 +216,13 @@ impl Case {
     }
 
     fn write_bare(self, content: &Content, alloc: Global) -> Result<Vec<u8>, Error> {
-        let mut encoder = Encoder::measuring(alloc);
+        let mut encoder = measuring_encoder(alloc);
         self.serialize(content, &mut encoder)?;
-        let len = encoder.measured()?;
+        let len = measured_len(&encoder)?;
         let buffer = Vec::with_capacity(alloc, len)?;
-        encoder.fill(alloc, buffer, len);
+        begin_filling(&mut encoder, alloc, buffer, len);
         self.serialize(content, &mut encoder)?;
-        Ok(encoder.into_buffer())
+        Ok(buffer_of(encoder))
     }
 
     fn serialize(self, content: &Content, encoder: &mut Encoder) -> Result<(), Error> {
@@ -257,7 +257,7 @@ impl Case {
     }
 
     fn read_bare(self, text: &[u8], alloc: Global) -> Result<u64, Error> {
-        let mut decoder = Decoder::new(text, alloc);
+        let mut decoder = decoder_of(text, alloc);
         match self {
             Case::Uints | Case::UintVec => read_uints(&mut decoder),
             Case::Ulongs | Case::UlongArray => read_ulongs(&mut decoder, alloc),

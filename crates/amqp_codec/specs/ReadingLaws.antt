@@ -14,7 +14,8 @@ use Rattle.amqp_decoder.specs.OtherSource.{Setting, under}
 use Rattle.amqp_decoder.specs.Misspelled.{IsMisspelling}
 use Rattle.amqp_decoder.specs.Primitives.{standing, SpellsAs, ReadsValue}
 use Rattle.amqp_decoder.proofs.OneReading.{value_same}
-use Rattle.amqp_decoder.specs.Steps.{IsOutside}
+use Rattle.amqp_decoder.proofs.NotOutside.{read_is_outside}
+use Rattle.amqp_decoder.specs.Steps.{IsOutside, IsReadError}
 use Rattle.amqp_codec.specs.TermType.{TermType}
 use Rattle.amqp_codec.specs.Reading.{Taken, Stays, looking, AreAlike, start, IsUnspelled, Reading, BeginsWith, IsUnreadable}
 
@@ -146,6 +147,12 @@ read_bounded r input v b h = r.counted (start input) v b refl h
 pub is_read : {T : Type 0} (r : Reading T) (input : List ℕ) (v : T) (b : State) (n : ℕ) → r.reads (start input) v b
     → n ≡ length input - length b.rest → BeginsWith r input v n
 is_read r input v b n h e = record { after = b; read = h; left = omega (arith, e, read_bounded r input v b h) }
+
+-- what is answered of bytes alone is never the error of a source
+pub never_failing : {T : Type 0} (r : Reading T) (input : List ℕ) (e : Error) → ((r.takes_memory ≡ true) × (e ≡ Memory))
+    ⊎ IsUnreadable r input e → IsReadError e → ⊥
+never_failing r input e (inl x) read = subst IsReadError x.1 read
+never_failing r input e (inr x) read = r.not_outside e (read_is_outside e read) (start input) x.fault
 
 -- memory is wanted only where it is taken
 pub memory_wanted : {T : Type 0} (r : Reading T) (input : List ℕ) (e : Error) → ((r.takes_memory ≡ true) × (e ≡ Memory))

@@ -9,7 +9,7 @@ use Rattle.amqp_wire.specs.declared.error.Error.{Error}
 use Rattle.amqp_decoder.specs.declared.frame.Place.{Place}
 use Rattle.amqp_decoder.specs.declared.frame.Place.TheVariants.{InArray}
 use Rattle.amqp_decoder.specs.State.{State, in_container}
-use Rattle.amqp_decoder.specs.Steps.{IsOutside, Lacks, cut_open, cut_inside, too_long, SizeError, cut, wrong}
+use Rattle.amqp_decoder.specs.Steps.{IsOutside, IsReadError, Lacks, cut_open, cut_inside, too_long, SizeError, cut, wrong}
 use Rattle.amqp_decoder.specs.Misspelled.{IsMisspelling}
 use Rattle.amqp_decoder.specs.Reading.{BeginFault, missing, no_code}
 use Rattle.amqp_decoder.specs.Primitives.{LacksData, PrimitiveFault, not_begun, wrong_code, no_data, bad_data}
@@ -30,6 +30,10 @@ use Rattle.amqp_decoder.specs.Terms.{LacksAnnounced, NoTerm, wrong_size, wrong_t
 use Rattle.amqp_decoder.specs.Terms.{misspelled}
 use Rattle.amqp_lengths.specs.Announced.{content_size}
 use Rattle.amqp_decoder.proofs.TermErrors.{term_error}
+
+pub read_is_outside : (e : Error) → IsReadError e → IsOutside e
+read_is_outside (Read k) h = tt
+read_is_outside _ h = absurd h
 
 misspelling_inside : (e : Error) → IsMisspelling e → IsOutside e → ⊥
 misspelling_inside Memory said out = said

@@ -56,39 +56,6 @@ impl<R: ByteSource> Model for Decoder<R> {
 }
 
 impl<R: ByteSource> Decoder<R> {
-    /// A decoder of the source's bytes, at the top level.
-    pub fn new(source: R, alloc: Global) -> Self
-        ensures { result ≡ record {
-          rest = known (R.remaining source);
-          ahead = 0;
-          source = R.name source;
-          top = top_level;
-          saved = [];
-          nesting = 128;
-          error = None;
-          failed = R.failed source;
-        } }
-    {
-        Decoder {
-            input: Input::new(source),
-            top: OpenContainer::TOP,
-            error: None,
-            depth: 0,
-            descriptors: Vec::new(alloc),
-            frames: [OpenContainer::TOP; LEVELS],
-        }
-    }
-
-    /// The source; bytes that were looked at are out of it.
-    pub fn into_source(self) -> R
-        ensures named { R.name result ≡ self.source }
-        ensures rest { known (R.remaining result) ≡ drop self.ahead self.rest }
-        ensures failed { R.failed result ≡ self.failed }
-    {
-        let Decoder { input, .. } = self;
-        input.into_source()
-    }
-
     /// Keeps the error, which every later call answers.
     pub fn refuse(&mut self, error: Error) -> Error
         ensures answer { result ≡ error }
@@ -111,12 +78,43 @@ impl<R: ByteSource> Decoder<R> {
     }
 }
 
-impl Decoder<&[u8]> {
-    /// How many bytes of the input are left.
-    pub fn unread(&self) -> usize
-        ensures count { result ≡ length self.now.rest }
-        ensures whole { self.now.failed ≡ false }
-    {
-        self.input.unread()
+/// A decoder of the source's bytes, at the top level.
+pub fn decoder_of<R: ByteSource>(source: R, alloc: Global) -> Decoder<R>
+    ensures { result ≡ record {
+      rest = known (R.remaining source);
+      ahead = 0;
+      source = R.name source;
+      top = top_level;
+      saved = [];
+      nesting = 128;
+      error = None;
+      failed = R.failed source;
+    } }
+{
+    Decoder {
+        input: Input::new(source),
+        top: OpenContainer::TOP,
+        error: None,
+        depth: 0,
+        descriptors: Vec::new(alloc),
+        frames: [OpenContainer::TOP; LEVELS],
     }
+}
+
+/// The source; bytes that were looked at are out of it.
+pub fn source_of<R: ByteSource>(decoder: Decoder<R>) -> R
+    ensures named { R.name result ≡ decoder.source }
+    ensures rest { known (R.remaining result) ≡ drop decoder.ahead decoder.rest }
+    ensures failed { R.failed result ≡ decoder.failed }
+{
+    let Decoder { input, .. } = decoder;
+    input.into_source()
+}
+
+/// How many bytes of the decoder's input are left.
+pub fn unread(decoder: &Decoder<&[u8]>) -> usize
+    ensures count { result ≡ length decoder.now.rest }
+    ensures whole { decoder.now.failed ≡ false }
+{
+    decoder.input.unread()
 }

@@ -38,60 +38,6 @@ pub struct Encoder {
 }
 
 impl Encoder {
-    /// An encoder that measures, and makes every refusal.
-    #[inline(always)]
-    pub fn measuring(alloc: Global) -> Encoder
-        ensures { BeginsMeasuring result }
-    {
-        Encoder {
-            mode: Mode::Measuring,
-            measure: Measure::new(alloc),
-            fill: Fill::new(alloc),
-        }
-    }
-
-    /// The length of what was measured. An error is the encoder's refusal, or `InvalidValue` where it has refused nothing but
-    /// a container is still open or it doesn't measure.
-    #[inline(always)]
-    pub fn measured(&self) -> Result<usize, Error>
-        ensures found { IfOk result (λ len. (sizes : List Size) × Finds self.now len sizes) }
-        ensures refused { IfErr result (λ e. FindsNone self.now e) }
-    {
-        match self.mode {
-            Mode::Measuring => self.measure.measured(),
-            Mode::Filling => Err(Error::InvalidValue),
-            Mode::Stopped(error) => Err(error),
-        }
-    }
-
-    /// Goes over to filling the room of a buffer, up to `limit` bytes in all, with the sizes that were measured. An encoder
-    /// that has refused takes the buffer, and answers its error as before.
-    #[inline(always)]
-    pub fn fill(&mut self, alloc: Global, buffer: Vec<u8>, limit: usize)
-        requires { limit ≤ vec_capacity buffer }
-        ensures begun { (len : ℕ) (sizes : List Size) → Finds self.old len sizes → BeginsFilling self.new sizes buffer.items limit }
-        ensures stays { (e : Error) → answer_of self.old ≡ Err e → (answer_of self.new ≡ Err e) × (bytes_of self.new ≡ buffer.items) }
-    {
-        let sizes = self.measure.take_sizes(alloc);
-        self.fill.start(sizes, buffer, limit);
-        if let Mode::Measuring = self.mode {
-            self.mode = Mode::Filling;
-        }
-    }
-
-    /// The buffer, also after a refusal.
-    #[inline(always)]
-    pub fn into_buffer(self) -> Vec<u8>
-        ensures { result.items ≡ bytes_of self }
-    {
-        let Encoder {
-            mode: _,
-            measure: _,
-            fill,
-        } = self;
-        fill.into_buffer()
-    }
-
     /// The error of an encoder that has refused.
     pub fn check(&self) -> Result<(), Error>
         ensures { result ≡ answer_of self.now }
@@ -333,4 +279,60 @@ impl Encoder {
             Mode::Stopped(error) => Err(error),
         }
     }
+}
+
+/// An encoder that measures, and makes every refusal.
+#[inline(always)]
+pub fn measuring_encoder(alloc: Global) -> Encoder
+    ensures { BeginsMeasuring result }
+{
+    Encoder {
+        mode: Mode::Measuring,
+        measure: Measure::new(alloc),
+        fill: Fill::new(alloc),
+    }
+}
+
+/// The length of what was measured. An error is the encoder's refusal, or `InvalidValue` where it has refused nothing but
+/// a container is still open or it doesn't measure.
+#[inline(always)]
+pub fn measured_len(encoder: &Encoder) -> Result<usize, Error>
+    ensures found { IfOk result (λ len. (sizes : List Size) × Finds encoder.now len sizes) }
+    ensures refused { IfErr result (λ e. FindsNone encoder.now e) }
+{
+    match encoder.mode {
+        Mode::Measuring => encoder.measure.measured(),
+        Mode::Filling => Err(Error::InvalidValue),
+        Mode::Stopped(error) => Err(error),
+    }
+}
+
+/// Goes over to filling the room of a buffer, up to `limit` bytes in all, with the sizes that were measured. An encoder
+/// that has refused takes the buffer, and answers its error as before.
+#[inline(always)]
+pub fn begin_filling(encoder: &mut Encoder, alloc: Global, buffer: Vec<u8>, limit: usize)
+    requires { limit ≤ vec_capacity buffer }
+    ensures begun { (len : ℕ) (sizes : List Size) → Finds encoder.old len sizes
+        → BeginsFilling encoder.new sizes buffer.items limit }
+    ensures stays { (e : Error) → answer_of encoder.old ≡ Err e
+        → (answer_of encoder.new ≡ Err e) × (bytes_of encoder.new ≡ buffer.items) }
+{
+    let sizes = encoder.measure.take_sizes(alloc);
+    encoder.fill.start(sizes, buffer, limit);
+    if let Mode::Measuring = encoder.mode {
+        encoder.mode = Mode::Filling;
+    }
+}
+
+/// The buffer, also after a refusal.
+#[inline(always)]
+pub fn buffer_of(encoder: Encoder) -> Vec<u8>
+    ensures { result.items ≡ bytes_of encoder }
+{
+    let Encoder {
+        mode: _,
+        measure: _,
+        fill,
+    } = encoder;
+    fill.into_buffer()
 }

@@ -11,4 +11,4 @@ mod places;
 mod primitives;
 mod size;
 
-pub use encoder::Encoder;
+pub use encoder::{Encoder, begin_filling, buffer_of, measured_len, measuring_encoder};

@@ -5,7 +5,9 @@ use Rattle.amqp_model.specs.Term.{Term}
 use Rattle.amqp_wire.specs.declared.error.Error.{Error}
 use Rattle.amqp_wire.specs.declared.error.Error.TheVariants.{Memory}
 use Rattle.amqp_encoder.specs.Passes.{row_text}
-use Rattle.amqp_codec.specs.Reading.{Reading, BeginsWith, IsUnreadable}
+use Rattle.amqp_decoder.specs.Steps.{IsReadError}
+use Rattle.amqp_decoder.proofs.NotOutside.{read_is_outside}
+use Rattle.amqp_codec.specs.Reading.{Reading, BeginsWith, IsUnreadable, start}
 use Rattle.amqp_codec.specs.ReadingLaws.{read_one}
 use Rattle.amqp_codec.specs.Rewriting.{Rewriting}
 use Rattle.amqp_read_write.specs.Rewritten.{IsRewritten, IsReadAgain, AreReadAgain, IsOneText, IsOfNoOther, IsUnchanged, IsShortest, AreShortest, IsUnwritten}
@@ -72,3 +74,10 @@ module _ {T : Type 0} {r : Reading T} {canons : T → List Term} {is_value : T �
   unwritten input v n e h (inl m) = inl m
   unwritten input v n e h (inr u) =
       inr (inr (record { value = v; length = n; read = h; unwritable = u; large = laws.large input v n e h u }))
+
+-- of bytes alone the error is never that of a source
+pub unfailing : {T : Type 0} {r : Reading T} {canons : T → List Term} {input : List ℕ} {e : Error}
+    → (e ≡ Memory) ⊎ (IsUnreadable r input e ⊎ IsUnwritten r canons input e) → IsReadError e → ⊥
+unfailing (inl m) read = subst IsReadError m read
+unfailing {r = r} {input = input} {e = e} (inr (inl u)) read = r.not_outside e (read_is_outside e read) (start input) u.fault
+unfailing (inr (inr w)) read = subst IsReadError w.large read

@@ -3,24 +3,26 @@ ghost use Rattle.std.specs.Prelude.{◌≡◌, ◌≤◌, ◌⊎◌, ◌++◌, �
 ghost use Rattle.amqp_wire.specs.declared.error.Error.TheVariants.{Memory};
 ghost use Rattle.amqp_encoder.specs.declared.size.Size.{Size};
 ghost use Rattle.amqp_encoder.specs.Passes.{row_text, BeginsMeasuring, Finds};
+ghost use Rattle.amqp_decoder.specs.Steps.{IsReadError};
 ghost use Rattle.amqp_codec.specs.Reading.{BeginsWith, IsUnreadable};
 ghost use Rattle.amqp_read_write.specs.Rewritten.{IsRewritten, IsReadAgain, AreReadAgain, IsOneText, IsOfNoOther, IsUnchanged, IsShortest, AreShortest};
 ghost use Rattle.amqp_read_write.specs.Rewritten.{IsUnwritten};
 ghost use Rattle.amqp_codec.specs.Written.{AreMeasured, AreUnwritable, AreWritable};
 
 use amqp_codec::{Canonical, Deserialize, Serialize};
-use amqp_decoder::Decoder;
-use amqp_encoder::Encoder;
+use amqp_decoder::{decoder_of, unread};
+use amqp_encoder::{Encoder, begin_filling, buffer_of, measured_len, measuring_encoder};
 use amqp_wire::Error;
 use std::alloc::Global;
 
 /// The value that the input begins with. What follows it is left. An error is `Memory`, where reading the type takes
-/// memory, or names a fault of an input that begins with no value.
+/// memory, or names a fault of an input that begins with no value; it is never `Read`, since a slice doesn't fail.
 pub fn from_slice<T: Deserialize>(input: &[u8], alloc: Global) -> Result<T, Error>
     ensures found { IfOk result (λ v. (n : ℕ) × BeginsWith T.reading input.now v n) }
     ensures one { (v w : _) (n m : ℕ) → BeginsWith T.reading input.now v n → BeginsWith T.reading input.now w m → T.reading.same v w }
     ensures refused { IfErr result (λ e. ((T.reading.takes_memory ≡ true) × (e ≡ Memory)) ⊎ IsUnreadable T.reading input.now e) }
     ensures memory { IfErr result (λ e. e ≡ Memory → T.reading.takes_memory ≡ true) }
+    ensures unfailing { IfErr result (λ e. IsReadError e → ⊥) }
 {
     let (value, _) = from_slice_counted(input, alloc)?;
     Ok(value)
@@ -35,10 +37,11 @@ pub fn from_slice_counted<T: Deserialize>(input: &[u8], alloc: Global) -> Result
     ensures bounded { (v : _) (n : ℕ) → BeginsWith T.reading input.now v n → T.reading.count v ≤ n }
     ensures refused { IfErr result (λ e. ((T.reading.takes_memory ≡ true) × (e ≡ Memory)) ⊎ IsUnreadable T.reading input.now e) }
     ensures memory { IfErr result (λ e. e ≡ Memory → T.reading.takes_memory ≡ true) }
+    ensures unfailing { IfErr result (λ e. IsReadError e → ⊥) }
 {
-    let mut decoder = Decoder::new(input, alloc);
+    let mut decoder = decoder_of(input, alloc);
     let read = T::deserialize(&mut decoder, alloc);
-    let left = decoder.unread();
+    let left = unread(&decoder);
     let value = read?;
     Ok((value, input.len().saturating_sub(left)))
 }
@@ -52,12 +55,12 @@ pub fn to_vec<T: Serialize>(value: &T, alloc: Global) -> Result<Vec<u8>, Error>
     ensures writable { OnOk result (AreWritable (T.writing.canons value.now)) }
     ensures refused { IfErr result (λ e. (e ≡ Memory) ⊎ AreUnwritable (T.writing.canons value.now) e) }
 {
-    let mut encoder = Encoder::measuring(alloc);
+    let mut encoder = measuring_encoder(alloc);
     let len = measure(value, &mut encoder)?;
     let buffer = Vec::with_capacity(alloc, len)?;
-    encoder.fill(alloc, buffer, len);
+    begin_filling(&mut encoder, alloc, buffer, len);
     value.serialize(&mut encoder)?;
-    Ok(encoder.into_buffer())
+    Ok(buffer_of(encoder))
 }
 
 /// The length in bytes of the value's canonical text, refused as `to_vec` is.
@@ -67,7 +70,7 @@ pub fn encoded_len<T: Serialize>(value: &T, alloc: Global) -> Result<usize, Erro
     ensures writable { OnOk result (AreWritable (T.writing.canons value.now)) }
     ensures refused { IfErr result (λ e. (e ≡ Memory) ⊎ AreUnwritable (T.writing.canons value.now) e) }
 {
-    measure(value, &mut Encoder::measuring(alloc))
+    measure(value, &mut measuring_encoder(alloc))
 }
 
 /// Appends the value's canonical text to the buffer, and answers its length in bytes. The room is reserved once
@@ -84,14 +87,14 @@ pub fn append_to_vec<T: Serialize>(
     ensures refused { IfErr result (λ e. (e ≡ Memory) ⊎ AreUnwritable (T.writing.canons value.now) e) }
     ensures kept { OnErr result (buffer.new.items ≡ buffer.old.items) }
 {
-    let mut encoder = Encoder::measuring(alloc);
+    let mut encoder = measuring_encoder(alloc);
     let len = measure(value, &mut encoder)?;
     let before = buffer.len();
     buffer.reserve_exact(len)?;
     let room = std::mem::replace(buffer, Vec::new(alloc));
-    encoder.fill(alloc, room, before + len);
+    begin_filling(&mut encoder, alloc, room, before + len);
     let outcome = value.serialize(&mut encoder);
-    *buffer = encoder.into_buffer();
+    *buffer = buffer_of(encoder);
     match outcome {
         Ok(()) => Ok(len),
         Err(error) => {
@@ -114,6 +117,7 @@ pub fn canonical_text<T: Canonical>(input: &[u8], alloc: Global) -> Result<(Vec<
     ensures no_shorter { T.is_least ≡ true → IfOk result (λ r. IsShortest T.reading T.writing.canons input.now r.0.items r.1) }
     ensures refused { IfErr result (λ e.
         (e ≡ Memory) ⊎ (IsUnreadable T.reading input.now e ⊎ IsUnwritten T.reading T.writing.canons input.now e)) }
+    ensures unfailing { IfErr result (λ e. IsReadError e → ⊥) }
 {
     let (value, len) = from_slice_counted::<T>(input, alloc)?;
     let text = to_vec(&value, alloc)?;
@@ -133,5 +137,5 @@ fn measure<T: Serialize>(value: &T, encoder: &mut Encoder) -> Result<usize, Erro
 {
     value.in_type();
     value.serialize(encoder)?;
-    encoder.measured()
+    measured_len(encoder)
 }

@@ -6,7 +6,7 @@ ghost use Rattle.amqp_decoder.specs.Steps.{IsReadError};
 ghost use Rattle.amqp_codec.specs.Reading.{BeginsWith, IsUnreadable};
 
 use amqp_codec::Deserialize;
-use amqp_decoder::Decoder;
+use amqp_decoder::{decoder_of, source_of};
 use amqp_wire::{ByteSource, Error};
 use std::alloc::{AllocError, Global};
 use std::io::ErrorKind;
@@ -97,8 +97,8 @@ fn read_named<T: Deserialize, S: ByteSource, N: Name>(
         source,
         of: PhantomData,
     };
-    let mut decoder = Decoder::new(named, alloc);
+    let mut decoder = decoder_of(named, alloc);
     let read = T::deserialize(&mut decoder, alloc);
-    let Named { source, .. } = decoder.into_source();
+    let Named { source, .. } = source_of(decoder);
     (read, source)
 }

@@ -1,7 +1,7 @@
 //! Rows of reading: each over a slice, over a reader that gives one byte a call, and over one that fails at its k-th
 //! call for every k.
 use crate::Dripping;
-use amqp_decoder::{Decoder, term_len};
+use amqp_decoder::{Decoder, decoder_of, source_of, term_len, unread};
 use amqp_wire::{ByteSource, Error};
 use std::alloc::Global;
 use std::io::ErrorKind;
@@ -116,18 +116,18 @@ const FAILED: Result<u64, Error> = Err(Error::Read(ErrorKind::NotFound));
 
 /// Whether the input is read so, over each source.
 fn is_read(row: Row, input: &[u8], wanted: Result<u64, Error>, alloc: Global) -> bool {
-    let mut decoder = Decoder::new(input, alloc);
+    let mut decoder = decoder_of(input, alloc);
     if read(&mut decoder, row, alloc) != wanted {
         return false;
     }
     let limit = input.len().saturating_mul(4).saturating_add(8);
-    let mut decoder = Decoder::new(Dripping::new(input, limit), alloc);
+    let mut decoder = decoder_of(Dripping::new(input, limit), alloc);
     if read(&mut decoder, row, alloc) != wanted {
         return false;
     }
-    let left = decoder.into_source().calls;
+    let left = source_of(decoder).calls;
     for calls in 0..limit.saturating_sub(left) {
-        let mut decoder = Decoder::new(Dripping::new(input, calls), alloc);
+        let mut decoder = decoder_of(Dripping::new(input, calls), alloc);
         if read(&mut decoder, row, alloc) != FAILED {
             return false;
         }
@@ -351,7 +351,7 @@ fn read_shared<R: ByteSource>(decoder: &mut Decoder<R>, alloc: Global) -> Result
 fn check_shared(rows: &[(&str, Result<u64, Error>)], alloc: Global) -> Result<(), Fail> {
     for (digits, wanted) in rows {
         let input = hex::decode(alloc, digits)?;
-        let mut decoder = Decoder::new(input.as_slice(), alloc);
+        let mut decoder = decoder_of(input.as_slice(), alloc);
         if read_shared(&mut decoder, alloc) != *wanted {
             return Err(Fail::new(format_args!("{digits} is read otherwise")));
         }
@@ -382,18 +382,18 @@ fn read_accepted<R: ByteSource>(decoder: &mut Decoder<R>) -> Result<(), Error> {
 #[test]
 fn what_stands_behind(rt: HostRuntime) -> Result<(), Fail> {
     let mut source: &[u8] = &[0x00, 0x53, 0x24, 0x45, 0xff];
-    let mut decoder = Decoder::new(&mut source, rt.alloc());
+    let mut decoder = decoder_of(&mut source, rt.alloc());
     read_accepted(&mut decoder)?;
-    let _ = decoder.into_source();
+    let _ = source_of(decoder);
     assert_eq!(rt; source, [0xff].as_slice());
     Ok(())
 }
 
 /// The section that is ahead, how many bytes are left then, and whether the input ends here.
 fn look_ahead(input: &[u8], alloc: Global) -> Result<(Option<u8>, usize, bool), Error> {
-    let mut decoder = Decoder::new(input, alloc);
+    let mut decoder = decoder_of(input, alloc);
     let section = decoder.peek_section()?;
-    let left = decoder.unread();
+    let left = unread(&decoder);
     let ends = decoder.at_end()?;
     Ok((section, left, ends))
 }

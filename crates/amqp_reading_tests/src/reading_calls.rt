@@ -1,6 +1,6 @@
 //! Each reading call once, with the values and the errors that it answers.
 use crate::steps::{Step, check};
-use amqp_decoder::Decoder;
+use amqp_decoder::{Decoder, decoder_of};
 use amqp_wire::{ByteSource, Descriptor, Error};
 use std::alloc::Global;
 use std::test::Fail;
@@ -91,7 +91,7 @@ fn read_array<R: ByteSource>(decoder: &mut Decoder<R>, alloc: Global) -> Result<
 
 // Reads all of it, and answers how many bytes its texts have.
 fn read_held(alloc: Global) -> Result<usize, Error> {
-    let mut decoder = Decoder::new(HELD, alloc);
+    let mut decoder = decoder_of(HELD, alloc);
     let texts = read_texts(&mut decoder, alloc)?;
     let name = read_described(&mut decoder, alloc)?;
     read_array(&mut decoder, alloc)?;

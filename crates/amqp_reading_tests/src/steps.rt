@@ -1,5 +1,5 @@
 //! The calls of a decoder, and what each answers, as steps.
-use amqp_decoder::Decoder;
+use amqp_decoder::{Decoder, decoder_of};
 use amqp_wire::{ByteSource, Error};
 use std::alloc::Global;
 use std::test::Fail;
@@ -106,7 +106,7 @@ pub(crate) fn check(
     alloc: Global,
 ) -> Result<(), Fail> {
     let input = hex::decode(alloc, digits)?;
-    let mut decoder = Decoder::new(input.as_slice(), alloc);
+    let mut decoder = decoder_of(input.as_slice(), alloc);
     for (index, step) in steps.iter().enumerate() {
         if is_answered(&mut decoder, *step, alloc) != Ok(true) {
             return Err(Fail::new(format_args!("step {index} over {digits}")));

@@ -1,5 +1,5 @@
 //! The calls of an encoder as steps.
-use amqp_encoder::Encoder;
+use amqp_encoder::{Encoder, begin_filling, buffer_of, measured_len, measuring_encoder};
 use amqp_wire::{Descriptor, Error};
 use std::alloc::Global;
 
@@ -108,12 +108,12 @@ pub(crate) fn measure(
     alloc: Global,
 ) -> Result<usize, Error> {
     write(steps, encoder, alloc)?;
-    encoder.measured()
+    measured_len(&encoder)
 }
 
 /// Puts the bytes of the steps behind those that a buffer has. After a refusal the buffer has these alone.
 pub(crate) fn append(steps: &[Step<'_>], buffer: &mut Vec<u8>, alloc: Global) -> Result<(), Error> {
-    let mut encoder = Encoder::measuring(alloc);
+    let mut encoder = measuring_encoder(alloc);
     let len = measure(steps, &mut encoder, alloc)?;
     let before = buffer.len();
     let Some(limit) = before.checked_add(len) else {
@@ -121,9 +121,9 @@ pub(crate) fn append(steps: &[Step<'_>], buffer: &mut Vec<u8>, alloc: Global) ->
     };
     buffer.reserve_exact(len)?;
     let room = std::mem::replace(buffer, Vec::new(alloc));
-    encoder.fill(alloc, room, limit);
+    begin_filling(&mut encoder, alloc, room, limit);
     let outcome = write(steps, &mut encoder, alloc);
-    *buffer = encoder.into_buffer();
+    *buffer = buffer_of(encoder);
     if outcome.is_err() {
         buffer.truncate(before);
         return outcome;

@@ -1,6 +1,6 @@
 //! Rows of canonical text and refusals, written by the calls of an encoder.
 use crate::steps::{Step, append, measure, take_step};
-use amqp_encoder::Encoder;
+use amqp_encoder::{Encoder, begin_filling, buffer_of, measured_len, measuring_encoder};
 use amqp_wire::Error;
 use std::alloc::Global;
 use std::test::Fail;
@@ -34,7 +34,7 @@ fn is_refused_whole(steps: &[Step<'_>], error: Error, alloc: Global) -> Result<b
     let outcome = append(steps, &mut buffer, alloc);
     Ok(
         outcome == Err(error)
-            && measure(steps, &mut Encoder::measuring(alloc), alloc).err() == Some(error)
+            && measure(steps, &mut measuring_encoder(alloc), alloc).err() == Some(error)
             && buffer.as_slice() == [0xaa, 0xbb].as_slice(),
     )
 }
@@ -386,7 +386,7 @@ fn is_refused(steps: &[Step<'_>], error: Error, encoder: &mut Encoder, alloc: Gl
 
 #[test]
 fn the_same_error_again(rt: HostRuntime) {
-    let mut encoder = Encoder::measuring(rt.alloc());
+    let mut encoder = measuring_encoder(rt.alloc());
     let steps = [Step::EndMap, Step::Refuse(Error::Custom(1)), Step::Null];
     assert!(rt; is_refused(&steps, Error::InvalidValue, &mut encoder, rt.alloc()));
 }
@@ -397,13 +397,13 @@ fn measured_list(
     item: &[u8],
     alloc: Global,
 ) -> Result<(bool, Result<usize, Error>), Error> {
-    let mut encoder = Encoder::measuring(alloc);
+    let mut encoder = measuring_encoder(alloc);
     encoder.begin_list()?;
     for _ in 0..count {
         encoder.write_binary(item)?;
     }
     let is_ended = encoder.end_list().is_ok();
-    Ok((is_ended, encoder.measured()))
+    Ok((is_ended, measured_len(&encoder)))
 }
 
 #[test]
@@ -421,11 +421,11 @@ fn sizes_past_32_bits(rt: HostRuntime) -> Result<(), Fail> {
 fn a_room_that_is_too_small(rt: HostRuntime) -> Result<(), Fail> {
     let buffer = [0xaa, 0xbb].to_vec(rt.alloc())?;
     let limit = buffer.len();
-    let mut encoder = Encoder::measuring(rt.alloc());
-    encoder.fill(rt.alloc(), buffer, limit);
-    assert_eq!(rt; encoder.measured(), Err(Error::InvalidValue));
+    let mut encoder = measuring_encoder(rt.alloc());
+    begin_filling(&mut encoder, rt.alloc(), buffer, limit);
+    assert_eq!(rt; measured_len(&encoder), Err(Error::InvalidValue));
     assert_eq!(rt; encoder.write_uint(1), Err(Error::InvalidValue));
-    let buffer = encoder.into_buffer();
+    let buffer = buffer_of(encoder);
     assert_eq!(rt; buffer.as_slice(), [0xaa, 0xbb].as_slice());
     Ok(())
 }

@@ -10,8 +10,8 @@ returns-in-Ok-clause-text g c =
     let proper = g.T.Serialize.writing.proper _ c.measure.ensures.is_value in
     let b : c.replace-room.result.items ≡ c.args.buffer.now.items =
     ap (λ v. v.items) c.replace-room.ensures.value ∙ c.reserve_exact.ensures.items in
-    c.into_buffer.ensures
-    ∙ (filled ts proper _ _ _ _ _ _ _ m.1 (omega (arith, ap length b)) (c.fill.ensures.begun _ m.0 m.2)
+    c.buffer_of.ensures
+    ∙ (filled ts proper _ _ _ _ _ _ _ m.1 (omega (arith, ap length b)) (c.begin_filling.ensures.begun _ m.0 m.2)
     c.serialize-outcome.ensures c.in-Ok.is
     ∙ ap (λ bs. bs ++ row_text ts) b)
 
@@ -22,7 +22,7 @@ returns-in-Err-clause-refused g c =
     let proper = g.T.Serialize.writing.proper _ c.measure.ensures.is_value in
     let b : c.replace-room.result.items ≡ c.args.buffer.now.items =
     ap (λ v. v.items) c.replace-room.ensures.value ∙ c.reserve_exact.ensures.items in
-    inl (filling_refused ts proper _ _ _ _ _ _ _ m.1 (omega (arith, ap length b)) (c.fill.ensures.begun _ m.0 m.2)
+    inl (filling_refused ts proper _ _ _ _ _ _ _ m.1 (omega (arith, ap length b)) (c.begin_filling.ensures.begun _ m.0 m.2)
     c.serialize-outcome.ensures _ c.in-Err.is)
 
 pub returns-in-Err-clause-kept : goal.returns-in-Err-clause-kept
@@ -33,7 +33,7 @@ returns-in-Err-clause-kept g c =
     let b : c.replace-room.result.items ≡ c.args.buffer.now.items =
     ap (λ v. v.items) c.replace-room.ensures.value ∙ c.reserve_exact.ensures.items in
     c.truncate.ensures.items
-    ∙ (ap (take c.len-before.result) c.into_buffer.ensures
-    ∙ (front_kept ts proper _ _ _ _ _ _ _ m.1 (omega (arith, ap length b)) (c.fill.ensures.begun _ m.0 m.2)
+    ∙ (ap (take c.len-before.result) c.buffer_of.ensures
+    ∙ (front_kept ts proper _ _ _ _ _ _ _ m.1 (omega (arith, ap length b)) (c.begin_filling.ensures.begun _ m.0 m.2)
     c.serialize-outcome.ensures _ (omega (arith, ap length b))
     ∙ b))

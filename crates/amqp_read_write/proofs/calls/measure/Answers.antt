@@ -6,25 +6,25 @@ pub returns-clause-measured : goal.returns-clause-measured
 returns-clause-measured g c =
     let w = g.T.Serialize.writing in
     measured (w.canons c.args.value.now) (w.proper _ c.in_type.ensures) _ _ _ c.requires c.in_ok-serialize.was
-    c.serialize.ensures _ c.measured.ensures.found c.measured.ensures.refused
+    c.serialize.ensures _ c.measured_len.ensures.found c.measured_len.ensures.refused
 
 pub returns-clause-len : goal.returns-clause-len
 returns-clause-len g c =
     let w = g.T.Serialize.writing in
     measured_length (w.canons c.args.value.now) (w.proper _ c.in_type.ensures) _ _ _ c.requires c.in_ok-serialize.was
-    c.serialize.ensures _ c.measured.ensures.found c.measured.ensures.refused
+    c.serialize.ensures _ c.measured_len.ensures.found c.measured_len.ensures.refused
 
 pub returns-clause-writable : goal.returns-clause-writable
 returns-clause-writable g c =
     let w = g.T.Serialize.writing in
     measured_writable (w.canons c.args.value.now) (w.proper _ c.in_type.ensures) _ _ _ c.requires c.in_ok-serialize.was
-    c.serialize.ensures _ c.measured.ensures.found c.measured.ensures.refused
+    c.serialize.ensures _ c.measured_len.ensures.found c.measured_len.ensures.refused
 
 pub returns-clause-refused : goal.returns-clause-refused
 returns-clause-refused g c =
     let w = g.T.Serialize.writing in
     never_refused (w.canons c.args.value.now) (w.proper _ c.in_type.ensures) _ _ _ c.requires c.in_ok-serialize.was
-    c.serialize.ensures _ c.measured.ensures.found c.measured.ensures.refused
+    c.serialize.ensures _ c.measured_len.ensures.found c.measured_len.ensures.refused
 
 pub returns-in_err-serialize-clause-refused : goal.returns-in_err-serialize-clause-refused
 returns-in_err-serialize-clause-refused g c =

@@ -5,26 +5,26 @@ use Rattle.amqp_read_write.proofs.reader.read_named.Goals as goal
 
 pub returns-clause-found : goal.returns-clause-found
 returns-clause-found g c = λ told.
-    let read = rw c.new-decoder.ensures at (c.deserialize-read.ensures (λ s. told s.source)) in
+    let read = rw c.decoder_of-decoder.ensures at (c.deserialize-read.ensures (λ s. told s.source)) in
     found g.T.Deserialize.reading (known (g.S.ByteSource.remaining c.args.source)) _ _ _ _ read
 
 pub returns-clause-one : goal.returns-clause-one
 returns-clause-one g c = λ told.
-    let read = rw c.new-decoder.ensures at (c.deserialize-read.ensures (λ s. told s.source)) in
+    let read = rw c.decoder_of-decoder.ensures at (c.deserialize-read.ensures (λ s. told s.source)) in
     one g.T.Deserialize.reading (known (g.S.ByteSource.remaining c.args.source)) _ _ _ _ read
 
 pub returns-clause-behind : goal.returns-clause-behind
 returns-clause-behind g c = λ told own.
-    let read = rw c.new-decoder.ensures at (c.deserialize-read.ensures (λ s. told s.source)) in
-    behind g.T.Deserialize.reading (known (g.S.ByteSource.remaining c.args.source)) _ _ _ _ read own _ c.into_source-source.ensures.rest
+    let read = rw c.decoder_of-decoder.ensures at (c.deserialize-read.ensures (λ s. told s.source)) in
+    behind g.T.Deserialize.reading (known (g.S.ByteSource.remaining c.args.source)) _ _ _ _ read own _ c.source_of-source.ensures.rest
 
 pub returns-clause-refused : goal.returns-clause-refused
 returns-clause-refused g c = λ told.
-    let read = rw c.new-decoder.ensures at (c.deserialize-read.ensures (λ s. told s.source)) in
-    refused g.T.Deserialize.reading (known (g.S.ByteSource.remaining c.args.source)) _ _ _ _ read _ c.into_source-source.ensures.failed
+    let read = rw c.decoder_of-decoder.ensures at (c.deserialize-read.ensures (λ s. told s.source)) in
+    refused g.T.Deserialize.reading (known (g.S.ByteSource.remaining c.args.source)) _ _ _ _ read _ c.source_of-source.ensures.failed
 
 pub returns-clause-failing : goal.returns-clause-failing
 returns-clause-failing g c = λ told.
-    let read = rw c.new-decoder.ensures at (c.deserialize-read.ensures (λ s. told s.source)) in
+    let read = rw c.decoder_of-decoder.ensures at (c.deserialize-read.ensures (λ s. told s.source)) in
     failing g.T.Deserialize.reading (known (g.S.ByteSource.remaining c.args.source)) _ _ _ _ read _ _
-    c.into_source-source.ensures.failed refl
+    c.source_of-source.ensures.failed refl

@@ -7,7 +7,7 @@ use Rattle.amqp_encoder.specs.declared.size.Size.{Size}
 use Rattle.amqp_encoder.specs.State.{Measured}
 use Rattle.amqp_encoder.specs.Writes.{Found}
 use Rattle.amqp_encoder.proofs.Settled.{measures}
-use Rattle.amqp_encoder.proofs.encoder.Encoder.measured.Goals as goal
+use Rattle.amqp_encoder.proofs.encoder.measured_len.Goals as goal
 
 found : (s : Pass) (m : Measured) (r : Result ℕ Error) → s ≡ Measuring m
     → MatchResult r (λ len. (m.outer ≡ []) × (len ≡ m.frame.content)) (λ e. (e ≡ InvalidValue) × (1 ≤ length m.outer))
