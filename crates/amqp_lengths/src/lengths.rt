@@ -1,7 +1,8 @@
 //! How long the term is that bytes begin with (Part 1, sections 1.2 and 1.6).
-ghost use Rattle.std.specs.Prelude.{◌≤◌, ◌<◌, ◌+◌, ◌≡◌, IfOk, IfErr, IsErr, IsTrue, ◌↔◌, MatchOption};
+ghost use Rattle.std.specs.Prelude.{◌≤◌, ◌<◌, ◌+◌, ◌≡◌, ℕ, List, ◌++◌, IfOk, IfErr, IsErr, IsTrue, ◌↔◌, MatchOption};
 ghost use Rattle.amqp_model.specs.Constructors.{format};
-ghost use Rattle.amqp_model.specs.Spelling.{IsKnown};
+ghost use Rattle.amqp_model.specs.Spelling.{IsKnown, enc};
+ghost use Rattle.amqp_model.specs.Term.{Term};
 ghost use Rattle.amqp_wire.specs.declared.error.Error.TheVariants.{Cut};
 ghost use Rattle.amqp_lengths.specs.Fronts.{IsFront, Refuses, NoFront};
 ghost use Rattle.amqp_lengths.specs.Pieces.{width_of};
@@ -18,19 +19,40 @@ use amqp_wire::format_code::{has_width_zero, is_compound};
 use amqp_wire::nesting::NESTING;
 use amqp_wire::{Container, Error, format_code};
 
-/// The length in bytes of the term that the input begins with, its constructor included (Part 1, section 1.2). What stands
-/// behind it isn't looked at. Takes no memory.
+/// Returns the length in bytes of the AMQP term (one encoded value, of any type) at the start of `input`, from the first
+/// byte of its constructor to the last byte of its data (Part 1, section 1.2). Bytes after the term are ignored. No input
+/// starts with two different terms. The call allocates no memory.
 ///
-/// The error is `Cut` where the input is a proper front of a term, and only where it ends before a constructor does or
-/// before the data that its code announces. Any other error names a fault that stands in the input: `UnknownCode`,
-/// `FloatCode`, `BadDescriptor`, `BadBool`, `BadChar`, `BadUtf8`, `NonAscii`, `Size` (also of a value that asks for more
-/// than the container around it holds), `OddCount`, `ZeroWidthItems`, or `Depth` past `NESTING` levels or descriptors.
+/// # Errors
+///
+/// If `input` does not start with a term that is nested at most 128 deep, the call returns an error that names a fault of
+/// the bytes. If the bytes have several faults, it is not specified which of them is named.
+///
+/// - `Cut` if the input ends before the end of a constructor, or before the end of the data that a constructor announces.
+///   Every proper prefix of such a term, the empty input included, returns `Cut`.
+/// - `UnknownCode` if a constructor has a format code that is not in Part 1, section 1.6.
+/// - `FloatCode` if a constructor has the code of a float (0x72) or of a double (0x82), which are not supported.
+/// - `BadDescriptor` if a descriptor is neither a ulong nor a symbol.
+/// - `BadBool` if the byte of a boolean (code 0x56) is neither 0 nor 1.
+/// - `BadChar` if the four bytes of a char are not a Unicode scalar value.
+/// - `BadUtf8` if the bytes of a string are not UTF-8.
+/// - `NonAscii` if a symbol, or a descriptor that is a symbol, has a byte above 0x7f.
+/// - `Size` if the size of a list, a map or an array is not the size of its count and its items. This includes a value that
+///   reaches past the end of the container that it is in.
+/// - `OddCount` if the count of a map is odd.
+/// - `ZeroWidthItems` if an array has items, and their constructor has a code without data (0x40 to 0x45).
+/// - `Depth` if described values, lists, maps and arrays of such are nested more than 128 deep, or if a constructor has more
+///   than 128 descriptors.
 pub fn term_len(input: &[u8]) -> Result<usize, Error>
     ensures found { IfOk result (λ n. IsFront (IsTerm NESTING) input.now n) }
     ensures none { IfErr result (λ _. NoFront (IsTerm NESTING) input.now) }
     ensures cut { IsCutTerm NESTING input.now → result ≡ Err Cut }
     ensures fault { IfErr result (λ e. TermFault NESTING input.now e) }
     ensures cut_only { IfErr result (λ e. e ≡ Cut → AsksMore input.now) }
+    ensures one_front { (s r after behind : List ℕ) (t u : Term) → input.now ≡ s ++ after → input.now ≡ r ++ behind
+        → enc s t → enc r u → s ≡ r }
+    ensures one_term { (s r after behind : List ℕ) (t u : Term) → input.now ≡ s ++ after → input.now ≡ r ++ behind
+        → enc s t → enc r u → t ≡ u }
 {
     len_of_term(input, NESTING)
 }

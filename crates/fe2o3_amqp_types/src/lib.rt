@@ -11,6 +11,7 @@ pub mod codec {
     pub use amqp_containers::{Array, TransparentVec};
     pub use amqp_described::Described;
     pub use amqp_lazy::LazyValue;
+    pub use amqp_lengths::term_len;
     pub use amqp_maps::{
         IntoIter as OrderedMapIntoIter, Iter as OrderedMapIter, OrderedMap,
         Values as OrderedMapValues,
