@@ -82,17 +82,17 @@ pub begin_not_outside : {e : Error} → IsOutside e → (st : State) → BeginFa
 begin_not_outside out st (missing h is) = subst IsOutside is out
 begin_not_outside out st (no_code item h l) = lacks_not_outside out 1 st l
 
-data_not_outside : {e : Error} → IsOutside e → (F : Format) (st : State) → LacksData F st e → ⊥
-data_not_outside out (fixed w v) st l = lacks_not_outside out w st l
-data_not_outside out (variable w v) st (inl l) = lacks_not_outside out w st l
-data_not_outside out (variable w v) st (inr (n, m, fits, t, l)) = lacks_not_outside out n m l
-data_not_outside out (compound k w) st l = l
-data_not_outside out unknown st l = l
+data_not_outside : (e : Error) → IsOutside e → (F : Format) (st : State) → LacksData F st e → ⊥
+data_not_outside e out (fixed w v) st l = lacks_not_outside out w st l
+data_not_outside e out (variable w v) st (inl l) = lacks_not_outside out w st l
+data_not_outside e out (variable w v) st (inr (n, m, fits, t, l)) = lacks_not_outside out n m l
+data_not_outside e out (compound k w) st l = l
+data_not_outside e out unknown st l = l
 
 pub primitive_not_outside : {e : Error} → IsOutside e → (k : ℕ) (st : State) → PrimitiveFault k st e → ⊥
 primitive_not_outside out k st (not_begun f) = begin_not_outside out st f
 primitive_not_outside out k st (wrong_code {c} {m} g other is) = refusal_not_outside out c is
-primitive_not_outside out k st (no_data {c} {m} g kind l) = data_not_outside out (format c) m l
+primitive_not_outside {e} out k st (no_data {c} {m} g kind l) = data_not_outside e out (format c) m l
 primitive_not_outside out k st (bad_data g kind t h none is) = bad_by (eqb k 1) (eqb k 13) (eqb k 17) (eqb k 18) (subst IsOutside is out)
 
 pub end_not_outside : {e : Error} → IsOutside e → (place : Place) (st : State) → EndFault place st e → ⊥
@@ -124,7 +124,7 @@ open_not_outside out kind st (containers.no_data {c} {width = w} {m} g is f) = e
 descriptor_not_outside : {e : Error} → IsOutside e → (st : State) → DescriptorFault st e → ⊥
 descriptor_not_outside out st (described.no_code l) = lacks_not_outside out 1 st l
 descriptor_not_outside out st (no_kind {c} {m} t other is) = kind_not_outside out c is
-descriptor_not_outside out st (described.no_data {c} {m} t kind l) = data_not_outside out (format c) m l
+descriptor_not_outside {e} out st (described.no_data {c} {m} t kind l) = data_not_outside e out (format c) m l
 descriptor_not_outside out st (non_ascii t kind u whole none is) = subst IsOutside is out
 
 described_not_outside : {e : Error} → IsOutside e → (st : State) → DescribedFault st e → ⊥
@@ -163,12 +163,12 @@ array_not_outside out st (arrays.not_begun f) = begin_not_outside out st f
 array_not_outside out st (arrays.wrong_code c m g never is) = refusal_not_outside out c is
 array_not_outside out st (arrays.no_data c w m g is f) = enter_array_not_outside out w m f
 
-announced_not_outside : {e : Error} → IsOutside e → (F : Format) (st : State) → LacksAnnounced F st e → ⊥
-announced_not_outside out (fixed w v) st l = data_not_outside out (fixed w v) st l
-announced_not_outside out (variable w v) st l = data_not_outside out (variable w v) st l
-announced_not_outside out (compound k w) st (inl l) = lacks_not_outside out w st l
-announced_not_outside out (compound k w) st (inr (n, m, fits, t, l)) = lacks_not_outside out (content_size k w n) m l
-announced_not_outside out unknown st l = l
+announced_not_outside : (e : Error) → IsOutside e → (F : Format) (st : State) → LacksAnnounced F st e → ⊥
+announced_not_outside e out (fixed w v) st l = data_not_outside e out (fixed w v) st l
+announced_not_outside e out (variable w v) st l = data_not_outside e out (variable w v) st l
+announced_not_outside e out (compound k w) st (inl l) = lacks_not_outside out w st l
+announced_not_outside e out (compound k w) st (inr (n, m, fits, t, l)) = lacks_not_outside out (content_size k w n) m l
+announced_not_outside e out unknown st l = l
 
 no_term_not_outside : {e : Error} → IsOutside e → (nesting : ℕ) (b : List ℕ) (st : State) → NoTerm nesting b st e → ⊥
 no_term_not_outside out nesting b st (wrong_size none f s) = size_not_outside out 0 st s
@@ -176,7 +176,7 @@ no_term_not_outside out nesting b st (wrong_term none f other) = elim (term_erro
 
 spelling_not_outside : {e : Error} → IsOutside e → (st : State) → SpellingFault st e → ⊥
 spelling_not_outside out st (terms.no_constructor f) = constructor_not_outside out st f
-spelling_not_outside out st (terms.no_data {c} {m} t l) = announced_not_outside out (format c) m l
+spelling_not_outside {e} out st (terms.no_data {c} {m} t l) = announced_not_outside e out (format c) m l
 spelling_not_outside out st (no_term {b} {m'} t u h f) = no_term_not_outside out (st.nesting - length st.saved) (t.own ++ b) m' f
 
 pub term_not_outside : {e : Error} → IsOutside e → (st : State) → TermFault st e → ⊥
