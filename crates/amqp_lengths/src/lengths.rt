@@ -41,8 +41,8 @@ use amqp_wire::{Container, Error, format_code};
 ///   reaches past the end of the container that it is in.
 /// - `OddCount` if the count of a map is odd.
 /// - `ZeroWidthItems` if an array has items, and their constructor has a code without data (0x40 to 0x45).
-/// - `Depth` if described values, lists, maps and arrays of such are nested more than 128 deep, or if a constructor has more
-///   than 128 descriptors.
+/// - `Depth` if described values, lists, maps and arrays of such values are nested more than 128 deep, or if a constructor has
+///   more than 128 descriptors.
 pub fn term_len(input: &[u8]) -> Result<usize, Error>
     ensures found { IfOk result (λ n. IsFront (IsTerm NESTING) input.now n) }
     ensures none { IfErr result (λ _. NoFront (IsTerm NESTING) input.now) }
