@@ -129,8 +129,8 @@ module _ {A B : Type 0} (u : TermType A) (w : TermType B) where
 module _ (is_first : ℕ → Bool) (f g : Faults) where
   pub either_not_outside : {e : Error} → IsOutside e → (st : State) → EitherFault is_first f g st e → ⊥
   either_not_outside out st (no_value h) = begin_not_outside out st h
-  either_not_outside out st (in_first {c} {mid} p is h) = f.not_outside _ out mid h
-  either_not_outside out st (in_second {c} {mid} p is h) = g.not_outside _ out mid h
+  either_not_outside {e} out st (in_first {c} {mid} p is h) = f.not_outside e out mid h
+  either_not_outside {e} out st (in_second {c} {mid} p is h) = g.not_outside e out mid h
 
   pub either_elsewhere : (s : Setting) (st : State) (e : Error) → KeepsError s e → EitherFault is_first f g st e
       → EitherFault is_first f g (under s st) e

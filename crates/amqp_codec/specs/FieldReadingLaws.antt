@@ -134,10 +134,10 @@ not_absent Default h = refl
 not_absent Multiple h = refl
 
 -- No fault of a field is want of memory.
-fault_at_not_outside : {e : Error} → IsOutside e → {V : Type 0} (fs : Fields V) (i : ℕ) (st : State) → FaultAt fs i st e → ⊥
-fault_at_not_outside out none i st f = f
-fault_at_not_outside out (field get f fs) zero st x = f.faults.not_outside _ out st x
-fault_at_not_outside out (field get f fs) (suc i) st x = fault_at_not_outside out fs i st x
+fault_at_not_outside : (e : Error) → IsOutside e → {V : Type 0} (fs : Fields V) (i : ℕ) (st : State) → FaultAt fs i st e → ⊥
+fault_at_not_outside e out none i st f = f
+fault_at_not_outside e out (field get f fs) zero st x = f.faults.not_outside e out st x
+fault_at_not_outside e out (field get f fs) (suc i) st x = fault_at_not_outside e out fs i st x
 
 absence_not_outside : {e : Error} → IsOutside e → (k : FieldRule) → absence k ≡ Some e → ⊥
 absence_not_outside out Mandatory h = subst IsOutside (sym (ap (λ x. unwrap_or x Missing) h)) out
@@ -149,7 +149,7 @@ absence_not_outside out Multiple h = cc
 item_not_outside : {e : Error} → IsOutside e → {V : Type 0} (fs : Fields V) (i : ℕ) (st : State) → ItemFault fs i st e → ⊥
 item_not_outside out fs i st (no_item f) = begin_not_outside out st f
 item_not_outside out fs i st (null_item h is) = absence_not_outside out (rule_at fs i) is
-item_not_outside out fs i st (in_item {c} {mid} p n f) = fault_at_not_outside out fs i mid f
+item_not_outside {e} out fs i st (in_item {c} {mid} p n f) = fault_at_not_outside e out fs i mid f
 
 pub fields_not_outside : {e : Error} → IsOutside e → {V : Type 0} (fs : Fields V) (st : State) → FieldsFault fs st e → ⊥
 fields_not_outside out fs st (no_list f) = open_not_outside out list st f

@@ -119,8 +119,8 @@ module _ {T : Type 0} (o : Opening) (means : Standing → Term → T → Type 0)
   Fault = ItemsFault o means f.fault
 
   pub items_not_outside : {e : Error} → IsOutside e → (st : State) → Fault st e → ⊥
-  items_not_outside out st (unopened h) = o.not_outside _ out st h
-  items_not_outside out st (at_item {n} {first} k h) = f.not_outside _ out h.mid h.named
+  items_not_outside {e} out st (unopened h) = o.not_outside e out st h
+  items_not_outside {e} out st (at_item {n} {first} k h) = f.not_outside e out h.mid h.named
   items_not_outside out st (unclosed {n} {first} {vs} {last} k h c) = close_not_outside out _ last c
 
   pub items_elsewhere : (c : Setting) (st : State) (e : Error) → KeepsError c e → Fault st e → Fault (under c st) e

@@ -100,9 +100,9 @@ module _ {K V : Type 0} (key : TermType K) (value : TermType V) where
       (close_fault c keeps f)
 
   row_not_outside : {e : Error} → IsOutside e → (n : ℕ) (st : State) → PairsFault key value n st e → ⊥
-  row_not_outside out n st (at_key ps mid h f) = key.faults.not_outside _ out mid f
+  row_not_outside {e} out n st (at_key ps mid h f) = key.faults.not_outside e out mid f
   row_not_outside out n st (twice ps mid after k h r same is) = subst IsOutside is out
-  row_not_outside out n st (at_value ps mid after k h r new f) = value.faults.not_outside _ out after f
+  row_not_outside {e} out n st (at_value ps mid after k h r new f) = value.faults.not_outside e out after f
 
   pub map_not_outside : {e : Error} → IsOutside e → (st : State) → MapFault key value st e → ⊥
   map_not_outside out st (unopened h) = open_not_outside out map st h

@@ -23,7 +23,7 @@ use Rattle.amqp_codec.specs.Members.{Members, MemberRead, MemberFault, IsSum, no
 
 pub member_not_outside : {e : Error} → IsOutside e → {V : Type 0} (m : Members V) (st : State) → MemberFault m st e → ⊥
 member_not_outside out m st (no_member {ms} names f) = one_of_not_outside out ms st f
-member_not_outside out m st (in_member {d} {i} {inner} o at f) = (m.faults i).not_outside _ out inner f
+member_not_outside {e} out m st (in_member {d} {i} {inner} o at f) = (m.faults i).not_outside e out inner f
 member_not_outside out m st (not_ended {d} {i} {inner} {last} {v} o at q f) = end_not_outside out InDescribed last f
 
 one_place : {i j : ℕ} {o p : Option ℕ} → o ≡ p → o ≡ Some i → p ≡ Some j → i ≡ j

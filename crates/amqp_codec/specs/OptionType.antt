@@ -13,7 +13,7 @@ use Rattle.amqp_codec.specs.OptionTypeLaws.{option_least}
 abbrev pub option_faults : Faults → Faults
 option_faults f = record {
   fault = OptionFault f.fault;
-  not_outside = λ e out. option_not_outside out f;
+  not_outside = λ e out. option_not_outside e out f;
   fault_elsewhere = option_elsewhere f;
   misspelled = option_misspelled f;
 }

@@ -24,9 +24,9 @@ use Rattle.amqp_codec.specs.PrimitiveTermLaws.{reads_leaf}
 use Rattle.amqp_codec.specs.NullLaws.{nulls_alike-null, is_null-nulls_alike, null_form, null_meant, null_least}
 use Rattle.amqp_codec.specs.OptionMeaning.{MeansOption, OptionFault, keep, norm_option, count_option}
 
-pub option_not_outside : {e : Error} → IsOutside e → (f : Faults) (st : State) → OptionFault f.fault st e → ⊥
-option_not_outside out f st (inl h) = begin_not_outside out st h
-option_not_outside out f st (inr (c, mid, p, n, h)) = f.not_outside _ out mid h
+pub option_not_outside : (e : Error) → IsOutside e → (f : Faults) (st : State) → OptionFault f.fault st e → ⊥
+option_not_outside e out f st (inl h) = begin_not_outside out st h
+option_not_outside e out f st (inr (c, mid, p, n, h)) = f.not_outside e out mid h
 
 pub option_elsewhere : (f : Faults) (s : Setting) (st : State) (e : Error) → KeepsError s e → OptionFault f.fault st e
     → OptionFault f.fault (under s st) e

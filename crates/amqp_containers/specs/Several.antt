@@ -68,7 +68,7 @@ pub data MandatoryFault {T : Type 0} (u : TermType T) (st : State) (e : Error) :
 
 module _ {T : Type 0} (u : TermType T) where
   pub mandatory_not_outside : {e : Error} → IsOutside e → (st : State) → MandatoryFault u st e → ⊥
-  mandatory_not_outside out st (not_read h) = (multiple_faults u).not_outside _ out st h
+  mandatory_not_outside {e} out st (not_read h) = (multiple_faults u).not_outside e out st h
   mandatory_not_outside out st (no_items h is) = subst IsOutside is out
 
   pub mandatory_elsewhere : (c : Setting) (st : State) (e : Error) → KeepsError c e → MandatoryFault u st e

@@ -21,7 +21,7 @@ pub data DescribedValueFault (fault : State → Error → Type 0) (st : State) (
 module _ (f : Faults) where
   pub described_not_outside : {e : Error} → IsOutside e → (st : State) → DescribedValueFault f.fault st e → ⊥
   described_not_outside out st (unopened h) = open_described_not_outside out st h
-  described_not_outside out st (in_value {d} {inner} o h) = f.not_outside _ out inner h
+  described_not_outside {e} out st (in_value {d} {inner} o h) = f.not_outside e out inner h
 
   pub described_elsewhere : (c : Setting) (st : State) (e : Error) → KeepsError c e → DescribedValueFault f.fault st e
       → DescribedValueFault f.fault (under c st) e

@@ -32,7 +32,7 @@ pub data KindFault (faults : Kind → Faults) (st : State) (e : Error) : Type 0 
 module _ (faults : Kind → Faults) where
   pub kind_not_outside : {e : Error} → IsOutside e → (st : State) → KindFault faults st e → ⊥
   kind_not_outside out st (no_value h) = begin_not_outside out st h
-  kind_not_outside out st (of_kind {c} {mid} p h) = (faults (kind_at c)).not_outside _ out mid h
+  kind_not_outside {e} out st (of_kind {c} {mid} p h) = (faults (kind_at c)).not_outside e out mid h
 
   pub kind_elsewhere : (s : Setting) (st : State) (e : Error) → KeepsError s e → KindFault faults st e → KindFault faults (under s st) e
   kind_elsewhere s st e k (no_value h) = no_value (begin_fault s k h)
