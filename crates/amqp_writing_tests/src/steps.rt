@@ -108,7 +108,7 @@ pub(crate) fn measure(
     alloc: Global,
 ) -> Result<usize, Error> {
     write(steps, encoder, alloc)?;
-    measured_len(&encoder)
+    measured_len(encoder)
 }
 
 /// Puts the bytes of the steps behind those that a buffer has. After a refusal the buffer has these alone.
