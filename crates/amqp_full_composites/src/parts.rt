@@ -1,4 +1,4 @@
-//! Small values, of which the tests make the fields of greater ones; and the test of what is written.
+//! Small values, of which the fields of greater ones are made; and the tests of what is written and of copies.
 use amqp_codec::{Error as CodecError, Serialize, Symbol};
 use amqp_containers::Array;
 use amqp_errors::{Error, ErrorCondition};
@@ -68,4 +68,13 @@ pub fn error_of(condition: &str, description: &str, alloc: Global) -> Result<Err
         description: Some(text_of(description, alloc)?),
         info: None,
     })
+}
+
+/// A copy of the value is equal to it.
+pub fn check_copy<T: Clone + PartialEq + Drop>(value: &T) -> Result<(), Fail> {
+    let copy = value.clone()?;
+    if copy != *value {
+        return Err(Fail::new(format_args!("a copy differs")));
+    }
+    Ok(())
 }
