@@ -1,5 +1,5 @@
 -- What a line asks for, and what it is answered.
-use Rattle.std.specs.Prelude.{◌≡◌, ◌⊎◌, ◌≤◌, ℕ, ◌+◌, Bool, true, false, ◌&&◌, List, [], ◌∷◌, ◌++◌, length, codes, Ok, Option, IfSome}
+use Rattle.std.specs.Prelude.{◌≡◌, ◌⊎◌, ◌≤◌, ℕ, ◌+◌, Bool, true, false, ◌&&◌, List, [], ◌∷◌, ◌++◌, length, codes, Result, Ok, Err, Option, IfSome}
 use Rattle.std.specs.Fmt.{decimal}
 use Rattle.hex.specs.Hex.{decode_of, encode_lower}
 use Rattle.amqp_wire.specs.declared.error.Error.{Error}
@@ -112,90 +112,59 @@ TextOf u input text n = IsRewritten (reading_of u) (λ v. u.canon v ∷ []) inpu
 abbrev pub NoTextOf : {T : Type 0} → TermType T → List ℕ → Error → Type 0
 NoTextOf u input e = IsUnreadable (reading_of u) input e ⊎ IsUnwritten (reading_of u) (λ v. u.canon v ∷ []) input e
 
+-- The one is said of an answer, or the other.
+abbrev pub Returns : {T : Type 0} → TermType T → List ℕ → Result (List ℕ × ℕ) Error → Type 0
+Returns u input (Ok (text, n)) = TextOf u input text n
+Returns u input (Err e) = NoTextOf u input e
+
 -- The same of the type with that name.
+abbrev pub ReturnsOf : TypeName → List ℕ → Result (List ℕ × ℕ) Error → Type 0
+ReturnsOf line_type.Accepted = Returns (composite accepted)
+ReturnsOf line_type.Attach = Returns (composite attach)
+ReturnsOf line_type.Begin = Returns (composite begin)
+ReturnsOf line_type.Boolean = Returns boolean_type
+ReturnsOf line_type.Close = Returns (composite close)
+ReturnsOf line_type.Coordinator = Returns (composite coordinator)
+ReturnsOf line_type.Declare = Returns (composite declare)
+ReturnsOf line_type.Declared = Returns (composite declared)
+ReturnsOf line_type.DeleteOnClose = Returns (composite delete_on_close)
+ReturnsOf line_type.DeleteOnNoLinks = Returns (composite delete_on_no_links)
+ReturnsOf line_type.DeleteOnNoLinksOrMessages = Returns (composite delete_on_no_links_or_messages)
+ReturnsOf line_type.DeleteOnNoMessages = Returns (composite delete_on_no_messages)
+ReturnsOf line_type.DeliveryState = Returns delivery_state
+ReturnsOf line_type.Detach = Returns (composite detach)
+ReturnsOf line_type.Discharge = Returns (composite discharge)
+ReturnsOf line_type.Disposition = Returns (composite disposition)
+ReturnsOf line_type.End = Returns (composite ending)
+ReturnsOf line_type.Error = Returns (composite error)
+ReturnsOf line_type.ErrorCondition = Returns condition_type
+ReturnsOf line_type.Flow = Returns (composite flow)
+ReturnsOf line_type.LifetimePolicy = Returns lifetime_policy
+ReturnsOf line_type.Modified = Returns (composite modified)
+ReturnsOf line_type.Open = Returns (composite opening)
+ReturnsOf line_type.Outcome = Returns outcome
+ReturnsOf line_type.Performative = Returns performative
+ReturnsOf line_type.Received = Returns (composite received)
+ReturnsOf line_type.Rejected = Returns (composite rejected)
+ReturnsOf line_type.Released = Returns (composite released)
+ReturnsOf line_type.SaslChallenge = Returns (composite sasl_challenge)
+ReturnsOf line_type.SaslInit = Returns (composite sasl_init)
+ReturnsOf line_type.SaslMechanisms = Returns (composite sasl_mechanisms)
+ReturnsOf line_type.SaslOutcome = Returns (composite sasl_outcome)
+ReturnsOf line_type.SaslResponse = Returns (composite sasl_response)
+ReturnsOf line_type.SimpleValue = Returns simple_type
+ReturnsOf line_type.Source = Returns (composite source)
+ReturnsOf line_type.Target = Returns (composite target)
+ReturnsOf line_type.TargetArchetype = Returns target_archetype
+ReturnsOf line_type.TransactionalState = Returns (composite transactional_state)
+ReturnsOf line_type.Transfer = Returns (composite transfer)
+ReturnsOf line_type.Value = Returns value_type
+
 abbrev pub IsText : TypeName → List ℕ → List ℕ → ℕ → Type 0
-IsText line_type.Accepted = TextOf (composite accepted)
-IsText line_type.Attach = TextOf (composite attach)
-IsText line_type.Begin = TextOf (composite begin)
-IsText line_type.Boolean = TextOf boolean_type
-IsText line_type.Close = TextOf (composite close)
-IsText line_type.Coordinator = TextOf (composite coordinator)
-IsText line_type.Declare = TextOf (composite declare)
-IsText line_type.Declared = TextOf (composite declared)
-IsText line_type.DeleteOnClose = TextOf (composite delete_on_close)
-IsText line_type.DeleteOnNoLinks = TextOf (composite delete_on_no_links)
-IsText line_type.DeleteOnNoLinksOrMessages = TextOf (composite delete_on_no_links_or_messages)
-IsText line_type.DeleteOnNoMessages = TextOf (composite delete_on_no_messages)
-IsText line_type.DeliveryState = TextOf delivery_state
-IsText line_type.Detach = TextOf (composite detach)
-IsText line_type.Discharge = TextOf (composite discharge)
-IsText line_type.Disposition = TextOf (composite disposition)
-IsText line_type.End = TextOf (composite ending)
-IsText line_type.Error = TextOf (composite error)
-IsText line_type.ErrorCondition = TextOf condition_type
-IsText line_type.Flow = TextOf (composite flow)
-IsText line_type.LifetimePolicy = TextOf lifetime_policy
-IsText line_type.Modified = TextOf (composite modified)
-IsText line_type.Open = TextOf (composite opening)
-IsText line_type.Outcome = TextOf outcome
-IsText line_type.Performative = TextOf performative
-IsText line_type.Received = TextOf (composite received)
-IsText line_type.Rejected = TextOf (composite rejected)
-IsText line_type.Released = TextOf (composite released)
-IsText line_type.SaslChallenge = TextOf (composite sasl_challenge)
-IsText line_type.SaslInit = TextOf (composite sasl_init)
-IsText line_type.SaslMechanisms = TextOf (composite sasl_mechanisms)
-IsText line_type.SaslOutcome = TextOf (composite sasl_outcome)
-IsText line_type.SaslResponse = TextOf (composite sasl_response)
-IsText line_type.SimpleValue = TextOf simple_type
-IsText line_type.Source = TextOf (composite source)
-IsText line_type.Target = TextOf (composite target)
-IsText line_type.TargetArchetype = TextOf target_archetype
-IsText line_type.TransactionalState = TextOf (composite transactional_state)
-IsText line_type.Transfer = TextOf (composite transfer)
-IsText line_type.Value = TextOf value_type
+IsText named input text n = ReturnsOf named input (Ok (text, n))
 
 abbrev pub HasNoText : TypeName → List ℕ → Error → Type 0
-HasNoText line_type.Accepted = NoTextOf (composite accepted)
-HasNoText line_type.Attach = NoTextOf (composite attach)
-HasNoText line_type.Begin = NoTextOf (composite begin)
-HasNoText line_type.Boolean = NoTextOf boolean_type
-HasNoText line_type.Close = NoTextOf (composite close)
-HasNoText line_type.Coordinator = NoTextOf (composite coordinator)
-HasNoText line_type.Declare = NoTextOf (composite declare)
-HasNoText line_type.Declared = NoTextOf (composite declared)
-HasNoText line_type.DeleteOnClose = NoTextOf (composite delete_on_close)
-HasNoText line_type.DeleteOnNoLinks = NoTextOf (composite delete_on_no_links)
-HasNoText line_type.DeleteOnNoLinksOrMessages = NoTextOf (composite delete_on_no_links_or_messages)
-HasNoText line_type.DeleteOnNoMessages = NoTextOf (composite delete_on_no_messages)
-HasNoText line_type.DeliveryState = NoTextOf delivery_state
-HasNoText line_type.Detach = NoTextOf (composite detach)
-HasNoText line_type.Discharge = NoTextOf (composite discharge)
-HasNoText line_type.Disposition = NoTextOf (composite disposition)
-HasNoText line_type.End = NoTextOf (composite ending)
-HasNoText line_type.Error = NoTextOf (composite error)
-HasNoText line_type.ErrorCondition = NoTextOf condition_type
-HasNoText line_type.Flow = NoTextOf (composite flow)
-HasNoText line_type.LifetimePolicy = NoTextOf lifetime_policy
-HasNoText line_type.Modified = NoTextOf (composite modified)
-HasNoText line_type.Open = NoTextOf (composite opening)
-HasNoText line_type.Outcome = NoTextOf outcome
-HasNoText line_type.Performative = NoTextOf performative
-HasNoText line_type.Received = NoTextOf (composite received)
-HasNoText line_type.Rejected = NoTextOf (composite rejected)
-HasNoText line_type.Released = NoTextOf (composite released)
-HasNoText line_type.SaslChallenge = NoTextOf (composite sasl_challenge)
-HasNoText line_type.SaslInit = NoTextOf (composite sasl_init)
-HasNoText line_type.SaslMechanisms = NoTextOf (composite sasl_mechanisms)
-HasNoText line_type.SaslOutcome = NoTextOf (composite sasl_outcome)
-HasNoText line_type.SaslResponse = NoTextOf (composite sasl_response)
-HasNoText line_type.SimpleValue = NoTextOf simple_type
-HasNoText line_type.Source = NoTextOf (composite source)
-HasNoText line_type.Target = NoTextOf (composite target)
-HasNoText line_type.TargetArchetype = NoTextOf target_archetype
-HasNoText line_type.TransactionalState = NoTextOf (composite transactional_state)
-HasNoText line_type.Transfer = NoTextOf (composite transfer)
-HasNoText line_type.Value = NoTextOf value_type
+HasNoText named input e = ReturnsOf named input (Err e)
 
 -- The line is answered so, and this says whether that is `ok`: by the canonical text and the number of the bytes behind
 -- the value, or by why there is none, which may be want of memory.
