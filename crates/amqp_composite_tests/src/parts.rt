@@ -10,7 +10,7 @@ use std::alloc::Global;
 use std::test::Fail;
 
 /// The value is written as the bytes with these digits.
-pub fn check<T: Serialize>(value: &T, digits: &str, alloc: Global) -> Result<(), Fail> {
+pub(crate) fn check<T: Serialize>(value: &T, digits: &str, alloc: Global) -> Result<(), Fail> {
     let text = hex::encode(alloc, &to_vec(value, alloc)?)?;
     if text.as_str() != digits {
         return Err(Fail::new(format_args!("{digits} is written as {text}")));
@@ -18,27 +18,27 @@ pub fn check<T: Serialize>(value: &T, digits: &str, alloc: Global) -> Result<(),
     Ok(())
 }
 
-pub fn text_of(text: &str, alloc: Global) -> Result<String, CodecError> {
+pub(crate) fn text_of(text: &str, alloc: Global) -> Result<String, CodecError> {
     Ok(String::from_str(alloc, text)?)
 }
 
-pub fn binary_of(bytes: &[u8], alloc: Global) -> Result<Binary, CodecError> {
+pub(crate) fn binary_of(bytes: &[u8], alloc: Global) -> Result<Binary, CodecError> {
     Ok(Binary::from(Vec::from_slice(alloc, bytes)?))
 }
 
-pub fn symbol_of(text: &str, alloc: Global) -> Result<Symbol, CodecError> {
+pub(crate) fn symbol_of(text: &str, alloc: Global) -> Result<Symbol, CodecError> {
     Ok(Symbol::from(String::from_str(alloc, text)?))
 }
 
 /// An array of one symbol.
-pub fn symbols_of(text: &str, alloc: Global) -> Result<Array<Symbol>, CodecError> {
+pub(crate) fn symbols_of(text: &str, alloc: Global) -> Result<Array<Symbol>, CodecError> {
     let mut symbols = Array::from(Vec::new(alloc));
     symbols.push(symbol_of(text, alloc)?)?;
     Ok(symbols)
 }
 
 /// An array of two symbols.
-pub fn two_symbols_of(
+pub(crate) fn two_symbols_of(
     first: &str,
     second: &str,
     alloc: Global,
@@ -49,20 +49,24 @@ pub fn two_symbols_of(
 }
 
 /// A map of one pair.
-pub fn fields_of(text: &str, value: Value, alloc: Global) -> Result<Fields, CodecError> {
+pub(crate) fn fields_of(text: &str, value: Value, alloc: Global) -> Result<Fields, CodecError> {
     let mut fields = Fields::new(alloc);
     fields.insert(symbol_of(text, alloc)?, value)?;
     Ok(fields)
 }
 
 /// A map of one pair, whose value is a string.
-pub fn text_fields_of(key: &str, text: &str, alloc: Global) -> Result<Fields, CodecError> {
+pub(crate) fn text_fields_of(key: &str, text: &str, alloc: Global) -> Result<Fields, CodecError> {
     let value = Value::String(text_of(text, alloc)?);
     fields_of(key, value, alloc)
 }
 
 /// An error of an extension's own, without more information.
-pub fn error_of(condition: &str, description: &str, alloc: Global) -> Result<Error, CodecError> {
+pub(crate) fn error_of(
+    condition: &str,
+    description: &str,
+    alloc: Global,
+) -> Result<Error, CodecError> {
     Ok(Error {
         condition: ErrorCondition::Custom(symbol_of(condition, alloc)?),
         description: Some(text_of(description, alloc)?),
