@@ -1,8 +1,8 @@
 //! Each call of the builders once.
-use crate::parts::{check, fields_of, symbol_of, symbols_of};
 use amqp_codec::Descriptor;
 use amqp_delivery::{Accepted, Outcome};
 use amqp_described::Described;
+use amqp_full_composites::parts::{check, fields_of, symbol_of, symbols_of};
 use amqp_restricted_types::{DistributionMode, TerminusDurability, TerminusExpiryPolicy};
 use amqp_termini::{
     DeleteOnClose, LifetimePolicy, Source, SourceBuilder, SupportedDistModes, Target, TargetBuilder,

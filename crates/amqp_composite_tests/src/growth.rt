@@ -1,6 +1,6 @@
 //! Builders while memory is refused. Each growth is refused in turn by hand: `rt try --test --fail-alloc N`, for N from 1 on.
-use crate::parts::check;
 use amqp_codec::Error;
+use amqp_full_composites::parts::check;
 use amqp_read_write::to_vec;
 use amqp_restricted_types::DistributionMode;
 use amqp_termini::{DeleteOnClose, LifetimePolicy, SupportedDistModes, TargetBuilder};

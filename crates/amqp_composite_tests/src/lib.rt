@@ -8,8 +8,6 @@ mod delivery;
 #[cfg(test)]
 mod growth;
 #[cfg(test)]
-mod parts;
-#[cfg(test)]
 mod performatives;
 #[cfg(test)]
 mod sasl;

@@ -1,33 +1,12 @@
 //! Each performative once, its fields by their names (Part 2, section 2.7). The digits are written out by the standard's tables, a
 //! line for the descriptor, the size and the count of the list, and a line for each field.
-use crate::parts::{
-    binary_of, check, error_of, fields_of, symbols_of, text_fields_of, text_of, two_symbols_of,
+use amqp_full_composites::parts::check;
+use amqp_full_composites::performatives::{
+    full_attach, full_begin, full_close, full_detach, full_disposition, full_end, full_flow,
+    full_open, full_transfer,
 };
-use amqp_attach::{Attach, Unsettled};
-use amqp_delivery::{Accepted, DeliveryState, Released};
-use amqp_performatives::{Begin, Close, Detach, Disposition, End, Flow, Open, Transfer};
-use amqp_restricted_types::{
-    ChannelMax, Handle, MaxFrameSize, ReceiverSettleMode, Role, SenderSettleMode,
-};
-use amqp_termini::{Source, Target, TargetArchetype};
-use amqp_values::Value;
-use std::alloc::Global;
+use amqp_restricted_types::Role;
 use std::test::Fail;
-
-fn full_open(alloc: Global) -> Result<Open, Fail> {
-    Ok(Open {
-        container_id: text_of("c", alloc)?,
-        hostname: Some(text_of("h", alloc)?),
-        max_frame_size: MaxFrameSize(512),
-        channel_max: ChannelMax(9),
-        idle_time_out: Some(30000),
-        outgoing_locales: Some(symbols_of("en", alloc)?),
-        incoming_locales: Some(two_symbols_of("de", "fr", alloc)?),
-        offered_capabilities: Some(symbols_of("o", alloc)?),
-        desired_capabilities: Some(symbols_of("d", alloc)?),
-        properties: Some(text_fields_of("p", "v", alloc)?),
-    })
-}
 
 #[test]
 fn fields_of_an_open(rt: HostRuntime) -> Result<(), Fail> {
@@ -49,19 +28,6 @@ fn fields_of_an_open(rt: HostRuntime) -> Result<(), Fail> {
     )
 }
 
-fn full_begin(alloc: Global) -> Result<Begin, Fail> {
-    Ok(Begin {
-        remote_channel: Some(3),
-        next_outgoing_id: 4,
-        incoming_window: 500,
-        outgoing_window: 6,
-        handle_max: Handle(7),
-        offered_capabilities: Some(symbols_of("o", alloc)?),
-        desired_capabilities: Some(two_symbols_of("d", "e", alloc)?),
-        properties: Some(fields_of("p", Value::Uint(8), alloc)?),
-    })
-}
-
 #[test]
 fn fields_of_a_begin(rt: HostRuntime) -> Result<(), Fail> {
     let alloc = rt.alloc();
@@ -78,43 +44,6 @@ fn fields_of_a_begin(rt: HostRuntime) -> Result<(), Fail> {
          c10602a301705208",
         alloc,
     )
-}
-
-fn boxed_source(alloc: Global) -> Result<Box<Source>, Fail> {
-    Ok(Box::new(alloc, Source::from(text_of("s", alloc)?))?)
-}
-
-fn boxed_target(alloc: Global) -> Result<Box<TargetArchetype>, Fail> {
-    let target = Target::from(text_of("t", alloc)?);
-    Ok(Box::new(alloc, TargetArchetype::from(target))?)
-}
-
-// A delivery that was accepted, and one of which no state is known.
-fn two_unsettled(alloc: Global) -> Result<Unsettled, Fail> {
-    let mut unsettled = Unsettled::new(alloc);
-    let accepted = DeliveryState::Accepted(Accepted {});
-    unsettled.insert(binary_of(&[1], alloc)?, Some(accepted))?;
-    unsettled.insert(binary_of(&[2], alloc)?, None)?;
-    Ok(unsettled)
-}
-
-fn full_attach(alloc: Global) -> Result<Attach, Fail> {
-    Ok(Attach {
-        name: text_of("link", alloc)?,
-        handle: Handle(2),
-        role: Role::Sender,
-        snd_settle_mode: SenderSettleMode::Unsettled,
-        rcv_settle_mode: ReceiverSettleMode::Second,
-        source: Some(boxed_source(alloc)?),
-        target: Some(boxed_target(alloc)?),
-        unsettled: Some(two_unsettled(alloc)?),
-        incomplete_unsettled: true,
-        initial_delivery_count: Some(10),
-        max_message_size: Some(11),
-        offered_capabilities: Some(symbols_of("o", alloc)?),
-        desired_capabilities: Some(symbols_of("d", alloc)?),
-        properties: Some(fields_of("p", Value::Bool(false), alloc)?),
-    })
 }
 
 #[test]
@@ -139,22 +68,6 @@ fn fields_of_an_attach(rt: HostRuntime) -> Result<(), Fail> {
          c10502a3017042",
         alloc,
     )
-}
-
-fn full_flow(alloc: Global) -> Result<Flow, Fail> {
-    Ok(Flow {
-        next_incoming_id: Some(1),
-        incoming_window: 2,
-        next_outgoing_id: 3,
-        outgoing_window: 400,
-        handle: Some(Handle(5)),
-        delivery_count: Some(6),
-        link_credit: Some(7),
-        available: Some(8),
-        drain: true,
-        echo: true,
-        properties: Some(fields_of("p", Value::Uint(9), alloc)?),
-    })
 }
 
 // Drain and echo are both true, so it is also written without drain.
@@ -184,22 +97,6 @@ fn fields_of_a_flow(rt: HostRuntime) -> Result<(), Fail> {
         "005313c01e0b520152025203700000019052055206520752084041c10602a301705209",
         alloc,
     )
-}
-
-fn full_transfer(alloc: Global) -> Result<Transfer, Fail> {
-    Ok(Transfer {
-        handle: Handle(1),
-        delivery_id: Some(2),
-        delivery_tag: Some(binary_of(&[3, 4], alloc)?),
-        message_format: Some(5),
-        settled: Some(false),
-        more: true,
-        rcv_settle_mode: Some(ReceiverSettleMode::Second),
-        state: Some(DeliveryState::Accepted(Accepted {})),
-        resume: true,
-        aborted: true,
-        batchable: true,
-    })
 }
 
 // Four of the fields are true, so it is also written without two of them, and without other two.
@@ -239,17 +136,6 @@ fn fields_of_a_transfer(rt: HostRuntime) -> Result<(), Fail> {
     )
 }
 
-fn full_disposition() -> Disposition {
-    Disposition {
-        role: Role::Receiver,
-        first: 1,
-        last: Some(2),
-        settled: true,
-        state: Some(DeliveryState::Released(Released {})),
-        batchable: true,
-    }
-}
-
 // Role, settled and batchable are all written as true, so it is also written with another role and without settled.
 #[test]
 fn fields_of_a_disposition(rt: HostRuntime) -> Result<(), Fail> {
@@ -271,14 +157,6 @@ fn fields_of_a_disposition(rt: HostRuntime) -> Result<(), Fail> {
     check(&disposition, "005315c00c064252015202400053264541", alloc)
 }
 
-fn full_detach(alloc: Global) -> Result<Detach, Fail> {
-    Ok(Detach {
-        handle: Handle(3),
-        closed: true,
-        error: Some(error_of("x", "y", alloc)?),
-    })
-}
-
 #[test]
 fn fields_of_a_detach(rt: HostRuntime) -> Result<(), Fail> {
     let alloc = rt.alloc();
@@ -292,12 +170,6 @@ fn fields_of_a_detach(rt: HostRuntime) -> Result<(), Fail> {
     )
 }
 
-fn full_end(alloc: Global) -> Result<End, Fail> {
-    Ok(End {
-        error: Some(error_of("x", "y", alloc)?),
-    })
-}
-
 #[test]
 fn field_of_an_end(rt: HostRuntime) -> Result<(), Fail> {
     let alloc = rt.alloc();
@@ -306,12 +178,6 @@ fn field_of_an_end(rt: HostRuntime) -> Result<(), Fail> {
         "005317c00d0100531dc00702a30178a10179",
         alloc,
     )
-}
-
-fn full_close(alloc: Global) -> Result<Close, Fail> {
-    Ok(Close {
-        error: Some(error_of("x", "y", alloc)?),
-    })
 }
 
 #[test]

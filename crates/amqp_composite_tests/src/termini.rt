@@ -1,31 +1,8 @@
 //! A source, a target and a coordinator, their fields by their names (Part 3, section 3.5; Part 4, section 4.5.1). The digits are
 //! written out by the standard's tables.
-use crate::parts::{check, fields_of, symbols_of, text_of, two_symbols_of};
-use amqp_containers::Array;
-use amqp_delivery::{Accepted, Outcome};
-use amqp_restricted_types::{
-    DistributionMode, TerminusDurability, TerminusExpiryPolicy, TxnCapability,
-};
-use amqp_termini::{Coordinator, Source, Target};
-use amqp_values::Value;
-use std::alloc::Global;
+use amqp_full_composites::parts::check;
+use amqp_full_composites::termini::{full_coordinator, full_source, full_target};
 use std::test::Fail;
-
-fn full_source(alloc: Global) -> Result<Source, Fail> {
-    Ok(Source {
-        address: Some(text_of("a", alloc)?),
-        durable: TerminusDurability::UnsettledState,
-        expiry_policy: TerminusExpiryPolicy::Never,
-        timeout: 7,
-        dynamic: true,
-        dynamic_node_properties: Some(fields_of("p", Value::Bool(true), alloc)?),
-        distribution_mode: Some(DistributionMode::Copy),
-        filter: Some(fields_of("f", Value::Null, alloc)?),
-        default_outcome: Some(Outcome::Accepted(Accepted {})),
-        outcomes: Some(symbols_of("o", alloc)?),
-        capabilities: Some(two_symbols_of("c", "d", alloc)?),
-    })
-}
 
 #[test]
 fn fields_of_a_source(rt: HostRuntime) -> Result<(), Fail> {
@@ -48,18 +25,6 @@ fn fields_of_a_source(rt: HostRuntime) -> Result<(), Fail> {
     )
 }
 
-fn full_target(alloc: Global) -> Result<Target, Fail> {
-    Ok(Target {
-        address: Some(text_of("a", alloc)?),
-        durable: TerminusDurability::Configuration,
-        expiry_policy: TerminusExpiryPolicy::LinkDetach,
-        timeout: 70000,
-        dynamic: true,
-        dynamic_node_properties: Some(fields_of("p", Value::Uint(9), alloc)?),
-        capabilities: Some(symbols_of("c", alloc)?),
-    })
-}
-
 #[test]
 fn fields_of_a_target(rt: HostRuntime) -> Result<(), Fail> {
     let alloc = rt.alloc();
@@ -75,15 +40,6 @@ fn fields_of_a_target(rt: HostRuntime) -> Result<(), Fail> {
          e00701b30000000163",
         alloc,
     )
-}
-
-fn full_coordinator(alloc: Global) -> Result<Coordinator, Fail> {
-    let mut capabilities = Array::from(Vec::new(alloc));
-    capabilities.push(TxnCapability::LocalTransactions)?;
-    capabilities.push(TxnCapability::MultiTxnsPerSsn)?;
-    Ok(Coordinator {
-        capabilities: Some(capabilities),
-    })
 }
 
 #[test]

@@ -1,7 +1,7 @@
 //! What is written, and what targets of both kinds are taken back as.
-use crate::parts::{check, text_of};
 use amqp_codec::Error;
 use amqp_containers::Array;
+use amqp_full_composites::parts::{check, text_of};
 use amqp_read_write::{from_slice, to_vec};
 use amqp_restricted_types::{DistributionMode, TxnCapability};
 use amqp_termini::{

@@ -1,0 +1,73 @@
+//! States, outcomes and errors with a value in every field, and what is said of transactions.
+use crate::parts::{binary_of, error_of, fields_of, text_fields_of, text_of};
+use amqp_delivery::{
+    Declare, Declared, Discharge, Modified, Outcome, Received, Rejected, TransactionalState,
+};
+use amqp_errors::{Error, ErrorCondition, SessionError};
+use amqp_values::Value;
+use std::alloc::Global;
+use std::test::Fail;
+
+pub fn full_error(alloc: Global) -> Result<Error, Fail> {
+    let info = fields_of("i", Value::Ubyte(7), alloc)?;
+    Ok(Error {
+        condition: ErrorCondition::SessionError(SessionError::ErrantLink),
+        description: Some(text_of("d", alloc)?),
+        info: Some(Box::new(alloc, info)?),
+    })
+}
+
+pub fn full_received() -> Received {
+    Received {
+        section_number: 300,
+        section_offset: 4294967297,
+    }
+}
+
+pub fn full_rejected(alloc: Global) -> Result<Rejected, Fail> {
+    Ok(Rejected {
+        error: Some(error_of("x", "y", alloc)?),
+    })
+}
+
+pub fn full_modified(alloc: Global) -> Result<Modified, Fail> {
+    Ok(Modified {
+        delivery_failed: Some(true),
+        undeliverable_here: Some(false),
+        message_annotations: Some(text_fields_of("m", "v", alloc)?),
+    })
+}
+
+fn delivery_failed() -> Modified {
+    Modified {
+        delivery_failed: Some(true),
+        undeliverable_here: None,
+        message_annotations: None,
+    }
+}
+
+pub fn full_transactional_state(alloc: Global) -> Result<TransactionalState, Fail> {
+    Ok(TransactionalState {
+        txn_id: binary_of(&[7], alloc)?,
+        outcome: Some(Outcome::Modified(delivery_failed())),
+    })
+}
+
+pub fn full_declared(alloc: Global) -> Result<Declared, Fail> {
+    Ok(Declared {
+        txn_id: binary_of(&[1, 2], alloc)?,
+    })
+}
+
+pub fn full_declare(alloc: Global) -> Result<Declare, Fail> {
+    Ok(Declare {
+        global_id: Some(binary_of(&[3], alloc)?),
+    })
+}
+
+pub fn full_discharge(alloc: Global) -> Result<Discharge, Fail> {
+    Ok(Discharge {
+        txn_id: binary_of(&[4, 5], alloc)?,
+        fail: Some(true),
+    })
+}

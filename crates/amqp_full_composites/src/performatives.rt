@@ -1,0 +1,142 @@
+//! Performatives with a value in every field.
+use crate::parts::{
+    binary_of, error_of, fields_of, symbols_of, text_fields_of, text_of, two_symbols_of,
+};
+use amqp_attach::{Attach, Unsettled};
+use amqp_delivery::{Accepted, DeliveryState, Released};
+use amqp_performatives::{Begin, Close, Detach, Disposition, End, Flow, Open, Transfer};
+use amqp_restricted_types::{
+    ChannelMax, Handle, MaxFrameSize, ReceiverSettleMode, Role, SenderSettleMode,
+};
+use amqp_termini::{Source, Target, TargetArchetype};
+use amqp_values::Value;
+use std::alloc::Global;
+use std::test::Fail;
+
+pub fn full_open(alloc: Global) -> Result<Open, Fail> {
+    Ok(Open {
+        container_id: text_of("c", alloc)?,
+        hostname: Some(text_of("h", alloc)?),
+        max_frame_size: MaxFrameSize(512),
+        channel_max: ChannelMax(9),
+        idle_time_out: Some(30000),
+        outgoing_locales: Some(symbols_of("en", alloc)?),
+        incoming_locales: Some(two_symbols_of("de", "fr", alloc)?),
+        offered_capabilities: Some(symbols_of("o", alloc)?),
+        desired_capabilities: Some(symbols_of("d", alloc)?),
+        properties: Some(text_fields_of("p", "v", alloc)?),
+    })
+}
+
+pub fn full_begin(alloc: Global) -> Result<Begin, Fail> {
+    Ok(Begin {
+        remote_channel: Some(3),
+        next_outgoing_id: 4,
+        incoming_window: 500,
+        outgoing_window: 6,
+        handle_max: Handle(7),
+        offered_capabilities: Some(symbols_of("o", alloc)?),
+        desired_capabilities: Some(two_symbols_of("d", "e", alloc)?),
+        properties: Some(fields_of("p", Value::Uint(8), alloc)?),
+    })
+}
+
+fn boxed_source(alloc: Global) -> Result<Box<Source>, Fail> {
+    Ok(Box::new(alloc, Source::from(text_of("s", alloc)?))?)
+}
+
+fn boxed_target(alloc: Global) -> Result<Box<TargetArchetype>, Fail> {
+    let target = Target::from(text_of("t", alloc)?);
+    Ok(Box::new(alloc, TargetArchetype::from(target))?)
+}
+
+// A delivery that was accepted, and one of which no state is known.
+fn two_unsettled(alloc: Global) -> Result<Unsettled, Fail> {
+    let mut unsettled = Unsettled::new(alloc);
+    let accepted = DeliveryState::Accepted(Accepted {});
+    unsettled.insert(binary_of(&[1], alloc)?, Some(accepted))?;
+    unsettled.insert(binary_of(&[2], alloc)?, None)?;
+    Ok(unsettled)
+}
+
+pub fn full_attach(alloc: Global) -> Result<Attach, Fail> {
+    Ok(Attach {
+        name: text_of("link", alloc)?,
+        handle: Handle(2),
+        role: Role::Sender,
+        snd_settle_mode: SenderSettleMode::Unsettled,
+        rcv_settle_mode: ReceiverSettleMode::Second,
+        source: Some(boxed_source(alloc)?),
+        target: Some(boxed_target(alloc)?),
+        unsettled: Some(two_unsettled(alloc)?),
+        incomplete_unsettled: true,
+        initial_delivery_count: Some(10),
+        max_message_size: Some(11),
+        offered_capabilities: Some(symbols_of("o", alloc)?),
+        desired_capabilities: Some(symbols_of("d", alloc)?),
+        properties: Some(fields_of("p", Value::Bool(false), alloc)?),
+    })
+}
+
+pub fn full_flow(alloc: Global) -> Result<Flow, Fail> {
+    Ok(Flow {
+        next_incoming_id: Some(1),
+        incoming_window: 2,
+        next_outgoing_id: 3,
+        outgoing_window: 400,
+        handle: Some(Handle(5)),
+        delivery_count: Some(6),
+        link_credit: Some(7),
+        available: Some(8),
+        drain: true,
+        echo: true,
+        properties: Some(fields_of("p", Value::Uint(9), alloc)?),
+    })
+}
+
+pub fn full_transfer(alloc: Global) -> Result<Transfer, Fail> {
+    Ok(Transfer {
+        handle: Handle(1),
+        delivery_id: Some(2),
+        delivery_tag: Some(binary_of(&[3, 4], alloc)?),
+        message_format: Some(5),
+        settled: Some(false),
+        more: true,
+        rcv_settle_mode: Some(ReceiverSettleMode::Second),
+        state: Some(DeliveryState::Accepted(Accepted {})),
+        resume: true,
+        aborted: true,
+        batchable: true,
+    })
+}
+
+pub fn full_disposition() -> Disposition {
+    Disposition {
+        role: Role::Receiver,
+        first: 1,
+        last: Some(2),
+        settled: true,
+        state: Some(DeliveryState::Released(Released {})),
+        batchable: true,
+    }
+}
+
+pub fn full_detach(alloc: Global) -> Result<Detach, Fail> {
+    Ok(Detach {
+        handle: Handle(3),
+        closed: true,
+        error: Some(error_of("x", "y", alloc)?),
+    })
+}
+
+pub fn full_end(alloc: Global) -> Result<End, Fail> {
+    Ok(End {
+        error: Some(error_of("x", "y", alloc)?),
+    })
+}
+
+pub fn full_close(alloc: Global) -> Result<Close, Fail> {
+    Ok(Close {
+        error: Some(error_of("x", "y", alloc)?),
+    })
+}
