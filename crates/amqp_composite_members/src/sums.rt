@@ -4,7 +4,7 @@ use amqp_delivery::{Accepted, DeliveryState, Outcome, Released};
 use amqp_full_composites::delivery::{
     full_declared, full_modified, full_received, full_rejected, full_transactional_state,
 };
-use amqp_full_composites::parts::{check, check_copy};
+use amqp_full_composites::parts::{check, check_copy, check_copy_of, check_equal};
 use amqp_full_composites::performatives::{
     full_attach, full_begin, full_close, full_detach, full_disposition, full_end, full_flow,
     full_open, full_transfer,
@@ -20,30 +20,46 @@ use std::test::Fail;
 #[test]
 fn performatives_of_connections_and_sessions(rt: HostRuntime) -> Result<(), Fail> {
     let alloc = rt.alloc();
-    let made = Performative::from(full_open(alloc)?);
-    assert!(rt; made == Performative::Open(full_open(alloc)?));
-    let made = Performative::from(full_begin(alloc)?);
-    assert!(rt; made == Performative::Begin(full_begin(alloc)?));
-    let made = Performative::from(full_end(alloc)?);
-    assert!(rt; made == Performative::End(full_end(alloc)?));
-    let made = Performative::from(full_close(alloc)?);
-    assert!(rt; made == Performative::Close(full_close(alloc)?));
+    check_equal(
+        full_open(alloc).map(Performative::from),
+        full_open(alloc).map(Performative::Open),
+    )?;
+    check_equal(
+        full_begin(alloc).map(Performative::from),
+        full_begin(alloc).map(Performative::Begin),
+    )?;
+    check_equal(
+        full_end(alloc).map(Performative::from),
+        full_end(alloc).map(Performative::End),
+    )?;
+    check_equal(
+        full_close(alloc).map(Performative::from),
+        full_close(alloc).map(Performative::Close),
+    )?;
     Ok(())
 }
 
 #[test]
 fn performatives_of_links(rt: HostRuntime) -> Result<(), Fail> {
     let alloc = rt.alloc();
-    let made = Performative::from(full_attach(alloc)?);
-    assert!(rt; made == Performative::Attach(full_attach(alloc)?));
-    let made = Performative::from(full_flow(alloc)?);
-    assert!(rt; made == Performative::Flow(full_flow(alloc)?));
-    let made = Performative::from(full_transfer(alloc)?);
-    assert!(rt; made == Performative::Transfer(full_transfer(alloc)?));
+    check_equal(
+        full_attach(alloc).map(Performative::from),
+        full_attach(alloc).map(Performative::Attach),
+    )?;
+    check_equal(
+        full_flow(alloc).map(Performative::from),
+        full_flow(alloc).map(Performative::Flow),
+    )?;
+    check_equal(
+        full_transfer(alloc).map(Performative::from),
+        full_transfer(alloc).map(Performative::Transfer),
+    )?;
     let made = Performative::from(full_disposition());
     assert!(rt; made == Performative::Disposition(full_disposition()));
-    let made = Performative::from(full_detach(alloc)?);
-    assert!(rt; made == Performative::Detach(full_detach(alloc)?));
+    check_equal(
+        full_detach(alloc).map(Performative::from),
+        full_detach(alloc).map(Performative::Detach),
+    )?;
     Ok(())
 }
 
@@ -54,16 +70,24 @@ fn states_of_their_members(rt: HostRuntime) -> Result<(), Fail> {
     assert!(rt; made == DeliveryState::Received(full_received()));
     let made = DeliveryState::from(Accepted {});
     assert!(rt; made == DeliveryState::Accepted(Accepted {}));
-    let made = DeliveryState::from(full_rejected(alloc)?);
-    assert!(rt; made == DeliveryState::Rejected(full_rejected(alloc)?));
+    check_equal(
+        full_rejected(alloc).map(DeliveryState::from),
+        full_rejected(alloc).map(DeliveryState::Rejected),
+    )?;
     let made = DeliveryState::from(Released {});
     assert!(rt; made == DeliveryState::Released(Released {}));
-    let made = DeliveryState::from(full_modified(alloc)?);
-    assert!(rt; made == DeliveryState::Modified(full_modified(alloc)?));
-    let made = DeliveryState::from(full_declared(alloc)?);
-    assert!(rt; made == DeliveryState::Declared(full_declared(alloc)?));
-    let made = DeliveryState::from(full_transactional_state(alloc)?);
-    assert!(rt; made == DeliveryState::TransactionalState(full_transactional_state(alloc)?));
+    check_equal(
+        full_modified(alloc).map(DeliveryState::from),
+        full_modified(alloc).map(DeliveryState::Modified),
+    )?;
+    check_equal(
+        full_declared(alloc).map(DeliveryState::from),
+        full_declared(alloc).map(DeliveryState::Declared),
+    )?;
+    check_equal(
+        full_transactional_state(alloc).map(DeliveryState::from),
+        full_transactional_state(alloc).map(DeliveryState::TransactionalState),
+    )?;
     Ok(())
 }
 
@@ -71,13 +95,19 @@ fn states_of_their_members(rt: HostRuntime) -> Result<(), Fail> {
 fn outcomes_of_their_members(rt: HostRuntime) -> Result<(), Fail> {
     let alloc = rt.alloc();
     assert!(rt; Outcome::from(Accepted {}) == Outcome::Accepted(Accepted {}));
-    let made = Outcome::from(full_rejected(alloc)?);
-    assert!(rt; made == Outcome::Rejected(full_rejected(alloc)?));
+    check_equal(
+        full_rejected(alloc).map(Outcome::from),
+        full_rejected(alloc).map(Outcome::Rejected),
+    )?;
     assert!(rt; Outcome::from(Released {}) == Outcome::Released(Released {}));
-    let made = Outcome::from(full_modified(alloc)?);
-    assert!(rt; made == Outcome::Modified(full_modified(alloc)?));
-    let made = Outcome::from(full_declared(alloc)?);
-    assert!(rt; made == Outcome::Declared(full_declared(alloc)?));
+    check_equal(
+        full_modified(alloc).map(Outcome::from),
+        full_modified(alloc).map(Outcome::Modified),
+    )?;
+    check_equal(
+        full_declared(alloc).map(Outcome::from),
+        full_declared(alloc).map(Outcome::Declared),
+    )?;
     Ok(())
 }
 
@@ -86,24 +116,40 @@ fn states_of_outcomes(rt: HostRuntime) -> Result<(), Fail> {
     let alloc = rt.alloc();
     let made = DeliveryState::from(Outcome::Accepted(Accepted {}));
     assert!(rt; made == DeliveryState::Accepted(Accepted {}));
-    let made = DeliveryState::from(Outcome::Rejected(full_rejected(alloc)?));
-    assert!(rt; made == DeliveryState::Rejected(full_rejected(alloc)?));
+    check_equal(
+        full_rejected(alloc)
+            .map(Outcome::Rejected)
+            .map(DeliveryState::from),
+        full_rejected(alloc).map(DeliveryState::Rejected),
+    )?;
     let made = DeliveryState::from(Outcome::Released(Released {}));
     assert!(rt; made == DeliveryState::Released(Released {}));
-    let made = DeliveryState::from(Outcome::Modified(full_modified(alloc)?));
-    assert!(rt; made == DeliveryState::Modified(full_modified(alloc)?));
-    let made = DeliveryState::from(Outcome::Declared(full_declared(alloc)?));
-    assert!(rt; made == DeliveryState::Declared(full_declared(alloc)?));
+    check_equal(
+        full_modified(alloc)
+            .map(Outcome::Modified)
+            .map(DeliveryState::from),
+        full_modified(alloc).map(DeliveryState::Modified),
+    )?;
+    check_equal(
+        full_declared(alloc)
+            .map(Outcome::Declared)
+            .map(DeliveryState::from),
+        full_declared(alloc).map(DeliveryState::Declared),
+    )?;
     Ok(())
 }
 
 #[test]
 fn targets_and_lifetimes_of_their_members(rt: HostRuntime) -> Result<(), Fail> {
     let alloc = rt.alloc();
-    let made = TargetArchetype::from(full_target(alloc)?);
-    assert!(rt; made == TargetArchetype::Target(full_target(alloc)?));
-    let made = TargetArchetype::from(full_coordinator(alloc)?);
-    assert!(rt; made == TargetArchetype::Coordinator(full_coordinator(alloc)?));
+    check_equal(
+        full_target(alloc).map(TargetArchetype::from),
+        full_target(alloc).map(TargetArchetype::Target),
+    )?;
+    check_equal(
+        full_coordinator(alloc).map(TargetArchetype::from),
+        full_coordinator(alloc).map(TargetArchetype::Coordinator),
+    )?;
     let made = TargetArchetype::from(Coordinator::default());
     check(&made, "00533045", alloc)?;
     let made = LifetimePolicy::from(DeleteOnClose::new());
@@ -118,25 +164,25 @@ fn targets_and_lifetimes_of_their_members(rt: HostRuntime) -> Result<(), Fail> {
 
 // A copy of each performative is equal to it.
 fn check_copies_of_performatives(alloc: Global) -> Result<(), Fail> {
-    check_copy(&Performative::from(full_open(alloc)?))?;
-    check_copy(&Performative::from(full_begin(alloc)?))?;
-    check_copy(&Performative::from(full_attach(alloc)?))?;
-    check_copy(&Performative::from(full_flow(alloc)?))?;
-    check_copy(&Performative::from(full_transfer(alloc)?))?;
+    check_copy_of(full_open(alloc).map(Performative::from))?;
+    check_copy_of(full_begin(alloc).map(Performative::from))?;
+    check_copy_of(full_attach(alloc).map(Performative::from))?;
+    check_copy_of(full_flow(alloc).map(Performative::from))?;
+    check_copy_of(full_transfer(alloc).map(Performative::from))?;
     check_copy(&Performative::from(full_disposition()))?;
-    check_copy(&Performative::from(full_detach(alloc)?))?;
-    check_copy(&Performative::from(full_end(alloc)?))?;
-    check_copy(&Performative::from(full_close(alloc)?))
+    check_copy_of(full_detach(alloc).map(Performative::from))?;
+    check_copy_of(full_end(alloc).map(Performative::from))?;
+    check_copy_of(full_close(alloc).map(Performative::from))
 }
 
 #[test]
 fn copies(rt: HostRuntime) -> Result<(), Fail> {
     let alloc = rt.alloc();
     check_copies_of_performatives(alloc)?;
-    check_copy(&DeliveryState::from(full_modified(alloc)?))?;
-    check_copy(&DeliveryState::from(full_transactional_state(alloc)?))?;
-    check_copy(&Outcome::from(full_rejected(alloc)?))?;
-    check_copy(&TargetArchetype::from(full_target(alloc)?))?;
-    check_copy(&TargetArchetype::from(full_coordinator(alloc)?))?;
+    check_copy_of(full_modified(alloc).map(DeliveryState::from))?;
+    check_copy_of(full_transactional_state(alloc).map(DeliveryState::from))?;
+    check_copy_of(full_rejected(alloc).map(Outcome::from))?;
+    check_copy_of(full_target(alloc).map(TargetArchetype::from))?;
+    check_copy_of(full_coordinator(alloc).map(TargetArchetype::from))?;
     check_copy(&LifetimePolicy::from(DeleteOnNoLinks::new()))
 }

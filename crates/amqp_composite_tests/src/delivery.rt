@@ -5,14 +5,14 @@ use amqp_full_composites::delivery::{
     full_declare, full_declared, full_discharge, full_error, full_modified, full_received,
     full_rejected, full_transactional_state,
 };
-use amqp_full_composites::parts::check;
+use amqp_full_composites::parts::{check, check_made};
 use std::test::Fail;
 
 #[test]
 fn fields_of_an_error(rt: HostRuntime) -> Result<(), Fail> {
     let alloc = rt.alloc();
-    check(
-        &full_error(alloc)?,
+    check_made(
+        full_error(alloc),
         "00531dc02603\
          a318616d71703a73657373696f6e3a657272616e742d6c696e6b\
          a10164\
@@ -45,8 +45,8 @@ fn released_has_no_fields(rt: HostRuntime) -> Result<(), Fail> {
 #[test]
 fn field_of_a_rejected(rt: HostRuntime) -> Result<(), Fail> {
     let alloc = rt.alloc();
-    check(
-        &full_rejected(alloc)?,
+    check_made(
+        full_rejected(alloc),
         "005325c00d0100531dc00702a30178a10179",
         alloc,
     )
@@ -55,8 +55,8 @@ fn field_of_a_rejected(rt: HostRuntime) -> Result<(), Fail> {
 #[test]
 fn fields_of_a_modified(rt: HostRuntime) -> Result<(), Fail> {
     let alloc = rt.alloc();
-    check(
-        &full_modified(alloc)?,
+    check_made(
+        full_modified(alloc),
         "005327c00c03\
          41\
          42\
@@ -68,8 +68,8 @@ fn fields_of_a_modified(rt: HostRuntime) -> Result<(), Fail> {
 #[test]
 fn fields_of_a_transactional_state(rt: HostRuntime) -> Result<(), Fail> {
     let alloc = rt.alloc();
-    check(
-        &full_transactional_state(alloc)?,
+    check_made(
+        full_transactional_state(alloc),
         "005334c00b02\
          a00107\
          005327c0020141",
@@ -80,20 +80,20 @@ fn fields_of_a_transactional_state(rt: HostRuntime) -> Result<(), Fail> {
 #[test]
 fn field_of_a_declared(rt: HostRuntime) -> Result<(), Fail> {
     let alloc = rt.alloc();
-    check(&full_declared(alloc)?, "005333c00501a0020102", alloc)
+    check_made(full_declared(alloc), "005333c00501a0020102", alloc)
 }
 
 #[test]
 fn field_of_a_declare(rt: HostRuntime) -> Result<(), Fail> {
     let alloc = rt.alloc();
-    check(&full_declare(alloc)?, "005331c00401a00103", alloc)
+    check_made(full_declare(alloc), "005331c00401a00103", alloc)
 }
 
 #[test]
 fn fields_of_a_discharge(rt: HostRuntime) -> Result<(), Fail> {
     let alloc = rt.alloc();
-    check(
-        &full_discharge(alloc)?,
+    check_made(
+        full_discharge(alloc),
         "005332c00602\
          a0020405\
          41",

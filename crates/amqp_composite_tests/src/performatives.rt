@@ -1,6 +1,6 @@
 //! Each performative once, its fields by their names (Part 2, section 2.7). The digits are written out by the standard's tables, a
 //! line for the descriptor, the size and the count of the list, and a line for each field.
-use amqp_full_composites::parts::check;
+use amqp_full_composites::parts::{check, check_made};
 use amqp_full_composites::performatives::{
     full_attach, full_begin, full_close, full_detach, full_disposition, full_end, full_flow,
     full_open, full_transfer,
@@ -11,8 +11,8 @@ use std::test::Fail;
 #[test]
 fn fields_of_an_open(rt: HostRuntime) -> Result<(), Fail> {
     let alloc = rt.alloc();
-    check(
-        &full_open(alloc)?,
+    check_made(
+        full_open(alloc),
         "005310c0490a\
          a10163\
          a10168\
@@ -31,8 +31,8 @@ fn fields_of_an_open(rt: HostRuntime) -> Result<(), Fail> {
 #[test]
 fn fields_of_a_begin(rt: HostRuntime) -> Result<(), Fail> {
     let alloc = rt.alloc();
-    check(
-        &full_begin(alloc)?,
+    check_made(
+        full_begin(alloc),
         "005311c02e08\
          600003\
          5204\
@@ -49,8 +49,8 @@ fn fields_of_a_begin(rt: HostRuntime) -> Result<(), Fail> {
 #[test]
 fn fields_of_an_attach(rt: HostRuntime) -> Result<(), Fail> {
     let alloc = rt.alloc();
-    check(
-        &full_attach(alloc)?,
+    check_made(
+        full_attach(alloc),
         "005312c04c0e\
          a1046c696e6b\
          5202\
@@ -160,8 +160,8 @@ fn fields_of_a_disposition(rt: HostRuntime) -> Result<(), Fail> {
 #[test]
 fn fields_of_a_detach(rt: HostRuntime) -> Result<(), Fail> {
     let alloc = rt.alloc();
-    check(
-        &full_detach(alloc)?,
+    check_made(
+        full_detach(alloc),
         "005316c01003\
          5203\
          41\
@@ -173,8 +173,8 @@ fn fields_of_a_detach(rt: HostRuntime) -> Result<(), Fail> {
 #[test]
 fn field_of_an_end(rt: HostRuntime) -> Result<(), Fail> {
     let alloc = rt.alloc();
-    check(
-        &full_end(alloc)?,
+    check_made(
+        full_end(alloc),
         "005317c00d0100531dc00702a30178a10179",
         alloc,
     )
@@ -183,8 +183,8 @@ fn field_of_an_end(rt: HostRuntime) -> Result<(), Fail> {
 #[test]
 fn field_of_a_close(rt: HostRuntime) -> Result<(), Fail> {
     let alloc = rt.alloc();
-    check(
-        &full_close(alloc)?,
+    check_made(
+        full_close(alloc),
         "005318c00d0100531dc00702a30178a10179",
         alloc,
     )

@@ -1,14 +1,14 @@
 //! A source, a target and a coordinator, their fields by their names (Part 3, section 3.5; Part 4, section 4.5.1). The digits are
 //! written out by the standard's tables.
-use amqp_full_composites::parts::check;
+use amqp_full_composites::parts::check_made;
 use amqp_full_composites::termini::{full_coordinator, full_source, full_target};
 use std::test::Fail;
 
 #[test]
 fn fields_of_a_source(rt: HostRuntime) -> Result<(), Fail> {
     let alloc = rt.alloc();
-    check(
-        &full_source(alloc)?,
+    check_made(
+        full_source(alloc),
         "005328c03f0b\
          a10161\
          5202\
@@ -28,8 +28,8 @@ fn fields_of_a_source(rt: HostRuntime) -> Result<(), Fail> {
 #[test]
 fn fields_of_a_target(rt: HostRuntime) -> Result<(), Fail> {
     let alloc = rt.alloc();
-    check(
-        &full_target(alloc)?,
+    check_made(
+        full_target(alloc),
         "005329c02a07\
          a10161\
          5201\
@@ -45,8 +45,8 @@ fn fields_of_a_target(rt: HostRuntime) -> Result<(), Fail> {
 #[test]
 fn field_of_a_coordinator(rt: HostRuntime) -> Result<(), Fail> {
     let alloc = rt.alloc();
-    check(
-        &full_coordinator(alloc)?,
+    check_made(
+        full_coordinator(alloc),
         "005330c03b01\
          e03802b300000017616d71703a6c6f63616c2d7472616e73616374696f6e7300000017616d71703a6d756c74692d74786e732d7065722d73736e",
         alloc,

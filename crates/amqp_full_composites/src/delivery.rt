@@ -1,14 +1,14 @@
 //! States, outcomes and errors with a value in every field, and what is said of transactions.
 use crate::parts::{binary_of, error_of, fields_of, text_fields_of, text_of};
+use amqp_codec::Error as CodecError;
 use amqp_delivery::{
     Declare, Declared, Discharge, Modified, Outcome, Received, Rejected, TransactionalState,
 };
 use amqp_errors::{Error, ErrorCondition, SessionError};
 use amqp_values::Value;
 use std::alloc::Global;
-use std::test::Fail;
 
-pub fn full_error(alloc: Global) -> Result<Error, Fail> {
+pub fn full_error(alloc: Global) -> Result<Error, CodecError> {
     let info = fields_of("i", Value::Ubyte(7), alloc)?;
     Ok(Error {
         condition: ErrorCondition::SessionError(SessionError::ErrantLink),
@@ -24,13 +24,13 @@ pub fn full_received() -> Received {
     }
 }
 
-pub fn full_rejected(alloc: Global) -> Result<Rejected, Fail> {
+pub fn full_rejected(alloc: Global) -> Result<Rejected, CodecError> {
     Ok(Rejected {
         error: Some(error_of("x", "y", alloc)?),
     })
 }
 
-pub fn full_modified(alloc: Global) -> Result<Modified, Fail> {
+pub fn full_modified(alloc: Global) -> Result<Modified, CodecError> {
     Ok(Modified {
         delivery_failed: Some(true),
         undeliverable_here: Some(false),
@@ -46,26 +46,26 @@ fn delivery_failed() -> Modified {
     }
 }
 
-pub fn full_transactional_state(alloc: Global) -> Result<TransactionalState, Fail> {
+pub fn full_transactional_state(alloc: Global) -> Result<TransactionalState, CodecError> {
     Ok(TransactionalState {
         txn_id: binary_of(&[7], alloc)?,
         outcome: Some(Outcome::Modified(delivery_failed())),
     })
 }
 
-pub fn full_declared(alloc: Global) -> Result<Declared, Fail> {
+pub fn full_declared(alloc: Global) -> Result<Declared, CodecError> {
     Ok(Declared {
         txn_id: binary_of(&[1, 2], alloc)?,
     })
 }
 
-pub fn full_declare(alloc: Global) -> Result<Declare, Fail> {
+pub fn full_declare(alloc: Global) -> Result<Declare, CodecError> {
     Ok(Declare {
         global_id: Some(binary_of(&[3], alloc)?),
     })
 }
 
-pub fn full_discharge(alloc: Global) -> Result<Discharge, Fail> {
+pub fn full_discharge(alloc: Global) -> Result<Discharge, CodecError> {
     Ok(Discharge {
         txn_id: binary_of(&[4, 5], alloc)?,
         fail: Some(true),

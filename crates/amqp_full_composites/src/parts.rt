@@ -78,3 +78,32 @@ pub fn check_copy<T: Clone + PartialEq + Drop>(value: &T) -> Result<(), Fail> {
     }
     Ok(())
 }
+
+/// The value that was made is written as the bytes with these digits.
+pub fn check_made<T: Serialize + Drop>(
+    made: Result<T, CodecError>,
+    digits: &str,
+    alloc: Global,
+) -> Result<(), Fail> {
+    let value = made?;
+    check(&value, digits, alloc)
+}
+
+/// A copy of the value that was made is equal to it.
+pub fn check_copy_of<T: Clone + PartialEq + Drop>(made: Result<T, CodecError>) -> Result<(), Fail> {
+    let value = made?;
+    check_copy(&value)
+}
+
+/// Two values that were made are equal.
+pub fn check_equal<T: PartialEq + Drop>(
+    made: Result<T, CodecError>,
+    wanted: Result<T, CodecError>,
+) -> Result<(), Fail> {
+    let made = made?;
+    let wanted = wanted?;
+    if made != wanted {
+        return Err(Fail::new(format_args!("another value is made")));
+    }
+    Ok(())
+}

@@ -3,6 +3,7 @@ use crate::parts::{
     binary_of, error_of, fields_of, symbols_of, text_fields_of, text_of, two_symbols_of,
 };
 use amqp_attach::{Attach, Unsettled};
+use amqp_codec::Error as CodecError;
 use amqp_delivery::{Accepted, DeliveryState, Released};
 use amqp_performatives::{Begin, Close, Detach, Disposition, End, Flow, Open, Transfer};
 use amqp_restricted_types::{
@@ -11,9 +12,8 @@ use amqp_restricted_types::{
 use amqp_termini::{Source, Target, TargetArchetype};
 use amqp_values::Value;
 use std::alloc::Global;
-use std::test::Fail;
 
-pub fn full_open(alloc: Global) -> Result<Open, Fail> {
+pub fn full_open(alloc: Global) -> Result<Open, CodecError> {
     Ok(Open {
         container_id: text_of("c", alloc)?,
         hostname: Some(text_of("h", alloc)?),
@@ -28,7 +28,7 @@ pub fn full_open(alloc: Global) -> Result<Open, Fail> {
     })
 }
 
-pub fn full_begin(alloc: Global) -> Result<Begin, Fail> {
+pub fn full_begin(alloc: Global) -> Result<Begin, CodecError> {
     Ok(Begin {
         remote_channel: Some(3),
         next_outgoing_id: 4,
@@ -41,17 +41,17 @@ pub fn full_begin(alloc: Global) -> Result<Begin, Fail> {
     })
 }
 
-fn boxed_source(alloc: Global) -> Result<Box<Source>, Fail> {
+fn boxed_source(alloc: Global) -> Result<Box<Source>, CodecError> {
     Ok(Box::new(alloc, Source::from(text_of("s", alloc)?))?)
 }
 
-fn boxed_target(alloc: Global) -> Result<Box<TargetArchetype>, Fail> {
+fn boxed_target(alloc: Global) -> Result<Box<TargetArchetype>, CodecError> {
     let target = Target::from(text_of("t", alloc)?);
     Ok(Box::new(alloc, TargetArchetype::from(target))?)
 }
 
 // A delivery that was accepted, and one of which no state is known.
-fn two_unsettled(alloc: Global) -> Result<Unsettled, Fail> {
+fn two_unsettled(alloc: Global) -> Result<Unsettled, CodecError> {
     let mut unsettled = Unsettled::new(alloc);
     let accepted = DeliveryState::Accepted(Accepted {});
     unsettled.insert(binary_of(&[1], alloc)?, Some(accepted))?;
@@ -59,7 +59,7 @@ fn two_unsettled(alloc: Global) -> Result<Unsettled, Fail> {
     Ok(unsettled)
 }
 
-pub fn full_attach(alloc: Global) -> Result<Attach, Fail> {
+pub fn full_attach(alloc: Global) -> Result<Attach, CodecError> {
     Ok(Attach {
         name: text_of("link", alloc)?,
         handle: Handle(2),
@@ -78,7 +78,7 @@ pub fn full_attach(alloc: Global) -> Result<Attach, Fail> {
     })
 }
 
-pub fn full_flow(alloc: Global) -> Result<Flow, Fail> {
+pub fn full_flow(alloc: Global) -> Result<Flow, CodecError> {
     Ok(Flow {
         next_incoming_id: Some(1),
         incoming_window: 2,
@@ -94,7 +94,7 @@ pub fn full_flow(alloc: Global) -> Result<Flow, Fail> {
     })
 }
 
-pub fn full_transfer(alloc: Global) -> Result<Transfer, Fail> {
+pub fn full_transfer(alloc: Global) -> Result<Transfer, CodecError> {
     Ok(Transfer {
         handle: Handle(1),
         delivery_id: Some(2),
@@ -121,7 +121,7 @@ pub fn full_disposition() -> Disposition {
     }
 }
 
-pub fn full_detach(alloc: Global) -> Result<Detach, Fail> {
+pub fn full_detach(alloc: Global) -> Result<Detach, CodecError> {
     Ok(Detach {
         handle: Handle(3),
         closed: true,
@@ -129,13 +129,13 @@ pub fn full_detach(alloc: Global) -> Result<Detach, Fail> {
     })
 }
 
-pub fn full_end(alloc: Global) -> Result<End, Fail> {
+pub fn full_end(alloc: Global) -> Result<End, CodecError> {
     Ok(End {
         error: Some(error_of("x", "y", alloc)?),
     })
 }
 
-pub fn full_close(alloc: Global) -> Result<Close, Fail> {
+pub fn full_close(alloc: Global) -> Result<Close, CodecError> {
     Ok(Close {
         error: Some(error_of("x", "y", alloc)?),
     })

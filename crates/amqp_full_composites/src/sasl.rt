@@ -1,17 +1,17 @@
 //! Frames of the security layer with a value in every field.
 use crate::parts::{binary_of, symbol_of, text_of, two_symbols_of};
+use amqp_codec::Error as CodecError;
 use amqp_restricted_types::SaslCode;
 use amqp_sasl::{SaslChallenge, SaslInit, SaslMechanisms, SaslOutcome, SaslResponse};
 use std::alloc::Global;
-use std::test::Fail;
 
-pub fn full_mechanisms(alloc: Global) -> Result<SaslMechanisms, Fail> {
+pub fn full_mechanisms(alloc: Global) -> Result<SaslMechanisms, CodecError> {
     Ok(SaslMechanisms {
         sasl_server_mechanisms: two_symbols_of("PLAIN", "EXTERNAL", alloc)?,
     })
 }
 
-pub fn full_init(alloc: Global) -> Result<SaslInit, Fail> {
+pub fn full_init(alloc: Global) -> Result<SaslInit, CodecError> {
     Ok(SaslInit {
         mechanism: symbol_of("PLAIN", alloc)?,
         initial_response: Some(binary_of(&[0, 1, 2], alloc)?),
@@ -19,19 +19,19 @@ pub fn full_init(alloc: Global) -> Result<SaslInit, Fail> {
     })
 }
 
-pub fn full_challenge(alloc: Global) -> Result<SaslChallenge, Fail> {
+pub fn full_challenge(alloc: Global) -> Result<SaslChallenge, CodecError> {
     Ok(SaslChallenge {
         challenge: binary_of(&[1, 2], alloc)?,
     })
 }
 
-pub fn full_response(alloc: Global) -> Result<SaslResponse, Fail> {
+pub fn full_response(alloc: Global) -> Result<SaslResponse, CodecError> {
     Ok(SaslResponse {
         response: binary_of(&[3, 4, 5], alloc)?,
     })
 }
 
-pub fn full_outcome(alloc: Global) -> Result<SaslOutcome, Fail> {
+pub fn full_outcome(alloc: Global) -> Result<SaslOutcome, CodecError> {
     Ok(SaslOutcome {
         code: SaslCode::Auth,
         additional_data: Some(binary_of(&[6], alloc)?),

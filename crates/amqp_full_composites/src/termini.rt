@@ -1,5 +1,6 @@
 //! Sources, targets and coordinators with a value in every field.
 use crate::parts::{fields_of, symbols_of, text_of, two_symbols_of};
+use amqp_codec::Error as CodecError;
 use amqp_containers::Array;
 use amqp_delivery::{Accepted, Outcome};
 use amqp_restricted_types::{
@@ -8,9 +9,8 @@ use amqp_restricted_types::{
 use amqp_termini::{Coordinator, Source, Target};
 use amqp_values::Value;
 use std::alloc::Global;
-use std::test::Fail;
 
-pub fn full_source(alloc: Global) -> Result<Source, Fail> {
+pub fn full_source(alloc: Global) -> Result<Source, CodecError> {
     Ok(Source {
         address: Some(text_of("a", alloc)?),
         durable: TerminusDurability::UnsettledState,
@@ -26,7 +26,7 @@ pub fn full_source(alloc: Global) -> Result<Source, Fail> {
     })
 }
 
-pub fn full_target(alloc: Global) -> Result<Target, Fail> {
+pub fn full_target(alloc: Global) -> Result<Target, CodecError> {
     Ok(Target {
         address: Some(text_of("a", alloc)?),
         durable: TerminusDurability::Configuration,
@@ -38,7 +38,7 @@ pub fn full_target(alloc: Global) -> Result<Target, Fail> {
     })
 }
 
-pub fn full_coordinator(alloc: Global) -> Result<Coordinator, Fail> {
+pub fn full_coordinator(alloc: Global) -> Result<Coordinator, CodecError> {
     let mut capabilities = Array::from(Vec::new(alloc));
     capabilities.push(TxnCapability::LocalTransactions)?;
     capabilities.push(TxnCapability::MultiTxnsPerSsn)?;
