@@ -1,0 +1,3 @@
+pub mod KindMembers
+pub mod KindSumType
+pub mod PrimitiveMembers
