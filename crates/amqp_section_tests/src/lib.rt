@@ -1,0 +1,7 @@
+//! Tests of the sections of messages: each built by its own calls and written, read again, printed and refused.
+#![tactic(auto)]
+
+#[cfg(test)]
+mod bodies;
+#[cfg(test)]
+mod parts;
