@@ -2,6 +2,10 @@
 #![tactic(auto)]
 
 #[cfg(test)]
+mod annotations;
+#[cfg(test)]
 mod bodies;
+#[cfg(test)]
+mod headers;
 #[cfg(test)]
 mod parts;

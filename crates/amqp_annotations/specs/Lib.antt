@@ -1,0 +1,3 @@
+pub mod BorrowedKeys
+pub mod MapSections
+pub mod OwnedKeys

@@ -1,0 +1,4 @@
+pub mod Made
+pub mod MessageIds
+pub mod Priorities
+pub mod Tables
