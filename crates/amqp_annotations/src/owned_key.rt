@@ -6,6 +6,7 @@ ghost use Rattle.amqp_codec.specs.Agreement.{one_term, agreement, writing_of};
 ghost use Rattle.amqp_codec.specs.KeyLaws.{key_of};
 ghost use Rattle.amqp_kind_sums.specs.KindSumType.{kind_sum_type};
 ghost use Rattle.amqp_annotations.specs.declared.owned_key.OwnedKey.TheVariants as key;
+ghost use Rattle.amqp_annotations.specs.KeyLaws.{owned_decide};
 ghost use Rattle.amqp_annotations.specs.OwnedKeys.{owned_primitive, owned_keys};
 
 use amqp_codec::{
@@ -130,5 +131,5 @@ impl DeserializeTerm for OwnedKey {
 }
 
 impl MapKey for OwnedKey {
-    ghost is_key = { key_of refl ? };
+    ghost is_key = { key_of refl owned_decide };
 }

@@ -4,6 +4,7 @@ ghost use Rattle.amqp_codec.specs.Agreement.{one_term, agreement, writing_of};
 ghost use Rattle.amqp_codec.specs.KeyLaws.{key_of};
 ghost use Rattle.amqp_kind_sums.specs.KindSumType.{kind_sum_type};
 ghost use Rattle.amqp_message_headers.specs.declared.message_id.MessageId.TheVariants as id;
+ghost use Rattle.amqp_message_headers.specs.MessageIdKeys.{ids_decide};
 ghost use Rattle.amqp_message_headers.specs.MessageIds.{message_ids};
 
 use amqp_codec::{
@@ -119,5 +120,5 @@ impl DeserializeTerm for MessageId {
 }
 
 impl MapKey for MessageId {
-    ghost is_key = { key_of refl ? };
+    ghost is_key = { key_of refl ids_decide };
 }
