@@ -8,8 +8,18 @@ use Rattle.amqp_codec.specs.TermType.{TermType}
 use Rattle.amqp_codec.specs.PrimitiveTypes.{boolean_type}
 use Rattle.amqp_codec.specs.Composite.{composite}
 use Rattle.amqp_codec.specs.Reading.{IsUnreadable}
+use Rattle.amqp_codec.specs.VecType.{vec_of}
 use Rattle.amqp_codec.specs.TermReading.{reading_of}
 use Rattle.amqp_read_write.specs.Rewritten.{IsRewritten, IsUnwritten}
+use Rattle.amqp_primitives.specs.Types.{binary_type}
+use Rattle.amqp_sections.specs.SectionType.{section_of}
+use Rattle.amqp_sections.specs.Sections.{data_naming, in_data, sequence_naming, in_sequence, value_naming, in_value}
+use Rattle.amqp_kind_sums.specs.KindSumType.{kind_sum_type}
+use Rattle.amqp_message_headers.specs.MessageIds.{message_ids}
+use Rattle.amqp_message_headers.specs.Tables.{header, properties}
+use Rattle.amqp_annotations.specs.MapSections.{annotations_type, simple_map_type, delivery_annotations_naming, in_delivery_annotations}
+use Rattle.amqp_annotations.specs.MapSections.{message_annotations_naming, in_message_annotations, footer_naming, in_footer}
+use Rattle.amqp_annotations.specs.MapSections.{application_properties_naming, in_application_properties}
 use Rattle.amqp_delivery.specs.Tables.{accepted, declare, declared, delivery_state, discharge, modified, outcome, received}
 use Rattle.amqp_delivery.specs.Tables.{rejected, released, transactional_state}
 use Rattle.amqp_errors.specs.Conditions.{condition_type}
@@ -41,17 +51,23 @@ IsOverfull input = IfSome input (λ bytes. 18446744073709551615 ≤ length bytes
 -- The name of a type in a line.
 abbrev pub type_name : TypeName → List ℕ
 type_name line_type.Accepted = codes "accepted"
+type_name line_type.AmqpSequence = codes "amqp-sequence"
+type_name line_type.AmqpValue = codes "amqp-value"
+type_name line_type.Annotations = codes "annotations"
+type_name line_type.ApplicationProperties = codes "application-properties"
 type_name line_type.Attach = codes "attach"
 type_name line_type.Begin = codes "begin"
 type_name line_type.Boolean = codes "boolean"
 type_name line_type.Close = codes "close"
 type_name line_type.Coordinator = codes "coordinator"
+type_name line_type.Data = codes "data"
 type_name line_type.Declare = codes "declare"
 type_name line_type.Declared = codes "declared"
 type_name line_type.DeleteOnClose = codes "delete-on-close"
 type_name line_type.DeleteOnNoLinks = codes "delete-on-no-links"
 type_name line_type.DeleteOnNoLinksOrMessages = codes "delete-on-no-links-or-messages"
 type_name line_type.DeleteOnNoMessages = codes "delete-on-no-messages"
+type_name line_type.DeliveryAnnotations = codes "delivery-annotations"
 type_name line_type.DeliveryState = codes "delivery-state"
 type_name line_type.Detach = codes "detach"
 type_name line_type.Discharge = codes "discharge"
@@ -60,11 +76,16 @@ type_name line_type.End = codes "end"
 type_name line_type.Error = codes "error"
 type_name line_type.ErrorCondition = codes "error-condition"
 type_name line_type.Flow = codes "flow"
+type_name line_type.Footer = codes "footer"
+type_name line_type.Header = codes "header"
 type_name line_type.LifetimePolicy = codes "lifetime-policy"
+type_name line_type.MessageAnnotations = codes "message-annotations"
+type_name line_type.MessageId = codes "message-id"
 type_name line_type.Modified = codes "modified"
 type_name line_type.Open = codes "open"
 type_name line_type.Outcome = codes "outcome"
 type_name line_type.Performative = codes "performative"
+type_name line_type.Properties = codes "properties"
 type_name line_type.Received = codes "received"
 type_name line_type.Rejected = codes "rejected"
 type_name line_type.Released = codes "released"
@@ -120,17 +141,23 @@ Returns u input (Err e) = NoTextOf u input e
 -- The same of the type with that name.
 abbrev pub ReturnsOf : TypeName → List ℕ → Result (List ℕ × ℕ) Error → Type 0
 ReturnsOf line_type.Accepted = Returns (composite accepted)
+ReturnsOf line_type.AmqpSequence = Returns (section_of in_sequence sequence_naming (vec_of value_type))
+ReturnsOf line_type.AmqpValue = Returns (section_of in_value value_naming value_type)
+ReturnsOf line_type.Annotations = Returns annotations_type
+ReturnsOf line_type.ApplicationProperties = Returns (section_of in_application_properties application_properties_naming simple_map_type)
 ReturnsOf line_type.Attach = Returns (composite attach)
 ReturnsOf line_type.Begin = Returns (composite begin)
 ReturnsOf line_type.Boolean = Returns boolean_type
 ReturnsOf line_type.Close = Returns (composite close)
 ReturnsOf line_type.Coordinator = Returns (composite coordinator)
+ReturnsOf line_type.Data = Returns (section_of in_data data_naming binary_type)
 ReturnsOf line_type.Declare = Returns (composite declare)
 ReturnsOf line_type.Declared = Returns (composite declared)
 ReturnsOf line_type.DeleteOnClose = Returns (composite delete_on_close)
 ReturnsOf line_type.DeleteOnNoLinks = Returns (composite delete_on_no_links)
 ReturnsOf line_type.DeleteOnNoLinksOrMessages = Returns (composite delete_on_no_links_or_messages)
 ReturnsOf line_type.DeleteOnNoMessages = Returns (composite delete_on_no_messages)
+ReturnsOf line_type.DeliveryAnnotations = Returns (section_of in_delivery_annotations delivery_annotations_naming annotations_type)
 ReturnsOf line_type.DeliveryState = Returns delivery_state
 ReturnsOf line_type.Detach = Returns (composite detach)
 ReturnsOf line_type.Discharge = Returns (composite discharge)
@@ -139,11 +166,16 @@ ReturnsOf line_type.End = Returns (composite ending)
 ReturnsOf line_type.Error = Returns (composite error)
 ReturnsOf line_type.ErrorCondition = Returns condition_type
 ReturnsOf line_type.Flow = Returns (composite flow)
+ReturnsOf line_type.Footer = Returns (section_of in_footer footer_naming annotations_type)
+ReturnsOf line_type.Header = Returns (composite header)
 ReturnsOf line_type.LifetimePolicy = Returns lifetime_policy
+ReturnsOf line_type.MessageAnnotations = Returns (section_of in_message_annotations message_annotations_naming annotations_type)
+ReturnsOf line_type.MessageId = Returns (kind_sum_type message_ids)
 ReturnsOf line_type.Modified = Returns (composite modified)
 ReturnsOf line_type.Open = Returns (composite opening)
 ReturnsOf line_type.Outcome = Returns outcome
 ReturnsOf line_type.Performative = Returns performative
+ReturnsOf line_type.Properties = Returns (composite properties)
 ReturnsOf line_type.Received = Returns (composite received)
 ReturnsOf line_type.Rejected = Returns (composite rejected)
 ReturnsOf line_type.Released = Returns (composite released)

@@ -72,15 +72,42 @@ pub mod definitions {
 
 /// The types of messaging (Part 3).
 pub mod messaging {
+    pub use amqp_annotations::{
+        ApplicationProperties, DeliveryAnnotations, Footer, MessageAnnotations,
+    };
     pub use amqp_delivery::{
         Accepted, DeliveryState, Modified, Outcome, Received, Rejected, Released,
     };
+    pub use amqp_message_headers::{Header, MESSAGE_FORMAT, MessageId, Priority, Properties};
     pub use amqp_restricted_types::{DistributionMode, TerminusDurability, TerminusExpiryPolicy};
+    pub use amqp_sections::{AmqpSequence, AmqpValue, Data};
     pub use amqp_termini::{
         Address, DeleteOnClose, DeleteOnNoLinks, DeleteOnNoLinksOrMessages, DeleteOnNoMessages,
         FilterSet, LifetimePolicy, NodeProperties, Source, SourceBuilder, SupportedDistModes,
         Target, TargetArchetype, TargetBuilder,
     };
+
+    /// Headers of messages (Part 3, section 3.2.1).
+    pub mod header {
+        pub use amqp_message_headers::header::{Builder, Header};
+    }
+
+    /// Properties of messages (Part 3, section 3.2.4).
+    pub mod properties {
+        pub use amqp_message_headers::properties::{Builder, Properties};
+    }
+
+    /// Annotations, and their keys (Part 3, section 3.2.10).
+    pub mod annotations {
+        pub use amqp_annotations::{
+            AnnotationKey, Annotations, BorrowedKey, OwnedKey, annotation_get, annotation_remove,
+        };
+    }
+
+    /// How a map section is built (Part 3, sections 3.2.2, 3.2.3, 3.2.5 and 3.2.9).
+    pub mod map_builder {
+        pub use amqp_annotations::MapBuilder;
+    }
 }
 
 /// What the frames of connections, sessions and links hold (Part 2, section 2.7).

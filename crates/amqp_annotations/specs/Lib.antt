@@ -1,0 +1,5 @@
+pub mod BorrowedKeyLaws
+pub mod BorrowedKeys
+pub mod KeyLaws
+pub mod MapSections
+pub mod OwnedKeys

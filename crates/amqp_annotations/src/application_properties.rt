@@ -1,0 +1,118 @@
+//! ApplicationProperties (Part 3, section 3.2.5).
+ghost use Rattle.std.specs.Prelude.{◌≡◌, [], Some, refl};
+ghost use Rattle.amqp_sections.specs.SectionType.{section_of, section_writing, section_agreement};
+ghost use Rattle.amqp_annotations.specs.MapSections.{application_properties_naming, in_application_properties, simple_map_type};
+
+use crate::MapBuilder;
+use amqp_codec::{ByteSource, Decoder, DeserializeTerm, Encoder, Error, Serialize, SerializeTerm};
+use amqp_maps::OrderedMap;
+use amqp_sections::{Section, read_section, write_section};
+use amqp_simple_values::SimpleValue;
+use std::alloc::Global;
+use std::ops::{Deref, DerefMut};
+
+/// What an application says of a message for filters to look at: simple values under names.
+#[derive(Clone, Debug, PartialEq, Eq, PartialOrd, Ord, Hash, Drop)]
+pub struct ApplicationProperties(pub OrderedMap<String, SimpleValue>);
+
+impl ApplicationProperties {
+    /// The code and the name of its descriptor.
+    pub const DESCRIPTOR: (u64, &'static str) = (0x74, "amqp:application-properties:map");
+
+    /// The map without pairs. Takes no memory.
+    pub fn new(alloc: Global) -> ApplicationProperties
+        ensures { result.0 ≡ [] }
+    {
+        ApplicationProperties(OrderedMap::new(alloc))
+    }
+
+    /// A section to be made call by call, which has no pairs. Takes no memory.
+    pub fn builder(alloc: Global) -> MapBuilder<String, SimpleValue, ApplicationProperties>
+        ensures { result ≡ [] }
+    {
+        MapBuilder::new(alloc)
+    }
+}
+
+impl Deref for ApplicationProperties {
+    type Target = OrderedMap<String, SimpleValue>;
+
+    ghost deref_gives = { λ section map. map ≡ section.0 };
+
+    fn deref(&self) -> &OrderedMap<String, SimpleValue> {
+        &self.0
+    }
+}
+
+impl DerefMut for ApplicationProperties {
+    ghost deref_mut_gives = { λ section map. map ≡ section.0 };
+
+    fn deref_mut(&mut self) -> &mut OrderedMap<String, SimpleValue> {
+        &mut self.0
+    }
+}
+
+impl From<MapBuilder<String, SimpleValue, ApplicationProperties>> for ApplicationProperties {
+    ghost from_gives = { λ builder section. section.0 ≡ builder };
+
+    fn from(builder: MapBuilder<String, SimpleValue, ApplicationProperties>) -> ApplicationProperties {
+        ApplicationProperties(builder.into_map())
+    }
+}
+
+impl From<MapBuilder<String, SimpleValue, ApplicationProperties>> for Option<ApplicationProperties> {
+    ghost from_gives = { λ builder section. section ≡ Some (record { 0 = builder }) };
+
+    fn from(builder: MapBuilder<String, SimpleValue, ApplicationProperties>) -> Option<ApplicationProperties> {
+        Some(ApplicationProperties(builder.into_map()))
+    }
+}
+
+impl Section for ApplicationProperties {
+    type Content = OrderedMap<String, SimpleValue>;
+
+    ghost naming = { application_properties_naming };
+
+    ghost holds = { in_application_properties };
+
+    fn descriptor() -> (u64, &'static str) {
+        ApplicationProperties::DESCRIPTOR
+    }
+
+    fn of_content(value: OrderedMap<String, SimpleValue>) -> ApplicationProperties {
+        ApplicationProperties(value)
+    }
+}
+
+impl Serialize for ApplicationProperties {
+    ghost writing = { section_writing in_application_properties application_properties_naming ⟦<OrderedMap<String, SimpleValue> as Serialize>⟧.writing };
+
+    fn serialize(&self, encoder: &mut Encoder) -> Result<(), Error> {
+        write_section(ApplicationProperties::DESCRIPTOR.0, &self.0, encoder)
+    }
+
+    fn in_type(&self) {
+        self.0.in_type();
+    }
+}
+
+impl SerializeTerm for ApplicationProperties {
+    fn is_null(&self) -> bool {
+        false
+    }
+
+    ghost is_term = { λ v. refl };
+}
+
+impl DeserializeTerm for ApplicationProperties {
+    ghost term = { section_of in_application_properties application_properties_naming simple_map_type };
+
+    fn read_value<R: ByteSource>(
+        decoder: &mut Decoder<R>,
+        alloc: Global,
+    ) -> Result<ApplicationProperties, Error> {
+        read_section(decoder, alloc)
+    }
+
+    ghost agreement = { section_agreement in_application_properties application_properties_naming ⟦<OrderedMap<String, SimpleValue> as DeserializeTerm>⟧.agreement };
+}

@@ -1,0 +1,4 @@
+pub mod KindMembers
+pub mod KindSumType
+pub mod PrimitiveMembers
+pub mod SumKeys

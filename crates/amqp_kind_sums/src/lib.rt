@@ -1,0 +1,7 @@
+//! Sums of primitive types, told from each other by their kinds: one reader for all (Part 1, section 1.6).
+#![tactic(auto)]
+
+mod read;
+
+pub use amqp_kinds::{Kind, read_as};
+pub use read::{KindSum, read_kind_sum};

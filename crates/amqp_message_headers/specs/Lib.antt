@@ -1,0 +1,5 @@
+pub mod Made
+pub mod MessageIdKeys
+pub mod MessageIds
+pub mod Priorities
+pub mod Tables

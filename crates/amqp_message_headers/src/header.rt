@@ -1,0 +1,243 @@
+//! Headers (Part 3, section 3.2.1).
+ghost use Rattle.std.specs.Prelude.{◌≡◌, Some};
+ghost use Rattle.amqp_enums.specs.Types.{composite, one_term, refl, agreement, writing_of};
+ghost use Rattle.amqp_message_headers.specs.Made.{default_header};
+ghost use Rattle.amqp_message_headers.specs.Tables.{header};
+
+use crate::Priority;
+use amqp_codec::kernel::{
+    Composite, CompositeTerm, FieldRule, Table, read_into, read_some, write_composite,
+};
+use amqp_codec::{ByteSource, Decoder, Encoder, Error, Serialize, SerializeTerm};
+use std::alloc::Global;
+use std::marker::Model;
+
+/// How a message is to be delivered: what every node on its way looks at.
+#[derive(Clone, Debug, PartialEq, Eq, PartialOrd, Ord, Hash, Drop)]
+pub struct Header {
+    /// Whether the message must not be lost.
+    pub durable: bool,
+    /// How urgent it is.
+    pub priority: Priority,
+    /// How long it lasts, in milliseconds.
+    pub ttl: Option<u32>,
+    /// Whether no other link has acquired it before.
+    pub first_acquirer: bool,
+    /// How many deliveries of it have failed before.
+    pub delivery_count: u32,
+}
+
+impl Header {
+    /// The code and the name of its descriptor.
+    pub const DESCRIPTOR: (u64, &'static str) = (0x70, "amqp:header:list");
+
+    /// A header to be made call by call, in which every field is left out.
+    pub fn builder() -> Builder
+        ensures { result ≡ default_header }
+    {
+        Builder::new()
+    }
+}
+
+/// Every field is left out.
+impl Default for Header {
+    ghost is_default = { λ made. made ≡ default_header };
+
+    fn default() -> Header {
+        Header {
+            durable: false,
+            priority: Priority(4),
+            ttl: None,
+            first_acquirer: false,
+            delivery_count: 0,
+        }
+    }
+}
+
+impl Composite for Header {
+    ghost table = { header };
+
+    fn table() -> Table {
+        Table {
+            descriptor: Header::DESCRIPTOR,
+            fields: &[
+                FieldRule::Default,
+                FieldRule::Default,
+                FieldRule::Optional,
+                FieldRule::Default,
+                FieldRule::Default,
+            ],
+        }
+    }
+
+    fn blank(_alloc: Global) -> Header {
+        Header::default()
+    }
+
+    fn fill_field<R: ByteSource>(
+        &mut self,
+        index: usize,
+        decoder: &mut Decoder<R>,
+        alloc: Global,
+    ) -> Result<(), Error> {
+        match index {
+            0 => read_into(&mut self.durable, decoder, alloc),
+            1 => read_into(&mut self.priority, decoder, alloc),
+            2 => read_some(&mut self.ttl, decoder, alloc),
+            3 => read_into(&mut self.first_acquirer, decoder, alloc),
+            4 => read_into(&mut self.delivery_count, decoder, alloc),
+            _ => unreachable!(),
+        }
+    }
+
+    fn is_null_field(&self, index: usize) -> bool {
+        match index {
+            0 => !self.durable,
+            1 => self.priority.0 == 4,
+            2 => self.ttl.is_none(),
+            3 => !self.first_acquirer,
+            4 => self.delivery_count == 0,
+            _ => unreachable!(),
+        }
+    }
+
+    fn write_field(&self, index: usize, encoder: &mut Encoder) -> Result<(), Error> {
+        match index {
+            0 => self.durable.serialize(encoder),
+            1 => self.priority.serialize(encoder),
+            2 => self.ttl.serialize(encoder),
+            3 => self.first_acquirer.serialize(encoder),
+            4 => self.delivery_count.serialize(encoder),
+            _ => unreachable!(),
+        }
+    }
+}
+
+impl Serialize for Header {
+    ghost writing = { writing_of (composite header) refl };
+
+    fn serialize(&self, encoder: &mut Encoder) -> Result<(), Error> {
+        write_composite(self, encoder)
+    }
+
+    fn in_type(&self) {
+        self.durable.in_type();
+        self.priority.in_type();
+        self.ttl.in_type();
+        self.first_acquirer.in_type();
+        self.delivery_count.in_type();
+    }
+}
+
+impl SerializeTerm for Header {
+    fn is_null(&self) -> bool {
+        false
+    }
+
+    ghost is_term = { one_term (composite header) refl };
+}
+
+impl CompositeTerm for Header {
+    ghost agrees = { agreement (composite header) refl };
+}
+
+/// A header that is made call by call. A field that no call sets is left out.
+#[derive(Clone, Debug, Drop)]
+pub struct Builder {
+    header: Header,
+}
+
+impl Model for Builder {
+    ghost use Rattle.amqp_message_headers.specs.declared.header.Header.{Header};
+
+    ghost Value = { Header };
+
+    ghost use Rattle.amqp_message_headers.specs.contracts.header.Header.{the_row};
+
+    ghost coded = { the_row.coded };
+
+    ghost view = { λ b. b.header };
+}
+
+/// Every field is left out.
+impl Default for Builder {
+    ghost is_default = { λ builder. builder ≡ default_header };
+
+    fn default() -> Builder {
+        Builder::new()
+    }
+}
+
+impl Builder {
+    /// Every field is left out.
+    pub fn new() -> Builder
+        ensures { result ≡ default_header }
+    {
+        Builder {
+            header: Header::default(),
+        }
+    }
+
+    /// Whether the message must not be lost.
+    pub fn durable(mut self, durable: bool) -> Builder
+        ensures { result ≡ record self { durable = durable } }
+    {
+        self.header.durable = durable;
+        self
+    }
+
+    /// How urgent it is.
+    pub fn priority(mut self, priority: Priority) -> Builder
+        ensures { result ≡ record self { priority = priority } }
+    {
+        self.header.priority = priority;
+        self
+    }
+
+    /// How long it lasts, in milliseconds, or for ever.
+    pub fn ttl(mut self, milliseconds: Option<u32>) -> Builder
+        ensures { result ≡ record self { ttl = milliseconds } }
+    {
+        self.header.ttl = milliseconds;
+        self
+    }
+
+    /// Whether no other link has acquired it before.
+    pub fn first_acquirer(mut self, first_acquirer: bool) -> Builder
+        ensures { result ≡ record self { first_acquirer = first_acquirer } }
+    {
+        self.header.first_acquirer = first_acquirer;
+        self
+    }
+
+    /// How many deliveries of it have failed before.
+    pub fn delivery_count(mut self, count: u32) -> Builder
+        ensures { result ≡ record self { delivery_count = count } }
+    {
+        self.header.delivery_count = count;
+        self
+    }
+
+    /// The header.
+    pub fn build(self) -> Header
+        ensures { result ≡ self }
+    {
+        self.header
+    }
+}
+
+impl From<Builder> for Header {
+    ghost from_gives = { λ builder made. made ≡ builder };
+
+    fn from(builder: Builder) -> Header {
+        builder.build()
+    }
+}
+
+impl From<Builder> for Option<Header> {
+    ghost from_gives = { λ builder made. made ≡ Some builder };
+
+    fn from(builder: Builder) -> Option<Header> {
+        Some(builder.build())
+    }
+}

@@ -1,0 +1,379 @@
+//! Properties (Part 3, section 3.2.4).
+ghost use Rattle.std.specs.Prelude.{◌≡◌, Some};
+ghost use Rattle.amqp_enums.specs.Types.{composite, one_term, refl, agreement, writing_of};
+ghost use Rattle.amqp_message_headers.specs.Made.{no_properties};
+ghost use Rattle.amqp_message_headers.specs.Tables.{properties};
+
+use crate::MessageId;
+use amqp_codec::kernel::{
+    Composite, CompositeTerm, FieldRule, Table, read_some, value_in_type, write_composite,
+};
+use amqp_codec::{ByteSource, Decoder, Encoder, Error, Serialize, SerializeTerm, Symbol};
+use amqp_primitives::{Binary, Timestamp};
+use std::alloc::Global;
+use std::marker::Model;
+
+/// What an application says of a message, which no node on its way changes.
+#[derive(Clone, Debug, PartialEq, Eq, PartialOrd, Ord, Hash, Drop)]
+pub struct Properties {
+    /// What names the message, among all of its sender.
+    pub message_id: Option<MessageId>,
+    /// Who has made it, where that was checked.
+    pub user_id: Option<Binary>,
+    /// The address of the node that it is meant for.
+    pub to: Option<String>,
+    /// What it is about.
+    pub subject: Option<String>,
+    /// The address of the node that replies go to.
+    pub reply_to: Option<String>,
+    /// What it belongs to, as the application has it.
+    pub correlation_id: Option<MessageId>,
+    /// The type of its body, of RFC 2046, where that is data.
+    pub content_type: Option<Symbol>,
+    /// How the body's data are encoded further.
+    pub content_encoding: Option<Symbol>,
+    /// When it expires.
+    pub absolute_expiry_time: Option<Timestamp>,
+    /// When it was made.
+    pub creation_time: Option<Timestamp>,
+    /// The group that it belongs to.
+    pub group_id: Option<String>,
+    /// Its place in the group.
+    pub group_sequence: Option<u32>,
+    /// The group that replies belong to.
+    pub reply_to_group_id: Option<String>,
+}
+
+impl Properties {
+    /// The code and the name of its descriptor.
+    pub const DESCRIPTOR: (u64, &'static str) = (0x73, "amqp:properties:list");
+
+    /// Every field is left out.
+    pub fn new() -> Properties
+        ensures { result ≡ no_properties }
+    {
+        Properties {
+            message_id: None,
+            user_id: None,
+            to: None,
+            subject: None,
+            reply_to: None,
+            correlation_id: None,
+            content_type: None,
+            content_encoding: None,
+            absolute_expiry_time: None,
+            creation_time: None,
+            group_id: None,
+            group_sequence: None,
+            reply_to_group_id: None,
+        }
+    }
+
+    /// Properties to be made call by call, in which every field is left out.
+    pub fn builder() -> Builder
+        ensures { result ≡ no_properties }
+    {
+        Builder::new()
+    }
+}
+
+/// Every field is left out.
+impl Default for Properties {
+    ghost is_default = { λ made. made ≡ no_properties };
+
+    fn default() -> Properties {
+        Properties::new()
+    }
+}
+
+impl Composite for Properties {
+    ghost table = { properties };
+
+    fn table() -> Table {
+        Table {
+            descriptor: Properties::DESCRIPTOR,
+            fields: &[
+                FieldRule::Optional,
+                FieldRule::Optional,
+                FieldRule::Optional,
+                FieldRule::Optional,
+                FieldRule::Optional,
+                FieldRule::Optional,
+                FieldRule::Optional,
+                FieldRule::Optional,
+                FieldRule::Optional,
+                FieldRule::Optional,
+                FieldRule::Optional,
+                FieldRule::Optional,
+                FieldRule::Optional,
+            ],
+        }
+    }
+
+    fn blank(_alloc: Global) -> Properties {
+        Properties::new()
+    }
+
+    fn fill_field<R: ByteSource>(
+        &mut self,
+        index: usize,
+        decoder: &mut Decoder<R>,
+        alloc: Global,
+    ) -> Result<(), Error> {
+        match index {
+            0 => read_some(&mut self.message_id, decoder, alloc),
+            1 => read_some(&mut self.user_id, decoder, alloc),
+            2 => read_some(&mut self.to, decoder, alloc),
+            3 => read_some(&mut self.subject, decoder, alloc),
+            4 => read_some(&mut self.reply_to, decoder, alloc),
+            5 => read_some(&mut self.correlation_id, decoder, alloc),
+            6 => read_some(&mut self.content_type, decoder, alloc),
+            7 => read_some(&mut self.content_encoding, decoder, alloc),
+            8 => read_some(&mut self.absolute_expiry_time, decoder, alloc),
+            9 => read_some(&mut self.creation_time, decoder, alloc),
+            10 => read_some(&mut self.group_id, decoder, alloc),
+            11 => read_some(&mut self.group_sequence, decoder, alloc),
+            12 => read_some(&mut self.reply_to_group_id, decoder, alloc),
+            _ => unreachable!(),
+        }
+    }
+
+    fn is_null_field(&self, index: usize) -> bool {
+        match index {
+            0 => self.message_id.is_none(),
+            1 => self.user_id.is_none(),
+            2 => self.to.is_none(),
+            3 => self.subject.is_none(),
+            4 => self.reply_to.is_none(),
+            5 => self.correlation_id.is_none(),
+            6 => self.content_type.is_none(),
+            7 => self.content_encoding.is_none(),
+            8 => self.absolute_expiry_time.is_none(),
+            9 => self.creation_time.is_none(),
+            10 => self.group_id.is_none(),
+            11 => self.group_sequence.is_none(),
+            12 => self.reply_to_group_id.is_none(),
+            _ => unreachable!(),
+        }
+    }
+
+    fn write_field(&self, index: usize, encoder: &mut Encoder) -> Result<(), Error> {
+        match index {
+            0 => self.message_id.serialize(encoder),
+            1 => self.user_id.serialize(encoder),
+            2 => self.to.serialize(encoder),
+            3 => self.subject.serialize(encoder),
+            4 => self.reply_to.serialize(encoder),
+            5 => self.correlation_id.serialize(encoder),
+            6 => self.content_type.serialize(encoder),
+            7 => self.content_encoding.serialize(encoder),
+            8 => self.absolute_expiry_time.serialize(encoder),
+            9 => self.creation_time.serialize(encoder),
+            10 => self.group_id.serialize(encoder),
+            11 => self.group_sequence.serialize(encoder),
+            12 => self.reply_to_group_id.serialize(encoder),
+            _ => unreachable!(),
+        }
+    }
+}
+
+impl Serialize for Properties {
+    ghost writing = { writing_of (composite properties) refl };
+
+    fn serialize(&self, encoder: &mut Encoder) -> Result<(), Error> {
+        write_composite(self, encoder)
+    }
+
+    fn in_type(&self) {
+        value_in_type(&self.message_id);
+        self.user_id.in_type();
+        self.to.in_type();
+        self.subject.in_type();
+        self.reply_to.in_type();
+        value_in_type(&self.correlation_id);
+        self.content_type.in_type();
+        self.content_encoding.in_type();
+        self.absolute_expiry_time.in_type();
+        self.creation_time.in_type();
+        self.group_id.in_type();
+        self.group_sequence.in_type();
+        self.reply_to_group_id.in_type();
+    }
+}
+
+impl SerializeTerm for Properties {
+    fn is_null(&self) -> bool {
+        false
+    }
+
+    ghost is_term = { one_term (composite properties) refl };
+}
+
+impl CompositeTerm for Properties {
+    ghost agrees = { agreement (composite properties) refl };
+}
+
+/// Properties that are made call by call. A field that no call sets is left out.
+#[derive(Clone, Debug, Drop)]
+pub struct Builder {
+    properties: Properties,
+}
+
+impl Model for Builder {
+    ghost use Rattle.amqp_message_headers.specs.declared.properties.Properties.{Properties};
+
+    ghost Value = { Properties };
+
+    ghost use Rattle.amqp_message_headers.specs.contracts.properties.Properties.{the_row};
+
+    ghost coded = { the_row.coded };
+
+    ghost view = { λ b. b.properties };
+}
+
+/// Every field is left out.
+impl Default for Builder {
+    ghost is_default = { λ builder. builder ≡ no_properties };
+
+    fn default() -> Builder {
+        Builder::new()
+    }
+}
+
+impl Builder {
+    /// Every field is left out.
+    pub fn new() -> Builder
+        ensures { result ≡ no_properties }
+    {
+        Builder {
+            properties: Properties::new(),
+        }
+    }
+
+    /// What names the message, among all of its sender.
+    pub fn message_id(mut self, id: MessageId) -> Builder
+        ensures { result ≡ record self { message_id = Some id } }
+    {
+        self.properties.message_id = Some(id);
+        self
+    }
+
+    /// Who has made it, where that was checked.
+    pub fn user_id(mut self, user: Binary) -> Builder
+        ensures { result ≡ record self { user_id = Some user } }
+    {
+        self.properties.user_id = Some(user);
+        self
+    }
+
+    /// The address of the node that it is meant for.
+    pub fn to(mut self, address: String) -> Builder
+        ensures { result ≡ record self { to = Some address } }
+    {
+        self.properties.to = Some(address);
+        self
+    }
+
+    /// What it is about.
+    pub fn subject(mut self, text: String) -> Builder
+        ensures { result ≡ record self { subject = Some text } }
+    {
+        self.properties.subject = Some(text);
+        self
+    }
+
+    /// The address of the node that replies go to.
+    pub fn reply_to(mut self, address: String) -> Builder
+        ensures { result ≡ record self { reply_to = Some address } }
+    {
+        self.properties.reply_to = Some(address);
+        self
+    }
+
+    /// What it belongs to, as the application has it.
+    pub fn correlation_id(mut self, id: MessageId) -> Builder
+        ensures { result ≡ record self { correlation_id = Some id } }
+    {
+        self.properties.correlation_id = Some(id);
+        self
+    }
+
+    /// The type of its body, of RFC 2046, where that is data.
+    pub fn content_type(mut self, name: Symbol) -> Builder
+        ensures { result ≡ record self { content_type = Some name } }
+    {
+        self.properties.content_type = Some(name);
+        self
+    }
+
+    /// How the body's data are encoded further.
+    pub fn content_encoding(mut self, name: Symbol) -> Builder
+        ensures { result ≡ record self { content_encoding = Some name } }
+    {
+        self.properties.content_encoding = Some(name);
+        self
+    }
+
+    /// When it expires.
+    pub fn absolute_expiry_time(mut self, time: Option<Timestamp>) -> Builder
+        ensures { result ≡ record self { absolute_expiry_time = time } }
+    {
+        self.properties.absolute_expiry_time = time;
+        self
+    }
+
+    /// When it was made.
+    pub fn creation_time(mut self, time: Option<Timestamp>) -> Builder
+        ensures { result ≡ record self { creation_time = time } }
+    {
+        self.properties.creation_time = time;
+        self
+    }
+
+    /// The group that it belongs to.
+    pub fn group_id(mut self, id: Option<String>) -> Builder
+        ensures { result ≡ record self { group_id = id } }
+    {
+        self.properties.group_id = id;
+        self
+    }
+
+    /// Its place in the group.
+    pub fn group_sequence(mut self, place: Option<u32>) -> Builder
+        ensures { result ≡ record self { group_sequence = place } }
+    {
+        self.properties.group_sequence = place;
+        self
+    }
+
+    /// The group that replies belong to.
+    pub fn reply_to_group_id(mut self, id: Option<String>) -> Builder
+        ensures { result ≡ record self { reply_to_group_id = id } }
+    {
+        self.properties.reply_to_group_id = id;
+        self
+    }
+
+    /// The properties.
+    pub fn build(self) -> Properties
+        ensures { result ≡ self }
+    {
+        self.properties
+    }
+}
+
+impl From<Builder> for Properties {
+    ghost from_gives = { λ builder made. made ≡ builder };
+
+    fn from(builder: Builder) -> Properties {
+        builder.build()
+    }
+}
+
+impl From<Builder> for Option<Properties> {
+    ghost from_gives = { λ builder made. made ≡ Some builder };
+
+    fn from(builder: Builder) -> Option<Properties> {
+        Some(builder.build())
+    }
+}

@@ -1,0 +1,2 @@
+pub mod SectionType
+pub mod Sections

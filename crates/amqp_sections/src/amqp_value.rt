@@ -1,0 +1,78 @@
+//! Values as the body of a message (Part 3, section 3.2.8).
+ghost use Rattle.std.specs.Prelude.{◌≡◌, IfOk, IfErr, refl};
+ghost use Rattle.amqp_wire.specs.declared.error.Error.TheVariants.{Memory};
+ghost use Rattle.amqp_sections.specs.SectionType.{section_of, section_writing, section_agreement};
+ghost use Rattle.amqp_sections.specs.Sections.{value_naming, in_value};
+
+use crate::section::{Section, read_section, write_section};
+use amqp_codec::{ByteSource, Decoder, DeserializeTerm, Encoder, Error, Serialize, SerializeTerm};
+use std::alloc::Global;
+
+// The code and the name of its descriptor.
+const DESCRIPTOR: (u64, &str) = (0x77, "amqp:amqp-value:*");
+
+/// A value of one type that is the body of a message (Part 3, section 3.2.8). Where that type keeps the bytes that it read, so
+/// does the section, of what stands behind its descriptor.
+#[derive(Debug, PartialEq, Eq, PartialOrd, Ord, Hash, Drop)]
+pub struct AmqpValue<T>(pub T);
+
+impl<T> AmqpValue<T> {
+    /// A copy, whose value is a copy of its own; `Memory` where memory for it is refused.
+    pub fn clone(&self) -> Result<AmqpValue<T>, Error>
+    where
+        T: Clone + Drop,
+        ensures value { IfOk result (λ copy. T.is_clone self.now.0 copy.0) }
+        ensures memory { IfErr result (λ e. e ≡ Memory) }
+    {
+        Ok(AmqpValue(self.0.clone()?))
+    }
+}
+
+impl<T: DeserializeTerm> Section for AmqpValue<T> {
+    type Content = T;
+
+    ghost naming = { value_naming };
+
+    ghost holds = { in_value };
+
+    fn descriptor() -> (u64, &'static str) {
+        DESCRIPTOR
+    }
+
+    fn of_content(value: T) -> AmqpValue<T> {
+        AmqpValue(value)
+    }
+}
+
+impl<T: SerializeTerm> Serialize for AmqpValue<T> {
+    ghost writing = { section_writing in_value value_naming T.writing };
+
+    fn serialize(&self, encoder: &mut Encoder) -> Result<(), Error> {
+        write_section(DESCRIPTOR.0, &self.0, encoder)
+    }
+
+    fn in_type(&self) {
+        self.0.in_type();
+    }
+}
+
+impl<T: SerializeTerm> SerializeTerm for AmqpValue<T> {
+    fn is_null(&self) -> bool {
+        false
+    }
+
+    ghost is_term = { λ v. refl };
+}
+
+impl<T: DeserializeTerm> DeserializeTerm for AmqpValue<T> {
+    ghost term = { section_of in_value value_naming T.term };
+
+    fn read_value<R: ByteSource>(
+        decoder: &mut Decoder<R>,
+        alloc: Global,
+    ) -> Result<AmqpValue<T>, Error> {
+        read_section(decoder, alloc)
+    }
+
+    ghost agreement = { section_agreement in_value value_naming T.agreement };
+}
