@@ -10,7 +10,7 @@ use Rattle.std.proofs.lemmas.Bool.Decides.{same_from_decides}
 use Rattle.std.proofs.lemmas.Slice.Eq.{bytes_eq-Decides}
 use Rattle.amqp_model.specs.Term.{leaf}
 use Rattle.amqp_codec.specs.PrimitiveTypes.{number, content, ulong_base, symbol_base}
-use Rattle.amqp_kind_sums.specs.SumKeys.{of_one_kind, of_other_kinds}
+use Rattle.amqp_kind_sums.specs.SumKeyLaws.{of_one_kind, of_other_kinds}
 use Rattle.amqp_annotations.specs.contracts.owned_key.OwnedKeyPartialEq.TheImpl.{ghosts as owned_equality}
 use Rattle.amqp_annotations.specs.contracts.owned_key.OwnedKeyOrd.TheImpl.{ghosts as owned_order}
 use Rattle.amqp_annotations.specs.contracts.borrowed_key.BorrowedKeyPartialEq.TheImpl.{ghosts as borrowed_equality}

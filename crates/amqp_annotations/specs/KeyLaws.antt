@@ -1,18 +1,15 @@
 -- Keys of annotations, owned and borrowed, compare by what they are: a symbol or a number.
-use Rattle.std.proofs.Common.{◌≡◌, ℕ, Bool, List, [], ◌∷◌, refl, sym, ap, ap₂, ◌∙◌, subst, string_bytes, cond}
-use Rattle.std.specs.Prelude.{nat_eq, Option, Some, Ordering}
+use Rattle.std.proofs.Common.{◌≡◌, Bool, List, [], ◌∷◌, refl, sym, ap₂, subst, string_bytes, cond}
+use Rattle.std.specs.Prelude.{nat_eq, Some}
 use Rattle.std.specs.Bool.{Decides}
 use Rattle.std.specs.Cmp.{unsigned_Decides}
-use Rattle.std.specs.Cmp.Lexicographic.{slice_cmp}
-use Rattle.std.specs.Ordering.{nat_cmp}
-use Rattle.std.specs.declared.cmp.Ordering.TheVariants.{Less, Equal, Greater}
 use Rattle.std.specs.Str.{bytes_eq}
 use Rattle.std.specs.Map.{lookup, remove_entry}
 use Rattle.std.proofs.lemmas.Bool.Decides.{same_from_decides}
 use Rattle.std.proofs.lemmas.Slice.Eq.{bytes_eq-Decides}
-use Rattle.amqp_model.specs.Term.{Primitive, ulong, symbol, leaf}
+use Rattle.amqp_model.specs.Term.{leaf}
 use Rattle.amqp_codec.specs.PrimitiveTypes.{ulong_base, symbol_base}
-use Rattle.amqp_kind_sums.specs.SumKeys.{of_one_kind, of_other_kinds}
+use Rattle.amqp_kind_sums.specs.SumKeyLaws.{of_one_kind, of_other_kinds}
 use Rattle.amqp_annotations.specs.contracts.owned_key.OwnedKeyPartialEq.TheImpl.{ghosts}
 use Rattle.amqp_annotations.specs.declared.owned_key.OwnedKey.{OwnedKey}
 use Rattle.amqp_annotations.specs.declared.owned_key.OwnedKey.TheVariants as key

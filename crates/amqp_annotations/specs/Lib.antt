@@ -1,5 +1,5 @@
+pub mod AnnotationsType
 pub mod BorrowedKeyLaws
 pub mod BorrowedKeys
 pub mod KeyLaws
-pub mod MapSections
 pub mod OwnedKeys

@@ -37,7 +37,7 @@ impl OwnedKey {
 
     /// The symbol, whose text is copied. The only error is `Memory`.
     pub fn from_symbol_ref(text: SymbolRef<'_>, alloc: Global) -> Result<OwnedKey, Error>
-        ensures symbol { IfOk result (λ made. owned_primitive made ≡ symbol text.0.now) }
+        ensures symbol { IfOk result (λ made. owned_primitive made ≡ symbol text.entry.0.now) }
         ensures refused { IfErr result (λ e. e ≡ Memory) }
     {
         OwnedKey::from_str_in(text.as_str(), alloc)

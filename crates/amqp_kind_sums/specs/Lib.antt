@@ -1,4 +1,4 @@
 pub mod KindMembers
 pub mod KindSumType
 pub mod PrimitiveMembers
-pub mod SumKeys
+pub mod SumKeyLaws

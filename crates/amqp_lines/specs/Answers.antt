@@ -14,12 +14,14 @@ use Rattle.amqp_read_write.specs.Rewritten.{IsRewritten, IsUnwritten}
 use Rattle.amqp_primitives.specs.Types.{binary_type}
 use Rattle.amqp_sections.specs.SectionType.{section_of}
 use Rattle.amqp_sections.specs.Sections.{data_naming, in_data, sequence_naming, in_sequence, value_naming, in_value}
+use Rattle.amqp_annotations.specs.AnnotationsType.{annotations_type}
+use Rattle.amqp_map_sections.specs.MapSections.{delivery_annotations_naming, in_delivery_annotations, message_annotations_naming}
+use Rattle.amqp_map_sections.specs.MapSections.{in_message_annotations, footer_naming, in_footer, application_properties_naming}
+use Rattle.amqp_map_sections.specs.MapSections.{in_application_properties}
+use Rattle.amqp_map_sections.specs.SimpleMaps.{simple_map_type}
 use Rattle.amqp_kind_sums.specs.KindSumType.{kind_sum_type}
 use Rattle.amqp_message_headers.specs.MessageIds.{message_ids}
 use Rattle.amqp_message_headers.specs.Tables.{header, properties}
-use Rattle.amqp_annotations.specs.MapSections.{annotations_type, simple_map_type, delivery_annotations_naming, in_delivery_annotations}
-use Rattle.amqp_annotations.specs.MapSections.{message_annotations_naming, in_message_annotations, footer_naming, in_footer}
-use Rattle.amqp_annotations.specs.MapSections.{application_properties_naming, in_application_properties}
 use Rattle.amqp_delivery.specs.Tables.{accepted, declare, declared, delivery_state, discharge, modified, outcome, received}
 use Rattle.amqp_delivery.specs.Tables.{rejected, released, transactional_state}
 use Rattle.amqp_errors.specs.Conditions.{condition_type}

@@ -4,7 +4,7 @@ ghost use Rattle.amqp_codec.specs.Agreement.{one_term, agreement, writing_of};
 ghost use Rattle.amqp_codec.specs.KeyLaws.{key_of};
 ghost use Rattle.amqp_kind_sums.specs.KindSumType.{kind_sum_type};
 ghost use Rattle.amqp_message_headers.specs.declared.message_id.MessageId.TheVariants as id;
-ghost use Rattle.amqp_message_headers.specs.MessageIdKeys.{ids_decide};
+ghost use Rattle.amqp_message_headers.specs.MessageIdKeyLaws.{ids_decide};
 ghost use Rattle.amqp_message_headers.specs.MessageIds.{message_ids};
 
 use amqp_codec::{

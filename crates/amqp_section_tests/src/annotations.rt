@@ -2,10 +2,10 @@
 //! standard's tables.
 use crate::parts::{check, refused, rewritten, symbol_of, text_of};
 use amqp_annotations::{
-    AnnotationKey, Annotations, ApplicationProperties, BorrowedKey, DeliveryAnnotations, Footer,
-    MessageAnnotations, OwnedKey, annotation_get, annotation_remove,
+    AnnotationKey, Annotations, BorrowedKey, OwnedKey, annotation_get, annotation_remove,
 };
 use amqp_codec::{Error, Symbol};
+use amqp_map_sections::{ApplicationProperties, DeliveryAnnotations, Footer, MessageAnnotations};
 use amqp_primitives::SymbolRef;
 use amqp_simple_values::SimpleValue;
 use amqp_values::Value;
@@ -103,7 +103,10 @@ fn symbols_and_numbers_in_both_orders(rt: HostRuntime) -> Result<(), Fail> {
 fn five(keys: [&str; 5], alloc: Global) -> Result<Annotations, Error> {
     let mut map = Annotations::new(alloc);
     for key in keys {
-        map.insert(OwnedKey::from_str_in(key, alloc)?, Value::Uint(key.len() as u32))?;
+        map.insert(
+            OwnedKey::from_str_in(key, alloc)?,
+            Value::Uint(key.len() as u32),
+        )?;
     }
     Ok(map)
 }
@@ -130,7 +133,13 @@ fn taken<K: AnnotationKey>(
 #[test]
 fn annotations_are_removed_by_any_key(rt: HostRuntime) -> Result<(), Fail> {
     let alloc = rt.alloc();
-    let keys = ["string_key", "str_key", "symbol_key_", "symbol_ref_key", "u64_key_"];
+    let keys = [
+        "string_key",
+        "str_key",
+        "symbol_key_",
+        "symbol_ref_key",
+        "u64_key_",
+    ];
     let mut map = five(keys, alloc)?;
     taken(&mut map, &text_of("string_key", alloc)?, 10, alloc)?;
     taken(&mut map, &"str_key", 7, alloc)?;

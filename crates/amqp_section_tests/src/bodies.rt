@@ -92,7 +92,11 @@ fn values_are_written(rt: HostRuntime) -> Result<(), Fail> {
     check(&AmqpValue(true), "00537741", alloc)?;
     check(&AmqpValue(()), "00537740", alloc)?;
     check(&AmqpValue("test_str"), "005377a108746573745f737472", alloc)?;
-    check(&AmqpValue(&numbers(alloc)?), "005377005376c00703540154025403", alloc)
+    check(
+        &AmqpValue(&numbers(alloc)?),
+        "005377005376c00703540154025403",
+        alloc,
+    )
 }
 
 #[test]
@@ -118,21 +122,23 @@ fn a_value_keeps_its_bytes(rt: HostRuntime) -> Result<(), Fail> {
     assert_eq!(rt; bytes.as_str(), "a108746573745f737472");
     check(&section, digits, alloc)?;
     // a spelling that isn't the shortest is kept, behind the shortest descriptor
-    rewritten::<AmqpValue<LazyValue>>(
-        "008000000000000000777000000007",
-        "0053777000000007",
-        alloc,
-    )
+    rewritten::<AmqpValue<LazyValue>>("008000000000000000777000000007", "0053777000000007", alloc)
 }
 
 #[test]
 fn printed(rt: HostRuntime) -> Result<(), Fail> {
     let alloc = rt.alloc();
     let sequence = AmqpSequence([0i32, 1, 2, 3].to_vec(alloc)?);
-    assert_eq!(rt; sequence.to_string(alloc)?.as_str(), "AmqpSequence([0, 1, 2, 3])");
+    assert_eq!(rt;
+        sequence.to_string(alloc)?.as_str(),
+        "AmqpSequence([0, 1, 2, 3])"
+    );
     let empty = AmqpSequence::<i32>::default_in(alloc);
     assert_eq!(rt; empty.to_string(alloc)?.as_str(), "AmqpSequence([])");
-    assert_eq!(rt; AmqpValue(-7i64).to_string(alloc)?.as_str(), "AmqpValue(-7)");
+    assert_eq!(rt;
+        AmqpValue(-7i64).to_string(alloc)?.as_str(),
+        "AmqpValue(-7)"
+    );
     let data = Data(Binary(Vec::from_slice(alloc, &[0; 12])?));
     assert_eq!(rt; data.to_string(alloc)?.as_str(), "Data of length: 12");
     Ok(())

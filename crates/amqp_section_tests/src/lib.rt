@@ -5,6 +5,7 @@
 mod annotations;
 #[cfg(test)]
 mod bodies;
+pub mod example;
 #[cfg(test)]
 mod headers;
 #[cfg(test)]

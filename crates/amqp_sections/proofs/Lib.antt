@@ -1,1 +1,2 @@
+mod CopiesEqual
 mod SectionReads

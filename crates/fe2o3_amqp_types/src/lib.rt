@@ -72,11 +72,11 @@ pub mod definitions {
 
 /// The types of messaging (Part 3).
 pub mod messaging {
-    pub use amqp_annotations::{
-        ApplicationProperties, DeliveryAnnotations, Footer, MessageAnnotations,
-    };
     pub use amqp_delivery::{
         Accepted, DeliveryState, Modified, Outcome, Received, Rejected, Released,
+    };
+    pub use amqp_map_sections::{
+        ApplicationProperties, DeliveryAnnotations, Footer, MessageAnnotations,
     };
     pub use amqp_message_headers::{Header, MESSAGE_FORMAT, MessageId, Priority, Properties};
     pub use amqp_restricted_types::{DistributionMode, TerminusDurability, TerminusExpiryPolicy};
@@ -106,7 +106,7 @@ pub mod messaging {
 
     /// How a map section is built (Part 3, sections 3.2.2, 3.2.3, 3.2.5 and 3.2.9).
     pub mod map_builder {
-        pub use amqp_annotations::MapBuilder;
+        pub use amqp_map_sections::MapBuilder;
     }
 }
 

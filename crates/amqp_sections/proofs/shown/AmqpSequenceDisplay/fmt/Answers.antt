@@ -18,8 +18,8 @@ loop-value-preserved g c =
       search rules,
       ap (λ b. cond b comma_space []) (sym (lt-ltb 0 (i + 1) (omega arith))),
       displays_on_ok_of_eq took c.args.f.now c.write-in-loop-value.new.self (Ok tt) ((opening ++? so_far) ++? shown) _
-      (then_text_assoc opening so_far shown
+          (then_text_assoc opening so_far shown
           ∙ ap (λ o. opening ++? o) (sym (debug_items-take text values i x c.loop-value-test.true c.value-item.is)))
-      (displays_on_IsOk_append took c.args.f.now c.loop-value.f c.write-in-loop-value.new.self (Ok tt) (Ok tt) (opening ++? so_far) shown (λ k. k) c.loop-value.invariant.2
-      (rw c.loop-value.invariant.1 at c.in_ok-write-2.ensures.writes)),
+          (displays_on_IsOk_append took c.args.f.now c.loop-value.f c.write-in-loop-value.new.self (Ok tt) (Ok tt) (opening ++? so_far) shown (λ k. k) c.loop-value.invariant.2
+          (rw c.loop-value.invariant.1 at c.in_ok-write-2.ensures.writes)),
     )

@@ -7,7 +7,7 @@ use Rattle.std.specs.Str.{bytes_eq}
 use Rattle.std.proofs.lemmas.Slice.Eq.{bytes_eq-Decides}
 use Rattle.amqp_model.specs.Term.{leaf}
 use Rattle.amqp_codec.specs.PrimitiveTypes.{ulong_base, uuid_base, binary_base, string_base}
-use Rattle.amqp_kind_sums.specs.SumKeys.{of_one_kind, of_other_kinds}
+use Rattle.amqp_kind_sums.specs.SumKeyLaws.{of_one_kind, of_other_kinds}
 use Rattle.amqp_message_headers.specs.contracts.message_id.MessageIdPartialEq.TheImpl.{ghosts}
 use Rattle.amqp_message_headers.specs.declared.message_id.MessageId.{MessageId}
 use Rattle.amqp_message_headers.specs.declared.message_id.MessageId.TheVariants as id

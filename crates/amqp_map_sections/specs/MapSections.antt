@@ -1,29 +1,15 @@
--- The sections that are maps (Part 3, sections 3.2.2, 3.2.3, 3.2.5, 3.2.9 and 3.2.10).
+-- The sections that are maps (Part 3, sections 3.2.2, 3.2.3, 3.2.5 and 3.2.9).
 use Rattle.std.proofs.Common.{codes, List, refl, Global}
 use Rattle.std.specs.Prelude.{String}
-use Rattle.amqp_codec.specs.TermType.{TermType}
-use Rattle.amqp_codec.specs.Wrappers.{Holds, string_type}
-use Rattle.amqp_codec.specs.MapReadingLaws.{map_of}
-use Rattle.amqp_kind_sums.specs.KindSumType.{kind_sum_type}
+use Rattle.amqp_codec.specs.Wrappers.{Holds}
 use Rattle.amqp_values.specs.declared.value.Value.{Value}
-use Rattle.amqp_values.specs.ValueType.{value_type}
 use Rattle.amqp_simple_values.specs.declared.simple.SimpleValue.{SimpleValue}
-use Rattle.amqp_simple_values.specs.SimpleType.{simple_type}
 use Rattle.amqp_sections.specs.SectionType.{Naming}
 use Rattle.amqp_annotations.specs.declared.owned_key.OwnedKey.{OwnedKey}
-use Rattle.amqp_annotations.specs.OwnedKeys.{owned_keys}
-use Rattle.amqp_annotations.specs.declared.delivery_annotations.DeliveryAnnotations.{DeliveryAnnotations}
-use Rattle.amqp_annotations.specs.declared.message_annotations.MessageAnnotations.{MessageAnnotations}
-use Rattle.amqp_annotations.specs.declared.footer.Footer.{Footer}
-use Rattle.amqp_annotations.specs.declared.application_properties.ApplicationProperties.{ApplicationProperties}
-
--- Part 3, section 3.2.10
-abbrev pub annotations_type : TermType (List (OwnedKey × Value))
-annotations_type = map_of (kind_sum_type owned_keys) value_type
-
--- the map of application properties
-abbrev pub simple_map_type : TermType (List (String Global × SimpleValue))
-simple_map_type = map_of string_type simple_type
+use Rattle.amqp_map_sections.specs.declared.delivery_annotations.DeliveryAnnotations.{DeliveryAnnotations}
+use Rattle.amqp_map_sections.specs.declared.message_annotations.MessageAnnotations.{MessageAnnotations}
+use Rattle.amqp_map_sections.specs.declared.footer.Footer.{Footer}
+use Rattle.amqp_map_sections.specs.declared.application_properties.ApplicationProperties.{ApplicationProperties}
 
 -- Part 3, section 3.2.2
 abbrev pub delivery_annotations_naming : Naming

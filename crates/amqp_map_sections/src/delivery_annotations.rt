@@ -1,9 +1,11 @@
 //! DeliveryAnnotations (Part 3, section 3.2.2).
 ghost use Rattle.std.specs.Prelude.{◌≡◌, [], Some, refl};
 ghost use Rattle.amqp_sections.specs.SectionType.{section_of, section_writing, section_agreement};
-ghost use Rattle.amqp_annotations.specs.MapSections.{delivery_annotations_naming, in_delivery_annotations, annotations_type};
+ghost use Rattle.amqp_annotations.specs.AnnotationsType.{annotations_type, annotations_agreement};
+ghost use Rattle.amqp_map_sections.specs.MapSections.{delivery_annotations_naming, in_delivery_annotations};
 
-use crate::{Annotations, MapBuilder, OwnedKey};
+use crate::MapBuilder;
+use amqp_annotations::{Annotations, OwnedKey};
 use amqp_codec::{ByteSource, Decoder, DeserializeTerm, Encoder, Error, Serialize, SerializeTerm};
 use amqp_maps::OrderedMap;
 use amqp_sections::{Section, read_section, write_section};
@@ -63,7 +65,9 @@ impl From<MapBuilder<OwnedKey, Value, DeliveryAnnotations>> for DeliveryAnnotati
 impl From<MapBuilder<OwnedKey, Value, DeliveryAnnotations>> for Option<DeliveryAnnotations> {
     ghost from_gives = { λ builder section. section ≡ Some (record { 0 = builder }) };
 
-    fn from(builder: MapBuilder<OwnedKey, Value, DeliveryAnnotations>) -> Option<DeliveryAnnotations> {
+    fn from(
+        builder: MapBuilder<OwnedKey, Value, DeliveryAnnotations>,
+    ) -> Option<DeliveryAnnotations> {
         Some(DeliveryAnnotations(builder.into_map()))
     }
 }
@@ -114,5 +118,5 @@ impl DeserializeTerm for DeliveryAnnotations {
         read_section(decoder, alloc)
     }
 
-    ghost agreement = { section_agreement in_delivery_annotations delivery_annotations_naming ⟦<Annotations as DeserializeTerm>⟧.agreement };
+    ghost agreement = { section_agreement in_delivery_annotations delivery_annotations_naming annotations_agreement };
 }

@@ -1,7 +1,8 @@
 //! ApplicationProperties (Part 3, section 3.2.5).
 ghost use Rattle.std.specs.Prelude.{◌≡◌, [], Some, refl};
 ghost use Rattle.amqp_sections.specs.SectionType.{section_of, section_writing, section_agreement};
-ghost use Rattle.amqp_annotations.specs.MapSections.{application_properties_naming, in_application_properties, simple_map_type};
+ghost use Rattle.amqp_map_sections.specs.SimpleMaps.{simple_map_type, simple_map_agreement};
+ghost use Rattle.amqp_map_sections.specs.MapSections.{application_properties_naming, in_application_properties};
 
 use crate::MapBuilder;
 use amqp_codec::{ByteSource, Decoder, DeserializeTerm, Encoder, Error, Serialize, SerializeTerm};
@@ -55,15 +56,20 @@ impl DerefMut for ApplicationProperties {
 impl From<MapBuilder<String, SimpleValue, ApplicationProperties>> for ApplicationProperties {
     ghost from_gives = { λ builder section. section.0 ≡ builder };
 
-    fn from(builder: MapBuilder<String, SimpleValue, ApplicationProperties>) -> ApplicationProperties {
+    fn from(
+        builder: MapBuilder<String, SimpleValue, ApplicationProperties>,
+    ) -> ApplicationProperties {
         ApplicationProperties(builder.into_map())
     }
 }
 
-impl From<MapBuilder<String, SimpleValue, ApplicationProperties>> for Option<ApplicationProperties> {
+impl From<MapBuilder<String, SimpleValue, ApplicationProperties>>
+    for Option<ApplicationProperties> {
     ghost from_gives = { λ builder section. section ≡ Some (record { 0 = builder }) };
 
-    fn from(builder: MapBuilder<String, SimpleValue, ApplicationProperties>) -> Option<ApplicationProperties> {
+    fn from(
+        builder: MapBuilder<String, SimpleValue, ApplicationProperties>,
+    ) -> Option<ApplicationProperties> {
         Some(ApplicationProperties(builder.into_map()))
     }
 }
@@ -114,5 +120,5 @@ impl DeserializeTerm for ApplicationProperties {
         read_section(decoder, alloc)
     }
 
-    ghost agreement = { section_agreement in_application_properties application_properties_naming ⟦<OrderedMap<String, SimpleValue> as DeserializeTerm>⟧.agreement };
+    ghost agreement = { section_agreement in_application_properties application_properties_naming simple_map_agreement };
 }

@@ -18,13 +18,10 @@ pub struct MapBuilder<K: Eq + Hash, V, T> {
 
 impl<K: Eq + Hash, V, T> Model for MapBuilder<K, V, T> {
     ghost use Rattle.std.specs.Prelude.{List};
-    ghost use Rattle.amqp_maps.specs.Pairs.{HaveDistinctKeys};
 
     ghost Value = { List (K × V) };
 
     ghost view = { λ b. b.map };
-
-    ghost invariant = { λ b. HaveDistinctKeys K.eq b.map };
 }
 
 impl<K: Eq + Hash, V, T> MapBuilder<K, V, T> {

@@ -1,9 +1,11 @@
 //! Footer (Part 3, section 3.2.9).
 ghost use Rattle.std.specs.Prelude.{◌≡◌, [], Some, refl};
 ghost use Rattle.amqp_sections.specs.SectionType.{section_of, section_writing, section_agreement};
-ghost use Rattle.amqp_annotations.specs.MapSections.{footer_naming, in_footer, annotations_type};
+ghost use Rattle.amqp_annotations.specs.AnnotationsType.{annotations_type, annotations_agreement};
+ghost use Rattle.amqp_map_sections.specs.MapSections.{footer_naming, in_footer};
 
-use crate::{Annotations, MapBuilder, OwnedKey};
+use crate::MapBuilder;
+use amqp_annotations::{Annotations, OwnedKey};
 use amqp_codec::{ByteSource, Decoder, DeserializeTerm, Encoder, Error, Serialize, SerializeTerm};
 use amqp_maps::OrderedMap;
 use amqp_sections::{Section, read_section, write_section};
@@ -107,12 +109,9 @@ impl SerializeTerm for Footer {
 impl DeserializeTerm for Footer {
     ghost term = { section_of in_footer footer_naming annotations_type };
 
-    fn read_value<R: ByteSource>(
-        decoder: &mut Decoder<R>,
-        alloc: Global,
-    ) -> Result<Footer, Error> {
+    fn read_value<R: ByteSource>(decoder: &mut Decoder<R>, alloc: Global) -> Result<Footer, Error> {
         read_section(decoder, alloc)
     }
 
-    ghost agreement = { section_agreement in_footer footer_naming ⟦<Annotations as DeserializeTerm>⟧.agreement };
+    ghost agreement = { section_agreement in_footer footer_naming annotations_agreement };
 }

@@ -1,0 +1,2 @@
+pub mod MapSections
+pub mod SimpleMaps
