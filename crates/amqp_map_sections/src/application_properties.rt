@@ -74,9 +74,7 @@ impl From<MapBuilder<String, SimpleValue, ApplicationProperties>>
     }
 }
 
-impl Section for ApplicationProperties {
-    type Content = OrderedMap<String, SimpleValue>;
-
+impl Section<OrderedMap<String, SimpleValue>> for ApplicationProperties {
     ghost naming = { application_properties_naming };
 
     ghost holds = { in_application_properties };
@@ -117,7 +115,7 @@ impl DeserializeTerm for ApplicationProperties {
         decoder: &mut Decoder<R>,
         alloc: Global,
     ) -> Result<ApplicationProperties, Error> {
-        read_section(decoder, alloc)
+        read_section::<_, OrderedMap<String, SimpleValue>, _>(decoder, alloc)
     }
 
     ghost agreement = { section_agreement in_application_properties application_properties_naming simple_map_agreement };

@@ -72,9 +72,7 @@ impl From<MapBuilder<OwnedKey, Value, DeliveryAnnotations>> for Option<DeliveryA
     }
 }
 
-impl Section for DeliveryAnnotations {
-    type Content = Annotations;
-
+impl Section<Annotations> for DeliveryAnnotations {
     ghost naming = { delivery_annotations_naming };
 
     ghost holds = { in_delivery_annotations };
@@ -115,7 +113,7 @@ impl DeserializeTerm for DeliveryAnnotations {
         decoder: &mut Decoder<R>,
         alloc: Global,
     ) -> Result<DeliveryAnnotations, Error> {
-        read_section(decoder, alloc)
+        read_section::<_, Annotations, _>(decoder, alloc)
     }
 
     ghost agreement = { section_agreement in_delivery_annotations delivery_annotations_naming annotations_agreement };

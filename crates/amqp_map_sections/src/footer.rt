@@ -70,9 +70,7 @@ impl From<MapBuilder<OwnedKey, Value, Footer>> for Option<Footer> {
     }
 }
 
-impl Section for Footer {
-    type Content = Annotations;
-
+impl Section<Annotations> for Footer {
     ghost naming = { footer_naming };
 
     ghost holds = { in_footer };
@@ -110,7 +108,7 @@ impl DeserializeTerm for Footer {
     ghost term = { section_of in_footer footer_naming annotations_type };
 
     fn read_value<R: ByteSource>(decoder: &mut Decoder<R>, alloc: Global) -> Result<Footer, Error> {
-        read_section(decoder, alloc)
+        read_section::<_, Annotations, _>(decoder, alloc)
     }
 
     ghost agreement = { section_agreement in_footer footer_naming annotations_agreement };

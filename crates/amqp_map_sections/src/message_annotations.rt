@@ -72,9 +72,7 @@ impl From<MapBuilder<OwnedKey, Value, MessageAnnotations>> for Option<MessageAnn
     }
 }
 
-impl Section for MessageAnnotations {
-    type Content = Annotations;
-
+impl Section<Annotations> for MessageAnnotations {
     ghost naming = { message_annotations_naming };
 
     ghost holds = { in_message_annotations };
@@ -115,7 +113,7 @@ impl DeserializeTerm for MessageAnnotations {
         decoder: &mut Decoder<R>,
         alloc: Global,
     ) -> Result<MessageAnnotations, Error> {
-        read_section(decoder, alloc)
+        read_section::<_, Annotations, _>(decoder, alloc)
     }
 
     ghost agreement = { section_agreement in_message_annotations message_annotations_naming annotations_agreement };

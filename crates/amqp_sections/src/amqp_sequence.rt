@@ -51,9 +51,7 @@ impl<T> From<Vec<T>> for AmqpSequence<T> {
     }
 }
 
-impl<T: DeserializeTerm> Section for AmqpSequence<T> {
-    type Content = Vec<T>;
-
+impl<T: DeserializeTerm> Section<Vec<T>> for AmqpSequence<T> {
     ghost naming = { sequence_naming };
 
     ghost holds = { in_sequence };
@@ -94,7 +92,7 @@ impl<T: DeserializeTerm> DeserializeTerm for AmqpSequence<T> {
         decoder: &mut Decoder<R>,
         alloc: Global,
     ) -> Result<AmqpSequence<T>, Error> {
-        read_section(decoder, alloc)
+        read_section::<_, Vec<T>, _>(decoder, alloc)
     }
 
     ghost agreement = { section_agreement in_sequence sequence_naming (vec_agreement T.agreement) };

@@ -28,9 +28,7 @@ impl<T> AmqpValue<T> {
     }
 }
 
-impl<T: DeserializeTerm> Section for AmqpValue<T> {
-    type Content = T;
-
+impl<T: DeserializeTerm> Section<T> for AmqpValue<T> {
     ghost naming = { value_naming };
 
     ghost holds = { in_value };
@@ -71,7 +69,7 @@ impl<T: DeserializeTerm> DeserializeTerm for AmqpValue<T> {
         decoder: &mut Decoder<R>,
         alloc: Global,
     ) -> Result<AmqpValue<T>, Error> {
-        read_section(decoder, alloc)
+        read_section::<_, T, _>(decoder, alloc)
     }
 
     ghost agreement = { section_agreement in_value value_naming T.agreement };

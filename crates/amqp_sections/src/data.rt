@@ -61,9 +61,7 @@ impl TryFrom<Value> for Data {
     }
 }
 
-impl Section for Data {
-    type Content = Binary;
-
+impl Section<Binary> for Data {
     ghost naming = { data_naming };
 
     ghost holds = { in_data };
@@ -101,7 +99,7 @@ impl DeserializeTerm for Data {
     ghost term = { section_of in_data data_naming binary_type };
 
     fn read_value<R: ByteSource>(decoder: &mut Decoder<R>, alloc: Global) -> Result<Data, Error> {
-        read_section(decoder, alloc)
+        read_section::<_, Binary, _>(decoder, alloc)
     }
 
     ghost agreement = { section_agreement in_data data_naming (agreement binary_type refl) };

@@ -13,19 +13,16 @@ use amqp_encoder::Encoder;
 use amqp_wire::{ByteSource, Descriptor, Error};
 use std::alloc::Global;
 
-/// A section of a message that is one value behind a descriptor of its own (Part 3, section 3.2).
-pub trait Section: Sized + Drop {
+/// A section of a message that is one value, of this type, behind a descriptor of its own (Part 3, section 3.2).
+pub trait Section<T>: Sized + Drop {
     ghost use Rattle.amqp_codec.specs.Wrappers.{Holds};
     ghost use Rattle.amqp_sections.specs.SectionType.{Naming};
-
-    /// The type of the value.
-    type Content: DeserializeTerm;
 
     // The code and the name of the descriptor.
     ghost naming: { Naming };
 
     // The section holds the value.
-    ghost holds: { Holds Self Self.Content };
+    ghost holds: { Holds Self T };
 
     /// The code and the name of the descriptor.
     fn descriptor() -> (u64, &'static str)
@@ -33,23 +30,23 @@ pub trait Section: Sized + Drop {
         ensures name { result.1.now ≡ naming.name };
 
     /// The section of this value.
-    fn of_content(value: Self::Content) -> Self
+    fn of_content(value: T) -> Self
         ensures { holds.get result ≡ value };
 }
 
 /// Reads a section. Another descriptor is `WrongDescriptor`, one that is neither a symbol nor a ulong `BadDescriptor`, a symbol
 /// that isn't ASCII `NonAscii`, what isn't described `WrongType`, and what is nested more than 128 deep `Depth`. What the value is
 /// refused for comes besides. Memory is taken for the value alone.
-pub fn read_section<S: Section, R: ByteSource>(
+pub fn read_section<S: Section<T>, T: DeserializeTerm, R: ByteSource>(
     decoder: &mut Decoder<R>,
     alloc: Global,
 ) -> Result<S, Error>
-    ensures { Tells R.remaining → AnswersRead (section_of S.holds S.naming S.Content.term).takes_memory
-        (ReadsValue (section_of S.holds S.naming S.Content.term).means) (section_of S.holds S.naming S.Content.term).faults.fault
+    ensures { Tells R.remaining → AnswersRead (section_of S.holds S.naming T.term).takes_memory
+        (ReadsValue (section_of S.holds S.naming T.term).means) (section_of S.holds S.naming T.term).faults.fault
         decoder.old result decoder.new }
 {
     decoder.begin_one_of(&[S::descriptor()])?;
-    let value = S::Content::read_value(decoder, alloc)?;
+    let value = T::read_value(decoder, alloc)?;
     decoder.end_described()?;
     Ok(S::of_content(value))
 }

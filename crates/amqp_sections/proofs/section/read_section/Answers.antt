@@ -8,7 +8,7 @@ returns-in_err-begin_one_of g c tells =
     let names = ap₂ (λ a b. (a, b) ∷ []) c.descriptor.ensures.code c.descriptor.ensures.name in
     let p = err_from_is_err_and c.from_residual.result c.from_residual.ensures.1 in
     rw (p.1, p.2)
-    (begin_refused g.S.Section.holds g.S.Section.naming g.S.Content.DeserializeTerm.term (c.descriptor.result ∷ []) _ _ _ names
+    (begin_refused g.S.Section.holds g.S.Section.naming g.T.DeserializeTerm.term (c.descriptor.result ∷ []) _ _ _ names
     (c.in_err-begin_one_of.ensures.opened tells))
 
 pub returns-in_err-value : goal.returns-in_err-value
@@ -16,7 +16,7 @@ returns-in_err-value g c tells =
     let names = ap₂ (λ a b. (a, b) ∷ []) c.descriptor.ensures.code c.descriptor.ensures.name in
     let p = err_from_is_err_and c.from_residual-in_err-value.result c.from_residual-in_err-value.ensures.1 in
     rw (p.1, p.2)
-    (value_refused g.S.Section.holds g.S.Section.naming g.S.Content.DeserializeTerm.term (c.descriptor.result ∷ []) _ _ _ names
+    (value_refused g.S.Section.holds g.S.Section.naming g.T.DeserializeTerm.term (c.descriptor.result ∷ []) _ _ _ names
     (c.in_ok-begin_one_of.ensures.nesting tells) (c.in_ok-begin_one_of.ensures.opened tells) _ _ (c.in_err-value.ensures tells))
 
 pub returns-in_err-end_described : goal.returns-in_err-end_described
@@ -24,13 +24,13 @@ returns-in_err-end_described g c tells =
     let names = ap₂ (λ a b. (a, b) ∷ []) c.descriptor.ensures.code c.descriptor.ensures.name in
     let p = err_from_is_err_and c.from_residual-in_err-end_described.result c.from_residual-in_err-end_described.ensures.1 in
     rw (p.1, p.2)
-    (end_refused g.S.Section.holds g.S.Section.naming g.S.Content.DeserializeTerm.term (c.descriptor.result ∷ []) _ _ _ names
+    (end_refused g.S.Section.holds g.S.Section.naming g.T.DeserializeTerm.term (c.descriptor.result ∷ []) _ _ _ names
     (c.in_ok-begin_one_of.ensures.nesting tells) (c.in_ok-begin_one_of.ensures.opened tells) _ _ _ _ (c.in_ok-value.ensures tells)
     c.in_err-end_described.ensures)
 
 pub returns : goal.returns
 returns g c tells =
     let names = ap₂ (λ a b. (a, b) ∷ []) c.descriptor.ensures.code c.descriptor.ensures.name in
-    whole_read g.S.Section.holds g.S.Section.naming g.S.Content.DeserializeTerm.term (c.descriptor.result ∷ []) _ _ _ names
+    whole_read g.S.Section.holds g.S.Section.naming g.T.DeserializeTerm.term (c.descriptor.result ∷ []) _ _ _ names
     (c.in_ok-begin_one_of.ensures.nesting tells) (c.in_ok-begin_one_of.ensures.opened tells) _ _ _ _ c.of_content.ensures
     (c.in_ok-value.ensures tells) c.in_ok-end_described.ensures
