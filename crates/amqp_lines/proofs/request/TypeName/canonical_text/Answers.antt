@@ -9,6 +9,9 @@ returns-in-Flow-clause-refused c = rw c.in-Flow.is c.canonical_text-in-Flow.ensu
 pub returns-in-Open-clause-refused : goal.returns-in-Open-clause-refused
 returns-in-Open-clause-refused c = rw c.in-Open.is c.canonical_text-in-Open.ensures.refused
 
+pub returns-in-Properties-clause-refused : goal.returns-in-Properties-clause-refused
+returns-in-Properties-clause-refused c = rw c.in-Properties.is c.canonical_text-in-Properties.ensures.refused
+
 pub returns-in-Source-clause-refused : goal.returns-in-Source-clause-refused
 returns-in-Source-clause-refused c = rw c.in-Source.is c.canonical_text-in-Source.ensures.refused
 
