@@ -103,10 +103,10 @@ fn symbols_and_numbers_in_both_orders(rt: HostRuntime) -> Result<(), Fail> {
 fn five(keys: [&str; 5], alloc: Global) -> Result<Annotations, Error> {
     let mut map = Annotations::new(alloc);
     for key in keys {
-        map.insert(
-            OwnedKey::from_str_in(key, alloc)?,
-            Value::Uint(key.len() as u32),
-        )?;
+        let Ok(len) = u32::try_from(key.len()) else {
+            return Err(Error::TooLarge);
+        };
+        map.insert(OwnedKey::from_str_in(key, alloc)?, Value::Uint(len))?;
     }
     Ok(map)
 }
