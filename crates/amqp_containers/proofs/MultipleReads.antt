@@ -172,10 +172,10 @@ module _ {T : Type 0} (u : TermType T) where
           going.0 going.1 (in_second p (other_test c f g)) no_item h
 
     -- memory for the array of one was wanted
-    pub no_room : (x : T) (b : State) (e : Error) (new : State) → e ≡ Memory → Answers b e new → ReadsValue u.means mid x b
+    pub no_room : (x : T) (b : State) (e : Error) (new : State) → RefusesBy Memory b e new → ReadsValue u.means mid x b
         → RefusesRead true Several SeveralFault st e new
-    no_room x b e new is answers h = record {
-      kept = answered_later (ap (λ (z : State). z.failed) h.moved ∙ peeked_failed st c mid p) answers;
+    no_room x b e new refused h = let is = (refused (value_going h)).0 in record {
+      kept = answered_later (ap (λ (z : State). z.failed) h.moved ∙ peeked_failed st c mid p) (first_kept (value_going h) refused);
       again = λ d y. absurd (let z = (peeked_going st c mid p).0 in cc);
       named = λ _. inl (inl (refl, is));
       none = inl (inl (refl, is));
