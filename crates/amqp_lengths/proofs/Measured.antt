@@ -1,5 +1,5 @@
 -- What terms hold, from what their parts do.
-use Rattle.std.proofs.Common.{◌≡◌, ℕ, zero, suc, ◌+◌, ◌<◌, ◌≤◌, ◌^◌, max, cond, List, [], ◌∷◌, ◌++◌, length, take, drop, refl, sym, ap}
+use Rattle.std.proofs.Common.{◌≡◌, ℕ, suc, ◌+◌, ◌<◌, ◌≤◌, ◌^◌, max, cond, List, [], ◌∷◌, ◌++◌, length, take, drop, refl, sym, ap}
 use Rattle.std.proofs.Common.{◌∙◌, subst, arith, append-nil, drop-drop}
 use Rattle.std.proofs.lemmas.List.{take-append-drop, length-drop, length-append, length-take-le, take_all}
 use Rattle.std.proofs.Math.Seq.{drop-append_seam}
@@ -10,7 +10,7 @@ use Rattle.std.specs.declared.cmp.Ordering.TheVariants.{Less, Equal, Greater}
 use Rattle.amqp_wire.specs.declared.error.Error.{Error}
 use Rattle.amqp_model.specs.Term.{Primitive, Container, list, map, array, Term, Terms, leaf, container, described, kept, barred, none, more}
 use Rattle.amqp_model.specs.Term.{Descriptor, count}
-use Rattle.amqp_model.specs.Constructors.{Format, compound, format}
+use Rattle.amqp_model.specs.Constructors.{compound, format}
 use Rattle.amqp_model.specs.Spelling.{Joined, PrimitiveData, ContainerData, data_of, items_of, elements_of, shared_data_of, enc}
 use Rattle.amqp_model.specs.Measures.{nest, nests, array_nest, nodes, all_nodes}
 use Rattle.amqp_model.proofs.Count.{nodes_bounded}

@@ -1,8 +1,7 @@
 //! How many values are in the term that bytes spell, and how deep they nest (Part 1, section 1.2).
-ghost use Rattle.std.specs.Prelude.{◌≡◌, ◌+◌, ◌≤◌, ℕ, [], MatchOption};
-ghost use Rattle.amqp_model.specs.Term.{Terms};
+ghost use Rattle.std.specs.Prelude.{◌≡◌, ◌≤◌, ℕ, [], MatchOption};
 ghost use Rattle.amqp_model.specs.Constructors.{compound, format};
-ghost use Rattle.amqp_model.specs.Spelling.{IsKnown, HasWidthZero, data_of, items_of, elements_of, shared_data_of, enc};
+ghost use Rattle.amqp_model.specs.Spelling.{IsKnown, data_of, items_of, elements_of, shared_data_of, enc};
 ghost use Rattle.amqp_model.specs.Measures.{nests, array_nest};
 ghost use Rattle.amqp_wire.specs.Containers.{container_of};
 ghost use Rattle.amqp_lengths.specs.Pieces.{width_of, IsPrimitive};
