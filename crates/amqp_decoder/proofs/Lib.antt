@@ -7,6 +7,7 @@ pub mod Peeks
 pub mod Rows
 pub mod SizedTexts
 pub mod Steps
+pub mod Goes
 pub mod TopLevel
 pub mod Descriptors
 pub mod Descriptions

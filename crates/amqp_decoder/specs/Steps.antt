@@ -1,5 +1,5 @@
 -- What the steps of a call promise.
-use Rattle.std.specs.Prelude.{◌≡◌, ℕ, ◌<◌, ◌≤◌, ◌⊎◌, Bool, true, List, ◌++◌, length, drop, Option, Some, None}
+use Rattle.std.specs.Prelude.{◌≡◌, ℕ, ◌<◌, ◌≤◌, ◌⊎◌, Bool, true, List, ◌++◌, length, drop, Option, Some, None, Result, Ok, Err}
 use Rattle.amqp_wire.specs.declared.error.Error.{Error}
 use Rattle.amqp_wire.specs.declared.error.Error.TheVariants.{Memory, Read, Cut, Size}
 use Rattle.amqp_decoder.specs.State.{State, Has, after_data, after_bytes, announced}
@@ -87,3 +87,36 @@ pub record RefusesSize (own : ℕ) (st : State) (e : Error) (st' : State) : Type
 pub record Stops (takes : Bool) (fault : Error → Type 0) (st : State) (e : Error) (st' : State) : Type 0 where
   pub kept : Answers st e st'
   pub why : IsExcused takes e st' ⊎ fault e
+
+-- A call kept no error, and its source hasn't begun to fail.
+pub record GoesOn (st st' : State) : Type 0 where
+  pub error : st'.error ≡ st.error
+  pub failed : st'.failed ≡ st.failed
+
+-- A call kept the error that it answers: the source's where that began to fail and only where it has, and want of memory only where the
+-- call takes some.
+pub record Fails (takes : Bool) (st : State) (e : Error) (st' : State) : Type 0 where
+  pub kept : Answers st e st'
+  pub memory : e ≡ Memory → takes ≡ true
+  pub read : IsReadError e → st'.failed ≡ true
+
+-- What a call does that is asked of a decoder that has kept no error, whatever its source tells.
+abbrev pub Goes : {A : Type 0} → Bool → State → Result A Error → State → Type 0
+Goes takes st (Ok v) st' = GoesOn st st'
+Goes takes st (Err e) st' = Fails takes st e st'
+
+-- A call was asked of a decoder that had kept no error, and went on.
+pub record Began (st st' : State) : Type 0 where
+  pub going : st.error ≡ None
+  pub still : st'.error ≡ None
+  pub failed : st'.failed ≡ st.failed
+
+-- A call refused: by the error that was kept before, where nothing changes, or by one that it keeps.
+pub record Refused (takes : Bool) (st : State) (e : Error) (st' : State) : Type 0 where
+  pub again : (d : Error) → st.error ≡ Some d → (d ≡ e) × (st' ≡ st)
+  pub first : st.error ≡ None → Fails takes st e st'
+
+-- What a call does, whatever its source tells.
+abbrev pub Tries : {A : Type 0} → Bool → State → Result A Error → State → Type 0
+Tries takes st (Ok v) st' = Began st st'
+Tries takes st (Err e) st' = Refused takes st e st'
