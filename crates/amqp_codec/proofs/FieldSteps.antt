@@ -18,8 +18,8 @@ use Rattle.amqp_decoder.proofs.Peeks.{value-peeked}
 use Rattle.amqp_decoder.specs.Reading.{RefusesRead, BeginFault, PeeksCode}
 use Rattle.amqp_decoder.specs.Primitives.{standing, ReadsValue, Means}
 use Rattle.amqp_decoder.specs.Containers.{Opens, OpenFault, Closes, CloseFault}
-use Rattle.amqp_decoder.proofs.Steps.{answered_later}
-use Rattle.amqp_decoder.specs.Steps.{Answers}
+use Rattle.amqp_decoder.proofs.Steps.{answered_later, first_kept}
+use Rattle.amqp_decoder.specs.Steps.{RefusesBy}
 use Rattle.amqp_encoder.proofs.Refused.{count_of}
 use Rattle.amqp_codec.specs.Fields.{Fields, slots, take_memory}
 use Rattle.amqp_codec.specs.FieldReading.{absence, MeansAt, FaultAt, FitsFront, KeepsBut, FitsAt, ItemRead, ItemFault, no_item, null_item}
@@ -27,7 +27,7 @@ use Rattle.amqp_codec.specs.FieldReading.{in_item, FieldsSoFar, FieldsRead, Fiel
 use Rattle.amqp_codec.specs.FieldReading.{not_ended, rule_at, IsBlank}
 use Rattle.amqp_codec.specs.FieldReadingLaws.{absent, filled_at, unfilled_at, front_null, front_filled, front_missing, front_end}
 use Rattle.amqp_codec.specs.FieldReadingLaws.{front_start, fits_value, fits_null, fits_few}
-use Rattle.amqp_codec.specs.RefusalLaws.{no_memory, opened_going, opened_sound, refused_first, refused_later}
+use Rattle.amqp_codec.specs.RefusalLaws.{no_memory, opened_going, opened_sound, refused_first, refused_later, value_going}
 use Rattle.amqp_codec.specs.PeekLaws.{peeked_failed, peeked_going, not_null, value_peeked}
 
 the_item : (ts us : List Term) (t : Term) (rest : List Term) (n : ℕ) → length ts ≡ n → us ≡ ts ++ t ∷ rest → get_or us n (leaf null) ≡ t
@@ -58,6 +58,9 @@ module _ {V : Type 0} (fs : Fields V) where
 
   pub so_far_going : (st : State) (n i : ℕ) (v : V) (mid : State) → FieldsSoFar fs st n i v mid → st.error ≡ None
   so_far_going st n i v mid h = h.opens.begun.going
+
+  pub so_far_still : (st : State) (n i : ℕ) (v : V) (mid : State) → FieldsSoFar fs st n i v mid → mid.error ≡ None
+  so_far_still st n i v mid h = ap (λ (x : State). x.error) (row_together h.first h.terms h.bytes mid h.each).moved ∙ opened_going h.opens
 
   -- an item was read
   pub one_more : (st : State) (n i : ℕ) (v w : V) (mid b : State) → i < n → i < length (rules_of (slots fs)) → FieldsSoFar fs st n i v mid
@@ -152,17 +155,20 @@ module _ {V : Type 0} (fs : Fields V) where
 
   -- a required item is left out
   pub left_out_refused : (st : State) (n i : ℕ) (v : V) (mid : State) (e : Error) (new : State) → n ≤ i → i < length (rules_of (slots fs))
-      → absence (rule_at fs i) ≡ Some e → Answers mid e new → FieldsSoFar fs st n i v mid
+      → {error : Error} → absence (rule_at fs i) ≡ Some error → RefusesBy error mid e new → FieldsSoFar fs st n i v mid
       → RefusesRead (take_memory fs) (FieldsRead fs) (FieldsFault fs) st e new
-  left_out_refused st n i v mid e new l k is kept h = record {
-    kept = answered_later (so_far_failed st n i v mid h) kept;
-    again = λ d x. absurd (let y = so_far_going st n i v mid h in cc);
-    named = λ _. inr (left_out h l k is);
-    none = inr (λ w b q.
-        let g = further st n i v w mid b h q in
-        fits_null fs i q.terms w Mandatory q.fits k (absent (rule_at fs i) e is)
-        (ap is_null (past_end q.terms i (omega (arith, g.count, l)))));
-  }
+  left_out_refused st n i v mid e new l k by refused h =
+      let going = so_far_still st n i v mid h in
+      let is = by ∙ ap Some (sym (refused going).0) in
+      record {
+        kept = answered_later (so_far_failed st n i v mid h) (first_kept going refused);
+        again = λ d x. absurd (let y = so_far_going st n i v mid h in cc);
+        named = λ _. inr (left_out h l k is);
+        none = inr (λ w b q.
+            let g = further st n i v w mid b h q in
+            fits_null fs i q.terms w Mandatory q.fits k (absent (rule_at fs i) e is)
+            (ap is_null (past_end q.terms i (omega (arith, g.count, l)))));
+      }
 
   nothing_taken : (ts : List Term) (mid last : State) (s : List ℕ) → length ts ≡ 0 → Row mid ts s last → last ≡ mid
   nothing_taken [] mid last s l h = h.1
@@ -205,9 +211,6 @@ module _ {V : Type 0} (fs : Fields V) where
   none_so_far st n v first o b =
       record { first = first; opens = o; terms = []; bytes = []; each = (refl, refl); long = omega arith; front = front_start fs [] v b }
 
-  pub so_far_still : (st : State) (n i : ℕ) (v : V) (mid : State) → FieldsSoFar fs st n i v mid → mid.error ≡ None
-  so_far_still st n i v mid h = ap (λ (x : State). x.error) (row_together h.first h.terms h.bytes mid h.each).moved ∙ opened_going h.opens
-
 -- Steps of one item.
 module _ {V : Type 0} (fs : Fields V) (i : ℕ) where
   pub item_unbegun : (st : State) (e : Error) (new : State) → RefusesRead false PeeksCode BeginFault st e new
@@ -222,18 +225,20 @@ module _ {V : Type 0} (fs : Fields V) (i : ℕ) where
   null_read v st b r h = record { bytes = h.bytes; term = h.term; stands = h.stands; moved = h.moved; fits = inl (h.meant, r, refl) }
 
   -- null was taken, and doesn't fit
-  pub null_unfit : (st b : State) (e : Error) (new : State) → st.error ≡ None → absence (rule_at fs i) ≡ Some e → Answers b e new
+  pub null_unfit : (st b : State) (e : Error) (new : State) {error : Error} → absence (rule_at fs i) ≡ Some error → RefusesBy error b e new
       → ReadsValue (Means (λ (_ : Unit {0}). null)) st tt b
       → RefusesRead (take_memory fs) (ReadsValue (FitsAt fs i)) (ItemFault fs i) st e new
-  null_unfit st b e new going is kept h = record {
-    kept = answered_later (ap (λ (x : State). x.failed) h.moved) kept;
-    again = λ d x. absurd (cc);
-    named = λ _. inr (null_item h is);
-    none = inr (λ w c k.
-        let o = stands_same st h.bytes k.bytes h.term k.term h.stands k.stands in
-        let z : is_null k.term ≡ true = ap is_null (sym o.1 ∙ h.meant) in
-        elim k.meant [ inl x ↦ clash (absent (rule_at fs i) e is) x.1 | inr x ↦ clash z x.0 ]);
-  }
+  null_unfit st b e new by refused h =
+      let is = by ∙ ap Some (sym (refused (value_going h)).0) in
+      record {
+        kept = answered_later (ap (λ (x : State). x.failed) h.moved) (first_kept (value_going h) refused);
+        again = λ d x. absurd (let going = h.stands.going in cc);
+        named = λ _. inr (null_item h is);
+        none = inr (λ w c k.
+            let o = stands_same st h.bytes k.bytes h.term k.term h.stands k.stands in
+            let z : is_null k.term ≡ true = ap is_null (sym o.1 ∙ h.meant) in
+            elim k.meant [ inl x ↦ clash (absent (rule_at fs i) e is) x.1 | inr x ↦ clash z x.0 ]);
+      }
 
   -- the field was filled
   pub value_read : (v w : V) (st mid b : State) (c : ℕ) → PeeksCode st c mid → ReadsValue (MeansAt fs i) mid w b → KeepsBut fs i v w

@@ -8,11 +8,11 @@ use Rattle.amqp_model.specs.ItemLaws.{clash}
 use Rattle.amqp_wire.specs.declared.error.Error.{Error}
 use Rattle.amqp_wire.specs.declared.error.Error.TheVariants.{Memory}
 use Rattle.amqp_decoder.specs.State.{State}
-use Rattle.amqp_decoder.specs.Steps.{Answers}
+use Rattle.amqp_decoder.specs.Steps.{RefusesBy}
 use Rattle.amqp_decoder.specs.Reading.{RefusesRead}
 use Rattle.amqp_decoder.specs.Primitives.{ReadsValue}
 use Rattle.amqp_decoder.specs.Containers.{place_of, Closes, CloseFault}
-use Rattle.amqp_decoder.proofs.Steps.{answered_later}
+use Rattle.amqp_decoder.proofs.Steps.{answered_later, first_kept}
 use Rattle.amqp_codec.specs.TermType.{TermType}
 use Rattle.amqp_codec.specs.RefusalLaws.{refused_first, refused_later}
 use Rattle.amqp_codec.specs.Each.{MeansItems}
@@ -56,14 +56,18 @@ module _ {T V : Type 0} (n : ℕ) (means : Standing → Term → T → Type 0) (
   one_going st (w ∷ ws) v mid h = h.1.stands.going
 
   -- memory for a value was wanted
-  pub no_room : (st : State) (vs : List T) (v : T) (mid : State) (e : Error) (new : State) → e ≡ Memory → Answers mid e new
+  pub no_room : (st : State) (vs : List T) (v : T) (mid : State) (e : Error) (new : State) → RefusesBy Memory mid e new
       → ReadsEach (ReadsValue means) st (vs ++ v ∷ []) mid → RefusesRead true row row_fault st e new
-  no_room st vs v mid e new is kept h = record {
-    kept = answered_later (each_still means st (vs ++ v ∷ []) mid h).1 kept;
-    again = λ d x. absurd (let y = one_going st vs v mid h in cc);
-    named = λ _. inl (inl (refl, is));
-    none = inl (inl (refl, is));
-  }
+  no_room st vs v mid e new refused h =
+      let was = one_going st vs v mid h in
+      let still = each_still means st (vs ++ v ∷ []) mid h in
+      let is = (refused (still.0 ∙ was)).0 in
+      record {
+        kept = answered_later still.1 (first_kept (still.0 ∙ was) refused);
+        again = λ d x. absurd (cc);
+        named = λ _. inl (inl (refl, is));
+        none = inl (inl (refl, is));
+      }
 
 -- a list or an array, whose items stand in a value as `to` says
 module _ {T V : Type 0} (o : Opening) (u : TermType T) (to : V → List T) where

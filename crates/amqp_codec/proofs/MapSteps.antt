@@ -7,15 +7,15 @@ use Rattle.amqp_wire.specs.declared.error.Error.{Error}
 use Rattle.amqp_wire.specs.declared.error.Error.TheVariants.{Memory, DuplicateKey}
 use Rattle.amqp_decoder.specs.declared.frame.Place.TheVariants.{InMap}
 use Rattle.amqp_decoder.specs.State.{State}
-use Rattle.amqp_decoder.specs.Steps.{Answers}
+use Rattle.amqp_decoder.specs.Steps.{RefusesBy, Answers}
 use Rattle.amqp_decoder.specs.Reading.{RefusesRead}
 use Rattle.amqp_decoder.specs.Primitives.{ReadsValue}
 use Rattle.amqp_decoder.specs.Containers.{Opens, OpenFault, Closes, CloseFault}
-use Rattle.amqp_decoder.proofs.Steps.{answered_later}
+use Rattle.amqp_decoder.proofs.Steps.{answered_later, first_kept}
 use Rattle.amqp_decoder.proofs.OneReading.{value_same}
 use Rattle.amqp_decoder.proofs.Opening.{opens_same}
 use Rattle.amqp_codec.specs.TermType.{TermType}
-use Rattle.amqp_codec.specs.RefusalLaws.{NoneStands, refused_first, refused_later, opened_going, opened_sound}
+use Rattle.amqp_codec.specs.RefusalLaws.{NoneStands, refused_first, refused_later, value_going, opened_going, opened_sound}
 use Rattle.amqp_codec.specs.Pairs.{IsNew, MeansMap}
 use Rattle.amqp_codec.specs.MapReading.{Pairs, ReadsPairsRow, ReadsFewer, PairsFault, at_key, twice, at_value, MapFault}
 use Rattle.amqp_codec.specs.MapReading.{unopened, at_pair, unclosed}
@@ -59,10 +59,11 @@ module _ {K V : Type 0} (key : TermType K) (value : TermType V) where
 
     -- or it is that of a pair before it,
     pub key_twice : (st : State) (ps : List (K × V)) (mid : State) (k : K) (after : State) (e : Error) (new : State)
-        → ReadsFewer key value n st ps mid → ReadsValue key.means mid k after → (IsNew key.same k ps → ⊥) → e ≡ DuplicateKey
-        → Answers after e new → RefusesRead true row row_fault st e new
-    key_twice st ps mid k after e new h r same is kept = record {
-      kept = answered_later (ap (λ (x : State). x.failed) r.moved ∙ (pairs_still key value st ps mid h.each).1) kept;
+        → ReadsFewer key value n st ps mid → ReadsValue key.means mid k after → (IsNew key.same k ps → ⊥)
+        → RefusesBy DuplicateKey after e new → RefusesRead true row row_fault st e new
+    key_twice st ps mid k after e new h r same refused = let is = (refused (value_going r)).0 in record {
+      kept = answered_later (ap (λ (x : State). x.failed) r.moved ∙ (pairs_still key value st ps mid h.each).1)
+          (first_kept (value_going r) refused);
       again = λ d x. absurd (let going = was_going st ps mid h.each r.stands.going in cc);
       named = λ _. inr (twice ps mid after k h r same is);
       none = inr (λ qs b q.
@@ -85,23 +86,30 @@ module _ {K V : Type 0} (key : TermType K) (value : TermType V) where
         let y = value_same key.means mid x.after after x.pair.0 k x.at_key r in
         none x.pair.1 x.behind (subst (λ (z : State). ReadsValue value.means z x.pair.1 x.behind) y.4 x.at_value))) refused
 
-    -- or memory for a pair of the key was wanted, before its value was read
-    pub no_place : (st : State) (ps : List (K × V)) (mid : State) (k : K) (after : State) (e : Error) (new : State)
+    no_place_behind : (st : State) (ps : List (K × V)) (mid : State) (k : K) (after : State) (e : Error) (new : State)
         → Pairs key value st ps mid → ReadsValue key.means mid k after → e ≡ Memory → Answers after e new
         → RefusesRead true row row_fault st e new
-    no_place st ps mid k after e new h r is kept = record {
+    no_place_behind st ps mid k after e new h r is kept = record {
       kept = answered_later (ap (λ (x : State). x.failed) r.moved ∙ (pairs_still key value st ps mid h).1) kept;
       again = λ d x. absurd (let going = was_going st ps mid h r.stands.going in cc);
       named = λ _. inl (inl (refl, is));
       none = inl (inl (refl, is));
     }
 
+    -- or memory for a pair of the key was wanted, before its value was read
+    pub no_place : (st : State) (ps : List (K × V)) (mid : State) (k : K) (after : State) (e : Error) (new : State)
+        → Pairs key value st ps mid → ReadsValue key.means mid k after → RefusesBy Memory after e new
+        → RefusesRead true row row_fault st e new
+    no_place st ps mid k after e new h r refused =
+        no_place_behind st ps mid k after e new h r (refused (value_going r)).0 (first_kept (value_going r) refused)
+
     -- or behind it
     pub no_room : (st : State) (ps : List (K × V)) (mid : State) (k : K) (after : State) (v : V) (last : State) (e : Error) (new : State)
-        → Pairs key value st ps mid → ReadsValue key.means mid k after → ReadsValue value.means after v last → e ≡ Memory
-        → Answers last e new → RefusesRead true row row_fault st e new
-    no_room st ps mid k after v last e new h r q is kept =
-        no_place st ps mid k after e new h r is (answered_later (ap (λ (x : State). x.failed) q.moved) kept)
+        → Pairs key value st ps mid → ReadsValue key.means mid k after → ReadsValue value.means after v last
+        → RefusesBy Memory last e new → RefusesRead true row row_fault st e new
+    no_room st ps mid k after v last e new h r q refused =
+        no_place_behind st ps mid k after e new h r (refused (value_going q)).0
+        (answered_later (ap (λ (x : State). x.failed) q.moved) (first_kept (value_going q) refused))
 
   -- a whole map
   abbrev Meant : Standing → Term → List (K × V) → Type 0

@@ -1,10 +1,12 @@
 -- Refusals of a call that is made of other calls.
 use Rattle.std.proofs.Common.{◌≡◌, inl, inr, ℕ, Bool, true, false, None, ◌⊎◌, ap, ◌∙◌}
-use Rattle.amqp_model.specs.Term.{Container, Descriptor}
+use Rattle.amqp_model.specs.Term.{Container, Descriptor, Term}
+use Rattle.amqp_model.specs.Standing.{Standing}
 use Rattle.amqp_wire.specs.declared.error.Error.{Error}
 use Rattle.amqp_decoder.specs.State.{State}
 use Rattle.amqp_decoder.specs.Steps.{IsExcused}
 use Rattle.amqp_decoder.specs.Reading.{RefusesRead}
+use Rattle.amqp_decoder.specs.Primitives.{ReadsValue}
 use Rattle.amqp_decoder.specs.Containers.{Opens}
 use Rattle.amqp_decoder.specs.Described.{OpensDescribed}
 use Rattle.amqp_decoder.proofs.Steps.{answered_later}
@@ -26,6 +28,11 @@ opened_going o = ap (λ (x : State). x.error) o.data_.entered ∙ ap (λ (x : St
 pub opened_sound : {kind : Container} {st first : State} {n : ℕ} → Opens kind st n first → first.failed ≡ st.failed
 opened_sound o = ap (λ (x : State). x.failed) o.data_.entered ∙ ap (λ (x : State). x.failed) o.data_.header.took.moved
     ∙ ap (λ (x : State). x.failed) o.begun.moved
+
+-- so did one that read a value
+pub value_going : {A : Type 0} {means : Standing → Term → A → Type 0} {st : State} {v : A} {b : State} → ReadsValue means st v b
+    → b.error ≡ None
+value_going r = ap (λ (x : State). x.error) r.moved ∙ r.stands.going
 
 -- and so of a described value
 pub described_going : {st inner : State} {d : Descriptor} → OpensDescribed st d inner → inner.error ≡ None

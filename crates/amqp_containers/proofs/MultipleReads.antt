@@ -9,16 +9,16 @@ use Rattle.amqp_model.specs.Ranges.{IsNoArray}
 use Rattle.amqp_wire.specs.declared.error.Error.{Error}
 use Rattle.amqp_wire.specs.declared.error.Error.TheVariants.{Memory, EmptyMultiple}
 use Rattle.amqp_decoder.specs.State.{State}
-use Rattle.amqp_decoder.specs.Steps.{Answers}
+use Rattle.amqp_decoder.specs.Steps.{RefusesBy}
 use Rattle.amqp_decoder.specs.Reading.{RefusesRead, PeeksCode}
 use Rattle.amqp_decoder.specs.Primitives.{Stands, ReadsValue}
-use Rattle.amqp_decoder.proofs.Steps.{answered_later, answered}
+use Rattle.amqp_decoder.proofs.Steps.{answered_later, first_kept}
 use Rattle.amqp_decoder.proofs.Opening.{not_array}
 use Rattle.amqp_decoder.proofs.Misspelled.{term_under, container_there}
 use Rattle.amqp_decoder.proofs.Peeks.{value-peeked}
 use Rattle.amqp_decoder.proofs.OneReading.{value_same}
 use Rattle.amqp_codec.specs.TermType.{TermType}
-use Rattle.amqp_codec.specs.RefusalLaws.{NoneStands, refused_first, refused_later}
+use Rattle.amqp_codec.specs.RefusalLaws.{NoneStands, refused_first, refused_later, value_going}
 use Rattle.amqp_codec.specs.PeekLaws.{peeked_failed, peeked_going}
 use Rattle.amqp_codec.specs.EitherMeaning.{in_first, in_second}
 use Rattle.amqp_codec.specs.Each.{EachMeans, MeansItems}
@@ -172,10 +172,10 @@ module _ {T : Type 0} (u : TermType T) where
           going.0 going.1 (in_second p (other_test c f g)) no_item h
 
     -- memory for the array of one was wanted
-    pub no_room : (x : T) (b : State) (e : Error) (new : State) → e ≡ Memory → Answers b e new → ReadsValue u.means mid x b
+    pub no_room : (x : T) (b : State) (e : Error) (new : State) → RefusesBy Memory b e new → ReadsValue u.means mid x b
         → RefusesRead true Several SeveralFault st e new
-    no_room x b e new is answers h = record {
-      kept = answered_later (ap (λ (z : State). z.failed) h.moved ∙ peeked_failed st c mid p) answers;
+    no_room x b e new refused h = let is = (refused (value_going h)).0 in record {
+      kept = answered_later (ap (λ (z : State). z.failed) h.moved ∙ peeked_failed st c mid p) (first_kept (value_going h) refused);
       again = λ d y. absurd (let z = (peeked_going st c mid p).0 in cc);
       named = λ _. inl (inl (refl, is));
       none = inl (inl (refl, is));
@@ -218,12 +218,13 @@ module _ {T : Type 0} (u : TermType T) where
       (λ none v b k. none (Some v) b (as_several st v b k)) h
 
   -- an array without items stands there
-  pub none_refused : (st mid : State) (e : Error) (new : State) (w : Option (Array T)) → w ≡ None → e ≡ EmptyMultiple
-      → new ≡ record mid { error = Some EmptyMultiple } → Several st w mid → RefusesRead true AtLeastOne (MandatoryFault u) st e new
-  none_refused st mid e new w empty is left k =
+  pub none_refused : (st mid : State) (e : Error) (new : State) (w : Option (Array T)) → w ≡ None
+      → RefusesBy EmptyMultiple mid e new → Several st w mid → RefusesRead true AtLeastOne (MandatoryFault u) st e new
+  none_refused st mid e new w empty refused k =
       let h : Several st None mid = subst (λ x. Several st x mid) empty k in
+      let is = (refused (value_going h)).0 in
       record {
-        kept = answered_later (ap (λ (z : State). z.failed) h.moved) (answered mid new e EmptyMultiple left is);
+        kept = answered_later (ap (λ (z : State). z.failed) h.moved) (first_kept (value_going h) refused);
         again = λ d y. absurd (let z = h.stands.going in cc);
         named = λ _. inr (no_items h is);
         none = inr (λ v b k. (let x = value_same (MeansMultiple u) st mid b None (Some v) h (as_several st v b k) in

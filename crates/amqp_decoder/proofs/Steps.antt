@@ -6,7 +6,7 @@ use Rattle.amqp_model.specs.Term.{Descriptor}
 use Rattle.amqp_wire.specs.declared.error.Error.{Error}
 use Rattle.amqp_wire.specs.declared.error.Error.TheVariants.{Cut}
 use Rattle.amqp_decoder.specs.State.{State, Has, lower, after_value, announced}
-use Rattle.amqp_decoder.specs.Steps.{Answers, SourceFailed, IsExcused, Pulls, Misses, Takes, Lacks, cut_open, cut_inside, too_long}
+use Rattle.amqp_decoder.specs.Steps.{Answers, RefusesBy, SourceFailed, IsExcused, Pulls, Misses, Takes, Lacks, cut_open, cut_inside, too_long}
 use Rattle.amqp_decoder.specs.Steps.{FallsShort, Stops, asked_in, SizeError, cut, wrong, RefusesSize}
 use Rattle.amqp_decoder.specs.Reading.{RefusesRead, IsFirst, IsFirstShared, ReadsCode, BeginFault, no_code}
 
@@ -25,6 +25,10 @@ answered st new e d h is =
 
 pub answered_so : (st new : State) (e : Error) → new ≡ record st { error = Some e } → Answers st e new
 answered_so st new e h = answered st new e e h refl
+
+-- a decoder that had kept none keeps it
+pub first_kept : {error : Error} {st : State} {e : Error} {new : State} → st.error ≡ None → RefusesBy error st e new → Answers st e new
+first_kept {error} {st} {e} {new} going refused = let h = refused going in answered st new e error h.1 h.0
 
 -- the refused call came after others
 pub answered_later : {st m : State} {e : Error} {new : State} → m.failed ≡ st.failed → Answers m e new → Answers st e new

@@ -19,6 +19,10 @@ pub record Answers (st : State) (e : Error) (st' : State) : Type 0 where
   pub error : st'.error ≡ Some e
   pub source : (st'.failed ≡ st.failed) ⊎ IsReadError e
 
+-- An error is kept and answered by a decoder that has kept none.
+abbrev pub RefusesBy : Error → State → Error → State → Type 0
+RefusesBy error st e st' = st.error ≡ None → (e ≡ error) × (st' ≡ record st { error = Some error })
+
 -- The source has failed.
 abbrev pub SourceFailed : Error → State → Type 0
 SourceFailed e st = IsReadError e × (st.failed ≡ true)

@@ -47,11 +47,11 @@ impl<R: ByteSource> Decoder<R> {
             ⊎ DescriptorFault self.old e) self.old e self.new) }
     {
         if descriptors.len() >= NESTING {
-            return Err(self.refuse(Error::Depth));
+            return Err(self.stop(Error::Depth));
         }
         match descriptors.push(self.descriptor(alloc)?) {
             Ok(()) => Ok(()),
-            Err(_) => Err(self.refuse(Error::Memory)),
+            Err(_) => Err(self.stop(Error::Memory)),
         }
     }
 
@@ -63,7 +63,7 @@ impl<R: ByteSource> Decoder<R> {
     {
         match format_code::unknown(code) {
             None => Ok(()),
-            Some(error) => Err(self.refuse(error)),
+            Some(error) => Err(self.stop(error)),
         }
     }
 
@@ -98,7 +98,7 @@ impl<R: ByteSource> Decoder<R> {
             return Ok(());
         }
         if format_code::has_width_zero(code) {
-            return Err(self.refuse(Error::ZeroWidthItems));
+            return Err(self.stop(Error::ZeroWidthItems));
         }
         self.check_items(is_flat(&descriptors, code))?;
         self.share(descriptors, code, count)

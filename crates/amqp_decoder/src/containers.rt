@@ -90,7 +90,7 @@ impl<R: ByteSource> Decoder<R> {
     {
         let (count, content) = self.header(wide, false)?;
         if count % 2 == 1 {
-            return Err(self.refuse(Error::OddCount));
+            return Err(self.stop(Error::OddCount));
         }
         self.open(Place::InMap, count, content)
     }

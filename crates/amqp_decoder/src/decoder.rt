@@ -3,6 +3,8 @@ ghost use Rattle.std.specs.Prelude.{◌≡◌, [], length, drop, false, Some, No
 ghost use Rattle.amqp_wire.specs.Sources.{known};
 ghost use Rattle.amqp_decoder.specs.State.{top_level};
 ghost use Rattle.amqp_decoder.specs.Rooms.{HasRoom};
+ghost use Rattle.amqp_decoder.specs.Steps.{RefusesBy};
+ghost use Rattle.amqp_wire.specs.declared.error.Error.{Error};
 
 mod bytes;
 mod items;
@@ -56,8 +58,20 @@ impl<R: ByteSource> Model for Decoder<R> {
 }
 
 impl<R: ByteSource> Decoder<R> {
-    /// Keeps the error, which every later call answers.
+    /// Keeps the error, which every later call returns. If the decoder has refused before, that first error stays, and is returned.
     pub fn refuse(&mut self, error: Error) -> Error
+        ensures first { RefusesBy error self.old result self.new }
+        ensures again { (kept : Error) → self.old.error ≡ Some kept → (result ≡ kept) × (self.new ≡ self.old) }
+    {
+        match self.error {
+            Some(kept) => kept,
+            None => self.stop(error),
+        }
+    }
+
+    // Keeps the error of a decoder that hasn't refused.
+    #[inline(always)]
+    pub(crate) fn stop(&mut self, error: Error) -> Error
         ensures answer { result ≡ error }
         ensures kept { self.new ≡ record self.old { error = Some error } }
     {

@@ -38,7 +38,7 @@ impl<R: ByteSource> Decoder<R> {
             return Err(self.refuse_code(code));
         }
         if self.nesting_left() == 0 {
-            return Err(self.refuse(Error::Depth));
+            return Err(self.stop(Error::Depth));
         }
         Ok(())
     }
@@ -50,8 +50,8 @@ impl<R: ByteSource> Decoder<R> {
         ensures kept { self.new ≡ record self.old { error = Some result } }
     {
         match format_code::refusal(code) {
-            Error::WrongType(_) => self.refuse(Error::BadDescriptor),
-            error => self.refuse(error),
+            Error::WrongType(_) => self.stop(Error::BadDescriptor),
+            error => self.stop(error),
         }
     }
 
@@ -96,7 +96,7 @@ impl<R: ByteSource> Decoder<R> {
         };
         match descriptor.clone() {
             Ok(descriptor) => Ok(descriptor),
-            Err(_) => Err(self.refuse(Error::Memory)),
+            Err(_) => Err(self.stop(Error::Memory)),
         }
     }
 
@@ -136,7 +136,7 @@ impl<R: ByteSource> Decoder<R> {
             left -= n;
         }
         if !is_ascii {
-            return Err(self.refuse(Error::NonAscii));
+            return Err(self.stop(Error::NonAscii));
         }
         match known {
             Some(name) => Ok(place_of_name(members, name)),
@@ -173,7 +173,7 @@ impl<R: ByteSource> Decoder<R> {
         self.room();
         self.begin_descriptor()?;
         let Some(place) = self.place_of_next(members)? else {
-            return Err(self.refuse(Error::WrongDescriptor));
+            return Err(self.stop(Error::WrongDescriptor));
         };
         self.enter_described()?;
         Ok(place)

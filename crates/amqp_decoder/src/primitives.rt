@@ -47,7 +47,7 @@ impl<R: ByteSource> Decoder<R> {
             format_code::BOOLEAN => match self.byte()? {
                 0 => Ok(false),
                 1 => Ok(true),
-                _ => Err(self.refuse(Error::BadBool)),
+                _ => Err(self.stop(Error::BadBool)),
             },
             code => Err(self.refuse_code(code)),
         }
@@ -186,7 +186,7 @@ impl<R: ByteSource> Decoder<R> {
         let number = u32::from_be_bytes(self.fixed(format_code::CHAR)?);
         match char::from_u32(number) {
             Some(value) => Ok(value),
-            None => Err(self.refuse(Error::BadChar)),
+            None => Err(self.stop(Error::BadChar)),
         }
     }
 

@@ -70,7 +70,7 @@ impl<R: ByteSource> Decoder<R> {
         let code = self.byte()?;
         match bytes.push(code) {
             Ok(()) => Ok(code),
-            Err(_) => Err(self.refuse(Error::Memory)),
+            Err(_) => Err(self.stop(Error::Memory)),
         }
     }
 
@@ -94,7 +94,7 @@ impl<R: ByteSource> Decoder<R> {
         let digits = number.to_be_bytes();
         match bytes.extend_from_slice(&digits[4 - width(wide) as usize..]) {
             Ok(()) => Ok(number),
-            Err(_) => Err(self.refuse(Error::Memory)),
+            Err(_) => Err(self.stop(Error::Memory)),
         }
     }
 
@@ -109,7 +109,7 @@ impl<R: ByteSource> Decoder<R> {
         self.keep_next(len, bytes)?;
         match bytes.get(start..) {
             Some(text) if text.is_ascii() => Ok(()),
-            _ => Err(self.refuse(Error::NonAscii)),
+            _ => Err(self.stop(Error::NonAscii)),
         }
     }
 
@@ -139,7 +139,7 @@ impl<R: ByteSource> Decoder<R> {
         let mut count = 0;
         while code == format_code::DESCRIBED {
             if count == NESTING {
-                return Err(self.refuse(Error::Depth));
+                return Err(self.stop(Error::Depth));
             }
             self.keep_descriptor_bytes(bytes)?;
             code = self.keep_code(bytes)?;
@@ -176,7 +176,7 @@ impl<R: ByteSource> Decoder<R> {
         match len_of_term(bytes, self.nesting_left()) {
             Ok(_) => Ok(()),
             Err(Error::Size) => Err(self.refuse_size(0)),
-            Err(error) => Err(self.refuse(error)),
+            Err(error) => Err(self.stop(error)),
         }
     }
 
@@ -203,7 +203,7 @@ impl<R: ByteSource> Decoder<R> {
     {
         self.check_item()?;
         if self.shared_code().is_some() {
-            return Err(self.refuse(Error::LazyInArray));
+            return Err(self.stop(Error::LazyInArray));
         }
         let bytes = self.term_bytes(alloc)?;
         self.take_item();

@@ -36,7 +36,7 @@ impl<R: ByteSource> Decoder<R> {
             let piece = &mut buffer[..n];
             self.pull_all(piece)?;
             if text.extend_from_slice(piece).is_err() {
-                return Err(self.refuse(Error::Memory));
+                return Err(self.stop(Error::Memory));
             }
             left -= n;
         }
@@ -117,11 +117,11 @@ impl<R: ByteSource> Decoder<R> {
     {
         if !text.is_ascii() {
             drop(text);
-            return Err(self.refuse(Error::NonAscii));
+            return Err(self.stop(Error::NonAscii));
         }
         match String::from_utf8(text) {
             Ok(text) => Ok(Symbol(text)),
-            Err(_) => Err(self.refuse(Error::NonAscii)),
+            Err(_) => Err(self.stop(Error::NonAscii)),
         }
     }
 
@@ -141,7 +141,7 @@ impl<R: ByteSource> Decoder<R> {
         let text = self.content(format_code::STRING_8, format_code::STRING_32, alloc)?;
         match String::from_utf8(text) {
             Ok(text) => Ok(text),
-            Err(_) => Err(self.refuse(Error::BadUtf8)),
+            Err(_) => Err(self.stop(Error::BadUtf8)),
         }
     }
 

@@ -6,14 +6,14 @@ use Rattle.amqp_wire.specs.declared.error.Error.{Error}
 use Rattle.amqp_wire.specs.declared.symbol.Symbol.{Symbol}
 use Rattle.amqp_lookahead.specs.Kinds.{symbols}
 use Rattle.amqp_decoder.specs.State.{State}
-use Rattle.amqp_decoder.specs.Steps.{Answers}
+use Rattle.amqp_decoder.specs.Steps.{RefusesBy}
 use Rattle.amqp_decoder.specs.Reading.{RefusesRead}
 use Rattle.amqp_decoder.specs.Primitives.{ReadsValue, Means, PrimitiveFault}
 use Rattle.amqp_decoder.proofs.ReadPrimitives.{kind_failed}
-use Rattle.amqp_decoder.proofs.Steps.{answered_later}
+use Rattle.amqp_decoder.proofs.Steps.{answered_later, first_kept}
 use Rattle.amqp_codec.specs.PrimitiveTermLaws.{leaf_injective}
 use Rattle.amqp_codec.specs.ReadingLaws.{value_one}
-use Rattle.amqp_codec.specs.RefusalLaws.{refused_first}
+use Rattle.amqp_codec.specs.RefusalLaws.{refused_first, value_going}
 use Rattle.amqp_codec.specs.PrimitiveTypes.{Base}
 use Rattle.amqp_enums.specs.Restricted.{IsUnknown, MeansRestricted, RestrictedFault, no_primitive, of_no_value}
 
@@ -45,11 +45,12 @@ module _ {A V : Type 0} (base : Base A) (unknown : Error) (table : V → A) wher
 
   -- a primitive was read that is no value's
   pub restricted_unknown : {takes : Bool} (st : State) (a : A) (b : State) (e : Error) (new : State) → ReadsValue (Means base.make) st a b
-      → IsUnknown table a → e ≡ unknown → Answers b e new → NoValue takes st e new
-  restricted_unknown st a b e new h none is kept =
+      → IsUnknown table a → RefusesBy unknown b e new → NoValue takes st e new
+  restricted_unknown st a b e new h none refused =
       let going = h.stands.going in
+      let is = (refused (value_going h)).0 in
       record {
-        kept = answered_later (ap (λ (x : State). x.failed) h.moved) kept;
+        kept = answered_later (ap (λ (x : State). x.failed) h.moved) (first_kept (value_going h) refused);
         again = λ d x. absurd (cc);
         named = λ _. inr (of_no_value h none is);
         none = inr (λ v c x. none v (sym (one_read st a (table v) b c h (as_primitive st v c x))));

@@ -1,2 +1,2 @@
-mod WholeTerms
 mod TermReads
+mod Measured

@@ -1,5 +1,5 @@
 -- Values that are the bytes of a term (Part 1, section 1.2).
-use Rattle.std.proofs.Common.{◌≡◌, ℕ, ◌≤◌, true, false, List, [], ◌∷◌, ◌++◌, length, refl, sym, ap, ◌∙◌, subst, arith, Vec, Global}
+use Rattle.std.proofs.Common.{◌≡◌, ℕ, ◌≤◌, true, false, List, [], ◌∷◌, ◌++◌, length, refl, sym, ap, ap₂, ◌∙◌, subst, arith, Vec, Global}
 use Rattle.std.proofs.lemmas.Bool.{eqb-true}
 use Rattle.std.proofs.lemmas.Bool.Decides.{same_from_decides}
 use Rattle.amqp_model.specs.Term.{null, Refusal, too_large, Term, leaf, container, described, kept, barred}
@@ -27,22 +27,38 @@ use Rattle.amqp_codec.specs.Agreement.{Agreement, via_writing, via_agreement}
 use Rattle.amqp_codec.specs.Wrappers.{via}
 use Rattle.amqp_codec.specs.Written.{Writing}
 
+-- Bytes that spell a term, and how many values are in it: a described value is one with its descriptor.
+pub record Counted : Type 0 where
+  pub bytes : List ℕ
+  pub nodes : ℕ
+
+-- The same, as they lie in memory.
+pub record Lazy : Type 0 where
+  pub bytes : Vec ℕ Global
+  pub nodes : ℕ
+
+abbrev pub lazy_counted : Lazy → Counted
+lazy_counted v = record { bytes = v.bytes.items; nodes = v.nodes }
+
+abbrev pub lazy_bytes : Lazy → List ℕ
+lazy_bytes v = v.bytes.items
+
 -- The bytes spell a term.
 abbrev pub SpellsTerm : List ℕ → Type 0
 SpellsTerm b = (t : Term) × enc b t
 
--- The bytes spell a term, which nests so deep.
-abbrev pub SpellsNested : ℕ → List ℕ → Type 0
-SpellsNested nesting b = (t : Term) × enc b t × (nest t ≡ nesting)
+-- The bytes spell a term of so many values.
+abbrev pub IsCounted : Counted → Type 0
+IsCounted v = (t : Term) × enc v.bytes t × (nodes t ≡ v.nodes)
 
 -- A term means the bytes that spell it, where it stands as bytes of its own. As the data of an array's item it means none.
-abbrev pub MeansBytes : Standing → Term → List ℕ → Type 0
-MeansBytes (whole b) t v = (b ≡ v) × enc v t
+abbrev pub MeansBytes : Standing → Term → Counted → Type 0
+MeansBytes (whole b) t v = (b ≡ v.bytes) × enc v.bytes t × (nodes t ≡ v.nodes)
 MeansBytes (part ds c b) t v = ⊥
 
 -- The canonical term of bytes keeps them.
-abbrev pub lazy_canon : List ℕ → Term
-lazy_canon v = kept v
+abbrev pub bytes_canon : Counted → Term
+bytes_canon v = kept v.bytes
 
 -- Why no bytes of a term are read.
 abbrev pub lazy_faults : Faults
@@ -94,69 +110,69 @@ null_alike v t s =
     same_from_decides _ _ (kept_null v, (λ e. ap (λ b. is_null (kept b)) e)) (term_null v t s, null_term v t s)
 
 -- bytes spell one term
-one_spelled : (v : List ℕ) (t u : Term) → enc v t → enc v u → t ≡ u
+pub one_spelled : (v : List ℕ) (t u : Term) → enc v t → enc v u → t ≡ u
 one_spelled v t u s r = one_term v v [] [] t u s r refl
 
 kept_writable : (v : List ℕ) (r : Refusal) → IsRefused r (kept v) → r ≡ too_large
 kept_writable v =
     size_alone (record { unbarred = λ r e. cc; unmixed = λ h. h; no_null = λ h. h; no_kept = λ h. h; ascii = λ h. h })
 
-node_counted : (t : Term) → 1 ≤ nodes t
-node_counted (leaf p) = omega arith
-node_counted (container k ts) = omega arith
-node_counted (described d t) = node_counted t
-node_counted (kept b) = omega arith
-node_counted (barred r) = omega arith
-
-pub bytes_meant : (s : Standing) (t : Term) (v : List ℕ) → MeansBytes s t v → Meant s t (SpellsTerm v) (lazy_canon v) 1
-bytes_meant (whole b) t v m = record {
-  value = (t, m.1);
+pub bytes_meant : (s : Standing) (t : Term) (v : Counted) → MeansBytes s t v → Meant s t (IsCounted v) (bytes_canon v) v.nodes
+bytes_meant (whole b) t v (own, spelled, counted) = record {
+  value = (t, spelled, counted);
   free = λ r h. h;
-  writable = λ _ r. kept_writable v r;
+  writable = λ _ r. kept_writable v.bytes r;
   bare_data = λ p _. p;
-  null_alike = null_alike v t (m.1);
+  null_alike = null_alike v.bytes t spelled;
   core_null = λ e. absurd (cc);
   formless = λ _. refl;
-  nested = λ u r. rw (one_spelled v t u m.1 r) (omega arith);
-  leaf_alike = λ u r. subst IsLeaf (one_spelled v t u m.1 r);
-  counted = node_counted t;
+  nested = λ u r. rw (one_spelled v.bytes t u spelled r) (omega arith);
+  leaf_alike = λ u r. subst IsLeaf (one_spelled v.bytes t u spelled r);
+  counted = omega (arith, counted);
 }
 bytes_meant (part ds c b) t v m = absurd m
 
-bytes_stand : (s : Standing) (t : Term) (v : List ℕ) → StandsCanonically s (kept v) → ExpandsTo (kept v) t → MeansBytes s t v
+bytes_stand : (s : Standing) (t : Term) (v : Counted) → IsCounted v → StandsCanonically s (bytes_canon v) → ExpandsTo (bytes_canon v) t
+    → MeansBytes s t v
 unfolding text
-bytes_stand (whole b) t v c r = (c, r)
-bytes_stand (part ds n b) t v c r = absurd (cc)
+bytes_stand (whole b) t v (u, spelled, counted) c r = (c, r, ap nodes (one_spelled v.bytes t u r spelled) ∙ counted)
+bytes_stand (part ds n b) t v i c r = absurd (cc)
 
-pub bytes_written : (v : List ℕ) → (let x = view_of SpellsTerm MeansBytes lazy_canon v in Rewrites x x)
-bytes_written v = record { valued = λ i. tt; reads = λ i f. i; means = λ s t i f. bytes_stand s t v; canon = refl }
+pub bytes_written : (v : Counted) → (let x = view_of IsCounted MeansBytes bytes_canon v in Rewrites x x)
+bytes_written v = record {
+  valued = λ i. tt;
+  reads = λ (t, spelled, counted) f. (t, spelled);
+  means = λ s t i f. bytes_stand s t v i;
+  canon = refl;
+}
 
-pub bytes_one : (s : Standing) (t : Term) (v w : List ℕ) → MeansBytes s t v → MeansBytes s t w → v ≡ w
-bytes_one (whole b) t v w m n = sym m.0 ∙ n.0
+pub bytes_one : (s : Standing) (t : Term) (v w : Counted) → MeansBytes s t v → MeansBytes s t w → v ≡ w
+bytes_one (whole b) t v w (own, spelled, counted) (own', spelled', counted') =
+    ap₂ (λ b n. record { bytes = b; nodes = n }) (sym own ∙ own') (sym counted ∙ counted')
 bytes_one (part ds c b) t v w m n = absurd m
 
-pub bytes_least : (b : List ℕ) (t : Term) (v : List ℕ) → MeansBytes (whole b) t v → IsNoShorter b t (lazy_canon v)
+pub bytes_least : (b : List ℕ) (t : Term) (v : Counted) → MeansBytes (whole b) t v → IsNoShorter b t (bytes_canon v)
 unfolding text
 bytes_least b t v m bytes none e = omega (arith, ap length m.0)
 
 pub no_truth : {P : Type 0} → false ≡ true → P
 no_truth h = absurd (cc)
 
--- Bytes that spell a term, read and written as they are.
-abbrev pub bytes_type : TermType (List ℕ)
+-- Bytes that spell a term, read and written as they are. What they count is the values in that term.
+abbrev pub bytes_type : TermType Counted
 bytes_type = record {
-  is_value = SpellsTerm;
+  is_value = IsCounted;
   means = MeansBytes;
   faults = lazy_faults;
-  canon = lazy_canon;
+  canon = bytes_canon;
   norm = unchanged;
   same = λ v w. v ≡ w;
-  count = λ _. 1;
+  count = λ v. v.nodes;
   is_never_null = false;
   ignores_standing = false;
   takes_memory = true;
   is_least = true;
-  sameness = equality (view_of SpellsTerm MeansBytes lazy_canon) bytes_one;
+  sameness = equality (view_of IsCounted MeansBytes bytes_canon) bytes_one;
   rewrites = bytes_written;
   meant = bytes_meant;
   own = λ s t v m. refl;
@@ -168,18 +184,18 @@ bytes_type = record {
 }
 
 -- How such bytes are written.
-abbrev pub bytes_writing : Writing (List ℕ)
-bytes_writing = record { canons = λ v. lazy_canon v ∷ []; is_value = SpellsTerm; proper = λ v i. (i, tt) }
+abbrev pub bytes_writing : Writing Counted
+bytes_writing = record { canons = λ v. bytes_canon v ∷ []; is_value = IsCounted; proper = λ v (t, spelled, counted). ((t, spelled), tt) }
 
 pub bytes_agreement : Agreement bytes_type bytes_writing
 bytes_agreement = record { canons_is = λ v. refl; value_to = λ v i. i; value_from = λ v i. i }
 
--- A value is its bytes.
-abbrev pub lazy_type : TermType (Vec ℕ Global)
-lazy_type = via bytes_type (λ v. v.items) unchanged (λ v. refl)
+-- A value is its bytes, with their number.
+abbrev pub lazy_type : TermType Lazy
+lazy_type = via bytes_type lazy_counted unchanged (λ v. refl)
 
-abbrev pub lazy_writing : Writing (Vec ℕ Global)
-lazy_writing = via_writing (λ v. v.items) bytes_writing
+abbrev pub lazy_writing : Writing Lazy
+lazy_writing = via_writing lazy_counted bytes_writing
 
 pub lazy_agreement : Agreement lazy_type lazy_writing
-lazy_agreement = via_agreement (λ v. v.items) unchanged (λ v. refl) bytes_agreement
+lazy_agreement = via_agreement lazy_counted unchanged (λ v. refl) bytes_agreement

@@ -1,11 +1,14 @@
 //! `LazyValue`, the bytes of one term.
-ghost use Rattle.std.specs.Prelude.{◌≡◌, refl};
+ghost use Rattle.std.specs.Prelude.{◌≡◌, ◌≤◌, refl};
+ghost use Rattle.amqp_model.specs.Term.{Term};
+ghost use Rattle.amqp_model.specs.Spelling.{enc};
+ghost use Rattle.amqp_model.specs.Measures.{nest, nodes};
 ghost use Rattle.amqp_lazy.specs.LazyType.{lazy_type, lazy_writing, lazy_agreement, SpellsTerm};
 
-use crate::nesting::nesting_of;
 use amqp_codec::{DeserializeTerm, Serialize, SerializeTerm};
 use amqp_decoder::Decoder;
 use amqp_encoder::Encoder;
+use amqp_lengths::measures_of;
 use amqp_wire::{ByteSource, Error, format_code};
 use std::alloc::{AllocError, Global};
 use std::marker::Model;
@@ -14,45 +17,50 @@ use std::marker::Model;
 /// so that a value can be handed on without being understood.
 ///
 /// What is read is checked to spell a term that nests at most 128 deep, and refused as `amqp_decoder::term_len` refuses it; that no two
-/// keys of a map in it are equal isn't looked at. What stands in it counts in how deep values nest, in reading and in writing.
+/// keys of a map in it are equal isn't looked at. What stands in it counts in how deep values nest, in reading and in writing, and in
+/// how many values there are.
 /// As an item of an array, whose constructor is shared, it is refused by `LazyInArray`, in reading and in writing.
 #[derive(Debug, Drop)]
 pub struct LazyValue {
     bytes: Vec<u8>,
     // how deep the term nests
     nesting: usize,
+    // how many values are in it
+    nodes: usize,
 }
 
 impl Model for LazyValue {
-    ghost use Rattle.std.specs.Prelude.{ℕ, Vec};
-    ghost use Rattle.std.specs.Global.{Global};
-    ghost use Rattle.amqp_lazy.specs.LazyType.{SpellsNested};
+    ghost use Rattle.amqp_lengths.specs.Measured.{IsMeasured};
+    ghost use Rattle.amqp_lazy.specs.LazyType.{Lazy};
 
-    ghost Value = { Vec ℕ Global };
+    ghost Value = { Lazy };
 
-    ghost view = { λ v. v.bytes };
+    ghost view = { λ v. record { bytes = v.bytes; nodes = v.nodes } };
 
-    ghost invariant = { λ v. SpellsNested v.nesting v.bytes.items };
+    ghost invariant = { λ v. IsMeasured v.nodes v.nesting v.bytes.items };
 }
 
 impl LazyValue {
-    /// The bytes, which spell one term.
+    /// The bytes, which spell one term. It nests at most 128 deep.
     pub fn as_slice(&self) -> &[u8]
-        ensures bytes { result.now ≡ self.now.items }
-        ensures term { SpellsTerm self.now.items }
+        ensures bytes { result.now ≡ self.now.bytes.items }
+        ensures term { SpellsTerm self.now.bytes.items }
+        ensures nodes { (t : Term) → enc self.now.bytes.items t → nodes t ≡ lazy_type.count self.now }
+        ensures nested { (t : Term) → enc self.now.bytes.items t → nest t ≤ 128 }
     {
         self.bytes.as_slice()
     }
 }
 
 impl Clone for LazyValue {
-    ghost is_clone = { λ v w. w.items ≡ v.items };
+    ghost is_clone = { λ v w. (w.bytes.items ≡ v.bytes.items) × (w.nodes ≡ v.nodes) };
 
     // It wants memory for the bytes.
     fn clone(&self) -> Result<LazyValue, AllocError> {
         Ok(LazyValue {
             bytes: self.bytes.clone()?,
             nesting: self.nesting,
+            nodes: self.nodes,
         })
     }
 }
@@ -90,8 +98,12 @@ impl DeserializeTerm for LazyValue {
     ) -> Result<LazyValue, Error> {
         decoder.room();
         let bytes = decoder.read_term(alloc)?;
-        match nesting_of(bytes.as_slice()) {
-            Some(nesting) => Ok(LazyValue { bytes, nesting }),
+        match measures_of(bytes.as_slice()) {
+            Some(term) => Ok(LazyValue {
+                bytes,
+                nesting: term.nesting,
+                nodes: term.nodes,
+            }),
             None => Err(decoder.refuse(Error::InvalidValue)),
         }
     }

@@ -3,6 +3,5 @@
 
 mod compared;
 mod lazy_value;
-mod nesting;
 
 pub use lazy_value::LazyValue;

@@ -18,7 +18,7 @@ use Rattle.amqp_lengths.proofs.Terms.{behind_constructor, constructs_known}
 use Rattle.amqp_lengths.proofs.Rows.{rows_data, data_rows}
 
 -- what stands behind the constructor of an array of these items
-abbrev Shared : Terms → List Descriptor → ℕ → List ℕ → Type 0
+abbrev pub Shared : Terms → List Descriptor → ℕ → List ℕ → Type 0
 Shared none ds c b = b ≡ []
 Shared (more t ts) ds c b = (HasWidthZero (format c) → ⊥) × shared_data_of (more t ts) ds c b
 
@@ -57,7 +57,7 @@ elements_some k n b e some (none, l, s, deep) = some (sym l)
 elements_some k n b e some (more t ts, l, s, deep) = spelled_some _ b e s
 
 -- what stands behind the constructor that was found
-elements_behind : (n c : ℕ) (a x : List ℕ) (ts : Terms) (b : List ℕ) → (b ≡ [] → ⊥) → Constructs n c a → elements_of ts b → a ++ x ≡ b
+pub elements_behind : (n c : ℕ) (a x : List ℕ) (ts : Terms) (b : List ℕ) → (b ≡ [] → ⊥) → Constructs n c a → elements_of ts b → a ++ x ≡ b
     → (ds : List Descriptor) × (length ds ≡ n) × Shared ts ds c x
 elements_behind n c a x none b some h (inl e) s = absurd (some e)
 elements_behind n c a x none b some h (inr (ds, c', few, (first, second, e, q, d))) s =
@@ -153,7 +153,7 @@ level_bare c t ts b (inr (kind, w, is, e)) (first, second, s, h, r) =
 some_test : (n : ℕ) → nat_lt 0 (suc n) ≡ true
 some_test n = lt-ltb 0 (suc n) (omega arith)
 
-level : (ds : List Descriptor) (c : ℕ) (t : Term) (ts : Terms) (b : List ℕ) → Divided c (format c) → shared_data_of (more t ts) ds c b
+pub level : (ds : List Descriptor) (c : ℕ) (t : Term) (ts : Terms) (b : List ℕ) → Divided c (format c) → shared_data_of (more t ts) ds c b
     → IsLevel (length ds) c t ts
 level [] c t ts b v h = level_bare c t ts b v h
 level (d ∷ ds) c t ts b v (first, second, s, h, r) =

@@ -13,3 +13,4 @@ pub mod Answered
 pub mod Cuts
 pub mod RefusedBytes
 pub mod DeeperFaults
+mod Measured

@@ -4,3 +4,4 @@ pub mod Announced
 pub mod Contents
 pub mod Lengths
 pub mod Faults
+pub mod Measured

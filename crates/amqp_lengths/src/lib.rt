@@ -5,7 +5,9 @@ mod constructors;
 mod contents;
 pub mod laws;
 mod lengths;
+mod measures;
 mod primitives;
 mod sizes;
 
 pub use lengths::{len_of_term, term_len};
+pub use measures::{Measures, measures_of};

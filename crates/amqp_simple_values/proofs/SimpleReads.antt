@@ -4,10 +4,10 @@ use Rattle.amqp_model.specs.ItemLaws.{clash}
 use Rattle.amqp_wire.specs.declared.error.Error.{Error}
 use Rattle.amqp_wire.specs.declared.error.Error.TheVariants.{InvalidValue}
 use Rattle.amqp_decoder.specs.State.{State}
-use Rattle.amqp_decoder.specs.Steps.{Answers}
+use Rattle.amqp_decoder.specs.Steps.{RefusesBy}
 use Rattle.amqp_decoder.specs.Reading.{PeeksCode, RefusesRead}
 use Rattle.amqp_decoder.specs.Primitives.{standing, ReadsValue}
-use Rattle.amqp_decoder.proofs.Steps.{answered_later}
+use Rattle.amqp_decoder.proofs.Steps.{answered_later, first_kept}
 use Rattle.amqp_decoder.proofs.Peeks.{value-peeked}
 use Rattle.amqp_codec.specs.TreeType.{tree_term}
 use Rattle.amqp_codec.specs.RefusalLaws.{NoneStands, refused_later}
@@ -73,12 +73,13 @@ module _ (st : State) (c : ℕ) (mid : State) (p : PeeksCode st c mid) where
       clash (sym (ap is_container (kind_read (as_value v) b (any_read st v b h))) ∙ is) (no_container v)
 
   -- a list, a map or an array
-  pub container_refused : is_container_code c ≡ true → (e : Error) (new : State) → e ≡ InvalidValue → Answers mid e new
+  pub container_refused : is_container_code c ≡ true → (e : Error) (new : State) → RefusesBy InvalidValue mid e new
       → RefusesRead true Simple simple_faults.fault st e new
-  container_refused is e new invalid kept =
+  container_refused is e new refused =
       let going = peeked_going st c mid p in
+      let invalid = (refused going.1).0 in
       record {
-        kept = answered_later (peeked_failed st c mid p) kept;
+        kept = answered_later (peeked_failed st c mid p) (first_kept going.1 refused);
         again = λ d x. absurd (cc (going.0, x));
         named = λ _. inr (in_first p is invalid);
         none = inr (none_simple is);

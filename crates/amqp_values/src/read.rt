@@ -5,6 +5,7 @@ ghost use Rattle.amqp_wire.specs.declared.error.Error.TheVariants.{Depth};
 ghost use Rattle.amqp_wire.specs.Sources.{Tells};
 ghost use Rattle.amqp_decoder.specs.Primitives.{ReadsValue};
 ghost use Rattle.amqp_decoder.specs.Reading.{AnswersRead};
+ghost use Rattle.amqp_decoder.specs.Steps.{RefusesBy};
 ghost use Rattle.amqp_codec.specs.ItemsReading.{ReadsRow, RowFault};
 ghost use Rattle.amqp_codec.specs.MapReading.{ReadsPairsRow, PairsFault};
 ghost use Rattle.amqp_kinds.specs.declared.kind.Kind.TheVariants as kind;
@@ -30,7 +31,7 @@ use std::alloc::Global;
 // One level less. None is left only in an array as deep as one may stand, in which no other container opens.
 fn one_less<R: ByteSource>(decoder: &mut Decoder<R>, levels: usize) -> Result<usize, Error>
     ensures ok { IfOk result (λ inner. (levels ≡ suc inner) × (decoder.new ≡ decoder.old)) }
-    ensures err { IfErr result (λ e. (levels ≡ 0) × (e ≡ Depth)) }
+    ensures err { IfErr result (λ e. (levels ≡ 0) × RefusesBy Depth decoder.old e decoder.new) }
 {
     match levels.checked_sub(1) {
         Some(inner) => Ok(inner),

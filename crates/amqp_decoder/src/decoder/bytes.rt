@@ -50,10 +50,10 @@ impl<R: ByteSource> Decoder<R> {
     {
         let count = match self.input.pull(buffer) {
             Ok(count) => count,
-            Err(kind) => return Err(self.refuse(Error::Read(kind))),
+            Err(kind) => return Err(self.stop(Error::Read(kind))),
         };
         if count < buffer.len() {
-            return Err(self.refuse(Error::Cut));
+            return Err(self.stop(Error::Cut));
         }
         Ok(())
     }
@@ -88,7 +88,7 @@ impl<R: ByteSource> Decoder<R> {
     {
         match self.input.append_ready(count as usize, bytes) {
             Ok(done) => Ok(done),
-            Err(_) => Err(self.refuse(Error::Memory)),
+            Err(_) => Err(self.stop(Error::Memory)),
         }
     }
 
@@ -119,7 +119,7 @@ impl<R: ByteSource> Decoder<R> {
             None => u64::from(own),
         };
         match self.skip(count) {
-            Ok(()) => self.refuse(Error::Size),
+            Ok(()) => self.stop(Error::Size),
             Err(error) => error,
         }
     }
@@ -130,7 +130,7 @@ impl<R: ByteSource> Decoder<R> {
         ensures answer { result ≡ refusal_of code }
         ensures kept { self.new ≡ record self.old { error = Some result } }
     {
-        self.refuse(format_code::refusal(code))
+        self.stop(format_code::refusal(code))
     }
 
     // So many bytes of the open container are taken.

@@ -24,7 +24,7 @@ impl<R: ByteSource> Decoder<R> {
     {
         self.check()?;
         if self.is_done() {
-            return Err(self.refuse(Error::Missing));
+            return Err(self.stop(Error::Missing));
         }
         Ok(())
     }
@@ -49,7 +49,7 @@ impl<R: ByteSource> Decoder<R> {
         }
         match self.input.look(1) {
             Ok(ahead) => Ok(ahead > 0),
-            Err(kind) => Err(self.refuse(Error::Read(kind))),
+            Err(kind) => Err(self.stop(Error::Read(kind))),
         }
     }
 
@@ -84,7 +84,7 @@ impl<R: ByteSource> Decoder<R> {
         self.look_next()?;
         match self.input.looked().first() {
             Some(code) => Ok(*code),
-            None => Err(self.refuse(Error::Cut)),
+            None => Err(self.stop(Error::Cut)),
         }
     }
 }

@@ -54,7 +54,7 @@ impl<R: ByteSource> Decoder<R> {
             × (self.new ≡ record self.old { error = Some Depth })) }
     {
         if self.depth >= LEVELS {
-            return Err(self.refuse(Error::Depth));
+            return Err(self.stop(Error::Depth));
         }
         let last = self.top.last;
         self.frames[self.depth] = self.top;
@@ -79,7 +79,7 @@ impl<R: ByteSource> Decoder<R> {
             × (self.new ≡ record self.old { error = Some Depth })) }
     {
         if self.depth >= NESTING {
-            return Err(self.refuse(Error::Depth));
+            return Err(self.stop(Error::Depth));
         }
         self.enter(inner)
     }
@@ -95,7 +95,7 @@ impl<R: ByteSource> Decoder<R> {
             return Ok(());
         }
         if self.depth > NESTING {
-            return Err(self.refuse(Error::Depth));
+            return Err(self.stop(Error::Depth));
         }
         Ok(())
     }
@@ -124,7 +124,7 @@ impl<R: ByteSource> Decoder<R> {
             };
             return Ok(());
         }
-        Err(self.refuse(Error::Depth))
+        Err(self.stop(Error::Depth))
     }
 
     // The open container is of this kind.
@@ -142,13 +142,13 @@ impl<R: ByteSource> Decoder<R> {
     {
         self.check()?;
         if !self.is_in(place) {
-            return Err(self.refuse(Error::InvalidValue));
+            return Err(self.stop(Error::InvalidValue));
         }
         if self.depth() == 0 {
-            return Err(self.refuse(Error::InvalidValue));
+            return Err(self.stop(Error::InvalidValue));
         }
         if !self.is_done() {
-            return Err(self.refuse(Error::Surplus));
+            return Err(self.stop(Error::Surplus));
         }
         Ok(())
     }

@@ -30,7 +30,7 @@ impl<R: ByteSource> Decoder<R> {
     {
         match self.input.section_ahead() {
             Ok(section) => Ok(section),
-            Err(kind) => Err(self.refuse(Error::Read(kind))),
+            Err(kind) => Err(self.stop(Error::Read(kind))),
         }
     }
 
@@ -40,7 +40,7 @@ impl<R: ByteSource> Decoder<R> {
     {
         self.check()?;
         if !self.is_top() {
-            return Err(self.refuse(Error::InvalidValue));
+            return Err(self.stop(Error::InvalidValue));
         }
         Ok(())
     }

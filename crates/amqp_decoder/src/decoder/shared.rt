@@ -68,7 +68,7 @@ impl<R: ByteSource> Decoder<R> {
         self.top.last = first;
         self.descriptors.truncate(usize::from(first));
         if self.descriptors.append(&mut descriptors).is_err() {
-            return Err(self.refuse(Error::Memory));
+            return Err(self.stop(Error::Memory));
         }
         self.top.items = count;
         self.top.code = code;

@@ -1,5 +1,4 @@
 use Rattle.std.proofs.lemmas.Result.{err_from_is_err_and}
-use Rattle.amqp_decoder.proofs.Steps.{answered}
 use Rattle.amqp_codec.specs.FoundKeys.{unfound_new, found_known}
 use Rattle.amqp_codec.specs.BTreeMaps.{key_by_order, order_of_keys}
 use Rattle.amqp_codec.proofs.MapSteps.{key_refused, key_twice, value_refused, no_room}
@@ -25,8 +24,7 @@ returns-then-is_known g c tells =
     row_refused_in_order key value g.K.Ord.cmp c.args.count _ _ _
     (key_twice key value c.args.count _ _ _ c.in_ok-key.key _ _ _
     (fewer_so_far key value g.K.Ord.cmp c.loop.invariant c.args.count c.loop-test.true tells) (c.in_ok-key.ensures tells)
-    (known_to_pairs key value g.K.Ord.cmp c.loop.invariant c.in_ok-key.key known) c.refuse.ensures.answer
-    (answered _ _ _ _ c.refuse.ensures.kept c.refuse.ensures.answer))
+    (known_to_pairs key value g.K.Ord.cmp c.loop.invariant c.in_ok-key.key known) c.refuse.ensures.first)
 
 pub returns-in_err-value : goal.returns-in_err-value
 returns-in_err-value g c tells =
@@ -47,8 +45,7 @@ returns-then-is_err g c tells =
     let value = g.V.DeserializeTerm.term in
     row_refused_in_order key value g.K.Ord.cmp c.args.count _ _ _
     (no_room key value c.args.count _ _ _ c.in_ok-key.key _ c.in_ok-value.value _ _ _ (c.loop.invariant.each tells)
-    (c.in_ok-key.ensures tells) (c.in_ok-value.ensures tells) c.refuse-then-is_err.ensures.answer
-    (answered _ _ _ _ c.refuse-then-is_err.ensures.kept c.refuse-then-is_err.ensures.answer))
+    (c.in_ok-key.ensures tells) (c.in_ok-value.ensures tells) c.refuse-then-is_err.ensures.first)
 
 pub loop-preserved : goal.loop-preserved
 loop-preserved g c =

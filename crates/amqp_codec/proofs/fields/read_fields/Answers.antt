@@ -2,7 +2,6 @@ use Rattle.std.proofs.Common.{Some, arith, add-one, ap, sym, ◌∙◌, ◌≡�
 use Rattle.std.proofs.lemmas.Result.{err_from_is_err_and}
 use Rattle.amqp_model.specs.Fields.{rules_of}
 use Rattle.amqp_model.specs.declared.tables.FieldRule.TheVariants.{Mandatory}
-use Rattle.amqp_decoder.proofs.Steps.{answered}
 use Rattle.amqp_codec.specs.Fields.{slots}
 use Rattle.amqp_codec.specs.FieldReading.{absence}
 use Rattle.amqp_codec.specs.FieldReadingLaws.{not_absent}
@@ -35,8 +34,7 @@ returns-in-Some g c tells =
     let i = c.loop-index.index in
     let within : i < length (rules_of (slots fs)) = omega (arith, ap length c.field_rules-rule-items.ensures, c.loop-index-test.true) in
     left_out_refused fs _ _ _ _ _ _ _ c.if-index-count.false within
-    (ap (λ l. absence (get_or l i Mandatory)) (sym c.field_rules-rule-items.ensures) ∙ sym c.in-Some.ensures
-    ∙ ap Some (sym c.refuse.ensures.answer)) (answered _ _ _ _ c.refuse.ensures.kept c.refuse.ensures.answer)
+    (ap (λ l. absence (get_or l i Mandatory)) (sym c.field_rules-rule-items.ensures) ∙ sym c.in-Some.ensures) c.refuse.ensures.first
     (c.loop-index.invariant tells)
 
 pub loop-index-preserved : goal.loop-index-preserved

@@ -2,11 +2,9 @@ use Rattle.std.proofs.Common.{ap, sym, ◌∙◌, Some}
 use Rattle.std.proofs.lemmas.Result.{err_from_is_err_and}
 use Rattle.amqp_model.specs.Term.{null}
 use Rattle.amqp_decoder.specs.Primitives.{Means}
-use Rattle.amqp_decoder.proofs.Steps.{answered}
 use Rattle.amqp_decoder.proofs.Peeks.{value-peeked}
 use Rattle.amqp_codec.specs.FieldReading.{absence}
 use Rattle.amqp_codec.specs.FieldReadingLaws.{not_absent}
-use Rattle.amqp_codec.specs.PeekLaws.{peeked_going}
 use Rattle.amqp_codec.proofs.Options.{null_refused}
 use Rattle.amqp_codec.proofs.FieldSteps.{item_unbegun, filled_step, null_unfit, null_read}
 use Rattle.amqp_codec.proofs.fields.read_item.Goals as goal
@@ -30,9 +28,8 @@ returns-in_err-read_null g c tells =
 pub returns-in-Some : goal.returns-in-Some
 returns-in-Some g c tells =
     let peeked = c.in_ok-peek_code.ensures tells in
-    null_unfit g.L.FieldList.list.fields c.args.index _ _ _ _ (peeked_going _ _ _ peeked).0
-    (ap absence (sym c.requires.its_rule) ∙ sym c.in-Some.ensures ∙ ap Some (sym c.refuse.ensures.answer))
-    (answered _ _ _ _ c.refuse.ensures.kept c.refuse.ensures.answer)
+    null_unfit g.L.FieldList.list.fields c.args.index _ _ _ _
+    (ap absence (sym c.requires.its_rule) ∙ sym c.in-Some.ensures) c.refuse.ensures.first
     ((value-peeked (Means (λ (_ : Unit {0}). null)) _ _ _ _ tt peeked).0 (c.in_ok-read_null.ensures tells))
 
 pub returns-in-None : goal.returns-in-None

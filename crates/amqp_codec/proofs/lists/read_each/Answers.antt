@@ -1,7 +1,6 @@
 use Rattle.std.proofs.Common.{ap, ◌∙◌, arith, length, length-append, [], ◌∷◌, ◌++◌, subst, sym}
 use Rattle.std.proofs.lemmas.Result.{err_from_is_err_and}
 use Rattle.amqp_decoder.specs.Primitives.{ReadsValue}
-use Rattle.amqp_decoder.proofs.Steps.{answered}
 use Rattle.amqp_codec.specs.ItemsReading.{ReadsEach}
 use Rattle.amqp_codec.specs.ItemsReadingLaws.{each_more}
 use Rattle.amqp_codec.proofs.ItemsSteps.{pushed, value_refused, no_room}
@@ -18,8 +17,7 @@ returns-in_err-value g c tells =
 pub returns-then-is_err : goal.returns-then-is_err
 returns-then-is_err g c tells =
     let u = g.T.DeserializeTerm.term in
-    no_room c.args.count u.means u.faults.fault (λ v. v.items) _ _ _ _ _ _ c.refuse.ensures.answer
-    (answered _ _ _ _ c.refuse.ensures.kept c.refuse.ensures.answer)
+    no_room c.args.count u.means u.faults.fault (λ v. v.items) _ _ _ _ _ _ c.refuse.ensures.first
     (each_more u.means _ _ _ _ _ (c.loop.invariant.each tells) (c.in_ok-value.ensures tells))
 
 pub loop-preserved : goal.loop-preserved

@@ -9,5 +9,5 @@ returns-in_err-items g c tells =
 
 pub returns-in-None : goal.returns-in-None
 returns-in-None g c tells =
-    none_refused g.T.DeserializeTerm.term _ _ _ _ _ c.in-None.is c.refuse.ensures.answer c.refuse.ensures.kept
+    none_refused g.T.DeserializeTerm.term _ _ _ _ _ c.in-None.is c.refuse.ensures.first
     (c.in_ok-items.ensures tells)

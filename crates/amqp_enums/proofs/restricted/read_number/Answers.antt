@@ -1,6 +1,5 @@
 use Rattle.std.proofs.lemmas.Result.{err_from_is_err_and}
 use Rattle.amqp_wire.specs.declared.error.Error.TheVariants.{UnknownNumber}
-use Rattle.amqp_decoder.proofs.Steps.{answered}
 use Rattle.amqp_enums.proofs.RestrictedReads.{restricted_refused, restricted_unknown}
 use Rattle.amqp_enums.proofs.restricted.read_number.Goals as goal
 
@@ -11,6 +10,5 @@ returns-in_err-number g c tells =
 
 pub returns-in-None : goal.returns-in-None
 returns-in-None g c tells =
-    let refused = c.refuse.ensures in
     restricted_unknown g.T.Number.Base.base UnknownNumber g.T.RestrictedNumber.numbers _ _ _ _ _ (c.in_ok-number.ensures tells)
-    c.in-None.ensures refused.answer (answered _ _ _ _ refused.kept refused.answer)
+    c.in-None.ensures c.refuse.ensures.first

@@ -1,7 +1,6 @@
 use Rattle.std.proofs.Common.{subst}
 use Rattle.std.proofs.lemmas.Result.{err_from_is_err_and}
 use Rattle.amqp_wire.specs.declared.error.Error.TheVariants.{UnknownText}
-use Rattle.amqp_decoder.proofs.Steps.{answered}
 use Rattle.amqp_codec.specs.PrimitiveTypes.{symbol_base}
 use Rattle.amqp_enums.specs.Restricted.{IsUnknown}
 use Rattle.amqp_enums.proofs.RestrictedReads.{restricted_refused, restricted_unknown, symbol_read, symbol_refused}
@@ -15,7 +14,6 @@ returns-in_err-symbol g c tells =
 
 pub returns : goal.returns
 returns g c tells =
-    let refused = c.refuse.ensures in
     let unknown = subst (IsUnknown g.T.RestrictedText.texts) c.as_str.ensures c.in-None.ensures in
     restricted_unknown symbol_base UnknownText g.T.RestrictedText.texts _ _ _ _ _ (symbol_read _ _ _ (c.in_ok-symbol.ensures tells))
-    unknown refused.answer (answered _ _ _ _ refused.kept refused.answer)
+    unknown c.refuse.ensures.first

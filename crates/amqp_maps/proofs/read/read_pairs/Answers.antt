@@ -1,8 +1,8 @@
-use Rattle.std.proofs.Common.{◌∙◌, inl, inr, rules}
+use Rattle.std.proofs.Common.{subst, inl, inr, rules}
 use Rattle.std.proofs.lemmas.Result.{err_from_is_err_and}
 use Rattle.indexmap.specs.Entry.{map_with_value}
 use Rattle.indexmap.specs.declared.map.entry.Entry.TheVariants.{Vacant}
-use Rattle.amqp_decoder.proofs.Steps.{answered}
+use Rattle.amqp_decoder.specs.Steps.{RefusesBy}
 use Rattle.amqp_codec.proofs.MapSteps.{key_refused, key_twice, value_refused, no_place}
 use Rattle.amqp_maps.specs.KeyLaws.{absent_new, present_known}
 use Rattle.amqp_maps.proofs.PairsRead.{fewer_so_far, one_more_so_far}
@@ -21,13 +21,13 @@ pub returns-in-Err : goal.returns-in-Err
 returns-in-Err g c tells =
     let key = g.K.DeserializeTerm.term in
     let value = g.V.DeserializeTerm.term in
-    let kept = answered _ _ _ _ c.refuse.ensures.kept c.refuse.ensures.answer in
     elim c.in-Err.ensures.refused [
       | inl is ↦ no_place key value c.args.count _ _ _ c.in_ok-key.key _ _ _ (c.loop.invariant.each tells) (c.in_ok-key.ensures tells)
-          (c.refuse.ensures.answer ∙ is) kept
+          (subst (λ d. RefusesBy d _ _ _) is c.refuse.ensures.first)
       | inr (is, known) ↦ key_twice key value c.args.count _ _ _ c.in_ok-key.key _ _ _
           (fewer_so_far key value c.loop.invariant c.args.count c.loop-test.true tells) (c.in_ok-key.ensures tells)
-          (present_known g.met.K.MapKey.is_key c.in_ok-key.key c.loop.pairs.entries known) (c.refuse.ensures.answer ∙ is) kept
+          (present_known g.met.K.MapKey.is_key c.in_ok-key.key c.loop.pairs.entries known)
+          (subst (λ d. RefusesBy d _ _ _) is c.refuse.ensures.first)
     ]
 
 pub returns-in_err-value-in-Ok : goal.returns-in_err-value-in-Ok

@@ -2,7 +2,6 @@ use Rattle.std.proofs.Common.{◌/◌, refl, ap, ◌∙◌, arith, length, lengt
 use Rattle.std.proofs.lemmas.Result.{err_from_is_err_and}
 use Rattle.amqp_model.specs.Term.{list, map, array, described}
 use Rattle.amqp_lookahead.specs.Members.{descriptor_of}
-use Rattle.amqp_decoder.proofs.Steps.{answered}
 use Rattle.amqp_codec.specs.VecType.{list_opening}
 use Rattle.amqp_codec.specs.ItemsReadingLaws.{each_more}
 use Rattle.amqp_codec.specs.MapReading.{ReadsFewer}
@@ -163,8 +162,7 @@ read_row-returns-in_err-value g t c tells bounded =
 pub read_row-returns-then-is_err : goal.read_row-returns-then-is_err
 read_row-returns-then-is_err g t c tells bounded =
     let each = c.loop.invariant.each tells bounded in
-    no_room c.args.count ValueMeans (value_in c.args.levels).faults.fault (λ vs. vs) _ _ _ _ _ _ c.refuse.ensures.answer
-    (answered _ _ _ _ c.refuse.ensures.kept c.refuse.ensures.answer)
+    no_room c.args.count ValueMeans (value_in c.args.levels).faults.fault (λ vs. vs) _ _ _ _ _ _ c.refuse.ensures.first
     (each_more ValueMeans _ _ _ _ _ each (c.in_ok-value.ensures tells (bounded_behind c.args.levels _ _ _ each bounded)))
 
 pub read_row-loop-preserved : goal.read_row-loop-preserved
@@ -365,7 +363,7 @@ read_pairs-returns-then-is_among g t c tells bounded =
     key_twice part part c.args.count _ _ _ c.in_ok-key.key _ _ _ fewer
     (c.in_ok-key.ensures tells (bounded_in_pairs part part c.args.levels _ _ _ each bounded))
     (key_known c.in_ok-key.key c.loop.pairs.items c.is_among.result c.if-is_among.true (rw c.as_slice.ensures.value at c.is_among.ensures))
-    c.refuse.ensures.answer (answered _ _ _ _ c.refuse.ensures.kept c.refuse.ensures.answer)
+    c.refuse.ensures.first
 
 pub read_pairs-returns-in_err-value : goal.read_pairs-returns-in_err-value
 read_pairs-returns-in_err-value g t c tells bounded =
@@ -391,8 +389,7 @@ read_pairs-returns-then-is_err g t c tells bounded =
     let inside = bounded_in_pairs part part c.args.levels _ _ _ each bounded in
     let key = c.in_ok-key.ensures tells inside in
     maps.no_room part part c.args.count _ _ _ c.in_ok-key.key _ c.in_ok-value.value _ _ _ each key
-    (c.in_ok-value.ensures tells (bounded_after c.args.levels _ _ _ key inside)) c.refuse-then-is_err.ensures.answer
-    (answered _ _ _ _ c.refuse-then-is_err.ensures.kept c.refuse-then-is_err.ensures.answer)
+    (c.in_ok-value.ensures tells (bounded_after c.args.levels _ _ _ key inside)) c.refuse-then-is_err.ensures.first
 
 pub read_pairs-loop-preserved : goal.read_pairs-loop-preserved
 read_pairs-loop-preserved g t c =

@@ -7,7 +7,7 @@ use Rattle.amqp_decoder.proofs.decoder.Decoder.check_end.Goals as goal
 pub returns-then-not-is_done : goal.returns-then-not-is_done
 returns-then-not-is_done g c =
     let s = split_saved c.args.self.now.saved (search rules) in
-    let end = c.refuse-then-not-is_done.ensures in
+    let end = c.stop-then-not-is_done.ensures in
     end_items_left _ _ _ _ (search rules) (record { here = search rules; outer = s.0; others = s.1; saved = s.2 }) (search rules) end.answer
     (answered _ _ _ _ end.kept end.answer)
 

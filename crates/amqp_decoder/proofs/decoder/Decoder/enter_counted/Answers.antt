@@ -9,7 +9,7 @@ returns-then-self-ge-NESTING-clause-err g c =
     let deep : length c.args.self.now.saved ≡ c.self.inside.depth =
     ap (λ (st : State). length st.saved) (sym c.self.view_is) ∙ length-stack _ _ _ in
     let at : 128 ≤ c.self.inside.depth = search rules in
-    (c.refuse.ensures.answer, omega (arith, deep, at), search rules)
+    (c.stop.ensures.answer, omega (arith, deep, at), search rules)
 
 pub enter-requires-clause-room : goal.enter-requires-clause-room
 enter-requires-clause-room g c =

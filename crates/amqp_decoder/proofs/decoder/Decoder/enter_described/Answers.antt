@@ -20,7 +20,7 @@ invariant_of-self g c =
 pub returns-clause-err : goal.returns-clause-err
 returns-clause-err g c =
     let deep : c.args.self.now.nesting ≤ length c.args.self.now.saved = rw (← c.self.view_is, length-stack) (omega arith) in
-    (c.refuse.ensures.answer, deep, c.refuse.ensures.kept)
+    (c.stop.ensures.answer, deep, c.stop.ensures.kept)
 
 pub returns-then-self-lt-NESTING-clause-ok : goal.returns-then-self-lt-NESTING-clause-ok
 returns-then-self-lt-NESTING-clause-ok g c =

@@ -28,7 +28,7 @@ loop-code-preserved g c = record {
 pub returns-then-count-eq-NESTING-clause-err : goal.returns-then-count-eq-NESTING-clause-err
 returns-then-count-eq-NESTING-clause-err g c = λ told.
     let marks = rw c.loop-code-test.true at (c.loop-code.invariant.kept told) in
-    unmarked_deep _ _ _ _ _ c.refuse.result _ c.if-count-eq-NESTING.true marks c.refuse.ensures.answer c.refuse.ensures.kept
+    unmarked_deep _ _ _ _ _ c.stop.result _ c.if-count-eq-NESTING.true marks c.stop.ensures.answer c.stop.ensures.kept
 
 pub returns-in_err-keep_descriptor_bytes-clause-err : goal.returns-in_err-keep_descriptor_bytes-clause-err
 returns-in_err-keep_descriptor_bytes-clause-err g c = λ told.

@@ -45,6 +45,6 @@ returns-in_default-clause-err g c = λ told.
             w.in_default.ensures.lookup.0,
           )
     ] in
-    stopped_ascii _ _ _ _ _ _ _ _ c.refuse.result _ c.in_ok-len.ensures.fits bad (c.in_ok-len.ensures.ok told)
+    stopped_ascii _ _ _ _ _ _ _ _ c.stop.result _ c.in_ok-len.ensures.fits bad (c.in_ok-len.ensures.ok told)
     (c.in_ok-keep_next.ensures.ok told)
-    c.refuse.ensures.answer c.refuse.ensures.kept
+    c.stop.ensures.answer c.stop.ensures.kept

@@ -13,8 +13,8 @@ returns-in_err-count-clause-err g c = λ told.
 
 pub returns-then-count-eq1-clause-err : goal.returns-then-count-eq1-clause-err
 returns-then-count-eq1-clause-err g c = λ told.
-    enter_odd _ _ _ _ _ _ _ (c.in_ok-count.ensures.ok told) (search rules) c.refuse.ensures.answer
-    (answered _ _ _ _ c.refuse.ensures.kept c.refuse.ensures.answer)
+    enter_odd _ _ _ _ _ _ _ (c.in_ok-count.ensures.ok told) (search rules) c.stop.ensures.answer
+    (answered _ _ _ _ c.stop.ensures.kept c.stop.ensures.answer)
 
 pub returns-clause-err : goal.returns-clause-err
 returns-clause-err g c = λ told.

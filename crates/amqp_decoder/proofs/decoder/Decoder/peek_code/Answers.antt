@@ -22,9 +22,9 @@ returns-in-None g c = λ told.
     peek_cut _ _ _ left.going left.item (rw left.kept at c.in_default.ensures)
     (λ x. let h : c.check_item.new.self.top.left ≡ Some 0 → ⊥ = search rules in h (ap (λ (st : State). st.top.left) left.kept ∙ x))
     (none_there _ _ _ (rw left.kept at (c.in_ok-look_next.ensures.new told)) (c.looked.ensures.bytes
-    ∙ ap (λ (st : State). take st.ahead st.rest) c.self.view_is) c.in-None.ensures.value) c.refuse.ensures.answer
+    ∙ ap (λ (st : State). take st.ahead st.rest) c.self.view_is) c.in-None.ensures.value) c.stop.ensures.answer
     (answered_later (ap (λ (st : State). st.failed) (c.in_ok-look_next.ensures.new told) ∙ ap (λ (st : State). st.failed) left.kept)
-    (answered c.look_next.new.self _ _ _ c.refuse.ensures.kept c.refuse.ensures.answer))
+    (answered c.look_next.new.self _ _ _ c.stop.ensures.kept c.stop.ensures.answer))
 
 pub returns-in-Some-first : goal.returns-in-Some-first
 returns-in-Some-first g c = λ told.

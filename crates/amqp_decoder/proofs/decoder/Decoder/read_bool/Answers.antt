@@ -44,5 +44,5 @@ pub returns-in_default-2 : goal.returns-in_default-2
 returns-in_default-2 g c = λ told.
     bad_refused boolean 1 86 _ _ (c.in_ok-byte-in-86.field-0 ∷ []) _ _ _ (λ v. refl) refl (rw c.in-86.is at (c.in_ok-code.ensures told))
     (c.in_ok-byte-in-86.ensures.ok told) refl
-    (λ p d. not_boolean c.in_ok-byte-in-86.field-0 p (search rules) (search rules) d.1) c.refuse.ensures.answer
-    (answered _ _ _ _ c.refuse.ensures.kept c.refuse.ensures.answer)
+    (λ p d. not_boolean c.in_ok-byte-in-86.field-0 p (search rules) (search rules) d.1) c.stop.ensures.answer
+    (answered _ _ _ _ c.stop.ensures.kept c.stop.ensures.answer)

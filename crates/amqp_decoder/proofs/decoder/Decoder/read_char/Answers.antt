@@ -21,4 +21,4 @@ returns-in-None g c = λ told.
     let f = c.in_ok-fixed.ensures.ok told in
     bad_refused char 13 0x73 _ _ c.in_ok-fixed.field-0 _ _ _ (λ v. refl) refl f.begun f.took f.width
     (λ p d. not_char _ p (rw c.from_be_bytes-number.ensures at c.in-None.ensures.value) d.1 d.2)
-    c.refuse.ensures.answer (answered _ _ _ _ c.refuse.ensures.kept c.refuse.ensures.answer)
+    c.stop.ensures.answer (answered _ _ _ _ c.stop.ensures.kept c.stop.ensures.answer)

@@ -25,5 +25,5 @@ pub returns : goal.returns
 returns g c = λ told.
     text_bad (λ (v : String Global). string_bytes v) 17 0xa1 0xb1 string _ _ _ _ _
     (record { short_code = refl; long_code = refl; kind = λ s. refl; codes = refl }) (λ h. let x = c.in-Err.ensures.succeeds h in
-    absurd (cc)) (c.in_ok-text.ensures.ok told) c.refuse.ensures.answer
-    (answered _ _ _ _ c.refuse.ensures.kept c.refuse.ensures.answer)
+    absurd (cc)) (c.in_ok-text.ensures.ok told) c.stop.ensures.answer
+    (answered _ _ _ _ c.stop.ensures.kept c.stop.ensures.answer)

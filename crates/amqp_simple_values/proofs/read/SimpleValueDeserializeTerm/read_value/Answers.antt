@@ -1,7 +1,6 @@
 use Rattle.std.proofs.Common.{◌∙◌, sym, ap}
 use Rattle.std.proofs.lemmas.Result.{err_from_is_err_and}
 use Rattle.amqp_decoder.specs.Reading.{PeeksCode, BeginFault}
-use Rattle.amqp_decoder.proofs.Steps.{answered}
 use Rattle.amqp_codec.specs.RefusalLaws.{no_memory, refused_first}
 use Rattle.amqp_codec.specs.PeekLaws.{value_peeked}
 use Rattle.amqp_codec.specs.EitherMeaning.{no_value}
@@ -17,8 +16,7 @@ returns-in_err-code g c tells =
 pub returns-then-is_container : goal.returns-then-is_container
 returns-then-is_container g c tells =
     container_refused _ _ _ (c.in_ok-code.ensures tells)
-    (sym (ap is_container c.kind_of.ensures) ∙ sym c.is_container.ensures ∙ c.if-is_container.true) _ _ c.refuse.ensures.answer
-    (answered _ _ _ _ c.refuse.ensures.kept c.refuse.ensures.answer)
+    (sym (ap is_container c.kind_of.ensures) ∙ sym c.is_container.ensures ∙ c.if-is_container.true) _ _ c.refuse.ensures.first
 
 pub returns-in_err-value : goal.returns-in_err-value
 returns-in_err-value g c tells =

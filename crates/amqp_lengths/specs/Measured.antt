@@ -1,0 +1,39 @@
+-- How many values bytes hold, and how deep these nest.
+use Rattle.std.specs.Prelude.{◌≡◌, ℕ, ◌≤◌, ◌<◌, ◌^◌, List, ◌++◌, length}
+use Rattle.amqp_model.specs.Term.{Container, list, map, array, Term, Terms, container, count}
+use Rattle.amqp_model.specs.Spelling.{items_of, elements_of, enc}
+use Rattle.amqp_model.specs.Measures.{nest, nodes, all_nodes}
+
+-- The bytes spell a term of so many values, which nests so deep, and at most 128.
+abbrev pub IsMeasured : ℕ → ℕ → List ℕ → Type 0
+IsMeasured n k b = (t : Term) × enc b t × (nodes t ≡ n) × (nest t ≡ k) × (k ≤ 128)
+
+-- The front of the input that is a term is so long, and holds so much.
+abbrev pub Begins : (Term → List ℕ → Type 0) → List ℕ → ℕ → ℕ → ℕ → Type 0
+Begins Is input len n k =
+    (t : Term) (front after : List ℕ) → input ≡ front ++ after → Is t front → (length front ≡ len) × (nodes t ≡ n) × (nest t ≡ k)
+
+-- So many terms, of which the bytes are the items, hold so much, and what they stand in nests so deep.
+abbrev pub AllMeasured : (Terms → List ℕ → Type 0) → (Terms → ℕ) → ℕ → List ℕ → ℕ → ℕ → Type 0
+AllMeasured Items depth size b n k = (ts : Terms) → count ts ≡ size → Items ts b → (all_nodes ts ≡ n) × (depth ts ≡ k)
+
+-- Numbers of the code hold how much there is.
+abbrev pub Fits : ℕ → ℕ → Type 0
+Fits n k = (n < 2 ^ 64) × (k ≤ 128)
+
+-- The input begins with a term whose measures fit.
+abbrev pub Measurable : (Term → List ℕ → Type 0) → List ℕ → Type 0
+Measurable Is input = (t : Term) × (front after : List ℕ) × (input ≡ front ++ after) × Is t front × Fits (nodes t) (nest t)
+
+-- The bytes are so many items whose measures fit.
+abbrev pub AllMeasurable : (Terms → List ℕ → Type 0) → (Terms → ℕ) → ℕ → List ℕ → Type 0
+AllMeasurable Items depth size b = (ts : Terms) × (count ts ≡ size) × Items ts b × Fits (all_nodes ts) (depth ts)
+
+-- The content of a container.
+abbrev pub contents : Container → Terms → List ℕ → Type 0
+contents list ts b = items_of ts b
+contents map ts b = items_of ts b
+contents array ts b = elements_of ts b
+
+abbrev pub content_nest : Container → Terms → ℕ
+content_nest kind ts = nest (container kind ts)
