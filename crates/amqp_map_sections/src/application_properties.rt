@@ -12,7 +12,7 @@ use amqp_simple_values::SimpleValue;
 use std::alloc::Global;
 use std::ops::{Deref, DerefMut};
 
-/// What an application says of a message for filters to look at: simple values under names.
+/// Application properties (Part 3, section 3.2.5): simple values under names, which intermediaries may filter by.
 #[derive(Clone, Debug, PartialEq, Eq, PartialOrd, Ord, Hash, Drop)]
 pub struct ApplicationProperties(pub OrderedMap<String, SimpleValue>);
 

@@ -13,7 +13,7 @@ use amqp_values::Value;
 use std::alloc::Global;
 use std::ops::{Deref, DerefMut};
 
-/// What the last node on the way of a message says to the next.
+/// Delivery annotations (Part 3, section 3.2.2): what the sending peer tells the receiving peer about the delivery of a message.
 #[derive(Clone, Debug, PartialEq, Eq, PartialOrd, Ord, Hash, Drop)]
 pub struct DeliveryAnnotations(pub Annotations);
 

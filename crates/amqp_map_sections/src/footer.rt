@@ -13,7 +13,7 @@ use amqp_values::Value;
 use std::alloc::Global;
 use std::ops::{Deref, DerefMut};
 
-/// What can be said of a message only when all of it is known, as a signature.
+/// A footer (Part 3, section 3.2.9): details of a message or delivery that are known only when the whole bare message is, as a signature.
 #[derive(Clone, Debug, PartialEq, Eq, PartialOrd, Ord, Hash, Drop)]
 pub struct Footer(pub Annotations);
 

@@ -13,7 +13,7 @@ use amqp_values::Value;
 use std::alloc::Global;
 use std::ops::{Deref, DerefMut};
 
-/// What is said to the nodes on the way of a message, all of them.
+/// Message annotations (Part 3, section 3.2.3): what is told to the infrastructure, and carried along at every hop.
 #[derive(Clone, Debug, PartialEq, Eq, PartialOrd, Ord, Hash, Drop)]
 pub struct MessageAnnotations(pub Annotations);
 

@@ -12,18 +12,18 @@ use amqp_codec::{ByteSource, Decoder, Encoder, Error, Serialize, SerializeTerm};
 use std::alloc::Global;
 use std::marker::Model;
 
-/// How a message is to be delivered: what every node on its way looks at.
+/// The header of a message: how it is to be delivered (Part 3, section 3.2.1). Nodes on the way of the message may change it.
 #[derive(Clone, Debug, PartialEq, Eq, PartialOrd, Ord, Hash, Drop)]
 pub struct Header {
-    /// Whether the message must not be lost.
+    /// Whether the message must survive the loss or restart of a node. `false` if the field is left out.
     pub durable: bool,
-    /// How urgent it is.
+    /// The priority of the message, greater numbers before smaller ones. 4 if the field is left out.
     pub priority: Priority,
-    /// How long it lasts, in milliseconds.
+    /// For how many milliseconds the message is live. `None` means without end.
     pub ttl: Option<u32>,
-    /// Whether no other link has acquired it before.
+    /// Whether no other link has acquired the message before. `false` if the field is left out.
     pub first_acquirer: bool,
-    /// How many deliveries of it have failed before.
+    /// How many earlier attempts to deliver the message have failed. 0 if the field is left out.
     pub delivery_count: u32,
 }
 
@@ -178,7 +178,7 @@ impl Builder {
         }
     }
 
-    /// Whether the message must not be lost.
+    /// Sets whether the message must survive the loss or restart of a node.
     pub fn durable(mut self, durable: bool) -> Builder
         ensures { result ≡ record self { durable = durable } }
     {
@@ -186,7 +186,7 @@ impl Builder {
         self
     }
 
-    /// How urgent it is.
+    /// Sets the priority of the message.
     pub fn priority(mut self, priority: Priority) -> Builder
         ensures { result ≡ record self { priority = priority } }
     {
@@ -194,7 +194,7 @@ impl Builder {
         self
     }
 
-    /// How long it lasts, in milliseconds, or for ever.
+    /// Sets for how many milliseconds the message is live; `None` means without end.
     pub fn ttl(mut self, milliseconds: Option<u32>) -> Builder
         ensures { result ≡ record self { ttl = milliseconds } }
     {
@@ -202,7 +202,7 @@ impl Builder {
         self
     }
 
-    /// Whether no other link has acquired it before.
+    /// Sets whether no other link has acquired the message before.
     pub fn first_acquirer(mut self, first_acquirer: bool) -> Builder
         ensures { result ≡ record self { first_acquirer = first_acquirer } }
     {
@@ -210,7 +210,7 @@ impl Builder {
         self
     }
 
-    /// How many deliveries of it have failed before.
+    /// Sets how many earlier attempts to deliver the message have failed.
     pub fn delivery_count(mut self, count: u32) -> Builder
         ensures { result ≡ record self { delivery_count = count } }
     {

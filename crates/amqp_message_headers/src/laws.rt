@@ -1,9 +1,12 @@
 //! What holds of headers and properties beyond the laws of every type. The functions do nothing; their contracts are proved.
 ghost use Rattle.std.specs.Prelude.{◌≡◌, true, false};
 ghost use Rattle.std.specs.Ordering.{nat_cmp};
+ghost use Rattle.std.specs.declared.cmp.Ordering.TheVariants.{Less};
+ghost use Rattle.amqp_message_headers.specs.declared.message_id.MessageId.TheVariants as id;
 
 use crate::{Header, MESSAGE_FORMAT, MessageId, Priority, Properties};
 use amqp_codec::{Canonical, Deserialize};
+use amqp_primitives::{Binary, Uuid};
 
 /// A header is read without memory, so that `from_slice` answers `Memory` for none.
 pub fn reading_takes_no_memory()
@@ -27,6 +30,20 @@ pub fn defaults()
 /// Priorities are ordered as their numbers.
 pub fn orders()
     ensures priority { (a b : _) → ⟦<Priority as Ord>⟧.cmp a b ≡ nat_cmp a.0 b.0 }
+{}
+
+/// Identifiers stand in the order of the enum: numbers, identifiers of 16 bytes, bytes, texts; two of one kind as their contents do.
+pub fn identifiers_are_ordered()
+    ensures numbers { (x y : _) → ⟦<MessageId as Ord>⟧.cmp (id.Ulong x) (id.Ulong y) ≡ nat_cmp x y }
+    ensures uuids { (x y : _) → ⟦<MessageId as Ord>⟧.cmp (id.Uuid x) (id.Uuid y) ≡ ⟦<Uuid as Ord>⟧.cmp x y }
+    ensures binaries { (x y : _) → ⟦<MessageId as Ord>⟧.cmp (id.Binary x) (id.Binary y) ≡ ⟦<Binary as Ord>⟧.cmp x y }
+    ensures strings { (x y : _) → ⟦<MessageId as Ord>⟧.cmp (id.String x) (id.String y) ≡ ⟦<String as Ord>⟧.cmp x y }
+    ensures number_before_uuid { (x y : _) → ⟦<MessageId as Ord>⟧.cmp (id.Ulong x) (id.Uuid y) ≡ Less }
+    ensures number_before_binary { (x y : _) → ⟦<MessageId as Ord>⟧.cmp (id.Ulong x) (id.Binary y) ≡ Less }
+    ensures number_before_string { (x y : _) → ⟦<MessageId as Ord>⟧.cmp (id.Ulong x) (id.String y) ≡ Less }
+    ensures uuid_before_binary { (x y : _) → ⟦<MessageId as Ord>⟧.cmp (id.Uuid x) (id.Binary y) ≡ Less }
+    ensures uuid_before_string { (x y : _) → ⟦<MessageId as Ord>⟧.cmp (id.Uuid x) (id.String y) ≡ Less }
+    ensures binary_before_string { (x y : _) → ⟦<MessageId as Ord>⟧.cmp (id.Binary x) (id.String y) ≡ Less }
 {}
 
 /// The constants of the standard.

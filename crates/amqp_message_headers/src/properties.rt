@@ -13,34 +13,35 @@ use amqp_primitives::{Binary, Timestamp};
 use std::alloc::Global;
 use std::marker::Model;
 
-/// What an application says of a message, which no node on its way changes.
+/// The properties of a message (Part 3, section 3.2.4): fields of the bare message, which no node on its way may change. Each is `None` if
+/// it is left out.
 #[derive(Clone, Debug, PartialEq, Eq, PartialOrd, Ord, Hash, Drop)]
 pub struct Properties {
-    /// What names the message, among all of its sender.
+    /// Identifies the message among all messages of its sender.
     pub message_id: Option<MessageId>,
-    /// Who has made it, where that was checked.
+    /// The identity of the user who has produced the message, as the receiver may check it.
     pub user_id: Option<Binary>,
-    /// The address of the node that it is meant for.
+    /// The address of the node that the message is sent to.
     pub to: Option<String>,
-    /// What it is about.
+    /// A short text on what the message is about.
     pub subject: Option<String>,
-    /// The address of the node that replies go to.
+    /// The address of the node that replies are sent to.
     pub reply_to: Option<String>,
-    /// What it belongs to, as the application has it.
+    /// An identifier of the client's own, which marks messages that belong together.
     pub correlation_id: Option<MessageId>,
-    /// The type of its body, of RFC 2046, where that is data.
+    /// The media type of the body (RFC 2046), if the body consists of data sections.
     pub content_type: Option<Symbol>,
-    /// How the body's data are encoded further.
+    /// The content codings that the body's data have undergone (RFC 2616), as `gzip`.
     pub content_encoding: Option<Symbol>,
-    /// When it expires.
+    /// When the message expires, in milliseconds since the Unix epoch.
     pub absolute_expiry_time: Option<Timestamp>,
-    /// When it was made.
+    /// When the message was made, in milliseconds since the Unix epoch.
     pub creation_time: Option<Timestamp>,
-    /// The group that it belongs to.
+    /// The group that the message belongs to.
     pub group_id: Option<String>,
-    /// Its place in the group.
+    /// The position of the message in its group, a sequence number (RFC 1982).
     pub group_sequence: Option<u32>,
-    /// The group that replies belong to.
+    /// The group that replies to the message belong to.
     pub reply_to_group_id: Option<String>,
 }
 
@@ -250,7 +251,7 @@ impl Builder {
         }
     }
 
-    /// What names the message, among all of its sender.
+    /// Sets the identifier of the message among all messages of its sender.
     pub fn message_id(mut self, id: MessageId) -> Builder
         ensures { result ≡ record self { message_id = Some id } }
     {
@@ -258,7 +259,7 @@ impl Builder {
         self
     }
 
-    /// Who has made it, where that was checked.
+    /// Sets the identity of the user who has produced the message.
     pub fn user_id(mut self, user: Binary) -> Builder
         ensures { result ≡ record self { user_id = Some user } }
     {
@@ -266,7 +267,7 @@ impl Builder {
         self
     }
 
-    /// The address of the node that it is meant for.
+    /// Sets the address of the node that the message is sent to.
     pub fn to(mut self, address: String) -> Builder
         ensures { result ≡ record self { to = Some address } }
     {
@@ -274,7 +275,7 @@ impl Builder {
         self
     }
 
-    /// What it is about.
+    /// Sets the text on what the message is about.
     pub fn subject(mut self, text: String) -> Builder
         ensures { result ≡ record self { subject = Some text } }
     {
@@ -282,7 +283,7 @@ impl Builder {
         self
     }
 
-    /// The address of the node that replies go to.
+    /// Sets the address of the node that replies are sent to.
     pub fn reply_to(mut self, address: String) -> Builder
         ensures { result ≡ record self { reply_to = Some address } }
     {
@@ -290,7 +291,7 @@ impl Builder {
         self
     }
 
-    /// What it belongs to, as the application has it.
+    /// Sets the identifier that marks messages that belong together.
     pub fn correlation_id(mut self, id: MessageId) -> Builder
         ensures { result ≡ record self { correlation_id = Some id } }
     {
@@ -298,7 +299,7 @@ impl Builder {
         self
     }
 
-    /// The type of its body, of RFC 2046, where that is data.
+    /// Sets the media type of the body.
     pub fn content_type(mut self, name: Symbol) -> Builder
         ensures { result ≡ record self { content_type = Some name } }
     {
@@ -306,7 +307,7 @@ impl Builder {
         self
     }
 
-    /// How the body's data are encoded further.
+    /// Sets the content codings of the body's data.
     pub fn content_encoding(mut self, name: Symbol) -> Builder
         ensures { result ≡ record self { content_encoding = Some name } }
     {
@@ -314,7 +315,7 @@ impl Builder {
         self
     }
 
-    /// When it expires.
+    /// Sets when the message expires, in milliseconds since the Unix epoch.
     pub fn absolute_expiry_time(mut self, time: Option<Timestamp>) -> Builder
         ensures { result ≡ record self { absolute_expiry_time = time } }
     {
@@ -322,7 +323,7 @@ impl Builder {
         self
     }
 
-    /// When it was made.
+    /// Sets when the message was made, in milliseconds since the Unix epoch.
     pub fn creation_time(mut self, time: Option<Timestamp>) -> Builder
         ensures { result ≡ record self { creation_time = time } }
     {
@@ -330,7 +331,7 @@ impl Builder {
         self
     }
 
-    /// The group that it belongs to.
+    /// Sets the group that the message belongs to.
     pub fn group_id(mut self, id: Option<String>) -> Builder
         ensures { result ≡ record self { group_id = id } }
     {
@@ -338,7 +339,7 @@ impl Builder {
         self
     }
 
-    /// Its place in the group.
+    /// Sets the position of the message in its group.
     pub fn group_sequence(mut self, place: Option<u32>) -> Builder
         ensures { result ≡ record self { group_sequence = place } }
     {
@@ -346,7 +347,7 @@ impl Builder {
         self
     }
 
-    /// The group that replies belong to.
+    /// Sets the group that replies to the message belong to.
     pub fn reply_to_group_id(mut self, id: Option<String>) -> Builder
         ensures { result ≡ record self { reply_to_group_id = id } }
     {

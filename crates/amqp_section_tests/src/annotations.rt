@@ -1,10 +1,11 @@
 //! The sections that are maps, and their keys (Part 3, sections 3.2.2, 3.2.3, 3.2.5, 3.2.9 and 3.2.10). The digits are written out by the
 //! standard's tables.
-use crate::parts::{check, refused, rewritten, symbol_of, text_of};
+use crate::parts::{refused, rewritten};
 use amqp_annotations::{
     AnnotationKey, Annotations, BorrowedKey, OwnedKey, annotation_get, annotation_remove,
 };
 use amqp_codec::{Error, Symbol};
+use amqp_full_composites::parts::{check, symbol_of, text_of};
 use amqp_map_sections::{ApplicationProperties, DeliveryAnnotations, Footer, MessageAnnotations};
 use amqp_primitives::SymbolRef;
 use amqp_simple_values::SimpleValue;

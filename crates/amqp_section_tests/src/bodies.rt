@@ -1,9 +1,11 @@
 //! The sections of a body (Part 3, sections 3.2.6 to 3.2.8). The digits are written out by the standard's tables.
-use crate::parts::{binary_of, check, read, refused, rewritten};
+use crate::parts::{read, refused, rewritten};
 use amqp_codec::Error;
+use amqp_full_composites::parts::{binary_of, check};
 use amqp_lazy::LazyValue;
 use amqp_primitives::Binary;
 use amqp_sections::{AmqpSequence, AmqpValue, Data};
+use amqp_user_types::seconds::Seconds;
 use amqp_values::Value;
 use std::alloc::Global;
 use std::test::Fail;
@@ -97,6 +99,16 @@ fn values_are_written(rt: HostRuntime) -> Result<(), Fail> {
         "005377005376c00703540154025403",
         alloc,
     )
+}
+
+#[test]
+fn a_value_of_a_users_type(rt: HostRuntime) -> Result<(), Fail> {
+    let alloc = rt.alloc();
+    let section = AmqpValue(Seconds { count: 9 });
+    check(&section, "005377c003015209", alloc)?;
+    let again: AmqpValue<Seconds> = read("005377c003015209", alloc)?;
+    assert_eq!(rt; again, section);
+    Ok(())
 }
 
 #[test]

@@ -1,7 +1,8 @@
 //! Headers, properties and what stands in them (Part 3, sections 3.2.1, 3.2.4 and 3.2.11 to 3.2.14), the fields by their names. The
 //! digits are written out by the standard's tables.
-use crate::parts::{binary_of, check, read, refused, rewritten, symbol_of, text_of};
+use crate::parts::{read, refused, rewritten};
 use amqp_codec::Error;
+use amqp_full_composites::parts::{binary_of, check, symbol_of, text_of};
 use amqp_message_headers::{Header, MessageId, Priority, Properties};
 use amqp_primitives::{Timestamp, Uuid};
 use std::alloc::Global;

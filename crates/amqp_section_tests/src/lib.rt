@@ -5,7 +5,6 @@
 mod annotations;
 #[cfg(test)]
 mod bodies;
-pub mod example;
 #[cfg(test)]
 mod headers;
 #[cfg(test)]

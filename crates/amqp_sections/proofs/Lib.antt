@@ -1,2 +1,1 @@
-mod CopiesEqual
 mod SectionReads

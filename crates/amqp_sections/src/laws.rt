@@ -15,7 +15,7 @@ pub fn texts_are_least<T: DeserializeTerm>()
 {}
 
 /// Where copies of values are equal to them, so is a copy of a section, as its `clone` makes it.
-#[tactic(auto, using(crate::proofs::CopiesEqual::equal_all_zip))]
+#[tactic(auto, using(amqp_containers::proofs::CopiesEqual::equal_all_zip))]
 pub fn copies_are_equal<T: Clone + PartialEq>()
     ensures sequence { ((x y : T) → T.is_clone x y → IsTrue (T.eq x y)) → (sequence copy : AmqpSequence T)
         → AllZip T.is_clone sequence.0.items copy.0.items → IsTrue (⟦<AmqpSequence<T> as PartialEq>⟧.eq sequence copy) }
