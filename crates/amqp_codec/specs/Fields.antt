@@ -37,3 +37,9 @@ are_least (field get f fs) = f.laws.is_least && are_least fs
 abbrev pub take_memory : {V : Type 0} → Fields V → Bool
 take_memory none = false
 take_memory (field get f fs) = f.takes_memory || take_memory fs
+
+-- whether the field of this number takes memory as it is read
+abbrev pub takes_at : {V : Type 0} → Fields V → ℕ → Bool
+takes_at none i = false
+takes_at (field get f fs) zero = f.takes_memory
+takes_at (field get f fs) (suc i) = takes_at fs i

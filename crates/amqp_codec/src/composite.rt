@@ -3,12 +3,13 @@ ghost use Rattle.std.specs.Prelude.{◌≡◌, ◌<◌, false, [], ◌∷◌, le
 ghost use Rattle.amqp_model.specs.Items.{is_null};
 ghost use Rattle.amqp_model.specs.Fields.{rules_of};
 ghost use Rattle.amqp_model.specs.Composite.{MeansComposite, canonical_term};
-ghost use Rattle.amqp_codec.specs.Fields.{slots, canon_at, take_memory};
+ghost use Rattle.amqp_codec.specs.Fields.{slots, canon_at, take_memory, takes_at};
 ghost use Rattle.amqp_codec.specs.Composite.{table_of, fields_of, composite_members};
 ghost use Rattle.amqp_codec.specs.Written.{WritesTerms};
 ghost use Rattle.amqp_wire.specs.Sources.{Tells};
 ghost use Rattle.amqp_decoder.specs.Reading.{AnswersRead};
 ghost use Rattle.amqp_decoder.specs.Primitives.{ReadsValue};
+ghost use Rattle.amqp_decoder.specs.Steps.{Tries};
 ghost use Rattle.amqp_codec.specs.Members.{MemberFault};
 ghost use Rattle.amqp_codec.specs.FieldReading.{FillsField, IsBlank};
 
@@ -53,7 +54,8 @@ pub trait Composite: Sized + Drop {
         alloc: Global,
     ) -> Result<(), Error>
         requires within { index < length (rules_of (slots table.fields)) }
-        ensures { Tells R.remaining → FillsField table.fields index self.old self.new decoder.old result decoder.new };
+        ensures read { Tells R.remaining → FillsField table.fields index self.old self.new decoder.old result decoder.new }
+        ensures tries { Tries (takes_at table.fields index) decoder.old result decoder.new };
 
     /// Whether the field of this number, from 0 on, is written as null.
     fn is_null_field(&self, index: usize) -> bool
@@ -124,8 +126,9 @@ pub fn read_composite<C: Composite, R: ByteSource>(
     decoder: &mut Decoder<R>,
     alloc: Global,
 ) -> Result<C, Error>
-    ensures { Tells R.remaining → AnswersRead (take_memory C.table.fields) (ReadsValue (λ s. MeansComposite (table_of C.table)))
+    ensures read { Tells R.remaining → AnswersRead (take_memory C.table.fields) (ReadsValue (λ s. MeansComposite (table_of C.table)))
         (MemberFault (composite_members C.table)) decoder.old result decoder.new }
+    ensures tries { Tries (take_memory C.table.fields) decoder.old result decoder.new }
 {
     decoder.begin_one_of(&[C::table().descriptor])?;
     let value = read_fields(decoder, alloc)?;

@@ -6,11 +6,12 @@ ghost use Rattle.amqp_model.specs.Fields.{rules_of, canonical_terms, canonical_i
 ghost use Rattle.amqp_model.specs.Composite.{MeansList, canonical_list};
 ghost use Rattle.amqp_encoder.specs.Passes.{answer_of};
 ghost use Rattle.amqp_codec.specs.Slots.{MeansSome};
-ghost use Rattle.amqp_codec.specs.Fields.{slots, canon_at, take_memory};
+ghost use Rattle.amqp_codec.specs.Fields.{slots, canon_at, take_memory, takes_at};
 ghost use Rattle.amqp_codec.specs.Written.{WritesTerms};
 ghost use Rattle.amqp_wire.specs.Sources.{Tells};
 ghost use Rattle.amqp_decoder.specs.Reading.{AnswersRead};
 ghost use Rattle.amqp_decoder.specs.Primitives.{ReadsValue};
+ghost use Rattle.amqp_decoder.specs.Steps.{Tries};
 ghost use Rattle.amqp_codec.specs.FieldReading.{FieldsRead, FieldsFault, Fills, FillsField, IsBlank, ReadsItem, absence, rule_at};
 
 use crate::DeserializeTerm;
@@ -44,7 +45,8 @@ pub trait FieldList: Sized + Drop {
         alloc: Global,
     ) -> Result<(), Error>
         requires within { index < length (rules_of (slots list.fields)) }
-        ensures { Tells R.remaining → FillsField list.fields index self.old self.new decoder.old result decoder.new };
+        ensures read { Tells R.remaining → FillsField list.fields index self.old self.new decoder.old result decoder.new }
+        ensures tries { Tries (takes_at list.fields index) decoder.old result decoder.new };
 
     /// Whether the field of this number, from 0 on, is written as null.
     fn is_null_field(&self, index: usize) -> bool
@@ -64,7 +66,8 @@ pub fn read_into<T: DeserializeTerm, R: ByteSource>(
     decoder: &mut Decoder<R>,
     alloc: Global,
 ) -> Result<(), Error>
-    ensures { Tells R.remaining → Fills T.term.takes_memory T.term.means T.term.faults.fault decoder.old place.new result decoder.new }
+    ensures read { Tells R.remaining → Fills T.term.takes_memory T.term.means T.term.faults.fault decoder.old place.new result decoder.new }
+    ensures tries { Tries T.term.takes_memory decoder.old result decoder.new }
 {
     *place = T::read_value(decoder, alloc)?;
     Ok(())
@@ -76,8 +79,9 @@ pub fn read_some<T: DeserializeTerm, R: ByteSource>(
     decoder: &mut Decoder<R>,
     alloc: Global,
 ) -> Result<(), Error>
-    ensures { Tells R.remaining → Fills T.term.takes_memory (λ s t. MeansSome (T.term.means s t)) T.term.faults.fault
+    ensures read { Tells R.remaining → Fills T.term.takes_memory (λ s t. MeansSome (T.term.means s t)) T.term.faults.fault
         decoder.old place.new result decoder.new }
+    ensures tries { Tries T.term.takes_memory decoder.old result decoder.new }
 {
     *place = Some(T::read_value(decoder, alloc)?);
     Ok(())
@@ -113,8 +117,9 @@ pub fn read_fields<L: FieldList, R: ByteSource>(
     decoder: &mut Decoder<R>,
     alloc: Global,
 ) -> Result<L, Error>
-    ensures { Tells R.remaining → AnswersRead (take_memory L.list.fields) (FieldsRead L.list.fields) (FieldsFault L.list.fields)
+    ensures read { Tells R.remaining → AnswersRead (take_memory L.list.fields) (FieldsRead L.list.fields) (FieldsFault L.list.fields)
         decoder.old result decoder.new }
+    ensures tries { Tries (take_memory L.list.fields) decoder.old result decoder.new }
 {
     let count = decoder.begin_list()? as usize;
     let mut value = L::blank(alloc);
@@ -135,8 +140,9 @@ pub fn read_list<L: FieldList, R: ByteSource>(
     decoder: &mut Decoder<R>,
     alloc: Global,
 ) -> Result<L, Error>
-    ensures { Tells R.remaining → AnswersRead (take_memory L.list.fields) (ReadsValue (λ s. MeansList (slots L.list.fields)))
+    ensures read { Tells R.remaining → AnswersRead (take_memory L.list.fields) (ReadsValue (λ s. MeansList (slots L.list.fields)))
         (FieldsFault L.list.fields) decoder.old result decoder.new }
+    ensures tries { Tries (take_memory L.list.fields) decoder.old result decoder.new }
 {
     read_fields(decoder, alloc)
 }
@@ -151,7 +157,8 @@ fn read_item<L: FieldList, R: ByteSource>(
 ) -> Result<(), Error>
     requires within { index < length (rules_of (slots L.list.fields)) }
     requires its_rule { rule ≡ rule_at L.list.fields index }
-    ensures { Tells R.remaining → ReadsItem L.list.fields index value.old value.new decoder.old result decoder.new }
+    ensures read { Tells R.remaining → ReadsItem L.list.fields index value.old value.new decoder.old result decoder.new }
+    ensures tries { Tries (takes_at L.list.fields index) decoder.old result decoder.new }
 {
     if decoder.peek_code()? != format_code::NULL {
         return value.fill_field(index, decoder, alloc);

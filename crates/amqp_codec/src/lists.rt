@@ -4,6 +4,7 @@ ghost use Rattle.std.specs.List.{flat_map};
 ghost use Rattle.amqp_model.specs.Term.{list};
 ghost use Rattle.amqp_wire.specs.Sources.{Tells};
 ghost use Rattle.amqp_decoder.specs.Reading.{AnswersRead};
+ghost use Rattle.amqp_decoder.specs.Steps.{Passes};
 ghost use Rattle.amqp_codec.specs.Written.{WritesTerms};
 ghost use Rattle.amqp_codec.specs.Agreement.{via_writing, via_agreement};
 ghost use Rattle.amqp_codec.specs.ItemsReading.{ReadsRow, RowFault};
@@ -43,8 +44,9 @@ pub fn read_each<T: DeserializeTerm, R: ByteSource>(
     decoder: &mut Decoder<R>,
     alloc: Global,
 ) -> Result<Vec<T>, Error>
-    ensures { Tells R.remaining → AnswersRead true (λ st v b. ReadsRow count T.term.means st v.items b)
+    ensures read { Tells R.remaining → AnswersRead true (λ st v b. ReadsRow count T.term.means st v.items b)
         (RowFault count T.term.means T.term.faults.fault) decoder.old result decoder.new }
+    ensures tries { Passes true decoder.old result decoder.new }
 {
     let mut values = Vec::new(alloc);
     for _ in 0..count {

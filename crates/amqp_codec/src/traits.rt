@@ -8,6 +8,7 @@ ghost use Rattle.amqp_codec.specs.Agreement.{Agreement};
 ghost use Rattle.amqp_wire.specs.Sources.{Tells};
 ghost use Rattle.amqp_decoder.specs.Reading.{AnswersRead};
 ghost use Rattle.amqp_decoder.specs.Primitives.{ReadsValue};
+ghost use Rattle.amqp_decoder.specs.Steps.{Tries};
 ghost use Rattle.amqp_codec.specs.Reading.{Reading};
 ghost use Rattle.amqp_codec.specs.TermReading.{reading_of};
 ghost use Rattle.amqp_codec.specs.Rewriting.{Rewriting, rewrites};
@@ -40,7 +41,8 @@ pub trait Deserialize: Sized + Drop {
     /// Reads a value from what the decoder stands before. An error is `Memory`, where reading the type takes memory, the
     /// source's, or it names a fault that stands there.
     fn deserialize<R: ByteSource>(decoder: &mut Decoder<R>, alloc: Global) -> Result<Self, Error>
-        ensures { Tells R.remaining → AnswersRead reading.takes_memory reading.reads reading.fault decoder.old result decoder.new };
+        ensures read { Tells R.remaining → AnswersRead reading.takes_memory reading.reads reading.fault decoder.old result decoder.new }
+        ensures tries { Tries reading.takes_memory decoder.old result decoder.new };
 }
 
 /// What can be both read and written, so that each value has one canonical text, which is read as that value again. A type
@@ -84,8 +86,9 @@ pub trait DeserializeTerm: SerializeTerm + Sized + Drop {
     /// Reads a value from what the decoder stands before. An error is `Memory`, where reading the type takes memory, the
     /// source's, or it names a fault that stands there.
     fn read_value<R: ByteSource>(decoder: &mut Decoder<R>, alloc: Global) -> Result<Self, Error>
-        ensures { Tells R.remaining
-            → AnswersRead term.takes_memory (ReadsValue term.means) term.faults.fault decoder.old result decoder.new };
+        ensures read { Tells R.remaining
+            → AnswersRead term.takes_memory (ReadsValue term.means) term.faults.fault decoder.old result decoder.new }
+        ensures tries { Tries term.takes_memory decoder.old result decoder.new };
 
     // It is written as its record says.
     ghost agreement: { Agreement term Self.writing };

@@ -5,6 +5,7 @@ ghost use Rattle.amqp_model.specs.Items.{is_null};
 ghost use Rattle.amqp_wire.specs.Sources.{Tells};
 ghost use Rattle.amqp_decoder.specs.Reading.{AnswersRead};
 ghost use Rattle.amqp_decoder.specs.Primitives.{ReadsValue};
+ghost use Rattle.amqp_decoder.specs.Steps.{Tries};
 ghost use Rattle.amqp_codec.specs.FieldReading.{Fills};
 ghost use Rattle.amqp_codec.specs.Written.{WritesTerms};
 ghost use Rattle.amqp_containers.specs.Several.{MeansMultiple, MeansAtLeastOne, multiple_faults, mandatory_faults};
@@ -22,8 +23,9 @@ fn read_several<T: DeserializeTerm, R: ByteSource>(
     decoder: &mut Decoder<R>,
     alloc: Global,
 ) -> Result<Option<Array<T>>, Error>
-    ensures { Tells R.remaining → AnswersRead true (ReadsValue (MeansMultiple T.term)) (multiple_faults T.term).fault
+    ensures read { Tells R.remaining → AnswersRead true (ReadsValue (MeansMultiple T.term)) (multiple_faults T.term).fault
         decoder.old result decoder.new }
+    ensures tries { Tries true decoder.old result decoder.new }
 {
     let mut alone = Array(Vec::new(alloc));
     match decoder.peek_code()? {
@@ -51,8 +53,9 @@ pub fn read_multiple<T: DeserializeTerm, R: ByteSource>(
     decoder: &mut Decoder<R>,
     alloc: Global,
 ) -> Result<(), Error>
-    ensures { Tells R.remaining → Fills true (MeansMultiple T.term) (multiple_faults T.term).fault
+    ensures read { Tells R.remaining → Fills true (MeansMultiple T.term) (multiple_faults T.term).fault
         decoder.old place.new result decoder.new }
+    ensures tries { Tries true decoder.old result decoder.new }
 {
     *place = read_several(decoder, alloc)?;
     Ok(())
@@ -65,8 +68,9 @@ pub fn read_mandatory_multiple<T: DeserializeTerm, R: ByteSource>(
     decoder: &mut Decoder<R>,
     alloc: Global,
 ) -> Result<(), Error>
-    ensures { Tells R.remaining → Fills true (MeansAtLeastOne T.term) (mandatory_faults T.term).fault
+    ensures read { Tells R.remaining → Fills true (MeansAtLeastOne T.term) (mandatory_faults T.term).fault
         decoder.old place.new result decoder.new }
+    ensures tries { Tries true decoder.old result decoder.new }
 {
     match read_several(decoder, alloc)? {
         Some(items) => {

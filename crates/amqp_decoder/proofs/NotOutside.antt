@@ -1,5 +1,5 @@
 -- No fault is named as want of memory, or as the source's.
-use Rattle.std.proofs.Common.{subst, ◌≡◌, inl, inr, ℕ, ◌-◌, Bool, true, false, cond, eqb, List, ◌++◌, length}
+use Rattle.std.proofs.Common.{subst, sym, ap, ◌∙◌, Some, ◌≡◌, inl, inr, ℕ, ◌-◌, Bool, true, false, cond, eqb, List, ◌++◌, length}
 use Rattle.amqp_model.specs.Term.{Container}
 use Rattle.amqp_model.specs.Constructors.{Format, fixed, variable, compound, unknown, format}
 use Rattle.amqp_wire.specs.Codes.{is_known, refusal_of}
@@ -9,7 +9,7 @@ use Rattle.amqp_wire.specs.declared.error.Error.{Error}
 use Rattle.amqp_decoder.specs.declared.frame.Place.{Place}
 use Rattle.amqp_decoder.specs.declared.frame.Place.TheVariants.{InArray}
 use Rattle.amqp_decoder.specs.State.{State, in_container}
-use Rattle.amqp_decoder.specs.Steps.{IsOutside, IsReadError, Lacks, cut_open, cut_inside, too_long, SizeError, cut, wrong}
+use Rattle.amqp_decoder.specs.Steps.{Fails, IsOutside, IsReadError, Lacks, cut_open, cut_inside, too_long, SizeError, cut, wrong}
 use Rattle.amqp_decoder.specs.Misspelled.{IsMisspelling}
 use Rattle.amqp_decoder.specs.Reading.{BeginFault, missing, no_code}
 use Rattle.amqp_decoder.specs.Primitives.{LacksData, PrimitiveFault, not_begun, wrong_code, no_data, bad_data}
@@ -29,6 +29,7 @@ use Rattle.amqp_decoder.specs.Terms as terms
 use Rattle.amqp_decoder.specs.Terms.{LacksAnnounced, NoTerm, wrong_size, wrong_term, SpellingFault, no_term, TermFault, in_array}
 use Rattle.amqp_decoder.specs.Terms.{misspelled}
 use Rattle.amqp_lengths.specs.Announced.{content_size}
+use Rattle.amqp_lengths.specs.Faults as lengths
 use Rattle.amqp_decoder.proofs.TermErrors.{term_error}
 
 pub read_is_outside : (e : Error) → IsReadError e → IsOutside e
@@ -170,9 +171,13 @@ announced_not_outside e out (compound k w) st (inl l) = lacks_not_outside out w 
 announced_not_outside e out (compound k w) st (inr (n, m, fits, t, l)) = lacks_not_outside out (content_size k w n) m l
 announced_not_outside e out unknown st l = l
 
+-- what is named of the bytes of a term
+length_not_outside : {e : Error} → IsOutside e → (nesting : ℕ) (b : List ℕ) → lengths.TermFault nesting b e → ⊥
+length_not_outside out nesting b f = elim (term_error nesting b _ f) [ inl is ↦ subst IsOutside is out | inr said ↦ misspelling_inside _ said out ]
+
 no_term_not_outside : {e : Error} → IsOutside e → (nesting : ℕ) (b : List ℕ) (st : State) → NoTerm nesting b st e → ⊥
 no_term_not_outside out nesting b st (wrong_size none f s) = size_not_outside out 0 st s
-no_term_not_outside out nesting b st (wrong_term none f other) = elim (term_error nesting b _ f) [ inl is ↦ subst IsOutside is out | inr said ↦ misspelling_inside _ said out ]
+no_term_not_outside out nesting b st (wrong_term none f other) = length_not_outside out nesting b f
 
 spelling_not_outside : {e : Error} → IsOutside e → (st : State) → SpellingFault st e → ⊥
 spelling_not_outside out st (terms.no_constructor f) = constructor_not_outside out st f
@@ -183,3 +188,14 @@ pub term_not_outside : {e : Error} → IsOutside e → (st : State) → TermFaul
 term_not_outside out st (terms.missing h is) = subst IsOutside is out
 term_not_outside out st (in_array item shared is) = subst IsOutside is out
 term_not_outside out st (misspelled item none f) = spelling_not_outside out st f
+
+-- a call keeps the error that the bytes of a term have
+pub fails_by_length : (takes : Bool) (a b : State) (e d : Error) (nesting : ℕ) (s : List ℕ) → e ≡ d → b ≡ record a { error = Some d }
+    → lengths.TermFault nesting s d → Fails takes a e b
+fails_by_length takes a b e d nesting s is h f =
+    let plain = λ (out : IsOutside e). length_not_outside (subst IsOutside is out) nesting s f in (
+      ap (λ (x : State). x.error) h ∙ ap Some (sym is),
+      inl (ap (λ (x : State). x.failed) h),
+      λ m. absurd (plain (subst IsOutside (sym m) tt)),
+      λ r. absurd (plain (read_is_outside e r)),
+    )

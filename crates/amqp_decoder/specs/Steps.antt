@@ -1,5 +1,5 @@
 -- What the steps of a call promise.
-use Rattle.std.specs.Prelude.{◌≡◌, ℕ, ◌<◌, ◌≤◌, ◌⊎◌, Bool, true, List, ◌++◌, length, drop, Option, Some, None}
+use Rattle.std.specs.Prelude.{◌≡◌, ℕ, ◌<◌, ◌≤◌, ◌⊎◌, Bool, true, List, ◌++◌, length, drop, Option, Some, None, Result, Ok, Err}
 use Rattle.amqp_wire.specs.declared.error.Error.{Error}
 use Rattle.amqp_wire.specs.declared.error.Error.TheVariants.{Memory, Read, Cut, Size}
 use Rattle.amqp_decoder.specs.State.{State, Has, after_data, after_bytes, announced}
@@ -87,3 +87,40 @@ pub record RefusesSize (own : ℕ) (st : State) (e : Error) (st' : State) : Type
 pub record Stops (takes : Bool) (fault : Error → Type 0) (st : State) (e : Error) (st' : State) : Type 0 where
   pub kept : Answers st e st'
   pub why : IsExcused takes e st' ⊎ fault e
+
+-- A call kept no error, and its source hasn't begun to fail.
+abbrev pub GoesOn : State → State → Type 0
+GoesOn st st' = (st'.error ≡ st.error) × (st'.failed ≡ st.failed)
+
+-- A call kept the error that it answers: the source's where that began to fail and only where it has, and want of memory only where the
+-- call takes some.
+abbrev pub Fails : Bool → State → Error → State → Type 0
+Fails takes st e st' = (st'.error ≡ Some e) × ((st'.failed ≡ st.failed) ⊎ IsReadError e) × (e ≡ Memory → takes ≡ true)
+    × (IsReadError e → st'.failed ≡ true)
+
+-- What a call does that is asked of a decoder that has kept no error, whatever its source tells.
+abbrev pub Goes : {A : Type 0} → Bool → State → Result A Error → State → Type 0
+Goes takes st (Ok v) st' = GoesOn st st'
+Goes takes st (Err e) st' = Fails takes st e st'
+
+-- A call was asked of a decoder that had kept no error, and went on.
+abbrev pub Began : State → State → Type 0
+Began st st' = (st.error ≡ None) × (st'.error ≡ None) × (st'.failed ≡ st.failed)
+
+-- A call refused: by the error that was kept before, where nothing changes, or by one that it keeps.
+abbrev pub Refused : Bool → State → Error → State → Type 0
+Refused takes st e st' = ((d : Error) → st.error ≡ Some d → (d ≡ e) × (st' ≡ st)) × (st.error ≡ None → Fails takes st e st')
+
+-- What a call does, whatever its source tells.
+abbrev pub Tries : {A : Type 0} → Bool → State → Result A Error → State → Type 0
+Tries takes st (Ok v) st' = Began st st'
+Tries takes st (Err e) st' = Refused takes st e st'
+
+-- What calls in a row did so far, of which there may be none.
+abbrev pub Passed : State → State → Type 0
+Passed st st' = GoesOn st st' × ((d : Error) → st.error ≡ Some d → st' ≡ st)
+
+-- What a row of calls does, which may be empty, whatever its source tells.
+abbrev pub Passes : {A : Type 0} → Bool → State → Result A Error → State → Type 0
+Passes takes st (Ok v) st' = Passed st st'
+Passes takes st (Err e) st' = Refused takes st e st'

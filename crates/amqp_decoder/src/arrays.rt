@@ -9,7 +9,7 @@ ghost use Rattle.amqp_wire.specs.declared.descriptor.Descriptor.{Descriptor as D
 ghost use Rattle.amqp_wire.specs.declared.error.Error.TheVariants.{Depth};
 ghost use Rattle.amqp_decoder.specs.declared.frame.Place.TheVariants.{InArray};
 ghost use Rattle.amqp_decoder.specs.State.{State, Has, descriptor_of, in_container};
-ghost use Rattle.amqp_decoder.specs.Steps.{Answers, NoRoom, Stops};
+ghost use Rattle.amqp_decoder.specs.Steps.{Answers, NoRoom, Stops, Goes, Tries};
 ghost use Rattle.amqp_decoder.specs.Reading.{AnswersRead};
 ghost use Rattle.amqp_decoder.specs.Containers.{Closes, CloseFault};
 ghost use Rattle.amqp_decoder.specs.Described.{TakesDescriptor, DescriptorFault};
@@ -45,6 +45,7 @@ impl<R: ByteSource> Decoder<R> {
         ensures err { Tells R.remaining → self.old.top.shared ≡ None
             → IfErr result (λ e. Stops true (λ e. ((e ≡ Depth) × (128 ≤ length descriptors.old.items))
             ⊎ DescriptorFault self.old e) self.old e self.new) }
+        ensures goes { Goes true self.old result self.new }
     {
         if descriptors.len() >= NESTING {
             return Err(self.stop(Error::Depth));
@@ -60,6 +61,7 @@ impl<R: ByteSource> Decoder<R> {
         ensures ok { IfOk result (λ _. ((code ≡ 0) ⊎ IsKnown (format code)) × (self.new ≡ self.old)) }
         ensures err { IfErr result (λ e. (code ≡ 0 → ⊥) × (IsKnown (format code) → ⊥) × (e ≡ refusal_of code)
             × Answers self.old e self.new) }
+        ensures goes { Goes false self.old result self.new }
     {
         match format_code::unknown(code) {
             None => Ok(()),
@@ -75,6 +77,7 @@ impl<R: ByteSource> Decoder<R> {
             → IfOk result (λ found. TakesConstructor self.old (map descriptor_of found.0.items) found.1 self.new) }
         ensures err { Tells R.remaining → self.old.top.shared ≡ None
             → IfErr result (λ e. Stops true (ConstructorFault self.old) self.old e self.new) }
+        ensures goes { Goes true self.old result self.new }
     {
         let mut descriptors = Vec::new(alloc);
         let mut code = self.byte()?;
@@ -92,6 +95,7 @@ impl<R: ByteSource> Decoder<R> {
             → IfOk result (λ _. Shares count self.old self.new) }
         ensures err { Tells R.remaining → self.old.top.shared ≡ None
             → IfErr result (λ e. Stops true (SharesFault count self.old) self.old e self.new) }
+        ensures goes { Goes true self.old result self.new }
     {
         let (descriptors, code) = self.constructor(alloc)?;
         if count == 0 {
@@ -111,6 +115,7 @@ impl<R: ByteSource> Decoder<R> {
         ensures err { Tells R.remaining → IfErr result
             (λ e. Stops false (λ e. NoRoom content self.old e
             ⊎ ((self.old.nesting < length self.old.saved) × (e ≡ Depth))) self.old e self.new) }
+        ensures goes { Goes false self.old result self.new }
     {
         self.lower(content)?;
         let inner = OpenContainer {
@@ -126,6 +131,7 @@ impl<R: ByteSource> Decoder<R> {
     fn open_array(&mut self, wide: bool, alloc: Global) -> Result<u32, Error>
         ensures ok { Tells R.remaining → IfOk result (λ n. EntersArray (cond wide 4 1) self.old n self.new) }
         ensures err { Tells R.remaining → IfErr result (λ e. Stops true (EnterArrayFault (cond wide 4 1) self.old) self.old e self.new) }
+        ensures goes { Goes true self.old result self.new }
     {
         let (count, content) = self.header(wide, false)?;
         self.open_items(content)?;
@@ -142,6 +148,7 @@ impl<R: ByteSource> Decoder<R> {
     pub fn begin_array(&mut self, alloc: Global) -> Result<u32, Error>
         ensures opened { Tells R.remaining → AnswersRead true OpensArray ArrayFault self.old result self.new }
         ensures room { HasRoom self.old }
+        ensures tries { Tries true self.old result self.new }
     {
         self.room();
         match self.begin()? {
@@ -153,7 +160,8 @@ impl<R: ByteSource> Decoder<R> {
 
     /// Ends the array that is open: `Surplus` where items are left, `InvalidValue` where none is open.
     pub fn end_array(&mut self) -> Result<(), Error>
-        ensures { Tells R.remaining → AnswersRead false (λ st _ st'. Closes InArray st st') (CloseFault InArray) self.old result self.new }
+        ensures read { Tells R.remaining → AnswersRead false (λ st _ st'. Closes InArray st st') (CloseFault InArray) self.old result self.new }
+        ensures tries { Tries false self.old result self.new }
     {
         self.check_end(Place::InArray)?;
         self.check_bytes()?;

@@ -3,7 +3,7 @@ ghost use Rattle.std.specs.Prelude.{◌≡◌, ◌<◌, ◌↔◌, IsTrue, cond,
 ghost use Rattle.amqp_model.specs.Term.{list, map};
 ghost use Rattle.amqp_wire.specs.Sources.{Tells};
 ghost use Rattle.amqp_decoder.specs.State.{Has, IsContainer, in_container};
-ghost use Rattle.amqp_decoder.specs.Steps.{Stops};
+ghost use Rattle.amqp_decoder.specs.Steps.{Stops, Goes, Tries};
 ghost use Rattle.amqp_decoder.specs.declared.frame.Place.TheVariants.{InList, InMap};
 ghost use Rattle.amqp_decoder.specs.Reading.{AnswersRead};
 ghost use Rattle.amqp_decoder.specs.Containers.{Closes, CloseFault, IsPossible, ReadsHeader, HeaderFault, Unopened, Enters, EnterFault};
@@ -37,6 +37,7 @@ impl<R: ByteSource> Decoder<R> {
         ensures ok { Tells R.remaining → IfOk result (λ h. ReadsHeader is_list (cond wide 4 1) self.old h.0 h.1 self.new) }
         ensures err { Tells R.remaining
             → IfErr result (λ e. Stops false (HeaderFault is_list (cond wide 4 1) self.old) self.old e self.new) }
+        ensures goes { Goes false self.old result self.new }
     {
         let width = width(wide);
         let size = self.number(wide)?;
@@ -60,6 +61,7 @@ impl<R: ByteSource> Decoder<R> {
         ensures ok { IfOk result (λ n. (n ≡ count) × Has self.old.top.left content × (length self.old.saved < self.old.nesting)
             × (self.new ≡ in_container place count content self.old)) }
         ensures err { Tells R.remaining → IfErr result (λ e. Stops false (Unopened content self.old) self.old e self.new) }
+        ensures goes { Goes false self.old result self.new }
     {
         self.lower(content)?;
         let inner = OpenContainer {
@@ -77,6 +79,7 @@ impl<R: ByteSource> Decoder<R> {
     fn open_list(&mut self, wide: bool) -> Result<u32, Error>
         ensures ok { Tells R.remaining → IfOk result (λ n. Enters list (cond wide 4 1) self.old n self.new) }
         ensures err { Tells R.remaining → IfErr result (λ e. Stops false (EnterFault list (cond wide 4 1) self.old) self.old e self.new) }
+        ensures goes { Goes false self.old result self.new }
     {
         let (count, content) = self.header(wide, true)?;
         self.open(Place::InList, count, content)
@@ -87,6 +90,7 @@ impl<R: ByteSource> Decoder<R> {
     fn open_map(&mut self, wide: bool) -> Result<u32, Error>
         ensures ok { Tells R.remaining → IfOk result (λ n. Enters map (cond wide 4 1) self.old n self.new) }
         ensures err { Tells R.remaining → IfErr result (λ e. Stops false (EnterFault map (cond wide 4 1) self.old) self.old e self.new) }
+        ensures goes { Goes false self.old result self.new }
     {
         let (count, content) = self.header(wide, false)?;
         if count % 2 == 1 {
@@ -99,7 +103,8 @@ impl<R: ByteSource> Decoder<R> {
     /// values.
     #[inline]
     pub fn begin_list(&mut self) -> Result<u32, Error>
-        ensures { Tells R.remaining → AnswersRead false (Opens list) (OpenFault list) self.old result self.new }
+        ensures read { Tells R.remaining → AnswersRead false (Opens list) (OpenFault list) self.old result self.new }
+        ensures tries { Tries false self.old result self.new }
     {
         match self.begin()? {
             format_code::LIST_0 => self.open(Place::InList, 0, 0),
@@ -113,7 +118,8 @@ impl<R: ByteSource> Decoder<R> {
     /// `OddCount` where the number is odd.
     #[inline]
     pub fn begin_map(&mut self) -> Result<u32, Error>
-        ensures { Tells R.remaining → AnswersRead false (Opens map) (OpenFault map) self.old result self.new }
+        ensures read { Tells R.remaining → AnswersRead false (Opens map) (OpenFault map) self.old result self.new }
+        ensures tries { Tries false self.old result self.new }
     {
         match self.begin()? {
             format_code::MAP_8 => self.open_map(false),
@@ -125,7 +131,8 @@ impl<R: ByteSource> Decoder<R> {
     // Ends the list or map that is open.
     #[inline]
     fn close(&mut self, place: Place) -> Result<(), Error>
-        ensures { Tells R.remaining → AnswersRead false (λ st _ st'. Closes place st st') (CloseFault place) self.old result self.new }
+        ensures read { Tells R.remaining → AnswersRead false (λ st _ st'. Closes place st st') (CloseFault place) self.old result self.new }
+        ensures tries { Tries false self.old result self.new }
     {
         self.check_end(place)?;
         self.check_bytes()?;
@@ -136,7 +143,8 @@ impl<R: ByteSource> Decoder<R> {
     /// Ends the list that is open: `Surplus` where values are left, `InvalidValue` where none is open.
     #[inline]
     pub fn end_list(&mut self) -> Result<(), Error>
-        ensures { Tells R.remaining → AnswersRead false (λ st _ st'. Closes InList st st') (CloseFault InList) self.old result self.new }
+        ensures read { Tells R.remaining → AnswersRead false (λ st _ st'. Closes InList st st') (CloseFault InList) self.old result self.new }
+        ensures tries { Tries false self.old result self.new }
     {
         self.close(Place::InList)
     }
@@ -144,7 +152,8 @@ impl<R: ByteSource> Decoder<R> {
     /// Ends the map that is open: `Surplus` where values are left, `InvalidValue` where none is open.
     #[inline]
     pub fn end_map(&mut self) -> Result<(), Error>
-        ensures { Tells R.remaining → AnswersRead false (λ st _ st'. Closes InMap st st') (CloseFault InMap) self.old result self.new }
+        ensures read { Tells R.remaining → AnswersRead false (λ st _ st'. Closes InMap st st') (CloseFault InMap) self.old result self.new }
+        ensures tries { Tries false self.old result self.new }
     {
         self.close(Place::InMap)
     }

@@ -9,7 +9,7 @@ ghost use Rattle.amqp_wire.specs.Sources.{Tells};
 ghost use Rattle.amqp_wire.specs.Codes.{refusal_of};
 ghost use Rattle.amqp_lookahead.specs.Members.{place_of as place_in};
 ghost use Rattle.amqp_decoder.specs.State.{after_bytes, descriptor_of};
-ghost use Rattle.amqp_decoder.specs.Steps.{Answers};
+ghost use Rattle.amqp_decoder.specs.Steps.{Answers, Fails, Goes, Tries};
 ghost use Rattle.amqp_decoder.specs.Reading.{ReadsCode};
 ghost use Rattle.amqp_decoder.specs.Primitives.{AnswersFault};
 ghost use Rattle.amqp_decoder.specs.Rooms.{HasRoom};
@@ -32,6 +32,7 @@ impl<R: ByteSource> Decoder<R> {
     fn begin_descriptor(&mut self) -> Result<(), Error>
         ensures ok { Tells R.remaining → IfOk result (λ _. ReadsCode self.old 0 self.new) }
         ensures err { Tells R.remaining → IfErr result (λ e. AnswersFault false DescribedFault self.old e self.new) }
+        ensures tries { Tries false self.old result self.new }
     {
         let code = self.begin()?;
         if code != format_code::DESCRIBED {
@@ -48,6 +49,7 @@ impl<R: ByteSource> Decoder<R> {
     pub(crate) fn refuse_descriptor(&mut self, code: u8) -> Error
         ensures answer { result ≡ other_kind (refusal_of code) }
         ensures kept { self.new ≡ record self.old { error = Some result } }
+        ensures fails { Fails false self.old result self.new }
     {
         match format_code::refusal(code) {
             Error::WrongType(_) => self.stop(Error::BadDescriptor),
@@ -61,6 +63,7 @@ impl<R: ByteSource> Decoder<R> {
         ensures ok { IfOk result (λ wide. (code ≡ symbol_code wide) × (self.new ≡ self.old)) }
         ensures err { IfErr result (λ e. (code ≡ 0xa3 → ⊥) × (code ≡ 0xb3 → ⊥) × (e ≡ other_kind (refusal_of code))
             × Answers self.old e self.new) }
+        ensures goes { Goes false self.old result self.new }
     {
         match code {
             format_code::SYMBOL_8 => Ok(false),
@@ -74,6 +77,7 @@ impl<R: ByteSource> Decoder<R> {
         ensures ok { Tells R.remaining → self.old.top.shared ≡ None
             → IfOk result (λ d. TakesDescriptor self.old (descriptor_of d) self.new) }
         ensures err { Tells R.remaining → self.old.top.shared ≡ None → IfErr result (λ e. MissesDescriptor true self.old e self.new) }
+        ensures goes { Goes true self.old result self.new }
     {
         let code = self.byte()?;
         if let Some(value) = self.ulong_data(code)? {
@@ -90,6 +94,7 @@ impl<R: ByteSource> Decoder<R> {
             → IfOk result (λ d. TakesDescriptor self.old (descriptor_of d) self.new) }
         ensures err { Tells R.remaining → IsDescribable self.old.top.shared
             → IfErr result (λ e. MissesDescriptor true self.old e self.new) }
+        ensures goes { Goes true self.old result self.new }
     {
         let Some(descriptor) = self.shared_descriptor() else {
             return self.descriptor(alloc);
@@ -107,6 +112,7 @@ impl<R: ByteSource> Decoder<R> {
         ensures opened { Tells R.remaining → AnswersRead true (λ st d st'. OpensDescribed st (descriptor_of d) st') OpenFault
             self.old result self.new }
         ensures nesting { self.old.nesting ≡ 128 }
+        ensures tries { Tries true self.old result self.new }
     {
         self.room();
         self.begin_descriptor()?;
@@ -122,6 +128,7 @@ impl<R: ByteSource> Decoder<R> {
         ensures ok { Tells R.remaining → IfOk result (λ place. (len ≤ length self.old.rest) × IsAscii (take len self.old.rest)
             × (place ≡ place_in members.now (of_name (take len self.old.rest))) × (self.new ≡ after_bytes len self.old)) }
         ensures err { Tells R.remaining → IfErr result (λ e. MissesName len self.old e self.new) }
+        ensures goes { Goes false self.old result self.new }
     {
         let mut buffer = [0; PIECE];
         let mut known: Option<&[u8]> = Some(&[]);
@@ -150,6 +157,7 @@ impl<R: ByteSource> Decoder<R> {
             → IfOk result (λ place. TakesPlace members.now self.old place self.new) }
         ensures err { Tells R.remaining → IsDescribable self.old.top.shared
             → IfErr result (λ e. MissesDescriptor false self.old e self.new) }
+        ensures goes { Goes false self.old result self.new }
     {
         if let Some(descriptor) = self.shared_descriptor() {
             return Ok(place_of(members, descriptor));
@@ -169,6 +177,7 @@ impl<R: ByteSource> Decoder<R> {
         ensures opened { Tells R.remaining → AnswersRead false (OpensOneOf members.now) (OneOfFault members.now) self.old result self.new }
         ensures nesting { Tells R.remaining → IfOk result (λ _. self.old.nesting ≡ 128) }
         ensures room { HasRoom self.old }
+        ensures tries { Tries false self.old result self.new }
     {
         self.room();
         self.begin_descriptor()?;
@@ -183,7 +192,8 @@ impl<R: ByteSource> Decoder<R> {
     /// open.
     #[inline]
     pub fn end_described(&mut self) -> Result<(), Error>
-        ensures { AnswersRead false (λ st _ st'. ClosesDescribed InDescribed st st') (EndFault InDescribed) self.old result self.new }
+        ensures read { AnswersRead false (λ st _ st'. ClosesDescribed InDescribed st st') (EndFault InDescribed) self.old result self.new }
+        ensures tries { Tries false self.old result self.new }
     {
         self.check_end(Place::InDescribed)?;
         self.leave_described();

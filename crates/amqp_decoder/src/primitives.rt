@@ -8,6 +8,7 @@ ghost use Rattle.amqp_decoder.specs.Primitives.{ReadsFixed, FixedFault, AnswersF
 ghost use Rattle.amqp_decoder.specs.Primitives.{LacksDataOf};
 ghost use Rattle.amqp_lookahead.specs.Kinds.{kind_at, nulls, booleans, ubytes, ushorts, uints, ulongs, bytes, shorts, ints, longs, decimals32};
 ghost use Rattle.amqp_lookahead.specs.Kinds.{decimals64, decimals128, chars, timestamps, uuids};
+ghost use Rattle.amqp_decoder.specs.Steps.{Goes, Tries};
 
 use crate::Decoder;
 use amqp_wire::{ByteSource, Error, format_code};
@@ -19,6 +20,7 @@ impl<R: ByteSource> Decoder<R> {
         requires { N < 256 }
         ensures ok { Tells R.remaining → IfOk result (λ b. ReadsFixed code N self.old b self.new) }
         ensures err { Tells R.remaining → IfErr result (λ e. AnswersFault false (FixedFault code N) self.old e self.new) }
+        ensures tries { Tries false self.old result self.new }
     {
         let found = self.begin()?;
         if found != code {
@@ -30,7 +32,8 @@ impl<R: ByteSource> Decoder<R> {
     /// Null (Part 1, section 1.6.1).
     #[inline]
     pub fn read_null(&mut self) -> Result<(), Error>
-        ensures { Tells R.remaining → AnswersRead false (ReadsValue (Means (λ _. null))) (PrimitiveFault nulls) self.old result self.new }
+        ensures read { Tells R.remaining → AnswersRead false (ReadsValue (Means (λ _. null))) (PrimitiveFault nulls) self.old result self.new }
+        ensures tries { Tries false self.old result self.new }
     {
         let _data = self.fixed::<0>(format_code::NULL)?;
         Ok(())
@@ -39,7 +42,8 @@ impl<R: ByteSource> Decoder<R> {
     /// A boolean (Part 1, section 1.6.2); `BadBool` where its byte is above 1.
     #[inline]
     pub fn read_bool(&mut self) -> Result<bool, Error>
-        ensures { Tells R.remaining → AnswersRead false (ReadsValue (Means boolean)) (PrimitiveFault booleans) self.old result self.new }
+        ensures read { Tells R.remaining → AnswersRead false (ReadsValue (Means boolean)) (PrimitiveFault booleans) self.old result self.new }
+        ensures tries { Tries false self.old result self.new }
     {
         match self.begin()? {
             format_code::BOOLEAN_TRUE => Ok(true),
@@ -56,7 +60,8 @@ impl<R: ByteSource> Decoder<R> {
     /// An unsigned integer of 8 bits (Part 1, section 1.6.3).
     #[inline]
     pub fn read_ubyte(&mut self) -> Result<u8, Error>
-        ensures { Tells R.remaining → AnswersRead false (ReadsValue (Means ubyte)) (PrimitiveFault ubytes) self.old result self.new }
+        ensures read { Tells R.remaining → AnswersRead false (ReadsValue (Means ubyte)) (PrimitiveFault ubytes) self.old result self.new }
+        ensures tries { Tries false self.old result self.new }
     {
         Ok(u8::from_be_bytes(self.fixed(format_code::UBYTE)?))
     }
@@ -64,7 +69,8 @@ impl<R: ByteSource> Decoder<R> {
     /// An unsigned integer of 16 bits (Part 1, section 1.6.4).
     #[inline]
     pub fn read_ushort(&mut self) -> Result<u16, Error>
-        ensures { Tells R.remaining → AnswersRead false (ReadsValue (Means ushort)) (PrimitiveFault ushorts) self.old result self.new }
+        ensures read { Tells R.remaining → AnswersRead false (ReadsValue (Means ushort)) (PrimitiveFault ushorts) self.old result self.new }
+        ensures tries { Tries false self.old result self.new }
     {
         Ok(u16::from_be_bytes(self.fixed(format_code::USHORT)?))
     }
@@ -72,7 +78,8 @@ impl<R: ByteSource> Decoder<R> {
     /// An unsigned integer of 32 bits (Part 1, section 1.6.5).
     #[inline]
     pub fn read_uint(&mut self) -> Result<u32, Error>
-        ensures { Tells R.remaining → AnswersRead false (ReadsValue (Means uint)) (PrimitiveFault uints) self.old result self.new }
+        ensures read { Tells R.remaining → AnswersRead false (ReadsValue (Means uint)) (PrimitiveFault uints) self.old result self.new }
+        ensures tries { Tries false self.old result self.new }
     {
         match self.begin()? {
             format_code::UINT_0 => Ok(0),
@@ -90,6 +97,7 @@ impl<R: ByteSource> Decoder<R> {
             (λ o. MatchOption o ((kind_at code ≡ Some ulongs → ⊥) × (self.new ≡ self.old))
             (λ v. ReadsData code (ulong v) self.old self.new)) }
         ensures err { Tells R.remaining → IfErr result (λ e. LacksDataOf ulongs code self.old e self.new) }
+        ensures goes { Goes false self.old result self.new }
     {
         match code {
             format_code::ULONG_0 => Ok(Some(0)),
@@ -102,7 +110,8 @@ impl<R: ByteSource> Decoder<R> {
     /// An unsigned integer of 64 bits (Part 1, section 1.6.6).
     #[inline]
     pub fn read_ulong(&mut self) -> Result<u64, Error>
-        ensures { Tells R.remaining → AnswersRead false (ReadsValue (Means ulong)) (PrimitiveFault ulongs) self.old result self.new }
+        ensures read { Tells R.remaining → AnswersRead false (ReadsValue (Means ulong)) (PrimitiveFault ulongs) self.old result self.new }
+        ensures tries { Tries false self.old result self.new }
     {
         let code = self.begin()?;
         match self.ulong_data(code)? {
@@ -114,7 +123,8 @@ impl<R: ByteSource> Decoder<R> {
     /// A signed integer of 8 bits (Part 1, section 1.6.7).
     #[inline]
     pub fn read_byte(&mut self) -> Result<i8, Error>
-        ensures { Tells R.remaining → AnswersRead false (ReadsValue (Means byte)) (PrimitiveFault bytes) self.old result self.new }
+        ensures read { Tells R.remaining → AnswersRead false (ReadsValue (Means byte)) (PrimitiveFault bytes) self.old result self.new }
+        ensures tries { Tries false self.old result self.new }
     {
         Ok(i8::from_be_bytes(self.fixed(format_code::BYTE)?))
     }
@@ -122,7 +132,8 @@ impl<R: ByteSource> Decoder<R> {
     /// A signed integer of 16 bits (Part 1, section 1.6.8).
     #[inline]
     pub fn read_short(&mut self) -> Result<i16, Error>
-        ensures { Tells R.remaining → AnswersRead false (ReadsValue (Means short)) (PrimitiveFault shorts) self.old result self.new }
+        ensures read { Tells R.remaining → AnswersRead false (ReadsValue (Means short)) (PrimitiveFault shorts) self.old result self.new }
+        ensures tries { Tries false self.old result self.new }
     {
         Ok(i16::from_be_bytes(self.fixed(format_code::SHORT)?))
     }
@@ -130,7 +141,8 @@ impl<R: ByteSource> Decoder<R> {
     /// A signed integer of 32 bits (Part 1, section 1.6.9).
     #[inline]
     pub fn read_int(&mut self) -> Result<i32, Error>
-        ensures { Tells R.remaining → AnswersRead false (ReadsValue (Means int)) (PrimitiveFault ints) self.old result self.new }
+        ensures read { Tells R.remaining → AnswersRead false (ReadsValue (Means int)) (PrimitiveFault ints) self.old result self.new }
+        ensures tries { Tries false self.old result self.new }
     {
         match self.begin()? {
             format_code::SMALL_INT => Ok(i32::from(i8::from_be_bytes(self.take()?))),
@@ -142,7 +154,8 @@ impl<R: ByteSource> Decoder<R> {
     /// A signed integer of 64 bits (Part 1, section 1.6.10).
     #[inline]
     pub fn read_long(&mut self) -> Result<i64, Error>
-        ensures { Tells R.remaining → AnswersRead false (ReadsValue (Means long)) (PrimitiveFault longs) self.old result self.new }
+        ensures read { Tells R.remaining → AnswersRead false (ReadsValue (Means long)) (PrimitiveFault longs) self.old result self.new }
+        ensures tries { Tries false self.old result self.new }
     {
         match self.begin()? {
             format_code::SMALL_LONG => Ok(i64::from(i8::from_be_bytes(self.take()?))),
@@ -154,8 +167,9 @@ impl<R: ByteSource> Decoder<R> {
     /// The bytes of a decimal of 32 bits (Part 1, section 1.6.13).
     #[inline]
     pub fn read_dec32(&mut self) -> Result<[u8; 4], Error>
-        ensures { Tells R.remaining
+        ensures read { Tells R.remaining
             → AnswersRead false (ReadsValue (Means decimal32)) (PrimitiveFault decimals32) self.old result self.new }
+        ensures tries { Tries false self.old result self.new }
     {
         self.fixed(format_code::DECIMAL_32)
     }
@@ -163,8 +177,9 @@ impl<R: ByteSource> Decoder<R> {
     /// The bytes of a decimal of 64 bits (Part 1, section 1.6.14).
     #[inline]
     pub fn read_dec64(&mut self) -> Result<[u8; 8], Error>
-        ensures { Tells R.remaining
+        ensures read { Tells R.remaining
             → AnswersRead false (ReadsValue (Means decimal64)) (PrimitiveFault decimals64) self.old result self.new }
+        ensures tries { Tries false self.old result self.new }
     {
         self.fixed(format_code::DECIMAL_64)
     }
@@ -172,8 +187,9 @@ impl<R: ByteSource> Decoder<R> {
     /// The bytes of a decimal of 128 bits (Part 1, section 1.6.15).
     #[inline]
     pub fn read_dec128(&mut self) -> Result<[u8; 16], Error>
-        ensures { Tells R.remaining → AnswersRead false (ReadsValue (Means decimal128)) (PrimitiveFault decimals128)
+        ensures read { Tells R.remaining → AnswersRead false (ReadsValue (Means decimal128)) (PrimitiveFault decimals128)
             self.old result self.new }
+        ensures tries { Tries false self.old result self.new }
     {
         self.fixed(format_code::DECIMAL_128)
     }
@@ -181,7 +197,8 @@ impl<R: ByteSource> Decoder<R> {
     /// A character (Part 1, section 1.6.16); `BadChar` where it is no Unicode scalar value.
     #[inline]
     pub fn read_char(&mut self) -> Result<char, Error>
-        ensures { Tells R.remaining → AnswersRead false (ReadsValue (Means char)) (PrimitiveFault chars) self.old result self.new }
+        ensures read { Tells R.remaining → AnswersRead false (ReadsValue (Means char)) (PrimitiveFault chars) self.old result self.new }
+        ensures tries { Tries false self.old result self.new }
     {
         let number = u32::from_be_bytes(self.fixed(format_code::CHAR)?);
         match char::from_u32(number) {
@@ -193,8 +210,9 @@ impl<R: ByteSource> Decoder<R> {
     /// The milliseconds of a timestamp (Part 1, section 1.6.17).
     #[inline]
     pub fn read_timestamp(&mut self) -> Result<i64, Error>
-        ensures { Tells R.remaining
+        ensures read { Tells R.remaining
             → AnswersRead false (ReadsValue (Means timestamp)) (PrimitiveFault timestamps) self.old result self.new }
+        ensures tries { Tries false self.old result self.new }
     {
         Ok(i64::from_be_bytes(self.fixed(format_code::TIMESTAMP)?))
     }
@@ -202,7 +220,8 @@ impl<R: ByteSource> Decoder<R> {
     /// The bytes of a UUID (Part 1, section 1.6.18).
     #[inline]
     pub fn read_uuid(&mut self) -> Result<[u8; 16], Error>
-        ensures { Tells R.remaining → AnswersRead false (ReadsValue (Means uuid)) (PrimitiveFault uuids) self.old result self.new }
+        ensures read { Tells R.remaining → AnswersRead false (ReadsValue (Means uuid)) (PrimitiveFault uuids) self.old result self.new }
+        ensures tries { Tries false self.old result self.new }
     {
         self.fixed(format_code::UUID)
     }

@@ -10,7 +10,7 @@ ghost use Rattle.amqp_lengths.specs.Fronts.{IsFront};
 ghost use Rattle.amqp_lengths.specs.Pieces.{NamesAny};
 ghost use Rattle.amqp_lengths.specs.Lengths.{IsTerm};
 ghost use Rattle.amqp_lengths.specs.Announced.{IsAnnounced};
-ghost use Rattle.amqp_decoder.specs.Steps.{Takes, Lacks, Stops};
+ghost use Rattle.amqp_decoder.specs.Steps.{Takes, Lacks, Stops, Goes, Tries};
 ghost use Rattle.amqp_decoder.specs.Reading.{AnswersRead};
 ghost use Rattle.amqp_decoder.specs.Described.{DescriptorFault};
 ghost use Rattle.amqp_decoder.specs.Arrays.{ConstructorFault};
@@ -66,6 +66,7 @@ impl<R: ByteSource> Decoder<R> {
         ensures ok { Tells R.remaining
             → IfOk result (λ code. Keeps (λ s. s ≡ code ∷ []) bytes.old.items self.old bytes.new.items self.new) }
         ensures err { Tells R.remaining → IfErr result (λ e. Stops true (Lacks 1 self.old) self.old e self.new) }
+        ensures goes { Goes true self.old result self.new }
     {
         let code = self.byte()?;
         match bytes.push(code) {
@@ -78,6 +79,7 @@ impl<R: ByteSource> Decoder<R> {
     fn keep_next(&mut self, len: u32, bytes: &mut Vec<u8>) -> Result<(), Error>
         ensures ok { Tells R.remaining → IfOk result (λ _. Keeps (λ s. length s ≡ len) bytes.old.items self.old bytes.new.items self.new) }
         ensures err { Tells R.remaining → IfErr result (λ e. Stops true (Lacks len self.old) self.old e self.new) }
+        ensures goes { Goes true self.old result self.new }
     {
         self.lower(len)?;
         self.keep(len, bytes)
@@ -89,6 +91,7 @@ impl<R: ByteSource> Decoder<R> {
             (λ n. Keeps (λ s. s ≡ bytes_high_first (cond wide 4 1) n) bytes.old.items self.old bytes.new.items self.new) }
         ensures err { Tells R.remaining → IfErr result (λ e. Stops true (Lacks (cond wide 4 1) self.old) self.old e self.new) }
         ensures fits { IfOk result (λ n. n < 256 ^ cond wide 4 1) }
+        ensures goes { Goes true self.old result self.new }
     {
         let number = self.number(wide)?;
         let digits = number.to_be_bytes();
@@ -103,6 +106,7 @@ impl<R: ByteSource> Decoder<R> {
         ensures ok { Tells R.remaining → IfOk result
             (λ _. Keeps (IsSymbol (cond wide 4 1)) bytes.old.items self.old bytes.new.items self.new) }
         ensures err { Tells R.remaining → IfErr result (λ e. Stops true (SymbolFault (cond wide 4 1) self.old) self.old e self.new) }
+        ensures goes { Goes true self.old result self.new }
     {
         let len = self.keep_number(wide, bytes)?;
         let start = bytes.len();
@@ -117,6 +121,7 @@ impl<R: ByteSource> Decoder<R> {
     fn keep_descriptor_bytes(&mut self, bytes: &mut Vec<u8>) -> Result<(), Error>
         ensures ok { Tells R.remaining → IfOk result (λ _. Keeps NamesAny bytes.old.items self.old bytes.new.items self.new) }
         ensures err { Tells R.remaining → IfErr result (λ e. Stops true (DescriptorFault self.old) self.old e self.new) }
+        ensures goes { Goes true self.old result self.new }
     {
         let code = self.keep_code(bytes)?;
         match code {
@@ -134,6 +139,7 @@ impl<R: ByteSource> Decoder<R> {
         ensures ok { Tells R.remaining
             → IfOk result (λ code. Keeps (IsConstructor code) bytes.old.items self.old bytes.new.items self.new) }
         ensures err { Tells R.remaining → IfErr result (λ e. Stops true (ConstructorFault self.old) self.old e self.new) }
+        ensures goes { Goes true self.old result self.new }
     {
         let mut code = self.keep_code(bytes)?;
         let mut count = 0;
@@ -155,6 +161,7 @@ impl<R: ByteSource> Decoder<R> {
             → IfOk result (λ _. Keeps (IsAnnounced (format code)) bytes.old.items self.old bytes.new.items self.new) }
         ensures err { Tells R.remaining → IsKnown (format code)
             → IfErr result (λ e. Stops true (LacksAnnounced (format code) self.old) self.old e self.new) }
+        ensures goes { Goes true self.old result self.new }
     {
         match data_of(code) {
             Data::Fixed(width) => self.keep_next(width, bytes),
@@ -172,6 +179,7 @@ impl<R: ByteSource> Decoder<R> {
             × (self.new ≡ self.old)) }
         ensures err { Tells R.remaining → IfErr result
             (λ e. Stops false (NoTerm (self.old.nesting - length self.old.saved) bytes.now self.old) self.old e self.new) }
+        ensures goes { Goes false self.old result self.new }
     {
         match len_of_term(bytes, self.nesting_left()) {
             Ok(_) => Ok(()),
@@ -185,6 +193,7 @@ impl<R: ByteSource> Decoder<R> {
         ensures ok { Tells R.remaining → IfOk result (λ bytes. Takes self.old bytes.items self.new
             × IsTerm (self.old.nesting - length self.old.saved) bytes.items) }
         ensures err { Tells R.remaining → IfErr result (λ e. Stops true (SpellingFault self.old) self.old e self.new) }
+        ensures goes { Goes true self.old result self.new }
     {
         let mut bytes = Vec::new(alloc);
         let code = self.keep_constructor(&mut bytes)?;
@@ -200,6 +209,7 @@ impl<R: ByteSource> Decoder<R> {
         ensures read { Tells R.remaining → AnswersRead true (λ st bytes st'. TakesTerm st bytes.items st') TermFault
             self.old result self.new }
         ensures again { (e : Error) → self.old.error ≡ Some e → (result ≡ Err e) × (self.new ≡ self.old) }
+        ensures tries { Tries true self.old result self.new }
     {
         self.check_item()?;
         if self.shared_code().is_some() {

@@ -5,7 +5,7 @@ ghost use Rattle.amqp_model.specs.Term.{binary, string, symbol};
 ghost use Rattle.amqp_wire.specs.Sources.{Tells};
 ghost use Rattle.amqp_lookahead.specs.Kinds.{binaries, strings, symbols};
 ghost use Rattle.amqp_decoder.specs.State.{after_bytes};
-ghost use Rattle.amqp_decoder.specs.Steps.{Answers, Misses};
+ghost use Rattle.amqp_decoder.specs.Steps.{Answers, Misses, Goes, Tries};
 ghost use Rattle.amqp_decoder.specs.Reading.{AnswersRead};
 ghost use Rattle.amqp_decoder.specs.Primitives.{ReadsSize, SizedFault, ReadsSized, ReadsText, TextFault, AnswersFault, ReadsValue, Means};
 ghost use Rattle.amqp_decoder.specs.Primitives.{PrimitiveFault};
@@ -28,6 +28,7 @@ impl<R: ByteSource> Decoder<R> {
         ensures ok { Tells R.remaining → IfOk result (λ _. (len ≤ length self.old.rest)
             × (text.new.items ≡ text.old.items ++ take len self.old.rest) × (self.new ≡ after_bytes len self.old)) }
         ensures err { Tells R.remaining → IfErr result (λ e. Misses true len self.old e self.new) }
+        ensures goes { Goes true self.old result self.new }
     {
         let mut buffer = [0; N];
         let mut left = len as usize;
@@ -49,6 +50,7 @@ impl<R: ByteSource> Decoder<R> {
         ensures ok { Tells R.remaining → IfOk result (λ _. (len ≤ length self.old.rest)
             × (text.new.items ≡ text.old.items ++ take len self.old.rest) × (self.new ≡ after_bytes len self.old)) }
         ensures err { Tells R.remaining → IfErr result (λ e. Misses true len self.old e self.new) }
+        ensures goes { Goes true self.old result self.new }
     {
         if len <= SHORT {
             self.keep_pieces::<64>(len, text)
@@ -63,6 +65,7 @@ impl<R: ByteSource> Decoder<R> {
         ensures ok { Tells R.remaining → IfOk result (λ _. (len ≤ length self.old.rest)
             × (text.new.items ≡ text.old.items ++ take len self.old.rest) × (self.new ≡ after_bytes len self.old)) }
         ensures err { Tells R.remaining → IfErr result (λ e. Misses true len self.old e self.new) }
+        ensures goes { Goes true self.old result self.new }
     {
         if self.append_ready(len, text)? {
             return Ok(());
@@ -75,6 +78,7 @@ impl<R: ByteSource> Decoder<R> {
     pub(crate) fn text_len(&mut self, wide: bool) -> Result<u32, Error>
         ensures ok { Tells R.remaining → IfOk result (λ n. ReadsSize (cond wide 4 1) self.old n self.new) }
         ensures err { Tells R.remaining → IfErr result (λ e. SizedFault false (cond wide 4 1) self.old e self.new) }
+        ensures goes { Goes false self.old result self.new }
     {
         let len = self.number(wide)?;
         self.lower(len)?;
@@ -86,6 +90,7 @@ impl<R: ByteSource> Decoder<R> {
     pub(crate) fn text_data(&mut self, wide: bool, alloc: Global) -> Result<Vec<u8>, Error>
         ensures ok { Tells R.remaining → IfOk result (λ text. ReadsSized (cond wide 4 1) self.old text.items self.new) }
         ensures err { Tells R.remaining → IfErr result (λ e. SizedFault true (cond wide 4 1) self.old e self.new) }
+        ensures goes { Goes true self.old result self.new }
     {
         let len = self.text_len(wide)?;
         let mut text = Vec::new(alloc);
@@ -98,6 +103,7 @@ impl<R: ByteSource> Decoder<R> {
     fn content(&mut self, narrow: u8, wide: u8, alloc: Global) -> Result<Vec<u8>, Error>
         ensures ok { Tells R.remaining → IfOk result (λ text. ReadsText narrow wide self.old text.items self.new) }
         ensures err { Tells R.remaining → IfErr result (λ e. AnswersFault true (TextFault narrow wide) self.old e self.new) }
+        ensures tries { Tries true self.old result self.new }
     {
         let code = self.begin()?;
         if code == narrow {
@@ -114,6 +120,7 @@ impl<R: ByteSource> Decoder<R> {
     pub(crate) fn ascii(&mut self, text: Vec<u8>) -> Result<Symbol, Error>
         ensures ok { IfOk result (λ symbol. IsAscii text.items × (string_bytes symbol.0 ≡ text.items) × (self.new ≡ self.old)) }
         ensures err { IfErr result (λ e. (IsAscii text.items → ⊥) × (e ≡ Error.NonAscii) × Answers self.old e self.new) }
+        ensures goes { Goes false self.old result self.new }
     {
         if !text.is_ascii() {
             drop(text);
@@ -127,16 +134,18 @@ impl<R: ByteSource> Decoder<R> {
 
     /// Bytes (Part 1, section 1.6.19).
     pub fn read_binary(&mut self, alloc: Global) -> Result<Vec<u8>, Error>
-        ensures { Tells R.remaining → AnswersRead true (ReadsValue (Means (λ bytes. binary bytes.items))) (PrimitiveFault binaries)
+        ensures read { Tells R.remaining → AnswersRead true (ReadsValue (Means (λ bytes. binary bytes.items))) (PrimitiveFault binaries)
             self.old result self.new }
+        ensures tries { Tries true self.old result self.new }
     {
         self.content(format_code::BINARY_8, format_code::BINARY_32, alloc)
     }
 
     /// A text (Part 1, section 1.6.20); `BadUtf8` where it is not UTF-8.
     pub fn read_string(&mut self, alloc: Global) -> Result<String, Error>
-        ensures { Tells R.remaining → AnswersRead true (ReadsValue (Means (λ text. string (string_bytes text)))) (PrimitiveFault strings)
+        ensures read { Tells R.remaining → AnswersRead true (ReadsValue (Means (λ text. string (string_bytes text)))) (PrimitiveFault strings)
             self.old result self.new }
+        ensures tries { Tries true self.old result self.new }
     {
         let text = self.content(format_code::STRING_8, format_code::STRING_32, alloc)?;
         match String::from_utf8(text) {
@@ -147,8 +156,9 @@ impl<R: ByteSource> Decoder<R> {
 
     /// A symbol (Part 1, section 1.6.21); `NonAscii` where a byte is above 0x7f.
     pub fn read_symbol(&mut self, alloc: Global) -> Result<Symbol, Error>
-        ensures { Tells R.remaining → AnswersRead true (ReadsValue (Means (λ text. symbol (string_bytes text.0)))) (PrimitiveFault symbols)
+        ensures read { Tells R.remaining → AnswersRead true (ReadsValue (Means (λ text. symbol (string_bytes text.0)))) (PrimitiveFault symbols)
             self.old result self.new }
+        ensures tries { Tries true self.old result self.new }
     {
         let text = self.content(format_code::SYMBOL_8, format_code::SYMBOL_32, alloc)?;
         self.ascii(text)

@@ -5,6 +5,7 @@ ghost use Rattle.amqp_wire.specs.declared.error.Error.TheVariants.{Memory, Unkno
 ghost use Rattle.amqp_wire.specs.Sources.{Tells};
 ghost use Rattle.amqp_decoder.specs.Reading.{AnswersRead};
 ghost use Rattle.amqp_decoder.specs.Primitives.{ReadsValue, Means, PrimitiveFault};
+ghost use Rattle.amqp_decoder.specs.Steps.{Tries};
 ghost use Rattle.amqp_codec.specs.Written.{WritesTerms};
 ghost use Rattle.amqp_codec.specs.PrimitiveTypes.{boolean_base, ubyte_base, ushort_base, uint_base, symbol_base};
 ghost use Rattle.amqp_enums.specs.Restricted.{ReadsRestricted, IsUnknown, Converts};
@@ -22,8 +23,9 @@ pub trait Base: Sized + Drop {
 
     /// Reads a number.
     fn read<R: ByteSource>(decoder: &mut Decoder<R>) -> Result<Self, Error>
-        ensures { Tells R.remaining → AnswersRead false (ReadsValue (Means base.make)) (PrimitiveFault base.kind)
-            decoder.old result decoder.new };
+        ensures read { Tells R.remaining → AnswersRead false (ReadsValue (Means base.make)) (PrimitiveFault base.kind)
+            decoder.old result decoder.new }
+        ensures tries { Tries false decoder.old result decoder.new };
 
     /// Writes the number.
     fn write(self, encoder: &mut Encoder) -> Result<(), Error>
@@ -99,7 +101,8 @@ pub trait RestrictedNumber: Sized + Drop {
 
 /// Reads a value by its number. Takes no memory. Any other number of the primitive type is `UnknownNumber`.
 pub fn read_number<T: RestrictedNumber, R: ByteSource>(decoder: &mut Decoder<R>) -> Result<T, Error>
-    ensures { Tells R.remaining → ReadsRestricted T.Number.base UnknownNumber T.numbers false decoder.old result decoder.new }
+    ensures read { Tells R.remaining → ReadsRestricted T.Number.base UnknownNumber T.numbers false decoder.old result decoder.new }
+    ensures tries { Tries false decoder.old result decoder.new }
 {
     let number = T::Number::read(decoder)?;
     match T::from_number(number) {
@@ -136,7 +139,8 @@ pub fn read_text<T: RestrictedText, R: ByteSource>(
     decoder: &mut Decoder<R>,
     alloc: Global,
 ) -> Result<T, Error>
-    ensures { Tells R.remaining → ReadsRestricted symbol_base UnknownText T.texts true decoder.old result decoder.new }
+    ensures read { Tells R.remaining → ReadsRestricted symbol_base UnknownText T.texts true decoder.old result decoder.new }
+    ensures tries { Tries true decoder.old result decoder.new }
 {
     let symbol = decoder.read_symbol(alloc)?;
     match T::from_text(symbol.as_str()) {

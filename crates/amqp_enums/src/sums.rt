@@ -6,6 +6,7 @@ ghost use Rattle.amqp_wire.specs.Sources.{Tells};
 ghost use Rattle.amqp_lookahead.specs.Members.{as_name};
 ghost use Rattle.amqp_decoder.specs.Reading.{AnswersRead};
 ghost use Rattle.amqp_decoder.specs.Primitives.{ReadsValue};
+ghost use Rattle.amqp_decoder.specs.Steps.{Tries};
 ghost use Rattle.amqp_codec.specs.Fields.{take_memory};
 ghost use Rattle.amqp_codec.specs.FieldReading.{FieldsFault};
 ghost use Rattle.amqp_codec.specs.Written.{WritesTerms, canon_of};
@@ -34,16 +35,18 @@ pub trait Sum: Sized + Drop {
         decoder: &mut Decoder<R>,
         alloc: Global,
     ) -> Result<Self, Error>
-        ensures { place < length (names_of sum.choices) → Tells R.remaining →
+        ensures read { place < length (names_of sum.choices) → Tells R.remaining →
             AnswersRead (takes_at sum.choices place) (reads_at sum.choices place) (faults_at sum.choices place).fault
-            decoder.old result decoder.new };
+            decoder.old result decoder.new }
+        ensures tries { Tries (takes_at sum.choices place) decoder.old result decoder.new };
 }
 
 /// Reads a sum of composites.
 pub fn read_sum<S: Sum, R: ByteSource>(decoder: &mut Decoder<R>, alloc: Global) -> Result<S, Error>
-    ensures { Tells R.remaining →
+    ensures read { Tells R.remaining →
         AnswersRead (sum_of S.sum).takes_memory (ReadsValue (sum_of S.sum).means) (sum_of S.sum).faults.fault
         decoder.old result decoder.new }
+    ensures tries { Tries (sum_of S.sum).takes_memory decoder.old result decoder.new }
 {
     let place = decoder.begin_one_of(S::descriptors())?;
     let value = S::read_member(place, decoder, alloc)?;
@@ -56,9 +59,10 @@ pub fn read_as<C: Composite, S: From<C> + Drop, R: ByteSource>(
     decoder: &mut Decoder<R>,
     alloc: Global,
 ) -> Result<S, Error>
-    ensures { Tells R.remaining →
+    ensures read { Tells R.remaining →
         AnswersRead (take_memory C.table.fields) (ChoiceRead C.table S.from_gives) (FieldsFault C.table.fields)
         decoder.old result decoder.new }
+    ensures tries { Tries (take_memory C.table.fields) decoder.old result decoder.new }
 {
     let member: C = read_fields(decoder, alloc)?;
     Ok(S::from(member))

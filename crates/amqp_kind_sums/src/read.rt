@@ -4,6 +4,7 @@ ghost use Rattle.std.specs.Prelude.{true};
 ghost use Rattle.amqp_wire.specs.Sources.{Tells};
 ghost use Rattle.amqp_decoder.specs.Reading.{AnswersRead};
 ghost use Rattle.amqp_decoder.specs.Primitives.{ReadsValue};
+ghost use Rattle.amqp_decoder.specs.Steps.{Tries};
 ghost use Rattle.amqp_kind_sums.specs.KindSumType.{kind_sum_type};
 
 use amqp_decoder::Decoder;
@@ -23,8 +24,9 @@ pub trait KindSum: Sized + Drop {
         decoder: &mut Decoder<R>,
         alloc: Global,
     ) -> Result<Self, Error>
-        ensures { Tells R.remaining → AnswersRead (takes_at sum.members (sum.place kind)) (reads_at sum.members (sum.place kind))
-            (faults_at sum.members (sum.place kind)).fault decoder.old result decoder.new };
+        ensures read { Tells R.remaining → AnswersRead (takes_at sum.members (sum.place kind)) (reads_at sum.members (sum.place kind))
+            (faults_at sum.members (sum.place kind)).fault decoder.old result decoder.new }
+        ensures tries { Tries (takes_at sum.members (sum.place kind)) decoder.old result decoder.new };
 }
 
 /// Reads a sum of primitive types: the member whose kind stands there. What is of no member's kind is refused by its code.
@@ -32,8 +34,9 @@ pub fn read_kind_sum<S: KindSum, R: ByteSource>(
     decoder: &mut Decoder<R>,
     alloc: Global,
 ) -> Result<S, Error>
-    ensures { Tells R.remaining → AnswersRead true (ReadsValue (kind_sum_type S.sum).means) (kind_sum_type S.sum).faults.fault
+    ensures read { Tells R.remaining → AnswersRead true (ReadsValue (kind_sum_type S.sum).means) (kind_sum_type S.sum).faults.fault
         decoder.old result decoder.new }
+    ensures tries { Tries true decoder.old result decoder.new }
 {
     let code = decoder.peek_code()?;
     S::read_member(kind_of(code), decoder, alloc)

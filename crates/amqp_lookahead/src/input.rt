@@ -82,6 +82,7 @@ impl<R: ByteSource> Input<R> {
         ensures all { Tells R.remaining → self.old.ahead ≡ 0 → IfOk result (λ n. n < length buffer.old → length self.old.rest ≡ n) }
         ensures new { Tells R.remaining → self.old.ahead ≡ 0 → IfOk result (λ n. self.new ≡ after_bytes n self.old) }
         ensures fails { OnErr result (self.new.failed ≡ true) }
+        ensures sound { IfOk result (λ _. self.new.failed ≡ self.old.failed) }
     {
         pull_full(&mut self.source, buffer)
     }
@@ -95,6 +96,7 @@ impl<R: ByteSource> Input<R> {
         ensures all { Tells R.remaining → IfOk result (λ n. n < length buffer.old → length self.old.rest ≡ n) }
         ensures new { Tells R.remaining → IfOk result (λ n. self.new ≡ after_bytes n self.old) }
         ensures fails { OnErr result (self.new.failed ≡ true) }
+        ensures sound { IfOk result (λ _. self.new.failed ≡ self.old.failed) }
     {
         let mut done = 0;
         if self.start < self.end {
@@ -113,6 +115,7 @@ impl<R: ByteSource> Input<R> {
         ensures bytes { Tells R.remaining → result ≡ true → self.old.rest ≡ buffer.new ++ drop (length buffer.old) self.old.rest }
         ensures new { Tells R.remaining → result ≡ true → self.new ≡ after_bytes (length buffer.old) self.old }
         ensures left { result ≡ false → self.new ≡ self.old }
+        ensures sound { self.new.failed ≡ self.old.failed }
     {
         if self.start < self.end {
             return false;
@@ -128,6 +131,7 @@ impl<R: ByteSource> Input<R> {
         ensures bytes { Tells R.remaining → result ≡ Ok true → bytes.new.items ≡ bytes.old.items ++ take count self.old.rest }
         ensures new { Tells R.remaining → result ≡ Ok true → self.new ≡ after_bytes count self.old }
         ensures left { (result ≡ Ok true → ⊥) → (self.new ≡ self.old) × (bytes.new.items ≡ bytes.old.items) }
+        ensures sound { self.new.failed ≡ self.old.failed }
     {
         if self.start < self.end {
             return Ok(false);
@@ -153,6 +157,7 @@ impl<R: ByteSource> Input<R> {
         ensures count { Tells R.remaining → IfOk result (λ n. n ≡ max self.old.ahead (min count (length self.old.rest))) }
         ensures new { Tells R.remaining → IfOk result (λ _. self.new ≡ after_look (min count (length self.old.rest)) self.old) }
         ensures fails { OnErr result (self.new.failed ≡ true) }
+        ensures sound { IfOk result (λ _. self.new.failed ≡ self.old.failed) }
     {
         let ahead = self.ahead();
         if ahead >= count {

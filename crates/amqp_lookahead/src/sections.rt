@@ -75,6 +75,7 @@ impl<R: ByteSource> Input<R> {
         ensures ok { Tells R.remaining → IfOk result (λ section. LooksOn self.old self.new
             × ((c : ℕ) → (section ≡ Some c) ↔ IsNameAhead start len self.old.rest c)) }
         ensures fails { OnErr result (self.new.failed ≡ true) }
+        ensures sound { IfOk result (λ _. self.new.failed ≡ self.old.failed) }
     {
         if len > LOOK - start {
             return Ok(None);
@@ -91,6 +92,7 @@ impl<R: ByteSource> Input<R> {
         ensures ok { Tells R.remaining → IfOk result (λ section. LooksOn self.old self.new
             × ((c : ℕ) → (section ≡ Some c) ↔ IsLongNameAhead self.old.rest c)) }
         ensures fails { OnErr result (self.new.failed ≡ true) }
+        ensures sound { IfOk result (λ _. self.new.failed ≡ self.old.failed) }
     {
         self.look(6)?;
         let &[_, _, a, b, c, d, ..] = self.looked() else {
@@ -104,6 +106,7 @@ impl<R: ByteSource> Input<R> {
         ensures ok { Tells R.remaining → IfOk result (λ section. LooksOn self.old self.new
             × ((c : ℕ) → (section ≡ Some c) ↔ IsLongCodeAhead self.old.rest c)) }
         ensures fails { OnErr result (self.new.failed ≡ true) }
+        ensures sound { IfOk result (λ _. self.new.failed ≡ self.old.failed) }
     {
         self.look(10)?;
         let &[_, _, a, b, c, d, e, f, g, h, ..] = self.looked() else {
@@ -119,6 +122,7 @@ impl<R: ByteSource> Input<R> {
         ensures ok { Tells R.remaining → IfOk result (λ section. LooksOn self.old self.new
             × ((c : ℕ) → (section ≡ Some c) ↔ IsSectionAhead self.old.rest c)) }
         ensures fails { OnErr result (self.new.failed ≡ true) }
+        ensures sound { IfOk result (λ _. self.new.failed ≡ self.old.failed) }
     {
         self.look(3)?;
         let &[first, code, next, ..] = self.looked() else {

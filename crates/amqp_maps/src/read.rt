@@ -6,6 +6,7 @@ ghost use Rattle.indexmap.specs.declared.map.entry.Entry.TheVariants.{Vacant};
 ghost use Rattle.amqp_wire.specs.declared.error.Error.TheVariants.{Memory, DuplicateKey};
 ghost use Rattle.amqp_wire.specs.Sources.{Tells};
 ghost use Rattle.amqp_decoder.specs.Reading.{AnswersRead};
+ghost use Rattle.amqp_decoder.specs.Steps.{Passes};
 ghost use Rattle.amqp_codec.specs.MapReading.{ReadsPairsRow, PairsFault};
 ghost use Rattle.amqp_codec.specs.MapReadingLaws.{map_of, map_faults};
 ghost use Rattle.amqp_codec.specs.MapWriting.{map_agreement};
@@ -44,8 +45,9 @@ fn read_pairs<K: MapKey, V: DeserializeTerm, R: ByteSource>(
     decoder: &mut Decoder<R>,
     alloc: Global,
 ) -> Result<OrderedMap<K, V>, Error>
-    ensures { Tells R.remaining → AnswersRead true (λ st pairs b. ReadsPairsRow K.term V.term count st pairs b)
+    ensures read { Tells R.remaining → AnswersRead true (λ st pairs b. ReadsPairsRow K.term V.term count st pairs b)
         (PairsFault K.term V.term count) decoder.old result decoder.new }
+    ensures tries { Passes true decoder.old result decoder.new }
 {
     let mut pairs = IndexMap::new(alloc);
     for _ in 0..count {

@@ -1,12 +1,12 @@
 -- What is read from a reader is what is read from its bytes.
 use Rattle.std.proofs.Common.{◌≡◌, ◌⊎◌, inl, inr, ℕ, ◌-◌, Bool, true, false, List, length, drop, Result, Ok, Err, IfOk, IfErr, MatchResult}
-use Rattle.std.proofs.Common.{refl, sym, ap, ◌∙◌, arith}
+use Rattle.std.proofs.Common.{None, refl, sym, ap, ◌∙◌, arith}
 use Rattle.std.proofs.lemmas.List.{length-drop}
 use Rattle.amqp_wire.specs.declared.error.Error.{Error}
 use Rattle.amqp_wire.specs.declared.error.Error.TheVariants.{Memory}
 use Rattle.amqp_decoder.specs.State.{State}
 use Rattle.amqp_decoder.specs.OtherSource.{elsewhere}
-use Rattle.amqp_decoder.specs.Steps.{IsExcused, IsReadError}
+use Rattle.amqp_decoder.specs.Steps.{IsExcused, IsReadError, Tries}
 use Rattle.amqp_decoder.specs.Reading.{RefusesRead, AnswersRead}
 use Rattle.amqp_codec.specs.Reading.{Reading, start, BeginsWith, IsUnreadable}
 use Rattle.amqp_codec.specs.ReadingLaws.{is_read, read_one}
@@ -77,11 +77,24 @@ module _ {T : Type 0} (r : Reading T) (input : List ℕ) (source : ℕ) (failed 
       go (inr (inl (i, f))) = inr (inl (i, e ∙ f))
       go (inr (inr u)) = inr (inr u)
 
-  -- a source that begins to fail is never hidden behind another error
-  pub failing : (res : Result T Error) (b : State) → AnswersRead r.takes_memory r.reads r.fault begin res b → (broken before : Bool)
-      → broken ≡ b.failed → before ≡ failed → MatchResult res (λ _. broken ≡ before) (λ e. (broken ≡ before) ⊎ IsReadError e)
-  failing (Ok v) b h broken before e f = e ∙ (r.stays begin v b h).sound ∙ sym f
-  failing (Err x) b h broken before e f = elim h.kept.source [ inl s ↦ inl (e ∙ s ∙ sym f) | inr i ↦ inr i ]
+-- Whatever the source tells: where it begins to fail, that is never hidden behind another error,
+pub failing : {T : Type 0} (takes : Bool) (st : State) (res : Result T Error) (b : State) → st.error ≡ None → Tries takes st res b
+    → (broken before : Bool) → broken ≡ b.failed → before ≡ st.failed
+    → MatchResult res (λ _. broken ≡ before) (λ e. (broken ≡ before) ⊎ IsReadError e)
+failing takes st (Ok v) b going h broken before e f = e ∙ h.2 ∙ sym f
+failing takes st (Err x) b going h broken before e f = elim (h.1 going).1 [ inl s ↦ inl (e ∙ s ∙ sym f) | inr i ↦ inr i ]
+
+-- its error comes only where it has failed,
+pub failed : {T : Type 0} (takes : Bool) (st : State) (res : Result T Error) (b : State) → st.error ≡ None → Tries takes st res b
+    → (broken : Bool) → broken ≡ b.failed → IfErr res (λ e. IsReadError e → broken ≡ true)
+failed takes st (Ok v) b going h broken e = tt
+failed takes st (Err x) b going h broken e = λ i. e ∙ (h.1 going).3 i
+
+-- and want of memory only where the type takes some.
+pub memory : {T : Type 0} (takes : Bool) (st : State) (res : Result T Error) (b : State) → st.error ≡ None → Tries takes st res b
+    → IfErr res (λ e. e ≡ Memory → takes ≡ true)
+memory takes st (Ok v) b going h = tt
+memory takes st (Err x) b going h = (h.1 going).2
 
 -- a source that never fails is no reason
 pub refused_whole : {T : Type 0} (r : Reading T) (input : List ℕ) (e : Error) (b : State) → b.failed ≡ false

@@ -13,8 +13,8 @@ use std::io::ErrorKind;
 use std::marker::{Brand, PhantomData};
 
 /// The value that the reader's bytes begin with, however it gives them. The reader is left behind the value.
-/// An error is `Memory`, where reading the type takes memory; `Read`, where the reader has failed; or it names a fault of
-/// bytes that begin with no value. Where the reader begins to fail, it is always `Read`. Nothing says how many bytes were
+/// An error is `Memory`, only if reading the type takes memory; `Read`, only if the reader has failed; or it names a fault of
+/// bytes that begin with no value. If the reader begins to fail, it is always `Read`. Nothing says how many bytes were
 /// taken then.
 pub fn from_reader<T: Deserialize, R: ByteSource>(reader: &mut R, alloc: Global) -> Result<T, Error>
     ensures found { Tells R.remaining → IfOk result (λ v. (n : ℕ) × BeginsWith T.reading (known (R.remaining reader.old)) v n) }
@@ -25,7 +25,9 @@ pub fn from_reader<T: Deserialize, R: ByteSource>(reader: &mut R, alloc: Global)
         → known (R.remaining reader.new) ≡ drop n (known (R.remaining reader.old))) }
     ensures refused { Tells R.remaining → IfErr result (λ e. ((T.reading.takes_memory ≡ true) × (e ≡ Memory))
         ⊎ ((IsReadError e × (R.failed reader.new ≡ true)) ⊎ IsUnreadable T.reading (known (R.remaining reader.old)) e)) }
-    ensures failing { Tells R.remaining → MatchResult result (λ _. R.failed reader.new ≡ R.failed reader.old)
+    ensures memory { IfErr result (λ e. e ≡ Memory → T.reading.takes_memory ≡ true) }
+    ensures failed { IfErr result (λ e. IsReadError e → R.failed reader.new ≡ true) }
+    ensures failing { MatchResult result (λ _. R.failed reader.new ≡ R.failed reader.old)
         (λ e. (R.failed reader.new ≡ R.failed reader.old) ⊎ IsReadError e) }
 {
     let (read, _reader) = read_named::<T, _, Brand>(reader, alloc);
@@ -90,7 +92,9 @@ fn read_named<T: Deserialize, S: ByteSource, N: Name>(
         → known (S.remaining result.1) ≡ drop n (known (S.remaining source))) }
     ensures refused { Tells S.remaining → IfErr result.0 (λ e. ((T.reading.takes_memory ≡ true) × (e ≡ Memory))
         ⊎ ((IsReadError e × (S.failed result.1 ≡ true)) ⊎ IsUnreadable T.reading (known (S.remaining source)) e)) }
-    ensures failing { Tells S.remaining → MatchResult result.0 (λ _. S.failed result.1 ≡ S.failed source)
+    ensures memory { IfErr result.0 (λ e. e ≡ Memory → T.reading.takes_memory ≡ true) }
+    ensures failed { IfErr result.0 (λ e. IsReadError e → S.failed result.1 ≡ true) }
+    ensures failing { MatchResult result.0 (λ _. S.failed result.1 ≡ S.failed source)
         (λ e. (S.failed result.1 ≡ S.failed source) ⊎ IsReadError e) }
 {
     let named = Named::<S, N> {

@@ -4,6 +4,7 @@ ghost use Rattle.amqp_model.specs.Term.{code, described};
 ghost use Rattle.amqp_wire.specs.Sources.{Tells};
 ghost use Rattle.amqp_decoder.specs.Reading.{AnswersRead};
 ghost use Rattle.amqp_decoder.specs.Primitives.{ReadsValue};
+ghost use Rattle.amqp_decoder.specs.Steps.{Tries};
 ghost use Rattle.amqp_codec.specs.Written.{WritesTerms, canon_of};
 ghost use Rattle.amqp_sections.specs.SectionType.{section_of};
 
@@ -41,9 +42,10 @@ pub fn read_section<S: Section<T>, T: DeserializeTerm, R: ByteSource>(
     decoder: &mut Decoder<R>,
     alloc: Global,
 ) -> Result<S, Error>
-    ensures { Tells R.remaining → AnswersRead (section_of S.holds S.naming T.term).takes_memory
+    ensures read { Tells R.remaining → AnswersRead (section_of S.holds S.naming T.term).takes_memory
         (ReadsValue (section_of S.holds S.naming T.term).means) (section_of S.holds S.naming T.term).faults.fault
         decoder.old result decoder.new }
+    ensures tries { Tries T.term.takes_memory decoder.old result decoder.new }
 {
     decoder.begin_one_of(&[S::descriptor()])?;
     let value = T::read_value(decoder, alloc)?;

@@ -5,7 +5,7 @@ ghost use Rattle.amqp_wire.specs.declared.error.Error.TheVariants.{Depth};
 ghost use Rattle.amqp_wire.specs.Sources.{Tells};
 ghost use Rattle.amqp_decoder.specs.Primitives.{ReadsValue};
 ghost use Rattle.amqp_decoder.specs.Reading.{AnswersRead};
-ghost use Rattle.amqp_decoder.specs.Steps.{RefusesBy};
+ghost use Rattle.amqp_decoder.specs.Steps.{RefusesBy, Passes, Tries};
 ghost use Rattle.amqp_codec.specs.ItemsReading.{ReadsRow, RowFault};
 ghost use Rattle.amqp_codec.specs.MapReading.{ReadsPairsRow, PairsFault};
 ghost use Rattle.amqp_kinds.specs.declared.kind.Kind.TheVariants as kind;
@@ -46,8 +46,9 @@ fn read_any<R: ByteSource>(
     levels: usize,
     alloc: Global,
 ) -> Result<Value, Error>
-    ensures { Tells R.remaining → IsBounded levels decoder.old → AnswersRead true (ReadsValue ValueMeans) (faults_at (suc levels)).fault
+    ensures read { Tells R.remaining → IsBounded levels decoder.old → AnswersRead true (ReadsValue ValueMeans) (faults_at (suc levels)).fault
         decoder.old result decoder.new }
+    ensures tries { Tries true decoder.old result decoder.new }
 {
     let code = decoder.peek_code()?;
     match kind_of(code) {
@@ -84,8 +85,9 @@ fn read_described<R: ByteSource>(
     levels: usize,
     alloc: Global,
 ) -> Result<Value, Error>
-    ensures { Tells R.remaining → IsBounded levels decoder.old → AnswersRead true (ReadsMember MeansDescribed IsDescribed)
+    ensures read { Tells R.remaining → IsBounded levels decoder.old → AnswersRead true (ReadsMember MeansDescribed IsDescribed)
         (faults_of (faults_at levels) kind.Described).fault decoder.old result decoder.new }
+    ensures tries { Tries true decoder.old result decoder.new }
 {
     let descriptor = decoder.begin_described(alloc)?;
     descriptor_typed(&descriptor);
@@ -105,8 +107,9 @@ fn read_list<R: ByteSource>(
     levels: usize,
     alloc: Global,
 ) -> Result<Value, Error>
-    ensures { Tells R.remaining → IsBounded levels decoder.old → AnswersRead true (ReadsMember (MeansValues list) (IsOfItems list))
+    ensures read { Tells R.remaining → IsBounded levels decoder.old → AnswersRead true (ReadsMember (MeansValues list) (IsOfItems list))
         (faults_of (faults_at levels) kind.List).fault decoder.old result decoder.new }
+    ensures tries { Tries true decoder.old result decoder.new }
 {
     let count = decoder.begin_list()?;
     let inner = one_less(decoder, levels)?;
@@ -122,8 +125,9 @@ fn read_array<R: ByteSource>(
     levels: usize,
     alloc: Global,
 ) -> Result<Value, Error>
-    ensures { Tells R.remaining → IsBounded levels decoder.old → AnswersRead true (ReadsMember (MeansValues array) (IsOfItems array))
+    ensures read { Tells R.remaining → IsBounded levels decoder.old → AnswersRead true (ReadsMember (MeansValues array) (IsOfItems array))
         (faults_of (faults_at levels) kind.Array).fault decoder.old result decoder.new }
+    ensures tries { Tries true decoder.old result decoder.new }
 {
     let count = decoder.begin_array(alloc)?;
     let inner = one_less(decoder, levels)?;
@@ -139,8 +143,9 @@ fn read_map<R: ByteSource>(
     levels: usize,
     alloc: Global,
 ) -> Result<Value, Error>
-    ensures { Tells R.remaining → IsBounded levels decoder.old → AnswersRead true (ReadsMember MeansPairs IsOfPairs)
+    ensures read { Tells R.remaining → IsBounded levels decoder.old → AnswersRead true (ReadsMember MeansPairs IsOfPairs)
         (faults_of (faults_at levels) kind.Map).fault decoder.old result decoder.new }
+    ensures tries { Tries true decoder.old result decoder.new }
 {
     let count = decoder.begin_map()?;
     let inner = one_less(decoder, levels)?;
@@ -157,8 +162,9 @@ fn read_row<R: ByteSource>(
     levels: usize,
     alloc: Global,
 ) -> Result<Vec<Value>, Error>
-    ensures { Tells R.remaining → IsBounded levels decoder.old → AnswersEach (ReadsRow count ValueMeans)
+    ensures read { Tells R.remaining → IsBounded levels decoder.old → AnswersEach (ReadsRow count ValueMeans)
         (RowFault count ValueMeans (faults_at (suc levels)).fault) decoder.old result decoder.new }
+    ensures tries { Passes true decoder.old result decoder.new }
 {
     let mut values = Vec::new(alloc);
     for _ in 0..count {
@@ -178,8 +184,9 @@ fn read_pairs<R: ByteSource>(
     levels: usize,
     alloc: Global,
 ) -> Result<Vec<(Value, Value)>, Error>
-    ensures { Tells R.remaining → IsBounded levels decoder.old → AnswersEach (ReadsPairsRow (value_in levels) (value_in levels) count)
+    ensures read { Tells R.remaining → IsBounded levels decoder.old → AnswersEach (ReadsPairsRow (value_in levels) (value_in levels) count)
         (PairsFault (value_in levels) (value_in levels) count) decoder.old result decoder.new }
+    ensures tries { Passes true decoder.old result decoder.new }
 {
     let mut pairs = Vec::new(alloc);
     for _ in 0..count {

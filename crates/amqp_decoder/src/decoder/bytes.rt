@@ -5,7 +5,7 @@ ghost use Rattle.amqp_wire.specs.Codes.{refusal_of};
 ghost use Rattle.amqp_wire.specs.declared.error.Error.TheVariants.{Memory};
 ghost use Rattle.amqp_wire.specs.Sources.{Tells};
 ghost use Rattle.amqp_decoder.specs.State.{after_bytes, announced, Has, lower};
-ghost use Rattle.amqp_decoder.specs.Steps.{Answers, Pulls, Misses, Takes, FallsShort, RefusesSize, NoRoom, Stops};
+ghost use Rattle.amqp_decoder.specs.Steps.{Answers, Pulls, Misses, Takes, FallsShort, RefusesSize, NoRoom, Stops, Fails, Goes, GoesOn};
 
 use super::Decoder;
 use amqp_wire::{ByteSource, Error, format_code};
@@ -47,6 +47,7 @@ impl<R: ByteSource> Decoder<R> {
     pub(crate) fn pull_all(&mut self, buffer: &mut [u8]) -> Result<(), Error>
         ensures ok { Tells R.remaining → IfOk result (λ _. Pulls self.old buffer.new self.new) }
         ensures err { Tells R.remaining → IfErr result (λ e. Misses false (length buffer.old) self.old e self.new) }
+        ensures goes { Goes false self.old result self.new }
     {
         let count = match self.input.pull(buffer) {
             Ok(count) => count,
@@ -63,6 +64,7 @@ impl<R: ByteSource> Decoder<R> {
     fn pull_ready(&mut self, buffer: &mut [u8]) -> bool
         ensures taken { Tells R.remaining → result ≡ true → Pulls self.old buffer.new self.new }
         ensures left { result ≡ false → self.new ≡ self.old }
+        ensures goes { GoesOn self.old self.new }
     {
         self.input.pull_ready(buffer)
     }
@@ -72,6 +74,7 @@ impl<R: ByteSource> Decoder<R> {
     fn pull_bytes<const N: usize>(&mut self) -> Result<[u8; N], Error>
         ensures ok { Tells R.remaining → IfOk result (λ bytes. Pulls self.old bytes self.new) }
         ensures err { Tells R.remaining → IfErr result (λ e. Misses false N self.old e self.new) }
+        ensures goes { Goes false self.old result self.new }
     {
         let mut bytes = [0; N];
         self.pull_all(&mut bytes)?;
@@ -85,6 +88,7 @@ impl<R: ByteSource> Decoder<R> {
             × (bytes.new.items ≡ bytes.old.items ++ take count self.old.rest) × (self.new ≡ after_bytes count self.old) }
         ensures left { result ≡ Ok false → (self.new ≡ self.old) × (bytes.new.items ≡ bytes.old.items) }
         ensures err { IfErr result (λ e. (e ≡ Memory) × Answers self.old e self.new) }
+        ensures goes { Goes true self.old result self.new }
     {
         match self.input.append_ready(count as usize, bytes) {
             Ok(done) => Ok(done),
@@ -97,6 +101,7 @@ impl<R: ByteSource> Decoder<R> {
         ensures ok { Tells R.remaining → IfOk result (λ _. count ≤ length self.old.rest) }
         ensures new { Tells R.remaining → IfOk result (λ _. self.new ≡ after_bytes count self.old) }
         ensures err { Tells R.remaining → IfErr result (λ e. Misses false count self.old e self.new) }
+        ensures goes { Goes false self.old result self.new }
     {
         let mut buffer = [0; SKIP];
         let mut left = count;
@@ -112,7 +117,8 @@ impl<R: ByteSource> Decoder<R> {
     // of a container it is the value's own size, of which `own` bytes are left.
     #[cold]
     pub(crate) fn refuse_size(&mut self, own: u32) -> Error
-        ensures { Tells R.remaining → RefusesSize own self.old result self.new }
+        ensures refused { Tells R.remaining → RefusesSize own self.old result self.new }
+        ensures fails { Fails false self.old result self.new }
     {
         let count = match self.left() {
             Some(_) => self.announced(),
@@ -129,6 +135,7 @@ impl<R: ByteSource> Decoder<R> {
     pub(crate) fn refuse_code(&mut self, code: u8) -> Error
         ensures answer { result ≡ refusal_of code }
         ensures kept { self.new ≡ record self.old { error = Some result } }
+        ensures fails { Fails false self.old result self.new }
     {
         self.stop(format_code::refusal(code))
     }
@@ -140,6 +147,7 @@ impl<R: ByteSource> Decoder<R> {
         ensures new { IfOk result (λ _. self.new ≡ record self.old { top = record self.old.top { left = lower self.old.top.left count } }) }
         ensures err { Tells R.remaining → IfErr result (λ e. FallsShort count self.old e self.new) }
         ensures full { Tells R.remaining → IfErr result (λ e. Stops false (NoRoom count self.old) self.old e self.new) }
+        ensures goes { Goes false self.old result self.new }
     {
         let Some(left) = self.left() else {
             return Ok(());
@@ -157,6 +165,7 @@ impl<R: ByteSource> Decoder<R> {
         requires { N < 256 }
         ensures ok { Tells R.remaining → IfOk result (λ bytes. Takes self.old bytes self.new) }
         ensures err { Tells R.remaining → IfErr result (λ e. FallsShort N self.old e self.new) }
+        ensures goes { Goes false self.old result self.new }
     {
         self.lower(N as u32)?;
         let mut bytes = [0; N];
@@ -171,6 +180,7 @@ impl<R: ByteSource> Decoder<R> {
     pub(crate) fn byte(&mut self) -> Result<u8, Error>
         ensures ok { Tells R.remaining → IfOk result (λ b. Takes self.old (b ∷ []) self.new) }
         ensures err { Tells R.remaining → IfErr result (λ e. FallsShort 1 self.old e self.new) }
+        ensures goes { Goes false self.old result self.new }
     {
         let byte = self.take::<1>()?;
         Ok(byte[0])
@@ -182,6 +192,7 @@ impl<R: ByteSource> Decoder<R> {
         ensures ok { Tells R.remaining → IfOk result (λ n. Takes self.old (bytes_high_first (cond wide 4 1) n) self.new) }
         ensures err { Tells R.remaining → IfErr result (λ e. FallsShort (cond wide 4 1) self.old e self.new) }
         ensures fits { IfOk result (λ n. n < 256 ^ cond wide 4 1) }
+        ensures goes { Goes false self.old result self.new }
     {
         if wide {
             Ok(u32::from_be_bytes(self.take()?))

@@ -3,7 +3,7 @@ ghost use Rattle.std.specs.Prelude.{◌≡◌, ◌<◌, length, min, false, Some
 ghost use Rattle.amqp_wire.specs.Sources.{Tells};
 ghost use Rattle.amqp_decoder.specs.State.{after_look, lower};
 ghost use Rattle.amqp_decoder.specs.Reading.{AnswersRead, ReadsCode, BeginFault, PeeksCode, IsLeft};
-ghost use Rattle.amqp_decoder.specs.Steps.{Answers, SourceFailed};
+ghost use Rattle.amqp_decoder.specs.Steps.{Answers, SourceFailed, Goes, Tries};
 
 use super::Decoder;
 use amqp_wire::{ByteSource, Error};
@@ -20,7 +20,8 @@ impl<R: ByteSource> Decoder<R> {
     // A value is left.
     #[inline(always)]
     pub(crate) fn check_item(&mut self) -> Result<(), Error>
-        ensures { AnswersRead false IsLeft (λ st e. (st.top.items ≡ Some 0) × (e ≡ Error.Missing)) self.old result self.new }
+        ensures read { AnswersRead false IsLeft (λ st e. (st.top.items ≡ Some 0) × (e ≡ Error.Missing)) self.old result self.new }
+        ensures tries { Tries false self.old result self.new }
     {
         self.check()?;
         if self.is_done() {
@@ -43,6 +44,7 @@ impl<R: ByteSource> Decoder<R> {
         ensures found { Tells R.remaining → IfOk result (λ b. IsTrue b ↔ (0 < length self.old.rest)) }
         ensures new { Tells R.remaining → IfOk result (λ b. self.new ≡ after_look (min 1 (length self.old.rest)) self.old) }
         ensures err { IfErr result (λ e. Answers self.old e self.new × SourceFailed e self.new) }
+        ensures goes { Goes false self.old result self.new }
     {
         if self.input.ahead() > 0 {
             return Ok(true);
@@ -56,7 +58,8 @@ impl<R: ByteSource> Decoder<R> {
     // The next value's first code, which is taken.
     #[inline(always)]
     pub(crate) fn begin(&mut self) -> Result<u8, Error>
-        ensures { Tells R.remaining → AnswersRead false ReadsCode BeginFault self.old result self.new }
+        ensures read { Tells R.remaining → AnswersRead false ReadsCode BeginFault self.old result self.new }
+        ensures tries { Tries false self.old result self.new }
     {
         self.check_item()?;
         if let Some(code) = self.shared_code() {
@@ -72,7 +75,8 @@ impl<R: ByteSource> Decoder<R> {
     /// Nothing is taken.
     #[inline]
     pub fn peek_code(&mut self) -> Result<u8, Error>
-        ensures { Tells R.remaining → AnswersRead false PeeksCode BeginFault self.old result self.new }
+        ensures read { Tells R.remaining → AnswersRead false PeeksCode BeginFault self.old result self.new }
+        ensures tries { Tries false self.old result self.new }
     {
         self.check_item()?;
         if let Some(code) = self.shared_code() {

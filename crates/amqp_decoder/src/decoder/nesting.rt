@@ -8,7 +8,7 @@ ghost use Rattle.amqp_decoder.specs.State.{Open, IsContainer, unshared};
 ghost use Rattle.amqp_decoder.specs.declared.frame.Place.TheVariants.{InDescribed};
 ghost use Rattle.amqp_decoder.specs.Reading.{AnswersRead};
 ghost use Rattle.amqp_decoder.specs.Rooms.{HasRoom};
-ghost use Rattle.amqp_decoder.specs.Steps.{RefusesSize};
+ghost use Rattle.amqp_decoder.specs.Steps.{RefusesSize, Goes, GoesOn, Tries};
 
 use super::Decoder;
 use crate::frame::{OpenContainer, Place};
@@ -52,6 +52,7 @@ impl<R: ByteSource> Decoder<R> {
             × (self.new ≡ record self.old { top = unshared inner; saved = self.old.top ∷ self.old.saved })) }
         ensures err { IfErr result (λ e. (e ≡ Depth) × (129 ≤ length self.old.saved)
             × (self.new ≡ record self.old { error = Some Depth })) }
+        ensures goes { Goes false self.old result self.new }
     {
         if self.depth >= LEVELS {
             return Err(self.stop(Error::Depth));
@@ -77,6 +78,7 @@ impl<R: ByteSource> Decoder<R> {
             × (self.new ≡ record self.old { top = unshared inner; saved = self.old.top ∷ self.old.saved })) }
         ensures err { IfErr result (λ e. (e ≡ Depth) × (128 ≤ length self.old.saved)
             × (self.new ≡ record self.old { error = Some Depth })) }
+        ensures goes { Goes false self.old result self.new }
     {
         if self.depth >= NESTING {
             return Err(self.stop(Error::Depth));
@@ -90,6 +92,7 @@ impl<R: ByteSource> Decoder<R> {
         ensures ok { IfOk result (λ _. ((is_flat ≡ true) ⊎ (length self.old.saved ≤ self.old.nesting)) × (self.new ≡ self.old)) }
         ensures err { IfErr result (λ e. (is_flat ≡ false) × (e ≡ Depth) × (self.old.nesting < length self.old.saved)
             × (self.new ≡ record self.old { error = Some Depth })) }
+        ensures goes { Goes false self.old result self.new }
     {
         if is_flat {
             return Ok(());
@@ -108,6 +111,7 @@ impl<R: ByteSource> Decoder<R> {
         ensures err { IfErr result (λ e. (e ≡ Depth) × (self.old.nesting ≤ length self.old.saved)
             × (self.new ≡ record self.old { error = Some Depth })) }
         ensures nesting { self.old.nesting ≡ 128 }
+        ensures goes { Goes false self.old result self.new }
     {
         if self.depth < NESTING {
             let outer = self.top;
@@ -138,7 +142,8 @@ impl<R: ByteSource> Decoder<R> {
     // The open container is of this kind, and no item of it is left.
     #[inline]
     pub(crate) fn check_end(&mut self, place: Place) -> Result<(), Error>
-        ensures { AnswersRead false (λ st _ st'. AtEnd place st st') (EndFault place) self.old result self.new }
+        ensures read { AnswersRead false (λ st _ st'. AtEnd place st st') (EndFault place) self.old result self.new }
+        ensures tries { Tries false self.old result self.new }
     {
         self.check()?;
         if !self.is_in(place) {
@@ -158,6 +163,7 @@ impl<R: ByteSource> Decoder<R> {
     pub(crate) fn check_bytes(&mut self) -> Result<(), Error>
         ensures ok { IfOk result (λ _. (self.old.top.left ≡ Some 0) × (self.new ≡ self.old)) }
         ensures err { Tells R.remaining → IfErr result (λ e. (self.old.top.left ≡ Some 0 → ⊥) × RefusesSize 0 self.old e self.new) }
+        ensures goes { Goes false self.old result self.new }
     {
         if self.left() != Some(0) {
             return Err(self.refuse_size(0));
@@ -168,8 +174,9 @@ impl<R: ByteSource> Decoder<R> {
     // Leaves the open container.
     #[inline]
     pub(crate) fn leave(&mut self)
-        ensures { (outer : Open) (others : List Open) → self.old.saved ≡ outer ∷ others
+        ensures left { (outer : Open) (others : List Open) → self.old.saved ≡ outer ∷ others
             → self.new ≡ record self.old { top = outer; saved = others } }
+        ensures goes { GoesOn self.old self.new }
     {
         if self.depth > 0 {
             self.depth -= 1;
@@ -181,8 +188,9 @@ impl<R: ByteSource> Decoder<R> {
     #[inline]
     pub(crate) fn leave_described(&mut self)
         requires { self.old.top.place ≡ InDescribed }
-        ensures { (outer : Open) (others : List Open) → self.old.saved ≡ outer ∷ others
+        ensures left { (outer : Open) (others : List Open) → self.old.saved ≡ outer ∷ others
             → self.new ≡ record self.old { top = record outer { left = self.old.top.left }; saved = others } }
+        ensures goes { GoesOn self.old self.new }
     {
         if self.depth > 0 {
             self.depth -= 1;

@@ -5,7 +5,7 @@ ghost use Rattle.amqp_lookahead.specs.Sections.{IsSectionAhead};
 ghost use Rattle.amqp_decoder.specs.State.{top_level};
 ghost use Rattle.amqp_decoder.specs.declared.frame.Place.TheVariants.{Top};
 ghost use Rattle.amqp_decoder.specs.Sections.{LooksOn};
-ghost use Rattle.amqp_decoder.specs.Steps.{Answers, SourceFailed};
+ghost use Rattle.amqp_decoder.specs.Steps.{Answers, SourceFailed, Goes, Tries};
 ghost use Rattle.amqp_decoder.specs.Reading.{AnswersRead};
 ghost use Rattle.amqp_decoder.specs.Sections.{IsTop, NotTop, Ends, PeeksSection};
 
@@ -27,6 +27,7 @@ impl<R: ByteSource> Decoder<R> {
         ensures looks { Tells R.remaining → IfOk result (λ _. LooksOn self.old self.new) }
         ensures ok { Tells R.remaining → IfOk result (λ section. (c : ℕ) → (section ≡ Some c) ↔ IsSectionAhead self.old.rest c) }
         ensures err { IfErr result (λ e. Answers self.old e self.new × SourceFailed e self.new) }
+        ensures goes { Goes false self.old result self.new }
     {
         match self.input.section_ahead() {
             Ok(section) => Ok(section),
@@ -36,7 +37,8 @@ impl<R: ByteSource> Decoder<R> {
 
     // Nothing is open.
     fn check_top(&mut self) -> Result<(), Error>
-        ensures { AnswersRead false IsTop NotTop self.old result self.new }
+        ensures read { AnswersRead false IsTop NotTop self.old result self.new }
+        ensures tries { Tries false self.old result self.new }
     {
         self.check()?;
         if !self.is_top() {
@@ -47,7 +49,8 @@ impl<R: ByteSource> Decoder<R> {
 
     /// Whether the input ends here, at the top level. Nothing is taken; `InvalidValue` in a container.
     pub fn at_end(&mut self) -> Result<bool, Error>
-        ensures { Tells R.remaining → AnswersRead false Ends NotTop self.old result self.new }
+        ensures read { Tells R.remaining → AnswersRead false Ends NotTop self.old result self.new }
+        ensures tries { Tries false self.old result self.new }
     {
         self.check_top()?;
         Ok(!self.look_next()?)
@@ -57,7 +60,8 @@ impl<R: ByteSource> Decoder<R> {
     /// bytes; `None` where none does. Nothing is taken, and at most 64 bytes are looked at; `InvalidValue` in a
     /// container.
     pub fn peek_section(&mut self) -> Result<Option<u8>, Error>
-        ensures { Tells R.remaining → AnswersRead false PeeksSection NotTop self.old result self.new }
+        ensures read { Tells R.remaining → AnswersRead false PeeksSection NotTop self.old result self.new }
+        ensures tries { Tries false self.old result self.new }
     {
         self.check_top()?;
         self.section_ahead()

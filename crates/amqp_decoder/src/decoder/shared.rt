@@ -1,5 +1,5 @@
 //! The constructor that the items of an array share (Part 1, sections 1.2.4 and 1.6.24).
-ghost use Rattle.std.specs.Prelude.{◌≤◌, ◌≡◌, ◌<◌, length, map, Some, None, IfOk, IfErr, MatchOption, ◌⊎◌, vec_len};
+ghost use Rattle.std.specs.Prelude.{true, ◌≤◌, ◌≡◌, ◌<◌, length, map, Some, None, IfOk, IfErr, MatchOption, ◌⊎◌, vec_len};
 ghost use Rattle.amqp_wire.specs.declared.error.Error.TheVariants.{Memory};
 ghost use Rattle.amqp_decoder.specs.Described.{IsUnmarked, IsMark};
 ghost use Rattle.amqp_decoder.specs.State.{descriptor_of};
@@ -7,7 +7,7 @@ ghost use Rattle.amqp_decoder.specs.declared.frame.Place.TheVariants.{InArray};
 ghost use Rattle.amqp_decoder.specs.Reading.{IsFirstShared};
 ghost use Rattle.amqp_model.specs.Constructors.{format};
 ghost use Rattle.amqp_decoder.specs.Arrays.{IsFlat};
-ghost use Rattle.amqp_decoder.specs.Steps.{Answers};
+ghost use Rattle.amqp_decoder.specs.Steps.{Answers, Goes};
 
 use super::Decoder;
 use crate::frame::{OpenContainer, Place, descriptors_in};
@@ -60,6 +60,7 @@ impl<R: ByteSource> Decoder<R> {
               top = record self.old.top { place = InArray; items = Some count; shared = Some (map descriptor_of descriptors.items, code) };
             }) }
         ensures err { IfErr result (λ e. (e ≡ Memory) × Answers self.old e self.new) }
+        ensures goes { Goes true self.old result self.new }
     {
         let first = descriptors_in(&self.frames[..self.depth]);
         let last = first + descriptors.len() as u16;

@@ -6,34 +6,34 @@ use Rattle.amqp_codec.specs.CompositeLaws.{composite_is_sum}
 use Rattle.amqp_codec.specs.MembersLaws.{unopened, unread, unended, read_whole}
 use Rattle.amqp_codec.proofs.composite.read_composite.Goals as goal
 
-pub returns-in_err-begin_one_of : goal.returns-in_err-begin_one_of
-returns-in_err-begin_one_of g c tells =
+pub returns-in_err-begin_one_of-clause-read : goal.returns-in_err-begin_one_of-clause-read
+returns-in_err-begin_one_of-clause-read g c tells =
     let t = g.C.Composite.table in
     let names = ap₂ (λ a b. (a, b) ∷ []) c.table.ensures.code c.table.ensures.name in
     let p = err_from_is_err_and c.from_residual.result c.from_residual.ensures.1 in
     rw (p.1, p.2) (unopened (composite_members t) (λ s. MeansComposite (table_of t)) (composite_is_sum t) (c.table.result.descriptor ∷ []) _
     _ _ names (c.in_err-begin_one_of.ensures.opened tells))
 
-pub returns-in_err-value : goal.returns-in_err-value
-returns-in_err-value g c tells =
+pub returns-in_err-value-clause-read : goal.returns-in_err-value-clause-read
+returns-in_err-value-clause-read g c tells =
     let t = g.C.Composite.table in
     let names = ap₂ (λ a b. (a, b) ∷ []) c.table.ensures.code c.table.ensures.name in
     let p = err_from_is_err_and c.from_residual-in_err-value.result c.from_residual-in_err-value.ensures.1 in
     rw (p.1, p.2) (unread (composite_members t) (λ s. MeansComposite (table_of t)) (composite_is_sum t) (c.table.result.descriptor ∷ []) _ _
-    _ _ _ names (c.in_ok-begin_one_of.ensures.opened tells) (c.in_err-value.ensures tells))
+    _ _ _ names (c.in_ok-begin_one_of.ensures.opened tells) (c.in_err-value.ensures.read tells))
 
-pub returns-in_err-end_described : goal.returns-in_err-end_described
-returns-in_err-end_described g c tells =
+pub returns-in_err-end_described-clause-read : goal.returns-in_err-end_described-clause-read
+returns-in_err-end_described-clause-read g c tells =
     let t = g.C.Composite.table in
     let names = ap₂ (λ a b. (a, b) ∷ []) c.table.ensures.code c.table.ensures.name in
     let p = err_from_is_err_and c.from_residual-in_err-end_described.result c.from_residual-in_err-end_described.ensures.1 in
     rw (p.1, p.2) (unended (composite_members t) (λ s. MeansComposite (table_of t)) (composite_is_sum t) (c.table.result.descriptor ∷ []) _
-    _ _ _ _ _ _ names (c.in_ok-begin_one_of.ensures.opened tells) (c.in_ok-value.ensures tells) c.in_err-end_described.ensures)
+    _ _ _ _ _ _ names (c.in_ok-begin_one_of.ensures.opened tells) (c.in_ok-value.ensures.read tells) c.in_err-end_described.ensures)
 
-pub returns : goal.returns
-returns g c tells =
+pub returns-clause-read : goal.returns-clause-read
+returns-clause-read g c tells =
     let t = g.C.Composite.table in
     let names = ap₂ (λ a b. (a, b) ∷ []) c.table.ensures.code c.table.ensures.name in
     read_whole (composite_members t) (λ s. MeansComposite (table_of t)) (composite_is_sum t) (c.table.result.descriptor ∷ []) _ _ _ _ _ _
-    names (c.in_ok-begin_one_of.ensures.nesting tells) (c.in_ok-begin_one_of.ensures.opened tells) (c.in_ok-value.ensures tells)
+    names (c.in_ok-begin_one_of.ensures.nesting tells) (c.in_ok-begin_one_of.ensures.opened tells) (c.in_ok-value.ensures.read tells)
     c.in_ok-end_described.ensures

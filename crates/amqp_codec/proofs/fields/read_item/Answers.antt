@@ -9,31 +9,31 @@ use Rattle.amqp_codec.proofs.Options.{null_refused}
 use Rattle.amqp_codec.proofs.FieldSteps.{item_unbegun, filled_step, null_unfit, null_read}
 use Rattle.amqp_codec.proofs.fields.read_item.Goals as goal
 
-pub returns-in_err-peek_code : goal.returns-in_err-peek_code
-returns-in_err-peek_code g c tells =
+pub returns-in_err-peek_code-clause-read : goal.returns-in_err-peek_code-clause-read
+returns-in_err-peek_code-clause-read g c tells =
     let p = err_from_is_err_and c.from_residual.result c.from_residual.ensures.1 in
-    rw (p.1, p.2) (item_unbegun g.L.FieldList.list.fields c.args.index _ _ _ (c.in_err-peek_code.ensures tells))
+    rw (p.1, p.2) (item_unbegun g.L.FieldList.list.fields c.args.index _ _ _ (c.in_err-peek_code.ensures.read tells))
 
-pub returns-then-branch-ne-NULL : goal.returns-then-branch-ne-NULL
-returns-then-branch-ne-NULL g c tells =
-    filled_step g.L.FieldList.list.fields c.args.index _ _ _ _ _ _ _ c.requires.within (c.in_ok-peek_code.ensures tells)
-    c.if-branch-ne-NULL.true (c.fill_field.ensures tells)
+pub returns-then-branch-ne-NULL-clause-read : goal.returns-then-branch-ne-NULL-clause-read
+returns-then-branch-ne-NULL-clause-read g c tells =
+    filled_step g.L.FieldList.list.fields c.args.index _ _ _ _ _ _ _ c.requires.within (c.in_ok-peek_code.ensures.read tells)
+    c.if-branch-ne-NULL.true (c.fill_field.ensures.read tells)
 
-pub returns-in_err-read_null : goal.returns-in_err-read_null
-returns-in_err-read_null g c tells =
+pub returns-in_err-read_null-clause-read : goal.returns-in_err-read_null-clause-read
+returns-in_err-read_null-clause-read g c tells =
     let p = err_from_is_err_and c.from_residual-in_err-read_null.result c.from_residual-in_err-read_null.ensures.1 in
-    rw (p.1, p.2) (null_refused _ _ _ _ _ _ _ (c.in_ok-peek_code.ensures tells) c.if-branch-ne-NULL.false
-    (c.in_err-read_null.ensures tells))
+    rw (p.1, p.2) (null_refused _ _ _ _ _ _ _ (c.in_ok-peek_code.ensures.read tells) c.if-branch-ne-NULL.false
+    (c.in_err-read_null.ensures.read tells))
 
-pub returns-in-Some : goal.returns-in-Some
-returns-in-Some g c tells =
-    let peeked = c.in_ok-peek_code.ensures tells in
+pub returns-in-Some-clause-read : goal.returns-in-Some-clause-read
+returns-in-Some-clause-read g c tells =
+    let peeked = c.in_ok-peek_code.ensures.read tells in
     null_unfit g.L.FieldList.list.fields c.args.index _ _ _ _
     (ap absence (sym c.requires.its_rule) ∙ sym c.in-Some.ensures) c.refuse.ensures.first
-    ((value-peeked (Means (λ (_ : Unit {0}). null)) _ _ _ _ tt peeked).0 (c.in_ok-read_null.ensures tells))
+    ((value-peeked (Means (λ (_ : Unit {0}). null)) _ _ _ _ tt peeked).0 (c.in_ok-read_null.ensures.read tells))
 
-pub returns-in-None : goal.returns-in-None
-returns-in-None g c tells =
+pub returns-in-None-clause-read : goal.returns-in-None-clause-read
+returns-in-None-clause-read g c tells =
     null_read g.L.FieldList.list.fields c.args.index _ _ _
     (not_absent _ (ap absence (sym c.requires.its_rule) ∙ sym c.in-None.ensures))
-    ((value-peeked (Means (λ (_ : Unit {0}). null)) _ _ _ _ tt (c.in_ok-peek_code.ensures tells)).0 (c.in_ok-read_null.ensures tells))
+    ((value-peeked (Means (λ (_ : Unit {0}). null)) _ _ _ _ tt (c.in_ok-peek_code.ensures.read tells)).0 (c.in_ok-read_null.ensures.read tells))

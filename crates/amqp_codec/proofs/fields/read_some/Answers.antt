@@ -23,7 +23,7 @@ module _ {T : Type 0} (means : Standing → Term → T → Type 0) where
   some_refused {fault = fault} st e new =
       refused_first (ReadsValue means) fault (ReadsValue (λ s t. MeansSome (means s t))) fault st e new (λ t. t) (λ x. x) (none_there st)
 
-pub returns-in_err-read_value : goal.returns-in_err-read_value
-returns-in_err-read_value g c tells =
+pub returns-in_err-read_value-clause-read : goal.returns-in_err-read_value-clause-read
+returns-in_err-read_value-clause-read g c tells =
     let p = err_from_is_err_and c.from_residual.result c.from_residual.ensures.1 in
-    rw (p.1, p.2) (some_refused g.T.DeserializeTerm.term.means _ _ _ (c.in_err-read_value.ensures tells))
+    rw (p.1, p.2) (some_refused g.T.DeserializeTerm.term.means _ _ _ (c.in_err-read_value.ensures.read tells))

@@ -1,4 +1,4 @@
-use Rattle.std.proofs.Common.{ap, ◌∙◌, arith, length, length-append, [], ◌∷◌, ◌++◌, subst, sym}
+use Rattle.std.proofs.Common.{rules, ap, ◌∙◌, arith, length, length-append, [], ◌∷◌, ◌++◌, subst, sym}
 use Rattle.std.proofs.lemmas.Result.{err_from_is_err_and}
 use Rattle.amqp_decoder.specs.Primitives.{ReadsValue}
 use Rattle.amqp_codec.specs.ItemsReading.{ReadsEach}
@@ -6,19 +6,19 @@ use Rattle.amqp_codec.specs.ItemsReadingLaws.{each_more}
 use Rattle.amqp_codec.proofs.ItemsSteps.{pushed, value_refused, no_room}
 use Rattle.amqp_codec.proofs.lists.read_each.Goals as goal
 
-pub returns-in_err-value : goal.returns-in_err-value
-returns-in_err-value g c tells =
+pub returns-in_err-value-clause-read : goal.returns-in_err-value-clause-read
+returns-in_err-value-clause-read g c tells =
     let u = g.T.DeserializeTerm.term in
     let p = err_from_is_err_and c.from_residual.result c.from_residual.ensures.1 in
     rw (p.1, p.2)
     (value_refused c.args.count u.means u.faults.fault (λ v. v.items) _ _ _ _ _ (omega (arith, c.loop-test.true, c.loop.invariant.long))
-    (c.loop.invariant.each tells) (c.in_err-value.ensures tells))
+    (c.loop.invariant.each tells) (c.in_err-value.ensures.read tells))
 
-pub returns-then-is_err : goal.returns-then-is_err
-returns-then-is_err g c tells =
+pub returns-then-is_err-clause-read : goal.returns-then-is_err-clause-read
+returns-then-is_err-clause-read g c tells =
     let u = g.T.DeserializeTerm.term in
     no_room c.args.count u.means u.faults.fault (λ v. v.items) _ _ _ _ _ _ c.refuse.ensures.first
-    (each_more u.means _ _ _ _ _ (c.loop.invariant.each tells) (c.in_ok-value.ensures tells))
+    (each_more u.means _ _ _ _ _ (c.loop.invariant.each tells) (c.in_ok-value.ensures.read tells))
 
 pub loop-preserved : goal.loop-preserved
 loop-preserved g c =
@@ -26,5 +26,6 @@ loop-preserved g c =
     let e = pushed c.push.result c.is_err.result c.push.new.self.items _ _ c.if-is_err.false c.is_err.ensures.value c.push.ensures.items in
     record {
       long = ap length e ∙ length-append c.loop.values.items (c.in_ok-value.value ∷ []) ∙ omega (arith, c.loop.invariant.long);
-      each = λ tells. rw e (each_more u.means _ _ _ _ _ (c.loop.invariant.each tells) (c.in_ok-value.ensures tells));
+      each = λ tells. rw e (each_more u.means _ _ _ _ _ (c.loop.invariant.each tells) (c.in_ok-value.ensures.read tells));
+      passed = search rules;
     }

@@ -8,37 +8,37 @@ use Rattle.amqp_codec.specs.EitherMeaning.{no_value}
 use Rattle.amqp_containers.proofs.MultipleReads.{array_refused, items_read, no_items_read, item_refused, item_read}
 use Rattle.amqp_containers.proofs.multiple.read_several.Goals as goal
 
-pub returns-in_err-peek_code : goal.returns-in_err-peek_code
-returns-in_err-peek_code g c tells =
+pub returns-in_err-peek_code-clause-read : goal.returns-in_err-peek_code-clause-read
+returns-in_err-peek_code-clause-read g c tells =
     let p = err_from_is_err_and c.from_residual.result c.from_residual.ensures.1 in
-    rw (p.1, p.2) (refused_first PeeksCode BeginFault _ _ _ _ _ no_memory no_value (value_peeked _ _) (c.in_err-peek_code.ensures tells))
+    rw (p.1, p.2) (refused_first PeeksCode BeginFault _ _ _ _ _ no_memory no_value (value_peeked _ _) (c.in_err-peek_code.ensures.read tells))
 
-pub returns-in_err-items-in-224 : goal.returns-in_err-items-in-224
-returns-in_err-items-in-224 g c tells =
+pub returns-in_err-items-in-224-clause-read : goal.returns-in_err-items-in-224-clause-read
+returns-in_err-items-in-224-clause-read g c tells =
     let r = c.from_residual-in_err-items-in-224 in
     let p = err_from_is_err_and r.result r.ensures.1 in
     rw (p.1, p.2)
-    (array_refused g.T.DeserializeTerm.term _ _ _ (c.in_ok-peek_code.ensures tells) c.in-224.is (record { 0 = c.new.result })
-    c.new.ensures.items _ _ (c.in_err-items-in-224.ensures tells))
+    (array_refused g.T.DeserializeTerm.term _ _ _ (c.in_ok-peek_code.ensures.read tells) c.in-224.is (record { 0 = c.new.result })
+    c.new.ensures.items _ _ (c.in_err-items-in-224.ensures.read tells))
 
-pub returns-then-is_empty : goal.returns-then-is_empty
-returns-then-is_empty g c tells =
-    no_items_read g.T.DeserializeTerm.term _ _ _ (c.in_ok-peek_code.ensures tells) _ _
-    (nil_from_length c.in_ok-items-in-224.items.0.items (search rules)) (c.in_ok-items-in-224.ensures tells)
+pub returns-then-is_empty-clause-read : goal.returns-then-is_empty-clause-read
+returns-then-is_empty-clause-read g c tells =
+    no_items_read g.T.DeserializeTerm.term _ _ _ (c.in_ok-peek_code.ensures.read tells) _ _
+    (nil_from_length c.in_ok-items-in-224.items.0.items (search rules)) (c.in_ok-items-in-224.ensures.read tells)
 
-pub returns-else-is_empty : goal.returns-else-is_empty
-returns-else-is_empty g c tells =
-    items_read g.T.DeserializeTerm.term _ _ _ (c.in_ok-peek_code.ensures tells) _ _ (search rules) (c.in_ok-items-in-224.ensures tells)
+pub returns-else-is_empty-clause-read : goal.returns-else-is_empty-clause-read
+returns-else-is_empty-clause-read g c tells =
+    items_read g.T.DeserializeTerm.term _ _ _ (c.in_ok-peek_code.ensures.read tells) _ _ (search rules) (c.in_ok-items-in-224.ensures.read tells)
 
-pub returns-in_err-item-in_default : goal.returns-in_err-item-in_default
-returns-in_err-item-in_default g c tells =
+pub returns-in_err-item-in_default-clause-read : goal.returns-in_err-item-in_default-clause-read
+returns-in_err-item-in_default-clause-read g c tells =
     let r = c.from_residual-in_err-item-in_default in
     let p = err_from_is_err_and r.result r.ensures.1 in
     rw (p.1, p.2)
-    (item_refused g.T.DeserializeTerm.term _ c.in_ok-peek_code.field-0 _ (c.in_ok-peek_code.ensures tells) (search rules) (search rules)
-    _ _ (c.in_err-item-in_default.ensures tells))
+    (item_refused g.T.DeserializeTerm.term _ c.in_ok-peek_code.field-0 _ (c.in_ok-peek_code.ensures.read tells) (search rules) (search rules)
+    _ _ (c.in_err-item-in_default.ensures.read tells))
 
-pub returns-else-is_err : goal.returns-else-is_err
-returns-else-is_err g c tells =
-    item_read g.T.DeserializeTerm.term _ c.in_ok-peek_code.field-0 _ (c.in_ok-peek_code.ensures tells) (search rules) (search rules)
-    _ _ _ (search rules) (c.in_ok-item-in_default.ensures tells)
+pub returns-else-is_err-clause-read : goal.returns-else-is_err-clause-read
+returns-else-is_err-clause-read g c tells =
+    item_read g.T.DeserializeTerm.term _ c.in_ok-peek_code.field-0 _ (c.in_ok-peek_code.ensures.read tells) (search rules) (search rules)
+    _ _ _ (search rules) (c.in_ok-item-in_default.ensures.read tells)

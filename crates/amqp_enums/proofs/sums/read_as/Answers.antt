@@ -4,10 +4,10 @@ use Rattle.amqp_codec.specs.FieldReading.{FieldsRead, FieldsFault}
 use Rattle.amqp_codec.specs.RefusalLaws.{refused_first}
 use Rattle.amqp_enums.proofs.sums.read_as.Goals as goal
 
-pub returns-in_err-member : goal.returns-in_err-member
-returns-in_err-member g c tells =
+pub returns-in_err-member-clause-read : goal.returns-in_err-member-clause-read
+returns-in_err-member-clause-read g c tells =
     let t = g.C.Composite.table in
     let p = err_from_is_err_and c.from_residual.result c.from_residual.ensures.1 in
     rw (p.1, p.2)
     (refused_first (FieldsRead t.fields) (FieldsFault t.fields) (ChoiceRead t g.S.From.from_gives) (FieldsFault t.fields) _ _ _
-    (λ h. h) (λ f. f) (λ none v b h. none h.member b h.read) (c.in_err-member.ensures tells))
+    (λ h. h) (λ f. f) (λ none v b h. none h.member b h.read) (c.in_err-member.ensures.read tells))

@@ -4,8 +4,8 @@ use Rattle.amqp_codec.specs.MembersLaws.{unopened, unread, unended, read_whole, 
 use Rattle.amqp_enums.proofs.SumMembers.{are_members}
 use Rattle.amqp_enums.proofs.sums.read_sum.Goals as goal
 
-pub returns-in_err-place : goal.returns-in_err-place
-returns-in_err-place g c tells =
+pub returns-in_err-place-clause-read : goal.returns-in_err-place-clause-read
+returns-in_err-place-clause-read g c tells =
     let s = g.S.Sum.sum in
     let ms = c.descriptors.result.now in
     let names = c.descriptors.ensures in
@@ -13,8 +13,8 @@ returns-in_err-place g c tells =
     rw (p.1, p.2)
     (unopened (members_of s.choices) (sum_of s).means (are_members s) ms _ _ _ names (c.in_err-place.ensures.opened tells))
 
-pub returns-in_err-value : goal.returns-in_err-value
-returns-in_err-value g c tells =
+pub returns-in_err-value-clause-read : goal.returns-in_err-value-clause-read
+returns-in_err-value-clause-read g c tells =
     let s = g.S.Sum.sum in
     let ms = c.descriptors.result.now in
     let names = c.descriptors.ensures in
@@ -24,8 +24,8 @@ returns-in_err-value g c tells =
     rw (p.1, p.2)
     (unread (members_of s.choices) (sum_of s).means (are_members s) ms _ _ _ _ _ names opened (c.in_err-value.ensures few tells))
 
-pub returns-in_err-end_described : goal.returns-in_err-end_described
-returns-in_err-end_described g c tells =
+pub returns-in_err-end_described-clause-read : goal.returns-in_err-end_described-clause-read
+returns-in_err-end_described-clause-read g c tells =
     let s = g.S.Sum.sum in
     let ms = c.descriptors.result.now in
     let names = c.descriptors.ensures in
@@ -36,8 +36,8 @@ returns-in_err-end_described g c tells =
     rw (p.1, p.2)
     (unended (members_of s.choices) (sum_of s).means (are_members s) ms _ _ _ _ _ _ _ names opened read c.in_err-end_described.ensures)
 
-pub returns : goal.returns
-returns g c tells =
+pub returns-clause-read : goal.returns-clause-read
+returns-clause-read g c tells =
     let s = g.S.Sum.sum in
     let ms = c.descriptors.result.now in
     let names = c.descriptors.ensures in

@@ -1,49 +1,51 @@
-use Rattle.std.proofs.Common.{subst, inl, inr, rules}
+use Rattle.std.proofs.Common.{inl, inr, rules}
 use Rattle.std.proofs.lemmas.Result.{err_from_is_err_and}
 use Rattle.indexmap.specs.Entry.{map_with_value}
 use Rattle.indexmap.specs.declared.map.entry.Entry.TheVariants.{Vacant}
-use Rattle.amqp_decoder.specs.Steps.{RefusesBy}
 use Rattle.amqp_codec.proofs.MapSteps.{key_refused, key_twice, value_refused, no_place}
 use Rattle.amqp_maps.specs.KeyLaws.{absent_new, present_known}
 use Rattle.amqp_maps.proofs.PairsRead.{fewer_so_far, one_more_so_far}
 use Rattle.amqp_maps.proofs.read.read_pairs.Goals as goal
 
-pub returns-in_err-key : goal.returns-in_err-key
-returns-in_err-key g c tells =
+pub returns-in_err-key-clause-read : goal.returns-in_err-key-clause-read
+returns-in_err-key-clause-read g c tells =
     let key = g.K.DeserializeTerm.term in
     let value = g.V.DeserializeTerm.term in
     let p = err_from_is_err_and c.from_residual.result c.from_residual.ensures.1 in
     rw (p.1, p.2)
-    (key_refused key value c.args.count _ _ _ _ _ (fewer_so_far key value c.loop.invariant c.args.count c.loop-test.true tells)
-    (c.in_err-key.ensures tells))
+    (key_refused key value c.args.count _ _ _ _ _ (fewer_so_far key value c.loop.invariant.pairs c.args.count c.loop-test.true tells)
+    (c.in_err-key.ensures.read tells))
 
-pub returns-in-Err : goal.returns-in-Err
-returns-in-Err g c tells =
+pub returns-in-Err-clause-read : goal.returns-in-Err-clause-read
+returns-in-Err-clause-read g c tells =
     let key = g.K.DeserializeTerm.term in
     let value = g.V.DeserializeTerm.term in
     elim c.in-Err.ensures.refused [
-      | inl is ↦ no_place key value c.args.count _ _ _ c.in_ok-key.key _ _ _ (c.loop.invariant.each tells) (c.in_ok-key.ensures tells)
-          (subst (λ d. RefusesBy d _ _ _) is c.refuse.ensures.first)
+      | inl is ↦ no_place key value c.args.count _ _ _ c.in_ok-key.key _ _ _ (c.loop.invariant.pairs.each tells) (c.in_ok-key.ensures.read tells)
+          (rw is at c.refuse.ensures.first)
       | inr (is, known) ↦ key_twice key value c.args.count _ _ _ c.in_ok-key.key _ _ _
-          (fewer_so_far key value c.loop.invariant c.args.count c.loop-test.true tells) (c.in_ok-key.ensures tells)
+          (fewer_so_far key value c.loop.invariant.pairs c.args.count c.loop-test.true tells) (c.in_ok-key.ensures.read tells)
           (present_known g.met.K.MapKey.is_key c.in_ok-key.key c.loop.pairs.entries known)
-          (subst (λ d. RefusesBy d _ _ _) is c.refuse.ensures.first)
+          (rw is at c.refuse.ensures.first)
     ]
 
-pub returns-in_err-value-in-Ok : goal.returns-in_err-value-in-Ok
-returns-in_err-value-in-Ok g c tells =
+pub returns-in_err-value-in-Ok-clause-read : goal.returns-in_err-value-in-Ok-clause-read
+returns-in_err-value-in-Ok-clause-read g c tells =
     let key = g.K.DeserializeTerm.term in
     let value = g.V.DeserializeTerm.term in
     let p = err_from_is_err_and c.from_residual-in_err-value-in-Ok.result c.from_residual-in_err-value-in-Ok.ensures.1 in
     let new = absent_new g.met.K.MapKey.is_key c.in_ok-key.key c.loop.pairs.entries c.in-Ok.ensures.new in
     rw (p.1, p.2)
     (value_refused key value c.args.count _ _ _ c.in_ok-key.key _ _ _
-    (fewer_so_far key value c.loop.invariant c.args.count c.loop-test.true tells) (c.in_ok-key.ensures tells) new
-    (c.in_err-value-in-Ok.ensures tells))
+    (fewer_so_far key value c.loop.invariant.pairs c.args.count c.loop-test.true tells) (c.in_ok-key.ensures.read tells) new
+    (c.in_err-value-in-Ok.ensures.read tells))
 
 pub loop-preserved : goal.loop-preserved
 loop-preserved g c =
     let new = absent_new g.met.K.MapKey.is_key c.in_ok-key.key c.loop.pairs.entries c.in-Ok.ensures.new in
-    one_more_so_far g.K.DeserializeTerm.term g.V.DeserializeTerm.term c.loop.invariant g.met.K.MapKey.is_key
-    (map_with_value (Vacant c.in-Ok.place)) c.in_ok-key.key c.in_ok-value-in-Ok.value c.insert.result.now _ _ _ (search rules)
-    c.insert.ensures.value c.in-Ok.ensures.last new c.in_ok-key.ensures c.in_ok-value-in-Ok.ensures
+    record {
+      pairs = one_more_so_far g.K.DeserializeTerm.term g.V.DeserializeTerm.term c.loop.invariant.pairs g.met.K.MapKey.is_key
+          (map_with_value (Vacant c.in-Ok.place)) c.in_ok-key.key c.in_ok-value-in-Ok.value c.insert.result.now _ _ _ (search rules)
+          c.insert.ensures.value c.in-Ok.ensures.last new c.in_ok-key.ensures.read c.in_ok-value-in-Ok.ensures.read;
+      passed = search rules;
+    }

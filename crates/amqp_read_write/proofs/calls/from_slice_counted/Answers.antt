@@ -6,7 +6,7 @@ use Rattle.amqp_read_write.proofs.calls.from_slice_counted.Goals as goal
 
 pub returns-clause-found : goal.returns-clause-found
 returns-clause-found g c =
-    let read = rw c.decoder_of-decoder.ensures at (c.in_ok-value.ensures (λ s. (s.now, refl))) in
+    let read = rw c.decoder_of-decoder.ensures at (c.in_ok-value.ensures.read (λ s. (s.now, refl))) in
     is_read g.T.Deserialize.reading c.args.input.now _ c.deserialize-read.new.decoder _ read (omega (arith, c.unread-left.ensures.count))
 
 pub returns-clause-one : goal.returns-clause-one
@@ -20,21 +20,21 @@ pub returns-in_err-value-clause-refused : goal.returns-in_err-value-clause-refus
 returns-in_err-value-clause-refused g c =
     let p = err_from_is_err_and c.from_residual.result c.from_residual.ensures.1 in
     rw (p.1, p.2) (refused_whole g.T.Deserialize.reading c.args.input.now _ c.deserialize-read.new.decoder c.unread-left.ensures.whole
-    (rw c.decoder_of-decoder.ensures at (c.in_err-value.ensures (λ s. (s.now, refl)))))
+    (rw c.decoder_of-decoder.ensures at (c.in_err-value.ensures.read (λ s. (s.now, refl)))))
 
 pub returns-in_err-value-clause-memory : goal.returns-in_err-value-clause-memory
 returns-in_err-value-clause-memory g c =
     let p = err_from_is_err_and c.from_residual.result c.from_residual.ensures.1 in
     rw (p.1, p.2) (memory_wanted g.T.Deserialize.reading c.args.input.now _
     (refused_whole g.T.Deserialize.reading c.args.input.now _ c.deserialize-read.new.decoder c.unread-left.ensures.whole
-    (rw c.decoder_of-decoder.ensures at (c.in_err-value.ensures (λ s. (s.now, refl))))))
+    (rw c.decoder_of-decoder.ensures at (c.in_err-value.ensures.read (λ s. (s.now, refl))))))
 
 pub returns-in_err-value-clause-unfailing : goal.returns-in_err-value-clause-unfailing
 returns-in_err-value-clause-unfailing g c =
     let p = err_from_is_err_and c.from_residual.result c.from_residual.ensures.1 in
     rw (p.1, p.2) (never_failing g.T.Deserialize.reading c.args.input.now _
     (refused_whole g.T.Deserialize.reading c.args.input.now _ c.deserialize-read.new.decoder c.unread-left.ensures.whole
-    (rw c.decoder_of-decoder.ensures at (c.in_err-value.ensures (λ s. (s.now, refl))))))
+    (rw c.decoder_of-decoder.ensures at (c.in_err-value.ensures.read (λ s. (s.now, refl))))))
 
 pub returns-in_err-value-clause-one : goal.returns-in_err-value-clause-one
 returns-in_err-value-clause-one g c v w n m h k = read_one g.T.Deserialize.reading c.args.input.now v w n m h k

@@ -1,4 +1,4 @@
-use Rattle.std.proofs.Common.{◌/◌, refl, ap, ◌∙◌, arith, length, length-append, [], ◌∷◌, true, false}
+use Rattle.std.proofs.Common.{rules, ◌/◌, refl, ap, ◌∙◌, arith, length, length-append, [], ◌∷◌, true, false}
 use Rattle.std.proofs.lemmas.Result.{err_from_is_err_and}
 use Rattle.amqp_model.specs.Term.{list, map, array, described}
 use Rattle.amqp_lookahead.specs.Members.{descriptor_of}
@@ -29,141 +29,141 @@ use Rattle.amqp_values.proofs.ValueSteps.{less_bounded, less_refused, less_read,
 use Rattle.amqp_values.proofs.ValueSteps.{less_pairs}
 use Rattle.amqp_values.proofs.read.+reading.Goals as goal
 
-pub read_any-returns-in_err-code : goal.read_any-returns-in_err-code
-read_any-returns-in_err-code g t c tells bounded =
+pub read_any-returns-in_err-code-clause-read : goal.read_any-returns-in_err-code-clause-read
+read_any-returns-in_err-code-clause-read g t c tells bounded =
     let p = err_from_is_err_and c.from_residual.result c.from_residual.ensures.1 in
-    rw (p.1, p.2) (peek_refused _ _ _ _ (c.in_err-code.ensures tells))
+    rw (p.1, p.2) (peek_refused _ _ _ _ (c.in_err-code.ensures.read tells))
 
-pub read_any-returns-in-Null : goal.read_any-returns-in-Null
-read_any-returns-in-Null g t c tells bounded =
+pub read_any-returns-in-Null-clause-read : goal.read_any-returns-in-Null-clause-read
+read_any-returns-in-Null-clause-read g t c tells bounded =
     kind_answers kind.Null null_member false (faults_at c.args.levels) _ _ _ _ _
-    (c.in_ok-code.ensures tells) c.in-Null.ensures (c.read_as.ensures tells)
+    (c.in_ok-code.ensures.read tells) c.in-Null.ensures (c.read_as.ensures.read tells)
 
-pub read_any-returns-in-Bool : goal.read_any-returns-in-Bool
-read_any-returns-in-Bool g t c tells bounded =
+pub read_any-returns-in-Bool-clause-read : goal.read_any-returns-in-Bool-clause-read
+read_any-returns-in-Bool-clause-read g t c tells bounded =
     kind_answers kind.Bool bool_member false (faults_at c.args.levels) _ _ _ _ _
-    (c.in_ok-code.ensures tells) c.in-Bool.ensures (c.read_as-in-Bool.ensures tells)
+    (c.in_ok-code.ensures.read tells) c.in-Bool.ensures (c.read_as-in-Bool.ensures.read tells)
 
-pub read_any-returns-in-Ubyte : goal.read_any-returns-in-Ubyte
-read_any-returns-in-Ubyte g t c tells bounded =
+pub read_any-returns-in-Ubyte-clause-read : goal.read_any-returns-in-Ubyte-clause-read
+read_any-returns-in-Ubyte-clause-read g t c tells bounded =
     kind_answers kind.Ubyte ubyte_member false (faults_at c.args.levels) _ _ _ _ _
-    (c.in_ok-code.ensures tells) c.in-Ubyte.ensures (c.read_as-in-Ubyte.ensures tells)
+    (c.in_ok-code.ensures.read tells) c.in-Ubyte.ensures (c.read_as-in-Ubyte.ensures.read tells)
 
-pub read_any-returns-in-Ushort : goal.read_any-returns-in-Ushort
-read_any-returns-in-Ushort g t c tells bounded =
+pub read_any-returns-in-Ushort-clause-read : goal.read_any-returns-in-Ushort-clause-read
+read_any-returns-in-Ushort-clause-read g t c tells bounded =
     kind_answers kind.Ushort ushort_member false (faults_at c.args.levels) _ _ _ _ _
-    (c.in_ok-code.ensures tells) c.in-Ushort.ensures (c.read_as-in-Ushort.ensures tells)
+    (c.in_ok-code.ensures.read tells) c.in-Ushort.ensures (c.read_as-in-Ushort.ensures.read tells)
 
-pub read_any-returns-in-Uint : goal.read_any-returns-in-Uint
-read_any-returns-in-Uint g t c tells bounded =
+pub read_any-returns-in-Uint-clause-read : goal.read_any-returns-in-Uint-clause-read
+read_any-returns-in-Uint-clause-read g t c tells bounded =
     kind_answers kind.Uint uint_member false (faults_at c.args.levels) _ _ _ _ _
-    (c.in_ok-code.ensures tells) c.in-Uint.ensures (c.read_as-in-Uint.ensures tells)
+    (c.in_ok-code.ensures.read tells) c.in-Uint.ensures (c.read_as-in-Uint.ensures.read tells)
 
-pub read_any-returns-in-Ulong : goal.read_any-returns-in-Ulong
-read_any-returns-in-Ulong g t c tells bounded =
+pub read_any-returns-in-Ulong-clause-read : goal.read_any-returns-in-Ulong-clause-read
+read_any-returns-in-Ulong-clause-read g t c tells bounded =
     kind_answers kind.Ulong ulong_member false (faults_at c.args.levels) _ _ _ _ _
-    (c.in_ok-code.ensures tells) c.in-Ulong.ensures (c.read_as-in-Ulong.ensures tells)
+    (c.in_ok-code.ensures.read tells) c.in-Ulong.ensures (c.read_as-in-Ulong.ensures.read tells)
 
-pub read_any-returns-in-Byte : goal.read_any-returns-in-Byte
-read_any-returns-in-Byte g t c tells bounded =
+pub read_any-returns-in-Byte-clause-read : goal.read_any-returns-in-Byte-clause-read
+read_any-returns-in-Byte-clause-read g t c tells bounded =
     kind_answers kind.Byte byte_member false (faults_at c.args.levels) _ _ _ _ _
-    (c.in_ok-code.ensures tells) c.in-Byte.ensures (c.read_as-in-Byte.ensures tells)
+    (c.in_ok-code.ensures.read tells) c.in-Byte.ensures (c.read_as-in-Byte.ensures.read tells)
 
-pub read_any-returns-in-Short : goal.read_any-returns-in-Short
-read_any-returns-in-Short g t c tells bounded =
+pub read_any-returns-in-Short-clause-read : goal.read_any-returns-in-Short-clause-read
+read_any-returns-in-Short-clause-read g t c tells bounded =
     kind_answers kind.Short short_member false (faults_at c.args.levels) _ _ _ _ _
-    (c.in_ok-code.ensures tells) c.in-Short.ensures (c.read_as-in-Short.ensures tells)
+    (c.in_ok-code.ensures.read tells) c.in-Short.ensures (c.read_as-in-Short.ensures.read tells)
 
-pub read_any-returns-in-Int : goal.read_any-returns-in-Int
-read_any-returns-in-Int g t c tells bounded =
+pub read_any-returns-in-Int-clause-read : goal.read_any-returns-in-Int-clause-read
+read_any-returns-in-Int-clause-read g t c tells bounded =
     kind_answers kind.Int int_member false (faults_at c.args.levels) _ _ _ _ _
-    (c.in_ok-code.ensures tells) c.in-Int.ensures (c.read_as-in-Int.ensures tells)
+    (c.in_ok-code.ensures.read tells) c.in-Int.ensures (c.read_as-in-Int.ensures.read tells)
 
-pub read_any-returns-in-Long : goal.read_any-returns-in-Long
-read_any-returns-in-Long g t c tells bounded =
+pub read_any-returns-in-Long-clause-read : goal.read_any-returns-in-Long-clause-read
+read_any-returns-in-Long-clause-read g t c tells bounded =
     kind_answers kind.Long long_member false (faults_at c.args.levels) _ _ _ _ _
-    (c.in_ok-code.ensures tells) c.in-Long.ensures (c.read_as-in-Long.ensures tells)
+    (c.in_ok-code.ensures.read tells) c.in-Long.ensures (c.read_as-in-Long.ensures.read tells)
 
-pub read_any-returns-in-Decimal32 : goal.read_any-returns-in-Decimal32
-read_any-returns-in-Decimal32 g t c tells bounded =
+pub read_any-returns-in-Decimal32-clause-read : goal.read_any-returns-in-Decimal32-clause-read
+read_any-returns-in-Decimal32-clause-read g t c tells bounded =
     kind_answers kind.Decimal32 decimal32_member false (faults_at c.args.levels) _ _ _ _ _
-    (c.in_ok-code.ensures tells) c.in-Decimal32.ensures (c.read_as-in-Decimal32.ensures tells)
+    (c.in_ok-code.ensures.read tells) c.in-Decimal32.ensures (c.read_as-in-Decimal32.ensures.read tells)
 
-pub read_any-returns-in-Decimal64 : goal.read_any-returns-in-Decimal64
-read_any-returns-in-Decimal64 g t c tells bounded =
+pub read_any-returns-in-Decimal64-clause-read : goal.read_any-returns-in-Decimal64-clause-read
+read_any-returns-in-Decimal64-clause-read g t c tells bounded =
     kind_answers kind.Decimal64 decimal64_member false (faults_at c.args.levels) _ _ _ _ _
-    (c.in_ok-code.ensures tells) c.in-Decimal64.ensures (c.read_as-in-Decimal64.ensures tells)
+    (c.in_ok-code.ensures.read tells) c.in-Decimal64.ensures (c.read_as-in-Decimal64.ensures.read tells)
 
-pub read_any-returns-in-Decimal128 : goal.read_any-returns-in-Decimal128
-read_any-returns-in-Decimal128 g t c tells bounded =
+pub read_any-returns-in-Decimal128-clause-read : goal.read_any-returns-in-Decimal128-clause-read
+read_any-returns-in-Decimal128-clause-read g t c tells bounded =
     kind_answers kind.Decimal128 decimal128_member false (faults_at c.args.levels) _ _ _ _ _
-    (c.in_ok-code.ensures tells) c.in-Decimal128.ensures (c.read_as-in-Decimal128.ensures tells)
+    (c.in_ok-code.ensures.read tells) c.in-Decimal128.ensures (c.read_as-in-Decimal128.ensures.read tells)
 
-pub read_any-returns-in-Char : goal.read_any-returns-in-Char
-read_any-returns-in-Char g t c tells bounded =
+pub read_any-returns-in-Char-clause-read : goal.read_any-returns-in-Char-clause-read
+read_any-returns-in-Char-clause-read g t c tells bounded =
     kind_answers kind.Char char_member false (faults_at c.args.levels) _ _ _ _ _
-    (c.in_ok-code.ensures tells) c.in-Char.ensures (c.read_as-in-Char.ensures tells)
+    (c.in_ok-code.ensures.read tells) c.in-Char.ensures (c.read_as-in-Char.ensures.read tells)
 
-pub read_any-returns-in-Timestamp : goal.read_any-returns-in-Timestamp
-read_any-returns-in-Timestamp g t c tells bounded =
+pub read_any-returns-in-Timestamp-clause-read : goal.read_any-returns-in-Timestamp-clause-read
+read_any-returns-in-Timestamp-clause-read g t c tells bounded =
     kind_answers kind.Timestamp timestamp_member false (faults_at c.args.levels) _ _ _ _ _
-    (c.in_ok-code.ensures tells) c.in-Timestamp.ensures (c.read_as-in-Timestamp.ensures tells)
+    (c.in_ok-code.ensures.read tells) c.in-Timestamp.ensures (c.read_as-in-Timestamp.ensures.read tells)
 
-pub read_any-returns-in-Uuid : goal.read_any-returns-in-Uuid
-read_any-returns-in-Uuid g t c tells bounded =
+pub read_any-returns-in-Uuid-clause-read : goal.read_any-returns-in-Uuid-clause-read
+read_any-returns-in-Uuid-clause-read g t c tells bounded =
     kind_answers kind.Uuid uuid_member false (faults_at c.args.levels) _ _ _ _ _
-    (c.in_ok-code.ensures tells) c.in-Uuid.ensures (c.read_as-in-Uuid.ensures tells)
+    (c.in_ok-code.ensures.read tells) c.in-Uuid.ensures (c.read_as-in-Uuid.ensures.read tells)
 
-pub read_any-returns-in-Binary : goal.read_any-returns-in-Binary
-read_any-returns-in-Binary g t c tells bounded =
+pub read_any-returns-in-Binary-clause-read : goal.read_any-returns-in-Binary-clause-read
+read_any-returns-in-Binary-clause-read g t c tells bounded =
     kind_answers kind.Binary binary_member true (faults_at c.args.levels) _ _ _ _ _
-    (c.in_ok-code.ensures tells) c.in-Binary.ensures (c.read_as-in-Binary.ensures tells)
+    (c.in_ok-code.ensures.read tells) c.in-Binary.ensures (c.read_as-in-Binary.ensures.read tells)
 
-pub read_any-returns-in-String : goal.read_any-returns-in-String
-read_any-returns-in-String g t c tells bounded =
+pub read_any-returns-in-String-clause-read : goal.read_any-returns-in-String-clause-read
+read_any-returns-in-String-clause-read g t c tells bounded =
     kind_answers kind.String string_member true (faults_at c.args.levels) _ _ _ _ _
-    (c.in_ok-code.ensures tells) c.in-String.ensures (c.read_as-in-String.ensures tells)
+    (c.in_ok-code.ensures.read tells) c.in-String.ensures (c.read_as-in-String.ensures.read tells)
 
-pub read_any-returns-in-Symbol : goal.read_any-returns-in-Symbol
-read_any-returns-in-Symbol g t c tells bounded =
+pub read_any-returns-in-Symbol-clause-read : goal.read_any-returns-in-Symbol-clause-read
+read_any-returns-in-Symbol-clause-read g t c tells bounded =
     kind_answers kind.Symbol symbol_member true (faults_at c.args.levels) _ _ _ _ _
-    (c.in_ok-code.ensures tells) c.in-Symbol.ensures (c.read_as-in-Symbol.ensures tells)
+    (c.in_ok-code.ensures.read tells) c.in-Symbol.ensures (c.read_as-in-Symbol.ensures.read tells)
 
-pub read_any-returns-in-Described : goal.read_any-returns-in-Described
-read_any-returns-in-Described g t c tells bounded =
+pub read_any-returns-in-Described-clause-read : goal.read_any-returns-in-Described-clause-read
+read_any-returns-in-Described-clause-read g t c tells bounded =
     kind_answers kind.Described described_member true (faults_at c.args.levels) _ _ _ _ _
-    (c.in_ok-code.ensures tells) c.in-Described.ensures
-    (c.read_described.ensures tells (bounded_peeked c.args.levels _ _ _ (c.in_ok-code.ensures tells) bounded))
+    (c.in_ok-code.ensures.read tells) c.in-Described.ensures
+    (c.read_described.ensures.read tells (bounded_peeked c.args.levels _ _ _ (c.in_ok-code.ensures.read tells) bounded))
 
-pub read_any-returns-in-List : goal.read_any-returns-in-List
-read_any-returns-in-List g t c tells bounded =
-    kind_answers kind.List list_member true (faults_at c.args.levels) _ _ _ _ _ (c.in_ok-code.ensures tells) c.in-List.ensures
-    (c.read_list.ensures tells (bounded_peeked c.args.levels _ _ _ (c.in_ok-code.ensures tells) bounded))
+pub read_any-returns-in-List-clause-read : goal.read_any-returns-in-List-clause-read
+read_any-returns-in-List-clause-read g t c tells bounded =
+    kind_answers kind.List list_member true (faults_at c.args.levels) _ _ _ _ _ (c.in_ok-code.ensures.read tells) c.in-List.ensures
+    (c.read_list.ensures.read tells (bounded_peeked c.args.levels _ _ _ (c.in_ok-code.ensures.read tells) bounded))
 
-pub read_any-returns-in-Map : goal.read_any-returns-in-Map
-read_any-returns-in-Map g t c tells bounded =
-    kind_answers kind.Map map_member true (faults_at c.args.levels) _ _ _ _ _ (c.in_ok-code.ensures tells) c.in-Map.ensures
-    (c.read_map.ensures tells (bounded_peeked c.args.levels _ _ _ (c.in_ok-code.ensures tells) bounded))
+pub read_any-returns-in-Map-clause-read : goal.read_any-returns-in-Map-clause-read
+read_any-returns-in-Map-clause-read g t c tells bounded =
+    kind_answers kind.Map map_member true (faults_at c.args.levels) _ _ _ _ _ (c.in_ok-code.ensures.read tells) c.in-Map.ensures
+    (c.read_map.ensures.read tells (bounded_peeked c.args.levels _ _ _ (c.in_ok-code.ensures.read tells) bounded))
 
-pub read_any-returns-in-Array : goal.read_any-returns-in-Array
-read_any-returns-in-Array g t c tells bounded =
-    kind_answers kind.Array array_member true (faults_at c.args.levels) _ _ _ _ _ (c.in_ok-code.ensures tells) c.in-Array.ensures
-    (c.read_array.ensures tells (bounded_peeked c.args.levels _ _ _ (c.in_ok-code.ensures tells) bounded))
+pub read_any-returns-in-Array-clause-read : goal.read_any-returns-in-Array-clause-read
+read_any-returns-in-Array-clause-read g t c tells bounded =
+    kind_answers kind.Array array_member true (faults_at c.args.levels) _ _ _ _ _ (c.in_ok-code.ensures.read tells) c.in-Array.ensures
+    (c.read_array.ensures.read tells (bounded_peeked c.args.levels _ _ _ (c.in_ok-code.ensures.read tells) bounded))
 
-pub read_row-returns-in_err-value : goal.read_row-returns-in_err-value
-read_row-returns-in_err-value g t c tells bounded =
+pub read_row-returns-in_err-value-clause-read : goal.read_row-returns-in_err-value-clause-read
+read_row-returns-in_err-value-clause-read g t c tells bounded =
     let p = err_from_is_err_and c.from_residual.result c.from_residual.ensures.1 in
     let each = c.loop.invariant.each tells bounded in
     rw (p.1, p.2)
     (value_refused c.args.count ValueMeans (value_in c.args.levels).faults.fault (λ vs. vs) _ _ _ _ _
     (omega (arith, c.loop-test.true, c.loop.invariant.long)) each
-    (c.in_err-value.ensures tells (bounded_behind c.args.levels _ _ _ each bounded)))
+    (c.in_err-value.ensures.read tells (bounded_behind c.args.levels _ _ _ each bounded)))
 
-pub read_row-returns-then-is_err : goal.read_row-returns-then-is_err
-read_row-returns-then-is_err g t c tells bounded =
+pub read_row-returns-then-is_err-clause-read : goal.read_row-returns-then-is_err-clause-read
+read_row-returns-then-is_err-clause-read g t c tells bounded =
     let each = c.loop.invariant.each tells bounded in
     no_room c.args.count ValueMeans (value_in c.args.levels).faults.fault (λ vs. vs) _ _ _ _ _ _ c.refuse.ensures.first
-    (each_more ValueMeans _ _ _ _ _ each (c.in_ok-value.ensures tells (bounded_behind c.args.levels _ _ _ each bounded)))
+    (each_more ValueMeans _ _ _ _ _ each (c.in_ok-value.ensures.read tells (bounded_behind c.args.levels _ _ _ each bounded)))
 
 pub read_row-loop-preserved : goal.read_row-loop-preserved
 read_row-loop-preserved g t c =
@@ -172,25 +172,26 @@ read_row-loop-preserved g t c =
       long = ap length e ∙ length-append c.loop.values.items (c.in_ok-value.value ∷ []) ∙ omega (arith, c.loop.invariant.long);
       each = λ tells bounded.
           (let each = c.loop.invariant.each tells bounded in
-          rw e (each_more ValueMeans _ _ _ _ _ each (c.in_ok-value.ensures tells (bounded_behind c.args.levels _ _ _ each bounded))));
+          rw e (each_more ValueMeans _ _ _ _ _ each (c.in_ok-value.ensures.read tells (bounded_behind c.args.levels _ _ _ each bounded))));
+      passed = search rules;
     }
 
-pub read_list-returns-in_err-count : goal.read_list-returns-in_err-count
-read_list-returns-in_err-count g t c tells bounded =
+pub read_list-returns-in_err-count-clause-read : goal.read_list-returns-in_err-count-clause-read
+read_list-returns-in_err-count-clause-read g t c tells bounded =
     let p = err_from_is_err_and c.from_residual.result c.from_residual.ensures.1 in
     rw (p.1, p.2)
     (as_member (IsOfItems list) _ _ _ _
-    (open_refused list_opening (value_with (faults_at c.args.levels)) (λ vs. vs) _ _ _ tt (c.in_err-count.ensures tells)))
+    (open_refused list_opening (value_with (faults_at c.args.levels)) (λ vs. vs) _ _ _ tt (c.in_err-count.ensures.read tells)))
 
-pub read_list-returns-in_err-inner : goal.read_list-returns-in_err-inner
-read_list-returns-in_err-inner g t c tells bounded =
-    absurd (some_left c.args.levels _ _ (list_deeper list _ _ _ (c.in_ok-count.ensures tells)) bounded
+pub read_list-returns-in_err-inner-clause-read : goal.read_list-returns-in_err-inner-clause-read
+read_list-returns-in_err-inner-clause-read g t c tells bounded =
+    absurd (some_left c.args.levels _ _ (list_deeper list _ _ _ (c.in_ok-count.ensures.read tells)) bounded
     c.in_err-inner.ensures.err.0)
 
-pub read_list-returns-in_err-values : goal.read_list-returns-in_err-values
-read_list-returns-in_err-values g t c tells bounded =
+pub read_list-returns-in_err-values-clause-read : goal.read_list-returns-in_err-values-clause-read
+read_list-returns-in_err-values-clause-read g t c tells bounded =
     let p = err_from_is_err_and c.from_residual-in_err-values.result c.from_residual-in_err-values.ensures.1 in
-    let opened = c.in_ok-count.ensures tells in
+    let opened = c.in_ok-count.ensures.read tells in
     let less = c.in_ok-inner.ensures.ok in
     let inside = bounded_inside c.args.levels c.in_ok-inner.inner _ _ (list_deeper list _ _ _ opened) bounded less.0 in
     rw (p.1, p.2)
@@ -198,51 +199,51 @@ read_list-returns-in_err-values g t c tells bounded =
     (row_refused list_opening (value_with (faults_at c.args.levels)) (λ vs. vs) (λ vs. vs) (λ vs. vs) (λ vs. refl) _ _ _ _ _ tt
     opened
     (less_row_refused c.args.levels c.in_ok-inner.inner _ _ less.0 less.1 c.in_ok-count.count _ _
-    (c.in_err-values.ensures tells (less_bounded c.args.levels c.in_ok-inner.inner _ _ less.0 less.1 inside)))))
+    (c.in_err-values.ensures.read tells (less_bounded c.args.levels c.in_ok-inner.inner _ _ less.0 less.1 inside)))))
 
-pub read_list-returns-in_err-end_list : goal.read_list-returns-in_err-end_list
-read_list-returns-in_err-end_list g t c tells bounded =
+pub read_list-returns-in_err-end_list-clause-read : goal.read_list-returns-in_err-end_list-clause-read
+read_list-returns-in_err-end_list-clause-read g t c tells bounded =
     let p = err_from_is_err_and c.from_residual-in_err-end_list.result c.from_residual-in_err-end_list.ensures.1 in
-    let opened = c.in_ok-count.ensures tells in
+    let opened = c.in_ok-count.ensures.read tells in
     let less = c.in_ok-inner.ensures.ok in
     let inside = bounded_inside c.args.levels c.in_ok-inner.inner _ _ (list_deeper list _ _ _ opened) bounded less.0 in
     let row = less_row c.args.levels c.in_ok-inner.inner _ _ less.0 less.1 c.in_ok-count.count
     c.in_ok-values.values.items _
-    (c.in_ok-values.ensures tells (less_bounded c.args.levels c.in_ok-inner.inner _ _ less.0 less.1 inside)) in
+    (c.in_ok-values.ensures.read tells (less_bounded c.args.levels c.in_ok-inner.inner _ _ less.0 less.1 inside)) in
     rw (p.1, p.2)
     (as_member (IsOfItems list) _ _ _ _
     (end_refused list_opening (value_with (faults_at c.args.levels)) (λ vs. vs) _ _ _ c.in_ok-values.values.items _ _ _ tt opened row
-    (c.in_err-end_list.ensures tells)))
+    (c.in_err-end_list.ensures.read tells)))
 
-pub read_list-returns : goal.read_list-returns
-read_list-returns g t c tells bounded =
-    let opened = c.in_ok-count.ensures tells in
+pub read_list-returns-clause-read : goal.read_list-returns-clause-read
+read_list-returns-clause-read g t c tells bounded =
+    let opened = c.in_ok-count.ensures.read tells in
     let less = c.in_ok-inner.ensures.ok in
     let inside = bounded_inside c.args.levels c.in_ok-inner.inner _ _ (list_deeper list _ _ _ opened) bounded less.0 in
     let row = less_row c.args.levels c.in_ok-inner.inner _ _ less.0 less.1 c.in_ok-count.count
     c.in_ok-values.values.items _
-    (c.in_ok-values.ensures tells (less_bounded c.args.levels c.in_ok-inner.inner _ _ less.0 less.1 inside)) in (
+    (c.in_ok-values.ensures.read tells (less_bounded c.args.levels c.in_ok-inner.inner _ _ less.0 less.1 inside)) in (
       c.in_ok-values.values.items,
       list_is c.in_ok-values.values,
       all_read list_opening (value_with (faults_at c.args.levels)) (λ vs. vs) _ _ _ c.in_ok-values.values.items _ _ opened row
-          (c.in_ok-end_list.ensures tells),
+          (c.in_ok-end_list.ensures.read tells),
     )
 
-pub read_array-returns-in_err-count : goal.read_array-returns-in_err-count
-read_array-returns-in_err-count g t c tells bounded =
+pub read_array-returns-in_err-count-clause-read : goal.read_array-returns-in_err-count-clause-read
+read_array-returns-in_err-count-clause-read g t c tells bounded =
     let p = err_from_is_err_and c.from_residual.result c.from_residual.ensures.1 in
     rw (p.1, p.2)
     (as_member (IsOfItems array) _ _ _ _
     (open_refused array_opening (value_with (faults_at c.args.levels)) (λ vs. vs) _ _ _
     c.begin_array.ensures.room (c.in_err-count.ensures.opened tells)))
 
-pub read_array-returns-in_err-inner : goal.read_array-returns-in_err-inner
-read_array-returns-in_err-inner g t c tells bounded =
+pub read_array-returns-in_err-inner-clause-read : goal.read_array-returns-in_err-inner-clause-read
+read_array-returns-in_err-inner-clause-read g t c tells bounded =
     absurd (some_left c.args.levels _ _ (array_deeper _ _ _ (c.in_ok-count.ensures.opened tells)) bounded
     c.in_err-inner.ensures.err.0)
 
-pub read_array-returns-in_err-values : goal.read_array-returns-in_err-values
-read_array-returns-in_err-values g t c tells bounded =
+pub read_array-returns-in_err-values-clause-read : goal.read_array-returns-in_err-values-clause-read
+read_array-returns-in_err-values-clause-read g t c tells bounded =
     let p = err_from_is_err_and c.from_residual-in_err-values.result c.from_residual-in_err-values.ensures.1 in
     let opened = c.in_ok-count.ensures.opened tells in
     let less = c.in_ok-inner.ensures.ok in
@@ -253,52 +254,52 @@ read_array-returns-in_err-values g t c tells bounded =
     c.begin_array.ensures.room
     opened
     (less_row_refused c.args.levels c.in_ok-inner.inner _ _ less.0 less.1 c.in_ok-count.count _ _
-    (c.in_err-values.ensures tells (less_bounded c.args.levels c.in_ok-inner.inner _ _ less.0 less.1 inside)))))
+    (c.in_err-values.ensures.read tells (less_bounded c.args.levels c.in_ok-inner.inner _ _ less.0 less.1 inside)))))
 
-pub read_array-returns-in_err-end_array : goal.read_array-returns-in_err-end_array
-read_array-returns-in_err-end_array g t c tells bounded =
+pub read_array-returns-in_err-end_array-clause-read : goal.read_array-returns-in_err-end_array-clause-read
+read_array-returns-in_err-end_array-clause-read g t c tells bounded =
     let p = err_from_is_err_and c.from_residual-in_err-end_array.result c.from_residual-in_err-end_array.ensures.1 in
     let opened = c.in_ok-count.ensures.opened tells in
     let less = c.in_ok-inner.ensures.ok in
     let inside = bounded_inside c.args.levels c.in_ok-inner.inner _ _ (array_deeper _ _ _ opened) bounded less.0 in
     let row = less_row c.args.levels c.in_ok-inner.inner _ _ less.0 less.1 c.in_ok-count.count
     c.in_ok-values.values.items _
-    (c.in_ok-values.ensures tells (less_bounded c.args.levels c.in_ok-inner.inner _ _ less.0 less.1 inside)) in
+    (c.in_ok-values.ensures.read tells (less_bounded c.args.levels c.in_ok-inner.inner _ _ less.0 less.1 inside)) in
     rw (p.1, p.2)
     (as_member (IsOfItems array) _ _ _ _
     (end_refused array_opening (value_with (faults_at c.args.levels)) (λ vs. vs) _ _ _ c.in_ok-values.values.items _ _ _
     c.begin_array.ensures.room opened row
-    (c.in_err-end_array.ensures tells)))
+    (c.in_err-end_array.ensures.read tells)))
 
-pub read_array-returns : goal.read_array-returns
-read_array-returns g t c tells bounded =
+pub read_array-returns-clause-read : goal.read_array-returns-clause-read
+read_array-returns-clause-read g t c tells bounded =
     let opened = c.in_ok-count.ensures.opened tells in
     let less = c.in_ok-inner.ensures.ok in
     let inside = bounded_inside c.args.levels c.in_ok-inner.inner _ _ (array_deeper _ _ _ opened) bounded less.0 in
     let row = less_row c.args.levels c.in_ok-inner.inner _ _ less.0 less.1 c.in_ok-count.count
     c.in_ok-values.values.items _
-    (c.in_ok-values.ensures tells (less_bounded c.args.levels c.in_ok-inner.inner _ _ less.0 less.1 inside)) in (
+    (c.in_ok-values.ensures.read tells (less_bounded c.args.levels c.in_ok-inner.inner _ _ less.0 less.1 inside)) in (
       c.in_ok-values.values.items,
       array_is (record { 0 = c.in_ok-values.values }),
       all_read array_opening (value_with (faults_at c.args.levels)) (λ vs. vs) _ _ _ c.in_ok-values.values.items _ _ opened row
-          (c.in_ok-end_array.ensures tells),
+          (c.in_ok-end_array.ensures.read tells),
     )
 
-pub read_described-returns-in_err-descriptor : goal.read_described-returns-in_err-descriptor
-read_described-returns-in_err-descriptor g t c tells bounded =
+pub read_described-returns-in_err-descriptor-clause-read : goal.read_described-returns-in_err-descriptor-clause-read
+read_described-returns-in_err-descriptor-clause-read g t c tells bounded =
     let p = err_from_is_err_and c.from_residual.result c.from_residual.ensures.1 in
     rw (p.1, p.2)
     (as_member IsDescribed _ _ _ _
     (reads.open_refused (value_with (faults_at c.args.levels)) _ _ _ c.begin_described.ensures.nesting
     (c.in_err-descriptor.ensures.opened tells)))
 
-pub read_described-returns-in_err-inner : goal.read_described-returns-in_err-inner
-read_described-returns-in_err-inner g t c tells bounded =
+pub read_described-returns-in_err-inner-clause-read : goal.read_described-returns-in_err-inner-clause-read
+read_described-returns-in_err-inner-clause-read g t c tells bounded =
     absurd (some_left c.args.levels _ _ (described_deeper _ _ _ (c.in_ok-descriptor.ensures.opened tells)) bounded
     c.in_err-inner.ensures.err.0)
 
-pub read_described-returns-in_err-value : goal.read_described-returns-in_err-value
-read_described-returns-in_err-value g t c tells bounded =
+pub read_described-returns-in_err-value-clause-read : goal.read_described-returns-in_err-value-clause-read
+read_described-returns-in_err-value-clause-read g t c tells bounded =
     let p = err_from_is_err_and c.from_residual-in_err-value.result c.from_residual-in_err-value.ensures.1 in
     let opened = c.in_ok-descriptor.ensures.opened tells in
     let less = c.in_ok-inner.ensures.ok in
@@ -307,28 +308,28 @@ read_described-returns-in_err-value g t c tells bounded =
     (as_member IsDescribed _ _ _ _
     (reads.value_refused (value_with (faults_at c.args.levels)) _ _ _ c.begin_described.ensures.nesting opened _ _
     (less_refused c.args.levels c.in_ok-inner.inner _ _ less.0 less.1 _ _
-    (c.in_err-value.ensures tells (less_bounded c.args.levels c.in_ok-inner.inner _ _ less.0 less.1 inside)))))
+    (c.in_err-value.ensures.read tells (less_bounded c.args.levels c.in_ok-inner.inner _ _ less.0 less.1 inside)))))
 
-pub read_described-returns-in_err-end_described : goal.read_described-returns-in_err-end_described
-read_described-returns-in_err-end_described g t c tells bounded =
+pub read_described-returns-in_err-end_described-clause-read : goal.read_described-returns-in_err-end_described-clause-read
+read_described-returns-in_err-end_described-clause-read g t c tells bounded =
     let p = err_from_is_err_and c.from_residual-in_err-end_described.result c.from_residual-in_err-end_described.ensures.1 in
     let opened = c.in_ok-descriptor.ensures.opened tells in
     let less = c.in_ok-inner.ensures.ok in
     let inside = bounded_inside c.args.levels c.in_ok-inner.inner _ _ (described_deeper _ _ _ opened) bounded less.0 in
     let value = less_read c.args.levels c.in_ok-inner.inner _ _ less.0 less.1 c.in_ok-value.value _
-    (c.in_ok-value.ensures tells (less_bounded c.args.levels c.in_ok-inner.inner _ _ less.0 less.1 inside)) in
+    (c.in_ok-value.ensures.read tells (less_bounded c.args.levels c.in_ok-inner.inner _ _ less.0 less.1 inside)) in
     rw (p.1, p.2)
     (as_member IsDescribed _ _ _ _
     (reads.end_refused (value_with (faults_at c.args.levels)) _ _ _ c.begin_described.ensures.nesting opened c.in_ok-value.value _ _ _
     value c.in_err-end_described.ensures))
 
-pub read_described-returns-in-Ok : goal.read_described-returns-in-Ok
-read_described-returns-in-Ok g t c tells bounded =
+pub read_described-returns-in-Ok-clause-read : goal.read_described-returns-in-Ok-clause-read
+read_described-returns-in-Ok-clause-read g t c tells bounded =
     let opened = c.in_ok-descriptor.ensures.opened tells in
     let less = c.in_ok-inner.ensures.ok in
     let inside = bounded_inside c.args.levels c.in_ok-inner.inner _ _ (described_deeper _ _ _ opened) bounded less.0 in
     let value = less_read c.args.levels c.in_ok-inner.inner _ _ less.0 less.1 c.in_ok-value.value _
-    (c.in_ok-value.ensures tells (less_bounded c.args.levels c.in_ok-inner.inner _ _ less.0 less.1 inside)) in
+    (c.in_ok-value.ensures.read tells (less_bounded c.args.levels c.in_ok-inner.inner _ _ less.0 less.1 inside)) in
     let whole : Described Value = record { descriptor = c.in_ok-descriptor.descriptor; value = c.in_ok-value.value } in (
       whole,
       described_is c.in-Ok.boxed
@@ -337,8 +338,8 @@ read_described-returns-in-Ok g t c tells bounded =
           c.descriptor_typed.ensures value c.in_ok-end_described.ensures,
     )
 
-pub read_pairs-returns-in_err-key : goal.read_pairs-returns-in_err-key
-read_pairs-returns-in_err-key g t c tells bounded =
+pub read_pairs-returns-in_err-key-clause-read : goal.read_pairs-returns-in_err-key-clause-read
+read_pairs-returns-in_err-key-clause-read g t c tells bounded =
     let part = value_in c.args.levels in
     let p = err_from_is_err_and c.from_residual.result c.from_residual.ensures.1 in
     let each = c.loop.invariant.each tells bounded in
@@ -349,10 +350,10 @@ read_pairs-returns-in_err-key g t c tells bounded =
     } in
     rw (p.1, p.2)
     (key_refused part part c.args.count _ _ _ _ _ fewer
-    (c.in_err-key.ensures tells (bounded_in_pairs part part c.args.levels _ _ _ each bounded)))
+    (c.in_err-key.ensures.read tells (bounded_in_pairs part part c.args.levels _ _ _ each bounded)))
 
-pub read_pairs-returns-then-is_among : goal.read_pairs-returns-then-is_among
-read_pairs-returns-then-is_among g t c tells bounded =
+pub read_pairs-returns-then-is_among-clause-read : goal.read_pairs-returns-then-is_among-clause-read
+read_pairs-returns-then-is_among-clause-read g t c tells bounded =
     let part = value_in c.args.levels in
     let each = c.loop.invariant.each tells bounded in
     let fewer : ReadsFewer part part c.args.count c.args.decoder.now c.loop.pairs.items c.loop.decoder = record {
@@ -361,12 +362,12 @@ read_pairs-returns-then-is_among g t c tells bounded =
       others = c.loop.invariant.others;
     } in
     key_twice part part c.args.count _ _ _ c.in_ok-key.key _ _ _ fewer
-    (c.in_ok-key.ensures tells (bounded_in_pairs part part c.args.levels _ _ _ each bounded))
+    (c.in_ok-key.ensures.read tells (bounded_in_pairs part part c.args.levels _ _ _ each bounded))
     (key_known c.in_ok-key.key c.loop.pairs.items c.is_among.result c.if-is_among.true (rw c.as_slice.ensures.value at c.is_among.ensures))
     c.refuse.ensures.first
 
-pub read_pairs-returns-in_err-value : goal.read_pairs-returns-in_err-value
-read_pairs-returns-in_err-value g t c tells bounded =
+pub read_pairs-returns-in_err-value-clause-read : goal.read_pairs-returns-in_err-value-clause-read
+read_pairs-returns-in_err-value-clause-read g t c tells bounded =
     let part = value_in c.args.levels in
     let p = err_from_is_err_and c.from_residual-in_err-value.result c.from_residual-in_err-value.ensures.1 in
     let each = c.loop.invariant.each tells bounded in
@@ -376,20 +377,20 @@ read_pairs-returns-in_err-value g t c tells bounded =
       others = c.loop.invariant.others;
     } in
     let inside = bounded_in_pairs part part c.args.levels _ _ _ each bounded in
-    let key = c.in_ok-key.ensures tells inside in
+    let key = c.in_ok-key.ensures.read tells inside in
     rw (p.1, p.2)
     (maps.value_refused part part c.args.count _ _ _ c.in_ok-key.key _ _ _ fewer key
     (key_new c.in_ok-key.key c.loop.pairs.items c.is_among.result c.if-is_among.false (rw c.as_slice.ensures.value at c.is_among.ensures))
-    (c.in_err-value.ensures tells (bounded_after c.args.levels _ _ _ key inside)))
+    (c.in_err-value.ensures.read tells (bounded_after c.args.levels _ _ _ key inside)))
 
-pub read_pairs-returns-then-is_err : goal.read_pairs-returns-then-is_err
-read_pairs-returns-then-is_err g t c tells bounded =
+pub read_pairs-returns-then-is_err-clause-read : goal.read_pairs-returns-then-is_err-clause-read
+read_pairs-returns-then-is_err-clause-read g t c tells bounded =
     let part = value_in c.args.levels in
     let each = c.loop.invariant.each tells bounded in
     let inside = bounded_in_pairs part part c.args.levels _ _ _ each bounded in
-    let key = c.in_ok-key.ensures tells inside in
+    let key = c.in_ok-key.ensures.read tells inside in
     maps.no_room part part c.args.count _ _ _ c.in_ok-key.key _ c.in_ok-value.value _ _ _ each key
-    (c.in_ok-value.ensures tells (bounded_after c.args.levels _ _ _ key inside)) c.refuse-then-is_err.ensures.first
+    (c.in_ok-value.ensures.read tells (bounded_after c.args.levels _ _ _ key inside)) c.refuse-then-is_err.ensures.first
 
 pub read_pairs-loop-preserved : goal.read_pairs-loop-preserved
 read_pairs-loop-preserved g t c =
@@ -405,58 +406,59 @@ read_pairs-loop-preserved g t c =
       each = λ tells bounded.
           (let each = c.loop.invariant.each tells bounded in
           let inside = bounded_in_pairs part part c.args.levels _ _ _ each bounded in
-          let key = c.in_ok-key.ensures tells inside in
+          let key = c.in_ok-key.ensures.read tells inside in
           rw e
           (pairs_more part part _ c.loop.pairs.items c.in_ok-key.key c.in_ok-value.value _ _ _ each key
-          (c.in_ok-value.ensures tells (bounded_after c.args.levels _ _ _ key inside))));
+          (c.in_ok-value.ensures.read tells (bounded_after c.args.levels _ _ _ key inside))));
+      passed = search rules;
     }
 
-pub read_map-returns-in_err-count : goal.read_map-returns-in_err-count
-read_map-returns-in_err-count g t c tells bounded =
+pub read_map-returns-in_err-count-clause-read : goal.read_map-returns-in_err-count-clause-read
+read_map-returns-in_err-count-clause-read g t c tells bounded =
     let part = value_with (faults_at c.args.levels) in
     let p = err_from_is_err_and c.from_residual.result c.from_residual.ensures.1 in
-    rw (p.1, p.2) (as_member IsOfPairs _ _ _ _ (maps.open_refused part part _ _ _ (c.in_err-count.ensures tells)))
+    rw (p.1, p.2) (as_member IsOfPairs _ _ _ _ (maps.open_refused part part _ _ _ (c.in_err-count.ensures.read tells)))
 
-pub read_map-returns-in_err-inner : goal.read_map-returns-in_err-inner
-read_map-returns-in_err-inner g t c tells bounded =
-    absurd (some_left c.args.levels _ _ (list_deeper map _ _ _ (c.in_ok-count.ensures tells)) bounded
+pub read_map-returns-in_err-inner-clause-read : goal.read_map-returns-in_err-inner-clause-read
+read_map-returns-in_err-inner-clause-read g t c tells bounded =
+    absurd (some_left c.args.levels _ _ (list_deeper map _ _ _ (c.in_ok-count.ensures.read tells)) bounded
     c.in_err-inner.ensures.err.0)
 
-pub read_map-returns-in_err-pairs : goal.read_map-returns-in_err-pairs
-read_map-returns-in_err-pairs g t c tells bounded =
+pub read_map-returns-in_err-pairs-clause-read : goal.read_map-returns-in_err-pairs-clause-read
+read_map-returns-in_err-pairs-clause-read g t c tells bounded =
     let part = value_with (faults_at c.args.levels) in
     let p = err_from_is_err_and c.from_residual-in_err-pairs.result c.from_residual-in_err-pairs.ensures.1 in
-    let opened = c.in_ok-count.ensures tells in
+    let opened = c.in_ok-count.ensures.read tells in
     let less = c.in_ok-inner.ensures.ok in
     let inside = bounded_inside c.args.levels c.in_ok-inner.inner _ _ (list_deeper map _ _ _ opened) bounded less.0 in
     rw (p.1, p.2)
     (as_member IsOfPairs _ _ _ _
     (maps.row_refused part part _ _ _ _ _ (by_two opened)
     (less_pairs_refused c.args.levels c.in_ok-inner.inner _ _ less.0 less.1 (c.in_ok-count.count / 2) _ _
-    (c.in_err-pairs.ensures tells (less_bounded c.args.levels c.in_ok-inner.inner _ _ less.0 less.1 inside)))))
+    (c.in_err-pairs.ensures.read tells (less_bounded c.args.levels c.in_ok-inner.inner _ _ less.0 less.1 inside)))))
 
-pub read_map-returns-in_err-end_map : goal.read_map-returns-in_err-end_map
-read_map-returns-in_err-end_map g t c tells bounded =
+pub read_map-returns-in_err-end_map-clause-read : goal.read_map-returns-in_err-end_map-clause-read
+read_map-returns-in_err-end_map-clause-read g t c tells bounded =
     let part = value_with (faults_at c.args.levels) in
     let p = err_from_is_err_and c.from_residual-in_err-end_map.result c.from_residual-in_err-end_map.ensures.1 in
-    let opened = c.in_ok-count.ensures tells in
+    let opened = c.in_ok-count.ensures.read tells in
     let less = c.in_ok-inner.ensures.ok in
     let inside = bounded_inside c.args.levels c.in_ok-inner.inner _ _ (list_deeper map _ _ _ opened) bounded less.0 in
     let row = less_pairs c.args.levels c.in_ok-inner.inner _ _ less.0 less.1 (c.in_ok-count.count / 2) c.in_ok-pairs.pairs.items _
-    (c.in_ok-pairs.ensures tells (less_bounded c.args.levels c.in_ok-inner.inner _ _ less.0 less.1 inside)) in
+    (c.in_ok-pairs.ensures.read tells (less_bounded c.args.levels c.in_ok-inner.inner _ _ less.0 less.1 inside)) in
     rw (p.1, p.2)
     (as_member IsOfPairs _ _ _ _
-    (maps.end_refused part part _ _ _ c.in_ok-pairs.pairs.items _ _ _ (by_two opened) row (c.in_err-end_map.ensures tells)))
+    (maps.end_refused part part _ _ _ c.in_ok-pairs.pairs.items _ _ _ (by_two opened) row (c.in_err-end_map.ensures.read tells)))
 
-pub read_map-returns : goal.read_map-returns
-read_map-returns g t c tells bounded =
+pub read_map-returns-clause-read : goal.read_map-returns-clause-read
+read_map-returns-clause-read g t c tells bounded =
     let part = value_with (faults_at c.args.levels) in
-    let opened = c.in_ok-count.ensures tells in
+    let opened = c.in_ok-count.ensures.read tells in
     let less = c.in_ok-inner.ensures.ok in
     let inside = bounded_inside c.args.levels c.in_ok-inner.inner _ _ (list_deeper map _ _ _ opened) bounded less.0 in
     let row = less_pairs c.args.levels c.in_ok-inner.inner _ _ less.0 less.1 (c.in_ok-count.count / 2) c.in_ok-pairs.pairs.items _
-    (c.in_ok-pairs.ensures tells (less_bounded c.args.levels c.in_ok-inner.inner _ _ less.0 less.1 inside)) in (
+    (c.in_ok-pairs.ensures.read tells (less_bounded c.args.levels c.in_ok-inner.inner _ _ less.0 less.1 inside)) in (
       c.in_ok-pairs.pairs.items,
       map_is (record { 0 = c.in_ok-pairs.pairs }),
-      maps.all_read part part _ _ _ c.in_ok-pairs.pairs.items _ _ (by_two opened) row (c.in_ok-end_map.ensures tells),
+      maps.all_read part part _ _ _ c.in_ok-pairs.pairs.items _ _ (by_two opened) row (c.in_ok-end_map.ensures.read tells),
     )

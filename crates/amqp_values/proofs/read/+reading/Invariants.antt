@@ -1,6 +1,7 @@
 use Rattle.std.proofs.Common.{◌≡◌, ◌+◌, ◌*◌, length}
 use Rattle.amqp_wire.specs.Sources.{Tells}
 use Rattle.amqp_decoder.specs.Primitives.{ReadsValue}
+use Rattle.amqp_decoder.specs.Steps.{Passed}
 use Rattle.amqp_codec.specs.ItemsReading.{ReadsEach}
 use Rattle.amqp_codec.specs.MapReading.{Pairs}
 use Rattle.amqp_codec.specs.Pairs.{HaveOtherKeys}
@@ -37,6 +38,7 @@ invariant-read_row-loop g l = record {
   long : length l.values.items ≡ l.counter;
   each : Tells g.R.ByteSource.remaining → IsBounded l.levels l.fn.decoder
       → ReadsEach (ReadsValue ValueMeans) l.fn.decoder l.values.items l.decoder;
+  passed : Passed l.fn.decoder l.decoder;
 }
 
 abbrev pub invariant-read_pairs-loop : goal.invariant-read_pairs-loop
@@ -45,4 +47,5 @@ invariant-read_pairs-loop g l = record {
   others : HaveOtherKeys (SameTree value_term values_are_trees) l.pairs.items;
   each : Tells g.R.ByteSource.remaining → IsBounded l.levels l.fn.decoder
       → Pairs (value_in l.levels) (value_in l.levels) l.fn.decoder l.pairs.items l.decoder;
+  passed : Passed l.fn.decoder l.decoder;
 }

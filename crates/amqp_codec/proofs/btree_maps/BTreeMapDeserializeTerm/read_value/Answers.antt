@@ -4,33 +4,33 @@ use Rattle.amqp_codec.proofs.MapSteps.{by_two, open_refused, end_refused}
 use Rattle.amqp_codec.proofs.BTreeMapSteps.{refused_in_order, pairs_refused, read_in_order}
 use Rattle.amqp_codec.proofs.btree_maps.BTreeMapDeserializeTerm.read_value.Goals as goal
 
-pub returns-in_err-count : goal.returns-in_err-count
-returns-in_err-count g c tells =
+pub returns-in_err-count-clause-read : goal.returns-in_err-count-clause-read
+returns-in_err-count-clause-read g c tells =
     let key = g.K.DeserializeTerm.term in
     let value = g.V.DeserializeTerm.term in
     let p = err_from_is_err_and c.from_residual.result c.from_residual.ensures.1 in
     rw (p.1, p.2)
-    (refused_in_order key value g.K.Ord.cmp _ _ _ (open_refused key value _ _ _ (c.in_err-count.ensures tells)))
+    (refused_in_order key value g.K.Ord.cmp _ _ _ (open_refused key value _ _ _ (c.in_err-count.ensures.read tells)))
 
-pub returns-in_err-map : goal.returns-in_err-map
-returns-in_err-map g c tells =
+pub returns-in_err-map-clause-read : goal.returns-in_err-map-clause-read
+returns-in_err-map-clause-read g c tells =
     let p = err_from_is_err_and c.from_residual-in_err-map.result c.from_residual-in_err-map.ensures.1 in
     rw (p.1, p.2)
-    (pairs_refused g.K.DeserializeTerm.term g.V.DeserializeTerm.term g.K.Ord.cmp _ _ _ _ _ (by_two (c.in_ok-count.ensures tells))
-    (c.in_err-map.ensures tells))
+    (pairs_refused g.K.DeserializeTerm.term g.V.DeserializeTerm.term g.K.Ord.cmp _ _ _ _ _ (by_two (c.in_ok-count.ensures.read tells))
+    (c.in_err-map.ensures.read tells))
 
-pub returns-in_err-end_map : goal.returns-in_err-end_map
-returns-in_err-end_map g c tells =
+pub returns-in_err-end_map-clause-read : goal.returns-in_err-end_map-clause-read
+returns-in_err-end_map-clause-read g c tells =
     let key = g.K.DeserializeTerm.term in
     let value = g.V.DeserializeTerm.term in
     let p = err_from_is_err_and c.from_residual-in_err-end_map.result c.from_residual-in_err-end_map.ensures.1 in
-    let read = c.in_ok-map.ensures tells in
+    let read = c.in_ok-map.ensures.read tells in
     rw (p.1, p.2)
     (refused_in_order key value g.K.Ord.cmp _ _ _
-    (end_refused key value _ _ _ read.pairs _ _ _ (by_two (c.in_ok-count.ensures tells)) read.row (c.in_err-end_map.ensures tells)))
+    (end_refused key value _ _ _ read.pairs _ _ _ (by_two (c.in_ok-count.ensures.read tells)) read.row (c.in_err-end_map.ensures.read tells)))
 
-pub returns : goal.returns
-returns g c tells =
+pub returns-clause-read : goal.returns-clause-read
+returns-clause-read g c tells =
     read_in_order g.K.DeserializeTerm.term g.V.DeserializeTerm.term g.K.Ord.cmp _ _ _ c.in_ok-map.map _ _
-    (order_of_keys g.met.K.MapKey.is_key g.met.K.Ord.total g.met.K.Ord.matches_eq) (by_two (c.in_ok-count.ensures tells))
-    (c.in_ok-map.ensures tells) (c.in_ok-end_map.ensures tells)
+    (order_of_keys g.met.K.MapKey.is_key g.met.K.Ord.total g.met.K.Ord.matches_eq) (by_two (c.in_ok-count.ensures.read tells))
+    (c.in_ok-map.ensures.read tells) (c.in_ok-end_map.ensures.read tells)

@@ -4,5 +4,5 @@ use Rattle.amqp_lookahead.specs.Kinds.{nulls}
 use Rattle.amqp_codec.proofs.PrimitiveReads.{kind_read}
 use Rattle.amqp_codec.proofs.primitives.UnitDeserializeTerm.read_value.Goals as goal
 
-pub returns : goal.returns
-returns g c tells = kind_read false (λ _. null) (λ _. Unit {0}) nulls _ _ _ (search rules) (c.read_null.ensures tells)
+pub returns-clause-read : goal.returns-clause-read
+returns-clause-read g c tells = kind_read false (λ _. null) (λ _. Unit {0}) nulls _ _ _ (search rules) (c.read_null.ensures.read tells)

@@ -3,5 +3,5 @@ use Rattle.amqp_codec.specs.PrimitiveTypes.{symbol_base}
 use Rattle.amqp_codec.proofs.PrimitiveReads.{primitive_read}
 use Rattle.amqp_codec.proofs.texts.SymbolDeserializeTerm.read_value.Goals as goal
 
-pub returns : goal.returns
-returns g c tells = primitive_read true symbol_base (λ v. string_bytes v.0) _ _ _ (search rules) (c.read_symbol.ensures tells)
+pub returns-clause-read : goal.returns-clause-read
+returns-clause-read g c tells = primitive_read true symbol_base (λ v. string_bytes v.0) _ _ _ (search rules) (c.read_symbol.ensures.read tells)

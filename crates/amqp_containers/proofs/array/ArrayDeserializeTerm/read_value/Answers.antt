@@ -4,29 +4,29 @@ use Rattle.amqp_codec.proofs.ItemsSteps.{open_refused, row_refused, end_refused,
 use Rattle.amqp_containers.specs.ArrayType.{array_opening}
 use Rattle.amqp_containers.proofs.array.ArrayDeserializeTerm.read_value.Goals as goal
 
-pub returns-in_err-count : goal.returns-in_err-count
-returns-in_err-count g c tells =
+pub returns-in_err-count-clause-read : goal.returns-in_err-count-clause-read
+returns-in_err-count-clause-read g c tells =
     let p = err_from_is_err_and c.from_residual.result c.from_residual.ensures.1 in
     rw (p.1, p.2)
     (open_refused array_opening g.T.DeserializeTerm.term (λ v. v.0.items) _ _ _ c.begin_array.ensures.room
     (c.in_err-count.ensures.opened tells))
 
-pub returns-in_err-items : goal.returns-in_err-items
-returns-in_err-items g c tells =
+pub returns-in_err-items-clause-read : goal.returns-in_err-items-clause-read
+returns-in_err-items-clause-read g c tells =
     let p = err_from_is_err_and c.from_residual-in_err-items.result c.from_residual-in_err-items.ensures.1 in
     rw (p.1, p.2)
     (row_refused array_opening g.T.DeserializeTerm.term (λ v. v.0.items) (λ v. v.items) (λ v. v.0) (λ v. refl) _ _ _ _ _
     c.begin_array.ensures.room
-    (c.in_ok-count.ensures.opened tells) (c.in_err-items.ensures tells))
+    (c.in_ok-count.ensures.opened tells) (c.in_err-items.ensures.read tells))
 
-pub returns-in_err-end_array : goal.returns-in_err-end_array
-returns-in_err-end_array g c tells =
+pub returns-in_err-end_array-clause-read : goal.returns-in_err-end_array-clause-read
+returns-in_err-end_array-clause-read g c tells =
     let p = err_from_is_err_and c.from_residual-in_err-end_array.result c.from_residual-in_err-end_array.ensures.1 in
     rw (p.1, p.2)
     (end_refused array_opening g.T.DeserializeTerm.term (λ v. v.0.items) _ _ _ (record { 0 = c.in_ok-items.items }) _ _ _
-    c.begin_array.ensures.room (c.in_ok-count.ensures.opened tells) (c.in_ok-items.ensures tells) (c.in_err-end_array.ensures tells))
+    c.begin_array.ensures.room (c.in_ok-count.ensures.opened tells) (c.in_ok-items.ensures.read tells) (c.in_err-end_array.ensures.read tells))
 
-pub returns : goal.returns
-returns g c tells =
+pub returns-clause-read : goal.returns-clause-read
+returns-clause-read g c tells =
     all_read array_opening g.T.DeserializeTerm.term (λ v. v.0.items) _ _ _ (record { 0 = c.in_ok-items.items }) _ _
-    (c.in_ok-count.ensures.opened tells) (c.in_ok-items.ensures tells) (c.in_ok-end_array.ensures tells)
+    (c.in_ok-count.ensures.opened tells) (c.in_ok-items.ensures.read tells) (c.in_ok-end_array.ensures.read tells)

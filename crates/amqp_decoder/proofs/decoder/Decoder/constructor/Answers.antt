@@ -33,6 +33,7 @@ loop-code-preserved g c = record {
       let marks = rw c.loop-code-test.true at (c.loop-code.invariant.marks told none) in
       let named = more_named _ _ _ _ _ none marks (c.in_ok-keep_descriptor.ensures.ok told (unshared_behind _ _ _ _ marks none)) in
       code_after _ _ _ _ _ named (c.in_ok-code-2.ensures.ok told);
+  goes = search rules;
 }
 
 pub returns-in_err-check_known-clause-err : goal.returns-in_err-check_known-clause-err

@@ -13,7 +13,7 @@ pub returns-then-not-is_possible-clause-err : goal.returns-then-not-is_possible-
 returns-then-not-is_possible-clause-err g c = λ told.
     header_impossible _ _ _ c.is_possible.result _ _ _ _ c.if-not-is_possible.true
     (λ p. c.is_possible.ensures.1 (rw c.width-width.ensures p)) c.in_ok-size.ensures.fits (c.in_ok-size.ensures.ok told)
-    (c.refuse_size.ensures told)
+    (c.refuse_size.ensures.refused told)
 
 pub returns-in_err-count-clause-err : goal.returns-in_err-count-clause-err
 returns-in_err-count-clause-err g c = λ told.
@@ -27,7 +27,7 @@ returns-then-count-gt0-clause-err g c = λ told.
     let able = possible_at _ _ _ _ _ c.if-not-is_possible.false c.is_possible.ensures.0 c.width-width.ensures in
     let none = possible_none _ _ _ able (omega (arith, c.if-size-width.false, c.width-width.ensures)) in
     no_header_content _ _ _ _ _ _ _ _ _ none.1 c.if-count-gt0.true c.in_ok-count.ensures.fits (c.in_ok-size.ensures.ok told)
-    (c.in_ok-count.ensures.ok told) (c.refuse_size-then-count-gt0.ensures told)
+    (c.in_ok-count.ensures.ok told) (c.refuse_size-then-count-gt0.ensures.refused told)
 
 pub returns-clause-ok : goal.returns-clause-ok
 returns-clause-ok g c = λ told.

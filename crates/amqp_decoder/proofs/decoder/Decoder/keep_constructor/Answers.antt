@@ -1,5 +1,5 @@
 use Rattle.std.proofs.lemmas.Result.{err_from_is_err_and}
-use Rattle.std.proofs.Common.{arith}
+use Rattle.std.proofs.Common.{arith, rules}
 use Rattle.amqp_decoder.proofs.Constructed.{stopped_first}
 use Rattle.amqp_decoder.proofs.KeptConstructors.{marks_first, marks_named, marks_code, constructor_kept, unmarked_deep, unmarked_name}
 use Rattle.amqp_decoder.proofs.KeptConstructors.{unmarked_code, unmarked_unknown}
@@ -14,6 +14,7 @@ pub loop-code-init : goal.loop-code-init
 loop-code-init g c = record {
   few = omega arith;
   kept = λ told. marks_first _ _ _ _ _ (c.in_ok-code.ensures.ok told);
+  goes = search rules;
 }
 
 pub loop-code-preserved : goal.loop-code-preserved
@@ -23,6 +24,7 @@ loop-code-preserved g c = record {
       let marks = rw c.loop-code-test.true at (c.loop-code.invariant.kept told) in
       marks_code _ _ _ _ _ _ _ _ (marks_named _ _ _ _ _ _ _ marks (c.in_ok-keep_descriptor_bytes.ensures.ok told))
       (c.in_ok-code-2.ensures.ok told);
+  goes = search rules;
 }
 
 pub returns-then-count-eq-NESTING-clause-err : goal.returns-then-count-eq-NESTING-clause-err

@@ -17,4 +17,5 @@ loop-left-preserved g c =
       λ told. subst (λ j. j ≤ length c.args.self.now.rest) next (more told).0,
       λ told. (more told).1 ∙ ap (λ j. c.args.text.now.items ++ take j c.args.self.now.rest) next,
       λ told. (more told).2 ∙ ap (λ j. after_bytes j c.args.self.now) next,
+      search rules,
     )

@@ -1,6 +1,7 @@
 use Rattle.std.proofs.Common.{◌≡◌, ◌-◌, ◌≤◌, ◌++◌, length, take}
 use Rattle.amqp_wire.specs.Sources.{Tells}
 use Rattle.amqp_decoder.specs.State.{after_bytes}
+use Rattle.amqp_decoder.specs.Steps.{GoesOn}
 use Rattle.amqp_decoder.proofs.decoder.Decoder.keep_pieces.Given as goal
 
 abbrev pub invariant-loop-left : goal.invariant-loop-left
@@ -8,7 +9,7 @@ invariant-loop-left g l =
     (l.left ≤ l.fn.len)
     × (Tells g.R.ByteSource.remaining → l.fn.len - l.left ≤ length l.fn.self.rest)
     × (Tells g.R.ByteSource.remaining → l.text.items ≡ l.fn.text.items ++ take (l.fn.len - l.left) l.fn.self.rest)
-    × (Tells g.R.ByteSource.remaining → l.self ≡ after_bytes (l.fn.len - l.left) l.fn.self)
+    × (Tells g.R.ByteSource.remaining → l.self ≡ after_bytes (l.fn.len - l.left) l.fn.self) × GoesOn l.fn.self l.self
 
 abbrev pub decreases-loop-left : goal.decreases-loop-left
 decreases-loop-left g l = l.left

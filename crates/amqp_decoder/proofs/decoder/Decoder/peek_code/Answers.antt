@@ -4,21 +4,21 @@ use Rattle.amqp_decoder.proofs.Steps.{answered_later, answered, has_item}
 use Rattle.amqp_decoder.proofs.Peeks.{peeked_shared, peeked_own, peek_size, peek_cut, none_there}
 use Rattle.amqp_decoder.proofs.decoder.Decoder.peek_code.Goals as goal
 
-pub returns-in-Some : goal.returns-in-Some
-returns-in-Some g c = λ told.
-    let left = c.in_ok-check_item.ensures in
+pub returns-in-Some-clause-read : goal.returns-in-Some-clause-read
+returns-in-Some-clause-read g c = λ told.
+    let left = c.in_ok-check_item.ensures.read in
     rw left.kept (peeked_shared _ _ left.going left.item (rw left.kept at c.in-Some.ensures))
 
-pub returns-then-eq : goal.returns-then-eq
-returns-then-eq g c = λ told.
-    let left = c.in_ok-check_item.ensures in
+pub returns-then-eq-clause-read : goal.returns-then-eq-clause-read
+returns-then-eq-clause-read g c = λ told.
+    let left = c.in_ok-check_item.ensures.read in
     peek_size _ _ _ left.going left.item (rw left.kept at c.in_default.ensures)
     (rw left.kept at (let h : c.check_item.new.self.top.left ≡ Some 0 = search rules in h))
-    (rw left.kept at (c.refuse_size.ensures told))
+    (rw left.kept at (c.refuse_size.ensures.refused told))
 
-pub returns-in-None : goal.returns-in-None
-returns-in-None g c = λ told.
-    let left = c.in_ok-check_item.ensures in
+pub returns-in-None-clause-read : goal.returns-in-None-clause-read
+returns-in-None-clause-read g c = λ told.
+    let left = c.in_ok-check_item.ensures.read in
     peek_cut _ _ _ left.going left.item (rw left.kept at c.in_default.ensures)
     (λ x. let h : c.check_item.new.self.top.left ≡ Some 0 → ⊥ = search rules in h (ap (λ (st : State). st.top.left) left.kept ∙ x))
     (none_there _ _ _ (rw left.kept at (c.in_ok-look_next.ensures.new told)) (c.looked.ensures.bytes
@@ -26,9 +26,9 @@ returns-in-None g c = λ told.
     (answered_later (ap (λ (st : State). st.failed) (c.in_ok-look_next.ensures.new told) ∙ ap (λ (st : State). st.failed) left.kept)
     (answered c.look_next.new.self _ _ _ c.stop.ensures.kept c.stop.ensures.answer))
 
-pub returns-in-Some-first : goal.returns-in-Some-first
-returns-in-Some-first g c = λ told.
-    let left = c.in_ok-check_item.ensures in
+pub returns-in-Some-first-clause-read : goal.returns-in-Some-first-clause-read
+returns-in-Some-first-clause-read g c = λ told.
+    let left = c.in_ok-check_item.ensures.read in
     peeked_own _ _ _ _ left.going left.item (rw left.kept at c.in_default.ensures)
     (has_item _ (λ x. let h : c.check_item.new.self.top.left ≡ Some 0 → ⊥ = search rules in
     h (ap (λ (st : State). st.top.left) left.kept ∙ x))) (rw left.kept at (c.in_ok-look_next.ensures.new told)) (c.looked.ensures.bytes

@@ -31,6 +31,7 @@ loop-left-preserved g c =
           ↔ IsAscii s) (taken told) (ascii_both (take k r) piece _ _ (i.ascii told) c.is_ascii-is_ascii.ensures.cases);
       front = λ told. subst (λ s. FrontIs c.args.members.now c.args.len s c.next_front-known.result) (taken told)
           (c.next_front-known.ensures.front (take k r) (i.front told));
+      goes = search rules;
     }
 
 pub returns-in-None-clause-ok : goal.returns-in-None-clause-ok

@@ -6,13 +6,13 @@ use Rattle.std.specs.Int.{w8}
 use Rattle.std.proofs.lemmas.Int.{to_z-of_z}
 use Rattle.amqp_decoder.proofs.decoder.Decoder.read_byte.Goals as goal
 
-pub returns-in_err-fixed : goal.returns-in_err-fixed
-returns-in_err-fixed g c = λ told.
+pub returns-in_err-fixed-clause-read : goal.returns-in_err-fixed-clause-read
+returns-in_err-fixed-clause-read g c = λ told.
     let p = err_from_is_err_and c.from_residual.result c.from_residual.ensures.1 in
     rw (p.1, p.2) (fixed_refused byte 6 0x51 1 _ _ _ (λ v. refl) refl refl (λ m l. l) (c.in_err-fixed.ensures.err told))
 
-pub returns : goal.returns
-returns g c = λ told.
+pub returns-clause-read : goal.returns-clause-read
+returns-clause-read g c = λ told.
     let f = c.in_ok-fixed.ensures.ok told in
     let same = to_z-of_z w8 c.from_be_bytes.result (search rules) in
     fixed_value byte 0x51 1 _ _ _ _ (f.width, ap (λ n. Some (byte n)) (sym (same ∙ c.from_be_bytes.ensures)), tt) f

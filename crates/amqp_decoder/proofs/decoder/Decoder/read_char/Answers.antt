@@ -5,19 +5,19 @@ use Rattle.amqp_decoder.proofs.ReadPrimitives.{not_char, bad_refused, fixed_refu
 use Rattle.amqp_decoder.proofs.Steps.{answered}
 use Rattle.amqp_decoder.proofs.decoder.Decoder.read_char.Goals as goal
 
-pub returns-in_err-fixed : goal.returns-in_err-fixed
-returns-in_err-fixed g c = λ told.
+pub returns-in_err-fixed-clause-read : goal.returns-in_err-fixed-clause-read
+returns-in_err-fixed-clause-read g c = λ told.
     let p = err_from_is_err_and c.from_residual.result c.from_residual.ensures.1 in
     rw (p.1, p.2) (fixed_refused char 13 0x73 4 _ _ _ (λ v. refl) refl refl (λ m l. l) (c.in_err-fixed.ensures.err told))
 
-pub returns-in-Some : goal.returns-in-Some
-returns-in-Some g c = λ told.
+pub returns-in-Some-clause-read : goal.returns-in-Some-clause-read
+returns-in-Some-clause-read g c = λ told.
     let f = c.in_ok-fixed.ensures.ok told in
     let v = c.in-Some.ensures.value in
     fixed_value char 0x73 4 _ _ _ _ (f.width, ap (λ n. Some (char n)) (sym (v.1 ∙ c.from_be_bytes-number.ensures)), rw v.1 v.0) f
 
-pub returns-in-None : goal.returns-in-None
-returns-in-None g c = λ told.
+pub returns-in-None-clause-read : goal.returns-in-None-clause-read
+returns-in-None-clause-read g c = λ told.
     let f = c.in_ok-fixed.ensures.ok told in
     bad_refused char 13 0x73 _ _ c.in_ok-fixed.field-0 _ _ _ (λ v. refl) refl f.begun f.took f.width
     (λ p d. not_char _ p (rw c.from_be_bytes-number.ensures at c.in-None.ensures.value) d.1 d.2)

@@ -3,7 +3,7 @@ use Rattle.amqp_model.specs.Term.{decimal32}
 use Rattle.amqp_decoder.proofs.ReadPrimitives.{fixed_reads}
 use Rattle.amqp_decoder.proofs.decoder.Decoder.read_dec32.Goals as goal
 
-pub returns : goal.returns
-returns g c =
+pub returns-clause-read : goal.returns-clause-read
+returns-clause-read g c =
     λ told. fixed_reads decimal32 10 0x74 4 _ _ c.fixed.result (λ v. refl) refl refl (λ m e l. l) (λ b l. (l, refl, tt))
     (c.fixed.ensures.ok told) (c.fixed.ensures.err told)

@@ -8,37 +8,37 @@ use Rattle.amqp_decoder.proofs.ReadPrimitives.{refused_first, short_refused, oth
 use Rattle.amqp_decoder.proofs.Steps.{answered_so}
 use Rattle.amqp_decoder.proofs.decoder.Decoder.read_int.Goals as goal
 
-pub returns-in_err-code : goal.returns-in_err-code
-returns-in_err-code g c = λ told.
+pub returns-in_err-code-clause-read : goal.returns-in_err-code-clause-read
+returns-in_err-code-clause-read g c = λ told.
     let p = err_from_is_err_and c.from_residual.result c.from_residual.ensures.1 in
-    rw (p.1, p.2) (refused_first int 8 _ _ _ (λ v. refl) (c.in_err-code.ensures told))
+    rw (p.1, p.2) (refused_first int 8 _ _ _ (λ v. refl) (c.in_err-code.ensures.read told))
 
-pub returns-in_err-take-in-84 : goal.returns-in_err-take-in-84
-returns-in_err-take-in-84 g c = λ told.
+pub returns-in_err-take-in-84-clause-read : goal.returns-in_err-take-in-84-clause-read
+returns-in_err-take-in-84-clause-read g c = λ told.
     let p = err_from_is_err_and c.from_residual-in_err-take-in-84.result c.from_residual-in_err-take-in-84.ensures.1 in
-    rw (p.1, p.2) (short_refused int 8 84 1 _ _ _ _ (λ v. refl) refl (λ l. l) (rw c.in-84.is at (c.in_ok-code.ensures told))
+    rw (p.1, p.2) (short_refused int 8 84 1 _ _ _ _ (λ v. refl) refl (λ l. l) (rw c.in-84.is at (c.in_ok-code.ensures.read told))
     (c.in_err-take-in-84.ensures.err told))
 
-pub returns-in_err-take-in-113 : goal.returns-in_err-take-in-113
-returns-in_err-take-in-113 g c = λ told.
+pub returns-in_err-take-in-113-clause-read : goal.returns-in_err-take-in-113-clause-read
+returns-in_err-take-in-113-clause-read g c = λ told.
     let p = err_from_is_err_and c.from_residual-in_err-take-in-113.result c.from_residual-in_err-take-in-113.ensures.1 in
-    rw (p.1, p.2) (short_refused int 8 113 4 _ _ _ _ (λ v. refl) refl (λ l. l) (rw c.in-113.is at (c.in_ok-code.ensures told))
+    rw (p.1, p.2) (short_refused int 8 113 4 _ _ _ _ (λ v. refl) refl (λ l. l) (rw c.in-113.is at (c.in_ok-code.ensures.read told))
     (c.in_err-take-in-113.ensures.err told))
 
-pub returns-in_default : goal.returns-in_default
-returns-in_default g c = λ told.
-    other_refused int 8 _ _ _ _ _ (λ v. refl) (c.in_ok-code.ensures told) (not_two 8 _ 84 113 refl (search rules) (search rules))
+pub returns-in_default-clause-read : goal.returns-in_default-clause-read
+returns-in_default-clause-read g c = λ told.
+    other_refused int 8 _ _ _ _ _ (λ v. refl) (c.in_ok-code.ensures.read told) (not_two 8 _ 84 113 refl (search rules) (search rules))
     c.refuse_code.ensures.answer (answered_so _ _ _ c.refuse_code.ensures.kept)
 
-pub returns-in_ok-take-in-84 : goal.returns-in_ok-take-in-84
-returns-in_ok-take-in-84 g c = λ told.
+pub returns-in_ok-take-in-84-clause-read : goal.returns-in_ok-take-in-84-clause-read
+returns-in_ok-take-in-84-clause-read g c = λ told.
     let same = to_z-of_z w32 c.from.result (search rules) ∙ c.from.ensures ∙ to_z-of_z w8 c.from_be_bytes.result (search rules)
     ∙ c.from_be_bytes.ensures in
-    data_value int 84 _ _ c.in_ok-take-in-84.field-0 _ _ (rw c.in-84.is at (c.in_ok-code.ensures told))
+    data_value int 84 _ _ c.in_ok-take-in-84.field-0 _ _ (rw c.in-84.is at (c.in_ok-code.ensures.read told))
     (search rules, ap (λ n. Some (int n)) (sym same), tt) (c.in_ok-take-in-84.ensures.ok told)
 
-pub returns-in_ok-take-in-113 : goal.returns-in_ok-take-in-113
-returns-in_ok-take-in-113 g c = λ told.
+pub returns-in_ok-take-in-113-clause-read : goal.returns-in_ok-take-in-113-clause-read
+returns-in_ok-take-in-113-clause-read g c = λ told.
     let same = to_z-of_z w32 c.from_be_bytes-in-113.result (search rules) ∙ c.from_be_bytes-in-113.ensures in
-    data_value int 113 _ _ c.in_ok-take-in-113.field-0 _ _ (rw c.in-113.is at (c.in_ok-code.ensures told))
+    data_value int 113 _ _ c.in_ok-take-in-113.field-0 _ _ (rw c.in-113.is at (c.in_ok-code.ensures.read told))
     (search rules, ap (λ n. Some (int n)) (sym same), tt) (c.in_ok-take-in-113.ensures.ok told)

@@ -6,25 +6,25 @@ use Rattle.amqp_decoder.proofs.ReadPrimitives.{refused_first, lacking_refused, o
 use Rattle.amqp_decoder.proofs.Steps.{answered_later, answered_so}
 use Rattle.amqp_decoder.proofs.decoder.Decoder.read_ulong.Goals as goal
 
-pub returns-in_err-code : goal.returns-in_err-code
-returns-in_err-code g c = λ told.
+pub returns-in_err-code-clause-read : goal.returns-in_err-code-clause-read
+returns-in_err-code-clause-read g c = λ told.
     let p = err_from_is_err_and c.from_residual.result c.from_residual.ensures.1 in
-    rw (p.1, p.2) (refused_first ulong 5 _ _ _ (λ v. refl) (c.in_err-code.ensures told))
+    rw (p.1, p.2) (refused_first ulong 5 _ _ _ (λ v. refl) (c.in_err-code.ensures.read told))
 
-pub returns-in_err-value : goal.returns-in_err-value
-returns-in_err-value g c = λ told.
+pub returns-in_err-value-clause-read : goal.returns-in_err-value-clause-read
+returns-in_err-value-clause-read g c = λ told.
     let p = err_from_is_err_and c.from_residual-in_err-value.result c.from_residual-in_err-value.ensures.1 in
     let l = c.in_err-value.ensures.err told in
-    rw (p.1, p.2) (lacking_refused ulong 5 _ _ _ _ _ (λ v. refl) l.kind (c.in_ok-code.ensures told) l.kept l.why)
+    rw (p.1, p.2) (lacking_refused ulong 5 _ _ _ _ _ (λ v. refl) l.kind (c.in_ok-code.ensures.read told) l.kept l.why)
 
-pub returns-in-Some : goal.returns-in-Some
-returns-in-Some g c = λ told.
+pub returns-in-Some-clause-read : goal.returns-in-Some-clause-read
+returns-in-Some-clause-read g c = λ told.
     let d = rw c.in-Some.is at (c.in_ok-value.ensures.ok told) in
-    data_value ulong _ _ _ d.data_ _ _ (c.in_ok-code.ensures told) d.spelled d.took
+    data_value ulong _ _ _ d.data_ _ _ (c.in_ok-code.ensures.read told) d.spelled d.took
 
-pub returns-in-None : goal.returns-in-None
-returns-in-None g c = λ told.
+pub returns-in-None-clause-read : goal.returns-in-None-clause-read
+returns-in-None-clause-read g c = λ told.
     let d = rw c.in-None.is at (c.in_ok-value.ensures.ok told) in
-    let b = c.in_ok-code.ensures told in
+    let b = c.in_ok-code.ensures.read told in
     other_refused ulong 5 _ _ _ _ _ (λ v. refl) b d.0 c.refuse_code.ensures.answer
     (answered_later (ap (λ (x : State). x.failed) d.1) (answered_so c.ulong_data.new.self _ _ c.refuse_code.ensures.kept))

@@ -2,28 +2,28 @@ use Rattle.std.proofs.lemmas.Result.{err_from_is_err_and}
 use Rattle.amqp_described.proofs.DescribedReads.{open_refused, value_refused, end_refused, whole_read}
 use Rattle.amqp_described.proofs.described.DescribedDeserializeTerm.read_value.Goals as goal
 
-pub returns-in_err-descriptor : goal.returns-in_err-descriptor
-returns-in_err-descriptor g c tells =
+pub returns-in_err-descriptor-clause-read : goal.returns-in_err-descriptor-clause-read
+returns-in_err-descriptor-clause-read g c tells =
     let p = err_from_is_err_and c.from_residual.result c.from_residual.ensures.1 in
     rw (p.1, p.2)
     (open_refused g.T.DeserializeTerm.term _ _ _ c.begin_described.ensures.nesting (c.in_err-descriptor.ensures.opened tells))
 
-pub returns-in_err-value : goal.returns-in_err-value
-returns-in_err-value g c tells =
+pub returns-in_err-value-clause-read : goal.returns-in_err-value-clause-read
+returns-in_err-value-clause-read g c tells =
     let p = err_from_is_err_and c.from_residual-in_err-value.result c.from_residual-in_err-value.ensures.1 in
     rw (p.1, p.2)
     (value_refused g.T.DeserializeTerm.term _ _ _ c.begin_described.ensures.nesting (c.in_ok-descriptor.ensures.opened tells) _ _
-    (c.in_err-value.ensures tells))
+    (c.in_err-value.ensures.read tells))
 
-pub returns-in_err-end_described : goal.returns-in_err-end_described
-returns-in_err-end_described g c tells =
+pub returns-in_err-end_described-clause-read : goal.returns-in_err-end_described-clause-read
+returns-in_err-end_described-clause-read g c tells =
     let p = err_from_is_err_and c.from_residual-in_err-end_described.result c.from_residual-in_err-end_described.ensures.1 in
     rw (p.1, p.2)
     (end_refused g.T.DeserializeTerm.term _ _ _ c.begin_described.ensures.nesting (c.in_ok-descriptor.ensures.opened tells) _ _ _ _
-    (c.in_ok-value.ensures tells) c.in_err-end_described.ensures)
+    (c.in_ok-value.ensures.read tells) c.in_err-end_described.ensures)
 
-pub returns : goal.returns
-returns g c tells =
+pub returns-clause-read : goal.returns-clause-read
+returns-clause-read g c tells =
     whole_read g.T.DeserializeTerm.term _ _ _ _ (record { descriptor = c.in_ok-descriptor.descriptor; value = c.in_ok-value.value })
-    c.begin_described.ensures.nesting (c.in_ok-descriptor.ensures.opened tells) c.in_range.ensures (c.in_ok-value.ensures tells)
+    c.begin_described.ensures.nesting (c.in_ok-descriptor.ensures.opened tells) c.in_range.ensures (c.in_ok-value.ensures.read tells)
     c.in_ok-end_described.ensures

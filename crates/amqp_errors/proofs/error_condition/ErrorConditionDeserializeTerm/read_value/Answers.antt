@@ -21,7 +21,7 @@ condition_refused st e new =
     (λ none v b h. none (condition_texts v) b
     (record { bytes = h.bytes; term = h.term; stands = h.stands; moved = h.moved; meant = h.meant.0.0 }))
 
-pub returns-in_err-symbol : goal.returns-in_err-symbol
-returns-in_err-symbol g c tells =
+pub returns-in_err-symbol-clause-read : goal.returns-in_err-symbol-clause-read
+returns-in_err-symbol-clause-read g c tells =
     let p = err_from_is_err_and c.from_residual.result c.from_residual.ensures.1 in
-    rw (p.1, p.2) (condition_refused _ _ _ (symbol_refused _ _ _ (c.in_err-symbol.ensures tells)))
+    rw (p.1, p.2) (condition_refused _ _ _ (symbol_refused _ _ _ (c.in_err-symbol.ensures.read tells)))

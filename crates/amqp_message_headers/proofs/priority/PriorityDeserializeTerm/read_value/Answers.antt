@@ -4,11 +4,11 @@ use Rattle.amqp_codec.specs.PrimitiveTypes.{ubyte_base}
 use Rattle.amqp_primitives.proofs.NewtypeReads.{newtype_read, newtype_refused}
 use Rattle.amqp_message_headers.proofs.priority.PriorityDeserializeTerm.read_value.Goals as goal
 
-pub returns-in_err-read_ubyte : goal.returns-in_err-read_ubyte
-returns-in_err-read_ubyte g c tells =
+pub returns-in_err-read_ubyte-clause-read : goal.returns-in_err-read_ubyte-clause-read
+returns-in_err-read_ubyte-clause-read g c tells =
     let p = err_from_is_err_and c.from_residual.result c.from_residual.ensures.1 in
-    rw (p.1, p.2) (newtype_refused ubyte_base (λ n. n) (λ p. p.0) _ _ _ (c.in_err-read_ubyte.ensures tells))
+    rw (p.1, p.2) (newtype_refused ubyte_base (λ n. n) (λ p. p.0) _ _ _ (c.in_err-read_ubyte.ensures.read tells))
 
-pub returns : goal.returns
-returns g c tells =
-    newtype_read ubyte_base (λ n. n) (λ p. p.0) _ _ _ _ (c.in_ok-read_ubyte.ensures tells) (search rules) (search rules)
+pub returns-clause-read : goal.returns-clause-read
+returns-clause-read g c tells =
+    newtype_read ubyte_base (λ n. n) (λ p. p.0) _ _ _ _ (c.in_ok-read_ubyte.ensures.read tells) (search rules) (search rules)

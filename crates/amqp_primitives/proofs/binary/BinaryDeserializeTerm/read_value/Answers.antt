@@ -4,11 +4,11 @@ use Rattle.amqp_codec.specs.PrimitiveTypes.{binary_base}
 use Rattle.amqp_primitives.proofs.NewtypeReads.{newtype_read, newtype_refused}
 use Rattle.amqp_primitives.proofs.binary.BinaryDeserializeTerm.read_value.Goals as goal
 
-pub returns-in_err-read_binary : goal.returns-in_err-read_binary
-returns-in_err-read_binary g c tells =
+pub returns-in_err-read_binary-clause-read : goal.returns-in_err-read_binary-clause-read
+returns-in_err-read_binary-clause-read g c tells =
     let p = err_from_is_err_and c.from_residual.result c.from_residual.ensures.1 in
-    rw (p.1, p.2) (newtype_refused binary_base (λ b. b.items) (λ v. v.0) _ _ _ (c.in_err-read_binary.ensures tells))
+    rw (p.1, p.2) (newtype_refused binary_base (λ b. b.items) (λ v. v.0) _ _ _ (c.in_err-read_binary.ensures.read tells))
 
-pub returns : goal.returns
-returns g c tells =
-    newtype_read binary_base (λ b. b.items) (λ v. v.0) _ _ _ _ (c.in_ok-read_binary.ensures tells) refl (search rules)
+pub returns-clause-read : goal.returns-clause-read
+returns-clause-read g c tells =
+    newtype_read binary_base (λ b. b.items) (λ v. v.0) _ _ _ _ (c.in_ok-read_binary.ensures.read tells) refl (search rules)

@@ -4,11 +4,11 @@ use Rattle.amqp_codec.specs.PrimitiveTypes.{decimal128_base}
 use Rattle.amqp_primitives.proofs.NewtypeReads.{newtype_read, newtype_refused}
 use Rattle.amqp_primitives.proofs.dec128.Dec128DeserializeTerm.read_value.Goals as goal
 
-pub returns-in_err-read_dec128 : goal.returns-in_err-read_dec128
-returns-in_err-read_dec128 g c tells =
+pub returns-in_err-read_dec128-clause-read : goal.returns-in_err-read_dec128-clause-read
+returns-in_err-read_dec128-clause-read g c tells =
     let p = err_from_is_err_and c.from_residual.result c.from_residual.ensures.1 in
-    rw (p.1, p.2) (newtype_refused decimal128_base (λ b. b) (λ v. v.0) _ _ _ (c.in_err-read_dec128.ensures tells))
+    rw (p.1, p.2) (newtype_refused decimal128_base (λ b. b) (λ v. v.0) _ _ _ (c.in_err-read_dec128.ensures.read tells))
 
-pub returns : goal.returns
-returns g c tells =
-    newtype_read decimal128_base (λ b. b) (λ v. v.0) _ _ _ _ (c.in_ok-read_dec128.ensures tells) refl (search rules)
+pub returns-clause-read : goal.returns-clause-read
+returns-clause-read g c tells =
+    newtype_read decimal128_base (λ b. b) (λ v. v.0) _ _ _ _ (c.in_ok-read_dec128.ensures.read tells) refl (search rules)

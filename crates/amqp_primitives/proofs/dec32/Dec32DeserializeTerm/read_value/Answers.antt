@@ -4,11 +4,11 @@ use Rattle.amqp_codec.specs.PrimitiveTypes.{decimal32_base}
 use Rattle.amqp_primitives.proofs.NewtypeReads.{newtype_read, newtype_refused}
 use Rattle.amqp_primitives.proofs.dec32.Dec32DeserializeTerm.read_value.Goals as goal
 
-pub returns-in_err-read_dec32 : goal.returns-in_err-read_dec32
-returns-in_err-read_dec32 g c tells =
+pub returns-in_err-read_dec32-clause-read : goal.returns-in_err-read_dec32-clause-read
+returns-in_err-read_dec32-clause-read g c tells =
     let p = err_from_is_err_and c.from_residual.result c.from_residual.ensures.1 in
-    rw (p.1, p.2) (newtype_refused decimal32_base (λ b. b) (λ v. v.0) _ _ _ (c.in_err-read_dec32.ensures tells))
+    rw (p.1, p.2) (newtype_refused decimal32_base (λ b. b) (λ v. v.0) _ _ _ (c.in_err-read_dec32.ensures.read tells))
 
-pub returns : goal.returns
-returns g c tells =
-    newtype_read decimal32_base (λ b. b) (λ v. v.0) _ _ _ _ (c.in_ok-read_dec32.ensures tells) refl (search rules)
+pub returns-clause-read : goal.returns-clause-read
+returns-clause-read g c tells =
+    newtype_read decimal32_base (λ b. b) (λ v. v.0) _ _ _ _ (c.in_ok-read_dec32.ensures.read tells) refl (search rules)

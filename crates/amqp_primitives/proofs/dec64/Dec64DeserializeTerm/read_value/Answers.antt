@@ -4,11 +4,11 @@ use Rattle.amqp_codec.specs.PrimitiveTypes.{decimal64_base}
 use Rattle.amqp_primitives.proofs.NewtypeReads.{newtype_read, newtype_refused}
 use Rattle.amqp_primitives.proofs.dec64.Dec64DeserializeTerm.read_value.Goals as goal
 
-pub returns-in_err-read_dec64 : goal.returns-in_err-read_dec64
-returns-in_err-read_dec64 g c tells =
+pub returns-in_err-read_dec64-clause-read : goal.returns-in_err-read_dec64-clause-read
+returns-in_err-read_dec64-clause-read g c tells =
     let p = err_from_is_err_and c.from_residual.result c.from_residual.ensures.1 in
-    rw (p.1, p.2) (newtype_refused decimal64_base (λ b. b) (λ v. v.0) _ _ _ (c.in_err-read_dec64.ensures tells))
+    rw (p.1, p.2) (newtype_refused decimal64_base (λ b. b) (λ v. v.0) _ _ _ (c.in_err-read_dec64.ensures.read tells))
 
-pub returns : goal.returns
-returns g c tells =
-    newtype_read decimal64_base (λ b. b) (λ v. v.0) _ _ _ _ (c.in_ok-read_dec64.ensures tells) refl (search rules)
+pub returns-clause-read : goal.returns-clause-read
+returns-clause-read g c tells =
+    newtype_read decimal64_base (λ b. b) (λ v. v.0) _ _ _ _ (c.in_ok-read_dec64.ensures.read tells) refl (search rules)

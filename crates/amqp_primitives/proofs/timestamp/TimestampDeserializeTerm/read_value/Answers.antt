@@ -4,11 +4,11 @@ use Rattle.amqp_codec.specs.PrimitiveTypes.{timestamp_base}
 use Rattle.amqp_primitives.proofs.NewtypeReads.{newtype_read, newtype_refused}
 use Rattle.amqp_primitives.proofs.timestamp.TimestampDeserializeTerm.read_value.Goals as goal
 
-pub returns-in_err-read_timestamp : goal.returns-in_err-read_timestamp
-returns-in_err-read_timestamp g c tells =
+pub returns-in_err-read_timestamp-clause-read : goal.returns-in_err-read_timestamp-clause-read
+returns-in_err-read_timestamp-clause-read g c tells =
     let p = err_from_is_err_and c.from_residual.result c.from_residual.ensures.1 in
-    rw (p.1, p.2) (newtype_refused timestamp_base (λ z. z) (λ v. v.0) _ _ _ (c.in_err-read_timestamp.ensures tells))
+    rw (p.1, p.2) (newtype_refused timestamp_base (λ z. z) (λ v. v.0) _ _ _ (c.in_err-read_timestamp.ensures.read tells))
 
-pub returns : goal.returns
-returns g c tells =
-    newtype_read timestamp_base (λ z. z) (λ v. v.0) _ _ _ _ (c.in_ok-read_timestamp.ensures tells) (search rules) (search rules)
+pub returns-clause-read : goal.returns-clause-read
+returns-clause-read g c tells =
+    newtype_read timestamp_base (λ z. z) (λ v. v.0) _ _ _ _ (c.in_ok-read_timestamp.ensures.read tells) (search rules) (search rules)

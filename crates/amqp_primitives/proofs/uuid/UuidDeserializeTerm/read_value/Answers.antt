@@ -4,11 +4,11 @@ use Rattle.amqp_codec.specs.PrimitiveTypes.{uuid_base}
 use Rattle.amqp_primitives.proofs.NewtypeReads.{newtype_read, newtype_refused}
 use Rattle.amqp_primitives.proofs.uuid.UuidDeserializeTerm.read_value.Goals as goal
 
-pub returns-in_err-read_uuid : goal.returns-in_err-read_uuid
-returns-in_err-read_uuid g c tells =
+pub returns-in_err-read_uuid-clause-read : goal.returns-in_err-read_uuid-clause-read
+returns-in_err-read_uuid-clause-read g c tells =
     let p = err_from_is_err_and c.from_residual.result c.from_residual.ensures.1 in
-    rw (p.1, p.2) (newtype_refused uuid_base (λ b. b) (λ v. v.0) _ _ _ (c.in_err-read_uuid.ensures tells))
+    rw (p.1, p.2) (newtype_refused uuid_base (λ b. b) (λ v. v.0) _ _ _ (c.in_err-read_uuid.ensures.read tells))
 
-pub returns : goal.returns
-returns g c tells =
-    newtype_read uuid_base (λ b. b) (λ v. v.0) _ _ _ _ (c.in_ok-read_uuid.ensures tells) refl (search rules)
+pub returns-clause-read : goal.returns-clause-read
+returns-clause-read g c tells =
+    newtype_read uuid_base (λ b. b) (λ v. v.0) _ _ _ _ (c.in_ok-read_uuid.ensures.read tells) refl (search rules)

@@ -8,30 +8,30 @@ use Rattle.amqp_simple_values.specs.Simple.{is_container}
 use Rattle.amqp_simple_values.proofs.SimpleReads.{container_refused, value_refused, value_read, other_read}
 use Rattle.amqp_simple_values.proofs.read.SimpleValueDeserializeTerm.read_value.Goals as goal
 
-pub returns-in_err-code : goal.returns-in_err-code
-returns-in_err-code g c tells =
+pub returns-in_err-code-clause-read : goal.returns-in_err-code-clause-read
+returns-in_err-code-clause-read g c tells =
     let p = err_from_is_err_and c.from_residual.result c.from_residual.ensures.1 in
-    rw (p.1, p.2) (refused_first PeeksCode BeginFault _ _ _ _ _ no_memory no_value (value_peeked _ _) (c.in_err-code.ensures tells))
+    rw (p.1, p.2) (refused_first PeeksCode BeginFault _ _ _ _ _ no_memory no_value (value_peeked _ _) (c.in_err-code.ensures.read tells))
 
-pub returns-then-is_container : goal.returns-then-is_container
-returns-then-is_container g c tells =
-    container_refused _ _ _ (c.in_ok-code.ensures tells)
+pub returns-then-is_container-clause-read : goal.returns-then-is_container-clause-read
+returns-then-is_container-clause-read g c tells =
+    container_refused _ _ _ (c.in_ok-code.ensures.read tells)
     (sym (ap is_container c.kind_of.ensures) ∙ sym c.is_container.ensures ∙ c.if-is_container.true) _ _ c.refuse.ensures.first
 
-pub returns-in_err-value : goal.returns-in_err-value
-returns-in_err-value g c tells =
+pub returns-in_err-value-clause-read : goal.returns-in_err-value-clause-read
+returns-in_err-value-clause-read g c tells =
     let p = err_from_is_err_and c.from_residual-in_err-value.result c.from_residual-in_err-value.ensures.1 in
     rw (p.1, p.2)
-    (value_refused _ _ _ (c.in_ok-code.ensures tells)
-    (sym (ap is_container c.kind_of.ensures) ∙ sym c.is_container.ensures ∙ c.if-is_container.false) _ _ (c.in_err-value.ensures tells))
+    (value_refused _ _ _ (c.in_ok-code.ensures.read tells)
+    (sym (ap is_container c.kind_of.ensures) ∙ sym c.is_container.ensures ∙ c.if-is_container.false) _ _ (c.in_err-value.ensures.read tells))
 
-pub returns-in-Ok : goal.returns-in-Ok
-returns-in-Ok g c tells =
-    value_read _ _ _ (c.in_ok-code.ensures tells) _ _ _ c.in-Ok.ensures (c.in_ok-value.ensures tells)
+pub returns-in-Ok-clause-read : goal.returns-in-Ok-clause-read
+returns-in-Ok-clause-read g c tells =
+    value_read _ _ _ (c.in_ok-code.ensures.read tells) _ _ _ c.in-Ok.ensures (c.in_ok-value.ensures.read tells)
 
-pub returns-in-Err : goal.returns-in-Err
-returns-in-Err g c tells =
+pub returns-in-Err-clause-read : goal.returns-in-Err-clause-read
+returns-in-Err-clause-read g c tells =
     absurd
-    (other_read _ _ _ (c.in_ok-code.ensures tells)
-    (sym (ap is_container c.kind_of.ensures) ∙ sym c.is_container.ensures ∙ c.if-is_container.false) _ _ (c.in_ok-value.ensures tells)
+    (other_read _ _ _ (c.in_ok-code.ensures.read tells)
+    (sym (ap is_container c.kind_of.ensures) ∙ sym c.is_container.ensures ∙ c.if-is_container.false) _ _ (c.in_ok-value.ensures.read tells)
     c.in-Err.ensures.1)

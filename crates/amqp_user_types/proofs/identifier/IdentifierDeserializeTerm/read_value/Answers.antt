@@ -7,29 +7,29 @@ use Rattle.amqp_codec.specs.EitherMeaning.{no_value}
 use Rattle.amqp_user_types.proofs.IdentifierReads.{number_read, name_read, number_refused, name_refused, tests_number, tests_name}
 use Rattle.amqp_user_types.proofs.identifier.IdentifierDeserializeTerm.read_value.Goals as goal
 
-pub returns-in_err-peek_code : goal.returns-in_err-peek_code
-returns-in_err-peek_code g c tells =
+pub returns-in_err-peek_code-clause-read : goal.returns-in_err-peek_code-clause-read
+returns-in_err-peek_code-clause-read g c tells =
     let p = err_from_is_err_and c.from_residual.result c.from_residual.ensures.1 in
-    rw (p.1, p.2) (refused_first PeeksCode BeginFault _ _ _ _ _ no_memory no_value (value_peeked _ _) (c.in_err-peek_code.ensures tells))
+    rw (p.1, p.2) (refused_first PeeksCode BeginFault _ _ _ _ _ no_memory no_value (value_peeked _ _) (c.in_err-peek_code.ensures.read tells))
 
-pub returns-in_err-read_value-in-68 : goal.returns-in_err-read_value-in-68
-returns-in_err-read_value-in-68 g c tells =
+pub returns-in_err-read_value-in-68-clause-read : goal.returns-in_err-read_value-in-68-clause-read
+returns-in_err-read_value-in-68-clause-read g c tells =
     let p = err_from_is_err_and c.from_residual-in_err-read_value-in-68.result c.from_residual-in_err-read_value-in-68.ensures.1 in
     rw (p.1, p.2)
-    (number_refused _ _ _ (c.in_ok-peek_code.ensures tells) _ _ (tests_number _ c.in-68.is) (c.in_err-read_value-in-68.ensures tells))
+    (number_refused _ _ _ (c.in_ok-peek_code.ensures.read tells) _ _ (tests_number _ c.in-68.is) (c.in_err-read_value-in-68.ensures.read tells))
 
-pub returns-in_err-read_value-in_default : goal.returns-in_err-read_value-in_default
-returns-in_err-read_value-in_default g c tells =
+pub returns-in_err-read_value-in_default-clause-read : goal.returns-in_err-read_value-in_default-clause-read
+returns-in_err-read_value-in_default-clause-read g c tells =
     let r = c.from_residual-in_err-read_value-in_default in
     let p = err_from_is_err_and r.result r.ensures.1 in
     rw (p.1, p.2)
-    (name_refused _ _ _ (c.in_ok-peek_code.ensures tells) _ _
+    (name_refused _ _ _ (c.in_ok-peek_code.ensures.read tells) _ _
     (tests_name c.in_ok-peek_code.field-0 (search rules) (search rules) (search rules))
-    (c.in_err-read_value-in_default.ensures tells))
+    (c.in_err-read_value-in_default.ensures.read tells))
 
-pub returns-in_ok-read_value-in-68 : goal.returns-in_ok-read_value-in-68
-returns-in_ok-read_value-in-68 g c tells = number_read _ _ _ (c.in_ok-peek_code.ensures tells) _ _ (c.in_ok-read_value-in-68.ensures tells)
+pub returns-in_ok-read_value-in-68-clause-read : goal.returns-in_ok-read_value-in-68-clause-read
+returns-in_ok-read_value-in-68-clause-read g c tells = number_read _ _ _ (c.in_ok-peek_code.ensures.read tells) _ _ (c.in_ok-read_value-in-68.ensures.read tells)
 
-pub returns-in_ok-read_value-in_default : goal.returns-in_ok-read_value-in_default
-returns-in_ok-read_value-in_default g c tells =
-    name_read _ _ _ (c.in_ok-peek_code.ensures tells) _ _ (c.in_ok-read_value-in_default.ensures tells)
+pub returns-in_ok-read_value-in_default-clause-read : goal.returns-in_ok-read_value-in_default-clause-read
+returns-in_ok-read_value-in_default-clause-read g c tells =
+    name_read _ _ _ (c.in_ok-peek_code.ensures.read tells) _ _ (c.in_ok-read_value-in_default.ensures.read tells)

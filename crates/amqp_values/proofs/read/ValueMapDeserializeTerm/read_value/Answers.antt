@@ -6,35 +6,35 @@ use Rattle.amqp_values.specs.ValueType.{value_type}
 use Rattle.amqp_values.proofs.MapReads.{as_map, map_refused, row_any, row_refused_any, map_bounded}
 use Rattle.amqp_values.proofs.read.ValueMapDeserializeTerm.read_value.Goals as goal
 
-pub returns-in_err-count : goal.returns-in_err-count
-returns-in_err-count g c tells =
+pub returns-in_err-count-clause-read : goal.returns-in_err-count-clause-read
+returns-in_err-count-clause-read g c tells =
     let p = err_from_is_err_and c.from_residual.result c.from_residual.ensures.1 in
-    rw (p.1, p.2) (map_refused _ _ _ (maps.open_refused value_type value_type _ _ _ (c.in_err-count.ensures tells)))
+    rw (p.1, p.2) (map_refused _ _ _ (maps.open_refused value_type value_type _ _ _ (c.in_err-count.ensures.read tells)))
 
-pub returns-in_err-pairs : goal.returns-in_err-pairs
-returns-in_err-pairs g c tells =
+pub returns-in_err-pairs-clause-read : goal.returns-in_err-pairs-clause-read
+returns-in_err-pairs-clause-read g c tells =
     let p = err_from_is_err_and c.from_residual-in_err-pairs.result c.from_residual-in_err-pairs.ensures.1 in
-    let opened = c.in_ok-count.ensures tells in
+    let opened = c.in_ok-count.ensures.read tells in
     let bounded = map_bounded _ _ _ opened (omega (arith, c.room.ensures.limit)) in
     rw (p.1, p.2)
     (map_refused _ _ _
     (maps.row_refused value_type value_type _ _ _ _ _ (by_two opened)
-    (row_refused_any 128 (c.in_ok-count.count / 2) _ _ _ (c.in_err-pairs.ensures tells bounded))))
+    (row_refused_any 128 (c.in_ok-count.count / 2) _ _ _ (c.in_err-pairs.ensures.read tells bounded))))
 
-pub returns-in_err-end_map : goal.returns-in_err-end_map
-returns-in_err-end_map g c tells =
+pub returns-in_err-end_map-clause-read : goal.returns-in_err-end_map-clause-read
+returns-in_err-end_map-clause-read g c tells =
     let p = err_from_is_err_and c.from_residual-in_err-end_map.result c.from_residual-in_err-end_map.ensures.1 in
-    let opened = c.in_ok-count.ensures tells in
+    let opened = c.in_ok-count.ensures.read tells in
     let bounded = map_bounded _ _ _ opened (omega (arith, c.room.ensures.limit)) in
-    let row = row_any 128 (c.in_ok-count.count / 2) _ c.in_ok-pairs.pairs.items _ (c.in_ok-pairs.ensures tells bounded) in
+    let row = row_any 128 (c.in_ok-count.count / 2) _ c.in_ok-pairs.pairs.items _ (c.in_ok-pairs.ensures.read tells bounded) in
     rw (p.1, p.2)
     (map_refused _ _ _
-    (maps.end_refused value_type value_type _ _ _ c.in_ok-pairs.pairs.items _ _ _ (by_two opened) row (c.in_err-end_map.ensures tells)))
+    (maps.end_refused value_type value_type _ _ _ c.in_ok-pairs.pairs.items _ _ _ (by_two opened) row (c.in_err-end_map.ensures.read tells)))
 
-pub returns : goal.returns
-returns g c tells =
-    let opened = c.in_ok-count.ensures tells in
+pub returns-clause-read : goal.returns-clause-read
+returns-clause-read g c tells =
+    let opened = c.in_ok-count.ensures.read tells in
     let bounded = map_bounded _ _ _ opened (omega (arith, c.room.ensures.limit)) in
-    let row = row_any 128 (c.in_ok-count.count / 2) _ c.in_ok-pairs.pairs.items _ (c.in_ok-pairs.ensures tells bounded) in
+    let row = row_any 128 (c.in_ok-count.count / 2) _ c.in_ok-pairs.pairs.items _ (c.in_ok-pairs.ensures.read tells bounded) in
     as_map _ (record { 0 = c.in_ok-pairs.pairs }) _
-    (maps.all_read value_type value_type _ _ _ c.in_ok-pairs.pairs.items _ _ (by_two opened) row (c.in_ok-end_map.ensures tells))
+    (maps.all_read value_type value_type _ _ _ c.in_ok-pairs.pairs.items _ _ (by_two opened) row (c.in_ok-end_map.ensures.read tells))
