@@ -1,4 +1,4 @@
-use Rattle.std.proofs.Common.{Some, arith, rules, add-one, ap, sym, ◌∙◌, ◌≡◌, ◌<◌, length, get_or}
+use Rattle.std.proofs.Common.{false, Some, arith, rules, add-one, ap, sym, ◌∙◌, ◌≡◌, ◌<◌, length, get_or}
 use Rattle.std.proofs.lemmas.Result.{err_from_is_err_and}
 use Rattle.amqp_model.specs.Fields.{rules_of}
 use Rattle.amqp_model.specs.declared.tables.FieldRule.TheVariants.{Mandatory}
@@ -7,6 +7,7 @@ use Rattle.amqp_codec.specs.FieldReading.{absence}
 use Rattle.amqp_codec.specs.FieldReadingLaws.{not_absent}
 use Rattle.amqp_codec.proofs.FieldSteps.{open_refused, none_so_far, item_refused, left_out_refused, one_more, one_less, end_refused}
 use Rattle.amqp_codec.proofs.FieldSteps.{all_read, so_far_still}
+use Rattle.amqp_codec.proofs.Tries.{taking_none, taking_at, refused_behind}
 use Rattle.amqp_codec.proofs.fields.read_fields.Goals as goal
 use Rattle.amqp_codec.proofs.fields.read_fields.Goals.{then-index-count+in_ok-read_item, else-index-count+in_default}
 
@@ -47,17 +48,17 @@ loop-index-preserved g c =
     let within : i < length (rules_of (slots fs)) = omega (arith, ap length c.field_rules-rule-items.ensures, c.loop-index-test.true) in
     elim c.if-index-count.branch [
       | then-index-count+in_ok-read_item w ↦ record {
-          fields = λ tells. rw (w.decoder-is, w.value-is, add-one)
-              (one_more fs _ _ _ _ _ _ _ w.if-index-count.true within (c.loop-index.invariant.fields tells)
-              (w.in_ok-read_item.ensures.read tells));
-          began = rw w.decoder-is (search rules);
-        }
+        fields = λ tells. rw (w.decoder-is, w.value-is, add-one)
+            (one_more fs _ _ _ _ _ _ _ w.if-index-count.true within (c.loop-index.invariant.fields tells)
+            (w.in_ok-read_item.ensures.read tells));
+        began = rw w.decoder-is (search rules);
+      }
       | else-index-count+in_default w ↦ record {
-          fields = λ tells. rw (w.decoder-is, w.value-is, add-one) (one_less fs _ _ _ _ _ w.if-index-count.false within
-              (not_absent _ (ap (λ l. absence (get_or l i Mandatory)) (sym c.field_rules-rule-items.ensures) ∙ sym w.in_default.ensures))
-              (c.loop-index.invariant.fields tells));
-          began = rw w.decoder-is c.loop-index.invariant.began;
-        }
+        fields = λ tells. rw (w.decoder-is, w.value-is, add-one) (one_less fs _ _ _ _ _ w.if-index-count.false within
+            (not_absent _ (ap (λ l. absence (get_or l i Mandatory)) (sym c.field_rules-rule-items.ensures) ∙ sym w.in_default.ensures))
+            (c.loop-index.invariant.fields tells));
+        began = rw w.decoder-is c.loop-index.invariant.began;
+      }
     ]
 
 pub returns-in_err-end_list-clause-read : goal.returns-in_err-end_list-clause-read
@@ -75,3 +76,14 @@ returns-clause-read g c tells =
     let all : c.loop-index.index ≡ length (rules_of (slots fs)) =
     omega (arith, ap length c.field_rules-rule-items.ensures, c.loop-index-test.false, c.loop-index.auto.index-end) in
     all_read fs _ _ _ _ _ _ all (c.loop-index.invariant.fields tells) (c.in_ok-end_list.ensures.read tells)
+
+pub returns-in_err-read_item-clause-tries : goal.returns-in_err-read_item-clause-tries
+returns-in_err-read_item-clause-tries g c =
+    let p = err_from_is_err_and c.from_residual-in_err-read_item.result c.from_residual-in_err-read_item.ensures.1 in
+    rw (p.1, p.2) (refused_behind _ _ c.args.decoder.now c.loop-index.decoder _ _ (taking_at g.L.FieldList.list.fields c.loop-index.index) c.loop-index.invariant.began
+    c.in_err-read_item.ensures.tries)
+
+pub returns-in_err-end_list-clause-tries : goal.returns-in_err-end_list-clause-tries
+returns-in_err-end_list-clause-tries g c =
+    let p = err_from_is_err_and c.from_residual-in_err-end_list.result c.from_residual-in_err-end_list.ensures.1 in
+    rw (p.1, p.2) (refused_behind false _ c.args.decoder.now c.loop-index.decoder _ _ (taking_none _) c.loop-index.invariant.began c.in_err-end_list.ensures.tries)
