@@ -1,16 +1,25 @@
 //! The values that are written and read.
 ghost use Rattle.std.specs.Prelude.{◌≤◌};
 
-use crate::frames::{ATTACH, FLOW, TRANSFER};
+use crate::bare::Bare;
+use crate::frames::{ATTACH, FLOW, PROPERTIES, TRANSFER};
+use crate::values::{Typed, application_properties};
 use amqp_attach::Attach;
+use amqp_codec::DeserializeTerm;
 use amqp_containers::Array;
-use amqp_decoder::{Decoder, decoder_of};
-use amqp_encoder::{Encoder, begin_filling, buffer_of, measured_len, measuring_encoder};
+use amqp_map_sections::ApplicationProperties;
 use amqp_maps::OrderedMap;
+use amqp_message_headers::Properties;
 use amqp_performatives::{Flow, Transfer};
-use amqp_read_write::{from_slice, to_vec};
 use amqp_wire::{Error, Symbol};
 use std::alloc::Global;
+use std::time::Instant;
+
+/// What is timed: a value that is written or read.
+pub(crate) trait Work {
+    /// Writes or reads it once, and answers a number that hangs on all of it.
+    fn run(&self, alloc: Global) -> Result<u64, Error>;
+}
 
 /// What is written or read by the bare calls of an encoder and a decoder; or a value of a type, by `to_vec` and
 /// `from_slice`.
@@ -31,9 +40,11 @@ pub(crate) enum Case {
     Attach,
     Transfer,
     Flow,
+    Properties,
+    ApplicationProperties,
 }
 
-pub(crate) const CASES: [Case; 15] = [
+pub(crate) const CASES: [Case; 17] = [
     Case::Uints,
     Case::Ulongs,
     Case::Strings,
@@ -49,6 +60,8 @@ pub(crate) const CASES: [Case; 15] = [
     Case::Attach,
     Case::Transfer,
     Case::Flow,
+    Case::Properties,
+    Case::ApplicationProperties,
 ];
 
 /// Cases whose times are compared: a type's, and that of the bare calls for the same bytes, which for a map keep its entries or
@@ -79,19 +92,6 @@ impl Way {
     }
 }
 
-/// What a case writes.
-#[derive(Drop)]
-pub(crate) struct Content {
-    numbers: Vec<u32>,
-    longs: Array<u64>,
-    texts: Vec<String>,
-    symbols: OrderedMap<Symbol, u32>,
-    bytes: Vec<u8>,
-    attach: Attach,
-    transfer: Transfer,
-    flow: Flow,
-}
-
 impl Case {
     pub(crate) fn name(self) -> &'static str {
         match self {
@@ -110,6 +110,8 @@ impl Case {
             Case::Attach => "an attach of 14 fields",
             Case::Transfer => "a transfer",
             Case::Flow => "a flow of 11 fields",
+            Case::Properties => "properties of 13 fields",
+            Case::ApplicationProperties => "application properties of 20 entries",
         }
     }
 
@@ -131,6 +133,8 @@ impl Case {
             Case::Attach => "attach",
             Case::Transfer => "transfer",
             Case::Flow => "flow",
+            Case::Properties => "properties",
+            Case::ApplicationProperties => "application",
         }
     }
 
@@ -142,7 +146,7 @@ impl Case {
             Case::Uints | Case::Ulongs | Case::UintVec | Case::UlongArray => 10_000,
             Case::Strings | Case::Map | Case::Symbols | Case::KeptSymbols | Case::SymbolMap => 1000,
             Case::LargeMap => 16_000,
-            Case::Binary | Case::Tiny | Case::Attach | Case::Transfer | Case::Flow => 1,
+            _ => 1,
         }
     }
 
@@ -151,12 +155,18 @@ impl Case {
         ensures { result ≤ 1000 }
     {
         match self {
-            Case::Tiny | Case::Attach | Case::Transfer | Case::Flow => 1000,
+            Case::Tiny
+            | Case::Attach
+            | Case::Transfer
+            | Case::Flow
+            | Case::Properties
+            | Case::ApplicationProperties => 1000,
             _ => 1,
         }
     }
 
-    fn length(self) -> usize {
+    /// How many bytes a binary has.
+    pub(crate) fn length(self) -> usize {
         match self {
             Case::Binary => 1_048_576,
             Case::Tiny => 5,
@@ -164,211 +174,75 @@ impl Case {
         }
     }
 
-    pub(crate) fn content(self, alloc: Global) -> Result<Content, Error> {
-        let mut content = Content {
-            numbers: Vec::new(alloc),
-            longs: Array::from(Vec::new(alloc)),
-            texts: Vec::new(alloc),
-            symbols: OrderedMap::new(alloc),
-            bytes: Vec::new(alloc),
-            attach: from_slice(ATTACH, alloc)?,
-            transfer: from_slice(TRANSFER, alloc)?,
-            flow: from_slice(FLOW, alloc)?,
-        };
-        let mut number = 1u32;
-        for index in 0..self.values() {
-            content.numbers.push(number % 1000)?;
-            content.longs.push(u64::from(number % 1000))?;
-            content.texts.push(format!(in alloc; "text {index}")?)?;
-            let name = Symbol::from(format!(in alloc; "text {index}")?);
-            content.symbols.insert(name, number % 1000)?;
-            number = number.wrapping_mul(1_664_525).wrapping_add(1_013_904_223);
+    // The canonical text.
+    fn text(self, alloc: Global) -> Result<Vec<u8>, Error> {
+        match self {
+            Case::Attach => Ok(Vec::from_slice(alloc, ATTACH)?),
+            Case::Transfer => Ok(Vec::from_slice(alloc, TRANSFER)?),
+            Case::Flow => Ok(Vec::from_slice(alloc, FLOW)?),
+            Case::Properties => Ok(Vec::from_slice(alloc, PROPERTIES)?),
+            Case::ApplicationProperties => application_properties(20, alloc),
+            _ => Ok(Bare::new(self, Way::Writing, alloc)?.into_text()),
         }
-        content.bytes.resize(self.length(), 0x61)?;
-        Ok(content)
     }
 
-    /// Writes or reads it, and answers a number that hangs on all of it.
-    pub(crate) fn run(
+    /// The nanoseconds of the best of some rounds.
+    pub(crate) fn best(
         self,
+        rt: &HostRuntime,
         way: Way,
-        content: &Content,
-        text: &[u8],
-        alloc: Global,
-    ) -> Result<u64, Error> {
-        match way {
-            Way::Writing => Ok(self.write(content, alloc)?.len() as u64),
-            Way::Reading => self.read(text, alloc),
-        }
-    }
-
-    /// The canonical text: measured, and filled into one buffer.
-    pub(crate) fn write(self, content: &Content, alloc: Global) -> Result<Vec<u8>, Error> {
+        rounds: u32,
+    ) -> Result<u128, anyhow::Error> {
         match self {
-            Case::UintVec => to_vec(&content.numbers, alloc),
-            Case::UlongArray => to_vec(&content.longs, alloc),
-            Case::SymbolMap | Case::LargeMap => to_vec(&content.symbols, alloc),
-            Case::Attach => to_vec(&content.attach, alloc),
-            Case::Transfer => to_vec(&content.transfer, alloc),
-            Case::Flow => to_vec(&content.flow, alloc),
-            _ => self.write_bare(content, alloc),
-        }
-    }
-
-    fn write_bare(self, content: &Content, alloc: Global) -> Result<Vec<u8>, Error> {
-        let mut encoder = measuring_encoder(alloc);
-        self.serialize(content, &mut encoder)?;
-        let len = measured_len(&encoder)?;
-        let buffer = Vec::with_capacity(alloc, len)?;
-        begin_filling(&mut encoder, alloc, buffer, len);
-        self.serialize(content, &mut encoder)?;
-        Ok(buffer_of(encoder))
-    }
-
-    fn serialize(self, content: &Content, encoder: &mut Encoder) -> Result<(), Error> {
-        match self {
-            Case::Uints | Case::UintVec => write_uints(&content.numbers, encoder),
-            Case::Ulongs | Case::UlongArray => write_ulongs(&content.longs, encoder),
-            Case::Strings => write_strings(&content.texts, encoder),
-            Case::Map => write_map(content, encoder),
-            Case::Symbols | Case::KeptSymbols | Case::SymbolMap | Case::LargeMap => {
-                write_symbols(&content.symbols, encoder)
-            }
-            _ => encoder.write_binary(&content.bytes),
-        }
-    }
-
-    // The sum of its numbers and of the lengths of its texts and bytes, or the number of a type's values.
-    fn read(self, text: &[u8], alloc: Global) -> Result<u64, Error> {
-        match self {
-            Case::UintVec => Ok(from_slice::<Vec<u32>>(text, alloc)?.len() as u64),
-            Case::UlongArray => Ok(from_slice::<Array<u64>>(text, alloc)?.len() as u64),
+            Case::UintVec => self.best_of::<Vec<u32>>(rt, way, rounds),
+            Case::UlongArray => self.best_of::<Array<u64>>(rt, way, rounds),
             Case::SymbolMap | Case::LargeMap => {
-                Ok(from_slice::<OrderedMap<Symbol, u32>>(text, alloc)?.len() as u64)
+                self.best_of::<OrderedMap<Symbol, u32>>(rt, way, rounds)
             }
-            Case::Attach => Ok(u64::from(from_slice::<Attach>(text, alloc)?.handle.0)),
-            Case::Transfer => {
-                let transfer: Transfer = from_slice(text, alloc)?;
-                Ok(u64::from(transfer.handle.0).saturating_add(1))
+            Case::Attach => self.best_of::<Attach>(rt, way, rounds),
+            Case::Transfer => self.best_of::<Transfer>(rt, way, rounds),
+            Case::Flow => self.best_of::<Flow>(rt, way, rounds),
+            Case::Properties => self.best_of::<Properties>(rt, way, rounds),
+            Case::ApplicationProperties => {
+                self.best_of::<ApplicationProperties>(rt, way, rounds)
             }
-            Case::Flow => Ok(u64::from(from_slice::<Flow>(text, alloc)?.incoming_window)),
-            _ => self.read_bare(text, alloc),
+            _ => {
+                let work = Bare::new(self, way, rt.alloc())?;
+                best_round(rt, &work, self.times(), rounds)
+            }
         }
     }
 
-    fn read_bare(self, text: &[u8], alloc: Global) -> Result<u64, Error> {
-        let mut decoder = decoder_of(text, alloc);
-        match self {
-            Case::Uints | Case::UintVec => read_uints(&mut decoder),
-            Case::Ulongs | Case::UlongArray => read_ulongs(&mut decoder, alloc),
-            Case::Strings => read_strings(&mut decoder, alloc),
-            Case::Map => read_map(&mut decoder, alloc),
-            Case::Symbols | Case::SymbolMap | Case::LargeMap => read_symbols(&mut decoder, alloc),
-            Case::KeptSymbols => Ok(kept_symbols(&mut decoder, alloc)?.len() as u64),
-            _ => Ok(decoder.read_binary(alloc)?.len() as u64),
+    fn best_of<T: DeserializeTerm>(
+        self,
+        rt: &HostRuntime,
+        way: Way,
+        rounds: u32,
+    ) -> Result<u128, anyhow::Error> {
+        let text = self.text(rt.alloc())?;
+        let work = Typed::<T>::new(way, text, rt.alloc())?;
+        best_round(rt, &work, self.times(), rounds)
+    }
+}
+
+// The nanoseconds of the best of some rounds, in each of which the work is done so many times.
+fn best_round<W: Work>(
+    rt: &HostRuntime,
+    work: &W,
+    times: u32,
+    rounds: u32,
+) -> Result<u128, anyhow::Error> {
+    let mut best = u128::MAX;
+    for _ in 0..rounds {
+        let mut done = 0u64;
+        let start = Instant::now(rt)?;
+        for _ in 0..times {
+            done = work.run(rt.alloc())?;
+        }
+        let taken = start.elapsed(rt)?.as_nanos();
+        if done > 0 && taken < best {
+            best = taken;
         }
     }
-}
-
-fn write_uints(numbers: &[u32], encoder: &mut Encoder) -> Result<(), Error> {
-    encoder.begin_list()?;
-    for number in numbers {
-        encoder.write_uint(*number)?;
-    }
-    encoder.end_list()
-}
-
-fn write_ulongs(numbers: &[u64], encoder: &mut Encoder) -> Result<(), Error> {
-    encoder.begin_array()?;
-    for number in numbers {
-        encoder.write_ulong(*number)?;
-    }
-    encoder.end_array()
-}
-
-fn write_strings(texts: &[String], encoder: &mut Encoder) -> Result<(), Error> {
-    encoder.begin_list()?;
-    for text in texts {
-        encoder.write_string(text.as_str())?;
-    }
-    encoder.end_list()
-}
-
-fn write_map(content: &Content, encoder: &mut Encoder) -> Result<(), Error> {
-    encoder.begin_map()?;
-    for (text, number) in content.texts.iter().zip(&content.numbers) {
-        encoder.write_string(text.as_str())?;
-        encoder.write_uint(*number)?;
-    }
-    encoder.end_map()
-}
-
-fn write_symbols(entries: &OrderedMap<Symbol, u32>, encoder: &mut Encoder) -> Result<(), Error> {
-    encoder.begin_map()?;
-    for (name, number) in entries {
-        encoder.write_symbol(name.as_str())?;
-        encoder.write_uint(*number)?;
-    }
-    encoder.end_map()
-}
-
-fn read_uints(decoder: &mut Decoder<&[u8]>) -> Result<u64, Error> {
-    let mut sum = 0u64;
-    for _ in 0..decoder.begin_list()? {
-        sum = sum.wrapping_add(u64::from(decoder.read_uint()?));
-    }
-    decoder.end_list()?;
-    Ok(sum)
-}
-
-fn read_ulongs(decoder: &mut Decoder<&[u8]>, alloc: Global) -> Result<u64, Error> {
-    let mut sum = 0u64;
-    for _ in 0..decoder.begin_array(alloc)? {
-        sum = sum.wrapping_add(decoder.read_ulong()?);
-    }
-    decoder.end_array()?;
-    Ok(sum)
-}
-
-fn read_strings(decoder: &mut Decoder<&[u8]>, alloc: Global) -> Result<u64, Error> {
-    let mut sum = 0u64;
-    for _ in 0..decoder.begin_list()? {
-        sum = sum.wrapping_add(decoder.read_string(alloc)?.len() as u64);
-    }
-    decoder.end_list()?;
-    Ok(sum)
-}
-
-fn read_map(decoder: &mut Decoder<&[u8]>, alloc: Global) -> Result<u64, Error> {
-    let mut sum = 0u64;
-    for _ in 0..decoder.begin_map()? / 2 {
-        sum = sum.wrapping_add(decoder.read_string(alloc)?.len() as u64);
-        sum = sum.wrapping_add(u64::from(decoder.read_uint()?));
-    }
-    decoder.end_map()?;
-    Ok(sum)
-}
-
-fn read_symbols(decoder: &mut Decoder<&[u8]>, alloc: Global) -> Result<u64, Error> {
-    let mut sum = 0u64;
-    for _ in 0..decoder.begin_map()? / 2 {
-        sum = sum.wrapping_add(decoder.read_symbol(alloc)?.as_str().len() as u64);
-        sum = sum.wrapping_add(u64::from(decoder.read_uint()?));
-    }
-    decoder.end_map()?;
-    Ok(sum)
-}
-
-// The entries in a row, each with the memory of its key.
-fn kept_symbols(decoder: &mut Decoder<&[u8]>, alloc: Global) -> Result<Vec<(Symbol, u32)>, Error> {
-    let mut entries = Vec::new(alloc);
-    for _ in 0..decoder.begin_map()? / 2 {
-        let name = decoder.read_symbol(alloc)?;
-        let number = decoder.read_uint()?;
-        if entries.push((name, number)).is_err() {
-            return Err(Error::Memory);
-        }
-    }
-    decoder.end_map()?;
-    Ok(entries)
+    Ok(best)
 }

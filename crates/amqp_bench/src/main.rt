@@ -3,12 +3,13 @@
 //! number it does so many rounds of that one, for a profiler; else it prints nothing.
 #![tactic(auto)]
 
+mod bare;
 mod cases;
 mod frames;
+mod values;
 
 use cases::{CASES, COMPARED, Case, WAYS, Way};
 use std::env;
-use std::time::Instant;
 
 const ROUNDS: u32 = 20;
 
@@ -52,29 +53,10 @@ fn print_one(rt: &HostRuntime, what: &str, word: &str, rounds: &str) -> Result<(
     Ok(())
 }
 
-// The nanoseconds of the best of some rounds.
-fn best(rt: &HostRuntime, way: Way, case: Case, rounds: u32) -> Result<u128, anyhow::Error> {
-    let content = case.content(rt.alloc())?;
-    let text = case.write(&content, rt.alloc())?;
-    let mut best = u128::MAX;
-    for _ in 0..rounds {
-        let mut done = 0u64;
-        let start = Instant::now(rt)?;
-        for _ in 0..case.times() {
-            done = case.run(way, &content, &text, rt.alloc())?;
-        }
-        let taken = start.elapsed(rt)?.as_nanos();
-        if done > 0 && taken < best {
-            best = taken;
-        }
-    }
-    Ok(best)
-}
-
 // In tenths of a nanosecond a value.
 fn print_case(rt: &HostRuntime, way: Way, case: Case, rounds: u32) -> Result<(), anyhow::Error> {
     let values = (case.values() as u128) * (case.times() as u128);
-    let tenths = best(rt, way, case, rounds)?.saturating_mul(10) / values.max(1);
+    let tenths = case.best(rt, way, rounds)?.saturating_mul(10) / values.max(1);
     println!(rt;
         "{} {}: {}.{} ns a value",
         way.word(),
@@ -87,8 +69,8 @@ fn print_case(rt: &HostRuntime, way: Way, case: Case, rounds: u32) -> Result<(),
 
 // In hundredths.
 fn print_ratio(rt: &HostRuntime, way: Way, case: Case, other: Case) -> Result<(), anyhow::Error> {
-    let taken = best(rt, way, case, ROUNDS)?.saturating_mul(100);
-    let hundredths = taken / best(rt, way, other, ROUNDS)?.max(1);
+    let taken = case.best(rt, way, ROUNDS)?.saturating_mul(100);
+    let hundredths = taken / other.best(rt, way, ROUNDS)?.max(1);
     println!(rt;
         "{} {}: {}.{:02} times {}",
         way.word(),

@@ -15,3 +15,12 @@ pub record Faults : Type 1 where
   pub fault_elsewhere : (c : Setting) (st : State) (e : Error) → KeepsError c e → fault st e → fault (under c st) e
   -- where it says of bytes that they are no term, none stands there
   pub misspelled : (st : State) (e : Error) → HasRoom st → IsMisspelling e → fault st e → NothingStands st
+
+-- Of what isn't asked for.
+abbrev pub no_faults : Faults
+no_faults = record {
+  fault = λ st e. ⊥;
+  not_outside = λ e out st h. h;
+  fault_elsewhere = λ c st e k h. h;
+  misspelled = λ st e room i h. absurd h;
+}

@@ -5,7 +5,7 @@ use Rattle.amqp_model.specs.Standing.{Standing}
 use Rattle.amqp_model.specs.Ranges.{IsInRange}
 use Rattle.amqp_model.specs.Items.{is_null_primitive}
 use Rattle.amqp_decoder.specs.State.{State}
-use Rattle.amqp_codec.specs.Faults.{Faults}
+use Rattle.amqp_codec.specs.Faults.{Faults, no_faults}
 use Rattle.amqp_codec.specs.TermType.{TermType}
 use Rattle.amqp_kinds.specs.declared.kind.Kind.{Kind}
 use Rattle.amqp_kinds.specs.KindReading.{ReadsMember}
@@ -40,15 +40,6 @@ abbrev pub reads_at : {V : Type 0} → KindMembers V → ℕ → State → V →
 reads_at no_more i st v b = ⊥
 reads_at (member m make ms) zero st v b = ReadsMember m.type.means (λ x v. v ≡ make x) st v b
 reads_at (member m make ms) (suc i) st v b = reads_at ms i st v b
-
--- what isn't asked for has no faults
-abbrev pub no_faults : Faults
-no_faults = record {
-  fault = λ st e. ⊥;
-  not_outside = λ e out st h. h;
-  fault_elsewhere = λ c st e k h. h;
-  misspelled = λ st e room i h. absurd h;
-}
 
 abbrev pub faults_at : {V : Type 0} → KindMembers V → ℕ → Faults
 faults_at no_more i = no_faults

@@ -5,7 +5,7 @@ use Rattle.amqp_lookahead.specs.Kinds.{nulls, booleans, ubytes, ushorts, uints, 
 use Rattle.amqp_lookahead.specs.Kinds.{decimals128, chars, timestamps, uuids, binaries, strings, symbols}
 use Rattle.amqp_decoder.specs.State.{State}
 use Rattle.amqp_decoder.specs.Reading.{RefusesRead}
-use Rattle.amqp_codec.specs.Faults.{Faults}
+use Rattle.amqp_codec.specs.Faults.{Faults, no_faults}
 use Rattle.amqp_codec.specs.TermType.{TermType}
 use Rattle.amqp_codec.specs.TreeType.{tree}
 use Rattle.amqp_codec.specs.PrimitiveTypes.{primitive_faults}
@@ -51,15 +51,6 @@ faults_of f kind.Described = described_faults f
 faults_of f kind.List = items_faults list_opening ValueMeans f
 faults_of f kind.Map = map_faults (value_with f) (value_with f)
 faults_of f kind.Array = items_faults array_opening ValueMeans f
-
--- Of what isn't asked for.
-abbrev pub no_faults : Faults
-no_faults = record {
-  fault = λ st e. ⊥;
-  not_outside = λ e out st h. h;
-  fault_elsewhere = λ c st e k h. h;
-  misspelled = λ st e room i h. absurd h;
-}
 
 -- Why none is read that holds fewer levels of others than so many.
 abbrev pub faults_at : ℕ → Faults

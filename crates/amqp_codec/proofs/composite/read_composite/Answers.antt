@@ -28,7 +28,7 @@ returns-in_err-end_described-clause-read g c tells =
     let names = ap₂ (λ a b. (a, b) ∷ []) c.table.ensures.code c.table.ensures.name in
     let p = err_from_is_err_and c.from_residual-in_err-end_described.result c.from_residual-in_err-end_described.ensures.1 in
     rw (p.1, p.2) (unended (composite_members t) (λ s. MeansComposite (table_of t)) (composite_is_sum t) (c.table.result.descriptor ∷ []) _
-    _ _ _ _ _ _ names (c.in_ok-begin_one_of.ensures.opened tells) (c.in_ok-value.ensures.read tells) c.in_err-end_described.ensures)
+    _ _ _ _ _ _ names (c.in_ok-begin_one_of.ensures.opened tells) (c.in_ok-value.ensures.read tells) c.in_err-end_described.ensures.read)
 
 pub returns-clause-read : goal.returns-clause-read
 returns-clause-read g c tells =
@@ -36,4 +36,4 @@ returns-clause-read g c tells =
     let names = ap₂ (λ a b. (a, b) ∷ []) c.table.ensures.code c.table.ensures.name in
     read_whole (composite_members t) (λ s. MeansComposite (table_of t)) (composite_is_sum t) (c.table.result.descriptor ∷ []) _ _ _ _ _ _
     names (c.in_ok-begin_one_of.ensures.nesting tells) (c.in_ok-begin_one_of.ensures.opened tells) (c.in_ok-value.ensures.read tells)
-    c.in_ok-end_described.ensures
+    c.in_ok-end_described.ensures.read

@@ -34,7 +34,7 @@ returns-in_err-end_described-clause-read g c tells =
     let read = c.in_ok-value.ensures few tells in
     let p = err_from_is_err_and c.from_residual-in_err-end_described.result c.from_residual-in_err-end_described.ensures.1 in
     rw (p.1, p.2)
-    (unended (members_of s.choices) (sum_of s).means (are_members s) ms _ _ _ _ _ _ _ names opened read c.in_err-end_described.ensures)
+    (unended (members_of s.choices) (sum_of s).means (are_members s) ms _ _ _ _ _ _ _ names opened read c.in_err-end_described.ensures.read)
 
 pub returns-clause-read : goal.returns-clause-read
 returns-clause-read g c tells =
@@ -45,5 +45,5 @@ returns-clause-read g c tells =
     let few = within (members_of s.choices) (sum_of s).means (are_members s) ms _ _ _ names opened in
     let read = c.in_ok-value.ensures few tells in
     let nesting = c.in_ok-place.ensures.nesting tells in
-    let ended = c.in_ok-end_described.ensures in
+    let ended = c.in_ok-end_described.ensures.read in
     read_whole (members_of s.choices) (sum_of s).means (are_members s) ms _ _ _ _ _ _ names nesting opened read ended

@@ -26,11 +26,11 @@ returns-in_err-end_described-clause-read g c tells =
     rw (p.1, p.2)
     (end_refused g.S.Section.holds g.S.Section.naming g.T.DeserializeTerm.term (c.descriptor.result ∷ []) _ _ _ names
     (c.in_ok-begin_one_of.ensures.nesting tells) (c.in_ok-begin_one_of.ensures.opened tells) _ _ _ _ (c.in_ok-value.ensures.read tells)
-    c.in_err-end_described.ensures)
+    c.in_err-end_described.ensures.read)
 
 pub returns-clause-read : goal.returns-clause-read
 returns-clause-read g c tells =
     let names = ap₂ (λ a b. (a, b) ∷ []) c.descriptor.ensures.code c.descriptor.ensures.name in
     whole_read g.S.Section.holds g.S.Section.naming g.T.DeserializeTerm.term (c.descriptor.result ∷ []) _ _ _ names
     (c.in_ok-begin_one_of.ensures.nesting tells) (c.in_ok-begin_one_of.ensures.opened tells) _ _ _ _ c.of_content.ensures
-    (c.in_ok-value.ensures.read tells) c.in_ok-end_described.ensures
+    (c.in_ok-value.ensures.read tells) c.in_ok-end_described.ensures.read

@@ -321,7 +321,7 @@ read_described-returns-in_err-end_described-clause-read g t c tells bounded =
     rw (p.1, p.2)
     (as_member IsDescribed _ _ _ _
     (reads.end_refused (value_with (faults_at c.args.levels)) _ _ _ c.begin_described.ensures.nesting opened c.in_ok-value.value _ _ _
-    value c.in_err-end_described.ensures))
+    value c.in_err-end_described.ensures.read))
 
 pub read_described-returns-in-Ok-clause-read : goal.read_described-returns-in-Ok-clause-read
 read_described-returns-in-Ok-clause-read g t c tells bounded =
@@ -335,7 +335,7 @@ read_described-returns-in-Ok-clause-read g t c tells bounded =
       described_is c.in-Ok.boxed
           ∙ ap (λ (z : Described Value). described (descriptor_of z.descriptor) (value_term z.value)) c.in-Ok.ensures.ok,
       reads.whole_read (value_with (faults_at c.args.levels)) _ _ _ _ whole c.begin_described.ensures.nesting opened
-          c.descriptor_typed.ensures value c.in_ok-end_described.ensures,
+          c.descriptor_typed.ensures value c.in_ok-end_described.ensures.read,
     )
 
 pub read_pairs-returns-in_err-key-clause-read : goal.read_pairs-returns-in_err-key-clause-read

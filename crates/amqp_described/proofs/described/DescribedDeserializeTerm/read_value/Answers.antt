@@ -20,10 +20,10 @@ returns-in_err-end_described-clause-read g c tells =
     let p = err_from_is_err_and c.from_residual-in_err-end_described.result c.from_residual-in_err-end_described.ensures.1 in
     rw (p.1, p.2)
     (end_refused g.T.DeserializeTerm.term _ _ _ c.begin_described.ensures.nesting (c.in_ok-descriptor.ensures.opened tells) _ _ _ _
-    (c.in_ok-value.ensures.read tells) c.in_err-end_described.ensures)
+    (c.in_ok-value.ensures.read tells) c.in_err-end_described.ensures.read)
 
 pub returns-clause-read : goal.returns-clause-read
 returns-clause-read g c tells =
     whole_read g.T.DeserializeTerm.term _ _ _ _ (record { descriptor = c.in_ok-descriptor.descriptor; value = c.in_ok-value.value })
     c.begin_described.ensures.nesting (c.in_ok-descriptor.ensures.opened tells) c.in_range.ensures (c.in_ok-value.ensures.read tells)
-    c.in_ok-end_described.ensures
+    c.in_ok-end_described.ensures.read
