@@ -103,10 +103,10 @@ container_items Top n h = absurd h
 container_items InDescribed n h = absurd h
 
 -- a container that is entered counts in nesting, or has no items
-pub room_inside : (o : Open) (d depth nesting : ℕ) (p : Place) (n : ℕ) → o.items ≡ items_of p n → depth ≡ d → nesting ≡ 128
-    → IsContainer p → (depth < nesting) ⊎ (n ≡ 0) → IsRoomy 128 (d + 1) o
-room_inside o d depth nesting p n is e f h (inl few) = inl (omega arith)
-room_inside o d depth nesting p n is e f h (inr none) = inr (inl (is ∙ container_items p n h ∙ ap Some none))
+pub room_inside : (o : Open) (d depth nesting limit : ℕ) (p : Place) (n : ℕ) → o.items ≡ items_of p n → depth ≡ d → nesting ≡ limit
+    → IsContainer p → (depth < nesting) ⊎ (n ≡ 0) → IsRoomy limit (d + 1) o
+room_inside o d depth nesting limit p n is e f h (inl few) = inl (omega arith)
+room_inside o d depth nesting limit p n is e f h (inr none) = inr (inl (is ∙ container_items p n h ∙ ap Some none))
 
 none_less : (p : Place) (i k : ℕ) → k ≡ i - 1 → items_of p i ≡ Some 0 → items_of p k ≡ Some 0
 none_less Top i k less e = absurd (cc)
@@ -115,11 +115,11 @@ none_less InMap i k less e = ap Some (omega (arith, ap (λ o. unwrap_or o 0) e))
 none_less InArray i k less e = ap Some (omega (arith, ap (λ o. unwrap_or o 0) e))
 none_less InDescribed i k less e = ap Some (omega (arith, ap (λ o. unwrap_or o 0) e))
 
-pub room_less : (ds : DescriptorValues) (d : ℕ) (f : OpenContainer) (k : ℕ) → k ≡ f.items - 1 → IsRoomy 128 d (open_of ds f)
-    → IsRoomy 128 d (open_of ds (record f { items = k }))
-room_less ds d f k less (inl few) = inl few
-room_less ds d f k less (inr (inl none)) = inr (inl (none_less f.place f.items k less none))
-room_less ds d f k less (inr (inr flat)) = inr (inr flat)
+pub room_less : (limit : ℕ) (ds : DescriptorValues) (d : ℕ) (f : OpenContainer) (k : ℕ) → k ≡ f.items - 1 → IsRoomy limit d (open_of ds f)
+    → IsRoomy limit d (open_of ds (record f { items = k }))
+room_less limit ds d f k less (inl few) = inl few
+room_less limit ds d f k less (inr (inl none)) = inr (inl (none_less f.place f.items k less none))
+room_less limit ds d f k less (inr (inr flat)) = inr (inr flat)
 
 level_of : (p : Place) (i : ℕ) (l : Option ℕ) (c : ℕ) (part : DescriptorValues) → p ≡ Top → l ≡ None → c ≡ 0
     → ◌≡◌ {A = Open} (record { place = p; items = items_of p i; left = l; shared = cond (eqb c 0) None (Some (map descriptor_of part, c)) })

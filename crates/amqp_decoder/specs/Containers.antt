@@ -5,10 +5,10 @@ use Rattle.amqp_model.specs.Term.{Container, list, map, array}
 use Rattle.amqp_model.specs.Constructors.{compound, format}
 use Rattle.amqp_wire.specs.Codes.{refusal_of}
 use Rattle.amqp_wire.specs.declared.error.Error.{Error}
-use Rattle.amqp_wire.specs.declared.error.Error.TheVariants.{Surplus, InvalidValue, OddCount, Depth}
+use Rattle.amqp_wire.specs.declared.error.Error.TheVariants.{Surplus, InvalidValue, OddCount}
 use Rattle.amqp_decoder.specs.declared.frame.Place.{Place}
 use Rattle.amqp_decoder.specs.declared.frame.Place.TheVariants.{InList, InMap, InArray}
-use Rattle.amqp_decoder.specs.State.{Open, State, Has, in_container}
+use Rattle.amqp_decoder.specs.State.{Open, State, depth_error, Has, in_container}
 use Rattle.amqp_decoder.specs.Steps.{SizeError, Takes, Lacks, NoRoom}
 use Rattle.amqp_decoder.specs.Reading.{ReadsCode, BeginFault}
 
@@ -106,7 +106,7 @@ pub data HeaderFault (listed : Bool) (width : ℕ) (st : State) (e : Error) : Ty
 
 -- Why a container of so many bytes can't be opened.
 abbrev pub Unopened : ℕ → State → Error → Type 0
-Unopened content st e = NoRoom content st e ⊎ (Has st.top.left content × (st.nesting ≤ length st.saved) × (e ≡ Depth))
+Unopened content st e = NoRoom content st e ⊎ (Has st.top.left content × (st.nesting ≤ length st.saved) × (e ≡ depth_error st.nesting))
 
 -- The data of a container of n items stood next, as far as its items, and it was entered.
 pub record Enters (kind : Container) (width : ℕ) (st : State) (n : ℕ) (st' : State) : Type 0 where
@@ -126,7 +126,7 @@ pub data EnterFault (kind : Container) (width : ℕ) (st : State) (e : Error) : 
   no_room : {n content : ℕ} {m : State} → ReadsHeader (is_list kind) width st n content m → IsCount kind n → NoRoom content m e
       → EnterFault kind width st e
   too_deep : {n content : ℕ} {m : State} → ReadsHeader (is_list kind) width st n content m → IsCount kind n → Has m.top.left content
-      → st.nesting ≤ length st.saved → e ≡ Depth → EnterFault kind width st e
+      → st.nesting ≤ length st.saved → e ≡ depth_error st.nesting → EnterFault kind width st e
 
 -- A container of this kind and of n items stood next, as far as its items, and it was entered.
 pub record Opens (kind : Container) (st : State) (n : ℕ) (st' : State) : Type 0 where

@@ -1,8 +1,9 @@
 -- What a decoder has before it.
-use Rattle.std.specs.Prelude.{◌≡◌, ℕ, zero, suc, ◌+◌, ◌-◌, ◌≤◌, Bool, cond, eqb, List, [], ◌∷◌, take, drop, map, get_or, max, Option, Some}
+use Rattle.std.specs.Prelude.{◌≡◌, ℕ, zero, suc, ◌+◌, ◌-◌, ◌≤◌, Bool, cond, eqb, nat_lt, List, [], ◌∷◌, take, drop, map, get_or, max, Option, Some}
 use Rattle.std.specs.Prelude.{None, unwrap_or}
 use Rattle.amqp_model.specs.Term.{Descriptor}
 use Rattle.amqp_wire.specs.declared.error.Error.{Error}
+use Rattle.amqp_wire.specs.declared.error.Error.TheVariants.{Depth, Limit}
 use Rattle.amqp_wire.specs.declared.descriptor.Descriptor.{Descriptor as DescriptorValue}
 pub use Rattle.amqp_lookahead.specs.Members.{descriptor_of}
 use Rattle.amqp_decoder.specs.declared.frame.OpenContainer.{OpenContainer}
@@ -23,7 +24,7 @@ pub record Open : Type 0 where
 -- source: the borrow that the source is
 -- top: the open container that values are read from
 -- saved: the containers around it, the nearest first, as they will be once the inner one is closed
--- nesting: how many containers and described values may be nested
+-- nesting: how many containers and described values may be nested, at most 128
 -- error: what was refused
 -- failed: the source has failed
 pub record State : Type 0 where
@@ -35,6 +36,10 @@ pub record State : Type 0 where
   pub nesting : ℕ
   pub error : Option Error
   pub failed : Bool
+
+-- The error for a value that nests deeper: below 128, that is a limit of the caller.
+abbrev pub depth_error : ℕ → Error
+depth_error nesting = cond (nat_lt nesting 128) Limit Depth
 
 -- The top level, where nothing is bounded.
 abbrev pub top_level : Open

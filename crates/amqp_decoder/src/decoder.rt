@@ -15,7 +15,7 @@ mod shared;
 use crate::frame::OpenContainer;
 use amqp_lookahead::Input;
 use amqp_wire::nesting::LEVELS;
-use amqp_wire::{ByteSource, Descriptor, Error};
+use amqp_wire::{ByteSource, Descriptor, Error, Limits};
 use std::alloc::Global;
 use std::marker::Model;
 
@@ -31,12 +31,13 @@ pub struct Decoder<R: ByteSource> {
     top: OpenContainer,
     error: Option<Error>,
     depth: usize,
+    nesting: usize,
     descriptors: Vec<Descriptor>,
     frames: [OpenContainer; LEVELS],
 }
 
 impl<R: ByteSource> Model for Decoder<R> {
-    ghost use Rattle.std.specs.Prelude.{◌≤◌, vec_len};
+    ghost use Rattle.std.specs.Prelude.{◌≤◌, ◌+◌, vec_len};
     ghost use Rattle.amqp_decoder.specs.State.{State, stack, open_of, AreNested, IsLevel, AreBounded};
     ghost use Rattle.amqp_decoder.specs.Rooms.{IsRoomy};
 
@@ -48,13 +49,14 @@ impl<R: ByteSource> Model for Decoder<R> {
       source = d.input.source;
       top = open_of d.descriptors.items d.top;
       saved = stack d.descriptors.items d.depth d.frames;
-      nesting = 128;
+      nesting = d.nesting;
       error = d.error;
       failed = d.input.failed;
     } };
 
-    ghost invariant = { λ d. (d.depth ≤ 129) × AreNested d.depth d.frames d.top.last × (d.top.last ≤ vec_len d.descriptors) × IsLevel d.top
-        × AreBounded d.depth d.frames d.top.place d.top.left × IsRoomy 128 d.depth (open_of d.descriptors.items d.top) };
+    ghost invariant = { λ d. (d.depth ≤ d.nesting + 1) × AreNested d.depth d.frames d.top.last × (d.top.last ≤ vec_len d.descriptors) × IsLevel d.top
+        × AreBounded d.depth d.frames d.top.place d.top.left × IsRoomy d.nesting d.depth (open_of d.descriptors.items d.top)
+        × (d.nesting ≤ 128) };
 }
 
 impl<R: ByteSource> Decoder<R> {
@@ -92,7 +94,7 @@ impl<R: ByteSource> Decoder<R> {
     }
 }
 
-/// A decoder of the source's bytes, at the top level.
+/// A decoder of the source's bytes, at the top level, which reads all that nests at most 128 deep.
 pub fn decoder_of<R: ByteSource>(source: R, alloc: Global) -> Decoder<R>
     ensures { result ≡ record {
       rest = known (R.remaining source);
@@ -105,11 +107,28 @@ pub fn decoder_of<R: ByteSource>(source: R, alloc: Global) -> Decoder<R>
       failed = R.failed source;
     } }
 {
+    decoder_within(source, &Limits::greatest(), alloc)
+}
+
+/// A decoder of the source's bytes, at the top level, within these limits.
+pub fn decoder_within<R: ByteSource>(source: R, limits: &Limits, alloc: Global) -> Decoder<R>
+    ensures { result ≡ record {
+      rest = known (R.remaining source);
+      ahead = 0;
+      source = R.name source;
+      top = top_level;
+      saved = [];
+      nesting = limits.now.nesting;
+      error = None;
+      failed = R.failed source;
+    } }
+{
     Decoder {
         input: Input::new(source),
         top: OpenContainer::TOP,
         error: None,
         depth: 0,
+        nesting: limits.nesting() as usize,
         descriptors: Vec::new(alloc),
         frames: [OpenContainer::TOP; LEVELS],
     }

@@ -15,7 +15,8 @@ invariant_of-self g c =
       omega (arith, c.self.invariant.2),
       c.self.invariant.3,
       c.self.invariant.4,
-      subst (IsRoomy 128 c.self.inside.depth) (sym (open_kept _ _ n c.self.inside.top (omega arith) front)) c.self.invariant.5,
+      subst (IsRoomy c.self.inside.nesting c.self.inside.depth) (sym (open_kept _ _ n c.self.inside.top (omega arith) front)) c.self.invariant.5,
+      c.self.invariant.6,
     )
 
 pub returns : goal.returns

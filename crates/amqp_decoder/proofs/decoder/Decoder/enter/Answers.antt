@@ -9,14 +9,20 @@ invariant_of-self g c =
     let inner : IsContainer c.args.inner.place = c.requires.container in
     let deep : length c.args.self.now.saved ≡ c.self.inside.depth =
     ap (λ (st : State). length st.saved) (sym c.self.view_is) ∙ length-stack _ _ _ in
-    let limit : c.args.self.now.nesting ≡ 128 = ap (λ (st : State). st.nesting) (sym c.self.view_is) in (
+    let limit : c.args.self.now.nesting ≡ c.self.inside.nesting = ap (λ (st : State). st.nesting) (sym c.self.view_is) in (
       omega arith,
       nested_push _ _ _ few c.self.invariant.1,
       c.self.invariant.2,
       λ e. absurd (subst IsContainer e inner),
       bounded_push _ _ _ _ _ few (λ e. absurd (subst IsContainer e inner)) c.self.invariant.3 c.self.invariant.4,
-      room_inside (unshared c.args.inner) _ _ _ c.args.inner.place c.args.inner.items refl deep limit inner c.requires.room,
+      room_inside (unshared c.args.inner) _ _ _ _ c.args.inner.place c.args.inner.items refl deep limit inner c.requires.room,
+      c.self.invariant.6,
     )
+
+pub returns-then-self-clause-err : goal.returns-then-self-clause-err
+returns-then-self-clause-err g c =
+    let deep : c.args.self.now.nesting < length c.args.self.now.saved = rw (← c.self.view_is, length-stack) (omega arith) in
+    (c.refuse_depth.ensures.answer, deep, c.refuse_depth.ensures.kept)
 
 pub returns-clause-ok : goal.returns-clause-ok
 returns-clause-ok g c =

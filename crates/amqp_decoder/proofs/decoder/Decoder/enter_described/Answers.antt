@@ -15,15 +15,16 @@ invariant_of-self g c =
       bounded_push _ _ outer _ _ few (λ e n. none_and _ (sym c.and.ensures ∙ n))
           (λ e. (kept (c.self.invariant.3 e).0, (c.self.invariant.3 e).1)) (bounded_as _ _ _ _ _ _ (λ e. (e, kept)) c.self.invariant.4),
       inl (omega arith),
+      c.self.invariant.6,
     )
 
 pub returns-clause-err : goal.returns-clause-err
 returns-clause-err g c =
     let deep : c.args.self.now.nesting ≤ length c.args.self.now.saved = rw (← c.self.view_is, length-stack) (omega arith) in
-    (c.stop.ensures.answer, deep, c.stop.ensures.kept)
+    (c.refuse_depth.ensures.answer, deep, c.refuse_depth.ensures.kept)
 
-pub returns-then-self-lt-NESTING-clause-ok : goal.returns-then-self-lt-NESTING-clause-ok
-returns-then-self-lt-NESTING-clause-ok g c =
+pub returns-then-self-clause-ok : goal.returns-then-self-clause-ok
+returns-then-self-clause-ok g c =
     let few : c.self.inside.depth < length c.self.inside.frames = omega arith in
     let pushed =
     stack-push c.self.inside.descriptors.items c.self.inside.depth c.self.inside.frames
@@ -33,7 +34,7 @@ returns-then-self-lt-NESTING-clause-ok g c =
     rw (← c.self.view_is, length-stack, pushed, rest, c.and.ensures, and_none) (omega arith, refl)
 
 pub returns-clause-nesting : goal.returns-clause-nesting
-returns-clause-nesting g c = rw (← c.self.view_is) refl
+returns-clause-nesting g c = rw (← c.self.view_is) c.self.invariant.6
 
-pub returns-then-self-lt-NESTING-clause-nesting : goal.returns-then-self-lt-NESTING-clause-nesting
-returns-then-self-lt-NESTING-clause-nesting g c = rw (← c.self.view_is) refl
+pub returns-then-self-clause-nesting : goal.returns-then-self-clause-nesting
+returns-then-self-clause-nesting g c = rw (← c.self.view_is) c.self.invariant.6

@@ -15,4 +15,5 @@ invariant_of-self g c =
       λ top. (outer.1.0 described (outer.1.1 top).0, (outer.1.1 top).1),
       bounded_as _ _ _ _ _ _ (λ e. (e, outer.1.0 described)) outer.1.2,
       inl (omega arith),
+      c.self.invariant.6,
     )

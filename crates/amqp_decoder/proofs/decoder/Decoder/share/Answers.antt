@@ -26,6 +26,7 @@ invariant_of-self g c =
       λ e. absurd (cc),
       bounded_as _ _ _ _ _ _ (λ e. absurd (cc)) c.self.invariant.4,
       inr (inl refl),
+      c.self.invariant.6,
     )
 
 pub invariant_of-self-2 : goal.invariant_of-self-2
@@ -38,7 +39,7 @@ invariant_of-self-2 g c =
     c.self.invariant.1 (omega (arith, c.self.invariant.2)) (omega arith) c.descriptors_in-first.ensures (search rules)
     c.requires.coded (omega arith) in
     let deep : length c.args.self.now.saved ≡ d = ap (λ (st : State). length st.saved) (sym c.self.view_is) ∙ length-stack _ _ _ in
-    let limit : c.args.self.now.nesting ≡ 128 = ap (λ (st : State). st.nesting) (sym c.self.view_is) in (
+    let limit : c.args.self.now.nesting ≡ c.self.inside.nesting = ap (λ (st : State). st.nesting) (sym c.self.view_is) in (
       c.self.invariant.0,
       nested_last _ _ _ _ c.self.invariant.1 (omega (arith, put.0)) (omega (arith, put.0, c.requires.few)),
       search rules,
@@ -48,6 +49,7 @@ invariant_of-self-2 g c =
         | inl flat ↦ inr (inr (subst HasFlatItems (sym put.1) flat))
         | inr fits ↦ inl (omega (arith, deep, limit, fits))
       ],
+      c.self.invariant.6,
     )
 
 pub returns-clause-ok : goal.returns-clause-ok
