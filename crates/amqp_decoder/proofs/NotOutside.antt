@@ -9,7 +9,7 @@ use Rattle.amqp_wire.specs.declared.error.Error.{Error}
 use Rattle.amqp_decoder.specs.declared.frame.Place.{Place}
 use Rattle.amqp_decoder.specs.declared.frame.Place.TheVariants.{InArray}
 use Rattle.amqp_decoder.specs.State.{State, depth_error, in_container}
-use Rattle.amqp_decoder.specs.Steps.{Fails, IsOutside, IsReadError, Lacks, cut_open, cut_inside, too_long, SizeError, cut, wrong}
+use Rattle.amqp_decoder.specs.Steps.{Fails, IsOutside, IsReadError, Lacks, cut_open, past_limit, cut_inside, too_long, SizeError, cut, wrong, past}
 use Rattle.amqp_decoder.specs.Misspelled.{IsMisspelling}
 use Rattle.amqp_decoder.specs.Reading.{BeginFault, missing, no_code}
 use Rattle.amqp_decoder.specs.Primitives.{LacksData, PrimitiveFault, not_begun, wrong_code, no_data, bad_data}
@@ -74,13 +74,15 @@ bad_by false false false true h = h
 bad_by false false false false h = h
 
 lacks_not_outside : {e : Error} → IsOutside e → (n : ℕ) (st : State) → Lacks n st e → ⊥
-lacks_not_outside out n st (cut_open h l is) = subst IsOutside is out
+lacks_not_outside out n st (cut_open h f l is) = subst IsOutside is out
+lacks_not_outside out n st (past_limit h f is) = subst IsOutside is out
 lacks_not_outside out n st (cut_inside h w l is) = subst IsOutside is out
 lacks_not_outside out n st (too_long h l t is) = subst IsOutside is out
 
 size_not_outside : {e : Error} → IsOutside e → (own : ℕ) (st : State) → SizeError own st e → ⊥
-size_not_outside out own st (cut l is) = subst IsOutside is out
-size_not_outside out own st (wrong l is) = subst IsOutside is out
+size_not_outside out own st (cut f l is) = subst IsOutside is out
+size_not_outside out own st (wrong f l is) = subst IsOutside is out
+size_not_outside out own st (past b f is) = subst IsOutside is out
 
 pub begin_not_outside : {e : Error} → IsOutside e → (st : State) → BeginFault st e → ⊥
 begin_not_outside out st (missing h is) = subst IsOutside is out

@@ -8,7 +8,7 @@ use Rattle.amqp_wire.specs.declared.error.Error.{Error}
 use Rattle.amqp_wire.specs.declared.error.Error.TheVariants.{Surplus, InvalidValue, OddCount}
 use Rattle.amqp_decoder.specs.declared.frame.Place.{Place}
 use Rattle.amqp_decoder.specs.declared.frame.Place.TheVariants.{InList, InMap, InArray}
-use Rattle.amqp_decoder.specs.State.{Open, State, depth_error, Has, in_container}
+use Rattle.amqp_decoder.specs.State.{Open, State, depth_error, Has, bound_of, in_container}
 use Rattle.amqp_decoder.specs.Steps.{SizeError, Takes, Lacks, NoRoom}
 use Rattle.amqp_decoder.specs.Reading.{ReadsCode, BeginFault}
 
@@ -40,7 +40,7 @@ pub record Closes (place : Place) (st : State) (st' : State) : Type 0 where
   pub going : st.error ≡ None
   pub here : st.top.place ≡ place
   pub items : st.top.items ≡ Some 0
-  pub left : st.top.left ≡ Some 0
+  pub left : bound_of st.top ≡ Some 0
   pub outer : Open
   pub others : List Open
   pub saved : st.saved ≡ outer ∷ others
@@ -49,7 +49,7 @@ pub record Closes (place : Place) (st : State) (st' : State) : Type 0 where
 -- Why none is left: it isn't at its end, or it is, and bytes of it are left.
 pub data CloseFault (place : Place) (st : State) (e : Error) : Type 0 where
   not_at_end : EndFault place st e → CloseFault place st e
-  bytes_left_over : IsOpen place st → st.top.items ≡ Some 0 → (st.top.left ≡ Some 0 → ⊥) → SizeError 0 st e → CloseFault place st e
+  bytes_left_over : IsOpen place st → st.top.items ≡ Some 0 → (bound_of st.top ≡ Some 0 → ⊥) → SizeError 0 st e → CloseFault place st e
 
 -- The value behind a descriptor was taken: what it stands in has the bytes that are left.
 pub record ClosesDescribed (place : Place) (st : State) (st' : State) : Type 0 where
@@ -59,7 +59,7 @@ pub record ClosesDescribed (place : Place) (st : State) (st' : State) : Type 0 w
   pub outer : Open
   pub others : List Open
   pub saved : st.saved ≡ outer ∷ others
-  pub moved : st' ≡ record st { top = record outer { left = st.top.left }; saved = others }
+  pub moved : st' ≡ record st { top = record outer { left = st.top.left; sized = st.top.sized }; saved = others }
 
 -- Where the items of a container stand.
 abbrev pub place_of : Container → Place

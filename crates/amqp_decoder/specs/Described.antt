@@ -40,7 +40,7 @@ behind o = option_map (λ shared. (drop 1 shared.0, shared.1)) o
 -- ends.
 abbrev pub in_described : State → State
 in_described st = record st {
-  top = record { place = InDescribed; items = Some 1; left = st.top.left; shared = behind st.top.shared };
+  top = record { place = InDescribed; items = Some 1; left = st.top.left; sized = st.top.sized; shared = behind st.top.shared };
   saved = (record st.top { left = option_map (λ l. 0) st.top.left }) ∷ st.saved;
 }
 

@@ -10,7 +10,7 @@ use Rattle.amqp_lookahead.specs.Members.{Member}
 use Rattle.amqp_decoder.specs.declared.frame.Place.{Place}
 use Rattle.amqp_decoder.specs.declared.frame.Place.TheVariants.{InArray}
 use Rattle.amqp_decoder.specs.State.{State, depth_error, in_container}
-use Rattle.amqp_decoder.specs.Steps.{Takes, Lacks, cut_open, cut_inside, too_long, SizeError, cut, wrong, NoRoom}
+use Rattle.amqp_decoder.specs.Steps.{Takes, Lacks, cut_open, past_limit, cut_inside, too_long, SizeError, cut, wrong, past, NoRoom}
 use Rattle.amqp_decoder.specs.Reading.{ReadsCode, BeginFault, missing, no_code, after_peek, PeeksCode}
 use Rattle.amqp_decoder.specs.Primitives.{Stands, ReadsValue, LacksData, PrimitiveFault, not_begun, wrong_code, no_data, bad_data}
 use Rattle.amqp_decoder.specs.Containers as containers
@@ -102,13 +102,15 @@ module _ (c : Setting) where
   value means h = record { bytes = h.bytes; term = h.term; stands = stands h.stands; moved = ap at h.moved; meant = h.meant }
 
   lacks : {n : ℕ} {st : State} {e : Error} → Lacks n st e → Lacks n (at st) e
-  lacks (cut_open l r e) = cut_open l r e
+  lacks (cut_open l h r e) = cut_open l h r e
+  lacks (past_limit l h e) = past_limit l h e
   lacks (cut_inside l r a e) = cut_inside l r a e
   lacks (too_long l r a e) = too_long l r a e
 
   size_error : {n : ℕ} {st : State} {e : Error} → SizeError n st e → SizeError n (at st) e
-  size_error (cut l e) = cut l e
-  size_error (wrong l e) = wrong l e
+  size_error (cut h l e) = cut h l e
+  size_error (wrong h l e) = wrong h l e
+  size_error (past b h e) = past b h e
 
   room_fault : {n : ℕ} {st : State} {e : Error} → NoRoom n st e → NoRoom n (at st) e
   room_fault h = record { less = h.less; why = size_error h.why }

@@ -18,7 +18,7 @@ ghost use Rattle.amqp_decoder.specs.Arrays.{TakesConstructor, ConstructorFault, 
 ghost use Rattle.amqp_decoder.specs.Arrays.{OpensArray, ArrayFault};
 
 use crate::Decoder;
-use crate::frame::{OpenContainer, Place};
+use crate::frame::Place;
 use amqp_wire::nesting::NESTING;
 use amqp_wire::{ByteSource, Descriptor, Error, format_code};
 use std::alloc::Global;
@@ -118,13 +118,7 @@ impl<R: ByteSource> Decoder<R> {
         ensures goes { Goes false self.old result self.new }
     {
         self.lower(content)?;
-        let inner = OpenContainer {
-            items: 0,
-            left: Some(content),
-            place: Place::InArray,
-            ..OpenContainer::TOP
-        };
-        self.enter(inner)
+        self.enter(Place::InArray, 0, content)
     }
 
     // Opens an array whose code was taken.

@@ -2,6 +2,7 @@
 ghost use Rattle.std.specs.Prelude.{◌≡◌, [], length, drop, false, Some, None, MatchResult};
 ghost use Rattle.amqp_wire.specs.Sources.{known};
 ghost use Rattle.amqp_decoder.specs.State.{top_level};
+ghost use Rattle.amqp_wire.specs.Limits.{limit_of};
 ghost use Rattle.amqp_decoder.specs.Rooms.{HasRoom};
 ghost use Rattle.amqp_decoder.specs.Steps.{RefusesBy};
 ghost use Rattle.amqp_wire.specs.declared.error.Error.{Error};
@@ -32,13 +33,15 @@ pub struct Decoder<R: ByteSource> {
     error: Option<Error>,
     depth: usize,
     nesting: usize,
+    bytes: u64,
     descriptors: Vec<Descriptor>,
     frames: [OpenContainer; LEVELS],
 }
 
 impl<R: ByteSource> Model for Decoder<R> {
     ghost use Rattle.std.specs.Prelude.{◌≤◌, ◌+◌, vec_len};
-    ghost use Rattle.amqp_decoder.specs.State.{State, stack, open_of, AreNested, IsLevel, AreBounded};
+    ghost use Rattle.amqp_decoder.specs.State.{State, stack, open_of, limit_around, AreNested, IsLevel, AreBounded};
+    ghost use Rattle.amqp_wire.specs.Limits.{limit_of};
     ghost use Rattle.amqp_decoder.specs.Rooms.{IsRoomy};
 
     ghost Value = { State };
@@ -47,15 +50,15 @@ impl<R: ByteSource> Model for Decoder<R> {
       rest = d.input.rest;
       ahead = d.input.ahead;
       source = d.input.source;
-      top = open_of d.descriptors.items d.top;
-      saved = stack d.descriptors.items d.depth d.frames;
+      top = open_of d.descriptors.items (limit_of d.bytes) d.top;
+      saved = stack d.descriptors.items (limit_around d.top.left (limit_of d.bytes)) d.depth d.frames;
       nesting = d.nesting;
       error = d.error;
       failed = d.input.failed;
     } };
 
     ghost invariant = { λ d. (d.depth ≤ d.nesting + 1) × AreNested d.depth d.frames d.top.last × (d.top.last ≤ vec_len d.descriptors) × IsLevel d.top
-        × AreBounded d.depth d.frames d.top.place d.top.left × IsRoomy d.nesting d.depth (open_of d.descriptors.items d.top)
+        × AreBounded d.depth d.frames d.top.place d.top.left × IsRoomy d.nesting d.depth (open_of d.descriptors.items (limit_of d.bytes) d.top)
         × (d.nesting ≤ 128) };
 }
 
@@ -100,7 +103,7 @@ pub fn decoder_of<R: ByteSource>(source: R, alloc: Global) -> Decoder<R>
       rest = known (R.remaining source);
       ahead = 0;
       source = R.name source;
-      top = top_level;
+      top = top_level None;
       saved = [];
       nesting = 128;
       error = None;
@@ -116,7 +119,7 @@ pub fn decoder_within<R: ByteSource>(source: R, limits: &Limits, alloc: Global) 
       rest = known (R.remaining source);
       ahead = 0;
       source = R.name source;
-      top = top_level;
+      top = top_level (limit_of limits.now.bytes);
       saved = [];
       nesting = limits.now.nesting;
       error = None;
@@ -129,6 +132,7 @@ pub fn decoder_within<R: ByteSource>(source: R, limits: &Limits, alloc: Global) 
         error: None,
         depth: 0,
         nesting: limits.nesting() as usize,
+        bytes: limits.bytes(),
         descriptors: Vec::new(alloc),
         frames: [OpenContainer::TOP; LEVELS],
     }

@@ -3,7 +3,7 @@ ghost use Rattle.std.specs.Prelude.{◌≤◌, ◌≡◌, ◌<◌, ◌-◌, List
 ghost use Rattle.amqp_wire.specs.Sources.{Tells};
 ghost use Rattle.amqp_decoder.specs.Containers.{AtEnd, EndFault};
 ghost use Rattle.amqp_decoder.specs.Described.{in_described};
-ghost use Rattle.amqp_decoder.specs.State.{Open, depth_error, IsContainer, unshared};
+ghost use Rattle.amqp_decoder.specs.State.{Open, bound_of, depth_error, holding, IsContainer};
 ghost use Rattle.amqp_decoder.specs.declared.frame.Place.TheVariants.{InDescribed};
 ghost use Rattle.amqp_decoder.specs.Reading.{AnswersRead};
 ghost use Rattle.amqp_decoder.specs.Rooms.{HasRoom};
@@ -64,13 +64,13 @@ impl<R: ByteSource> Decoder<R> {
         self.stop(error)
     }
 
-    // Opens a container whose items share nothing.
+    // Opens a container of so many items in so many bytes, which share nothing.
     #[inline]
-    pub(crate) fn enter(&mut self, inner: OpenContainer) -> Result<(), Error>
-        requires container { IsContainer inner.place }
-        requires room { (length self.old.saved < self.old.nesting) ⊎ (inner.items ≡ 0) }
+    pub(crate) fn enter(&mut self, place: Place, items: u32, content: u32) -> Result<(), Error>
+        requires container { IsContainer place }
+        requires room { (length self.old.saved < self.old.nesting) ⊎ (items ≡ 0) }
         ensures ok { IfOk result (λ _. (length self.old.saved ≤ self.old.nesting)
-            × (self.new ≡ record self.old { top = unshared inner; saved = self.old.top ∷ self.old.saved })) }
+            × (self.new ≡ record self.old { top = holding place items content; saved = self.old.top ∷ self.old.saved })) }
         ensures err { IfErr result (λ e. (e ≡ depth_error self.old.nesting) × (self.old.nesting < length self.old.saved)
             × (self.new ≡ record self.old { error = Some (depth_error self.old.nesting) })) }
         ensures goes { Goes false self.old result self.new }
@@ -82,20 +82,27 @@ impl<R: ByteSource> Decoder<R> {
         self.frames[self.depth] = self.top;
         self.depth += 1;
         self.top = OpenContainer {
+            items,
+            left: Some(content),
+            place,
             code: 0,
             first: last,
             last,
-            ..inner
         };
         Ok(())
     }
 
     // Opens a container that counts in nesting.
     #[inline]
-    pub(crate) fn enter_counted(&mut self, inner: OpenContainer) -> Result<(), Error>
-        requires { IsContainer inner.place }
+    pub(crate) fn enter_counted(
+        &mut self,
+        place: Place,
+        items: u32,
+        content: u32,
+    ) -> Result<(), Error>
+        requires { IsContainer place }
         ensures ok { IfOk result (λ _. (length self.old.saved < self.old.nesting)
-            × (self.new ≡ record self.old { top = unshared inner; saved = self.old.top ∷ self.old.saved })) }
+            × (self.new ≡ record self.old { top = holding place items content; saved = self.old.top ∷ self.old.saved })) }
         ensures err { IfErr result (λ e. (e ≡ depth_error self.old.nesting) × (self.old.nesting ≤ length self.old.saved)
             × (self.new ≡ record self.old { error = Some (depth_error self.old.nesting) })) }
         ensures goes { Goes false self.old result self.new }
@@ -103,7 +110,7 @@ impl<R: ByteSource> Decoder<R> {
         if self.depth >= self.nesting {
             return Err(self.refuse_depth());
         }
-        self.enter(inner)
+        self.enter(place, items, content)
     }
 
     // An array's items that hold others, or are described, count in nesting.
@@ -181,8 +188,8 @@ impl<R: ByteSource> Decoder<R> {
     // No byte of the open container is left.
     #[inline]
     pub(crate) fn check_bytes(&mut self) -> Result<(), Error>
-        ensures ok { IfOk result (λ _. (self.old.top.left ≡ Some 0) × (self.new ≡ self.old)) }
-        ensures err { Tells R.remaining → IfErr result (λ e. (self.old.top.left ≡ Some 0 → ⊥) × RefusesSize 0 self.old e self.new) }
+        ensures ok { IfOk result (λ _. (bound_of self.old.top ≡ Some 0) × (self.new ≡ self.old)) }
+        ensures err { Tells R.remaining → IfErr result (λ e. (bound_of self.old.top ≡ Some 0 → ⊥) × RefusesSize 0 self.old e self.new) }
         ensures goes { Goes false self.old result self.new }
     {
         if self.left() != Some(0) {
@@ -191,17 +198,19 @@ impl<R: ByteSource> Decoder<R> {
         Ok(())
     }
 
-    // Leaves the open container.
+    // Leaves the open container, of which no byte is left.
     #[inline]
     pub(crate) fn leave(&mut self)
+        requires { bound_of self.old.top ≡ Some 0 }
         ensures left { (outer : Open) (others : List Open) → self.old.saved ≡ outer ∷ others
             → self.new ≡ record self.old { top = outer; saved = others } }
         ensures goes { GoesOn self.old self.new }
     {
-        if self.depth > 0 {
-            self.depth -= 1;
-            self.top = self.frames[self.depth];
+        if self.depth == 0 {
+            return;
         }
+        self.depth -= 1;
+        self.top = self.frames[self.depth];
     }
 
     // Leaves a described value, whose bytes are those of what it stands in.
@@ -209,15 +218,16 @@ impl<R: ByteSource> Decoder<R> {
     pub(crate) fn leave_described(&mut self)
         requires { self.old.top.place ≡ InDescribed }
         ensures left { (outer : Open) (others : List Open) → self.old.saved ≡ outer ∷ others
-            → self.new ≡ record self.old { top = record outer { left = self.old.top.left }; saved = others } }
+            → self.new ≡ record self.old { top = record outer { left = self.old.top.left; sized = self.old.top.sized }; saved = others } }
         ensures goes { GoesOn self.old self.new }
     {
-        if self.depth > 0 {
-            self.depth -= 1;
-            self.top = OpenContainer {
-                left: self.top.left,
-                ..self.frames[self.depth]
-            };
+        if self.depth == 0 {
+            return;
         }
+        self.depth -= 1;
+        self.top = OpenContainer {
+            left: self.top.left,
+            ..self.frames[self.depth]
+        };
     }
 }

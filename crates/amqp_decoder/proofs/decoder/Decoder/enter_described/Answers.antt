@@ -1,6 +1,7 @@
 use Rattle.std.proofs.Common.{arith, ◌≡◌, ◌≤◌, ◌<◌, length, refl, None, Some, ap, sym, ◌∙◌, inl}
 use Rattle.std.specs.Option.{option_and}
-use Rattle.amqp_decoder.proofs.Rows.{length-stack, stack-push, nested_push, bounded_push, bounded_as, shared_behind, and_none, none_and}
+use Rattle.amqp_wire.specs.Limits.{limit_of}
+use Rattle.amqp_decoder.proofs.Rows.{length-stack, described_push, nested_push, bounded_push, bounded_as, shared_behind, none_and}
 use Rattle.amqp_decoder.proofs.decoder.Decoder.enter_described.Goals as goal
 
 pub invariant_of-self : goal.invariant_of-self
@@ -27,11 +28,11 @@ pub returns-then-self-clause-ok : goal.returns-then-self-clause-ok
 returns-then-self-clause-ok g c =
     let few : c.self.inside.depth < length c.self.inside.frames = omega arith in
     let pushed =
-    stack-push c.self.inside.descriptors.items c.self.inside.depth c.self.inside.frames
-    (record c.self.inside.top { left = c.and.result }) few in
+    described_push c.self.inside.descriptors.items (limit_of c.self.inside.bytes) c.self.inside.depth c.self.inside.frames c.self.inside.top
+    c.and.result few c.and.ensures in
     let rest = shared_behind c.self.inside.descriptors.items c.self.inside.top.code c.self.inside.top.first c.saturating_add.result
     c.self.inside.top.last (omega (arith, c.saturating_add.ensures)) (λ h. omega (arith, c.saturating_add.ensures)) in
-    rw (← c.self.view_is, length-stack, pushed, rest, c.and.ensures, and_none) (omega arith, refl)
+    rw (← c.self.view_is, length-stack, pushed, rest) (omega arith, refl)
 
 pub returns-clause-nesting : goal.returns-clause-nesting
 returns-clause-nesting g c = rw (← c.self.view_is) c.self.invariant.6
