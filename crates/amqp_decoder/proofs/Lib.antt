@@ -23,3 +23,4 @@ pub mod SizedTexts
 pub mod Steps
 pub mod TermErrors
 pub mod TopLevel
+pub mod Within
