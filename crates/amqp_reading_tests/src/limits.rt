@@ -127,7 +127,7 @@ fn bytes_of_a_reader(rt: HostRuntime) {
         let mut decoder = decoder_within(Dripping::new(NESTED, 100), &limits, alloc);
         assert_eq!(rt; read_nested(&mut decoder, alloc), Err(Error::Limit));
         let left = source_of(decoder).bytes.len();
-        assert!(rt; NESTED.len() - left <= bytes as usize);
+        assert!(rt; NESTED.len().saturating_sub(left) <= bytes as usize);
     }
     let mut decoder = decoder_within(Dripping::new(NESTED, 100), &within(128, 0), alloc);
     assert_eq!(rt; decoder.peek_code(), Err(Error::Limit));
