@@ -25,7 +25,7 @@ use std::marker::Model;
 /// A call that reads a value answers `Missing` where no item is left in what is open, `Cut` where the input ends in the
 /// value, `Size` where a size is wrong and all is there that the outermost size announces, `UnknownCode` and `FloatCode`
 /// of such a code, `WrongType` of another kind's, `Memory` where it takes memory and a growth is refused, and `Read` where
-/// the source fails. What it answers besides is said of each call.
+/// the source fails, and `Limit` where a limit of the caller is passed. What it answers besides is said of each call.
 #[derive(Drop)]
 pub struct Decoder<R: ByteSource> {
     input: Input<R>,
@@ -113,7 +113,8 @@ pub fn decoder_of<R: ByteSource>(source: R, alloc: Global) -> Decoder<R>
     decoder_within(source, &Limits::greatest(), alloc)
 }
 
-/// A decoder of the source's bytes, at the top level, within these limits.
+/// A decoder of the source's bytes, at the top level, within these limits on nesting and on bytes. How many items are read isn't
+/// limited yet.
 pub fn decoder_within<R: ByteSource>(source: R, limits: &Limits, alloc: Global) -> Decoder<R>
     ensures { result ≡ record {
       rest = known (R.remaining source);
