@@ -47,17 +47,17 @@ loop-index-preserved g c =
     let within : i < length (rules_of (slots fs)) = omega (arith, ap length c.field_rules-rule-items.ensures, c.loop-index-test.true) in
     elim c.if-index-count.branch [
       | then-index-count+in_ok-read_item w ↦ record {
-          fields = λ tells. rw (w.decoder-is, w.value-is, add-one)
-              (one_more fs _ _ _ _ _ _ _ w.if-index-count.true within (c.loop-index.invariant.fields tells)
-              (w.in_ok-read_item.ensures.read tells));
-          began = rw w.decoder-is (search rules);
-        }
+        fields = λ tells. rw (w.decoder-is, w.value-is, add-one)
+            (one_more fs _ _ _ _ _ _ _ w.if-index-count.true within (c.loop-index.invariant.fields tells)
+            (w.in_ok-read_item.ensures.read tells));
+        began = rw w.decoder-is (search rules);
+      }
       | else-index-count+in_default w ↦ record {
-          fields = λ tells. rw (w.decoder-is, w.value-is, add-one) (one_less fs _ _ _ _ _ w.if-index-count.false within
-              (not_absent _ (ap (λ l. absence (get_or l i Mandatory)) (sym c.field_rules-rule-items.ensures) ∙ sym w.in_default.ensures))
-              (c.loop-index.invariant.fields tells));
-          began = rw w.decoder-is c.loop-index.invariant.began;
-        }
+        fields = λ tells. rw (w.decoder-is, w.value-is, add-one) (one_less fs _ _ _ _ _ w.if-index-count.false within
+            (not_absent _ (ap (λ l. absence (get_or l i Mandatory)) (sym c.field_rules-rule-items.ensures) ∙ sym w.in_default.ensures))
+            (c.loop-index.invariant.fields tells));
+        began = rw w.decoder-is c.loop-index.invariant.began;
+      }
     ]
 
 pub returns-in_err-end_list-clause-read : goal.returns-in_err-end_list-clause-read
