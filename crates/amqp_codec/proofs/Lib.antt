@@ -1,4 +1,5 @@
 pub mod Joining
+pub mod Tries
 pub mod Trimming
 pub mod PrimitiveReads
 pub mod Options

@@ -4,6 +4,7 @@ use Rattle.amqp_codec.specs.FoundKeys.{unfound_new, found_known}
 use Rattle.amqp_codec.specs.BTreeMaps.{key_by_order, order_of_keys}
 use Rattle.amqp_codec.proofs.MapSteps.{key_refused, key_twice, value_refused, no_room}
 use Rattle.amqp_codec.proofs.BTreeMapSteps.{fewer_so_far, known_to_pairs, new_to_pairs, one_more_so_far, row_refused_in_order}
+use Rattle.amqp_codec.proofs.Tries.{taking_some, passed_then, refused_later}
 use Rattle.amqp_codec.proofs.btree_maps.read_in_order.Goals as goal
 
 pub returns-in_err-key-clause-read : goal.returns-in_err-key-clause-read
@@ -63,3 +64,14 @@ loop-preserved g c =
           c.is_err.ensures.value c.insert.ensures.entries new c.in_ok-key.ensures.read c.in_ok-value.ensures.read;
       passed = search rules;
     }
+
+pub returns-in_err-key-clause-tries : goal.returns-in_err-key-clause-tries
+returns-in_err-key-clause-tries g c =
+    let p = err_from_is_err_and c.from_residual.result c.from_residual.ensures.1 in
+    rw (p.1, p.2) (refused_later _ true c.args.decoder.now c.loop.decoder _ _ (taking_some _) c.loop.invariant.passed c.in_err-key.ensures.tries)
+
+pub returns-in_err-value-clause-tries : goal.returns-in_err-value-clause-tries
+returns-in_err-value-clause-tries g c =
+    let p = err_from_is_err_and c.from_residual-in_err-value.result c.from_residual-in_err-value.ensures.1 in
+    rw (p.1, p.2) (refused_later _ true c.args.decoder.now c.read_value.new.decoder _ _ (taking_some _)
+    (passed_then _ c.loop.decoder _ c.loop.invariant.passed c.in_ok-key.ensures.tries) c.in_err-value.ensures.tries)

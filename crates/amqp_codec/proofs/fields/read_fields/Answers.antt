@@ -7,6 +7,7 @@ use Rattle.amqp_codec.specs.FieldReading.{absence}
 use Rattle.amqp_codec.specs.FieldReadingLaws.{not_absent}
 use Rattle.amqp_codec.proofs.FieldSteps.{open_refused, none_so_far, item_refused, left_out_refused, one_more, one_less, end_refused}
 use Rattle.amqp_codec.proofs.FieldSteps.{all_read, so_far_still}
+use Rattle.amqp_codec.proofs.Tries.{taking_none, taking_at, refused_behind}
 use Rattle.amqp_codec.proofs.fields.read_fields.Goals as goal
 use Rattle.amqp_codec.proofs.fields.read_fields.Goals.{then-index-count+in_ok-read_item, else-index-count+in_default}
 
@@ -75,3 +76,14 @@ returns-clause-read g c tells =
     let all : c.loop-index.index ≡ length (rules_of (slots fs)) =
     omega (arith, ap length c.field_rules-rule-items.ensures, c.loop-index-test.false, c.loop-index.auto.index-end) in
     all_read fs _ _ _ _ _ _ all (c.loop-index.invariant.fields tells) (c.in_ok-end_list.ensures.read tells)
+
+pub returns-in_err-read_item-clause-tries : goal.returns-in_err-read_item-clause-tries
+returns-in_err-read_item-clause-tries g c =
+    let p = err_from_is_err_and c.from_residual-in_err-read_item.result c.from_residual-in_err-read_item.ensures.1 in
+    rw (p.1, p.2) (refused_behind _ _ c.args.decoder.now c.loop-index.decoder _ _ (taking_at g.L.FieldList.list.fields c.loop-index.index) c.loop-index.invariant.began
+    c.in_err-read_item.ensures.tries)
+
+pub returns-in_err-end_list-clause-tries : goal.returns-in_err-end_list-clause-tries
+returns-in_err-end_list-clause-tries g c =
+    let p = err_from_is_err_and c.from_residual-in_err-end_list.result c.from_residual-in_err-end_list.ensures.1 in
+    rw (p.1, p.2) (refused_behind false _ c.args.decoder.now c.loop-index.decoder _ _ (taking_none _) c.loop-index.invariant.began c.in_err-end_list.ensures.tries)

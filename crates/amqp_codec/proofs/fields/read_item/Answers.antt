@@ -7,6 +7,7 @@ use Rattle.amqp_codec.specs.FieldReading.{absence}
 use Rattle.amqp_codec.specs.FieldReadingLaws.{not_absent}
 use Rattle.amqp_codec.proofs.Options.{null_refused}
 use Rattle.amqp_codec.proofs.FieldSteps.{item_unbegun, filled_step, null_unfit, null_read}
+use Rattle.amqp_codec.proofs.Tries.{taking_none, refused_more}
 use Rattle.amqp_codec.proofs.fields.read_item.Goals as goal
 
 pub returns-in_err-peek_code-clause-read : goal.returns-in_err-peek_code-clause-read
@@ -37,3 +38,8 @@ returns-in-None-clause-read g c tells =
     null_read g.L.FieldList.list.fields c.args.index _ _ _
     (not_absent _ (ap absence (sym c.requires.its_rule) ∙ sym c.in-None.ensures))
     ((value-peeked (Means (λ (_ : Unit {0}). null)) _ _ _ _ tt (c.in_ok-peek_code.ensures.read tells)).0 (c.in_ok-read_null.ensures.read tells))
+
+pub returns-in_err-peek_code-clause-tries : goal.returns-in_err-peek_code-clause-tries
+returns-in_err-peek_code-clause-tries g c =
+    let p = err_from_is_err_and c.from_residual.result c.from_residual.ensures.1 in
+    rw (p.1, p.2) (refused_more false _ c.args.decoder.now _ _ (taking_none _) c.in_err-peek_code.ensures.tries)

@@ -4,6 +4,7 @@ use Rattle.amqp_decoder.specs.Primitives.{ReadsValue}
 use Rattle.amqp_codec.specs.ItemsReading.{ReadsEach}
 use Rattle.amqp_codec.specs.ItemsReadingLaws.{each_more}
 use Rattle.amqp_codec.proofs.ItemsSteps.{pushed, value_refused, no_room}
+use Rattle.amqp_codec.proofs.Tries.{taking_some, refused_later}
 use Rattle.amqp_codec.proofs.lists.read_each.Goals as goal
 
 pub returns-in_err-value-clause-read : goal.returns-in_err-value-clause-read
@@ -29,3 +30,8 @@ loop-preserved g c =
       each = λ tells. rw e (each_more u.means _ _ _ _ _ (c.loop.invariant.each tells) (c.in_ok-value.ensures.read tells));
       passed = search rules;
     }
+
+pub returns-in_err-value-clause-tries : goal.returns-in_err-value-clause-tries
+returns-in_err-value-clause-tries g c =
+    let p = err_from_is_err_and c.from_residual.result c.from_residual.ensures.1 in
+    rw (p.1, p.2) (refused_later _ true c.args.decoder.now c.loop.decoder _ _ (taking_some _) c.loop.invariant.passed c.in_err-value.ensures.tries)

@@ -22,7 +22,7 @@ returns-in_err-value-clause-read g c tells =
     let few = within (members_of s.choices) (sum_of s).means (are_members s) ms _ _ _ names opened in
     let p = err_from_is_err_and c.from_residual-in_err-value.result c.from_residual-in_err-value.ensures.1 in
     rw (p.1, p.2)
-    (unread (members_of s.choices) (sum_of s).means (are_members s) ms _ _ _ _ _ names opened (c.in_err-value.ensures few tells))
+    (unread (members_of s.choices) (sum_of s).means (are_members s) ms _ _ _ _ _ names opened (c.in_err-value.ensures.read few tells))
 
 pub returns-in_err-end_described-clause-read : goal.returns-in_err-end_described-clause-read
 returns-in_err-end_described-clause-read g c tells =
@@ -31,7 +31,7 @@ returns-in_err-end_described-clause-read g c tells =
     let names = c.descriptors.ensures in
     let opened = c.in_ok-place.ensures.opened tells in
     let few = within (members_of s.choices) (sum_of s).means (are_members s) ms _ _ _ names opened in
-    let read = c.in_ok-value.ensures few tells in
+    let read = c.in_ok-value.ensures.read few tells in
     let p = err_from_is_err_and c.from_residual-in_err-end_described.result c.from_residual-in_err-end_described.ensures.1 in
     rw (p.1, p.2)
     (unended (members_of s.choices) (sum_of s).means (are_members s) ms _ _ _ _ _ _ _ names opened read c.in_err-end_described.ensures.read)
@@ -43,7 +43,7 @@ returns-clause-read g c tells =
     let names = c.descriptors.ensures in
     let opened = c.in_ok-place.ensures.opened tells in
     let few = within (members_of s.choices) (sum_of s).means (are_members s) ms _ _ _ names opened in
-    let read = c.in_ok-value.ensures few tells in
+    let read = c.in_ok-value.ensures.read few tells in
     let nesting = c.in_ok-place.ensures.nesting tells in
     let ended = c.in_ok-end_described.ensures.read in
     read_whole (members_of s.choices) (sum_of s).means (are_members s) ms _ _ _ _ _ _ names nesting opened read ended

@@ -2,6 +2,7 @@ use Rattle.std.proofs.Common.{refl}
 use Rattle.std.proofs.lemmas.Result.{err_from_is_err_and}
 use Rattle.amqp_codec.specs.VecType.{list_opening}
 use Rattle.amqp_codec.proofs.ItemsSteps.{open_refused, row_refused, end_refused, all_read}
+use Rattle.amqp_codec.proofs.Tries.{taking_some, began_passed, refused_behind}
 use Rattle.amqp_codec.proofs.lists.VecDeserializeTerm.read_value.Goals as goal
 
 pub returns-in_err-count-clause-read : goal.returns-in_err-count-clause-read
@@ -29,3 +30,14 @@ returns-clause-read g c tells =
     all_read list_opening g.T.DeserializeTerm.term (λ v. v.items) _ _ _ c.in_ok-values.values _ _ (c.in_ok-count.ensures.read tells)
     (c.in_ok-values.ensures.read tells)
     (c.in_ok-end_list.ensures.read tells)
+
+pub returns-in_err-values-clause-tries : goal.returns-in_err-values-clause-tries
+returns-in_err-values-clause-tries g c =
+    let p = err_from_is_err_and c.from_residual-in_err-values.result c.from_residual-in_err-values.ensures.1 in
+    rw (p.1, p.2) (refused_behind true true c.args.decoder.now c.begin_list.new.self _ _ (taking_some _) c.in_ok-count.ensures.tries c.in_err-values.ensures.tries)
+
+pub returns-in_err-end_list-clause-tries : goal.returns-in_err-end_list-clause-tries
+returns-in_err-end_list-clause-tries g c =
+    let p = err_from_is_err_and c.from_residual-in_err-end_list.result c.from_residual-in_err-end_list.ensures.1 in
+    rw (p.1, p.2) (refused_behind false true c.args.decoder.now c.read_each.new.decoder _ _ (taking_some _)
+    (began_passed _ c.begin_list.new.self _ c.in_ok-count.ensures.tries c.in_ok-values.ensures.tries) c.in_err-end_list.ensures.tries)
