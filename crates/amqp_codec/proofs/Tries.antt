@@ -1,8 +1,9 @@
 -- What calls that follow one another say of their errors, whatever the source tells.
-use Rattle.std.proofs.Common.{◌≡◌, inl, inr, ℕ, zero, suc, Bool, true, false, Some, None, Result, Ok, Err, refl, ap, ◌∙◌, sym}
+use Rattle.std.proofs.Common.{◌≡◌, inl, inr, ℕ, zero, suc, Bool, true, false, Some, None, Result, Ok, Err, refl, ap, ◌∙◌, sym, subst}
 use Rattle.amqp_wire.specs.declared.error.Error.{Error}
 use Rattle.amqp_decoder.specs.State.{State}
-use Rattle.amqp_decoder.specs.Steps.{Began, Refused, Tries, Passed, Passes}
+use Rattle.amqp_decoder.specs.Steps.{IsOutside, RefusesBy, Began, Refused, Tries, Passed}
+use Rattle.amqp_decoder.proofs.NotOutside.{read_is_outside}
 use Rattle.amqp_codec.specs.Fields.{Fields, none, field, take_memory, takes_at}
 use Rattle.amqp_codec.specs.FieldsLaws.{either_first, either_second}
 
@@ -65,3 +66,18 @@ pub tries_behind : {A : Type 0} (takes more : Bool) (a b : State) (r : Result A 
     → Began a b → Tries takes b r c → Tries more a r c
 tries_behind takes more a b (Ok v) c wide h k = began_then a b c h k
 tries_behind takes more a b (Err e) c wide h k = refused_behind takes more a b e c wide h k
+
+-- an error that is neither want of memory nor the source's was kept behind other calls
+pub refused_by : (takes : Bool) (a b : State) (error e : Error) (c : State) → (IsOutside error → ⊥) → Began a b
+    → RefusesBy error b e c → Refused takes a e c
+refused_by takes a b error e c plain h r =
+    let k = r h.1 in
+    let out = λ (o : IsOutside e). plain (subst IsOutside k.0 o) in (
+      λ d x. absurd (let y = h.0 in cc),
+      λ going. (
+        ap (λ (s : State). s.error) k.1 ∙ ap Some (sym k.0),
+        inl (ap (λ (s : State). s.failed) k.1 ∙ h.2),
+        λ m. absurd (out (subst IsOutside (sym m) tt)),
+        λ i. absurd (out (read_is_outside e i)),
+      ),
+    )

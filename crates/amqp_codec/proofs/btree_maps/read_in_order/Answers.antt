@@ -1,4 +1,4 @@
-use Rattle.std.proofs.Common.{rules}
+use Rattle.std.proofs.Common.{true, rules}
 use Rattle.std.proofs.lemmas.Result.{err_from_is_err_and}
 use Rattle.amqp_codec.specs.FoundKeys.{unfound_new, found_known}
 use Rattle.amqp_codec.specs.BTreeMaps.{key_by_order, order_of_keys}

@@ -1,4 +1,4 @@
-use Rattle.std.proofs.Common.{[], ◌∷◌, ap₂}
+use Rattle.std.proofs.Common.{false, [], ◌∷◌, ap₂}
 use Rattle.std.proofs.lemmas.Result.{err_from_is_err_and}
 use Rattle.amqp_model.specs.Composite.{MeansComposite}
 use Rattle.amqp_codec.specs.Composite.{table_of, composite_members}

@@ -1,4 +1,4 @@
-use Rattle.std.proofs.Common.{rules, ap, ◌∙◌, arith, length, length-append, [], ◌∷◌, ◌++◌, subst, sym}
+use Rattle.std.proofs.Common.{true, rules, ap, ◌∙◌, arith, length, length-append, [], ◌∷◌, ◌++◌, subst, sym}
 use Rattle.std.proofs.lemmas.Result.{err_from_is_err_and}
 use Rattle.amqp_decoder.specs.Primitives.{ReadsValue}
 use Rattle.amqp_codec.specs.ItemsReading.{ReadsEach}

@@ -1,10 +1,11 @@
-use Rattle.std.proofs.Common.{inl, inr, rules}
+use Rattle.std.proofs.Common.{true, inl, inr, rules}
 use Rattle.std.proofs.lemmas.Result.{err_from_is_err_and}
 use Rattle.indexmap.specs.Entry.{map_with_value}
 use Rattle.indexmap.specs.declared.map.entry.Entry.TheVariants.{Vacant}
 use Rattle.amqp_codec.proofs.MapSteps.{key_refused, key_twice, value_refused, no_place}
 use Rattle.amqp_maps.specs.KeyLaws.{absent_new, present_known}
 use Rattle.amqp_maps.proofs.PairsRead.{fewer_so_far, one_more_so_far}
+use Rattle.amqp_codec.proofs.Tries.{taking_some, passed_then, refused_later}
 use Rattle.amqp_maps.proofs.read.read_pairs.Goals as goal
 
 pub returns-in_err-key-clause-read : goal.returns-in_err-key-clause-read
@@ -49,3 +50,16 @@ loop-preserved g c =
           c.insert.ensures.value c.in-Ok.ensures.last new c.in_ok-key.ensures.read c.in_ok-value-in-Ok.ensures.read;
       passed = search rules;
     }
+
+pub returns-in_err-key-clause-tries : goal.returns-in_err-key-clause-tries
+returns-in_err-key-clause-tries g c =
+    let p = err_from_is_err_and c.from_residual.result c.from_residual.ensures.1 in
+    rw (p.1, p.2)
+    (refused_later _ true c.args.decoder.now c.loop.decoder _ _ (taking_some _) c.loop.invariant.passed c.in_err-key.ensures.tries)
+
+pub returns-in_err-value-in-Ok-clause-tries : goal.returns-in_err-value-in-Ok-clause-tries
+returns-in_err-value-in-Ok-clause-tries g c =
+    let p = err_from_is_err_and c.from_residual-in_err-value-in-Ok.result c.from_residual-in_err-value-in-Ok.ensures.1 in
+    rw (p.1, p.2)
+    (refused_later _ true c.args.decoder.now c.read_value.new.decoder _ _ (taking_some _)
+    (passed_then _ c.loop.decoder _ c.loop.invariant.passed c.in_ok-key.ensures.tries) c.in_err-value-in-Ok.ensures.tries)

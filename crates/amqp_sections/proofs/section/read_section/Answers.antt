@@ -1,6 +1,7 @@
-use Rattle.std.proofs.Common.{[], ◌∷◌, ap₂}
+use Rattle.std.proofs.Common.{false, [], ◌∷◌, ap₂}
 use Rattle.std.proofs.lemmas.Result.{err_from_is_err_and}
 use Rattle.amqp_sections.proofs.SectionReads.{begin_refused, value_refused, end_refused, whole_read}
+use Rattle.amqp_codec.proofs.Tries.{taking_none, taking_so, began_then, refused_more, refused_behind}
 use Rattle.amqp_sections.proofs.section.read_section.Goals as goal
 
 pub returns-in_err-begin_one_of-clause-read : goal.returns-in_err-begin_one_of-clause-read
@@ -34,3 +35,22 @@ returns-clause-read g c tells =
     whole_read g.S.Section.holds g.S.Section.naming g.T.DeserializeTerm.term (c.descriptor.result ∷ []) _ _ _ names
     (c.in_ok-begin_one_of.ensures.nesting tells) (c.in_ok-begin_one_of.ensures.opened tells) _ _ _ _ c.of_content.ensures
     (c.in_ok-value.ensures.read tells) c.in_ok-end_described.ensures.read
+
+pub returns-in_err-begin_one_of-clause-tries : goal.returns-in_err-begin_one_of-clause-tries
+returns-in_err-begin_one_of-clause-tries g c =
+    let p = err_from_is_err_and c.from_residual.result c.from_residual.ensures.1 in
+    rw (p.1, p.2)
+    (refused_more false _ c.args.decoder.now _ _ (taking_none _) c.in_err-begin_one_of.ensures.tries)
+
+pub returns-in_err-value-clause-tries : goal.returns-in_err-value-clause-tries
+returns-in_err-value-clause-tries g c =
+    let p = err_from_is_err_and c.from_residual-in_err-value.result c.from_residual-in_err-value.ensures.1 in
+    rw (p.1, p.2)
+    (refused_behind _ _ c.args.decoder.now c.begin_one_of.new.self _ _ (taking_so _) c.in_ok-begin_one_of.ensures.tries c.in_err-value.ensures.tries)
+
+pub returns-in_err-end_described-clause-tries : goal.returns-in_err-end_described-clause-tries
+returns-in_err-end_described-clause-tries g c =
+    let p = err_from_is_err_and c.from_residual-in_err-end_described.result c.from_residual-in_err-end_described.ensures.1 in
+    rw (p.1, p.2)
+    (refused_behind false _ c.args.decoder.now c.read_value.new.decoder _ _ (taking_none _)
+    (began_then _ c.begin_one_of.new.self _ c.in_ok-begin_one_of.ensures.tries c.in_ok-value.ensures.tries) c.in_err-end_described.ensures.tries)

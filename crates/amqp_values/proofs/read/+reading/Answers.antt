@@ -1,6 +1,7 @@
 use Rattle.std.proofs.Common.{rules, ◌/◌, refl, ap, ◌∙◌, arith, length, length-append, [], ◌∷◌, true, false}
 use Rattle.std.proofs.lemmas.Result.{err_from_is_err_and}
 use Rattle.amqp_model.specs.Term.{list, map, array, described}
+use Rattle.amqp_wire.specs.declared.error.Error.TheVariants.{Depth}
 use Rattle.amqp_lookahead.specs.Members.{descriptor_of}
 use Rattle.amqp_codec.specs.VecType.{list_opening}
 use Rattle.amqp_codec.specs.ItemsReadingLaws.{each_more}
@@ -27,6 +28,7 @@ use Rattle.amqp_values.proofs.ValueSteps.{bounded_inside, some_left, bounded_beh
 use Rattle.amqp_values.proofs.ValueSteps.{key_new, key_known}
 use Rattle.amqp_values.proofs.ValueSteps.{less_bounded, less_refused, less_read, less_row_refused, less_row, less_pairs_refused}
 use Rattle.amqp_values.proofs.ValueSteps.{less_pairs}
+use Rattle.amqp_codec.proofs.Tries.{taking_some, began_then, began_passed, passed_then, refused_more, refused_later, refused_behind, refused_by, tries_behind}
 use Rattle.amqp_values.proofs.read.+reading.Goals as goal
 
 pub read_any-returns-in_err-code-clause-read : goal.read_any-returns-in_err-code-clause-read
@@ -462,3 +464,228 @@ read_map-returns-clause-read g t c tells bounded =
       map_is (record { 0 = c.in_ok-pairs.pairs }),
       maps.all_read part part _ _ _ c.in_ok-pairs.pairs.items _ _ (by_two opened) row (c.in_ok-end_map.ensures.read tells),
     )
+
+pub read_any-returns-in_err-code-clause-tries : goal.read_any-returns-in_err-code-clause-tries
+read_any-returns-in_err-code-clause-tries g t c =
+    let p = err_from_is_err_and c.from_residual.result c.from_residual.ensures.1 in
+    rw (p.1, p.2)
+    (refused_more false true c.args.decoder.now _ _ (taking_some _) c.in_err-code.ensures.tries)
+
+pub read_any-returns-in-Null-clause-tries : goal.read_any-returns-in-Null-clause-tries
+read_any-returns-in-Null-clause-tries g t c =
+    tries_behind _ true c.args.decoder.now c.peek_code.new.self _ _ (taking_some _) c.in_ok-code.ensures.tries c.read_as.ensures.tries
+
+pub read_any-returns-in-Bool-clause-tries : goal.read_any-returns-in-Bool-clause-tries
+read_any-returns-in-Bool-clause-tries g t c =
+    tries_behind _ true c.args.decoder.now c.peek_code.new.self _ _ (taking_some _) c.in_ok-code.ensures.tries c.read_as-in-Bool.ensures.tries
+
+pub read_any-returns-in-Ubyte-clause-tries : goal.read_any-returns-in-Ubyte-clause-tries
+read_any-returns-in-Ubyte-clause-tries g t c =
+    tries_behind _ true c.args.decoder.now c.peek_code.new.self _ _ (taking_some _) c.in_ok-code.ensures.tries c.read_as-in-Ubyte.ensures.tries
+
+pub read_any-returns-in-Ushort-clause-tries : goal.read_any-returns-in-Ushort-clause-tries
+read_any-returns-in-Ushort-clause-tries g t c =
+    tries_behind _ true c.args.decoder.now c.peek_code.new.self _ _ (taking_some _) c.in_ok-code.ensures.tries c.read_as-in-Ushort.ensures.tries
+
+pub read_any-returns-in-Uint-clause-tries : goal.read_any-returns-in-Uint-clause-tries
+read_any-returns-in-Uint-clause-tries g t c =
+    tries_behind _ true c.args.decoder.now c.peek_code.new.self _ _ (taking_some _) c.in_ok-code.ensures.tries c.read_as-in-Uint.ensures.tries
+
+pub read_any-returns-in-Ulong-clause-tries : goal.read_any-returns-in-Ulong-clause-tries
+read_any-returns-in-Ulong-clause-tries g t c =
+    tries_behind _ true c.args.decoder.now c.peek_code.new.self _ _ (taking_some _) c.in_ok-code.ensures.tries c.read_as-in-Ulong.ensures.tries
+
+pub read_any-returns-in-Byte-clause-tries : goal.read_any-returns-in-Byte-clause-tries
+read_any-returns-in-Byte-clause-tries g t c =
+    tries_behind _ true c.args.decoder.now c.peek_code.new.self _ _ (taking_some _) c.in_ok-code.ensures.tries c.read_as-in-Byte.ensures.tries
+
+pub read_any-returns-in-Short-clause-tries : goal.read_any-returns-in-Short-clause-tries
+read_any-returns-in-Short-clause-tries g t c =
+    tries_behind _ true c.args.decoder.now c.peek_code.new.self _ _ (taking_some _) c.in_ok-code.ensures.tries c.read_as-in-Short.ensures.tries
+
+pub read_any-returns-in-Int-clause-tries : goal.read_any-returns-in-Int-clause-tries
+read_any-returns-in-Int-clause-tries g t c =
+    tries_behind _ true c.args.decoder.now c.peek_code.new.self _ _ (taking_some _) c.in_ok-code.ensures.tries c.read_as-in-Int.ensures.tries
+
+pub read_any-returns-in-Long-clause-tries : goal.read_any-returns-in-Long-clause-tries
+read_any-returns-in-Long-clause-tries g t c =
+    tries_behind _ true c.args.decoder.now c.peek_code.new.self _ _ (taking_some _) c.in_ok-code.ensures.tries c.read_as-in-Long.ensures.tries
+
+pub read_any-returns-in-Decimal32-clause-tries : goal.read_any-returns-in-Decimal32-clause-tries
+read_any-returns-in-Decimal32-clause-tries g t c =
+    tries_behind _ true c.args.decoder.now c.peek_code.new.self _ _ (taking_some _) c.in_ok-code.ensures.tries c.read_as-in-Decimal32.ensures.tries
+
+pub read_any-returns-in-Decimal64-clause-tries : goal.read_any-returns-in-Decimal64-clause-tries
+read_any-returns-in-Decimal64-clause-tries g t c =
+    tries_behind _ true c.args.decoder.now c.peek_code.new.self _ _ (taking_some _) c.in_ok-code.ensures.tries c.read_as-in-Decimal64.ensures.tries
+
+pub read_any-returns-in-Decimal128-clause-tries : goal.read_any-returns-in-Decimal128-clause-tries
+read_any-returns-in-Decimal128-clause-tries g t c =
+    tries_behind _ true c.args.decoder.now c.peek_code.new.self _ _ (taking_some _) c.in_ok-code.ensures.tries c.read_as-in-Decimal128.ensures.tries
+
+pub read_any-returns-in-Char-clause-tries : goal.read_any-returns-in-Char-clause-tries
+read_any-returns-in-Char-clause-tries g t c =
+    tries_behind _ true c.args.decoder.now c.peek_code.new.self _ _ (taking_some _) c.in_ok-code.ensures.tries c.read_as-in-Char.ensures.tries
+
+pub read_any-returns-in-Timestamp-clause-tries : goal.read_any-returns-in-Timestamp-clause-tries
+read_any-returns-in-Timestamp-clause-tries g t c =
+    tries_behind _ true c.args.decoder.now c.peek_code.new.self _ _ (taking_some _) c.in_ok-code.ensures.tries c.read_as-in-Timestamp.ensures.tries
+
+pub read_any-returns-in-Uuid-clause-tries : goal.read_any-returns-in-Uuid-clause-tries
+read_any-returns-in-Uuid-clause-tries g t c =
+    tries_behind _ true c.args.decoder.now c.peek_code.new.self _ _ (taking_some _) c.in_ok-code.ensures.tries c.read_as-in-Uuid.ensures.tries
+
+pub read_any-returns-in-Binary-clause-tries : goal.read_any-returns-in-Binary-clause-tries
+read_any-returns-in-Binary-clause-tries g t c =
+    tries_behind _ true c.args.decoder.now c.peek_code.new.self _ _ (taking_some _) c.in_ok-code.ensures.tries c.read_as-in-Binary.ensures.tries
+
+pub read_any-returns-in-String-clause-tries : goal.read_any-returns-in-String-clause-tries
+read_any-returns-in-String-clause-tries g t c =
+    tries_behind _ true c.args.decoder.now c.peek_code.new.self _ _ (taking_some _) c.in_ok-code.ensures.tries c.read_as-in-String.ensures.tries
+
+pub read_any-returns-in-Symbol-clause-tries : goal.read_any-returns-in-Symbol-clause-tries
+read_any-returns-in-Symbol-clause-tries g t c =
+    tries_behind _ true c.args.decoder.now c.peek_code.new.self _ _ (taking_some _) c.in_ok-code.ensures.tries c.read_as-in-Symbol.ensures.tries
+
+pub read_any-returns-in-Described-clause-tries : goal.read_any-returns-in-Described-clause-tries
+read_any-returns-in-Described-clause-tries g t c =
+    tries_behind _ true c.args.decoder.now c.peek_code.new.self _ _ (taking_some _) c.in_ok-code.ensures.tries c.read_described.ensures.tries
+
+pub read_any-returns-in-List-clause-tries : goal.read_any-returns-in-List-clause-tries
+read_any-returns-in-List-clause-tries g t c =
+    tries_behind _ true c.args.decoder.now c.peek_code.new.self _ _ (taking_some _) c.in_ok-code.ensures.tries c.read_list.ensures.tries
+
+pub read_any-returns-in-Map-clause-tries : goal.read_any-returns-in-Map-clause-tries
+read_any-returns-in-Map-clause-tries g t c =
+    tries_behind _ true c.args.decoder.now c.peek_code.new.self _ _ (taking_some _) c.in_ok-code.ensures.tries c.read_map.ensures.tries
+
+pub read_any-returns-in-Array-clause-tries : goal.read_any-returns-in-Array-clause-tries
+read_any-returns-in-Array-clause-tries g t c =
+    tries_behind _ true c.args.decoder.now c.peek_code.new.self _ _ (taking_some _) c.in_ok-code.ensures.tries c.read_array.ensures.tries
+
+pub read_list-returns-in_err-count-clause-tries : goal.read_list-returns-in_err-count-clause-tries
+read_list-returns-in_err-count-clause-tries g t c =
+    let p = err_from_is_err_and c.from_residual.result c.from_residual.ensures.1 in
+    rw (p.1, p.2)
+    (refused_more false true c.args.decoder.now _ _ (taking_some _) c.in_err-count.ensures.tries)
+
+pub read_list-returns-in_err-values-clause-tries : goal.read_list-returns-in_err-values-clause-tries
+read_list-returns-in_err-values-clause-tries g t c =
+    let p = err_from_is_err_and c.from_residual-in_err-values.result c.from_residual-in_err-values.ensures.1 in
+    rw (p.1, p.2)
+    (refused_behind true true c.args.decoder.now c.one_less-inner.new.decoder _ _ (taking_some _)
+    (rw c.in_ok-inner.ensures.ok.1 c.in_ok-count.ensures.tries) c.in_err-values.ensures.tries)
+
+pub read_list-returns-in_err-end_list-clause-tries : goal.read_list-returns-in_err-end_list-clause-tries
+read_list-returns-in_err-end_list-clause-tries g t c =
+    let p = err_from_is_err_and c.from_residual-in_err-end_list.result c.from_residual-in_err-end_list.ensures.1 in
+    rw (p.1, p.2)
+    (refused_behind false true c.args.decoder.now c.read_row.new.decoder _ _ (taking_some _)
+    (began_passed _ c.one_less-inner.new.decoder _ (rw c.in_ok-inner.ensures.ok.1 c.in_ok-count.ensures.tries) c.in_ok-values.ensures.tries)
+    c.in_err-end_list.ensures.tries)
+
+pub read_list-returns-in_err-inner-clause-tries : goal.read_list-returns-in_err-inner-clause-tries
+read_list-returns-in_err-inner-clause-tries g t c =
+    let p = err_from_is_err_and c.from_residual-in_err-inner.result c.from_residual-in_err-inner.ensures.1 in
+    rw (p.1, p.2)
+    (refused_by true c.args.decoder.now c.begin_list.new.self Depth _ _ (λ o. o) c.in_ok-count.ensures.tries c.in_err-inner.ensures.err.1)
+
+pub read_array-returns-in_err-count-clause-tries : goal.read_array-returns-in_err-count-clause-tries
+read_array-returns-in_err-count-clause-tries g t c =
+    let p = err_from_is_err_and c.from_residual.result c.from_residual.ensures.1 in
+    rw (p.1, p.2)
+    (refused_more true true c.args.decoder.now _ _ (taking_some _) c.in_err-count.ensures.tries)
+
+pub read_array-returns-in_err-values-clause-tries : goal.read_array-returns-in_err-values-clause-tries
+read_array-returns-in_err-values-clause-tries g t c =
+    let p = err_from_is_err_and c.from_residual-in_err-values.result c.from_residual-in_err-values.ensures.1 in
+    rw (p.1, p.2)
+    (refused_behind true true c.args.decoder.now c.one_less-inner.new.decoder _ _ (taking_some _)
+    (rw c.in_ok-inner.ensures.ok.1 c.in_ok-count.ensures.tries) c.in_err-values.ensures.tries)
+
+pub read_array-returns-in_err-end_array-clause-tries : goal.read_array-returns-in_err-end_array-clause-tries
+read_array-returns-in_err-end_array-clause-tries g t c =
+    let p = err_from_is_err_and c.from_residual-in_err-end_array.result c.from_residual-in_err-end_array.ensures.1 in
+    rw (p.1, p.2)
+    (refused_behind false true c.args.decoder.now c.read_row.new.decoder _ _ (taking_some _)
+    (began_passed _ c.one_less-inner.new.decoder _ (rw c.in_ok-inner.ensures.ok.1 c.in_ok-count.ensures.tries) c.in_ok-values.ensures.tries)
+    c.in_err-end_array.ensures.tries)
+
+pub read_array-returns-in_err-inner-clause-tries : goal.read_array-returns-in_err-inner-clause-tries
+read_array-returns-in_err-inner-clause-tries g t c =
+    let p = err_from_is_err_and c.from_residual-in_err-inner.result c.from_residual-in_err-inner.ensures.1 in
+    rw (p.1, p.2)
+    (refused_by true c.args.decoder.now c.begin_array.new.self Depth _ _ (λ o. o) c.in_ok-count.ensures.tries c.in_err-inner.ensures.err.1)
+
+pub read_map-returns-in_err-count-clause-tries : goal.read_map-returns-in_err-count-clause-tries
+read_map-returns-in_err-count-clause-tries g t c =
+    let p = err_from_is_err_and c.from_residual.result c.from_residual.ensures.1 in
+    rw (p.1, p.2)
+    (refused_more false true c.args.decoder.now _ _ (taking_some _) c.in_err-count.ensures.tries)
+
+pub read_map-returns-in_err-pairs-clause-tries : goal.read_map-returns-in_err-pairs-clause-tries
+read_map-returns-in_err-pairs-clause-tries g t c =
+    let p = err_from_is_err_and c.from_residual-in_err-pairs.result c.from_residual-in_err-pairs.ensures.1 in
+    rw (p.1, p.2)
+    (refused_behind true true c.args.decoder.now c.one_less-inner.new.decoder _ _ (taking_some _)
+    (rw c.in_ok-inner.ensures.ok.1 c.in_ok-count.ensures.tries) c.in_err-pairs.ensures.tries)
+
+pub read_map-returns-in_err-end_map-clause-tries : goal.read_map-returns-in_err-end_map-clause-tries
+read_map-returns-in_err-end_map-clause-tries g t c =
+    let p = err_from_is_err_and c.from_residual-in_err-end_map.result c.from_residual-in_err-end_map.ensures.1 in
+    rw (p.1, p.2)
+    (refused_behind false true c.args.decoder.now c.read_pairs.new.decoder _ _ (taking_some _)
+    (began_passed _ c.one_less-inner.new.decoder _ (rw c.in_ok-inner.ensures.ok.1 c.in_ok-count.ensures.tries) c.in_ok-pairs.ensures.tries)
+    c.in_err-end_map.ensures.tries)
+
+pub read_map-returns-in_err-inner-clause-tries : goal.read_map-returns-in_err-inner-clause-tries
+read_map-returns-in_err-inner-clause-tries g t c =
+    let p = err_from_is_err_and c.from_residual-in_err-inner.result c.from_residual-in_err-inner.ensures.1 in
+    rw (p.1, p.2)
+    (refused_by true c.args.decoder.now c.begin_map.new.self Depth _ _ (λ o. o) c.in_ok-count.ensures.tries c.in_err-inner.ensures.err.1)
+
+pub read_described-returns-in_err-descriptor-clause-tries : goal.read_described-returns-in_err-descriptor-clause-tries
+read_described-returns-in_err-descriptor-clause-tries g t c =
+    let p = err_from_is_err_and c.from_residual.result c.from_residual.ensures.1 in
+    rw (p.1, p.2)
+    (refused_more true true c.args.decoder.now _ _ (taking_some _) c.in_err-descriptor.ensures.tries)
+
+pub read_described-returns-in_err-value-clause-tries : goal.read_described-returns-in_err-value-clause-tries
+read_described-returns-in_err-value-clause-tries g t c =
+    let p = err_from_is_err_and c.from_residual-in_err-value.result c.from_residual-in_err-value.ensures.1 in
+    rw (p.1, p.2)
+    (refused_behind true true c.args.decoder.now c.one_less-inner.new.decoder _ _ (taking_some _)
+    (rw c.in_ok-inner.ensures.ok.1 c.in_ok-descriptor.ensures.tries) c.in_err-value.ensures.tries)
+
+pub read_described-returns-in_err-end_described-clause-tries : goal.read_described-returns-in_err-end_described-clause-tries
+read_described-returns-in_err-end_described-clause-tries g t c =
+    let p = err_from_is_err_and c.from_residual-in_err-end_described.result c.from_residual-in_err-end_described.ensures.1 in
+    rw (p.1, p.2)
+    (refused_behind false true c.args.decoder.now c.read_any.new.decoder _ _ (taking_some _)
+    (began_then _ c.one_less-inner.new.decoder _ (rw c.in_ok-inner.ensures.ok.1 c.in_ok-descriptor.ensures.tries) c.in_ok-value.ensures.tries)
+    c.in_err-end_described.ensures.tries)
+
+pub read_described-returns-in_err-inner-clause-tries : goal.read_described-returns-in_err-inner-clause-tries
+read_described-returns-in_err-inner-clause-tries g t c =
+    let p = err_from_is_err_and c.from_residual-in_err-inner.result c.from_residual-in_err-inner.ensures.1 in
+    rw (p.1, p.2)
+    (refused_by true c.args.decoder.now c.begin_described.new.self Depth _ _ (λ o. o) c.in_ok-descriptor.ensures.tries c.in_err-inner.ensures.err.1)
+
+pub read_row-returns-in_err-value-clause-tries : goal.read_row-returns-in_err-value-clause-tries
+read_row-returns-in_err-value-clause-tries g t c =
+    let p = err_from_is_err_and c.from_residual.result c.from_residual.ensures.1 in
+    rw (p.1, p.2)
+    (refused_later true true c.args.decoder.now c.loop.decoder _ _ (taking_some _) c.loop.invariant.passed c.in_err-value.ensures.tries)
+
+pub read_pairs-returns-in_err-key-clause-tries : goal.read_pairs-returns-in_err-key-clause-tries
+read_pairs-returns-in_err-key-clause-tries g t c =
+    let p = err_from_is_err_and c.from_residual.result c.from_residual.ensures.1 in
+    rw (p.1, p.2)
+    (refused_later true true c.args.decoder.now c.loop.decoder _ _ (taking_some _) c.loop.invariant.passed c.in_err-key.ensures.tries)
+
+pub read_pairs-returns-in_err-value-clause-tries : goal.read_pairs-returns-in_err-value-clause-tries
+read_pairs-returns-in_err-value-clause-tries g t c =
+    let p = err_from_is_err_and c.from_residual-in_err-value.result c.from_residual-in_err-value.ensures.1 in
+    rw (p.1, p.2)
+    (refused_later true true c.args.decoder.now c.read_any.new.decoder _ _ (taking_some _)
+    (passed_then _ c.loop.decoder _ c.loop.invariant.passed c.in_ok-key.ensures.tries) c.in_err-value.ensures.tries)

@@ -1,3 +1,4 @@
+use Rattle.std.proofs.Common.{false, true}
 use Rattle.std.proofs.lemmas.Result.{err_from_is_err_and}
 use Rattle.amqp_codec.specs.BTreeMaps.{order_of_keys}
 use Rattle.amqp_codec.proofs.MapSteps.{by_two, open_refused, end_refused}

@@ -1,4 +1,4 @@
-use Rattle.std.proofs.Common.{refl}
+use Rattle.std.proofs.Common.{false, true, refl}
 use Rattle.std.proofs.lemmas.Result.{err_from_is_err_and}
 use Rattle.amqp_codec.specs.VecType.{list_opening}
 use Rattle.amqp_codec.proofs.ItemsSteps.{open_refused, row_refused, end_refused, all_read}

@@ -1,9 +1,10 @@
-use Rattle.std.proofs.Common.{◌/◌, arith}
+use Rattle.std.proofs.Common.{false, true, ◌/◌, arith}
 use Rattle.std.proofs.lemmas.Result.{err_from_is_err_and}
 use Rattle.amqp_codec.proofs.MapSteps.{by_two}
 use Rattle.amqp_codec.proofs.MapSteps as maps
 use Rattle.amqp_values.specs.ValueType.{value_type}
 use Rattle.amqp_values.proofs.MapReads.{as_map, map_refused, row_any, row_refused_any, map_bounded}
+use Rattle.amqp_codec.proofs.Tries.{taking_some, began_passed, refused_more, refused_behind}
 use Rattle.amqp_values.proofs.read.ValueMapDeserializeTerm.read_value.Goals as goal
 
 pub returns-in_err-count-clause-read : goal.returns-in_err-count-clause-read
@@ -38,3 +39,22 @@ returns-clause-read g c tells =
     let row = row_any 128 (c.in_ok-count.count / 2) _ c.in_ok-pairs.pairs.items _ (c.in_ok-pairs.ensures.read tells bounded) in
     as_map _ (record { 0 = c.in_ok-pairs.pairs }) _
     (maps.all_read value_type value_type _ _ _ c.in_ok-pairs.pairs.items _ _ (by_two opened) row (c.in_ok-end_map.ensures.read tells))
+
+pub returns-in_err-count-clause-tries : goal.returns-in_err-count-clause-tries
+returns-in_err-count-clause-tries g c =
+    let p = err_from_is_err_and c.from_residual.result c.from_residual.ensures.1 in
+    rw (p.1, p.2)
+    (refused_more false true c.args.decoder.now _ _ (taking_some _) c.in_err-count.ensures.tries)
+
+pub returns-in_err-pairs-clause-tries : goal.returns-in_err-pairs-clause-tries
+returns-in_err-pairs-clause-tries g c =
+    let p = err_from_is_err_and c.from_residual-in_err-pairs.result c.from_residual-in_err-pairs.ensures.1 in
+    rw (p.1, p.2)
+    (refused_behind true true c.args.decoder.now c.begin_map.new.self _ _ (taking_some _) c.in_ok-count.ensures.tries c.in_err-pairs.ensures.tries)
+
+pub returns-in_err-end_map-clause-tries : goal.returns-in_err-end_map-clause-tries
+returns-in_err-end_map-clause-tries g c =
+    let p = err_from_is_err_and c.from_residual-in_err-end_map.result c.from_residual-in_err-end_map.ensures.1 in
+    rw (p.1, p.2)
+    (refused_behind false true c.args.decoder.now c.read_pairs.new.decoder _ _ (taking_some _)
+    (began_passed _ c.begin_map.new.self _ c.in_ok-count.ensures.tries c.in_ok-pairs.ensures.tries) c.in_err-end_map.ensures.tries)
