@@ -74,4 +74,4 @@ pub returns-in_err-value-clause-tries : goal.returns-in_err-value-clause-tries
 returns-in_err-value-clause-tries g c =
     let p = err_from_is_err_and c.from_residual-in_err-value.result c.from_residual-in_err-value.ensures.1 in
     rw (p.1, p.2) (refused_later _ true c.args.decoder.now c.read_value.new.decoder _ _ (taking_some _)
-    (passed_then _ c.loop.decoder _ c.loop.invariant.passed c.in_ok-key.ensures.tries) c.in_err-value.ensures.tries)
+    (passed_then c.args.decoder.now c.loop.decoder c.read_value.new.decoder c.loop.invariant.passed c.in_ok-key.ensures.tries) c.in_err-value.ensures.tries)

@@ -62,4 +62,4 @@ returns-in_err-value-in-Ok-clause-tries g c =
     let p = err_from_is_err_and c.from_residual-in_err-value-in-Ok.result c.from_residual-in_err-value-in-Ok.ensures.1 in
     rw (p.1, p.2)
     (refused_later _ true c.args.decoder.now c.read_value.new.decoder _ _ (taking_some _)
-    (passed_then _ c.loop.decoder _ c.loop.invariant.passed c.in_ok-key.ensures.tries) c.in_err-value-in-Ok.ensures.tries)
+    (passed_then c.args.decoder.now c.loop.decoder c.read_value.new.decoder c.loop.invariant.passed c.in_ok-key.ensures.tries) c.in_err-value-in-Ok.ensures.tries)

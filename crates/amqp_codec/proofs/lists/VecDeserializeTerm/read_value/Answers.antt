@@ -40,4 +40,4 @@ pub returns-in_err-end_list-clause-tries : goal.returns-in_err-end_list-clause-t
 returns-in_err-end_list-clause-tries g c =
     let p = err_from_is_err_and c.from_residual-in_err-end_list.result c.from_residual-in_err-end_list.ensures.1 in
     rw (p.1, p.2) (refused_behind false true c.args.decoder.now c.read_each.new.decoder _ _ (taking_some _)
-    (began_passed _ c.begin_list.new.self _ c.in_ok-count.ensures.tries c.in_ok-values.ensures.tries) c.in_err-end_list.ensures.tries)
+    (began_passed c.args.decoder.now c.begin_list.new.self c.read_each.new.decoder c.in_ok-count.ensures.tries c.in_ok-values.ensures.tries) c.in_err-end_list.ensures.tries)

@@ -49,4 +49,4 @@ returns-in_err-end_array-clause-tries g c =
     let p = err_from_is_err_and c.from_residual-in_err-end_array.result c.from_residual-in_err-end_array.ensures.1 in
     rw (p.1, p.2)
     (refused_behind false true c.args.decoder.now c.read_each.new.decoder _ _ (taking_some _)
-    (began_passed _ c.begin_array.new.self _ c.in_ok-count.ensures.tries c.in_ok-items.ensures.tries) c.in_err-end_array.ensures.tries)
+    (began_passed c.args.decoder.now c.begin_array.new.self c.read_each.new.decoder c.in_ok-count.ensures.tries c.in_ok-items.ensures.tries) c.in_err-end_array.ensures.tries)

@@ -47,4 +47,4 @@ returns-in_err-end_described-clause-tries g c =
     let p = err_from_is_err_and c.from_residual-in_err-end_described.result c.from_residual-in_err-end_described.ensures.1 in
     rw (p.1, p.2)
     (refused_behind false true c.args.decoder.now c.read_value.new.decoder _ _ (taking_some _)
-    (began_then _ c.begin_described.new.self _ c.in_ok-descriptor.ensures.tries c.in_ok-value.ensures.tries) c.in_err-end_described.ensures.tries)
+    (began_then c.args.decoder.now c.begin_described.new.self c.read_value.new.decoder c.in_ok-descriptor.ensures.tries c.in_ok-value.ensures.tries) c.in_err-end_described.ensures.tries)

@@ -57,4 +57,4 @@ returns-in_err-end_map-clause-tries g c =
     let p = err_from_is_err_and c.from_residual-in_err-end_map.result c.from_residual-in_err-end_map.ensures.1 in
     rw (p.1, p.2)
     (refused_behind false true c.args.decoder.now c.read_pairs.new.decoder _ _ (taking_some _)
-    (began_passed _ c.begin_map.new.self _ c.in_ok-count.ensures.tries c.in_ok-pairs.ensures.tries) c.in_err-end_map.ensures.tries)
+    (began_passed c.args.decoder.now c.begin_map.new.self c.read_pairs.new.decoder c.in_ok-count.ensures.tries c.in_ok-pairs.ensures.tries) c.in_err-end_map.ensures.tries)
