@@ -573,7 +573,7 @@ pub read_list-returns-in_err-values-clause-tries : goal.read_list-returns-in_err
 read_list-returns-in_err-values-clause-tries g t c =
     let p = err_from_is_err_and c.from_residual-in_err-values.result c.from_residual-in_err-values.ensures.1 in
     rw (p.1, p.2)
-    (refused_behind true true c.args.decoder.now c.one_less-inner.new.decoder _ _ (taking_some _)
+    (refused_behind true true c.args.decoder.now c.one_less.new.decoder _ _ (taking_some _)
     (rw c.in_ok-inner.ensures.ok.1 c.in_ok-count.ensures.tries) c.in_err-values.ensures.tries)
 
 pub read_list-returns-in_err-end_list-clause-tries : goal.read_list-returns-in_err-end_list-clause-tries
@@ -581,7 +581,7 @@ read_list-returns-in_err-end_list-clause-tries g t c =
     let p = err_from_is_err_and c.from_residual-in_err-end_list.result c.from_residual-in_err-end_list.ensures.1 in
     rw (p.1, p.2)
     (refused_behind false true c.args.decoder.now c.read_row.new.decoder _ _ (taking_some _)
-    (began_passed c.args.decoder.now c.one_less-inner.new.decoder c.read_row.new.decoder (rw c.in_ok-inner.ensures.ok.1 c.in_ok-count.ensures.tries) c.in_ok-values.ensures.tries)
+    (began_passed c.args.decoder.now c.one_less.new.decoder c.read_row.new.decoder (rw c.in_ok-inner.ensures.ok.1 c.in_ok-count.ensures.tries) c.in_ok-values.ensures.tries)
     c.in_err-end_list.ensures.tries)
 
 pub read_list-returns-in_err-inner-clause-tries : goal.read_list-returns-in_err-inner-clause-tries
@@ -600,7 +600,7 @@ pub read_array-returns-in_err-values-clause-tries : goal.read_array-returns-in_e
 read_array-returns-in_err-values-clause-tries g t c =
     let p = err_from_is_err_and c.from_residual-in_err-values.result c.from_residual-in_err-values.ensures.1 in
     rw (p.1, p.2)
-    (refused_behind true true c.args.decoder.now c.one_less-inner.new.decoder _ _ (taking_some _)
+    (refused_behind true true c.args.decoder.now c.one_less.new.decoder _ _ (taking_some _)
     (rw c.in_ok-inner.ensures.ok.1 c.in_ok-count.ensures.tries) c.in_err-values.ensures.tries)
 
 pub read_array-returns-in_err-end_array-clause-tries : goal.read_array-returns-in_err-end_array-clause-tries
@@ -608,7 +608,7 @@ read_array-returns-in_err-end_array-clause-tries g t c =
     let p = err_from_is_err_and c.from_residual-in_err-end_array.result c.from_residual-in_err-end_array.ensures.1 in
     rw (p.1, p.2)
     (refused_behind false true c.args.decoder.now c.read_row.new.decoder _ _ (taking_some _)
-    (began_passed c.args.decoder.now c.one_less-inner.new.decoder c.read_row.new.decoder (rw c.in_ok-inner.ensures.ok.1 c.in_ok-count.ensures.tries) c.in_ok-values.ensures.tries)
+    (began_passed c.args.decoder.now c.one_less.new.decoder c.read_row.new.decoder (rw c.in_ok-inner.ensures.ok.1 c.in_ok-count.ensures.tries) c.in_ok-values.ensures.tries)
     c.in_err-end_array.ensures.tries)
 
 pub read_array-returns-in_err-inner-clause-tries : goal.read_array-returns-in_err-inner-clause-tries
@@ -627,7 +627,7 @@ pub read_map-returns-in_err-pairs-clause-tries : goal.read_map-returns-in_err-pa
 read_map-returns-in_err-pairs-clause-tries g t c =
     let p = err_from_is_err_and c.from_residual-in_err-pairs.result c.from_residual-in_err-pairs.ensures.1 in
     rw (p.1, p.2)
-    (refused_behind true true c.args.decoder.now c.one_less-inner.new.decoder _ _ (taking_some _)
+    (refused_behind true true c.args.decoder.now c.one_less.new.decoder _ _ (taking_some _)
     (rw c.in_ok-inner.ensures.ok.1 c.in_ok-count.ensures.tries) c.in_err-pairs.ensures.tries)
 
 pub read_map-returns-in_err-end_map-clause-tries : goal.read_map-returns-in_err-end_map-clause-tries
@@ -635,7 +635,7 @@ read_map-returns-in_err-end_map-clause-tries g t c =
     let p = err_from_is_err_and c.from_residual-in_err-end_map.result c.from_residual-in_err-end_map.ensures.1 in
     rw (p.1, p.2)
     (refused_behind false true c.args.decoder.now c.read_pairs.new.decoder _ _ (taking_some _)
-    (began_passed c.args.decoder.now c.one_less-inner.new.decoder c.read_pairs.new.decoder (rw c.in_ok-inner.ensures.ok.1 c.in_ok-count.ensures.tries) c.in_ok-pairs.ensures.tries)
+    (began_passed c.args.decoder.now c.one_less.new.decoder c.read_pairs.new.decoder (rw c.in_ok-inner.ensures.ok.1 c.in_ok-count.ensures.tries) c.in_ok-pairs.ensures.tries)
     c.in_err-end_map.ensures.tries)
 
 pub read_map-returns-in_err-inner-clause-tries : goal.read_map-returns-in_err-inner-clause-tries
@@ -654,7 +654,7 @@ pub read_described-returns-in_err-value-clause-tries : goal.read_described-retur
 read_described-returns-in_err-value-clause-tries g t c =
     let p = err_from_is_err_and c.from_residual-in_err-value.result c.from_residual-in_err-value.ensures.1 in
     rw (p.1, p.2)
-    (refused_behind true true c.args.decoder.now c.one_less-inner.new.decoder _ _ (taking_some _)
+    (refused_behind true true c.args.decoder.now c.one_less.new.decoder _ _ (taking_some _)
     (rw c.in_ok-inner.ensures.ok.1 c.in_ok-descriptor.ensures.tries) c.in_err-value.ensures.tries)
 
 pub read_described-returns-in_err-end_described-clause-tries : goal.read_described-returns-in_err-end_described-clause-tries
@@ -662,7 +662,7 @@ read_described-returns-in_err-end_described-clause-tries g t c =
     let p = err_from_is_err_and c.from_residual-in_err-end_described.result c.from_residual-in_err-end_described.ensures.1 in
     rw (p.1, p.2)
     (refused_behind false true c.args.decoder.now c.read_any.new.decoder _ _ (taking_some _)
-    (began_then c.args.decoder.now c.one_less-inner.new.decoder c.read_any.new.decoder (rw c.in_ok-inner.ensures.ok.1 c.in_ok-descriptor.ensures.tries) c.in_ok-value.ensures.tries)
+    (began_then c.args.decoder.now c.one_less.new.decoder c.read_any.new.decoder (rw c.in_ok-inner.ensures.ok.1 c.in_ok-descriptor.ensures.tries) c.in_ok-value.ensures.tries)
     c.in_err-end_described.ensures.tries)
 
 pub read_described-returns-in_err-inner-clause-tries : goal.read_described-returns-in_err-inner-clause-tries
