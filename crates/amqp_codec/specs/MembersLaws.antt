@@ -1,5 +1,5 @@
 -- Lemmas of how one of several composites is read by the descriptor that stands there.
-use Rattle.std.proofs.Common.{◌≡◌, ℕ, ◌<◌, false, List, [], length, map, Option, Some, None, refl, sym, ap, ◌∙◌, subst, arith}
+use Rattle.std.proofs.Common.{◌≡◌, ◌≤◌, ℕ, ◌<◌, false, List, [], length, map, Option, Some, None, refl, sym, ap, ◌∙◌, subst, arith}
 use Rattle.std.proofs.lemmas.List.Quantifiers.{position-Some}
 use Rattle.amqp_model.specs.Term.{Term, described}
 use Rattle.amqp_model.specs.Standing.{Standing}
@@ -30,7 +30,7 @@ one_place : {i j : ℕ} {o p : Option ℕ} → o ≡ p → o ≡ Some i → p �
 one_place {i} {j} e f g = ap (λ x. Rattle.std.proofs.Common.unwrap_or x i) (sym f ∙ e ∙ g)
 
 module _ {V : Type 0} (m : Members V) (means : Standing → Term → V → Type 0) (sum : IsSum m means) where
-  pub to_value : (st : State) (v : V) (b : State) → st.nesting ≡ 128 → MemberRead m st v b → ReadsValue means st v b
+  pub to_value : (st : State) (v : V) (b : State) → st.nesting ≤ 128 → MemberRead m st v b → ReadsValue means st v b
   to_value st v b bound h =
       let t = sum.to_term h.place h.inner v h.last h.read in
       let closes : ClosesDescribed InDescribed (after_value (length t.taken.bytes) h.inner) b =
@@ -125,7 +125,7 @@ module _ {V : Type 0} (m : Members V) (means : Standing → Term → V → Type 
 
   -- a member was read
   pub read_whole : (ms : List Member) (st : State) (i : ℕ) (inner last : State) (v : V) (b : State) → map as_name ms ≡ m.names
-      → st.nesting ≡ 128 → OpensOneOf ms st i inner → m.reads i inner v last → ClosesDescribed InDescribed last b → ReadsValue means st v b
+      → st.nesting ≤ 128 → OpensOneOf ms st i inner → m.reads i inner v last → ClosesDescribed InDescribed last b → ReadsValue means st v b
   read_whole ms st i inner last v b names bound o q c =
       to_value st v b bound (record {
         descriptor = o.descriptor;

@@ -1,5 +1,5 @@
 -- What it is to read a value of a type: from which state of a decoder, and what state is left.
-use Rattle.std.proofs.Common.{◌≡◌, ℕ, ◌+◌, ◌≤◌, Bool, true, false, List, [], ◌++◌, length, drop, None, ◌-◌}
+use Rattle.std.proofs.Common.{◌≡◌, ℕ, ◌+◌, ◌≤◌, Bool, true, false, List, [], ◌++◌, length, drop, Option, None, ◌-◌}
 use Rattle.amqp_model.specs.Term.{Term}
 use Rattle.amqp_model.specs.Spelling.{enc}
 use Rattle.amqp_model.specs.Measures.{nest}
@@ -27,7 +27,7 @@ pub record Stays (st : State) (b : State) : Type 0 where
   pub nesting : b.nesting ≡ st.nesting
   pub source : b.source ≡ st.source
   pub sound : b.failed ≡ st.failed
-  pub top : st.top ≡ top_level → b.top ≡ top_level
+  pub top : (l : Option ℕ) → st.top ≡ top_level l → (m : Option ℕ) × (b.top ≡ top_level m)
 
 -- So many of the next bytes were looked at.
 abbrev pub looking : ℕ → State → State
@@ -39,7 +39,7 @@ AreAlike a b = b ≡ looking b.ahead a
 
 -- A decoder at the start of an input.
 abbrev pub start : List ℕ → State
-start input = record { rest = input; ahead = 0; source = 0; top = top_level; saved = []; nesting = 128; error = None; failed = false }
+start input = record { rest = input; ahead = 0; source = 0; top = top_level None; saved = []; nesting = 128; error = None; failed = false }
 
 -- No front of the input is a term; where the error is `Depth`, none that nests at most 128 deep.
 abbrev pub IsUnspelled : Error → List ℕ → Type 0

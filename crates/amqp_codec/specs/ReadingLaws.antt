@@ -56,8 +56,9 @@ value_taken means st v b h = record {
   ahead = λ _. ap (λ (x : State). x.ahead) h.moved;
 }
 
-top_past : (n : ℕ) (o : Open) → o ≡ top_level → record o { items = lower o.items 1; left = lower o.left n } ≡ top_level
-top_past n o e = rw e refl
+top_past : (n : ℕ) (o : Open) (l : Option ℕ) → o ≡ top_level l
+    → record o { items = lower o.items 1; left = lower o.left n } ≡ top_level (lower l n)
+top_past n o l e = rw e refl
 
 pub value_stays : {T : Type 0} (means : Standing → Term → T → Type 0) (st : State) (v : T) (b : State)
     → ReadsValue means st v b → Stays st b
@@ -69,7 +70,7 @@ value_stays means st v b h = record {
   nesting = ap (λ (x : State). x.nesting) h.moved;
   source = ap (λ (x : State). x.source) h.moved;
   sound = ap (λ (x : State). x.failed) h.moved;
-  top = λ e. ap (λ (x : State). x.top) h.moved ∙ top_past (length h.bytes) st.top e;
+  top = λ l e. (lower l (length h.bytes), ap (λ (x : State). x.top) h.moved ∙ top_past (length h.bytes) st.top l e);
 }
 
 pub value_looked : {T : Type 0} (means : Standing → Term → T → Type 0) (n : ℕ) (st : State) (v : T) (b : State) → ReadsValue means st v b

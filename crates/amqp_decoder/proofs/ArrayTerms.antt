@@ -18,6 +18,7 @@ use Rattle.amqp_decoder.specs.Arrays.{TakesConstructor, IsFlat, Shares, no_items
 use Rattle.amqp_decoder.specs.Items.{Next, row_standings, NextWithParts, ContainsArray}
 use Rattle.amqp_lookahead.proofs.Looks.{front_is}
 use Rattle.amqp_decoder.proofs.ReadPrimitives.{minus-minus, begun_same}
+use Rattle.amqp_decoder.proofs.Steps.{bound_left}
 use Rattle.amqp_decoder.proofs.Peeks.{constructor_some}
 use Rattle.amqp_decoder.proofs.Opening.{header_same, one_width, took_both}
 use Rattle.amqp_decoder.proofs.Constructed.{one_constructor}
@@ -193,7 +194,7 @@ whole_array_with_parts st us new c =
     let x = s.own in
     let over : d.content - length x ≡ length b =
     used_up c.mid.top.left (d.content - length x) (length b) (ap (λ (z : State). z.top.left) s.is) t.room
-    (sym (ap (λ (z : State). z.top.left) t.moved) ∙ c.closed.left) in
+    (sym (ap (λ (z : State). z.top.left) t.moved) ∙ bound_left c.last.top 0 c.closed.left) in
     let few : length x ≤ d.content = s.took.room in
     let k_is : d.content ≡ length x + length b = omega (arith, over, few) in
     let h : ReadsHeader false o.width o.mid (count us) d.content d.mid =

@@ -17,7 +17,7 @@ use Rattle.amqp_decoder.specs.Primitives.{standing, SpellsAs}
 use Rattle.amqp_decoder.specs.Containers.{place_of, is_list, IsCount, Counts, ReadsHeader}
 use Rattle.amqp_decoder.specs.Items.{Row, Next, row_standings, NextWithParts, Contains}
 use Rattle.amqp_lookahead.proofs.Looks.{front_is}
-use Rattle.amqp_decoder.proofs.Steps.{has_none, lower_none}
+use Rattle.amqp_decoder.proofs.Steps.{bound_left, has_none, lower_none}
 use Rattle.amqp_decoder.proofs.ReadPrimitives.{has_add, has_front, has_rest, lower-lower, minus-minus, after_code, after_data-after_value}
 use Rattle.amqp_decoder.proofs.Opening.{after_data-after_data, took_both}
 
@@ -331,7 +331,7 @@ whole_with_parts kind is st us new c =
     (sym (ap (λ (z : State). z.top.items) t.moved) ∙ c.closed.items) in
     let k_is : d.content ≡ length b =
     used_up c.mid.top.left d.content (length b) (ap (λ (z : State). z.top.left) d.entered) t.room
-    (sym (ap (λ (z : State). z.top.left) t.moved) ∙ c.closed.left) in
+    (sym (ap (λ (z : State). z.top.left) t.moved) ∙ bound_left c.last.top 0 c.closed.left) in
     let h : ReadsHeader (is_list kind) o.width o.mid (count us) d.content d.mid =
     subst (λ n. ReadsHeader (is_list kind) o.width o.mid n d.content d.mid) n_is d.header in
     let head = bytes_high_first o.width h.size ++ bytes_high_first o.width (count us) in

@@ -86,7 +86,7 @@ left_described first own s st b c =
     let outer : kept_ ≡ c.outer = ap (λ l. get_or l 0 st.top) c.saved in
     let others : st.saved ≡ c.others = ap (λ l. drop 1 l) c.saved in
     c.moved ∙ ap₂ (λ (t : Open) l. record (after_value s (inside_described first own st)) {
-      top = record t { left = lower mid.top.left s };
+      top = record t { left = lower mid.top.left s; sized = mid.top.sized };
       saved = l;
     }) (sym outer) (sym others) ∙ sym (back first own s st)
 

@@ -8,10 +8,10 @@ use Rattle.amqp_model.specs.Constructors.{Format, variable, format}
 use Rattle.amqp_model.specs.Spelling.{PrimitiveData, Names, descriptor_value}
 use Rattle.amqp_model.proofs.Same.{names_same}
 use Rattle.amqp_wire.specs.declared.error.Error.{Error}
-use Rattle.amqp_wire.specs.declared.error.Error.TheVariants.{Depth, NonAscii, WrongDescriptor}
+use Rattle.amqp_wire.specs.declared.error.Error.TheVariants.{NonAscii, WrongDescriptor}
 use Rattle.amqp_wire.specs.Codes.{refusal_of}
 use Rattle.amqp_wire.specs.declared.descriptor.Descriptor.{Descriptor as DescriptorValue}
-use Rattle.amqp_decoder.specs.State.{State, Has, after_bytes, after_data, descriptor_of}
+use Rattle.amqp_decoder.specs.State.{State, depth_error, Has, after_bytes, after_data, descriptor_of}
 use Rattle.amqp_decoder.specs.Steps.{Answers, IsExcused, Pulls, Takes, FallsShort}
 use Rattle.amqp_decoder.specs.Reading.{RefusesRead, IsFirst, ReadsCode, BeginFault}
 use Rattle.amqp_lookahead.specs.Kinds.{kind_at}
@@ -276,11 +276,12 @@ begun_fails fault st c m e new g kept why = record {
   named = λ h. why;
 }
 
-pub deep_fails : (st : State) (m : State) (e : Error) (new : State) → ReadsCode st 0 m → e ≡ Depth → m.nesting ≤ length m.saved
-    → new ≡ record m { error = Some Depth } → AnswersFault false DescribedFault st e new
+pub deep_fails : (st : State) (m : State) (e : Error) (new : State) → ReadsCode st 0 m → e ≡ depth_error m.nesting
+    → m.nesting ≤ length m.saved → new ≡ record m { error = Some (depth_error m.nesting) } → AnswersFault false DescribedFault st e new
 deep_fails st m e new g is deep kept =
     let deep_ : st.nesting ≤ length st.saved = subst (λ (z : State). z.nesting ≤ length z.saved) g.moved deep in
-    begun_fails DescribedFault st 0 m e new g (answered m new e Depth kept is) (inr (too_deep g deep_ is))
+    begun_fails DescribedFault st 0 m e new g (answered m new e (depth_error m.nesting) kept is)
+    (inr (too_deep g deep_ (subst (λ (z : State). e ≡ depth_error z.nesting) g.moved is)))
 
 -- one of the members
 pub opens_one : (members : List Member) (st : State) (m : State) (named : State) (i : ℕ) (new : State) → ReadsCode st 0 m
@@ -341,13 +342,16 @@ one_other members st m named e new g t is kept =
     one_fails members st e new (begun_fails (OneOfFault members) st 0 m e new g (answered_took t.took.took kept) (inr (no_member g t is)))
 
 pub one_deep : (members : List Member) (st : State) (m : State) (place : Option ℕ) (named : State) (e : Error) (new : State)
-    → ReadsCode st 0 m → TakesPlace members m place named → e ≡ Depth → named.nesting ≤ length named.saved
-    → new ≡ record named { error = Some Depth } → RefusesRead false (OpensOneOf members) (OneOfFault members) st e new
+    → ReadsCode st 0 m → TakesPlace members m place named → e ≡ depth_error named.nesting
+    → named.nesting ≤ length named.saved → new ≡ record named { error = Some (depth_error named.nesting) }
+    → RefusesRead false (OpensOneOf members) (OneOfFault members) st e new
 one_deep members st m place named e new g t is deep kept =
     let deep_ : m.nesting ≤ length m.saved = subst (λ (z : State). z.nesting ≤ length z.saved) t.took.took.moved deep in
-    let kept_ : Answers m e new = answered_took t.took.took (answered named new e Depth kept is) in
+    let kept_ : Answers m e new = answered_took t.took.took (answered named new e (depth_error named.nesting) kept is) in
+    let is_ : e ≡ depth_error m.nesting = subst (λ (z : State). e ≡ depth_error z.nesting) t.took.took.moved is in
     one_fails members st e new (begun_fails (OneOfFault members) st 0 m e new g kept_
-    (inr (not_described (too_deep g (subst (λ (z : State). z.nesting ≤ length z.saved) g.moved deep_) is))))
+    (inr (not_described (too_deep g (subst (λ (z : State). z.nesting ≤ length z.saved) g.moved deep_)
+    (subst (λ (z : State). e ≡ depth_error z.nesting) g.moved is_)))))
 
 -- what begins with a member's descriptor is opened
 pub one_entered : (members : List Member) (st : State) (m : State) (named : State) (i : ℕ) (new : State) → ReadsCode st 0 m
@@ -387,13 +391,16 @@ any_missed st m e new g f =
     (elim f.why [ inl x ↦ inl x | inr (none, x) ↦ inr (nameless g none x) ]))
 
 pub any_deep : (st : State) (m : State) (d : Descriptor) (named : State) (e : Error) (new : State) → ReadsCode st 0 m
-    → TakesDescriptor m d named → (e ≡ Depth) × (named.nesting ≤ length named.saved) × (new ≡ record named { error = Some Depth })
+    → TakesDescriptor m d named → (e ≡ depth_error named.nesting) × (named.nesting ≤ length named.saved)
+    × (new ≡ record named { error = Some (depth_error named.nesting) })
     → RefusesRead true Any OpenFault st e new
 any_deep st m d named e new g t (is, deep, kept) =
     let deep_ : m.nesting ≤ length m.saved = subst (λ (z : State). z.nesting ≤ length z.saved) t.took.moved deep in
-    let kept_ : Answers m e new = answered_took t.took (answered named new e Depth kept is) in
+    let kept_ : Answers m e new = answered_took t.took (answered named new e (depth_error named.nesting) kept is) in
+    let is_ : e ≡ depth_error m.nesting = subst (λ (z : State). e ≡ depth_error z.nesting) t.took.moved is in
     any_fails st e new (begun_fails OpenFault st 0 m e new g kept_
-    (inr (not_open (too_deep g (subst (λ (z : State). z.nesting ≤ length z.saved) g.moved deep_) is))))
+    (inr (not_open (too_deep g (subst (λ (z : State). z.nesting ≤ length z.saved) g.moved deep_)
+    (subst (λ (z : State). e ≡ depth_error z.nesting) g.moved is_)))))
 
 pub any_entered : (st : State) (m : State) (d : Descriptor) (named : State) (new : State) → ReadsCode st 0 m → TakesDescriptor m d named
     → (length named.saved < named.nesting) × (new ≡ in_described named) → OpensDescribed st d new

@@ -8,8 +8,8 @@ use Rattle.amqp_wire.specs.declared.error.Error.TheVariants.{InvalidValue, Read}
 use Rattle.amqp_wire.specs.declared.error.Error.{Error}
 use Rattle.amqp_decoder.specs.declared.frame.Place.{Place}
 use Rattle.amqp_decoder.specs.declared.frame.Place.TheVariants.{InArray}
-use Rattle.amqp_decoder.specs.State.{State, in_container}
-use Rattle.amqp_decoder.specs.Steps.{Fails, IsOutside, IsReadError, Lacks, cut_open, cut_inside, too_long, SizeError, cut, wrong}
+use Rattle.amqp_decoder.specs.State.{State, depth_error, in_container}
+use Rattle.amqp_decoder.specs.Steps.{Fails, IsOutside, IsReadError, Lacks, cut_open, past_limit, cut_inside, too_long, SizeError, cut, wrong, past}
 use Rattle.amqp_decoder.specs.Misspelled.{IsMisspelling}
 use Rattle.amqp_decoder.specs.Reading.{BeginFault, missing, no_code}
 use Rattle.amqp_decoder.specs.Primitives.{LacksData, PrimitiveFault, not_begun, wrong_code, no_data, bad_data}
@@ -30,7 +30,7 @@ use Rattle.amqp_decoder.specs.Terms.{LacksAnnounced, NoTerm, wrong_size, wrong_t
 use Rattle.amqp_decoder.specs.Terms.{misspelled}
 use Rattle.amqp_lengths.specs.Announced.{content_size}
 use Rattle.amqp_lengths.specs.Faults as lengths
-use Rattle.amqp_decoder.proofs.TermErrors.{term_error}
+use Rattle.amqp_decoder.proofs.TermErrors.{depth_misspelled, term_error}
 
 pub read_is_outside : (e : Error) → IsReadError e → IsOutside e
 read_is_outside (Read k) h = tt
@@ -63,6 +63,9 @@ kind_by false false false false c h = h
 kind_not_outside : {e : Error} → IsOutside e → (c : ℕ) → e ≡ other_kind (refusal_of c) → ⊥
 kind_not_outside out c h = kind_by (eqb c 0x72) (eqb c 0x82) (eqb c 0) (is_known (format c)) c (subst IsOutside h out)
 
+pub depth_not_outside : {e : Error} → IsOutside e → (n : ℕ) → e ≡ depth_error n → ⊥
+depth_not_outside out n is = misspelling_inside (depth_error n) (depth_misspelled n) (subst IsOutside is out)
+
 bad_by : (a b c d : Bool) → IsOutside (cond a BadBool (cond b BadChar (cond c BadUtf8 (cond d NonAscii InvalidValue)))) → ⊥
 bad_by true b c d h = h
 bad_by false true c d h = h
@@ -71,13 +74,15 @@ bad_by false false false true h = h
 bad_by false false false false h = h
 
 lacks_not_outside : {e : Error} → IsOutside e → (n : ℕ) (st : State) → Lacks n st e → ⊥
-lacks_not_outside out n st (cut_open h l is) = subst IsOutside is out
+lacks_not_outside out n st (cut_open h f l is) = subst IsOutside is out
+lacks_not_outside out n st (past_limit h f is) = subst IsOutside is out
 lacks_not_outside out n st (cut_inside h w l is) = subst IsOutside is out
 lacks_not_outside out n st (too_long h l t is) = subst IsOutside is out
 
 size_not_outside : {e : Error} → IsOutside e → (own : ℕ) (st : State) → SizeError own st e → ⊥
-size_not_outside out own st (cut l is) = subst IsOutside is out
-size_not_outside out own st (wrong l is) = subst IsOutside is out
+size_not_outside out own st (cut f l is) = subst IsOutside is out
+size_not_outside out own st (wrong f l is) = subst IsOutside is out
+size_not_outside out own st (past b f is) = subst IsOutside is out
 
 pub begin_not_outside : {e : Error} → IsOutside e → (st : State) → BeginFault st e → ⊥
 begin_not_outside out st (missing h is) = subst IsOutside is out
@@ -115,7 +120,7 @@ enter_not_outside : {e : Error} → IsOutside e → (kind : Container) (w : ℕ)
 enter_not_outside out kind w st (no_header f) = header_not_outside out _ w st f
 enter_not_outside out kind w st (odd_count h f is) = subst IsOutside is out
 enter_not_outside out kind w st (no_room {n} {content} {m} h c r) = size_not_outside out content m r.why
-enter_not_outside out kind w st (too_deep h c room deep is) = subst IsOutside is out
+enter_not_outside out kind w st (too_deep h c room deep is) = depth_not_outside out _ is
 
 pub open_not_outside : {e : Error} → IsOutside e → (kind : Container) (st : State) → OpenFault kind st e → ⊥
 open_not_outside out kind st (containers.not_begun f) = begin_not_outside out st f
@@ -131,7 +136,7 @@ descriptor_not_outside out st (non_ascii t kind u whole none is) = subst IsOutsi
 described_not_outside : {e : Error} → IsOutside e → (st : State) → DescribedFault st e → ⊥
 described_not_outside out st (described.not_begun f) = begin_not_outside out st f
 described_not_outside out st (described.other_code {c} {m} g other is) = refusal_not_outside out c is
-described_not_outside out st (described.too_deep g deep is) = subst IsOutside is out
+described_not_outside out st (described.too_deep g deep is) = depth_not_outside out _ is
 
 pub one_of_not_outside : {e : Error} → IsOutside e → (members : List Member) (st : State) → OneOfFault members st e → ⊥
 one_of_not_outside out members st (not_described f) = described_not_outside out st f
@@ -151,12 +156,12 @@ constructor_not_outside out st (no_known_code ds c m t some never is) = refusal_
 shares_not_outside : {e : Error} → IsOutside e → (n : ℕ) (st : State) → SharesFault n st e → ⊥
 shares_not_outside out n st (no_constructor f) = constructor_not_outside out st f
 shares_not_outside out n st (zero_width ds c m some t wide is) = subst IsOutside is out
-shares_not_outside out n st (too_nested ds c m some t uneven deep is) = subst IsOutside is out
+shares_not_outside out n st (too_nested ds c m some t uneven deep is) = depth_not_outside out _ is
 
 enter_array_not_outside : {e : Error} → IsOutside e → (w : ℕ) (st : State) → EnterArrayFault w st e → ⊥
 enter_array_not_outside out w st (arrays.no_header f) = header_not_outside out false w st f
 enter_array_not_outside out w st (arrays.no_room n content m h r) = size_not_outside out content m r.why
-enter_array_not_outside out w st (arrays.too_deep n content m h deep is) = subst IsOutside is out
+enter_array_not_outside out w st (arrays.too_deep n content m h deep is) = depth_not_outside out _ is
 enter_array_not_outside out w st (no_start n content m h some f) = shares_not_outside out n (in_container InArray 0 content m) f
 
 pub array_not_outside : {e : Error} → IsOutside e → (st : State) → ArrayFault st e → ⊥
@@ -172,12 +177,12 @@ announced_not_outside e out (compound k w) st (inr (n, m, fits, t, l)) = lacks_n
 announced_not_outside e out unknown st l = l
 
 -- what is named of the bytes of a term
-length_not_outside : {e : Error} → IsOutside e → (nesting : ℕ) (b : List ℕ) → lengths.TermFault nesting b e → ⊥
-length_not_outside out nesting b f = elim (term_error nesting b _ f) [ inl is ↦ subst IsOutside is out | inr said ↦ misspelling_inside _ said out ]
+length_not_outside : {e : Error} → IsOutside e → (n nesting : ℕ) (b : List ℕ) → lengths.TermFault (depth_error n) nesting b e → ⊥
+length_not_outside out n nesting b f = elim (term_error (depth_error n) (depth_misspelled n) nesting b _ f) [ inl is ↦ subst IsOutside is out | inr said ↦ misspelling_inside _ said out ]
 
 no_term_not_outside : {e : Error} → IsOutside e → (nesting : ℕ) (b : List ℕ) (st : State) → NoTerm nesting b st e → ⊥
 no_term_not_outside out nesting b st (wrong_size none f s) = size_not_outside out 0 st s
-no_term_not_outside out nesting b st (wrong_term none f other) = length_not_outside out nesting b f
+no_term_not_outside out nesting b st (wrong_term none f other) = length_not_outside out st.nesting nesting b f
 
 spelling_not_outside : {e : Error} → IsOutside e → (st : State) → SpellingFault st e → ⊥
 spelling_not_outside out st (terms.no_constructor f) = constructor_not_outside out st f
@@ -190,10 +195,11 @@ term_not_outside out st (in_array item shared is) = subst IsOutside is out
 term_not_outside out st (misspelled item none f) = spelling_not_outside out st f
 
 -- a call keeps the error that the bytes of a term have
-pub fails_by_length : (takes : Bool) (a b : State) (e d : Error) (nesting : ℕ) (s : List ℕ) → e ≡ d → b ≡ record a { error = Some d }
-    → lengths.TermFault nesting s d → Fails takes a e b
-fails_by_length takes a b e d nesting s is h f =
-    let plain = λ (out : IsOutside e). length_not_outside (subst IsOutside is out) nesting s f in (
+pub fails_by_length : (takes : Bool) (a b : State) (e d deep : Error) (n nesting : ℕ) (s : List ℕ) → deep ≡ depth_error n → e ≡ d → b ≡ record a { error = Some d }
+    → lengths.TermFault deep nesting s d → Fails takes a e b
+fails_by_length takes a b e d deep n nesting s named is h f =
+    let plain = λ (out : IsOutside e). length_not_outside (subst IsOutside is out) n nesting s
+    (subst (λ x. lengths.TermFault x nesting s d) named f) in (
       ap (λ (x : State). x.error) h ∙ ap Some (sym is),
       inl (ap (λ (x : State). x.failed) h),
       λ m. absurd (plain (subst IsOutside (sym m) tt)),

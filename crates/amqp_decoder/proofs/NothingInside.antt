@@ -6,7 +6,7 @@ use Rattle.amqp_model.specs.Items.{items_of}
 use Rattle.amqp_wire.specs.declared.error.Error.{Error}
 use Rattle.amqp_decoder.specs.declared.frame.Place.{Place}
 use Rattle.amqp_decoder.specs.declared.frame.Place.TheVariants.{InArray}
-use Rattle.amqp_decoder.specs.State.{State, Has, lower, after_value}
+use Rattle.amqp_decoder.specs.State.{State, Has, lower, bound_of, after_value}
 use Rattle.amqp_decoder.specs.Reading.{after_peek, PeeksCode}
 use Rattle.amqp_decoder.specs.Primitives.{Stands}
 use Rattle.amqp_decoder.specs.Containers.{place_of, Opens, Closes, CloseFault, not_at_end, bytes_left_over}
@@ -90,7 +90,7 @@ held_end place other st n first last ts b e o row (bytes_left_over open_ none so
     let long : n ≡ length h.items = held_count place n first h o.count in
     let (others, d, is, more) = row_front ts h.items first last h.last b h.bytes row h.row (omega (arith, long, all)) in
     let same : h.last ≡ last = row_ends others last h.last d (omega (arith, long, all, ap length is, length-append ts others)) more in
-    some (ap (λ (z : State). z.top.left) (sym same) ∙ h.closed.left)
+    some (ap (λ (z : State). bound_of z.top) (sym same) ∙ h.closed.left)
 
 -- lists and maps
 opens_holding : (kind : Container) → IsRow kind → (st : State) (n : ℕ) (first : State) → Opens kind st n first

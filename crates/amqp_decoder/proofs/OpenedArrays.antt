@@ -5,11 +5,11 @@ use Rattle.amqp_model.specs.Term.{Descriptor, array}
 use Rattle.amqp_model.specs.Constructors.{compound, format}
 use Rattle.amqp_model.specs.Spelling.{IsKnown, HasWidthZero}
 use Rattle.amqp_wire.specs.declared.error.Error.{Error}
-use Rattle.amqp_wire.specs.declared.error.Error.TheVariants.{Depth, ZeroWidthItems}
+use Rattle.amqp_wire.specs.declared.error.Error.TheVariants.{ZeroWidthItems}
 use Rattle.amqp_wire.specs.Codes.{refusal_of}
 use Rattle.amqp_decoder.specs.declared.frame.Place.{Place}
 use Rattle.amqp_decoder.specs.declared.frame.Place.TheVariants.{InArray}
-use Rattle.amqp_decoder.specs.State.{State, Has, in_container}
+use Rattle.amqp_decoder.specs.State.{State, depth_error, Has, in_container}
 use Rattle.amqp_decoder.specs.Steps.{Answers, IsExcused, NoRoom, Stops}
 use Rattle.amqp_decoder.specs.Reading.{RefusesRead, AnswersRead, ReadsCode, BeginFault}
 use Rattle.amqp_decoder.specs.Containers.{ReadsHeader, HeaderFault}
@@ -53,12 +53,14 @@ stopped_zero n st ds c m zero e new some t wide zero_is is kept =
 
 pub stopped_nested : (n : ℕ) (st : State) (ds : List Descriptor) (c : ℕ) (m : State) (flat : Bool) (e : Error) (new : State) → (n ≡ 0 → ⊥)
     → TakesConstructor st ds c m → (IsKnown (format c) → IsTrue flat ↔ IsFlat ds (format c))
-    → (flat ≡ false) × (e ≡ Depth) × (m.nesting < length m.saved) × (new ≡ record m { error = Some Depth })
+    → (flat ≡ false) × (e ≡ depth_error m.nesting) × (m.nesting < length m.saved)
+    × (new ≡ record m { error = Some (depth_error m.nesting) })
     → Stops true (SharesFault n st) st e new
 stopped_nested n st ds c m flat e new some t flat_is (not_flat, is, deep, kept) = record {
-  kept = answered_took t.took (answered m new e Depth kept is);
+  kept = answered_took t.took (answered m new e (depth_error m.nesting) kept is);
   why = inr (too_nested ds c m some t (λ f. let x = (flat_is (known st ds c m t)).1 f in
-      absurd (cc)) (subst (λ (z : State). z.nesting < length z.saved) t.took.moved deep) is);
+      absurd (cc)) (subst (λ (z : State). z.nesting < length z.saved) t.took.moved deep)
+      (subst (λ (z : State). e ≡ depth_error z.nesting) t.took.moved is));
 }
 
 shares_not : (n : ℕ) (st : State) (e : Error) (st' : State) → SharesFault n st e → Shares n st st' → ⊥
@@ -135,14 +137,15 @@ stopped_header w st e new s =
     record { kept = s.kept; why = elim s.why [ inl x ↦ inl (excused_by_source true e new x) | inr x ↦ inr (no_header x) ] }
 
 pub stopped_open : (w n k : ℕ) (st m : State) (e : Error) (new : State) → ReadsHeader false w st n k m
-    → Stops false (λ e. NoRoom k m e ⊎ ((m.nesting < length m.saved) × (e ≡ Depth))) m e new → Stops true (EnterArrayFault w st) st e new
+    → Stops false (λ e. NoRoom k m e ⊎ ((m.nesting < length m.saved) × (e ≡ depth_error m.nesting))) m e new → Stops true (EnterArrayFault w st) st e new
 stopped_open w n k st m e new h s = record {
   kept = answered_took h.took s.kept;
   why = elim s.why [
     | inl x ↦ inl (excused_by_source true e new x)
     | inr x ↦ elim x [
       | inl y ↦ inr (no_room n k m h y)
-      | inr y ↦ inr (too_deep n k m h (subst (λ (z : State). z.nesting < length z.saved) h.took.moved y.0) y.1)
+      | inr y ↦ inr (too_deep n k m h (subst (λ (z : State). z.nesting < length z.saved) h.took.moved y.0)
+          (subst (λ (z : State). e ≡ depth_error z.nesting) h.took.moved y.1))
     ]
   ];
 }

@@ -10,7 +10,7 @@ use Rattle.amqp_model.proofs.Bytes.{field, length-bytes}
 use Rattle.amqp_wire.specs.declared.error.Error.{Error}
 use Rattle.amqp_wire.specs.declared.error.Error.TheVariants.{OddCount}
 use Rattle.amqp_wire.specs.Codes.{refusal_of}
-use Rattle.amqp_decoder.specs.State.{State, Has, lower, after_data, in_container}
+use Rattle.amqp_decoder.specs.State.{State, depth_error, Has, lower, after_data, in_container}
 use Rattle.amqp_decoder.specs.Steps.{Answers, IsExcused, Takes, Lacks, FallsShort, RefusesSize, Stops}
 use Rattle.amqp_decoder.specs.Reading.{RefusesRead, AnswersRead, ReadsCode, BeginFault}
 use Rattle.amqp_decoder.specs.Containers.{place_of, is_list, IsCount, Counts, IsPossible, ReadsHeader, HeaderFault, no_size, impossible}
@@ -293,7 +293,8 @@ unopened_fault : (kind : Container) (w n k : ℕ) (st m : State) (e : Error) →
     → Unopened k m e → EnterFault kind w st e
 unopened_fault kind w n k st m e h c (inl x) = no_room h c x
 unopened_fault kind w n k st m e h c (inr (room, deep, d)) =
-    too_deep h c room (subst (λ (z : State). z.nesting ≤ length z.saved) h.took.moved deep) d
+    too_deep h c room (subst (λ (z : State). z.nesting ≤ length z.saved) h.took.moved deep)
+    (subst (λ (z : State). e ≡ depth_error z.nesting) h.took.moved d)
 
 pub enter_unopened : (kind : Container) (w n k : ℕ) (st m : State) (e : Error) (new : State) → ReadsHeader (is_list kind) w st n k m
     → IsCount kind n → Stops false (Unopened k m) m e new → Stops false (EnterFault kind w st) st e new

@@ -12,7 +12,7 @@ use Rattle.amqp_decoder.specs.State.{State, Has, after_look, after_bytes, after_
 use Rattle.amqp_decoder.specs.Steps.{Answers, Takes, RefusesSize}
 use Rattle.amqp_decoder.specs.Reading.{RefusesRead, IsFirst, IsFirstShared, ReadsCode, BeginFault, PeeksCode, after_peek}
 use Rattle.amqp_decoder.specs.Primitives.{standing, SpellsAs, Stands, ReadsValue}
-use Rattle.amqp_decoder.proofs.Steps.{begun_own, begun_shared, begin_short, short_of_size, missed_lacks, has_item}
+use Rattle.amqp_decoder.proofs.Steps.{begun_own, begun_shared, begin_short, short_by_one, missed_lacks, has_item}
 
 under_shared : (o : Option (List Descriptor × ℕ)) (c : ℕ) (st : State) → IsFirstShared o c → st ≡ after_peek o st
 under_shared None c st h = absurd h
@@ -51,11 +51,11 @@ peek_refused st e new r = record {
   none = elim r.none [ inl x ↦ inl x | inr f ↦ inr (λ c b h. f c h.after h.begun) ];
 }
 
--- the container has no byte left
+-- no byte is left
 pub peek_size : (st : State) (e : Error) (new : State) → st.error ≡ None → Has st.top.items 1 → st.top.shared ≡ None → st.top.left ≡ Some 0
     → RefusesSize 1 st e new → RefusesRead false PeeksCode BeginFault st e new
 peek_size st e new going item none left r =
-    peek_refused st e new (begin_short st e new going item none (short_of_size 1 1 0 st e new left (omega arith) r))
+    peek_refused st e new (begin_short st e new going item none (short_by_one st e new left r))
 
 nothing_at : (row : List ℕ) → None ≡ slice_get row 0 → length row ≡ 0
 nothing_at [] e = refl
@@ -76,7 +76,7 @@ pub peek_cut : (st : State) (e : Error) (new : State) → st.error ≡ None → 
     → (st.top.left ≡ Some 0 → ⊥) → length st.rest < 1 → e ≡ Cut → Answers st e new → RefusesRead false PeeksCode BeginFault st e new
 peek_cut st e new going item none left short is kept =
     peek_refused st e new (begin_short st e new going item none
-    (record { kept = kept; why = inr (missed_lacks 1 st st.top.left e refl (has_item st.top.left left) is short) }))
+    (record { kept = kept; why = inr (missed_lacks 1 st e (has_item st.top.left left) is short) }))
 
 max-minus : (a n k : ℕ) → n ≤ k → max a n - k ≡ a - k
 max-minus a n k h = omega (arith, h)

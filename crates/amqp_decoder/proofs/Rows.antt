@@ -16,7 +16,7 @@ use Rattle.amqp_decoder.specs.declared.frame.OpenContainer.{OpenContainer}
 use Rattle.amqp_decoder.specs.declared.frame.Place.{Place}
 use Rattle.amqp_decoder.specs.declared.frame.Place.TheVariants.{Top, InList, InMap, InArray, InDescribed}
 use Rattle.amqp_decoder.specs.State.{DescriptorValues, Open, open_of, items_of, shared_of, descriptor_of, State, stack, unused, bytes_left}
-use Rattle.amqp_decoder.specs.State.{shared_in, AreNested, top_level, IsLevel, AreBounded, IsContainer}
+use Rattle.amqp_decoder.specs.State.{shared_in, AreNested, IsLevel, AreBounded, IsContainer, left_in, is_sized, emptied, limit_around}
 use Rattle.amqp_decoder.specs.Rooms.{IsRoomy}
 use Rattle.amqp_decoder.specs.Described.{IsMark, IsUnmarked, behind}
 use Rattle.amqp_wire.specs.declared.descriptor.Descriptor.{Descriptor as DescriptorValue}
@@ -33,28 +33,75 @@ sum_take_more n fs false e =
     let none : left_of (get_or fs n unused) ≡ 0 = ap left_of (get_or-eq_default fs unused h) in
     ap (sum_by left_of) whole ∙ (omega (arith, none))
 
-pub stack_left : (ds : DescriptorValues) (n : ℕ) (fs : List OpenContainer)
-    → sum_by (λ (f : OpenContainer). unwrap_or f.left 0) (take n fs) ≡ bytes_left (stack ds n fs)
-stack_left ds zero fs = refl
-stack_left ds (suc n) fs =
-    let i = stack_left ds n fs in
+-- the bound of a frame is its own
+pub bound_is : (o limit : Option ℕ) → cond (is_sized o) (left_in o limit) None ≡ o
+bound_is None limit = refl
+bound_is (Some l) limit = refl
+
+pub stack_left : (ds : DescriptorValues) (limit : Option ℕ) (n : ℕ) (fs : List OpenContainer)
+    → sum_by (λ (f : OpenContainer). unwrap_or f.left 0) (take n fs) ≡ bytes_left (stack ds limit n fs)
+stack_left ds limit zero fs = refl
+stack_left ds limit (suc n) fs =
+    let own = (get_or fs n unused).left in
+    let i = stack_left ds (limit_around own limit) n fs in
     let e = sum_take_more n fs (ltb n (length fs)) refl in
-    ap (λ k. sum_by left_of (take k fs)) (sym (add-one n)) ∙ e ∙ (omega (arith, i))
+    let b = ap (λ o. unwrap_or o 0) (bound_is own limit) in
+    ap (λ k. sum_by left_of (take k fs)) (sym (add-one n)) ∙ e ∙ (omega (arith, i, b))
 
-pub stack-set : (ds : DescriptorValues) (d i : ℕ) (fs : List OpenContainer) (f : OpenContainer) → d ≤ i
-    → stack ds d (set fs i f) ≡ stack ds d fs
-stack-set ds zero i fs f h = refl
-stack-set ds (suc d) i fs f h =
+pub stack-set : (ds : DescriptorValues) (limit : Option ℕ) (d i : ℕ) (fs : List OpenContainer) (f : OpenContainer) → d ≤ i
+    → stack ds limit d (set fs i f) ≡ stack ds limit d fs
+stack-set ds limit zero i fs f h = refl
+stack-set ds limit (suc d) i fs f h =
     let ne : ◌≢◌ d i = omega arith in
-    rw (get_or-set_other fs i d f unused ne, stack-set ds d i fs f (omega arith)) refl
+    rw (get_or-set_other fs i d f unused ne, stack-set ds (limit_around (get_or fs d unused).left limit) d i fs f (omega arith)) refl
 
-pub length-stack : (ds : DescriptorValues) (d : ℕ) (fs : List OpenContainer) → length (stack ds d fs) ≡ d
-length-stack ds zero fs = refl
-length-stack ds (suc d) fs = ap suc (length-stack ds d fs)
+pub length-stack : (ds : DescriptorValues) (limit : Option ℕ) (d : ℕ) (fs : List OpenContainer) → length (stack ds limit d fs) ≡ d
+length-stack ds limit zero fs = refl
+length-stack ds limit (suc d) fs = ap suc (length-stack ds (limit_around (get_or fs d unused).left limit) d fs)
 
-pub stack-push : (ds : DescriptorValues) (d : ℕ) (fs : List OpenContainer) (f : OpenContainer) → d < length fs
-    → stack ds (d + 1) (set fs d f) ≡ open_of ds f ∷ stack ds d fs
-stack-push ds d fs f h = rw (add-one, get_or-set_same fs d f unused h, stack-set ds d d fs f (omega arith)) refl
+pub stack-push : (ds : DescriptorValues) (limit : Option ℕ) (d : ℕ) (fs : List OpenContainer) (f : OpenContainer) → d < length fs
+    → stack ds limit (d + 1) (set fs d f) ≡ open_of ds limit f ∷ stack ds (limit_around f.left limit) d fs
+stack-push ds limit d fs f h =
+    rw (add-one, get_or-set_same fs d f unused h, stack-set ds (limit_around f.left limit) d d fs f (omega arith)) refl
+
+-- the innermost of the frames, and those around it
+pub stack_top : (ds : DescriptorValues) (limit : Option ℕ) (d k : ℕ) (fs : List OpenContainer) (outer : Open) (others : List Open)
+    → d ≡ suc k → stack ds limit d fs ≡ outer ∷ others
+    → (open_of ds limit (get_or fs k unused) ≡ outer) × (stack ds (limit_around (get_or fs k unused).left limit) k fs ≡ others)
+stack_top ds limit d k fs outer others is e =
+    let f : open_of ds limit (get_or fs k unused) ∷ stack ds (limit_around (get_or fs k unused).left limit) k fs ≡ outer ∷ others =
+    ap (λ n. stack ds limit n fs) (sym is) ∙ e in
+    (ap (λ l. get_or l 0 outer) f, ap (drop 1) f)
+
+emptied-emptied : (o : Option ℕ) → emptied (emptied o) ≡ emptied o
+emptied-emptied None = refl
+emptied-emptied (Some l) = refl
+
+-- what is described takes the bytes of what it stands in
+around_by : (o k limit : Option ℕ) → k ≡ option_and {U = ℕ} o (Some 0)
+    → (left_in k (limit_around o limit) ≡ emptied (left_in o limit)) × (is_sized k ≡ is_sized o)
+    × (limit_around k (limit_around o limit) ≡ limit_around o limit)
+around_by None k limit e =
+    (ap (λ z. left_in z (emptied limit)) e, ap is_sized e, ap (λ z. limit_around z (emptied limit)) e ∙ emptied-emptied limit)
+around_by (Some l) k limit e = (ap (λ z. left_in z limit) e, ap is_sized e, ap (λ z. limit_around z limit) e)
+
+pub described_push : (ds : DescriptorValues) (limit : Option ℕ) (d : ℕ) (fs : List OpenContainer) (f : OpenContainer) (k : Option ℕ)
+    → d < length fs → k ≡ option_and {U = ℕ} f.left (Some 0)
+    → stack ds (limit_around f.left limit) (d + 1) (set fs d (record f { left = k }))
+    ≡ (record (open_of ds limit f) { left = emptied (left_in f.left limit) }) ∷ stack ds (limit_around f.left limit) d fs
+described_push ds limit d fs f k h e =
+    let (a, b, c) = around_by f.left k limit e in
+    stack-push ds (limit_around f.left limit) d fs (record f { left = k }) h
+    ∙ ap (λ z. (record (open_of ds limit f) { left = z; sized = is_sized k }) ∷ stack ds (limit_around k (limit_around f.left limit)) d fs) a
+    ∙ ap (λ z. (record (open_of ds limit f) { left = emptied (left_in f.left limit); sized = z })
+    ∷ stack ds (limit_around k (limit_around f.left limit)) d fs) b
+    ∙ ap (λ z. (record (open_of ds limit f) { left = emptied (left_in f.left limit) }) ∷ stack ds z d fs) c
+
+-- what stands around what is described keeps what the limit leaves
+pub around_left : (o k limit : Option ℕ) → (o ≡ None → k ≡ None) → limit_around o (limit_around k limit) ≡ limit_around k limit
+around_left None None limit h = emptied-emptied limit
+around_left None (Some l) limit h = let e = h refl in absurd (cc)
+around_left (Some l) k limit h = refl
 
 pub split_saved : (l : List Open) → (length l ≡ 0 → ⊥) → (outer : Open) × (others : List Open) × (l ≡ outer ∷ others)
 split_saved [] h = absurd (h refl)
@@ -103,10 +150,10 @@ container_items Top n h = absurd h
 container_items InDescribed n h = absurd h
 
 -- a container that is entered counts in nesting, or has no items
-pub room_inside : (o : Open) (d depth nesting : ℕ) (p : Place) (n : ℕ) → o.items ≡ items_of p n → depth ≡ d → nesting ≡ 128
-    → IsContainer p → (depth < nesting) ⊎ (n ≡ 0) → IsRoomy 128 (d + 1) o
-room_inside o d depth nesting p n is e f h (inl few) = inl (omega arith)
-room_inside o d depth nesting p n is e f h (inr none) = inr (inl (is ∙ container_items p n h ∙ ap Some none))
+pub room_inside : (o : Open) (d depth nesting limit : ℕ) (p : Place) (n : ℕ) → o.items ≡ items_of p n → depth ≡ d → nesting ≡ limit
+    → IsContainer p → (depth < nesting) ⊎ (n ≡ 0) → IsRoomy limit (d + 1) o
+room_inside o d depth nesting limit p n is e f h (inl few) = inl (omega arith)
+room_inside o d depth nesting limit p n is e f h (inr none) = inr (inl (is ∙ container_items p n h ∙ ap Some none))
 
 none_less : (p : Place) (i k : ℕ) → k ≡ i - 1 → items_of p i ≡ Some 0 → items_of p k ≡ Some 0
 none_less Top i k less e = absurd (cc)
@@ -115,19 +162,11 @@ none_less InMap i k less e = ap Some (omega (arith, ap (λ o. unwrap_or o 0) e))
 none_less InArray i k less e = ap Some (omega (arith, ap (λ o. unwrap_or o 0) e))
 none_less InDescribed i k less e = ap Some (omega (arith, ap (λ o. unwrap_or o 0) e))
 
-pub room_less : (ds : DescriptorValues) (d : ℕ) (f : OpenContainer) (k : ℕ) → k ≡ f.items - 1 → IsRoomy 128 d (open_of ds f)
-    → IsRoomy 128 d (open_of ds (record f { items = k }))
-room_less ds d f k less (inl few) = inl few
-room_less ds d f k less (inr (inl none)) = inr (inl (none_less f.place f.items k less none))
-room_less ds d f k less (inr (inr flat)) = inr (inr flat)
-
-level_of : (p : Place) (i : ℕ) (l : Option ℕ) (c : ℕ) (part : DescriptorValues) → p ≡ Top → l ≡ None → c ≡ 0
-    → ◌≡◌ {A = Open} (record { place = p; items = items_of p i; left = l; shared = cond (eqb c 0) None (Some (map descriptor_of part, c)) })
-    top_level
-level_of p i l c part e f g = rw (e, f, g) refl
-
-pub level : (ds : DescriptorValues) (f : OpenContainer) → IsLevel f → f.place ≡ Top → open_of ds f ≡ top_level
-level ds f h e = level_of f.place f.items f.left f.code (take (f.last - f.first) (drop f.first ds)) e (h e).0 (h e).1
+pub room_less : (limit : ℕ) (bytes : Option ℕ) (ds : DescriptorValues) (d : ℕ) (f : OpenContainer) (k : ℕ) → k ≡ f.items - 1
+    → IsRoomy limit d (open_of ds bytes f) → IsRoomy limit d (open_of ds bytes (record f { items = k }))
+room_less limit bytes ds d f k less (inl few) = inl few
+room_less limit bytes ds d f k less (inr (inl none)) = inr (inl (none_less f.place f.items k less none))
+room_less limit bytes ds d f k less (inr (inr flat)) = inr (inr flat)
 
 -- at most 128 descriptors for each frame
 few_nested : (d : ℕ) (fs : List OpenContainer) (m : ℕ) → AreNested d fs m → m ≤ 128 * d + 128
@@ -164,22 +203,24 @@ part_kept ds es n first (suc k) last is few e =
     sym (drop-take first (suc k) ds) ∙ ap (drop first) (front_kept (first + suc k) n ds es within e) ∙ drop-take first (suc k) es
 
 -- descriptors behind those of a frame don't count in it
-pub open_kept : (ds es : DescriptorValues) (n : ℕ) (f : OpenContainer) → f.last ≤ n → take n ds ≡ take n es → open_of ds f ≡ open_of es f
-open_kept ds es n f few e =
+pub open_kept : (ds es : DescriptorValues) (limit : Option ℕ) (n : ℕ) (f : OpenContainer) → f.last ≤ n → take n ds ≡ take n es
+    → open_of ds limit f ≡ open_of es limit f
+open_kept ds es limit n f few e =
     ap (λ part. record {
       place = f.place;
       items = items_of f.place f.items;
-      left = f.left;
+      left = left_in f.left limit;
+      sized = is_sized f.left;
       shared = cond (eqb f.code 0) None (Some (map descriptor_of part, f.code));
     })
     (part_kept ds es n f.first (f.last - f.first) f.last refl few e)
 
-pub stack_kept : (ds es : DescriptorValues) (n d : ℕ) (fs : List OpenContainer) (m : ℕ) → AreNested d fs m → m ≤ n → take n ds ≡ take n es
-    → stack ds d fs ≡ stack es d fs
-stack_kept ds es n zero fs m h few e = refl
-stack_kept ds es n (suc d) fs m h few e =
-    ap₂ (λ o l. o ∷ l) (open_kept ds es n (get_or fs d unused) (omega (arith, h.0)) e)
-    (stack_kept ds es n d fs (get_or fs d unused).last h.2 (omega (arith, h.0)) e)
+pub stack_kept : (ds es : DescriptorValues) (limit : Option ℕ) (n d : ℕ) (fs : List OpenContainer) (m : ℕ) → AreNested d fs m → m ≤ n
+    → take n ds ≡ take n es → stack ds limit d fs ≡ stack es limit d fs
+stack_kept ds es limit n zero fs m h few e = refl
+stack_kept ds es limit n (suc d) fs m h few e =
+    ap₂ (λ o l. o ∷ l) (open_kept ds es limit n (get_or fs d unused) (omega (arith, h.0)) e)
+    (stack_kept ds es (limit_around (get_or fs d unused).left limit) n d fs (get_or fs d unused).last h.2 (omega (arith, h.0)) e)
 
 -- the first descriptor of those that are left
 part_first : (ds : DescriptorValues) (first last : ℕ) (d : DescriptorValue) → first < last → last ≤ length ds
@@ -253,17 +294,17 @@ added_shared ds es l n c last some h is end_ =
     some_shared l c n last es some (ap (λ x. take (last - n) (drop n x)) is ∙ part_added (take n ds) es n last (length-take-le n ds h) end_)
 
 -- what is put behind the descriptors of the frames, of which there are n: the constructor that it makes, and those frames as before
-pub put_behind : (ds es l : DescriptorValues) (d : ℕ) (fs : List OpenContainer) (m n c last : ℕ) → AreNested d fs m → m ≤ length ds
+pub put_behind : (ds es l : DescriptorValues) (limit : Option ℕ) (d : ℕ) (fs : List OpenContainer) (m n c last : ℕ) → AreNested d fs m → m ≤ length ds
     → d ≤ length fs → n ≡ shared_in (length (take d fs)) (take d fs) → l ≡ take n ds ++ es → 0 < c → last ≡ n + length es
-    → (n ≡ shared_in d fs) × (shared_of l c n last ≡ Some (map descriptor_of es, c)) × (stack l d fs ≡ stack ds d fs)
-put_behind ds es l d fs m n c last nested within rows is put some end_ =
+    → (n ≡ shared_in d fs) × (shared_of l c n last ≡ Some (map descriptor_of es, c)) × (stack l limit d fs ≡ stack ds limit d fs)
+put_behind ds es l limit d fs m n c last nested within rows is put some end_ =
     let first : n ≡ shared_in d fs = is ∙ shared_front d fs rows in
     let among = shared_among d fs m nested in
     let few : n ≤ length ds = omega (arith, among, first) in
     let front : AreNested d fs n = nested_last d fs m n nested (omega (arith, first)) (omega (arith, first)) in (
       first,
       added_shared ds es l n c last (λ z. omega (arith, some, z)) few put end_,
-      stack_kept l ds n d fs n front (omega arith) (added_front ds es l n few put),
+      stack_kept l ds limit n d fs n front (omega arith) (added_front ds es l n few put),
     )
 
 abbrev state_of : List ℕ → ℕ → ℕ → ℕ → Option Error → Bool → Open → List Open → State

@@ -63,7 +63,7 @@ sized_cut w n st m e new a s = record {
           a.mid,
           a.fits,
           a.took,
-          missed_lacks n a.mid a.mid.top.left e refl a.room x (subst (λ (z : State). length z.rest < n) a.lowered y),
+          missed_lacks n a.mid e a.room x (subst (λ (z : State). length z.rest < n) a.lowered y),
         ))
   ];
 }

@@ -1,13 +1,13 @@
 -- How the steps of a call follow one another.
-use Rattle.std.proofs.Common.{◌≡◌, ◌≤◌, ◌<◌, ℕ, ◌-◌, inl, inr, Bool, false, Option, Some, None, List, [], ◌∷◌, ◌++◌, length, drop, get_or}
+use Rattle.std.proofs.Common.{◌≡◌, ◌≤◌, ◌<◌, ℕ, ◌-◌, inl, inr, Bool, true, false, cond, Option, Some, None, List, [], ◌∷◌, ◌++◌, length, drop, get_or}
 use Rattle.std.proofs.Common.{unwrap_or, refl, sym, ap, ◌∙◌, subst, arith, suc, zero}
 use Rattle.std.proofs.lemmas.List.{length-append}
 use Rattle.amqp_model.specs.Term.{Descriptor}
 use Rattle.amqp_wire.specs.declared.error.Error.{Error}
-use Rattle.amqp_wire.specs.declared.error.Error.TheVariants.{Cut}
-use Rattle.amqp_decoder.specs.State.{State, Has, lower, after_value, announced}
-use Rattle.amqp_decoder.specs.Steps.{Answers, RefusesBy, SourceFailed, IsExcused, Pulls, Misses, Takes, Lacks, cut_open, cut_inside, too_long}
-use Rattle.amqp_decoder.specs.Steps.{FallsShort, Stops, asked_in, SizeError, cut, wrong, RefusesSize}
+use Rattle.amqp_wire.specs.declared.error.Error.TheVariants.{Cut, Limit}
+use Rattle.amqp_decoder.specs.State.{Open, State, Has, lower, bound_of, after_value, announced}
+use Rattle.amqp_decoder.specs.Steps.{Answers, RefusesBy, SourceFailed, IsExcused, Pulls, Misses, Takes, Lacks, cut_open, past_limit, cut_inside, too_long}
+use Rattle.amqp_decoder.specs.Steps.{FallsShort, NoRoom, Stops, asked_in, SizeError, cut, wrong, past, RefusesSize}
 use Rattle.amqp_decoder.specs.Reading.{RefusesRead, IsFirst, IsFirstShared, ReadsCode, BeginFault, no_code}
 
 -- a call that takes no memory is excused by its source alone
@@ -44,22 +44,61 @@ answered_begun g a = answered_later (ap (λ (x : State). x.failed) g.moved) a
 abbrev pub lowered : ℕ → State → State
 lowered n st = record st { top = record st.top { left = lower st.top.left n } }
 
-size_lacks : (own n l : ℕ) (st : State) (e : Error) → st.top.left ≡ Some l → l < n → SizeError own st e → Lacks n st e
-size_lacks own n l st e h less (cut short is) =
+bound_left_by : (sized : Bool) (o : Option ℕ) (l : ℕ) → cond sized o None ≡ Some l → o ≡ Some l
+bound_left_by true o l e = e
+bound_left_by false o l e = absurd (cc)
+
+-- what a size leaves is left
+pub bound_left : (f : Open) (l : ℕ) → bound_of f ≡ Some l → f.left ≡ Some l
+bound_left f l e = bound_left_by f.sized f.left l e
+
+size_lacks : (own n l : ℕ) (st : State) (e : Error) → bound_of st.top ≡ Some l → l < n → SizeError own st e → Lacks n st e
+size_lacks own n l st e h less (past none full is) = absurd (cc)
+size_lacks own n l st e h less (cut fits short is) =
     cut_inside h (inl less) (subst (λ o. length st.rest < asked_in o own (announced st)) h short) is
-size_lacks own n l st e h less (wrong there is) = too_long h less (subst (λ o. asked_in o own (announced st) ≤ length st.rest) h there) is
+size_lacks own n l st e h less (wrong fits there is) = too_long h less (subst (λ o. asked_in o own (announced st) ≤ length st.rest) h there) is
 
 -- a size was refused in a container that has no room
-pub short_of_size : (own n l : ℕ) (st : State) (e : Error) (new : State) → st.top.left ≡ Some l → l < n
+pub short_of_size : (own n l : ℕ) (st : State) (e : Error) (new : State) → bound_of st.top ≡ Some l → l < n
     → RefusesSize own st e new → FallsShort n st e new
 short_of_size own n l st e new h less r = record {
   kept = r.kept;
   why = elim r.why [ inl x ↦ inl x | inr x ↦ inr (size_lacks own n l st e h less x) ];
 }
 
-pub missed_lacks : (n : ℕ) (st : State) (o : Option ℕ) (e : Error) → st.top.left ≡ o → Has o n → e ≡ Cut → length st.rest < n → Lacks n st e
-missed_lacks n st None e h room is short = cut_open h short is
-missed_lacks n st (Some l) e h room is short = cut_inside h (inr short) (omega (arith, ap (λ o. unwrap_or o 0) h)) is
+missed_by : (n : ℕ) (st : State) (o : Option ℕ) (e : Error) → bound_of st.top ≡ o → Has st.top.left n → e ≡ Cut → length st.rest < n
+    → Lacks n st e
+missed_by n st None e h room is short = cut_open h room short is
+missed_by n st (Some l) e h room is short =
+    let fits : Has (Some l) n = subst (λ o. Has o n) (bound_left st.top l h) room in
+    cut_inside h (inr short) (omega (arith, fits, ap (λ o. unwrap_or o 0) h)) is
+
+pub missed_lacks : (n : ℕ) (st : State) (e : Error) → Has st.top.left n → e ≡ Cut → length st.rest < n → Lacks n st e
+missed_lacks n st e room is short = missed_by n st (bound_of st.top) e refl room is short
+
+-- the bytes pass the limit
+pub short_of_limit : (n : ℕ) (st : State) (e : Error) (new : State) → (bound_of st.top ≡ None) × (Has st.top.left n → ⊥) → e ≡ Limit
+    → Answers st e new → FallsShort n st e new
+short_of_limit n st e new (none, full) is kept = record { kept = kept; why = inr (past_limit none full is) }
+
+pub no_room_by_limit : (n : ℕ) (st : State) (e : Error) (new : State) → (bound_of st.top ≡ None) × (Has st.top.left n → ⊥) → e ≡ Limit
+    → Answers st e new → Stops false (NoRoom n st) st e new
+no_room_by_limit n st e new (none, full) is kept = record { kept = kept; why = inr (record { less = full; why = past none full is }) }
+
+-- the limit leaves no byte
+pub short_by_one : (st : State) (e : Error) (new : State) → st.top.left ≡ Some 0 → RefusesSize 1 st e new → FallsShort 1 st e new
+short_by_one st e new left r =
+    record { kept = r.kept; why = elim r.why [ inl x ↦ inl x | inr x ↦ inr (one_lacks (bound_of st.top) refl x) ] }
+  where
+    none : Has st.top.left 1 → ⊥
+    none h = let x : Has (Some 0) 1 = subst (λ o. Has o 1) left h in omega (arith, x)
+
+    one_lacks : (o : Option ℕ) → bound_of st.top ≡ o → SizeError 1 st e → Lacks 1 st e
+    one_lacks None h (cut fits short is) = absurd (none (fits h))
+    one_lacks None h (wrong fits there is) = absurd (none (fits h))
+    one_lacks None h (past b full is) = past_limit b full is
+    one_lacks (Some l) h x =
+        let same : l ≡ 0 = ap (λ o. unwrap_or o 0) (sym (bound_left st.top l h) ∙ left) in size_lacks 1 1 l st e h (omega (arith, same)) x
 
 -- too few bytes stood behind those that the container has room for
 pub short_of_missed : (n k : ℕ) (st : State) (m : State) (e : Error) (new : State) → k ≡ n → Has st.top.left n → m ≡ lowered n st
@@ -68,7 +107,7 @@ short_of_missed n k st m e new same room is r = record {
   kept = answered_later (ap (λ (x : State). x.failed) is) r.kept;
   why = elim r.why [
     | inl x ↦ inl (source_failed e new x)
-    | inr (x, y) ↦ inr (missed_lacks n st st.top.left e refl room x (subst (λ (z : State). length z.rest < n) is (omega (arith, same, y))))
+    | inr (x, y) ↦ inr (missed_lacks n st e room x (subst (λ (z : State). length z.rest < n) is (omega (arith, same, y))))
   ];
 }
 
@@ -92,12 +131,13 @@ has_less (Some l) m n h k = omega arith
 -- bytes that stand there can be taken
 pub not_lacking : (n : ℕ) (st : State) (e : Error) (s x : List ℕ) → Lacks n st e → n ≤ length s
     → Has st.top.left (length s) → st.rest ≡ s ++ x → ⊥
-not_lacking n st e s x (cut_open h short is) few room r = omega (arith, ap length r, length-append s x)
+not_lacking n st e s x (cut_open h fits short is) few room r = omega (arith, ap length r, length-append s x)
+not_lacking n st e s x (past_limit h full is) few room r = full (has_less st.top.left n (length s) few room)
 not_lacking n st e s x (cut_inside {l} h why short is) few room r =
-    let fits : length s ≤ l = subst (λ o. Has o (length s)) h room in
+    let fits : length s ≤ l = subst (λ o. Has o (length s)) (bound_left st.top l h) room in
     elim why [ inl y ↦ omega arith | inr y ↦ omega (arith, ap length r, length-append s x) ]
 not_lacking n st e s x (too_long {l} h less there is) few room r =
-    let fits : length s ≤ l = subst (λ o. Has o (length s)) h room in omega arith
+    let fits : length s ≤ l = subst (λ o. Has o (length s)) (bound_left st.top l h) room in omega arith
 
 -- a value begins, by its first byte or by a shared constructor
 pub begun_own : (st : State) (c : ℕ) (m : State) → st.error ≡ None → Has st.top.items 1 → st.top.shared ≡ None → Takes st (c ∷ []) m
@@ -178,7 +218,7 @@ stopped_missed n st m e new room is s = record {
   kept = answered_later (ap (λ (x : State). x.failed) is) s.kept;
   why = elim s.why [
     | inl x ↦ inl x
-    | inr (x, y) ↦ inr (missed_lacks n st st.top.left e refl room x (subst (λ (z : State). length z.rest < n) is y))
+    | inr (x, y) ↦ inr (missed_lacks n st e room x (subst (λ (z : State). length z.rest < n) is y))
   ];
 }
 

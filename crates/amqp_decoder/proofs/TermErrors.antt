@@ -1,11 +1,11 @@
 -- Where bytes are no term, the error is that they end, or it says so of them.
-use Rattle.std.proofs.Common.{◌≡◌, ℕ, ◌⊎◌, inl, inr, ◌∙◌, arith, Bool, true, false, cond, eqb, List, Option, Some, None, refl, sym, subst}
+use Rattle.std.proofs.Common.{◌≡◌, ℕ, ◌⊎◌, inl, inr, ◌∙◌, arith, Bool, true, false, cond, eqb, nat_lt, List, Option, Some, None, refl, sym, subst}
 use Rattle.std.proofs.lemmas.Bool.{eqb-true, eq-eqb}
 use Rattle.amqp_model.specs.Term.{Primitive, char, string, symbol, Container, array}
 use Rattle.amqp_model.specs.Constructors.{Format, fixed, variable, compound, unknown, format}
 use Rattle.amqp_model.specs.Spelling.{IsKnown}
 use Rattle.amqp_wire.specs.declared.error.Error.{Error}
-use Rattle.amqp_wire.specs.declared.error.Error.TheVariants.{Cut, UnknownCode, FloatCode, WrongType}
+use Rattle.amqp_wire.specs.declared.error.Error.TheVariants.{Cut, UnknownCode, FloatCode, WrongType, Depth, Limit}
 use Rattle.amqp_wire.specs.Codes.{is_known, refusal_of}
 use Rattle.amqp_lengths.specs.Pieces.{value_of}
 use Rattle.amqp_lengths.specs.Faults.{ValueFault, PrimitiveFault, primitive_wanting, primitive_no_value, DescriptorFault}
@@ -17,6 +17,7 @@ use Rattle.amqp_lengths.specs.Faults.{container_content, container_deep, contain
 use Rattle.amqp_lengths.specs.Faults.{items_over, ArrayFault, array_content, array_elements, ElementsFault, elements_missing}
 use Rattle.amqp_lengths.specs.Faults.{elements_constructor, elements_over, elements_empty, elements_deep, elements_data, SharedFault}
 use Rattle.amqp_lengths.specs.Faults.{shared_fault, shared_over}
+use Rattle.amqp_decoder.specs.State.{depth_error}
 use Rattle.amqp_decoder.specs.Misspelled.{IsMisspelling}
 
 yes_no : (b : Bool) → b ≡ true → b ≡ false → ⊥
@@ -63,6 +64,14 @@ misspelled_refusal : (c : ℕ) → (c ≡ 0 → ⊥) → (IsKnown (format c) →
 misspelled_refusal c some none = misspelled_by c (eqb c 0x72) (eqb c 0x82) (eqb c 0) (is_known (format c)) refl refl some none
 
 -- the errors of terms
+deep_by : (b : Bool) → IsMisspelling (cond b Limit Depth)
+deep_by true = tt
+deep_by false = tt
+
+-- the error for a value that nests too deep
+pub depth_misspelled : (n : ℕ) → IsMisspelling (depth_error n)
+depth_misspelled n = deep_by (nat_lt n 128)
+
 abbrev IsOfTerms : Error → Type 0
 IsOfTerms e = (e ≡ Cut) ⊎ IsMisspelling e
 
@@ -102,43 +111,45 @@ of_content kind w input e (content_wanting h) = inl refl
 of_content kind w input e (content_small h) = inr tt
 of_content kind w input e (content_counted k h) = inr tt
 
-mutual
-  of_term : (nesting : ℕ) (input : List ℕ) (e : Error) → TermFault nesting input e → IsOfTerms e
-  of_term nesting input e (term_constructor k b x h) = of_constructor b x h
-  of_term nesting input e (term_nests k b n c after there deep) = inr tt
-  of_term nesting input e (term_data k b x n c left after there is h) = of_data c left after x h
+-- deep: the error for values that nest too deep
+module _ (deep : Error) (said : IsMisspelling deep) where
+  mutual
+    of_term : (nesting : ℕ) (input : List ℕ) (e : Error) → TermFault deep nesting input e → IsOfTerms e
+    of_term nesting input e (term_constructor k b x h) = of_constructor b x h
+    of_term nesting input e (term_nests k b n c after there more) = inr said
+    of_term nesting input e (term_data k b x n c left after there is h) = of_data c left after x h
 
-  of_data : (code nesting : ℕ) (input : List ℕ) (e : Error) → DataFault code nesting input e → IsOfTerms e
-  of_data code nesting input e (data_of_primitive c k b x h) = of_primitive (format c) b x h
-  of_data code nesting input e (data_of_container c k b x kind w is some h) = of_container kind w k b x h
-  of_data code nesting input e (data_of_array c k b x w is h) = of_array w k b x h
+    of_data : (code nesting : ℕ) (input : List ℕ) (e : Error) → DataFault deep code nesting input e → IsOfTerms e
+    of_data code nesting input e (data_of_primitive c k b x h) = of_primitive (format c) b x h
+    of_data code nesting input e (data_of_container c k b x kind w is some h) = of_container kind w k b x h
+    of_data code nesting input e (data_of_array c k b x w is h) = of_array w k b x h
 
-  of_container : (kind : Container) (w nesting : ℕ) (input : List ℕ) (e : Error) → ContainerFault kind w nesting input e → IsOfTerms e
-  of_container kind w nesting input e (container_content k v m b x h) = of_content k v b x h
-  of_container kind w nesting input e (container_deep k v m b after there is) = inr tt
-  of_container kind w nesting input e (container_unpaired k v m b n items after there odd) = inr tt
-  of_container kind w nesting input e (container_items k v m b x n left items after there is h) = inr (of_items left n items x h)
+    of_container : (kind : Container) (w nesting : ℕ) (input : List ℕ) (e : Error) → ContainerFault deep kind w nesting input e → IsOfTerms e
+    of_container kind w nesting input e (container_content k v m b x h) = of_content k v b x h
+    of_container kind w nesting input e (container_deep k v m b after there is) = inr said
+    of_container kind w nesting input e (container_unpaired k v m b n items after there odd) = inr tt
+    of_container kind w nesting input e (container_items k v m b x n left items after there is h) = inr (of_items left n items x h)
 
-  of_items : (nesting n : ℕ) (content : List ℕ) (e : Error) → ItemsFault nesting n content e → IsMisspelling e
-  of_items nesting n content e (items_fault k m b x done after less there h) = of_inside x (of_term k after x h)
-  of_items nesting n content e (items_over k m b after there some) = tt
+    of_items : (nesting n : ℕ) (content : List ℕ) (e : Error) → ItemsFault deep nesting n content e → IsMisspelling e
+    of_items nesting n content e (items_fault k m b x done after less there h) = of_inside x (of_term k after x h)
+    of_items nesting n content e (items_over k m b after there some) = tt
 
-  of_array : (w nesting : ℕ) (input : List ℕ) (e : Error) → ArrayFault w nesting input e → IsOfTerms e
-  of_array w nesting input e (array_content v m b x h) = of_content array v b x h
-  of_array w nesting input e (array_elements v m b x n items after there h) = inr (of_elements m n items x h)
+    of_array : (w nesting : ℕ) (input : List ℕ) (e : Error) → ArrayFault deep w nesting input e → IsOfTerms e
+    of_array w nesting input e (array_content v m b x h) = of_content array v b x h
+    of_array w nesting input e (array_elements v m b x n items after there h) = inr (of_elements m n items x h)
 
-  of_elements : (nesting n : ℕ) (content : List ℕ) (e : Error) → ElementsFault nesting n content e → IsMisspelling e
-  of_elements nesting n content e (elements_missing k j b is some) = tt
-  of_elements nesting n content e (elements_constructor k j b x some h) = of_inside x (of_constructor b x h)
-  of_elements nesting n content e (elements_over k j b m c after there is some) = tt
-  of_elements nesting n content e (elements_empty k j b m c after there some h) = tt
-  of_elements nesting n content e (elements_deep k j b m c after there some h) = tt
-  of_elements nesting n content e (elements_data k j b x m c left after there some is h) = of_shared c left j after x h
+    of_elements : (nesting n : ℕ) (content : List ℕ) (e : Error) → ElementsFault deep nesting n content e → IsMisspelling e
+    of_elements nesting n content e (elements_missing k j b is some) = tt
+    of_elements nesting n content e (elements_constructor k j b x some h) = of_inside x (of_constructor b x h)
+    of_elements nesting n content e (elements_over k j b m c after there is some) = tt
+    of_elements nesting n content e (elements_empty k j b m c after there some h) = tt
+    of_elements nesting n content e (elements_deep k j b m c after there some h) = said
+    of_elements nesting n content e (elements_data k j b x m c left after there some is h) = of_shared c left j after x h
 
-  of_shared : (code nesting n : ℕ) (content : List ℕ) (e : Error) → SharedFault code nesting n content e → IsMisspelling e
-  of_shared code nesting n content e (shared_fault c k m b x done after less there h) = of_inside x (of_data c k after x h)
-  of_shared code nesting n content e (shared_over c k m b after there some) = tt
+    of_shared : (code nesting n : ℕ) (content : List ℕ) (e : Error) → SharedFault deep code nesting n content e → IsMisspelling e
+    of_shared code nesting n content e (shared_fault c k m b x done after less there h) = of_inside x (of_data c k after x h)
+    of_shared code nesting n content e (shared_over c k m b after there some) = tt
 
--- bytes that are no term are refused since they end, or as such
-pub term_error : (nesting : ℕ) (input : List ℕ) (e : Error) → TermFault nesting input e → (e ≡ Cut) ⊎ IsMisspelling e
-term_error nesting input e h = of_term nesting input e h
+  -- bytes that are no term are refused since they end, or as such
+  pub term_error : (nesting : ℕ) (input : List ℕ) (e : Error) → TermFault deep nesting input e → (e ≡ Cut) ⊎ IsMisspelling e
+  term_error nesting input e h = of_term nesting input e h

@@ -8,7 +8,7 @@ use Rattle.amqp_wire.specs.declared.error.Error.{Error}
 use Rattle.amqp_wire.specs.declared.error.Error.TheVariants.{Depth, ZeroWidthItems}
 use Rattle.amqp_lengths.specs.Lengths.{Marks}
 use Rattle.amqp_decoder.specs.declared.frame.Place.TheVariants.{InArray}
-use Rattle.amqp_decoder.specs.State.{State, Has, in_container}
+use Rattle.amqp_decoder.specs.State.{State, depth_error, Has, in_container}
 use Rattle.amqp_decoder.specs.Steps.{Takes, Lacks, NoRoom}
 use Rattle.amqp_decoder.specs.Reading.{ReadsCode, BeginFault}
 use Rattle.amqp_decoder.specs.Containers.{ReadsHeader, HeaderFault}
@@ -54,7 +54,7 @@ pub data SharesFault (n : ℕ) (st : State) (e : Error) : Type 0 where
   zero_width : (ds : List Descriptor) (c : ℕ) (m : State) → (n ≡ 0 → ⊥) → TakesConstructor st ds c m → HasWidthZero (format c)
       → e ≡ ZeroWidthItems → SharesFault n st e
   too_nested : (ds : List Descriptor) (c : ℕ) (m : State) → (n ≡ 0 → ⊥) → TakesConstructor st ds c m → (IsFlat ds (format c) → ⊥)
-      → st.nesting < length st.saved → e ≡ Depth → SharesFault n st e
+      → st.nesting < length st.saved → e ≡ depth_error st.nesting → SharesFault n st e
 
 -- An array without items may have no constructor.
 abbrev pub Starts : ℕ → ℕ → State → State → Type 0
@@ -74,7 +74,7 @@ pub record EntersArray (width : ℕ) (st : State) (n : ℕ) (st' : State) : Type
 pub data EnterArrayFault (width : ℕ) (st : State) (e : Error) : Type 0 where
   no_header : HeaderFault false width st e → EnterArrayFault width st e
   no_room : (n content : ℕ) (m : State) → ReadsHeader false width st n content m → NoRoom content m e → EnterArrayFault width st e
-  too_deep : (n content : ℕ) (m : State) → ReadsHeader false width st n content m → st.nesting < length st.saved → e ≡ Depth
+  too_deep : (n content : ℕ) (m : State) → ReadsHeader false width st n content m → st.nesting < length st.saved → e ≡ depth_error st.nesting
       → EnterArrayFault width st e
   no_start : (n content : ℕ) (m : State) → ReadsHeader false width st n content m → 0 < max n content
       → SharesFault n (in_container InArray 0 content m) e → EnterArrayFault width st e

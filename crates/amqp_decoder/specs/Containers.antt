@@ -5,10 +5,10 @@ use Rattle.amqp_model.specs.Term.{Container, list, map, array}
 use Rattle.amqp_model.specs.Constructors.{compound, format}
 use Rattle.amqp_wire.specs.Codes.{refusal_of}
 use Rattle.amqp_wire.specs.declared.error.Error.{Error}
-use Rattle.amqp_wire.specs.declared.error.Error.TheVariants.{Surplus, InvalidValue, OddCount, Depth}
+use Rattle.amqp_wire.specs.declared.error.Error.TheVariants.{Surplus, InvalidValue, OddCount}
 use Rattle.amqp_decoder.specs.declared.frame.Place.{Place}
 use Rattle.amqp_decoder.specs.declared.frame.Place.TheVariants.{InList, InMap, InArray}
-use Rattle.amqp_decoder.specs.State.{Open, State, Has, in_container}
+use Rattle.amqp_decoder.specs.State.{Open, State, depth_error, Has, bound_of, in_container}
 use Rattle.amqp_decoder.specs.Steps.{SizeError, Takes, Lacks, NoRoom}
 use Rattle.amqp_decoder.specs.Reading.{ReadsCode, BeginFault}
 
@@ -40,7 +40,7 @@ pub record Closes (place : Place) (st : State) (st' : State) : Type 0 where
   pub going : st.error ≡ None
   pub here : st.top.place ≡ place
   pub items : st.top.items ≡ Some 0
-  pub left : st.top.left ≡ Some 0
+  pub left : bound_of st.top ≡ Some 0
   pub outer : Open
   pub others : List Open
   pub saved : st.saved ≡ outer ∷ others
@@ -49,7 +49,7 @@ pub record Closes (place : Place) (st : State) (st' : State) : Type 0 where
 -- Why none is left: it isn't at its end, or it is, and bytes of it are left.
 pub data CloseFault (place : Place) (st : State) (e : Error) : Type 0 where
   not_at_end : EndFault place st e → CloseFault place st e
-  bytes_left_over : IsOpen place st → st.top.items ≡ Some 0 → (st.top.left ≡ Some 0 → ⊥) → SizeError 0 st e → CloseFault place st e
+  bytes_left_over : IsOpen place st → st.top.items ≡ Some 0 → (bound_of st.top ≡ Some 0 → ⊥) → SizeError 0 st e → CloseFault place st e
 
 -- The value behind a descriptor was taken: what it stands in has the bytes that are left.
 pub record ClosesDescribed (place : Place) (st : State) (st' : State) : Type 0 where
@@ -59,7 +59,7 @@ pub record ClosesDescribed (place : Place) (st : State) (st' : State) : Type 0 w
   pub outer : Open
   pub others : List Open
   pub saved : st.saved ≡ outer ∷ others
-  pub moved : st' ≡ record st { top = record outer { left = st.top.left }; saved = others }
+  pub moved : st' ≡ record st { top = record outer { left = st.top.left; sized = st.top.sized }; saved = others }
 
 -- Where the items of a container stand.
 abbrev pub place_of : Container → Place
@@ -106,7 +106,7 @@ pub data HeaderFault (listed : Bool) (width : ℕ) (st : State) (e : Error) : Ty
 
 -- Why a container of so many bytes can't be opened.
 abbrev pub Unopened : ℕ → State → Error → Type 0
-Unopened content st e = NoRoom content st e ⊎ (Has st.top.left content × (st.nesting ≤ length st.saved) × (e ≡ Depth))
+Unopened content st e = NoRoom content st e ⊎ (Has st.top.left content × (st.nesting ≤ length st.saved) × (e ≡ depth_error st.nesting))
 
 -- The data of a container of n items stood next, as far as its items, and it was entered.
 pub record Enters (kind : Container) (width : ℕ) (st : State) (n : ℕ) (st' : State) : Type 0 where
@@ -126,7 +126,7 @@ pub data EnterFault (kind : Container) (width : ℕ) (st : State) (e : Error) : 
   no_room : {n content : ℕ} {m : State} → ReadsHeader (is_list kind) width st n content m → IsCount kind n → NoRoom content m e
       → EnterFault kind width st e
   too_deep : {n content : ℕ} {m : State} → ReadsHeader (is_list kind) width st n content m → IsCount kind n → Has m.top.left content
-      → st.nesting ≤ length st.saved → e ≡ Depth → EnterFault kind width st e
+      → st.nesting ≤ length st.saved → e ≡ depth_error st.nesting → EnterFault kind width st e
 
 -- A container of this kind and of n items stood next, as far as its items, and it was entered.
 pub record Opens (kind : Container) (st : State) (n : ℕ) (st' : State) : Type 0 where

@@ -4,10 +4,10 @@ use Rattle.amqp_model.specs.Term.{Descriptor}
 use Rattle.amqp_model.specs.Constructors.{format}
 use Rattle.amqp_model.specs.Spelling.{PrimitiveData, Names, descriptor_value}
 use Rattle.amqp_wire.specs.declared.error.Error.{Error}
-use Rattle.amqp_wire.specs.declared.error.Error.TheVariants.{Cut, Depth, BadDescriptor, NonAscii, WrongType, WrongDescriptor}
+use Rattle.amqp_wire.specs.declared.error.Error.TheVariants.{Cut, BadDescriptor, NonAscii, WrongType, WrongDescriptor}
 use Rattle.amqp_wire.specs.Codes.{refusal_of}
 use Rattle.amqp_decoder.specs.declared.frame.Place.TheVariants.{InDescribed}
-use Rattle.amqp_decoder.specs.State.{State}
+use Rattle.amqp_decoder.specs.State.{State, depth_error}
 use Rattle.amqp_decoder.specs.Steps.{Answers, IsExcused, SourceFailed, Takes, Lacks}
 use Rattle.amqp_decoder.specs.Reading.{ReadsCode, BeginFault}
 use Rattle.amqp_lookahead.specs.Kinds.{kind_at, ulongs, symbols}
@@ -40,7 +40,7 @@ behind o = option_map (λ shared. (drop 1 shared.0, shared.1)) o
 -- ends.
 abbrev pub in_described : State → State
 in_described st = record st {
-  top = record { place = InDescribed; items = Some 1; left = st.top.left; shared = behind st.top.shared };
+  top = record { place = InDescribed; items = Some 1; left = st.top.left; sized = st.top.sized; shared = behind st.top.shared };
   saved = (record st.top { left = option_map (λ l. 0) st.top.left }) ∷ st.saved;
 }
 
@@ -75,7 +75,7 @@ pub record OpensOneOf (members : List Member) (st : State) (i : ℕ) (st' : Stat
 pub data DescribedFault (st : State) (e : Error) : Type 0 where
   not_begun : BeginFault st e → DescribedFault st e
   other_code : {c : ℕ} {m : State} → ReadsCode st c m → (c ≡ 0 → ⊥) → e ≡ refusal_of c → DescribedFault st e
-  too_deep : {m : State} → ReadsCode st 0 m → st.nesting ≤ length st.saved → e ≡ Depth → DescribedFault st e
+  too_deep : {m : State} → ReadsCode st 0 m → st.nesting ≤ length st.saved → e ≡ depth_error st.nesting → DescribedFault st e
 
 -- The error for a code that is neither a ulong's nor a symbol's.
 abbrev pub other_kind : Error → Error

@@ -11,3 +11,4 @@ pub mod Terms
 pub mod Misspelled
 pub mod Sections
 pub mod OtherSource
+pub mod Within

@@ -3,7 +3,7 @@ use Rattle.std.specs.Prelude.{ℕ, List}
 use Rattle.amqp_model.specs.Term.{Term}
 use Rattle.amqp_wire.specs.declared.error.Error.{Error}
 use Rattle.amqp_wire.specs.declared.error.Error.TheVariants.{UnknownCode, FloatCode, Size, OddCount, Depth, ZeroWidthItems, BadBool}
-use Rattle.amqp_wire.specs.declared.error.Error.TheVariants.{BadChar, BadUtf8, NonAscii, BadDescriptor}
+use Rattle.amqp_wire.specs.declared.error.Error.TheVariants.{BadChar, BadUtf8, NonAscii, BadDescriptor, Limit}
 use Rattle.amqp_decoder.specs.State.{State}
 use Rattle.amqp_decoder.specs.Primitives.{Stands}
 
@@ -20,6 +20,7 @@ IsMisspelling BadChar = Unit {0}
 IsMisspelling BadUtf8 = Unit {0}
 IsMisspelling NonAscii = Unit {0}
 IsMisspelling BadDescriptor = Unit {0}
+IsMisspelling Limit = Unit {0}
 IsMisspelling _ = ⊥
 
 -- No term stands next.

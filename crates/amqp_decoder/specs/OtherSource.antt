@@ -1,16 +1,16 @@
 -- What stands before a decoder is the same of another source, and where values may nest deeper; and so is a fault, unless it
 -- is that they nest too deep.
-use Rattle.std.proofs.Common.{◌≡◌, ◌≤◌, ◌<◌, inl, inr, ℕ, ◌⊎◌, ◌-◌, Bool, List, ◌++◌, length, Option, Some, None, refl, sym, ap, ◌∙◌, arith}
+use Rattle.std.proofs.Common.{◌≡◌, ◌≤◌, ◌<◌, inl, inr, ℕ, ◌⊎◌, ◌-◌, Bool, true, false, cond, nat_lt, List, ◌++◌, length, Option, Some, None, refl, sym, ap, ◌∙◌, subst, arith}
 use Rattle.amqp_model.specs.Term.{Container, Descriptor, Term}
 use Rattle.amqp_model.specs.Constructors.{Format, fixed, variable, compound, unknown, format}
 use Rattle.amqp_model.specs.Standing.{Standing}
 use Rattle.amqp_wire.specs.declared.error.Error.{Error}
-use Rattle.amqp_wire.specs.declared.error.Error.TheVariants.{Size, Depth}
+use Rattle.amqp_wire.specs.declared.error.Error.TheVariants.{Size, Depth, Limit}
 use Rattle.amqp_lookahead.specs.Members.{Member}
 use Rattle.amqp_decoder.specs.declared.frame.Place.{Place}
 use Rattle.amqp_decoder.specs.declared.frame.Place.TheVariants.{InArray}
-use Rattle.amqp_decoder.specs.State.{State, in_container}
-use Rattle.amqp_decoder.specs.Steps.{Takes, Lacks, cut_open, cut_inside, too_long, SizeError, cut, wrong, NoRoom}
+use Rattle.amqp_decoder.specs.State.{State, depth_error, in_container}
+use Rattle.amqp_decoder.specs.Steps.{Takes, Lacks, cut_open, past_limit, cut_inside, too_long, SizeError, cut, wrong, past, NoRoom}
 use Rattle.amqp_decoder.specs.Reading.{ReadsCode, BeginFault, missing, no_code, after_peek, PeeksCode}
 use Rattle.amqp_decoder.specs.Primitives.{Stands, ReadsValue, LacksData, PrimitiveFault, not_begun, wrong_code, no_data, bad_data}
 use Rattle.amqp_decoder.specs.Containers as containers
@@ -27,6 +27,7 @@ use Rattle.amqp_decoder.specs.Arrays.{EnterArrayFault, no_start, OpensArray, Arr
 use Rattle.amqp_decoder.specs.Terms as terms
 use Rattle.amqp_decoder.specs.Terms.{LacksAnnounced, NoTerm, wrong_size, wrong_term, SpellingFault, no_term, TermFault, in_array}
 use Rattle.amqp_decoder.specs.Terms.{misspelled}
+use Rattle.amqp_lengths.specs.Faults.{inside}
 use Rattle.amqp_lengths.proofs.RefusedBytes.{fault_refuses}
 use Rattle.amqp_lengths.proofs.DeeperFaults.{fault_deeper}
 
@@ -49,8 +50,21 @@ abbrev pub elsewhere : ℕ → Bool → State → State
 elsewhere source failed st = record st { source = source; failed = failed }
 
 -- An error by depth isn't kept by a greater bound.
+abbrev pub IsByDepth : Error → Type 0
+IsByDepth Depth = Unit {0}
+IsByDepth Limit = Unit {0}
+IsByDepth _ = ⊥
+
 abbrev pub KeepsError : Setting → Error → Type 0
-KeepsError c e = e ≡ Depth → (n : ℕ) → c.deepen n ≡ n
+KeepsError c e = IsByDepth e → (n : ℕ) → c.deepen n ≡ n
+
+by_depth : (b : Bool) → IsByDepth (cond b Limit Depth)
+by_depth true = tt
+by_depth false = tt
+
+inside_depth : (b : Bool) → inside (cond b Limit Depth) ≡ cond b Limit Depth
+inside_depth true = refl
+inside_depth false = refl
 
 pub keeps_another : (source : ℕ) (failed : Bool) (e : Error) → KeepsError (another source failed) e
 keeps_another source failed e = λ deep n. refl
@@ -88,13 +102,15 @@ module _ (c : Setting) where
   value means h = record { bytes = h.bytes; term = h.term; stands = stands h.stands; moved = ap at h.moved; meant = h.meant }
 
   lacks : {n : ℕ} {st : State} {e : Error} → Lacks n st e → Lacks n (at st) e
-  lacks (cut_open l r e) = cut_open l r e
+  lacks (cut_open l h r e) = cut_open l h r e
+  lacks (past_limit l h e) = past_limit l h e
   lacks (cut_inside l r a e) = cut_inside l r a e
   lacks (too_long l r a e) = too_long l r a e
 
   size_error : {n : ℕ} {st : State} {e : Error} → SizeError n st e → SizeError n (at st) e
-  size_error (cut l e) = cut l e
-  size_error (wrong l e) = wrong l e
+  size_error (cut h l e) = cut h l e
+  size_error (wrong h l e) = wrong h l e
+  size_error (past b h e) = past b h e
 
   room_fault : {n : ℕ} {st : State} {e : Error} → NoRoom n st e → NoRoom n (at st) e
   room_fault h = record { less = h.less; why = size_error h.why }
@@ -116,12 +132,19 @@ module _ (c : Setting) where
   primitive_fault keeps (no_data {c = n} {m} b k h) = no_data (begun b) k (data_fault (format n) m _ h)
   primitive_fault keeps (bad_data b k t w n e) = bad_data (begun b) k (took t) w n e
 
-  -- no deeper than the bound, which an error by depth keeps
-  deep : {e : Error} {m : ℕ} → KeepsError c e → (n : ℕ) → n ≤ m → e ≡ Depth → c.deepen n ≤ m
-  deep keeps n l is = let same = keeps is n in omega (arith, l, same)
+  -- an error by depth keeps the bound
+  bound : {e : Error} → KeepsError c e → (n : ℕ) → e ≡ depth_error n → c.deepen n ≡ n
+  bound keeps n is = keeps (subst IsByDepth (sym is) (by_depth (nat_lt n 128))) n
 
-  deeper : {e : Error} {m : ℕ} → KeepsError c e → (n : ℕ) → n < m → e ≡ Depth → c.deepen n < m
-  deeper keeps n l is = let same = keeps is n in omega (arith, l, same)
+  -- no deeper than the bound
+  deep : {e : Error} {m : ℕ} → KeepsError c e → (n : ℕ) → n ≤ m → e ≡ depth_error n → c.deepen n ≤ m
+  deep keeps n l is = let same = bound keeps n is in omega (arith, l, same)
+
+  deeper : {e : Error} {m : ℕ} → KeepsError c e → (n : ℕ) → n < m → e ≡ depth_error n → c.deepen n < m
+  deeper keeps n l is = let same = bound keeps n is in omega (arith, l, same)
+
+  by_bound : {e : Error} → KeepsError c e → (n : ℕ) → e ≡ depth_error n → e ≡ depth_error (c.deepen n)
+  by_bound keeps n is = is ∙ ap depth_error (sym (bound keeps n is))
 
   -- containers
   header : {listed : Bool} {w n content : ℕ} {st st' : State} → ReadsHeader listed w st n content st'
@@ -149,7 +172,7 @@ module _ (c : Setting) where
   enter_fault keeps (no_header h) = no_header (header_fault h)
   enter_fault keeps (odd_count h n e) = odd_count (header h) n e
   enter_fault keeps (no_room h n r) = no_room (header h) n (room_fault r)
-  enter_fault {st} keeps (too_deep h n r l e) = too_deep (header h) n r (deep keeps st.nesting l e) e
+  enter_fault {st} keeps (too_deep h n r l e) = too_deep (header h) n r (deep keeps st.nesting l e) (by_bound keeps st.nesting e)
 
   pub opens : {kind : Container} {n : ℕ} {st st' : State} → Opens kind st n st' → Opens kind (at st) n (at st')
   opens h = record {
@@ -207,7 +230,7 @@ module _ (c : Setting) where
   described_fault : {st : State} {e : Error} → KeepsError c e → DescribedFault st e → DescribedFault (at st) e
   described_fault keeps (described.not_begun h) = described.not_begun (begin_fault keeps h)
   described_fault keeps (other_code b n e) = other_code (begun b) n e
-  described_fault {st} keeps (described.too_deep b l e) = described.too_deep (begun b) (deep keeps st.nesting l e) e
+  described_fault {st} keeps (described.too_deep b l e) = described.too_deep (begun b) (deep keeps st.nesting l e) (by_bound keeps st.nesting e)
 
   descriptor_fault : {st : State} {e : Error} → DescriptorFault st e → DescriptorFault (at st) e
   descriptor_fault (described.no_code h) = described.no_code (lacks h)
@@ -279,13 +302,13 @@ module _ (c : Setting) where
   shares_fault keeps (no_constructor h) = no_constructor (constructor_fault h)
   shares_fault keeps (zero_width ds k m some t wide e) = zero_width ds k (at m) some (took_constructor t) wide e
   shares_fault {st} keeps (too_nested ds k m some t uneven l e) =
-      too_nested ds k (at m) some (took_constructor t) uneven (deeper keeps st.nesting l e) e
+      too_nested ds k (at m) some (took_constructor t) uneven (deeper keeps st.nesting l e) (by_bound keeps st.nesting e)
 
   enter_array_fault : {w : ℕ} {st : State} {e : Error} → KeepsError c e → EnterArrayFault w st e → EnterArrayFault w (at st) e
   enter_array_fault keeps (arrays.no_header h) = arrays.no_header (header_fault h)
   enter_array_fault keeps (arrays.no_room n content m h r) = arrays.no_room n content (at m) (header h) (room_fault r)
   enter_array_fault {st} keeps (arrays.too_deep n content m h l e) =
-      arrays.too_deep n content (at m) (header h) (deeper keeps st.nesting l e) e
+      arrays.too_deep n content (at m) (header h) (deeper keeps st.nesting l e) (by_bound keeps st.nesting e)
   enter_array_fault keeps (no_start n content m h l f) = no_start n content (at m) (header h) l (shares_fault keeps f)
 
   pub array_fault : {st : State} {e : Error} → KeepsError c e → ArrayFault st e → ArrayFault (at st) e
@@ -300,12 +323,21 @@ module _ (c : Setting) where
   announced_fault (compound k w) st e (inr (n, mid, l, t, h)) = inr (n, at mid, l, took t, lacks h)
   announced_fault unknown st e h = h
 
-  no_term_deeper : (nesting more : ℕ) (b : List ℕ) (st : State) (e : Error) → nesting ≤ more → (e ≡ Depth → nesting ≡ more)
+  no_term_deeper : (nesting more : ℕ) (b : List ℕ) (st : State) (e : Error) → nesting ≤ more
+      → (IsByDepth e → (nesting ≡ more) × (depth_error st.nesting ≡ depth_error (c.deepen st.nesting)))
       → NoTerm nesting b st e → NoTerm more b (at st) e
   no_term_deeper nesting more b st e least same (wrong_size none f s) =
-      let g = fault_deeper nesting more b Size least (λ d. absurd (cc)) f in wrong_size (fault_refuses more b Size g) g (size_error s)
+      let own = depth_error st.nesting in
+      let by : IsByDepth own = by_depth (nat_lt st.nesting 128) in
+      let g = fault_deeper own (depth_error (c.deepen st.nesting)) (inside_depth (nat_lt st.nesting 128)) nesting more b Size least
+      (λ d. absurd (subst IsByDepth (sym d) by)) f in
+      wrong_size (fault_refuses more b Size g) g (size_error s)
   no_term_deeper nesting more b st e least same (wrong_term none f other) =
-      let g = fault_deeper nesting more b e least same f in wrong_term (fault_refuses more b e g) g other
+      let own = depth_error st.nesting in
+      let by : IsByDepth own = by_depth (nat_lt st.nesting 128) in
+      let g = fault_deeper own (depth_error (c.deepen st.nesting)) (inside_depth (nat_lt st.nesting 128)) nesting more b e least
+      (λ d. same (subst IsByDepth (sym d) by)) f in
+      wrong_term (fault_refuses more b e g) g other
 
   spelling_fault : {st : State} {e : Error} → KeepsError c e → SpellingFault st e → SpellingFault (at st) e
   unfolding took_constructor
@@ -314,7 +346,9 @@ module _ (c : Setting) where
   spelling_fault {st} {e} keeps (no_term {b} {m'} t u h f) =
       let g = c.grows st.nesting in
       let open_ = length st.saved in
-      let same = λ (d : e ≡ Depth). ap (λ n. n - open_) (sym (keeps d st.nesting)) in
+      let same : IsByDepth e
+      → (st.nesting - open_ ≡ c.deepen st.nesting - open_) × (depth_error m'.nesting ≡ depth_error (c.deepen m'.nesting)) =
+      λ d. (ap (λ n. n - open_) (sym (keeps d st.nesting)), ap depth_error (sym (keeps d m'.nesting))) in
       no_term (took_constructor t) (took u) h
       (no_term_deeper (st.nesting - open_) (c.deepen st.nesting - open_) (t.own ++ b) m' e (omega (arith, g)) same f)
 

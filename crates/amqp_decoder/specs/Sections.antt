@@ -10,7 +10,7 @@ use Rattle.amqp_decoder.specs.State.{State, top_level, after_look}
 pub record IsTop (st : State) (v : Unit {0}) (st' : State) : Type 0 where
   pub going : st.error ≡ None
   pub place : st.top.place ≡ Top
-  pub top : st.top ≡ top_level
+  pub top : st.top ≡ top_level st.top.left
   pub saved : st.saved ≡ []
   pub kept : st' ≡ st
 
@@ -22,7 +22,7 @@ NotTop st e = (st.top.place ≡ Top → st.saved ≡ [] → ⊥) × (e ≡ Inval
 pub record Ends (st : State) (b : Bool) (st' : State) : Type 0 where
   pub going : st.error ≡ None
   pub place : st.top.place ≡ Top
-  pub top : st.top ≡ top_level
+  pub top : st.top ≡ top_level st.top.left
   pub saved : st.saved ≡ []
   pub answer : IsTrue b ↔ (st.rest ≡ [])
   pub kept : st' ≡ after_look (min 1 (length st.rest)) st
@@ -36,7 +36,7 @@ LooksOn st st' = (n : ℕ) × (n ≤ 64) × (n ≤ length st.rest) × (st' ≡ a
 pub record PeeksSection (st : State) (section : Option ℕ) (st' : State) : Type 0 where
   pub going : st.error ≡ None
   pub place : st.top.place ≡ Top
-  pub top : st.top ≡ top_level
+  pub top : st.top ≡ top_level st.top.left
   pub saved : st.saved ≡ []
   pub answer : (c : ℕ) → (section ≡ Some c) ↔ IsSectionAhead st.rest c
   pub kept : LooksOn st st'

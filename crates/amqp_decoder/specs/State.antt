@@ -1,8 +1,9 @@
 -- What a decoder has before it.
-use Rattle.std.specs.Prelude.{◌≡◌, ℕ, zero, suc, ◌+◌, ◌-◌, ◌≤◌, Bool, cond, eqb, List, [], ◌∷◌, take, drop, map, get_or, max, Option, Some}
-use Rattle.std.specs.Prelude.{None, unwrap_or}
+use Rattle.std.specs.Prelude.{◌≡◌, ℕ, zero, suc, ◌+◌, ◌-◌, ◌≤◌, Bool, cond, eqb, nat_lt, true, false, List, [], ◌∷◌, take, drop, map, get_or, max, Option, Some}
+use Rattle.std.specs.Prelude.{None, unwrap_or, option_map}
 use Rattle.amqp_model.specs.Term.{Descriptor}
 use Rattle.amqp_wire.specs.declared.error.Error.{Error}
+use Rattle.amqp_wire.specs.declared.error.Error.TheVariants.{Depth, Limit}
 use Rattle.amqp_wire.specs.declared.descriptor.Descriptor.{Descriptor as DescriptorValue}
 pub use Rattle.amqp_lookahead.specs.Members.{descriptor_of}
 use Rattle.amqp_decoder.specs.declared.frame.OpenContainer.{OpenContainer}
@@ -10,12 +11,14 @@ use Rattle.amqp_decoder.specs.declared.frame.Place.{Place}
 use Rattle.amqp_decoder.specs.declared.frame.Place.TheVariants.{Top, InArray, InDescribed, InList, InMap}
 
 -- An open container: where its values stand, and how many items and how many bytes are left of it, without what
--- stands in the containers that are open in it (at the top level neither is bounded). The items of an array share a
+-- stands in the containers that are open in it. At the top level any number of items is left, and the bytes are those that
+-- a limit of the caller leaves; in a container they are those of its size (sized). The items of an array share a
 -- constructor (Part 1, section 1.2.4): the descriptors that are still to be begun, and the code.
 pub record Open : Type 0 where
   pub place : Place
   pub items : Option ℕ
   pub left : Option ℕ
+  pub sized : Bool
   pub shared : Option (List Descriptor × ℕ)
 
 -- rest: the bytes to the end of the input
@@ -23,7 +26,7 @@ pub record Open : Type 0 where
 -- source: the borrow that the source is
 -- top: the open container that values are read from
 -- saved: the containers around it, the nearest first, as they will be once the inner one is closed
--- nesting: how many containers and described values may be nested
+-- nesting: how many containers and described values may be nested, at most 128
 -- error: what was refused
 -- failed: the source has failed
 pub record State : Type 0 where
@@ -36,9 +39,17 @@ pub record State : Type 0 where
   pub error : Option Error
   pub failed : Bool
 
--- The top level, where nothing is bounded.
-abbrev pub top_level : Open
-top_level = record { place = Top; items = None; left = None; shared = None }
+-- The error for a value that nests deeper: below 128, that is a limit of the caller.
+abbrev pub depth_error : ℕ → Error
+depth_error nesting = cond (nat_lt nesting 128) Limit Depth
+
+-- The top level, where the limit leaves so many bytes.
+abbrev pub top_level : Option ℕ → Open
+top_level limit = record { place = Top; items = None; left = limit; sized = false; shared = None }
+
+-- The bytes that the size of a container leaves, where something stands in one.
+abbrev pub bound_of : Open → Option ℕ
+bound_of f = cond f.sized f.left None
 
 abbrev pub items_of : Place → ℕ → Option ℕ
 items_of Top n = None
@@ -51,21 +62,46 @@ DescriptorValues = List DescriptorValue
 abbrev pub shared_of : List DescriptorValue → ℕ → ℕ → ℕ → Option (List Descriptor × ℕ)
 shared_of ds c first last = cond (eqb c 0) None (Some (map descriptor_of (take (last - first) (drop first ds)), c))
 
-abbrev pub open_of : List DescriptorValue → OpenContainer → Open
-open_of ds f = record { place = f.place; items = items_of f.place f.items; left = f.left; shared = shared_of ds f.code f.first f.last }
+-- What a size leaves, or else what the limit does.
+abbrev pub left_in : Option ℕ → Option ℕ → Option ℕ
+left_in None limit = limit
+left_in (Some l) limit = Some l
+
+abbrev pub is_sized : Option ℕ → Bool
+is_sized None = false
+is_sized (Some l) = true
+
+-- Nothing is left of a bound.
+abbrev pub emptied : Option ℕ → Option ℕ
+emptied o = option_map (λ l. 0) o
+
+-- What the limit leaves for what stands around a frame: nothing, where its bytes have passed into that frame.
+abbrev pub limit_around : Option ℕ → Option ℕ → Option ℕ
+limit_around None limit = emptied limit
+limit_around (Some l) limit = limit
+
+abbrev pub open_of : List DescriptorValue → Option ℕ → OpenContainer → Open
+open_of ds limit f = record {
+  place = f.place;
+  items = items_of f.place f.items;
+  left = left_in f.left limit;
+  sized = is_sized f.left;
+  shared = shared_of ds f.code f.first f.last;
+}
 
 -- What stands in the row behind the frames that are in use.
 abbrev pub unused : OpenContainer
 unused = record { items = 0; left = None; place = Top; code = 0; first = 0; last = 0 }
 
 -- The first n frames of the row, the last of them first.
-abbrev pub stack : List DescriptorValue → ℕ → List OpenContainer → List Open
-stack ds zero fs = []
-stack ds (suc n) fs = open_of ds (get_or fs n unused) ∷ stack ds n fs
+abbrev pub stack : List DescriptorValue → Option ℕ → ℕ → List OpenContainer → List Open
+stack ds limit zero fs = []
+stack ds limit (suc n) fs =
+    open_of ds limit (get_or fs n unused) ∷ stack ds (limit_around (get_or fs n unused).left limit) n fs
 
--- A container whose items share nothing.
-abbrev pub unshared : OpenContainer → Open
-unshared f = record { place = f.place; items = items_of f.place f.items; left = f.left; shared = None }
+-- A container of n items in so many bytes, which share nothing.
+abbrev pub holding : Place → ℕ → ℕ → Open
+holding place n content = record { place = place; items = items_of place n; left = Some content; sized = true; shared = None }
 
 -- How many descriptors the first n frames share together.
 abbrev pub shared_in : ℕ → List OpenContainer → ℕ
@@ -78,7 +114,7 @@ abbrev pub AreNested : ℕ → List OpenContainer → ℕ → Type 0
 AreNested zero fs m = m ≤ 128
 AreNested (suc n) fs m = ((get_or fs n unused).last ≤ m) × (m ≤ (get_or fs n unused).last + 128) × AreNested n fs (get_or fs n unused).last
 
--- At the top level nothing is bounded, and nothing shared.
+-- At the top level no size bounds anything, and nothing is shared.
 abbrev pub IsLevel : OpenContainer → Type 0
 IsLevel f = f.place ≡ Top → (f.left ≡ None) × (f.code ≡ 0)
 
@@ -106,10 +142,10 @@ abbrev pub lower : Option ℕ → ℕ → Option ℕ
 lower None n = None
 lower (Some l) n = Some (l - n)
 
--- The bytes that all open containers announce and that are not yet taken.
+-- The bytes that the sizes of all open containers announce and that are not yet taken.
 abbrev pub bytes_left : List Open → ℕ
 bytes_left [] = 0
-bytes_left (f ∷ fs) = unwrap_or f.left 0 + bytes_left fs
+bytes_left (f ∷ fs) = unwrap_or (bound_of f) 0 + bytes_left fs
 
 abbrev pub announced : State → ℕ
 announced st = bytes_left (st.top ∷ st.saved)
@@ -139,6 +175,6 @@ after_value n st =
 abbrev pub in_container : Place → ℕ → ℕ → State → State
 in_container place n content st =
     record st {
-      top = record { place = place; items = items_of place n; left = Some content; shared = None };
+      top = holding place n content;
       saved = (record st.top { left = lower st.top.left content }) ∷ st.saved;
     }

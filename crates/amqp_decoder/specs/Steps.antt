@@ -1,8 +1,8 @@
 -- What the steps of a call promise.
 use Rattle.std.specs.Prelude.{◌≡◌, ℕ, ◌<◌, ◌≤◌, ◌⊎◌, Bool, true, List, ◌++◌, length, drop, Option, Some, None, Result, Ok, Err}
 use Rattle.amqp_wire.specs.declared.error.Error.{Error}
-use Rattle.amqp_wire.specs.declared.error.Error.TheVariants.{Memory, Read, Cut, Size}
-use Rattle.amqp_decoder.specs.State.{State, Has, after_data, after_bytes, announced}
+use Rattle.amqp_wire.specs.declared.error.Error.TheVariants.{Memory, Read, Cut, Size, Limit}
+use Rattle.amqp_decoder.specs.State.{State, Has, bound_of, after_data, after_bytes, announced}
 
 abbrev pub IsReadError : Error → Type 0
 IsReadError (Read k) = Unit {0}
@@ -47,31 +47,36 @@ pub record Takes (st : State) (s : List ℕ) (st' : State) : Type 0 where
   pub rest : st.rest ≡ s ++ drop (length s) st.rest
   pub moved : st' ≡ after_data (length s) st
 
--- Why n bytes of a value can't be taken: the input ends, where nothing is bounded in them, and otherwise in what the
--- open containers announce; or that is there, and the innermost container ends.
+-- Why n bytes of a value can't be taken. Where no container is open, they pass the limit, or the input ends in them; in one,
+-- the input ends in what the open containers announce, or that is there, and the innermost container ends.
 pub data Lacks (n : ℕ) (st : State) (e : Error) : Type 0 where
-  cut_open : st.top.left ≡ None → length st.rest < n → e ≡ Cut → Lacks n st e
-  cut_inside : {l : ℕ} → st.top.left ≡ Some l → (l < n) ⊎ (length st.rest < n) → length st.rest < announced st → e ≡ Cut → Lacks n st e
-  too_long : {l : ℕ} → st.top.left ≡ Some l → l < n → announced st ≤ length st.rest → e ≡ Size → Lacks n st e
+  cut_open : bound_of st.top ≡ None → Has st.top.left n → length st.rest < n → e ≡ Cut → Lacks n st e
+  past_limit : bound_of st.top ≡ None → (Has st.top.left n → ⊥) → e ≡ Limit → Lacks n st e
+  cut_inside : {l : ℕ} → bound_of st.top ≡ Some l → (l < n) ⊎ (length st.rest < n) → length st.rest < announced st → e ≡ Cut → Lacks n st e
+  too_long : {l : ℕ} → bound_of st.top ≡ Some l → l < n → announced st ≤ length st.rest → e ≡ Size → Lacks n st e
 
 -- n bytes of a value could not be taken.
 pub record FallsShort (n : ℕ) (st : State) (e : Error) (st' : State) : Type 0 where
   pub kept : Answers st e st'
   pub why : SourceFailed e st' ⊎ Lacks n st e
 
--- How much has to be there before a size is refused: what the open containers announce, and where nothing is bounded
--- what the value itself still does.
+-- How much has to be there before a size is refused: what the open containers announce, and where none is open what the
+-- value itself still does, which is within the limit.
 abbrev pub asked_in : Option ℕ → ℕ → ℕ → ℕ
 asked_in None own all = own
 asked_in (Some l) own all = all
 
 abbrev pub asked : ℕ → State → ℕ
-asked own st = asked_in st.top.left own (announced st)
+asked own st = asked_in (bound_of st.top) own (announced st)
+
+abbrev pub IsWithinLimit : ℕ → State → Type 0
+IsWithinLimit own st = bound_of st.top ≡ None → Has st.top.left own
 
 -- The error for a wrong size.
 pub data SizeError (own : ℕ) (st : State) (e : Error) : Type 0 where
-  cut : length st.rest < asked own st → e ≡ Cut → SizeError own st e
-  wrong : asked own st ≤ length st.rest → e ≡ Size → SizeError own st e
+  cut : IsWithinLimit own st → length st.rest < asked own st → e ≡ Cut → SizeError own st e
+  wrong : IsWithinLimit own st → asked own st ≤ length st.rest → e ≡ Size → SizeError own st e
+  past : bound_of st.top ≡ None → (Has st.top.left own → ⊥) → e ≡ Limit → SizeError own st e
 
 -- The open container has no room for n bytes.
 pub record NoRoom (n : ℕ) (st : State) (e : Error) : Type 0 where

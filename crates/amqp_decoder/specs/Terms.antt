@@ -13,7 +13,7 @@ use Rattle.amqp_lengths.specs.Lengths.{IsTerm}
 use Rattle.amqp_lengths.specs.Announced.{content_size, IsAnnounced}
 use Rattle.amqp_decoder.specs.declared.terms.Data.{Data}
 use Rattle.amqp_decoder.specs.declared.terms.Data.TheVariants.{Fixed as of_width, Sized as of_size}
-use Rattle.amqp_decoder.specs.State.{State, Has, after_value}
+use Rattle.amqp_decoder.specs.State.{State, depth_error, Has, after_value}
 use Rattle.amqp_decoder.specs.Steps.{Takes, Lacks, SizeError}
 use Rattle.amqp_decoder.specs.Primitives.{Stands, LacksData, LacksSized, ReadsSized}
 use Rattle.amqp_decoder.specs.Containers.{is_list}
@@ -57,8 +57,8 @@ LacksAnnounced F st e = LacksData F st e
 -- The bytes, which were taken in front of the state, are no term that nests at most so deep: no bytes that begin so begin with
 -- one, and the fault is named that stands in them. A wrong size is named where all is there that the open containers announce.
 pub data NoTerm (nesting : ℕ) (b : List ℕ) (st : State) (e : Error) : Type 0 where
-  wrong_size : Refuses (IsTerm nesting) b Size → FaultIn nesting b Size → SizeError 0 st e → NoTerm nesting b st e
-  wrong_term : Refuses (IsTerm nesting) b e → FaultIn nesting b e → (e ≡ Size → ⊥) → NoTerm nesting b st e
+  wrong_size : Refuses (IsTerm nesting) b Size → FaultIn (depth_error st.nesting) nesting b Size → SizeError 0 st e → NoTerm nesting b st e
+  wrong_term : Refuses (IsTerm nesting) b e → FaultIn (depth_error st.nesting) nesting b e → (e ≡ Size → ⊥) → NoTerm nesting b st e
 
 -- Why no bytes of a term are taken.
 pub data SpellingFault (st : State) (e : Error) : Type 0 where

@@ -8,7 +8,7 @@ ghost use Rattle.amqp_wire.specs.Sources.{Tells};
 ghost use Rattle.amqp_wire.specs.declared.descriptor.Descriptor.{Descriptor as DescriptorValue};
 ghost use Rattle.amqp_wire.specs.declared.error.Error.TheVariants.{Depth};
 ghost use Rattle.amqp_decoder.specs.declared.frame.Place.TheVariants.{InArray};
-ghost use Rattle.amqp_decoder.specs.State.{State, Has, descriptor_of, in_container};
+ghost use Rattle.amqp_decoder.specs.State.{State, depth_error, Has, descriptor_of, in_container};
 ghost use Rattle.amqp_decoder.specs.Steps.{Answers, NoRoom, Stops, Goes, Tries};
 ghost use Rattle.amqp_decoder.specs.Reading.{AnswersRead};
 ghost use Rattle.amqp_decoder.specs.Containers.{Closes, CloseFault};
@@ -18,7 +18,7 @@ ghost use Rattle.amqp_decoder.specs.Arrays.{TakesConstructor, ConstructorFault, 
 ghost use Rattle.amqp_decoder.specs.Arrays.{OpensArray, ArrayFault};
 
 use crate::Decoder;
-use crate::frame::{OpenContainer, Place};
+use crate::frame::Place;
 use amqp_wire::nesting::NESTING;
 use amqp_wire::{ByteSource, Descriptor, Error, format_code};
 use std::alloc::Global;
@@ -114,17 +114,11 @@ impl<R: ByteSource> Decoder<R> {
             × (self.new ≡ in_container InArray 0 content self.old)) }
         ensures err { Tells R.remaining → IfErr result
             (λ e. Stops false (λ e. NoRoom content self.old e
-            ⊎ ((self.old.nesting < length self.old.saved) × (e ≡ Depth))) self.old e self.new) }
+            ⊎ ((self.old.nesting < length self.old.saved) × (e ≡ depth_error self.old.nesting))) self.old e self.new) }
         ensures goes { Goes false self.old result self.new }
     {
         self.lower(content)?;
-        let inner = OpenContainer {
-            items: 0,
-            left: Some(content),
-            place: Place::InArray,
-            ..OpenContainer::TOP
-        };
-        self.enter(inner)
+        self.enter(Place::InArray, 0, content)
     }
 
     // Opens an array whose code was taken.

@@ -10,7 +10,7 @@ ghost use Rattle.amqp_decoder.specs.Containers.{Closes, CloseFault, IsPossible, 
 ghost use Rattle.amqp_decoder.specs.Containers.{Opens, OpenFault};
 
 use crate::Decoder;
-use crate::frame::{OpenContainer, Place};
+use crate::frame::Place;
 use amqp_wire::{ByteSource, Error, format_code};
 
 // How many bytes a size or a count has.
@@ -64,13 +64,7 @@ impl<R: ByteSource> Decoder<R> {
         ensures goes { Goes false self.old result self.new }
     {
         self.lower(content)?;
-        let inner = OpenContainer {
-            items: count,
-            left: Some(content),
-            place,
-            ..OpenContainer::TOP
-        };
-        self.enter_counted(inner)?;
+        self.enter_counted(place, count, content)?;
         Ok(count)
     }
 

@@ -2,6 +2,7 @@
 ghost use Rattle.std.specs.Prelude.{◌≡◌, [], length, drop, false, Some, None, MatchResult};
 ghost use Rattle.amqp_wire.specs.Sources.{known};
 ghost use Rattle.amqp_decoder.specs.State.{top_level};
+ghost use Rattle.amqp_wire.specs.Limits.{limit_of};
 ghost use Rattle.amqp_decoder.specs.Rooms.{HasRoom};
 ghost use Rattle.amqp_decoder.specs.Steps.{RefusesBy};
 ghost use Rattle.amqp_wire.specs.declared.error.Error.{Error};
@@ -15,7 +16,7 @@ mod shared;
 use crate::frame::OpenContainer;
 use amqp_lookahead::Input;
 use amqp_wire::nesting::LEVELS;
-use amqp_wire::{ByteSource, Descriptor, Error};
+use amqp_wire::{ByteSource, Descriptor, Error, Limits};
 use std::alloc::Global;
 use std::marker::Model;
 
@@ -24,20 +25,23 @@ use std::marker::Model;
 /// A call that reads a value answers `Missing` where no item is left in what is open, `Cut` where the input ends in the
 /// value, `Size` where a size is wrong and all is there that the outermost size announces, `UnknownCode` and `FloatCode`
 /// of such a code, `WrongType` of another kind's, `Memory` where it takes memory and a growth is refused, and `Read` where
-/// the source fails. What it answers besides is said of each call.
+/// the source fails, and `Limit` where a limit of the caller is passed. What it answers besides is said of each call.
 #[derive(Drop)]
 pub struct Decoder<R: ByteSource> {
     input: Input<R>,
     top: OpenContainer,
     error: Option<Error>,
     depth: usize,
+    nesting: usize,
+    bytes: u64,
     descriptors: Vec<Descriptor>,
     frames: [OpenContainer; LEVELS],
 }
 
 impl<R: ByteSource> Model for Decoder<R> {
-    ghost use Rattle.std.specs.Prelude.{◌≤◌, vec_len};
-    ghost use Rattle.amqp_decoder.specs.State.{State, stack, open_of, AreNested, IsLevel, AreBounded};
+    ghost use Rattle.std.specs.Prelude.{◌≤◌, ◌+◌, vec_len};
+    ghost use Rattle.amqp_decoder.specs.State.{State, stack, open_of, limit_around, AreNested, IsLevel, AreBounded};
+    ghost use Rattle.amqp_wire.specs.Limits.{limit_of};
     ghost use Rattle.amqp_decoder.specs.Rooms.{IsRoomy};
 
     ghost Value = { State };
@@ -46,15 +50,16 @@ impl<R: ByteSource> Model for Decoder<R> {
       rest = d.input.rest;
       ahead = d.input.ahead;
       source = d.input.source;
-      top = open_of d.descriptors.items d.top;
-      saved = stack d.descriptors.items d.depth d.frames;
-      nesting = 128;
+      top = open_of d.descriptors.items (limit_of d.bytes) d.top;
+      saved = stack d.descriptors.items (limit_around d.top.left (limit_of d.bytes)) d.depth d.frames;
+      nesting = d.nesting;
       error = d.error;
       failed = d.input.failed;
     } };
 
-    ghost invariant = { λ d. (d.depth ≤ 129) × AreNested d.depth d.frames d.top.last × (d.top.last ≤ vec_len d.descriptors) × IsLevel d.top
-        × AreBounded d.depth d.frames d.top.place d.top.left × IsRoomy 128 d.depth (open_of d.descriptors.items d.top) };
+    ghost invariant = { λ d. (d.depth ≤ d.nesting + 1) × AreNested d.depth d.frames d.top.last × (d.top.last ≤ vec_len d.descriptors) × IsLevel d.top
+        × AreBounded d.depth d.frames d.top.place d.top.left × IsRoomy d.nesting d.depth (open_of d.descriptors.items (limit_of d.bytes) d.top)
+        × (d.nesting ≤ 128) };
 }
 
 impl<R: ByteSource> Decoder<R> {
@@ -92,15 +97,32 @@ impl<R: ByteSource> Decoder<R> {
     }
 }
 
-/// A decoder of the source's bytes, at the top level.
+/// A decoder of the source's bytes, at the top level, which reads all that nests at most 128 deep.
 pub fn decoder_of<R: ByteSource>(source: R, alloc: Global) -> Decoder<R>
     ensures { result ≡ record {
       rest = known (R.remaining source);
       ahead = 0;
       source = R.name source;
-      top = top_level;
+      top = top_level None;
       saved = [];
       nesting = 128;
+      error = None;
+      failed = R.failed source;
+    } }
+{
+    decoder_within(source, &Limits::greatest(), alloc)
+}
+
+/// A decoder of the source's bytes, at the top level, within these limits on nesting and on bytes. How many items are read isn't
+/// limited yet.
+pub fn decoder_within<R: ByteSource>(source: R, limits: &Limits, alloc: Global) -> Decoder<R>
+    ensures { result ≡ record {
+      rest = known (R.remaining source);
+      ahead = 0;
+      source = R.name source;
+      top = top_level (limit_of limits.now.bytes);
+      saved = [];
+      nesting = limits.now.nesting;
       error = None;
       failed = R.failed source;
     } }
@@ -110,6 +132,8 @@ pub fn decoder_of<R: ByteSource>(source: R, alloc: Global) -> Decoder<R>
         top: OpenContainer::TOP,
         error: None,
         depth: 0,
+        nesting: limits.nesting() as usize,
+        bytes: limits.bytes(),
         descriptors: Vec::new(alloc),
         frames: [OpenContainer::TOP; LEVELS],
     }

@@ -39,7 +39,7 @@ impl<R: ByteSource> Decoder<R> {
             return Err(self.refuse_code(code));
         }
         if self.nesting_left() == 0 {
-            return Err(self.stop(Error::Depth));
+            return Err(self.refuse_depth());
         }
         Ok(())
     }
@@ -111,7 +111,7 @@ impl<R: ByteSource> Decoder<R> {
     pub fn begin_described(&mut self, alloc: Global) -> Result<Descriptor, Error>
         ensures opened { Tells R.remaining → AnswersRead true (λ st d st'. OpensDescribed st (descriptor_of d) st') OpenFault
             self.old result self.new }
-        ensures nesting { self.old.nesting ≡ 128 }
+        ensures nesting { self.old.nesting ≤ 128 }
         ensures tries { Tries true self.old result self.new }
     {
         self.room();
@@ -175,7 +175,7 @@ impl<R: ByteSource> Decoder<R> {
     /// `WrongDescriptor` where it is none of them, and otherwise as `begin_described`. Takes no memory.
     pub fn begin_one_of(&mut self, members: &[(u64, &str)]) -> Result<usize, Error>
         ensures opened { Tells R.remaining → AnswersRead false (OpensOneOf members.now) (OneOfFault members.now) self.old result self.new }
-        ensures nesting { Tells R.remaining → IfOk result (λ _. self.old.nesting ≡ 128) }
+        ensures nesting { Tells R.remaining → IfOk result (λ _. self.old.nesting ≤ 128) }
         ensures room { HasRoom self.old }
         ensures tries { Tries false self.old result self.new }
     {

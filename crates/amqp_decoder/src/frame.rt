@@ -15,7 +15,7 @@ pub(crate) enum Place {
 }
 
 /// How many items and how many bytes are left in an open container, without what stands in the containers
-/// that are open in it. At the top level neither is bounded. The bytes of a described value are those of what it
+/// that are open in it. At the top level no size bounds them. The bytes of a described value are those of what it
 /// stands in, which has none left until it ends. The code, which isn't 0, and the descriptors from `first` to `last`
 /// of the decoder's row are the constructor that the items share.
 #[derive(Clone, Copy)]

@@ -1,11 +1,13 @@
 //! The laws of what the calls of a decoder read. The functions do nothing; their contracts are proved.
-ghost use Rattle.std.specs.Prelude.{◌≡◌, ◌<◌, ◌≤◌, ◌↔◌, ℕ, List, [], ◌∷◌, ◌++◌, length, Some, None};
+ghost use Rattle.std.specs.Prelude.{◌≡◌, ◌<◌, ◌≤◌, ◌↔◌, ◌-◌, ℕ, Option, List, [], ◌∷◌, ◌++◌, length, Some, None};
 ghost use Rattle.amqp_model.specs.Term.{Container, Descriptor, Term, Terms, container, described, list, map, array};
 ghost use Rattle.amqp_model.specs.Items.{items_of};
+ghost use Rattle.amqp_model.specs.Measures.{nest};
 ghost use Rattle.amqp_model.specs.Standing.{Standing};
 ghost use Rattle.amqp_decoder.specs.declared.frame.Place.{Place};
 ghost use Rattle.amqp_decoder.specs.declared.frame.Place.TheVariants.{InArray};
 ghost use Rattle.amqp_decoder.specs.State.{State, Has, after_look, after_bytes, after_data, after_value};
+ghost use Rattle.amqp_decoder.specs.Within.{limited};
 ghost use Rattle.amqp_decoder.specs.Steps.{Takes, IsOutside};
 ghost use Rattle.amqp_decoder.specs.Reading.{ReadsCode, PeeksCode};
 ghost use Rattle.amqp_decoder.specs.Primitives.{standing, Stands, ReadsValue, PrimitiveFault};
@@ -77,6 +79,14 @@ pub fn rooms()
     ensures opened { (kind : Container) (st after : State) (n : ℕ) → Opens kind st n after → HasRoom after }
     ensures opened_array { (st after : State) (n : ℕ) → OpensArray st n after → HasRoom after }
     ensures opened_described { (st after : State) (d : Descriptor) → OpensDescribed st d after → HasRoom after }
+{}
+
+/// At the top level a term stands within limits exactly if it stands without them, has no more bytes and nests no deeper; and a look
+/// at the next code goes no further than the bytes that are left.
+pub fn limits()
+    ensures stands { (nesting : ℕ) (left : Option ℕ) (st : State) (s : List ℕ) (t : Term) → nesting ≤ st.nesting → st.top.left ≡ None
+        → (Stands (limited nesting left st) s t ↔ (Stands st s t × Has left (length s) × (nest t ≤ nesting - length st.saved))) }
+    ensures looked { (st looked : State) (c : ℕ) → PeeksCode st c looked → Has st.top.left st.ahead → Has looked.top.left looked.ahead }
 {}
 
 /// At one state one term stands, as these bytes, and it leaves one state; of two rows of terms the shorter is the front of

@@ -12,4 +12,4 @@ mod terms;
 mod texts;
 
 pub use amqp_lengths::term_len;
-pub use decoder::{Decoder, decoder_of, source_of, unread};
+pub use decoder::{Decoder, decoder_of, decoder_within, source_of, unread};

@@ -181,7 +181,7 @@ impl<R: ByteSource> Decoder<R> {
             (λ e. Stops false (NoTerm (self.old.nesting - length self.old.saved) bytes.now self.old) self.old e self.new) }
         ensures goes { Goes false self.old result self.new }
     {
-        match len_of_term(bytes, self.nesting_left()) {
+        match len_of_term(bytes, self.nesting_left(), self.depth_error()) {
             Ok(_) => Ok(()),
             Err(Error::Size) => Err(self.refuse_size(0)),
             Err(error) => Err(self.stop(error)),

@@ -1,5 +1,5 @@
 -- A described value is read: its descriptor, and then what it describes. What each exit of the reader answers.
-use Rattle.std.proofs.Common.{◌≡◌, ℕ, Bool, true, false, List, [], ◌∷◌, length, Some, refl, sym, ap, ◌∙◌, subst, arith}
+use Rattle.std.proofs.Common.{◌≡◌, ◌≤◌, ℕ, Bool, true, false, List, [], ◌∷◌, length, Some, refl, sym, ap, ◌∙◌, subst, arith}
 use Rattle.amqp_model.specs.Term.{Descriptor, Term, described}
 use Rattle.amqp_model.specs.Spelling.{descriptor_value}
 use Rattle.amqp_model.specs.Standing.{Standing, Parts}
@@ -51,7 +51,7 @@ module _ {T : Type 0} (u : TermType T) where
     read : ReadsValue u.means inner v.value last
     closes : ClosesDescribed InDescribed last b
 
-  inside_so : (st : State) (v : Described T) (b : State) (bytes : List ℕ) (d : Descriptor) (x : Term) (z : Standing) → st.nesting ≡ 128
+  inside_so : (st : State) (v : Described T) (b : State) (bytes : List ℕ) (d : Descriptor) (x : Term) (z : Standing) → st.nesting ≤ 128
       → d ≡ descriptor_of v.descriptor
       → (u.ignores_standing ≡ false → Parts (standing st.top.shared bytes) (described d x) (z ∷ [])) → u.means z x v.value
       → Stands st bytes (described d x) → b ≡ after_value (length bytes) st → Inside st v b
@@ -75,13 +75,13 @@ module _ {T : Type 0} (u : TermType T) where
         closes = k.closes;
       }
 
-  inside : (st : State) (v : Described T) (b : State) → st.nesting ≡ 128 → Reads st v b → Inside st v b
+  inside : (st : State) (v : Described T) (b : State) → st.nesting ≤ 128 → Reads st v b → Inside st v b
   inside st v b bound h =
       pair_cases any_descriptor.means u.ignores_standing u.means (standing st.top.shared h.bytes) (pair_of v)
       (λ t. Stands st h.bytes t → Inside st v b)
       (λ d x z q p m stands. inside_so st v b h.bytes d x z bound q.0 p m stands h.moved) h.term h.meant h.stands
 
-  pub whole_read : (st inner last b : State) (v : Described T) → st.nesting ≡ 128 → OpensDescribed st (descriptor_of v.descriptor) inner
+  pub whole_read : (st inner last b : State) (v : Described T) → st.nesting ≤ 128 → OpensDescribed st (descriptor_of v.descriptor) inner
       → IsInRange (descriptor_value (descriptor_of v.descriptor)) → ReadsValue u.means inner v.value last
       → ClosesDescribed InDescribed last b → Reads st v b
   whole_read st inner last b v bound o range r c =
@@ -97,13 +97,13 @@ module _ {T : Type 0} (u : TermType T) where
         meant = ((refl, range), standing inner.top.shared r.bytes, λ _. n.parts, r.meant);
       }
 
-  pub open_refused : (st : State) (e : Error) (new : State) → st.nesting ≡ 128
+  pub open_refused : (st : State) (e : Error) (new : State) → st.nesting ≤ 128
       → RefusesRead true (λ st d b. OpensDescribed st (descriptor_of d) b) OpenFault st e new → RefusesRead true Reads Fault st e new
   open_refused st e new bound =
       refused_first (λ st d b. OpensDescribed st (descriptor_of d) b) OpenFault Reads Fault st e new (λ t. t) unopened
       (λ none v b h. (let k = inside st v b bound h in none v.descriptor k.inner k.opens))
 
-  module _ (st : State) (d : Descriptor) (inner : State) (bound : st.nesting ≡ 128) (o : OpensDescribed st d inner) where
+  module _ (st : State) (d : Descriptor) (inner : State) (bound : st.nesting ≤ 128) (o : OpensDescribed st d inner) where
     pub value_refused : {takes : Bool} (e : Error) (new : State) → RefusesRead takes (ReadsValue u.means) u.faults.fault inner e new
         → RefusesRead true Reads Fault st e new
     value_refused e new =

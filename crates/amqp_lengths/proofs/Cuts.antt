@@ -3,7 +3,7 @@ use Rattle.std.proofs.Common.{◌≡◌, ℕ, ◌<◌, Bool, true, false, cond, 
 use Rattle.std.proofs.Common.{None, sym, ap, subst, arith}
 use Rattle.std.proofs.lemmas.List.{length-append}
 use Rattle.amqp_wire.specs.declared.error.Error.{Error}
-use Rattle.amqp_wire.specs.declared.error.Error.TheVariants.{Cut, UnknownCode, FloatCode, WrongType}
+use Rattle.amqp_wire.specs.declared.error.Error.TheVariants.{Cut, UnknownCode, FloatCode, WrongType, Depth}
 use Rattle.amqp_wire.specs.Codes.{is_known, refusal_of}
 use Rattle.amqp_model.specs.Term.{Primitive, char, string, symbol, Container, array, Descriptor}
 use Rattle.amqp_model.specs.Constructors.{Format, compound, format}
@@ -72,15 +72,15 @@ constructor_asks input e (constructor_unknown n k after few b some none) c = abs
 constructor_asks input e (constructor_long after b) c = absurd (cc)
 constructor_asks input e (constructor_descriptor n after x few b h) c = descriptor_asks n input after x few b h c
 
-items_not : (nesting n : ℕ) (content : List ℕ) (e : Error) → ItemsFault nesting n content e → e ≡ Cut → ⊥
+items_not : (nesting n : ℕ) (content : List ℕ) (e : Error) → ItemsFault Depth nesting n content e → e ≡ Cut → ⊥
 items_not nesting n content e (items_fault k m b x done after less there h) c = inside_not x c
 items_not nesting n content e (items_over k m b after there some) c = cc
 
-shared_not : (code nesting n : ℕ) (content : List ℕ) (e : Error) → SharedFault code nesting n content e → e ≡ Cut → ⊥
+shared_not : (code nesting n : ℕ) (content : List ℕ) (e : Error) → SharedFault Depth code nesting n content e → e ≡ Cut → ⊥
 shared_not code nesting n content e (shared_fault z k m b x done after less there h) c = inside_not x c
 shared_not code nesting n content e (shared_over z k m b after there some) c = cc
 
-elements_not : (nesting n : ℕ) (content : List ℕ) (e : Error) → ElementsFault nesting n content e → e ≡ Cut → ⊥
+elements_not : (nesting n : ℕ) (content : List ℕ) (e : Error) → ElementsFault Depth nesting n content e → e ≡ Cut → ⊥
 elements_not nesting n content e (elements_missing k j b is some) c = cc
 elements_not nesting n content e (elements_constructor k j b x some h) c = inside_not x c
 elements_not nesting n content e (elements_over k j b m z after there is some) c = cc
@@ -88,29 +88,29 @@ elements_not nesting n content e (elements_empty k j b m z after there some h) c
 elements_not nesting n content e (elements_deep k j b m z after there some h) c = cc
 elements_not nesting n content e (elements_data k j b x m z left after there some is h) c = shared_not z left j after x h c
 
-container_asks : (kind : Container) (w nesting : ℕ) (input : List ℕ) (e : Error) → ContainerFault kind w nesting input e → e ≡ Cut
+container_asks : (kind : Container) (w nesting : ℕ) (input : List ℕ) (e : Error) → ContainerFault Depth kind w nesting input e → e ≡ Cut
     → Wants (compound kind w) input
 container_asks kind w nesting input e (container_content k v m b x h) c = content_asks k v b x h c
 container_asks kind w nesting input e (container_deep k v m b after there is) c = absurd (cc)
 container_asks kind w nesting input e (container_unpaired k v m b n items after there odd) c = absurd (cc)
 container_asks kind w nesting input e (container_items k v m b x n left items after there is h) c = absurd (items_not left n items x h c)
 
-array_asks : (w nesting : ℕ) (input : List ℕ) (e : Error) → ArrayFault w nesting input e → e ≡ Cut → Wants (compound array w) input
+array_asks : (w nesting : ℕ) (input : List ℕ) (e : Error) → ArrayFault Depth w nesting input e → e ≡ Cut → Wants (compound array w) input
 array_asks w nesting input e (array_content v m b x h) c = content_asks array v b x h c
 array_asks w nesting input e (array_elements v m b x n items after there h) c = absurd (elements_not m n items x h c)
 
-data_asks : (code nesting : ℕ) (input : List ℕ) (e : Error) → DataFault code nesting input e → e ≡ Cut → Wants (format code) input
+data_asks : (code nesting : ℕ) (input : List ℕ) (e : Error) → DataFault Depth code nesting input e → e ≡ Cut → Wants (format code) input
 data_asks code nesting input e (data_of_primitive z k b x h) c = primitive_asks (format z) b x h c
 data_asks code nesting input e (data_of_container z k b x kind w is some h) c =
     subst (λ F. Wants F b) (sym is) (container_asks kind w k b x h c)
 data_asks code nesting input e (data_of_array z k b x w is h) c = subst (λ F. Wants F b) (sym is) (array_asks w k b x h c)
 
-term_asks : (nesting : ℕ) (input : List ℕ) (e : Error) → TermFault nesting input e → e ≡ Cut → AsksMore input
+term_asks : (nesting : ℕ) (input : List ℕ) (e : Error) → TermFault Depth nesting input e → e ≡ Cut → AsksMore input
 term_asks nesting input e (term_constructor k b x h) c = constructor_asks b x h c
 term_asks nesting input e (term_nests k b n z after there deep) c = absurd (cc)
 term_asks nesting input e (term_data k b x n z left after there is h) c = for_data n z after there (data_asks z left after x h c)
 
-pub error_asks : (nesting : ℕ) (input : List ℕ) (r : Result ℕ Error) → IfErr r (λ e. TermFault nesting input e)
+pub error_asks : (nesting : ℕ) (input : List ℕ) (r : Result ℕ Error) → IfErr r (λ e. TermFault Depth nesting input e)
     → IfErr r (λ e. e ≡ Cut → AsksMore input)
 error_asks nesting input (Ok n) h = tt
 error_asks nesting input (Err e) h = term_asks nesting input e h

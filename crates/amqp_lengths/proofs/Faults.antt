@@ -139,33 +139,33 @@ Inside r e = (cause : Error) × (r ≡ Err cause) × (e ≡ inside cause)
 err_at : {T : Type 0} (P : Error → Type 0) (r : Result T Error) (e : Error) → IfErr r P → r ≡ Err e → P e
 err_at P r e h is = subst (λ z. IfErr z P) is h
 
-pub items_bad : (k n : ℕ) (content : List ℕ) (i len : ℕ) (r : Result ℕ Error) (e : Error) → i < n → Begins (IsTerm k) n content i len
-    → IfErr r (λ x. TermFault k (take (length content - len) (drop len content)) x) → Inside r e → ItemsFault k n content e
-items_bad k n content i len r e less h f (cause, is, mapped) =
-    let fault : TermFault k (drop len content) cause = subst (λ l. TermFault k l cause) (tail_all len content) (err_at _ r cause f is) in
-    subst (ItemsFault k n content) (sym mapped)
+pub items_bad : {deep : Error} (k n : ℕ) (content : List ℕ) (i len : ℕ) (r : Result ℕ Error) (e : Error) → i < n → Begins (IsTerm k) n content i len
+    → IfErr r (λ x. TermFault deep k (take (length content - len) (drop len content)) x) → Inside r e → ItemsFault deep k n content e
+items_bad {deep = deep} k n content i len r e less h f (cause, is, mapped) =
+    let fault : TermFault deep k (drop len content) cause = subst (λ l. TermFault deep k l cause) (tail_all len content) (err_at _ r cause f is) in
+    subst (ItemsFault deep k n content) (sym mapped)
     (items_fault k n content cause i (drop len content) less (behind_taken (Row (IsTerm k) i) content len h.pieces) fault)
 
-pub shared_bad : (c k n : ℕ) (content : List ℕ) (i len : ℕ) (r : Result ℕ Error) (e : Error) → i < n → Begins (IsData c k) n content i len
-    → IfErr r (λ x. DataFault c k (take (length content - len) (drop len content)) x) → Inside r e → SharedFault c k n content e
-shared_bad c k n content i len r e less h f (cause, is, mapped) =
-    let fault : DataFault c k (drop len content) cause =
-    subst (λ l. DataFault c k l cause) (tail_all len content) (err_at _ r cause f is) in
-    subst (SharedFault c k n content) (sym mapped)
+pub shared_bad : {deep : Error} (c k n : ℕ) (content : List ℕ) (i len : ℕ) (r : Result ℕ Error) (e : Error) → i < n → Begins (IsData c k) n content i len
+    → IfErr r (λ x. DataFault deep c k (take (length content - len) (drop len content)) x) → Inside r e → SharedFault deep c k n content e
+shared_bad {deep = deep} c k n content i len r e less h f (cause, is, mapped) =
+    let fault : DataFault deep c k (drop len content) cause =
+    subst (λ l. DataFault deep c k l cause) (tail_all len content) (err_at _ r cause f is) in
+    subst (SharedFault deep c k n content) (sym mapped)
     (shared_fault c k n content cause i (drop len content) less (behind_taken (Row (IsData c k) i) content len h.pieces) fault)
 
 left_over : (len : ℕ) (content : List ℕ) → len ≤ length content → (len ≡ length content → ⊥) → 0 < length (drop len content)
 left_over len content few some = omega (arith, length-drop len content)
 
-pub items_left : (k n : ℕ) (content : List ℕ) (i len : ℕ) → i ≡ n → Begins (IsTerm k) n content i len → (len ≡ length content → ⊥)
-    → ItemsFault k n content Size
+pub items_left : {deep : Error} (k n : ℕ) (content : List ℕ) (i len : ℕ) → i ≡ n → Begins (IsTerm k) n content i len → (len ≡ length content → ⊥)
+    → ItemsFault deep k n content Size
 items_left k n content i len all h some =
     items_over k n content (drop len content)
     (behind_taken (Row (IsTerm k) n) content len (subst (λ j. Row (IsTerm k) j (take len content)) all h.pieces))
     (left_over len content h.within some)
 
-pub shared_left : (c k n : ℕ) (content : List ℕ) (i len : ℕ) → i ≡ n → Begins (IsData c k) n content i len → (len ≡ length content → ⊥)
-    → SharedFault c k n content Size
+pub shared_left : {deep : Error} (c k n : ℕ) (content : List ℕ) (i len : ℕ) → i ≡ n → Begins (IsData c k) n content i len → (len ≡ length content → ⊥)
+    → SharedFault deep c k n content Size
 shared_left c k n content i len all h some =
     shared_over c k n content (drop len content)
     (behind_taken (Row (IsData c k) n) content len (subst (λ j. Row (IsData c k) j (take len content)) all h.pieces))
@@ -176,10 +176,10 @@ err_map P Q (Ok x) f h = tt
 err_map P Q (Err e) f h = f e h
 
 -- the constructor of an array's items
-pub elements_unreadable : {T : Type 0} (k n : ℕ) (content : List ℕ) (r : Result T Error) (e : Error) → 0 < length content
-    → IfErr r (λ x. ConstructorFault content x) → Inside r e → ElementsFault k n content e
-elements_unreadable k n content r e some f (cause, is, mapped) =
-    subst (ElementsFault k n content) (sym mapped) (elements_constructor k n content cause some (err_at _ r cause f is))
+pub elements_unreadable : {deep : Error} {T : Type 0} (k n : ℕ) (content : List ℕ) (r : Result T Error) (e : Error) → 0 < length content
+    → IfErr r (λ x. ConstructorFault content x) → Inside r e → ElementsFault deep k n content e
+elements_unreadable {deep = deep} k n content r e some f (cause, is, mapped) =
+    subst (ElementsFault deep k n content) (sym mapped) (elements_constructor k n content cause some (err_at _ r cause f is))
 
 pub behind_content : (kind : Container) (w n len : ℕ) (items input : List ℕ) → IsFront (IsContent kind w n items) input len
     → Behind (HasContent kind w) input (drop len input)

@@ -202,7 +202,7 @@ some_content : (n c : ℕ) (b after : List ℕ) → Behind (Constructs n c) b af
 some_content n c b after h none = constructs_some n c h.front h.spelled (no_bytes h.front after (sym h.is ∙ none))
 
 mutual
-  term_refuses : (k : ℕ) (input : List ℕ) (e : Error) → TermFault k input e → Refuses (IsTerm k) input e
+  term_refuses : {deep : Error} (k : ℕ) (input : List ℕ) (e : Error) → TermFault deep k input e → Refuses (IsTerm k) input e
   term_refuses k input e (term_constructor k' b x h) = term_unbegun k' b x (constructor_refuses b x h)
   term_refuses k input e (term_nests k' b n c after h deep) =
       let t = taken (Constructs n c) b after h in
@@ -212,7 +212,7 @@ mutual
       term_short k' n left c t.len b x t.spelled is
       (subst (λ l. Refuses (IsData c left) l x) (sym t.behind) (data_refuses c left after x f))
 
-  data_refuses : (c k : ℕ) (input : List ℕ) (e : Error) → DataFault c k input e → Refuses (IsData c k) input e
+  data_refuses : {deep : Error} (c k : ℕ) (input : List ℕ) (e : Error) → DataFault deep c k input e → Refuses (IsData c k) input e
   data_refuses c k input e (data_of_primitive c' k' b x h) =
       refuses_part (IsData c' k') (PrimitiveOf c') b x (λ l d. data_primitive c' k' l (fault_primitive (format c') b x h) d)
       (primitive_refuses (format c') b x h)
@@ -222,7 +222,7 @@ mutual
   data_refuses c k input e (data_of_array c' k' b x w is h) =
       refuses_part (IsData c' k') (IsArray w k') b x (λ l d. data_array c' w k' l is d) (array_refuses w k' b x h)
 
-  container_refuses : (kind : Container) (w k : ℕ) (input : List ℕ) (e : Error) → ContainerFault kind w k input e
+  container_refuses : {deep : Error} (kind : Container) (w k : ℕ) (input : List ℕ) (e : Error) → ContainerFault deep kind w k input e
       → Refuses (IsContainer kind w k) input e
   container_refuses kind w k input e (container_content j v m b x h) = container_unbegun j v m b x (content_refuses j v b x h)
   container_refuses kind w k input e (container_deep j v m b after h none) =
@@ -234,18 +234,18 @@ mutual
       let t = taken (IsContent j v n items) b after h in
       container_bad j v m left n t.len items b x t.spelled is (items_refused left n items x f)
 
-  items_refused : (k n : ℕ) (content : List ℕ) (e : Error) → ItemsFault k n content e → Row (IsTerm k) n content → ⊥
+  items_refused : {deep : Error} (k n : ℕ) (content : List ℕ) (e : Error) → ItemsFault deep k n content e → Row (IsTerm k) n content → ⊥
   items_refused k n content e (items_fault k' m b x done after less h f) r =
       row_refused (IsTerm k') (term_once k') done m b after x less h (term_refuses k' after x f) r
   items_refused k n content e (items_over k' m b after h some) r = row_over (IsTerm k') (term_once k') m b after h some r
 
-  array_refuses : (w k : ℕ) (input : List ℕ) (e : Error) → ArrayFault w k input e → Refuses (IsArray w k) input e
+  array_refuses : {deep : Error} (w k : ℕ) (input : List ℕ) (e : Error) → ArrayFault deep w k input e → Refuses (IsArray w k) input e
   array_refuses w k input e (array_content v m b x h) = array_unbegun v m b x (content_refuses array v b x h)
   array_refuses w k input e (array_elements v m b x n items after h f) =
       let t = taken (IsContent array v n items) b after h in
       array_bad v m n t.len items b x t.spelled (elements_refused m n items x f)
 
-  elements_refused : (k n : ℕ) (content : List ℕ) (e : Error) → ElementsFault k n content e → HasElements k n content → ⊥
+  elements_refused : {deep : Error} (k n : ℕ) (content : List ℕ) (e : Error) → ElementsFault deep k n content e → HasElements k n content → ⊥
   elements_refused k n content e (elements_missing k' j b none some) r = elements_some k' j b none (λ z. omega arith) r
   elements_refused k n content e (elements_constructor k' j b x some h) r =
       elements_unbegun k' j b x (some_bytes b some) (constructor_refuses b x h) r
@@ -266,11 +266,11 @@ mutual
       let there : Row (IsData c (k' - levels_of m c)) j after = subst (λ l. Row (IsData c (k' - levels_of m c)) j l) t.behind rows in
       shared_refused c left j after x f (subst (λ i. Row (IsData c i) j after) same there)
 
-  shared_refused : (c k n : ℕ) (content : List ℕ) (e : Error) → SharedFault c k n content e → Row (IsData c k) n content → ⊥
+  shared_refused : {deep : Error} (c k n : ℕ) (content : List ℕ) (e : Error) → SharedFault deep c k n content e → Row (IsData c k) n content → ⊥
   shared_refused c k n content e (shared_fault c' k' m b x done after less h f) r =
       row_refused (IsData c' k') (data_once c' k') done m b after x less h (data_refuses c' k' after x f) r
   shared_refused c k n content e (shared_over c' k' m b after h some) r = row_over (IsData c' k') (data_once c' k') m b after h some r
 
 -- a fault that stands in the bytes refuses each term that could begin so
-pub fault_refuses : (nesting : ℕ) (input : List ℕ) (e : Error) → TermFault nesting input e → Refuses (IsTerm nesting) input e
+pub fault_refuses : {deep : Error} (nesting : ℕ) (input : List ℕ) (e : Error) → TermFault deep nesting input e → Refuses (IsTerm nesting) input e
 fault_refuses nesting input e h = term_refuses nesting input e h

@@ -60,70 +60,71 @@ abbrev pub inside : Error → Error
 inside Cut = Size
 inside e = e
 
+-- deep: the error for values that nest too deep
 mutual
   -- The constructor is faulty, or has more descriptors than the nesting allows, or the data behind it is faulty.
-  pub data TermFault : ℕ → List ℕ → Error → Type 0 where
-    term_constructor : (nesting : ℕ) (input : List ℕ) (e : Error) → ConstructorFault input e → TermFault nesting input e
+  pub data TermFault (deep : Error) : ℕ → List ℕ → Error → Type 0 where
+    term_constructor : (nesting : ℕ) (input : List ℕ) (e : Error) → ConstructorFault input e → TermFault deep nesting input e
     term_nests : (nesting : ℕ) (input : List ℕ) (n c : ℕ) (after : List ℕ) → Behind (Constructs n c) input after → nesting < n
-        → TermFault nesting input Depth
+        → TermFault deep nesting input deep
     term_data : (nesting : ℕ) (input : List ℕ) (e : Error) (n c left : ℕ) (after : List ℕ) → Behind (Constructs n c) input after
-        → n + left ≡ nesting → DataFault c left after e → TermFault nesting input e
+        → n + left ≡ nesting → DataFault deep c left after e → TermFault deep nesting input e
 
   -- The data under a code is faulty.
-  pub data DataFault : ℕ → ℕ → List ℕ → Error → Type 0 where
-    data_of_primitive : (c nesting : ℕ) (input : List ℕ) (e : Error) → PrimitiveFault (format c) input e → DataFault c nesting input e
+  pub data DataFault (deep : Error) : ℕ → ℕ → List ℕ → Error → Type 0 where
+    data_of_primitive : (c nesting : ℕ) (input : List ℕ) (e : Error) → PrimitiveFault (format c) input e → DataFault deep c nesting input e
     data_of_container : (c nesting : ℕ) (input : List ℕ) (e : Error) (kind : Container) (w : ℕ) → format c ≡ compound kind w
-        → (kind ≡ array → ⊥) → ContainerFault kind w nesting input e → DataFault c nesting input e
-    data_of_array : (c nesting : ℕ) (input : List ℕ) (e : Error) (w : ℕ) → format c ≡ compound array w → ArrayFault w nesting input e
-        → DataFault c nesting input e
+        → (kind ≡ array → ⊥) → ContainerFault deep kind w nesting input e → DataFault deep c nesting input e
+    data_of_array : (c nesting : ℕ) (input : List ℕ) (e : Error) (w : ℕ) → format c ≡ compound array w → ArrayFault deep w nesting input e
+        → DataFault deep c nesting input e
 
   -- A list or map: its content isn't there, or it may not nest at all, or a map's count is odd, or its items are faulty.
-  pub data ContainerFault : Container → ℕ → ℕ → List ℕ → Error → Type 0 where
+  pub data ContainerFault (deep : Error) : Container → ℕ → ℕ → List ℕ → Error → Type 0 where
     container_content : (kind : Container) (w nesting : ℕ) (input : List ℕ) (e : Error) → ContentFault kind w input e
-        → ContainerFault kind w nesting input e
+        → ContainerFault deep kind w nesting input e
     container_deep : (kind : Container) (w nesting : ℕ) (input after : List ℕ) → Behind (HasContent kind w) input after → nesting ≡ 0
-        → ContainerFault kind w nesting input Depth
+        → ContainerFault deep kind w nesting input deep
     container_unpaired : (kind : Container) (w nesting : ℕ) (input : List ℕ) (n : ℕ) (items after : List ℕ)
-        → Behind (IsContent kind w n items) input after → (HasPairs kind n → ⊥) → ContainerFault kind w nesting input OddCount
+        → Behind (IsContent kind w n items) input after → (HasPairs kind n → ⊥) → ContainerFault deep kind w nesting input OddCount
     container_items : (kind : Container) (w nesting : ℕ) (input : List ℕ) (e : Error) (n left : ℕ) (items after : List ℕ)
-        → Behind (IsContent kind w n items) input after → nesting ≡ suc left → ItemsFault left n items e
-        → ContainerFault kind w nesting input e
+        → Behind (IsContent kind w n items) input after → nesting ≡ suc left → ItemsFault deep left n items e
+        → ContainerFault deep kind w nesting input e
 
   -- Of so many terms, one is faulty behind some whole ones, or bytes are left over behind them all.
-  pub data ItemsFault : ℕ → ℕ → List ℕ → Error → Type 0 where
+  pub data ItemsFault (deep : Error) : ℕ → ℕ → List ℕ → Error → Type 0 where
     items_fault : (nesting n : ℕ) (content : List ℕ) (cause : Error) (done : ℕ) (after : List ℕ) → done < n
-        → Behind (Row (IsTerm nesting) done) content after → TermFault nesting after cause → ItemsFault nesting n content (inside cause)
+        → Behind (Row (IsTerm nesting) done) content after → TermFault deep nesting after cause → ItemsFault deep nesting n content (inside cause)
     items_over : (nesting n : ℕ) (content after : List ℕ) → Behind (Row (IsTerm nesting) n) content after → 0 < length after
-        → ItemsFault nesting n content Size
+        → ItemsFault deep nesting n content Size
 
   -- An array: its content isn't there, or is faulty.
-  pub data ArrayFault : ℕ → ℕ → List ℕ → Error → Type 0 where
-    array_content : (w nesting : ℕ) (input : List ℕ) (e : Error) → ContentFault array w input e → ArrayFault w nesting input e
+  pub data ArrayFault (deep : Error) : ℕ → ℕ → List ℕ → Error → Type 0 where
+    array_content : (w nesting : ℕ) (input : List ℕ) (e : Error) → ContentFault array w input e → ArrayFault deep w nesting input e
     array_elements : (w nesting : ℕ) (input : List ℕ) (e : Error) (n : ℕ) (items after : List ℕ)
-        → Behind (IsContent array w n items) input after → ElementsFault nesting n items e → ArrayFault w nesting input e
+        → Behind (IsContent array w n items) input after → ElementsFault deep nesting n items e → ArrayFault deep w nesting input e
 
   -- The content of an array of so many items: their constructor is missing or faulty, or stands before bytes though there are
   -- no items, or is that of items without bytes, or of items that nest too deep, or the data behind it is faulty.
-  pub data ElementsFault : ℕ → ℕ → List ℕ → Error → Type 0 where
-    elements_missing : (nesting n : ℕ) (content : List ℕ) → content ≡ [] → 0 < n → ElementsFault nesting n content Size
+  pub data ElementsFault (deep : Error) : ℕ → ℕ → List ℕ → Error → Type 0 where
+    elements_missing : (nesting n : ℕ) (content : List ℕ) → content ≡ [] → 0 < n → ElementsFault deep nesting n content Size
     elements_constructor : (nesting n : ℕ) (content : List ℕ) (cause : Error) → 0 < length content → ConstructorFault content cause
-        → ElementsFault nesting n content (inside cause)
+        → ElementsFault deep nesting n content (inside cause)
     elements_over : (nesting n : ℕ) (content : List ℕ) (m c : ℕ) (after : List ℕ) → Behind (Constructs m c) content after → n ≡ 0
-        → 0 < length after → ElementsFault nesting n content Size
+        → 0 < length after → ElementsFault deep nesting n content Size
     elements_empty : (nesting n : ℕ) (content : List ℕ) (m c : ℕ) (after : List ℕ) → Behind (Constructs m c) content after → 0 < n
-        → HasWidthZero (format c) → ElementsFault nesting n content ZeroWidthItems
+        → HasWidthZero (format c) → ElementsFault deep nesting n content ZeroWidthItems
     elements_deep : (nesting n : ℕ) (content : List ℕ) (m c : ℕ) (after : List ℕ) → Behind (Constructs m c) content after → 0 < n
-        → nesting < levels_of m c → ElementsFault nesting n content Depth
+        → nesting < levels_of m c → ElementsFault deep nesting n content deep
     elements_data : (nesting n : ℕ) (content : List ℕ) (e : Error) (m c left : ℕ) (after : List ℕ) → Behind (Constructs m c) content after
-        → 0 < n → left + levels_of m c ≡ nesting → SharedFault c left n after e → ElementsFault nesting n content e
+        → 0 < n → left + levels_of m c ≡ nesting → SharedFault deep c left n after e → ElementsFault deep nesting n content e
 
   -- Of the data of so many items under one code, one is faulty behind some whole ones, or bytes are left over behind them all.
-  pub data SharedFault : ℕ → ℕ → ℕ → List ℕ → Error → Type 0 where
+  pub data SharedFault (deep : Error) : ℕ → ℕ → ℕ → List ℕ → Error → Type 0 where
     shared_fault : (c nesting n : ℕ) (content : List ℕ) (cause : Error) (done : ℕ) (after : List ℕ) → done < n
-        → Behind (Row (IsData c nesting) done) content after → DataFault c nesting after cause
-        → SharedFault c nesting n content (inside cause)
+        → Behind (Row (IsData c nesting) done) content after → DataFault deep c nesting after cause
+        → SharedFault deep c nesting n content (inside cause)
     shared_over : (c nesting n : ℕ) (content after : List ℕ) → Behind (Row (IsData c nesting) n) content after → 0 < length after
-        → SharedFault c nesting n content Size
+        → SharedFault deep c nesting n content Size
 
 -- The input ends where more must follow: behind at most 128 descriptors of a constructor, behind the 0 of a further one or
 -- within its data, or within the data that the constructor announces.

@@ -3,7 +3,7 @@ ghost use Rattle.std.specs.Prelude.{◌≤◌, ◌<◌, ◌+◌, ◌≡◌, ℕ,
 ghost use Rattle.amqp_model.specs.Constructors.{format};
 ghost use Rattle.amqp_model.specs.Spelling.{IsKnown, enc};
 ghost use Rattle.amqp_model.specs.Term.{Term};
-ghost use Rattle.amqp_wire.specs.declared.error.Error.TheVariants.{Cut};
+ghost use Rattle.amqp_wire.specs.declared.error.Error.TheVariants.{Cut, Depth};
 ghost use Rattle.amqp_lengths.specs.Fronts.{IsFront, Refuses, NoFront};
 ghost use Rattle.amqp_lengths.specs.Pieces.{width_of};
 ghost use Rattle.amqp_wire.specs.Containers.{container_of};
@@ -47,14 +47,14 @@ pub fn term_len(input: &[u8]) -> Result<usize, Error>
     ensures found { IfOk result (λ n. IsFront (IsTerm NESTING) input.now n) }
     ensures none { IfErr result (λ _. NoFront (IsTerm NESTING) input.now) }
     ensures cut { IsCutTerm NESTING input.now → result ≡ Err Cut }
-    ensures fault { IfErr result (λ e. TermFault NESTING input.now e) }
+    ensures fault { IfErr result (λ e. TermFault Depth NESTING input.now e) }
     ensures cut_only { IfErr result (λ e. e ≡ Cut → AsksMore input.now) }
     ensures one_front { (s r after behind : List ℕ) (t u : Term) → input.now ≡ s ++ after → input.now ≡ r ++ behind
         → enc s t → enc r u → s ≡ r }
     ensures one_term { (s r after behind : List ℕ) (t u : Term) → input.now ≡ s ++ after → input.now ≡ r ++ behind
         → enc s t → enc r u → t ≡ u }
 {
-    len_of_term(input, NESTING)
+    len_of_term(input, NESTING, Error::Depth)
 }
 
 // In a container what is announced is there, so that a value that asks for more is too long.
@@ -71,14 +71,14 @@ fn within<T>(answer: Result<T, Error>) -> Result<T, Error>
 
 // Checks that these are so many terms.
 #[cycle(term)]
-fn check_items(content: &[u8], count: usize, nesting: usize) -> Result<(), Error>
+fn check_items(content: &[u8], count: usize, nesting: usize, deep: Error) -> Result<(), Error>
     ensures found { IfOk result (λ _. Row (IsTerm nesting) count content.now) }
     ensures refused { IfErr result (λ _. Row (IsTerm nesting) count content.now → ⊥) }
-    ensures fault { IfErr result (λ e. ItemsFault nesting count content.now e) }
+    ensures fault { IfErr result (λ e. ItemsFault deep nesting count content.now e) }
 {
     let mut len = 0;
     for done in 0..count {
-        len += within(len_of_term(&content[len..], nesting))?;
+        len += within(len_of_term(&content[len..], nesting, deep))?;
     }
     if len == content.len() {
         Ok(())
@@ -89,15 +89,21 @@ fn check_items(content: &[u8], count: usize, nesting: usize) -> Result<(), Error
 
 // Checks that these are the data of so many items under one code.
 #[cycle(term)]
-fn check_data(content: &[u8], code: u8, count: usize, nesting: usize) -> Result<(), Error>
+fn check_data(
+    content: &[u8],
+    code: u8,
+    count: usize,
+    nesting: usize,
+    deep: Error,
+) -> Result<(), Error>
     requires { IsKnown (format code) }
     ensures found { IfOk result (λ _. Row (IsData code nesting) count content.now) }
     ensures refused { IfErr result (λ _. Row (IsData code nesting) count content.now → ⊥) }
-    ensures fault { IfErr result (λ e. SharedFault code nesting count content.now e) }
+    ensures fault { IfErr result (λ e. SharedFault deep code nesting count content.now e) }
 {
     let mut len = 0;
     for done in 0..count {
-        len += within(data_len(code, &content[len..], nesting))?;
+        len += within(data_len(code, &content[len..], nesting, deep))?;
     }
     if len == content.len() {
         Ok(())
@@ -118,10 +124,10 @@ fn nesting_of_items(shared: &Constructor, nesting: usize) -> Option<usize>
 
 // Checks the constructor and the items of an array.
 #[cycle(term)]
-fn check_elements(content: &[u8], count: usize, nesting: usize) -> Result<(), Error>
+fn check_elements(content: &[u8], count: usize, nesting: usize, deep: Error) -> Result<(), Error>
     ensures found { IfOk result (λ _. HasElements nesting count content.now) }
     ensures refused { IfErr result (λ _. HasElements nesting count content.now → ⊥) }
-    ensures fault { IfErr result (λ e. ElementsFault nesting count content.now e) }
+    ensures fault { IfErr result (λ e. ElementsFault deep nesting count content.now e) }
 {
     if content.is_empty() {
         return if count == 0 { Ok(()) } else { Err(Error::Size) };
@@ -139,8 +145,8 @@ fn check_elements(content: &[u8], count: usize, nesting: usize) -> Result<(), Er
         return Err(Error::ZeroWidthItems);
     }
     match nesting_of_items(&shared, nesting) {
-        Some(nesting) => check_data(data, shared.code, count, nesting),
-        None => Err(Error::Depth),
+        Some(nesting) => check_data(data, shared.code, count, nesting, deep),
+        None => Err(deep),
     }
 }
 
@@ -156,65 +162,74 @@ fn has_pairs(container: Container, count: usize) -> bool
 
 // The length of the data of a list or map.
 #[cycle(term)]
-fn list_len(input: &[u8], wide: bool, container: Container, nesting: usize) -> Result<usize, Error>
+fn list_len(
+    input: &[u8],
+    wide: bool,
+    container: Container,
+    nesting: usize,
+    deep: Error,
+) -> Result<usize, Error>
     ensures found { IfOk result (λ n. IsFront (IsContainer (container_of container) (width_of wide) nesting) input.now n) }
     ensures refused { IfErr result (λ e. Refuses (IsContainer (container_of container) (width_of wide) nesting) input.now e) }
-    ensures fault { IfErr result (λ e. ContainerFault (container_of container) (width_of wide) nesting input.now e) }
+    ensures fault { IfErr result (λ e. ContainerFault deep (container_of container) (width_of wide) nesting input.now e) }
 {
     let parts = read_content(input, wide, container)?;
     let Some(nesting) = nesting.checked_sub(1) else {
-        return Err(Error::Depth);
+        return Err(deep);
     };
     if !has_pairs(container, parts.count) {
         return Err(Error::OddCount);
     }
-    check_items(parts.items, parts.count, nesting)?;
+    check_items(parts.items, parts.count, nesting, deep)?;
     Ok(parts.len)
 }
 
 // The length of the data of an array.
 #[cycle(term)]
-fn array_len(input: &[u8], wide: bool, nesting: usize) -> Result<usize, Error>
+fn array_len(input: &[u8], wide: bool, nesting: usize, deep: Error) -> Result<usize, Error>
     ensures found { IfOk result (λ n. IsFront (IsArray (width_of wide) nesting) input.now n) }
     ensures refused { IfErr result (λ e. Refuses (IsArray (width_of wide) nesting) input.now e) }
-    ensures fault { IfErr result (λ e. ArrayFault (width_of wide) nesting input.now e) }
+    ensures fault { IfErr result (λ e. ArrayFault deep (width_of wide) nesting input.now e) }
 {
     let parts = read_content(input, wide, Container::Array)?;
-    check_elements(parts.items, parts.count, nesting)?;
+    check_elements(parts.items, parts.count, nesting, deep)?;
     Ok(parts.len)
 }
 
 // The length of the data under a known code.
 #[cycle(term)]
-fn data_len(code: u8, input: &[u8], nesting: usize) -> Result<usize, Error>
+fn data_len(code: u8, input: &[u8], nesting: usize, deep: Error) -> Result<usize, Error>
     requires { IsKnown (format code) }
     ensures found { IfOk result (λ n. IsFront (IsData code nesting) input.now n) }
     ensures refused { IfErr result (λ e. Refuses (IsData code nesting) input.now e) }
-    ensures fault { IfErr result (λ e. DataFault code nesting input.now e) }
+    ensures fault { IfErr result (λ e. DataFault deep code nesting input.now e) }
 {
     match code {
-        format_code::LIST_0 if nesting == 0 => Err(Error::Depth),
+        format_code::LIST_0 if nesting == 0 => Err(deep),
         format_code::LIST_0 => Ok(0),
-        format_code::LIST_8 => list_len(input, false, Container::List, nesting),
-        format_code::LIST_32 => list_len(input, true, Container::List, nesting),
-        format_code::MAP_8 => list_len(input, false, Container::Map, nesting),
-        format_code::MAP_32 => list_len(input, true, Container::Map, nesting),
-        format_code::ARRAY_8 => array_len(input, false, nesting),
-        format_code::ARRAY_32 => array_len(input, true, nesting),
+        format_code::LIST_8 => list_len(input, false, Container::List, nesting, deep),
+        format_code::LIST_32 => list_len(input, true, Container::List, nesting, deep),
+        format_code::MAP_8 => list_len(input, false, Container::Map, nesting, deep),
+        format_code::MAP_32 => list_len(input, true, Container::Map, nesting, deep),
+        format_code::ARRAY_8 => array_len(input, false, nesting, deep),
+        format_code::ARRAY_32 => array_len(input, true, nesting, deep),
         _ => primitive_len(code, input),
     }
 }
 
-/// The length in bytes of the term that the input begins with and that nests at most so deep, refused as by `term_len`.
+/// The length in bytes of the term that the input begins with and that nests at most so deep, refused as by `term_len`, but by this
+/// error where values nest deeper.
 #[cycle(term)]
-pub fn len_of_term(input: &[u8], nesting: usize) -> Result<usize, Error>
+pub fn len_of_term(input: &[u8], nesting: usize, deep: Error) -> Result<usize, Error>
     ensures found { IfOk result (λ n. IsFront (IsTerm nesting) input.now n) }
     ensures refused { IfErr result (λ e. Refuses (IsTerm nesting) input.now e) }
-    ensures fault { IfErr result (λ e. TermFault nesting input.now e) }
+    ensures fault { IfErr result (λ e. TermFault deep nesting input.now e) }
 {
     let shared = read_constructor(input)?;
     match nesting.checked_sub(shared.descriptors) {
-        Some(nesting) => Ok(shared.len + data_len(shared.code, &input[shared.len..], nesting)?),
-        None => Err(Error::Depth),
+        Some(nesting) => Ok(
+            shared.len + data_len(shared.code, &input[shared.len..], nesting, deep)?,
+        ),
+        None => Err(deep),
     }
 }

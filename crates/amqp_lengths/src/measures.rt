@@ -14,7 +14,7 @@ use crate::lengths::len_of_term;
 use crate::primitives::primitive_len;
 use amqp_wire::format_code::is_compound;
 use amqp_wire::nesting::NESTING;
-use amqp_wire::{Container, format_code};
+use amqp_wire::{Container, Error, format_code};
 
 /// What a term holds.
 #[derive(Clone, Copy)]
@@ -38,7 +38,7 @@ pub(crate) struct Measured {
 pub fn measures_of(input: &[u8]) -> Option<Measures>
     ensures measured { MatchOption result (IsTerm NESTING input.now → ⊥) (λ m. IsMeasured m.nodes m.nesting input.now) }
 {
-    let Ok(len) = len_of_term(input, NESTING) else {
+    let Ok(len) = len_of_term(input, NESTING, Error::Depth) else {
         return None;
     };
     if len < input.len() {

@@ -3,6 +3,8 @@
 
 mod dripping;
 #[cfg(test)]
+mod limits;
+#[cfg(test)]
 mod reading;
 #[cfg(test)]
 mod reading_calls;

@@ -1,5 +1,5 @@
 -- A section is read: its descriptor, and then what it describes. What each exit of the reader answers.
-use Rattle.std.proofs.Common.{◌≡◌, ℕ, false, true, List, [], ◌∷◌, length, map, Some, refl, sym, ap, ◌∙◌, subst, arith}
+use Rattle.std.proofs.Common.{◌≡◌, ◌≤◌, ℕ, false, true, List, [], ◌∷◌, length, map, Some, refl, sym, ap, ◌∙◌, subst, arith}
 use Rattle.std.proofs.lemmas.Bool.{eqb-true, eq-eqb}
 use Rattle.std.proofs.lemmas.Slice.Eq.{bytes_eq-Decides}
 use Rattle.amqp_model.specs.Term.{Descriptor, name, code, Term, described}
@@ -79,7 +79,7 @@ module _ {V T : Type 0} (h : Holds V T) (c : Naming) (u : TermType T) where
     read : ReadsValue u.means inner (h.get v) last
     closes : ClosesDescribed InDescribed last b
 
-  inside_so : (st : State) (v : V) (b : State) (bytes : List ℕ) (d : Descriptor) (x : Term) (z : Standing) → st.nesting ≡ 128
+  inside_so : (st : State) (v : V) (b : State) (bytes : List ℕ) (d : Descriptor) (x : Term) (z : Standing) → st.nesting ≤ 128
       → (u.ignores_standing ≡ false → Parts (standing st.top.shared bytes) (described d x) (z ∷ [])) → u.means z x (h.get v)
       → Stands st bytes (described d x) → b ≡ after_value (length bytes) st → Inside st v b
   inside_so st v b bytes d x z bound p m stands moved =
@@ -103,7 +103,7 @@ module _ {V T : Type 0} (h : Holds V T) (c : Naming) (u : TermType T) where
         closes = k.closes;
       }
 
-  inside : (st : State) (v : V) (b : State) → st.nesting ≡ 128 → Reads st v b → Inside st v b
+  inside : (st : State) (v : V) (b : State) → st.nesting ≤ 128 → Reads st v b → Inside st v b
   inside st v b bound r =
       pair_cases (called c).means u.ignores_standing u.means (standing st.top.shared r.bytes) (behind h v)
       (λ t. Stands st r.bytes t → Inside st v b)
@@ -122,7 +122,7 @@ module _ {V T : Type 0} (h : Holds V T) (c : Naming) (u : TermType T) where
         opens = k.opens;
       }))
 
-  module _ (ms : List Member) (st : State) (i : ℕ) (inner : State) (names : IsOnly c ms) (bound : st.nesting ≡ 128)
+  module _ (ms : List Member) (st : State) (i : ℕ) (inner : State) (names : IsOnly c ms) (bound : st.nesting ≤ 128)
       (o : OpensOneOf ms st i inner) where
     pub whole_read : (last b : State) (x : T) (v : V) → h.get v ≡ x → ReadsValue u.means inner x last
         → ClosesDescribed InDescribed last b → Reads st v b

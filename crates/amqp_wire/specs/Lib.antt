@@ -1,5 +1,6 @@
 pub mod Codes
 pub mod Containers
 pub mod Error
+pub mod Limits
 pub mod Refusals
 pub mod Sources

@@ -1,10 +1,10 @@
 //! How bytes are taken, within those that the open container has left.
-ghost use Rattle.std.specs.Prelude.{◌≤◌, ◌≡◌, ◌<◌, [], ◌∷◌, ◌++◌, length, take, true, false, Ok, Some, None, IfOk, IfErr, cond, ◌^◌};
+ghost use Rattle.std.specs.Prelude.{◌≤◌, ◌≡◌, ◌<◌, [], ◌∷◌, ◌++◌, length, take, true, false, Ok, Some, None, IfOk, IfErr, cond, ◌^◌, ℕ, ◌↔◌, IsTrue};
 ghost use Rattle.std.specs.Int.{bytes_high_first};
 ghost use Rattle.amqp_wire.specs.Codes.{refusal_of};
 ghost use Rattle.amqp_wire.specs.declared.error.Error.TheVariants.{Memory};
 ghost use Rattle.amqp_wire.specs.Sources.{Tells};
-ghost use Rattle.amqp_decoder.specs.State.{after_bytes, announced, Has, lower};
+ghost use Rattle.amqp_decoder.specs.State.{after_bytes, announced, bound_of, Has, lower};
 ghost use Rattle.amqp_decoder.specs.Steps.{Answers, Pulls, Misses, Takes, FallsShort, RefusesSize, NoRoom, Stops, Fails, Goes, GoesOn};
 
 use super::Decoder;
@@ -14,28 +14,64 @@ use amqp_wire::{ByteSource, Error, format_code};
 const SKIP: usize = 256;
 
 impl<R: ByteSource> Decoder<R> {
-    // How many bytes are left in the open container.
+    // How many bytes the size of the open container leaves, where one is open.
     #[inline(always)]
     pub(crate) fn left(&self) -> Option<u32>
-        ensures { result ≡ self.now.top.left }
+        ensures { result ≡ bound_of self.now.top }
     {
         self.top.left
     }
 
     // So many bytes are left in the open container.
     #[inline(always)]
-    fn set_left(&mut self, left: Option<u32>)
-        requires { self.old.top.left ≡ None → left ≡ None }
-        ensures { self.new ≡ record self.old { top = record self.old.top { left = left } } }
+    fn set_left(&mut self, left: u32)
+        requires { (l : ℕ) × (bound_of self.old.top ≡ Some l) }
+        ensures { self.new ≡ record self.old { top = record self.old.top { left = Some left } } }
     {
-        self.top.left = left;
+        self.top.left = Some(left);
+    }
+
+    // No byte is left, by a size or by the limit.
+    #[inline]
+    pub(crate) fn is_spent(&self) -> bool
+        ensures { IsTrue result ↔ (self.now.top.left ≡ Some 0) }
+    {
+        match self.top.left {
+            Some(left) => left == 0,
+            None => self.bytes == 0,
+        }
+    }
+
+    // The limit doesn't leave so many bytes, where no size bounds them.
+    #[inline(always)]
+    fn passes_limit(&self, count: u32) -> bool
+        ensures past { result ≡ true → (bound_of self.now.top ≡ None) × (Has self.now.top.left count → ⊥) }
+        ensures within { result ≡ false → bound_of self.now.top ≡ None → Has self.now.top.left count }
+    {
+        match self.top.left {
+            Some(_) => false,
+            None => u64::from(count) > self.bytes,
+        }
+    }
+
+    // So many bytes of the limit are taken, where there is one.
+    #[inline(always)]
+    fn lower_limit(&mut self, count: u32)
+        requires unbounded { bound_of self.old.top ≡ None }
+        requires room { Has self.old.top.left count }
+        ensures { self.new ≡ record self.old { top = record self.old.top { left = lower self.old.top.left count } } }
+    {
+        if self.bytes == u64::MAX {
+            return;
+        }
+        self.bytes -= u64::from(count);
     }
 
     // The bytes of the outermost container that are left.
     fn announced(&self) -> u64
         ensures { result ≡ announced self.now }
     {
-        let mut sum = u64::from(self.top.left.unwrap_or(0));
+        let mut sum = u64::from(self.left().unwrap_or(0));
         for frame in &self.frames[..self.depth] {
             sum += u64::from(frame.left.unwrap_or(0));
         }
@@ -114,12 +150,15 @@ impl<R: ByteSource> Decoder<R> {
     }
 
     // A size is wrong: all that the outermost size announces has to be there, else the input is cut. Outside
-    // of a container it is the value's own size, of which `own` bytes are left.
+    // of a container it is the value's own size, of which `own` bytes are left, and these have to be within the limit.
     #[cold]
     pub(crate) fn refuse_size(&mut self, own: u32) -> Error
         ensures refused { Tells R.remaining → RefusesSize own self.old result self.new }
         ensures fails { Fails false self.old result self.new }
     {
+        if self.passes_limit(own) {
+            return self.stop(Error::Limit);
+        }
         let count = match self.left() {
             Some(_) => self.announced(),
             None => u64::from(own),
@@ -140,7 +179,7 @@ impl<R: ByteSource> Decoder<R> {
         self.stop(format_code::refusal(code))
     }
 
-    // So many bytes of the open container are taken.
+    // So many bytes of the open container, or else of the limit, are taken.
     #[inline(always)]
     pub(crate) fn lower(&mut self, count: u32) -> Result<(), Error>
         ensures room { IfOk result (λ _. Has self.old.top.left count) }
@@ -150,12 +189,16 @@ impl<R: ByteSource> Decoder<R> {
         ensures goes { Goes false self.old result self.new }
     {
         let Some(left) = self.left() else {
+            if self.passes_limit(count) {
+                return Err(self.stop(Error::Limit));
+            }
+            self.lower_limit(count);
             return Ok(());
         };
         if count > left {
             return Err(self.refuse_size(count));
         }
-        self.set_left(Some(left - count));
+        self.set_left(left - count);
         Ok(())
     }
 

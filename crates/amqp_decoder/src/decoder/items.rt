@@ -82,7 +82,7 @@ impl<R: ByteSource> Decoder<R> {
         if let Some(code) = self.shared_code() {
             return Ok(code);
         }
-        if self.left() == Some(0) {
+        if self.is_spent() {
             return Err(self.refuse_size(1));
         }
         self.look_next()?;

@@ -2,26 +2,25 @@
 ghost use Rattle.std.specs.Prelude.{◌≤◌, ◌≡◌, ◌<◌, ◌-◌, List, ◌∷◌, length, false, Some, IfOk, IfErr, ◌↔◌, ◌⊎◌, true, IsTrue};
 ghost use Rattle.amqp_wire.specs.Sources.{Tells};
 ghost use Rattle.amqp_decoder.specs.Containers.{AtEnd, EndFault};
-ghost use Rattle.amqp_wire.specs.declared.error.Error.TheVariants.{Depth};
 ghost use Rattle.amqp_decoder.specs.Described.{in_described};
-ghost use Rattle.amqp_decoder.specs.State.{Open, IsContainer, unshared};
+ghost use Rattle.amqp_decoder.specs.State.{Open, bound_of, depth_error, holding, IsContainer};
 ghost use Rattle.amqp_decoder.specs.declared.frame.Place.TheVariants.{InDescribed};
 ghost use Rattle.amqp_decoder.specs.Reading.{AnswersRead};
 ghost use Rattle.amqp_decoder.specs.Rooms.{HasRoom};
-ghost use Rattle.amqp_decoder.specs.Steps.{RefusesSize, Goes, GoesOn, Tries};
+ghost use Rattle.amqp_decoder.specs.Steps.{RefusesSize, Fails, Goes, GoesOn, Tries};
 
 use super::Decoder;
 use crate::frame::{OpenContainer, Place};
-use amqp_wire::nesting::{LEVELS, NESTING};
+use amqp_wire::nesting::NESTING;
 use amqp_wire::{ByteSource, Error};
 
 impl<R: ByteSource> Decoder<R> {
-    /// Promises that no more containers and described values are open than may be nested, which is 128 deep, but where
-    /// nothing is left in the innermost, or it is an array of primitives.
+    /// Promises that no more containers and described values are open than may be nested, which is at most 128 deep, but
+    /// where nothing is left in the innermost, or it is an array of primitives.
     #[inline]
     pub fn room(&self)
         ensures room { HasRoom self.now }
-        ensures limit { self.now.nesting ≡ 128 }
+        ensures limit { self.now.nesting ≤ 128 }
     {
         let _depth = &self.depth;
     }
@@ -39,66 +38,94 @@ impl<R: ByteSource> Decoder<R> {
     pub(crate) fn nesting_left(&self) -> usize
         ensures { result ≡ self.now.nesting - length self.now.saved }
     {
-        NESTING.saturating_sub(self.depth)
+        self.nesting.saturating_sub(self.depth)
     }
 
-    // Opens a container whose items share nothing.
+    // The error for a value that nests too deep.
     #[inline]
-    pub(crate) fn enter(&mut self, inner: OpenContainer) -> Result<(), Error>
-        requires container { IsContainer inner.place }
-        requires room { (length self.old.saved < self.old.nesting) ⊎ (inner.items ≡ 0) }
-        ensures limit { self.old.nesting ≡ 128 }
-        ensures ok { IfOk result (λ _. (length self.old.saved < 129)
-            × (self.new ≡ record self.old { top = unshared inner; saved = self.old.top ∷ self.old.saved })) }
-        ensures err { IfErr result (λ e. (e ≡ Depth) × (129 ≤ length self.old.saved)
-            × (self.new ≡ record self.old { error = Some Depth })) }
+    pub(crate) fn depth_error(&self) -> Error
+        ensures { result ≡ depth_error self.now.nesting }
+    {
+        if self.nesting < NESTING {
+            Error::Limit
+        } else {
+            Error::Depth
+        }
+    }
+
+    // A value nests too deep.
+    #[cold]
+    pub(crate) fn refuse_depth(&mut self) -> Error
+        ensures answer { result ≡ depth_error self.old.nesting }
+        ensures kept { self.new ≡ record self.old { error = Some (depth_error self.old.nesting) } }
+        ensures fails { Fails false self.old result self.new }
+    {
+        let error = self.depth_error();
+        self.stop(error)
+    }
+
+    // Opens a container of so many items in so many bytes, which share nothing.
+    #[inline]
+    pub(crate) fn enter(&mut self, place: Place, items: u32, content: u32) -> Result<(), Error>
+        requires container { IsContainer place }
+        requires room { (length self.old.saved < self.old.nesting) ⊎ (items ≡ 0) }
+        ensures ok { IfOk result (λ _. (length self.old.saved ≤ self.old.nesting)
+            × (self.new ≡ record self.old { top = holding place items content; saved = self.old.top ∷ self.old.saved })) }
+        ensures err { IfErr result (λ e. (e ≡ depth_error self.old.nesting) × (self.old.nesting < length self.old.saved)
+            × (self.new ≡ record self.old { error = Some (depth_error self.old.nesting) })) }
         ensures goes { Goes false self.old result self.new }
     {
-        if self.depth >= LEVELS {
-            return Err(self.stop(Error::Depth));
+        if self.depth > self.nesting {
+            return Err(self.refuse_depth());
         }
         let last = self.top.last;
         self.frames[self.depth] = self.top;
         self.depth += 1;
         self.top = OpenContainer {
+            items,
+            left: Some(content),
+            place,
             code: 0,
             first: last,
             last,
-            ..inner
         };
         Ok(())
     }
 
     // Opens a container that counts in nesting.
     #[inline]
-    pub(crate) fn enter_counted(&mut self, inner: OpenContainer) -> Result<(), Error>
-        requires { IsContainer inner.place }
-        ensures limit { self.old.nesting ≡ 128 }
-        ensures ok { IfOk result (λ _. (length self.old.saved < 128)
-            × (self.new ≡ record self.old { top = unshared inner; saved = self.old.top ∷ self.old.saved })) }
-        ensures err { IfErr result (λ e. (e ≡ Depth) × (128 ≤ length self.old.saved)
-            × (self.new ≡ record self.old { error = Some Depth })) }
+    pub(crate) fn enter_counted(
+        &mut self,
+        place: Place,
+        items: u32,
+        content: u32,
+    ) -> Result<(), Error>
+        requires { IsContainer place }
+        ensures ok { IfOk result (λ _. (length self.old.saved < self.old.nesting)
+            × (self.new ≡ record self.old { top = holding place items content; saved = self.old.top ∷ self.old.saved })) }
+        ensures err { IfErr result (λ e. (e ≡ depth_error self.old.nesting) × (self.old.nesting ≤ length self.old.saved)
+            × (self.new ≡ record self.old { error = Some (depth_error self.old.nesting) })) }
         ensures goes { Goes false self.old result self.new }
     {
-        if self.depth >= NESTING {
-            return Err(self.stop(Error::Depth));
+        if self.depth >= self.nesting {
+            return Err(self.refuse_depth());
         }
-        self.enter(inner)
+        self.enter(place, items, content)
     }
 
     // An array's items that hold others, or are described, count in nesting.
     #[inline]
     pub(crate) fn check_items(&mut self, is_flat: bool) -> Result<(), Error>
         ensures ok { IfOk result (λ _. ((is_flat ≡ true) ⊎ (length self.old.saved ≤ self.old.nesting)) × (self.new ≡ self.old)) }
-        ensures err { IfErr result (λ e. (is_flat ≡ false) × (e ≡ Depth) × (self.old.nesting < length self.old.saved)
-            × (self.new ≡ record self.old { error = Some Depth })) }
+        ensures err { IfErr result (λ e. (is_flat ≡ false) × (e ≡ depth_error self.old.nesting) × (self.old.nesting < length self.old.saved)
+            × (self.new ≡ record self.old { error = Some (depth_error self.old.nesting) })) }
         ensures goes { Goes false self.old result self.new }
     {
         if is_flat {
             return Ok(());
         }
-        if self.depth > NESTING {
-            return Err(self.stop(Error::Depth));
+        if self.depth > self.nesting {
+            return Err(self.refuse_depth());
         }
         Ok(())
     }
@@ -108,12 +135,12 @@ impl<R: ByteSource> Decoder<R> {
     #[inline]
     pub(crate) fn enter_described(&mut self) -> Result<(), Error>
         ensures ok { IfOk result (λ _. (length self.old.saved < self.old.nesting) × (self.new ≡ in_described self.old)) }
-        ensures err { IfErr result (λ e. (e ≡ Depth) × (self.old.nesting ≤ length self.old.saved)
-            × (self.new ≡ record self.old { error = Some Depth })) }
-        ensures nesting { self.old.nesting ≡ 128 }
+        ensures err { IfErr result (λ e. (e ≡ depth_error self.old.nesting) × (self.old.nesting ≤ length self.old.saved)
+            × (self.new ≡ record self.old { error = Some (depth_error self.old.nesting) })) }
+        ensures nesting { self.old.nesting ≤ 128 }
         ensures goes { Goes false self.old result self.new }
     {
-        if self.depth < NESTING {
+        if self.depth < self.nesting {
             let outer = self.top;
             self.frames[self.depth] = OpenContainer {
                 left: outer.left.and(Some(0)),
@@ -128,7 +155,7 @@ impl<R: ByteSource> Decoder<R> {
             };
             return Ok(());
         }
-        Err(self.stop(Error::Depth))
+        Err(self.refuse_depth())
     }
 
     // The open container is of this kind.
@@ -161,8 +188,8 @@ impl<R: ByteSource> Decoder<R> {
     // No byte of the open container is left.
     #[inline]
     pub(crate) fn check_bytes(&mut self) -> Result<(), Error>
-        ensures ok { IfOk result (λ _. (self.old.top.left ≡ Some 0) × (self.new ≡ self.old)) }
-        ensures err { Tells R.remaining → IfErr result (λ e. (self.old.top.left ≡ Some 0 → ⊥) × RefusesSize 0 self.old e self.new) }
+        ensures ok { IfOk result (λ _. (bound_of self.old.top ≡ Some 0) × (self.new ≡ self.old)) }
+        ensures err { Tells R.remaining → IfErr result (λ e. (bound_of self.old.top ≡ Some 0 → ⊥) × RefusesSize 0 self.old e self.new) }
         ensures goes { Goes false self.old result self.new }
     {
         if self.left() != Some(0) {
@@ -171,17 +198,19 @@ impl<R: ByteSource> Decoder<R> {
         Ok(())
     }
 
-    // Leaves the open container.
+    // Leaves the open container, of which no byte is left.
     #[inline]
     pub(crate) fn leave(&mut self)
+        requires { bound_of self.old.top ≡ Some 0 }
         ensures left { (outer : Open) (others : List Open) → self.old.saved ≡ outer ∷ others
             → self.new ≡ record self.old { top = outer; saved = others } }
         ensures goes { GoesOn self.old self.new }
     {
-        if self.depth > 0 {
-            self.depth -= 1;
-            self.top = self.frames[self.depth];
+        if self.depth == 0 {
+            return;
         }
+        self.depth -= 1;
+        self.top = self.frames[self.depth];
     }
 
     // Leaves a described value, whose bytes are those of what it stands in.
@@ -189,15 +218,16 @@ impl<R: ByteSource> Decoder<R> {
     pub(crate) fn leave_described(&mut self)
         requires { self.old.top.place ≡ InDescribed }
         ensures left { (outer : Open) (others : List Open) → self.old.saved ≡ outer ∷ others
-            → self.new ≡ record self.old { top = record outer { left = self.old.top.left }; saved = others } }
+            → self.new ≡ record self.old { top = record outer { left = self.old.top.left; sized = self.old.top.sized }; saved = others } }
         ensures goes { GoesOn self.old self.new }
     {
-        if self.depth > 0 {
-            self.depth -= 1;
-            self.top = OpenContainer {
-                left: self.top.left,
-                ..self.frames[self.depth]
-            };
+        if self.depth == 0 {
+            return;
         }
+        self.depth -= 1;
+        self.top = OpenContainer {
+            left: self.top.left,
+            ..self.frames[self.depth]
+        };
     }
 }

@@ -17,7 +17,7 @@ impl<R: ByteSource> Decoder<R> {
     // Nothing is open.
     fn is_top(&self) -> bool
         ensures is { IsTrue result ↔ ((self.now.top.place ≡ Top) × (self.now.saved ≡ [])) }
-        ensures level { self.now.top.place ≡ Top → self.now.top ≡ top_level }
+        ensures level { self.now.top.place ≡ Top → self.now.top ≡ top_level self.now.top.left }
     {
         self.top.place == Place::Top && self.depth == 0
     }

@@ -3,7 +3,7 @@ use Rattle.amqp_lengths.proofs.DeeperFaults.{fault_deeper}
 use Rattle.amqp_lengths.proofs.laws.faults.Goals as goal
 
 pub returns-clause-refuse : goal.returns-clause-refuse
-returns-clause-refuse c = fault_refuses
+returns-clause-refuse c = λ deep. fault_refuses
 
 pub returns-clause-deeper : goal.returns-clause-deeper
 returns-clause-deeper c = fault_deeper

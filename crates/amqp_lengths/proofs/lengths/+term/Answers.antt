@@ -380,7 +380,7 @@ len_of_term-returns-in_err-data_len-in-Some-clause-fault t c =
     let s = c.in_ok-shared.shared in
     rw (p.1, p.2) (term_data c.args.nesting c.args.input.now _ s.descriptors s.code c.in-Some.nesting _
     (behind_front _ _ _ c.in_ok-shared.ensures.found) (omega arith)
-    (subst (λ l. DataFault s.code c.in-Some.nesting l c.in_err-data_len-in-Some.field-0.0) (tail_all s.len c.args.input.now)
+    (subst (λ l. DataFault c.args.deep s.code c.in-Some.nesting l c.in_err-data_len-in-Some.field-0.0) (tail_all s.len c.args.input.now)
     c.in_err-data_len-in-Some.ensures.fault))
 
 pub len_of_term-returns-in-None-clause-fault : goal.len_of_term-returns-in-None-clause-fault
@@ -420,41 +420,41 @@ data_len-returns-in-69-clause-fault t c =
 
 pub data_len-returns-in-192-clause-fault : goal.data_len-returns-in-192-clause-fault
 data_len-returns-in-192-clause-fault t c =
-    err_map _ (DataFault c.args.code c.args.nesting c.args.input.now) c.list_len.result
+    err_map _ (DataFault c.args.deep c.args.code c.args.nesting c.args.input.now) c.list_len.result
     (λ e h. data_of_container c.args.code c.args.nesting c.args.input.now e list 1 (ap format c.in-192.is) (λ k. cc) h)
     c.list_len.ensures.fault
 
 pub data_len-returns-in-208-clause-fault : goal.data_len-returns-in-208-clause-fault
 data_len-returns-in-208-clause-fault t c =
-    err_map _ (DataFault c.args.code c.args.nesting c.args.input.now) c.list_len-in-208.result
+    err_map _ (DataFault c.args.deep c.args.code c.args.nesting c.args.input.now) c.list_len-in-208.result
     (λ e h. data_of_container c.args.code c.args.nesting c.args.input.now e list 4 (ap format c.in-208.is) (λ k. cc) h)
     c.list_len-in-208.ensures.fault
 
 pub data_len-returns-in-193-clause-fault : goal.data_len-returns-in-193-clause-fault
 data_len-returns-in-193-clause-fault t c =
-    err_map _ (DataFault c.args.code c.args.nesting c.args.input.now) c.list_len-in-193.result
+    err_map _ (DataFault c.args.deep c.args.code c.args.nesting c.args.input.now) c.list_len-in-193.result
     (λ e h. data_of_container c.args.code c.args.nesting c.args.input.now e map 1 (ap format c.in-193.is) (λ k. cc) h)
     c.list_len-in-193.ensures.fault
 
 pub data_len-returns-in-209-clause-fault : goal.data_len-returns-in-209-clause-fault
 data_len-returns-in-209-clause-fault t c =
-    err_map _ (DataFault c.args.code c.args.nesting c.args.input.now) c.list_len-in-209.result
+    err_map _ (DataFault c.args.deep c.args.code c.args.nesting c.args.input.now) c.list_len-in-209.result
     (λ e h. data_of_container c.args.code c.args.nesting c.args.input.now e map 4 (ap format c.in-209.is) (λ k. cc) h)
     c.list_len-in-209.ensures.fault
 
 pub data_len-returns-in-224-clause-fault : goal.data_len-returns-in-224-clause-fault
 data_len-returns-in-224-clause-fault t c =
-    err_map _ (DataFault c.args.code c.args.nesting c.args.input.now) c.array_len.result
+    err_map _ (DataFault c.args.deep c.args.code c.args.nesting c.args.input.now) c.array_len.result
     (λ e h. data_of_array c.args.code c.args.nesting c.args.input.now e 1 (ap format c.in-224.is) h) c.array_len.ensures.fault
 
 pub data_len-returns-in-240-clause-fault : goal.data_len-returns-in-240-clause-fault
 data_len-returns-in-240-clause-fault t c =
-    err_map _ (DataFault c.args.code c.args.nesting c.args.input.now) c.array_len-in-240.result
+    err_map _ (DataFault c.args.deep c.args.code c.args.nesting c.args.input.now) c.array_len-in-240.result
     (λ e h. data_of_array c.args.code c.args.nesting c.args.input.now e 4 (ap format c.in-240.is) h) c.array_len-in-240.ensures.fault
 
 pub data_len-returns-in_default-clause-fault : goal.data_len-returns-in_default-clause-fault
 data_len-returns-in_default-clause-fault t c =
-    err_map _ (DataFault c.args.code c.args.nesting c.args.input.now) c.primitive_len.result
+    err_map _ (DataFault c.args.deep c.args.code c.args.nesting c.args.input.now) c.primitive_len.result
     (λ e h. data_of_primitive c.args.code c.args.nesting c.args.input.now e h) c.primitive_len.ensures.fault
 
 pub check_elements-returns-else-count-eq0-clause-fault : goal.check_elements-returns-else-count-eq0-clause-fault
@@ -493,10 +493,10 @@ check_elements-returns-in-Some-clause-fault t c =
     let found = ok_at (λ (x : Constructor). IsFront (Constructs x.descriptors x.code) c.args.content.now x.len) c.read_constructor.result s
     c.read_constructor.ensures.found c.in_ok-shared.ensures.found in
     let some : 0 < c.args.count = omega arith in
-    err_map _ (ElementsFault c.args.nesting c.args.count c.args.content.now) c.check_data.result
+    err_map _ (ElementsFault c.args.deep c.args.nesting c.args.count c.args.content.now) c.check_data.result
     (λ e h. elements_data c.args.nesting c.args.count c.args.content.now e s.descriptors s.code c.in-Some.nesting _
     (behind_front _ _ _ found) some c.in-Some.ensures
-    (subst (λ l. SharedFault s.code c.in-Some.nesting c.args.count l e) (tail_all s.len c.args.content.now) h)) c.check_data.ensures.fault
+    (subst (λ l. SharedFault c.args.deep s.code c.in-Some.nesting c.args.count l e) (tail_all s.len c.args.content.now) h)) c.check_data.ensures.fault
 
 pub check_elements-returns-in-None-clause-fault : goal.check_elements-returns-in-None-clause-fault
 check_elements-returns-in-None-clause-fault t c =

@@ -18,5 +18,5 @@ returns-then-code-ne-DESCRIBED-clause-err g c = λ told.
 
 pub returns-then-nesting_left-eq0-clause-err : goal.returns-then-nesting_left-eq0-clause-err
 returns-then-nesting_left-eq0-clause-err g c = λ told.
-    deep_fails _ _ _ _ (rw c.if-code-ne-DESCRIBED.false at (c.in_ok-code.ensures.read told)) c.stop.ensures.answer
-    (omega (arith, c.nesting_left.ensures, c.if-nesting_left-eq0.true)) c.stop.ensures.kept
+    deep_fails _ _ _ _ (rw c.if-code-ne-DESCRIBED.false at (c.in_ok-code.ensures.read told)) c.refuse_depth.ensures.answer
+    (omega (arith, c.nesting_left.ensures, c.if-nesting_left-eq0.true)) c.refuse_depth.ensures.kept

@@ -1,4 +1,4 @@
-use Rattle.std.proofs.Common.{ap, sym, ◌∙◌}
+use Rattle.std.proofs.Common.{◌≤◌, subst}
 use Rattle.std.proofs.lemmas.Result.{err_from_is_err_and}
 use Rattle.amqp_decoder.specs.State.{State}
 use Rattle.amqp_decoder.proofs.Descriptors.{begun_describable, one_unbegun, one_missed, one_other, one_deep, one_entered}
@@ -40,5 +40,5 @@ pub returns-clause-nesting : goal.returns-clause-nesting
 returns-clause-nesting g c = λ told.
     let begun = c.in_ok-begin_descriptor.ensures.ok told in
     let took = c.in_ok-place.ensures.ok told (begun_describable _ _ begun) in
-    sym (ap (λ (x : State). x.nesting) begun.moved) ∙ sym (ap (λ (x : State). x.nesting) took.took.took.moved)
-    ∙ c.in_ok-enter_described.ensures.nesting
+    subst (λ (x : State). x.nesting ≤ 128) begun.moved
+    (subst (λ (x : State). x.nesting ≤ 128) took.took.took.moved c.in_ok-enter_described.ensures.nesting)

@@ -4,4 +4,5 @@ use Rattle.amqp_decoder.proofs.decoder.Decoder.check_term.Goals as goal
 
 pub returns-in-Err-clause-goes : goal.returns-in-Err-clause-goes
 returns-in-Err-clause-goes g c =
-    fails_by_length false c.args.self.now c.stop.new.self c.stop.result c.in-Err.error _ _ c.stop.ensures.answer c.stop.ensures.kept c.in-Err.ensures.fault
+    fails_by_length false c.args.self.now c.stop.new.self c.stop.result c.in-Err.error _ c.args.self.now.nesting _ _
+    c.depth_error.ensures c.stop.ensures.answer c.stop.ensures.kept c.in-Err.ensures.fault

@@ -1,6 +1,7 @@
 use Rattle.std.proofs.Common.{arith, ◌≡◌, ◌≤◌, ◌<◌, length, refl, None, Some, ap, sym, ◌∙◌, inl}
 use Rattle.std.specs.Option.{option_and}
-use Rattle.amqp_decoder.proofs.Rows.{length-stack, stack-push, nested_push, bounded_push, bounded_as, shared_behind, and_none, none_and}
+use Rattle.amqp_wire.specs.Limits.{limit_of}
+use Rattle.amqp_decoder.proofs.Rows.{length-stack, described_push, nested_push, bounded_push, bounded_as, shared_behind, none_and}
 use Rattle.amqp_decoder.proofs.decoder.Decoder.enter_described.Goals as goal
 
 pub invariant_of-self : goal.invariant_of-self
@@ -15,25 +16,26 @@ invariant_of-self g c =
       bounded_push _ _ outer _ _ few (λ e n. none_and _ (sym c.and.ensures ∙ n))
           (λ e. (kept (c.self.invariant.3 e).0, (c.self.invariant.3 e).1)) (bounded_as _ _ _ _ _ _ (λ e. (e, kept)) c.self.invariant.4),
       inl (omega arith),
+      c.self.invariant.6,
     )
 
 pub returns-clause-err : goal.returns-clause-err
 returns-clause-err g c =
     let deep : c.args.self.now.nesting ≤ length c.args.self.now.saved = rw (← c.self.view_is, length-stack) (omega arith) in
-    (c.stop.ensures.answer, deep, c.stop.ensures.kept)
+    (c.refuse_depth.ensures.answer, deep, c.refuse_depth.ensures.kept)
 
-pub returns-then-self-lt-NESTING-clause-ok : goal.returns-then-self-lt-NESTING-clause-ok
-returns-then-self-lt-NESTING-clause-ok g c =
+pub returns-then-self-clause-ok : goal.returns-then-self-clause-ok
+returns-then-self-clause-ok g c =
     let few : c.self.inside.depth < length c.self.inside.frames = omega arith in
     let pushed =
-    stack-push c.self.inside.descriptors.items c.self.inside.depth c.self.inside.frames
-    (record c.self.inside.top { left = c.and.result }) few in
+    described_push c.self.inside.descriptors.items (limit_of c.self.inside.bytes) c.self.inside.depth c.self.inside.frames c.self.inside.top
+    c.and.result few c.and.ensures in
     let rest = shared_behind c.self.inside.descriptors.items c.self.inside.top.code c.self.inside.top.first c.saturating_add.result
     c.self.inside.top.last (omega (arith, c.saturating_add.ensures)) (λ h. omega (arith, c.saturating_add.ensures)) in
-    rw (← c.self.view_is, length-stack, pushed, rest, c.and.ensures, and_none) (omega arith, refl)
+    rw (← c.self.view_is, length-stack, pushed, rest) (omega arith, refl)
 
 pub returns-clause-nesting : goal.returns-clause-nesting
-returns-clause-nesting g c = rw (← c.self.view_is) refl
+returns-clause-nesting g c = rw (← c.self.view_is) c.self.invariant.6
 
-pub returns-then-self-lt-NESTING-clause-nesting : goal.returns-then-self-lt-NESTING-clause-nesting
-returns-then-self-lt-NESTING-clause-nesting g c = rw (← c.self.view_is) refl
+pub returns-then-self-clause-nesting : goal.returns-then-self-clause-nesting
+returns-then-self-clause-nesting g c = rw (← c.self.view_is) c.self.invariant.6

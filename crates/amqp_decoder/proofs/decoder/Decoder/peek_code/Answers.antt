@@ -9,18 +9,18 @@ returns-in-Some-clause-read g c = λ told.
     let left = c.in_ok-check_item.ensures.read in
     rw left.kept (peeked_shared _ _ left.going left.item (rw left.kept at c.in-Some.ensures))
 
-pub returns-then-eq-clause-read : goal.returns-then-eq-clause-read
-returns-then-eq-clause-read g c = λ told.
+pub returns-then-is_spent-clause-read : goal.returns-then-is_spent-clause-read
+returns-then-is_spent-clause-read g c = λ told.
     let left = c.in_ok-check_item.ensures.read in
     peek_size _ _ _ left.going left.item (rw left.kept at c.in_default.ensures)
-    (rw left.kept at (let h : c.check_item.new.self.top.left ≡ Some 0 = search rules in h))
+    (rw left.kept at (c.is_spent.ensures.0 c.if-is_spent.true))
     (rw left.kept at (c.refuse_size.ensures.refused told))
 
 pub returns-in-None-clause-read : goal.returns-in-None-clause-read
 returns-in-None-clause-read g c = λ told.
     let left = c.in_ok-check_item.ensures.read in
     peek_cut _ _ _ left.going left.item (rw left.kept at c.in_default.ensures)
-    (λ x. let h : c.check_item.new.self.top.left ≡ Some 0 → ⊥ = search rules in h (ap (λ (st : State). st.top.left) left.kept ∙ x))
+    (λ x. let h = c.is_spent.ensures.1 (ap (λ (st : State). st.top.left) left.kept ∙ x) in absurd (cc))
     (none_there _ _ _ (rw left.kept at (c.in_ok-look_next.ensures.new told)) (c.looked.ensures.bytes
     ∙ ap (λ (st : State). take st.ahead st.rest) c.self.view_is) c.in-None.ensures.value) c.stop.ensures.answer
     (answered_later (ap (λ (st : State). st.failed) (c.in_ok-look_next.ensures.new told) ∙ ap (λ (st : State). st.failed) left.kept)
@@ -30,6 +30,5 @@ pub returns-in-Some-first-clause-read : goal.returns-in-Some-first-clause-read
 returns-in-Some-first-clause-read g c = λ told.
     let left = c.in_ok-check_item.ensures.read in
     peeked_own _ _ _ _ left.going left.item (rw left.kept at c.in_default.ensures)
-    (has_item _ (λ x. let h : c.check_item.new.self.top.left ≡ Some 0 → ⊥ = search rules in
-    h (ap (λ (st : State). st.top.left) left.kept ∙ x))) (rw left.kept at (c.in_ok-look_next.ensures.new told)) (c.looked.ensures.bytes
+    (has_item _ (λ x. let h = c.is_spent.ensures.1 (ap (λ (st : State). st.top.left) left.kept ∙ x) in absurd (cc))) (rw left.kept at (c.in_ok-look_next.ensures.new told)) (c.looked.ensures.bytes
     ∙ ap (λ (st : State). take st.ahead st.rest) c.self.view_is) c.in-Some-first.ensures.value

@@ -1,6 +1,7 @@
 use Rattle.std.proofs.Common.{rules, arith, ◌≡◌, ◌≤◌, ◌+◌, Some, length, refl, ap, sym, subst, ◌∙◌, inl, inr}
+use Rattle.amqp_wire.specs.Limits.{limit_of}
 use Rattle.amqp_decoder.specs.declared.frame.Place.TheVariants.{InArray}
-use Rattle.amqp_decoder.specs.State.{State, shared_in}
+use Rattle.amqp_decoder.specs.State.{State, shared_in, left_in, is_sized, limit_around}
 use Rattle.amqp_decoder.specs.Rooms.{HasFlatItems}
 use Rattle.amqp_decoder.proofs.Rows.{few_shared, shared_among, shared_front, nested_last, put_behind, same_view, bounded_as, length-stack}
 use Rattle.amqp_decoder.proofs.decoder.Decoder.share.Goals as goal
@@ -26,6 +27,7 @@ invariant_of-self g c =
       λ e. absurd (cc),
       bounded_as _ _ _ _ _ _ (λ e. absurd (cc)) c.self.invariant.4,
       inr (inl refl),
+      c.self.invariant.6,
     )
 
 pub invariant_of-self-2 : goal.invariant_of-self-2
@@ -33,12 +35,13 @@ invariant_of-self-2 g c =
     let d = c.self.inside.depth in
     let fs = c.self.inside.frames in
     let n = c.descriptors_in-first.result in
-    let put = put_behind c.self.inside.descriptors.items c.args.descriptors.items c.append.new.self.items d fs c.self.inside.top.last n
+    let put = put_behind c.self.inside.descriptors.items c.args.descriptors.items c.append.new.self.items
+    (limit_around c.self.inside.top.left (limit_of c.self.inside.bytes)) d fs c.self.inside.top.last n
     c.args.code (n + c.len.result)
     c.self.invariant.1 (omega (arith, c.self.invariant.2)) (omega arith) c.descriptors_in-first.ensures (search rules)
     c.requires.coded (omega arith) in
-    let deep : length c.args.self.now.saved ≡ d = ap (λ (st : State). length st.saved) (sym c.self.view_is) ∙ length-stack _ _ _ in
-    let limit : c.args.self.now.nesting ≡ 128 = ap (λ (st : State). st.nesting) (sym c.self.view_is) in (
+    let deep : length c.args.self.now.saved ≡ d = ap (λ (st : State). length st.saved) (sym c.self.view_is) ∙ length-stack _ _ _ _ in
+    let limit : c.args.self.now.nesting ≡ c.self.inside.nesting = ap (λ (st : State). st.nesting) (sym c.self.view_is) in (
       c.self.invariant.0,
       nested_last _ _ _ _ c.self.invariant.1 (omega (arith, put.0)) (omega (arith, put.0, c.requires.few)),
       search rules,
@@ -48,6 +51,7 @@ invariant_of-self-2 g c =
         | inl flat ↦ inr (inr (subst HasFlatItems (sym put.1) flat))
         | inr fits ↦ inl (omega (arith, deep, limit, fits))
       ],
+      c.self.invariant.6,
     )
 
 pub returns-clause-ok : goal.returns-clause-ok
@@ -55,9 +59,10 @@ returns-clause-ok g c =
     let d = c.self.inside.depth in
     let fs = c.self.inside.frames in
     let n = c.descriptors_in-first.result in
-    let put = put_behind c.self.inside.descriptors.items c.args.descriptors.items c.append.new.self.items d fs c.self.inside.top.last n
+    let put = put_behind c.self.inside.descriptors.items c.args.descriptors.items c.append.new.self.items
+    (limit_around c.self.inside.top.left (limit_of c.self.inside.bytes)) d fs c.self.inside.top.last n
     c.args.code (n + c.len.result)
     c.self.invariant.1 (omega (arith, c.self.invariant.2)) (omega arith) c.descriptors_in-first.ensures (search rules)
     c.requires.coded (omega arith) in
     rw (← c.self.view_is) (same_view _ _ _ _ _ _ _ _ _ _
-    (ap (λ x. record { place = InArray; items = Some c.args.count; left = c.self.inside.top.left; shared = x }) put.1) put.2)
+    (ap (λ x. record { place = InArray; items = Some c.args.count; left = left_in c.self.inside.top.left (limit_of c.self.inside.bytes); sized = is_sized c.self.inside.top.left; shared = x }) put.1) put.2)

@@ -1,3 +1,4 @@
+use Rattle.amqp_wire.specs.Limits.{limit_of}
 use Rattle.amqp_decoder.proofs.Rows.{room_less}
 use Rattle.amqp_decoder.proofs.decoder.Decoder.take_item.Goals as goal
 
@@ -8,5 +9,6 @@ invariant_of-self g c = (
   c.self.invariant.2,
   c.self.invariant.3,
   c.self.invariant.4,
-  room_less c.self.inside.descriptors.items c.self.inside.depth c.self.inside.top _ c.saturating_sub-self-inside.ensures c.self.invariant.5,
+  room_less c.self.inside.nesting (limit_of c.self.inside.bytes) c.self.inside.descriptors.items c.self.inside.depth c.self.inside.top _ c.saturating_sub-self-inside.ensures c.self.invariant.5,
+  c.self.invariant.6,
 )

@@ -1,0 +1,17 @@
+use Rattle.std.proofs.Common.{arith, ◌≡◌, ◌-◌, suc, Some, sym, ap, ◌∙◌}
+use Rattle.amqp_wire.specs.Limits.{limit_of}
+use Rattle.amqp_decoder.specs.State.{State, stack, bound_of, limit_around}
+use Rattle.amqp_decoder.proofs.Rows.{stack_top, bound_is, same_view}
+use Rattle.amqp_decoder.proofs.decoder.Decoder.leave.Goals as goal
+
+pub returns-clause-left : goal.returns-clause-left
+returns-clause-left g c = λ outer others saved.
+    let ds = c.self.inside.descriptors.items in
+    let limit = limit_of c.self.inside.bytes in
+    let d = c.self.inside.depth in
+    let one : d ≡ suc (d - 1) = omega arith in
+    let ended : c.self.inside.top.left ≡ Some 0 =
+    sym (bound_is c.self.inside.top.left limit) ∙ ap (λ (x : State). bound_of x.top) c.self.view_is ∙ c.requires in
+    let is = ap (λ o. stack ds (limit_around o limit) d c.self.inside.frames) (sym ended) ∙ ap (λ (x : State). x.saved) c.self.view_is ∙ saved in
+    let (top, around) = stack_top ds limit d (d - 1) c.self.inside.frames outer others one is in
+    rw (← c.self.view_is) (same_view _ _ _ _ _ _ _ _ _ _ top around)
