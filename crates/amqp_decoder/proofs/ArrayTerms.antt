@@ -8,23 +8,24 @@ use Rattle.amqp_model.specs.Term.{count, Descriptor}
 use Rattle.amqp_model.specs.Items.{items_of}
 use Rattle.amqp_model.specs.Constructors.{Format, fixed, variable, compound, unknown, format}
 use Rattle.amqp_model.specs.Spelling.{Constructor, PrimitiveData, ContainerData, data_of, elements_of, shared_data_of}
-use Rattle.amqp_model.specs.Measures.{nest, nests, array_nest}
+use Rattle.amqp_model.specs.Measures.{nest, nests, array_nest, nodes, all_nodes}
 use Rattle.amqp_model.specs.Standing.{Standing, StandInArray}
 use Rattle.amqp_decoder.specs.declared.frame.Place.TheVariants.{InArray}
-use Rattle.amqp_decoder.specs.State.{Open, State, Has, lower, after_data, after_value, in_container}
+use Rattle.amqp_decoder.specs.State.{Open, State, Has, lower, after_data, after_value, counted, in_container}
 use Rattle.amqp_decoder.specs.Steps.{Takes}
 use Rattle.amqp_decoder.specs.Containers.{ReadsHeader}
 use Rattle.amqp_decoder.specs.Arrays.{TakesConstructor, IsFlat, Shares, no_items, shared_by, Starts, EntersArray, OpensArray}
 use Rattle.amqp_decoder.specs.Items.{Next, row_standings, NextWithParts, ContainsArray}
 use Rattle.amqp_lookahead.proofs.Looks.{front_is}
-use Rattle.amqp_decoder.proofs.ReadPrimitives.{minus-minus, begun_same}
+use Rattle.amqp_decoder.proofs.ReadPrimitives.{minus-minus, begun_same, has_add, has_rest}
+use Rattle.amqp_decoder.proofs.Counts.{code_counts, may_begin}
 use Rattle.amqp_decoder.proofs.Steps.{bound_left}
 use Rattle.amqp_decoder.proofs.Peeks.{constructor_some}
 use Rattle.amqp_decoder.proofs.Opening.{header_same, one_width, took_both}
 use Rattle.amqp_decoder.proofs.Constructed.{one_constructor}
 use Rattle.amqp_decoder.proofs.ContainerTerms.{many, together, AllSpelled, row_spelled, row_of, StandUnder, row_stands, container_split}
 use Rattle.amqp_decoder.proofs.ContainerTerms.{split_container, first_spelled, first_parts, front_of, container_bare, known, used_up}
-use Rattle.amqp_decoder.proofs.ContainerTerms.{closed_at, three, took_parts}
+use Rattle.amqp_decoder.proofs.ContainerTerms.{closed_at, counting, three, took_parts}
 
 -- what a row of terms under one constructor is as data
 all_data : (us : Terms) (ds : List Descriptor) (c : ℕ) (b : List ℕ) → AllSpelled (Some (ds, c)) us b → shared_data_of us ds c b
@@ -169,10 +170,10 @@ pub opened_items : (st : State) (n : ℕ) (st' : State) → OpensArray st n st' 
 opened_items st n st' o = let d = o.data_ in (starts_place n d.content _ st' d.starts, starts_items n d.content _ st' refl d.starts)
 
 -- the container around an array that was left
-array_left : (x b n content : ℕ) (o : Option (List Descriptor × ℕ)) (at : State) → content ≡ x + b
-    → record (many n b (within x o n content at)) { top = record at.top { left = lower at.top.left content }; saved = at.saved }
-    ≡ after_data (x + b) at
-array_left x b n content o at e = rw (minus-minus at.ahead x b, drop-drop b x at.rest, e) refl
+array_left : (x b n all content : ℕ) (o : Option (List Descriptor × ℕ)) (at : State) → content ≡ x + b
+    → record (many n b all (within x o n content at)) { top = record at.top { left = lower at.top.left content }; saved = at.saved }
+    ≡ counting all (after_data (x + b) at)
+array_left x b n all content o at e = rw (minus-minus at.ahead x b, drop-drop b x at.rest, e) refl
 
 four : (own h x b : List ℕ) → length (own ++ (h ++ (x ++ b))) ≡ length own + length h + (length x + length b)
 four own h x b = three own h (x ++ b) ∙ ap (λ n. length own + length h + n) (length-append x b)
@@ -200,9 +201,12 @@ whole_array_with_parts st us new c =
     let h : ReadsHeader false o.width o.mid (count us) d.content d.mid =
     subst (λ n. ReadsHeader false o.width o.mid n d.content d.mid) n_is d.header in
     let head = bytes_high_first o.width h.size ++ bytes_high_first o.width (count us) in
-    let at : State = after_data (length head) (after_value (length own) st) in
-    let at_is : d.mid ≡ at = h.took.moved ∙ ap (after_data (length head)) g.moved in
-    let tk = subst (λ z. Takes z head d.mid) g.moved h.took in
+    let code_is = known (format o.code) array o.width o.announced in
+    let one : counted o.code ≡ 1 = code_counts o.code code_is in
+    let g_moved : o.mid ≡ after_value (length own) 1 st = g.moved ∙ ap (λ k. after_value (length own) k st) one in
+    let at : State = after_data (length head) (after_value (length own) 1 st) in
+    let at_is : d.mid ≡ at = h.took.moved ∙ ap (after_data (length head)) g_moved in
+    let tk = subst (λ z. Takes z head d.mid) g_moved h.took in
     let first : Takes st own (after_data (length own) st) = record { room = g.room; rest = g.rest; moved = refl } in
     let second : Takes (after_data (length own) st) head (after_data (length head) (after_data (length own) st)) =
     record { room = tk.room; rest = tk.rest; moved = refl } in
@@ -234,27 +238,31 @@ whole_array_with_parts st us new c =
     let ss = row_standings c.mid (items_of us) b c.last c.items in
     let data_is = data_of_content (elements_of us) (s.elements b rows) in
     let parts_are = data_of_content (StandInArray us ss) (s.stands ss b (row_stands s.shared us c.mid b c.last shared c.items)) in
-    let code_is = known (format o.code) array o.width o.announced in
     let levels : length c.mid.saved ≡ suc (length d.mid.saved) = ap (λ (z : State). length z.saved) s.is in
     let limit : c.mid.nesting ≡ d.mid.nesting = ap (λ (z : State). z.nesting) s.is in
     let deep : array_nest us ≤ d.mid.nesting - length d.mid.saved = s.nested b rows (let m = t.nested in omega (arith, m, levels, limit)) in
-    let left : new ≡ record (many (count us) (length b) (within (length x) s.shared c.count d.content d.mid)) {
+    let all_ = all_nodes us in
+    let left : new ≡ record (many (count us) (length b) all_ (within (length x) s.shared c.count d.content d.mid)) {
       top = c.closed.outer;
       saved = c.closed.others;
     } = c.closed.moved ∙ ap (λ (z : State). record z { top = c.closed.outer; saved = c.closed.others })
-    (t.moved ∙ ap (many (count us) (length b)) s.is) in
+    (t.moved ∙ ap (many (count us) (length b) all_) s.is) in
     let saved : (record d.mid.top { left = lower d.mid.top.left d.content }) ∷ d.mid.saved ≡ c.closed.outer ∷ c.closed.others =
-    sym (ap (λ (z : State). z.saved) (t.moved ∙ ap (many (count us) (length b)) s.is)) ∙ c.closed.saved in
-    let out : new ≡ after_data (length x + length b) d.mid = left
-    ∙ ap₂ (λ (f : Open) (l : List Open). record (many (count us) (length b) (within (length x) s.shared c.count d.content d.mid)) {
+    sym (ap (λ (z : State). z.saved) (t.moved ∙ ap (many (count us) (length b) all_) s.is)) ∙ c.closed.saved in
+    let out : new ≡ counting all_ (after_data (length x + length b) d.mid) = left
+    ∙ ap₂ (λ (f : Open) (l : List Open). record (many (count us) (length b) all_ (within (length x) s.shared c.count d.content d.mid)) {
       top = f;
       saved = l;
     }) (sym (ap (λ l. get_or l 0 d.mid.top) saved)) (sym (ap (drop 1) saved))
-    ∙ ap (λ n. record (many (count us) (length b) (within (length x) s.shared n d.content d.mid)) {
+    ∙ ap (λ n. record (many (count us) (length b) all_ (within (length x) s.shared n d.content d.mid)) {
       top = record d.mid.top { left = lower d.mid.top.left d.content };
       saved = d.mid.saved;
     }) n_is
-    ∙ array_left (length x) (length b) (count us) d.content s.shared d.mid k_is in
+    ∙ array_left (length x) (length b) (count us) all_ d.content s.shared d.mid k_is in
+    let begun : Has st.quota 1 = subst (Has st.quota) one g.few in
+    let here : c.mid.quota ≡ lower st.quota 1 = ap (λ (z : State). z.quota) s.is ∙ ap (λ (z : State). z.quota) at_is in
+    let inside : Has (lower st.quota 1) all_ = subst (λ q. Has q all_) here t.few in
+    let sum : 1 + all_ ≡ suc all_ = omega arith in
     record {
       next = record {
         bytes = own ++ (head ++ (x ++ b));
@@ -266,10 +274,12 @@ whole_array_with_parts st us new c =
           rest = all.rest;
           spelled = first_spelled st.top.shared o.code own (head ++ (x ++ b)) (container array us) g.first code_is data_is;
           nested = subst (λ (z : State). array_nest us ≤ z.nesting - length z.saved) at_is deep;
+          few = subst (Has st.quota) sum (has_add st.quota 1 all_ begun inside);
         };
-        moved = out ∙ ap (after_data (length x + length b)) at_is
-            ∙ closed_at st (after_value (length own) st) at (length own) (length head) (length x + length b) refl refl
-            ∙ ap (λ k. after_value k st) (sym (four own head x b));
+        moved = out ∙ ap (λ z. counting all_ (after_data (length x + length b) z)) at_is
+            ∙ closed_at st (after_value (length own) 1 st) at (length own) (length head) (length x + length b) 1 all_ refl refl
+            ∙ ap (λ k. after_value k (1 + all_) st) (sym (four own head x b))
+            ∙ ap (λ k. after_value (length (own ++ (head ++ (x ++ b)))) k st) sum;
       };
       parts = first_parts st.top.shared o.code own (head ++ (x ++ b)) array us ss g.first code_is parts_are;
     }
@@ -371,7 +381,11 @@ array_parts st us new few next =
     } in
     let one = took_parts st _ own (head ++ content) all in
     let two = took_parts _ _ head content one.1 in
-    let at : State = after_data (length head) (after_value (length own) st) in
+    let code_is = known (format f.code) array y.width y.announced in
+    let one_ : counted f.code ≡ 1 = code_counts f.code code_is in
+    let sum : 1 + all_nodes us ≡ suc (all_nodes us) = omega arith in
+    let few_ : Has st.quota (1 + all_nodes us) = subst (Has st.quota) (sym sum) k.few in
+    let at : State = after_data (length head) (after_value (length own) (counted f.code) st) in
     let start = beginning us content (drop (length content) at.rest) at y.inner two.1.rest k.nested in
     let x = start.own in
     let b = start.items in
@@ -388,8 +402,17 @@ array_parts st us new few next =
       opened = record {
         code = f.code;
         width = y.width;
-        mid = after_value (length own) st;
-        begun = record { going = k.going; item = k.item; own = own; first = f.first; room = one.0.room; rest = one.0.rest; moved = refl };
+        mid = after_value (length own) (counted f.code) st;
+        begun = record {
+          going = k.going;
+          item = k.item;
+          own = own;
+          first = f.first;
+          room = one.0.room;
+          rest = one.0.rest;
+          few = may_begin st.quota (container array us) f.code k.few;
+          moved = refl;
+        };
         announced = y.announced;
         data_ = record {
           content = length content;
@@ -407,9 +430,10 @@ array_parts st us new few next =
         };
       };
       bytes = b;
-      last = many n (length b) mid;
+      last = many n (length b) (all_nodes us) mid;
       items = row_of start.shared us mid b (drop (length content) at.rest) k.going refl (omega arith) (omega (arith, long)) behind
-          start.spelled start.nested;
+          start.spelled start.nested (subst (λ j. Has (lower st.quota j) (all_nodes us)) (sym one_)
+          (has_rest st.quota 1 (all_nodes us) few_));
       closed = record {
         going = k.going;
         here = refl;
@@ -418,10 +442,13 @@ array_parts st us new few next =
         outer = record at.top { left = lower at.top.left (length content) };
         others = at.saved;
         saved = refl;
-        moved = next.moved ∙ ap (λ l. after_value (length l) st) (s_is ∙ ap (λ l. own ++ (head ++ l)) start.split)
-            ∙ ap (λ m. after_value m st) (four own head x b)
-            ∙ sym (closed_at st (after_value (length own) st) at (length own) (length head) (length x + length b) refl refl)
-            ∙ sym (array_left (length x) (length b) n (length content) start.shared at long);
+        moved = next.moved ∙ ap (λ l. after_value (length l) (suc (all_nodes us)) st) (s_is ∙ ap (λ l. own ++ (head ++ l)) start.split)
+            ∙ ap (λ m. after_value m (suc (all_nodes us)) st) (four own head x b)
+            ∙ ap (λ j. after_value (length own + length head + (length x + length b)) j st)
+            (sym sum ∙ ap (λ j. j + all_nodes us) (sym one_))
+            ∙ sym (closed_at st (after_value (length own) (counted f.code) st) at (length own) (length head) (length x + length b)
+            (counted f.code) (all_nodes us) refl refl)
+            ∙ sym (array_left (length x) (length b) n (all_nodes us) (length content) start.shared at long);
       };
     }
 

@@ -7,10 +7,10 @@ use Rattle.amqp_model.specs.Term.{Container, list, map, array, Term, Terms, cont
 use Rattle.amqp_model.specs.Items.{items_of}
 use Rattle.amqp_model.specs.Constructors.{Format, fixed, variable, compound, unknown, format}
 use Rattle.amqp_model.specs.Spelling.{IsSize, ContainerData, IsKnown, Constructor, data_of, enc, items_of as items_spelled}
-use Rattle.amqp_model.specs.Measures.{nest, nests}
+use Rattle.amqp_model.specs.Measures.{nest, nests, nodes, all_nodes}
 use Rattle.amqp_model.specs.Standing.{Standing, StandWhole, StandAsData, StandIn, Parts}
 use Rattle.amqp_decoder.specs.declared.frame.Place.{Place}
-use Rattle.amqp_decoder.specs.State.{Open, State, Has, lower, after_data, after_value, in_container, items_of as items_at}
+use Rattle.amqp_decoder.specs.State.{Open, State, Has, lower, after_data, after_value, counted, in_container, items_of as items_at}
 use Rattle.amqp_decoder.specs.Steps.{Takes}
 use Rattle.amqp_decoder.specs.Reading.{IsFirst}
 use Rattle.amqp_decoder.specs.Primitives.{standing, SpellsAs}
@@ -19,37 +19,48 @@ use Rattle.amqp_decoder.specs.Items.{Row, Next, row_standings, NextWithParts, Co
 use Rattle.amqp_lookahead.proofs.Looks.{front_is}
 use Rattle.amqp_decoder.proofs.Steps.{bound_left, has_none, lower_none}
 use Rattle.amqp_decoder.proofs.ReadPrimitives.{has_add, has_front, has_rest, lower-lower, minus-minus, after_code, after_data-after_value}
+use Rattle.amqp_decoder.proofs.Counts.{code_counts, may_begin}
 use Rattle.amqp_decoder.proofs.Opening.{after_data-after_data, took_both}
 
--- k values of n bytes are taken
-abbrev pub many : ℕ → ℕ → State → State
-many k n st =
+-- k values of n bytes are taken, in which so many count
+abbrev pub many : ℕ → ℕ → ℕ → State → State
+many k n all st =
     record st {
       rest = drop n st.rest;
       ahead = st.ahead - n;
       top = record st.top { items = lower st.top.items k; left = lower st.top.left n };
+      quota = lower st.quota all;
     }
 
-many-after_value : (k m n : ℕ) (st : State) → many k n (after_value m st) ≡ many (suc k) (m + n) st
-many-after_value k m n st =
-    let one : 1 + k ≡ suc k = omega arith in
-    rw (minus-minus st.ahead m n, drop-drop n m st.rest, lower-lower st.top.left m n, lower-lower st.top.items 1 k, one) refl
+many-after_value : (k m n one all : ℕ) (st : State) → many k n all (after_value m one st) ≡ many (suc k) (m + n) (one + all) st
+many-after_value k m n one all st =
+    let next : 1 + k ≡ suc k = omega arith in
+    rw (
+      minus-minus st.ahead m n,
+      drop-drop n m st.rest,
+      lower-lower st.top.left m n,
+      lower-lower st.top.items 1 k,
+      lower-lower st.quota one all,
+      next,
+    ) refl
 
-many_none : (st : State) → st ≡ many 0 0 st
+many_none : (st : State) → st ≡ many 0 0 0 st
 many_none st =
     let a : st.ahead ≡ st.ahead - 0 = omega arith in
     ap (λ x. record st { ahead = x }) a
     ∙ ap (λ x. record st { ahead = st.ahead - 0; top = record st.top { items = x } }) (sym (lower_none st.top.items))
     ∙ ap (λ x. record st { ahead = st.ahead - 0; top = record st.top { items = lower st.top.items 0; left = x } })
     (sym (lower_none st.top.left))
+    ∙ ap (λ x. record (many 0 0 0 st) { quota = x }) (sym (lower_none st.quota))
 
 -- what some terms in a row are together
 pub record Together (st : State) (us : Terms) (b : List ℕ) (st' : State) : Type 0 where
-  pub moved : st' ≡ many (count us) (length b) st
+  pub moved : st' ≡ many (count us) (length b) (all_nodes us) st
   pub rest : st.rest ≡ b ++ drop (length b) st.rest
   pub room : Has st.top.left (length b)
   pub items : Has st.top.items (count us)
   pub nested : nests us ≤ st.nesting - length st.saved
+  pub few : Has st.quota (all_nodes us)
 
 has_one_more : (o : Option ℕ) (k : ℕ) → Has o 1 → Has (lower o 1) k → Has o (suc k)
 has_one_more None k h i = tt
@@ -59,24 +70,27 @@ pub together : (us : Terms) (st : State) (b : List ℕ) (st' : State) → Row st
 together none st b st' (e, f) =
     let empty : length b ≡ 0 = ap length e in
     record {
-      moved = f ∙ many_none st ∙ ap (λ n. many 0 n st) (sym empty);
+      moved = f ∙ many_none st ∙ ap (λ n. many 0 n 0 st) (sym empty);
       rest = subst (λ x. st.rest ≡ x ++ drop (length x) st.rest) (sym e) refl;
       room = subst (Has st.top.left) (sym empty) (has_none st.top.left);
       items = has_none st.top.items;
       nested = omega arith;
+      few = has_none st.quota;
     }
 together (more t us) st b st' (s, r, e, k, row) =
-    let i = together us (after_value (length s) st) r st' row in
+    let i = together us (after_value (length s) (nodes t) st) r st' row in
     let n : length b ≡ length s + length r = ap length e ∙ length-append s r in
     let behind : drop (length s) st.rest ≡ k.after = ap (drop (length s)) k.rest ∙ drop_at s k.after (length s) refl in
     let here : st.rest ≡ s ++ drop (length s) st.rest = k.rest ∙ ap (λ x. s ++ x) (sym behind) in
     record {
-      moved = i.moved ∙ many-after_value (count us) (length s) (length r) st ∙ ap (λ x. many (suc (count us)) x st) (sym n);
+      moved = i.moved ∙ many-after_value (count us) (length s) (length r) (nodes t) (all_nodes us) st
+          ∙ ap (λ x. many (suc (count us)) x (nodes t + all_nodes us) st) (sym n);
       rest = front_is b st.rest (drop (length r) (drop (length s) st.rest)) (length b) refl (after_code s r st.rest here i.rest
           ∙ ap (λ x. x ++ drop (length r) (drop (length s) st.rest)) (sym e));
       room = subst (Has st.top.left) (sym n) (has_add st.top.left (length s) (length r) k.room i.room);
       items = has_one_more st.top.items (count us) k.item i.items;
       nested = omega (arith, k.nested, i.nested);
+      few = has_add st.quota (nodes t) (all_nodes us) k.few i.few;
     }
 
 -- some terms stand one after another, each so
@@ -88,22 +102,23 @@ pub row_spelled : (o : Option (List Descriptor × ℕ)) (us : Terms) (st : State
     → Row st (items_of us) b st' → AllSpelled o us b
 row_spelled o none st b st' shared row = row.0
 row_spelled o (more t us) st b st' shared (s, r, e, k, row) =
-    (s, r, e, subst (λ x. SpellsAs (standing x s) t) shared k.spelled, row_spelled o us (after_value (length s) st) r st' shared row)
+    (s, r, e, subst (λ x. SpellsAs (standing x s) t) shared k.spelled, row_spelled o us (after_value (length s) (nodes t) st) r st' shared row)
 
 -- terms that are spelled there can be taken in a row
 pub row_of : (o : Option (List Descriptor × ℕ)) (us : Terms) (st : State) (b x : List ℕ) → st.error ≡ None → st.top.shared ≡ o
     → Has st.top.items (count us) → Has st.top.left (length b) → st.rest ≡ b ++ x → AllSpelled o us b
-    → nests us ≤ st.nesting - length st.saved → Row st (items_of us) b (many (count us) (length b) st)
-row_of o none st b x going shared items room rest e nested = (e, sym (many_none st ∙ ap (λ n. many 0 n st) (sym (ap length e))))
-row_of o (more t us) st b x going shared items room rest (s, r, e, h, hs) nested =
+    → nests us ≤ st.nesting - length st.saved → Has st.quota (all_nodes us)
+    → Row st (items_of us) b (many (count us) (length b) (all_nodes us) st)
+row_of o none st b x going shared items room rest e nested few = (e, sym (many_none st ∙ ap (λ n. many 0 n 0 st) (sym (ap length e))))
+row_of o (more t us) st b x going shared items room rest (s, r, e, h, hs) nested few =
     let n : length b ≡ length s + length r = ap length e ∙ length-append s r in
     let room_ : Has st.top.left (length s + length r) = subst (Has st.top.left) n room in
     let here : st.rest ≡ s ++ (r ++ x) = rest ∙ ap (λ l. l ++ x) e ∙ append_assoc s r x in
     let behind : drop (length s) st.rest ≡ r ++ x = ap (drop (length s)) here ∙ drop_at s (r ++ x) (length s) refl in
     let one : 1 + count us ≡ suc (count us) = omega arith in
     let items_ : Has st.top.items (1 + count us) = subst (Has st.top.items) (sym one) items in
-    let i = row_of o us (after_value (length s) st) r x going shared (has_rest st.top.items 1 (count us) items_)
-    (has_rest st.top.left (length s) (length r) room_) behind hs (omega (arith, nested)) in (
+    let i = row_of o us (after_value (length s) (nodes t) st) r x going shared (has_rest st.top.items 1 (count us) items_)
+    (has_rest st.top.left (length s) (length r) room_) behind hs (omega (arith, nested)) (has_rest st.quota (nodes t) (all_nodes us) few) in (
       s,
       r,
       e,
@@ -115,9 +130,11 @@ row_of o (more t us) st b x going shared items room rest (s, r, e, h, hs) nested
         rest = here;
         spelled = subst (λ y. SpellsAs (standing y s) t) (sym shared) h;
         nested = omega (arith, nested);
+        few = has_front st.quota (nodes t) (all_nodes us) few;
       },
-      subst (Row (after_value (length s) st) (items_of us) r) (many-after_value (count us) (length s) (length r) st
-          ∙ ap (λ k. many (suc (count us)) k st) (sym n)) i,
+      subst (Row (after_value (length s) (nodes t) st) (items_of us) r)
+          (many-after_value (count us) (length s) (length r) (nodes t) (all_nodes us) st
+          ∙ ap (λ k. many (suc (count us)) k (nodes t + all_nodes us) st) (sym n)) i,
     )
 
 -- some terms stand one after another, and how each does
@@ -130,23 +147,23 @@ pub row_stands : (o : Option (List Descriptor × ℕ)) (us : Terms) (st : State)
 row_stands None none st b st' e row = (row.0, refl)
 row_stands (Some (ds, c)) none st b st' e row = (row.0, refl)
 row_stands None (more t us) st b st' e (s, r, f, k, row) =
-    let others = row_standings (after_value (length s) st) (items_of us) r st' row in (
+    let others = row_standings (after_value (length s) (nodes t) st) (items_of us) r st' row in (
       s,
       r,
       others,
       f,
       subst (λ x. SpellsAs (standing x s) t) e k.spelled,
-      row_stands None us (after_value (length s) st) r st' e row,
+      row_stands None us (after_value (length s) (nodes t) st) r st' e row,
       ap (λ x. standing x s ∷ others) e,
     )
 row_stands (Some (ds, c)) (more t us) st b st' e (s, r, f, k, row) =
-    let others = row_standings (after_value (length s) st) (items_of us) r st' row in (
+    let others = row_standings (after_value (length s) (nodes t) st) (items_of us) r st' row in (
       s,
       r,
       others,
       f,
       subst (λ x. SpellsAs (standing x s) t) e k.spelled,
-      row_stands (Some (ds, c)) us (after_value (length s) st) r st' e row,
+      row_stands (Some (ds, c)) us (after_value (length s) (nodes t) st) r st' e row,
       ap (λ x. standing x s ∷ others) e,
     )
 
@@ -287,12 +304,18 @@ front_of (Some (f ∷ ds, k)) t s bare d = absurd (bare f ds k s d)
 pub known : (F : Format) (kind : Container) (w : ℕ) → F ≡ compound kind w → IsKnown F
 known F kind w e = subst IsKnown (sym e) tt
 
+-- so many values count
+abbrev pub counting : ℕ → State → State
+counting all st = record st { quota = lower st.quota all }
+
 -- the states on the way through a container of n bytes behind a header of h and the code's own bytes
-pub closed_at : (st m after : State) (own h n : ℕ) → m ≡ after_value own st → after ≡ after_data h m
-    → after_data n after ≡ after_value (own + h + n) st
-closed_at st m after own h n e f =
-    ap (after_data n) f ∙ after_data-after_data h n m ∙ ap (after_data (h + n)) e ∙ after_data-after_value own (h + n) st
-    ∙ ap (λ k. after_value k st) (omega arith)
+pub closed_at : (st m after : State) (own h n one all : ℕ) → m ≡ after_value own one st → after ≡ after_data h m
+    → counting all (after_data n after) ≡ after_value (own + h + n) (one + all) st
+closed_at st m after own h n one all e f =
+    ap (λ z. counting all (after_data n z)) f ∙ ap (counting all) (after_data-after_data h n m)
+    ∙ ap (λ z. counting all (after_data (h + n) z)) e ∙ ap (counting all) (after_data-after_value own one (h + n) st)
+    ∙ ap (λ k. counting all (after_value k one st)) (omega arith)
+    ∙ ap (λ q. record (after_value (own + h + n) one st) { quota = q }) (lower-lower st.quota one all)
 
 -- an inner bound that is used up
 pub used_up : (o : Option ℕ) (n k : ℕ) → o ≡ Some n → Has o k → lower o k ≡ Some 0 → n ≡ k
@@ -300,18 +323,18 @@ used_up None n k e h f = absurd (cc)
 used_up (Some l) n k e h f = omega (arith, ap (λ o. unwrap_or o 0) e, ap (λ o. unwrap_or o 0) f)
 
 -- the container around one that was left
-left_is : (p : Place) (n k b content : ℕ) (last at new : State) (outer : Open) (others : List Open)
-    → last ≡ many k b (in_container p n content at) → last.saved ≡ outer ∷ others → new ≡ record last { top = outer; saved = others }
-    → content ≡ b → new ≡ after_data b at
-left_is p n k b content last at new outer others is saved moved same =
+left_is : (p : Place) (n k b all content : ℕ) (last at new : State) (outer : Open) (others : List Open)
+    → last ≡ many k b all (in_container p n content at) → last.saved ≡ outer ∷ others → new ≡ record last { top = outer; saved = others }
+    → content ≡ b → new ≡ counting all (after_data b at)
+left_is p n k b all content last at new outer others is saved moved same =
     let e = sym (ap (λ (z : State). z.saved) is) ∙ saved in
     let head : record at.top { left = lower at.top.left content } ≡ outer = ap (λ l. get_or l 0 at.top) e in
     let tail : at.saved ≡ others = ap (drop 1) e in
     moved ∙ ap (λ (z : State). record z { top = outer; saved = others }) is
-    ∙ ap (λ o. record (many k b (in_container p n content at)) { top = o; saved = others }) (sym head)
-    ∙ ap (λ l. record (many k b (in_container p n content at)) { top = record at.top { left = lower at.top.left content }; saved = l })
+    ∙ ap (λ o. record (many k b all (in_container p n content at)) { top = o; saved = others }) (sym head)
+    ∙ ap (λ l. record (many k b all (in_container p n content at)) { top = record at.top { left = lower at.top.left content }; saved = l })
     (sym tail)
-    ∙ ap (λ c. record at { rest = drop b at.rest; ahead = at.ahead - b; top = record at.top { left = lower at.top.left c } }) same
+    ∙ ap (λ c. counting all (record at { rest = drop b at.rest; ahead = at.ahead - b; top = record at.top { left = lower at.top.left c } })) same
 
 pub three : (own h b : List ℕ) → length (own ++ (h ++ b)) ≡ length own + length h + length b
 three own h b = length-append own (h ++ b) ∙ ap (λ n. length own + n) (length-append h b) ∙ (omega arith)
@@ -335,11 +358,14 @@ whole_with_parts kind is st us new c =
     let h : ReadsHeader (is_list kind) o.width o.mid (count us) d.content d.mid =
     subst (λ n. ReadsHeader (is_list kind) o.width o.mid n d.content d.mid) n_is d.header in
     let head = bytes_high_first o.width h.size ++ bytes_high_first o.width (count us) in
-    let at : State = after_data (length head) (after_value (length own) st) in
-    let at_is : d.mid ≡ at = h.took.moved ∙ ap (after_data (length head)) g.moved in
+    let code_is = known (format o.code) kind o.width o.announced in
+    let one : counted o.code ≡ 1 = code_counts o.code code_is in
+    let g_moved : o.mid ≡ after_value (length own) 1 st = g.moved ∙ ap (λ k. after_value (length own) k st) one in
+    let at : State = after_data (length head) (after_value (length own) 1 st) in
+    let at_is : d.mid ≡ at = h.took.moved ∙ ap (after_data (length head)) g_moved in
     let mid_is : c.mid ≡ in_container (place_of kind) c.count d.content at =
     d.entered ∙ ap (in_container (place_of kind) c.count d.content) at_is in
-    let tk = subst (λ z. Takes z head d.mid) g.moved h.took in
+    let tk = subst (λ z. Takes z head d.mid) g_moved h.took in
     let first : Takes st own (after_data (length own) st) = record { room = g.room; rest = g.rest; moved = refl } in
     let second : Takes (after_data (length own) st) head (after_data (length head) (after_data (length own) st)) =
     record { room = tk.room; rest = tk.rest; moved = refl } in
@@ -369,10 +395,12 @@ whole_with_parts kind is st us new c =
     let parts_are =
     parts_in kind us ss o.code (head ++ b) is
     (data_of_content (StandWhole us ss) (row_stands None us c.mid b c.last unshared c.items)) in
-    let code_is = known (format o.code) kind o.width o.announced in
     let levels : length c.mid.saved ≡ suc (length st.saved) = ap (λ (z : State). length z.saved) mid_is in
     let limit : c.mid.nesting ≡ st.nesting = ap (λ (z : State). z.nesting) mid_is in
     let few : suc (length st.saved) ≤ st.nesting = subst (λ (z : State). suc (length z.saved) ≤ z.nesting) g.moved d.few in
+    let begun : Has st.quota 1 = subst (Has st.quota) one g.few in
+    let inside : Has (lower st.quota 1) (all_nodes us) = subst (λ (z : State). Has z.quota (all_nodes us)) mid_is t.few in
+    let sum : 1 + all_nodes us ≡ suc (all_nodes us) = omega arith in
     record {
       next = record {
         bytes = own ++ (head ++ b);
@@ -384,11 +412,13 @@ whole_with_parts kind is st us new c =
           rest = all.rest;
           spelled = first_spelled st.top.shared o.code own (head ++ b) (container kind us) g.first code_is data_is;
           nested = omega (arith, t.nested, levels, limit, few, nest_container kind us is);
+          few = subst (Has st.quota) sum (has_add st.quota 1 (all_nodes us) begun inside);
         };
-        moved = left_is (place_of kind) c.count (count us) (length b) d.content c.last at new c.closed.outer c.closed.others
-            (t.moved ∙ ap (many (count us) (length b)) mid_is) c.closed.saved c.closed.moved k_is
-            ∙ closed_at st (after_value (length own) st) at (length own) (length head) (length b) refl refl
-            ∙ ap (λ k. after_value k st) (sym (three own head b));
+        moved = left_is (place_of kind) c.count (count us) (length b) (all_nodes us) d.content c.last at new c.closed.outer c.closed.others
+            (t.moved ∙ ap (many (count us) (length b) (all_nodes us)) mid_is) c.closed.saved c.closed.moved k_is
+            ∙ closed_at st (after_value (length own) 1 st) at (length own) (length head) (length b) 1 (all_nodes us) refl refl
+            ∙ ap (λ k. after_value k (1 + all_nodes us) st) (sym (three own head b))
+            ∙ ap (λ k. after_value (length (own ++ (head ++ b))) k st) sum;
       };
       parts = first_parts st.top.shared o.code own (head ++ b) kind us ss g.first code_is parts_are;
     }
@@ -436,7 +466,11 @@ parts kind is st us new next =
     } in
     let one = took_parts st _ own (head ++ b) all in
     let two = took_parts _ _ head b one.1 in
-    let at : State = after_data (length head) (after_value (length own) st) in
+    let code_is = known (format f.code) kind x.width x.announced in
+    let one_ : counted f.code ≡ 1 = code_counts f.code code_is in
+    let sum : 1 + all_nodes us ≡ suc (all_nodes us) = omega arith in
+    let few_ : Has st.quota (1 + all_nodes us) = subst (Has st.quota) (sym sum) k.few in
+    let at : State = after_data (length head) (after_value (length own) (counted f.code) st) in
     let mid : State = in_container (place_of kind) n (length b) at in
     let deep : suc (nests us) ≤ st.nesting - length st.saved =
     subst (λ m. m ≤ st.nesting - length st.saved) (nest_container kind us is) k.nested in
@@ -451,8 +485,17 @@ parts kind is st us new next =
       opened = record {
         code = f.code;
         width = x.width;
-        mid = after_value (length own) st;
-        begun = record { going = k.going; item = k.item; own = own; first = f.first; room = one.0.room; rest = one.0.rest; moved = refl };
+        mid = after_value (length own) (counted f.code) st;
+        begun = record {
+          going = k.going;
+          item = k.item;
+          own = own;
+          first = f.first;
+          room = one.0.room;
+          rest = one.0.rest;
+          few = may_begin st.quota (container kind us) f.code k.few;
+          moved = refl;
+        };
         announced = x.announced;
         data_ = record {
           content = length b;
@@ -471,9 +514,10 @@ parts kind is st us new next =
         };
       };
       bytes = b;
-      last = many n (length b) mid;
+      last = many n (length b) (all_nodes us) mid;
       items = row_of None us mid b _ k.going refl (subst (λ o. Has o n) (sym items_are) whole_count) all_bytes two.1.rest
-          (items_all us b x.inner) (omega (arith, deep));
+          (items_all us b x.inner) (omega (arith, deep)) (subst (λ j. Has (lower st.quota j) (all_nodes us)) (sym one_)
+          (has_rest st.quota 1 (all_nodes us) few_));
       closed = record {
         going = k.going;
         here = refl;
@@ -482,8 +526,11 @@ parts kind is st us new next =
         outer = record at.top { left = lower at.top.left (length b) };
         others = at.saved;
         saved = refl;
-        moved = next.moved ∙ ap (λ l. after_value (length l) st) s_is ∙ ap (λ m. after_value m st) (three own head b)
-            ∙ sym (closed_at st (after_value (length own) st) at (length own) (length head) (length b) refl refl);
+        moved = next.moved ∙ ap (λ l. after_value (length l) (nodes (container kind us)) st) s_is
+            ∙ ap (λ m. after_value m (nodes (container kind us)) st) (three own head b)
+            ∙ ap (λ j. after_value (length own + length head + length b) j st) (sym sum ∙ ap (λ j. j + all_nodes us) (sym one_))
+            ∙ sym (closed_at st (after_value (length own) (counted f.code) st) at (length own) (length head) (length b) (counted f.code)
+            (all_nodes us) refl refl);
       };
     }
 
@@ -491,7 +538,7 @@ parts kind is st us new next =
 pub row_joined : (ts us : List Term) (a m z : State) (b c : List ℕ) → Row a ts b m → Row m us c z → Row a (ts ++ us) (b ++ c) z
 row_joined [] us a m z b c (e, f) r = subst (λ x. Row a us (x ++ c) z) (sym e) (subst (λ x. Row x us c z) f r)
 row_joined (t ∷ ts) us a m z b c (s, o, e, k, row) r =
-    (s, o ++ c, ap (λ x. x ++ c) e ∙ append_assoc s o c, k, row_joined ts us (after_value (length s) a) m z o c row r)
+    (s, o ++ c, ap (λ x. x ++ c) e ∙ append_assoc s o c, k, row_joined ts us (after_value (length s) (nodes t) a) m z o c row r)
 
 pub row_of_one : (t : Term) (a z : State) (h : Next a t z) → Row a (t ∷ []) h.bytes z
 row_of_one t a z h = (h.bytes, [], sym (append-nil h.bytes), h.stands, (refl, h.moved))

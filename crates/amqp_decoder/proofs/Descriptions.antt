@@ -5,7 +5,7 @@ use Rattle.std.proofs.Common.{ap, ap₂, ◌∙◌, subst, arith, append_assoc, 
 use Rattle.std.proofs.lemmas.List.{drop_at}
 use Rattle.amqp_model.specs.Term.{list, map, array, Descriptor, Term, leaf, container, described, kept, barred}
 use Rattle.amqp_model.specs.Spelling.{Names, enc, data_of}
-use Rattle.amqp_model.specs.Measures.{nest}
+use Rattle.amqp_model.specs.Measures.{nest, nodes}
 use Rattle.amqp_model.specs.Standing.{part, Parts}
 use Rattle.amqp_decoder.specs.declared.frame.Place.TheVariants.{InDescribed}
 use Rattle.amqp_decoder.specs.State.{State, Open, Has, lower, after_data, after_value}
@@ -15,6 +15,7 @@ use Rattle.amqp_decoder.specs.Primitives.{standing, SpellsAs, Stands}
 use Rattle.amqp_decoder.specs.Containers.{ClosesDescribed}
 use Rattle.amqp_decoder.specs.Described.{IsDescriptor, behind, in_described}
 use Rattle.amqp_decoder.specs.Items.{Next, NextWithParts, DescribedStands}
+use Rattle.amqp_decoder.proofs.Steps.{has_none, lower_none}
 use Rattle.amqp_decoder.proofs.ReadPrimitives.{has_add, has_front, has_rest, lower-lower, minus-minus}
 
 -- a term nests at least as deep as it is described
@@ -60,16 +61,17 @@ sum a b c = omega arith
 
 -- the state in which what is described stands
 abbrev inside_described : ℕ → ℕ → State → State
-inside_described first own st = in_described (after_data own (after_value first st))
+inside_described first own st = in_described (after_data own (after_value first 0 st))
 
 -- the state behind it
-back : (first own s : ℕ) (st : State)
-    → after_value (first + (own + s)) st ≡ record (after_value s (inside_described first own st)) {
-      top = record (after_data own (after_value first st)).top { left = lower (after_data own (after_value first st)).top.left s };
+back : (first own s n : ℕ) (st : State)
+    → after_value (first + (own + s)) n st ≡ record (after_value s n (inside_described first own st)) {
+      top = record (after_data own (after_value first 0 st)).top { left = lower (after_data own (after_value first 0 st)).top.left s };
       saved = st.saved;
     }
-back first own s st = ap (λ z. after_value z st) (sum first own s)
+back first own s n st = ap (λ z. after_value z n st) (sum first own s)
     ∙ sym (rw (
+      lower_none st.quota,
       minus-minus st.ahead first own,
       minus-minus st.ahead (first + own) s,
       drop-drop own first st.rest,
@@ -78,17 +80,17 @@ back first own s st = ap (λ z. after_value z st) (sum first own s)
       lower-lower st.top.left (first + own) s,
     ) refl)
 
-left_described : (first own s : ℕ) (st b : State) → ClosesDescribed InDescribed (after_value s (inside_described first own st)) b
-    → b ≡ after_value (first + (own + s)) st
-left_described first own s st b c =
-    let mid = after_data own (after_value first st) in
+left_described : (first own s n : ℕ) (st b : State) → ClosesDescribed InDescribed (after_value s n (inside_described first own st)) b
+    → b ≡ after_value (first + (own + s)) n st
+left_described first own s n st b c =
+    let mid = after_data own (after_value first 0 st) in
     let kept_ = record mid.top { left = option_map (λ l. 0) mid.top.left } in
     let outer : kept_ ≡ c.outer = ap (λ l. get_or l 0 st.top) c.saved in
     let others : st.saved ≡ c.others = ap (λ l. drop 1 l) c.saved in
-    c.moved ∙ ap₂ (λ (t : Open) l. record (after_value s (inside_described first own st)) {
+    c.moved ∙ ap₂ (λ (t : Open) l. record (after_value s n (inside_described first own st)) {
       top = record t { left = lower mid.top.left s; sized = mid.top.sized };
       saved = l;
-    }) (sym outer) (sym others) ∙ sym (back first own s st)
+    }) (sym outer) (sym others) ∙ sym (back first own s n st)
 
 -- What was opened, taken and closed is one term, in which what is described stands as it was taken.
 pub described_with_parts : (st : State) (d : Descriptor) (t : Term) (b : State) → st.nesting ≤ 128 → (h : DescribedStands st d t b)
@@ -97,13 +99,13 @@ described_with_parts st d t b bound h =
     let o = h.opens in
     let first = o.begun.own in
     let own = o.descriptor.own in
-    let took : Takes (after_value (length first) st) own o.named =
+    let took : Takes (after_value (length first) 0 st) own o.named =
     subst (λ (m : State). Takes m own o.named) o.begun.moved o.descriptor.took in
     let descriptor : IsDescriptor st.top.shared d own =
     subst (λ (m : State). IsDescriptor m.top.shared d own) o.begun.moved o.descriptor.descriptor in
     let inner : h.inner ≡ inside_described (length first) (length own) st = o.opened ∙ ap in_described took.moved in
     let stands = subst (λ (i : State). Stands i h.bytes t) inner h.stands in
-    let closes = subst (λ (i : State). ClosesDescribed InDescribed (after_value (length h.bytes) i) b) inner h.closes in
+    let closes = subst (λ (i : State). ClosesDescribed InDescribed (after_value (length h.bytes) (nodes t) i) b) inner h.closes in
     let long : length (first ++ (own ++ h.bytes)) ≡ length first + (length own + length h.bytes) =
     length-append first (own ++ h.bytes) ∙ ap (λ k. length first + k) (length-append own h.bytes) in
     let all : Has st.top.left (length first + (length own + length h.bytes)) =
@@ -122,8 +124,10 @@ described_with_parts st d t b bound h =
           spelled = described_spelled st.top.shared first own h.bytes d t (let x = stands.nested in let y = o.nested in
               omega (arith, x, y, bound)) o.begun.first descriptor stands.spelled;
           nested = let x = stands.nested in let y = o.nested in omega (arith, x, y);
+          few = subst (λ q. Has q (nodes t)) (lower_none st.quota) stands.few;
         };
-        moved = left_described (length first) (length own) (length h.bytes) st b closes ∙ ap (λ k. after_value k st) (sym long);
+        moved = left_described (length first) (length own) (length h.bytes) (nodes t) st b closes
+            ∙ ap (λ k. after_value k (nodes t) st) (sym long);
       };
       parts = subst (λ (i : State). Parts (standing st.top.shared (first ++ (own ++ h.bytes))) (described d t)
           (standing i.top.shared h.bytes ∷ [])) (sym inner)
@@ -170,11 +174,11 @@ term_described st d t b next =
     ap (drop (length first)) whole ∙ drop_at first (own ++ (s ++ h.after)) (length first) refl in
     let third : drop (length own) (drop (length first) st.rest) ≡ s ++ h.after =
     ap (drop (length own)) second ∙ drop_at own (s ++ h.after) (length own) refl in
-    let mid = after_data (length own) (after_value (length first) st) in
+    let mid = after_data (length own) (after_value (length first) 0 st) in
     record {
       inner = inside_described (length first) (length own) st;
       opens = record {
-        coded = after_value (length first) st;
+        coded = after_value (length first) 0 st;
         named = mid;
         begun = record {
           going = h.going;
@@ -183,6 +187,7 @@ term_described st d t b next =
           first = f.3;
           room = has_front st.top.left (length first) (length own + length s) room;
           rest = whole ∙ ap (λ y. first ++ y) (sym second);
+          few = has_none st.quota;
           moved = refl;
         };
         nested = let y = h.nested in omega (arith, y);
@@ -207,6 +212,7 @@ term_described st d t b next =
         rest = third;
         spelled = f.6;
         nested = let y = h.nested in omega (arith, y);
+        few = subst (λ q. Has q (nodes t)) (sym (lower_none st.quota)) h.few;
       };
       closes = record {
         going = h.going;
@@ -215,6 +221,6 @@ term_described st d t b next =
         outer = record mid.top { left = option_map (λ l. 0) mid.top.left };
         others = st.saved;
         saved = refl;
-        moved = next.moved ∙ ap (λ k. after_value k st) long ∙ back (length first) (length own) (length s) st;
+        moved = next.moved ∙ ap (λ k. after_value k (nodes t) st) long ∙ back (length first) (length own) (length s) (nodes t) st;
       };
     }

@@ -1,30 +1,31 @@
 -- Whole terms that are taken and kept.
-use Rattle.std.proofs.Common.{◌≡◌, ◌≤◌, ◌<◌, ◌-◌, ◌^◌, ◌⊎◌, ℕ, inl, inr, arith, true, false, None, List, [], ◌++◌, length, take, drop, refl}
+use Rattle.std.proofs.Common.{◌≡◌, ◌≤◌, ◌<◌, ◌-◌, ◌^◌, ◌⊎◌, ℕ, inl, inr, arith, true, false, None, Some, List, [], ◌++◌, length, take, drop, refl}
 use Rattle.std.proofs.Common.{sym, ap, ◌∙◌, subst, append_assoc, append-nil, length-append}
 use Rattle.std.proofs.lemmas.List.{drop_at, take-append-drop}
 use Rattle.std.specs.Int.{bytes_high_first}
 use Rattle.amqp_model.specs.Term.{Term, Descriptor}
 use Rattle.amqp_model.specs.Constructors.{Format, fixed, variable, compound, unknown, format}
 use Rattle.amqp_model.specs.Spelling.{IsKnown, Constructor, enc}
-use Rattle.amqp_model.specs.Measures.{nest}
+use Rattle.amqp_model.specs.Measures.{nest, nodes}
 use Rattle.amqp_model.proofs.Bytes.{rest, field, length-bytes}
 use Rattle.amqp_model.proofs.Same.{constructor_same}
 use Rattle.amqp_wire.specs.declared.error.Error.{Error}
-use Rattle.amqp_wire.specs.declared.error.Error.TheVariants.{Size}
+use Rattle.amqp_wire.specs.declared.error.Error.TheVariants.{Size, Limit}
 use Rattle.amqp_lengths.specs.Fronts.{IsFront, Refuses}
 use Rattle.amqp_lengths.specs.Lengths.{IsTerm}
 use Rattle.amqp_lengths.specs.Announced.{SizeThen, content_size, IsAnnounced}
 use Rattle.amqp_lengths.proofs.Announced.{announced_data, announced_once}
-use Rattle.amqp_decoder.specs.State.{State, Has, after_data}
+use Rattle.amqp_decoder.specs.State.{State, Has, lower, after_data, after_value, uncounted}
 use Rattle.amqp_decoder.specs.Steps.{Answers, IsExcused, Takes, Lacks, Stops}
 use Rattle.amqp_decoder.specs.Reading.{RefusesRead}
-use Rattle.amqp_decoder.specs.Primitives.{standing, SpellsAs}
+use Rattle.amqp_decoder.specs.Primitives.{standing, SpellsAs, Stands}
 use Rattle.amqp_decoder.specs.Arrays.{TakesConstructor, ConstructorFault}
 use Rattle.amqp_decoder.specs.Terms.{Keeps, IsConstructor, LacksAnnounced, NoTerm, wrong_size, wrong_term, SpellingFault, no_constructor}
-use Rattle.amqp_decoder.specs.Terms.{no_data, no_term, TakesTerm, TermFault, missing, in_array, misspelled}
+use Rattle.amqp_decoder.specs.Terms.{no_data, no_term, TakesTerm, TermFault, missing, in_array, misspelled, too_many}
 use Rattle.amqp_decoder.proofs.Constructed.{code_known, constructor_not, one_constructor, took_parts}
+use Rattle.amqp_decoder.proofs.OneReading.{stands_same}
 use Rattle.amqp_decoder.proofs.Opening.{took_both}
-use Rattle.amqp_decoder.proofs.Steps.{answered_took, excused_by_source, not_lacking, stopped_as, stopped_later}
+use Rattle.amqp_decoder.proofs.Steps.{answered, answered_took, excused_by_source, not_lacking, stopped_as, stopped_later}
 
 -- announced data that stands there isn't lacking
 sized_there : (w : ℕ) (size_of : ℕ → ℕ) (m m' : State) (e : Error) (b : List ℕ)
@@ -139,12 +140,30 @@ misspelled_not st e s after t f room is spelled nested = not f
         not_term (st.nesting - length st.saved) (k.own ++ b) m' e bad
         (subst (IsTerm (st.nesting - length st.saved)) same (t, spelled, nested))
 
+-- more values stand there than may begin
+pub counted_not : (st : State) (s : List ℕ) (m : State) (r : List ℕ) (t : Term) (h : TakesTerm (uncounted st) s m) → (Has st.quota (nodes h.term) → ⊥)
+    → Stands st r t → ⊥
+counted_not st s m r t h full k =
+    let free : Stands (uncounted st) r t = record {
+      going = k.going;
+      item = k.item;
+      room = k.room;
+      after = k.after;
+      rest = k.rest;
+      spelled = k.spelled;
+      nested = k.nested;
+      few = tt;
+    } in
+    let same = stands_same (uncounted st) s r h.term t h.stands free in
+    full (subst (λ x. Has st.quota (nodes x)) (sym same.1) k.few)
+
 fault_not_takes : (st : State) (e : Error) (s : List ℕ) (st' : State) → TermFault st e → TakesTerm st s st' → ⊥
 fault_not_takes st e s st' (missing none is) h = let x : 1 ≤ 0 = subst (λ o. Has o 1) none h.stands.item in omega arith
 fault_not_takes st e s st' (in_array item shared is) h = shared h.unshared
 fault_not_takes st e s st' (misspelled item none f) h =
     let k = h.stands in misspelled_not st e s k.after h.term f k.room k.rest
     (subst (λ o. SpellsAs (standing o s) h.term) none k.spelled) k.nested
+fault_not_takes st e s st' (too_many {s = r} {m} g full is) h = counted_not st r m s h.term g full h.stands
 
 -- the parts of a term that were kept
 record Parts (c : ℕ) (st m' : State) (l : List ℕ) : Type 0 where
@@ -213,6 +232,26 @@ no_term_kept c a b l st m m' e new empty h k s =
       why = elim s.why [ inl x ↦ inl (excused_by_source true e new x) | inr x ↦ inr (no_term p.constructor p.took p.announced (moved x)) ];
     }
 
+-- a term was taken, and counts
+pub term_taken : (st m : State) (b : List ℕ) → st.error ≡ None → Has st.top.items 1 → st.top.shared ≡ None → Takes st b m
+    → (h : IsTerm (st.nesting - length st.saved) b) → Has m.quota (nodes h.0)
+    → TakesTerm st b (record m { top = record m.top { items = lower m.top.items 1 }; quota = lower m.quota (nodes h.0) })
+term_taken st m b going item none t h few = record {
+  term = h.0;
+  stands = record {
+    going = going;
+    item = item;
+    room = t.room;
+    after = drop (length b) st.rest;
+    rest = t.rest;
+    spelled = subst (λ o. SpellsAs (standing o b) h.0) (sym none) h.1;
+    nested = h.2;
+    few = subst (λ (z : State). Has z.quota (nodes h.0)) t.moved few;
+  };
+  unshared = none;
+  moved = ap (λ (z : State). record z { top = record z.top { items = lower z.top.items 1 }; quota = lower z.quota (nodes h.0) }) t.moved;
+}
+
 -- what a call that reads terms answers
 abbrev Any : {A : Type 0} → (A → List ℕ) → State → A → State → Type 0
 Any items st v st' = TakesTerm st (items v) st'
@@ -230,3 +269,17 @@ pub term_misspelled : {A : Type 0} (items : A → List ℕ) (st : State) (e : Er
     → st.top.shared ≡ None → Stops true (SpellingFault st) st e new → RefusesRead true (Any items) TermFault st e new
 term_misspelled items st e new going item none s =
     term_refused items st e new going s.kept (elim s.why [ inl x ↦ inl x | inr x ↦ inr (misspelled item none x) ])
+
+-- one value more than may begin
+pub term_full : {A : Type 0} (items : A → List ℕ) (st m : State) (b : List ℕ) (e : Error) (new : State) → st.error ≡ None
+    → Has st.top.items 1 → st.top.shared ≡ None → Takes st b m → (h : IsTerm (st.nesting - length st.saved) b)
+    → (Has m.quota (nodes h.0) → ⊥) → e ≡ Limit → new ≡ record m { error = Some Limit } → RefusesRead true (Any items) TermFault st e new
+unfolding term_taken
+term_full items st m b e new going item none t h full is kept =
+    let free : Takes (uncounted st) b (uncounted m) = record { room = t.room; rest = t.rest; moved = ap uncounted t.moved } in
+    let taken = term_taken (uncounted st) (uncounted m) b going item none free h tt in
+    term_refused items st e new going (answered_took t (answered m new e Limit kept is))
+    (inr (too_many taken (subst (λ (z : State). Has z.quota (nodes h.0) → ⊥) t.moved full) is))
+
+pub nests_at_most : (k n saved : ℕ) → k ≤ n - saved → n ≤ 128 → k ≤ 128
+nests_at_most k n saved h most = omega arith

@@ -2,6 +2,7 @@ pub mod ArrayTerms
 pub mod Closing
 pub mod Constructed
 pub mod ContainerTerms
+pub mod Counts
 pub mod Descriptions
 pub mod Descriptors
 pub mod KeptBytes

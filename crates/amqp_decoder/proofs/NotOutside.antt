@@ -11,7 +11,7 @@ use Rattle.amqp_decoder.specs.declared.frame.Place.TheVariants.{InArray}
 use Rattle.amqp_decoder.specs.State.{State, depth_error, in_container}
 use Rattle.amqp_decoder.specs.Steps.{Fails, IsOutside, IsReadError, Lacks, cut_open, past_limit, cut_inside, too_long, SizeError, cut, wrong, past}
 use Rattle.amqp_decoder.specs.Misspelled.{IsMisspelling}
-use Rattle.amqp_decoder.specs.Reading.{BeginFault, missing, no_code}
+use Rattle.amqp_decoder.specs.Reading.{BeginFault, missing, no_code, one_too_many}
 use Rattle.amqp_decoder.specs.Primitives.{LacksData, PrimitiveFault, not_begun, wrong_code, no_data, bad_data}
 use Rattle.amqp_decoder.specs.Containers.{EndFault, other_place, nothing_open, items_left, CloseFault, not_at_end, bytes_left_over}
 use Rattle.amqp_decoder.specs.Containers.{HeaderFault, no_size, impossible, no_count, no_content, EnterFault, no_header, odd_count, no_room}
@@ -87,6 +87,7 @@ size_not_outside out own st (past b f is) = subst IsOutside is out
 pub begin_not_outside : {e : Error} → IsOutside e → (st : State) → BeginFault st e → ⊥
 begin_not_outside out st (missing h is) = subst IsOutside is out
 begin_not_outside out st (no_code item h l) = lacks_not_outside out 1 st l
+begin_not_outside out st (one_too_many g full is) = subst IsOutside is out
 
 data_not_outside : (e : Error) → IsOutside e → (F : Format) (st : State) → LacksData F st e → ⊥
 data_not_outside e out (fixed w v) st l = lacks_not_outside out w st l
@@ -193,6 +194,7 @@ pub term_not_outside : {e : Error} → IsOutside e → (st : State) → TermFaul
 term_not_outside out st (terms.missing h is) = subst IsOutside is out
 term_not_outside out st (in_array item shared is) = subst IsOutside is out
 term_not_outside out st (misspelled item none f) = spelling_not_outside out st f
+term_not_outside out st (terms.too_many g full is) = subst IsOutside is out
 
 -- a call keeps the error that the bytes of a term have
 pub fails_by_length : (takes : Bool) (a b : State) (e d deep : Error) (n nesting : ℕ) (s : List ℕ) → deep ≡ depth_error n → e ≡ d → b ≡ record a { error = Some d }

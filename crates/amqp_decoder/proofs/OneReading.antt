@@ -2,6 +2,7 @@
 use Rattle.std.proofs.Common.{◌≡◌, ◌≤◌, ℕ, Option, Some, None, List, [], ◌∷◌, ◌++◌, length, drop, get_or, refl, sym, ap, ap₂, ◌∙◌, subst}
 use Rattle.std.proofs.Common.{arith}
 use Rattle.amqp_model.specs.Term.{Term, Descriptor}
+use Rattle.amqp_model.specs.Measures.{nodes}
 use Rattle.amqp_model.specs.Standing.{Standing}
 use Rattle.amqp_model.proofs.Unique.{fronts, data_same}
 use Rattle.amqp_decoder.specs.declared.frame.Place.{Place}
@@ -20,8 +21,10 @@ stands_same st s s' t t' k k' = spelled_same st.top.shared s s' k.after k'.after
 
 pub next_same : (st a b : State) (t t' : Term) → Next st t a → Next st t' b → (t ≡ t') × (a ≡ b)
 next_same st a b t t' h h' =
-    let e = stands_same st h.bytes h'.bytes t t' h.stands h'.stands in
-    (e.1, h.moved ∙ ap (λ s. after_value (length s) st) e.0 ∙ sym h'.moved)
+    let e = stands_same st h.bytes h'.bytes t t' h.stands h'.stands in (
+      e.1,
+      h.moved ∙ ap (λ s. after_value (length s) (nodes t) st) e.0 ∙ ap (λ x. after_value (length h'.bytes) (nodes x) st) e.1 ∙ sym h'.moved,
+    )
 
 -- the values that are read at one state are meant by one term, and leave one state
 pub value_same : {A : Type 0} (means : Standing → Term → A → Type 0) (st a b : State) (v w : A) → ReadsValue means st v a
@@ -33,7 +36,8 @@ value_same means st a b v w h h' =
       h.meant,
       subst (λ s. means (standing st.top.shared s) h.term w) (sym e.0)
           (subst (λ t. means (standing st.top.shared h'.bytes) t w) (sym e.1) h'.meant),
-      h.moved ∙ ap (λ s. after_value (length s) st) e.0 ∙ sym h'.moved,
+      h.moved ∙ ap (λ s. after_value (length s) (nodes h.term) st) e.0 ∙ ap (λ x. after_value (length h'.bytes) (nodes x) st) e.1
+          ∙ sym h'.moved,
     )
 
 -- what was taken in a row is the front of a longer row
@@ -43,8 +47,9 @@ row_front [] us st m z b c (e, f) row h = (us, c, refl, subst (λ x. Row x us c 
 row_front (t ∷ ts) [] st m z b c r row h = absurd (omega arith)
 row_front (t ∷ ts) (u ∷ us) st m z b c (s, o, e, k, r) (s', o', e', k', r') h =
     let same = stands_same st s s' t u k k' in
-    let i = row_front ts us (after_value (length s) st) m z o o' r
-    (subst (λ x. Row (after_value (length x) st) us o' z) (sym same.0) r') (omega arith) in
+    let i = row_front ts us (after_value (length s) (nodes t) st) m z o o' r
+    (subst (λ x. Row (after_value (length s) (nodes x) st) us o' z) (sym same.1)
+    (subst (λ x. Row (after_value (length x) (nodes u) st) us o' z) (sym same.0) r')) (omega arith) in
     (i.0, i.1, ap₂ (λ (x : Term) (xs : List Term). x ∷ xs) (sym same.1) i.2, i.3)
 
 pub closes_same : (p : Place) (st a b : State) → Closes p st a → Closes p st b → a ≡ b

@@ -1,26 +1,29 @@
 -- What a look at the next value's first code finds.
 use Rattle.std.proofs.Common.{◌≡◌, ◌≤◌, ◌<◌, ℕ, zero, suc, ◌-◌, inl, inr, false, Option, Some, None, is_some, MatchOption, List, [], ◌∷◌}
-use Rattle.std.proofs.Common.{length, take, drop, get_or, slice_get, length-append, ◌↔◌, min, max, refl, sym, ap, ◌∙◌, subst, arith}
+use Rattle.std.proofs.Common.{Result, Ok, Err, IfOk, IfErr, length, take, drop, get_or, slice_get, length-append, ◌↔◌, min, max, refl, sym, ap, ◌∙◌, subst, arith}
 use Rattle.std.proofs.lemmas.List.{length-take}
 use Rattle.std.proofs.lemmas.Option.{get_or_from_slice_get}
 use Rattle.amqp_model.specs.Term.{Descriptor, Term}
+use Rattle.amqp_model.specs.Measures.{nodes}
 use Rattle.amqp_model.specs.Spelling.{Constructor, enc}
 use Rattle.amqp_model.specs.Standing.{Standing}
 use Rattle.amqp_wire.specs.declared.error.Error.{Error}
-use Rattle.amqp_wire.specs.declared.error.Error.TheVariants.{Cut}
-use Rattle.amqp_decoder.specs.State.{State, Has, after_look, after_bytes, after_data, after_value}
+use Rattle.amqp_wire.specs.declared.error.Error.TheVariants.{Cut, Limit}
+use Rattle.amqp_decoder.specs.State.{State, Has, after_look, after_bytes, after_data, after_value, counted, uncounted}
 use Rattle.amqp_decoder.specs.Steps.{Answers, Takes, RefusesSize}
-use Rattle.amqp_decoder.specs.Reading.{RefusesRead, IsFirst, IsFirstShared, ReadsCode, BeginFault, PeeksCode, after_peek}
+use Rattle.amqp_decoder.specs.Reading.{RefusesRead, AnswersRead, IsFirst, IsFirstShared, ReadsCode, BeginFault, PeeksCode, after_peek}
 use Rattle.amqp_decoder.specs.Primitives.{standing, SpellsAs, Stands, ReadsValue}
-use Rattle.amqp_decoder.proofs.Steps.{begun_own, begun_shared, begin_short, short_by_one, missed_lacks, has_item}
+use Rattle.amqp_decoder.proofs.Steps.{answered, answered_later, begun_own, begun_shared, begin_full, full_shared, begin_short, short_by_one, missed_lacks, has_item}
 
 under_shared : (o : Option (List Descriptor × ℕ)) (c : ℕ) (st : State) → IsFirstShared o c → st ≡ after_peek o st
 under_shared None c st h = absurd h
 under_shared (Some s) c st h = refl
 
 -- a constructor is shared
-pub peeked_shared : (st : State) (c : ℕ) → st.error ≡ None → Has st.top.items 1 → IsFirstShared st.top.shared c → PeeksCode st c st
-peeked_shared st c going item h = record { after = _; begun = begun_shared st c going item h; kept = under_shared st.top.shared c st h }
+pub peeked_shared : (st : State) (c : ℕ) → st.error ≡ None → Has st.top.items 1 → IsFirstShared st.top.shared c → Has st.quota (counted c)
+    → PeeksCode st c st
+peeked_shared st c going item h few =
+    record { after = _; begun = begun_shared st c going item h few; kept = under_shared st.top.shared c st h }
 
 -- the first of the bytes that are looked at
 first_is : (n c : ℕ) (row r : List ℕ) → row ≡ take n r → Some c ≡ slice_get row 0 → r ≡ c ∷ drop 1 r
@@ -31,14 +34,14 @@ first_is (suc n) c row (x ∷ r) is at = ap (λ b. b ∷ r) (sym (ap (λ l. get_
 -- a byte stands there, and is looked at
 pub peeked_own : (st : State) (c : ℕ) (new : State) (row : List ℕ) → st.error ≡ None → Has st.top.items 1 → st.top.shared ≡ None
     → Has st.top.left 1 → new ≡ after_look (min 1 (length st.rest)) st → row ≡ take new.ahead new.rest
-    → Some c ≡ slice_get row 0 → PeeksCode st c new
-peeked_own st c new row going item none room is front at =
+    → Some c ≡ slice_get row 0 → Has st.quota (counted c) → PeeksCode st c new
+peeked_own st c new row going item none room is front at few =
     let byte : st.rest ≡ c ∷ drop 1 st.rest = first_is _ c row st.rest (front ∙ ap (λ (x : State). take x.ahead x.rest) is) at in
     let one : min 1 (length st.rest) ≡ 1 = omega (arith, ap length byte) in
     let took : Takes st (c ∷ []) (after_data 1 st) = record { room = room; rest = byte; moved = refl } in
     record {
       after = _;
-      begun = begun_own st c (after_data 1 st) going item none took;
+      begun = begun_own st c (after_data 1 st) going item none took few;
       kept = is ∙ ap (λ n. after_look n st) one ∙ ap (λ o. after_peek o st) (sym none);
     }
 
@@ -50,6 +53,39 @@ peek_refused st e new r = record {
   named = r.named;
   none = elim r.none [ inl x ↦ inl x | inr f ↦ inr (λ c b h. f c h.after h.begun) ];
 }
+
+-- the code that stands there, if a value may begin by it
+abbrev pub IsCounted : State → ℕ → Result ℕ Error → State → Type 0
+IsCounted seen c (Ok k) new = (k ≡ c) × Has seen.quota (counted c) × (new ≡ seen)
+IsCounted seen c (Err e) new = (Has seen.quota (counted c) → ⊥) × (e ≡ Limit) × (new ≡ record seen { error = Some Limit })
+
+pub is_counted : (seen : State) (c : ℕ) (r : Result ℕ Error) (new : State)
+    → IfOk r (λ k. (k ≡ c) × Has seen.quota (counted c) × (new ≡ seen))
+    → IfErr r (λ e. (Has seen.quota (counted c) → ⊥) × (e ≡ Limit) × (new ≡ record seen { error = Some Limit })) → IsCounted seen c r new
+is_counted seen c (Ok k) new ok err = ok
+is_counted seen c (Err e) new ok err = err
+
+peeked_so : (st : State) (c k : ℕ) (seen new : State) → k ≡ c → new ≡ seen → PeeksCode st c seen → PeeksCode st k new
+peeked_so st c k seen new same is p = subst (λ n. PeeksCode st n new) (sym same) (subst (PeeksCode st c) (sym is) p)
+
+pub peeked_shared_if : (st : State) (c : ℕ) (r : Result ℕ Error) (new : State) → st.error ≡ None → Has st.top.items 1
+    → IsFirstShared st.top.shared c → IsCounted st c r new → AnswersRead false PeeksCode BeginFault st r new
+peeked_shared_if st c (Ok k) new going item h (same, few, is) = peeked_so st c k st new same is (peeked_shared st c going item h few)
+peeked_shared_if st c (Err e) new going item h (full, is, kept) = peek_refused st e new (full_shared st c e new going item h full is kept)
+
+pub peeked_own_if : (st : State) (c : ℕ) (seen : State) (row : List ℕ) (r : Result ℕ Error) (new : State) → st.error ≡ None
+    → Has st.top.items 1 → st.top.shared ≡ None → Has st.top.left 1 → seen ≡ after_look (min 1 (length st.rest)) st
+    → row ≡ take seen.ahead seen.rest → Some c ≡ slice_get row 0 → IsCounted seen c r new
+    → AnswersRead false PeeksCode BeginFault st r new
+peeked_own_if st c seen row (Ok k) new going item none room looked front at (same, few, is) =
+    let may : Has st.quota (counted c) = subst (λ (x : State). Has x.quota (counted c)) looked few in
+    peeked_so st c k seen new same is (peeked_own st c seen row going item none room looked front at may)
+peeked_own_if st c seen row (Err e) new going item none room looked front at (full, is, kept) =
+    let byte : st.rest ≡ c ∷ drop 1 st.rest = first_is _ c row st.rest (front ∙ ap (λ (x : State). take x.ahead x.rest) looked) at in
+    let took : Takes (uncounted st) (c ∷ []) (after_data 1 (uncounted st)) = record { room = room; rest = byte; moved = refl } in
+    let begun = begun_own (uncounted st) c (after_data 1 (uncounted st)) going item none took tt in
+    peek_refused st e new (begin_full st c _ e new begun (subst (λ (x : State). Has x.quota (counted c) → ⊥) looked full) is
+    (answered_later (ap (λ (x : State). x.failed) looked) (answered seen new e Limit kept is)))
 
 -- no byte is left
 pub peek_size : (st : State) (e : Error) (new : State) → st.error ≡ None → Has st.top.items 1 → st.top.shared ≡ None → st.top.left ≡ Some 0
@@ -88,8 +124,8 @@ after_bytes-after_look n k st h = ap (λ a. record st { rest = drop k st.rest; a
 pub after_data-after_look : (n k : ℕ) (st : State) → n ≤ k → after_data k (after_look n st) ≡ after_data k st
 after_data-after_look n k st h = ap (λ a. record (after_data k st) { ahead = a }) (max-minus st.ahead n k h)
 
-pub after_value-after_look : (n k : ℕ) (st : State) → n ≤ k → after_value k (after_look n st) ≡ after_value k st
-after_value-after_look n k st h = ap (λ a. record (after_value k st) { ahead = a }) (max-minus st.ahead n k h)
+pub after_value-after_look : (n k m : ℕ) (st : State) → n ≤ k → after_value k m (after_look n st) ≡ after_value k m st
+after_value-after_look n k m st h = ap (λ a. record (after_value k m st) { ahead = a }) (max-minus st.ahead n k h)
 
 pub took-looked : (n : ℕ) (st after : State) (s : List ℕ) → n ≤ length s → Takes (after_look n st) s after ↔ Takes st s after
 took-looked n st after s h = (
@@ -99,8 +135,26 @@ took-looked n st after s h = (
 
 pub stands-looked : (n : ℕ) (st : State) (s : List ℕ) (t : Term) → Stands (after_look n st) s t ↔ Stands st s t
 stands-looked n st s t = (
-  λ k. record { going = k.going; item = k.item; room = k.room; after = k.after; rest = k.rest; spelled = k.spelled; nested = k.nested },
-  λ k. record { going = k.going; item = k.item; room = k.room; after = k.after; rest = k.rest; spelled = k.spelled; nested = k.nested },
+  λ k. record {
+    going = k.going;
+    item = k.item;
+    room = k.room;
+    after = k.after;
+    rest = k.rest;
+    spelled = k.spelled;
+    nested = k.nested;
+    few = k.few;
+  },
+  λ k. record {
+    going = k.going;
+    item = k.item;
+    room = k.room;
+    after = k.after;
+    rest = k.rest;
+    spelled = k.spelled;
+    nested = k.nested;
+    few = k.few;
+  },
 )
 
 pub constructor_some : (ds : List Descriptor) (c : ℕ) (b : List ℕ) → Constructor ds c b → 1 ≤ length b
@@ -128,7 +182,8 @@ begun_after st after d None e = (
     first = g.first;
     room = g.room;
     rest = g.rest;
-    moved = g.moved ∙ after_value-after_look 1 (length g.own) st (first_some st.top.shared d g.own e g.first);
+    few = g.few;
+    moved = g.moved ∙ after_value-after_look 1 (length g.own) (counted d) st (first_some st.top.shared d g.own e g.first);
   },
   λ g. record {
     going = g.going;
@@ -137,7 +192,8 @@ begun_after st after d None e = (
     first = g.first;
     room = g.room;
     rest = g.rest;
-    moved = g.moved ∙ sym (after_value-after_look 1 (length g.own) st (first_some st.top.shared d g.own e g.first));
+    few = g.few;
+    moved = g.moved ∙ sym (after_value-after_look 1 (length g.own) (counted d) st (first_some st.top.shared d g.own e g.first));
   },
 )
 begun_after st after d (Some s) e = (λ g. g, λ g. g)
@@ -154,14 +210,14 @@ value_after means st after v None e = (
         bytes = x.bytes;
         term = x.term;
         stands = k;
-        moved = x.moved ∙ after_value-after_look 1 (length x.bytes) st (stands_some st x.bytes x.term e k);
+        moved = x.moved ∙ after_value-after_look 1 (length x.bytes) (nodes x.term) st (stands_some st x.bytes x.term e k);
         meant = x.meant;
       },
   λ x. record {
     bytes = x.bytes;
     term = x.term;
     stands = (stands-looked 1 st x.bytes x.term).1 x.stands;
-    moved = x.moved ∙ sym (after_value-after_look 1 (length x.bytes) st (stands_some st x.bytes x.term e x.stands));
+    moved = x.moved ∙ sym (after_value-after_look 1 (length x.bytes) (nodes x.term) st (stands_some st x.bytes x.term e x.stands));
     meant = x.meant;
   },
 )

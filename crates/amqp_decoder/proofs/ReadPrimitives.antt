@@ -7,19 +7,21 @@ use Rattle.std.specs.Int.{bytes_high_first}
 use Rattle.std.specs.Char.{IsScalar}
 use Rattle.amqp_model.specs.Term.{Primitive, char, Descriptor, leaf}
 use Rattle.amqp_model.specs.Constructors.{Format, fixed, variable, compound, unknown, format, boolean_byte}
+use Rattle.amqp_model.specs.Measures.{nodes}
 use Rattle.amqp_model.specs.Spelling.{PrimitiveData, IsValid, Constructor, data_of, enc}
 use Rattle.amqp_model.proofs.Bytes.{front, field, length-bytes}
 use Rattle.amqp_model.proofs.Forms.{primitive_known}
 use Rattle.amqp_wire.specs.declared.error.Error.{Error}
 use Rattle.amqp_wire.specs.Codes.{refusal_of}
-use Rattle.amqp_decoder.specs.State.{State, Has, lower, after_data, after_value}
+use Rattle.amqp_decoder.specs.State.{State, Has, lower, after_data, after_value, counted}
 use Rattle.amqp_decoder.specs.Steps.{Answers, SourceFailed, IsExcused, Takes, Lacks, FallsShort}
-use Rattle.amqp_decoder.specs.Reading.{RefusesRead, AnswersRead, IsFirst, ReadsCode, BeginFault, missing, no_code}
+use Rattle.amqp_decoder.specs.Reading.{RefusesRead, AnswersRead, IsFirst, ReadsCode, BeginFault, missing, no_code, one_too_many}
 use Rattle.amqp_lookahead.specs.Kinds.{kind_of, kind_at, kind_under, codes_of}
 use Rattle.amqp_decoder.specs.Primitives.{standing, SpellsAs, ReadsValue, Means, ReadsPrimitive, LacksData, IsWhole, bad, PrimitiveFault}
 use Rattle.amqp_decoder.specs.Primitives.{not_begun, wrong_code, no_data, bad_data, FixedFault, unbegun, other_code, too_few, ReadsFixed}
 use Rattle.amqp_decoder.specs.Primitives.{AnswersFault, LacksDataOf}
-use Rattle.amqp_decoder.proofs.Steps.{answered_begun, answered_took, has_none, lower_none, not_lacking, not_begun_done, not_begun_lacking}
+use Rattle.amqp_decoder.proofs.Counts.{code_counts}
+use Rattle.amqp_decoder.proofs.Steps.{answered_begun, answered_took, has_none, lower_none, not_lacking, not_begun_done, not_begun_lacking, not_begun_counted, first_own}
 use Rattle.amqp_lookahead.proofs.KindsOfCodes.{kind_data, kind_is, one_code}
 
 pub has_add : (o : Option ℕ) (m n : ℕ) → Has o m → Has (lower o m) n → Has o (m + n)
@@ -41,8 +43,8 @@ lower-lower (Some l) m n = ap Some (omega arith)
 pub minus-minus : (a m n : ℕ) → a - m - n ≡ a - (m + n)
 minus-minus a m n = omega arith
 
-pub after_data-after_value : (m n : ℕ) (st : State) → after_data n (after_value m st) ≡ after_value (m + n) st
-after_data-after_value m n st = rw (minus-minus st.ahead m n, drop-drop n m st.rest, lower-lower st.top.left m n) refl
+pub after_data-after_value : (m k n : ℕ) (st : State) → after_data n (after_value m k st) ≡ after_value (m + n) k st
+after_data-after_value m k n st = rw (minus-minus st.ahead m n, drop-drop n m st.rest, lower-lower st.top.left m n) refl
 
 -- the bytes of data follow those of the code
 pub after_code : (own b r : List ℕ) → r ≡ own ++ drop (length own) r → drop (length own) r ≡ b ++ drop (length b) (drop (length own) r)
@@ -64,6 +66,7 @@ leaf_value make st v st' l =
     let g = l.begun in
     let t = subst (λ m. Takes m l.data_ st') g.moved l.took in
     let own = g.own in
+    let one : counted l.code ≡ 1 = code_counts l.code (primitive_known (format l.code) (make v) l.data_ l.spelled) in
     record {
       bytes = own ++ l.data_;
       term = leaf (make v);
@@ -75,9 +78,11 @@ leaf_value make st v st' l =
         rest = after_code own l.data_ st.rest g.rest t.rest;
         spelled = leaf_spelled st.top.shared l.code own l.data_ (make v) g.first l.spelled;
         nested = omega arith;
+        few = subst (Has st.quota) one g.few;
       };
-      moved = t.moved ∙ after_data-after_value (length own) (length l.data_) st
-          ∙ ap (λ n. after_value n st) (sym (length-append own l.data_));
+      moved = t.moved ∙ after_data-after_value (length own) (counted l.code) (length l.data_) st
+          ∙ ap (λ n. after_value n (counted l.code) st) (sym (length-append own l.data_))
+          ∙ ap (λ k. after_value (length (own ++ l.data_)) k st) one;
       meant = refl;
     }
 
@@ -111,11 +116,14 @@ value_leaf make st v st' h =
     let r : st.rest ≡ x.own ++ (x.data_ ++ k.after) = k.rest ∙ ap (λ l. l ++ k.after) x.whole ∙ append_assoc x.own x.data_ k.after in
     let behind : drop (length x.own) st.rest ≡ x.data_ ++ k.after =
     ap (drop (length x.own)) r ∙ drop_at x.own (x.data_ ++ k.after) (length x.own) refl in
+    let one : counted x.code ≡ 1 = code_counts x.code (primitive_known (format x.code) (make v) x.data_ x.spelled) in
+    let nodes_ : nodes h.term ≡ 1 = ap nodes h.meant in
+    let same : nodes h.term ≡ counted x.code = nodes_ ∙ sym one in
     let behind_data : drop (length x.data_) (drop (length x.own) st.rest) ≡ k.after =
     ap (drop (length x.data_)) behind ∙ drop_at x.data_ k.after (length x.data_) refl in
     record {
       code = x.code;
-      mid = after_value (length x.own) st;
+      mid = after_value (length x.own) (counted x.code) st;
       data_ = x.data_;
       begun = record {
         going = k.going;
@@ -124,34 +132,32 @@ value_leaf make st v st' h =
         first = x.first;
         room = has_front st.top.left (length x.own) (length x.data_) room;
         rest = r ∙ ap (λ l. x.own ++ l) (sym behind);
+        few = subst (Has st.quota) same k.few;
         moved = refl;
       };
       spelled = x.spelled;
       took = record {
         room = has_rest st.top.left (length x.own) (length x.data_) room;
         rest = behind ∙ ap (λ l. x.data_ ++ l) (sym behind_data);
-        moved = h.moved ∙ ap (λ z. after_value z st) n ∙ sym (after_data-after_value (length x.own) (length x.data_) st);
+        moved = h.moved ∙ ap (λ z. after_value z (nodes h.term) st) n
+            ∙ ap (λ z. after_value (length x.own + length x.data_) z st) same
+            ∙ sym (after_data-after_value (length x.own) (counted x.code) (length x.data_) st);
       };
     }
 
 -- one value begins by one code
-first_own : (o : Option (List Descriptor × ℕ)) (c c' : ℕ) (own own' x y : List ℕ) → IsFirst o c own → IsFirst o c' own'
-    → own ++ x ≡ own' ++ y → (c ≡ c') × (own ≡ own')
-first_own None c c' own own' x y f f' e =
-    let z : c ≡ c' = ap (λ l. get_or l 0 0) (ap (λ l. l ++ x) (sym f) ∙ e ∙ ap (λ l. l ++ y) f') in
-    (z, f ∙ ap (λ n. n ∷ []) z ∙ sym f')
-first_own (Some ([], k)) c c' own own' x y (a, f) (b, f') e = (f ∙ sym f', a ∙ sym b)
-first_own (Some (d ∷ ds, k)) c c' own own' x y (a, f) (b, f') e = (f ∙ sym f', a ∙ sym b)
-
 pub begun_same : (st : State) (c c' : ℕ) (m m' : State) → ReadsCode st c m → ReadsCode st c' m' → (c ≡ c') × (m ≡ m')
 begun_same st c c' m m' h k =
     let s = first_own st.top.shared c c' h.own k.own (drop (length h.own) st.rest) (drop (length k.own) st.rest) h.first k.first
-    (sym h.rest ∙ k.rest) in
-    (s.0, h.moved ∙ ap (λ l. after_value (length l) st) s.1 ∙ sym k.moved)
+    (sym h.rest ∙ k.rest) in (
+      s.0,
+      h.moved ∙ ap (λ l. after_value (length l) (counted c) st) s.1 ∙ ap (λ n. after_value (length k.own) (counted n) st) s.0 ∙ sym k.moved,
+    )
 
 pub fault_not_begun : (st : State) (e : Error) (c : ℕ) (m : State) → BeginFault st e → ReadsCode st c m → ⊥
 fault_not_begun st e c m (missing h is) k = not_begun_done st c m h k
 fault_not_begun st e c m (no_code item none l) k = not_begun_lacking st e c m none l k
+fault_not_begun st e c m (one_too_many {c = d} {m = n} g full is) k = not_begun_counted st d c n m g full k
 
 -- data that stands there isn't lacking
 sized_not_lacking : (w : ℕ) (m m' m1 : State) (e : Error) (b s : List ℕ) (n : ℕ) → n < 256 ^ w → length s < 256 ^ w

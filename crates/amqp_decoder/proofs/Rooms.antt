@@ -1,6 +1,7 @@
 -- Where containers have room, and what keeps it.
 use Rattle.std.proofs.Common.{◌≡◌, ◌≤◌, ◌<◌, ℕ, inl, inr, Option, Some, None, List, [], ◌∷◌, length, refl, sym, ap, ◌∙◌, subst, arith}
 use Rattle.amqp_model.specs.Term.{Container, array, Term, Terms, container, Descriptor}
+use Rattle.amqp_model.specs.Measures.{nodes}
 use Rattle.amqp_decoder.specs.declared.frame.Place.{Place}
 use Rattle.amqp_decoder.specs.declared.frame.Place.TheVariants.{InArray}
 use Rattle.amqp_decoder.specs.State.{State, Has, lower, after_look, after_value, in_container}
@@ -47,18 +48,18 @@ none_past : (o : Option ℕ) → o ≡ Some 0 → lower o 1 ≡ Some 0
 none_past o e = ap (λ x. lower x 1) e ∙ ap Some (omega arith)
 
 -- terms are taken
-pub room_past : (n : ℕ) (st : State) → HasRoom st → HasRoom (after_value n st)
-room_past n st (inl few) = inl few
-room_past n st (inr (inl none)) = inr (inl (none_past st.top.items none))
-room_past n st (inr (inr flat)) = inr (inr flat)
+pub room_past : (n k : ℕ) (st : State) → HasRoom st → HasRoom (after_value n k st)
+room_past n k st (inl few) = inl few
+room_past n k st (inr (inl none)) = inr (inl (none_past st.top.items none))
+room_past n k st (inr (inr flat)) = inr (inr flat)
 
 pub room_next : (st : State) (t : Term) (st' : State) → Next st t st' → HasRoom st → HasRoom st'
-room_next st t st' h room = subst HasRoom (sym h.moved) (room_past (length h.bytes) st room)
+room_next st t st' h room = subst HasRoom (sym h.moved) (room_past (length h.bytes) (nodes t) st room)
 
 pub room_row : (ts : List Term) (st : State) (b : List ℕ) (st' : State) → Row st ts b st' → HasRoom st → HasRoom st'
 room_row [] st b st' (e, is) room = subst HasRoom (sym is) room
 room_row (t ∷ ts) st b st' (first, others, e, k, row) room =
-    room_row ts (after_value (length first) st) others st' row (room_past (length first) st room)
+    room_row ts (after_value (length first) (nodes t) st) others st' row (room_past (length first) (nodes t) st room)
 
 -- a container or a described value is opened
 one_more : (place : Place) (n content : ℕ) (st : State) → length st.saved < st.nesting → HasRoom (in_container place n content st)

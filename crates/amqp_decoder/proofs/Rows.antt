@@ -307,13 +307,14 @@ put_behind ds es l limit d fs m n c last nested within rows is put some end_ =
       stack_kept l ds limit n d fs n front (omega arith) (added_front ds es l n few put),
     )
 
-abbrev state_of : List ℕ → ℕ → ℕ → ℕ → Option Error → Bool → Open → List Open → State
-state_of r a s n e f t ts = record { rest = r; ahead = a; source = s; top = t; saved = ts; nesting = n; error = e; failed = f }
+abbrev state_of : List ℕ → ℕ → ℕ → ℕ → Option ℕ → Option Error → Bool → Open → List Open → State
+state_of r a s n q e f t ts =
+    record { rest = r; ahead = a; source = s; top = t; saved = ts; nesting = n; quota = q; error = e; failed = f }
 
 -- two states that differ in their containers alone
-pub same_view : (r : List ℕ) (a s n : ℕ) (e : Option Error) (f : Bool) (t u : Open) (ts us : List Open) → t ≡ u → ts ≡ us
-    → state_of r a s n e f t ts ≡ state_of r a s n e f u us
-same_view r a s n e f t u ts us h k = ap₂ (state_of r a s n e f) h k
+pub same_view : (r : List ℕ) (a s n : ℕ) (q : Option ℕ) (e : Option Error) (f : Bool) (t u : Open) (ts us : List Open) → t ≡ u → ts ≡ us
+    → state_of r a s n q e f t ts ≡ state_of r a s n q e f u us
+same_view r a s n q e f t u ts us h k = ap₂ (state_of r a s n q e f) h k
 
 pub and_none : (o : Option ℕ) → option_and {U = ℕ} o (Some 0) ≡ option_map (λ l. 0) o
 and_none None = refl

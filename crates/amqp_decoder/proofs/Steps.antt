@@ -1,14 +1,14 @@
 -- How the steps of a call follow one another.
 use Rattle.std.proofs.Common.{◌≡◌, ◌≤◌, ◌<◌, ℕ, ◌-◌, inl, inr, Bool, true, false, cond, Option, Some, None, List, [], ◌∷◌, ◌++◌, length, drop, get_or}
-use Rattle.std.proofs.Common.{unwrap_or, refl, sym, ap, ◌∙◌, subst, arith, suc, zero}
+use Rattle.std.proofs.Common.{Result, Ok, Err, unwrap_or, refl, sym, ap, ◌∙◌, subst, arith, suc, zero}
 use Rattle.std.proofs.lemmas.List.{length-append}
 use Rattle.amqp_model.specs.Term.{Descriptor}
 use Rattle.amqp_wire.specs.declared.error.Error.{Error}
 use Rattle.amqp_wire.specs.declared.error.Error.TheVariants.{Cut, Limit}
-use Rattle.amqp_decoder.specs.State.{Open, State, Has, lower, bound_of, after_value, announced}
+use Rattle.amqp_decoder.specs.State.{Open, State, Has, lower, bound_of, after_value, announced, counted, uncounted}
 use Rattle.amqp_decoder.specs.Steps.{Answers, RefusesBy, SourceFailed, IsExcused, Pulls, Misses, Takes, Lacks, cut_open, past_limit, cut_inside, too_long}
-use Rattle.amqp_decoder.specs.Steps.{FallsShort, NoRoom, Stops, asked_in, SizeError, cut, wrong, past, RefusesSize}
-use Rattle.amqp_decoder.specs.Reading.{RefusesRead, IsFirst, IsFirstShared, ReadsCode, BeginFault, no_code}
+use Rattle.amqp_decoder.specs.Steps.{Began, Fails, Goes, GoesOn, Refused, Tries, FallsShort, NoRoom, Stops, asked_in, SizeError, cut, wrong, past, RefusesSize}
+use Rattle.amqp_decoder.specs.Reading.{RefusesRead, IsFirst, IsFirstShared, ReadsCode, BeginFault, no_code, one_too_many}
 
 -- a call that takes no memory is excused by its source alone
 pub source_failed : (e : Error) (st : State) → IsExcused false e st → SourceFailed e st
@@ -140,16 +140,20 @@ not_lacking n st e s x (too_long {l} h less there is) few room r =
     let fits : length s ≤ l = subst (λ o. Has o (length s)) (bound_left st.top l h) room in omega arith
 
 -- a value begins, by its first byte or by a shared constructor
+abbrev pub began : ℕ → State → State
+began c m = record m { top = record m.top { items = lower m.top.items 1 }; quota = lower m.quota (counted c) }
+
 pub begun_own : (st : State) (c : ℕ) (m : State) → st.error ≡ None → Has st.top.items 1 → st.top.shared ≡ None → Takes st (c ∷ []) m
-    → ReadsCode st c (record m { top = record m.top { items = lower m.top.items 1 } })
-begun_own st c m going item none t = record {
+    → Has m.quota (counted c) → ReadsCode st c (began c m)
+begun_own st c m going item none t few = record {
   going = going;
   item = item;
   own = c ∷ [];
   first = subst (λ o. IsFirst o c (c ∷ [])) (sym none) refl;
   room = t.room;
   rest = t.rest;
-  moved = ap (λ (x : State). record x { top = record x.top { items = lower x.top.items 1 } }) t.moved;
+  few = subst (λ (x : State). Has x.quota (counted c)) t.moved few;
+  moved = ap (began c) t.moved;
 }
 
 first_shared : (o : Option (List Descriptor × ℕ)) (c : ℕ) → IsFirstShared o c → IsFirst o c []
@@ -165,23 +169,24 @@ pub lower_none : (o : Option ℕ) → lower o 0 ≡ o
 lower_none None = refl
 lower_none (Some l) = ap Some (omega arith)
 
-past_none : (st : State) → record st { top = record st.top { items = lower st.top.items 1 } } ≡ after_value 0 st
-past_none st =
+past_none : (c : ℕ) (st : State) → began c st ≡ after_value 0 (counted c) st
+past_none c st =
     let a : st.ahead ≡ st.ahead - 0 = omega arith in
-    ap (λ x. record st { ahead = x; top = record st.top { items = lower st.top.items 1 } }) a
-    ∙ ap (λ x. record st { ahead = st.ahead - 0; top = record st.top { items = lower st.top.items 1; left = x } })
+    ap (λ x. record (began c st) { ahead = x }) a
+    ∙ ap (λ x. record (began c st) { ahead = st.ahead - 0; top = record st.top { items = lower st.top.items 1; left = x } })
     (sym (lower_none st.top.left))
 
-pub begun_shared : (st : State) (c : ℕ) → st.error ≡ None → Has st.top.items 1 → IsFirstShared st.top.shared c
-    → ReadsCode st c (record st { top = record st.top { items = lower st.top.items 1 } })
-begun_shared st c going item h = record {
+pub begun_shared : (st : State) (c : ℕ) → st.error ≡ None → Has st.top.items 1 → IsFirstShared st.top.shared c → Has st.quota (counted c)
+    → ReadsCode st c (began c st)
+begun_shared st c going item h few = record {
   going = going;
   item = item;
   own = [];
   first = first_shared st.top.shared c h;
   room = has_none st.top.left;
   rest = refl;
-  moved = past_none st;
+  few = few;
+  moved = past_none c st;
 }
 
 pub has_item : (o : Option ℕ) → (o ≡ Some 0 → ⊥) → Has o 1
@@ -196,6 +201,70 @@ pub not_begun_lacking : (st : State) (e : Error) (c : ℕ) (b : State) → st.to
 not_begun_lacking st e c b none l h =
     let own : h.own ≡ c ∷ [] = subst (λ o. IsFirst o c h.own) none h.first in
     not_lacking 1 st e h.own (drop (length h.own) st.rest) l (omega (arith, ap length own)) h.room h.rest
+
+-- one value begins by one code
+pub first_own : (o : Option (List Descriptor × ℕ)) (c c' : ℕ) (own own' x y : List ℕ) → IsFirst o c own → IsFirst o c' own'
+    → own ++ x ≡ own' ++ y → (c ≡ c') × (own ≡ own')
+first_own None c c' own own' x y f f' e =
+    let z : c ≡ c' = ap (λ l. get_or l 0 0) (ap (λ l. l ++ x) (sym f) ∙ e ∙ ap (λ l. l ++ y) f') in
+    (z, f ∙ ap (λ n. n ∷ []) z ∙ sym f')
+first_own (Some ([], k)) c c' own own' x y (a, f) (b, f') e = (f ∙ sym f', a ∙ sym b)
+first_own (Some (d ∷ ds, k)) c c' own own' x y (a, f) (b, f') e = (f ∙ sym f', a ∙ sym b)
+
+pub not_begun_counted : (st : State) (c d : ℕ) (a b : State) → ReadsCode (uncounted st) c a → (Has st.quota (counted c) → ⊥)
+    → ReadsCode st d b → ⊥
+not_begun_counted st c d a b g full h =
+    let s = first_own st.top.shared c d g.own h.own (drop (length g.own) st.rest) (drop (length h.own) st.rest) g.first h.first
+    (sym g.rest ∙ h.rest) in
+    full (subst (λ k. Has st.quota (counted k)) (sym s.0) h.few)
+
+-- one value more than may begin
+pub begin_full : (st : State) (c : ℕ) (m : State) (e : Error) (new : State) → ReadsCode (uncounted st) c m
+    → (Has st.quota (counted c) → ⊥) → e ≡ Limit → Answers st e new → RefusesRead false ReadsCode BeginFault st e new
+begin_full st c m e new g full is kept = record {
+  kept = kept;
+  again = λ d x. let going = g.going in absurd (cc);
+  named = λ going. inr (one_too_many g full is);
+  none = inr (λ v b h. not_begun_counted st c v m b g full h);
+}
+
+-- the code was taken, and counts
+pub full_own : (st : State) (c : ℕ) (m : State) (e : Error) (new : State) → st.error ≡ None → Has st.top.items 1 → st.top.shared ≡ None
+    → Takes st (c ∷ []) m → (Has m.quota (counted c) → ⊥) → e ≡ Limit → new ≡ record m { error = Some Limit }
+    → RefusesRead false ReadsCode BeginFault st e new
+full_own st c m e new going item none t full is kept =
+    let u : Takes (uncounted st) (c ∷ []) (record m { quota = None }) = record {
+      room = t.room;
+      rest = t.rest;
+      moved = ap (λ (x : State). record x { quota = None }) t.moved;
+    } in
+    begin_full st c _ e new (begun_own (uncounted st) c _ going item none u tt)
+    (subst (λ (x : State). Has x.quota (counted c) → ⊥) t.moved full) is (answered_took t (answered m new e Limit kept is))
+
+-- it is shared, and counts
+pub full_shared : (st : State) (c : ℕ) (e : Error) (new : State) → st.error ≡ None → Has st.top.items 1 → IsFirstShared st.top.shared c
+    → (Has st.quota (counted c) → ⊥) → e ≡ Limit → new ≡ record st { error = Some Limit } → RefusesRead false ReadsCode BeginFault st e new
+full_shared st c e new going item h full is kept =
+    begin_full st c _ e new (begun_shared (uncounted st) c going item h tt) full is (answered st new e Limit kept is)
+
+-- a call was refused behind two others
+pub refused_third : {takes : Bool} (st a m : State) (e : Error) (new : State) → Began st a → GoesOn a m → Fails false m e new
+    → Refused takes st e new
+refused_third st a m e new (going, none, same) (kept, on) (error, failed, memory, read) = (
+  λ d x. absurd (cc),
+  λ g. (
+    error,
+    elim failed [ inl h ↦ inl (h ∙ on ∙ same) | inr h ↦ inr h ],
+    λ h. (let no : false ≡ true = memory h in absurd (cc)),
+    read,
+  ),
+)
+
+-- a call behind two others
+pub tried_third : {A : Type 0} (takes : Bool) (st a m : State) (r : Result A Error) (new : State) → Began st a → GoesOn a m
+    → Goes false m r new → Tries takes st r new
+tried_third takes st a m (Ok v) new (going, none, same) (kept, on) (keeps, goes) = (going, keeps ∙ kept ∙ none, goes ∙ on ∙ same)
+tried_third takes st a m (Err e) new began on fails = refused_third st a m e new began on fails
 
 -- its first byte can't be taken
 pub begin_short : (st : State) (e : Error) (new : State) → st.error ≡ None → Has st.top.items 1 → st.top.shared ≡ None

@@ -11,7 +11,7 @@ use Rattle.amqp_decoder.specs.declared.frame.Place.{Place}
 use Rattle.amqp_decoder.specs.declared.frame.Place.TheVariants.{InArray}
 use Rattle.amqp_decoder.specs.State.{State, depth_error, in_container}
 use Rattle.amqp_decoder.specs.Steps.{Takes, Lacks, cut_open, past_limit, cut_inside, too_long, SizeError, cut, wrong, past, NoRoom}
-use Rattle.amqp_decoder.specs.Reading.{ReadsCode, BeginFault, missing, no_code, after_peek, PeeksCode}
+use Rattle.amqp_decoder.specs.Reading.{ReadsCode, BeginFault, missing, no_code, one_too_many, after_peek, PeeksCode}
 use Rattle.amqp_decoder.specs.Primitives.{Stands, ReadsValue, LacksData, PrimitiveFault, not_begun, wrong_code, no_data, bad_data}
 use Rattle.amqp_decoder.specs.Containers as containers
 use Rattle.amqp_decoder.specs.Containers.{IsOpen, EndFault, other_place, nothing_open, items_left, Closes, CloseFault, not_at_end}
@@ -25,7 +25,7 @@ use Rattle.amqp_decoder.specs.Arrays.{TakesMarks, TakesConstructor, ConstructorF
 use Rattle.amqp_decoder.specs.Arrays.{no_items, shared_by, SharesFault, no_constructor, zero_width, too_nested, Starts, EntersArray}
 use Rattle.amqp_decoder.specs.Arrays.{EnterArrayFault, no_start, OpensArray, ArrayFault}
 use Rattle.amqp_decoder.specs.Terms as terms
-use Rattle.amqp_decoder.specs.Terms.{LacksAnnounced, NoTerm, wrong_size, wrong_term, SpellingFault, no_term, TermFault, in_array}
+use Rattle.amqp_decoder.specs.Terms.{LacksAnnounced, NoTerm, wrong_size, wrong_term, SpellingFault, no_term, TakesTerm, TermFault, in_array}
 use Rattle.amqp_decoder.specs.Terms.{misspelled}
 use Rattle.amqp_lengths.specs.Faults.{inside}
 use Rattle.amqp_lengths.proofs.RefusedBytes.{fault_refuses}
@@ -77,7 +77,16 @@ module _ (c : Setting) where
   took h = record { room = h.room; rest = h.rest; moved = ap at h.moved }
 
   pub begun : {st st' : State} {k : ℕ} → ReadsCode st k st' → ReadsCode (at st) k (at st')
-  begun h = record { going = h.going; item = h.item; own = h.own; first = h.first; room = h.room; rest = h.rest; moved = ap at h.moved }
+  begun h = record {
+    going = h.going;
+    item = h.item;
+    own = h.own;
+    first = h.first;
+    room = h.room;
+    rest = h.rest;
+    few = h.few;
+    moved = ap at h.moved;
+  }
 
   looked_at : (o : Option (List Descriptor × ℕ)) (st : State) → at (after_peek o st) ≡ after_peek o (at st)
   looked_at None st = refl
@@ -95,6 +104,7 @@ module _ (c : Setting) where
     rest = h.rest;
     spelled = h.spelled;
     nested = let n = h.nested in let g = c.grows st.nesting in omega (arith, n, g);
+    few = h.few;
   }
 
   pub value : {A : Type 0} (means : Standing → Term → A → Type 0) {st st' : State} {v : A} → ReadsValue means st v st'
@@ -118,6 +128,7 @@ module _ (c : Setting) where
   pub begin_fault : {st : State} {e : Error} → KeepsError c e → BeginFault st e → BeginFault (at st) e
   begin_fault keeps (missing i e) = missing i e
   begin_fault keeps (no_code i s l) = no_code i s (lacks l)
+  begin_fault keeps (one_too_many g full is) = one_too_many (begun g) full is
 
   data_fault : (F : Format) (st : State) (e : Error) → LacksData F st e → LacksData F (at st) e
   data_fault (fixed w v) st e h = lacks h
@@ -352,7 +363,12 @@ module _ (c : Setting) where
       no_term (took_constructor t) (took u) h
       (no_term_deeper (st.nesting - open_) (c.deepen st.nesting - open_) (t.own ++ b) m' e (omega (arith, g)) same f)
 
+  took_term : {st st' : State} {s : List ℕ} → TakesTerm st s st' → TakesTerm (at st) s (at st')
+  took_term h = record { term = h.term; stands = stands h.stands; unshared = h.unshared; moved = ap at h.moved }
+
   pub term_fault : {st : State} {e : Error} → KeepsError c e → TermFault st e → TermFault (at st) e
+  unfolding took_term
   term_fault keeps (terms.missing h is) = terms.missing h is
   term_fault keeps (in_array h shared is) = in_array h shared is
   term_fault keeps (misspelled h none f) = misspelled h none (spelling_fault keeps f)
+  term_fault keeps (terms.too_many h full is) = terms.too_many (took_term h) full is

@@ -2,6 +2,7 @@
 use Rattle.std.specs.Prelude.{◌≡◌, ℕ, zero, suc, ◌+◌, ◌-◌, ◌≤◌, Bool, cond, eqb, nat_lt, true, false, List, [], ◌∷◌, take, drop, map, get_or, max, Option, Some}
 use Rattle.std.specs.Prelude.{None, unwrap_or, option_map}
 use Rattle.amqp_model.specs.Term.{Descriptor}
+use Rattle.amqp_model.specs.Constructors.{Format, unknown, format}
 use Rattle.amqp_wire.specs.declared.error.Error.{Error}
 use Rattle.amqp_wire.specs.declared.error.Error.TheVariants.{Depth, Limit}
 use Rattle.amqp_wire.specs.declared.descriptor.Descriptor.{Descriptor as DescriptorValue}
@@ -27,6 +28,7 @@ pub record Open : Type 0 where
 -- top: the open container that values are read from
 -- saved: the containers around it, the nearest first, as they will be once the inner one is closed
 -- nesting: how many containers and described values may be nested, at most 128
+-- quota: how many more values may begin, where a limit of the caller says it; a described value is one with its descriptor
 -- error: what was refused
 -- failed: the source has failed
 pub record State : Type 0 where
@@ -36,6 +38,7 @@ pub record State : Type 0 where
   pub top : Open
   pub saved : List Open
   pub nesting : ℕ
+  pub quota : Option ℕ
   pub error : Option Error
   pub failed : Bool
 
@@ -162,14 +165,27 @@ after_bytes n st = record st { rest = drop n st.rest; ahead = st.ahead - n }
 abbrev pub after_data : ℕ → State → State
 after_data n st = record st { rest = drop n st.rest; ahead = st.ahead - n; top = record st.top { left = lower st.top.left n } }
 
--- A value of n bytes is taken.
-abbrev pub after_value : ℕ → State → State
-after_value n st =
+-- A value of n bytes is taken, in which k values count.
+abbrev pub after_value : ℕ → ℕ → State → State
+after_value n k st =
     record st {
       rest = drop n st.rest;
       ahead = st.ahead - n;
       top = record st.top { items = lower st.top.items 1; left = lower st.top.left n };
+      quota = lower st.quota k;
     }
+
+-- How many values begin by a constructor's first code: one, unless that is 0, behind which a descriptor stands, or is unknown.
+abbrev pub counted_by : Format → ℕ
+counted_by unknown = 0
+counted_by _ = 1
+
+abbrev pub counted : ℕ → ℕ
+counted c = counted_by (format c)
+
+-- As many values may begin as there are.
+abbrev pub uncounted : State → State
+uncounted st = record st { quota = None }
 
 -- A container of n items in so many bytes is entered, and they are taken off the one around it.
 abbrev pub in_container : Place → ℕ → ℕ → State → State

@@ -8,6 +8,7 @@ ghost use Rattle.amqp_decoder.specs.Steps.{RefusesBy};
 ghost use Rattle.amqp_wire.specs.declared.error.Error.{Error};
 
 mod bytes;
+mod counts;
 mod items;
 mod nesting;
 mod sections;
@@ -34,6 +35,7 @@ pub struct Decoder<R: ByteSource> {
     depth: usize,
     nesting: usize,
     bytes: u64,
+    items: u64,
     descriptors: Vec<Descriptor>,
     frames: [OpenContainer; LEVELS],
 }
@@ -53,6 +55,7 @@ impl<R: ByteSource> Model for Decoder<R> {
       top = open_of d.descriptors.items (limit_of d.bytes) d.top;
       saved = stack d.descriptors.items (limit_around d.top.left (limit_of d.bytes)) d.depth d.frames;
       nesting = d.nesting;
+      quota = limit_of d.items;
       error = d.error;
       failed = d.input.failed;
     } };
@@ -106,6 +109,7 @@ pub fn decoder_of<R: ByteSource>(source: R, alloc: Global) -> Decoder<R>
       top = top_level None;
       saved = [];
       nesting = 128;
+      quota = None;
       error = None;
       failed = R.failed source;
     } }
@@ -113,8 +117,7 @@ pub fn decoder_of<R: ByteSource>(source: R, alloc: Global) -> Decoder<R>
     decoder_within(source, &Limits::greatest(), alloc)
 }
 
-/// A decoder of the source's bytes, at the top level, within these limits on nesting and on bytes. How many items are read isn't
-/// limited yet.
+/// A decoder of the source's bytes, at the top level, within these limits.
 pub fn decoder_within<R: ByteSource>(source: R, limits: &Limits, alloc: Global) -> Decoder<R>
     ensures { result ≡ record {
       rest = known (R.remaining source);
@@ -123,6 +126,7 @@ pub fn decoder_within<R: ByteSource>(source: R, limits: &Limits, alloc: Global) 
       top = top_level (limit_of limits.now.bytes);
       saved = [];
       nesting = limits.now.nesting;
+      quota = limit_of limits.now.items;
       error = None;
       failed = R.failed source;
     } }
@@ -134,6 +138,7 @@ pub fn decoder_within<R: ByteSource>(source: R, limits: &Limits, alloc: Global) 
         depth: 0,
         nesting: limits.nesting() as usize,
         bytes: limits.bytes(),
+        items: limits.items(),
         descriptors: Vec::new(alloc),
         frames: [OpenContainer::TOP; LEVELS],
     }

@@ -2,7 +2,7 @@
 ghost use Rattle.std.specs.Prelude.{◌≡◌, ◌<◌, ◌≤◌, ◌↔◌, ◌-◌, ℕ, Option, List, [], ◌∷◌, ◌++◌, length, Some, None};
 ghost use Rattle.amqp_model.specs.Term.{Container, Descriptor, Term, Terms, container, described, list, map, array};
 ghost use Rattle.amqp_model.specs.Items.{items_of};
-ghost use Rattle.amqp_model.specs.Measures.{nest};
+ghost use Rattle.amqp_model.specs.Measures.{nest, nodes};
 ghost use Rattle.amqp_model.specs.Standing.{Standing};
 ghost use Rattle.amqp_decoder.specs.declared.frame.Place.{Place};
 ghost use Rattle.amqp_decoder.specs.declared.frame.Place.TheVariants.{InArray};
@@ -26,7 +26,7 @@ ghost use Rattle.amqp_decoder.specs.Items.{Next, NextWithParts, Row, row_standin
 pub fn looks()
     ensures moved { (n k : ℕ) (st : State) → n ≤ k → after_bytes k (after_look n st) ≡ after_bytes k st }
     ensures on { (n k : ℕ) (st : State) → n ≤ k → after_data k (after_look n st) ≡ after_data k st }
-    ensures past { (n k : ℕ) (st : State) → n ≤ k → after_value k (after_look n st) ≡ after_value k st }
+    ensures past { (n k m : ℕ) (st : State) → n ≤ k → after_value k m (after_look n st) ≡ after_value k m st }
     ensures took { (n : ℕ) (st after : State) (s : List ℕ) → n ≤ length s → (Takes (after_look n st) s after ↔ Takes st s after) }
     ensures stands { (n : ℕ) (st : State) (s : List ℕ) (t : Term) → Stands (after_look n st) s t ↔ Stands st s t }
     ensures some { (st : State) (s : List ℕ) (t : Term) → st.top.shared ≡ None → Stands st s t → 1 ≤ length s }
@@ -81,11 +81,12 @@ pub fn rooms()
     ensures opened_described { (st after : State) (d : Descriptor) → OpensDescribed st d after → HasRoom after }
 {}
 
-/// At the top level a term stands within limits exactly if it stands without them, has no more bytes and nests no deeper; and a look
-/// at the next code goes no further than the bytes that are left.
+/// At the top level a term stands within limits exactly if it stands without them, has no more bytes, nests no deeper and has no more
+/// values; and a look at the next code goes no further than the bytes that are left.
 pub fn limits()
-    ensures stands { (nesting : ℕ) (left : Option ℕ) (st : State) (s : List ℕ) (t : Term) → nesting ≤ st.nesting → st.top.left ≡ None
-        → (Stands (limited nesting left st) s t ↔ (Stands st s t × Has left (length s) × (nest t ≤ nesting - length st.saved))) }
+    ensures stands { (nesting : ℕ) (left quota : Option ℕ) (st : State) (s : List ℕ) (t : Term) → nesting ≤ st.nesting → st.top.left ≡ None
+        → st.quota ≡ None → (Stands (limited nesting left quota st) s t
+        ↔ (Stands st s t × Has left (length s) × (nest t ≤ nesting - length st.saved) × Has quota (nodes t))) }
     ensures looked { (st looked : State) (c : ℕ) → PeeksCode st c looked → Has st.top.left st.ahead → Has looked.top.left looked.ahead }
 {}
 

@@ -216,6 +216,8 @@ impl<R: ByteSource> Decoder<R> {
             return Err(self.stop(Error::LazyInArray));
         }
         let bytes = self.term_bytes(alloc)?;
+        self.room();
+        self.count_term(bytes.as_slice())?;
         self.take_item();
         Ok(bytes)
     }

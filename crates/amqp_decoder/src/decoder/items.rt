@@ -63,10 +63,12 @@ impl<R: ByteSource> Decoder<R> {
     {
         self.check_item()?;
         if let Some(code) = self.shared_code() {
+            self.count(code)?;
             self.take_item();
             return Ok(code);
         }
         let code = self.byte()?;
+        self.count(code)?;
         self.take_item();
         Ok(code)
     }
@@ -80,14 +82,14 @@ impl<R: ByteSource> Decoder<R> {
     {
         self.check_item()?;
         if let Some(code) = self.shared_code() {
-            return Ok(code);
+            return self.check_count(code);
         }
         if self.is_spent() {
             return Err(self.refuse_size(1));
         }
         self.look_next()?;
         match self.input.looked().first() {
-            Some(code) => Ok(*code),
+            Some(&code) => self.check_count(code),
             None => Err(self.stop(Error::Cut)),
         }
     }

@@ -1,13 +1,14 @@
 use Rattle.std.proofs.Common.{rules, ◌≡◌, Some, take, ap, ◌∙◌}
 use Rattle.amqp_decoder.specs.State.{State}
-use Rattle.amqp_decoder.proofs.Steps.{answered_later, answered, has_item}
-use Rattle.amqp_decoder.proofs.Peeks.{peeked_shared, peeked_own, peek_size, peek_cut, none_there}
+use Rattle.amqp_decoder.proofs.Steps.{answered_later, answered, has_item, tried_third}
+use Rattle.amqp_decoder.proofs.Peeks.{is_counted, peeked_shared_if, peeked_own_if, peek_size, peek_cut, none_there}
 use Rattle.amqp_decoder.proofs.decoder.Decoder.peek_code.Goals as goal
 
 pub returns-in-Some-clause-read : goal.returns-in-Some-clause-read
 returns-in-Some-clause-read g c = λ told.
     let left = c.in_ok-check_item.ensures.read in
-    rw left.kept (peeked_shared _ _ left.going left.item (rw left.kept at c.in-Some.ensures))
+    peeked_shared_if _ _ _ _ left.going left.item (rw left.kept at c.in-Some.ensures)
+    (rw left.kept at (is_counted _ _ _ _ c.check_count.ensures.ok c.check_count.ensures.err))
 
 pub returns-then-is_spent-clause-read : goal.returns-then-is_spent-clause-read
 returns-then-is_spent-clause-read g c = λ told.
@@ -29,6 +30,12 @@ returns-in-None-clause-read g c = λ told.
 pub returns-in-Some-first-clause-read : goal.returns-in-Some-first-clause-read
 returns-in-Some-first-clause-read g c = λ told.
     let left = c.in_ok-check_item.ensures.read in
-    peeked_own _ _ _ _ left.going left.item (rw left.kept at c.in_default.ensures)
-    (has_item _ (λ x. let h = c.is_spent.ensures.1 (ap (λ (st : State). st.top.left) left.kept ∙ x) in absurd (cc))) (rw left.kept at (c.in_ok-look_next.ensures.new told)) (c.looked.ensures.bytes
-    ∙ ap (λ (st : State). take st.ahead st.rest) c.self.view_is) c.in-Some-first.ensures.value
+    peeked_own_if _ _ _ _ _ _ left.going left.item (rw left.kept at c.in_default.ensures)
+    (has_item _ (λ x. let h = c.is_spent.ensures.1 (ap (λ (st : State). st.top.left) left.kept ∙ x) in absurd (cc)))
+    (rw left.kept at (c.in_ok-look_next.ensures.new told))
+    (c.looked.ensures.bytes ∙ ap (λ (st : State). take st.ahead st.rest) c.self.view_is) c.in-Some-first.ensures.value
+    (is_counted _ _ _ _ c.check_count-in-Some-first.ensures.ok c.check_count-in-Some-first.ensures.err)
+
+pub returns-in-Some-first-clause-tries : goal.returns-in-Some-first-clause-tries
+returns-in-Some-first-clause-tries g c =
+    tried_third _ c.args.self.now c.check_item.new.self c.look_next.new.self _ _ c.in_ok-check_item.ensures.tries c.in_ok-look_next.ensures.goes c.check_count-in-Some-first.ensures.goes
