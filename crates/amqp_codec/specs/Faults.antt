@@ -11,7 +11,7 @@ pub record Faults : Type 1 where
   pub fault : State → Error → Type 0
   -- it is neither want of memory nor the source's
   pub not_outside : (e : Error) → IsOutside e → (st : State) → fault st e → ⊥
-  -- it hangs neither on the source nor, unless it is `Depth`, on how deep values may nest
+  -- it hangs neither on the source nor, unless it is `Depth` or `Limit`, on how deep values may nest
   pub fault_elsewhere : (c : Setting) (st : State) (e : Error) → KeepsError c e → fault st e → fault (under c st) e
   -- where it says of bytes that they are no term, none stands there
   pub misspelled : (st : State) (e : Error) → HasRoom st → IsMisspelling e → fault st e → NothingStands st

@@ -1,12 +1,13 @@
 -- What it is to read a value of a type: from which state of a decoder, and what state is left.
-use Rattle.std.proofs.Common.{◌≡◌, ℕ, ◌+◌, ◌≤◌, Bool, true, false, List, [], ◌++◌, length, drop, Option, None, ◌-◌}
+use Rattle.std.proofs.Common.{◌≡◌, ℕ, ◌+◌, ◌≤◌, Bool, true, false, List, [], ◌++◌, length, drop, Option, None, ◌-◌, arith}
 use Rattle.amqp_model.specs.Term.{Term}
 use Rattle.amqp_model.specs.Spelling.{enc}
 use Rattle.amqp_model.specs.Measures.{nest}
 use Rattle.amqp_wire.specs.declared.error.Error.{Error}
-use Rattle.amqp_wire.specs.declared.error.Error.TheVariants.{Depth}
-use Rattle.amqp_decoder.specs.State.{State, top_level}
-use Rattle.amqp_decoder.specs.OtherSource.{elsewhere}
+use Rattle.amqp_wire.specs.declared.limits.Limits.{Limits}
+use Rattle.amqp_wire.specs.Limits.{unlimited, limit_of}
+use Rattle.amqp_decoder.specs.State.{State, Has, top_level}
+use Rattle.amqp_decoder.specs.OtherSource.{elsewhere, IsByDepth}
 use Rattle.amqp_decoder.specs.Misspelled.{IsMisspelling}
 use Rattle.amqp_decoder.specs.Steps.{IsOutside}
 
@@ -37,13 +38,41 @@ looking n st = record st { ahead = n }
 abbrev pub AreAlike : State → State → Type 0
 AreAlike a b = b ≡ looking b.ahead a
 
+-- A decoder at the start of an input, within limits on how deep values nest and how many bytes they have.
+abbrev pub start_within : Limits → List ℕ → State
+start_within limits input = record {
+  rest = input;
+  ahead = 0;
+  source = 0;
+  top = top_level (limit_of limits.bytes);
+  saved = [];
+  nesting = limits.nesting;
+  error = None;
+  failed = false;
+}
+
+-- The limits under which all is read that nests at most 128 deep.
+abbrev pub greatest : Limits
+greatest = record { nesting = 128; bytes = unlimited; items = unlimited; nests = omega arith }
+
+-- They are these three numbers.
+abbrev pub IsGreatest : Limits → Type 0
+IsGreatest limits = (limits.nesting ≡ 128) × (limits.bytes ≡ unlimited) × (limits.items ≡ unlimited)
+
 -- A decoder at the start of an input.
 abbrev pub start : List ℕ → State
-start input = record { rest = input; ahead = 0; source = 0; top = top_level None; saved = []; nesting = 128; error = None; failed = false }
+start input = start_within greatest input
 
--- No front of the input is a term; where the error is `Depth`, none that nests at most 128 deep.
+-- No front of the input within the limit on bytes is a term; if the error is a limit's or `Depth`, none that nests no deeper than
+-- the limits say.
+abbrev pub IsUnspelledWithin : Limits → Error → List ℕ → Type 0
+IsUnspelledWithin limits e input =
+    (b more : List ℕ) (t : Term) → input ≡ b ++ more → enc b t → Has (limit_of limits.bytes) (length b)
+    → (IsByDepth e → nest t ≤ limits.nesting) → ⊥
+
+-- No front of the input is a term; if the error is a limit's or `Depth`, none that nests at most 128 deep.
 abbrev pub IsUnspelled : Error → List ℕ → Type 0
-IsUnspelled e input = (b more : List ℕ) (t : Term) → input ≡ b ++ more → enc b t → (e ≡ Depth → nest t ≤ 128) → ⊥
+IsUnspelled e input = (b more : List ℕ) (t : Term) → input ≡ b ++ more → enc b t → (IsByDepth e → nest t ≤ 128) → ⊥
 
 pub record Reading (T : Type 0) : Type 1 where
   -- the two differ at most in where they lie in memory
@@ -69,7 +98,8 @@ pub record Reading (T : Type 0) : Type 1 where
   pub taken : (st : State) (v : T) (b : State) → reads st v b → Taken looks_on st b
   pub stays : (st : State) (v : T) (b : State) → reads st v b → Stays st b
   -- an error that says of bytes that they are no term is named only of such
-  pub misspelled : one_term ≡ true → (input : List ℕ) (e : Error) → IsMisspelling e → fault (start input) e → IsUnspelled e input
+  pub misspelled : one_term ≡ true → (limits : Limits) (input : List ℕ) (e : Error) → IsMisspelling e
+      → fault (start_within limits input) e → IsUnspelledWithin limits e input
   -- it doesn't hang on how far was looked
   pub looked : (n : ℕ) (st : State) (v : T) (b : State) → reads st v b → (m : ℕ) × reads (looking n st) v (looking m b)
   -- it doesn't hang on the source
@@ -77,11 +107,22 @@ pub record Reading (T : Type 0) : Type 1 where
       → reads (elsewhere source failed st) v (elsewhere source failed b)
   pub fault_elsewhere : (source : ℕ) (failed : Bool) (st : State) (e : Error) → fault st e → fault (elsewhere source failed st) e
 
--- The input begins with n bytes that are read as the value.
-pub record BeginsWith {T : Type 0} (r : Reading T) (input : List ℕ) (v : T) (n : ℕ) : Type 0 where
+-- Within the limits, the input begins with n bytes that are read as the value.
+pub record BeginsWithin {T : Type 0} (limits : Limits) (r : Reading T) (input : List ℕ) (v : T) (n : ℕ) : Type 0 where
   pub after : State
-  pub read : r.reads (start input) v after
+  pub read : r.reads (start_within limits input) v after
   pub left : length after.rest + n ≡ length input
+
+-- Within the limits, the input begins with no value, and has the fault.
+pub record IsUnreadableWithin {T : Type 0} (limits : Limits) (r : Reading T) (input : List ℕ) (e : Error) : Type 0 where
+  pub fault : r.fault (start_within limits input) e
+  pub none : (v : T) (n : ℕ) → BeginsWithin limits r input v n → ⊥
+  -- of a type of terms: the error says that no term stands there only where none does
+  pub unspelled : r.one_term ≡ true → IsMisspelling e → IsUnspelledWithin limits e input
+
+-- The input begins with n bytes that are read as the value.
+abbrev pub BeginsWith : {T : Type 0} → Reading T → List ℕ → T → ℕ → Type 0
+BeginsWith r input v n = BeginsWithin greatest r input v n
 
 -- The input begins with no value, and has the fault.
 pub record IsUnreadable {T : Type 0} (r : Reading T) (input : List ℕ) (e : Error) : Type 0 where

@@ -1,5 +1,5 @@
 -- Lemmas of what it is to read a value: of the terms of a type, and of a whole input.
-use Rattle.std.proofs.Common.{sym, ◌≡◌, inl, inr, ℕ, ◌+◌, ◌≤◌, Bool, true, false, List, length, max, None, ◌⊎◌, refl, ap, ◌∙◌, subst, arith, ◌-◌}
+use Rattle.std.proofs.Common.{sym, ◌≡◌, inl, inr, ℕ, ◌+◌, ◌≤◌, Bool, true, false, List, length, max, Option, None, ◌⊎◌, refl, ap, ◌∙◌, subst, arith, ◌-◌}
 use Rattle.std.proofs.Common.{length-append}
 use Rattle.std.proofs.lemmas.List.{length-drop}
 use Rattle.amqp_model.specs.Term.{Term}
@@ -8,16 +8,18 @@ use Rattle.amqp_model.specs.Measures.{nest}
 use Rattle.amqp_model.specs.ItemLaws.{clash}
 use Rattle.amqp_model.proofs.Count.{nodes_bounded}
 use Rattle.amqp_wire.specs.declared.error.Error.{Error}
-use Rattle.amqp_wire.specs.declared.error.Error.TheVariants.{Memory, Depth}
+use Rattle.amqp_wire.specs.declared.error.Error.TheVariants.{Memory, Depth, Limit}
+use Rattle.amqp_wire.specs.declared.limits.Limits.{Limits}
 use Rattle.amqp_decoder.specs.State.{Open, State, top_level, lower}
-use Rattle.amqp_decoder.specs.OtherSource.{Setting, under}
+use Rattle.amqp_decoder.specs.OtherSource.{Setting, under, IsByDepth}
 use Rattle.amqp_decoder.specs.Misspelled.{IsMisspelling}
 use Rattle.amqp_decoder.specs.Primitives.{standing, SpellsAs, ReadsValue}
 use Rattle.amqp_decoder.proofs.OneReading.{value_same}
 use Rattle.amqp_decoder.proofs.NotOutside.{read_is_outside}
 use Rattle.amqp_decoder.specs.Steps.{IsOutside, IsReadError}
 use Rattle.amqp_codec.specs.TermType.{TermType}
-use Rattle.amqp_codec.specs.Reading.{Taken, Stays, looking, AreAlike, start, IsUnspelled, Reading, BeginsWith, IsUnreadable}
+use Rattle.amqp_codec.specs.Reading.{Taken, Stays, looking, AreAlike, start_within, start, greatest, IsGreatest, IsUnspelledWithin}
+use Rattle.amqp_codec.specs.Reading.{Reading, BeginsWithin, IsUnreadableWithin, BeginsWith, IsUnreadable}
 
 -- what is read is one value, and leaves one state
 pub value_one : {T : Type 0} (same : T → T → Type 0) (means : Standing → Term → T → Type 0)
@@ -101,62 +103,94 @@ pub value_alike : {T : Type 0} (same : T → T → Type 0) (means : Standing →
 value_alike same means one st v w a b h k =
     let r = value_one same means one st v w a b h k in (r.0, subst (AreAlike a) r.1 refl)
 
-abbrev is_depth : Error → Bool
-is_depth Depth = true
-is_depth _ = false
+abbrev is_by_depth : Error → Bool
+is_by_depth Depth = true
+is_by_depth Limit = true
+is_by_depth _ = false
 
-depth_is : (e : Error) → is_depth e ≡ true → e ≡ Depth
-depth_is Depth h = refl
-depth_is _ h = absurd (clash h refl)
+by_depth_so : (e : Error) → is_by_depth e ≡ true → IsByDepth e
+by_depth_so Depth h = tt
+by_depth_so Limit h = tt
+by_depth_so _ h = absurd (clash h refl)
+
+so_by_depth : (e : Error) → IsByDepth e → is_by_depth e ≡ true
+so_by_depth Depth h = refl
+so_by_depth Limit h = refl
+so_by_depth _ h = absurd h
 
 -- before a decoder that lets values nest as deep as any term does
-pub term_unspelled : {T : Type 0} (u : TermType T) (input : List ℕ) (e : Error) → IsMisspelling e
-    → u.faults.fault (start input) e → IsUnspelled e input
-term_unspelled u input e i f b more t is s bound = by_depth (is_depth e) refl
+pub term_unspelled : {T : Type 0} (u : TermType T) (limits : Limits) (input : List ℕ) (e : Error) → IsMisspelling e
+    → u.faults.fault (start_within limits input) e → IsUnspelledWithin limits e input
+term_unspelled u limits input e i f b more t is s room bound = by (is_by_depth e) refl
   where
     deeper : Setting
     deeper = record { source = 0; failed = false; deepen = λ n. max n (nest t); grows = λ n. omega arith }
 
-    by_depth : (d : Bool) → is_depth e ≡ d → ⊥
-    by_depth true d =
-        u.faults.misspelled (start input) e (inl (omega arith)) i f b t
+    by : (d : Bool) → is_by_depth e ≡ d → ⊥
+    by true d =
+        u.faults.misspelled (start_within limits input) e (inl (omega arith)) i f b t
         (record {
           going = refl;
           item = tt;
-          room = tt;
+          room = room;
           after = more;
           rest = is;
           spelled = s;
-          nested = (let k = bound (depth_is e d) in omega arith);
+          nested = (let k = bound (by_depth_so e d) in omega (arith, k));
         })
-    by_depth false d =
-        u.faults.misspelled (under deeper (start input)) e (inl (omega arith)) i
-        (u.faults.fault_elsewhere deeper (start input) e (λ h n. absurd (clash (ap is_depth h) d)) f) b t
-        (record { going = refl; item = tt; room = tt; after = more; rest = is; spelled = s; nested = omega arith })
+    by false d =
+        u.faults.misspelled (under deeper (start_within limits input)) e (inl (omega arith)) i
+        (u.faults.fault_elsewhere deeper (start_within limits input) e (λ h n. absurd (clash (so_by_depth e h) d)) f) b t
+        (record { going = refl; item = tt; room = room; after = more; rest = is; spelled = s; nested = omega arith })
 
 -- one value at most, and its length
-pub read_one : {T : Type 0} (r : Reading T) (input : List ℕ) (v w : T) (n m : ℕ) → BeginsWith r input v n
-    → BeginsWith r input w m → r.same v w × (n ≡ m)
-read_one r input v w n m h k =
-    let u = r.one (start input) v w h.after k.after h.read k.read in
+pub read_one : {T : Type 0} (limits : Limits) (r : Reading T) (input : List ℕ) (v w : T) (n m : ℕ) → BeginsWithin limits r input v n
+    → BeginsWithin limits r input w m → r.same v w × (n ≡ m)
+read_one limits r input v w n m h k =
+    let u = r.one (start_within limits input) v w h.after k.after h.read k.read in
     (u.0, omega (arith, h.left, k.left, ap (λ (x : State). length x.rest) u.1))
 
-pub read_bounded : {T : Type 0} (r : Reading T) (input : List ℕ) (v : T) (b : State) → r.reads (start input) v b
-    → r.count v + length b.rest ≤ length input
-read_bounded r input v b h = r.counted (start input) v b refl h
+pub read_bounded : {T : Type 0} (limits : Limits) (r : Reading T) (input : List ℕ) (v : T) (b : State)
+    → r.reads (start_within limits input) v b → r.count v + length b.rest ≤ length input
+read_bounded limits r input v b h = r.counted (start_within limits input) v b refl h
 
-pub is_read : {T : Type 0} (r : Reading T) (input : List ℕ) (v : T) (b : State) (n : ℕ) → r.reads (start input) v b
-    → n ≡ length input - length b.rest → BeginsWith r input v n
-is_read r input v b n h e = record { after = b; read = h; left = omega (arith, e, read_bounded r input v b h) }
+pub is_read : {T : Type 0} (limits : Limits) (r : Reading T) (input : List ℕ) (v : T) (b : State) (n : ℕ)
+    → r.reads (start_within limits input) v b → n ≡ length input - length b.rest → BeginsWithin limits r input v n
+is_read limits r input v b n h e = record { after = b; read = h; left = omega (arith, e, read_bounded limits r input v b h) }
 
 -- what is answered of bytes alone is never the error of a source
-pub never_failing : {T : Type 0} (r : Reading T) (input : List ℕ) (e : Error) → ((r.takes_memory ≡ true) × (e ≡ Memory))
-    ⊎ IsUnreadable r input e → IsReadError e → ⊥
-never_failing r input e (inl x) read = subst IsReadError x.1 read
-never_failing r input e (inr x) read = r.not_outside e (read_is_outside e read) (start input) x.fault
+pub never_failing : {T : Type 0} (limits : Limits) (r : Reading T) (input : List ℕ) (e : Error)
+    → ((r.takes_memory ≡ true) × (e ≡ Memory)) ⊎ IsUnreadableWithin limits r input e → IsReadError e → ⊥
+never_failing limits r input e (inl x) read = subst IsReadError x.1 read
+never_failing limits r input e (inr x) read = r.not_outside e (read_is_outside e read) (start_within limits input) x.fault
 
 -- memory is wanted only where it is taken
-pub memory_wanted : {T : Type 0} (r : Reading T) (input : List ℕ) (e : Error) → ((r.takes_memory ≡ true) × (e ≡ Memory))
-    ⊎ IsUnreadable r input e → e ≡ Memory → r.takes_memory ≡ true
-memory_wanted r input e (inl x) is = x.0
-memory_wanted r input e (inr x) is = absurd (r.not_outside e (subst IsOutside (sym is) tt) (start input) x.fault)
+pub memory_wanted : {T : Type 0} (limits : Limits) (r : Reading T) (input : List ℕ) (e : Error)
+    → ((r.takes_memory ≡ true) × (e ≡ Memory)) ⊎ IsUnreadableWithin limits r input e → e ≡ Memory → r.takes_memory ≡ true
+memory_wanted limits r input e (inl x) is = x.0
+memory_wanted limits r input e (inr x) is =
+    absurd (r.not_outside e (subst IsOutside (sym is) tt) (start_within limits input) x.fault)
+
+-- the greatest limits, whatever they are called, are those of a start without any
+same_start : (limits : Limits) (input : List ℕ) → IsGreatest limits → start_within limits input ≡ start input
+same_start limits input (nesting, bytes, items) = rw (nesting, bytes) refl
+
+pub begins_greatest : {T : Type 0} (limits : Limits) (r : Reading T) (input : List ℕ) (v : T) (n : ℕ) → IsGreatest limits
+    → BeginsWithin limits r input v n → BeginsWith r input v n
+begins_greatest limits r input v n g h =
+    record { after = h.after; read = subst (λ st. r.reads st v h.after) (same_start limits input g) h.read; left = h.left }
+
+pub greatest_begins : {T : Type 0} (limits : Limits) (r : Reading T) (input : List ℕ) (v : T) (n : ℕ) → IsGreatest limits
+    → BeginsWith r input v n → BeginsWithin limits r input v n
+greatest_begins limits r input v n g h =
+    record { after = h.after; read = subst (λ st. r.reads st v h.after) (sym (same_start limits input g)) h.read; left = h.left }
+
+pub unreadable_greatest : {T : Type 0} (limits : Limits) (r : Reading T) (input : List ℕ) (e : Error) → IsGreatest limits
+    → IsUnreadableWithin limits r input e → IsUnreadable r input e
+unreadable_greatest limits r input e g h =
+    let fault = subst (λ st. r.fault st e) (same_start limits input g) h.fault in
+    record {
+      fault = fault;
+      none = λ v n k. h.none v n (greatest_begins limits r input v n g k);
+      unspelled = λ one i b more t is s bound. r.misspelled one greatest input e i fault b more t is s tt bound;
+    }
