@@ -1,15 +1,16 @@
--- What stands before a decoder is the same of another source, and where values may nest deeper; and so is a fault, unless it
--- is that they nest too deep.
+-- What stands before a decoder is the same of another source, and where values may nest deeper or more may begin; and so is a
+-- fault, unless it is that they nest too deep or are too many.
 use Rattle.std.proofs.Common.{◌≡◌, ◌≤◌, ◌<◌, inl, inr, ℕ, ◌⊎◌, ◌-◌, Bool, true, false, cond, nat_lt, List, ◌++◌, length, Option, Some, None, refl, sym, ap, ◌∙◌, subst, arith}
 use Rattle.amqp_model.specs.Term.{Container, Descriptor, Term}
 use Rattle.amqp_model.specs.Constructors.{Format, fixed, variable, compound, unknown, format}
+use Rattle.amqp_model.specs.Measures.{nodes}
 use Rattle.amqp_model.specs.Standing.{Standing}
 use Rattle.amqp_wire.specs.declared.error.Error.{Error}
 use Rattle.amqp_wire.specs.declared.error.Error.TheVariants.{Size, Depth, Limit}
 use Rattle.amqp_lookahead.specs.Members.{Member}
 use Rattle.amqp_decoder.specs.declared.frame.Place.{Place}
 use Rattle.amqp_decoder.specs.declared.frame.Place.TheVariants.{InArray}
-use Rattle.amqp_decoder.specs.State.{State, depth_error, in_container}
+use Rattle.amqp_decoder.specs.State.{State, Has, lower, after_value, counted, depth_error, in_container}
 use Rattle.amqp_decoder.specs.Steps.{Takes, Lacks, cut_open, past_limit, cut_inside, too_long, SizeError, cut, wrong, past, NoRoom}
 use Rattle.amqp_decoder.specs.Reading.{ReadsCode, BeginFault, missing, no_code, one_too_many, after_peek, PeeksCode}
 use Rattle.amqp_decoder.specs.Primitives.{Stands, ReadsValue, LacksData, PrimitiveFault, not_begun, wrong_code, no_data, bad_data}
@@ -31,32 +32,53 @@ use Rattle.amqp_lengths.specs.Faults.{inside}
 use Rattle.amqp_lengths.proofs.RefusedBytes.{fault_refuses}
 use Rattle.amqp_lengths.proofs.DeeperFaults.{fault_deeper}
 
--- Another source, which may have failed, and a bound on nesting that is no lower.
+-- Another source, which may have failed, a bound on nesting that is no lower, and whether as many values may begin as there are.
 pub record Setting : Type 0 where
   pub source : ℕ
   pub failed : Bool
   pub deepen : ℕ → ℕ
   pub grows : (n : ℕ) → n ≤ deepen n
+  pub free : Bool
+
+-- How many may begin, unless as many may as there are.
+abbrev pub freed : Bool → Option ℕ → Option ℕ
+freed free None = None
+freed free (Some n) = cond free None (Some n)
 
 abbrev pub under : Setting → State → State
-under c st = record st { source = c.source; failed = c.failed; nesting = c.deepen st.nesting }
+under c st = record st { source = c.source; failed = c.failed; nesting = c.deepen st.nesting; quota = freed c.free st.quota }
 
 -- Another source alone.
 abbrev pub another : ℕ → Bool → Setting
-another source failed = record { source = source; failed = failed; deepen = λ n. n; grows = λ n. omega arith }
+another source failed = record { source = source; failed = failed; deepen = λ n. n; grows = λ n. omega arith; free = false }
+
+-- that as many may begin as there are changes nothing else
+pub freed_kept : (o : Option ℕ) → freed false o ≡ o
+freed_kept None = refl
+freed_kept (Some n) = refl
+
+freed_lower : (free : Bool) (o : Option ℕ) (k : ℕ) → freed free (lower o k) ≡ lower (freed free o) k
+freed_lower free None k = refl
+freed_lower true (Some n) k = refl
+freed_lower false (Some n) k = refl
+
+freed_has : (free : Bool) (o : Option ℕ) (k : ℕ) → Has o k → Has (freed free o) k
+freed_has free None k h = h
+freed_has true (Some n) k h = tt
+freed_has false (Some n) k h = h
 
 -- The same before a decoder of another source, which may have failed.
 abbrev pub elsewhere : ℕ → Bool → State → State
 elsewhere source failed st = record st { source = source; failed = failed }
 
--- An error by depth isn't kept by a greater bound.
+-- An error by depth isn't kept by a greater bound, and one by a limit not where more values may begin.
 abbrev pub IsByDepth : Error → Type 0
 IsByDepth Depth = Unit {0}
 IsByDepth Limit = Unit {0}
 IsByDepth _ = ⊥
 
 abbrev pub KeepsError : Setting → Error → Type 0
-KeepsError c e = IsByDepth e → (n : ℕ) → c.deepen n ≡ n
+KeepsError c e = IsByDepth e → ((n : ℕ) → c.deepen n ≡ n) × (c.free ≡ false)
 
 by_depth : (b : Bool) → IsByDepth (cond b Limit Depth)
 by_depth true = tt
@@ -67,7 +89,7 @@ inside_depth true = refl
 inside_depth false = refl
 
 pub keeps_another : (source : ℕ) (failed : Bool) (e : Error) → KeepsError (another source failed) e
-keeps_another source failed e = λ deep n. refl
+keeps_another source failed e = λ deep. (λ n. refl, refl)
 
 module _ (c : Setting) where
   abbrev at : State → State
@@ -76,16 +98,20 @@ module _ (c : Setting) where
   took : {st st' : State} {s : List ℕ} → Takes st s st' → Takes (at st) s (at st')
   took h = record { room = h.room; rest = h.rest; moved = ap at h.moved }
 
+  -- a value is taken
+  taken_past : (n k : ℕ) (st : State) → at (after_value n k st) ≡ after_value n k (at st)
+  taken_past n k st = ap (λ q. record (after_value n k (at st)) { quota = q }) (freed_lower c.free st.quota k)
+
   pub begun : {st st' : State} {k : ℕ} → ReadsCode st k st' → ReadsCode (at st) k (at st')
-  begun h = record {
+  begun {st} {k} h = record {
     going = h.going;
     item = h.item;
     own = h.own;
     first = h.first;
     room = h.room;
     rest = h.rest;
-    few = h.few;
-    moved = ap at h.moved;
+    few = freed_has c.free st.quota (counted k) h.few;
+    moved = ap at h.moved ∙ taken_past (length h.own) (counted k) st;
   }
 
   looked_at : (o : Option (List Descriptor × ℕ)) (st : State) → at (after_peek o st) ≡ after_peek o (at st)
@@ -96,7 +122,7 @@ module _ (c : Setting) where
   peeked {st} h = record { after = at h.after; begun = begun h.begun; kept = ap at h.kept ∙ looked_at st.top.shared st }
 
   pub stands : {st : State} {s : List ℕ} {t : Term} → Stands st s t → Stands (at st) s t
-  stands {st} h = record {
+  stands {st} {t = t} h = record {
     going = h.going;
     item = h.item;
     room = h.room;
@@ -104,12 +130,18 @@ module _ (c : Setting) where
     rest = h.rest;
     spelled = h.spelled;
     nested = let n = h.nested in let g = c.grows st.nesting in omega (arith, n, g);
-    few = h.few;
+    few = freed_has c.free st.quota (nodes t) h.few;
   }
 
   pub value : {A : Type 0} (means : Standing → Term → A → Type 0) {st st' : State} {v : A} → ReadsValue means st v st'
       → ReadsValue means (at st) v (at st')
-  value means h = record { bytes = h.bytes; term = h.term; stands = stands h.stands; moved = ap at h.moved; meant = h.meant }
+  value means {st} h = record {
+    bytes = h.bytes;
+    term = h.term;
+    stands = stands h.stands;
+    moved = ap at h.moved ∙ taken_past (length h.bytes) (nodes h.term) st;
+    meant = h.meant;
+  }
 
   lacks : {n : ℕ} {st : State} {e : Error} → Lacks n st e → Lacks n (at st) e
   lacks (cut_open l h r e) = cut_open l h r e
@@ -125,10 +157,16 @@ module _ (c : Setting) where
   room_fault : {n : ℕ} {st : State} {e : Error} → NoRoom n st e → NoRoom n (at st) e
   room_fault h = record { less = h.less; why = size_error h.why }
 
+  -- an error by a limit keeps how many may begin
+  counted_still : {e : Error} → KeepsError c e → e ≡ Limit → (o : Option ℕ) (k : ℕ) → (Has o k → ⊥) → Has (freed c.free o) k → ⊥
+  counted_still keeps is o k full h =
+      let kept : c.free ≡ false = (keeps (subst IsByDepth (sym is) tt)).1 in
+      full (subst (λ q. Has q k) (ap (λ b. freed b o) kept ∙ freed_kept o) h)
+
   pub begin_fault : {st : State} {e : Error} → KeepsError c e → BeginFault st e → BeginFault (at st) e
   begin_fault keeps (missing i e) = missing i e
   begin_fault keeps (no_code i s l) = no_code i s (lacks l)
-  begin_fault keeps (one_too_many g full is) = one_too_many (begun g) full is
+  begin_fault {st} keeps (one_too_many {c = k} g full is) = one_too_many (begun g) (counted_still keeps is st.quota (counted k) full) is
 
   data_fault : (F : Format) (st : State) (e : Error) → LacksData F st e → LacksData F (at st) e
   data_fault (fixed w v) st e h = lacks h
@@ -145,7 +183,7 @@ module _ (c : Setting) where
 
   -- an error by depth keeps the bound
   bound : {e : Error} → KeepsError c e → (n : ℕ) → e ≡ depth_error n → c.deepen n ≡ n
-  bound keeps n is = keeps (subst IsByDepth (sym is) (by_depth (nat_lt n 128))) n
+  bound keeps n is = (keeps (subst IsByDepth (sym is) (by_depth (nat_lt n 128)))).0 n
 
   -- no deeper than the bound
   deep : {e : Error} {m : ℕ} → KeepsError c e → (n : ℕ) → n ≤ m → e ≡ depth_error n → c.deepen n ≤ m
@@ -359,16 +397,22 @@ module _ (c : Setting) where
       let open_ = length st.saved in
       let same : IsByDepth e
       → (st.nesting - open_ ≡ c.deepen st.nesting - open_) × (depth_error m'.nesting ≡ depth_error (c.deepen m'.nesting)) =
-      λ d. (ap (λ n. n - open_) (sym (keeps d st.nesting)), ap depth_error (sym (keeps d m'.nesting))) in
+      λ d. (ap (λ n. n - open_) (sym ((keeps d).0 st.nesting)), ap depth_error (sym ((keeps d).0 m'.nesting))) in
       no_term (took_constructor t) (took u) h
       (no_term_deeper (st.nesting - open_) (c.deepen st.nesting - open_) (t.own ++ b) m' e (omega (arith, g)) same f)
 
   took_term : {st st' : State} {s : List ℕ} → TakesTerm st s st' → TakesTerm (at st) s (at st')
-  took_term h = record { term = h.term; stands = stands h.stands; unshared = h.unshared; moved = ap at h.moved }
+  took_term {st} {s = s} h = record {
+    term = h.term;
+    stands = stands h.stands;
+    unshared = h.unshared;
+    moved = ap at h.moved ∙ taken_past (length s) (nodes h.term) st;
+  }
 
   pub term_fault : {st : State} {e : Error} → KeepsError c e → TermFault st e → TermFault (at st) e
   unfolding took_term
   term_fault keeps (terms.missing h is) = terms.missing h is
   term_fault keeps (in_array h shared is) = in_array h shared is
   term_fault keeps (misspelled h none f) = misspelled h none (spelling_fault keeps f)
-  term_fault keeps (terms.too_many h full is) = terms.too_many (took_term h) full is
+  term_fault {st} keeps (terms.too_many h full is) =
+      terms.too_many (took_term h) (counted_still keeps is st.quota (nodes h.term) full) is

@@ -26,5 +26,5 @@ returns g c =
     let front : take n c.truncate.new.self.items ≡ take n c.self.inside.descriptors.items =
     ap (take n) (c.truncate.ensures.items ∙ ap (λ m. take m c.self.inside.descriptors.items) c.from.ensures)
     ∙ take-take n n c.self.inside.descriptors.items (omega arith) in
-    same_view _ _ _ _ _ _ _ _ _ _ (open_kept _ _ _ n _ (omega arith) front) (stack_kept _ _ _ n _ _ n c.self.invariant.1 (omega arith) front)
+    same_view _ _ _ _ _ _ _ _ _ _ _ (open_kept _ _ _ n _ (omega arith) front) (stack_kept _ _ _ n _ _ n c.self.invariant.1 (omega arith) front)
     ∙ c.self.view_is

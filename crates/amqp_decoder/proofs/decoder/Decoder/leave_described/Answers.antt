@@ -31,6 +31,6 @@ returns-clause-left g c = λ outer others saved.
     let is = ap (λ (x : State). x.saved) c.self.view_is ∙ saved in
     let (top, around) = stack_top ds (limit_around own limit) d (d - 1) c.self.inside.frames outer others one is in
     let same = around_left _ own limit (frame.1.0 described) in
-    rw (← c.self.view_is) (same_view _ _ _ _ _ _ _ _ _ _
+    rw (← c.self.view_is) (same_view _ _ _ _ _ _ _ _ _ _ _
     (ap (λ (o : Open). record o { left = left_in own limit; sized = is_sized own }) top)
     (ap (λ z. stack ds z (d - 1) c.self.inside.frames) (sym same) ∙ around))

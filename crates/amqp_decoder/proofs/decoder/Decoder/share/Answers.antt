@@ -64,5 +64,5 @@ returns-clause-ok g c =
     c.args.code (n + c.len.result)
     c.self.invariant.1 (omega (arith, c.self.invariant.2)) (omega arith) c.descriptors_in-first.ensures (search rules)
     c.requires.coded (omega arith) in
-    rw (← c.self.view_is) (same_view _ _ _ _ _ _ _ _ _ _
+    rw (← c.self.view_is) (same_view _ _ _ _ _ _ _ _ _ _ _
     (ap (λ x. record { place = InArray; items = Some c.args.count; left = left_in c.self.inside.top.left (limit_of c.self.inside.bytes); sized = is_sized c.self.inside.top.left; shared = x }) put.1) put.2)
