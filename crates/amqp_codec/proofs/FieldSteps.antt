@@ -122,7 +122,7 @@ module _ {V : Type 0} (fs : Fields V) where
   next_fits i terms ts [] mid last z w e l k r f m = absurd (omega (arith, ap length f, length-append terms [], e, l))
   next_fits i terms ts (t ∷ rest) mid last z w e l k (s, others, j, h, hs) f m =
       let at : get_or ts i (leaf null) ≡ t = the_item terms ts t rest i e f in
-      (after_value (length s) mid, record { bytes = s; term = t; stands = h; moved = refl; meant = by_null (is_null t) refl at })
+      (after_value (length s) (nodes t) mid, record { bytes = s; term = t; stands = h; moved = refl; meant = by_null (is_null t) refl at })
     where
       at_required : (r : Bool) → is_required (rule_at fs i) ≡ r → is_null (get_or ts i (leaf null)) ≡ true
           → is_required (rule_at fs i) ≡ false

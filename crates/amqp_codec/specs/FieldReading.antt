@@ -77,7 +77,7 @@ pub record ItemRead {V : Type 0} (fs : Fields V) (i : ℕ) (v w : V) (st b : Sta
   pub bytes : List ℕ
   pub term : Term
   pub stands : Stands st bytes term
-  pub moved : b ≡ after_value (length bytes) st
+  pub moved : b ≡ after_value (length bytes) (nodes term) st
   pub fits : ((term ≡ leaf null) × (is_required (rule_at fs i) ≡ false) × (w ≡ v))
       ⊎ (MeansAt fs i (standing st.top.shared bytes) term w × KeepsBut fs i v w)
 

@@ -257,7 +257,7 @@ module _ {K V : Type 0} (key : TermType K) (value : TermType V) where
   next_pairs : (st : State) (ps : List (K × V)) (b : State) (bytes : List ℕ) (ts : Terms) (ss : List Standing)
       → (key.ignores_standing && value.ignores_standing ≡ false → Parts (standing st.top.shared bytes) (container map ts) ss)
       → PairsMean key.means value.means ss ts ps → HaveOtherKeys key.same ps → Stands st bytes (container map ts)
-      → b ≡ after_value (length bytes) st → MapRead key value st ps b
+      → b ≡ after_value (length bytes) (nodes (container map ts)) st → MapRead key value st ps b
   next_pairs st ps b bytes ts ss p m others stands moved =
       let c = parts map tt st ts b (record { bytes = bytes; stands = stands; moved = moved }) in
       let w = whole_with_parts map tt st ts b c in

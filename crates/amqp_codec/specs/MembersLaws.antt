@@ -33,7 +33,7 @@ module _ {V : Type 0} (m : Members V) (means : Standing → Term → V → Type 
   pub to_value : (st : State) (v : V) (b : State) → st.nesting ≤ 128 → MemberRead m st v b → ReadsValue means st v b
   to_value st v b bound h =
       let t = sum.to_term h.place h.inner v h.last h.read in
-      let closes : ClosesDescribed InDescribed (after_value (length t.taken.bytes) h.inner) b =
+      let closes : ClosesDescribed InDescribed (after_value (length t.taken.bytes) (nodes t.term) h.inner) b =
       subst (λ (x : State). ClosesDescribed InDescribed x b) t.taken.moved h.closes in
       let r = described_term st h.descriptor t.term b (omega (arith, bound))
       (record { inner = h.inner; opens = h.opens; bytes = t.taken.bytes; stands = t.taken.stands; closes = closes }) in
@@ -56,8 +56,9 @@ module _ {V : Type 0} (m : Members V) (means : Standing → Term → V → Type 
         is = t.named;
         inner = k.inner;
         opens = k.opens;
-        last = after_value (length k.bytes) k.inner;
-        read = t.read k.inner (after_value (length k.bytes) k.inner) (record { bytes = k.bytes; stands = k.stands; moved = refl });
+        last = after_value (length k.bytes) (nodes t.described_) k.inner;
+        read = t.read k.inner (after_value (length k.bytes) (nodes t.described_) k.inner)
+            (record { bytes = k.bytes; stands = k.stands; moved = refl });
         closes = k.closes;
       }
 

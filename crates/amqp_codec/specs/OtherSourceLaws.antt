@@ -19,7 +19,14 @@ module _ (c : Setting) where
 
   row : (ts : List Term) (st : State) (s : List ℕ) (b : State) → Row st ts s b → Row (at st) ts s (at b)
   row [] st s b (e, h) = (e, ap at h)
-  row (t ∷ ts) st s b (first, others, e, h, k) = (first, others, e, stands c h, row ts (after_value (length first) st) others b k)
+  row (t ∷ ts) st s b (first, others, e, h, k) = (
+    first,
+    others,
+    e,
+    stands c h,
+    subst (λ x. Row x ts others (at b)) (taken_past c (length first) (nodes t) st)
+        (row ts (after_value (length first) (nodes t) st) others b k),
+  )
 
   pub fields_read : {V : Type 0} (fs : Fields V) (st : State) (v : V) (b : State) → FieldsRead fs st v b → FieldsRead fs (at st) v (at b)
   fields_read fs st v b h =

@@ -38,7 +38,7 @@ stands_begun st s t h =
     let own = f.1 in
     let whole : st.rest ≡ own ++ (f.2 ++ h.after) = h.rest ∙ ap (λ x. x ++ h.after) f.4 ∙ append_assoc own f.2 h.after in (
       f.0,
-      after_value (length own) st,
+      after_value (length own) (counted f.0) st,
       record {
         going = h.going;
         item = h.item;
@@ -46,6 +46,7 @@ stands_begun st s t h =
         first = f.3;
         room = has_less st.top.left (length own) (length s) (omega (arith, ap length f.4, length-append own f.2)) h.room;
         rest = whole ∙ ap (λ x. own ++ x) (sym (drop_at own (f.2 ++ h.after) (length own) refl) ∙ ap (drop (length own)) (sym whole));
+        few = may_begin st.quota t f.0 h.few;
         moved = refl;
       },
     )

@@ -2,7 +2,7 @@
 use Rattle.std.proofs.Common.{◌≡◌, ℕ, ◌+◌, ◌≤◌, Bool, true, false, List, [], ◌++◌, length, drop, Option, None, ◌-◌, arith}
 use Rattle.amqp_model.specs.Term.{Term}
 use Rattle.amqp_model.specs.Spelling.{enc}
-use Rattle.amqp_model.specs.Measures.{nest}
+use Rattle.amqp_model.specs.Measures.{nest, nodes}
 use Rattle.amqp_wire.specs.declared.error.Error.{Error}
 use Rattle.amqp_wire.specs.declared.limits.Limits.{Limits}
 use Rattle.amqp_wire.specs.Limits.{unlimited, limit_of}
@@ -38,7 +38,7 @@ looking n st = record st { ahead = n }
 abbrev pub AreAlike : State → State → Type 0
 AreAlike a b = b ≡ looking b.ahead a
 
--- A decoder at the start of an input, within limits on how deep values nest and how many bytes they have.
+-- A decoder at the start of an input, within limits on how deep values nest, how many bytes they have and how many they are.
 abbrev pub start_within : Limits → List ℕ → State
 start_within limits input = record {
   rest = input;
@@ -47,6 +47,7 @@ start_within limits input = record {
   top = top_level (limit_of limits.bytes);
   saved = [];
   nesting = limits.nesting;
+  quota = limit_of limits.items;
   error = None;
   failed = false;
 }
@@ -63,12 +64,12 @@ IsGreatest limits = (limits.nesting ≡ 128) × (limits.bytes ≡ unlimited) × 
 abbrev pub start : List ℕ → State
 start input = start_within greatest input
 
--- No front of the input within the limit on bytes is a term; if the error is a limit's or `Depth`, none that nests no deeper than
--- the limits say.
+-- No front of the input within the limit on bytes is a term; if the error is a limit's or `Depth`, none that nests no deeper and
+-- has no more values than the limits say.
 abbrev pub IsUnspelledWithin : Limits → Error → List ℕ → Type 0
 IsUnspelledWithin limits e input =
     (b more : List ℕ) (t : Term) → input ≡ b ++ more → enc b t → Has (limit_of limits.bytes) (length b)
-    → (IsByDepth e → nest t ≤ limits.nesting) → ⊥
+    → (IsByDepth e → (nest t ≤ limits.nesting) × Has (limit_of limits.items) (nodes t)) → ⊥
 
 -- No front of the input is a term; if the error is a limit's or `Depth`, none that nests at most 128 deep.
 abbrev pub IsUnspelled : Error → List ℕ → Type 0

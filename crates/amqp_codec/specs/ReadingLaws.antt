@@ -91,6 +91,7 @@ value_looked means n st v b h =
           rest = s.rest;
           spelled = s.spelled;
           nested = s.nested;
+          few = s.few;
         };
         moved = ap (looking (n - length h.bytes)) h.moved;
         meant = h.meant;
@@ -118,13 +119,17 @@ so_by_depth Depth h = refl
 so_by_depth Limit h = refl
 so_by_depth _ h = absurd h
 
+free_has : (o : Option ℕ) (k : ℕ) → Has (freed true o) k
+free_has None k = tt
+free_has (Some n) k = tt
+
 -- before a decoder that lets values nest as deep as any term does
 pub term_unspelled : {T : Type 0} (u : TermType T) (limits : Limits) (input : List ℕ) (e : Error) → IsMisspelling e
     → u.faults.fault (start_within limits input) e → IsUnspelledWithin limits e input
 term_unspelled u limits input e i f b more t is s room bound = by (is_by_depth e) refl
   where
     deeper : Setting
-    deeper = record { source = 0; failed = false; deepen = λ n. max n (nest t); grows = λ n. omega arith }
+    deeper = record { source = 0; failed = false; deepen = λ n. max n (nest t); grows = λ n. omega arith; free = true }
 
     by : (d : Bool) → is_by_depth e ≡ d → ⊥
     by true d =
@@ -136,12 +141,22 @@ term_unspelled u limits input e i f b more t is s room bound = by (is_by_depth e
           after = more;
           rest = is;
           spelled = s;
-          nested = (let k = bound (by_depth_so e d) in omega (arith, k));
+          nested = (let k = (bound (by_depth_so e d)).0 in omega (arith, k));
+          few = (bound (by_depth_so e d)).1;
         })
     by false d =
         u.faults.misspelled (under deeper (start_within limits input)) e (inl (omega arith)) i
-        (u.faults.fault_elsewhere deeper (start_within limits input) e (λ h n. absurd (clash (so_by_depth e h) d)) f) b t
-        (record { going = refl; item = tt; room = room; after = more; rest = is; spelled = s; nested = omega arith })
+        (u.faults.fault_elsewhere deeper (start_within limits input) e (λ h. absurd (clash (so_by_depth e h) d)) f) b t
+        (record {
+          going = refl;
+          item = tt;
+          room = room;
+          after = more;
+          rest = is;
+          spelled = s;
+          nested = omega arith;
+          few = free_has (limit_of limits.items) (nodes t);
+        })
 
 -- one value at most, and its length
 pub read_one : {T : Type 0} (limits : Limits) (r : Reading T) (input : List ℕ) (v w : T) (n m : ℕ) → BeginsWithin limits r input v n

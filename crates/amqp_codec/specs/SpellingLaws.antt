@@ -3,7 +3,7 @@ use Rattle.std.proofs.Common.{◌≡◌, ℕ, ◌+◌, ◌-◌, ◌≤◌, ◌�
 use Rattle.std.proofs.lemmas.List.{length-drop, take_at}
 use Rattle.amqp_model.specs.Term.{Term}
 use Rattle.amqp_model.specs.Spelling.{enc}
-use Rattle.amqp_model.specs.Measures.{nest}
+use Rattle.amqp_model.specs.Measures.{nest, nodes}
 use Rattle.amqp_model.proofs.Unique.{one_term}
 use Rattle.amqp_wire.specs.declared.limits.Limits.{Limits}
 use Rattle.amqp_wire.specs.Limits.{limit_of}
@@ -37,7 +37,7 @@ module _ {T : Type 0} (u : TermType T) where
 
   pub spelled_read : (b more : List ℕ) (v : T) → IsSpelled u b v → BeginsWith (reading_of u) (b ++ more) v (length b)
   spelled_read b more v h = record {
-    after = after_value (length b) (start (b ++ more));
+    after = after_value (length b) (nodes h.term) (start (b ++ more));
     read = record {
       bytes = b;
       term = h.term;
@@ -49,6 +49,7 @@ module _ {T : Type 0} (u : TermType T) where
         rest = refl;
         spelled = h.spelled;
         nested = (let x = h.nested in omega (arith, x));
+        few = tt;
       };
       moved = refl;
       meant = h.meant;
@@ -62,7 +63,7 @@ module _ {T : Type 0} (u : TermType T) where
       let k = h.read in
       let s = k.stands in
       record {
-        after = after_value (length k.bytes) (start input);
+        after = after_value (length k.bytes) (nodes k.term) (start input);
         read = record {
           bytes = k.bytes;
           term = k.term;
@@ -74,6 +75,7 @@ module _ {T : Type 0} (u : TermType T) where
             rest = s.rest;
             spelled = s.spelled;
             nested = (let deep = s.nested in let most = limits.nests in omega (arith, deep, most));
+            few = tt;
           };
           moved = refl;
           meant = k.meant;
@@ -82,13 +84,14 @@ module _ {T : Type 0} (u : TermType T) where
       }
 
   within_limits : (limits : Limits) (input : List ℕ) (v : T) (n : ℕ) → BeginsWith (reading_of u) input v n → Has (limit_of limits.bytes) n
-      → ((t : Term) → enc (take n input) t → nest t ≤ limits.nesting) → BeginsWithin limits (reading_of u) input v n
+      → ((t : Term) → enc (take n input) t → (nest t ≤ limits.nesting) × Has (limit_of limits.items) (nodes t))
+      → BeginsWithin limits (reading_of u) input v n
   within_limits limits input v n h room deep =
       let k = h.read in
       let s = k.stands in
       let f = read_front greatest input v n h in
       record {
-        after = after_value (length k.bytes) (start_within limits input);
+        after = after_value (length k.bytes) (nodes k.term) (start_within limits input);
         read = record {
           bytes = k.bytes;
           term = k.term;
@@ -99,7 +102,8 @@ module _ {T : Type 0} (u : TermType T) where
             after = s.after;
             rest = s.rest;
             spelled = s.spelled;
-            nested = (let few = deep k.term (subst (λ b. enc b k.term) f.1 s.spelled) in omega (arith, few));
+            nested = (let few = (deep k.term (subst (λ b. enc b k.term) f.1 s.spelled)).0 in omega (arith, few));
+            few = (deep k.term (subst (λ b. enc b k.term) f.1 s.spelled)).1;
           };
           moved = refl;
           meant = k.meant;
@@ -108,18 +112,18 @@ module _ {T : Type 0} (u : TermType T) where
       }
 
   no_deeper : (limits : Limits) (input : List ℕ) (v : T) (n : ℕ) → BeginsWithin limits (reading_of u) input v n → (t : Term)
-      → enc (take n input) t → nest t ≤ limits.nesting
+      → enc (take n input) t → (nest t ≤ limits.nesting) × Has (limit_of limits.items) (nodes t)
   no_deeper limits input v n h t s =
       let k = h.read in
       let f = read_front limits input v n h in
       let deep = k.stands.nested in
       let same : t ≡ k.term = one_term (take n input) k.bytes [] [] t k.term s k.stands.spelled (ap (λ b. b ++ []) (sym f.1)) in
-      omega (arith, ap nest same, deep)
+      (omega (arith, ap nest same, deep), subst (λ x. Has (limit_of limits.items) (nodes x)) (sym same) k.stands.few)
 
-  -- within limits is read what is read without, as far as its bytes and how deep it nests are within them
+  -- within limits is read what is read without, as far as its bytes, how deep it nests and how many values it has are within them
   pub read_within : (limits : Limits) (input : List ℕ) (v : T) (n : ℕ) → BeginsWithin limits (reading_of u) input v n
       ↔ (BeginsWith (reading_of u) input v n × Has (limit_of limits.bytes) n
-      × ((t : Term) → enc (take n input) t → nest t ≤ limits.nesting))
+      × ((t : Term) → enc (take n input) t → (nest t ≤ limits.nesting) × Has (limit_of limits.items) (nodes t)))
   read_within limits input v n = (
     λ h. (
       without_limits limits input v n h,

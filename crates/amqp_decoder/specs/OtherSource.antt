@@ -99,7 +99,7 @@ module _ (c : Setting) where
   took h = record { room = h.room; rest = h.rest; moved = ap at h.moved }
 
   -- a value is taken
-  taken_past : (n k : ℕ) (st : State) → at (after_value n k st) ≡ after_value n k (at st)
+  pub taken_past : (n k : ℕ) (st : State) → at (after_value n k st) ≡ after_value n k (at st)
   taken_past n k st = ap (λ q. record (after_value n k (at st)) { quota = q }) (freed_lower c.free st.quota k)
 
   pub begun : {st st' : State} {k : ℕ} → ReadsCode st k st' → ReadsCode (at st) k (at st')
