@@ -9,6 +9,7 @@ use Rattle.amqp_model.specs.Fields.{Fits, rules_of}
 use Rattle.amqp_model.specs.declared.tables.FieldRule.TheVariants.{Mandatory}
 use Rattle.amqp_wire.specs.declared.error.Error.{Error}
 use Rattle.amqp_decoder.specs.declared.frame.Place.TheVariants.{InList}
+use Rattle.amqp_model.specs.Measures.{nodes}
 use Rattle.amqp_decoder.specs.State.{State, after_value}
 use Rattle.amqp_decoder.specs.Items.{Row}
 use Rattle.amqp_decoder.proofs.ContainerTerms.{Together, together, used_up, row_joined, row_of_one}

@@ -11,6 +11,7 @@ use Rattle.amqp_wire.specs.declared.error.Error.{Error}
 use Rattle.amqp_wire.specs.declared.error.Error.TheVariants.{Missing, EmptyMultiple}
 use Rattle.amqp_model.specs.declared.tables.FieldRule.TheVariants.{Mandatory, MandatoryMultiple}
 use Rattle.amqp_decoder.specs.declared.frame.Place.TheVariants.{InList}
+use Rattle.amqp_model.specs.Measures.{nodes}
 use Rattle.amqp_decoder.specs.State.{State, after_value}
 use Rattle.amqp_decoder.specs.Reading.{RefusesRead, BeginFault, PeeksCode}
 use Rattle.amqp_decoder.specs.Primitives.{standing, Stands, ReadsValue, Means}

@@ -4,6 +4,7 @@ use Rattle.amqp_model.specs.Term.{Container, Term, Terms, container, none, more,
 use Rattle.amqp_model.specs.Items.{items_of}
 use Rattle.amqp_model.specs.Standing.{Standing, Parts}
 use Rattle.amqp_wire.specs.declared.error.Error.{Error}
+use Rattle.amqp_model.specs.Measures.{nodes}
 use Rattle.amqp_decoder.specs.State.{State, after_value}
 use Rattle.amqp_decoder.specs.OtherSource.{Setting, under, KeepsError, value, close_fault}
 use Rattle.amqp_decoder.specs.Rooms.{HasRoom}

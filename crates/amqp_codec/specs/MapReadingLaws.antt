@@ -7,6 +7,7 @@ use Rattle.amqp_model.specs.Standing.{Standing, Parts}
 use Rattle.amqp_model.specs.FieldType.{normal}
 use Rattle.amqp_wire.specs.declared.error.Error.{Error}
 use Rattle.amqp_decoder.specs.declared.frame.Place.TheVariants.{InMap}
+use Rattle.amqp_model.specs.Measures.{nodes}
 use Rattle.amqp_decoder.specs.State.{State, after_value}
 use Rattle.amqp_decoder.specs.OtherSource.{Setting, under, KeepsError, value as value_elsewhere, opens, open_fault, close_fault}
 use Rattle.amqp_decoder.specs.Rooms.{HasRoom}

@@ -5,6 +5,7 @@ use Rattle.amqp_model.specs.Term.{Term, described}
 use Rattle.amqp_model.specs.Standing.{Standing}
 use Rattle.amqp_wire.specs.declared.error.Error.{Error}
 use Rattle.amqp_decoder.specs.declared.frame.Place.TheVariants.{InDescribed}
+use Rattle.amqp_model.specs.Measures.{nodes}
 use Rattle.amqp_decoder.specs.State.{State, after_value}
 use Rattle.amqp_decoder.specs.Reading.{RefusesRead}
 use Rattle.amqp_decoder.specs.Primitives.{standing, Stands, ReadsValue}

@@ -1,11 +1,12 @@
 -- The fields and members of composites that stand before a decoder, and their faults, are the same of another source and
 -- of a greater bound on nesting.
-use Rattle.std.proofs.Common.{ℕ, zero, suc, List, [], ◌∷◌, length, ap}
+use Rattle.std.proofs.Common.{ℕ, zero, suc, List, [], ◌∷◌, length, ap, subst}
 use Rattle.amqp_model.specs.Term.{Term}
 use Rattle.amqp_wire.specs.declared.error.Error.{Error}
+use Rattle.amqp_model.specs.Measures.{nodes}
 use Rattle.amqp_decoder.specs.State.{State, after_value}
 use Rattle.amqp_decoder.specs.Items.{Row}
-use Rattle.amqp_decoder.specs.OtherSource.{Setting, under, KeepsError, begin_fault, peeked, value, stands, opens, open_fault, end_fault}
+use Rattle.amqp_decoder.specs.OtherSource.{Setting, under, taken_past, KeepsError, begin_fault, peeked, value, stands, opens, open_fault, end_fault}
 use Rattle.amqp_decoder.specs.OtherSource.{closes, close_fault, opens_described, one_of_fault}
 use Rattle.amqp_codec.specs.Fields.{Fields, none, field}
 use Rattle.amqp_codec.specs.FieldReading.{FaultAt, ItemFault, no_item, null_item, in_item, FieldsSoFar, FieldsRead, FieldsFault, no_list}

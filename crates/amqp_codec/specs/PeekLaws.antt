@@ -9,11 +9,12 @@ use Rattle.amqp_model.specs.Items.{is_null}
 use Rattle.amqp_model.specs.ItemLaws.{clash}
 use Rattle.amqp_model.proofs.Lengths.{spelling_length}
 use Rattle.amqp_wire.specs.declared.error.Error.{Error}
-use Rattle.amqp_decoder.specs.State.{State, after_value}
+use Rattle.amqp_decoder.specs.State.{State, after_value, counted}
 use Rattle.amqp_decoder.specs.Steps.{IsExcused}
 use Rattle.amqp_decoder.specs.Reading.{ReadsCode, IsFirst, PeeksCode, after_peek}
 use Rattle.amqp_decoder.specs.Primitives.{standing, SpellsAs, Stands, ReadsValue, Means, PrimitiveFault}
 use Rattle.amqp_decoder.proofs.ReadPrimitives.{value_leaf, begun_same, fault_not_leaf, code_value}
+use Rattle.amqp_decoder.proofs.Counts.{may_begin}
 use Rattle.amqp_decoder.proofs.Steps.{has_less}
 use Rattle.amqp_decoder.proofs.Peeks.{begun-peeked}
 use Rattle.amqp_lookahead.specs.Kinds.{nulls}

@@ -4,14 +4,14 @@ use Rattle.std.proofs.Common.{length-append}
 use Rattle.std.proofs.lemmas.List.{length-drop}
 use Rattle.amqp_model.specs.Term.{Term}
 use Rattle.amqp_model.specs.Standing.{Standing}
-use Rattle.amqp_model.specs.Measures.{nest}
+use Rattle.amqp_model.specs.Measures.{nest, nodes}
 use Rattle.amqp_model.specs.ItemLaws.{clash}
 use Rattle.amqp_model.proofs.Count.{nodes_bounded}
 use Rattle.amqp_wire.specs.declared.error.Error.{Error}
 use Rattle.amqp_wire.specs.declared.error.Error.TheVariants.{Memory, Depth, Limit}
 use Rattle.amqp_wire.specs.declared.limits.Limits.{Limits}
-use Rattle.amqp_decoder.specs.State.{Open, State, top_level, lower}
-use Rattle.amqp_decoder.specs.OtherSource.{Setting, under, IsByDepth}
+use Rattle.amqp_decoder.specs.State.{Open, State, Has, top_level, lower}
+use Rattle.amqp_decoder.specs.OtherSource.{Setting, under, freed, IsByDepth}
 use Rattle.amqp_decoder.specs.Misspelled.{IsMisspelling}
 use Rattle.amqp_decoder.specs.Primitives.{standing, SpellsAs, ReadsValue}
 use Rattle.amqp_decoder.proofs.OneReading.{value_same}

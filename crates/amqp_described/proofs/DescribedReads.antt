@@ -10,6 +10,7 @@ use Rattle.amqp_wire.specs.declared.descriptor.Descriptor.TheVariants.{Name, Cod
 use Rattle.amqp_encoder.specs.Values.{descriptor_of as written_descriptor}
 use Rattle.amqp_lookahead.specs.Members.{descriptor_of}
 use Rattle.amqp_decoder.specs.declared.frame.Place.TheVariants.{InDescribed}
+use Rattle.amqp_model.specs.Measures.{nodes}
 use Rattle.amqp_decoder.specs.State.{State, after_value}
 use Rattle.amqp_decoder.specs.Reading.{RefusesRead}
 use Rattle.amqp_decoder.specs.Primitives.{standing, Stands, ReadsValue}
@@ -27,14 +28,14 @@ use Rattle.amqp_described.specs.DescribedReading.{DescribedValueFault, unopened,
 use Rattle.amqp_described.specs.DescribedType.{pair_of, described_of}
 
 -- behind its one value a described value is at its end
-at_end : (st inner last : State) (d : Descriptor) (n : ℕ) (e : Error) → OpensDescribed st d inner → last ≡ after_value n inner
+at_end : (st inner last : State) (d : Descriptor) (n k : ℕ) (e : Error) → OpensDescribed st d inner → last ≡ after_value n k inner
     → EndFault InDescribed last e → ⊥
-at_end st inner last d n e o is (other_place other _) =
+at_end st inner last d n k e o is (other_place other _) =
     other (ap (λ (x : State). x.top.place) is ∙ ap (λ (x : State). x.top.place) o.opened)
-at_end st inner last d n e o is (nothing_open empty _) =
+at_end st inner last d n k e o is (nothing_open empty _) =
     let some = sym empty ∙ ap (λ (x : State). x.saved) is ∙ ap (λ (x : State). x.saved) o.opened in cc
-at_end st inner last d n e o is (items_left _ left _) =
-    left (ap (λ (x : State). x.top.items) is ∙ ap (λ (x : State). (after_value n x).top.items) o.opened ∙ ap Some (omega arith))
+at_end st inner last d n k e o is (items_left _ left _) =
+    left (ap (λ (x : State). x.top.items) is ∙ ap (λ (x : State). (after_value n k x).top.items) o.opened ∙ ap Some (omega arith))
 
 module _ {T : Type 0} (u : TermType T) where
   abbrev Reads : State → Described T → State → Type 0
@@ -54,7 +55,7 @@ module _ {T : Type 0} (u : TermType T) where
   inside_so : (st : State) (v : Described T) (b : State) (bytes : List ℕ) (d : Descriptor) (x : Term) (z : Standing) → st.nesting ≤ 128
       → d ≡ descriptor_of v.descriptor
       → (u.ignores_standing ≡ false → Parts (standing st.top.shared bytes) (described d x) (z ∷ [])) → u.means z x v.value
-      → Stands st bytes (described d x) → b ≡ after_value (length bytes) st → Inside st v b
+      → Stands st bytes (described d x) → b ≡ after_value (length bytes) (nodes x) st → Inside st v b
   inside_so st v b bytes d x z bound is p m stands moved =
       let k = term_described st d x b (record { bytes = bytes; stands = stands; moved = moved }) in
       let n = described_with_parts st d x b (omega (arith, bound)) k in
@@ -64,7 +65,7 @@ module _ {T : Type 0} (u : TermType T) where
       record {
         inner = k.inner;
         opens = subst (λ g. OpensDescribed st g k.inner) is k.opens;
-        last = after_value (length k.bytes) k.inner;
+        last = after_value (length k.bytes) (nodes x) k.inner;
         read = record {
           bytes = k.bytes;
           term = x;
@@ -120,7 +121,7 @@ module _ {T : Type 0} (u : TermType T) where
     end_refused w last e new r =
         refused_later (λ st (_ : Unit {0}) b. ClosesDescribed InDescribed st b) (EndFault InDescribed) Reads Fault st last e new (λ _. refl)
         (ap (λ (x : State). x.failed) r.moved ∙ described_sound o) o.begun.going
-        (ap (λ (x : State). x.error) r.moved ∙ described_going o) (λ f. absurd (at_end st inner last d (length r.bytes) e o r.moved f))
+        (ap (λ (x : State). x.error) r.moved ∙ described_going o) (λ f. absurd (at_end st inner last d (length r.bytes) (nodes r.term) e o r.moved f))
         (λ none v b h.
         let k = inside st v b bound h in
         let s = opens_described_same st (descriptor_of v.descriptor) d k.inner inner k.opens o in
