@@ -199,5 +199,5 @@ module _ {T : Type 0} (o : Opening) (u : TermType T) where
   pub value_items : (st : State) (vs : List T) (b : State) → o.fits st → ReadsValue Meant st vs b → ItemsRead o u.means st vs b
   value_items st vs b fits h =
       items_cases u.ignores_standing u.means o.kind (standing st.top.shared h.bytes) vs
-      (λ t. Stands st h.bytes t → ItemsRead o u.means st vs b)
-      (λ ts ss p m stands. next_items st vs b h.bytes ts ss fits p m stands h.moved) h.term h.meant h.stands
+      (λ t. Stands st h.bytes t → b ≡ after_value (length h.bytes) (nodes t) st → ItemsRead o u.means st vs b)
+      (λ ts ss p m stands moved. next_items st vs b h.bytes ts ss fits p m stands moved) h.term h.meant h.stands h.moved

@@ -288,5 +288,5 @@ module _ {K V : Type 0} (key : TermType K) (value : TermType V) where
   pub value_map : (st : State) (ps : List (K × V)) (b : State) → ReadsValue Meant st ps b → MapRead key value st ps b
   value_map st ps b h =
       items_cases (key.ignores_standing && value.ignores_standing) Turn map (standing st.top.shared h.bytes) (in_turn ps)
-      (λ t. Stands st h.bytes t → MapRead key value st ps b)
-      (λ ts ss p m stands. next_pairs st ps b h.bytes ts ss p m h.meant.1 stands h.moved) h.term h.meant.0 h.stands
+      (λ t. Stands st h.bytes t → b ≡ after_value (length h.bytes) (nodes t) st → MapRead key value st ps b)
+      (λ ts ss p m stands moved. next_pairs st ps b h.bytes ts ss p m h.meant.1 stands moved) h.term h.meant.0 h.stands h.moved

@@ -50,7 +50,11 @@ module _ {V : Type 0} (m : Members V) (means : Standing → Term → V → Type 
   from_value st v b h =
       let t = sum.from_term (standing st.top.shared h.bytes) h.term v h.meant in
       let k = term_described st t.descriptor t.described_ b
-      (record { bytes = h.bytes; stands = subst (λ x. Stands st h.bytes x) t.is h.stands; moved = h.moved }) in
+      (record {
+        bytes = h.bytes;
+        stands = subst (λ x. Stands st h.bytes x) t.is h.stands;
+        moved = h.moved ∙ ap (λ x. after_value (length h.bytes) (nodes x) st) t.is;
+      }) in
       record {
         descriptor = t.descriptor;
         place = t.place;

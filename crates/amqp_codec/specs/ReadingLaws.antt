@@ -1,5 +1,5 @@
 -- Lemmas of what it is to read a value: of the terms of a type, and of a whole input.
-use Rattle.std.proofs.Common.{sym, ◌≡◌, inl, inr, ℕ, ◌+◌, ◌≤◌, Bool, true, false, List, length, max, Option, None, ◌⊎◌, refl, ap, ◌∙◌, subst, arith, ◌-◌}
+use Rattle.std.proofs.Common.{sym, ◌≡◌, inl, inr, ℕ, ◌+◌, ◌≤◌, Bool, true, false, List, length, max, Option, Some, None, ◌⊎◌, refl, ap, ◌∙◌, subst, arith, ◌-◌}
 use Rattle.std.proofs.Common.{length-append}
 use Rattle.std.proofs.lemmas.List.{length-drop}
 use Rattle.amqp_model.specs.Term.{Term}
@@ -10,6 +10,7 @@ use Rattle.amqp_model.proofs.Count.{nodes_bounded}
 use Rattle.amqp_wire.specs.declared.error.Error.{Error}
 use Rattle.amqp_wire.specs.declared.error.Error.TheVariants.{Memory, Depth, Limit}
 use Rattle.amqp_wire.specs.declared.limits.Limits.{Limits}
+use Rattle.amqp_wire.specs.Limits.{limit_of}
 use Rattle.amqp_decoder.specs.State.{Open, State, Has, top_level, lower}
 use Rattle.amqp_decoder.specs.OtherSource.{Setting, under, freed, IsByDepth}
 use Rattle.amqp_decoder.specs.Misspelled.{IsMisspelling}
@@ -188,7 +189,7 @@ memory_wanted limits r input e (inr x) is =
 
 -- the greatest limits, whatever they are called, are those of a start without any
 same_start : (limits : Limits) (input : List ℕ) → IsGreatest limits → start_within limits input ≡ start input
-same_start limits input (nesting, bytes, items) = rw (nesting, bytes) refl
+same_start limits input (nesting, bytes, items) = rw (nesting, bytes, items) refl
 
 pub begins_greatest : {T : Type 0} (limits : Limits) (r : Reading T) (input : List ℕ) (v : T) (n : ℕ) → IsGreatest limits
     → BeginsWithin limits r input v n → BeginsWith r input v n

@@ -79,8 +79,8 @@ module _ {T : Type 0} (u : TermType T) where
   inside : (st : State) (v : Described T) (b : State) → st.nesting ≤ 128 → Reads st v b → Inside st v b
   inside st v b bound h =
       pair_cases any_descriptor.means u.ignores_standing u.means (standing st.top.shared h.bytes) (pair_of v)
-      (λ t. Stands st h.bytes t → Inside st v b)
-      (λ d x z q p m stands. inside_so st v b h.bytes d x z bound q.0 p m stands h.moved) h.term h.meant h.stands
+      (λ t. Stands st h.bytes t → b ≡ after_value (length h.bytes) (nodes t) st → Inside st v b)
+      (λ d x z q p m stands moved. inside_so st v b h.bytes d x z bound q.0 p m stands moved) h.term h.meant h.stands h.moved
 
   pub whole_read : (st inner last b : State) (v : Described T) → st.nesting ≤ 128 → OpensDescribed st (descriptor_of v.descriptor) inner
       → IsInRange (descriptor_value (descriptor_of v.descriptor)) → ReadsValue u.means inner v.value last

@@ -69,7 +69,8 @@ module _ {V T : Type 0} (h : Holds V T) (c : Naming) (u : TermType T) where
   opened : (st : State) (v : V) (b : State) → Reads st v b → Opened st b
   opened st v b r =
       pair_cases (called c).means u.ignores_standing u.means (standing st.top.shared r.bytes) (behind h v)
-      (λ t. Stands st r.bytes t → Opened st b) (λ d x z q p m stands. opened_so st b r.bytes d x q stands r.moved) r.term r.meant r.stands
+      (λ t. Stands st r.bytes t → b ≡ after_value (length r.bytes) (nodes t) st → Opened st b)
+      (λ d x z q p m stands moved. opened_so st b r.bytes d x q stands moved) r.term r.meant r.stands r.moved
 
   -- and what it describes is read, and it is closed
   record Inside (st : State) (v : V) (b : State) : Type 0 where
@@ -107,8 +108,8 @@ module _ {V T : Type 0} (h : Holds V T) (c : Naming) (u : TermType T) where
   inside : (st : State) (v : V) (b : State) → st.nesting ≤ 128 → Reads st v b → Inside st v b
   inside st v b bound r =
       pair_cases (called c).means u.ignores_standing u.means (standing st.top.shared r.bytes) (behind h v)
-      (λ t. Stands st r.bytes t → Inside st v b)
-      (λ d x z q p m stands. inside_so st v b r.bytes d x z bound p m stands r.moved) r.term r.meant r.stands
+      (λ t. Stands st r.bytes t → b ≡ after_value (length r.bytes) (nodes t) st → Inside st v b)
+      (λ d x z q p m stands moved. inside_so st v b r.bytes d x z bound p m stands moved) r.term r.meant r.stands r.moved
 
   pub begin_refused : (ms : List Member) (st : State) (e : Error) (new : State) → IsOnly c ms
       → RefusesRead false (OpensOneOf ms) (OneOfFault ms) st e new → RefusesRead u.takes_memory Reads Fault st e new
