@@ -208,5 +208,5 @@ unreadable_greatest limits r input e g h =
     record {
       fault = fault;
       none = λ v n k. h.none v n (greatest_begins limits r input v n g k);
-      unspelled = λ one i b more t is s bound. r.misspelled one greatest input e i fault b more t is s tt bound;
+      unspelled = λ one i b more t is s bound. r.misspelled one greatest input e i fault b more t is s tt (λ deep. (bound deep, tt));
     }

@@ -1,10 +1,14 @@
 -- The reading of a type of terms: one term that means the value.
-use Rattle.std.proofs.Common.{true, false}
-use Rattle.amqp_decoder.specs.OtherSource.{another, keeps_another, value}
+use Rattle.std.proofs.Common.{◌≡◌, ℕ, Bool, true, false, ap, subst}
+use Rattle.amqp_decoder.specs.State.{State}
+use Rattle.amqp_decoder.specs.OtherSource.{another, under, elsewhere, freed_kept, keeps_another, value}
 use Rattle.amqp_decoder.specs.Primitives.{ReadsValue}
 use Rattle.amqp_codec.specs.TermType.{TermType}
 use Rattle.amqp_codec.specs.Reading.{Reading}
 use Rattle.amqp_codec.specs.ReadingLaws.{value_counted, value_taken, value_stays, value_looked, value_alike, term_unspelled}
+
+pub another_is : (source : ℕ) (failed : Bool) (st : State) → under (another source failed) st ≡ elsewhere source failed st
+another_is source failed st = ap (λ q. record (elsewhere source failed st) { quota = q }) (freed_kept st.quota)
 
 -- The reading of a type of terms.
 abbrev pub reading_of : {T : Type 0} → TermType T → Reading T
@@ -26,6 +30,9 @@ reading_of u = record {
   taken = value_taken u.means;
   stays = value_stays u.means;
   looked = value_looked u.means;
-  reads_elsewhere = λ source failed st v b. value (another source failed) u.means;
-  fault_elsewhere = λ source failed st e. u.faults.fault_elsewhere (another source failed) st e (keeps_another source failed e);
+  reads_elsewhere = λ source failed st v b h. subst (λ x. ReadsValue u.means x v (elsewhere source failed b)) (another_is source failed st)
+      (subst (ReadsValue u.means (under (another source failed) st) v) (another_is source failed b)
+      (value (another source failed) u.means h));
+  fault_elsewhere = λ source failed st e h. subst (λ x. u.faults.fault x e) (another_is source failed st)
+      (u.faults.fault_elsewhere (another source failed) st e (keeps_another source failed e) h);
 }
