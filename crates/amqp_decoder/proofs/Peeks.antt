@@ -25,18 +25,19 @@ pub peeked_shared : (st : State) (c : ℕ) → st.error ≡ None → Has st.top.
 peeked_shared st c going item h few =
     record { after = _; begun = begun_shared st c going item h few; kept = under_shared st.top.shared c st h }
 
--- the first of the bytes that are looked at
-first_is : (n c : ℕ) (row r : List ℕ) → row ≡ take n r → Some c ≡ slice_get row 0 → r ≡ c ∷ drop 1 r
-first_is zero c row r is at = let e : Some c ≡ None = at ∙ ap (λ l. slice_get l 0) is in absurd (cc)
-first_is (suc n) c row [] is at = let e : Some c ≡ None = at ∙ ap (λ l. slice_get l 0) is in absurd (cc)
-first_is (suc n) c row (x ∷ r) is at = ap (λ b. b ∷ r) (sym (ap (λ l. get_or l 0 0) is) ∙ get_or_from_slice_get row 0 c 0 (sym at))
+-- what a look found
+pub nothing_there : (o : Option ℕ) (r : List ℕ) → o ≡ None → MatchOption o (r ≡ []) (λ b. r ≡ b ∷ drop 1 r) → r ≡ []
+nothing_there None r is h = h
+nothing_there (Some b) r is h = absurd (cc)
+
+pub byte_there : (o : Option ℕ) (c : ℕ) (r : List ℕ) → o ≡ Some c → MatchOption o (r ≡ []) (λ b. r ≡ b ∷ drop 1 r) → r ≡ c ∷ drop 1 r
+byte_there None c r is h = absurd (cc)
+byte_there (Some b) c r is h = let e : b ≡ c = cc in subst (λ x. r ≡ x ∷ drop 1 r) e h
 
 -- a byte stands there, and is looked at
-pub peeked_own : (st : State) (c : ℕ) (new : State) (row : List ℕ) → st.error ≡ None → Has st.top.items 1 → st.top.shared ≡ None
-    → Has st.top.left 1 → new ≡ after_look (min 1 (length st.rest)) st → row ≡ take new.ahead new.rest
-    → Some c ≡ slice_get row 0 → Has st.quota (counted c) → PeeksCode st c new
-peeked_own st c new row going item none room is front at few =
-    let byte : st.rest ≡ c ∷ drop 1 st.rest = first_is _ c row st.rest (front ∙ ap (λ (x : State). take x.ahead x.rest) is) at in
+pub peeked_own : (st : State) (c : ℕ) (new : State) → st.error ≡ None → Has st.top.items 1 → st.top.shared ≡ None → Has st.top.left 1
+    → new ≡ after_look (min 1 (length st.rest)) st → st.rest ≡ c ∷ drop 1 st.rest → Has st.quota (counted c) → PeeksCode st c new
+peeked_own st c new going item none room is byte few =
     let one : min 1 (length st.rest) ≡ 1 = omega (arith, ap length byte) in
     let took : Takes st (c ∷ []) (after_data 1 st) = record { room = room; rest = byte; moved = refl } in
     record {
@@ -73,15 +74,13 @@ pub peeked_shared_if : (st : State) (c : ℕ) (r : Result ℕ Error) (new : Stat
 peeked_shared_if st c (Ok k) new going item h (same, few, is) = peeked_so st c k st new same is (peeked_shared st c going item h few)
 peeked_shared_if st c (Err e) new going item h (full, is, kept) = peek_refused st e new (full_shared st c e new going item h full is kept)
 
-pub peeked_own_if : (st : State) (c : ℕ) (seen : State) (row : List ℕ) (r : Result ℕ Error) (new : State) → st.error ≡ None
-    → Has st.top.items 1 → st.top.shared ≡ None → Has st.top.left 1 → seen ≡ after_look (min 1 (length st.rest)) st
-    → row ≡ take seen.ahead seen.rest → Some c ≡ slice_get row 0 → IsCounted seen c r new
-    → AnswersRead false PeeksCode BeginFault st r new
-peeked_own_if st c seen row (Ok k) new going item none room looked front at (same, few, is) =
+pub peeked_own_if : (st : State) (c : ℕ) (seen : State) (r : Result ℕ Error) (new : State) → st.error ≡ None → Has st.top.items 1
+    → st.top.shared ≡ None → Has st.top.left 1 → seen ≡ after_look (min 1 (length st.rest)) st → st.rest ≡ c ∷ drop 1 st.rest
+    → IsCounted seen c r new → AnswersRead false PeeksCode BeginFault st r new
+peeked_own_if st c seen (Ok k) new going item none room looked byte (same, few, is) =
     let may : Has st.quota (counted c) = subst (λ (x : State). Has x.quota (counted c)) looked few in
-    peeked_so st c k seen new same is (peeked_own st c seen row going item none room looked front at may)
-peeked_own_if st c seen row (Err e) new going item none room looked front at (full, is, kept) =
-    let byte : st.rest ≡ c ∷ drop 1 st.rest = first_is _ c row st.rest (front ∙ ap (λ (x : State). take x.ahead x.rest) looked) at in
+    peeked_so st c k seen new same is (peeked_own st c seen going item none room looked byte may)
+peeked_own_if st c seen (Err e) new going item none room looked byte (full, is, kept) =
     let took : Takes (uncounted st) (c ∷ []) (after_data 1 (uncounted st)) = record { room = room; rest = byte; moved = refl } in
     let begun = begun_own (uncounted st) c (after_data 1 (uncounted st)) going item none took tt in
     peek_refused st e new (begin_full st c _ e new begun (subst (λ (x : State). Has x.quota (counted c) → ⊥) looked full) is
@@ -93,26 +92,12 @@ pub peek_size : (st : State) (e : Error) (new : State) → st.error ≡ None →
 peek_size st e new going item none left r =
     peek_refused st e new (begin_short st e new going item none (short_by_one st e new left r))
 
-nothing_at : (row : List ℕ) → None ≡ slice_get row 0 → length row ≡ 0
-nothing_at [] e = refl
-nothing_at (x ∷ row) e = absurd (cc)
-
-pub none_there : (st new : State) (row : List ℕ) → new ≡ after_look (min 1 (length st.rest)) st → row ≡ take new.ahead new.rest
-    → None ≡ slice_get row 0 → length st.rest < 1
-none_there st new row is front at =
-    omega (
-      arith,
-      nothing_at row at,
-      ap length (front ∙ ap (λ (x : State). take x.ahead x.rest) is),
-      length-take (max st.ahead (min 1 (length st.rest))) st.rest,
-    )
-
 -- the input ends
 pub peek_cut : (st : State) (e : Error) (new : State) → st.error ≡ None → Has st.top.items 1 → st.top.shared ≡ None
-    → (st.top.left ≡ Some 0 → ⊥) → length st.rest < 1 → e ≡ Cut → Answers st e new → RefusesRead false PeeksCode BeginFault st e new
-peek_cut st e new going item none left short is kept =
+    → (st.top.left ≡ Some 0 → ⊥) → st.rest ≡ [] → e ≡ Cut → Answers st e new → RefusesRead false PeeksCode BeginFault st e new
+peek_cut st e new going item none left end_ is kept =
     peek_refused st e new (begin_short st e new going item none
-    (record { kept = kept; why = inr (missed_lacks 1 st e (has_item st.top.left left) is short) }))
+    (record { kept = kept; why = inr (missed_lacks 1 st e (has_item st.top.left left) is (omega (arith, ap length end_))) }))
 
 max-minus : (a n k : ℕ) → n ≤ k → max a n - k ≡ a - k
 max-minus a n k h = omega (arith, h)

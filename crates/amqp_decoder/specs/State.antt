@@ -23,7 +23,7 @@ pub record Open : Type 0 where
   pub shared : Option (List Descriptor × ℕ)
 
 -- rest: the bytes to the end of the input
--- ahead: how many of them were looked at, and are out of the source
+-- ahead: how many of them were looked at
 -- source: the borrow that the source is
 -- top: the open container that values are read from
 -- saved: the containers around it, the nearest first, as they will be once the inner one is closed

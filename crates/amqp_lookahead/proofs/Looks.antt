@@ -1,12 +1,13 @@
 -- Bytes that were looked at, and those of the source behind them.
-use Rattle.std.proofs.Common.{◌≡◌, ◌≤◌, ◌<◌, ℕ, ◌+◌, ◌-◌, List, [], ◌++◌, length, take, drop, min, max, inl, inr, Bool, Result, Ok, Err}
-use Rattle.std.proofs.Common.{IfOk, sym, ap, ◌∙◌, arith, append_assoc, length-append, drop-drop}
-use Rattle.std.proofs.lemmas.List.{drop_at, take_at, length-take-le, length-drop, take-append-le}
+use Rattle.std.proofs.Common.{◌≡◌, ◌≤◌, ◌<◌, ℕ, ◌+◌, ◌-◌, List, [], ◌++◌, length, take, drop, max, inl, inr, Bool, Result, Ok, Err}
+use Rattle.std.proofs.Common.{IfOk, IsOk, Option, Some, None, refl, sym, ap, ◌∙◌, subst, arith, append_assoc, length-append, drop-drop}
+use Rattle.std.proofs.lemmas.List.{drop_at, take_at, length-take-le, length-drop, take-append-le, take-append-drop}
 use Rattle.std.proofs.lemmas.List.Edits.{take-paste}
 use Rattle.std.specs.List.{copy_within}
 use Rattle.std.proofs.Math.Nat.{eq-or-lt_of_le}
-use Rattle.std.proofs.Math.Seq.{take-add, take-append-add}
-use borrow.Rule.Slice.PartMut.{put_mid}
+use Rattle.std.proofs.Math.Seq.{take-add, take-append-add, take-length}
+use borrow.Rule.Slice.PartMut.{put_mid, post_of}
+use Rattle.amqp_wire.specs.Sources.{known, IsTold}
 use Rattle.amqp_wire.proofs.Sources.{pulled}
 use Rattle.amqp_lookahead.specs.State.{State, after_look, after_bytes, pending}
 
@@ -37,27 +38,62 @@ looked_rest start end_ n l K h w =
     rest_is (take n (drop start l)) (pending start end_ l ++ K) (pending (start + n) end_ l ++ K) n (looked_length start end_ n l h w)
     (ap (λ x. x ++ K) (pending_split start end_ n l h) ∙ append_assoc (take n (drop start l)) (pending (start + n) end_ l) K)
 
-pub looked_bytes : (start end_ n : ℕ) (l K x b : List ℕ) → n ≤ end_ - start → end_ ≤ length l → x ≡ take n (drop start l)
-    → pending start end_ l ++ K ≡ take n (x ++ b) ++ drop n (pending start end_ l ++ K)
-looked_bytes start end_ n l K x b h w e =
-    let s = take n (drop start l) in
-    let long : length s ≡ n = looked_length start end_ n l h w in
-    let front : take n (x ++ b) ≡ s = ap (λ y. take n (y ++ b)) e ∙ take_at s b n long in
-    front_is s (pending start end_ l ++ K) (pending (start + n) end_ l ++ K) n long
-    (ap (λ y. y ++ K) (pending_split start end_ n l h) ∙ append_assoc s (pending (start + n) end_ l) K)
-    ∙ ap (λ y. y ++ drop n (pending start end_ l ++ K)) (sym front)
+-- bytes of the buffer that were copied
+pub copied_bytes : (n : ℕ) (p K x b : List ℕ) → n ≤ length p → x ≡ take n p ++ b → p ++ K ≡ take n x ++ drop n (p ++ K)
+copied_bytes n p K x b h e =
+    let s = take n p in
+    let long : length s ≡ n = length-take-le n p h in
+    let whole : p ++ K ≡ s ++ (drop n p ++ K) = ap (λ y. y ++ K) (sym (take-append-drop n p)) ∙ append_assoc s (drop n p) K in
+    front_is s (p ++ K) (drop n p ++ K) n long whole ∙ ap (λ y. y ++ drop n (p ++ K)) (sym (ap (take n) e ∙ take_at s b n long))
+
+-- all of the buffer was copied, and then what the source gave
+pub copied_behind : (p K L x b f : List ℕ) (n k m : ℕ) → n ≡ length p → n ≤ length x → x ≡ take n p ++ b → k ≤ length f → K ≡ take k f ++ L
+    → p ++ K ≡ take (n + k) (put_mid n m x f) ++ drop (n + k) (p ++ K)
+copied_behind p K L x b f n k m whole h e w g =
+    let s = take (n + k) (put_mid n m x f) in
+    let front : take n x ≡ p =
+    ap (take n) e ∙ take_at (take n p) b n (length-take-le n p (omega (arith, whole))) ∙ ap (λ i. take i p) whole ∙ take-length p in
+    let long : length s ≡ n + k =
+    length-take-le (n + k) (put_mid n m x f) (omega (
+      arith,
+      w,
+      length-append (take n x) (f ++ post_of n m x),
+      length-append f (post_of n m x),
+      length-take-le n x h,
+    )) in
+    front_is s (p ++ K) L (n + k) long (pulled (p ++ K) K L x f n k m h w (ap (λ y. y ++ K) (sym front)) g)
+
+-- the source behind those of its bytes that were looked at
+pub behind_looked : (start end_ seen n : ℕ) (l K L b : List ℕ) → end_ ≤ length l → seen ≤ length K → length b ≡ seen → n ≤ length b
+    → K ≡ take n b ++ L → (n < length b → L ≡ []) → L ≡ drop (end_ - start + seen) (pending start end_ l ++ K)
+behind_looked start end_ seen n l K L b within there room few f all =
+    let p = pending start end_ l in
+    let taken_ : length (take n b) ≡ n = length-take-le n b few in
+    let long : length p ≡ end_ - start = length-take-le (end_ - start) (drop start l) (omega (arith, within, length-drop start l)) in
+    let count : length K ≡ n + length L = ap length f ∙ length-append (take n b) L ∙ ap (λ m. m + length L) taken_ in
+    let none : (n < length b) → length L ≡ 0 = λ h. ap length (all h) in
+    let whole : n ≡ seen = elim (eq-or-lt_of_le few) [
+      | inl h ↦ omega (arith, h, room)
+      | inr h ↦ absurd (omega (arith, none h, h, count, room, there))
+    ] in
+    rest_is (take n b) K L n taken_ f ∙ ap (λ i. drop i K) whole ∙ ap (drop seen) (rest_is p (p ++ K) K (end_ - start) long refl)
+    ∙ drop-drop seen (end_ - start) (p ++ K)
+
+-- bytes that are known are told
+pub some_told : (o : Option (List ℕ)) → 0 < length (known o) → IsTold o
+some_told None h = absurd (omega (arith, h))
+some_told (Some r) h = (r, refl)
 
 -- what follows of an answer from two facts
 pub ok_both : {A E : Type 0} (r : Result A E) (P Q S : A → Type 0) → ((v : A) → P v → Q v → S v) → IfOk r P → IfOk r Q → IfOk r S
 ok_both (Ok v) P Q S f h k = f v h k
 ok_both (Err e) P Q S f h k = tt
 
--- what the source gave, where nothing was looked at
-pub filled_bytes : (p K L b : List ℕ) (n : ℕ) → p ≡ [] → n ≤ length b → K ≡ take n b ++ L → p ++ K ≡ take n b ++ drop n (p ++ K)
-filled_bytes p K L b n e h f = front_is (take n b) (p ++ K) L n (length-take-le n b h) (ap (λ x. x ++ K) e ∙ f)
-
-pub filled_rest : (p K L b : List ℕ) (n : ℕ) → p ≡ [] → n ≤ length b → K ≡ take n b ++ L → p ++ L ≡ drop n (p ++ K)
-filled_rest p K L b n e h f = ap (λ x. x ++ L) e ∙ rest_is (take n b) (p ++ K) L n (length-take-le n b h) (ap (λ x. x ++ K) e ∙ f)
+-- what follows of a success from three facts
+pub sure_all : {A E : Type 0} {G : Type 0} (r : Result A E) (P Q S : A → Type 0) → IsOk r → ((v : A) → P v → Q v → S v → G) → IfOk r P → IfOk r Q
+    → IfOk r S → G
+sure_all (Ok v) P Q S ok f h k l = f v h k l
+sure_all (Err e) P Q S ok f h k l = absurd (cc)
 
 -- what the source had at hand, where nothing was looked at
 pub ready_bytes : (start end_ : ℕ) (l K L s : List ℕ) (n : ℕ) → end_ - start ≡ 0 → length s ≡ n → K ≡ s ++ L
@@ -84,19 +120,6 @@ moved_is st r a s f n hr ha hs hf =
     ∙ ap (λ x. record st { rest = drop n st.rest; ahead = st.ahead - n; source = x; failed = f }) hs
     ∙ ap (λ x. record st { rest = drop n st.rest; ahead = st.ahead - n; failed = x }) hf
 
-pub moved_none : (st : State) (n : ℕ) → n ≡ 0 → st ≡ after_bytes n st
-moved_none st n e = let a : st.ahead ≡ st.ahead - 0 = omega arith in
-    ap (λ x. record st { ahead = x }) a ∙ ap (λ k. after_bytes k st) (sym e)
-
--- what was looked at, and then what the source gave behind it
-pub pulled_behind : (st m : State) (d n k : ℕ) (b f : List ℕ) → d ≤ length b → n ≤ length f → st.rest ≡ take d b ++ drop d st.rest
-    → m ≡ after_bytes d st → m.rest ≡ take n f ++ drop n m.rest
-    → st.rest ≡ take (d + n) (put_mid d k b f) ++ drop (d + n) st.rest
-pulled_behind st m d n k b f h w front is behind =
-    let rest : m.rest ≡ drop d st.rest = ap (λ (x : State). x.rest) is in
-    pulled st.rest m.rest (drop n m.rest) b f d n k h w (front ∙ ap (λ l. take d b ++ l) (sym rest)) behind
-    ∙ ap (λ l. take (d + n) (put_mid d k b f) ++ l) (ap (drop n) rest ∙ drop-drop n d st.rest)
-
 -- what was looked at is at the front of its buffer, and more behind it
 kept_front : (start end_ : ℕ) (l moved_ : List ℕ) → start ≤ end_ → end_ ≤ length l → moved_ ≡ copy_within l start end_ 0
     → take (end_ - start) moved_ ≡ pending start end_ l
@@ -119,19 +142,27 @@ looked_more start end_ a n l moved_ b tail K L is h w e same few f =
     ap (λ x. x ++ L) (all ∙ ap (λ x. x ++ take n b) (ap (λ k. take k moved_) is ∙ kept_front start end_ l moved_ h w e))
     ∙ append_assoc (pending start end_ l) (take n b) L ∙ ap (λ x. pending start end_ l ++ x) (sym f)
 
--- how many bytes are looked at then
-pub looked_count : (start end_ a n count : ℕ) (l b K L : List ℕ) → a ≡ end_ - start → end_ ≤ length l → a < count → length b ≡ count - a
-    → n ≤ length b → K ≡ take n b ++ L → (n < length b → L ≡ [])
-    → a + n - 0 ≡ max (end_ - start) (min count (length (pending start end_ l ++ K)))
-looked_count start end_ a n count l b K L is w less room few f all =
-    let p : length (pending start end_ l) ≡ end_ - start =
-    length-take-le (end_ - start) (drop start l) (omega (arith, length-drop start l)) in
-    let k : length K ≡ n + length L = ap length f ∙ length-append (take n b) L ∙ ap (λ m. m + length L) (length-take-le n b few) in
-    let none : (n < length b) → length L ≡ 0 = λ h. ap length (all h) in
-    elim (eq-or-lt_of_le few) [
-      | inl h ↦ omega (arith, length-append (pending start end_ l) K, p, k, is)
-      | inr h ↦ omega (arith, length-append (pending start end_ l) K, p, k, none h, is)
-    ]
+pub moved_length : (start end_ a n : ℕ) (l moved_ b tail : List ℕ) → a ≡ end_ - start → end_ ≤ length l → length moved_ ≡ length l
+    → n ≤ length b → length (take (a + n) (take a moved_ ++ (b ++ tail))) ≡ a + n
+moved_length start end_ a n l moved_ b tail is w same few =
+    let front = take a moved_ in
+    let long : length front ≡ a = length-take-le a moved_ (omega (arith, same, is, w)) in
+    length-take-le (a + n) (front ++ (b ++ tail))
+    (omega (arith, few, long, length-append front (b ++ tail), length-append b tail))
+
+-- bytes of the buffer that were copied, where more were moved to it
+pub moved_bytes : (start end_ a n k : ℕ) (l moved_ b tail K L x y : List ℕ) → a ≡ end_ - start → start ≤ end_ → end_ ≤ length l
+    → moved_ ≡ copy_within l start end_ 0 → length moved_ ≡ length l → n ≤ length b → K ≡ take n b ++ L → k ≤ a + n
+    → x ≡ take k (take (a + n) (take a moved_ ++ (b ++ tail))) ++ y
+    → pending start end_ l ++ K ≡ take k x ++ drop k (pending start end_ l ++ K)
+moved_bytes start end_ a n k l moved_ b tail K L x y is h w e same few f less at_ =
+    let all = take a moved_ ++ (b ++ tail) in
+    let p = take (a + n) all in
+    let long : length p ≡ a + n = moved_length start end_ a n l moved_ b tail is w same few in
+    let none : a + n ≡ a + n - 0 = omega arith in
+    let whole : p ++ L ≡ pending start end_ l ++ K = ap (λ m. take m all ++ L) none
+    ∙ looked_more start end_ a n l moved_ b tail K L is h w e same few f in
+    subst (λ r. r ≡ take k x ++ drop k r) whole (copied_bytes k p L x y (omega (arith, less, long)) at_)
 
 -- a state after a look, by its parts
 pub looked_is : (st : State) (r : List ℕ) (a s : ℕ) (f : Bool) (n : ℕ) → r ≡ st.rest → a ≡ max st.ahead n → s ≡ st.source → f ≡ st.failed

@@ -1,10 +1,17 @@
 -- Looks at a section's descriptor.
-use Rattle.std.proofs.Common.{◌≡◌, ◌≤◌, ℕ, length, min, max, ap, ◌∙◌, arith}
+use Rattle.std.proofs.Common.{◌≡◌, ◌≤◌, ℕ, List, ◌++◌, length, take, drop, max, ap, ◌∙◌, arith, length-append}
+use Rattle.std.proofs.lemmas.List.{length-take-le, take_all}
 use Rattle.amqp_lookahead.specs.State.{State, after_look}
 use Rattle.amqp_lookahead.specs.Sections.{LooksOn}
 
-pub looks_once : (n : ℕ) (st m : State) → n ≤ 64 → m ≡ after_look (min n (length st.rest)) st → LooksOn st m
-looks_once n st m few is = (min n (length st.rest), omega (arith, few), omega arith, is)
+pub looks_once : (n : ℕ) (st m : State) (l : List ℕ) → n ≤ 64 → n ≤ length l → st.rest ≡ take n l ++ drop n st.rest → m ≡ after_look n st
+    → LooksOn st m
+looks_once n st m l few there front is =
+    (n, few, omega (arith, ap length front, length-append (take n l) (drop n st.rest), length-take-le n l there), is)
+
+-- all of a row was filled
+pub front_all : (n : ℕ) (l r : List ℕ) → length l ≤ n → r ≡ take n l ++ drop n r → r ≡ l ++ drop n r
+front_all n l r h e = e ∙ ap (λ x. x ++ drop n r) (take_all n l h)
 
 -- a look, and another
 pub looks_more : (st m z : State) → LooksOn st m → LooksOn m z → LooksOn st z

@@ -296,26 +296,20 @@ first_three (x ∷ []) h = absurd (omega (arith, h))
 first_three (x ∷ y ∷ []) h = absurd (omega (arith, h))
 first_three (x ∷ y ∷ z ∷ r) h = (r, refl)
 
--- what was looked at stands at the front
-pub looked_front : (st m : State) (n : ℕ) (l : List ℕ) → m ≡ after_look n st → l ≡ take m.ahead m.rest → st.rest ≡ l ++ drop m.ahead st.rest
-looked_front st m n l is e =
-    let same : m.rest ≡ st.rest = ap (λ (z : State). z.rest) is in
-    sym (take-append-drop m.ahead st.rest) ∙ ap (λ x. x ++ drop m.ahead st.rest) (ap (take m.ahead) (sym same) ∙ sym e)
-
 -- a described value with this code, and a further byte, were looked at
 pub record Shows (st m : State) (y z : ℕ) : Type 0 where
   pub more : List ℕ
   pub rest : st.rest ≡ 0 ∷ y ∷ z ∷ more
   pub same : m.rest ≡ st.rest
 
-pub shows : (st m : State) (n y : ℕ) (l : List ℕ) → m ≡ after_look n st → l ≡ take m.ahead m.rest → 3 ≤ length l → get_or l 0 0 ≡ 0
+pub shows : (st m : State) (n y : ℕ) (l : List ℕ) → m ≡ after_look n st → st.rest ≡ l ++ drop n st.rest → 3 ≤ length l → get_or l 0 0 ≡ 0
     → get_or l 1 0 ≡ y → Shows st m y (get_or l 2 0)
 shows st m n y l is e long first second =
     let t = first_three l long in
     record {
-      more = t.0 ++ drop m.ahead st.rest;
-      rest = looked_front st m n l is e ∙ ap (λ x. x ++ drop m.ahead st.rest) t.1
-          ∙ ap₂ (λ a b. a ∷ b ∷ get_or l 2 0 ∷ (t.0 ++ drop m.ahead st.rest)) first second;
+      more = t.0 ++ drop n st.rest;
+      rest = e ∙ ap (λ x. x ++ drop n st.rest) t.1
+          ∙ ap₂ (λ a b. a ∷ b ∷ get_or l 2 0 ∷ (t.0 ++ drop n st.rest)) first second;
       same = ap (λ (z : State). z.rest) is;
     }
 
@@ -368,17 +362,16 @@ part_front : (n i : ℕ) (l x : List ℕ) → i + n ≤ length l → take n (dro
 part_front n i l x h =
     ap (take n) (drop-append-le i l x (omega (arith, h))) ∙ take-append-le n (drop i l) x (omega (arith, h, length-drop i l))
 
-pub named_front : (st m : State) (n start len : ℕ) (l s : List ℕ) (o : Option ℕ) → m ≡ after_look n st → l ≡ take m.ahead m.rest
-    → start + len ≤ 64 → start + len ≤ length l → s ≡ take (start + len - start) (drop start l)
+pub named_front : (st : State) (n start len : ℕ) (l s : List ℕ) (o : Option ℕ) → st.rest ≡ l ++ drop n st.rest
+    → start + len ≤ 64 → length l ≡ start + len → s ≡ take (length l - start) (drop start l)
     → ((c : ℕ) → (o ≡ Some c) ↔ IsOfSection c (name s)) → (c : ℕ) → (o ≡ Some c) ↔ IsNameAhead start len st.rest c
-named_front st m n start len l s o is e few there at_ f c =
-    let x = drop m.ahead st.rest in
-    let whole : st.rest ≡ l ++ x = looked_front st m n l is e in
-    let long : len ≡ start + len - start = omega arith in
-    let front : take len (drop start st.rest) ≡ s = ap (λ r. take len (drop start r)) whole ∙ part_front len start l x there
-    ∙ ap (λ k. take k (drop start l)) long ∙ sym at_ in
+named_front st n start len l s o e few long at_ f c =
+    let x = drop n st.rest in
+    let whole : len ≡ length l - start = omega (arith, long) in
+    let front : take len (drop start st.rest) ≡ s =
+    ap (λ r. take len (drop start r)) e ∙ part_front len start l x (omega (arith, long)) ∙ ap (λ k. take k (drop start l)) whole ∙ sym at_ in
     through (
-      λ h. (few, omega (arith, there, ap length whole, length-append l x), subst (λ b. IsOfSection c (name b)) (sym front) h),
+      λ h. (few, omega (arith, long, ap length e, length-append l x), subst (λ b. IsOfSection c (name b)) (sym front) h),
       λ h. subst (λ b. IsOfSection c (name b)) front h.2,
     ) (f c)
 
@@ -392,29 +385,29 @@ bytes_are zero i l h = refl
 bytes_are (suc n) i l h =
     ap (take (suc n)) (drop-cons l i 0 (omega (arith, h))) ∙ ap (λ x. get_or l i 0 ∷ x) (bytes_are n (suc i) l (omega (arith, h)))
 
-shown : (st m : State) (n k i : ℕ) (l : List ℕ) → m ≡ after_look n st → l ≡ take m.ahead m.rest → i + k ≤ length l
+shown : (st : State) (n k i : ℕ) (l : List ℕ) → st.rest ≡ l ++ drop n st.rest → i + k ≤ length l
     → take k (drop i st.rest) ≡ bytes_at k i l
-shown st m n k i l is e few =
-    ap (λ r. take k (drop i r)) (looked_front st m n l is e) ∙ part_front k i l (drop m.ahead st.rest) few ∙ bytes_are k i l few
+shown st n k i l e few =
+    ap (λ r. take k (drop i r)) e ∙ part_front k i l (drop n st.rest) few ∙ bytes_are k i l few
 
-pub large_shown : (st m : State) (n v : ℕ) (l : List ℕ) (o : Option ℕ) → m ≡ after_look n st → l ≡ take m.ahead m.rest → 10 ≤ length l
+pub large_shown : (st : State) (n v : ℕ) (l : List ℕ) (o : Option ℕ) → st.rest ≡ l ++ drop n st.rest → 10 ≤ length l
     → v ≡ from_be_bytes w64 (bytes_at 8 2 l) → ((c : ℕ) → (o ≡ Some c) ↔ IsOfSection c (code v)) → (c : ℕ) → (o ≡ Some c)
     ↔ IsLongCodeAhead st.rest c
-large_shown st m n v l o is e few at_ f c =
-    let value : v ≡ from_be_bytes w64 (take 8 (drop 2 st.rest)) = at_ ∙ ap (from_be_bytes w64) (sym (shown st m n 8 2 l is e few)) in
+large_shown st n v l o e few at_ f c =
+    let value : v ≡ from_be_bytes w64 (take 8 (drop 2 st.rest)) = at_ ∙ ap (from_be_bytes w64) (sym (shown st n 8 2 l e few)) in
     through (
       λ h. (
-        omega (arith, few, ap length (looked_front st m n l is e), length-append l (drop m.ahead st.rest)),
+        omega (arith, few, ap length e, length-append l (drop n st.rest)),
         subst (λ k. IsOfSection c (code k)) value h,
       ),
       λ h. subst (λ k. IsOfSection c (code k)) (sym value) h.1,
     ) (f c)
 
-pub size_shown : (st m : State) (n v : ℕ) (l : List ℕ) → m ≡ after_look n st → l ≡ take m.ahead m.rest → 6 ≤ length l → v < 256 ^ 4
+pub size_shown : (st m : State) (n v : ℕ) (l : List ℕ) → m ≡ after_look n st → st.rest ≡ l ++ drop n st.rest → 6 ≤ length l → v < 256 ^ 4
     → bytes_high_first 4 v ≡ bytes_at 4 2 l → (c : ℕ) → IsNameAhead 6 v m.rest c ↔ IsLongNameAhead st.rest c
 size_shown st m n v l is e few fits at_ c =
     let same : m.rest ≡ st.rest = ap (λ (z : State). z.rest) is in
-    let sized : take 4 (drop 2 st.rest) ≡ bytes_high_first 4 v = shown st m n 4 2 l is e few ∙ sym at_ in (
+    let sized : take 4 (drop 2 st.rest) ≡ bytes_high_first 4 v = shown st n 4 2 l e few ∙ sym at_ in (
       λ h. (v, fits, sized, subst (λ r. IsNameAhead 6 v r c) same h),
       λ h.
           let one : h.0 ≡ v = (field 4 h.0 v [] [] h.1 fits (ap (λ l. l ++ []) (sym h.2 ∙ sized))).0 in

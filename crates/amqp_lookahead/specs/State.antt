@@ -2,7 +2,7 @@
 use Rattle.std.specs.Prelude.{ℕ, ◌-◌, Bool, List, take, drop, max}
 
 -- rest: the bytes to the end of the input
--- ahead: how many of them were looked at, and are out of the source
+-- ahead: how many of them were looked at
 -- source: the borrow that the source is
 -- failed: the source has failed
 pub record State : Type 0 where

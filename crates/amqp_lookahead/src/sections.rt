@@ -80,11 +80,12 @@ impl<R: ByteSource> Input<R> {
         if len > LOOK - start {
             return Ok(None);
         }
-        self.look(start + len)?;
-        match self.looked().get(start..start + len) {
-            Some(name) => Ok(section_of_name(name)),
-            None => Ok(None),
+        let mut next = [0; LOOK];
+        let front = &mut next[..start + len];
+        if self.peek(front)? < front.len() {
+            return Ok(None);
         }
+        Ok(section_of_name(&front[start..]))
     }
 
     // The section whose name stands next behind a size of four bytes.
@@ -94,10 +95,11 @@ impl<R: ByteSource> Input<R> {
         ensures fails { OnErr result (self.new.failed ≡ true) }
         ensures sound { IfOk result (λ _. self.new.failed ≡ self.old.failed) }
     {
-        self.look(6)?;
-        let &[_, _, a, b, c, d, ..] = self.looked() else {
+        let mut next = [0; 6];
+        if self.peek(&mut next)? < 6 {
             return Ok(None);
-        };
+        }
+        let [_, _, a, b, c, d] = next;
         self.section_named(6, text_size([a, b, c, d]))
     }
 
@@ -108,10 +110,11 @@ impl<R: ByteSource> Input<R> {
         ensures fails { OnErr result (self.new.failed ≡ true) }
         ensures sound { IfOk result (λ _. self.new.failed ≡ self.old.failed) }
     {
-        self.look(10)?;
-        let &[_, _, a, b, c, d, e, f, g, h, ..] = self.looked() else {
+        let mut next = [0; 10];
+        if self.peek(&mut next)? < 10 {
             return Ok(None);
-        };
+        }
+        let [_, _, a, b, c, d, e, f, g, h] = next;
         let code = u64::from_be_bytes([a, b, c, d, e, f, g, h]);
         Ok(section_of_code(code))
     }
@@ -124,17 +127,18 @@ impl<R: ByteSource> Input<R> {
         ensures fails { OnErr result (self.new.failed ≡ true) }
         ensures sound { IfOk result (λ _. self.new.failed ≡ self.old.failed) }
     {
-        self.look(3)?;
-        let &[first, code, next, ..] = self.looked() else {
+        let mut next = [0; 3];
+        if self.peek(&mut next)? < 3 {
             return Ok(None);
-        };
+        }
+        let [first, code, third] = next;
         if first != format_code::DESCRIBED {
             return Ok(None);
         }
         match code {
-            format_code::SMALL_ULONG => Ok(section_of_code(u64::from(next))),
+            format_code::SMALL_ULONG => Ok(section_of_code(u64::from(third))),
             format_code::ULONG => self.section_of_ulong(),
-            format_code::SYMBOL_8 => self.section_named(3, usize::from(next)),
+            format_code::SYMBOL_8 => self.section_named(3, usize::from(third)),
             format_code::SYMBOL_32 => self.section_of_symbol(),
             _ => Ok(None),
         }

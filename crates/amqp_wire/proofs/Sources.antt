@@ -1,20 +1,26 @@
 -- What is known of the bytes of sources.
-use Rattle.std.proofs.Common.{◌≡◌, ◌≤◌, ℕ, ◌+◌, ◌<◌, List, [], ◌++◌, length, take, Option, Some, None, sym, ap, ◌∙◌, subst, arith}
+use Rattle.std.proofs.Common.{◌≡◌, ◌≤◌, ℕ, ◌+◌, ◌<◌, List, [], ◌++◌, length, take, Option, Some, None, refl, sym, ap, ◌∙◌, subst, arith}
 use Rattle.std.proofs.Common.{append_assoc, ◌⊎◌, inl, inr}
 use Rattle.std.proofs.lemmas.List.{length-take-le, take-append-le}
 use Rattle.std.proofs.lemmas.Slice.{take-put_mid_below}
 use Rattle.std.proofs.Math.Seq.{take-append-add}
 use Rattle.std.specs.Io.KnownBytes.{Consumes, IsAtEnd}
-use Rattle.amqp_wire.specs.Sources.{known}
+use Rattle.amqp_wire.specs.Sources.{known, IsTold}
 use borrow.Rule.Slice.PartMut.{put_mid, post_of}
 
 -- what a source that tells gave was in front
-pub consumed_known : (a b : Option (List ℕ)) (s : List ℕ) → (x : List ℕ) × (a ≡ Some x) → Consumes a b s → known a ≡ s ++ known b
+pub consumed_known : (a b : Option (List ℕ)) (s : List ℕ) → IsTold a → Consumes a b s → known a ≡ s ++ known b
 consumed_known None b s (x, e) h = absurd (cc)
 consumed_known (Some xs) None s t h = absurd h
 consumed_known (Some xs) (Some ys) s t h = h
 
-pub ended_known : (a : Option (List ℕ)) → (x : List ℕ) × (a ≡ Some x) → IsAtEnd a → known a ≡ []
+-- and it tells what it has then
+pub consumed_told : (a b : Option (List ℕ)) (s : List ℕ) → IsTold a → Consumes a b s → IsTold b
+consumed_told None b s (x, e) h = absurd (cc)
+consumed_told (Some xs) None s t h = absurd h
+consumed_told (Some xs) (Some ys) s t h = (ys, refl)
+
+pub ended_known : (a : Option (List ℕ)) → IsTold a → IsAtEnd a → known a ≡ []
 ended_known None (x, e) h = absurd (cc)
 ended_known (Some xs) t h = h
 
@@ -39,7 +45,7 @@ pulled_none K L M xs ys a n k h z d e =
     d ∙ ap (λ l. take a xs ++ l) same ∙ ap (λ l. l ++ M) (sym (take-put_mid_below a k xs ys a (omega arith) h))
 
 -- at the end of the source
-pub ended : (a b : Option (List ℕ)) (s : List ℕ) (n room : ℕ) → (x : List ℕ) × (a ≡ Some x) → Consumes a b (take n s)
+pub ended : (a b : Option (List ℕ)) (s : List ℕ) (n room : ℕ) → IsTold a → Consumes a b (take n s)
     → (n ≡ 0 → (room ≡ 0) ⊎ IsAtEnd a) → n ≡ 0 → 0 < room → known b ≡ []
 ended a b s n room t h f z some = elim (f z) [
   | inl x ↦ absurd (omega (arith, x))

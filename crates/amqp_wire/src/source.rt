@@ -1,8 +1,8 @@
 //! Sources: where the bytes come from that are read.
-ghost use Rattle.std.specs.Prelude.{◌≡◌, ℕ, ◌≤◌, ◌<◌, List, [], ◌++◌, length, take, Bool, true, false, Option, Some, IfOk, OnErr, IsErr};
-ghost use Rattle.std.specs.Prelude.{◌⊎◌, Ok};
+ghost use Rattle.std.specs.Prelude.{◌≡◌, ℕ, ◌≤◌, ◌<◌, List, [], ◌++◌, length, take, drop, Bool, true, false, Option, Some, IfOk, OnErr, IsErr};
+ghost use Rattle.std.specs.Prelude.{◌⊎◌, Ok, IsOk};
 ghost use Rattle.std.specs.Io.KnownBytes.{Consumes, IsAtEnd};
-ghost use Rattle.amqp_wire.specs.Sources.{known, Tells, AddsNext};
+ghost use Rattle.amqp_wire.specs.Sources.{known, IsTold, AddsNext};
 
 use std::alloc::AllocError;
 use std::io::ErrorKind;
@@ -19,6 +19,9 @@ pub trait ByteSource {
     // A number that tells one borrowed source from another; 0 of what isn't borrowed.
     ghost name: { Self → ℕ };
 
+    // No pull of such a source fails.
+    ghost never_fails: { Bool } = { false };
+
     /// Moves the source's next bytes to the front of the buffer, and answers how many: at most as many as the buffer holds, and at
     /// least one, unless the source is at its end or the buffer is empty. An `Err` is the kind of a failure; then the source has
     /// failed, and from there on every pull is an `Err`.
@@ -29,7 +32,18 @@ pub trait ByteSource {
         ensures kept { IfOk result (λ _. failed self.new ≡ failed self.old) }
         ensures fails { OnErr result (failed self.new ≡ true) }
         ensures stays { failed self.old ≡ true → IsErr result }
+        ensures sure { never_fails ≡ true → IsOk result }
         ensures named { name self.new ≡ name self.old };
+
+    /// The bytes that are at hand, which the source gives next: none of them is taken. By default none are at hand; only a source of
+    /// which no pull fails may show some.
+    #[inline(always)]
+    fn at_hand(&self) -> &[u8]
+        ensures front { known (remaining self.now) ≡ result.now ++ drop (length result.now) (known (remaining self.now)) }
+        ensures sure { 0 < length result.now → never_fails ≡ true }
+    {
+        &[]
+    }
 
     /// Fills the whole buffer with the source's next bytes, where they are at hand, and answers true; else takes nothing, and answers
     /// false, which says nothing of what a pull would give. A source that has failed answers false. It is the quick way to a few
@@ -69,11 +83,13 @@ pub trait ByteSource {
 #[inline]
 pub fn pull_full<R: ByteSource>(source: &mut R, buffer: &mut [u8]) -> Result<usize, ErrorKind>
     ensures fits { IfOk result (λ n. n ≤ length buffer.old) }
-    ensures bytes { Tells R.remaining → IfOk result
+    ensures bytes { IsTold (R.remaining source.old) → IfOk result
         (λ n. known (R.remaining source.old) ≡ take n buffer.new ++ known (R.remaining source.new)) }
-    ensures all { Tells R.remaining → IfOk result (λ n. n < length buffer.old → known (R.remaining source.new) ≡ []) }
+    ensures all { IsTold (R.remaining source.old) → IfOk result
+        (λ n. n < length buffer.old → known (R.remaining source.new) ≡ []) }
     ensures kept { IfOk result (λ _. R.failed source.new ≡ R.failed source.old) }
     ensures fails { OnErr result (R.failed source.new ≡ true) }
+    ensures sure { R.never_fails ≡ true → IsOk result }
     ensures named { R.name source.new ≡ R.name source.old }
 {
     let mut done = 0;
@@ -94,6 +110,8 @@ impl ByteSource for &[u8] {
 
     ghost name = { λ _. 0 };
 
+    ghost never_fails = { true };
+
     fn pull(&mut self, buffer: &mut [u8]) -> Result<usize, ErrorKind> {
         let bytes: &[u8] = *self;
         let n = bytes.len().min(buffer.len());
@@ -106,6 +124,11 @@ impl ByteSource for &[u8] {
         }
         *self = rest;
         Ok(n)
+    }
+
+    #[inline(always)]
+    fn at_hand(&self) -> &[u8] {
+        &self[..]
     }
 
     #[inline(always)]
@@ -144,8 +167,15 @@ impl<R: ByteSource> ByteSource for &mut R {
 
     ghost name = { λ r. r.ghost_name };
 
+    ghost never_fails = { R.never_fails };
+
     fn pull(&mut self, buffer: &mut [u8]) -> Result<usize, ErrorKind> {
         (**self).pull(buffer)
+    }
+
+    #[inline(always)]
+    fn at_hand(&self) -> &[u8] {
+        (**self).at_hand()
     }
 
     #[inline(always)]

@@ -1,5 +1,5 @@
 //! The items of the open container, and the code that the next one begins with.
-ghost use Rattle.std.specs.Prelude.{◌≡◌, ◌<◌, length, min, false, Some, IfOk, IfErr, ◌↔◌, IsTrue};
+ghost use Rattle.std.specs.Prelude.{◌≡◌, [], ◌∷◌, length, drop, min, false, Some, IfOk, IfErr, ◌↔◌, IsTrue, MatchOption};
 ghost use Rattle.amqp_wire.specs.Sources.{Tells};
 ghost use Rattle.amqp_decoder.specs.State.{after_look, lower};
 ghost use Rattle.amqp_decoder.specs.Reading.{AnswersRead, ReadsCode, BeginFault, PeeksCode, IsLeft};
@@ -38,19 +38,19 @@ impl<R: ByteSource> Decoder<R> {
         self.top.items = self.top.items.saturating_sub(1);
     }
 
-    // Looks at the next byte, if there is one.
-    #[inline]
-    pub(crate) fn look_next(&mut self) -> Result<bool, Error>
-        ensures found { Tells R.remaining → IfOk result (λ b. IsTrue b ↔ (0 < length self.old.rest)) }
-        ensures new { Tells R.remaining → IfOk result (λ b. self.new ≡ after_look (min 1 (length self.old.rest)) self.old) }
+    // The next byte, if there is one, which isn't taken.
+    #[inline(always)]
+    pub(crate) fn look_next(&mut self) -> Result<Option<u8>, Error>
+        ensures found { Tells R.remaining → IfOk result
+            (λ next. MatchOption next (self.old.rest ≡ []) (λ b. self.old.rest ≡ b ∷ drop 1 self.old.rest)) }
+        ensures new { Tells R.remaining → IfOk result (λ _. self.new ≡ after_look (min 1 (length self.old.rest)) self.old) }
         ensures err { IfErr result (λ e. Answers self.old e self.new × SourceFailed e self.new) }
         ensures goes { Goes false self.old result self.new }
     {
-        if self.input.ahead() > 0 {
-            return Ok(true);
-        }
-        match self.input.look(1) {
-            Ok(ahead) => Ok(ahead > 0),
+        let mut next = [0];
+        match self.input.peek(&mut next) {
+            Ok(0) => Ok(None),
+            Ok(_) => Ok(Some(next[0])),
             Err(kind) => Err(self.stop(Error::Read(kind))),
         }
     }
@@ -87,9 +87,8 @@ impl<R: ByteSource> Decoder<R> {
         if self.is_spent() {
             return Err(self.refuse_size(1));
         }
-        self.look_next()?;
-        match self.input.looked().first() {
-            Some(&code) => self.check_count(code),
+        match self.look_next()? {
+            Some(code) => self.check_count(code),
             None => Err(self.stop(Error::Cut)),
         }
     }

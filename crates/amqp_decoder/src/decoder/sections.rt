@@ -53,7 +53,7 @@ impl<R: ByteSource> Decoder<R> {
         ensures tries { Tries false self.old result self.new }
     {
         self.check_top()?;
-        Ok(!self.look_next()?)
+        Ok(self.look_next()?.is_none())
     }
 
     /// The code of the section whose whole descriptor, in any of its spellings, stands next at the top level within 64

@@ -1,12 +1,12 @@
 use Rattle.std.proofs.Common.{◌≡◌, ◌≤◌, ◌-◌, ◌++◌, length, take}
-use Rattle.amqp_wire.specs.Sources.{known, Tells}
+use Rattle.amqp_wire.specs.Sources.{known, IsTold}
 use Rattle.amqp_wire.proofs.source.pull_full.Given as goal
 
 abbrev pub invariant-loop-done : goal.invariant-loop-done
 invariant-loop-done g l =
     (l.done ≤ length l.initial.buffer)
-    × (Tells g.R.ByteSource.remaining
-    → known (g.R.ByteSource.remaining l.fn.source) ≡ take l.done l.buffer ++ known (g.R.ByteSource.remaining l.source))
+    × (IsTold (g.R.ByteSource.remaining l.fn.source) → IsTold (g.R.ByteSource.remaining l.source)
+    × (known (g.R.ByteSource.remaining l.fn.source) ≡ take l.done l.buffer ++ known (g.R.ByteSource.remaining l.source)))
     × (g.R.ByteSource.failed l.source ≡ g.R.ByteSource.failed l.fn.source)
     × (g.R.ByteSource.name l.source ≡ g.R.ByteSource.name l.fn.source)
 

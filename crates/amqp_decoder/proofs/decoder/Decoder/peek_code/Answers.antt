@@ -1,7 +1,7 @@
-use Rattle.std.proofs.Common.{rules, ◌≡◌, Some, take, ap, ◌∙◌}
+use Rattle.std.proofs.Common.{rules, ◌≡◌, ap, ◌∙◌}
 use Rattle.amqp_decoder.specs.State.{State}
 use Rattle.amqp_decoder.proofs.Steps.{answered_later, answered, has_item, tried_third}
-use Rattle.amqp_decoder.proofs.Peeks.{is_counted, peeked_shared_if, peeked_own_if, peek_size, peek_cut, none_there}
+use Rattle.amqp_decoder.proofs.Peeks.{nothing_there, byte_there, is_counted, peeked_shared_if, peeked_own_if, peek_size, peek_cut}
 use Rattle.amqp_decoder.proofs.decoder.Decoder.peek_code.Goals as goal
 
 pub returns-in-Some-clause-read : goal.returns-in-Some-clause-read
@@ -22,20 +22,19 @@ returns-in-None-clause-read g c = λ told.
     let left = c.in_ok-check_item.ensures.read in
     peek_cut _ _ _ left.going left.item (rw left.kept at c.in_default.ensures)
     (λ x. let h = c.is_spent.ensures.1 (ap (λ (st : State). st.top.left) left.kept ∙ x) in absurd (cc))
-    (none_there _ _ _ (rw left.kept at (c.in_ok-look_next.ensures.new told)) (c.looked.ensures.bytes
-    ∙ ap (λ (st : State). take st.ahead st.rest) c.self.view_is) c.in-None.ensures.value) c.stop.ensures.answer
-    (answered_later (ap (λ (st : State). st.failed) (c.in_ok-look_next.ensures.new told) ∙ ap (λ (st : State). st.failed) left.kept)
+    (rw left.kept at (nothing_there _ _ c.in-None.is (c.in_ok-code.ensures.found told))) c.stop.ensures.answer
+    (answered_later (ap (λ (st : State). st.failed) (c.in_ok-code.ensures.new told) ∙ ap (λ (st : State). st.failed) left.kept)
     (answered c.look_next.new.self _ _ _ c.stop.ensures.kept c.stop.ensures.answer))
 
-pub returns-in-Some-first-clause-read : goal.returns-in-Some-first-clause-read
-returns-in-Some-first-clause-read g c = λ told.
+pub returns-in-Some-2-clause-read : goal.returns-in-Some-2-clause-read
+returns-in-Some-2-clause-read g c = λ told.
     let left = c.in_ok-check_item.ensures.read in
-    peeked_own_if _ _ _ _ _ _ left.going left.item (rw left.kept at c.in_default.ensures)
+    peeked_own_if _ _ _ _ _ left.going left.item (rw left.kept at c.in_default.ensures)
     (has_item _ (λ x. let h = c.is_spent.ensures.1 (ap (λ (st : State). st.top.left) left.kept ∙ x) in absurd (cc)))
-    (rw left.kept at (c.in_ok-look_next.ensures.new told))
-    (c.looked.ensures.bytes ∙ ap (λ (st : State). take st.ahead st.rest) c.self.view_is) c.in-Some-first.ensures.value
-    (is_counted _ _ _ _ c.check_count-in-Some-first.ensures.ok c.check_count-in-Some-first.ensures.err)
+    (rw left.kept at (c.in_ok-code.ensures.new told)) (rw left.kept at (byte_there _ _ _ c.in-Some-2.is (c.in_ok-code.ensures.found told)))
+    (is_counted _ _ _ _ c.check_count-in-Some-2.ensures.ok c.check_count-in-Some-2.ensures.err)
 
-pub returns-in-Some-first-clause-tries : goal.returns-in-Some-first-clause-tries
-returns-in-Some-first-clause-tries g c =
-    tried_third _ c.args.self.now c.check_item.new.self c.look_next.new.self _ _ c.in_ok-check_item.ensures.tries c.in_ok-look_next.ensures.goes c.check_count-in-Some-first.ensures.goes
+pub returns-in-Some-2-clause-tries : goal.returns-in-Some-2-clause-tries
+returns-in-Some-2-clause-tries g c =
+    tried_third _ c.args.self.now c.check_item.new.self c.look_next.new.self _ _ c.in_ok-check_item.ensures.tries c.in_ok-code.ensures.goes
+    c.check_count-in-Some-2.ensures.goes

@@ -1,27 +1,30 @@
-use Rattle.std.proofs.Common.{arith, rules, ◌≡◌, ◌++◌, ◌∙◌, ap, take, drop}
-use Rattle.amqp_lookahead.specs.State.{State, after_bytes}
-use Rattle.amqp_lookahead.proofs.Looks.{moved_none, pulled_behind}
+use Rattle.std.proofs.Common.{arith, ◌≡◌, ◌≤◌, ◌-◌, length, refl}
+use Rattle.std.proofs.lemmas.List.{length-drop}
+use Rattle.amqp_lookahead.specs.State.{pending}
+use Rattle.amqp_lookahead.proofs.Looks.{copied_bytes, copied_behind, looked_rest, moved_is}
 use Rattle.amqp_lookahead.proofs.input.Input.pull.Goals as goal
-use Rattle.amqp_lookahead.proofs.input.Input.pull.Goals.{then-self, else-self}
 
-pub returns-in_ok-done-clause-bytes : goal.returns-in_ok-done-clause-bytes
-returns-in_ok-done-clause-bytes g c = λ told.
-    let d = c.if-self.done in
-    let st = c.args.self.now in
-    let less = c.if-done-buffer.true in
-    let fits = c.in_ok-done.ensures.fits in
-    elim c.if-self.branch [
-      | then-self w ↦
-          let front : st.rest ≡ take d c.if-self.buffer ++ drop d st.rest = rw (w.done-is, w.buffer-is) w.take_looked-done.ensures.bytes in
-          let is : c.if-self.self ≡ after_bytes d st = rw (w.done-is, w.self-is) w.take_looked-done.ensures.new in
-          let none : c.if-self.self.ahead ≡ 0 =
-          omega (arith, less, ap (λ (x : State). x.ahead) is, w.take_looked-done.ensures.count, w.done-is, c.if-self.auto.buffer) in
-          pulled_behind st c.if-self.self d _ _ _ _ (omega (arith, less)) (omega (arith, fits, c.fill.auto.buffer)) front is
-          (c.in_ok-done.ensures.bytes told none)
-      | else-self w ↦
-          let none : c.if-self.self.ahead ≡ 0 = search rules in
-          let is : c.if-self.self ≡ after_bytes d st = w.self-is ∙ moved_none st d w.done-is in
-          let front : st.rest ≡ take d c.if-self.buffer ++ drop d st.rest = rw w.done-is (search rules) in
-          pulled_behind st c.if-self.self d _ _ _ _ (omega (arith, less)) (omega (arith, fits, c.fill.auto.buffer)) front is
-          (c.in_ok-done.ensures.bytes told none)
-    ]
+pub returns-then-count-buffer-clause-bytes : goal.returns-then-count-buffer-clause-bytes
+returns-then-count-buffer-clause-bytes g c =
+    let p = pending c.self.inside.start c.self.inside.end c.self.inside.looked in
+    let few : c.copy_front-count.result ≤ length p = omega (arith, c.copy_front-count.ensures.count) in
+    rw (← c.self.view_is) (λ told. copied_bytes _ p _ _ _ few c.copy_front-count.ensures.front)
+
+pub returns-then-count-buffer-clause-new : goal.returns-then-count-buffer-clause-new
+returns-then-count-buffer-clause-new g c =
+    let within = length-drop c.self.inside.start c.self.inside.looked in
+    let few : c.copy_front-count.result ≤ c.self.inside.end - c.self.inside.start = omega (arith, c.copy_front-count.ensures.count) in
+    rw (← c.self.view_is) (λ told.
+    moved_is _ _ _ _ _ _ (looked_rest _ _ _ _ _ few (omega (arith, c.self.invariant.1))) (omega (arith, few)) refl refl)
+
+pub returns-clause-bytes : goal.returns-clause-bytes
+returns-clause-bytes g c =
+    let p = pending c.self.inside.start c.self.inside.end c.self.inside.looked in
+    let count = c.copy_front-count.ensures.count in
+    let less = c.if-count-buffer.false in
+    let whole : c.copy_front-count.result ≡ length p = omega (arith, count, less) in
+    rw (← c.self.view_is) (λ told.
+    copied_behind p _ _ _ _ c.pull_full.new.buffer c.copy_front-count.result c.in_ok-more.more _ whole
+    (omega (arith, count, c.copy_front-count.auto.buffer))
+    c.copy_front-count.ensures.front (omega (arith, c.in_ok-more.ensures.fits, c.pull_full.auto.buffer))
+    (c.in_ok-more.ensures.bytes (told _)))

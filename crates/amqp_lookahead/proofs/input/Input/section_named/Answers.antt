@@ -1,15 +1,18 @@
-use Rattle.std.proofs.Common.{arith}
-use Rattle.amqp_lookahead.proofs.SectionLooks.{looks_once}
+use Rattle.std.proofs.Common.{arith, ◌≡◌, ◌≤◌, ◌+◌, ◌∙◌, refl, length}
+use Rattle.std.proofs.lemmas.List.{length-take-le}
+use Rattle.amqp_lookahead.proofs.SectionLooks.{looks_once, front_all}
 use Rattle.amqp_lookahead.proofs.SectionsAhead.{named_front}
 use Rattle.amqp_lookahead.proofs.input.Input.section_named.Goals as goal
 
-pub returns-in-Some-clause-ok : goal.returns-in-Some-clause-ok
-returns-in-Some-clause-ok g c = λ told.
-    let is = c.in_ok-look.ensures.new told in
-    let few = c.if-len-start.false in
-    let low = c.requires in
-    let found = c.in-Some.ensures.lookup.0 in (
-      looks_once _ _ _ (omega (arith, few, low)) is,
-      named_front _ _ _ c.args.start c.args.len c.looked.result.now _ _ is c.looked.ensures.bytes (omega (arith, few, low)) found.1 found.2
+pub returns-clause-ok : goal.returns-clause-ok
+returns-clause-ok g c = λ told.
+    let n = c.in_ok-peek.field-0 in
+    let l = c.peek.new.buffer in
+    let within : c.args.start + c.args.len ≤ 64 = omega (arith, c.if-len-start.false, c.requires) in
+    let whole : length l ≡ c.args.start + c.args.len = c.peek.auto.buffer ∙ length-take-le _ _ within in
+    let few : n ≤ length l = omega (arith, c.in_ok-peek.ensures.fits, c.peek.auto.buffer) in
+    let front = c.in_ok-peek.ensures.bytes told in (
+      looks_once n _ _ l (omega (arith, few, whole, within)) few front (c.in_ok-peek.ensures.new told),
+      named_front c.args.self.now n c.args.start c.args.len l _ _ (front_all n l _ (omega (arith, c.if-branch-front.false, c.peek.auto.buffer)) front) within whole refl
           c.section_of_name.ensures,
     )
