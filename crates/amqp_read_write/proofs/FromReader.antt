@@ -4,21 +4,22 @@ use Rattle.std.proofs.Common.{None, refl, sym, ap, ◌∙◌, arith}
 use Rattle.std.proofs.lemmas.List.{length-drop}
 use Rattle.amqp_wire.specs.declared.error.Error.{Error}
 use Rattle.amqp_wire.specs.declared.error.Error.TheVariants.{Memory}
+use Rattle.amqp_wire.specs.declared.limits.Limits.{Limits}
 use Rattle.amqp_decoder.specs.State.{State}
 use Rattle.amqp_decoder.specs.OtherSource.{elsewhere}
 use Rattle.amqp_decoder.specs.Steps.{IsExcused, IsReadError, Tries}
 use Rattle.amqp_decoder.specs.Reading.{RefusesRead, AnswersRead}
-use Rattle.amqp_codec.specs.Reading.{Reading, start, BeginsWith, IsUnreadable}
-use Rattle.amqp_codec.specs.ReadingLaws.{is_read, read_one}
+use Rattle.amqp_codec.specs.Reading.{Reading, start_within, IsGreatest, BeginsWithin, IsUnreadableWithin, BeginsWith, IsUnreadable}
+use Rattle.amqp_codec.specs.ReadingLaws.{is_read, read_one, begins_greatest, greatest_begins, unreadable_greatest}
 
-module _ {T : Type 0} (r : Reading T) (input : List ℕ) (source : ℕ) (failed : Bool) where
+module _ {T : Type 0} (limits : Limits) (r : Reading T) (input : List ℕ) (source : ℕ) (failed : Bool) where
   abbrev begin : State
-  begin = elsewhere source failed (start input)
+  begin = elsewhere source failed (start_within limits input)
 
-  read_here : (v : T) (b : State) → r.reads begin v b → BeginsWith r input v (length input - length b.rest)
-  read_here v b h = is_read r input v (elsewhere 0 false b) (length input - length b.rest) (r.reads_elsewhere 0 false begin v b h) refl
+  read_here : (v : T) (b : State) → r.reads begin v b → BeginsWithin limits r input v (length input - length b.rest)
+  read_here v b h = is_read limits r input v (elsewhere 0 false b) (length input - length b.rest) (r.reads_elsewhere 0 false begin v b h) refl
 
-  behind_here : r.looks_on ≡ false → (v : T) (b : State) → r.reads begin v b → (w : T) (n : ℕ) → BeginsWith r input w n
+  behind_here : r.looks_on ≡ false → (v : T) (b : State) → r.reads begin v b → (w : T) (n : ℕ) → BeginsWithin limits r input w n
       → drop b.ahead b.rest ≡ drop n input
   behind_here own v b h w n k =
       let t = r.taken begin v b h in
@@ -26,7 +27,7 @@ module _ {T : Type 0} (r : Reading T) (input : List ℕ) (source : ℕ) (failed 
       let n_is : t.count ≡ n =
       omega (
         arith,
-        (read_one r input v w (length input - length b.rest) n (read_here v b h) k).1,
+        (read_one limits r input v w (length input - length b.rest) n (read_here v b h) k).1,
         ap length t.rest,
         length-drop t.count input,
         t.within,
@@ -34,11 +35,11 @@ module _ {T : Type 0} (r : Reading T) (input : List ℕ) (source : ℕ) (failed 
       ap (λ i. drop i b.rest) ahead ∙ (t.rest ∙ ap (λ i. drop i input) n_is)
 
   refused_here : (e : Error) (b : State) → RefusesRead r.takes_memory r.reads r.fault begin e b → ((r.takes_memory ≡ true) × (e ≡ Memory))
-      ⊎ ((IsReadError e × (b.failed ≡ true)) ⊎ IsUnreadable r input e)
+      ⊎ ((IsReadError e × (b.failed ≡ true)) ⊎ IsUnreadableWithin limits r input e)
   refused_here e b h = go (h.named refl) h.none
     where
       go : IsExcused r.takes_memory e b ⊎ r.fault begin e → IsExcused r.takes_memory e b ⊎ ((v : T) (st : State) → r.reads begin v st → ⊥)
-          → ((r.takes_memory ≡ true) × (e ≡ Memory)) ⊎ ((IsReadError e × (b.failed ≡ true)) ⊎ IsUnreadable r input e)
+          → ((r.takes_memory ≡ true) × (e ≡ Memory)) ⊎ ((IsReadError e × (b.failed ≡ true)) ⊎ IsUnreadableWithin limits r input e)
       go (inl (inl x)) n = inl x
       go (inl (inr x)) n = inr (inl x)
       go (inr f) (inl (inl x)) = inl x
@@ -46,33 +47,33 @@ module _ {T : Type 0} (r : Reading T) (input : List ℕ) (source : ℕ) (failed 
       go (inr f) (inr n) =
           inr (inr (record {
             fault = r.fault_elsewhere 0 false begin e f;
-            none = λ v m k. n v (elsewhere source failed k.after) (r.reads_elsewhere source failed (start input) v k.after k.read);
-            unspelled = λ one i. r.misspelled one input e i (r.fault_elsewhere 0 false begin e f);
+            none = λ v m k. n v (elsewhere source failed k.after) (r.reads_elsewhere source failed (start_within limits input) v k.after k.read);
+            unspelled = λ one i. r.misspelled one limits input e i (r.fault_elsewhere 0 false begin e f);
           }))
 
   pub found : (res : Result T Error) (b : State) → AnswersRead r.takes_memory r.reads r.fault begin res b
-      → IfOk res (λ v. (n : ℕ) × BeginsWith r input v n)
+      → IfOk res (λ v. (n : ℕ) × BeginsWithin limits r input v n)
   found (Ok v) b h = (length input - length b.rest, read_here v b h)
   found (Err e) b h = tt
 
   pub one : (res : Result T Error) (b : State) → AnswersRead r.takes_memory r.reads r.fault begin res b
-      → IfOk res (λ v. (w : T) (m : ℕ) → BeginsWith r input w m → r.same v w)
-  one (Ok v) b h = λ w m k. (read_one r input v w (length input - length b.rest) m (read_here v b h) k).0
+      → IfOk res (λ v. (w : T) (m : ℕ) → BeginsWithin limits r input w m → r.same v w)
+  one (Ok v) b h = λ w m k. (read_one limits r input v w (length input - length b.rest) m (read_here v b h) k).0
   one (Err e) b h = tt
 
   pub behind : (res : Result T Error) (b : State) → AnswersRead r.takes_memory r.reads r.fault begin res b → r.looks_on ≡ false
-      → (left : List ℕ) → left ≡ drop b.ahead b.rest → IfOk res (λ v. (w : T) (n : ℕ) → BeginsWith r input w n → left ≡ drop n input)
+      → (left : List ℕ) → left ≡ drop b.ahead b.rest → IfOk res (λ v. (w : T) (n : ℕ) → BeginsWithin limits r input w n → left ≡ drop n input)
   behind (Ok v) b h own left e = λ w n k. e ∙ behind_here own v b h w n k
   behind (Err x) b h own left e = tt
 
   pub refused : (res : Result T Error) (b : State) → AnswersRead r.takes_memory r.reads r.fault begin res b → (broken : Bool)
       → broken ≡ b.failed → IfErr res (λ e. ((r.takes_memory ≡ true) × (e ≡ Memory))
-      ⊎ ((IsReadError e × (broken ≡ true)) ⊎ IsUnreadable r input e))
+      ⊎ ((IsReadError e × (broken ≡ true)) ⊎ IsUnreadableWithin limits r input e))
   refused (Ok v) b h broken e = tt
   refused (Err x) b h broken e = go (refused_here x b h)
     where
-      go : ((r.takes_memory ≡ true) × (x ≡ Memory)) ⊎ ((IsReadError x × (b.failed ≡ true)) ⊎ IsUnreadable r input x)
-          → ((r.takes_memory ≡ true) × (x ≡ Memory)) ⊎ ((IsReadError x × (broken ≡ true)) ⊎ IsUnreadable r input x)
+      go : ((r.takes_memory ≡ true) × (x ≡ Memory)) ⊎ ((IsReadError x × (b.failed ≡ true)) ⊎ IsUnreadableWithin limits r input x)
+          → ((r.takes_memory ≡ true) × (x ≡ Memory)) ⊎ ((IsReadError x × (broken ≡ true)) ⊎ IsUnreadableWithin limits r input x)
       go (inl m) = inl m
       go (inr (inl (i, f))) = inr (inl (i, e ∙ f))
       go (inr (inr u)) = inr (inr u)
@@ -97,9 +98,43 @@ memory takes st (Ok v) b going h = tt
 memory takes st (Err x) b going h = (h.1 going).2
 
 -- a source that never fails is no reason
-pub refused_whole : {T : Type 0} (r : Reading T) (input : List ℕ) (e : Error) (b : State) → b.failed ≡ false
-    → RefusesRead r.takes_memory r.reads r.fault (start input) e b → ((r.takes_memory ≡ true) × (e ≡ Memory)) ⊎ IsUnreadable r input e
-refused_whole r input e b sound h = elim (refused_here r input 0 false e b h) [
+pub refused_whole : {T : Type 0} (limits : Limits) (r : Reading T) (input : List ℕ) (e : Error) (b : State) → b.failed ≡ false
+    → RefusesRead r.takes_memory r.reads r.fault (start_within limits input) e b
+    → ((r.takes_memory ≡ true) × (e ≡ Memory)) ⊎ IsUnreadableWithin limits r input e
+refused_whole limits r input e b sound h = elim (refused_here limits r input 0 false e b h) [
   | inl m ↦ inl m
   | inr x ↦ elim x [ inl (i, f) ↦ absurd (cc) | inr u ↦ inr u ]
 ]
+
+-- What is read within the greatest limits is what is read without any.
+module _ {T : Type 0} (limits : Limits) (g : IsGreatest limits) (r : Reading T) (input : List ℕ) where
+  pub counted_greatest : (res : Result (T × ℕ) Error) → IfOk res (λ v. BeginsWithin limits r input v.0 v.1)
+      → IfOk res (λ v. BeginsWith r input v.0 v.1)
+  counted_greatest (Ok v) h = begins_greatest limits r input v.0 v.1 g h
+  counted_greatest (Err e) h = tt
+
+  pub one_greatest : (res : Result T Error) → IfOk res (λ v. (w : T) (m : ℕ) → BeginsWithin limits r input w m → r.same v w)
+      → IfOk res (λ v. (w : T) (m : ℕ) → BeginsWith r input w m → r.same v w)
+  one_greatest (Ok v) h = λ w m k. h w m (greatest_begins limits r input w m g k)
+  one_greatest (Err e) h = tt
+
+  pub behind_greatest : (left : List ℕ) (res : Result T Error)
+      → IfOk res (λ v. (w : T) (n : ℕ) → BeginsWithin limits r input w n → left ≡ drop n input)
+      → IfOk res (λ v. (w : T) (n : ℕ) → BeginsWith r input w n → left ≡ drop n input)
+  behind_greatest left (Ok v) h = λ w n k. h w n (greatest_begins limits r input w n g k)
+  behind_greatest left (Err e) h = tt
+
+  pub refused_greatest : {A : Type 0} (broken : Bool) (res : Result A Error) → IfErr res (λ e. ((r.takes_memory ≡ true) × (e ≡ Memory))
+      ⊎ ((IsReadError e × (broken ≡ true)) ⊎ IsUnreadableWithin limits r input e))
+      → IfErr res (λ e. ((r.takes_memory ≡ true) × (e ≡ Memory)) ⊎ ((IsReadError e × (broken ≡ true)) ⊎ IsUnreadable r input e))
+  refused_greatest broken (Ok v) h = tt
+  refused_greatest broken (Err e) (inl m) = inl m
+  refused_greatest broken (Err e) (inr (inl f)) = inr (inl f)
+  refused_greatest broken (Err e) (inr (inr u)) = inr (inr (unreadable_greatest limits r input e g u))
+
+  pub refused_whole_greatest : {A : Type 0} (res : Result A Error)
+      → IfErr res (λ e. ((r.takes_memory ≡ true) × (e ≡ Memory)) ⊎ IsUnreadableWithin limits r input e)
+      → IfErr res (λ e. ((r.takes_memory ≡ true) × (e ≡ Memory)) ⊎ IsUnreadable r input e)
+  refused_whole_greatest (Ok v) h = tt
+  refused_whole_greatest (Err e) (inl m) = inl m
+  refused_whole_greatest (Err e) (inr u) = inr (unreadable_greatest limits r input e g u)

@@ -7,7 +7,7 @@ use Rattle.amqp_wire.specs.declared.error.Error.TheVariants.{Memory}
 use Rattle.amqp_encoder.specs.Passes.{row_text}
 use Rattle.amqp_decoder.specs.Steps.{IsReadError}
 use Rattle.amqp_decoder.proofs.NotOutside.{read_is_outside}
-use Rattle.amqp_codec.specs.Reading.{Reading, BeginsWith, IsUnreadable, start}
+use Rattle.amqp_codec.specs.Reading.{Reading, BeginsWith, IsUnreadable, greatest, start}
 use Rattle.amqp_codec.specs.ReadingLaws.{read_one}
 use Rattle.amqp_codec.specs.Rewriting.{Rewriting}
 use Rattle.amqp_read_write.specs.Rewritten.{IsRewritten, IsReadAgain, AreReadAgain, IsOneText, IsOfNoOther, IsUnchanged, IsShortest, AreShortest, IsUnwritten}
@@ -52,7 +52,7 @@ module _ {T : Type 0} {r : Reading T} {canons : T → List Term} {is_value : T �
     no_other v w other m k l kv kw f e =
         let a = own_text input v n k (writable v k) in
         let b = subst (λ x. BeginsWith r x (again w) (length x)) (e ∙ text_is v k) (own_text other w m l f) in
-        let s = (read_one r (row_text (canons v)) (again v) (again w) (length (row_text (canons v)))
+        let s = (read_one greatest r (row_text (canons v)) (again v) (again w) (length (row_text (canons v)))
         (length (row_text (canons v))) a b).0 in
         r.same_trans v (again v) w (r.same_sym (again v) v (laws.own input v n k kv))
         (r.same_trans (again v) (again w) w s (laws.own other w m l kw))
@@ -62,7 +62,7 @@ module _ {T : Type 0} {r : Reading T} {canons : T → List Term} {is_value : T �
         let v = h.value in
         let i = laws.value input v n h.read in
         let a = subst (λ x. BeginsWith r x (again v) (length x)) (sym h.text_is) (own_text input v n h.read h.writable) in
-        let o = read_one r text w (again v) m (length text) k a in
+        let o = read_one greatest r text w (again v) m (length text) k a in
         (ap row_text (laws.canons_same w (again v) o.0) ∙ (laws.text_again v i h.writable ∙ sym h.text_is), o.1)
 
     pub shortest : is_least ≡ true → IsShortest r canons input text n

@@ -4,15 +4,15 @@ ghost use Rattle.amqp_wire.specs.declared.error.Error.TheVariants.{Memory};
 ghost use Rattle.amqp_encoder.specs.declared.size.Size.{Size};
 ghost use Rattle.amqp_encoder.specs.Passes.{row_text, BeginsMeasuring, Finds};
 ghost use Rattle.amqp_decoder.specs.Steps.{IsReadError};
-ghost use Rattle.amqp_codec.specs.Reading.{BeginsWith, IsUnreadable};
+ghost use Rattle.amqp_codec.specs.Reading.{BeginsWith, IsUnreadable, BeginsWithin, IsUnreadableWithin};
 ghost use Rattle.amqp_read_write.specs.Rewritten.{IsRewritten, IsReadAgain, AreReadAgain, IsOneText, IsOfNoOther, IsUnchanged, IsShortest, AreShortest};
 ghost use Rattle.amqp_read_write.specs.Rewritten.{IsUnwritten};
 ghost use Rattle.amqp_codec.specs.Written.{AreMeasured, AreUnwritable, AreWritable};
 
 use amqp_codec::{Canonical, Deserialize, Serialize};
-use amqp_decoder::{decoder_of, unread};
+use amqp_decoder::{decoder_within, unread};
 use amqp_encoder::{Encoder, begin_filling, buffer_of, measured_len, measuring_encoder};
-use amqp_wire::Error;
+use amqp_wire::{Error, Limits};
 use std::alloc::Global;
 
 /// The value that the input begins with. What follows it is left. An error is `Memory`, where reading the type takes
@@ -39,7 +39,27 @@ pub fn from_slice_counted<T: Deserialize>(input: &[u8], alloc: Global) -> Result
     ensures memory { IfErr result (λ e. e ≡ Memory → T.reading.takes_memory ≡ true) }
     ensures unfailing { IfErr result (λ e. IsReadError e → ⊥) }
 {
-    let mut decoder = decoder_of(input, alloc);
+    from_slice_within(input, &Limits::greatest(), alloc)
+}
+
+/// Within limits of the caller, the value that the input begins with, and how many bytes it takes. It is refused as `from_slice` is, and
+/// by `Limit` if it passes a limit. No input begins with two values, and no value that an input begins with has more values in it than it
+/// takes bytes.
+pub fn from_slice_within<T: Deserialize>(
+    input: &[u8],
+    limits: &Limits,
+    alloc: Global,
+) -> Result<(T, usize), Error>
+    ensures found { IfOk result (λ r. BeginsWithin limits.now T.reading input.now r.0 r.1) }
+    ensures one { (v w : _) (n m : ℕ) → BeginsWithin limits.now T.reading input.now v n
+        → BeginsWithin limits.now T.reading input.now w m → T.reading.same v w × (n ≡ m) }
+    ensures bounded { (v : _) (n : ℕ) → BeginsWithin limits.now T.reading input.now v n → T.reading.count v ≤ n }
+    ensures refused { IfErr result (λ e.
+        ((T.reading.takes_memory ≡ true) × (e ≡ Memory)) ⊎ IsUnreadableWithin limits.now T.reading input.now e) }
+    ensures memory { IfErr result (λ e. e ≡ Memory → T.reading.takes_memory ≡ true) }
+    ensures unfailing { IfErr result (λ e. IsReadError e → ⊥) }
+{
+    let mut decoder = decoder_within(input, limits, alloc);
     let read = T::deserialize(&mut decoder, alloc);
     let left = unread(&decoder);
     let value = read?;

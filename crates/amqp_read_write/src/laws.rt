@@ -1,10 +1,14 @@
 //! The laws of every type of terms, over the bytes that spell its values.
-ghost use Rattle.std.specs.Prelude.{◌≡◌, ◌≤◌, ℕ, Bool, true, false, ◌&&◌, List, ◌++◌, length};
-ghost use Rattle.amqp_model.specs.Term.{Refusal, too_large};
+ghost use Rattle.std.specs.Prelude.{◌≡◌, ◌≤◌, ◌↔◌, ℕ, Bool, true, false, ◌&&◌, List, ◌++◌, length};
+ghost use Rattle.amqp_model.specs.Term.{Refusal, too_large, Term};
+ghost use Rattle.amqp_model.specs.Spelling.{enc};
+ghost use Rattle.amqp_model.specs.Measures.{nest};
 ghost use Rattle.amqp_model.specs.Ranges.{Everywhere, IsNoArray, IsBytes};
 ghost use Rattle.amqp_model.specs.Refusals.{Refuses};
 ghost use Rattle.amqp_model.specs.FieldType.{normal};
 ghost use Rattle.amqp_wire.specs.declared.error.Error.{Error};
+ghost use Rattle.amqp_wire.specs.declared.limits.Limits.{Limits};
+ghost use Rattle.amqp_wire.specs.Limits.{limit_of};
 ghost use Rattle.amqp_encoder.specs.Passes.{row_text};
 ghost use Rattle.amqp_encoder.specs.Refused.{TermHasCause};
 ghost use Rattle.std.specs.Bool.{Decides};
@@ -12,10 +16,10 @@ ghost use Rattle.amqp_codec.specs.Spelled.{IsSpelled, IsWritable, written};
 ghost use Rattle.amqp_codec.specs.Keys.{ComparesTexts};
 ghost use Rattle.amqp_codec.specs.Written.{AreWritable, AreUnwritable};
 ghost use Rattle.std.specs.Prelude.{take};
-ghost use Rattle.amqp_decoder.specs.State.{State};
+ghost use Rattle.amqp_decoder.specs.State.{State, Has};
 ghost use Rattle.amqp_decoder.specs.Reading.{PeeksCode};
 ghost use Rattle.amqp_codec.specs.EitherMeaning.{EitherFault};
-ghost use Rattle.amqp_codec.specs.Reading.{BeginsWith};
+ghost use Rattle.amqp_codec.specs.Reading.{BeginsWith, BeginsWithin};
 
 use amqp_codec::{Canonical, Deserialize, DeserializeTerm, MapKey, Symbol};
 use std::collections::BTreeMap;
@@ -29,6 +33,14 @@ pub fn reading_is_spelling<T: DeserializeTerm>()
     ensures read { (b more : List ℕ) (v : T) → IsSpelled T.term b v → BeginsWith ⟦<T as Deserialize>⟧.reading (b ++ more) v (length b) }
     ensures no_more { ⟦<T as Deserialize>⟧.reading.looks_on ≡ false }
     ensures one_term { ⟦<T as Deserialize>⟧.reading.one_term ≡ true }
+{}
+
+/// Within limits of the caller a value is read from the first n bytes exactly if it is read from them without, n is no more than the limit
+/// on bytes, and the term that they spell nests no deeper than the limits say.
+pub fn limits_bound_reading<T: DeserializeTerm>()
+    ensures { (limits : Limits) (input : List ℕ) (v : T) (n : ℕ) → BeginsWithin limits ⟦<T as Deserialize>⟧.reading input v n
+        ↔ (BeginsWith ⟦<T as Deserialize>⟧.reading input v n × Has (limit_of limits.bytes) n
+        × ((t : Term) → enc (take n input) t → nest t ≤ limits.nesting)) }
 {}
 
 /// What `to_vec`, `encoded_len` and `append_to_vec` say of a value's canonical terms, they say of the canonical term

@@ -3,11 +3,11 @@ ghost use Rattle.std.specs.Prelude.{◌≡◌, ◌⊎◌, ℕ, true, false, drop
 ghost use Rattle.amqp_wire.specs.declared.error.Error.TheVariants.{Memory};
 ghost use Rattle.amqp_wire.specs.Sources.{known, Tells};
 ghost use Rattle.amqp_decoder.specs.Steps.{IsReadError};
-ghost use Rattle.amqp_codec.specs.Reading.{BeginsWith, IsUnreadable};
+ghost use Rattle.amqp_codec.specs.Reading.{BeginsWith, IsUnreadable, BeginsWithin, IsUnreadableWithin};
 
 use amqp_codec::Deserialize;
-use amqp_decoder::{decoder_of, source_of};
-use amqp_wire::{ByteSource, Error};
+use amqp_decoder::{decoder_within, source_of};
+use amqp_wire::{ByteSource, Error, Limits};
 use std::alloc::{AllocError, Global};
 use std::io::ErrorKind;
 use std::marker::{Brand, PhantomData};
@@ -30,7 +30,32 @@ pub fn from_reader<T: Deserialize, R: ByteSource>(reader: &mut R, alloc: Global)
     ensures failing { MatchResult result (λ _. R.failed reader.new ≡ R.failed reader.old)
         (λ e. (R.failed reader.new ≡ R.failed reader.old) ⊎ IsReadError e) }
 {
-    let (read, _reader) = read_named::<T, _, Brand>(reader, alloc);
+    from_reader_within(reader, &Limits::greatest(), alloc)
+}
+
+/// Within limits of the caller, the value that the reader's bytes begin with, however it gives them. The reader is left behind the value.
+/// It is refused as `from_reader` is, and by `Limit` if it passes a limit.
+pub fn from_reader_within<T: Deserialize, R: ByteSource>(
+    reader: &mut R,
+    limits: &Limits,
+    alloc: Global,
+) -> Result<T, Error>
+    ensures found { Tells R.remaining
+        → IfOk result (λ v. (n : ℕ) × BeginsWithin limits.now T.reading (known (R.remaining reader.old)) v n) }
+    ensures one { Tells R.remaining → IfOk result (λ v. (w : _) (m : ℕ)
+        → BeginsWithin limits.now T.reading (known (R.remaining reader.old)) w m → T.reading.same v w) }
+    ensures behind { Tells R.remaining → T.reading.looks_on ≡ false
+        → IfOk result (λ v. (w : _) (n : ℕ) → BeginsWithin limits.now T.reading (known (R.remaining reader.old)) w n
+        → known (R.remaining reader.new) ≡ drop n (known (R.remaining reader.old))) }
+    ensures refused { Tells R.remaining → IfErr result (λ e. ((T.reading.takes_memory ≡ true) × (e ≡ Memory))
+        ⊎ ((IsReadError e × (R.failed reader.new ≡ true))
+        ⊎ IsUnreadableWithin limits.now T.reading (known (R.remaining reader.old)) e)) }
+    ensures memory { IfErr result (λ e. e ≡ Memory → T.reading.takes_memory ≡ true) }
+    ensures failed { IfErr result (λ e. IsReadError e → R.failed reader.new ≡ true) }
+    ensures failing { MatchResult result (λ _. R.failed reader.new ≡ R.failed reader.old)
+        (λ e. (R.failed reader.new ≡ R.failed reader.old) ⊎ IsReadError e) }
+{
+    let (read, _reader) = read_named::<T, _, Brand>(reader, limits, alloc);
     read
 }
 
@@ -77,21 +102,24 @@ impl<S: ByteSource, N: Name> ByteSource for Named<S, N> {
     }
 }
 
-// The value that the source's bytes begin with, and the source, which is left behind it.
+// Within the limits, the value that the source's bytes begin with, and the source, which is left behind it.
 fn read_named<T: Deserialize, S: ByteSource, N: Name>(
     source: S,
+    limits: &Limits,
     alloc: Global,
 ) -> (Result<T, Error>, S)
     requires { S.name source ≡ N.name }
     ensures named { S.name result.1 ≡ S.name source }
-    ensures found { Tells S.remaining → IfOk result.0 (λ v. (n : ℕ) × BeginsWith T.reading (known (S.remaining source)) v n) }
+    ensures found { Tells S.remaining
+        → IfOk result.0 (λ v. (n : ℕ) × BeginsWithin limits.now T.reading (known (S.remaining source)) v n) }
     ensures one { Tells S.remaining → IfOk result.0 (λ v. (w : _) (m : ℕ)
-        → BeginsWith T.reading (known (S.remaining source)) w m → T.reading.same v w) }
+        → BeginsWithin limits.now T.reading (known (S.remaining source)) w m → T.reading.same v w) }
     ensures behind { Tells S.remaining → T.reading.looks_on ≡ false
-        → IfOk result.0 (λ v. (w : _) (n : ℕ) → BeginsWith T.reading (known (S.remaining source)) w n
+        → IfOk result.0 (λ v. (w : _) (n : ℕ) → BeginsWithin limits.now T.reading (known (S.remaining source)) w n
         → known (S.remaining result.1) ≡ drop n (known (S.remaining source))) }
     ensures refused { Tells S.remaining → IfErr result.0 (λ e. ((T.reading.takes_memory ≡ true) × (e ≡ Memory))
-        ⊎ ((IsReadError e × (S.failed result.1 ≡ true)) ⊎ IsUnreadable T.reading (known (S.remaining source)) e)) }
+        ⊎ ((IsReadError e × (S.failed result.1 ≡ true))
+        ⊎ IsUnreadableWithin limits.now T.reading (known (S.remaining source)) e)) }
     ensures memory { IfErr result.0 (λ e. e ≡ Memory → T.reading.takes_memory ≡ true) }
     ensures failed { IfErr result.0 (λ e. IsReadError e → S.failed result.1 ≡ true) }
     ensures failing { MatchResult result.0 (λ _. S.failed result.1 ≡ S.failed source)
@@ -101,7 +129,7 @@ fn read_named<T: Deserialize, S: ByteSource, N: Name>(
         source,
         of: PhantomData,
     };
-    let mut decoder = decoder_of(named, alloc);
+    let mut decoder = decoder_within(named, limits, alloc);
     let read = T::deserialize(&mut decoder, alloc);
     let Named { source, .. } = source_of(decoder);
     (read, source)

@@ -8,6 +8,8 @@ mod conversions;
 #[cfg(test)]
 mod lazy;
 #[cfg(test)]
+mod limits;
+#[cfg(test)]
 mod nests;
 #[cfg(test)]
 mod order;

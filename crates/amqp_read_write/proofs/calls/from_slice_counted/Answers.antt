@@ -1,40 +1,22 @@
-use Rattle.std.proofs.Common.{arith, refl}
-use Rattle.std.proofs.lemmas.Result.{err_from_is_err_and}
-use Rattle.amqp_codec.specs.ReadingLaws.{read_one, read_bounded, is_read, memory_wanted, never_failing}
-use Rattle.amqp_read_write.proofs.FromReader.{refused_whole}
+use Rattle.std.proofs.Common.{arith}
+use Rattle.amqp_codec.specs.Reading.{greatest, IsGreatest}
+use Rattle.amqp_codec.specs.ReadingLaws.{read_one, read_bounded}
+use Rattle.amqp_read_write.proofs.FromReader.{counted_greatest, refused_whole_greatest}
 use Rattle.amqp_read_write.proofs.calls.from_slice_counted.Goals as goal
 
 pub returns-clause-found : goal.returns-clause-found
 returns-clause-found g c =
-    let read = rw c.decoder_of-decoder.ensures at (c.in_ok-value.ensures.read (λ s. (s.now, refl))) in
-    is_read g.T.Deserialize.reading c.args.input.now _ c.deserialize-read.new.decoder _ read (omega (arith, c.unread-left.ensures.count))
+    let limits : IsGreatest c.greatest.result = (c.greatest.ensures.nesting, c.greatest.ensures.bytes, c.greatest.ensures.items) in
+    counted_greatest _ limits g.T.Deserialize.reading c.args.input.now _ c.from_slice_within.ensures.found
 
 pub returns-clause-one : goal.returns-clause-one
-returns-clause-one g c v w n m h k = read_one g.T.Deserialize.reading c.args.input.now v w n m h k
+returns-clause-one g c v w n m h k = read_one greatest g.T.Deserialize.reading c.args.input.now v w n m h k
 
 pub returns-clause-bounded : goal.returns-clause-bounded
 returns-clause-bounded g c v n h =
-    omega (arith, h.left, read_bounded g.T.Deserialize.reading c.args.input.now v h.after h.read)
+    omega (arith, h.left, read_bounded greatest g.T.Deserialize.reading c.args.input.now v h.after h.read)
 
-pub returns-in_err-value-clause-refused : goal.returns-in_err-value-clause-refused
-returns-in_err-value-clause-refused g c =
-    let p = err_from_is_err_and c.from_residual.result c.from_residual.ensures.1 in
-    rw (p.1, p.2) (refused_whole g.T.Deserialize.reading c.args.input.now _ c.deserialize-read.new.decoder c.unread-left.ensures.whole
-    (rw c.decoder_of-decoder.ensures at (c.in_err-value.ensures.read (λ s. (s.now, refl)))))
-
-pub returns-in_err-value-clause-memory : goal.returns-in_err-value-clause-memory
-returns-in_err-value-clause-memory g c =
-    let p = err_from_is_err_and c.from_residual.result c.from_residual.ensures.1 in
-    rw (p.1, p.2) (memory_wanted g.T.Deserialize.reading c.args.input.now _
-    (refused_whole g.T.Deserialize.reading c.args.input.now _ c.deserialize-read.new.decoder c.unread-left.ensures.whole
-    (rw c.decoder_of-decoder.ensures at (c.in_err-value.ensures.read (λ s. (s.now, refl))))))
-
-pub returns-in_err-value-clause-unfailing : goal.returns-in_err-value-clause-unfailing
-returns-in_err-value-clause-unfailing g c =
-    let p = err_from_is_err_and c.from_residual.result c.from_residual.ensures.1 in
-    rw (p.1, p.2) (never_failing g.T.Deserialize.reading c.args.input.now _
-    (refused_whole g.T.Deserialize.reading c.args.input.now _ c.deserialize-read.new.decoder c.unread-left.ensures.whole
-    (rw c.decoder_of-decoder.ensures at (c.in_err-value.ensures.read (λ s. (s.now, refl))))))
-
-pub returns-in_err-value-clause-one : goal.returns-in_err-value-clause-one
-returns-in_err-value-clause-one g c v w n m h k = read_one g.T.Deserialize.reading c.args.input.now v w n m h k
+pub returns-clause-refused : goal.returns-clause-refused
+returns-clause-refused g c =
+    let limits : IsGreatest c.greatest.result = (c.greatest.ensures.nesting, c.greatest.ensures.bytes, c.greatest.ensures.items) in
+    refused_whole_greatest _ limits g.T.Deserialize.reading c.args.input.now _ c.from_slice_within.ensures.refused

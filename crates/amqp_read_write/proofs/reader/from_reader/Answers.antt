@@ -1,14 +1,21 @@
-use Rattle.std.proofs.Common.{◌≡◌, ℕ, List, drop, Result, Ok, Err, IfOk, arith, ◌∙◌}
-use Rattle.std.proofs.lemmas.Grind.{common_steps}
-use Rattle.amqp_wire.specs.declared.error.Error.{Error}
+use Rattle.amqp_wire.specs.Sources.{known}
+use Rattle.amqp_codec.specs.Reading.{IsGreatest}
+use Rattle.amqp_read_write.proofs.FromReader.{one_greatest, behind_greatest, refused_greatest}
 use Rattle.amqp_read_write.proofs.reader.from_reader.Goals as goal
 
--- what is left of one reader is what is left of another
-left_alike : {T : Type 0} (res : Result T Error) (reads : T → ℕ → Type 0) (input left there : List ℕ) → left ≡ there
-    → IfOk res (λ v. (w : T) (n : ℕ) → reads w n → there ≡ drop n input) → IfOk res (λ v. (w : T) (n : ℕ) → reads w n → left ≡ drop n input)
-left_alike (Ok v) reads input left there e h = λ w n k. e ∙ h w n k
-left_alike (Err x) reads input left there e h = tt
+pub returns-clause-one : goal.returns-clause-one
+returns-clause-one g c = λ told.
+    let limits : IsGreatest c.greatest.result = (c.greatest.ensures.nesting, c.greatest.ensures.bytes, c.greatest.ensures.items) in
+    one_greatest _ limits g.T.Deserialize.reading (known (g.R.ByteSource.remaining c.args.reader.now)) _ (c.from_reader_within.ensures.one told)
 
 pub returns-clause-behind : goal.returns-clause-behind
-returns-clause-behind g c =
-    λ told own. left_alike _ _ _ _ _ (grind (arith, common_steps)) (c.read_named-read.ensures.behind (λ r. told r.now) own)
+returns-clause-behind g c = λ told own.
+    let limits : IsGreatest c.greatest.result = (c.greatest.ensures.nesting, c.greatest.ensures.bytes, c.greatest.ensures.items) in
+    behind_greatest _ limits g.T.Deserialize.reading (known (g.R.ByteSource.remaining c.args.reader.now)) _ _
+    (c.from_reader_within.ensures.behind told own)
+
+pub returns-clause-refused : goal.returns-clause-refused
+returns-clause-refused g c = λ told.
+    let limits : IsGreatest c.greatest.result = (c.greatest.ensures.nesting, c.greatest.ensures.bytes, c.greatest.ensures.items) in
+    refused_greatest _ limits g.T.Deserialize.reading (known (g.R.ByteSource.remaining c.args.reader.now)) _ _
+    (c.from_reader_within.ensures.refused told)
