@@ -1,5 +1,6 @@
 pub mod Constructors
 pub mod Described
+pub mod Enclosed
 pub mod Exactly
 pub mod Filled
 pub mod ContainerTerms

@@ -1,5 +1,4 @@
 use Rattle.std.proofs.Common.{◌≡◌, ◌++◌, arith, ap, ap₂, sym, ◌∙◌}
-use Rattle.std.proofs.lemmas.List.{length-map, length-reverse, length-take}
 use Rattle.std.proofs.lemmas.Result.{err_from_is_err_and}
 use Rattle.amqp_encoder.specs.Values.{place_of, descriptor_of}
 use Rattle.amqp_encoder.specs.Measuring.{descriptor_bytes, form_after}
@@ -13,7 +12,7 @@ returns-in_err-form-in-Later c =
     let bytes : c.as_slice-in-Later.result.now ++ c.text_of-in-Later.result.now ≡ descriptor_bytes (descriptor_of c.args.descriptor.now) =
     ap₂ (λ a b. a ++ b) c.as_slice-in-Later.ensures c.text_of-in-Later.ensures ∙ c.head_of-in-Later.ensures in
     other_descriptor (descriptor_of c.args.descriptor.now) m m _ _ _ _
-    (rw (← c.self.view_is) (simp (length-map, length-reverse, length-take) (omega arith)))
+    (rw (← c.self.view_is) (omega arith))
     (rw (← c.self.view_is) (sym c.is_full.ensures ∙ c.if-is_full.false))
     (sym c.len_of.ensures ∙ c.in_ok-len.was)
     (rw (← c.self.view_is) (ap place_of c.in-Later.is))
