@@ -10,15 +10,17 @@ ghost use Rattle.amqp_encoder.specs.Tokens.{TakesMemory, begin, begin_described}
 ghost use Rattle.amqp_encoder.specs.State.{at_start, seen};
 ghost use Rattle.amqp_encoder.specs.Opening.{opening};
 ghost use Rattle.amqp_encoder.specs.Measuring.{enter, leave, measure_value, measure_null_at, measure_keep, measure_begin, measure_end};
-ghost use Rattle.amqp_encoder.specs.Measuring.{measure_begin_described, measure_end_described, form_after, describe, is_full};
+ghost use Rattle.amqp_encoder.specs.Measuring.{measure_begin_described, measure_end_described, form_after, describe, describe_at, is_full};
+ghost use Rattle.amqp_encoder.specs.Measuring.{descriptor_bytes, descriptor_length};
+ghost use Rattle.amqp_model.specs.Text.{First, Later};
 ghost use Rattle.amqp_encoder.specs.Enclosed.{IsShort};
-ghost use Rattle.amqp_encoder.specs.Gives.{Gives, Does, fixed_text, variable_length, measure_bytes, measure_symbol, Closes};
+ghost use Rattle.amqp_encoder.specs.Gives.{Gives, Does, tail_of, fixed_text, variable_length, measure_bytes, measure_symbol, Closes};
 
 use crate::descriptors::{check_symbol, head_of, len_of, text_of};
 use crate::enclosing::Enclosing;
 use crate::frame::{MeasuredContainer, opening_len};
 use crate::places::{Place, Shortest, around, is_odd, wide_code};
-use crate::size::Size;
+use crate::size::{Size, Sizes};
 use amqp_wire::nesting::NESTING;
 use amqp_wire::{Container, Descriptor, Error};
 use std::alloc::Global;
@@ -28,7 +30,7 @@ use std::marker::Model;
 pub(crate) struct Measure {
     top: MeasuredContainer,
     enclosing: Enclosing,
-    sizes: Vec<Size>,
+    sizes: Sizes,
     /// The descriptors of the items of the arrays that are open, in canonical form, outermost array first.
     descriptors: Vec<u8>,
 }
@@ -43,7 +45,7 @@ impl Model for Measure {
     ghost view = { λ m. record {
       frame = seen m.top;
       outer = m.enclosing.items;
-      sizes = m.sizes.items;
+      sizes = m.sizes;
       descriptors = m.descriptors.items;
     } };
 
@@ -58,7 +60,7 @@ impl Measure {
         Measure {
             top: MeasuredContainer::outermost(),
             enclosing: Enclosing::new(alloc),
-            sizes: Vec::new(alloc),
+            sizes: Sizes::new(alloc),
             descriptors: Vec::new(alloc),
         }
     }
@@ -77,10 +79,10 @@ impl Measure {
 
     /// The sizes of the containers in the order in which they begin, which are moved out of it.
     #[inline(always)]
-    pub(crate) fn take_sizes(&mut self, alloc: Global) -> Vec<Size>
-        ensures { result.items ≡ self.old.sizes }
+    pub(crate) fn take_sizes(&mut self, alloc: Global) -> Sizes
+        ensures { result ≡ self.old.sizes }
     {
-        std::mem::replace(&mut self.sizes, Vec::new(alloc))
+        std::mem::replace(&mut self.sizes, Sizes::new(alloc))
     }
 
     fn is_open(&self) -> bool
@@ -307,7 +309,7 @@ impl Measure {
               descriptors = take inner.form self.old.descriptors;
             })) result self.new }
     {
-        self.sizes[inner.index] = size;
+        self.sizes.set(inner.index, size);
         self.descriptors.truncate(inner.form);
         self.leave(opening_len(self.top.place, container, size) + inner.content)
     }
@@ -324,19 +326,41 @@ impl Measure {
         }
         let len = len_of(descriptor)?;
         match self.top.place {
-            Place::Alone => self.open_described(len, 0),
-            Place::First => {
-                self.descriptors
-                    .extend_from_slice(head_of(descriptor).as_slice())?;
-                self.descriptors.extend_from_slice(text_of(descriptor))?;
-                let form = self.descriptors.len();
-                self.open(self.top.of_described(len, form))?;
+            Place::Alone => {
+                self.open_described(len, 0);
+                Ok(())
             }
-            Place::Later => {
-                let form = self.form_after(head_of(descriptor).as_slice(), text_of(descriptor))?;
-                self.open_described(0, form);
-            }
+            Place::First => self.begin_first_item(descriptor, len),
+            Place::Later => self.begin_later_item(descriptor),
         }
+    }
+
+    /// A described value begins as the first item of an array: its descriptor is kept, for those of the items after it.
+    #[inline(never)]
+    fn begin_first_item(&mut self, descriptor: &Descriptor, len: usize) -> Result<(), Error>
+        requires levels { length self.old.outer < 129 }
+        requires known { descriptor_length (descriptor_of descriptor.now) ≡ Ok len }
+        ensures opened { OnOk result (Ok self.new ≡ describe_at First (descriptor_bytes (descriptor_of descriptor.now)) self.old) }
+        ensures memory { IfErr result (λ e. e ≡ Memory) }
+    {
+        self.descriptors
+            .extend_from_slice(head_of(descriptor).as_slice())?;
+        self.descriptors.extend_from_slice(text_of(descriptor))?;
+        let form = self.descriptors.len();
+        self.open(self.top.of_described(len, form))
+    }
+
+    /// One begins as a later item of an array, with the descriptor that the first has.
+    #[inline(never)]
+    fn begin_later_item(&mut self, descriptor: &Descriptor) -> Result<(), Error>
+        requires levels { length self.old.outer < 129 }
+        requires unfilled { is_full self.old.frame ≡ false }
+        requires later { self.old.frame.place ≡ Later }
+        requires fits { length (tail_of (descriptor_of descriptor.now)) < 2 ^ 32 }
+        ensures { Does (describe_at Later (descriptor_bytes (descriptor_of descriptor.now)) self.old) result self.new }
+    {
+        let form = self.form_after(head_of(descriptor).as_slice(), text_of(descriptor))?;
+        self.open_described(0, form);
         Ok(())
     }
 
