@@ -1,7 +1,8 @@
 pub mod Constructors
-pub mod Described
+pub mod Enclosed
 pub mod Exactly
 pub mod Filled
+pub mod FirstSizes
 pub mod ContainerTerms
 pub mod Joined
 pub mod Lifted

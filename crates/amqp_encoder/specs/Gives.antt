@@ -1,6 +1,7 @@
 -- What a call of one pass did, and the bytes and lengths that its parts speak of.
 use Rattle.std.specs.Prelude.{◌≡◌, ℕ, ◌+◌, List, [], ◌∷◌, length, drop, ltb, cond, if◌then◌else◌, Result, Ok, Err, IsOk, ◌⊎◌}
 use Rattle.amqp_model.specs.Term.{Descriptor, name, code, symbol}
+use Rattle.amqp_model.specs.Spelling.{descriptor_value}
 use Rattle.amqp_model.specs.Text.{Place, Alone, First, Later, spell, with_size}
 use Rattle.amqp_wire.specs.declared.error.Error.{Error}
 use Rattle.amqp_wire.specs.declared.error.Error.TheVariants.{Memory, TooLarge, InvalidValue}
@@ -8,8 +9,8 @@ use Rattle.amqp_encoder.specs.declared.places.Shortest.{Shortest}
 use Rattle.amqp_encoder.specs.declared.frame.MeasuredContainer.{MeasuredContainer}
 use Rattle.amqp_encoder.specs.Values.{shortest_text}
 use Rattle.amqp_encoder.specs.State.{Open, Measured, Filled, seen}
-use Rattle.amqp_encoder.specs.Measuring.{◌>>=◌, short_enough, checked, measure_value}
-use Rattle.amqp_encoder.specs.Filling.{fill_value}
+use Rattle.amqp_encoder.specs.Measuring.{◌>>=◌, short_enough, checked, measure_value, descriptor_bytes}
+use Rattle.amqp_encoder.specs.Filling.{sized, fill_value, fill_open}
 
 -- What its function says; or memory ran out where the call takes memory, and that says Ok.
 abbrev pub Gives : {X : Type 0} → Type 0 → Result X Error → Result (Unit {0}) Error → X → Type 0
@@ -35,6 +36,10 @@ variable_text Later short wide s = with_size 4 s
 
 abbrev pub fill_bytes : ℕ → ℕ → List ℕ → Filled → Result Filled Error
 fill_bytes short wide s f = short_enough s >>= λ _. fill_value (variable_text f.place short wide s) f
+
+-- A described value begins where its descriptor is written.
+abbrev pub fill_described : Descriptor → Filled → Result Filled Error
+fill_described d f = sized (descriptor_value d) >>= λ _. fill_open (descriptor_bytes d) f.place f
 
 abbrev pub variable_length : Place → ℕ → ℕ
 variable_length Alone n = if ltb n 256 then 2 + n else 5 + n

@@ -2,6 +2,7 @@ pub mod Values
 pub mod Opening
 pub mod Tokens
 pub mod State
+pub mod Enclosed
 pub mod Measuring
 pub mod Filling
 pub mod Gives

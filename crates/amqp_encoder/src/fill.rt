@@ -10,12 +10,12 @@ ghost use Rattle.amqp_encoder.specs.State.{to_fill};
 ghost use Rattle.amqp_encoder.specs.declared.places.Shortest.TheVariants.{Wide};
 ghost use Rattle.amqp_encoder.specs.Filling.{emit, fill_value, fill_null_at, fill_keep, fill_open, fill_begin, fill_begin_described};
 ghost use Rattle.amqp_encoder.specs.Filling.{fill_end};
-ghost use Rattle.amqp_encoder.specs.Gives.{Does, fixed_text, fill_bytes};
+ghost use Rattle.amqp_encoder.specs.Gives.{Does, fixed_text, fill_bytes, fill_described};
 
 use crate::descriptors::{head_of, text_of};
 use crate::frame::is_filled_up;
 use crate::places::{Place, Shortest, first_place, is_list, short_code, wide_code};
-use crate::size::{MAX_CONTENT, Size};
+use crate::size::{MAX_CONTENT, Size, Sizes};
 use amqp_wire::nesting::LEVELS;
 use amqp_wire::{Container, Descriptor, Error, format_code};
 use std::alloc::Global;
@@ -26,7 +26,7 @@ pub(crate) struct Fill {
     place: Place,
     places: [Place; LEVELS],
     depth: usize,
-    sizes: Vec<Size>,
+    sizes: Sizes,
     next: usize,
     limit: usize,
     out: Vec<u8>,
@@ -43,7 +43,7 @@ impl Model for Fill {
     ghost view = { λ f. record {
       place = place_of f.place;
       outer = map place_of (reverse (take f.depth f.places));
-      sizes = drop f.next f.sizes.items;
+      sizes = drop f.next f.sizes;
       out = f.out.items;
       limit = f.limit;
     } };
@@ -61,7 +61,7 @@ impl Fill {
             place: Place::Alone,
             places: [Place::Alone; LEVELS],
             depth: 0,
-            sizes: Vec::new(alloc),
+            sizes: Sizes::new(alloc),
             next: 0,
             limit: 0,
             out: Vec::new(alloc),
@@ -70,9 +70,9 @@ impl Fill {
 
     /// Begins to fill the room of a buffer. What is left in the row is not seen.
     #[inline(always)]
-    pub(crate) fn start(&mut self, sizes: Vec<Size>, out: Vec<u8>, limit: usize)
+    pub(crate) fn start(&mut self, sizes: Sizes, out: Vec<u8>, limit: usize)
         requires { limit ≤ vec_capacity out }
-        ensures { self.new ≡ to_fill sizes.items out.items limit }
+        ensures { self.new ≡ to_fill sizes out.items limit }
     {
         self.place = Place::Alone;
         self.depth = 0;
@@ -254,7 +254,7 @@ impl Fill {
         if self.next >= self.sizes.len() {
             return Err(Error::InvalidValue);
         }
-        let size = self.sizes[self.next];
+        let size = self.sizes.get(self.next);
         if size.content > MAX_CONTENT {
             return Err(Error::TooLarge);
         }
@@ -341,16 +341,29 @@ impl Fill {
         ensures does { Does (fill_begin_described (descriptor_of descriptor.now) self.old) result self.new }
         ensures kept { take (length self.old.out) self.new.out ≡ self.old.out }
     {
-        match self.place {
-            Place::Alone | Place::First => {
-                let text = text_of(descriptor);
-                if text.len() > 0xffff_ffff {
-                    return Err(Error::TooLarge);
+        let place = self.place;
+        match place {
+            Place::Alone | Place::First => match descriptor {
+                Descriptor::Code(code) if *code != 0 && *code < 256 => {
+                    self.open(&[0, format_code::SMALL_ULONG, *code as u8], &[], place)
                 }
-                self.open(head_of(descriptor).as_slice(), text, self.place)
-            }
+                _ => self.begin_other_described(descriptor),
+            },
             Place::Later => self.open(&[], &[], Place::Later),
         }
+    }
+
+    // It stands apart, so that what a small code takes stays small.
+    #[inline(never)]
+    fn begin_other_described(&mut self, descriptor: &Descriptor) -> Result<(), Error>
+        ensures does { Does (fill_described (descriptor_of descriptor.now) self.old) result self.new }
+        ensures kept { take (length self.old.out) self.new.out ≡ self.old.out }
+    {
+        let text = text_of(descriptor);
+        if text.len() > 0xffff_ffff {
+            return Err(Error::TooLarge);
+        }
+        self.open(head_of(descriptor).as_slice(), text, self.place)
     }
 
     /// Ends a container or a described value.

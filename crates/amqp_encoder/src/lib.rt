@@ -2,6 +2,7 @@
 #![tactic(auto)]
 
 mod descriptors;
+mod enclosing;
 mod encoder;
 mod fill;
 mod frame;

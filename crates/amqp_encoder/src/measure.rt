@@ -1,23 +1,27 @@
 //! The measuring pass: every refusal, and the size of every container.
 ghost use Rattle.std.specs.Prelude.{◌≡◌, nat_eq, ◌≤◌, ◌<◌, ◌∷◌, [], ◌+◌, ◌++◌, ◌^◌, ℕ, List, length, slice_index, set, take, drop};
-ghost use Rattle.std.specs.Prelude.{MatchResult, IfOk, OnErr, IfErr, Result, Ok, Err};
+ghost use Rattle.std.specs.Prelude.{MatchResult, IfOk, OnOk, OnErr, IfErr, Result, Ok, Err, false};
 ghost use Rattle.std.specs.Cmp.Lexicographic.{pointwise};
 ghost use Rattle.std.specs.Bool.{OnTrue, OnFalse};
-ghost use Rattle.amqp_wire.specs.declared.error.Error.TheVariants.{InvalidValue};
+ghost use Rattle.amqp_wire.specs.declared.error.Error.TheVariants.{InvalidValue, Memory};
 ghost use Rattle.amqp_wire.specs.Containers.{container_of};
 ghost use Rattle.amqp_encoder.specs.Values.{place_of, descriptor_of};
 ghost use Rattle.amqp_encoder.specs.Tokens.{TakesMemory, begin, begin_described};
 ghost use Rattle.amqp_encoder.specs.State.{at_start, seen};
 ghost use Rattle.amqp_encoder.specs.Opening.{opening};
 ghost use Rattle.amqp_encoder.specs.Measuring.{enter, leave, measure_value, measure_null_at, measure_keep, measure_begin, measure_end};
-ghost use Rattle.amqp_encoder.specs.Measuring.{measure_begin_described, measure_end_described, form_after};
-ghost use Rattle.amqp_encoder.specs.Gives.{Gives, Does, fixed_text, variable_length, measure_bytes, measure_symbol, Closes};
+ghost use Rattle.amqp_encoder.specs.Measuring.{measure_begin_described, measure_end_described, form_after, describe, describe_at, is_full};
+ghost use Rattle.amqp_encoder.specs.Measuring.{descriptor_bytes, descriptor_length};
+ghost use Rattle.amqp_model.specs.Text.{First, Later};
+ghost use Rattle.amqp_encoder.specs.Enclosed.{IsShort};
+ghost use Rattle.amqp_encoder.specs.Gives.{Gives, Does, tail_of, fixed_text, variable_length, measure_bytes, measure_symbol, Closes};
 
 use crate::descriptors::{check_symbol, head_of, len_of, text_of};
+use crate::enclosing::Enclosing;
 use crate::frame::{MeasuredContainer, opening_len};
 use crate::places::{Place, Shortest, around, is_odd, wide_code};
-use crate::size::Size;
-use amqp_wire::nesting::{LEVELS, NESTING};
+use crate::size::{Size, Sizes};
+use amqp_wire::nesting::NESTING;
 use amqp_wire::{Container, Descriptor, Error};
 use std::alloc::Global;
 use std::marker::Model;
@@ -25,27 +29,27 @@ use std::marker::Model;
 #[derive(Drop)]
 pub(crate) struct Measure {
     top: MeasuredContainer,
-    frames: [MeasuredContainer; LEVELS],
-    depth: usize,
-    sizes: Vec<Size>,
+    enclosing: Enclosing,
+    sizes: Sizes,
     /// The descriptors of the items of the arrays that are open, in canonical form, outermost array first.
     descriptors: Vec<u8>,
 }
 
 impl Model for Measure {
-    ghost use Rattle.std.specs.Prelude.{◌≡◌, map, reverse, take, length, ◌≤◌};
+    ghost use Rattle.std.specs.Prelude.{length, ◌≤◌};
     ghost use Rattle.amqp_encoder.specs.State.{Measured, seen};
+    ghost use Rattle.amqp_encoder.specs.Enclosed.{MayBeKept};
 
     ghost Value = { Measured };
 
     ghost view = { λ m. record {
       frame = seen m.top;
-      outer = map seen (reverse (take m.depth m.frames));
-      sizes = m.sizes.items;
+      outer = m.enclosing.items;
+      sizes = m.sizes;
       descriptors = m.descriptors.items;
     } };
 
-    ghost invariant = { λ m. (m.depth ≤ 129) × (length m.frames ≡ 129) };
+    ghost invariant = { λ m. (length m.enclosing.items ≤ 129) × MayBeKept m.enclosing (seen m.top) };
 }
 
 impl Measure {
@@ -53,12 +57,10 @@ impl Measure {
     pub(crate) fn new(alloc: Global) -> Measure
         ensures { result ≡ at_start }
     {
-        let top = MeasuredContainer::outermost();
         Measure {
-            top,
-            frames: [top; LEVELS],
-            depth: 0,
-            sizes: Vec::new(alloc),
+            top: MeasuredContainer::outermost(),
+            enclosing: Enclosing::new(alloc),
+            sizes: Sizes::new(alloc),
             descriptors: Vec::new(alloc),
         }
     }
@@ -77,17 +79,17 @@ impl Measure {
 
     /// The sizes of the containers in the order in which they begin, which are moved out of it.
     #[inline(always)]
-    pub(crate) fn take_sizes(&mut self, alloc: Global) -> Vec<Size>
-        ensures { result.items ≡ self.old.sizes }
+    pub(crate) fn take_sizes(&mut self, alloc: Global) -> Sizes
+        ensures { result ≡ self.old.sizes }
     {
-        std::mem::replace(&mut self.sizes, Vec::new(alloc))
+        std::mem::replace(&mut self.sizes, Sizes::new(alloc))
     }
 
     fn is_open(&self) -> bool
         ensures open { OnTrue result (1 ≤ length self.now.outer) }
         ensures closed { OnFalse result (self.now.outer ≡ []) }
     {
-        self.depth != 0
+        self.enclosing.len() != 0
     }
 
     /// A value whose constructor ends in this code begins. The items of an array share one constructor.
@@ -212,7 +214,7 @@ impl Measure {
     {
         match self.top.place {
             Place::Alone => {
-                if nesting > NESTING || self.depth > NESTING - nesting {
+                if nesting > NESTING || self.enclosing.len() > NESTING - nesting {
                     return Err(Error::Depth);
                 }
                 self.count(0, len)
@@ -221,38 +223,49 @@ impl Measure {
         }
     }
 
-    fn open(&mut self, frame: MeasuredContainer)
+    /// A value begins within the open one, by a call that may take memory.
+    fn open(&mut self, frame: MeasuredContainer) -> Result<(), Error>
         requires { length self.old.outer < 129 }
-        ensures { self.new ≡ record {
+        ensures opened { OnOk result (self.new ≡ record {
           frame = seen frame;
           outer = self.old.frame ∷ self.old.outer;
           sizes = self.old.sizes;
           descriptors = self.old.descriptors;
-        } }
+        }) }
+        ensures memory { IfErr result (λ e. e ≡ Memory) }
     {
-        self.frames[self.depth] = self.top;
-        self.depth += 1;
+        self.enclosing.reserve()?;
+        self.enclosing.push(self.top);
         self.top = frame;
+        Ok(())
+    }
+
+    /// A described value begins within the open one, by a call that takes no memory.
+    fn open_described(&mut self, content: usize, form: usize)
+        requires levels { length self.old.outer < 129 }
+        requires unfilled { is_full self.old.frame ≡ false }
+        requires short { IsShort self.old.frame.place content 0 form }
+        ensures { self.new ≡ describe self.old content form self.old.descriptors }
+    {
+        self.enclosing.push(self.top);
+        self.top = self.top.of_described(content, form);
     }
 
     /// Leaves the open container for the one around it.
     fn close(&mut self) -> Result<MeasuredContainer, Error>
         ensures { Closes self.old self.old.outer result self.new }
     {
-        if self.depth == 0 {
+        let Some(around) = self.enclosing.pop() else {
             return Err(Error::InvalidValue);
-        }
-        let inner = self.top;
-        self.depth -= 1;
-        self.top = self.frames[self.depth];
-        Ok(inner)
+        };
+        Ok(std::mem::replace(&mut self.top, around))
     }
 
     pub(crate) fn begin(&mut self, container: Container) -> Result<(), Error>
         ensures { Gives (TakesMemory self.old.frame.place (begin (container_of container)))
             (measure_begin (container_of container) self.old) result self.new }
     {
-        if self.depth > around(container) {
+        if self.enclosing.len() > around(container) {
             return Err(Error::Depth);
         }
         self.enter(wide_code(container))?;
@@ -262,8 +275,7 @@ impl Measure {
             count: 0,
         })?;
         let form = self.descriptors.len();
-        self.open(MeasuredContainer::of_container(container, index, form));
-        Ok(())
+        self.open(MeasuredContainer::of_container(container, index, form))
     }
 
     pub(crate) fn end(&mut self, container: Container) -> Result<(), Error>
@@ -297,7 +309,7 @@ impl Measure {
               descriptors = take inner.form self.old.descriptors;
             })) result self.new }
     {
-        self.sizes[inner.index] = size;
+        self.sizes.set(inner.index, size);
         self.descriptors.truncate(inner.form);
         self.leave(opening_len(self.top.place, container, size) + inner.content)
     }
@@ -306,7 +318,7 @@ impl Measure {
         ensures { Gives (TakesMemory self.old.frame.place (begin_described (descriptor_of descriptor.now)))
             (measure_begin_described (descriptor_of descriptor.now) self.old) result self.new }
     {
-        if self.depth >= NESTING {
+        if self.enclosing.len() >= NESTING {
             return Err(Error::Depth);
         }
         if self.top.is_full() {
@@ -314,19 +326,41 @@ impl Measure {
         }
         let len = len_of(descriptor)?;
         match self.top.place {
-            Place::Alone => self.open(self.top.of_described(len, 0)),
-            Place::First => {
-                self.descriptors
-                    .extend_from_slice(head_of(descriptor).as_slice())?;
-                self.descriptors.extend_from_slice(text_of(descriptor))?;
-                let form = self.descriptors.len();
-                self.open(self.top.of_described(len, form));
+            Place::Alone => {
+                self.open_described(len, 0);
+                Ok(())
             }
-            Place::Later => {
-                let form = self.form_after(head_of(descriptor).as_slice(), text_of(descriptor))?;
-                self.open(self.top.of_described(0, form));
-            }
+            Place::First => self.begin_first_item(descriptor, len),
+            Place::Later => self.begin_later_item(descriptor),
         }
+    }
+
+    /// A described value begins as the first item of an array: its descriptor is kept, for those of the items after it.
+    #[inline(never)]
+    fn begin_first_item(&mut self, descriptor: &Descriptor, len: usize) -> Result<(), Error>
+        requires levels { length self.old.outer < 129 }
+        requires known { descriptor_length (descriptor_of descriptor.now) ≡ Ok len }
+        ensures opened { OnOk result (Ok self.new ≡ describe_at First (descriptor_bytes (descriptor_of descriptor.now)) self.old) }
+        ensures memory { IfErr result (λ e. e ≡ Memory) }
+    {
+        self.descriptors
+            .extend_from_slice(head_of(descriptor).as_slice())?;
+        self.descriptors.extend_from_slice(text_of(descriptor))?;
+        let form = self.descriptors.len();
+        self.open(self.top.of_described(len, form))
+    }
+
+    /// One begins as a later item of an array, with the descriptor that the first has.
+    #[inline(never)]
+    fn begin_later_item(&mut self, descriptor: &Descriptor) -> Result<(), Error>
+        requires levels { length self.old.outer < 129 }
+        requires unfilled { is_full self.old.frame ≡ false }
+        requires later { self.old.frame.place ≡ Later }
+        requires fits { length (tail_of (descriptor_of descriptor.now)) < 2 ^ 32 }
+        ensures { Does (describe_at Later (descriptor_bytes (descriptor_of descriptor.now)) self.old) result self.new }
+    {
+        let form = self.form_after(head_of(descriptor).as_slice(), text_of(descriptor))?;
+        self.open_described(0, form);
         Ok(())
     }
 

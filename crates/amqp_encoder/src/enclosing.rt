@@ -1,0 +1,305 @@
+//! The values that are open around the innermost one.
+ghost use Rattle.std.specs.Prelude.{◌≡◌, ◌≤◌, ◌<◌, ◌⊎◌, ◌∷◌, [], length, OnOk, OnErr, MatchOption};
+ghost use Rattle.amqp_encoder.specs.State.{seen};
+ghost use Rattle.amqp_encoder.specs.Enclosed.{CanBeBrief, IsBrief, MayBeKept, HasRoom, brief_open, none_around};
+
+use crate::frame::MeasuredContainer;
+use crate::places::{Opened, Place};
+use amqp_wire::nesting::LEVELS;
+use std::alloc::{AllocError, Global};
+use std::marker::Model;
+
+/// So many are kept whole without taking memory.
+const OUTERMOST: usize = 8;
+/// So many there may be within those.
+const INNER: usize = LEVELS - OUTERMOST;
+
+/// The outermost ones.
+#[derive(Drop)]
+struct Outermost {
+    frames: [MeasuredContainer; OUTERMOST],
+    len: usize,
+}
+
+impl Model for Outermost {
+    ghost use Rattle.std.specs.Prelude.{◌≡◌, map, reverse, take, length, ◌≤◌, List};
+    ghost use Rattle.amqp_encoder.specs.State.{Open, seen};
+
+    ghost Value = { List Open };
+
+    ghost view = { λ o. map seen (reverse (take o.len o.frames)) };
+
+    ghost invariant = { λ o. (o.len ≤ 8) × (length o.frames ≡ 8) };
+}
+
+impl Outermost {
+    #[inline(always)]
+    fn new() -> Outermost
+        ensures { result ≡ [] }
+    {
+        Outermost {
+            frames: [MeasuredContainer::outermost(); OUTERMOST],
+            len: 0,
+        }
+    }
+
+    #[inline(always)]
+    fn len(&self) -> usize
+        ensures { result ≡ length self.now }
+    {
+        self.len
+    }
+
+    #[inline(always)]
+    fn push(&mut self, frame: MeasuredContainer)
+        requires { length self.old < 8 }
+        ensures { self.new ≡ seen frame ∷ self.old }
+    {
+        self.frames[self.len] = frame;
+        self.len += 1;
+    }
+
+    #[inline(always)]
+    fn pop(&mut self) -> Option<MeasuredContainer>
+        ensures { MatchOption result ((self.old ≡ []) × (self.new ≡ [])) (λ frame. self.old ≡ seen frame ∷ self.new) }
+    {
+        if self.len == 0 {
+            return None;
+        }
+        self.len -= 1;
+        Some(self.frames[self.len])
+    }
+}
+
+/// A described value without a value yet, in a few bytes: one that stands alone, or an item of an array that has no bytes of
+/// its own.
+#[derive(Clone, Copy)]
+struct Brief {
+    /// Of one that stands alone its bytes so far, which are its descriptor's; of an item where its constructor goes on.
+    number: [u8; 8],
+    place: Place,
+    code: u8,
+}
+
+impl Brief {
+    fn of(frame: MeasuredContainer) -> Brief
+        requires { CanBeBrief (seen frame) }
+        ensures { brief_open result ≡ seen frame }
+    {
+        let number = match frame.place {
+            Place::Alone => frame.content,
+            Place::First | Place::Later => frame.form,
+        };
+        Brief {
+            number: number.to_le_bytes(),
+            place: frame.place,
+            code: frame.code,
+        }
+    }
+
+    fn frame(self) -> MeasuredContainer
+        ensures { seen result ≡ brief_open self }
+    {
+        let number = usize::from_le_bytes(self.number);
+        let (content, form) = match self.place {
+            Place::Alone => (number, 0),
+            Place::First | Place::Later => (0, number),
+        };
+        MeasuredContainer {
+            opened: Opened::Described,
+            place: self.place,
+            code: self.code,
+            content,
+            count: 0,
+            index: 0,
+            form,
+        }
+    }
+}
+
+/// Described values within those, in a few bytes each.
+#[derive(Drop)]
+struct DescribedInner {
+    briefs: [Brief; INNER],
+    len: usize,
+}
+
+impl Model for DescribedInner {
+    ghost use Rattle.std.specs.Prelude.{◌≡◌, map, reverse, take, length, ◌≤◌, List};
+    ghost use Rattle.amqp_encoder.specs.State.{Open};
+    ghost use Rattle.amqp_encoder.specs.Enclosed.{brief_open};
+
+    ghost Value = { List Open };
+
+    ghost view = { λ d. map brief_open (reverse (take d.len d.briefs)) };
+
+    ghost invariant = { λ d. (d.len ≤ 121) × (length d.briefs ≡ 121) };
+}
+
+impl DescribedInner {
+    #[inline(always)]
+    fn new() -> DescribedInner
+        ensures { result ≡ [] }
+    {
+        let brief = Brief {
+            number: [0; 8],
+            place: Place::Alone,
+            code: 0,
+        };
+        DescribedInner {
+            briefs: [brief; INNER],
+            len: 0,
+        }
+    }
+
+    fn len(&self) -> usize
+        ensures { result ≡ length self.now }
+    {
+        self.len
+    }
+
+    fn push(&mut self, frame: MeasuredContainer)
+        requires room { length self.old < 121 }
+        requires brief { CanBeBrief (seen frame) }
+        ensures { self.new ≡ seen frame ∷ self.old }
+    {
+        self.briefs[self.len] = Brief::of(frame);
+        self.len += 1;
+    }
+
+    #[tactic(auto, using(crate::proofs::Enclosed::is_brief))]
+    fn pop(&mut self) -> Option<MeasuredContainer>
+        ensures { MatchOption result ((self.old ≡ []) × (self.new ≡ [])) (λ frame. (self.old ≡ seen frame ∷ self.new) × IsBrief (seen frame)) }
+    {
+        if self.len == 0 {
+            return None;
+        }
+        self.len -= 1;
+        Some(self.briefs[self.len].frame())
+    }
+}
+
+/// The values that are open around the innermost one. The outermost ones take no memory. Of those within, described values
+/// are kept in a few bytes each, until memory is taken for all.
+#[derive(Drop)]
+pub(crate) struct Enclosing {
+    outermost: Outermost,
+    described: DescribedInner,
+    inner: Vec<MeasuredContainer>,
+}
+
+impl Model for Enclosing {
+    ghost use Rattle.std.specs.Prelude.{◌≡◌, ◌⊎◌, map, reverse, ◌++◌, length, ◌≤◌, []};
+    ghost use Rattle.std.specs.Vec.{vec_capacity};
+    ghost use Rattle.amqp_encoder.specs.State.{seen};
+    ghost use Rattle.amqp_encoder.specs.Enclosed.{Enclosed, IsFilledInTurn};
+
+    ghost Value = { Enclosed };
+
+    ghost view = { λ e. record {
+      items = map seen (reverse e.inner.items) ++ (e.described ++ e.outermost);
+      room = vec_capacity e.inner;
+    } };
+
+    ghost invariant = { λ e. IsFilledInTurn e.inner.items e.described e.outermost (vec_capacity e.inner) };
+}
+
+impl Enclosing {
+    #[inline(always)]
+    pub(crate) fn new(alloc: Global) -> Enclosing
+        ensures { result ≡ none_around }
+    {
+        Enclosing {
+            outermost: Outermost::new(),
+            described: DescribedInner::new(),
+            inner: Vec::new(alloc),
+        }
+    }
+
+    #[inline(always)]
+    pub(crate) fn len(&self) -> usize
+        ensures { result ≡ length self.now.items }
+    {
+        self.inner.len() + self.described.len() + self.outermost.len()
+    }
+
+    /// Takes the memory to keep whatever is opened next and within that.
+    #[inline(always)]
+    pub(crate) fn reserve(&mut self) -> Result<(), AllocError>
+        ensures items { self.new.items ≡ self.old.items }
+        ensures room { OnOk result ((length self.new.items < 7) ⊎ (121 ≤ self.new.room)) }
+        ensures refused { OnErr result (self.new ≡ self.old) }
+    {
+        if self.outermost.len() < OUTERMOST - 1 {
+            return Ok(());
+        }
+        self.reserve_inner()
+    }
+
+    #[inline(never)]
+    fn reserve_inner(&mut self) -> Result<(), AllocError>
+        ensures items { self.new.items ≡ self.old.items }
+        ensures room { OnOk result (121 ≤ self.new.room) }
+        ensures refused { OnErr result (self.new ≡ self.old) }
+    {
+        if self.inner.capacity() >= INNER {
+            return Ok(());
+        }
+        self.inner.reserve_exact(INNER)
+    }
+
+    /// One more, within the others.
+    #[inline(always)]
+    pub(crate) fn push(&mut self, frame: MeasuredContainer)
+        requires levels { length self.old.items < 129 }
+        requires room { HasRoom self.old (seen frame) }
+        ensures items { self.new.items ≡ seen frame ∷ self.old.items }
+        ensures room { self.new.room ≡ self.old.room }
+    {
+        if self.outermost.len() < OUTERMOST {
+            self.outermost.push(frame)
+        } else {
+            self.push_inner(frame)
+        }
+    }
+
+    #[inline(never)]
+    fn push_inner(&mut self, frame: MeasuredContainer)
+        requires inner { 8 ≤ length self.old.items }
+        requires levels { length self.old.items < 129 }
+        requires room { HasRoom self.old (seen frame) }
+        ensures items { self.new.items ≡ seen frame ∷ self.old.items }
+        ensures room { self.new.room ≡ self.old.room }
+    {
+        if self.inner.capacity() >= INNER {
+            self.inner.push_reserved(frame)
+        } else {
+            self.described.push(frame)
+        }
+    }
+
+    /// The innermost one, which leaves.
+    #[inline(always)]
+    pub(crate) fn pop(&mut self) -> Option<MeasuredContainer>
+        ensures { MatchOption result ((self.old.items ≡ []) × (self.new ≡ self.old)) (λ frame. (self.old.items ≡ seen frame ∷ self.new.items)
+            × MayBeKept self.new (seen frame)) }
+    {
+        if self.outermost.len() < OUTERMOST {
+            return self.outermost.pop();
+        }
+        self.pop_inner()
+    }
+
+    fn pop_inner(&mut self) -> Option<MeasuredContainer>
+        ensures { MatchOption result ((self.old.items ≡ []) × (self.new ≡ self.old)) (λ frame. (self.old.items ≡ seen frame ∷ self.new.items)
+            × MayBeKept self.new (seen frame)) }
+    {
+        if let Some(frame) = self.inner.pop() {
+            return Some(frame);
+        }
+        if let Some(frame) = self.described.pop() {
+            return Some(frame);
+        }
+        self.outermost.pop()
+    }
+}
