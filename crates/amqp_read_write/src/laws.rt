@@ -2,7 +2,7 @@
 ghost use Rattle.std.specs.Prelude.{◌≡◌, ◌≤◌, ◌↔◌, ℕ, Bool, true, false, ◌&&◌, List, ◌++◌, length};
 ghost use Rattle.amqp_model.specs.Term.{Refusal, too_large, Term};
 ghost use Rattle.amqp_model.specs.Spelling.{enc};
-ghost use Rattle.amqp_model.specs.Measures.{nest};
+ghost use Rattle.amqp_model.specs.Measures.{nest, nodes};
 ghost use Rattle.amqp_model.specs.Ranges.{Everywhere, IsNoArray, IsBytes};
 ghost use Rattle.amqp_model.specs.Refusals.{Refuses};
 ghost use Rattle.amqp_model.specs.FieldType.{normal};
@@ -36,11 +36,12 @@ pub fn reading_is_spelling<T: DeserializeTerm>()
 {}
 
 /// Within limits of the caller a value is read from the first n bytes exactly if it is read from them without, n is no more than the limit
-/// on bytes, and the term that they spell nests no deeper than the limits say.
+/// on bytes, and the term that they spell nests no deeper and has no more values than the limits say; a described value is one with
+/// its descriptor.
 pub fn limits_bound_reading<T: DeserializeTerm>()
     ensures { (limits : Limits) (input : List ℕ) (v : T) (n : ℕ) → BeginsWithin limits ⟦<T as Deserialize>⟧.reading input v n
         ↔ (BeginsWith ⟦<T as Deserialize>⟧.reading input v n × Has (limit_of limits.bytes) n
-        × ((t : Term) → enc (take n input) t → nest t ≤ limits.nesting)) }
+        × ((t : Term) → enc (take n input) t → (nest t ≤ limits.nesting) × Has (limit_of limits.items) (nodes t))) }
 {}
 
 /// What `to_vec`, `encoded_len` and `append_to_vec` say of a value's canonical terms, they say of the canonical term
