@@ -6,7 +6,7 @@ pub mod laws;
 mod reader;
 
 pub use amqp_codec::{Canonical, Deserialize, DeserializeTerm, Serialize, SerializeTerm};
-pub use amqp_wire::ReadSource;
+pub use amqp_wire::{Limits, ReadSource};
 pub use calls::{
     append_to_vec, canonical_text, encoded_len, from_slice, from_slice_counted, from_slice_within,
     to_vec,

@@ -133,3 +133,76 @@ fn bytes_of_a_reader(rt: HostRuntime) {
     assert_eq!(rt; decoder.peek_code(), Err(Error::Limit));
     assert_eq!(rt; source_of(decoder).bytes.len(), NESTED.len());
 }
+
+/// An array of 255 ubytes, each 0, of which nothing is written yet.
+const UBYTES: [u8; 9] = [0xf0, 0x00, 0x00, 0x01, 0x04, 0x00, 0x00, 0x00, 0xff];
+
+fn within_items(items: u64) -> Limits {
+    match Limits::new(128, u64::MAX, items) {
+        Some(limits) => limits,
+        None => Limits::greatest(),
+    }
+}
+
+fn nested_of(items: u64, alloc: Global) -> Result<(), Error> {
+    let limits = within_items(items);
+    read_nested(&mut decoder_within(NESTED, &limits, alloc), alloc)?;
+    let source = Dripping::new(NESTED, 100);
+    read_nested(&mut decoder_within(source, &limits, alloc), alloc)
+}
+
+#[test]
+fn items(rt: HostRuntime) {
+    let alloc = rt.alloc();
+    for items in 0..4 {
+        assert_eq!(rt; nested_of(items, alloc), Err(Error::Limit));
+    }
+    assert_eq!(rt; nested_of(4, alloc), Ok(()));
+    assert_eq!(rt;
+        term_within(NESTED, &within_items(2), alloc),
+        Err(Error::Limit)
+    );
+    assert_eq!(rt; term_within(NESTED, &within_items(3), alloc), Ok(13));
+}
+
+#[test]
+fn items_of_an_array(rt: HostRuntime) -> Result<(), Fail> {
+    let alloc = rt.alloc();
+    let mut array = UBYTES.to_vec(alloc)?;
+    array.push(0x50)?;
+    for _ in 0..255 {
+        array.push(0)?;
+    }
+    let bytes = array.as_slice();
+    let read = term_within(bytes, &within_items(255), alloc);
+    assert_eq!(rt; read, Err(Error::Limit));
+    let read = term_within(bytes, &within_items(256), alloc);
+    assert_eq!(rt; read, Ok(bytes.len()));
+    let mut decoder = decoder_within(bytes, &within_items(255), alloc);
+    assert_eq!(rt; decoder.begin_array(alloc), Ok(255));
+    for _ in 0..254 {
+        assert_eq!(rt; decoder.read_ubyte(), Ok(0));
+    }
+    assert_eq!(rt; decoder.peek_code(), Err(Error::Limit));
+    Ok(())
+}
+
+#[test]
+fn codes_past_the_items(rt: HostRuntime) {
+    let alloc = rt.alloc();
+    let none = within_items(0);
+    let null: &[u8] = &[0x40];
+    assert_eq!(rt;
+        decoder_within(null, &none, alloc).peek_code(),
+        Err(Error::Limit)
+    );
+    assert_eq!(rt;
+        decoder_within(null, &none, alloc).read_null(),
+        Err(Error::Limit)
+    );
+    let unknown: &[u8] = &[0x99];
+    assert_eq!(rt; decoder_within(unknown, &none, alloc).peek_code(), Ok(0x99));
+    let read = decoder_within(unknown, &none, alloc).read_null();
+    assert_eq!(rt; read, Err(Error::UnknownCode(0x99)));
+    assert_eq!(rt; decoder_within(NESTED, &none, alloc).peek_code(), Ok(0));
+}
