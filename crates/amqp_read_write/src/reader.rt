@@ -83,8 +83,15 @@ impl<S: ByteSource, N: Name> ByteSource for Named<S, N> {
 
     ghost name = { λ s. S.name s.source };
 
+    ghost never_fails = { S.never_fails };
+
     fn pull(&mut self, buffer: &mut [u8]) -> Result<usize, ErrorKind> {
         self.source.pull(buffer)
+    }
+
+    #[inline(always)]
+    fn at_hand(&self) -> &[u8] {
+        self.source.at_hand()
     }
 
     #[inline(always)]
