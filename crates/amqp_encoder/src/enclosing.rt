@@ -33,7 +33,6 @@ impl Model for Outermost {
 }
 
 impl Outermost {
-    #[inline(always)]
     fn new() -> Outermost
         ensures { result ≡ [] }
     {
@@ -137,7 +136,6 @@ impl Model for DescribedInner {
 }
 
 impl DescribedInner {
-    #[inline(always)]
     fn new() -> DescribedInner
         ensures { result ≡ [] }
     {
@@ -205,7 +203,6 @@ impl Model for Enclosing {
 }
 
 impl Enclosing {
-    #[inline(always)]
     pub(crate) fn new(alloc: Global) -> Enclosing
         ensures { result ≡ none_around }
     {

@@ -138,6 +138,7 @@ impl Encoder {
     }
 
     /// Null (Part 1, section 1.6.1); `ZeroWidthItems` as the item of an array.
+    #[inline(always)]
     pub fn write_null(&mut self) -> Result<(), Error>
         ensures { Writes self.old (put null ∷ []) result self.new }
     {
@@ -282,7 +283,6 @@ impl Encoder {
 }
 
 /// An encoder that measures, and makes every refusal.
-#[inline(always)]
 pub fn measuring_encoder(alloc: Global) -> Encoder
     ensures { BeginsMeasuring result }
 {

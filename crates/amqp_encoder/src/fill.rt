@@ -53,7 +53,6 @@ impl Model for Fill {
 
 impl Fill {
     /// With no room to fill yet.
-    #[inline(always)]
     pub(crate) fn new(alloc: Global) -> Fill
         ensures { result ≡ to_fill [] [] 0 }
     {

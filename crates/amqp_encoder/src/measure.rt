@@ -53,7 +53,6 @@ impl Model for Measure {
 }
 
 impl Measure {
-    #[inline(always)]
     pub(crate) fn new(alloc: Global) -> Measure
         ensures { result ≡ at_start }
     {
@@ -252,6 +251,7 @@ impl Measure {
     }
 
     /// Leaves the open container for the one around it.
+    #[inline(always)]
     fn close(&mut self) -> Result<MeasuredContainer, Error>
         ensures { Closes self.old self.old.outer result self.new }
     {

@@ -37,7 +37,6 @@ impl Model for Sizes {
 }
 
 impl Sizes {
-    #[inline(always)]
     pub(crate) fn new(alloc: Global) -> Sizes
         ensures { result ≡ [] }
     {

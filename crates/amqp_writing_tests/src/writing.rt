@@ -357,20 +357,28 @@ fn refused_calls(rt: HostRuntime) -> Result<(), Fail> {
     )
 }
 
-/// Whether these steps are written in 128 lists, and refused in one more.
-fn is_bounded(inner: &[Step<'_>], alloc: Global) -> Result<bool, Fail> {
-    let deepest = nested(128, Step::BeginList, inner, Step::EndList, alloc)?;
+/// Whether these steps are written in 128 values that so begin and end, and refused in one more.
+fn is_bounded<'a>(
+    begin: Step<'a>,
+    inner: &[Step<'a>],
+    end: Step<'a>,
+    alloc: Global,
+) -> Result<bool, Fail> {
+    let deepest = nested(128, begin, inner, end, alloc)?;
     let mut written = Vec::new(alloc);
     append(&deepest, &mut written, alloc)?;
-    let deeper = nested(129, Step::BeginList, inner, Step::EndList, alloc)?;
+    let deeper = nested(129, begin, inner, end, alloc)?;
     Ok(written.len() > 128 && is_refused_whole(&deeper, Error::Depth, alloc)?)
 }
 
 #[test]
 fn nesting(rt: HostRuntime) -> Result<(), Fail> {
-    assert!(rt; is_bounded(&[], rt.alloc())?);
+    let (list, end) = (Step::BeginList, Step::EndList);
+    assert!(rt; is_bounded(list, &[], end, rt.alloc())?);
     let array = [Step::BeginArray, Step::Uint(1), Step::EndArray];
-    assert!(rt; is_bounded(&array, rt.alloc())?);
+    assert!(rt; is_bounded(list, &array, end, rt.alloc())?);
+    let (described, end) = (Step::BeginDescribed(0x24), Step::EndDescribed);
+    assert!(rt; is_bounded(described, &[Step::Uint(1)], end, rt.alloc())?);
     Ok(())
 }
 
