@@ -1,4 +1,4 @@
-use Rattle.std.proofs.Common.{rules, ◌≡◌, ap, ◌∙◌}
+use Rattle.std.proofs.Common.{ap, ◌∙◌}
 use Rattle.amqp_decoder.specs.State.{State}
 use Rattle.amqp_decoder.proofs.Steps.{answered_later, answered, has_item}
 use Rattle.amqp_decoder.proofs.Peeks.{nothing_there, byte_there, peeked_shared, peeked_own, peek_size, peek_cut}
