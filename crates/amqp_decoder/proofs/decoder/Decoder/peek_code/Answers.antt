@@ -1,4 +1,4 @@
-use Rattle.std.proofs.Common.{rules, ◌≡◌, ap, ◌∙◌}
+use Rattle.std.proofs.Common.{ap, ◌∙◌}
 use Rattle.amqp_decoder.specs.State.{State}
 use Rattle.amqp_decoder.proofs.Steps.{answered_later, answered, has_item, tried_third}
 use Rattle.amqp_decoder.proofs.Peeks.{nothing_there, byte_there, is_counted, peeked_shared_if, peeked_own_if, peek_size, peek_cut}
