@@ -1,5 +1,5 @@
 -- What a few bytes are kept of.
-use Rattle.std.proofs.Common.{◌≡◌, ℕ, refl}
+use Rattle.std.proofs.Common.{ℕ, refl}
 use Rattle.amqp_model.specs.Text.{Place, Alone, First, Later}
 use Rattle.amqp_encoder.specs.Enclosed.{IsBrief, brief_at, brief_open}
 use Rattle.amqp_encoder.specs.Values.{place_of}

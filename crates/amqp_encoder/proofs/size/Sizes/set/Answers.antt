@@ -1,4 +1,3 @@
-use Rattle.std.proofs.Common.{◌<◌, length}
 use Rattle.amqp_encoder.proofs.FirstSizes.{set_first}
 use Rattle.amqp_encoder.proofs.size.Sizes.set.Goals as goal
 
