@@ -1,5 +1,5 @@
 -- A line that sets limits is read at its spaces.
-use Rattle.std.proofs.Common.{◌≡◌, ◌<◌, ◌≤◌, ◌+◌, ◌%◌, ◌^◌, ℕ, List, [], ◌∷◌, ◌++◌, codes, Option, Some, None, MatchOption, drop, sym, ap, ◌∙◌, subst, arith}
+use Rattle.std.proofs.Common.{◌≡◌, ◌<◌, ◌^◌, ℕ, List, [], ◌∷◌, ◌++◌, codes, Option, Some, None, MatchOption, drop, sym, ap, ◌∙◌, subst, arith, append_assoc}
 use Rattle.std.specs.Fmt.{decimal}
 use Rattle.std.proofs.lemmas.Fmt.{decimal_by_steps, decimal_injective}
 use Rattle.amqp_wire.specs.declared.limits.Limits.{Limits}
@@ -7,6 +7,11 @@ use Rattle.amqp_lines.specs.Lines.{HasNo}
 use Rattle.amqp_lines.specs.Answers.{IsNumber, limits_line, SetsLimits}
 use Rattle.amqp_lines.proofs.Pieces.{no_more}
 use Rattle.amqp_lines.proofs.Requests.{split_once, has_it}
+
+-- the line with its line feed
+pub with_its_feed : (set : Limits) → limits_line set ++ (10 ∷ [])
+    ≡ codes "limits " ++ (decimal set.nesting ++ (32 ∷ (decimal set.bytes ++ (32 ∷ (decimal set.items ++ (10 ∷ []))))))
+with_its_feed set = simp append_assoc
 
 -- no digit is a space
 no_space : (n : ℕ) → n < 2 ^ 64 → HasNo 32 (decimal n)

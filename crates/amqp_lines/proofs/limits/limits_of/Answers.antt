@@ -1,4 +1,4 @@
-use Rattle.std.proofs.Common.{◌≡◌, ◌<◌, ◌^◌, ◌++◌, codes, Some, arith, sym, ◌∙◌}
+use Rattle.std.proofs.Common.{◌≡◌, ◌<◌, ◌^◌, ◌++◌, codes, Some, arith, ◌∙◌}
 use Rattle.std.specs.Fmt.{decimal}
 use Rattle.std.proofs.lemmas.Bool.Decides.{Decides-eqb}
 use Rattle.std.proofs.lemmas.Slice.Eq.{strip_prefix_is}
@@ -36,7 +36,8 @@ returns-in_err-number-in-Ok-2 c =
 
 pub returns-in_ok-number-in-Ok-2 : goal.returns-in_ok-number-in-Ok-2
 returns-in_ok-number-in-Ok-2 c =
-    let p = parts _ _ _ _ c.in_ok-numbers.ensures.cases.1 c.in_ok-nesting.ensures in
+    let p = parts c.args.line.now c.in_ok-numbers.numbers.now c.in_ok-nesting.nesting.now c.in_ok-nesting.others.now
+    c.in_ok-numbers.ensures.cases.1 c.in_ok-nesting.ensures in
     let all = c.in_ok-numbers.numbers in
     let begins : c.args.line.now ≡ codes "limits " ++ all.now =
     strip_prefix_is Decides-eqb c.args.line.now (codes "limits ") (Some all) c.in_ok-numbers.ensures.cases in
@@ -51,7 +52,8 @@ returns-in_ok-number-in-Ok-2 c =
 
 pub returns-in-Err : goal.returns-in-Err
 returns-in-Err c limits h =
-    let p = parts _ _ _ _ c.in_ok-numbers.ensures.cases.1 c.in_ok-nesting.ensures in
+    let p = parts c.args.line.now c.in_ok-numbers.numbers.now c.in_ok-nesting.nesting.now c.in_ok-nesting.others.now
+    c.in_ok-numbers.ensures.cases.1 c.in_ok-nesting.ensures in
     let most = limits.nests in
     let small : limits.nesting < 10 ^ 19 = omega (arith, most) in
     c.in-Err.ensures (omega (arith, one_number _ _ limits.nesting c.in_ok-number.ensures (p.first limits h) small, most))
