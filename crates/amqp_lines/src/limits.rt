@@ -47,8 +47,15 @@ fn number(digits: &[u8]) -> Option<u64>
 fn number_of_text(text: &str) -> Option<u64>
     ensures { MatchOption result ((n : ℕ) → IsNumber text.now n → ⊥) (λ n. IsNumber text.now n) }
 {
-    match text.parse::<u64>() {
-        Ok(n) if n < TOO_LONG && itoa::Buffer::new().format(n) == text => Some(n),
-        _ => None,
+    let Ok(n) = text.parse::<u64>() else {
+        return None;
+    };
+    if n >= TOO_LONG {
+        return None;
+    }
+    if itoa::Buffer::new().format(n) == text {
+        Some(n)
+    } else {
+        None
     }
 }
