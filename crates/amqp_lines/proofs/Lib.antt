@@ -1,4 +1,5 @@
 mod Pieces
 mod Requests
+mod SetLimits
 mod Progress
 mod Rows

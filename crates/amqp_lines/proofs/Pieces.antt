@@ -1,7 +1,7 @@
 -- Pieces of lines, and what a buffer holds of them.
 use Rattle.std.proofs.Common.{◌≡◌, inl, inr, ℕ, zero, suc, ◌+◌, ◌-◌, ◌<◌, ◌≤◌, Bool, true, List, [], ◌∷◌, ◌++◌, length, take, drop}
 use Rattle.std.proofs.Common.{slice_index, Option, Some, None, sym, ap, ◌∙◌, subst, arith, append_assoc, append-nil, MatchOption, IfSome}
-use Rattle.std.proofs.lemmas.List.{take-append-drop, drop-take, length-take}
+use Rattle.std.proofs.lemmas.List.{take-append-drop, drop-take, length-take, take_all}
 use Rattle.std.proofs.Common.{drop-drop}
 use Rattle.std.proofs.lemmas.Bool.{eq-eqb}
 use Rattle.std.specs.Io.KnownBytes.{prepend_known, Consumes, Keeps, IsAtEnd}
@@ -20,6 +20,9 @@ nowhere_first c (b ∷ bs) (suc n) l h = (
 
 pub first_none : (c : ℕ) (bs : List ℕ) → IsFirstByte (is_byte c) bs None → HasNo c (take (length bs) bs)
 first_none c bs h = nowhere_first c bs (length bs) (omega arith) h
+
+pub nowhere : (c : ℕ) (bs : List ℕ) → IsFirstByte (is_byte c) bs None → HasNo c bs
+nowhere c bs h = subst (HasNo c) (take_all (length bs) bs (omega arith)) (first_none c bs h)
 
 pub first_some : (c : ℕ) (bs : List ℕ) (n : ℕ) → IsFirstByte (is_byte c) bs (Some n) → HasNo c (take n bs)
 first_some c bs n h = nowhere_first c bs n (let l = h.0.high in omega arith) h.0.before

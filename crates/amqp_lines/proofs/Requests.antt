@@ -59,7 +59,7 @@ no_space named =
     (subst (λ name. all_differ 32 name ≡ true) (sym e) (passed has_no_space table (tag_of the_type named) spare refl w))
 
 -- what stands before the first c
-split_once : (c : ℕ) (a b x y : List ℕ) → HasNo c a → HasNo c b → a ++ (c ∷ x) ≡ b ++ (c ∷ y) → (a ≡ b) × (x ≡ y)
+pub split_once : (c : ℕ) (a b x y : List ℕ) → HasNo c a → HasNo c b → a ++ (c ∷ x) ≡ b ++ (c ∷ y) → (a ≡ b) × (x ≡ y)
 split_once c [] [] x y h k e = (refl, ap (drop 1) e)
 split_once c [] (b ∷ bs) x y h k e = absurd (k.0 (sym (ap (λ l. get_or l 0 c) e)))
 split_once c (a ∷ rest) [] x y h k e = absurd (h.0 (ap (λ l. get_or l 0 c) e))
@@ -67,7 +67,7 @@ split_once c (a ∷ rest) (b ∷ bs) x y h k e =
     let r = split_once c rest bs x y h.1 k.1 (ap (drop 1) e) in
     (ap (λ z. z ∷ rest) (ap (λ l. get_or l 0 c) e) ∙ ap (λ z. b ∷ z) r.0, r.1)
 
-has_it : (c : ℕ) (a x : List ℕ) → HasNo c (a ++ (c ∷ x)) → ⊥
+pub has_it : (c : ℕ) (a x : List ℕ) → HasNo c (a ++ (c ∷ x)) → ⊥
 has_it c [] x h = h.0 refl
 has_it c (b ∷ bs) x h = has_it c bs x h.1
 
@@ -78,7 +78,7 @@ no_space_asks_nothing line f named input (digits, e, s) =
     has_it 32 (type_name named) digits (subst (HasNo 32) (take_all (length line) line (omega arith) ∙ e) (first_none 32 line f))
 
 -- at the first space the line is split
-split_line : (line : List ℕ) (n : ℕ) → IsFirstByte (is_byte 32) line (Some n) → line ≡ take n line ++ (32 ∷ drop (n + 1) line)
+pub split_line : (line : List ℕ) (n : ℕ) → IsFirstByte (is_byte 32) line (Some n) → line ≡ take n line ++ (32 ∷ drop (n + 1) line)
 split_line line n f =
     let l = f.0.high in
     let e : suc n ≡ n + 1 = omega arith in
@@ -97,7 +97,7 @@ pub other_name_asks_nothing : (line : List ℕ) (n : ℕ) → IsFirstByte (is_by
 other_name_asks_nothing line n f other named input h = other named (asked_parts line n f named input h).0
 
 -- the line from there to its end
-to_its_end : (line : List ℕ) (k : ℕ) → take (length line - k) (drop k line) ≡ drop k line
+pub to_its_end : (line : List ℕ) (k : ℕ) → take (length line - k) (drop k line) ≡ drop k line
 to_its_end line k = take_all (length line - k) (drop k line) (omega (arith, length-drop k line))
 
 pub other_digits_ask_nothing : (line : List ℕ) (n : ℕ) → IsFirstByte (is_byte 32) line (Some n)

@@ -1,16 +1,17 @@
--- What a line asks for, and what it is answered.
-use Rattle.std.specs.Prelude.{◌≡◌, ◌⊎◌, ◌≤◌, ℕ, ◌+◌, Bool, true, false, ◌&&◌, List, [], ◌∷◌, ◌++◌, length, codes, Result, Ok, Err, Option, IfSome}
+-- What a line asks for or sets, and what it is answered.
+use Rattle.std.specs.Prelude.{◌≡◌, ◌⊎◌, ◌≤◌, ◌<◌, ℕ, ◌+◌, ◌^◌, Bool, true, false, ◌&&◌, List, [], ◌∷◌, ◌++◌, length, codes, Result, Ok, Err, Option, IfSome}
 use Rattle.std.specs.Fmt.{decimal}
 use Rattle.hex.specs.Hex.{decode_of, encode_lower}
 use Rattle.amqp_wire.specs.declared.error.Error.{Error}
 use Rattle.amqp_wire.specs.declared.error.Error.TheVariants.{Memory, Read}
+use Rattle.amqp_wire.specs.declared.limits.Limits.{Limits}
 use Rattle.amqp_codec.specs.TermType.{TermType}
 use Rattle.amqp_codec.specs.PrimitiveTypes.{boolean_type}
 use Rattle.amqp_codec.specs.Composite.{composite}
-use Rattle.amqp_codec.specs.Reading.{IsUnreadable}
+use Rattle.amqp_codec.specs.Reading.{IsUnreadableWithin}
 use Rattle.amqp_codec.specs.VecType.{vec_of}
 use Rattle.amqp_codec.specs.TermReading.{reading_of}
-use Rattle.amqp_read_write.specs.Rewritten.{IsRewritten, IsUnwritten}
+use Rattle.amqp_read_write.specs.Rewritten.{IsRewrittenWithin, IsUnwrittenWithin}
 use Rattle.amqp_primitives.specs.Types.{binary_type}
 use Rattle.amqp_sections.specs.SectionType.{section_of}
 use Rattle.amqp_sections.specs.Sections.{data_naming, in_data, sequence_naming, in_sequence, value_naming, in_value}
@@ -36,7 +37,7 @@ use Rattle.amqp_values.specs.ValueType.{value_type}
 use Rattle.amqp_wire.specs.Error.{number_of, name_of}
 use Rattle.amqp_lines.specs.Lines.{TakesLine}
 use Rattle.amqp_lines.specs.declared.answer.Answer.{Answer}
-use Rattle.amqp_lines.specs.declared.answer.Answer.TheVariants.{Rewritten, Refused, NoRequest}
+use Rattle.amqp_lines.specs.declared.answer.Answer.TheVariants.{Rewritten, Refused, Limited, NoRequest}
 use Rattle.amqp_lines.specs.declared.request.TypeName.{TypeName}
 use Rattle.amqp_lines.specs.declared.request.TypeName.TheVariants as line_type
 
@@ -112,6 +113,18 @@ StandsFor digits input = ((digits ≡ codes "-") × (input ≡ [])) ⊎ ((digits
 abbrev pub Asks : List ℕ → TypeName → List ℕ → Type 0
 Asks line named input = (digits : List ℕ) × (line ≡ type_name named ++ (32 ∷ digits)) × StandsFor digits input
 
+-- The digits are the number's, without a leading zero, and at most 19.
+abbrev pub IsNumber : List ℕ → ℕ → Type 0
+IsNumber digits n = (digits ≡ decimal n) × (n < 10 ^ 19)
+
+-- The line that sets the limits: how deep values nest, how many bytes they have, and how many they are.
+abbrev pub limits_line : Limits → List ℕ
+limits_line limits = codes "limits " ++ (decimal limits.nesting ++ (32 ∷ (decimal limits.bytes ++ (32 ∷ decimal limits.items))))
+
+-- The line sets these limits. Its numbers have at most 19 digits.
+abbrev pub SetsLimits : List ℕ → Limits → Type 0
+SetsLimits line limits = (line ≡ limits_line limits) × (limits.bytes < 10 ^ 19) × (limits.items < 10 ^ 19)
+
 -- The hexadecimal digits of bytes, and `-` for none.
 abbrev pub digits_of : List ℕ → List ℕ
 digits_of [] = codes "-"
@@ -127,21 +140,22 @@ no_line e = codes "no " ++ (decimal (number_of e) ++ (32 ∷ (name_of e ++ (10 �
 abbrev pub other_line : List ℕ
 other_line = codes "no 0 Line\n"
 
--- The text is the canonical one of the value that the first n bytes of the input are read as.
-abbrev pub TextOf : {T : Type 0} → TermType T → List ℕ → List ℕ → ℕ → Type 0
-TextOf u input text n = IsRewritten (reading_of u) (λ v. u.canon v ∷ []) input text n
+-- The text is the canonical one of the value that the first n bytes of the input are read as, within the limits.
+abbrev pub TextOf : {T : Type 0} → TermType T → Limits → List ℕ → List ℕ → ℕ → Type 0
+TextOf u limits input text n = IsRewrittenWithin limits (reading_of u) (λ v. u.canon v ∷ []) input text n
 
--- No value can be read there, and the input has the fault; or what is read can't be written.
-abbrev pub NoTextOf : {T : Type 0} → TermType T → List ℕ → Error → Type 0
-NoTextOf u input e = IsUnreadable (reading_of u) input e ⊎ IsUnwritten (reading_of u) (λ v. u.canon v ∷ []) input e
+-- Within the limits no value can be read there, and the input has the fault; or what is read is too large to be written.
+abbrev pub NoTextOf : {T : Type 0} → TermType T → Limits → List ℕ → Error → Type 0
+NoTextOf u limits input e =
+    IsUnreadableWithin limits (reading_of u) input e ⊎ IsUnwrittenWithin limits (reading_of u) (λ v. u.canon v ∷ []) input e
 
 -- The one is said of an answer, or the other.
-abbrev pub Returns : {T : Type 0} → TermType T → List ℕ → Result (List ℕ × ℕ) Error → Type 0
-Returns u input (Ok (text, n)) = TextOf u input text n
-Returns u input (Err e) = NoTextOf u input e
+abbrev pub Returns : {T : Type 0} → TermType T → Limits → List ℕ → Result (List ℕ × ℕ) Error → Type 0
+Returns u limits input (Ok (text, n)) = TextOf u limits input text n
+Returns u limits input (Err e) = NoTextOf u limits input e
 
 -- The same of the type with that name.
-abbrev pub ReturnsOf : TypeName → List ℕ → Result (List ℕ × ℕ) Error → Type 0
+abbrev pub ReturnsOf : TypeName → Limits → List ℕ → Result (List ℕ × ℕ) Error → Type 0
 ReturnsOf line_type.Accepted = Returns (composite accepted)
 ReturnsOf line_type.AmqpSequence = Returns (section_of in_sequence sequence_naming (vec_of value_type))
 ReturnsOf line_type.AmqpValue = Returns (section_of in_value value_naming value_type)
@@ -194,41 +208,54 @@ ReturnsOf line_type.TransactionalState = Returns (composite transactional_state)
 ReturnsOf line_type.Transfer = Returns (composite transfer)
 ReturnsOf line_type.Value = Returns value_type
 
-abbrev pub IsText : TypeName → List ℕ → List ℕ → ℕ → Type 0
-IsText named input text n = ReturnsOf named input (Ok (text, n))
+abbrev pub IsText : Limits → TypeName → List ℕ → List ℕ → ℕ → Type 0
+IsText limits named input text n = ReturnsOf named limits input (Ok (text, n))
 
-abbrev pub HasNoText : TypeName → List ℕ → Error → Type 0
-HasNoText named input e = ReturnsOf named input (Err e)
+abbrev pub HasNoText : Limits → TypeName → List ℕ → Error → Type 0
+HasNoText limits named input e = ReturnsOf named limits input (Err e)
 
--- The line is answered so, and this says whether that is `ok`: by the canonical text and the number of the bytes behind
--- the value, or by why there is none, which may be want of memory.
-pub data IsAnswer (line : List ℕ) : List ℕ → Bool → Type 0 where
-  rewritten : (named : TypeName) (input : List ℕ) (text : List ℕ) (n left : ℕ) → Asks line named input → IsText named input text n
-      → left + n ≡ length input → IsAnswer line (ok_line text left) true
-  refused : (named : TypeName) (input : List ℕ) (e : Error) → Asks line named input → (e ≡ Memory) ⊎ HasNoText named input e
-      → IsAnswer line (no_line e) false
-  other : ((named : TypeName) (input : List ℕ) → Asks line named input → ⊥) → IsAnswer line other_line false
+-- Within the limits the line is answered so, this says whether that counts as `ok`, and these limits hold behind it. The answer is the
+-- canonical text and the number of the bytes behind the value, or why there is none, which may be want of memory; or the line itself,
+-- if it sets limits.
+pub data IsAnswer (limits : Limits) (line : List ℕ) : List ℕ → Bool → Limits → Type 0 where
+  rewritten : (named : TypeName) (input : List ℕ) (text : List ℕ) (n left : ℕ) → Asks line named input
+      → IsText limits named input text n → left + n ≡ length input → IsAnswer limits line (ok_line text left) true limits
+  refused : (named : TypeName) (input : List ℕ) (e : Error) → Asks line named input → (e ≡ Memory) ⊎ HasNoText limits named input e
+      → IsAnswer limits line (no_line e) false limits
+  limited : (after : Limits) → SetsLimits line after → IsAnswer limits line (line ++ (10 ∷ [])) true after
+  other : ((named : TypeName) (input : List ℕ) → Asks line named input → ⊥) → ((set : Limits) → SetsLimits line set → ⊥)
+      → IsAnswer limits line other_line false limits
 
--- Line by line the input is answered by the output, and this says whether all answers are `ok`.
-pub data AreAnswers : List ℕ → List ℕ → Bool → Type 0 where
-  done : AreAnswers [] [] true
-  next : {input line rest text output : List ℕ} {good all : Bool} → TakesLine input line rest → IsAnswer line text good
-      → AreAnswers rest output all → AreAnswers input (text ++ output) (good && all)
+-- Line by line the input is answered by the output, at first within these limits, and this says whether all answers count as `ok`.
+pub data AreAnswers : Limits → List ℕ → List ℕ → Bool → Type 0 where
+  done : {limits : Limits} → AreAnswers limits [] [] true
+  next : {limits after : Limits} {input line rest text output : List ℕ} {good all : Bool} → TakesLine input line rest
+      → IsAnswer limits line text good after → AreAnswers after rest output all → AreAnswers limits input (text ++ output) (good && all)
 
 -- What one answer is made of.
 abbrev pub printed_of : Answer → List ℕ
 printed_of (Rewritten text left) = ok_line text.items left
 printed_of (Refused e) = no_line e
+printed_of (Limited set) = limits_line set ++ (10 ∷ [])
 printed_of NoRequest = other_line
 
 abbrev pub is_good : Answer → Bool
 is_good (Rewritten text left) = true
 is_good (Refused e) = false
+is_good (Limited set) = true
 is_good NoRequest = false
 
+-- The limits behind the line.
+abbrev pub limits_after : Limits → Answer → Limits
+limits_after before (Limited set) = set
+limits_after before _ = before
+
 -- It answers the line.
-abbrev pub AnswersLine : List ℕ → Answer → Type 0
-AnswersLine line (Rewritten text left) = (named : TypeName) × (input : List ℕ) × (n : ℕ) × Asks line named input
-    × IsText named input text.items n × (left + n ≡ length input)
-AnswersLine line (Refused e) = (named : TypeName) × (input : List ℕ) × Asks line named input × ((e ≡ Memory) ⊎ HasNoText named input e)
-AnswersLine line NoRequest = (named : TypeName) (input : List ℕ) → Asks line named input → ⊥
+abbrev pub AnswersLine : Limits → List ℕ → Answer → Type 0
+AnswersLine limits line (Rewritten text left) = (named : TypeName) × (input : List ℕ) × (n : ℕ) × Asks line named input
+    × IsText limits named input text.items n × (left + n ≡ length input)
+AnswersLine limits line (Refused e) =
+    (named : TypeName) × (input : List ℕ) × Asks line named input × ((e ≡ Memory) ⊎ HasNoText limits named input e)
+AnswersLine limits line (Limited set) = SetsLimits line set
+AnswersLine limits line NoRequest =
+    ((named : TypeName) (input : List ℕ) → Asks line named input → ⊥) × ((set : Limits) → SetsLimits line set → ⊥)

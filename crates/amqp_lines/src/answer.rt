@@ -1,10 +1,11 @@
 //! The answer to one line.
 ghost use Rattle.std.specs.Prelude.{◌≡◌, IfOk, IfErr, string_bytes};
 ghost use Rattle.amqp_wire.specs.declared.error.Error.TheVariants.{Memory};
-ghost use Rattle.amqp_lines.specs.Answers.{printed_of, is_good, AnswersLine};
+ghost use Rattle.amqp_lines.specs.Answers.{printed_of, is_good, limits_after, AnswersLine};
 
+use crate::limits::limits_of;
 use crate::request::Request;
-use fe2o3_amqp_types::codec::Error;
+use fe2o3_amqp_types::codec::{Error, Limits};
 use std::alloc::Global;
 
 /// What a line is answered.
@@ -14,21 +15,26 @@ pub(crate) enum Answer {
     Rewritten { text: Vec<u8>, left: usize },
     /// Why no value is read, or why it can't be written.
     Refused(Error),
-    /// The line isn't of the form `<type> <hex>`.
+    /// The limits that the line sets.
+    Limited(Limits),
+    /// The line is of no such form.
     NoRequest,
 }
 
 impl Answer {
-    /// The answer to a line. The only error is want of memory for the line's bytes.
-    pub(crate) fn to_line(line: &[u8], alloc: Global) -> Result<Answer, Error>
-        ensures answers { IfOk result (λ answer. AnswersLine line.now answer) }
+    /// The answer to a line within the limits. The only error is want of memory for the line's bytes.
+    pub(crate) fn to_line(line: &[u8], limits: &Limits, alloc: Global) -> Result<Answer, Error>
+        ensures answers { IfOk result (λ answer. AnswersLine limits.now line.now answer) }
         ensures err { IfErr result (λ e. e ≡ Memory) }
     {
+        if let Some(set) = limits_of(line) {
+            return Ok(Answer::Limited(set));
+        }
         let Some(request) = Request::from_line(line, alloc)? else {
             return Ok(Answer::NoRequest);
         };
         let input = request.input.as_slice();
-        match request.type_name.canonical_text(input, alloc) {
+        match request.type_name.canonical_text(input, limits, alloc) {
             Ok((text, len)) => Ok(Answer::Rewritten {
                 text,
                 left: input.len().saturating_sub(len),
@@ -37,13 +43,23 @@ impl Answer {
         }
     }
 
-    /// Whether it begins with `ok`.
+    /// Whether it counts as `ok`.
     pub(crate) fn is_ok(&self) -> bool
         ensures { result ≡ is_good self.now }
     {
         match self {
-            Answer::Rewritten { .. } => true,
+            Answer::Rewritten { .. } | Answer::Limited(_) => true,
             Answer::Refused(_) | Answer::NoRequest => false,
+        }
+    }
+
+    /// The limits that hold behind the line.
+    pub(crate) fn limits_after(&self, before: &Limits) -> Limits
+        ensures { result ≡ limits_after before.now self.now }
+    {
+        match self {
+            Answer::Limited(limits) => *limits,
+            Answer::Rewritten { .. } | Answer::Refused(_) | Answer::NoRequest => *before,
         }
     }
 
@@ -64,6 +80,12 @@ impl Answer {
                 let number = error.number();
                 let name = error.name();
                 Ok(format!(in alloc; "no {number} {name}\n")?)
+            }
+            Answer::Limited(limits) => {
+                let nesting = limits.nesting();
+                let bytes = limits.bytes();
+                let items = limits.items();
+                Ok(format!(in alloc; "limits {nesting} {bytes} {items}\n")?)
             }
             Answer::NoRequest => Ok(String::from_str(alloc, "no 0 Line\n")?),
         }

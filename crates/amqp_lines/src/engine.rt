@@ -2,11 +2,12 @@
 ghost use Rattle.std.specs.Prelude.{◌≡◌, ◌<◌, ◌⊎◌, ℕ, List, length, take, IfOk, IfErr, IfSome, OnOk, OnErr};
 ghost use Rattle.std.specs.Io.KnownBytes.{Appends, Keeps};
 ghost use Rattle.amqp_lines.specs.Answers.{AreAnswers, IsAnswer, IsOutside, IsOverfull};
+ghost use Rattle.amqp_codec.specs.Reading.{greatest};
 ghost use Rattle.amqp_wire.specs.declared.error.Error.TheVariants.{TooLarge};
 
 use crate::answer::Answer;
 use crate::lines::Lines;
-use fe2o3_amqp_types::codec::{Error, ReadSource};
+use fe2o3_amqp_types::codec::{Error, Limits, ReadSource};
 use std::alloc::Global;
 use std::io::{ErrorKind, Read, Write};
 
@@ -18,6 +19,10 @@ use std::io::{ErrorKind, Read, Write};
 /// the type's value that the bytes begin with, in digits of lower case, and the number of bytes behind that value; or
 /// `no <number> <name>` of the error by which it isn't read or not written; or `no 0 Line` of a line of another form.
 ///
+/// A line `limits <nesting> <bytes> <items>` sets the limits within which the lines behind it are read (`Limits`), up to the next one: three
+/// decimal numbers of at most 19 digits without leading zeros, of which the first is at most 128, with one space between. It is answered
+/// by itself, which counts as `ok`. Before the first one the greatest limits hold.
+///
 /// An error is `Memory` where a line or its answer can't be held, `Read` where the reader or the writer fails, or `TooLarge` past
 /// 2^64 - 1 lines; then nothing is said of what was written.
 pub fn run<R: Read + Drop, W: Write>(
@@ -25,31 +30,38 @@ pub fn run<R: Read + Drop, W: Write>(
     writer: &mut W,
     alloc: Global,
 ) -> Result<bool, Error>
-    ensures answers { IfOk result (λ all_ok. IfSome (R.remaining reader) (λ input. (output : List ℕ) × AreAnswers input output all_ok
+    ensures answers { IfOk result (λ all_ok. IfSome (R.remaining reader) (λ input. (output : List ℕ) × AreAnswers greatest input output all_ok
         × Appends (W.contents writer.old) (W.contents writer.new) output)) }
     ensures refused { IfErr result (λ e. IsOutside e ⊎ ((e ≡ TooLarge) × IsOverfull (R.remaining reader))) }
 {
     let mut lines = Lines::new(ReadSource::new(reader));
+    let mut limits = Limits::greatest();
     let mut all_ok = true;
     for answered in 0..u64::MAX {
         let Some(line) = lines.next_line(alloc)? else {
             flush(writer)?;
             return Ok(all_ok);
         };
-        all_ok &= answer_line(line.as_slice(), writer, alloc)?;
+        all_ok &= answer_line(line.as_slice(), &mut limits, writer, alloc)?;
     }
     Err(Error::TooLarge)
 }
 
-// Answers one line, and whether the answer is `ok`.
-fn answer_line<W: Write>(line: &[u8], writer: &mut W, alloc: Global) -> Result<bool, Error>
-    ensures answer { IfOk result (λ good. (text : List ℕ) × IsAnswer line.now text good
+// Answers one line within the limits, which it may set anew, and whether the answer is `ok`.
+fn answer_line<W: Write>(
+    line: &[u8],
+    limits: &mut Limits,
+    writer: &mut W,
+    alloc: Global,
+) -> Result<bool, Error>
+    ensures answer { IfOk result (λ good. (text : List ℕ) × IsAnswer limits.old line.now text good limits.new
         × Appends (W.contents writer.old) (W.contents writer.new) text) }
     ensures err { IfErr result IsOutside }
 {
-    let answer = Answer::to_line(line, alloc)?;
+    let answer = Answer::to_line(line, limits, alloc)?;
     let text = answer.printed(alloc)?;
     write_whole(writer, text.as_bytes())?;
+    *limits = answer.limits_after(limits);
     Ok(answer.is_ok())
 }
 

@@ -4,7 +4,9 @@
 
 mod answer;
 mod engine;
+mod limits;
 mod lines;
 mod request;
+mod text;
 
 pub use engine::run;

@@ -6,7 +6,8 @@ ghost use Rattle.amqp_lines.specs.Rows.{in_order, has_name};
 ghost use Rattle.amqp_lines.specs.contracts.request.TypeName.{the_type};
 ghost use Rattle.amqp_lines.specs.declared.request.TypeName.{TypeName};
 
-use fe2o3_amqp_types::codec::{Error, canonical_text};
+use crate::text::text_within;
+use fe2o3_amqp_types::codec::{Error, Limits};
 use fe2o3_amqp_types::definitions;
 use fe2o3_amqp_types::definitions::ErrorCondition;
 use fe2o3_amqp_types::messaging::annotations::Annotations;
@@ -165,71 +166,74 @@ impl TypeName {
         named(NAMES, name)
     }
 
-    /// The canonical text of the type's value that the input begins with, and how many bytes that value takes.
+    /// Within the limits, the canonical text of the type's value that the input begins with, and how many bytes that value takes.
     pub(crate) fn canonical_text(
         self,
         input: &[u8],
+        limits: &Limits,
         alloc: Global,
     ) -> Result<(Vec<u8>, usize), Error>
-        ensures text { IfOk result (λ r. IsText self input.now r.0.items r.1) }
-        ensures refused { IfErr result (λ e. (e ≡ Memory) ⊎ HasNoText self input.now e) }
+        ensures text { IfOk result (λ r. IsText limits.now self input.now r.0.items r.1) }
+        ensures refused { IfErr result (λ e. (e ≡ Memory) ⊎ HasNoText limits.now self input.now e) }
     {
         match self {
-            TypeName::Accepted => canonical_text::<Accepted>(input, alloc),
-            TypeName::AmqpSequence => canonical_text::<AmqpSequence<Value>>(input, alloc),
-            TypeName::AmqpValue => canonical_text::<AmqpValue<Value>>(input, alloc),
-            TypeName::Annotations => canonical_text::<Annotations>(input, alloc),
-            TypeName::ApplicationProperties => canonical_text::<ApplicationProperties>(
-                input, alloc,
+            TypeName::Accepted => text_within::<Accepted>(input, limits, alloc),
+            TypeName::AmqpSequence => text_within::<AmqpSequence<Value>>(input, limits, alloc),
+            TypeName::AmqpValue => text_within::<AmqpValue<Value>>(input, limits, alloc),
+            TypeName::Annotations => text_within::<Annotations>(input, limits, alloc),
+            TypeName::ApplicationProperties => text_within::<ApplicationProperties>(
+                input, limits, alloc,
             ),
-            TypeName::Attach => canonical_text::<Attach>(input, alloc),
-            TypeName::Begin => canonical_text::<Begin>(input, alloc),
-            TypeName::Boolean => canonical_text::<Boolean>(input, alloc),
-            TypeName::Close => canonical_text::<Close>(input, alloc),
-            TypeName::Coordinator => canonical_text::<Coordinator>(input, alloc),
-            TypeName::Data => canonical_text::<Data>(input, alloc),
-            TypeName::Declare => canonical_text::<Declare>(input, alloc),
-            TypeName::Declared => canonical_text::<Declared>(input, alloc),
-            TypeName::DeleteOnClose => canonical_text::<DeleteOnClose>(input, alloc),
-            TypeName::DeleteOnNoLinks => canonical_text::<DeleteOnNoLinks>(input, alloc),
-            TypeName::DeleteOnNoLinksOrMessages => canonical_text::<DeleteOnNoLinksOrMessages>(
-                input, alloc,
+            TypeName::Attach => text_within::<Attach>(input, limits, alloc),
+            TypeName::Begin => text_within::<Begin>(input, limits, alloc),
+            TypeName::Boolean => text_within::<Boolean>(input, limits, alloc),
+            TypeName::Close => text_within::<Close>(input, limits, alloc),
+            TypeName::Coordinator => text_within::<Coordinator>(input, limits, alloc),
+            TypeName::Data => text_within::<Data>(input, limits, alloc),
+            TypeName::Declare => text_within::<Declare>(input, limits, alloc),
+            TypeName::Declared => text_within::<Declared>(input, limits, alloc),
+            TypeName::DeleteOnClose => text_within::<DeleteOnClose>(input, limits, alloc),
+            TypeName::DeleteOnNoLinks => text_within::<DeleteOnNoLinks>(input, limits, alloc),
+            TypeName::DeleteOnNoLinksOrMessages => text_within::<DeleteOnNoLinksOrMessages>(
+                input, limits, alloc,
             ),
-            TypeName::DeleteOnNoMessages => canonical_text::<DeleteOnNoMessages>(input, alloc),
-            TypeName::DeliveryAnnotations => canonical_text::<DeliveryAnnotations>(input, alloc),
-            TypeName::DeliveryState => canonical_text::<DeliveryState>(input, alloc),
-            TypeName::Detach => canonical_text::<Detach>(input, alloc),
-            TypeName::Discharge => canonical_text::<Discharge>(input, alloc),
-            TypeName::Disposition => canonical_text::<Disposition>(input, alloc),
-            TypeName::End => canonical_text::<End>(input, alloc),
-            TypeName::Error => canonical_text::<definitions::Error>(input, alloc),
-            TypeName::ErrorCondition => canonical_text::<ErrorCondition>(input, alloc),
-            TypeName::Flow => canonical_text::<Flow>(input, alloc),
-            TypeName::Footer => canonical_text::<Footer>(input, alloc),
-            TypeName::Header => canonical_text::<Header>(input, alloc),
-            TypeName::LifetimePolicy => canonical_text::<LifetimePolicy>(input, alloc),
-            TypeName::MessageAnnotations => canonical_text::<MessageAnnotations>(input, alloc),
-            TypeName::MessageId => canonical_text::<MessageId>(input, alloc),
-            TypeName::Modified => canonical_text::<Modified>(input, alloc),
-            TypeName::Open => canonical_text::<Open>(input, alloc),
-            TypeName::Outcome => canonical_text::<Outcome>(input, alloc),
-            TypeName::Performative => canonical_text::<Performative>(input, alloc),
-            TypeName::Properties => canonical_text::<Properties>(input, alloc),
-            TypeName::Received => canonical_text::<Received>(input, alloc),
-            TypeName::Rejected => canonical_text::<Rejected>(input, alloc),
-            TypeName::Released => canonical_text::<Released>(input, alloc),
-            TypeName::SaslChallenge => canonical_text::<SaslChallenge>(input, alloc),
-            TypeName::SaslInit => canonical_text::<SaslInit>(input, alloc),
-            TypeName::SaslMechanisms => canonical_text::<SaslMechanisms>(input, alloc),
-            TypeName::SaslOutcome => canonical_text::<SaslOutcome>(input, alloc),
-            TypeName::SaslResponse => canonical_text::<SaslResponse>(input, alloc),
-            TypeName::SimpleValue => canonical_text::<SimpleValue>(input, alloc),
-            TypeName::Source => canonical_text::<Source>(input, alloc),
-            TypeName::Target => canonical_text::<Target>(input, alloc),
-            TypeName::TargetArchetype => canonical_text::<TargetArchetype>(input, alloc),
-            TypeName::TransactionalState => canonical_text::<TransactionalState>(input, alloc),
-            TypeName::Transfer => canonical_text::<Transfer>(input, alloc),
-            TypeName::Value => canonical_text::<Value>(input, alloc),
+            TypeName::DeleteOnNoMessages => text_within::<DeleteOnNoMessages>(input, limits, alloc),
+            TypeName::DeliveryAnnotations => text_within::<DeliveryAnnotations>(
+                input, limits, alloc,
+            ),
+            TypeName::DeliveryState => text_within::<DeliveryState>(input, limits, alloc),
+            TypeName::Detach => text_within::<Detach>(input, limits, alloc),
+            TypeName::Discharge => text_within::<Discharge>(input, limits, alloc),
+            TypeName::Disposition => text_within::<Disposition>(input, limits, alloc),
+            TypeName::End => text_within::<End>(input, limits, alloc),
+            TypeName::Error => text_within::<definitions::Error>(input, limits, alloc),
+            TypeName::ErrorCondition => text_within::<ErrorCondition>(input, limits, alloc),
+            TypeName::Flow => text_within::<Flow>(input, limits, alloc),
+            TypeName::Footer => text_within::<Footer>(input, limits, alloc),
+            TypeName::Header => text_within::<Header>(input, limits, alloc),
+            TypeName::LifetimePolicy => text_within::<LifetimePolicy>(input, limits, alloc),
+            TypeName::MessageAnnotations => text_within::<MessageAnnotations>(input, limits, alloc),
+            TypeName::MessageId => text_within::<MessageId>(input, limits, alloc),
+            TypeName::Modified => text_within::<Modified>(input, limits, alloc),
+            TypeName::Open => text_within::<Open>(input, limits, alloc),
+            TypeName::Outcome => text_within::<Outcome>(input, limits, alloc),
+            TypeName::Performative => text_within::<Performative>(input, limits, alloc),
+            TypeName::Properties => text_within::<Properties>(input, limits, alloc),
+            TypeName::Received => text_within::<Received>(input, limits, alloc),
+            TypeName::Rejected => text_within::<Rejected>(input, limits, alloc),
+            TypeName::Released => text_within::<Released>(input, limits, alloc),
+            TypeName::SaslChallenge => text_within::<SaslChallenge>(input, limits, alloc),
+            TypeName::SaslInit => text_within::<SaslInit>(input, limits, alloc),
+            TypeName::SaslMechanisms => text_within::<SaslMechanisms>(input, limits, alloc),
+            TypeName::SaslOutcome => text_within::<SaslOutcome>(input, limits, alloc),
+            TypeName::SaslResponse => text_within::<SaslResponse>(input, limits, alloc),
+            TypeName::SimpleValue => text_within::<SimpleValue>(input, limits, alloc),
+            TypeName::Source => text_within::<Source>(input, limits, alloc),
+            TypeName::Target => text_within::<Target>(input, limits, alloc),
+            TypeName::TargetArchetype => text_within::<TargetArchetype>(input, limits, alloc),
+            TypeName::TransactionalState => text_within::<TransactionalState>(input, limits, alloc),
+            TypeName::Transfer => text_within::<Transfer>(input, limits, alloc),
+            TypeName::Value => text_within::<Value>(input, limits, alloc),
         }
     }
 }

@@ -4,13 +4,15 @@ use Rattle.std.proofs.lemmas.List.{append-nil}
 use Rattle.amqp_model.specs.Term.{Term}
 use Rattle.amqp_wire.specs.declared.error.Error.{Error}
 use Rattle.amqp_wire.specs.declared.error.Error.TheVariants.{Memory}
+use Rattle.amqp_wire.specs.declared.limits.Limits.{Limits}
 use Rattle.amqp_encoder.specs.Passes.{row_text}
 use Rattle.amqp_decoder.specs.Steps.{IsReadError}
 use Rattle.amqp_decoder.proofs.NotOutside.{read_is_outside}
-use Rattle.amqp_codec.specs.Reading.{Reading, BeginsWith, IsUnreadable, greatest, start}
+use Rattle.amqp_codec.specs.Reading.{Reading, BeginsWith, BeginsWithin, IsUnreadable, IsUnreadableWithin, greatest, start}
 use Rattle.amqp_codec.specs.ReadingLaws.{read_one}
 use Rattle.amqp_codec.specs.Rewriting.{Rewriting}
 use Rattle.amqp_read_write.specs.Rewritten.{IsRewritten, IsReadAgain, AreReadAgain, IsOneText, IsOfNoOther, IsUnchanged, IsShortest, AreShortest, IsUnwritten}
+use Rattle.amqp_read_write.specs.Rewritten.{IsUnwrittenWithin, ReadsNoMore}
 use Rattle.amqp_codec.specs.Written.{AreWritable, AreUnwritable}
 
 module _ {T : Type 0} {r : Reading T} {canons : T → List Term} {is_value : T → Type 0} {follows : List ℕ → Type 0} {again : T → T}
@@ -67,6 +69,14 @@ module _ {T : Type 0} {r : Reading T} {canons : T → List Term} {is_value : T �
 
     pub shortest : is_least ≡ true → IsShortest r canons input text n
     shortest l v w other m k j s bytes none = subst (λ b. length b ≤ m) (one_text v w other m k j s) (laws.least l other w m bytes none j)
+
+  -- what was read within limits is refused for its size, as what is read without
+  pub unwritten_within : (limits : Limits) (more : ReadsNoMore limits r) (input : List ℕ) (v : T) (n : ℕ) (e : Error)
+      → BeginsWithin limits r input v n → (e ≡ Memory) ⊎ AreUnwritable (canons v) e
+      → (e ≡ Memory) ⊎ (IsUnreadableWithin limits r input e ⊎ IsUnwrittenWithin limits r canons input e)
+  unwritten_within limits more input v n e h (inl m) = inl m
+  unwritten_within limits more input v n e h (inr u) =
+      inr (inr (record { value = v; length = n; read = h; unwritable = u; large = laws.large input v n e (more input v n h) u }))
 
   -- what was read is refused for its size
   pub unwritten : (input : List ℕ) (v : T) (n : ℕ) (e : Error) → BeginsWith r input v n → (e ≡ Memory) ⊎ AreUnwritable (canons v) e

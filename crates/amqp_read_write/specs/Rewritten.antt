@@ -4,19 +4,25 @@ use Rattle.amqp_model.specs.Term.{Term}
 use Rattle.amqp_model.specs.Ranges.{IsBytes}
 use Rattle.amqp_wire.specs.declared.error.Error.{Error}
 use Rattle.amqp_wire.specs.declared.error.Error.TheVariants.{TooLarge}
+use Rattle.amqp_wire.specs.declared.limits.Limits.{Limits}
 use Rattle.amqp_encoder.specs.Passes.{row_text}
-use Rattle.amqp_codec.specs.Reading.{Reading, BeginsWith}
+use Rattle.amqp_codec.specs.Reading.{Reading, BeginsWith, BeginsWithin, greatest}
 use Rattle.amqp_codec.specs.Rewriting.{HoldNoArray}
 use Rattle.amqp_codec.specs.Written.{AreWritable, AreUnwritable}
 
--- The bytes are the canonical text of the one value that the first n bytes of the input are read as.
-pub record IsRewritten {T : Type 0} (r : Reading T) (canons : T → List Term) (input text : List ℕ) (n : ℕ) : Type 0 where
+-- The bytes are the canonical text of the one value that the first n bytes of the input are read as, within the limits.
+pub record IsRewrittenWithin {T : Type 0} (limits : Limits) (r : Reading T) (canons : T → List Term) (input text : List ℕ) (n : ℕ)
+    : Type 0 where
   pub value : T
-  pub read : BeginsWith r input value n
-  pub one : (w : T) (m : ℕ) → BeginsWith r input w m → r.same value w
+  pub read : BeginsWithin limits r input value n
+  pub one : (w : T) (m : ℕ) → BeginsWithin limits r input w m → r.same value w
   pub bounded : r.count value ≤ n
   pub writable : AreWritable (canons value)
   pub text_is : text ≡ row_text (canons value)
+
+-- The bytes are the canonical text of the one value that the first n bytes of the input are read as.
+abbrev pub IsRewritten : {T : Type 0} → Reading T → (T → List Term) → List ℕ → List ℕ → ℕ → Type 0
+IsRewritten r canons input text n = IsRewrittenWithin greatest r canons input text n
 
 -- Before whatever may follow, the text is read to its end, as the value that the first n bytes of the input are read as.
 pub record IsReadAgain {T : Type 0} (r : Reading T) (follows : List ℕ → Type 0) (again : T → T) (kept : T → Type 0)
@@ -58,10 +64,19 @@ pub record AreReadAgain {T : Type 0} (r : Reading T) (canons : T → List Term) 
       → BeginsWith r (row_text (canons v) ++ more) (again v) (length (row_text (canons v)))
   pub text : (v : T) → is_value v → AreWritable (canons v) → row_text (canons (again v)) ≡ row_text (canons v)
 
--- What the input is read as is too large to be written.
-pub record IsUnwritten {T : Type 0} (r : Reading T) (canons : T → List Term) (input : List ℕ) (e : Error) : Type 0 where
+-- What the input is read as within the limits is too large to be written.
+pub record IsUnwrittenWithin {T : Type 0} (limits : Limits) (r : Reading T) (canons : T → List Term) (input : List ℕ) (e : Error)
+    : Type 0 where
   pub value : T
   pub length : ℕ
-  pub read : BeginsWith r input value length
+  pub read : BeginsWithin limits r input value length
   pub unwritable : AreUnwritable (canons value) e
   pub large : e ≡ TooLarge
+
+-- What the input is read as is too large to be written.
+abbrev pub IsUnwritten : {T : Type 0} → Reading T → (T → List Term) → List ℕ → Error → Type 0
+IsUnwritten r canons input e = IsUnwrittenWithin greatest r canons input e
+
+-- Within the limits nothing is read that isn't read without.
+abbrev pub ReadsNoMore : {T : Type 0} → Limits → Reading T → Type 0
+ReadsNoMore {T} limits r = (input : List ℕ) (v : T) (n : ℕ) → BeginsWithin limits r input v n → BeginsWith r input v n

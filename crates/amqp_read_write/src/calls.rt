@@ -6,7 +6,7 @@ ghost use Rattle.amqp_encoder.specs.Passes.{row_text, BeginsMeasuring, Finds};
 ghost use Rattle.amqp_decoder.specs.Steps.{IsReadError};
 ghost use Rattle.amqp_codec.specs.Reading.{BeginsWith, IsUnreadable, BeginsWithin, IsUnreadableWithin};
 ghost use Rattle.amqp_read_write.specs.Rewritten.{IsRewritten, IsReadAgain, AreReadAgain, IsOneText, IsOfNoOther, IsUnchanged, IsShortest, AreShortest};
-ghost use Rattle.amqp_read_write.specs.Rewritten.{IsUnwritten};
+ghost use Rattle.amqp_read_write.specs.Rewritten.{IsUnwritten, IsRewrittenWithin, IsUnwrittenWithin, ReadsNoMore};
 ghost use Rattle.amqp_codec.specs.Written.{AreMeasured, AreUnwritable, AreWritable};
 
 use amqp_codec::{Canonical, Deserialize, Serialize};
@@ -142,6 +142,23 @@ pub fn canonical_text<T: Canonical>(input: &[u8], alloc: Global) -> Result<(Vec<
     let (value, len) = from_slice_counted::<T>(input, alloc)?;
     let text = to_vec(&value, alloc)?;
     Ok((text, len))
+}
+
+/// Within limits of the caller, the canonical text of the value that the input begins with, and how many bytes that value takes there. An
+/// error is `Memory`, or a fault of an input that begins with no value within the limits; or it is `TooLarge`, if nothing is read within
+/// them that isn't read without, as is so of every type of terms (`laws::limits_bound_reading`).
+pub fn canonical_text_within<T: Canonical>(
+    input: &[u8],
+    limits: &Limits,
+    alloc: Global,
+) -> Result<(Vec<u8>, usize), Error>
+    ensures text { IfOk result (λ r. IsRewrittenWithin limits.now T.reading T.writing.canons input.now r.0.items r.1) }
+    ensures refused { ReadsNoMore limits.now T.reading → IfErr result (λ e. (e ≡ Memory)
+        ⊎ (IsUnreadableWithin limits.now T.reading input.now e ⊎ IsUnwrittenWithin limits.now T.reading T.writing.canons input.now e)) }
+{
+    let (value, len) = from_slice_within::<T>(input, limits, alloc)?;
+    let written = to_vec(&value, alloc)?;
+    Ok((written, len))
 }
 
 // The length of the canonical text, of which the encoder keeps the sizes; or why there is none.

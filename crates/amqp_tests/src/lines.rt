@@ -87,6 +87,41 @@ fn digits_and_line_ends(rt: HostRuntime) -> Result<(), Fail> {
     )
 }
 
+#[test]
+fn limits_hold_for_the_lines_behind(rt: HostRuntime) -> Result<(), Fail> {
+    let received = "received 005323c005025209530d";
+    let input = format!(in rt.alloc();
+        "limits 128 4 100\naccepted 00532445\naccepted 005324c00000\nlimits 1 100 100\n{received}\n\
+        limits 2 100 3\n{received}\nlimits 2 100 2\n{received}\nlimits 129 1 1"
+    )?;
+    let (all_ok, output) = answer(input.as_str(), rt.alloc())?;
+    assert!(rt; !all_ok);
+    let want = "limits 128 4 100\nok 00532445 0\nno 31 Limit\nlimits 1 100 100\nno 31 Limit\n\
+        limits 2 100 3\nok 005323c005025209530d 0\nlimits 2 100 2\nno 31 Limit\nno 0 Line\n";
+    assert_eq!(rt; output.as_slice(), want.as_bytes());
+    Ok(())
+}
+
+#[test]
+fn a_line_that_sets_limits_is_ok(rt: HostRuntime) -> Result<(), Fail> {
+    let (all_ok, output) = answer("accepted 00532445\nlimits 0 1 1\nboolean 41", rt.alloc())?;
+    assert!(rt; all_ok);
+    let want = "ok 00532445 0\nlimits 0 1 1\nok 41 0\n";
+    assert_eq!(rt; output.as_slice(), want.as_bytes());
+    let (all_ok, output) = answer("limits 0 1 1", rt.alloc())?;
+    assert!(rt; all_ok);
+    assert_eq!(rt; output.as_slice(), b"limits 0 1 1\n".as_slice());
+    check_other_forms(
+        &[
+            "limits 00 1 1",
+            "limits 129 1 1",
+            "limits 1  1 1\n",
+            "limits 1 1",
+        ],
+        rt.alloc(),
+    )
+}
+
 // Gives one byte a call, and fails once none is left.
 #[derive(Drop)]
 struct OneByOne<'a> {

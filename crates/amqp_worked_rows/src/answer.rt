@@ -1,22 +1,41 @@
-//! The answer to what a row asks.
+//! Rows, and the answers to what they ask.
 use crate::further::further_answer;
 use amqp_lines::run;
+use anyhow::bail;
 use fe2o3_amqp_types::codec::Error;
 use std::alloc::Global;
 
-/// What is answered to a line `<type> <hex>`, without a line feed.
-pub(crate) fn answer_to(request: &str, alloc: Global) -> Result<String, anyhow::Error> {
-    if let Some(answer) = answer_of_further(request, alloc)? {
-        return Ok(answer);
+/// A line, and the answer that it must have.
+#[derive(Drop)]
+pub(crate) struct Row<'a> {
+    pub request: &'a str,
+    pub wanted: &'a str,
+}
+
+impl<'a> Row<'a> {
+    /// A line `<line> => <answer>` of the file. A line without an arrow is an error.
+    pub(crate) fn from_line(file: &str, line: &'a str) -> Result<Row<'a>, anyhow::Error> {
+        let Some((request, wanted)) = line.split_once(" => ") else {
+            bail!("{file}: {line} is no row")
+        };
+        Ok(Row { request, wanted })
+    }
+}
+
+/// What is answered to the rows' lines in one run, line by line.
+pub(crate) fn answers_to(rows: &[Row<'_>], alloc: Global) -> Result<String, anyhow::Error> {
+    let mut input = String::new(alloc);
+    for row in rows {
+        input.push_str(row.request)?;
+        input.push('\n')?;
     }
     let mut output = Vec::new(alloc);
-    run(request.as_bytes(), &mut output, alloc)?;
-    output.pop();
+    run(input.as_bytes(), &mut output, alloc)?;
     Ok(String::from_utf8(output)?)
 }
 
-// What is answered to a line that names a further type, or `None` of other lines.
-fn answer_of_further(request: &str, alloc: Global) -> Result<Option<String>, Error> {
+/// What is answered to a line that names a further type, without a line feed, or `None` of other lines.
+pub(crate) fn answer_of_further(request: &str, alloc: Global) -> Result<Option<String>, Error> {
     let Some((type_name, digits)) = request.split_once(' ') else {
         return Ok(None);
     };

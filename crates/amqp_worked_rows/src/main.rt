@@ -1,14 +1,14 @@
-//! The program `amqp-worked-rows`: its arguments name files of worked rows. A row is a line `<type> <hex> => <answer>`, as
+//! The program `amqp-worked-rows`: its arguments name files of worked rows. A row is a line `<line> => <answer>`, as
 //! `released 005326c00000 => ok 00532645 0`: before the arrow stands a line of the program `amqp-canon`, and behind it what that
-//! answers (`amqp_lines::run`). Empty lines are passed over, and lines that begin with `#`. It prints each row that is answered
-//! otherwise, and how many rows each file has, and ends with status 0 if all rows agree, else with 1.
+//! answers (`amqp_lines::run`). The rows of a file are lines of one run, so that limits that a row sets hold for those behind it. Rows of
+//! types that the program doesn't name are answered apart, without limits. Empty lines are passed over, and lines that begin with `#`. It
+//! prints each row that is answered otherwise, and how many rows each file has, and ends with status 0 if all rows agree, else with 1.
 #![tactic(auto)]
 
 mod answer;
 mod further;
 
-use answer::answer_to;
-use anyhow::bail;
+use answer::{Row, answer_of_further, answers_to};
 use std::process::ExitCode;
 use std::{env, fs};
 
@@ -29,13 +29,29 @@ fn check_file(rt: &HostRuntime, file: &str) -> Result<bool, anyhow::Error> {
     let text = fs::read_to_string(rt, file)?;
     let mut rows = 0u64;
     let mut all_agree = true;
+    let mut lines = Vec::new(rt.alloc());
     for line in text.lines() {
         if is_row(line) {
             rows = rows.saturating_add(1);
-            all_agree &= check_row(rt, file, line)?;
+            let row = Row::from_line(file, line)?;
+            match answer_of_further(row.request, rt.alloc())? {
+                Some(found) => all_agree &= check_row(rt, file, &row, found.as_str())?,
+                None => lines.push(row)?,
+            }
         }
     }
+    all_agree &= check_lines(rt, file, lines.as_slice())?;
     println!(rt; "{file}: {rows} rows")?;
+    Ok(all_agree)
+}
+
+// Whether the rows agree as the lines of one run.
+fn check_lines(rt: &HostRuntime, file: &str, rows: &[Row<'_>]) -> Result<bool, anyhow::Error> {
+    let answers = answers_to(rows, rt.alloc())?;
+    let mut all_agree = answers.lines().count() == rows.len();
+    for (row, found) in rows.iter().zip(answers.lines()) {
+        all_agree &= check_row(rt, file, row, found)?;
+    }
     Ok(all_agree)
 }
 
@@ -44,15 +60,18 @@ fn is_row(line: &str) -> bool {
     !line.is_empty() && !line.starts_with('#')
 }
 
-// Whether a row agrees. One that doesn't is printed. A line without an arrow is an error.
-fn check_row(rt: &HostRuntime, file: &str, row: &str) -> Result<bool, anyhow::Error> {
-    let Some((request, wanted)) = row.split_once(" => ") else {
-        bail!("{file}: {row} is no row")
-    };
-    let found = answer_to(request, rt.alloc())?;
-    if found.as_str() == wanted {
+// Whether a row agrees. One that doesn't is printed.
+fn check_row(
+    rt: &HostRuntime,
+    file: &str,
+    row: &Row<'_>,
+    found: &str,
+) -> Result<bool, anyhow::Error> {
+    if found == row.wanted {
         return Ok(true);
     }
-    println!(rt; "{file}: {row} is answered by {found}")?;
+    let request = row.request;
+    let wanted = row.wanted;
+    println!(rt; "{file}: {request} => {wanted} is answered by {found}")?;
     Ok(false)
 }

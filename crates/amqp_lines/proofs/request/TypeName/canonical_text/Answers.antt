@@ -1,19 +1,19 @@
 use Rattle.amqp_lines.proofs.request.TypeName.canonical_text.Goals as goal
 
 pub returns-in-Attach-clause-refused : goal.returns-in-Attach-clause-refused
-returns-in-Attach-clause-refused c = rw c.in-Attach.is c.canonical_text-in-Attach.ensures.refused
+returns-in-Attach-clause-refused c = rw c.in-Attach.is c.text_within-in-Attach.ensures.refused
 
 pub returns-in-Flow-clause-refused : goal.returns-in-Flow-clause-refused
-returns-in-Flow-clause-refused c = rw c.in-Flow.is c.canonical_text-in-Flow.ensures.refused
+returns-in-Flow-clause-refused c = rw c.in-Flow.is c.text_within-in-Flow.ensures.refused
 
 pub returns-in-Open-clause-refused : goal.returns-in-Open-clause-refused
-returns-in-Open-clause-refused c = rw c.in-Open.is c.canonical_text-in-Open.ensures.refused
+returns-in-Open-clause-refused c = rw c.in-Open.is c.text_within-in-Open.ensures.refused
 
 pub returns-in-Properties-clause-refused : goal.returns-in-Properties-clause-refused
-returns-in-Properties-clause-refused c = rw c.in-Properties.is c.canonical_text-in-Properties.ensures.refused
+returns-in-Properties-clause-refused c = rw c.in-Properties.is c.text_within-in-Properties.ensures.refused
 
 pub returns-in-Source-clause-refused : goal.returns-in-Source-clause-refused
-returns-in-Source-clause-refused c = rw c.in-Source.is c.canonical_text-in-Source.ensures.refused
+returns-in-Source-clause-refused c = rw c.in-Source.is c.text_within-in-Source.ensures.refused
 
 pub returns-in-Transfer-clause-refused : goal.returns-in-Transfer-clause-refused
-returns-in-Transfer-clause-refused c = rw c.in-Transfer.is c.canonical_text-in-Transfer.ensures.refused
+returns-in-Transfer-clause-refused c = rw c.in-Transfer.is c.text_within-in-Transfer.ensures.refused
