@@ -8,7 +8,7 @@ use Rattle.amqp_model.specs.Term.{count, Descriptor}
 use Rattle.amqp_model.specs.Items.{items_of}
 use Rattle.amqp_model.specs.Constructors.{Format, fixed, variable, compound, unknown, format}
 use Rattle.amqp_model.specs.Spelling.{Constructor, PrimitiveData, ContainerData, data_of, elements_of, shared_data_of}
-use Rattle.amqp_model.specs.Measures.{nest, nests, array_nest, nodes, all_nodes}
+use Rattle.amqp_model.specs.Measures.{nest, nests, array_nest, all_nodes}
 use Rattle.amqp_model.specs.Standing.{Standing, StandInArray}
 use Rattle.amqp_decoder.specs.declared.frame.Place.TheVariants.{InArray}
 use Rattle.amqp_decoder.specs.State.{Open, State, Has, lower, after_data, after_value, counted, in_container}

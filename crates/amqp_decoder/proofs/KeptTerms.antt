@@ -15,7 +15,7 @@ use Rattle.amqp_lengths.specs.Fronts.{IsFront, Refuses}
 use Rattle.amqp_lengths.specs.Lengths.{IsTerm}
 use Rattle.amqp_lengths.specs.Announced.{SizeThen, content_size, IsAnnounced}
 use Rattle.amqp_lengths.proofs.Announced.{announced_data, announced_once}
-use Rattle.amqp_decoder.specs.State.{State, Has, lower, after_data, after_value, uncounted}
+use Rattle.amqp_decoder.specs.State.{State, Has, lower, after_data, uncounted}
 use Rattle.amqp_decoder.specs.Steps.{Answers, IsExcused, Takes, Lacks, Stops}
 use Rattle.amqp_decoder.specs.Reading.{RefusesRead}
 use Rattle.amqp_decoder.specs.Primitives.{standing, SpellsAs, Stands}

@@ -19,6 +19,7 @@ pub mod Opening
 pub mod Peeks
 pub mod ReadPrimitives
 pub mod Rooms
+pub mod RowParts
 pub mod Rows
 pub mod SizedTexts
 pub mod Steps

@@ -1,8 +1,6 @@
 -- What a look at the next value's first code finds.
-use Rattle.std.proofs.Common.{◌≡◌, ◌≤◌, ◌<◌, ℕ, zero, suc, ◌-◌, inl, inr, false, Option, Some, None, is_some, MatchOption, List, [], ◌∷◌}
-use Rattle.std.proofs.Common.{Result, Ok, Err, IfOk, IfErr, length, take, drop, get_or, slice_get, length-append, ◌↔◌, min, max, refl, sym, ap, ◌∙◌, subst, arith}
-use Rattle.std.proofs.lemmas.List.{length-take}
-use Rattle.std.proofs.lemmas.Option.{get_or_from_slice_get}
+use Rattle.std.proofs.Common.{◌≡◌, ◌≤◌, ℕ, ◌-◌, inl, inr, false, Option, Some, None, is_some, MatchOption, List, [], ◌∷◌}
+use Rattle.std.proofs.Common.{Result, Ok, Err, IfOk, IfErr, length, drop, length-append, ◌↔◌, min, max, refl, sym, ap, ◌∙◌, subst, arith}
 use Rattle.amqp_model.specs.Term.{Descriptor, Term}
 use Rattle.amqp_model.specs.Measures.{nodes}
 use Rattle.amqp_model.specs.Spelling.{Constructor, enc}

@@ -1,6 +1,6 @@
 -- A primitive that stands next is a code that begins a value, and its data.
 use Rattle.std.proofs.Common.{◌≡◌, ◌<◌, ℕ, zero, suc, ◌+◌, ◌-◌, ◌^◌, ◌⊎◌, inl, inr, Bool, false, Option, Some, None, Result, Ok, Err, IfOk}
-use Rattle.std.proofs.Common.{IfErr, unwrap_or, List, [], ◌∷◌, ◌++◌, length, drop, get_or, refl, sym, ap, ◌∙◌, subst, arith, append_assoc}
+use Rattle.std.proofs.Common.{IfErr, unwrap_or, List, [], ◌∷◌, ◌++◌, length, drop, refl, sym, ap, ◌∙◌, subst, arith, append_assoc}
 use Rattle.std.proofs.Common.{drop-drop, length-append}
 use Rattle.std.proofs.lemmas.List.{drop_at}
 use Rattle.std.specs.Int.{bytes_high_first}

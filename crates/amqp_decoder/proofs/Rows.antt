@@ -17,14 +17,12 @@ use Rattle.amqp_decoder.specs.declared.frame.Place.{Place}
 use Rattle.amqp_decoder.specs.declared.frame.Place.TheVariants.{Top, InList, InMap, InArray, InDescribed}
 use Rattle.amqp_decoder.specs.State.{DescriptorValues, Open, open_of, items_of, shared_of, descriptor_of, State, stack, unused, bytes_left}
 use Rattle.amqp_decoder.specs.State.{shared_in, AreNested, IsLevel, AreBounded, IsContainer, left_in, is_sized, emptied, limit_around}
+use Rattle.amqp_decoder.specs.Row.{left_of}
 use Rattle.amqp_decoder.specs.Rooms.{IsRoomy}
 use Rattle.amqp_decoder.specs.Described.{IsMark, IsUnmarked, behind}
 use Rattle.amqp_wire.specs.declared.descriptor.Descriptor.{Descriptor as DescriptorValue}
 
-abbrev left_of : OpenContainer → ℕ
-left_of f = unwrap_or f.left 0
-
-sum_take_more : (n : ℕ) (fs : List OpenContainer) (b : Bool) → ltb n (length fs) ≡ b
+pub sum_take_more : (n : ℕ) (fs : List OpenContainer) (b : Bool) → ltb n (length fs) ≡ b
     → sum_by left_of (take (n + 1) fs) ≡ sum_by left_of (take n fs) + left_of (get_or fs n unused)
 sum_take_more n fs true e = sum_by_more left_of fs n unused (ltb-true n (length fs) e)
 sum_take_more n fs false e =

@@ -7,6 +7,7 @@ pub mod Described
 pub mod Items
 pub mod Arrays
 pub mod Rooms
+pub mod Row
 pub mod Terms
 pub mod Misspelled
 pub mod Sections

@@ -15,8 +15,8 @@ mod sections;
 mod shared;
 
 use crate::frame::OpenContainer;
+use crate::row::Row;
 use amqp_lookahead::Input;
-use amqp_wire::nesting::LEVELS;
 use amqp_wire::{ByteSource, Descriptor, Error, Limits};
 use std::alloc::Global;
 use std::marker::Model;
@@ -37,11 +37,11 @@ pub struct Decoder<R: ByteSource> {
     bytes: u64,
     items: u64,
     descriptors: Vec<Descriptor>,
-    frames: [OpenContainer; LEVELS],
+    frames: Row,
 }
 
 impl<R: ByteSource> Model for Decoder<R> {
-    ghost use Rattle.std.specs.Prelude.{◌≤◌, ◌+◌, vec_len};
+    ghost use Rattle.std.specs.Prelude.{◌≡◌, ◌≤◌, ◌+◌, length, vec_len};
     ghost use Rattle.amqp_decoder.specs.State.{State, stack, open_of, limit_around, AreNested, IsLevel, AreBounded};
     ghost use Rattle.amqp_wire.specs.Limits.{limit_of};
     ghost use Rattle.amqp_decoder.specs.Rooms.{IsRoomy};
@@ -62,7 +62,7 @@ impl<R: ByteSource> Model for Decoder<R> {
 
     ghost invariant = { λ d. (d.depth ≤ d.nesting + 1) × AreNested d.depth d.frames d.top.last × (d.top.last ≤ vec_len d.descriptors) × IsLevel d.top
         × AreBounded d.depth d.frames d.top.place d.top.left × IsRoomy d.nesting d.depth (open_of d.descriptors.items (limit_of d.bytes) d.top)
-        × (d.nesting ≤ 128) };
+        × (d.nesting ≤ 128) × (length d.frames ≡ 129) };
 }
 
 impl<R: ByteSource> Decoder<R> {
@@ -140,7 +140,7 @@ pub fn decoder_within<R: ByteSource>(source: R, limits: &Limits, alloc: Global) 
         bytes: limits.bytes(),
         items: limits.items(),
         descriptors: Vec::new(alloc),
-        frames: [OpenContainer::TOP; LEVELS],
+        frames: Row::new(),
     }
 }
 

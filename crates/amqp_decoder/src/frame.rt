@@ -1,7 +1,7 @@
 //! One open container.
 
-ghost use Rattle.std.specs.Prelude.{◌≡◌, ◌↔◌, IsTrue, Some, length};
-ghost use Rattle.amqp_decoder.specs.State.{items_of, shared_in};
+ghost use Rattle.std.specs.Prelude.{◌≡◌, ◌↔◌, IsTrue, Some};
+ghost use Rattle.amqp_decoder.specs.State.{items_of};
 
 /// Where a value stands.
 #[derive(Clone, Copy, PartialEq, Eq)]
@@ -45,15 +45,5 @@ impl OpenContainer {
         ensures { IsTrue result ↔ (items_of self.now.place self.now.items ≡ Some 0) }
     {
         self.items == 0 && self.place != Place::Top
-    }
-}
-
-/// How many descriptors the frames of a row share together.
-pub(crate) fn descriptors_in(frames: &[OpenContainer]) -> u16
-    ensures { result ≡ shared_in (length frames.now) frames.now }
-{
-    match frames.last() {
-        Some(frame) => frame.last,
-        None => 0,
     }
 }

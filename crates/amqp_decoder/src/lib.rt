@@ -8,6 +8,7 @@ mod described;
 mod frame;
 pub mod laws;
 mod primitives;
+mod row;
 mod terms;
 mod texts;
 

@@ -71,11 +71,8 @@ impl<R: ByteSource> Decoder<R> {
     fn announced(&self) -> u64
         ensures { result ≡ announced self.now }
     {
-        let mut sum = u64::from(self.left().unwrap_or(0));
-        for frame in &self.frames[..self.depth] {
-            sum += u64::from(frame.left.unwrap_or(0));
-        }
-        sum
+        let own = u64::from(self.left().unwrap_or(0));
+        own + self.frames.left_in(self.depth)
     }
 
     // Fills the whole buffer with the next bytes.

@@ -79,7 +79,7 @@ impl<R: ByteSource> Decoder<R> {
             return Err(self.refuse_depth());
         }
         let last = self.top.last;
-        self.frames[self.depth] = self.top;
+        self.frames.set(self.depth, self.top);
         self.depth += 1;
         self.top = OpenContainer {
             items,
@@ -142,10 +142,11 @@ impl<R: ByteSource> Decoder<R> {
     {
         if self.depth < self.nesting {
             let outer = self.top;
-            self.frames[self.depth] = OpenContainer {
+            let around = OpenContainer {
                 left: outer.left.and(Some(0)),
                 ..outer
             };
+            self.frames.set(self.depth, around);
             self.depth += 1;
             self.top = OpenContainer {
                 items: 1,
@@ -210,7 +211,7 @@ impl<R: ByteSource> Decoder<R> {
             return;
         }
         self.depth -= 1;
-        self.top = self.frames[self.depth];
+        self.top = self.frames.get(self.depth);
     }
 
     // Leaves a described value, whose bytes are those of what it stands in.
@@ -227,7 +228,7 @@ impl<R: ByteSource> Decoder<R> {
         self.depth -= 1;
         self.top = OpenContainer {
             left: self.top.left,
-            ..self.frames[self.depth]
+            ..self.frames.get(self.depth)
         };
     }
 }

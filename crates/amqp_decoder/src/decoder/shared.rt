@@ -10,7 +10,7 @@ ghost use Rattle.amqp_decoder.specs.Arrays.{IsFlat};
 ghost use Rattle.amqp_decoder.specs.Steps.{Answers, Goes};
 
 use super::Decoder;
-use crate::frame::{OpenContainer, Place, descriptors_in};
+use crate::frame::{OpenContainer, Place};
 use amqp_wire::{ByteSource, Descriptor, Error, format_code};
 
 impl<R: ByteSource> Decoder<R> {
@@ -62,7 +62,7 @@ impl<R: ByteSource> Decoder<R> {
         ensures err { IfErr result (λ e. (e ≡ Memory) × Answers self.old e self.new) }
         ensures goes { Goes true self.old result self.new }
     {
-        let first = descriptors_in(&self.frames[..self.depth]);
+        let first = self.frames.descriptors_in(self.depth);
         let last = first + descriptors.len() as u16;
         self.top.place = Place::InArray;
         self.top.items = 0;

@@ -18,6 +18,7 @@ invariant_of-self g c =
       c.self.invariant.4,
       subst (IsRoomy c.self.inside.nesting c.self.inside.depth) (sym (open_kept _ _ (limit_of c.self.inside.bytes) n c.self.inside.top (omega arith) front)) c.self.invariant.5,
       c.self.invariant.6,
+      c.self.invariant.7,
     )
 
 pub returns : goal.returns

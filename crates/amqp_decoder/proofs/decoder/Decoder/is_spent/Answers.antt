@@ -1,6 +1,4 @@
-use Rattle.std.proofs.Common.{◌≡◌, rules, Some, None, sym, ap, ◌∙◌, ◌↔◌, IsTrue, subst}
 use Rattle.amqp_wire.specs.Limits.{limit_of}
-use Rattle.amqp_decoder.specs.State.{State, left_in}
 use Rattle.amqp_decoder.proofs.Limits.{is_spent_some, is_spent_none}
 use Rattle.amqp_decoder.proofs.decoder.Decoder.is_spent.Goals as goal
 

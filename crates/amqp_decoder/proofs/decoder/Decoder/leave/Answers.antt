@@ -14,4 +14,4 @@ returns-clause-left g c = λ outer others saved.
     sym (bound_is c.self.inside.top.left limit) ∙ ap (λ (x : State). bound_of x.top) c.self.view_is ∙ c.requires in
     let is = ap (λ o. stack ds (limit_around o limit) d c.self.inside.frames) (sym ended) ∙ ap (λ (x : State). x.saved) c.self.view_is ∙ saved in
     let (top, around) = stack_top ds limit d (d - 1) c.self.inside.frames outer others one is in
-    rw (← c.self.view_is) (same_view _ _ _ _ _ _ _ _ _ _ _ top around)
+    rw (← c.self.view_is, c.get-self-inside.ensures) (same_view _ _ _ _ _ _ _ _ _ _ _ top around)

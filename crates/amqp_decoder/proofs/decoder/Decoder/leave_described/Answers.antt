@@ -9,7 +9,8 @@ pub invariant_of-self : goal.invariant_of-self
 invariant_of-self g c =
     let described : c.self.inside.top.place ≡ InDescribed = ap (λ (st : State). st.top.place) c.self.view_is ∙ c.requires in
     let one : c.self.inside.depth ≡ suc (c.self.inside.depth - 1) = omega arith in
-    let outer = outer_frame _ _ _ _ _ _ one c.self.invariant.1 c.self.invariant.4 in (
+    let outer = outer_frame _ _ _ _ _ _ one c.self.invariant.1 c.self.invariant.4 in
+    rw (c.get.ensures) (
       omega arith,
       outer.0.2,
       omega (arith, outer.0.0, c.self.invariant.2),
@@ -17,6 +18,7 @@ invariant_of-self g c =
       bounded_as _ _ _ _ _ _ (λ e. (e, outer.1.0 described)) outer.1.2,
       inl (omega arith),
       c.self.invariant.6,
+      c.self.invariant.7,
     )
 
 pub returns-clause-left : goal.returns-clause-left
@@ -31,6 +33,6 @@ returns-clause-left g c = λ outer others saved.
     let is = ap (λ (x : State). x.saved) c.self.view_is ∙ saved in
     let (top, around) = stack_top ds (limit_around own limit) d (d - 1) c.self.inside.frames outer others one is in
     let same = around_left _ own limit (frame.1.0 described) in
-    rw (← c.self.view_is) (same_view _ _ _ _ _ _ _ _ _ _ _
+    rw (← c.self.view_is, c.get.ensures) (same_view _ _ _ _ _ _ _ _ _ _ _
     (ap (λ (o : Open). record o { left = left_in own limit; sized = is_sized own }) top)
     (ap (λ z. stack ds z (d - 1) c.self.inside.frames) (sym same) ∙ around))

@@ -11,4 +11,5 @@ invariant_of-self g c = (
   c.self.invariant.4,
   room_less c.self.inside.nesting (limit_of c.self.inside.bytes) c.self.inside.descriptors.items c.self.inside.depth c.self.inside.top _ c.saturating_sub-self-inside.ensures c.self.invariant.5,
   c.self.invariant.6,
+  c.self.invariant.7,
 )
