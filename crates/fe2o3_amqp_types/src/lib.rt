@@ -4,11 +4,12 @@
 
 /// Reading and writing of whole values (Part 1, sections 1.2 to 1.6).
 pub mod codec {
+    pub use amqp_batches::TransparentVec;
     pub use amqp_codec::{
         ByteSource, Canonical, Decoder, Descriptor, Deserialize, DeserializeTerm, Encoder, Error,
         MapKey, Serialize, SerializeTerm, Symbol, kernel,
     };
-    pub use amqp_containers::{Array, TransparentVec};
+    pub use amqp_containers::Array;
     pub use amqp_described::Described;
     pub use amqp_lazy::LazyValue;
     pub use amqp_lengths::term_len;
@@ -27,8 +28,9 @@ pub mod codec {
 
 /// The primitive types (Part 1, section 1.6), and the standard's names of those of std.
 pub mod primitives {
+    pub use amqp_batches::TransparentVec;
     pub use amqp_codec::{Descriptor, Symbol};
-    pub use amqp_containers::{Array, TransparentVec};
+    pub use amqp_containers::Array;
     pub use amqp_described::Described;
     pub use amqp_lazy::LazyValue;
     pub use amqp_maps::OrderedMap;
@@ -72,6 +74,7 @@ pub mod definitions {
 
 /// The types of messaging (Part 3).
 pub mod messaging {
+    pub use amqp_batches::Batch;
     pub use amqp_delivery::{
         Accepted, DeliveryState, Modified, Outcome, Received, Rejected, Released,
     };

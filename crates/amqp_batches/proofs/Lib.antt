@@ -1,0 +1,3 @@
+pub mod WalkSteps
+pub mod RunSteps
+pub mod NoSectionSteps

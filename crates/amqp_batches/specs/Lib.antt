@@ -1,0 +1,14 @@
+pub mod StateLaws
+pub mod Walk
+pub mod WalkLaws
+pub mod WalkReading
+pub mod RunLaws
+pub mod Runs
+pub mod Resuming
+pub mod RowLaws
+pub mod Sections
+pub mod RepeatedSections
+pub mod RunRewriting
+pub mod Transparent
+pub mod Batches
+pub mod NoSections

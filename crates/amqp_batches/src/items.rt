@@ -1,0 +1,26 @@
+//! The sections of which several may stand in a message (Part 3, sections 3.2.6 and 3.2.7).
+ghost use Rattle.amqp_batches.specs.RepeatedSections.{data_section, sequence_section};
+
+use crate::run::BatchItem;
+use amqp_codec::SerializeTerm;
+use amqp_sections::{AmqpSequence, Data};
+
+impl BatchItem for Data {
+    ghost code = { 0x75 };
+
+    fn code() -> u8 {
+        0x75
+    }
+
+    ghost is_section = { data_section };
+}
+
+impl<T: SerializeTerm> BatchItem for AmqpSequence<T> {
+    ghost code = { 0x76 };
+
+    fn code() -> u8 {
+        0x76
+    }
+
+    ghost is_section = { sequence_section };
+}
