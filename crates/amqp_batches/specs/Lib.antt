@@ -12,3 +12,5 @@ pub mod RunRewriting
 pub mod Transparent
 pub mod Batches
 pub mod NoSections
+pub mod GroupTexts
+pub mod SectionGroups

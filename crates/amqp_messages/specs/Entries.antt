@@ -2,38 +2,11 @@
 use Rattle.std.specs.Prelude.{◌≡◌, ◌<◌, ◌≤◌, ℕ, zero, suc, Bool, List, [], ◌++◌, Option, Some, None, option_map, IfSome}
 use Rattle.amqp_model.specs.Term.{Term}
 use Rattle.amqp_model.specs.FieldRules.{SameOption}
-use Rattle.amqp_wire.specs.declared.error.Error.{Error}
-use Rattle.amqp_wire.specs.declared.error.Error.TheVariants.{TooLarge}
-use Rattle.amqp_lookahead.specs.Sections.{IsSectionAhead}
-use Rattle.amqp_encoder.specs.Passes.{row_text}
 use Rattle.amqp_decoder.specs.State.{State}
 use Rattle.amqp_codec.specs.Reading.{Reading}
-use Rattle.amqp_codec.specs.Rewriting.{Rewriting}
-use Rattle.amqp_codec.specs.Written.{AreUnwritable, Writing}
+use Rattle.amqp_batches.specs.GroupTexts.{GroupText, IsSound}
 use Rattle.amqp_messages.specs.Orders.{behind}
 use Rattle.amqp_messages.specs.Groups.{Kind, GroupRead}
-
--- How a group is written and read again: as its `Rewriting`, and its text begins with one of its sections.
-pub record GroupText {G : Type 0} (reading : Reading G) (is_code : ℕ → Type 0) : Type 1 where
-  pub writing : Writing G
-  -- what may stand behind its text
-  pub follows : List ℕ → Type 0
-  pub again : G → G
-  pub kept : G → Type 0
-  pub lasts : G → Type 0
-  pub is_least : Bool
-  pub rewriting : Rewriting reading writing.canons writing.is_value follows again kept lasts is_least
-  pub begins : (g : G) → writing.is_value g → lasts g → (more : List ℕ)
-      → (c : ℕ) × is_code c × IsSectionAhead (row_text (writing.canons g) ++ more) c
-  pub ends : (more : List ℕ) → ((c : ℕ) → is_code c → IsSectionAhead more c → ⊥) → follows more
-
--- Of a group that was read, or that takes the place of one that wasn't there: it is a value, its text is read, as itself where that is
--- kept, and only its size refuses it.
-pub record IsSound {G : Type 0} {reading : Reading G} {is_code : ℕ → Type 0} (t : GroupText reading is_code) (g : G) : Type 0 where
-  pub value : t.writing.is_value g
-  pub lasting : t.lasts g
-  pub own : t.kept g → reading.same (t.again g) g
-  pub large : (e : Error) → AreUnwritable (t.writing.canons g) e → e ≡ TooLarge
 
 -- A kind of group as it is written: where it stands in what was read, how it is read, and its text.
 pub record Entry {M : Type 0} {alike : M → M → Type 0} {weight : M → ℕ} (kind_of : ℕ → Kind M alike weight) : Type 1 where

@@ -23,17 +23,9 @@ use Rattle.amqp_messages.specs.declared.order.Order.TheVariants.{Any, Written}
 use Rattle.amqp_messages.specs.Orders.{behind, further}
 use Rattle.amqp_messages.specs.Groups.{Kind, GroupRead, Shape, Progress, GroupStep}
 use Rattle.amqp_messages.specs.MessageWalk.{message_walk}
-use Rattle.amqp_messages.specs.Entries.{GroupText, IsSound, Entry, Entries, no_more, entry, optional, size, row_of, AreValues, Last}
+use Rattle.amqp_batches.specs.GroupTexts.{IsSound}
+use Rattle.amqp_messages.specs.Entries.{Entry, Entries, no_more, entry, optional, size, row_of, AreValues, Last}
 use Rattle.amqp_messages.specs.Entries.{AreKept, AreSound, AreSame, AreAgain, after, IsClear, Fall}
-
--- a group that was read is sound
-pub read_sound : {G : Type 0} {r : Reading G} {is_code : ℕ → Type 0} (t : GroupText r is_code) (g : G) → IsRead r g → IsSound t g
-read_sound t g h = record {
-  value = t.rewriting.value h.input g h.number h.front;
-  lasting = t.rewriting.lasting h.input g h.number h.front;
-  own = t.rewriting.own h.input g h.number h.front;
-  large = λ e. t.rewriting.large h.input g h.number e h.front;
-}
 
 module _ {M : Type 0} {alike : M → M → Type 0} {weight : M → ℕ} {kind_of : ℕ → Kind M alike weight} where
   -- how many groups there may still be, and in which order, is enough for these

@@ -1,0 +1,4 @@
+pub mod Bodies
+pub mod BodyReading
+pub mod BodyWriting
+pub mod BodyRewriting

@@ -1,0 +1,9 @@
+//! The bodies of messages (Part 3, sections 3.2.6 to 3.2.8).
+#![tactic(auto)]
+
+mod traits;
+
+pub use traits::{
+    AsBodyRef, DeserializableBody, FromBody, FromEmptyBody, IntoBody, SerializableBody,
+    TransposeOption,
+};

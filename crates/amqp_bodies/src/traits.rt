@@ -1,0 +1,100 @@
+//! What can be the body of a message (Part 3, section 3.2).
+ghost use Rattle.std.specs.Prelude.{◌≡◌, ◌⊎◌, IfOk, IfErr, ℕ, Option};
+ghost use Rattle.amqp_wire.specs.Sources.{Tells};
+ghost use Rattle.amqp_wire.specs.declared.error.Error.TheVariants.{Memory, EmptyBody};
+ghost use Rattle.amqp_decoder.specs.Reading.{AnswersRead};
+ghost use Rattle.amqp_decoder.specs.Steps.{Tries};
+ghost use Rattle.amqp_codec.specs.Reading.{Reading};
+ghost use Rattle.amqp_bodies.specs.Bodies.{BodyLaws};
+
+use amqp_codec::Serialize;
+use amqp_decoder::Decoder;
+use amqp_wire::{ByteSource, Error};
+use std::alloc::Global;
+
+/// A section of a message's body, or several that are one. It isn't exported, so no other crate adds one.
+pub trait BodySection {}
+
+/// What can be written as the body of a message.
+pub trait SerializableBody: Serialize + BodySection {}
+
+/// What can be read as the body of a message.
+pub trait DeserializableBody: BodySection + Sized + Drop {
+    // How a group of its sections is read, where a section of a body comes next.
+    ghost group: { Reading Self };
+
+    /// Reads a group of its sections, where a section of a body comes next: one section, or those of one kind that come one after
+    /// another. Another section is `WrongDescriptor`; what a section is refused for comes besides.
+    fn read_group<R: ByteSource>(decoder: &mut Decoder<R>, alloc: Global) -> Result<Self, Error>
+        ensures read { Tells R.remaining → AnswersRead group.takes_memory group.reads group.fault decoder.old result decoder.new }
+        ensures tries { Tries group.takes_memory decoder.old result decoder.new };
+}
+
+/// What takes the place of the body of a message that has none.
+pub trait FromEmptyBody: Sized {
+    // The values that do.
+    ghost empty: { Self → Type 0 };
+
+    /// A value that takes the place of a body that isn't there, or `EmptyBody` if none does. The only other error is `Memory`.
+    fn from_empty_body(alloc: Global) -> Result<Self, Error>
+        ensures value { IfOk result empty }
+        ensures refused { IfErr result (λ e. (e ≡ Memory) ⊎ ((e ≡ EmptyBody) × ((v : Self) → empty v → ⊥))) };
+}
+
+/// What is made of the body of a message that is read.
+pub trait FromBody: FromEmptyBody + Drop {
+    /// As what it is read.
+    type Body: DeserializableBody;
+
+    // The two differ at most in where they lie in memory.
+    ghost same: { Self → Self → Type 0 };
+
+    // The values in it; a value that takes the place of a body that isn't there counts none.
+    ghost count: { Self → ℕ };
+
+    // The value is made of the body.
+    ghost of_body: { Self.Body → Self → Type 0 };
+
+    /// The value that is made of the body. The only error is `Memory`.
+    fn from_body(body: Self::Body, alloc: Global) -> Result<Self, Error>
+        ensures value { IfOk result (λ v. of_body body v) }
+        ensures memory { IfErr result (λ e. e ≡ Memory) };
+
+    ghost lawful: { BodyLaws Self.Body.group Self.FromEmptyBody.empty same count of_body };
+}
+
+/// What can be written as a body of a message.
+pub trait IntoBody {
+    /// As what it is written.
+    type Body: SerializableBody;
+
+    // The body is made of the value.
+    ghost into_gives: { Self → Self.Body → Type 0 };
+
+    /// As a body.
+    fn into_body(self) -> Self::Body
+        ensures { into_gives self result };
+}
+
+/// A body that borrows a value which is written as it.
+pub trait AsBodyRef<'a, T: IntoBody<Body = Self>>: SerializableBody {
+    /// As what the borrowed value is written.
+    type BodyRef: SerializableBody;
+
+    /// As a body.
+    fn as_body_ref(value: &'a T) -> Self::BodyRef;
+}
+
+/// A body that is read as an optional one.
+pub trait TransposeOption<To: FromBody>: BodySection {
+    /// As what it is read.
+    type From: DeserializableBody;
+
+    // What is made of it.
+    ghost transposes: { Self.From → Option To → Type 0 };
+
+    /// The value that is made of the body, or `None` if that is absent. The only error is `Memory`.
+    fn transpose(source: Self::From, alloc: Global) -> Result<Option<To>, Error>
+        ensures value { IfOk result (λ v. transposes source v) }
+        ensures memory { IfErr result (λ e. e ≡ Memory) };
+}
