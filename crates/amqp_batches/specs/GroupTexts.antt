@@ -38,3 +38,17 @@ read_sound t g h = record {
   own = t.rewriting.own h.input g h.number h.front;
   large = λ e. t.rewriting.large h.input g h.number e h.front;
 }
+
+-- The same of more codes.
+abbrev pub widened : {G : Type 0} {r : Reading G} {P Q : ℕ → Type 0} → ((c : ℕ) → P c → Q c) → GroupText r P → GroupText r Q
+widened f t = record {
+  writing = t.writing;
+  follows = t.follows;
+  again = t.again;
+  kept = t.kept;
+  lasts = t.lasts;
+  is_least = t.is_least;
+  rewriting = t.rewriting;
+  begins = λ g i l more. (let b = t.begins g i l more in (b.0, f b.0 b.1, b.2));
+  ends = λ more none. t.ends more (λ c p. none c (f c p));
+}

@@ -22,8 +22,8 @@ sequence_code = record {
   names = (0x53, 0x76 ∷ [], refl, (refl, refl, tt));
 }
 
-pub data_section : {V T : Type 0} {h : Holds V T} {w : Writing T} → IsSection 0x75 (section_writing h data_naming w)
-data_section = record { is_section = data_code; content = _; canon_is = λ v. refl }
+pub data_section : {V T : Type 0} (h : Holds V T) (w : Writing T) → IsSection 0x75 (section_writing h data_naming w)
+data_section h w = record { is_section = data_code; content = _; canon_is = λ v. refl }
 
-pub sequence_section : {V T : Type 0} {h : Holds V T} {w : Writing T} → IsSection 0x76 (section_writing h sequence_naming w)
-sequence_section = record { is_section = sequence_code; content = _; canon_is = λ v. refl }
+pub sequence_section : {V T : Type 0} (h : Holds V T) (w : Writing T) → IsSection 0x76 (section_writing h sequence_naming w)
+sequence_section h w = record { is_section = sequence_code; content = _; canon_is = λ v. refl }

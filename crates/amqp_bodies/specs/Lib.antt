@@ -1,4 +1,4 @@
-pub mod Bodies
 pub mod BodyReading
 pub mod BodyWriting
 pub mod BodyRewriting
+pub mod Bodies

@@ -1,13 +1,14 @@
 //! What can be the body of a message (Part 3, section 3.2).
-ghost use Rattle.std.specs.Prelude.{◌≡◌, ◌⊎◌, IfOk, IfErr, ℕ, Option};
+ghost use Rattle.std.specs.Prelude.{◌≡◌, ◌⊎◌, IfOk, IfErr, ℕ, List, Option};
 ghost use Rattle.amqp_wire.specs.Sources.{Tells};
 ghost use Rattle.amqp_wire.specs.declared.error.Error.TheVariants.{Memory, EmptyBody};
 ghost use Rattle.amqp_decoder.specs.Reading.{AnswersRead};
 ghost use Rattle.amqp_decoder.specs.Steps.{Tries};
 ghost use Rattle.amqp_codec.specs.Reading.{Reading};
-ghost use Rattle.amqp_bodies.specs.Bodies.{BodyLaws};
+ghost use Rattle.amqp_codec.specs.Written.{Writing};
+ghost use Rattle.amqp_bodies.specs.Bodies.{BodyLaws, BodyTie, IsOfNull};
 
-use amqp_codec::Serialize;
+use amqp_codec::{DeserializeTerm, Serialize};
 use amqp_decoder::Decoder;
 use amqp_wire::{ByteSource, Error};
 use std::alloc::Global;
@@ -61,6 +62,38 @@ pub trait FromBody: FromEmptyBody + Drop {
         ensures memory { IfErr result (λ e. e ≡ Memory) };
 
     ghost lawful: { BodyLaws Self.Body.group Self.FromEmptyBody.empty same count of_body };
+}
+
+/// A type of values, of which what takes the place of a body that isn't there is what a null means.
+pub trait FromNull: DeserializeTerm + FromEmptyBody {
+    ghost nulls: { (v : Self) → Self.FromEmptyBody.empty v → IsOfNull Self.DeserializeTerm.term v };
+}
+
+/// What can be both written as the body of a message and made of one that is read.
+pub trait CanonicalBody: FromBody + SerializableBody {
+    // As which body it is written and read.
+    ghost body_of: { Self → Self.Body };
+
+    // How that body is written; what may stand behind its text, what the text is read as, of which bodies that is the body, and of
+    // which it is read at all.
+    ghost body_writing: { Writing Self.Body };
+
+    ghost follows: { List ℕ → Type 0 };
+
+    ghost body_again: { Self.Body → Self.Body };
+
+    ghost body_kept: { Self.Body → Type 0 };
+
+    ghost body_lasts: { Self.Body → Type 0 };
+
+    // What the text of a value is read as.
+    ghost again: { Self → Self };
+
+    /// Does nothing; the laws of the type come with it.
+    fn laws();
+
+    ghost tie: { BodyTie Self.Body.group body_writing follows body_again body_kept body_lasts Self.Serialize.writing
+        Self.FromEmptyBody.empty Self.FromBody.same Self.FromBody.of_body body_of again };
 }
 
 /// What can be written as a body of a message.
