@@ -16,6 +16,7 @@ use Rattle.amqp_sections.specs.declared.amqp_sequence.AmqpSequence.{AmqpSequence
 use Rattle.amqp_sections.specs.declared.amqp_value.AmqpValue.{AmqpValue}
 use Rattle.amqp_batches.specs.declared.transparent_vec.TransparentVec.{TransparentVec}
 use Rattle.amqp_batches.specs.StateLaws.{any_taken}
+use Rattle.amqp_batches.specs.Walk.{IsAtTop}
 use Rattle.amqp_batches.specs.NoSections.{NoSection, no_section_elsewhere, no_section_not_outside}
 use Rattle.amqp_batches.specs.WalkLaws.{no_term}
 use Rattle.amqp_bodies.specs.declared.body.Body.{Body}
@@ -46,11 +47,11 @@ code_of Empty = 0
 
 module _ {T : Type 0} (rv : Reading (AmqpValue T)) (rd : Reading (TransparentVec DataSection))
     (rs : Reading (TransparentVec (AmqpSequence T))) where
-  -- A section of the body's kind comes next, and the group was read.
+  -- At the top level a section of the body's kind comes next, and the group was read.
   abbrev pub BodyReads : State → Body T → State → Type 0
-  BodyReads st (Value v) b = IsSectionAhead st.rest 0x77 × rv.reads st v b
-  BodyReads st (Data v) b = IsSectionAhead st.rest 0x75 × rd.reads st v b
-  BodyReads st (Sequence v) b = IsSectionAhead st.rest 0x76 × rs.reads st v b
+  BodyReads st (Value v) b = IsAtTop st × (IsSectionAhead st.rest 0x77 × rv.reads st v b)
+  BodyReads st (Data v) b = IsAtTop st × (IsSectionAhead st.rest 0x75 × rd.reads st v b)
+  BodyReads st (Sequence v) b = IsAtTop st × (IsSectionAhead st.rest 0x76 × rs.reads st v b)
   BodyReads st Empty b = ⊥
 
   -- Why none is: a container is open; or the group whose section comes next has the fault; or that section is none of a body; or no
@@ -77,9 +78,9 @@ module _ {T : Type 0} (rv : Reading (AmqpValue T)) (rd : Reading (TransparentVec
   count_body Empty = 0
 
   body_ahead : (st : State) (v : Body T) (b : State) → BodyReads st v b → IsSectionAhead st.rest (code_of v)
-  body_ahead st (Value v) b h = h.0
-  body_ahead st (Data v) b h = h.0
-  body_ahead st (Sequence v) b h = h.0
+  body_ahead st (Value v) b h = h.1.0
+  body_ahead st (Data v) b h = h.1.0
+  body_ahead st (Sequence v) b h = h.1.0
   body_ahead st Empty b h = absurd h
 
   pub same_sym : (v w : Body T) → SameBody v w → SameBody w v
@@ -100,9 +101,9 @@ module _ {T : Type 0} (rv : Reading (AmqpValue T)) (rd : Reading (TransparentVec
   body_one st v w a b h k = by_kind v w h k (one_ahead st.rest (code_of v) (code_of w) (body_ahead st v a h) (body_ahead st w b k))
     where
       by_kind : (v w : Body T) → BodyReads st v a → BodyReads st w b → code_of v ≡ code_of w → SameBody v w × AreAlike a b
-      by_kind (Value v) (Value w) h k c = let o = rv.one st v w a b h.1 k.1 in ((o.0, tt, tt), o.1)
-      by_kind (Data v) (Data w) h k c = let o = rd.one st v w a b h.1 k.1 in ((tt, o.0, tt), o.1)
-      by_kind (Sequence v) (Sequence w) h k c = let o = rs.one st v w a b h.1 k.1 in ((tt, tt, o.0), o.1)
+      by_kind (Value v) (Value w) h k c = let o = rv.one st v w a b h.1.1 k.1.1 in ((o.0, tt, tt), o.1)
+      by_kind (Data v) (Data w) h k c = let o = rd.one st v w a b h.1.1 k.1.1 in ((tt, o.0, tt), o.1)
+      by_kind (Sequence v) (Sequence w) h k c = let o = rs.one st v w a b h.1.1 k.1.1 in ((tt, tt, o.0), o.1)
       by_kind Empty w h k c = absurd h
       by_kind v Empty h k c = absurd k
       by_kind (Value v) (Data w) h k c = absurd (omega (arith, c))
@@ -113,42 +114,42 @@ module _ {T : Type 0} (rv : Reading (AmqpValue T)) (rd : Reading (TransparentVec
       by_kind (Sequence v) (Data w) h k c = absurd (omega (arith, c))
 
   pub body_going : (st : State) (v : Body T) (b : State) → BodyReads st v b → st.error ≡ None
-  body_going st (Value v) b h = rv.going st v b h.1
-  body_going st (Data v) b h = rd.going st v b h.1
-  body_going st (Sequence v) b h = rs.going st v b h.1
+  body_going st (Value v) b h = rv.going st v b h.1.1
+  body_going st (Data v) b h = rd.going st v b h.1.1
+  body_going st (Sequence v) b h = rs.going st v b h.1.1
   body_going st Empty b h = absurd h
 
   pub body_counted : (st : State) (v : Body T) (b : State) → st.top.shared ≡ None → BodyReads st v b
       → count_body v + length b.rest ≤ length st.rest
-  body_counted st (Value v) b e h = rv.counted st v b e h.1
-  body_counted st (Data v) b e h = rd.counted st v b e h.1
-  body_counted st (Sequence v) b e h = rs.counted st v b e h.1
+  body_counted st (Value v) b e h = rv.counted st v b e h.1.1
+  body_counted st (Data v) b e h = rd.counted st v b e h.1.1
+  body_counted st (Sequence v) b e h = rs.counted st v b e h.1.1
   body_counted st Empty b e h = absurd h
 
   pub body_taken : (st : State) (v : Body T) (b : State) → BodyReads st v b → Taken true st b
-  body_taken st (Value v) b h = any_taken (rv.taken st v b h.1)
-  body_taken st (Data v) b h = any_taken (rd.taken st v b h.1)
-  body_taken st (Sequence v) b h = any_taken (rs.taken st v b h.1)
+  body_taken st (Value v) b h = any_taken (rv.taken st v b h.1.1)
+  body_taken st (Data v) b h = any_taken (rd.taken st v b h.1.1)
+  body_taken st (Sequence v) b h = any_taken (rs.taken st v b h.1.1)
   body_taken st Empty b h = absurd h
 
   pub body_stays : (st : State) (v : Body T) (b : State) → BodyReads st v b → Stays st b
-  body_stays st (Value v) b h = rv.stays st v b h.1
-  body_stays st (Data v) b h = rd.stays st v b h.1
-  body_stays st (Sequence v) b h = rs.stays st v b h.1
+  body_stays st (Value v) b h = rv.stays st v b h.1.1
+  body_stays st (Data v) b h = rd.stays st v b h.1.1
+  body_stays st (Sequence v) b h = rs.stays st v b h.1.1
   body_stays st Empty b h = absurd h
 
   pub body_looked : (n : ℕ) (st : State) (v : Body T) (b : State) → BodyReads st v b
       → (m : ℕ) × BodyReads (looking n st) v (looking m b)
-  body_looked n st (Value v) b h = let f = rv.looked n st v b h.1 in (f.0, (h.0, f.1))
-  body_looked n st (Data v) b h = let f = rd.looked n st v b h.1 in (f.0, (h.0, f.1))
-  body_looked n st (Sequence v) b h = let f = rs.looked n st v b h.1 in (f.0, (h.0, f.1))
+  body_looked n st (Value v) b h = let f = rv.looked n st v b h.1.1 in (f.0, (h.0, (h.1.0, f.1)))
+  body_looked n st (Data v) b h = let f = rd.looked n st v b h.1.1 in (f.0, (h.0, (h.1.0, f.1)))
+  body_looked n st (Sequence v) b h = let f = rs.looked n st v b h.1.1 in (f.0, (h.0, (h.1.0, f.1)))
   body_looked n st Empty b h = absurd h
 
   pub body_elsewhere : (source : ℕ) (failed : Bool) (st : State) (v : Body T) (b : State) → BodyReads st v b
       → BodyReads (elsewhere source failed st) v (elsewhere source failed b)
-  body_elsewhere source failed st (Value v) b h = (h.0, rv.reads_elsewhere source failed st v b h.1)
-  body_elsewhere source failed st (Data v) b h = (h.0, rd.reads_elsewhere source failed st v b h.1)
-  body_elsewhere source failed st (Sequence v) b h = (h.0, rs.reads_elsewhere source failed st v b h.1)
+  body_elsewhere source failed st (Value v) b h = (h.0, (h.1.0, rv.reads_elsewhere source failed st v b h.1.1))
+  body_elsewhere source failed st (Data v) b h = (h.0, (h.1.0, rd.reads_elsewhere source failed st v b h.1.1))
+  body_elsewhere source failed st (Sequence v) b h = (h.0, (h.1.0, rs.reads_elsewhere source failed st v b h.1.1))
   body_elsewhere source failed st Empty b h = absurd h
 
   pub fault_elsewhere : (source : ℕ) (failed : Bool) (st : State) (e : Error) → BodyFault st e → BodyFault (elsewhere source failed st) e

@@ -28,8 +28,23 @@ IsBodyCode c = (c ≡ 0x75) ⊎ ((c ≡ 0x76) ⊎ (c ≡ 0x77))
 abbrev pub NoBodyFollows : List ℕ → Type 0
 NoBodyFollows more = (c : ℕ) → IsBodyCode c → IsSectionAhead more c → ⊥
 
+-- By what each kind is read as again, and by what holds of each kind.
+abbrev pub each_again : {T : Type 0} → (AmqpValue T → AmqpValue T) → (TransparentVec DataSection → TransparentVec DataSection)
+    → (TransparentVec (AmqpSequence T) → TransparentVec (AmqpSequence T)) → Body T → Body T → Body T
+each_again f g h e (Value v) = Value (f v)
+each_again f g h e (Data v) = Data (g v)
+each_again f g h e (Sequence v) = Sequence (h v)
+each_again f g h e Empty = e
+
+abbrev pub IsEach : {T : Type 0} → (AmqpValue T → Type 0) → (TransparentVec DataSection → Type 0)
+    → (TransparentVec (AmqpSequence T) → Type 0) → Type 0 → Body T → Type 0
+IsEach P Q R E (Value v) = P v
+IsEach P Q R E (Data v) = Q v
+IsEach P Q R E (Sequence v) = R v
+IsEach P Q R E Empty = E
+
 -- the text of a null value begins as one
-null_code : IsSectionCode 0x77
+pub null_code : IsSectionCode 0x77
 null_code = record {
   is_code = (codes "amqp:amqp-value:*", (7, omega arith, refl), inl refl);
   short = refl;
@@ -61,38 +76,29 @@ module _ {T : Type 0} (rv : Reading (AmqpValue T)) (rd : Reading (TransparentVec
     pub text_again : row_text (w.canons again) ≡ row_text null_section
 
   -- it isn't, where null is no value
-  pub unread : EmptyText
+  abbrev pub unread : EmptyText
   unread = record { lasts = ⊥; again = Empty; reads_again = λ l. absurd l; text_again = refl }
 
   module _ (empty : EmptyText) where
     abbrev pub body_again : Body T → Body T
-    body_again (Value v) = Value (tv.again v)
-    body_again (Data v) = Data (td.again v)
-    body_again (Sequence v) = Sequence (ts.again v)
-    body_again Empty = empty.again
+    body_again = each_again tv.again td.again ts.again empty.again
 
     abbrev pub IsBodyKept : Body T → Type 0
-    IsBodyKept (Value v) = tv.kept v
-    IsBodyKept (Data v) = td.kept v
-    IsBodyKept (Sequence v) = ts.kept v
-    IsBodyKept Empty = ⊥
+    IsBodyKept = IsEach tv.kept td.kept ts.kept ⊥
 
     abbrev pub DoesBodyLast : Body T → Type 0
-    DoesBodyLast (Value v) = tv.lasts v
-    DoesBodyLast (Data v) = td.lasts v
-    DoesBodyLast (Sequence v) = ts.lasts v
-    DoesBodyLast Empty = empty.lasts
+    DoesBodyLast = IsEach tv.lasts td.lasts ts.lasts empty.lasts
 
     value_read : (input : List ℕ) (v : AmqpValue T) (n : ℕ) → BeginsWith r input (Value v) n → BeginsWith rv input v n
-    value_read input v n h = record { after = h.after; read = h.read.1; left = h.left }
+    value_read input v n h = record { after = h.after; read = h.read.1.1; left = h.left }
 
     data_read : (input : List ℕ) (v : TransparentVec DataSection) (n : ℕ) → BeginsWith r input (Data v) n
         → BeginsWith (run_reading 0x75 rd) input v n
-    data_read input v n h = record { after = h.after; read = h.read; left = h.left }
+    data_read input v n h = record { after = h.after; read = h.read.1; left = h.left }
 
     sequence_read : (input : List ℕ) (v : TransparentVec (AmqpSequence T)) (n : ℕ) → BeginsWith r input (Sequence v) n
         → BeginsWith (run_reading 0x76 rs) input v n
-    sequence_read input v n h = record { after = h.after; read = h.read; left = h.left }
+    sequence_read input v n h = record { after = h.after; read = h.read.1; left = h.left }
 
     same_canons : (v x : Body T) → SameBody rv rd rs v x → w.canons v ≡ w.canons x
     same_canons (Value v) (Value x) h = tv.rewriting.canons_same v x h.0
@@ -117,13 +123,13 @@ module _ {T : Type 0} (rv : Reading (AmqpValue T)) (rd : Reading (TransparentVec
     reads_again (Value v) more i l f ends =
         let k = tv.rewriting.reads_again v more i l f (tv.ends more (λ c is. ends c (inr (inr is)))) in
         let b = tv.begins v i l more in
-        record { after = k.after; read = (subst (IsSectionAhead (row_text (tv.writing.canons v) ++ more)) b.1 b.2, k.read); left = k.left }
+        record { after = k.after; read = ((refl, refl, refl), (subst (IsSectionAhead (row_text (tv.writing.canons v) ++ more)) b.1 b.2, k.read)); left = k.left }
     reads_again (Data v) more i l f ends =
         let k = td.rewriting.reads_again v more i l f (td.ends more (λ c is. ends c (inl is))) in
-        record { after = k.after; read = k.read; left = k.left }
+        record { after = k.after; read = ((refl, refl, refl), k.read); left = k.left }
     reads_again (Sequence v) more i l f ends =
         let k = ts.rewriting.reads_again v more i l f (ts.ends more (λ c is. ends c (inr (inl is)))) in
-        record { after = k.after; read = k.read; left = k.left }
+        record { after = k.after; read = ((refl, refl, refl), k.read); left = k.left }
     reads_again Empty more i l f ends = empty.reads_again l more ends
 
     text_again : (v : Body T) → w.is_value v → AreWritable (w.canons v) → row_text (w.canons (body_again v)) ≡ row_text (w.canons v)

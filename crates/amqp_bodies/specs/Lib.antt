@@ -1,4 +1,6 @@
+pub mod Bodies
+pub mod SeenReading
 pub mod BodyReading
 pub mod BodyWriting
 pub mod BodyRewriting
-pub mod Bodies
+pub mod BodySections

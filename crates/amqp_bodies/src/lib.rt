@@ -8,6 +8,6 @@ mod traits;
 pub use body::Body;
 
 pub use traits::{
-    AsBodyRef, CanonicalBody, DeserializableBody, FromBody, FromEmptyBody, FromNull, IntoBody,
-    SerializableBody, TransposeOption,
+    AsBodyRef, DeserializableBody, FromBody, FromEmptyBody, IntoBody, SerializableBody,
+    TransposeOption,
 };

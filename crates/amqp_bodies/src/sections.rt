@@ -1,11 +1,12 @@
 //! The sections of a body, and batches of them, as bodies (Part 3, section 3.2).
-ghost use Rattle.std.specs.Prelude.{◌≡◌};
 ghost use Rattle.amqp_codec.specs.TermReading.{reading_of};
 ghost use Rattle.amqp_batches.specs.SectionGroups.{run_reading};
-ghost use Rattle.amqp_bodies.specs.Bodies.{itself, wrapped_empty, wrapped_itself};
+ghost use Rattle.amqp_bodies.specs.Bodies.{itself, no_value};
+ghost use Rattle.amqp_bodies.specs.BodySections.{value_made};
+ghost use Rattle.amqp_bodies.specs.SeenReading.{seen_reading};
 
 use crate::traits::{
-    BodySection, DeserializableBody, FromBody, FromEmptyBody, IntoBody, SerializableBody,
+    BodySection, DeserializableBody, FromBody, FromEmptyBody, SerializableBody,
 };
 use amqp_batches::{Batch, BatchItem, TransparentVec};
 use amqp_codec::{Deserialize, DeserializeTerm, SerializeTerm};
@@ -61,7 +62,7 @@ impl DeserializableBody for Data {
 }
 
 impl<T: BatchItem + DeserializeTerm> DeserializableBody for TransparentVec<T> {
-    ghost group = { run_reading T.code ⟦<TransparentVec<T> as Deserialize>⟧.reading };
+    ghost group = { seen_reading (run_reading T.code ⟦<TransparentVec<T> as Deserialize>⟧.reading) };
 
     fn read_group<R: ByteSource>(
         decoder: &mut Decoder<R>,
@@ -72,4 +73,111 @@ impl<T: BatchItem + DeserializeTerm> DeserializableBody for TransparentVec<T> {
         }
         Batch::deserialize(decoder, alloc)
     }
+}
+
+impl<T: FromEmptyBody> FromEmptyBody for AmqpValue<T> {
+    ghost empties = { record { is = λ v. T.empties.is v.0; test = λ v. T.empties.test v.0; tested = λ v. T.empties.tested v.0 } };
+
+    fn from_empty_body(alloc: Global) -> Result<AmqpValue<T>, Error> {
+        match T::from_empty_body(alloc) {
+            Ok(value) => Ok(AmqpValue(value)),
+            Err(error) => Err(error),
+        }
+    }
+}
+
+impl<T> FromEmptyBody for AmqpSequence<T> {
+    ghost empties = { no_value };
+
+    fn from_empty_body(_alloc: Global) -> Result<AmqpSequence<T>, Error> {
+        Err(Error::EmptyBody)
+    }
+}
+
+impl FromEmptyBody for Data {
+    ghost empties = { no_value };
+
+    fn from_empty_body(_alloc: Global) -> Result<Data, Error> {
+        Err(Error::EmptyBody)
+    }
+}
+
+impl<T> FromEmptyBody for TransparentVec<T> {
+    ghost empties = { no_value };
+
+    fn from_empty_body(_alloc: Global) -> Result<TransparentVec<T>, Error> {
+        Err(Error::EmptyBody)
+    }
+}
+
+impl<T: DeserializeTerm + FromEmptyBody> FromBody for AmqpValue<T> {
+    type Body = AmqpValue<T>;
+
+    ghost made = { value_made T.term T.empties };
+
+    fn from_body(body: AmqpValue<T>, _alloc: Global) -> Result<AmqpValue<T>, Error> {
+        Ok(body)
+    }
+
+    fn read_body<R: ByteSource>(decoder: &mut Decoder<R>, alloc: Global) -> Result<AmqpValue<T>, Error> {
+        <AmqpValue<T> as DeserializableBody>::read_group(decoder, alloc)
+    }
+
+    ghost empty_is = { λ v h. h };
+
+    ghost is_empty = { λ v h. h };
+}
+
+impl<T: DeserializeTerm> FromBody for AmqpSequence<T> {
+    type Body = AmqpSequence<T>;
+
+    ghost made = { itself (reading_of ⟦<AmqpSequence<T> as DeserializeTerm>⟧.term) };
+
+    fn from_body(body: AmqpSequence<T>, _alloc: Global) -> Result<AmqpSequence<T>, Error> {
+        Ok(body)
+    }
+
+    fn read_body<R: ByteSource>(decoder: &mut Decoder<R>, alloc: Global) -> Result<AmqpSequence<T>, Error> {
+        <AmqpSequence<T> as DeserializableBody>::read_group(decoder, alloc)
+    }
+
+    ghost empty_is = { λ v h. h };
+
+    ghost is_empty = { λ v h. h };
+}
+
+impl FromBody for Data {
+    type Body = Data;
+
+    ghost made = { itself (reading_of ⟦<Data as DeserializeTerm>⟧.term) };
+
+    fn from_body(body: Data, _alloc: Global) -> Result<Data, Error> {
+        Ok(body)
+    }
+
+    fn read_body<R: ByteSource>(decoder: &mut Decoder<R>, alloc: Global) -> Result<Data, Error> {
+        <Data as DeserializableBody>::read_group(decoder, alloc)
+    }
+
+    ghost empty_is = { λ v h. h };
+
+    ghost is_empty = { λ v h. h };
+}
+
+impl<T: BatchItem + DeserializeTerm> FromBody for TransparentVec<T> {
+    type Body = TransparentVec<T>;
+
+    ghost made = { itself (seen_reading (run_reading T.code ⟦<TransparentVec<T> as Deserialize>⟧.reading)) };
+
+    fn from_body(body: TransparentVec<T>, _alloc: Global) -> Result<TransparentVec<T>, Error> {
+        Ok(body)
+    }
+
+    fn read_body<R: ByteSource>(decoder: &mut Decoder<R>, alloc: Global) -> Result<TransparentVec<T>, Error> {
+        <TransparentVec<T> as DeserializableBody>::read_group(decoder, alloc)
+    }
+
+    ghost empty_is = { λ v h. h };
+
+    ghost is_empty = { λ v h. h };
 }

@@ -1,14 +1,13 @@
 //! What can be the body of a message (Part 3, section 3.2).
-ghost use Rattle.std.specs.Prelude.{◌≡◌, ◌⊎◌, IfOk, IfErr, ℕ, List, Option};
+ghost use Rattle.std.specs.Prelude.{◌≡◌, ◌⊎◌, IfOk, IfErr, Option};
 ghost use Rattle.amqp_wire.specs.Sources.{Tells};
 ghost use Rattle.amqp_wire.specs.declared.error.Error.TheVariants.{Memory, EmptyBody};
 ghost use Rattle.amqp_decoder.specs.Reading.{AnswersRead};
 ghost use Rattle.amqp_decoder.specs.Steps.{Tries};
 ghost use Rattle.amqp_codec.specs.Reading.{Reading};
-ghost use Rattle.amqp_codec.specs.Written.{Writing};
-ghost use Rattle.amqp_bodies.specs.Bodies.{BodyLaws, BodyTie, IsOfNull};
+ghost use Rattle.amqp_bodies.specs.Bodies.{Empties, Made};
 
-use amqp_codec::{DeserializeTerm, Serialize};
+use amqp_codec::Serialize;
 use amqp_decoder::Decoder;
 use amqp_wire::{ByteSource, Error};
 use std::alloc::Global;
@@ -34,12 +33,12 @@ pub trait DeserializableBody: BodySection + Sized + Drop {
 /// What takes the place of the body of a message that has none.
 pub trait FromEmptyBody: Sized {
     // The values that do.
-    ghost empty: { Self → Type 0 };
+    ghost empties: { Empties Self };
 
     /// A value that takes the place of a body that isn't there, or `EmptyBody` if none does. The only other error is `Memory`.
     fn from_empty_body(alloc: Global) -> Result<Self, Error>
-        ensures value { IfOk result empty }
-        ensures refused { IfErr result (λ e. (e ≡ Memory) ⊎ ((e ≡ EmptyBody) × ((v : Self) → empty v → ⊥))) };
+        ensures value { IfOk result empties.is }
+        ensures refused { IfErr result (λ e. (e ≡ Memory) ⊎ ((e ≡ EmptyBody) × ((v : Self) → empties.is v → ⊥))) };
 }
 
 /// What is made of the body of a message that is read.
@@ -47,53 +46,24 @@ pub trait FromBody: FromEmptyBody + Drop {
     /// As what it is read.
     type Body: DeserializableBody;
 
-    // The two differ at most in where they lie in memory.
-    ghost same: { Self → Self → Type 0 };
-
-    // The values in it; a value that takes the place of a body that isn't there counts none.
-    ghost count: { Self → ℕ };
-
-    // The value is made of the body.
-    ghost of_body: { Self.Body → Self → Type 0 };
+    // How the body is read, and the value made of it, with the laws.
+    ghost made: { Made Self.Body Self };
 
     /// The value that is made of the body. The only error is `Memory`.
     fn from_body(body: Self::Body, alloc: Global) -> Result<Self, Error>
-        ensures value { IfOk result (λ v. of_body body v) }
+        ensures value { IfOk result (λ v. made.of_body body v) }
         ensures memory { IfErr result (λ e. e ≡ Memory) };
 
-    ghost lawful: { BodyLaws Self.Body.group Self.FromEmptyBody.empty same count of_body };
-}
+    /// Reads a group of sections of the body, where a section of a body comes next, as the body's type does.
+    fn read_body<R: ByteSource>(decoder: &mut Decoder<R>, alloc: Global) -> Result<Self::Body, Error>
+        ensures read { Tells R.remaining → AnswersRead made.group.takes_memory made.group.reads made.group.fault decoder.old result
+            decoder.new }
+        ensures tries { Tries made.group.takes_memory decoder.old result decoder.new };
 
-/// A type of values, of which what takes the place of a body that isn't there is what a null means.
-pub trait FromNull: DeserializeTerm + FromEmptyBody {
-    ghost nulls: { (v : Self) → Self.FromEmptyBody.empty v → IsOfNull Self.DeserializeTerm.term v };
-}
+    // The values that take the place of a body that isn't there are those that `from_empty_body` tells of.
+    ghost empty_is: { (v : Self) → Self.FromEmptyBody.empties.is v → made.empty v };
 
-/// What can be both written as the body of a message and made of one that is read.
-pub trait CanonicalBody: FromBody + SerializableBody {
-    // As which body it is written and read.
-    ghost body_of: { Self → Self.Body };
-
-    // How that body is written; what may stand behind its text, what the text is read as, of which bodies that is the body, and of
-    // which it is read at all.
-    ghost body_writing: { Writing Self.Body };
-
-    ghost follows: { List ℕ → Type 0 };
-
-    ghost body_again: { Self.Body → Self.Body };
-
-    ghost body_kept: { Self.Body → Type 0 };
-
-    ghost body_lasts: { Self.Body → Type 0 };
-
-    // What the text of a value is read as.
-    ghost again: { Self → Self };
-
-    /// Does nothing; the laws of the type come with it.
-    fn laws();
-
-    ghost tie: { BodyTie Self.Body.group body_writing follows body_again body_kept body_lasts Self.Serialize.writing
-        Self.FromEmptyBody.empty Self.FromBody.same Self.FromBody.of_body body_of again };
+    ghost is_empty: { (v : Self) → made.empty v → Self.FromEmptyBody.empties.is v };
 }
 
 /// What can be written as a body of a message.

@@ -4,3 +4,7 @@ pub mod MessageWalk
 pub mod OrderLaws
 pub mod Entries
 pub mod MessageRewriting
+pub mod Next
+pub mod Messages
+pub mod MessageTypes
+pub mod MessageWriting

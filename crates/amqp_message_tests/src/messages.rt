@@ -1,0 +1,50 @@
+//! Messages in any order and in the standard's (Part 3, section 3.2). The digits are written out by the standard's tables.
+use crate::parts::{read_and_written, refused};
+use amqp_batches::Batch;
+use amqp_bodies::Body;
+use amqp_codec::Error;
+use amqp_messages::Message;
+use amqp_sections::{AmqpSequence, Data};
+use amqp_values::Value;
+use std::test::Fail;
+
+#[test]
+fn a_message_without_a_body(rt: HostRuntime) -> Result<(), Fail> {
+    let alloc = rt.alloc();
+    read_and_written::<Message<Body<Value>>>("0053704500537345", "005370450053734500537740", 0, alloc)?;
+    read_and_written::<Message<Body<Value>>>("0053734500537045", "005370450053734500537740", 0, alloc)?;
+    read_and_written::<Message<Body<Value>>>("", "00537740", 0, alloc)?;
+    refused::<Message<Data>>("0053704500537345", Error::EmptyBody, alloc)
+}
+
+#[test]
+fn a_run_is_one_group(rt: HostRuntime) -> Result<(), Fail> {
+    let alloc = rt.alloc();
+    let text = "00537045005375a009010203040506070809005375a009010203040506070809005375a009010203040506070809005378c10100";
+    read_and_written::<Message<Batch<Data>>>(text, text, 0, alloc)?;
+    let text = "00537045005376c00703540154025403005376c00703540454055406005376c00703540754085409";
+    read_and_written::<Message<Batch<AmqpSequence<Value>>>>(text, text, 0, alloc)?;
+    read_and_written::<Message<Data>>("005375a00161005375a00162", "005375a00162", 0, alloc)
+}
+
+#[test]
+fn the_last_of_a_kind_counts_and_seven_groups_are_read(rt: HostRuntime) -> Result<(), Fail> {
+    let alloc = rt.alloc();
+    read_and_written::<Message<Body<Value>>>(
+        "005370450053704500537045005370450053704500537045005370c0020141ff",
+        "005370c002014100537740",
+        1,
+        alloc,
+    )?;
+    refused::<Message<Body<Value>>>("005370450053704500537045005370450053704500537045ff", Error::NotSection, alloc)?;
+    refused::<Message<Body<Value>>>("0053704500532445", Error::NotSection, alloc)?;
+    refused::<Message<Body<Value>>>("005370450053", Error::Cut, alloc)?;
+    refused::<Message<Data>>("00537741", Error::WrongDescriptor, alloc)
+}
+
+#[test]
+fn all_seven_sections(rt: HostRuntime) -> Result<(), Fail> {
+    let alloc = rt.alloc();
+    let text = "005370c0020141005371c10802a3036b65795201005372c10a02a3046b657932a10176005373c003015301005374c10702a102736e540100537741005378c10100";
+    read_and_written::<Message<Body<Value>>>(text, text, 0, alloc)
+}

@@ -1,0 +1,130 @@
+//! Reading messages, group by group (Part 3, section 3.2).
+ghost use Rattle.amqp_wire.specs.Sources.{Tells};
+ghost use Rattle.amqp_decoder.specs.Reading.{AnswersRead};
+ghost use Rattle.amqp_decoder.specs.Steps.{Tries};
+ghost use Rattle.std.specs.Prelude.{true};
+ghost use Rattle.amqp_batches.specs.Walk.{Walked, WalkFault};
+ghost use Rattle.amqp_batches.specs.WalkReading.{walk_reading};
+ghost use Rattle.amqp_messages.specs.MessageWalk.{message_walk};
+ghost use Rattle.amqp_messages.specs.MessageTypes.{shape_of};
+ghost use Rattle.amqp_messages.specs.declared.order.Order.TheVariants.{Any};
+
+use crate::message::{Groups, Message};
+use crate::next::next_section;
+use crate::order::Order;
+use amqp_bodies::FromBody;
+use amqp_codec::{Deserialize, DeserializeTerm};
+use amqp_decoder::Decoder;
+use amqp_map_sections::{
+    ApplicationProperties, DeliveryAnnotations, Footer, MessageAnnotations,
+};
+use amqp_message_headers::{Header, Properties};
+use amqp_wire::{ByteSource, Error};
+use std::alloc::Global;
+
+impl<S: Drop> Groups<S> {
+    // Nothing was read.
+    fn new() -> Groups<S> {
+        Groups {
+            header: None,
+            delivery_annotations: None,
+            message_annotations: None,
+            properties: None,
+            application_properties: None,
+            body: None,
+            footer: None,
+        }
+    }
+
+    // Reads the group that begins with the section of this code; it takes the place of an earlier one of its kind.
+    fn read_group<B: FromBody<Body = S>, R: ByteSource>(
+        &mut self,
+        code: u8,
+        decoder: &mut Decoder<R>,
+        alloc: Global,
+    ) -> Result<(), Error> {
+        match code {
+            0x70 => self.header = Some(Header::read_value(decoder, alloc)?),
+            0x71 => {
+                self.delivery_annotations = Some(DeliveryAnnotations::read_value(decoder, alloc)?)
+            }
+            0x72 => {
+                self.message_annotations = Some(MessageAnnotations::read_value(decoder, alloc)?)
+            }
+            0x73 => self.properties = Some(Properties::read_value(decoder, alloc)?),
+            0x74 => {
+                self.application_properties =
+                    Some(ApplicationProperties::read_value(decoder, alloc)?)
+            }
+            0x78 => self.footer = Some(Footer::read_value(decoder, alloc)?),
+            _ => self.body = Some(B::read_body(decoder, alloc)?),
+        }
+        Ok(())
+    }
+
+    // The message, or `EmptyBody` if there is no body and no value takes its place.
+    fn finish<B: FromBody<Body = S>>(self, alloc: Global) -> Result<Message<B>, Error> {
+        let Groups {
+            header,
+            delivery_annotations,
+            message_annotations,
+            properties,
+            application_properties,
+            body,
+            footer,
+        } = self;
+        let body = match body {
+            Some(body) => B::from_body(body, alloc)?,
+            None => B::from_empty_body(alloc)?,
+        };
+        Ok(Message {
+            header,
+            delivery_annotations,
+            message_annotations,
+            properties,
+            application_properties,
+            body,
+            footer,
+        })
+    }
+}
+
+/// Reads a message whose sections stand in this order.
+pub fn read_message<B: FromBody, R: ByteSource>(
+    order: Order,
+    decoder: &mut Decoder<R>,
+    alloc: Global,
+) -> Result<Message<B>, Error>
+    ensures read { Tells R.remaining → AnswersRead true (Walked (message_walk order (shape_of ⟦<Header as DeserializeTerm>⟧.term ⟦<DeliveryAnnotations as DeserializeTerm>⟧.term
+        ⟦<MessageAnnotations as DeserializeTerm>⟧.term ⟦<Properties as DeserializeTerm>⟧.term
+        ⟦<ApplicationProperties as DeserializeTerm>⟧.term ⟦<Footer as DeserializeTerm>⟧.term B.made)))
+        (WalkFault (message_walk order (shape_of ⟦<Header as DeserializeTerm>⟧.term ⟦<DeliveryAnnotations as DeserializeTerm>⟧.term
+        ⟦<MessageAnnotations as DeserializeTerm>⟧.term ⟦<Properties as DeserializeTerm>⟧.term
+        ⟦<ApplicationProperties as DeserializeTerm>⟧.term ⟦<Footer as DeserializeTerm>⟧.term B.made))) decoder.old result decoder.new }
+    ensures tries { Tries true decoder.old result decoder.new }
+{
+    let mut groups: Groups<B::Body> = Groups::new();
+    let mut left = 7;
+    while let Some(code) = next_section(order, left, decoder, alloc)? {
+        groups.read_group::<B, R>(code, decoder, alloc)?;
+        left = order.further(left, code);
+    }
+    match groups.finish(alloc) {
+        Ok(message) => Ok(message),
+        Err(error) => Err(decoder.refuse(error)),
+    }
+}
+
+/// In any order, and each kind several times: the last of each kind counts. After the seventh group the rest is left.
+impl<B: FromBody> Deserialize for Message<B> {
+    ghost reading = { walk_reading (message_walk Any (shape_of ⟦<Header as DeserializeTerm>⟧.term ⟦<DeliveryAnnotations as DeserializeTerm>⟧.term
+        ⟦<MessageAnnotations as DeserializeTerm>⟧.term ⟦<Properties as DeserializeTerm>⟧.term
+        ⟦<ApplicationProperties as DeserializeTerm>⟧.term ⟦<Footer as DeserializeTerm>⟧.term B.made)) };
+
+    fn deserialize<R: ByteSource>(
+        decoder: &mut Decoder<R>,
+        alloc: Global,
+    ) -> Result<Message<B>, Error> {
+        read_message(Order::Any, decoder, alloc)
+    }
+}
