@@ -14,7 +14,7 @@ fn a_batch_is_the_longest_run(rt: HostRuntime) -> Result<(), Fail> {
     read_and_written::<Batch<Data>>("005375a00161005375a00162", "005375a00161005375a00162", 0, alloc)?;
     read_and_written::<Batch<Data>>("005375a00161005378c10100", "005375a00161", 6, alloc)?;
     read_and_written::<Batch<Data>>("005375a001610053", "005375a00161", 2, alloc)?;
-    read_and_written::<Batch<AmqpSequence<Value>>>("00537645005376c0040254015402", "00537645005376c0040254015402", 0, alloc)
+    read_and_written::<Batch<AmqpSequence<Value>>>("00537645005376c0050254015402", "00537645005376c0050254015402", 0, alloc)
 }
 
 #[test]

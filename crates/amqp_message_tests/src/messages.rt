@@ -1,11 +1,13 @@
 //! Messages in any order and in the standard's (Part 3, section 3.2). The digits are written out by the standard's tables.
 use crate::parts::{read_and_written, refused};
 use amqp_batches::Batch;
-use amqp_bodies::Body;
+use amqp_bodies::{Body, FromBody};
 use amqp_codec::Error;
-use amqp_messages::Message;
+use amqp_messages::{Message, Strict};
+use amqp_read_write::from_slice_counted;
 use amqp_sections::{AmqpSequence, Data};
 use amqp_values::Value;
+use std::alloc::Global;
 use std::test::Fail;
 
 #[test]
@@ -47,4 +49,38 @@ fn all_seven_sections(rt: HostRuntime) -> Result<(), Fail> {
     let alloc = rt.alloc();
     let text = "005370c0020141005371c10802a3036b65795201005372c10a02a3046b657932a10176005373c003015301005374c10702a102736e540100537741005378c10100";
     read_and_written::<Message<Body<Value>>>(text, text, 0, alloc)
+}
+
+// The 65 bytes of a message that has each section.
+const WHOLE: &str = "005370c0020141005371c10802a3036b65795201005372c10a02a3046b657932a10176005373c003015301005374c10702a102736e540100537741005378c10100";
+
+fn strict_length<B: FromBody>(digits: &str, alloc: Global) -> Result<usize, Fail> {
+    let input = hex::decode(alloc, digits)?;
+    let (_message, len): (Strict<B>, usize) = from_slice_counted(input.as_slice(), alloc)?;
+    Ok(len)
+}
+
+#[test]
+fn strict_messages(rt: HostRuntime) -> Result<(), Fail> {
+    let alloc = rt.alloc();
+    assert_eq!(rt; strict_length::<Body<Value>>(WHOLE, alloc)?, 65);
+    assert_eq!(rt; strict_length::<Body<Value>>("0053704500537345", alloc)?, 8);
+    assert_eq!(rt; strict_length::<Batch<Data>>("005375a00161005375a00162", alloc)?, 12);
+    Ok(())
+}
+
+#[test]
+fn what_is_misplaced(rt: HostRuntime) -> Result<(), Fail> {
+    let alloc = rt.alloc();
+    refused::<Strict<Body<Value>>>("0053734500537045", Error::Misplaced, alloc)?;
+    refused::<Strict<Body<Value>>>("0053704500537045", Error::Misplaced, alloc)?;
+    refused::<Strict<Body<Value>>>("00537045ff", Error::NotSection, alloc)?;
+    refused::<Strict<Data>>("005375a00161005375a00162", Error::Misplaced, alloc)?;
+    refused::<Strict<Body<Value>>>("00537741005375a00161", Error::Misplaced, alloc)?;
+    let mut input = String::from_str(alloc, WHOLE)?;
+    input.push_str("00")?;
+    refused::<Strict<Body<Value>>>(&input, Error::Cut, alloc)?;
+    let mut input = String::from_str(alloc, WHOLE)?;
+    input.push_str("ff")?;
+    refused::<Strict<Body<Value>>>(&input, Error::NotSection, alloc)
 }

@@ -9,6 +9,7 @@ use Rattle.amqp_message_headers.specs.declared.header.Header.{Header}
 use Rattle.amqp_message_headers.specs.declared.properties.Properties.{Properties}
 use Rattle.amqp_bodies.specs.Bodies.{Made}
 use Rattle.amqp_messages.specs.declared.message.Message.{Message}
+use Rattle.amqp_messages.specs.declared.read.Strict.{Strict}
 use Rattle.amqp_messages.specs.declared.message.Groups.{Groups}
 use Rattle.amqp_messages.specs.Groups.{Shape}
 use Rattle.amqp_messages.specs.Messages.{message_shape}
@@ -26,3 +27,6 @@ shape_of h d m p a f made =
       body = made.group;
       footer = reading_of f;
     }) made.empty made.same made.count made.of_body made.laws
+
+abbrev pub message_in : {B : Type 0} → Strict B → Message B
+message_in v = v.0

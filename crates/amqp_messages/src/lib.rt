@@ -9,4 +9,4 @@ mod write;
 
 pub use message::Message;
 pub use order::Order;
-pub use read::read_message;
+pub use read::{Strict, read_message};

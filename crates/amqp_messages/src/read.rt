@@ -4,10 +4,10 @@ ghost use Rattle.amqp_decoder.specs.Reading.{AnswersRead};
 ghost use Rattle.amqp_decoder.specs.Steps.{Tries};
 ghost use Rattle.std.specs.Prelude.{true};
 ghost use Rattle.amqp_batches.specs.Walk.{Walked, WalkFault};
-ghost use Rattle.amqp_batches.specs.WalkReading.{walk_reading};
+ghost use Rattle.amqp_batches.specs.WalkReading.{walk_reading, reading_via};
 ghost use Rattle.amqp_messages.specs.MessageWalk.{message_walk};
-ghost use Rattle.amqp_messages.specs.MessageTypes.{shape_of};
-ghost use Rattle.amqp_messages.specs.declared.order.Order.TheVariants.{Any};
+ghost use Rattle.amqp_messages.specs.MessageTypes.{shape_of, message_in};
+ghost use Rattle.amqp_messages.specs.declared.order.Order.TheVariants.{Any, Written};
 
 use crate::message::{Groups, Message};
 use crate::next::next_section;
@@ -126,5 +126,23 @@ impl<B: FromBody> Deserialize for Message<B> {
         alloc: Global,
     ) -> Result<Message<B>, Error> {
         read_message(Order::Any, decoder, alloc)
+    }
+}
+
+/// A message that is read strictly.
+#[derive(Debug, PartialEq, Eq, Drop)]
+pub struct Strict<B>(pub Message<B>);
+
+/// In the standard's order, each kind at most once, to the end of the input: another section is `Misplaced`.
+impl<B: FromBody> Deserialize for Strict<B> {
+    ghost reading = { reading_via (walk_reading (message_walk Written (shape_of ⟦<Header as DeserializeTerm>⟧.term ⟦<DeliveryAnnotations as DeserializeTerm>⟧.term
+        ⟦<MessageAnnotations as DeserializeTerm>⟧.term ⟦<Properties as DeserializeTerm>⟧.term
+        ⟦<ApplicationProperties as DeserializeTerm>⟧.term ⟦<Footer as DeserializeTerm>⟧.term B.made))) message_in };
+
+    fn deserialize<R: ByteSource>(
+        decoder: &mut Decoder<R>,
+        alloc: Global,
+    ) -> Result<Strict<B>, Error> {
+        Ok(Strict(read_message(Order::Written, decoder, alloc)?))
     }
 }

@@ -51,7 +51,7 @@ pub returns-in_err-deserialize-in-Some-eq117-clause-read : goal.returns-in_err-d
 returns-in_err-deserialize-in-Some-eq117-clause-read g c tells =
     let u = g.T.DeserializeTerm.term in
     let k = c.in_ok-peek_section.ensures.read tells in
-    let a = ahead_here _ _ _ 0x75 k (c.in-Some-eq117.is ∙ ap Some c.in-Some-eq117.field-0-is) in
+    let a = ahead_here _ _ _ 0x75 k (c.in-Some-eq117.is ∙ ap Some c.in-Some-eq117.field-0-test) in
     let p =
     err_from_is_err_and c.from_residual-in_err-deserialize-in-Some-eq117.result
     c.from_residual-in_err-deserialize-in-Some-eq117.ensures.1 in
@@ -72,7 +72,7 @@ pub returns-in_err-deserialize-in-Some-eq118-clause-read : goal.returns-in_err-d
 returns-in_err-deserialize-in-Some-eq118-clause-read g c tells =
     let u = g.T.DeserializeTerm.term in
     let k = c.in_ok-peek_section.ensures.read tells in
-    let a = ahead_here _ _ _ 0x76 k (c.in-Some-eq118.is ∙ ap Some c.in-Some-eq118.field-0-is) in
+    let a = ahead_here _ _ _ 0x76 k (c.in-Some-eq118.is ∙ ap Some c.in-Some-eq118.field-0-test) in
     let p =
     err_from_is_err_and c.from_residual-in_err-deserialize-in-Some-eq118.result
     c.from_residual-in_err-deserialize-in-Some-eq118.ensures.1 in
@@ -93,7 +93,7 @@ pub returns-in_err-read_value-in-Some-eq119-clause-read : goal.returns-in_err-re
 returns-in_err-read_value-in-Some-eq119-clause-read g c tells =
     let u = g.T.DeserializeTerm.term in
     let k = c.in_ok-peek_section.ensures.read tells in
-    let a = ahead_here _ _ _ 0x77 k (c.in-Some-eq119.is ∙ ap Some c.in-Some-eq119.field-0-is) in
+    let a = ahead_here _ _ _ 0x77 k (c.in-Some-eq119.is ∙ ap Some c.in-Some-eq119.field-0-test) in
     let p =
     err_from_is_err_and c.from_residual-in_err-read_value-in-Some-eq119.result
     c.from_residual-in_err-read_value-in-Some-eq119.ensures.1 in
@@ -117,7 +117,7 @@ returns-in_ok-deserialize-in-Some-eq117-clause-read g c tells =
     group_read (bodies u) _ _ _ (Data c.in_ok-deserialize-in-Some-eq117.field-0) _ k (
       top_here _ _ _ k,
       (
-        ahead_here _ _ _ 0x75 k (c.in-Some-eq117.is ∙ ap Some c.in-Some-eq117.field-0-is),
+        ahead_here _ _ _ 0x75 k (c.in-Some-eq117.is ∙ ap Some c.in-Some-eq117.field-0-test),
         c.in_ok-deserialize-in-Some-eq117.ensures.read tells,
       ),
     )
@@ -129,7 +129,7 @@ returns-in_ok-deserialize-in-Some-eq118-clause-read g c tells =
     group_read (bodies u) _ _ _ (Sequence c.in_ok-deserialize-in-Some-eq118.field-0) _ k (
       top_here _ _ _ k,
       (
-        ahead_here _ _ _ 0x76 k (c.in-Some-eq118.is ∙ ap Some c.in-Some-eq118.field-0-is),
+        ahead_here _ _ _ 0x76 k (c.in-Some-eq118.is ∙ ap Some c.in-Some-eq118.field-0-test),
         c.in_ok-deserialize-in-Some-eq118.ensures.read tells,
       ),
     )
