@@ -1,10 +1,10 @@
 -- What is read behind a look at the section that comes next.
-use Rattle.std.proofs.Common.{◌≡◌, inl, inr, ℕ, Bool, true, false, Option, Some, None, ◌⊎◌, refl, sym, ap, ◌∙◌, subst}
+use Rattle.std.proofs.Common.{◌≡◌, inl, inr, ℕ, Bool, true, false, not, Option, Some, None, Result, Ok, Err, ◌⊎◌, refl, sym, ap, ◌∙◌, subst}
 use Rattle.amqp_wire.specs.declared.error.Error.{Error}
 use Rattle.amqp_lookahead.specs.Sections.{IsSectionAhead}
 use Rattle.amqp_decoder.specs.State.{State}
 use Rattle.amqp_decoder.specs.Steps.{IsExcused, RefusesBy}
-use Rattle.amqp_decoder.specs.Reading.{RefusesRead}
+use Rattle.amqp_decoder.specs.Reading.{RefusesRead, AnswersRead}
 use Rattle.amqp_decoder.specs.Sections.{NotTop, PeeksSection}
 use Rattle.amqp_decoder.proofs.Steps.{answered_later, first_kept}
 use Rattle.amqp_codec.specs.Reading.{Reading, looking, AreAlike}
@@ -26,6 +26,10 @@ pub none_here : (st : State) (o : Option ℕ) (here : State) (c : ℕ) → Peeks
     → IsSectionAhead here.rest c → ⊥
 none_here st o here c p n h =
     let a = p.answer c in n (a.1 (subst (λ b. IsSectionAhead b c) (alike_rest st here (peeked_alike st o here p)) h))
+
+pub no_section_here : (st : State) (o : Option ℕ) (here : State) → PeeksSection st o here → o ≡ None → (c : ℕ)
+    → IsSectionAhead here.rest c → ⊥
+no_section_here st o here p i c h = none_here st o here c p (λ e. (let z = sym i ∙ e in absurd (cc))) h
 
 module _ {V : Type 0} (r : Reading V) where
   abbrev Refuses : State → Error → State → Type 0
@@ -86,3 +90,21 @@ module _ {V : Type 0} (r : Reading V) where
   pub group_read : (st : State) (o : Option ℕ) (here : State) (v : V) (b : State) → PeeksSection st o here → r.reads here v b
       → SeenReads r st v b
   group_read st o here v b k h = record { seen = here; alike = peeked_alike st o here k; read = h }
+
+  -- it was read, or refused, behind the look
+  pub group_answered : (p : State → V → State → Type 0) (f : State → Error → Type 0) (st : State) (o : Option ℕ) (here : State)
+      (x : Result V Error) (new : State) → PeeksSection st o here → r.takes_memory ≡ true → ((e : Error) → f here e → r.fault here e)
+      → ((v : V) (b : State) → p here v b → r.reads here v b) → (NoneStands p here → NoneStands r.reads here)
+      → AnswersRead true p f here x new → AnswersRead r.takes_memory (SeenReads r) (SeenFault r) st x new
+  group_answered p f st o here (Ok v) new k takes named reads none h = group_read st o here v new k (reads v new h)
+  group_answered p f st o here (Err e) new k takes named reads none h =
+      group_refused p f st o here e new k (λ _. takes) (named e) none h
+
+-- what a comparison of codes that aren't equal tells
+pub was_false : (b : Bool) → true ≡ not b → false ≡ b
+was_false true h = sym h
+was_false false h = refl
+
+pub was_true : (b : Bool) → false ≡ not b → true ≡ b
+was_true true h = refl
+was_true false h = sym h

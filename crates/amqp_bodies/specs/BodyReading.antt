@@ -85,17 +85,17 @@ module _ {T : Type 0} (rv : Reading (AmqpValue T)) (rd : Reading (TransparentVec
 
   pub same_sym : (v w : Body T) → SameBody v w → SameBody w v
   same_sym v w h = (
-      option_sym rv.same rv.same_sym (value_in v) (value_in w) h.0,
-      option_sym rd.same rd.same_sym (data_in v) (data_in w) h.1,
-      option_sym rs.same rs.same_sym (sequence_in v) (sequence_in w) h.2,
-    )
+    option_sym rv.same rv.same_sym (value_in v) (value_in w) h.0,
+    option_sym rd.same rd.same_sym (data_in v) (data_in w) h.1,
+    option_sym rs.same rs.same_sym (sequence_in v) (sequence_in w) h.2,
+  )
 
   pub same_trans : (v w x : Body T) → SameBody v w → SameBody w x → SameBody v x
   same_trans v w x h k = (
-      option_trans rv.same rv.same_trans (value_in v) (value_in w) (value_in x) h.0 k.0,
-      option_trans rd.same rd.same_trans (data_in v) (data_in w) (data_in x) h.1 k.1,
-      option_trans rs.same rs.same_trans (sequence_in v) (sequence_in w) (sequence_in x) h.2 k.2,
-    )
+    option_trans rv.same rv.same_trans (value_in v) (value_in w) (value_in x) h.0 k.0,
+    option_trans rd.same rd.same_trans (data_in v) (data_in w) (data_in x) h.1 k.1,
+    option_trans rs.same rs.same_trans (sequence_in v) (sequence_in w) (sequence_in x) h.2 k.2,
+  )
 
   pub body_one : (st : State) (v w : Body T) (a b : State) → BodyReads st v a → BodyReads st w b → SameBody v w × AreAlike a b
   body_one st v w a b h k = by_kind v w h k (one_ahead st.rest (code_of v) (code_of w) (body_ahead st v a h) (body_ahead st w b k))

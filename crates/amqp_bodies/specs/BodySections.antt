@@ -46,9 +46,9 @@ module _ {T : Type 0} (uv : TermType (AmqpValue T)) (ud : TermType DataSection) 
   module _ {wv : Writing (AmqpValue T)} {wd : Writing DataSection} {ws : Writing (AmqpSequence T)} (sv : IsSection 0x77 wv)
       (sd : IsSection 0x75 wd) (ss : IsSection 0x76 ws) (av : Agreement uv wv) (ad : Agreement ud wd) (as_ : Agreement us ws) where
     pub any_body_rewrites :
-      Rewriting (body_reading (reading_of uv) (batch_reading 0x75 (reading_of ud)) (batch_reading 0x76 (reading_of us)))
-      (body_writing wv (batch_writing wd) (batch_writing ws)).canons (body_writing wv (batch_writing wd) (batch_writing ws)).is_value
-      NoBodyFollows again_as_body IsSome IsReadAsBody false
+        Rewriting (body_reading (reading_of uv) (batch_reading 0x75 (reading_of ud)) (batch_reading 0x76 (reading_of us)))
+        (body_writing wv (batch_writing wd) (batch_writing ws)).canons (body_writing wv (batch_writing wd) (batch_writing ws)).is_value
+        NoBodyFollows again_as_body IsSome IsReadAsBody false
     any_body_rewrites =
         let tv = section_text 0x77 sv av in
         let td = batch_text 0x75 sd ad in

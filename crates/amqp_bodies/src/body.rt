@@ -14,9 +14,7 @@ ghost use Rattle.amqp_bodies.specs.BodyReading.{body_reading};
 ghost use Rattle.amqp_bodies.specs.SeenReading.{seen_reading, seen_rewrites};
 ghost use Rattle.amqp_bodies.specs.BodyWriting.{body_writing};
 
-use crate::traits::{
-    BodySection, DeserializableBody, FromBody, FromEmptyBody, SerializableBody,
-};
+use crate::traits::{BodySection, DeserializableBody, FromBody, FromEmptyBody, SerializableBody};
 use amqp_batches::{Batch, no_section};
 use amqp_codec::{Canonical, Deserialize, DeserializeTerm, Serialize, SerializeTerm};
 use amqp_decoder::Decoder;
@@ -105,7 +103,10 @@ impl<T: SerializeTerm> SerializableBody for Body<T> {}
 impl<T: DeserializeTerm> DeserializableBody for Body<T> {
     ghost group = { ⟦<Body<T> as Deserialize>⟧.reading };
 
-    fn read_group<R: ByteSource>(decoder: &mut Decoder<R>, alloc: Global) -> Result<Body<T>, Error> {
+    fn read_group<R: ByteSource>(
+        decoder: &mut Decoder<R>,
+        alloc: Global,
+    ) -> Result<Body<T>, Error> {
         Body::deserialize(decoder, alloc)
     }
 }

@@ -6,7 +6,6 @@ mod sections;
 mod traits;
 
 pub use body::Body;
-
 pub use traits::{
     AsBodyRef, DeserializableBody, FromBody, FromEmptyBody, IntoBody, SerializableBody,
     TransposeOption,

@@ -5,9 +5,7 @@ ghost use Rattle.amqp_bodies.specs.Bodies.{itself, no_value};
 ghost use Rattle.amqp_bodies.specs.BodySections.{value_made};
 ghost use Rattle.amqp_bodies.specs.SeenReading.{seen_reading};
 
-use crate::traits::{
-    BodySection, DeserializableBody, FromBody, FromEmptyBody, SerializableBody,
-};
+use crate::traits::{BodySection, DeserializableBody, FromBody, FromEmptyBody, SerializableBody};
 use amqp_batches::{Batch, BatchItem, TransparentVec};
 use amqp_codec::{Deserialize, DeserializeTerm, SerializeTerm};
 use amqp_decoder::Decoder;
@@ -119,7 +117,10 @@ impl<T: DeserializeTerm + FromEmptyBody> FromBody for AmqpValue<T> {
         Ok(body)
     }
 
-    fn read_body<R: ByteSource>(decoder: &mut Decoder<R>, alloc: Global) -> Result<AmqpValue<T>, Error> {
+    fn read_body<R: ByteSource>(
+        decoder: &mut Decoder<R>,
+        alloc: Global,
+    ) -> Result<AmqpValue<T>, Error> {
         <AmqpValue<T> as DeserializableBody>::read_group(decoder, alloc)
     }
 
@@ -137,7 +138,10 @@ impl<T: DeserializeTerm> FromBody for AmqpSequence<T> {
         Ok(body)
     }
 
-    fn read_body<R: ByteSource>(decoder: &mut Decoder<R>, alloc: Global) -> Result<AmqpSequence<T>, Error> {
+    fn read_body<R: ByteSource>(
+        decoder: &mut Decoder<R>,
+        alloc: Global,
+    ) -> Result<AmqpSequence<T>, Error> {
         <AmqpSequence<T> as DeserializableBody>::read_group(decoder, alloc)
     }
 
@@ -173,7 +177,10 @@ impl<T: BatchItem + DeserializeTerm> FromBody for TransparentVec<T> {
         Ok(body)
     }
 
-    fn read_body<R: ByteSource>(decoder: &mut Decoder<R>, alloc: Global) -> Result<TransparentVec<T>, Error> {
+    fn read_body<R: ByteSource>(
+        decoder: &mut Decoder<R>,
+        alloc: Global,
+    ) -> Result<TransparentVec<T>, Error> {
         <TransparentVec<T> as DeserializableBody>::read_group(decoder, alloc)
     }
 

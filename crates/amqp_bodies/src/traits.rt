@@ -55,7 +55,10 @@ pub trait FromBody: FromEmptyBody + Drop {
         ensures memory { IfErr result (λ e. e ≡ Memory) };
 
     /// Reads a group of sections of the body, where a section of a body comes next, as the body's type does.
-    fn read_body<R: ByteSource>(decoder: &mut Decoder<R>, alloc: Global) -> Result<Self::Body, Error>
+    fn read_body<R: ByteSource>(
+        decoder: &mut Decoder<R>,
+        alloc: Global,
+    ) -> Result<Self::Body, Error>
         ensures read { Tells R.remaining → AnswersRead made.group.takes_memory made.group.reads made.group.fault decoder.old result
             decoder.new }
         ensures tries { Tries made.group.takes_memory decoder.old result decoder.new };

@@ -11,10 +11,20 @@ use std::test::Fail;
 fn a_batch_is_the_longest_run(rt: HostRuntime) -> Result<(), Fail> {
     let alloc = rt.alloc();
     read_and_written::<Batch<Data>>("", "", 0, alloc)?;
-    read_and_written::<Batch<Data>>("005375a00161005375a00162", "005375a00161005375a00162", 0, alloc)?;
+    read_and_written::<Batch<Data>>(
+        "005375a00161005375a00162",
+        "005375a00161005375a00162",
+        0,
+        alloc,
+    )?;
     read_and_written::<Batch<Data>>("005375a00161005378c10100", "005375a00161", 6, alloc)?;
     read_and_written::<Batch<Data>>("005375a001610053", "005375a00161", 2, alloc)?;
-    read_and_written::<Batch<AmqpSequence<Value>>>("00537645005376c0050254015402", "00537645005376c0050254015402", 0, alloc)
+    read_and_written::<Batch<AmqpSequence<Value>>>(
+        "00537645005376c0050254015402",
+        "00537645005376c0050254015402",
+        0,
+        alloc,
+    )
 }
 
 #[test]
@@ -28,7 +38,12 @@ fn a_section_that_has_begun_is_whole(rt: HostRuntime) -> Result<(), Fail> {
 fn a_body_is_one_group(rt: HostRuntime) -> Result<(), Fail> {
     let alloc = rt.alloc();
     read_and_written::<Body<Value>>("0053774100537742", "00537741", 4, alloc)?;
-    read_and_written::<Body<Value>>("005375a00161005375a00162", "005375a00161005375a00162", 0, alloc)?;
+    read_and_written::<Body<Value>>(
+        "005375a00161005375a00162",
+        "005375a00161005375a00162",
+        0,
+        alloc,
+    )?;
     read_and_written::<Body<Value>>("005376450053764500537545", "0053764500537645", 4, alloc)?;
     refused::<Body<Value>>("00537045", Error::WrongDescriptor, alloc)?;
     refused::<Body<Value>>("", Error::Cut, alloc)?;

@@ -13,8 +13,18 @@ use std::test::Fail;
 #[test]
 fn a_message_without_a_body(rt: HostRuntime) -> Result<(), Fail> {
     let alloc = rt.alloc();
-    read_and_written::<Message<Body<Value>>>("0053704500537345", "005370450053734500537740", 0, alloc)?;
-    read_and_written::<Message<Body<Value>>>("0053734500537045", "005370450053734500537740", 0, alloc)?;
+    read_and_written::<Message<Body<Value>>>(
+        "0053704500537345",
+        "005370450053734500537740",
+        0,
+        alloc,
+    )?;
+    read_and_written::<Message<Body<Value>>>(
+        "0053734500537045",
+        "005370450053734500537740",
+        0,
+        alloc,
+    )?;
     read_and_written::<Message<Body<Value>>>("", "00537740", 0, alloc)?;
     refused::<Message<Data>>("0053704500537345", Error::EmptyBody, alloc)
 }
@@ -22,7 +32,8 @@ fn a_message_without_a_body(rt: HostRuntime) -> Result<(), Fail> {
 #[test]
 fn a_run_is_one_group(rt: HostRuntime) -> Result<(), Fail> {
     let alloc = rt.alloc();
-    let text = "00537045005375a009010203040506070809005375a009010203040506070809005375a009010203040506070809005378c10100";
+    let text =
+        "00537045005375a009010203040506070809005375a009010203040506070809005375a009010203040506070809005378c10100";
     read_and_written::<Message<Batch<Data>>>(text, text, 0, alloc)?;
     let text = "00537045005376c00703540154025403005376c00703540454055406005376c00703540754085409";
     read_and_written::<Message<Batch<AmqpSequence<Value>>>>(text, text, 0, alloc)?;
@@ -38,7 +49,11 @@ fn the_last_of_a_kind_counts_and_seven_groups_are_read(rt: HostRuntime) -> Resul
         1,
         alloc,
     )?;
-    refused::<Message<Body<Value>>>("005370450053704500537045005370450053704500537045ff", Error::NotSection, alloc)?;
+    refused::<Message<Body<Value>>>(
+        "005370450053704500537045005370450053704500537045ff",
+        Error::NotSection,
+        alloc,
+    )?;
     refused::<Message<Body<Value>>>("0053704500532445", Error::NotSection, alloc)?;
     refused::<Message<Body<Value>>>("005370450053", Error::Cut, alloc)?;
     refused::<Message<Data>>("00537741", Error::WrongDescriptor, alloc)
@@ -47,12 +62,14 @@ fn the_last_of_a_kind_counts_and_seven_groups_are_read(rt: HostRuntime) -> Resul
 #[test]
 fn all_seven_sections(rt: HostRuntime) -> Result<(), Fail> {
     let alloc = rt.alloc();
-    let text = "005370c0020141005371c10802a3036b65795201005372c10a02a3046b657932a10176005373c003015301005374c10702a102736e540100537741005378c10100";
+    let text =
+        "005370c0020141005371c10802a3036b65795201005372c10a02a3046b657932a10176005373c003015301005374c10702a102736e540100537741005378c10100";
     read_and_written::<Message<Body<Value>>>(text, text, 0, alloc)
 }
 
 // The 65 bytes of a message that has each section.
-const WHOLE: &str = "005370c0020141005371c10802a3036b65795201005372c10a02a3046b657932a10176005373c003015301005374c10702a102736e540100537741005378c10100";
+const WHOLE: &str =
+    "005370c0020141005371c10802a3036b65795201005372c10a02a3046b657932a10176005373c003015301005374c10702a102736e540100537741005378c10100";
 
 fn strict_length<B: FromBody>(digits: &str, alloc: Global) -> Result<usize, Fail> {
     let input = hex::decode(alloc, digits)?;
@@ -65,7 +82,10 @@ fn strict_messages(rt: HostRuntime) -> Result<(), Fail> {
     let alloc = rt.alloc();
     assert_eq!(rt; strict_length::<Body<Value>>(WHOLE, alloc)?, 65);
     assert_eq!(rt; strict_length::<Body<Value>>("0053704500537345", alloc)?, 8);
-    assert_eq!(rt; strict_length::<Batch<Data>>("005375a00161005375a00162", alloc)?, 12);
+    assert_eq!(rt;
+        strict_length::<Batch<Data>>("005375a00161005375a00162", alloc)?,
+        12
+    );
     Ok(())
 }
 

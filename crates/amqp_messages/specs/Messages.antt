@@ -140,14 +140,14 @@ module _ {S : Type 0} (r : Readings S) where
 
   pub alike_sym : (m n : Groups S) → AreAlike m n → AreAlike n m
   alike_sym m n l = (
-      option_sym r.header.same r.header.same_sym m.header n.header l.0,
-      option_sym r.delivery_annotations.same r.delivery_annotations.same_sym m.delivery_annotations n.delivery_annotations l.1,
-      option_sym r.message_annotations.same r.message_annotations.same_sym m.message_annotations n.message_annotations l.2,
-      option_sym r.properties.same r.properties.same_sym m.properties n.properties l.3,
-      option_sym r.application_properties.same r.application_properties.same_sym m.application_properties n.application_properties l.4,
-      option_sym r.body.same r.body.same_sym m.body n.body l.5,
-      option_sym r.footer.same r.footer.same_sym m.footer n.footer l.6,
-    )
+    option_sym r.header.same r.header.same_sym m.header n.header l.0,
+    option_sym r.delivery_annotations.same r.delivery_annotations.same_sym m.delivery_annotations n.delivery_annotations l.1,
+    option_sym r.message_annotations.same r.message_annotations.same_sym m.message_annotations n.message_annotations l.2,
+    option_sym r.properties.same r.properties.same_sym m.properties n.properties l.3,
+    option_sym r.application_properties.same r.application_properties.same_sym m.application_properties n.application_properties l.4,
+    option_sym r.body.same r.body.same_sym m.body n.body l.5,
+    option_sym r.footer.same r.footer.same_sym m.footer n.footer l.6,
+  )
 
   module _ {B : Type 0} (empty : B → Type 0) (same : B → B → Type 0) (count : B → ℕ) (of_body : S → B → Type 0)
       (laws : BodyLaws r.body empty same count of_body) where
@@ -183,28 +183,28 @@ module _ {S : Type 0} (r : Readings S) where
 
     pub same_sym : (v w : Message B) → SameMessage v w → SameMessage w v
     same_sym v w h = (
-        option_sym r.header.same r.header.same_sym v.header w.header h.0,
-        option_sym r.delivery_annotations.same r.delivery_annotations.same_sym v.delivery_annotations w.delivery_annotations h.1,
-        option_sym r.message_annotations.same r.message_annotations.same_sym v.message_annotations w.message_annotations h.2,
-        option_sym r.properties.same r.properties.same_sym v.properties w.properties h.3,
-        option_sym r.application_properties.same r.application_properties.same_sym v.application_properties w.application_properties h.4,
-        laws.same_sym v.body w.body h.5,
-        option_sym r.footer.same r.footer.same_sym v.footer w.footer h.6,
-      )
+      option_sym r.header.same r.header.same_sym v.header w.header h.0,
+      option_sym r.delivery_annotations.same r.delivery_annotations.same_sym v.delivery_annotations w.delivery_annotations h.1,
+      option_sym r.message_annotations.same r.message_annotations.same_sym v.message_annotations w.message_annotations h.2,
+      option_sym r.properties.same r.properties.same_sym v.properties w.properties h.3,
+      option_sym r.application_properties.same r.application_properties.same_sym v.application_properties w.application_properties h.4,
+      laws.same_sym v.body w.body h.5,
+      option_sym r.footer.same r.footer.same_sym v.footer w.footer h.6,
+    )
 
     pub same_trans : (v w x : Message B) → SameMessage v w → SameMessage w x → SameMessage v x
     same_trans v w x h k = (
-        option_trans r.header.same r.header.same_trans v.header w.header x.header h.0 k.0,
-        option_trans r.delivery_annotations.same r.delivery_annotations.same_trans v.delivery_annotations w.delivery_annotations
-            x.delivery_annotations h.1 k.1,
-        option_trans r.message_annotations.same r.message_annotations.same_trans v.message_annotations w.message_annotations
-            x.message_annotations h.2 k.2,
-        option_trans r.properties.same r.properties.same_trans v.properties w.properties x.properties h.3 k.3,
-        option_trans r.application_properties.same r.application_properties.same_trans v.application_properties w.application_properties
-            x.application_properties h.4 k.4,
-        laws.same_trans v.body w.body x.body h.5 k.5,
-        option_trans r.footer.same r.footer.same_trans v.footer w.footer x.footer h.6 k.6,
-      )
+      option_trans r.header.same r.header.same_trans v.header w.header x.header h.0 k.0,
+      option_trans r.delivery_annotations.same r.delivery_annotations.same_trans v.delivery_annotations w.delivery_annotations
+          x.delivery_annotations h.1 k.1,
+      option_trans r.message_annotations.same r.message_annotations.same_trans v.message_annotations w.message_annotations
+          x.message_annotations h.2 k.2,
+      option_trans r.properties.same r.properties.same_trans v.properties w.properties x.properties h.3 k.3,
+      option_trans r.application_properties.same r.application_properties.same_trans v.application_properties w.application_properties
+          x.application_properties h.4 k.4,
+      laws.same_trans v.body w.body x.body h.5 k.5,
+      option_trans r.footer.same r.footer.same_trans v.footer w.footer x.footer h.6 k.6,
+    )
 
     one_body : (a b : Option S) (v w : B) → SameOption r.body.same a b → IsBodyOf a v → IsBodyOf b w → same v w
     one_body None None v w h e f = laws.one_empty v w e f
@@ -218,17 +218,17 @@ module _ {S : Type 0} (r : Readings S) where
 
     pub made_one : (m n : Groups S) (v w : Message B) → AreAlike m n → IsMadeOf m v → IsMadeOf n w → SameMessage v w
     made_one m n v w l f g = (
-        same_as r.header.same m.header n.header v.header w.header f.0 g.0 l.0,
-        same_as r.delivery_annotations.same m.delivery_annotations n.delivery_annotations v.delivery_annotations w.delivery_annotations
-            f.1 g.1 l.1,
-        same_as r.message_annotations.same m.message_annotations n.message_annotations v.message_annotations w.message_annotations
-            f.2 g.2 l.2,
-        same_as r.properties.same m.properties n.properties v.properties w.properties f.3 g.3 l.3,
-        same_as r.application_properties.same m.application_properties n.application_properties v.application_properties
-            w.application_properties f.4 g.4 l.4,
-        one_body m.body n.body v.body w.body l.5 f.5 g.5,
-        same_as r.footer.same m.footer n.footer v.footer w.footer f.6 g.6 l.6,
-      )
+      same_as r.header.same m.header n.header v.header w.header f.0 g.0 l.0,
+      same_as r.delivery_annotations.same m.delivery_annotations n.delivery_annotations v.delivery_annotations w.delivery_annotations
+          f.1 g.1 l.1,
+      same_as r.message_annotations.same m.message_annotations n.message_annotations v.message_annotations w.message_annotations
+          f.2 g.2 l.2,
+      same_as r.properties.same m.properties n.properties v.properties w.properties f.3 g.3 l.3,
+      same_as r.application_properties.same m.application_properties n.application_properties v.application_properties
+          w.application_properties f.4 g.4 l.4,
+      one_body m.body n.body v.body w.body l.5 f.5 g.5,
+      same_as r.footer.same m.footer n.footer v.footer w.footer f.6 g.6 l.6,
+    )
 
     pub made_counted : (m : Groups S) (v : Message B) → IsMadeOf m v → count_message v ≤ weight m
     made_counted m v f =

@@ -1,7 +1,5 @@
 //! Messages: the sections that are there, and the body (Part 3, section 3.2).
-use amqp_map_sections::{
-    ApplicationProperties, DeliveryAnnotations, Footer, MessageAnnotations,
-};
+use amqp_map_sections::{ApplicationProperties, DeliveryAnnotations, Footer, MessageAnnotations};
 use amqp_message_headers::{Header, Properties};
 
 /// A message (Part 3, section 3.2): its body, and the other sections that are there.

@@ -15,9 +15,7 @@ use crate::order::Order;
 use amqp_bodies::FromBody;
 use amqp_codec::{Deserialize, DeserializeTerm};
 use amqp_decoder::Decoder;
-use amqp_map_sections::{
-    ApplicationProperties, DeliveryAnnotations, Footer, MessageAnnotations,
-};
+use amqp_map_sections::{ApplicationProperties, DeliveryAnnotations, Footer, MessageAnnotations};
 use amqp_message_headers::{Header, Properties};
 use amqp_wire::{ByteSource, Error};
 use std::alloc::Global;
@@ -53,8 +51,9 @@ impl<S: Drop> Groups<S> {
             }
             0x73 => self.properties = Some(Properties::read_value(decoder, alloc)?),
             0x74 => {
-                self.application_properties =
-                    Some(ApplicationProperties::read_value(decoder, alloc)?)
+                self.application_properties = Some(ApplicationProperties::read_value(
+                    decoder, alloc,
+                )?)
             }
             0x78 => self.footer = Some(Footer::read_value(decoder, alloc)?),
             _ => self.body = Some(B::read_body(decoder, alloc)?),

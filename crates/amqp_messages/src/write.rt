@@ -4,9 +4,7 @@ ghost use Rattle.amqp_messages.specs.MessageWriting.{message_writing};
 use crate::message::Message;
 use amqp_bodies::SerializableBody;
 use amqp_codec::{Encoder, Error, Serialize};
-use amqp_map_sections::{
-    ApplicationProperties, DeliveryAnnotations, Footer, MessageAnnotations,
-};
+use amqp_map_sections::{ApplicationProperties, DeliveryAnnotations, Footer, MessageAnnotations};
 use amqp_message_headers::{Header, Properties};
 
 // Writes a section that may be absent, of which nothing is written then.

@@ -1,6 +1,7 @@
 use Rattle.std.proofs.Common.{◌≡◌, ℕ, ap, ◌∙◌, sym, true, false, refl, Some, None, Vec, Global}
 use Rattle.std.proofs.lemmas.Result.{err_from_is_err_and}
 use Rattle.amqp_wire.specs.declared.error.Error.TheVariants.{WrongDescriptor}
+use Rattle.amqp_lookahead.proofs.SectionsAhead.{one_ahead}
 use Rattle.amqp_codec.specs.Reading.{Reading}
 use Rattle.amqp_codec.specs.TermReading.{reading_of}
 use Rattle.amqp_codec.specs.TermType.{TermType}
@@ -14,11 +15,12 @@ use Rattle.amqp_sections.specs.declared.amqp_sequence.AmqpSequence.{AmqpSequence
 use Rattle.amqp_sections.specs.declared.amqp_value.AmqpValue.{AmqpValue}
 use Rattle.amqp_batches.specs.declared.transparent_vec.TransparentVec.{TransparentVec}
 use Rattle.amqp_batches.specs.Batches.{batch_reading}
+use Rattle.amqp_batches.specs.NoSections.{NoSection}
 use Rattle.amqp_bodies.specs.declared.body.Body.{Body}
 use Rattle.amqp_bodies.specs.declared.body.Body.TheVariants.{Data, Sequence, Value}
 use Rattle.amqp_bodies.specs.BodyReading.{body_reading, not_top, in_data as in_data_fault, in_sequence as in_sequence_fault}
 use Rattle.amqp_bodies.specs.BodyReading.{in_value as in_value_fault, other_section, not_section}
-use Rattle.amqp_bodies.proofs.PeekSteps.{peek_refused, group_refused, kept_refused, group_read, top_here, ahead_here, none_here}
+use Rattle.amqp_bodies.proofs.PeekSteps.{peek_refused, group_refused, kept_refused, group_read, top_here, ahead_here, no_section_here}
 use Rattle.amqp_bodies.proofs.BodySteps.{body_top, only_data, only_sequence, only_value, no_body}
 use Rattle.amqp_bodies.proofs.body.BodyDeserialize.deserialize.Goals as goal
 
@@ -135,7 +137,19 @@ returns-in_ok-deserialize-in-Some-eq118-clause-read g c tells =
     )
 
 pub returns-in-Some-clause-read : goal.returns-in-Some-clause-read
-returns-in-Some-clause-read g c tells = ?
+returns-in-Some-clause-read g c tells =
+    let u = g.T.DeserializeTerm.term in
+    let k = c.in_ok-peek_section.ensures.read tells in
+    let a = ahead_here _ _ _ c.in-Some._code k c.in-Some.is in
+    let t = c.in-Some._code-test in
+    kept_refused (bodies u) _ _ _ WrongDescriptor _ _ k (other_section a t.0.0.1 t.0.1 t.1 refl)
+    (no_body (values u) datas (sequences u) _ (λ h. t.0.0.1 (one_ahead _ c.in-Some._code 0x75 a h))
+    (λ h. t.0.1 (one_ahead _ c.in-Some._code 0x76 a h)) (λ h. t.1 (one_ahead _ c.in-Some._code 0x77 a h))) c.refuse.ensures.first
 
 pub returns-in-None-clause-read : goal.returns-in-None-clause-read
-returns-in-None-clause-read g c tells = ?
+returns-in-None-clause-read g c tells =
+    let u = g.T.DeserializeTerm.term in
+    let k = c.in_ok-peek_section.ensures.read tells in
+    let none = no_section_here _ _ _ k c.in-None.is in
+    group_refused (bodies u) (λ st (none : Unit {0}) b. ⊥) NoSection _ _ _ _ _ k (λ _. refl) (not_section none)
+    (λ _. no_body (values u) datas (sequences u) _ (none 0x75) (none 0x76) (none 0x77)) (c.no_section.ensures.read tells)

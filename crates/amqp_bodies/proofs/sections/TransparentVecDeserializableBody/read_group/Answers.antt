@@ -1,10 +1,12 @@
 use Rattle.std.proofs.Common.{◌≡◌, ◌∙◌, sym, true, false, refl, Some}
 use Rattle.std.proofs.lemmas.Result.{err_from_is_err_and}
+use Rattle.amqp_wire.specs.declared.error.Error.TheVariants.{WrongDescriptor}
 use Rattle.amqp_codec.specs.TermReading.{reading_of}
 use Rattle.amqp_codec.proofs.Tries.{taking_some, refused_more, tries_behind}
 use Rattle.amqp_batches.specs.Batches.{batch_reading}
-use Rattle.amqp_batches.specs.SectionGroups.{run_reading, not_top, other_section}
-use Rattle.amqp_bodies.proofs.PeekSteps.{peek_refused, kept_refused, none_here}
+use Rattle.amqp_batches.specs.SectionGroups.{run_reading, not_top, in_run, other_section}
+use Rattle.amqp_batches.proofs.RunSteps.{code_is, code_is_not}
+use Rattle.amqp_bodies.proofs.PeekSteps.{peek_refused, kept_refused, group_answered, ahead_here, none_here, was_false, was_true}
 use Rattle.amqp_bodies.proofs.sections.TransparentVecDeserializableBody.read_group.Goals as goal
 
 pub returns-in_err-peek_section-clause-read : goal.returns-in_err-peek_section-clause-read
@@ -20,10 +22,21 @@ returns-in_err-peek_section-clause-tries g c =
     rw (p.1, p.2) (refused_more false true c.args.decoder.now _ _ (taking_some _) c.in_err-peek_section.ensures.tries)
 
 pub returns-then-ne-clause-read : goal.returns-then-ne-clause-read
-returns-then-ne-clause-read g c tells = ?
+returns-then-ne-clause-read g c tells =
+    let code = g.T.BatchItem.code in
+    let r = batch_reading code (reading_of g.T.DeserializeTerm.term) in
+    let k = c.in_ok-peek_section.ensures.read tells in
+    let none = none_here _ _ _ code k (code_is_not _ _ _ c.code.ensures (was_false _ c.if-ne.ensures)) in
+    kept_refused (run_reading code r) _ _ _ WrongDescriptor _ _ k (other_section none refl) (λ v b h. none h.0) c.refuse.ensures.first
 
 pub returns-clause-read : goal.returns-clause-read
-returns-clause-read g c tells = ?
+returns-clause-read g c tells =
+    let code = g.T.BatchItem.code in
+    let r = batch_reading code (reading_of g.T.DeserializeTerm.term) in
+    let k = c.in_ok-peek_section.ensures.read tells in
+    let a = ahead_here _ _ _ code k (code_is _ _ _ c.code.ensures (was_true _ c.if-ne.ensures)) in
+    group_answered (run_reading code r) r.reads r.fault _ _ _ _ _ k refl (λ e f. in_run a f) (λ v b h. (a, h)) (λ n v b h. n v b h.1)
+    (c.deserialize.ensures.read tells)
 
 pub returns-clause-tries : goal.returns-clause-tries
 returns-clause-tries g c =
