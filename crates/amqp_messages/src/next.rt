@@ -1,10 +1,10 @@
 //! Which section of a message comes next (Part 3, section 3.2).
-ghost use Rattle.std.specs.Prelude.{◌≡◌};
+ghost use Rattle.std.specs.Prelude.{◌≡◌, true, false};
 ghost use Rattle.amqp_wire.specs.Sources.{Tells};
 ghost use Rattle.amqp_decoder.specs.Reading.{AnswersRead};
 ghost use Rattle.amqp_decoder.specs.Steps.{Passes};
 ghost use Rattle.amqp_messages.specs.Next.{FindsNext, NextFault};
-ghost use Rattle.amqp_messages.specs.Orders.{behind, further};
+ghost use Rattle.amqp_messages.specs.Orders.{behind, further, IsFull};
 
 use crate::order::Order;
 use amqp_batches::no_section;
@@ -24,6 +24,17 @@ fn behind(code: u8) -> u8
 }
 
 impl Order {
+    // No further group is looked for.
+    fn is_full(self, left: u8) -> bool
+        ensures full { result ≡ true → IsFull self left }
+        ensures open { result ≡ false → IsFull self left → ⊥ }
+    {
+        match self {
+            Order::Any => left == 0,
+            Order::Written => false,
+        }
+    }
+
     // How many groups there may still be behind one whose section has this code.
     pub(crate) fn further(self, left: u8, code: u8) -> u8
         ensures { result ≡ further self left code }
@@ -46,7 +57,12 @@ pub(crate) fn next_section<R: ByteSource>(
     ensures read { Tells R.remaining → AnswersRead true (FindsNext order left) (NextFault order left) decoder.old result decoder.new }
     ensures tries { Passes true decoder.old result decoder.new }
 {
-    if order == Order::Any && left == 0 || decoder.at_end()? {
+    let full = order.is_full(left);
+    if full {
+        return Ok(None);
+    }
+    let ended = decoder.at_end()?;
+    if ended {
         return Ok(None);
     }
     let Some(code) = decoder.peek_section()? else {
