@@ -1,1 +1,2 @@
 pub mod NextSteps
+pub mod MessageSteps
