@@ -12,12 +12,13 @@ use Rattle.amqp_decoder.proofs.Steps.{answered_later}
 use Rattle.amqp_codec.specs.Reading.{AreAlike}
 use Rattle.amqp_codec.specs.RefusalLaws.{NoneStands, or_else}
 use Rattle.amqp_batches.specs.StateLaws.{alike_stays, alike_rest, alike_trans}
-use Rattle.amqp_batches.specs.Walk.{IsAtTop, Walk, Walked, WalkFault, not_top, in_step}
+use Rattle.amqp_batches.specs.Walk.{IsAtTop, Walk, Steps, Walked, WalkFault, not_top, in_step}
 use Rattle.amqp_batches.specs.WalkLaws.{steps_top}
-use Rattle.amqp_batches.proofs.WalkSteps.{SoFar, so_far_stays, none_walked, step_made, step_refused, finished}
+use Rattle.amqp_batches.proofs.WalkSteps.{SoFar, so_far_stays, none_walked, step_made, step_refused, finished, ran_out, unmade}
 use Rattle.amqp_messages.specs.declared.order.Order.{Order}
+use Rattle.amqp_messages.specs.declared.order.Order.TheVariants.{Any, Written}
 use Rattle.amqp_messages.specs.Orders.{further, IsFull}
-use Rattle.amqp_messages.specs.Groups.{GroupRead, Shape, Progress, GroupStep, GroupFault, in_group, misplaced, not_section}
+use Rattle.amqp_messages.specs.Groups.{GroupRead, Shape, Progress, AreAllRead, in_group, misplaced, not_section}
 use Rattle.amqp_messages.specs.MessageWalk.{message_walk}
 use Rattle.amqp_messages.specs.Next as next
 use Rattle.amqp_messages.specs.Next.{FindsNext, full, at_end, section, NextFault}
@@ -124,3 +125,45 @@ module _ {M V : Type 0} (o : Order) (s : Shape M V) where
       subst (λ z. GroupRead (s.kind_of z) here n.part x.part b) same k.fills in
       none g.group b g.read))
       (λ d. elim d [ inl k ↦ f.looked k | inr z ↦ (let y = ap length (sym f.ahead.split ∙ z) in absurd (cc)) ]) r
+
+  -- Everything was read.
+  pub record IsDone (m : Progress M) (mid here : State) : Type 0 where
+    pub top : IsAtTop mid
+    pub alike : AreAlike mid here
+    pub done : AreAllRead o s m here.rest
+
+  not_full : (left : ℕ) → left ≡ 7 → IsFull o left → ⊥
+  not_full left e f = by_order o f
+    where
+      by_order : (o : Order) → IsFull o left → ⊥
+      by_order Any f = omega (arith, e, f)
+      by_order Written f = f
+
+  full_top : (st : State) (m : Progress M) (mid : State) → SoFar w st m mid → IsFull o m.left → IsAtTop mid
+  full_top st m mid h f =
+      let t = steps_top w h.number st w.blank m h.last (λ z. not_full m.left (left_is z) f) h.steps in
+      let k = so_far_stays w st m mid h in (k.error ∙ t.0, k.place ∙ t.1, k.saved ∙ t.2)
+    where
+      left_is : h.number ≡ 0 → m.left ≡ 7
+      left_is z =
+          let x : Steps w 0 st w.blank m h.last = subst (λ n. Steps w n st w.blank m h.last) z h.steps in
+          ap (λ (q : Progress M). q.left) x.0
+
+  pub found_none : (st : State) (m : Progress M) (mid here : State) → SoFar w st m mid → FindsNext o m.left mid None here → IsDone m mid here
+  found_none st m mid here h (full f i j) =
+      record { top = full_top st m mid h f; alike = subst (AreAlike mid) (sym j) refl; done = inl f }
+  found_none st m mid here h (at_end t r i a) = record { top = t; alike = a; done = inr (alike_rest mid here a ∙ r) }
+  found_none st m mid here h (section t f a p i l) = absurd (cc)
+
+  -- the message is made
+  pub message_made : (st : State) (m : Progress M) (mid here : State) (v : V) → SoFar w st m mid → IsDone m mid here → s.finish m.part v
+      → Walked w st v here
+  message_made st m mid here v h d f = finished w st m mid here v h d.top d.alike d.done f
+
+  -- or there is a reason why it isn't
+  pub message_refused : (st : State) (m : Progress M) (mid here : State) (error e : Error) (new : State) → SoFar w st m mid
+      → IsDone m mid here → (error ≡ Memory) ⊎ s.unfinished m.part error → RefusesBy error here e new → Refuses st e new
+  message_refused st m mid here error e new h d (inl i) refused =
+      ran_out w st m mid here e new refl h d.top (alike_stays mid here d.alike) (subst (λ z. RefusesBy z here e new) i refused)
+  message_refused st m mid here error e new h d (inr u) refused =
+      unmade w st m mid here error e new h d.top d.alike d.done u refused
