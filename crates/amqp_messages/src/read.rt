@@ -2,11 +2,12 @@
 ghost use Rattle.amqp_wire.specs.Sources.{Tells};
 ghost use Rattle.amqp_decoder.specs.Reading.{AnswersRead};
 ghost use Rattle.amqp_decoder.specs.Steps.{Tries};
-ghost use Rattle.std.specs.Prelude.{true};
+ghost use Rattle.std.specs.Prelude.{◌≡◌, ◌⊎◌, IfOk, IfErr, true};
 ghost use Rattle.amqp_batches.specs.Walk.{Walked, WalkFault};
 ghost use Rattle.amqp_batches.specs.WalkReading.{walk_reading, reading_via};
 ghost use Rattle.amqp_messages.specs.MessageWalk.{message_walk};
-ghost use Rattle.amqp_messages.specs.MessageTypes.{shape_of, message_in};
+ghost use Rattle.amqp_messages.specs.MessageTypes.{shape_of, message_in, AnswersGroup, no_groups};
+ghost use Rattle.amqp_wire.specs.declared.error.Error.TheVariants.{Memory};
 ghost use Rattle.amqp_messages.specs.declared.order.Order.TheVariants.{Any, Written};
 
 use crate::message::{Groups, Message};
@@ -22,7 +23,9 @@ use std::alloc::Global;
 
 impl<S: Drop> Groups<S> {
     // Nothing was read.
-    fn new() -> Groups<S> {
+    fn new() -> Groups<S>
+        ensures { result ≡ no_groups }
+    {
         Groups {
             header: None,
             delivery_annotations: None,
@@ -40,7 +43,12 @@ impl<S: Drop> Groups<S> {
         code: u8,
         decoder: &mut Decoder<R>,
         alloc: Global,
-    ) -> Result<(), Error> {
+    ) -> Result<(), Error>
+        ensures read { Tells R.remaining → AnswersGroup ((shape_of ⟦<Header as DeserializeTerm>⟧.term ⟦<DeliveryAnnotations as DeserializeTerm>⟧.term
+            ⟦<MessageAnnotations as DeserializeTerm>⟧.term ⟦<Properties as DeserializeTerm>⟧.term
+            ⟦<ApplicationProperties as DeserializeTerm>⟧.term ⟦<Footer as DeserializeTerm>⟧.term B.made).kind_of code) self.old self.new decoder.old result decoder.new }
+        ensures tries { Tries true decoder.old result decoder.new }
+    {
         match code {
             0x70 => self.header = Some(Header::read_value(decoder, alloc)?),
             0x71 => {
@@ -62,7 +70,14 @@ impl<S: Drop> Groups<S> {
     }
 
     // The message, or `EmptyBody` if there is no body and no value takes its place.
-    fn finish<B: FromBody<Body = S>>(self, alloc: Global) -> Result<Message<B>, Error> {
+    fn finish<B: FromBody<Body = S>>(self, alloc: Global) -> Result<Message<B>, Error>
+        ensures made { IfOk result (λ v. (shape_of ⟦<Header as DeserializeTerm>⟧.term ⟦<DeliveryAnnotations as DeserializeTerm>⟧.term
+            ⟦<MessageAnnotations as DeserializeTerm>⟧.term ⟦<Properties as DeserializeTerm>⟧.term
+            ⟦<ApplicationProperties as DeserializeTerm>⟧.term ⟦<Footer as DeserializeTerm>⟧.term B.made).finish self v) }
+        ensures refused { IfErr result (λ e. (e ≡ Memory) ⊎ (shape_of ⟦<Header as DeserializeTerm>⟧.term ⟦<DeliveryAnnotations as DeserializeTerm>⟧.term
+            ⟦<MessageAnnotations as DeserializeTerm>⟧.term ⟦<Properties as DeserializeTerm>⟧.term
+            ⟦<ApplicationProperties as DeserializeTerm>⟧.term ⟦<Footer as DeserializeTerm>⟧.term B.made).unfinished self e) }
+    {
         let Groups {
             header,
             delivery_annotations,
