@@ -17,6 +17,7 @@ pub mod OneReading
 pub mod OpenedArrays
 pub mod Opening
 pub mod Peeks
+pub mod Quick
 pub mod ReadPrimitives
 pub mod Rooms
 pub mod RowParts

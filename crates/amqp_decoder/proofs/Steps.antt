@@ -2,6 +2,7 @@
 use Rattle.std.proofs.Common.{◌≡◌, ◌≤◌, ◌<◌, ℕ, ◌-◌, inl, inr, Bool, true, false, cond, Option, Some, None, List, [], ◌∷◌, ◌++◌, length, drop, get_or}
 use Rattle.std.proofs.Common.{Result, Ok, Err, unwrap_or, refl, sym, ap, ◌∙◌, subst, arith, suc, zero}
 use Rattle.std.proofs.lemmas.List.{length-append}
+use Rattle.std.proofs.Math.Nat.{lt_of_not-le}
 use Rattle.amqp_model.specs.Term.{Descriptor}
 use Rattle.amqp_wire.specs.declared.error.Error.{Error}
 use Rattle.amqp_wire.specs.declared.error.Error.TheVariants.{Cut, Limit}
@@ -58,14 +59,6 @@ size_lacks own n l st e h less (cut fits short is) =
     cut_inside h (inl less) (subst (λ o. length st.rest < asked_in o own (announced st)) h short) is
 size_lacks own n l st e h less (wrong fits there is) = too_long h less (subst (λ o. asked_in o own (announced st) ≤ length st.rest) h there) is
 
--- a size was refused in a container that has no room
-pub short_of_size : (own n l : ℕ) (st : State) (e : Error) (new : State) → bound_of st.top ≡ Some l → l < n
-    → RefusesSize own st e new → FallsShort n st e new
-short_of_size own n l st e new h less r = record {
-  kept = r.kept;
-  why = elim r.why [ inl x ↦ inl x | inr x ↦ inr (size_lacks own n l st e h less x) ];
-}
-
 missed_by : (n : ℕ) (st : State) (o : Option ℕ) (e : Error) → bound_of st.top ≡ o → Has st.top.left n → e ≡ Cut → length st.rest < n
     → Lacks n st e
 missed_by n st None e h room is short = cut_open h room short is
@@ -76,29 +69,27 @@ missed_by n st (Some l) e h room is short =
 pub missed_lacks : (n : ℕ) (st : State) (e : Error) → Has st.top.left n → e ≡ Cut → length st.rest < n → Lacks n st e
 missed_lacks n st e room is short = missed_by n st (bound_of st.top) e refl room is short
 
--- the bytes pass the limit
-pub short_of_limit : (n : ℕ) (st : State) (e : Error) (new : State) → (bound_of st.top ≡ None) × (Has st.top.left n → ⊥) → e ≡ Limit
-    → Answers st e new → FallsShort n st e new
-short_of_limit n st e new (none, full) is kept = record { kept = kept; why = inr (past_limit none full is) }
+-- a size was refused for which there is no room
+room_lacks : (n : ℕ) (st : State) (e : Error) (o : Option ℕ) → bound_of st.top ≡ o → (Has st.top.left n → ⊥) → SizeError n st e → Lacks n st e
+room_lacks n st e None h full (cut fits short is) = absurd (full (fits h))
+room_lacks n st e None h full (wrong fits there is) = absurd (full (fits h))
+room_lacks n st e None h full (past b less is) = past_limit b less is
+room_lacks n st e (Some l) h full x =
+    size_lacks n n l st e h (lt_of_not-le (λ y. full (subst (λ o. Has o n) (sym (bound_left st.top l h)) y))) x
 
-pub no_room_by_limit : (n : ℕ) (st : State) (e : Error) (new : State) → (bound_of st.top ≡ None) × (Has st.top.left n → ⊥) → e ≡ Limit
-    → Answers st e new → Stops false (NoRoom n st) st e new
-no_room_by_limit n st e new (none, full) is kept = record { kept = kept; why = inr (record { less = full; why = past none full is }) }
+pub short_of_room : (n : ℕ) (st : State) (e : Error) (new : State) → (Has st.top.left n → ⊥) → RefusesSize n st e new → FallsShort n st e new
+short_of_room n st e new full r =
+    record { kept = r.kept; why = elim r.why [ inl x ↦ inl x | inr x ↦ inr (room_lacks n st e (bound_of st.top) refl full x) ] }
+
+pub stopped_for_room : (n : ℕ) (st : State) (e : Error) (new : State) → (Has st.top.left n → ⊥) → RefusesSize n st e new
+    → Stops false (NoRoom n st) st e new
+stopped_for_room n st e new full r =
+    record { kept = r.kept; why = elim r.why [ inl x ↦ inl (inr x) | inr x ↦ inr (record { less = full; why = x }) ] }
 
 -- the limit leaves no byte
 pub short_by_one : (st : State) (e : Error) (new : State) → st.top.left ≡ Some 0 → RefusesSize 1 st e new → FallsShort 1 st e new
 short_by_one st e new left r =
-    record { kept = r.kept; why = elim r.why [ inl x ↦ inl x | inr x ↦ inr (one_lacks (bound_of st.top) refl x) ] }
-  where
-    none : Has st.top.left 1 → ⊥
-    none h = let x : Has (Some 0) 1 = subst (λ o. Has o 1) left h in omega (arith, x)
-
-    one_lacks : (o : Option ℕ) → bound_of st.top ≡ o → SizeError 1 st e → Lacks 1 st e
-    one_lacks None h (cut fits short is) = absurd (none (fits h))
-    one_lacks None h (wrong fits there is) = absurd (none (fits h))
-    one_lacks None h (past b full is) = past_limit b full is
-    one_lacks (Some l) h x =
-        let same : l ≡ 0 = ap (λ o. unwrap_or o 0) (sym (bound_left st.top l h) ∙ left) in size_lacks 1 1 l st e h (omega (arith, same)) x
+    short_of_room 1 st e new (λ h. let x : Has (Some 0) 1 = subst (λ o. Has o 1) left h in omega (arith, x)) r
 
 -- too few bytes stood behind those that the container has room for
 pub short_of_missed : (n k : ℕ) (st : State) (m : State) (e : Error) (new : State) → k ≡ n → Has st.top.left n → m ≡ lowered n st

@@ -2,6 +2,7 @@ pub mod State
 pub mod Steps
 pub mod Reading
 pub mod Primitives
+pub mod Quick
 pub mod Containers
 pub mod Described
 pub mod Items

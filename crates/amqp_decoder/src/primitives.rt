@@ -35,6 +35,18 @@ impl<R: ByteSource> Decoder<R> {
         ensures read { Tells R.remaining → AnswersRead false (ReadsValue (Means (λ _. null))) (PrimitiveFault nulls) self.old result self.new }
         ensures tries { Tries false self.old result self.new }
     {
+        if let Some(_) = self.quick::<1>(format_code::NULL) {
+            return Ok(());
+        }
+        self.read_any_null()
+    }
+
+    // The same, however the source gives it.
+    #[inline(never)]
+    fn read_any_null(&mut self) -> Result<(), Error>
+        ensures read { Tells R.remaining → AnswersRead false (ReadsValue (Means (λ _. null))) (PrimitiveFault nulls) self.old result self.new }
+        ensures tries { Tries false self.old result self.new }
+    {
         let _data = self.fixed::<0>(format_code::NULL)?;
         Ok(())
     }
@@ -42,6 +54,21 @@ impl<R: ByteSource> Decoder<R> {
     /// A boolean (Part 1, section 1.6.2); `BadBool` where its byte is above 1.
     #[inline]
     pub fn read_bool(&mut self) -> Result<bool, Error>
+        ensures read { Tells R.remaining → AnswersRead false (ReadsValue (Means boolean)) (PrimitiveFault booleans) self.old result self.new }
+        ensures tries { Tries false self.old result self.new }
+    {
+        if let Some(_) = self.quick::<1>(format_code::BOOLEAN_TRUE) {
+            return Ok(true);
+        }
+        if let Some(_) = self.quick::<1>(format_code::BOOLEAN_FALSE) {
+            return Ok(false);
+        }
+        self.read_any_bool()
+    }
+
+    // The same, however the source gives it.
+    #[inline(never)]
+    fn read_any_bool(&mut self) -> Result<bool, Error>
         ensures read { Tells R.remaining → AnswersRead false (ReadsValue (Means boolean)) (PrimitiveFault booleans) self.old result self.new }
         ensures tries { Tries false self.old result self.new }
     {
@@ -81,6 +108,25 @@ impl<R: ByteSource> Decoder<R> {
         ensures read { Tells R.remaining → AnswersRead false (ReadsValue (Means uint)) (PrimitiveFault uints) self.old result self.new }
         ensures tries { Tries false self.old result self.new }
     {
+        if let Some(bytes) = self.quick::<5>(format_code::UINT) {
+            let [_, a, b, c, d] = bytes;
+            return Ok(u32::from_be_bytes([a, b, c, d]));
+        }
+        if let Some(bytes) = self.quick::<2>(format_code::SMALL_UINT) {
+            return Ok(u32::from(bytes[1]));
+        }
+        if let Some(_) = self.quick::<1>(format_code::UINT_0) {
+            return Ok(0);
+        }
+        self.read_any_uint()
+    }
+
+    // The same, however the source gives it.
+    #[inline(never)]
+    fn read_any_uint(&mut self) -> Result<u32, Error>
+        ensures read { Tells R.remaining → AnswersRead false (ReadsValue (Means uint)) (PrimitiveFault uints) self.old result self.new }
+        ensures tries { Tries false self.old result self.new }
+    {
         match self.begin()? {
             format_code::UINT_0 => Ok(0),
             format_code::SMALL_UINT => Ok(u32::from(self.byte()?)),
@@ -110,6 +156,25 @@ impl<R: ByteSource> Decoder<R> {
     /// An unsigned integer of 64 bits (Part 1, section 1.6.6).
     #[inline]
     pub fn read_ulong(&mut self) -> Result<u64, Error>
+        ensures read { Tells R.remaining → AnswersRead false (ReadsValue (Means ulong)) (PrimitiveFault ulongs) self.old result self.new }
+        ensures tries { Tries false self.old result self.new }
+    {
+        if let Some(bytes) = self.quick::<2>(format_code::SMALL_ULONG) {
+            return Ok(u64::from(bytes[1]));
+        }
+        if let Some(_) = self.quick::<1>(format_code::ULONG_0) {
+            return Ok(0);
+        }
+        if let Some(bytes) = self.quick::<9>(format_code::ULONG) {
+            let [_, a, b, c, d, e, f, g, h] = bytes;
+            return Ok(u64::from_be_bytes([a, b, c, d, e, f, g, h]));
+        }
+        self.read_any_ulong()
+    }
+
+    // The same, however the source gives it.
+    #[inline(never)]
+    fn read_any_ulong(&mut self) -> Result<u64, Error>
         ensures read { Tells R.remaining → AnswersRead false (ReadsValue (Means ulong)) (PrimitiveFault ulongs) self.old result self.new }
         ensures tries { Tries false self.old result self.new }
     {

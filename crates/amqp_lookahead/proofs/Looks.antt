@@ -1,6 +1,6 @@
 -- Bytes that were looked at, and those of the source behind them.
 use Rattle.std.proofs.Common.{◌≡◌, ◌≤◌, ◌<◌, ℕ, ◌+◌, ◌-◌, List, [], ◌++◌, length, take, drop, max, inl, inr, Bool, Result, Ok, Err}
-use Rattle.std.proofs.Common.{IfOk, IsOk, Option, Some, None, refl, sym, ap, ◌∙◌, subst, arith, append_assoc, length-append, drop-drop}
+use Rattle.std.proofs.Common.{IfOk, IsOk, Option, Some, None, MatchOption, is_some, min, true, false, refl, sym, ap, ◌∙◌, subst, arith, append_assoc, length-append, drop-drop}
 use Rattle.std.proofs.lemmas.List.{drop_at, take_at, length-take-le, length-drop, take-append-le, take-append-drop}
 use Rattle.std.proofs.lemmas.List.Edits.{take-paste}
 use Rattle.std.specs.List.{copy_within}
@@ -9,7 +9,7 @@ use Rattle.std.proofs.Math.Seq.{take-add, take-append-add, take-length}
 use borrow.Rule.Slice.PartMut.{put_mid, post_of}
 use Rattle.amqp_wire.specs.Sources.{known, IsTold}
 use Rattle.amqp_wire.proofs.Sources.{pulled}
-use Rattle.amqp_lookahead.specs.State.{State, after_look, after_bytes, pending}
+use Rattle.amqp_lookahead.specs.State.{State, after_look, after_bytes, pending, seen_of}
 
 -- what stands in front of a list
 pub front_is : (s r x : List ℕ) (n : ℕ) → length s ≡ n → r ≡ s ++ x → r ≡ s ++ drop n r
@@ -64,25 +64,53 @@ copied_behind p K L x b f n k m whole h e w g =
     front_is s (p ++ K) L (n + k) long (pulled (p ++ K) K L x f n k m h w (ap (λ y. y ++ K) (sym front)) g)
 
 -- the source behind those of its bytes that were looked at
-pub behind_looked : (start end_ seen n : ℕ) (l K L b : List ℕ) → end_ ≤ length l → seen ≤ length K → length b ≡ seen → n ≤ length b
-    → K ≡ take n b ++ L → (n < length b → L ≡ []) → L ≡ drop (end_ - start + seen) (pending start end_ l ++ K)
-behind_looked start end_ seen n l K L b within there room few f all =
-    let p = pending start end_ l in
+pub behind_looked : (whole : Bool) (start end_ unseen n : ℕ) (l K L b : List ℕ) → whole ≡ true → end_ ≡ start → length b ≡ length K - unseen
+    → n ≤ length b → K ≡ take n b ++ L → (n < length b → L ≡ [])
+    → L ≡ drop (end_ - start + seen_of whole K unseen) (pending start end_ l ++ K)
+behind_looked false start end_ unseen n l K L b held is room few f all = absurd (cc)
+behind_looked true start end_ unseen n l K L b held is room few f all =
     let taken_ : length (take n b) ≡ n = length-take-le n b few in
-    let long : length p ≡ end_ - start = length-take-le (end_ - start) (drop start l) (omega (arith, within, length-drop start l)) in
     let count : length K ≡ n + length L = ap length f ∙ length-append (take n b) L ∙ ap (λ m. m + length L) taken_ in
     let none : (n < length b) → length L ≡ 0 = λ h. ap length (all h) in
-    let whole : n ≡ seen = elim (eq-or-lt_of_le few) [
-      | inl h ↦ omega (arith, h, room)
-      | inr h ↦ absurd (omega (arith, none h, h, count, room, there))
+    let k = end_ - start + (length K - unseen) in
+    let whole : n ≡ k = elim (eq-or-lt_of_le few) [
+      | inl h ↦ omega (arith, h, room, is)
+      | inr h ↦ absurd (omega (arith, none h, h, count, room))
     ] in
-    rest_is (take n b) K L n taken_ f ∙ ap (λ i. drop i K) whole ∙ ap (drop seen) (rest_is p (p ++ K) K (end_ - start) long refl)
-    ∙ drop-drop seen (end_ - start) (p ++ K)
+    rest_is (take n b) K L n taken_ f ∙ ap (λ i. drop i K) whole
+    ∙ ap (λ x. drop k (x ++ K)) (sym (pending_none start end_ l (omega (arith, is))))
 
--- bytes that are known are told
-pub some_told : (o : Option (List ℕ)) → 0 < length (known o) → IsTold o
-some_told None h = absurd (omega (arith, h))
-some_told (Some r) h = (r, refl)
+-- a source is whole where its bytes are at hand
+pub whole_at_hand : {A : Type 0} (o : Option A) (whole : Bool) (Q : A → Type 0) → is_some o ≡ true
+    → MatchOption o (whole ≡ false) (λ s. (whole ≡ true) × Q s) → whole ≡ true
+whole_at_hand None whole Q held h = absurd (cc)
+whole_at_hand (Some s) whole Q held h = h.0
+
+pub seen_none : (whole : Bool) (K : List ℕ) (unseen : ℕ) → whole ≡ false → seen_of whole K unseen ≡ 0
+seen_none false K unseen held = refl
+seen_none true K unseen held = absurd (cc)
+
+-- how many bytes of a whole source were looked at, behind a look
+pub seen_more : (whole : Bool) (K : List ℕ) (a unseen n : ℕ) → whole ≡ true → a ≡ 0 → n ≤ length K
+    → a + seen_of whole K (min unseen (length K - n)) ≡ max (a + seen_of whole K unseen) n
+seen_more true K a unseen n held e h = omega (arith, e, h)
+seen_more false K a unseen n held e h = absurd (cc)
+
+-- bytes of a whole source that were copied
+pub copied_whole : (start end_ n : ℕ) (l K x b : List ℕ) → end_ ≡ start → n ≤ length K → x ≡ take n K ++ b
+    → pending start end_ l ++ K ≡ take n x ++ drop n (pending start end_ l ++ K)
+copied_whole start end_ n l K x b is h e =
+    let s = take n K in
+    let r = pending start end_ l ++ K in
+    let long = length-take-le n K h in
+    let whole : r ≡ s ++ drop n K = ap (λ y. y ++ K) (pending_none start end_ l (omega (arith, is))) ∙ sym (take-append-drop n K) in
+    front_is s r (drop n K) n long whole ∙ ap (λ y. y ++ drop n r) (sym (ap (take n) e ∙ take_at s b n long))
+
+-- how many bytes were looked at, behind some that are taken
+pub seen_less : (whole : Bool) (K L s : List ℕ) (a unseen n : ℕ) → a ≡ 0 → length s ≡ n → K ≡ s ++ L
+    → a + seen_of whole L unseen ≡ a + seen_of whole K unseen - n
+seen_less true K L s a unseen n e long f = omega (arith, e, long, ap length f, length-append s L)
+seen_less false K L s a unseen n e long f = omega (arith, e)
 
 -- what follows of an answer from two facts
 pub ok_both : {A E : Type 0} (r : Result A E) (P Q S : A → Type 0) → ((v : A) → P v → Q v → S v) → IfOk r P → IfOk r Q → IfOk r S

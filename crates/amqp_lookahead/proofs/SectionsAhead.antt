@@ -17,7 +17,7 @@ use Rattle.amqp_lookahead.specs.Members.{Member, place_of, as_name, is_named, na
 use Rattle.amqp_lookahead.specs.Sections.{LooksOn, sections, IsOfSection, IsSectionAhead, IsNameAhead, IsLongNameAhead, IsLongCodeAhead}
 use Rattle.amqp_lookahead.proofs.KindsOfCodes.{kind_data, not_two, not_three}
 use Rattle.amqp_lookahead.proofs.Members.{place_is}
-use Rattle.amqp_lookahead.proofs.SectionLooks.{looks_more}
+use Rattle.amqp_lookahead.proofs.SectionLooks.{looks_more, looks_once, front_all}
 
 abbrev title : ℕ → List ℕ
 title i = (get_or sections i (0, [])).1
@@ -313,6 +313,14 @@ shows st m n y l is e long first second =
       same = ap (λ (z : State). z.rest) is;
     }
 
+-- a look at three bytes, the first of which are these
+pub looked_first : (st m : State) (n y : ℕ) (l : List ℕ) → length l ≡ 3 → n ≤ 3 → 3 ≤ n → st.rest ≡ take n l ++ drop n st.rest
+    → m ≡ after_look n st → get_or l 0 0 ≡ 0 → get_or l 1 0 ≡ y → LooksOn st m × Shows st m y (get_or l 2 0)
+looked_first st m n y l whole few there front is first second = (
+  looks_once n st m l (omega (arith, few)) (omega (arith, few, whole)) front is,
+  shows st m n y l is (front_all n l st.rest (omega (arith, whole, there)) front) (omega (arith, whole)) first second,
+)
+
 pub small_code : (st m : State) (z c : ℕ) → Shows st m 0x53 z → IsOfSection c (code z) ↔ IsSectionAhead st.rest c
 small_code st m z c s = ahead_is _ st 0x53 c (z ∷ s.more) s.rest (small z c s.more)
 
@@ -380,7 +388,7 @@ abbrev pub bytes_at : ℕ → ℕ → List ℕ → List ℕ
 bytes_at zero i l = []
 bytes_at (suc n) i l = get_or l i 0 ∷ bytes_at n (suc i) l
 
-bytes_are : (n i : ℕ) (l : List ℕ) → i + n ≤ length l → take n (drop i l) ≡ bytes_at n i l
+pub bytes_are : (n i : ℕ) (l : List ℕ) → i + n ≤ length l → take n (drop i l) ≡ bytes_at n i l
 bytes_are zero i l h = refl
 bytes_are (suc n) i l h =
     ap (take (suc n)) (drop-cons l i 0 (omega (arith, h))) ∙ ap (λ x. get_or l i 0 ∷ x) (bytes_are n (suc i) l (omega (arith, h)))

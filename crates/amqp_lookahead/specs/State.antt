@@ -1,5 +1,5 @@
 -- What an input has before it.
-use Rattle.std.specs.Prelude.{ℕ, ◌-◌, Bool, List, take, drop, max}
+use Rattle.std.specs.Prelude.{ℕ, ◌-◌, Bool, List, length, take, drop, max, cond}
 
 -- rest: the bytes to the end of the input
 -- ahead: how many of them were looked at
@@ -22,3 +22,7 @@ after_look n st = record st { ahead = max st.ahead n }
 -- n bytes are taken.
 abbrev pub after_bytes : ℕ → State → State
 after_bytes n st = record st { rest = drop n st.rest; ahead = st.ahead - n }
+
+-- How many bytes of a whole source were looked at, of which so many of the last weren't.
+abbrev pub seen_of : Bool → List ℕ → ℕ → ℕ
+seen_of whole rest unseen = cond whole (length rest - unseen) 0

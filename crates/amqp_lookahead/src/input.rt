@@ -1,5 +1,5 @@
 //! The bytes of a source, which are looked at before they are taken.
-ghost use Rattle.std.specs.Prelude.{◌≤◌, ◌≡◌, ◌<◌, ◌++◌, length, take, drop, min, false, true, Ok, IfOk, OnErr};
+ghost use Rattle.std.specs.Prelude.{◌≤◌, ◌≡◌, ◌<◌, ◌∷◌, ◌++◌, length, take, drop, min, false, true, Ok, IfOk, IfSome, OnErr, MatchOption};
 ghost use Rattle.amqp_wire.specs.Sources.{known, Tells};
 ghost use Rattle.amqp_lookahead.specs.State.{after_look, after_bytes};
 
@@ -12,43 +12,49 @@ use std::marker::Model;
 pub(crate) const LOOK: usize = 64;
 
 // Copies as many of the bytes as the buffer holds, and answers how many.
+#[inline(always)]
 fn copy_front(bytes: &[u8], buffer: &mut [u8]) -> usize
     ensures count { result ≡ min (length bytes.now) (length buffer.old) }
     ensures front { buffer.new ≡ take result bytes.now ++ drop result buffer.old }
 {
-    let count = bytes.len().min(buffer.len());
-    buffer[..count].copy_from_slice(&bytes[..count]);
-    count
+    let count = buffer.len();
+    if count <= bytes.len() {
+        // The usual case, in which the compiler mostly knows how many bytes there are.
+        buffer.copy_from_slice(&bytes[..count]);
+        return count;
+    }
+    buffer[..bytes.len()].copy_from_slice(bytes);
+    bytes.len()
 }
 
-/// The bytes of a source. Those that were looked at are the next that are taken. Where the source has them at hand they stay in
-/// it, and it is known how many they are; else they are moved to a buffer.
+/// The bytes of a source. Those that were looked at are the next that are taken. Where the source has all of its bytes at hand they stay
+/// in it, and it is known how many were not looked at; else they are moved to a buffer.
 #[derive(Drop)]
 pub struct Input<R: ByteSource> {
     source: R,
-    // How many bytes of the source were looked at, behind those in the buffer.
-    seen: usize,
+    // How many of the last bytes of a whole source weren't looked at.
+    unseen: usize,
     start: usize,
     end: usize,
     looked: [u8; LOOK],
 }
 
 impl<R: ByteSource> Model for Input<R> {
-    ghost use Rattle.std.specs.Prelude.{◌≤◌, ◌<◌, ◌≡◌, ◌++◌, ◌-◌, ◌+◌, length, true};
+    ghost use Rattle.std.specs.Prelude.{◌≤◌, ◌≡◌, ◌++◌, ◌-◌, ◌+◌, length, true};
     ghost use Rattle.amqp_wire.specs.Sources.{known};
-    ghost use Rattle.amqp_lookahead.specs.State.{State, pending};
+    ghost use Rattle.amqp_lookahead.specs.State.{State, pending, seen_of};
 
     ghost Value = { State };
 
     ghost view = { λ i. record {
       rest = pending i.start i.end i.looked ++ known (R.remaining i.source);
-      ahead = i.end - i.start + i.seen;
+      ahead = i.end - i.start + seen_of R.is_whole (known (R.remaining i.source)) i.unseen;
       source = R.name i.source;
       failed = R.failed i.source;
     } };
 
-    ghost invariant = { λ i. (i.start ≤ i.end) × (i.end ≤ 64) × (i.seen ≤ 64) × (i.seen ≤ length (known (R.remaining i.source)))
-        × (0 < i.seen → R.never_fails ≡ true) };
+    ghost invariant = { λ i. (i.start ≤ i.end) × (i.end ≤ 64) × (R.is_whole ≡ true → i.end ≡ i.start)
+        × (R.is_whole ≡ true → length (known (R.remaining i.source)) ≤ i.unseen + 64) };
 }
 
 impl<R: ByteSource> Input<R> {
@@ -56,9 +62,13 @@ impl<R: ByteSource> Input<R> {
     pub fn new(source: R) -> Self
         ensures { result ≡ record { rest = known (R.remaining source); ahead = 0; source = R.name source; failed = R.failed source } }
     {
+        let unseen = match source.at_hand() {
+            Some(bytes) => bytes.len(),
+            None => 0,
+        };
         Input {
             source,
-            seen: 0,
+            unseen,
             start: 0,
             end: 0,
             looked: [0; LOOK],
@@ -73,10 +83,11 @@ impl<R: ByteSource> Input<R> {
     {
         let Input {
             mut source,
-            seen,
+            unseen,
             ..
         } = self;
-        if seen > 0 {
+        if let Some(bytes) = source.at_hand() {
+            let seen = bytes.len().saturating_sub(unseen);
             let mut passed = [0; LOOK];
             let _ = pull_full(&mut source, &mut passed[..seen]);
         }
@@ -93,13 +104,28 @@ impl<R: ByteSource> Input<R> {
         ensures fails { OnErr result (self.new.failed ≡ true) }
         ensures sound { IfOk result (λ _. self.new.failed ≡ self.old.failed) }
     {
+        match self.source.at_hand() {
+            Some(_) => pull_full(&mut self.source, buffer),
+            None => self.pull_moved(buffer),
+        }
+    }
+
+    // The same, where the bytes that were looked at stand in the buffer.
+    fn pull_moved(&mut self, buffer: &mut [u8]) -> Result<usize, ErrorKind>
+        requires { R.is_whole ≡ false }
+        ensures fits { IfOk result (λ n. n ≤ length buffer.old) }
+        ensures bytes { Tells R.remaining → IfOk result (λ n. self.old.rest ≡ take n buffer.new ++ drop n self.old.rest) }
+        ensures all { Tells R.remaining → IfOk result (λ n. n < length buffer.old → length self.old.rest ≡ n) }
+        ensures new { Tells R.remaining → IfOk result (λ n. self.new ≡ after_bytes n self.old) }
+        ensures fails { OnErr result (self.new.failed ≡ true) }
+        ensures sound { IfOk result (λ _. self.new.failed ≡ self.old.failed) }
+    {
         let count = copy_front(&self.looked[self.start..self.end], buffer);
         self.start += count;
         if count == buffer.len() {
             return Ok(count);
         }
         let more = pull_full(&mut self.source, &mut buffer[count..])?;
-        self.seen = self.seen.saturating_sub(more);
         Ok(count + more)
     }
 
@@ -112,14 +138,10 @@ impl<R: ByteSource> Input<R> {
         ensures left { result ≡ false → self.new ≡ self.old }
         ensures sound { self.new.failed ≡ self.old.failed }
     {
-        if self.start < self.end {
+        if self.source.at_hand().is_none() && self.start < self.end {
             return false;
         }
-        if !self.source.pull_ready(buffer) {
-            return false;
-        }
-        self.seen = self.seen.saturating_sub(buffer.len());
-        true
+        self.source.pull_ready(buffer)
     }
 
     /// Adds the next `count` bytes, which are taken, where all of them are at hand in the source; else answers false, and takes and
@@ -132,16 +154,10 @@ impl<R: ByteSource> Input<R> {
         ensures left { (result ≡ Ok true → ⊥) → (self.new ≡ self.old) × (bytes.new.items ≡ bytes.old.items) }
         ensures sound { self.new.failed ≡ self.old.failed }
     {
-        if self.start < self.end {
+        if self.source.at_hand().is_none() && self.start < self.end {
             return Ok(false);
         }
-        match self.source.append_ready(count, bytes) {
-            Ok(true) => {
-                self.seen = self.seen.saturating_sub(count);
-                Ok(true)
-            }
-            other => other,
-        }
+        self.source.append_ready(count, bytes)
     }
 
     /// Copies the next bytes, at most 64, to the buffer, and answers with how many: fewer than it holds only at the end of the
@@ -156,37 +172,59 @@ impl<R: ByteSource> Input<R> {
         ensures fails { OnErr result (self.new.failed ≡ true) }
         ensures sound { IfOk result (λ _. self.new.failed ≡ self.old.failed) }
     {
-        if self.peek_ready(buffer) {
-            return Ok(buffer.len());
+        match self.peek_whole(buffer) {
+            Some(count) => Ok(count),
+            None => self.peek_moved(buffer),
         }
-        self.peek_moved(buffer)
     }
 
-    // Copies the next bytes to the buffer, where all of them are at hand in the source; else answers false.
+    /// The next byte, which isn't taken, if the source keeps its bytes at hand and has one left.
     #[inline(always)]
-    fn peek_ready(&mut self, buffer: &mut [u8]) -> bool
-        requires { length buffer.old ≤ 64 }
-        ensures bytes { result ≡ true → self.old.rest ≡ buffer.new ++ drop (length buffer.old) self.old.rest }
-        ensures new { result ≡ true → self.new ≡ after_look (length buffer.old) self.old }
-        ensures left { result ≡ false → self.new ≡ self.old }
+    pub fn next_at_hand(&self) -> Option<u8>
+        ensures next { IfSome result (λ b. self.now.rest ≡ b ∷ drop 1 self.now.rest) }
+    {
+        match self.source.at_hand() {
+            Some([next, ..]) => Some(*next),
+            _ => None,
+        }
+    }
+
+    /// Looks at the next byte, which isn't taken, if the source keeps its bytes at hand and has one left.
+    #[inline(always)]
+    pub fn look_at_hand(&mut self) -> Option<u8>
+        ensures next { MatchOption result (self.new ≡ self.old)
+            (λ b. (self.old.rest ≡ b ∷ drop 1 self.old.rest) × (self.new ≡ after_look 1 self.old)) }
         ensures sound { self.new.failed ≡ self.old.failed }
     {
-        if self.start < self.end {
-            return false;
+        match self.source.at_hand() {
+            Some([next, others @ ..]) => {
+                self.unseen = self.unseen.min(others.len());
+                Some(*next)
+            }
+            _ => None,
         }
-        let bytes = self.source.at_hand();
-        if buffer.len() > bytes.len() {
-            return false;
-        }
-        buffer.copy_from_slice(&bytes[..buffer.len()]);
-        self.seen = self.seen.max(buffer.len());
-        true
     }
 
-    // The same for a source that hasn't all of them at hand: they are moved out of it.
+    // Copies the next bytes to the buffer, and answers how many, where the source keeps them at hand.
+    #[inline(always)]
+    fn peek_whole(&mut self, buffer: &mut [u8]) -> Option<usize>
+        requires { length buffer.old ≤ 64 }
+        ensures whole { MatchOption result ((R.is_whole ≡ false) × (self.new ≡ self.old)) (λ n. (n ≤ length buffer.old)
+            × (self.old.rest ≡ take n buffer.new ++ drop n self.old.rest) × (n < length buffer.old → length self.old.rest ≡ n)
+            × (self.new ≡ after_look n self.old)) }
+        ensures sound { self.new.failed ≡ self.old.failed }
+    {
+        let bytes = self.source.at_hand()?;
+        let count = copy_front(bytes, buffer);
+        self.unseen = self.unseen.min(bytes.len() - count);
+        Some(count)
+    }
+
+    // The same for another source: they are moved out of it.
     #[cold]
     fn peek_moved(&mut self, buffer: &mut [u8]) -> Result<usize, ErrorKind>
-        requires { length buffer.old ≤ 64 }
+        requires moved { R.is_whole ≡ false }
+        requires few { length buffer.old ≤ 64 }
         ensures fits { IfOk result (λ n. n ≤ length buffer.old) }
         ensures bytes { Tells R.remaining → IfOk result (λ n. self.old.rest ≡ take n buffer.new ++ drop n self.old.rest) }
         ensures all { Tells R.remaining → IfOk result (λ n. n < length buffer.old → length self.old.rest ≡ n) }
@@ -203,7 +241,6 @@ impl<R: ByteSource> Input<R> {
         self.end = ahead;
         let more = pull_full(&mut self.source, &mut self.looked[ahead..buffer.len()])?;
         self.end += more;
-        self.seen = self.seen.saturating_sub(more);
         Ok(copy_front(&self.looked[..self.end], buffer))
     }
 }

@@ -83,14 +83,14 @@ impl<S: ByteSource, N: Name> ByteSource for Named<S, N> {
 
     ghost name = { λ s. S.name s.source };
 
-    ghost never_fails = { S.never_fails };
+    ghost is_whole = { S.is_whole };
 
     fn pull(&mut self, buffer: &mut [u8]) -> Result<usize, ErrorKind> {
         self.source.pull(buffer)
     }
 
     #[inline(always)]
-    fn at_hand(&self) -> &[u8] {
+    fn at_hand(&self) -> Option<&[u8]> {
         self.source.at_hand()
     }
 

@@ -49,6 +49,10 @@ impl<'a> ByteSource for Dripping<'a> {
         Ok(1)
     }
 
+    fn at_hand(&self) -> Option<&[u8]> {
+        None
+    }
+
     fn failed(&self) -> bool {
         self.failed
     }

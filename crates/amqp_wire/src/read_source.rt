@@ -48,6 +48,10 @@ impl<R: Read> ByteSource for ReadSource<R> {
         }
     }
 
+    fn at_hand(&self) -> Option<&[u8]> {
+        None
+    }
+
     fn failed(&self) -> bool {
         self.failed.is_some()
     }

@@ -1,6 +1,6 @@
 //! Sources: where the bytes come from that are read.
 ghost use Rattle.std.specs.Prelude.{◌≡◌, ℕ, ◌≤◌, ◌<◌, List, [], ◌++◌, length, take, drop, Bool, true, false, Option, Some, IfOk, OnErr, IsErr};
-ghost use Rattle.std.specs.Prelude.{◌⊎◌, Ok, IsOk};
+ghost use Rattle.std.specs.Prelude.{◌⊎◌, Ok, IsOk, MatchOption};
 ghost use Rattle.std.specs.Io.KnownBytes.{Consumes, IsAtEnd};
 ghost use Rattle.amqp_wire.specs.Sources.{known, IsTold, AddsNext};
 
@@ -19,8 +19,8 @@ pub trait ByteSource {
     // A number that tells one borrowed source from another; 0 of what isn't borrowed.
     ghost name: { Self → ℕ };
 
-    // No pull of such a source fails.
-    ghost never_fails: { Bool } = { false };
+    // It keeps all of its bytes at hand, and no pull of it fails.
+    ghost is_whole: { Bool } = { false };
 
     /// Moves the source's next bytes to the front of the buffer, and answers how many: at most as many as the buffer holds, and at
     /// least one, unless the source is at its end or the buffer is empty. An `Err` is the kind of a failure; then the source has
@@ -32,18 +32,12 @@ pub trait ByteSource {
         ensures kept { IfOk result (λ _. failed self.new ≡ failed self.old) }
         ensures fails { OnErr result (failed self.new ≡ true) }
         ensures stays { failed self.old ≡ true → IsErr result }
-        ensures sure { never_fails ≡ true → IsOk result }
+        ensures sure { is_whole ≡ true → IsOk result }
         ensures named { name self.new ≡ name self.old };
 
-    /// The bytes that are at hand, which the source gives next: none of them is taken. By default none are at hand; only a source of
-    /// which no pull fails may show some.
-    #[inline(always)]
-    fn at_hand(&self) -> &[u8]
-        ensures front { known (remaining self.now) ≡ result.now ++ drop (length result.now) (known (remaining self.now)) }
-        ensures sure { 0 < length result.now → never_fails ≡ true }
-    {
-        &[]
-    }
+    /// All the bytes that the source still has, if it keeps them at hand: none of them is taken. It is `None` of a source that doesn't.
+    fn at_hand(&self) -> Option<&[u8]>
+        ensures { MatchOption result (is_whole ≡ false) (λ s. (is_whole ≡ true) × (remaining self.now ≡ Some s.now)) };
 
     /// Fills the whole buffer with the source's next bytes, where they are at hand, and answers true; else takes nothing, and answers
     /// false, which says nothing of what a pull would give. A source that has failed answers false. It is the quick way to a few
@@ -89,7 +83,7 @@ pub fn pull_full<R: ByteSource>(source: &mut R, buffer: &mut [u8]) -> Result<usi
         (λ n. n < length buffer.old → known (R.remaining source.new) ≡ []) }
     ensures kept { IfOk result (λ _. R.failed source.new ≡ R.failed source.old) }
     ensures fails { OnErr result (R.failed source.new ≡ true) }
-    ensures sure { R.never_fails ≡ true → IsOk result }
+    ensures sure { R.is_whole ≡ true → IsOk result }
     ensures named { R.name source.new ≡ R.name source.old }
 {
     let mut done = 0;
@@ -110,7 +104,7 @@ impl ByteSource for &[u8] {
 
     ghost name = { λ _. 0 };
 
-    ghost never_fails = { true };
+    ghost is_whole = { true };
 
     fn pull(&mut self, buffer: &mut [u8]) -> Result<usize, ErrorKind> {
         let bytes: &[u8] = *self;
@@ -127,8 +121,8 @@ impl ByteSource for &[u8] {
     }
 
     #[inline(always)]
-    fn at_hand(&self) -> &[u8] {
-        &self[..]
+    fn at_hand(&self) -> Option<&[u8]> {
+        Some(&self[..])
     }
 
     #[inline(always)]
@@ -167,14 +161,14 @@ impl<R: ByteSource> ByteSource for &mut R {
 
     ghost name = { λ r. r.ghost_name };
 
-    ghost never_fails = { R.never_fails };
+    ghost is_whole = { R.is_whole };
 
     fn pull(&mut self, buffer: &mut [u8]) -> Result<usize, ErrorKind> {
         (**self).pull(buffer)
     }
 
     #[inline(always)]
-    fn at_hand(&self) -> &[u8] {
+    fn at_hand(&self) -> Option<&[u8]> {
         (**self).at_hand()
     }
 

@@ -94,9 +94,11 @@ impl<R: ByteSource> Decoder<R> {
 
     // Fills the whole buffer with the next bytes, where they are at hand; else nothing is taken.
     #[inline(always)]
-    fn pull_ready(&mut self, buffer: &mut [u8]) -> bool
+    pub(super) fn pull_ready(&mut self, buffer: &mut [u8]) -> bool
         ensures taken { Tells R.remaining → result ≡ true → Pulls self.old buffer.new self.new }
         ensures left { result ≡ false → self.new ≡ self.old }
+        ensures open { self.new.top ≡ self.old.top }
+        ensures quota { self.new.quota ≡ self.old.quota }
         ensures goes { GoesOn self.old self.new }
     {
         self.input.pull_ready(buffer)
@@ -176,6 +178,30 @@ impl<R: ByteSource> Decoder<R> {
         self.stop(format_code::refusal(code))
     }
 
+    // So many bytes are left, by a size or by the limit.
+    #[inline(always)]
+    pub(super) fn has_left(&self, count: u32) -> bool
+        ensures { IsTrue result ↔ Has self.now.top.left count }
+    {
+        match self.top.left {
+            Some(left) => count <= left,
+            None => u64::from(count) <= self.bytes,
+        }
+    }
+
+    // So many bytes of those that are left are taken.
+    #[inline(always)]
+    pub(super) fn take_left(&mut self, count: u32)
+        requires { Has self.old.top.left count }
+        ensures new { self.new ≡ record self.old { top = record self.old.top { left = lower self.old.top.left count } } }
+        ensures goes { GoesOn self.old self.new }
+    {
+        match self.left() {
+            Some(left) => self.set_left(left.saturating_sub(count)),
+            None => self.lower_limit(count),
+        }
+    }
+
     // So many bytes of the open container, or else of the limit, are taken.
     #[inline(always)]
     pub(crate) fn lower(&mut self, count: u32) -> Result<(), Error>
@@ -185,17 +211,10 @@ impl<R: ByteSource> Decoder<R> {
         ensures full { Tells R.remaining → IfErr result (λ e. Stops false (NoRoom count self.old) self.old e self.new) }
         ensures goes { Goes false self.old result self.new }
     {
-        let Some(left) = self.left() else {
-            if self.passes_limit(count) {
-                return Err(self.stop(Error::Limit));
-            }
-            self.lower_limit(count);
-            return Ok(());
-        };
-        if count > left {
+        if !self.has_left(count) {
             return Err(self.refuse_size(count));
         }
-        self.set_left(left - count);
+        self.take_left(count);
         Ok(())
     }
 

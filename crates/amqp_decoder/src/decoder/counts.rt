@@ -32,8 +32,8 @@ impl<R: ByteSource> Decoder<R> {
     }
 
     // Fewer values may begin.
-    #[inline]
-    fn passes_items(&self, count: u64) -> bool
+    #[inline(always)]
+    pub(super) fn passes_items(&self, count: u64) -> bool
         ensures past { result ≡ true → Has self.now.quota count → ⊥ }
         ensures within { result ≡ false → Has self.now.quota count }
     {
@@ -92,6 +92,18 @@ impl<R: ByteSource> Decoder<R> {
             return Ok(());
         }
         self.count_values(values_begun(code))
+    }
+
+    // A value begins by this code, where one may.
+    #[inline(always)]
+    pub(super) fn count_begun(&mut self, code: u8)
+        requires { Has self.old.quota 1 }
+        ensures new { self.new ≡ record self.old { quota = lower self.old.quota (counted code) } }
+        ensures goes { GoesOn self.old self.new }
+    {
+        if !self.is_unlimited() {
+            self.lower_items(values_begun(code));
+        }
     }
 
     // The values of a term begin.

@@ -61,6 +61,18 @@ impl<R: ByteSource> Decoder<R> {
         ensures read { Tells R.remaining → AnswersRead false ReadsCode BeginFault self.old result self.new }
         ensures tries { Tries false self.old result self.new }
     {
+        if let Some(code) = self.quick_code() {
+            return Ok(code);
+        }
+        self.begin_slowly()
+    }
+
+    // The same, whatever stands there, however the source gives it.
+    #[inline(never)]
+    fn begin_slowly(&mut self) -> Result<u8, Error>
+        ensures read { Tells R.remaining → AnswersRead false ReadsCode BeginFault self.old result self.new }
+        ensures tries { Tries false self.old result self.new }
+    {
         self.check_item()?;
         if let Some(code) = self.shared_code() {
             self.count(code)?;
@@ -77,6 +89,21 @@ impl<R: ByteSource> Decoder<R> {
     /// Nothing is taken.
     #[inline]
     pub fn peek_code(&mut self) -> Result<u8, Error>
+        ensures read { Tells R.remaining → AnswersRead false PeeksCode BeginFault self.old result self.new }
+        ensures tries { Tries false self.old result self.new }
+    {
+        if self.is_plain()
+            && !self.is_spent()
+            && let Some(code) = self.look_at_hand()
+        {
+            return Ok(code);
+        }
+        self.peek_slowly()
+    }
+
+    // The same, whatever stands there, however the source gives it.
+    #[inline(never)]
+    fn peek_slowly(&mut self) -> Result<u8, Error>
         ensures read { Tells R.remaining → AnswersRead false PeeksCode BeginFault self.old result self.new }
         ensures tries { Tries false self.old result self.new }
     {

@@ -1,30 +1,26 @@
-use Rattle.std.proofs.Common.{refl, ap}
-use Rattle.std.proofs.lemmas.Result.{err_from_is_err_and}
+use Rattle.std.proofs.Common.{◌≡◌, refl, ap, sym, Some, ◌∙◌, subst}
 use Rattle.amqp_model.specs.Term.{ulong}
-use Rattle.amqp_decoder.specs.State.{State}
-use Rattle.amqp_decoder.proofs.ReadPrimitives.{refused_first, lacking_refused, other_refused, data_value}
-use Rattle.amqp_decoder.proofs.Steps.{answered_later, answered_so}
+use Rattle.amqp_lookahead.proofs.SectionsAhead.{bytes_at}
+use Rattle.amqp_decoder.specs.Primitives.{ReadsFixed}
+use Rattle.amqp_decoder.proofs.Quick.{behind_code}
+use Rattle.amqp_decoder.proofs.ReadPrimitives.{fixed_value}
 use Rattle.amqp_decoder.proofs.decoder.Decoder.read_ulong.Goals as goal
-
-pub returns-in_err-code-clause-read : goal.returns-in_err-code-clause-read
-returns-in_err-code-clause-read g c = λ told.
-    let p = err_from_is_err_and c.from_residual.result c.from_residual.ensures.1 in
-    rw (p.1, p.2) (refused_first ulong 5 _ _ _ (λ v. refl) (c.in_err-code.ensures.read told))
-
-pub returns-in_err-value-clause-read : goal.returns-in_err-value-clause-read
-returns-in_err-value-clause-read g c = λ told.
-    let p = err_from_is_err_and c.from_residual-in_err-value.result c.from_residual-in_err-value.ensures.1 in
-    let l = c.in_err-value.ensures.err told in
-    rw (p.1, p.2) (lacking_refused ulong 5 _ _ _ _ _ (λ v. refl) l.kind (c.in_ok-code.ensures.read told) l.kept l.why)
 
 pub returns-in-Some-clause-read : goal.returns-in-Some-clause-read
 returns-in-Some-clause-read g c = λ told.
-    let d = rw c.in-Some.is at (c.in_ok-value.ensures.ok told) in
-    data_value ulong _ _ _ d.data_ _ _ (c.in_ok-code.ensures.read told) d.spelled d.took
+    let f = c.in-Some.ensures.read told in
+    let e = behind_code 0 c.in-Some.bytes f.width in
+    fixed_value ulong 83 1 _ (bytes_at 1 1 c.in-Some.bytes) _ _ (refl, ap (λ n. Some (ulong n)) (sym c.from.ensures), tt)
+    (subst (λ b. ReadsFixed 83 1 c.args.self.now b c.quick.new.self) e f)
 
-pub returns-in-None-clause-read : goal.returns-in-None-clause-read
-returns-in-None-clause-read g c = λ told.
-    let d = rw c.in-None.is at (c.in_ok-value.ensures.ok told) in
-    let b = c.in_ok-code.ensures.read told in
-    other_refused ulong 5 _ _ _ _ _ (λ v. refl) b d.0 c.refuse_code.ensures.answer
-    (answered_later (ap (λ (x : State). x.failed) d.1) (answered_so c.ulong_data.new.self _ _ c.refuse_code.ensures.kept))
+pub returns-in-Some-quick-clause-read : goal.returns-in-Some-quick-clause-read
+returns-in-Some-quick-clause-read g c = λ told.
+    let f = rw (c.in_default.ensures.none refl) at (c.in-Some-quick.ensures.read told) in fixed_value ulong 68 0 _ _ _ _ (f.width, refl, tt) f
+
+pub returns-in-Some-quick-2-clause-read : goal.returns-in-Some-quick-2-clause-read
+returns-in-Some-quick-2-clause-read g c = λ told.
+    let same : c.quick-2.new.self ≡ c.args.self.now = c.in_default-quick.ensures.none refl ∙ c.in_default.ensures.none refl in
+    let f = rw same at (c.in-Some-quick-2.ensures.read told) in
+    let e = behind_code 7 c.in-Some-quick-2.bytes f.width in
+    fixed_value ulong 128 8 _ (bytes_at 8 1 c.in-Some-quick-2.bytes) _ _ (refl, ap (λ n. Some (ulong n)) (sym c.from_be_bytes.ensures), tt)
+    (subst (λ b. ReadsFixed 128 8 c.args.self.now b c.quick-3.new.self) e f)

@@ -1,6 +1,6 @@
 use Rattle.std.proofs.lemmas.Result.{err_from_is_err_and}
 use Rattle.amqp_decoder.proofs.Steps.{begun_own, begun_shared, begin_short, full_own, full_shared}
-use Rattle.amqp_decoder.proofs.decoder.Decoder.begin.Goals as goal
+use Rattle.amqp_decoder.proofs.decoder.Decoder.begin_slowly.Goals as goal
 
 pub returns-in_err-count-clause-read : goal.returns-in_err-count-clause-read
 returns-in_err-count-clause-read g c = λ told.

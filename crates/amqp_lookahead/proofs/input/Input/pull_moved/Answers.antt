@@ -2,7 +2,7 @@ use Rattle.std.proofs.Common.{arith, ◌≡◌, ◌≤◌, ◌-◌, length, refl
 use Rattle.std.proofs.lemmas.List.{length-drop}
 use Rattle.amqp_lookahead.specs.State.{pending}
 use Rattle.amqp_lookahead.proofs.Looks.{copied_bytes, copied_behind, looked_rest, moved_is}
-use Rattle.amqp_lookahead.proofs.input.Input.pull.Goals as goal
+use Rattle.amqp_lookahead.proofs.input.Input.pull_moved.Goals as goal
 
 pub returns-then-count-buffer-clause-bytes : goal.returns-then-count-buffer-clause-bytes
 returns-then-count-buffer-clause-bytes g c =
