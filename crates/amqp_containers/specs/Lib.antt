@@ -2,4 +2,3 @@ pub mod ArrayType
 pub mod Several
 pub mod SeveralLaws
 pub mod MultipleFields
-pub mod Transparent

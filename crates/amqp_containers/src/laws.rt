@@ -1,23 +1,17 @@
-//! What holds of arrays, and of values that stand one after another, beyond the laws of every type. The functions do nothing; their
-//! contracts are proved.
+//! What holds of arrays beyond the laws of every type. The functions do nothing; their contracts are proved.
 ghost use Rattle.std.specs.Prelude.{◌≡◌, true, IsTrue};
 ghost use Rattle.std.specs.List.{AllZip};
 ghost use Rattle.std.specs.Cmp.Lexicographic.{slice_cmp};
 ghost use Rattle.amqp_containers.specs.declared.array.Array.{Array};
-ghost use Rattle.amqp_containers.specs.declared.transparent_vec.TransparentVec.{TransparentVec};
 ghost use Rattle.amqp_containers.specs.MultipleFields.{multiple, mandatory_multiple};
 ghost use Rattle.amqp_containers.specs.Several.{AreLeaves};
-ghost use Rattle.amqp_containers.specs.Transparent.{vec_in};
 
-use crate::{Array, TransparentVec};
+use crate::Array;
 use amqp_codec::{Canonical, DeserializeTerm};
-use std::ops::Deref;
 
 /// A copy has as many items, and each is a copy of the one in its place.
 pub fn items_are_copied<T: Clone>()
     ensures array { (array copy : Array T) → ⟦<Array<T> as Clone>⟧.is_clone array copy → AllZip T.is_clone array.0.items copy.0.items }
-    ensures transparent_vec { (run copy : TransparentVec T) → ⟦<TransparentVec<T> as Clone>⟧.is_clone run copy
-        → AllZip T.is_clone (vec_in run).items (vec_in copy).items }
 {}
 
 /// Where copies of items are equal to them, so is a copy of what holds them.
@@ -25,8 +19,6 @@ pub fn items_are_copied<T: Clone>()
 pub fn copies_are_equal<T: Clone + PartialEq>()
     ensures array { ((x y : T) → T.is_clone x y → IsTrue (T.eq x y)) → (array copy : Array T) → ⟦<Array<T> as Clone>⟧.is_clone array copy
         → IsTrue (⟦<Array<T> as PartialEq>⟧.eq array copy) }
-    ensures transparent_vec { ((x y : T) → T.is_clone x y → IsTrue (T.eq x y)) → (run copy : TransparentVec T)
-        → ⟦<TransparentVec<T> as Clone>⟧.is_clone run copy → IsTrue (⟦<TransparentVec<T> as PartialEq>⟧.eq run copy) }
 {}
 
 /// An array is least exactly where its items are; but of a text in which an array stands that says nothing. A field of several values
@@ -39,10 +31,7 @@ pub fn texts_are_least<T: DeserializeTerm>()
         → (mandatory_multiple T.term n s l).laws.is_least ≡ true }
 {}
 
-/// Arrays, and values that stand one after another, are ordered by the first values that differ, and a row stands before a longer one
-/// that begins with it.
+/// Arrays are ordered by the first values that differ, and an array stands before a longer one that begins with it.
 pub fn orders<T: Ord>()
     ensures array { (a b : Array T) → ⟦<Array<T> as Ord>⟧.cmp a b ≡ slice_cmp T.cmp a.0.items b.0.items }
-    ensures transparent_vec { (a b : _) (v w : _) → ⟦<TransparentVec<T> as Deref>⟧.deref_gives a v
-        → ⟦<TransparentVec<T> as Deref>⟧.deref_gives b w → ⟦<TransparentVec<T> as Ord>⟧.cmp a b ≡ slice_cmp T.cmp v.items w.items }
 {}

@@ -1,5 +1,6 @@
 //! The calls of arrays, and of values that stand one after another.
-use amqp_containers::{Array, TransparentVec};
+use amqp_batches::TransparentVec;
+use amqp_containers::Array;
 use std::test::Fail;
 
 #[test]

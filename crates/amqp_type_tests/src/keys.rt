@@ -1,6 +1,7 @@
 //! Values of the primitive and of the restricted types as keys of maps: equal ones have equal hashes.
+use amqp_batches::TransparentVec;
 use amqp_codec::{Descriptor, MapKey};
-use amqp_containers::{Array, TransparentVec};
+use amqp_containers::Array;
 use amqp_described::Described;
 use amqp_maps::OrderedMap;
 use amqp_primitives::{Binary, Dec32, Dec64, Dec128, Timestamp, Uuid};

@@ -4,11 +4,12 @@
 
 /// Reading and writing of whole values (Part 1, sections 1.2 to 1.6).
 pub mod codec {
+    pub use amqp_batches::TransparentVec;
     pub use amqp_codec::{
         ByteSource, Canonical, Decoder, Descriptor, Deserialize, DeserializeTerm, Encoder, Error,
         MapKey, Serialize, SerializeTerm, Symbol, kernel,
     };
-    pub use amqp_containers::{Array, TransparentVec};
+    pub use amqp_containers::Array;
     pub use amqp_described::Described;
     pub use amqp_lazy::LazyValue;
     pub use amqp_lengths::term_len;
@@ -27,8 +28,9 @@ pub mod codec {
 
 /// The primitive types (Part 1, section 1.6), and the standard's names of those of std.
 pub mod primitives {
+    pub use amqp_batches::TransparentVec;
     pub use amqp_codec::{Descriptor, Symbol};
-    pub use amqp_containers::{Array, TransparentVec};
+    pub use amqp_containers::Array;
     pub use amqp_described::Described;
     pub use amqp_lazy::LazyValue;
     pub use amqp_maps::OrderedMap;
@@ -72,6 +74,11 @@ pub mod definitions {
 
 /// The types of messaging (Part 3).
 pub mod messaging {
+    pub use amqp_batches::Batch;
+    pub use amqp_bodies::{
+        AsBodyRef, Body, CanonicalBody, DeserializableBody, FromBody, FromEmptyBody, IntoBody,
+        NullBody, SerializableBody, TransposeOption, ValueBody,
+    };
     pub use amqp_delivery::{
         Accepted, DeliveryState, Modified, Outcome, Received, Rejected, Released,
     };
@@ -79,6 +86,7 @@ pub mod messaging {
         ApplicationProperties, DeliveryAnnotations, Footer, MessageAnnotations,
     };
     pub use amqp_message_headers::{Header, MESSAGE_FORMAT, MessageId, Priority, Properties};
+    pub use amqp_messages::Message;
     pub use amqp_restricted_types::{DistributionMode, TerminusDurability, TerminusExpiryPolicy};
     pub use amqp_sections::{AmqpSequence, AmqpValue, Data};
     pub use amqp_termini::{
@@ -86,6 +94,16 @@ pub mod messaging {
         FilterSet, LifetimePolicy, NodeProperties, Source, SourceBuilder, SupportedDistModes,
         Target, TargetArchetype, TargetBuilder,
     };
+
+    /// Whole messages, and strict ones (Part 3, section 3.2).
+    pub mod message {
+        pub use amqp_bodies::Body;
+        pub use amqp_messages::builder::{Builder, EmptyBody};
+        pub use amqp_messages::{
+            Message, Strict, canonical_text_strict, decode_message_strict,
+            decode_message_strict_within,
+        };
+    }
 
     /// Headers of messages (Part 3, section 3.2.1).
     pub mod header {

@@ -1,0 +1,5 @@
+pub mod Exits
+pub mod WalkSteps
+pub mod RunSteps
+pub mod NoSectionSteps
+pub mod Limits

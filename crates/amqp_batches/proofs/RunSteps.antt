@@ -1,0 +1,83 @@
+-- How a run is read, section by section.
+use Rattle.std.proofs.Common.{◌≡◌, ℕ, Bool, true, false, List, [], ◌∷◌, ◌++◌, Option, Some, None, unwrap_or, eqb, eq-eqb, refl, sym, ap, ◌∙◌, subst, inl, inr}
+use Rattle.std.proofs.lemmas.Bool.{eqb-true}
+use Rattle.std.specs.Option.{option_eq}
+use Rattle.amqp_wire.specs.declared.error.Error.{Error}
+use Rattle.amqp_wire.specs.declared.error.Error.TheVariants.{Memory}
+use Rattle.amqp_lookahead.specs.Sections.{IsSectionAhead}
+use Rattle.amqp_decoder.specs.State.{State}
+use Rattle.amqp_decoder.specs.Steps.{RefusesBy}
+use Rattle.amqp_decoder.specs.Reading.{RefusesRead}
+use Rattle.amqp_decoder.specs.Sections.{PeeksSection}
+use Rattle.amqp_codec.specs.Reading.{Reading}
+use Rattle.amqp_batches.specs.StateLaws.{stays_then, alike_stays, alike_rest}
+use Rattle.amqp_batches.specs.Walk.{IsAtTop, Walk, Walked, WalkFault}
+use Rattle.amqp_batches.specs.Runs.{run_walk}
+use Rattle.amqp_batches.proofs.WalkSteps.{SoFar, peeked_top, peeked_alike, step_made, finished, step_refused, ran_out}
+
+module _ {T : Type 0} (c : ℕ) (r : Reading T) where
+  abbrev w : Walk (List T) (List T)
+  w = run_walk c r
+
+  is_ahead : (mid : State) (o : Option ℕ) (here : State) → PeeksSection mid o here → o ≡ Some c → IsSectionAhead here.rest c
+  is_ahead mid o here p i =
+      let a = p.answer c in subst (λ b. IsSectionAhead b c) (sym (alike_rest mid here (peeked_alike mid o here p))) (a.0 i)
+
+  not_ahead : (mid : State) (o : Option ℕ) (here : State) → PeeksSection mid o here → (o ≡ Some c → ⊥) → IsSectionAhead here.rest c → ⊥
+  not_ahead mid o here p n h =
+      let a = p.answer c in n (a.1 (subst (λ b. IsSectionAhead b c) (alike_rest mid here (peeked_alike mid o here p)) h))
+
+  still_top : (mid : State) (o : Option ℕ) (here : State) → PeeksSection mid o here → IsAtTop here
+  still_top mid o here p =
+      let s = alike_stays mid here (peeked_alike mid o here p) in
+      let t = peeked_top mid o here p in
+      (s.error ∙ t.0, s.place ∙ t.1, s.saved ∙ t.2)
+
+  -- one more section was read
+  pub one_more : (st : State) (xs ys : List T) (v : T) (mid : State) (o : Option ℕ) (here b : State) → ys ≡ xs ++ v ∷ []
+      → SoFar w st xs mid → PeeksSection mid o here → o ≡ Some c → r.reads here v b → SoFar w st ys b
+  one_more st xs ys v mid o here b g h p i k =
+      step_made w st xs ys mid here b h (peeked_alike mid o here p)
+      (record { top = still_top mid o here p; item = v; grows = g; ahead = is_ahead mid o here p i; read = k })
+
+  -- the next section was refused
+  pub item_refused : (st : State) (xs : List T) (mid : State) (o : Option ℕ) (here : State) (e : Error) (new : State)
+      → SoFar w st xs mid → PeeksSection mid o here → o ≡ Some c → RefusesRead r.takes_memory r.reads r.fault here e new
+      → RefusesRead true (Walked w) (WalkFault w) st e new
+  item_refused st xs mid o here e new h p i q =
+      step_refused w r.reads r.fault st xs mid here e new h (peeked_top mid o here p) (peeked_alike mid o here p) (λ _. refl)
+      (λ f. (is_ahead mid o here p i, f)) (λ none n x b l s. none s.item b s.read) (λ d. d (is_ahead mid o here p i)) q
+
+  -- no memory for it
+  pub item_not_kept : (st : State) (xs : List T) (v : T) (mid : State) (o : Option ℕ) (here b : State) (e : Error) (new : State)
+      → SoFar w st xs mid → PeeksSection mid o here → r.reads here v b → RefusesBy Memory b e new
+      → RefusesRead true (Walked w) (WalkFault w) st e new
+  item_not_kept st xs v mid o here b e new h p k refused =
+      ran_out w st xs mid b e new refl h (peeked_top mid o here p)
+      (stays_then (alike_stays mid here (peeked_alike mid o here p)) (r.stays here v b k)) refused
+
+  -- the run ends
+  pub run_ends : (st : State) (xs : List T) (mid : State) (o : Option ℕ) (here : State) → SoFar w st xs mid → PeeksSection mid o here
+      → (o ≡ Some c → ⊥) → Walked w st xs here
+  run_ends st xs mid o here h p n =
+      finished w st xs mid here xs h (peeked_top mid o here p) (peeked_alike mid o here p) (not_ahead mid o here p n) refl
+
+-- what a comparison of codes tells
+pub code_is : (o : Option ℕ) (k c : ℕ) → k ≡ c → true ≡ option_eq eqb o (Some k) → o ≡ Some c
+code_is None k c e h = absurd (cc)
+code_is (Some x) k c e h = ap Some (eqb-true x k (sym h) ∙ e)
+
+pub code_is_not : (o : Option ℕ) (k c : ℕ) → k ≡ c → false ≡ option_eq eqb o (Some k) → o ≡ Some c → ⊥
+code_is_not None k c e h i = let j = i in absurd (cc)
+code_is_not (Some x) k c e h i =
+    let j : x ≡ k = ap (λ o. unwrap_or o 0) i ∙ sym e in let f = h ∙ eq-eqb x k j in absurd (cc)
+
+-- what is refused as a list of sections is refused as what holds it
+pub refused_via : {A B : Type 0} {takes : Bool} (p : State → A → State → Type 0) (f : State → Error → Type 0) (to : B → A) (st : State)
+    (e : Error) (new : State) → RefusesRead takes p f st e new → RefusesRead takes (λ st v b. p st (to v) b) f st e new
+refused_via p f to st e new r = record {
+  kept = r.kept;
+  again = r.again;
+  named = r.named;
+  none = elim r.none [ inl x ↦ inl x | inr n ↦ inr (λ v b h. n (to v) b h) ];
+}

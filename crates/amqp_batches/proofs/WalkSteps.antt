@@ -1,0 +1,199 @@
+-- The calls that read one thing after another, up to where they are.
+use Rattle.std.proofs.Common.{◌≡◌, inl, inr, ℕ, zero, suc, Bool, true, false, Option, Some, None, ◌⊎◌, refl, sym, ◌∙◌, subst}
+use Rattle.amqp_wire.specs.declared.error.Error.{Error}
+use Rattle.amqp_wire.specs.declared.error.Error.TheVariants.{Memory}
+use Rattle.amqp_decoder.specs.State.{State}
+use Rattle.amqp_decoder.specs.Steps.{IsExcused, RefusesBy}
+use Rattle.amqp_decoder.specs.Reading.{RefusesRead}
+use Rattle.amqp_decoder.specs.Sections.{NotTop, PeeksSection}
+use Rattle.amqp_decoder.proofs.Steps.{answered_later, first_kept}
+use Rattle.amqp_codec.specs.Reading.{Stays, looking, AreAlike}
+use Rattle.amqp_codec.specs.RefusalLaws.{NoneStands, excused_as, no_memory, or_else}
+use Rattle.amqp_batches.specs.StateLaws.{stays_then, alike_stays, alike_rest, alike_sym, alike_trans}
+use Rattle.amqp_batches.specs.Walk.{IsAtTop, Walk, Steps, Walked, WalkFault, not_top, in_step, not_made}
+use Rattle.amqp_batches.specs.WalkLaws.{GoesOn, goes_on, steps_leave, steps_top, one_step_more}
+
+-- So much was read so far, and the decoder stands there.
+pub record SoFar {M V : Type 0} (w : Walk M V) (st : State) (m : M) (mid : State) : Type 0 where
+  pub number : ℕ
+  pub last : State
+  pub steps : Steps w number st w.blank m last
+  pub here : AreAlike last mid
+  pub first : number ≡ 0 → mid ≡ st
+
+pub peeked_top : (st : State) (o : Option ℕ) (b : State) → PeeksSection st o b → IsAtTop st
+peeked_top st o b h = (h.going, h.place, h.saved)
+
+pub peeked_alike : (st : State) (o : Option ℕ) (b : State) → PeeksSection st o b → AreAlike st b
+peeked_alike st o b h = let k = h.kept in subst (AreAlike st) (sym k.3) refl
+
+module _ {M V : Type 0} (w : Walk M V) where
+  pub so_far_start : (st : State) → SoFar w st w.blank st
+  so_far_start st = record { number = 0; last = st; steps = (refl, refl); here = refl; first = λ e. refl }
+
+  pub so_far_stays : (st : State) (m : M) (mid : State) → SoFar w st m mid → Stays st mid
+  so_far_stays st m mid h = stays_then (steps_leave w h.number st w.blank m h.last h.steps).stays (alike_stays h.last mid h.here)
+
+  -- the beginning stands as what comes after it
+  pub began_top : (st : State) (m : M) (mid : State) → SoFar w st m mid → IsAtTop mid → IsAtTop st
+  began_top st m mid h t =
+      let s = so_far_stays st m mid h in
+      (sym s.error ∙ t.0, sym s.place ∙ t.1, sym s.saved ∙ t.2)
+
+  pub step_made : (st : State) (m x : M) (mid here b : State) → SoFar w st m mid → AreAlike mid here → w.step here m x b
+      → SoFar w st x b
+  step_made st m x mid here b h a s =
+      let f = w.step_looked h.last.ahead here m x b s in
+      let back : looking h.last.ahead here ≡ h.last = sym (alike_sym h.last here (alike_trans h.last mid here h.here a)) in
+      let k : w.step h.last m x (looking f.0 b) = subst (λ (q : State). w.step q m x (looking f.0 b)) back f.1 in
+      record {
+        number = suc h.number;
+        last = looking f.0 b;
+        steps = one_step_more w h.number st w.blank m x h.last (looking f.0 b) h.steps k;
+        here = refl;
+        first = λ e. absurd (cc);
+      }
+
+  pub finished : (st : State) (m : M) (mid here : State) (v : V) → SoFar w st m mid → IsAtTop mid → AreAlike mid here
+      → w.done m here.rest → w.finish m v → Walked w st v here
+  finished st m mid here v h t a d f =
+      let u = began_top st m mid h t in
+      let l = alike_trans h.last mid here h.here a in
+      record {
+        top = u;
+        number = h.number;
+        part = m;
+        last = h.last;
+        steps = h.steps;
+        done = subst (w.done m) (alike_rest h.last here l) d;
+        made = f;
+        left = l;
+      }
+
+  -- where no step is made and no reading ends, no value is read
+  pub none_walked : (st : State) (m : M) (mid here : State) → SoFar w st m mid → AreAlike mid here
+      → ((n x : M) (b : State) → w.alike m n → w.step here n x b → ⊥) → (w.done m here.rest → ⊥) → NoneStands (Walked w) st
+  none_walked st m mid here h a none ends v b k =
+      let g = goes_on w h.number k.number st w.blank w.blank m k.part h.last k.last w.blank_alike h.steps k.steps k.done in
+      by_more g.more g refl
+    where
+      by_more : (more : ℕ) (g : GoesOn w h.last m k.part k.last) → g.more ≡ more → ⊥
+      by_more zero g e =
+          let s : Steps w 0 g.at g.part k.part g.last = subst (λ n. Steps w n g.at g.part k.part g.last) e g.steps in
+          let d : w.done k.part g.last.rest = subst (w.done k.part) (sym (alike_rest k.last g.last g.ends)) k.done in
+          let back : w.done g.part g.at.rest = subst (λ (q : State). w.done g.part q.rest) s.1 (subst (λ p. w.done p g.last.rest) s.0 d) in
+          ends (w.done_alike g.part m here.rest (w.alike_sym m g.part g.like)
+          (subst (w.done g.part) (alike_rest h.last g.at g.here ∙ sym (alike_rest h.last here (alike_trans h.last mid here h.here a))) back))
+      by_more (suc n) g e =
+          let s : Steps w (suc n) g.at g.part k.part g.last = subst (λ n. Steps w n g.at g.part k.part g.last) e g.steps in
+          let f = w.step_looked here.ahead g.at g.part s.0 s.1 s.2 in
+          let same : looking here.ahead g.at ≡ here =
+          sym (alike_trans g.at h.last here (alike_sym h.last g.at g.here) (alike_trans h.last mid here h.here a)) in
+          none g.part s.0 (looking f.0 s.1) g.like (subst (λ (q : State). w.step q g.part s.0 (looking f.0 s.1)) same f.1)
+
+  abbrev Refuses : State → Error → State → Type 0
+  Refuses st e new = RefusesRead w.takes_memory (Walked w) (WalkFault w) st e new
+
+  -- the look at what comes next was refused
+  pub look_refused : {A : Type 0} (p : State → A → State → Type 0) (f : State → Error → Type 0) (st : State) (m : M) (mid : State)
+      (e : Error) (new : State) → SoFar w st m mid → (f mid e → NotTop mid e ⊎ w.fault mid m e)
+      → (f mid e → IsAtTop mid → NoneStands (Walked w) st) → RefusesRead false p f mid e new → Refuses st e new
+  look_refused p f st m mid e new h named none r =
+      let s = so_far_stays st m mid h in
+      record {
+        kept = answered_later s.sound r.kept;
+        again = again h.number refl;
+        named = λ g. or_else (excused_as e new no_memory) (λ n. by_fault (named n)) (r.named (s.error ∙ g));
+        none = by_error mid.error refl;
+      }
+    where
+      again : (n : ℕ) → h.number ≡ n → (d : Error) → st.error ≡ Some d → (d ≡ e) × (new ≡ st)
+      again zero i d x =
+          let j = h.first i in
+          subst (λ (q : State). (d ≡ e) × (new ≡ q)) j (r.again d (subst (λ (q : State). q.error ≡ Some d) (sym j) x))
+      again (suc n) i d x =
+          let g = steps_top w h.number st w.blank m h.last (λ z. (let q = sym i ∙ z in absurd (cc))) h.steps in
+          let going = g.0 in absurd (cc)
+
+      by_fault : NotTop mid e ⊎ w.fault mid m e → WalkFault w st e
+      by_fault (inl n) =
+          let s = so_far_stays st m mid h in not_top ((λ p q. n.0 (s.place ∙ p) (s.saved ∙ q)), n.1)
+      by_fault (inr x) = in_step h.number m h.last mid h.steps h.here x
+
+      by_error : (o : Option Error) → mid.error ≡ o → IsExcused w.takes_memory e new ⊎ NoneStands (Walked w) st
+      by_error None i =
+          or_else (excused_as e new no_memory)
+          (λ x v b k.
+          (let s = so_far_stays st m mid h in
+          none x (i, s.place ∙ k.top.1, s.saved ∙ k.top.2) v b k)) (r.named i)
+      by_error (Some d) i = inr (λ v b k. (let j = (so_far_stays st m mid h).error ∙ k.top.0 in absurd (cc)))
+
+  -- at the top level only, where nothing else refuses it
+  pub peek_refused : {A : Type 0} (p : State → A → State → Type 0) (st : State) (m : M) (mid : State) (e : Error) (new : State)
+      → SoFar w st m mid → RefusesRead false p NotTop mid e new → Refuses st e new
+  peek_refused p st m mid e new h r =
+      look_refused p NotTop st m mid e new h (λ n. inl n) (λ n t v b k. n.0 t.1 t.2) r
+
+  -- the next step was refused
+  pub step_refused : {A : Type 0} {a : Bool} (p : State → A → State → Type 0) (f : State → Error → Type 0) (st : State) (m : M)
+      (mid here : State) (e : Error) (new : State) → SoFar w st m mid → IsAtTop mid → AreAlike mid here
+      → (a ≡ true → w.takes_memory ≡ true) → (f here e → w.fault here m e)
+      → (NoneStands p here → (n x : M) (b : State) → w.alike m n → w.step here n x b → ⊥) → (w.done m here.rest → ⊥)
+      → RefusesRead a p f here e new → Refuses st e new
+  step_refused p f st m mid here e new h t a may named none ends r =
+      let s = stays_then (so_far_stays st m mid h) (alike_stays mid here a) in
+      let u = began_top st m mid h t in
+      record {
+        kept = answered_later s.sound r.kept;
+        again = λ d x. (let going = u.0 in absurd (cc));
+        named = λ g.
+            or_else (excused_as e new may)
+            (λ n. in_step h.number m h.last here h.steps (alike_trans h.last mid here h.here a) (named n)) (r.named (s.error ∙ g));
+        none = or_else (excused_as e new may) (λ n. none_walked st m mid here h a (none n) ends) r.none;
+      }
+
+  -- memory ran out
+  pub ran_out : (st : State) (m : M) (mid here : State) (e : Error) (new : State) → w.takes_memory ≡ true → SoFar w st m mid
+      → IsAtTop mid → Stays mid here → RefusesBy Memory here e new → Refuses st e new
+  ran_out st m mid here e new takes h t a refused =
+      let s = stays_then (so_far_stays st m mid h) a in
+      let u = began_top st m mid h t in
+      let going = s.error ∙ u.0 in
+      let is = (refused going).0 in
+      record {
+        kept = answered_later s.sound (first_kept going refused);
+        again = λ d x. (let g = u.0 in absurd (cc));
+        named = λ _. inl (inl (takes, is));
+        none = inl (inl (takes, is));
+      }
+
+  -- what was read makes no value
+  none_made : (st : State) (m : M) (mid here : State) (e : Error) → SoFar w st m mid → AreAlike mid here → w.done m here.rest
+      → w.unfinished m e → NoneStands (Walked w) st
+  none_made st m mid here e h a d f v b k =
+      let g = goes_on w h.number k.number st w.blank w.blank m k.part h.last k.last w.blank_alike h.steps k.steps k.done in
+      by_more g.more g refl
+    where
+      by_more : (more : ℕ) (g : GoesOn w h.last m k.part k.last) → g.more ≡ more → ⊥
+      by_more zero g i =
+          let s : Steps w 0 g.at g.part k.part g.last = subst (λ n. Steps w n g.at g.part k.part g.last) i g.steps in
+          w.finish_or k.part m v e (w.alike_sym m k.part (subst (w.alike m) (sym s.0) g.like)) k.made f
+      by_more (suc n) g i =
+          let s : Steps w (suc n) g.at g.part k.part g.last = subst (λ n. Steps w n g.at g.part k.part g.last) i g.steps in
+          w.done_ends g.at g.part m s.0 s.1 (w.alike_sym m g.part g.like) s.2
+          (subst (w.done m) (alike_rest h.last here (alike_trans h.last mid here h.here a) ∙ sym (alike_rest h.last g.at g.here)) d)
+
+  pub unmade : (st : State) (m : M) (mid here : State) (error e : Error) (new : State) → SoFar w st m mid → IsAtTop mid
+      → AreAlike mid here → w.done m here.rest → w.unfinished m error → RefusesBy error here e new → Refuses st e new
+  unmade st m mid here error e new h t a d f refused =
+      let s = stays_then (so_far_stays st m mid h) (alike_stays mid here a) in
+      let u = began_top st m mid h t in
+      let going = s.error ∙ u.0 in
+      let is = (refused going).0 in
+      let left = subst (w.done m) (alike_rest h.last here (alike_trans h.last mid here h.here a)) d in
+      record {
+        kept = answered_later s.sound (first_kept going refused);
+        again = λ d x. (let g = u.0 in absurd (cc));
+        named = λ _. inr (not_made h.number m h.last h.steps left (subst (w.unfinished m) (sym is) f));
+        none = inr (none_made st m mid here error h a d f);
+      }

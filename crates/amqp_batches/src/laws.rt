@@ -1,0 +1,39 @@
+//! What holds of values that stand one after another beyond the laws of every type. The functions do nothing; their contracts are proved.
+ghost use Rattle.std.specs.Prelude.{◌≡◌, ℕ, List, IsTrue};
+ghost use Rattle.std.specs.List.{AllZip};
+ghost use Rattle.std.specs.Cmp.Lexicographic.{slice_cmp};
+ghost use Rattle.amqp_batches.specs.declared.transparent_vec.TransparentVec.{TransparentVec};
+ghost use Rattle.amqp_batches.specs.Transparent.{vec_in};
+ghost use Rattle.amqp_codec.specs.Reading.{BeginsWithin, BeginsWith};
+ghost use Rattle.amqp_wire.specs.declared.limits.Limits.{Limits};
+
+use crate::run::BatchItem;
+use crate::transparent_vec::TransparentVec;
+use amqp_codec::{Deserialize, DeserializeTerm};
+use std::ops::Deref;
+
+/// A copy has as many values, and each is a copy of the one in its place.
+pub fn values_are_copied<T: Clone>()
+    ensures { (run copy : TransparentVec T) → ⟦<TransparentVec<T> as Clone>⟧.is_clone run copy
+        → AllZip T.is_clone (vec_in run).items (vec_in copy).items }
+{}
+
+/// If copies of values are equal to them, so is a copy of what holds them.
+#[tactic(auto, using(amqp_containers::proofs::CopiesEqual::equal_all_zip))]
+pub fn copies_are_equal<T: Clone + PartialEq>()
+    ensures { ((x y : T) → T.is_clone x y → IsTrue (T.eq x y)) → (run copy : TransparentVec T)
+        → ⟦<TransparentVec<T> as Clone>⟧.is_clone run copy → IsTrue (⟦<TransparentVec<T> as PartialEq>⟧.eq run copy) }
+{}
+
+/// They are ordered by the first values that differ, and a row stands before a longer one that begins with it.
+pub fn orders<T: Ord>()
+    ensures { (a b : _) (v w : _) → ⟦<TransparentVec<T> as Deref>⟧.deref_gives a v
+        → ⟦<TransparentVec<T> as Deref>⟧.deref_gives b w → ⟦<TransparentVec<T> as Ord>⟧.cmp a b ≡ slice_cmp T.cmp v.items w.items }
+{}
+
+/// Within limits of the caller nothing is read as a batch that isn't read without.
+pub fn limits_take_nothing<T: BatchItem + DeserializeTerm>()
+    ensures { (limits : Limits) (input : List ℕ) (run : TransparentVec T) (n : ℕ)
+        → BeginsWithin limits ⟦<TransparentVec<T> as Deserialize>⟧.reading input run n
+        → BeginsWith ⟦<TransparentVec<T> as Deserialize>⟧.reading input run n }
+{}

@@ -1,0 +1,50 @@
+//! Runs: the sections of one kind that come next, one after another (Part 3, sections 3.2.6 and 3.2.7).
+ghost use Rattle.std.specs.Prelude.{◌≡◌, ◌⊎◌, ℕ, true};
+ghost use Rattle.amqp_wire.specs.Sources.{Tells};
+ghost use Rattle.amqp_decoder.specs.Reading.{AnswersRead};
+ghost use Rattle.amqp_decoder.specs.Steps.{Tries};
+ghost use Rattle.amqp_codec.specs.TermReading.{reading_of};
+ghost use Rattle.amqp_batches.specs.Walk.{Walked, WalkFault};
+ghost use Rattle.amqp_batches.specs.Runs.{run_walk};
+ghost use Rattle.amqp_batches.specs.Sections.{IsSection};
+
+use amqp_codec::{DeserializeTerm, SerializeTerm};
+use amqp_decoder::Decoder;
+use amqp_wire::{ByteSource, Error};
+use std::alloc::Global;
+
+/// A section of which several may stand in a message, one after another: `Data` and `AmqpSequence` (Part 3, section 3.2).
+pub trait BatchItem: SerializeTerm {
+    // The code of its descriptor.
+    ghost code: { ℕ };
+
+    /// The code of its descriptor.
+    fn code() -> u8
+        ensures { result ≡ code };
+
+    // It is written as a section of this code.
+    ghost is_section: { IsSection code Self.writing };
+
+    // That is one of which several may stand in a message.
+    ghost is_repeated: { (code ≡ 0x75) ⊎ (code ≡ 0x76) };
+}
+
+/// Reads the sections of one kind that come next, which may be none. The run ends where no whole descriptor of that kind comes
+/// next; a section that has begun must be whole, and is refused as one by itself is.
+pub fn read_run<T: BatchItem + DeserializeTerm, R: ByteSource>(
+    decoder: &mut Decoder<R>,
+    alloc: Global,
+) -> Result<Vec<T>, Error>
+    ensures read { Tells R.remaining → AnswersRead true (λ st v b. Walked (run_walk T.code (reading_of T.term)) st v.items b)
+        (WalkFault (run_walk T.code (reading_of T.term))) decoder.old result decoder.new }
+    ensures tries { Tries true decoder.old result decoder.new }
+{
+    let mut sections = Vec::new(alloc);
+    while decoder.peek_section()? == Some(T::code()) {
+        let section = T::read_value(decoder, alloc)?;
+        if sections.push(section).is_err() {
+            return Err(decoder.refuse(Error::Memory));
+        }
+    }
+    Ok(sections)
+}

@@ -1,0 +1,2 @@
+pub mod PeekSteps
+pub mod BodySteps

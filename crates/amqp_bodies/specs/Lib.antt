@@ -1,0 +1,10 @@
+pub mod Bodies
+pub mod SeenReading
+pub mod BodyReading
+pub mod BodyWriting
+pub mod BodyRewriting
+pub mod BodySections
+pub mod BodyTexts
+pub mod NullBodies
+pub mod PlainBodies
+pub mod EmptyBodies

@@ -1,0 +1,160 @@
+//! Bodies of any kind (Part 3, sections 3.2.6 to 3.2.8).
+ghost use Rattle.std.specs.Prelude.{false, refl};
+ghost use Rattle.amqp_codec.specs.Agreement.{agreement, writing_of};
+ghost use Rattle.amqp_codec.specs.VecType.{vec_of, vec_agreement};
+ghost use Rattle.amqp_primitives.specs.Types.{binary_type};
+ghost use Rattle.amqp_sections.specs.SectionType.{section_of, section_agreement};
+ghost use Rattle.amqp_sections.specs.Sections.{data_naming, in_data, sequence_naming, in_sequence, value_naming, in_value};
+ghost use Rattle.amqp_batches.specs.RepeatedSections.{data_section, sequence_section};
+ghost use Rattle.amqp_bodies.specs.BodyRewriting.{NoBodyFollows};
+ghost use Rattle.amqp_bodies.specs.BodySections.{again_as_body, IsReadAsBody, IsSome, value_section, any_body_rewrites};
+ghost use Rattle.amqp_bodies.specs.BodySections.{empty_body, body_made, any_body_without_limits};
+ghost use Rattle.amqp_codec.specs.TermReading.{reading_of};
+ghost use Rattle.amqp_bodies.specs.BodyReading.{body_reading};
+ghost use Rattle.amqp_bodies.specs.SeenReading.{seen_reading, seen_rewrites, seen_without_limits};
+ghost use Rattle.amqp_bodies.specs.BodyWriting.{body_writing};
+ghost use Rattle.amqp_bodies.specs.EmptyBodies.{again_or_null, HasNoEmptyBatch, body_is_text};
+
+use crate::traits::{
+    BodySection, CanonicalBody, DeserializableBody, FromBody, FromEmptyBody, NullBody,
+    SerializableBody,
+};
+use amqp_batches::{Batch, no_section};
+use amqp_codec::{Canonical, Deserialize, DeserializeTerm, Serialize, SerializeTerm};
+use amqp_decoder::Decoder;
+use amqp_encoder::Encoder;
+use amqp_sections::{AmqpSequence, AmqpValue, Data};
+use amqp_wire::{ByteSource, Error};
+use std::alloc::Global;
+
+/// The body of a message, of any kind (Part 3, section 3.2).
+#[derive(Debug, PartialEq, Eq, PartialOrd, Ord, Hash, Drop)]
+pub enum Body<T> {
+    /// One value.
+    Value(AmqpValue<T>),
+    /// Sections of bytes, one after another.
+    Data(Batch<Data>),
+    /// Sections of lists, one after another.
+    Sequence(Batch<AmqpSequence<T>>),
+    /// The message has no body. It is written as a null value.
+    Empty,
+}
+
+impl<T: SerializeTerm> Serialize for Body<T> {
+    ghost writing = { body_writing ⟦<AmqpValue<T> as Serialize>⟧.writing ⟦<Batch<Data> as Serialize>⟧.writing
+        ⟦<Batch<AmqpSequence<T>> as Serialize>⟧.writing };
+
+    fn serialize(&self, encoder: &mut Encoder) -> Result<(), Error> {
+        match self {
+            Body::Value(value) => value.serialize(encoder),
+            Body::Data(batch) => batch.serialize(encoder),
+            Body::Sequence(batch) => batch.serialize(encoder),
+            Body::Empty => AmqpValue(()).serialize(encoder),
+        }
+    }
+
+    fn in_type(&self) {
+        match self {
+            Body::Value(value) => value.in_type(),
+            Body::Data(batch) => batch.in_type(),
+            Body::Sequence(batch) => batch.in_type(),
+            Body::Empty => {}
+        }
+    }
+}
+
+/// Reads one group of sections: one value, or the sections of data or of sequences that come one after another.
+impl<T: DeserializeTerm> Deserialize for Body<T> {
+    ghost reading = { seen_reading (body_reading (reading_of ⟦<AmqpValue<T> as DeserializeTerm>⟧.term)
+        ⟦<Batch<Data> as Deserialize>⟧.reading ⟦<Batch<AmqpSequence<T>> as Deserialize>⟧.reading) };
+
+    fn deserialize<R: ByteSource>(
+        decoder: &mut Decoder<R>,
+        alloc: Global,
+    ) -> Result<Body<T>, Error> {
+        match decoder.peek_section()? {
+            Some(0x75) => Ok(Body::Data(Batch::deserialize(decoder, alloc)?)),
+            Some(0x76) => Ok(Body::Sequence(Batch::deserialize(decoder, alloc)?)),
+            Some(0x77) => Ok(Body::Value(AmqpValue::read_value(decoder, alloc)?)),
+            Some(_code) => Err(decoder.refuse(Error::WrongDescriptor)),
+            None => Err(no_section(decoder, alloc)),
+        }
+    }
+}
+
+impl<T: DeserializeTerm> Canonical for Body<T> {
+    ghost follows = { NoBodyFollows };
+
+    ghost again = { again_as_body (section_of in_value value_naming T.term) ⟦<Data as DeserializeTerm>⟧.term
+        (section_of in_sequence sequence_naming (vec_of T.term)) };
+
+    ghost kept = { IsSome };
+
+    ghost lasts = { IsReadAsBody };
+
+    ghost is_least = { false };
+
+    ghost rewrites = { seen_rewrites _ (any_body_rewrites _ _ _ (value_section in_value T.writing)
+        (data_section in_data (writing_of binary_type refl)) (sequence_section in_sequence ⟦<Vec<T> as Serialize>⟧.writing)
+        (section_agreement in_value value_naming T.agreement) (section_agreement in_data data_naming (agreement binary_type refl))
+        (section_agreement in_sequence sequence_naming (vec_agreement T.agreement))) };
+}
+
+impl<T> BodySection for Body<T> {}
+
+impl<T: SerializeTerm> SerializableBody for Body<T> {}
+
+impl<T: DeserializeTerm> DeserializableBody for Body<T> {
+    ghost group = { ⟦<Body<T> as Deserialize>⟧.reading };
+
+    fn read_group<R: ByteSource>(
+        decoder: &mut Decoder<R>,
+        alloc: Global,
+    ) -> Result<Body<T>, Error> {
+        Body::deserialize(decoder, alloc)
+    }
+}
+
+/// `Empty`.
+impl<T> FromEmptyBody for Body<T> {
+    ghost empties = { empty_body };
+
+    fn from_empty_body(_alloc: Global) -> Result<Body<T>, Error> {
+        Ok(Body::Empty)
+    }
+}
+
+impl<T: DeserializeTerm> FromBody for Body<T> {
+    type Body = Body<T>;
+
+    ghost made = { body_made ⟦<Body<T> as Deserialize>⟧.reading (seen_without_limits _ (any_body_without_limits
+        ⟦<AmqpValue<T> as DeserializeTerm>⟧.term ⟦<Data as DeserializeTerm>⟧.term ⟦<AmqpSequence<T> as DeserializeTerm>⟧.term)) };
+
+    fn from_body(body: Body<T>, _alloc: Global) -> Result<Body<T>, Error> {
+        Ok(body)
+    }
+
+    fn read_body<R: ByteSource>(decoder: &mut Decoder<R>, alloc: Global) -> Result<Body<T>, Error> {
+        <Body<T> as DeserializableBody>::read_group(decoder, alloc)
+    }
+
+    ghost empty_is = { λ v h. h };
+
+    ghost is_empty = { λ v h. h };
+}
+
+/// A body that isn't there is read again as a null.
+impl<T: NullBody> CanonicalBody for Body<T> {
+    ghost follows = { NoBodyFollows };
+
+    ghost again = { again_or_null (section_of in_value value_naming T.term) ⟦<Data as DeserializeTerm>⟧.term
+        (section_of in_sequence sequence_naming (vec_of T.term)) T.nothing };
+
+    ghost kept = { IsSome };
+
+    ghost lasts = { HasNoEmptyBatch };
+
+    ghost is_text = { body_is_text T.agreement (data_section in_data (writing_of binary_type refl))
+        (section_agreement in_data data_naming (agreement binary_type refl)) (sequence_section in_sequence ⟦<Vec<T> as Serialize>⟧.writing)
+        (section_agreement in_sequence sequence_naming (vec_agreement T.agreement)) T.nothing T.nothing_is_null T.nothing_is_written };
+}

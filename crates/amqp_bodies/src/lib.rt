@@ -1,0 +1,13 @@
+//! The bodies of messages (Part 3, sections 3.2.6 to 3.2.8).
+#![tactic(auto)]
+
+mod body;
+mod sections;
+mod traits;
+mod values;
+
+pub use body::Body;
+pub use traits::{
+    AsBodyRef, CanonicalBody, DeserializableBody, FromBody, FromEmptyBody, IntoBody, NullBody,
+    SerializableBody, TransposeOption, ValueBody,
+};

@@ -1,0 +1,141 @@
+//! What can be the body of a message (Part 3, section 3.2).
+ghost use Rattle.std.specs.Prelude.{◌≡◌, ◌⊎◌, ◌∷◌, [], ℕ, List, IfOk, IfErr, Option};
+ghost use Rattle.amqp_bodies.specs.BodyTexts.{IsBodyText};
+ghost use Rattle.amqp_bodies.specs.NullBodies.{IsNull};
+ghost use Rattle.amqp_model.specs.Term.{null, leaf};
+ghost use Rattle.amqp_wire.specs.Sources.{Tells};
+ghost use Rattle.amqp_wire.specs.declared.error.Error.TheVariants.{Memory, EmptyBody};
+ghost use Rattle.amqp_decoder.specs.Reading.{AnswersRead};
+ghost use Rattle.amqp_decoder.specs.Steps.{Tries};
+ghost use Rattle.amqp_codec.specs.Reading.{Reading};
+ghost use Rattle.amqp_bodies.specs.Bodies.{Empties, Made};
+
+use amqp_codec::{DeserializeTerm, Serialize};
+use amqp_decoder::Decoder;
+use amqp_wire::{ByteSource, Error};
+use std::alloc::Global;
+
+/// A section of a message's body, or several that are one. It isn't exported, so no other crate adds one.
+pub trait BodySection {}
+
+/// What can be written as the body of a message.
+pub trait SerializableBody: Serialize + BodySection {}
+
+/// What can be read as the body of a message.
+pub trait DeserializableBody: BodySection + Sized + Drop {
+    // How a group of its sections is read, where a section of a body comes next.
+    ghost group: { Reading Self };
+
+    /// Reads a group of its sections, where a section of a body comes next: one section, or those of one kind that come one after
+    /// another. Another section is `WrongDescriptor`; what a section is refused for comes besides.
+    fn read_group<R: ByteSource>(decoder: &mut Decoder<R>, alloc: Global) -> Result<Self, Error>
+        ensures read { Tells R.remaining → AnswersRead group.takes_memory group.reads group.fault decoder.old result decoder.new }
+        ensures tries { Tries group.takes_memory decoder.old result decoder.new };
+}
+
+/// What takes the place of the body of a message that has none.
+pub trait FromEmptyBody: Sized {
+    // The values that do.
+    ghost empties: { Empties Self };
+
+    /// A value that takes the place of a body that isn't there, or `EmptyBody` if none does. The only other error is `Memory`.
+    fn from_empty_body(alloc: Global) -> Result<Self, Error>
+        ensures value { IfOk result empties.is }
+        ensures refused { IfErr result (λ e. (e ≡ Memory) ⊎ ((e ≡ EmptyBody) × ((v : Self) → empties.is v → ⊥))) };
+}
+
+/// What is made of the body of a message that is read.
+pub trait FromBody: FromEmptyBody + Drop {
+    /// As what it is read.
+    type Body: DeserializableBody;
+
+    // How the body is read, and the value made of it, with the laws.
+    ghost made: { Made Self.Body Self };
+
+    /// The value that is made of the body. The only error is `Memory`.
+    fn from_body(body: Self::Body, alloc: Global) -> Result<Self, Error>
+        ensures value { IfOk result (λ v. made.of_body body v) }
+        ensures memory { IfErr result (λ e. e ≡ Memory) };
+
+    /// Reads a group of sections of the body, where a section of a body comes next, as the body's type does.
+    fn read_body<R: ByteSource>(
+        decoder: &mut Decoder<R>,
+        alloc: Global,
+    ) -> Result<Self::Body, Error>
+        ensures read { Tells R.remaining → AnswersRead made.group.takes_memory made.group.reads made.group.fault decoder.old result
+            decoder.new }
+        ensures tries { Tries made.group.takes_memory decoder.old result decoder.new };
+
+    // The values that take the place of a body that isn't there are those that `from_empty_body` tells of.
+    ghost empty_is: { (v : Self) → Self.FromEmptyBody.empties.is v → made.empty v };
+
+    ghost is_empty: { (v : Self) → made.empty v → Self.FromEmptyBody.empties.is v };
+}
+
+/// What can be written as a body of a message.
+pub trait IntoBody {
+    /// As what it is written.
+    type Body: SerializableBody;
+
+    // The body is made of the value.
+    ghost into_gives: { Self → Self.Body → Type 0 };
+
+    /// As a body.
+    fn into_body(self) -> Self::Body
+        ensures { into_gives self result };
+}
+
+/// A body that borrows a value which is written as it.
+pub trait AsBodyRef<'a, T: IntoBody<Body = Self>>: SerializableBody {
+    /// As what the borrowed value is written.
+    type BodyRef: SerializableBody;
+
+    /// As a body.
+    fn as_body_ref(value: &'a T) -> Self::BodyRef;
+}
+
+/// A body that is read as an optional one.
+pub trait TransposeOption<To: FromBody>: BodySection {
+    /// As what it is read.
+    type From: DeserializableBody;
+
+    // What is made of it.
+    ghost transposes: { Self.From → Option To → Type 0 };
+
+    /// The value that is made of the body, or `None` if that is absent. The only error is `Memory`.
+    fn transpose(source: Self::From, alloc: Global) -> Result<Option<To>, Error>
+        ensures value { IfOk result (λ v. transposes source v) }
+        ensures memory { IfErr result (λ e. e ≡ Memory) };
+}
+
+/// What can be both written and read as the body of a message, so that each message has one canonical text.
+pub trait CanonicalBody: FromBody<Body = Self> + SerializableBody {
+    // What may stand behind its text; what that is read as; of which values that is the value; of which it is read at all.
+    ghost follows: { List ℕ → Type 0 };
+
+    ghost again: { Self → Self };
+
+    ghost kept: { Self → Type 0 };
+
+    ghost lasts: { Self → Type 0 };
+
+    // The laws.
+    ghost is_text: { IsBodyText Self.made Self.writing follows again kept lasts };
+}
+
+/// What can be the value of a message's body, so that a message that has no body is read again from its text.
+pub trait ValueBody: DeserializeTerm + FromEmptyBody {
+    // What takes the place of a body that isn't there is what a null means.
+    ghost empty_is_null: { (v : Self) → Self.empties.is v → IsNull Self.term v };
+}
+
+/// A type with a null among its values, so that a body of any kind that isn't there is read again from its text, as that.
+pub trait NullBody: ValueBody {
+    // The null.
+    ghost nothing: { Self };
+
+    // It is what a null means, and is written as one.
+    ghost nothing_is_null: { IsNull Self.term nothing };
+
+    ghost nothing_is_written: { Self.writing.canons nothing ≡ leaf null ∷ [] };
+}

@@ -1,0 +1,52 @@
+//! Values as the body of a message (Part 3, section 3.2.8).
+ghost use Rattle.std.specs.Prelude.{None, refl};
+ghost use Rattle.amqp_values.specs.declared.value.Value.TheVariants.{Null};
+ghost use Rattle.amqp_bodies.specs.PlainBodies.{null_value, none_value, null_is_null, none_is_null};
+
+use crate::traits::{FromEmptyBody, NullBody, ValueBody};
+use amqp_codec::DeserializeTerm;
+use amqp_values::Value;
+use amqp_wire::Error;
+use std::alloc::Global;
+
+/// `Null`.
+impl FromEmptyBody for Value {
+    ghost empties = { null_value };
+
+    fn from_empty_body(_alloc: Global) -> Result<Value, Error> {
+        Ok(Value::Null)
+    }
+}
+
+impl ValueBody for Value {
+    ghost empty_is_null = { null_is_null };
+}
+
+impl NullBody for Value {
+    ghost nothing = { Null };
+
+    ghost nothing_is_null = { null_is_null Null refl };
+
+    ghost nothing_is_written = { refl };
+}
+
+/// `None`.
+impl<T> FromEmptyBody for Option<T> {
+    ghost empties = { none_value };
+
+    fn from_empty_body(_alloc: Global) -> Result<Option<T>, Error> {
+        Ok(None)
+    }
+}
+
+impl<T: DeserializeTerm> ValueBody for Option<T> {
+    ghost empty_is_null = { none_is_null T.term };
+}
+
+impl<T: DeserializeTerm> NullBody for Option<T> {
+    ghost nothing = { None };
+
+    ghost nothing_is_null = { refl };
+
+    ghost nothing_is_written = { refl };
+}

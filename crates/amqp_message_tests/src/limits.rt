@@ -1,0 +1,93 @@
+//! Messages within limits of the caller: each section counts against one limit of bytes and one of values.
+use crate::parts::bytes;
+use amqp_batches::Batch;
+use amqp_bodies::FromBody;
+use amqp_codec::{Deserialize, Error};
+use amqp_messages::{Message, Strict, decode_message_strict_within};
+use amqp_read_write::from_slice_within;
+use amqp_sections::Data;
+use amqp_wire::Limits;
+use std::alloc::Global;
+use std::test::Fail;
+
+// A header, two sections of data of one byte each, and a footer: 22 bytes, and four values.
+const MESSAGE: &str = "00537045005375a00161005375a00162005378c10100";
+
+const TWO_DATA: &str = "005375a00161005375a00162";
+
+fn within(nesting: u32, bytes: u64, items: u64) -> Limits {
+    match Limits::new(nesting, bytes, items) {
+        Some(limits) => limits,
+        None => Limits::greatest(),
+    }
+}
+
+// How many bytes of the text are read.
+fn taken<T: Deserialize>(digits: &str, limits: &Limits, alloc: Global) -> Result<usize, Fail> {
+    let input = bytes(digits, alloc)?;
+    let (_value, len): (T, usize) = from_slice_within(input.as_slice(), limits, alloc)?;
+    Ok(len)
+}
+
+// The text passes a limit.
+fn passes<T: Deserialize>(digits: &str, limits: &Limits, alloc: Global) -> Result<bool, Fail> {
+    let input = bytes(digits, alloc)?;
+    let answer: Result<(T, usize), Error> = from_slice_within(input.as_slice(), limits, alloc);
+    match answer {
+        Ok(_) => Ok(false),
+        Err(error) => Ok(error == Error::Limit),
+    }
+}
+
+#[test]
+fn all_sections_count_together(rt: HostRuntime) -> Result<(), Fail> {
+    let alloc = rt.alloc();
+    assert_eq!(rt;
+        taken::<Message<Batch<Data>>>(MESSAGE, &within(2, 22, 4), alloc)?,
+        22
+    );
+    assert!(rt; passes::<Message<Batch<Data>>>(MESSAGE, &within(2, 21, 4), alloc)?);
+    assert!(rt; passes::<Message<Batch<Data>>>(MESSAGE, &within(2, 22, 3), alloc)?);
+    assert!(rt; passes::<Message<Batch<Data>>>(MESSAGE, &within(1, 22, 4), alloc)?);
+    assert_eq!(rt;
+        taken::<Strict<Batch<Data>>>(MESSAGE, &within(2, 22, 4), alloc)?,
+        22
+    );
+    assert!(rt; passes::<Strict<Batch<Data>>>(MESSAGE, &within(2, 21, 4), alloc)?);
+    Ok(())
+}
+
+#[test]
+fn a_run_ends_at_the_limit_or_passes_it(rt: HostRuntime) -> Result<(), Fail> {
+    let alloc = rt.alloc();
+    assert_eq!(rt;
+        taken::<Batch<Data>>(TWO_DATA, &within(1, 12, 2), alloc)?,
+        12
+    );
+    assert!(rt; passes::<Batch<Data>>(TWO_DATA, &within(1, 11, 2), alloc)?);
+    assert!(rt; passes::<Batch<Data>>(TWO_DATA, &within(1, 12, 1), alloc)?);
+    assert!(rt; passes::<Message<Batch<Data>>>(MESSAGE, &within(2, 16, 4), alloc)?);
+    Ok(())
+}
+
+fn strict_length<B: FromBody>(digits: &str, limits: &Limits, alloc: Global) -> Result<bool, Fail> {
+    let input = bytes(digits, alloc)?;
+    let mut reader = input.as_slice();
+    let answer: Result<Message<B>, Error> = decode_message_strict_within(
+        &mut reader,
+        limits,
+        alloc,
+    );
+    match answer {
+        Ok(_) => Ok(true),
+        Err(error) => Ok(error != Error::Limit),
+    }
+}
+
+#[test]
+fn strict_messages_have_limits(rt: HostRuntime) -> Result<(), Fail> {
+    let alloc = rt.alloc();
+    assert!(rt; strict_length::<Batch<Data>>(MESSAGE, &within(2, 22, 4), alloc)?);
+    assert!(rt; !strict_length::<Batch<Data>>(MESSAGE, &within(2, 22, 3), alloc)?);
+    Ok(())
+}

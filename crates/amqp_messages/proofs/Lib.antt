@@ -1,0 +1,6 @@
+pub mod NextSteps
+pub mod MessageSteps
+pub mod GroupSteps
+pub mod WriteSteps
+pub mod StrictSteps
+pub mod Limits

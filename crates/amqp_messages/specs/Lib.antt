@@ -1,0 +1,17 @@
+pub mod Orders
+pub mod Groups
+pub mod MessageWalk
+pub mod MessageLimits
+pub mod OrderLaws
+pub mod Entries
+pub mod MessageRewriting
+pub mod Next
+pub mod Messages
+pub mod MessageTypes
+pub mod MessageWriting
+pub mod KindLimits
+pub mod MessageTexts
+pub mod MessageAgain
+pub mod StrictAgain
+pub mod MessageCalls
+pub mod Builders

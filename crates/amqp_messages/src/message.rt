@@ -1,0 +1,34 @@
+//! Messages: the sections that are there, and the body (Part 3, section 3.2).
+use amqp_map_sections::{ApplicationProperties, DeliveryAnnotations, Footer, MessageAnnotations};
+use amqp_message_headers::{Header, Properties};
+
+/// A message (Part 3, section 3.2): its body, and the other sections that are there.
+#[derive(Debug, PartialEq, Eq, PartialOrd, Ord, Hash, Drop)]
+pub struct Message<B> {
+    /// How it is to be delivered.
+    pub header: Option<Header>,
+    /// What is said of its delivery from node to node.
+    pub delivery_annotations: Option<DeliveryAnnotations>,
+    /// What is said of it from its sender on.
+    pub message_annotations: Option<MessageAnnotations>,
+    /// Its properties by the standard.
+    pub properties: Option<Properties>,
+    /// Its properties by the application.
+    pub application_properties: Option<ApplicationProperties>,
+    /// What it carries.
+    pub body: B,
+    /// What can only be told behind the body.
+    pub footer: Option<Footer>,
+}
+
+/// What was read of a message so far: the last group of each kind. `S` is what its body is read as.
+#[derive(Drop)]
+pub struct Groups<S> {
+    pub(crate) header: Option<Header>,
+    pub(crate) delivery_annotations: Option<DeliveryAnnotations>,
+    pub(crate) message_annotations: Option<MessageAnnotations>,
+    pub(crate) properties: Option<Properties>,
+    pub(crate) application_properties: Option<ApplicationProperties>,
+    pub(crate) body: Option<S>,
+    pub(crate) footer: Option<Footer>,
+}

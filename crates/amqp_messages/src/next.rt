@@ -1,0 +1,77 @@
+//! Which section of a message comes next (Part 3, section 3.2).
+ghost use Rattle.std.specs.Prelude.{◌≡◌, ◌<◌, true, false, IfOk, IfSome, OnOk};
+ghost use Rattle.amqp_wire.specs.Sources.{Tells};
+ghost use Rattle.amqp_decoder.specs.Reading.{AnswersRead};
+ghost use Rattle.amqp_decoder.specs.Steps.{Began, Passes};
+ghost use Rattle.amqp_messages.specs.Next.{FindsNext, NextFault};
+ghost use Rattle.amqp_messages.specs.Orders.{behind, further, IsFull};
+
+use crate::order::Order;
+use amqp_batches::no_section;
+use amqp_decoder::Decoder;
+use amqp_wire::{ByteSource, Error};
+use std::alloc::Global;
+
+// How many kinds of sections come after that with this code in the standard's order.
+fn behind(code: u8) -> u8
+    ensures { result ≡ behind code }
+{
+    match code {
+        0x00..=0x74 => 0x76 - code,
+        0x75..=0x77 => 1,
+        _ => 0,
+    }
+}
+
+impl Order {
+    // No further group is looked for.
+    fn is_full(self, left: u8) -> bool
+        ensures full { result ≡ true → IsFull self left }
+        ensures open { result ≡ false → IsFull self left → ⊥ }
+    {
+        match self {
+            Order::Any => left == 0,
+            Order::Written => false,
+        }
+    }
+
+    // How many groups there may still be behind one whose section has this code.
+    pub(crate) fn further(self, left: u8, code: u8) -> u8
+        ensures { result ≡ further self left code }
+    {
+        match self {
+            Order::Any => left.saturating_sub(1),
+            Order::Written => behind(code),
+        }
+    }
+}
+
+/// The code of the section that comes next, where so many groups may still come; `None` if none is looked for, or the input ends.
+/// A section that may not stand there is `Misplaced`; what is no section, `NotSection` or the error of its descriptor.
+pub(crate) fn next_section<R: ByteSource>(
+    order: Order,
+    left: u8,
+    decoder: &mut Decoder<R>,
+    alloc: Global,
+) -> Result<Option<u8>, Error>
+    ensures read { Tells R.remaining → AnswersRead true (FindsNext order left) (NextFault order left) decoder.old result decoder.new }
+    ensures tries { Passes true decoder.old result decoder.new }
+    ensures began { OnOk result ((IsFull order left → ⊥) → Began decoder.old decoder.new) }
+    ensures fewer { IfOk result (λ found. IfSome found (λ code. further order left code < left)) }
+{
+    let full = order.is_full(left);
+    if full {
+        return Ok(None);
+    }
+    let ended = decoder.at_end()?;
+    if ended {
+        return Ok(None);
+    }
+    let Some(code) = decoder.peek_section()? else {
+        return Err(no_section(decoder, alloc));
+    };
+    if order.further(left, code) >= left {
+        return Err(decoder.refuse(Error::Misplaced));
+    }
+    Ok(Some(code))
+}
