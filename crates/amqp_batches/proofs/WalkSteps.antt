@@ -28,9 +28,6 @@ pub peeked_alike : (st : State) (o : Option ℕ) (b : State) → PeeksSection st
 peeked_alike st o b h = let k = h.kept in subst (AreAlike st) (sym k.3) refl
 
 module _ {M V : Type 0} (w : Walk M V) where
-  pub so_far_start : (st : State) → SoFar w st w.blank st
-  so_far_start st = record { number = 0; last = st; steps = (refl, refl); here = refl; first = λ e. refl }
-
   pub so_far_stays : (st : State) (m : M) (mid : State) → SoFar w st m mid → Stays st mid
   so_far_stays st m mid h = stays_then (steps_leave w h.number st w.blank m h.last h.steps).stays (alike_stays h.last mid h.here)
 

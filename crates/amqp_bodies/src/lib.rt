@@ -8,6 +8,6 @@ mod values;
 
 pub use body::Body;
 pub use traits::{
-    AsBodyRef, CanonicalBody, DeserializableBody, FromBody, FromEmptyBody, IntoBody, NullBody,
-    SerializableBody, TransposeOption, ValueBody,
+    CanonicalBody, DeserializableBody, FromBody, FromEmptyBody, NullBody, SerializableBody,
+    ValueBody,
 };

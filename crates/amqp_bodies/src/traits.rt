@@ -1,5 +1,5 @@
 //! What can be the body of a message (Part 3, section 3.2).
-ghost use Rattle.std.specs.Prelude.{◌≡◌, ◌⊎◌, ◌∷◌, [], ℕ, List, IfOk, IfErr, Option};
+ghost use Rattle.std.specs.Prelude.{◌≡◌, ◌⊎◌, ◌∷◌, [], ℕ, List, IfOk, IfErr};
 ghost use Rattle.amqp_bodies.specs.BodyTexts.{IsBodyText};
 ghost use Rattle.amqp_bodies.specs.NullBodies.{IsNull};
 ghost use Rattle.amqp_model.specs.Term.{null, leaf};
@@ -70,42 +70,6 @@ pub trait FromBody: FromEmptyBody + Drop {
     ghost empty_is: { (v : Self) → Self.FromEmptyBody.empties.is v → made.empty v };
 
     ghost is_empty: { (v : Self) → made.empty v → Self.FromEmptyBody.empties.is v };
-}
-
-/// What can be written as a body of a message.
-pub trait IntoBody {
-    /// As what it is written.
-    type Body: SerializableBody;
-
-    // The body is made of the value.
-    ghost into_gives: { Self → Self.Body → Type 0 };
-
-    /// As a body.
-    fn into_body(self) -> Self::Body
-        ensures { into_gives self result };
-}
-
-/// A body that borrows a value which is written as it.
-pub trait AsBodyRef<'a, T: IntoBody<Body = Self>>: SerializableBody {
-    /// As what the borrowed value is written.
-    type BodyRef: SerializableBody;
-
-    /// As a body.
-    fn as_body_ref(value: &'a T) -> Self::BodyRef;
-}
-
-/// A body that is read as an optional one.
-pub trait TransposeOption<To: FromBody>: BodySection {
-    /// As what it is read.
-    type From: DeserializableBody;
-
-    // What is made of it.
-    ghost transposes: { Self.From → Option To → Type 0 };
-
-    /// The value that is made of the body, or `None` if that is absent. The only error is `Memory`.
-    fn transpose(source: Self::From, alloc: Global) -> Result<Option<To>, Error>
-        ensures value { IfOk result (λ v. transposes source v) }
-        ensures memory { IfErr result (λ e. e ≡ Memory) };
 }
 
 /// What can be both written and read as the body of a message, so that each message has one canonical text.

@@ -33,9 +33,13 @@ some_nodes (described d t) = some_nodes t
 some_nodes (kept b) = omega arith
 some_nodes (barred r) = omega arith
 
+-- where a value may begin, one may by any code
+pub one_may_begin : (o : Option ℕ) (c : ℕ) → Has o 1 → Has o (counted c)
+one_may_begin o c h = has_less o (counted c) 1 (counted_most (format c)) h
+
 -- where the values of a term may begin, one may by its first code
 pub may_begin : (o : Option ℕ) (t : Term) (c : ℕ) → Has o (nodes t) → Has o (counted c)
-may_begin o t c h = has_less o (counted c) (nodes t) (omega (arith, some_nodes t, counted_most (format c))) h
+may_begin o t c h = one_may_begin o c (has_less o 1 (nodes t) (some_nodes t) h)
 
 -- what was measured is the term's
 pub measured_nodes : (n k : ℕ) (b : List ℕ) (t : Term) → IsMeasured n k b → enc b t → nodes t ≡ n

@@ -3,13 +3,13 @@ use Rattle.std.proofs.Common.{◌≡◌, ◌<◌, ◌≤◌, ℕ, ◌-◌, ◌+�
 use Rattle.std.proofs.Common.{drop-drop}
 use Rattle.std.proofs.lemmas.List.{length-drop, take_all}
 use Rattle.amqp_lookahead.proofs.SectionsAhead.{bytes_at, bytes_are}
-use Rattle.amqp_model.specs.Constructors.{Format, fixed, variable, compound, unknown, format}
-use Rattle.amqp_decoder.specs.State.{State, Has, lower, counted, counted_by, after_data, after_bytes, after_look}
+use Rattle.amqp_decoder.specs.State.{State, Has, lower, counted, after_data, after_bytes, after_look}
 use Rattle.amqp_decoder.specs.Steps.{Takes}
 use Rattle.amqp_decoder.specs.Reading.{ReadsCode, PeeksCode}
 use Rattle.amqp_decoder.specs.Primitives.{ReadsFixed}
 use Rattle.amqp_decoder.specs.Quick.{IsPlain}
-use Rattle.amqp_decoder.proofs.Steps.{began, begun_own, has_item, has_less}
+use Rattle.amqp_decoder.proofs.Counts.{one_may_begin}
+use Rattle.amqp_decoder.proofs.Steps.{began, begun_own, has_item}
 use Rattle.amqp_decoder.proofs.Peeks.{peeked_own}
 use Rattle.amqp_decoder.proofs.ReadPrimitives.{took_none, has_front, has_rest, lower-lower}
 
@@ -30,21 +30,6 @@ parts_same st k r r' a a' o o' er ea eo =
     ∙ ap (λ x. record (taken_quick 0 k st) { rest = r'; ahead = x; top = record st.top { items = lower st.top.items 1; left = o } }) ea
     ∙ ap (λ x. record (taken_quick 0 k st) { rest = r'; ahead = a'; top = record st.top { items = lower st.top.items 1; left = x } }) eo
 
-counted_most : (f : Format) → counted_by f ≤ 1
-counted_most (fixed w v) = omega arith
-counted_most (variable w v) = omega arith
-counted_most (compound kind w) = omega arith
-counted_most unknown = omega arith
-
--- a value may begin by any code where one may
-pub may_begin : (q : Option ℕ) (c : ℕ) → Has q 1 → Has q (counted c)
-may_begin q c h = has_less q (counted c) 1 (counted_most (format c)) h
-
--- the first byte of what was taken
-pub quick_first : (s r x : List ℕ) (code : ℕ) → 0 < length s → r ≡ code ∷ drop 1 r → r ≡ s ++ x → s ≡ code ∷ drop 1 s
-quick_first [] r x code h e f = absurd (omega (arith, h))
-quick_first (c ∷ s) r x code h e f = ap (λ n. n ∷ s) (ap (λ l. get_or l 0 0) (sym f ∙ e))
-
 quick_parts : (st : State) (code : ℕ) (b : List ℕ) → IsPlain st → Has st.top.left (1 + length b) → st.rest ≡ code ∷ drop 1 st.rest
     → st.rest ≡ code ∷ (b ++ drop (suc (length b)) st.rest) → ReadsFixed code (length b) st b (taken_quick (1 + length b) (counted code) st)
 quick_parts st code b plain fits next rest =
@@ -59,7 +44,7 @@ quick_parts st code b plain fits next rest =
     ap (drop 1) rest ∙ ap (λ x. b ++ x) (ap (λ k. drop k st.rest) whole ∙ skip) in
     record {
       mid = mid;
-      begun = begun_own st code (after_data 1 st) plain.going plain.item plain.own took (may_begin st.quota code plain.few);
+      begun = begun_own st code (after_data 1 st) plain.going plain.item plain.own took (one_may_begin st.quota code plain.few);
       took = record {
         room = has_rest st.top.left 1 n fits;
         rest = behind;
@@ -97,7 +82,7 @@ pub quick_peeks : (st : State) (c : ℕ) (new : State) → IsPlain st → (st.to
 quick_peeks st c new plain left (next, is) =
     let one : 1 ≡ min 1 (length st.rest) = omega (arith, ap length next) in
     peeked_own st c new plain.going plain.item plain.own (has_item st.top.left left) (is ∙ ap (λ n. after_look n st) one) next
-    (may_begin st.quota c plain.few)
+    (one_may_begin st.quota c plain.few)
 
 -- the bytes behind a code, one by one
 pub behind_code : (n : ℕ) (l : List ℕ) → length (drop 1 l) ≡ suc n → drop 1 l ≡ bytes_at (suc n) 1 l

@@ -251,6 +251,6 @@ impl Input<&[u8]> {
         ensures count { result ≡ length self.now.rest }
         ensures whole { self.now.failed ≡ false }
     {
-        self.source.len().saturating_add(self.end - self.start)
+        self.source.len()
     }
 }

@@ -32,9 +32,6 @@ module _ (o : Order) (left : ℕ) where
   finds_top st v b some (at_end t r i a) = t
   finds_top st v b some (section t f a p i l) = t
 
-  pub none_looked : (st : State) → IsFull o left → FindsNext o left st None st
-  none_looked st f = full f refl refl
-
   -- the look at the end was refused
   pub end_refused : (st : State) (e : Error) (new : State) → (IsFull o left → ⊥) → RefusesRead false Ends NotTop st e new → Refuses st e new
   end_refused st e new some q = record {

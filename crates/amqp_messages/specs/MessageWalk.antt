@@ -35,10 +35,6 @@ module _ {M : Type 0} {alike : M → M → Type 0} {weight : M → ℕ} (k : Kin
         o.1,
       )
 
-  -- it is read whatever was read before
-  pub kind_any : (st : State) (m n x : M) (b : State) → GroupRead k st m x b → (y : M) × GroupRead k st n y b
-  kind_any st m n x b h = (k.put h.group n, record { group = h.group; read = h.read; is = refl })
-
 module _ {M V : Type 0} (o : Order) (s : Shape M V) where
   pub group_one : (st : State) (m n x y : Progress M) (a b : State) → AreAlikeSoFar o s m n → GroupStep o s st m x a
       → GroupStep o s st n y b → AreAlikeSoFar o s x y × AreAlike a b

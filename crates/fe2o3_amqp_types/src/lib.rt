@@ -76,8 +76,8 @@ pub mod definitions {
 pub mod messaging {
     pub use amqp_batches::Batch;
     pub use amqp_bodies::{
-        AsBodyRef, Body, CanonicalBody, DeserializableBody, FromBody, FromEmptyBody, IntoBody,
-        NullBody, SerializableBody, TransposeOption, ValueBody,
+        Body, CanonicalBody, DeserializableBody, FromBody, FromEmptyBody, NullBody,
+        SerializableBody, ValueBody,
     };
     pub use amqp_delivery::{
         Accepted, DeliveryState, Modified, Outcome, Received, Rejected, Released,

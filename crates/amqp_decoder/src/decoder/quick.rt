@@ -16,9 +16,10 @@ impl<R: ByteSource> Decoder<R> {
     pub(super) fn is_plain(&self) -> bool
         ensures { result ≡ true → IsPlain self.now }
     {
-        self.check().is_ok()
+        // In an array nothing is plain, so that comes first.
+        self.shared_code().is_none()
+            && self.check().is_ok()
             && !self.is_done()
-            && self.shared_code().is_none()
             && !self.passes_items(1)
     }
 
@@ -67,7 +68,6 @@ impl<R: ByteSource> Decoder<R> {
         requires some { 0 < N }
         requires few { N < 256 }
         ensures none { result ≡ None → self.new ≡ self.old }
-        ensures first { IfSome result (λ bytes. Tells R.remaining → bytes ≡ code ∷ drop 1 bytes) }
         ensures read { IfSome result (λ bytes. Tells R.remaining → ReadsFixed code (N - 1) self.old (drop 1 bytes) self.new) }
         ensures began { IfSome result (λ _. Began self.old self.new) }
     {
