@@ -2,13 +2,14 @@
 use Rattle.std.specs.Prelude.{◌≡◌, ◌⊎◌, ◌≤◌, ◌<◌, ℕ, ◌+◌, ◌^◌, Bool, true, false, ◌&&◌, List, [], ◌∷◌, ◌++◌, length, codes, Result, Ok, Err, Option, IfSome}
 use Rattle.std.specs.Fmt.{decimal}
 use Rattle.hex.specs.Hex.{decode_of, encode_lower}
+use Rattle.amqp_model.specs.Term.{Term}
 use Rattle.amqp_wire.specs.declared.error.Error.{Error}
 use Rattle.amqp_wire.specs.declared.error.Error.TheVariants.{Memory, Read}
 use Rattle.amqp_wire.specs.declared.limits.Limits.{Limits}
 use Rattle.amqp_codec.specs.TermType.{TermType}
 use Rattle.amqp_codec.specs.PrimitiveTypes.{boolean_type}
 use Rattle.amqp_codec.specs.Composite.{composite}
-use Rattle.amqp_codec.specs.Reading.{IsUnreadableWithin}
+use Rattle.amqp_codec.specs.Reading.{Reading, IsUnreadableWithin}
 use Rattle.amqp_codec.specs.VecType.{vec_of}
 use Rattle.amqp_codec.specs.TermReading.{reading_of}
 use Rattle.amqp_read_write.specs.Rewritten.{IsRewrittenWithin, IsUnwrittenWithin}
@@ -36,6 +37,9 @@ use Rattle.amqp_termini.specs.Tables.{delete_on_no_messages, lifetime_policy, so
 use Rattle.amqp_values.specs.ValueType.{value_type}
 use Rattle.amqp_wire.specs.Error.{number_of, name_of}
 use Rattle.amqp_lines.specs.Lines.{TakesLine}
+use Rattle.amqp_lines.specs.Messages.{data_batch, data_batch_writing, sequence_batch, sequence_batch_writing, any_body, any_body_writing}
+use Rattle.amqp_lines.specs.Messages.{of_any_body, of_one_value, of_data, of_data_batch, data_writing, one_value_writing}
+use Rattle.amqp_lines.specs.Messages.{in_any_order, strictly, message_terms, strict_terms}
 use Rattle.amqp_lines.specs.declared.answer.Answer.{Answer}
 use Rattle.amqp_lines.specs.declared.answer.Answer.TheVariants.{Rewritten, Refused, Limited, NoRequest}
 use Rattle.amqp_lines.specs.declared.request.TypeName.{TypeName}
@@ -59,7 +63,10 @@ type_name line_type.AmqpValue = codes "amqp-value"
 type_name line_type.Annotations = codes "annotations"
 type_name line_type.ApplicationProperties = codes "application-properties"
 type_name line_type.Attach = codes "attach"
+type_name line_type.BatchData = codes "batch-data"
+type_name line_type.BatchSequence = codes "batch-sequence"
 type_name line_type.Begin = codes "begin"
+type_name line_type.Body = codes "body"
 type_name line_type.Boolean = codes "boolean"
 type_name line_type.Close = codes "close"
 type_name line_type.Coordinator = codes "coordinator"
@@ -82,8 +89,12 @@ type_name line_type.Flow = codes "flow"
 type_name line_type.Footer = codes "footer"
 type_name line_type.Header = codes "header"
 type_name line_type.LifetimePolicy = codes "lifetime-policy"
+type_name line_type.Message = codes "message"
 type_name line_type.MessageAnnotations = codes "message-annotations"
+type_name line_type.MessageBatch = codes "message-batch"
+type_name line_type.MessageData = codes "message-data"
 type_name line_type.MessageId = codes "message-id"
+type_name line_type.MessageValue = codes "message-value"
 type_name line_type.Modified = codes "modified"
 type_name line_type.Open = codes "open"
 type_name line_type.Outcome = codes "outcome"
@@ -99,6 +110,10 @@ type_name line_type.SaslOutcome = codes "sasl-outcome"
 type_name line_type.SaslResponse = codes "sasl-response"
 type_name line_type.SimpleValue = codes "simple-value"
 type_name line_type.Source = codes "source"
+type_name line_type.StrictMessage = codes "strict-message"
+type_name line_type.StrictMessageBatch = codes "strict-message-batch"
+type_name line_type.StrictMessageData = codes "strict-message-data"
+type_name line_type.StrictMessageValue = codes "strict-message-value"
 type_name line_type.Target = codes "target"
 type_name line_type.TargetArchetype = codes "target-archetype"
 type_name line_type.TransactionalState = codes "transactional-state"
@@ -140,19 +155,18 @@ no_line e = codes "no " ++ (decimal (number_of e) ++ (32 ∷ (name_of e ++ (10 �
 abbrev pub other_line : List ℕ
 other_line = codes "no 0 Line\n"
 
--- The text is the canonical one of the value that the first n bytes of the input are read as, within the limits.
-abbrev pub TextOf : {T : Type 0} → TermType T → Limits → List ℕ → List ℕ → ℕ → Type 0
-TextOf u limits input text n = IsRewrittenWithin limits (reading_of u) (λ v. u.canon v ∷ []) input text n
-
 -- Within the limits no value can be read there, and the input has the fault; or what is read is too large to be written.
-abbrev pub NoTextOf : {T : Type 0} → TermType T → Limits → List ℕ → Error → Type 0
-NoTextOf u limits input e =
-    IsUnreadableWithin limits (reading_of u) input e ⊎ IsUnwrittenWithin limits (reading_of u) (λ v. u.canon v ∷ []) input e
+abbrev pub HasNoTextWithin : {T : Type 0} → Limits → Reading T → (T → List Term) → List ℕ → Error → Type 0
+HasNoTextWithin limits r canons input e = IsUnreadableWithin limits r input e ⊎ IsUnwrittenWithin limits r canons input e
 
--- The one is said of an answer, or the other.
+-- Within the limits the text is the canonical one of the value that the first n bytes of the input are read as; or there is none.
+abbrev pub ReturnsText : {T : Type 0} → Reading T → (T → List Term) → Limits → List ℕ → Result (List ℕ × ℕ) Error → Type 0
+ReturnsText r canons limits input (Ok (text, n)) = IsRewrittenWithin limits r canons input text n
+ReturnsText r canons limits input (Err e) = HasNoTextWithin limits r canons input e
+
+-- The same of a type of terms.
 abbrev pub Returns : {T : Type 0} → TermType T → Limits → List ℕ → Result (List ℕ × ℕ) Error → Type 0
-Returns u limits input (Ok (text, n)) = TextOf u limits input text n
-Returns u limits input (Err e) = NoTextOf u limits input e
+Returns u = ReturnsText (reading_of u) (λ v. u.canon v ∷ [])
 
 -- The same of the type with that name.
 abbrev pub ReturnsOf : TypeName → Limits → List ℕ → Result (List ℕ × ℕ) Error → Type 0
@@ -162,7 +176,10 @@ ReturnsOf line_type.AmqpValue = Returns (section_of in_value value_naming value_
 ReturnsOf line_type.Annotations = Returns annotations_type
 ReturnsOf line_type.ApplicationProperties = Returns (section_of in_application_properties application_properties_naming simple_map_type)
 ReturnsOf line_type.Attach = Returns (composite attach)
+ReturnsOf line_type.BatchData = ReturnsText data_batch data_batch_writing.canons
+ReturnsOf line_type.BatchSequence = ReturnsText sequence_batch sequence_batch_writing.canons
 ReturnsOf line_type.Begin = Returns (composite begin)
+ReturnsOf line_type.Body = ReturnsText any_body any_body_writing.canons
 ReturnsOf line_type.Boolean = Returns boolean_type
 ReturnsOf line_type.Close = Returns (composite close)
 ReturnsOf line_type.Coordinator = Returns (composite coordinator)
@@ -185,8 +202,12 @@ ReturnsOf line_type.Flow = Returns (composite flow)
 ReturnsOf line_type.Footer = Returns (section_of in_footer footer_naming annotations_type)
 ReturnsOf line_type.Header = Returns (composite header)
 ReturnsOf line_type.LifetimePolicy = Returns lifetime_policy
+ReturnsOf line_type.Message = ReturnsText (in_any_order of_any_body) (message_terms any_body_writing)
 ReturnsOf line_type.MessageAnnotations = Returns (section_of in_message_annotations message_annotations_naming annotations_type)
+ReturnsOf line_type.MessageBatch = ReturnsText (in_any_order of_data_batch) (message_terms data_batch_writing)
+ReturnsOf line_type.MessageData = ReturnsText (in_any_order of_data) (message_terms data_writing)
 ReturnsOf line_type.MessageId = Returns (kind_sum_type message_ids)
+ReturnsOf line_type.MessageValue = ReturnsText (in_any_order of_one_value) (message_terms one_value_writing)
 ReturnsOf line_type.Modified = Returns (composite modified)
 ReturnsOf line_type.Open = Returns (composite opening)
 ReturnsOf line_type.Outcome = Returns outcome
@@ -202,6 +223,10 @@ ReturnsOf line_type.SaslOutcome = Returns (composite sasl_outcome)
 ReturnsOf line_type.SaslResponse = Returns (composite sasl_response)
 ReturnsOf line_type.SimpleValue = Returns simple_type
 ReturnsOf line_type.Source = Returns (composite source)
+ReturnsOf line_type.StrictMessage = ReturnsText (strictly of_any_body) (strict_terms any_body_writing)
+ReturnsOf line_type.StrictMessageBatch = ReturnsText (strictly of_data_batch) (strict_terms data_batch_writing)
+ReturnsOf line_type.StrictMessageData = ReturnsText (strictly of_data) (strict_terms data_writing)
+ReturnsOf line_type.StrictMessageValue = ReturnsText (strictly of_one_value) (strict_terms one_value_writing)
 ReturnsOf line_type.Target = Returns (composite target)
 ReturnsOf line_type.TargetArchetype = Returns target_archetype
 ReturnsOf line_type.TransactionalState = Returns (composite transactional_state)

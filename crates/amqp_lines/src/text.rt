@@ -1,12 +1,16 @@
 //! Canonical texts within limits.
 ghost use Rattle.std.specs.Prelude.{◌≡◌, ◌⊎◌, IfOk, IfErr};
 ghost use Rattle.amqp_wire.specs.declared.error.Error.TheVariants.{Memory};
-ghost use Rattle.amqp_codec.specs.Reading.{IsUnreadableWithin};
-ghost use Rattle.amqp_read_write.specs.Rewritten.{IsRewrittenWithin, IsUnwrittenWithin};
+ghost use Rattle.amqp_read_write.specs.Rewritten.{IsRewrittenWithin};
+ghost use Rattle.amqp_lines.specs.Answers.{HasNoTextWithin};
 
+use amqp_batches::BatchItem;
 use amqp_read_write::canonical_text_within;
 use amqp_read_write::laws::limits_bound_reading;
-use fe2o3_amqp_types::codec::{Deserialize, DeserializeTerm, Error, Limits};
+use fe2o3_amqp_types::codec::{Deserialize, DeserializeTerm, Error, Limits, Serialize};
+use fe2o3_amqp_types::messaging::message::{Message, Strict};
+use fe2o3_amqp_types::messaging::{Batch, Body, CanonicalBody};
+use fe2o3_amqp_types::primitives::Value;
 use std::alloc::Global;
 
 /// Within the limits, the canonical text of the value that the input begins with, and how many bytes that value takes there. An error is
@@ -18,9 +22,68 @@ pub(crate) fn text_within<T: DeserializeTerm>(
 ) -> Result<(Vec<u8>, usize), Error>
     ensures text { IfOk result (λ r.
         IsRewrittenWithin limits.now ⟦<T as Deserialize>⟧.reading T.writing.canons input.now r.0.items r.1) }
-    ensures refused { IfErr result (λ e. (e ≡ Memory) ⊎ (IsUnreadableWithin limits.now ⟦<T as Deserialize>⟧.reading input.now e
-        ⊎ IsUnwrittenWithin limits.now ⟦<T as Deserialize>⟧.reading T.writing.canons input.now e)) }
+    ensures refused { IfErr result (λ e.
+        (e ≡ Memory) ⊎ HasNoTextWithin limits.now ⟦<T as Deserialize>⟧.reading T.writing.canons input.now e) }
 {
     limits_bound_reading::<T>();
     canonical_text_within::<T>(input, limits, alloc)
+}
+
+/// The same of a batch: sections of one kind that stand one after another.
+pub(crate) fn batch_text_within<T: BatchItem + DeserializeTerm>(
+    input: &[u8],
+    limits: &Limits,
+    alloc: Global,
+) -> Result<(Vec<u8>, usize), Error>
+    ensures text { IfOk result (λ r. IsRewrittenWithin limits.now ⟦<Batch<T> as Deserialize>⟧.reading
+        ⟦<Batch<T> as Serialize>⟧.writing.canons input.now r.0.items r.1) }
+    ensures refused { IfErr result (λ e. (e ≡ Memory) ⊎ HasNoTextWithin limits.now ⟦<Batch<T> as Deserialize>⟧.reading
+        ⟦<Batch<T> as Serialize>⟧.writing.canons input.now e) }
+{
+    amqp_batches::laws::limits_take_nothing::<T>();
+    canonical_text_within::<Batch<T>>(input, limits, alloc)
+}
+
+/// The same of a body of any kind.
+pub(crate) fn body_text_within(
+    input: &[u8],
+    limits: &Limits,
+    alloc: Global,
+) -> Result<(Vec<u8>, usize), Error>
+    ensures text { IfOk result (λ r. IsRewrittenWithin limits.now ⟦<Body<Value> as Deserialize>⟧.reading
+        ⟦<Body<Value> as Serialize>⟧.writing.canons input.now r.0.items r.1) }
+    ensures refused { IfErr result (λ e. (e ≡ Memory) ⊎ HasNoTextWithin limits.now ⟦<Body<Value> as Deserialize>⟧.reading
+        ⟦<Body<Value> as Serialize>⟧.writing.canons input.now e) }
+{
+    canonical_text_within::<Body<Value>>(input, limits, alloc)
+}
+
+/// The same of a message, whose sections stand in any order.
+pub(crate) fn message_text_within<B: CanonicalBody>(
+    input: &[u8],
+    limits: &Limits,
+    alloc: Global,
+) -> Result<(Vec<u8>, usize), Error>
+    ensures text { IfOk result (λ r. IsRewrittenWithin limits.now ⟦<Message<B> as Deserialize>⟧.reading
+        ⟦<Message<B> as Serialize>⟧.writing.canons input.now r.0.items r.1) }
+    ensures refused { IfErr result (λ e. (e ≡ Memory) ⊎ HasNoTextWithin limits.now ⟦<Message<B> as Deserialize>⟧.reading
+        ⟦<Message<B> as Serialize>⟧.writing.canons input.now e) }
+{
+    amqp_messages::laws::limits_take_nothing::<B>();
+    canonical_text_within::<Message<B>>(input, limits, alloc)
+}
+
+/// The same of a message that is read strictly.
+pub(crate) fn strict_text_within<B: CanonicalBody>(
+    input: &[u8],
+    limits: &Limits,
+    alloc: Global,
+) -> Result<(Vec<u8>, usize), Error>
+    ensures text { IfOk result (λ r. IsRewrittenWithin limits.now ⟦<Strict<B> as Deserialize>⟧.reading
+        ⟦<Strict<B> as Serialize>⟧.writing.canons input.now r.0.items r.1) }
+    ensures refused { IfErr result (λ e. (e ≡ Memory) ⊎ HasNoTextWithin limits.now ⟦<Strict<B> as Deserialize>⟧.reading
+        ⟦<Strict<B> as Serialize>⟧.writing.canons input.now e) }
+{
+    amqp_messages::laws::limits_take_nothing::<B>();
+    canonical_text_within::<Strict<B>>(input, limits, alloc)
 }

@@ -1,0 +1,7 @@
+use Rattle.amqp_batches.specs.Unlimited.{begins_without_limits}
+use Rattle.amqp_lines.specs.Messages.{any_body, of_any_body}
+use Rattle.amqp_lines.proofs.text.body_text_within.Goals as goal
+
+pub returns-clause-refused : goal.returns-clause-refused
+returns-clause-refused c =
+    c.canonical_text_within.ensures.refused (begins_without_limits any_body of_any_body.laws.unlimited c.args.limits.now)
