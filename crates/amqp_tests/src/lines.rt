@@ -88,6 +88,28 @@ fn digits_and_line_ends(rt: HostRuntime) -> Result<(), Fail> {
 }
 
 #[test]
+fn sections_in_a_row(rt: HostRuntime) -> Result<(), Fail> {
+    check_answers(
+        &[
+            ("batch-data -\n", "ok - 0\n"),
+            (
+                "batch-data 005375a00161005378c10100\n",
+                "ok 005375a00161 6\n",
+            ),
+            (
+                "message 0053734500537045\nstrict-message 0053734500537045\n",
+                "ok 005370450053734500537740 0\nno 30 Misplaced\n",
+            ),
+            (
+                "strict-message 0053704500537345\nmessage-data 0053704500537345\n",
+                "ok 005370450053734500537740 0\nno 19 EmptyBody\n",
+            ),
+        ],
+        rt.alloc(),
+    )
+}
+
+#[test]
 fn limits_hold_for_the_lines_behind(rt: HostRuntime) -> Result<(), Fail> {
     let received = "received 005323c005025209530d";
     let input = format!(in rt.alloc();
