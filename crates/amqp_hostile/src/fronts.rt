@@ -75,13 +75,15 @@ fn check_message(rt: &HostRuntime) -> Result<bool, anyhow::Error> {
     let (mut cut, mut empty, mut read, mut other) = (0u32, 0u32, 0u32, 0u32);
     for len in 0..whole.len() {
         let found = sections_read(whole.get(..len).unwrap_or(whole), rt.alloc());
-        let counted = match found {
-            _ if found != wanted(len) => &mut other,
-            Ok(_) => &mut read,
-            Err(Error::Cut) => &mut cut,
-            Err(_) => &mut empty,
-        };
-        *counted = counted.saturating_add(1);
+        if found != wanted(len) {
+            other = other.saturating_add(1);
+            continue;
+        }
+        match found {
+            Ok(_) => read = read.saturating_add(1),
+            Err(Error::Cut) => cut = cut.saturating_add(1),
+            Err(_) => empty = empty.saturating_add(1),
+        }
     }
     let fronts = whole.len();
     println!(rt;
