@@ -3,7 +3,7 @@ use crate::parts::{read_and_written, refused};
 use amqp_batches::Batch;
 use amqp_bodies::{Body, CanonicalBody, FromBody};
 use amqp_codec::Error;
-use amqp_messages::{Message, Strict, canonical_text_strict};
+use amqp_messages::{Message, Strict, canonical_text_strict, decode_message_strict};
 use amqp_read_write::from_slice_counted;
 use amqp_sections::{AmqpSequence, AmqpValue, Data};
 use amqp_values::Value;
@@ -38,6 +38,19 @@ fn a_run_is_one_group(rt: HostRuntime) -> Result<(), Fail> {
     let text = "00537045005376c00703540154025403005376c00703540454055406005376c00703540754085409";
     read_and_written::<Message<Batch<AmqpSequence<Value>>>>(text, text, 0, alloc)?;
     read_and_written::<Message<Data>>("005375a00161005375a00162", "005375a00162", 0, alloc)
+}
+
+#[test]
+fn a_run_of_seven_is_one_group(rt: HostRuntime) -> Result<(), Fail> {
+    let alloc = rt.alloc();
+    let mut digits = String::from_str(alloc, "00537045")?;
+    for _ in 0..7 {
+        digits.push_str("005375a00161")?;
+    }
+    digits.push_str("005378c10100")?;
+    read_and_written::<Message<Batch<Data>>>(&digits, &digits, 0, alloc)?;
+    // as single data each is a group of its own, so that reading stops behind the sixth
+    read_and_written::<Message<Data>>(&digits, "00537045005375a00161", 12, alloc)
 }
 
 #[test]
@@ -86,6 +99,16 @@ fn strict_messages(rt: HostRuntime) -> Result<(), Fail> {
         strict_length::<Batch<Data>>("005375a00161005375a00162", alloc)?,
         12
     );
+    Ok(())
+}
+
+#[test]
+fn strict_messages_of_a_reader(rt: HostRuntime) -> Result<(), Fail> {
+    let alloc = rt.alloc();
+    let input = hex::decode(alloc, WHOLE)?;
+    let mut reader = input.as_slice();
+    let message: Message<Body<Value>> = decode_message_strict(&mut reader, alloc)?;
+    assert_eq!(rt; message.sections(), 7);
     Ok(())
 }
 

@@ -5,7 +5,7 @@ use amqp_annotations::{
     AnnotationKey, Annotations, BorrowedKey, OwnedKey, annotation_get, annotation_remove,
 };
 use amqp_codec::{Error, Symbol};
-use amqp_full_composites::parts::{check, symbol_of, text_of};
+use amqp_full_composites::parts::{check, check_copy, symbol_of, text_of};
 use amqp_map_sections::{ApplicationProperties, DeliveryAnnotations, Footer, MessageAnnotations};
 use amqp_primitives::SymbolRef;
 use amqp_simple_values::SimpleValue;
@@ -194,4 +194,17 @@ fn keys_and_their_order(rt: HostRuntime) -> Result<(), Fail> {
     refused::<OwnedKey>("a10161", Error::WrongType(0xa1), alloc)?;
     refused::<OwnedKey>("5207", Error::WrongType(0x52), alloc)?;
     refused::<OwnedKey>("a301ff", Error::NonAscii, alloc)
+}
+
+#[test]
+fn copies_of_maps(rt: HostRuntime) -> Result<(), Fail> {
+    let alloc = rt.alloc();
+    let keys = ["a", "bb", "ccc", "dddd", "eeeee"];
+    check_copy(&OwnedKey::from_str_in("a", alloc)?)?;
+    check_copy(&DeliveryAnnotations(five(keys, alloc)?))?;
+    check_copy(&MessageAnnotations(five(keys, alloc)?))?;
+    check_copy(&Footer(five(keys, alloc)?))?;
+    let mut properties = ApplicationProperties::new(alloc);
+    properties.insert(text_of("sn", alloc)?, SimpleValue::Int(1))?;
+    check_copy(&properties)
 }

@@ -4,6 +4,7 @@ use amqp_codec::Error;
 use amqp_full_composites::parts::{binary_of, check};
 use amqp_lazy::LazyValue;
 use amqp_primitives::Binary;
+use amqp_read_write::{from_slice_counted, to_vec};
 use amqp_sections::{AmqpSequence, AmqpValue, Data};
 use amqp_user_types::seconds::Seconds;
 use amqp_values::Value;
@@ -46,6 +47,28 @@ fn data_are_refused(rt: HostRuntime) -> Result<(), Fail> {
     refused::<Data>("005375a0056162", Error::Cut, alloc)?;
     refused::<Data>("005375", Error::Cut, alloc)?;
     refused::<Data>("00a301ffa000", Error::NonAscii, alloc)
+}
+
+// Data of so many bytes have a size of one byte up to 255 of them, else of four, and are read again.
+fn check_length(len: usize, alloc: Global) -> Result<(), Fail> {
+    let mut bytes = Vec::new(alloc);
+    bytes.resize(len, 7)?;
+    let data = Data::from(bytes);
+    let text = to_vec(&data, alloc)?;
+    let size = if len < 256 { 1 } else { 4 };
+    let (again, taken): (Data, usize) = from_slice_counted(text.as_slice(), alloc)?;
+    if again != data || taken != text.len() || text.len() != len.saturating_add(4 + size) {
+        return Err(Fail::new(format_args!("data of {len} bytes are read otherwise")));
+    }
+    Ok(())
+}
+
+#[test]
+fn data_of_each_length(rt: HostRuntime) -> Result<(), Fail> {
+    for len in 0..=300 {
+        check_length(len, rt.alloc())?;
+    }
+    check_length(70_000, rt.alloc())
 }
 
 #[test]

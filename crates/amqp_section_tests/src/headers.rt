@@ -2,7 +2,7 @@
 //! digits are written out by the standard's tables.
 use crate::parts::{read, refused, rewritten};
 use amqp_codec::Error;
-use amqp_full_composites::parts::{binary_of, check, symbol_of, text_of};
+use amqp_full_composites::parts::{binary_of, check, check_copy, symbol_of, text_of};
 use amqp_message_headers::{Header, MessageId, Priority, Properties};
 use amqp_primitives::{Timestamp, Uuid};
 use std::alloc::Global;
@@ -218,5 +218,20 @@ fn order_of_identifiers(rt: HostRuntime) -> Result<(), Fail> {
     assert_eq!(rt; copy, text);
     let read: MessageId = read("5309", alloc)?;
     assert_eq!(rt; read, number);
+    Ok(())
+}
+
+#[test]
+fn copies_of_headers(rt: HostRuntime) -> Result<(), Fail> {
+    let alloc = rt.alloc();
+    let header = Header::builder().ttl(Some(3));
+    let copy = header.clone()?;
+    assert_eq!(rt; copy.build(), header.build());
+    check_copy(&Header::default())?;
+    let properties = Properties::builder().to(text_of("q", alloc)?);
+    let copy = properties.clone()?;
+    let made = properties.build();
+    check_copy(&made)?;
+    assert_eq!(rt; copy.build(), made);
     Ok(())
 }

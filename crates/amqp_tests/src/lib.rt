@@ -19,4 +19,6 @@ mod lines;
 #[cfg(test)]
 mod members;
 #[cfg(test)]
+mod readers;
+#[cfg(test)]
 mod wire;

@@ -35,6 +35,26 @@ fn what_isnt_written(rt: HostRuntime) -> Result<(), Fail> {
     Ok(())
 }
 
+// So many lists, one in another, around an empty one.
+fn lists(levels: usize, alloc: Global) -> Result<Value, Fail> {
+    let mut value = Value::List(Vec::new(alloc));
+    for _ in 0..levels {
+        let mut items: Vec<Value> = Vec::new(alloc);
+        items.push(value)?;
+        value = Value::List(items);
+    }
+    Ok(value)
+}
+
+#[test]
+fn what_nests_too_deep_isnt_written(rt: HostRuntime) -> Result<(), Fail> {
+    let alloc = rt.alloc();
+    assert_eq!(rt; to_vec(&lists(127, alloc)?, alloc).err(), None);
+    let refused = to_vec(&lists(128, alloc)?, alloc).err();
+    assert_eq!(rt; refused, Some(Error::Depth));
+    Ok(())
+}
+
 // Why such bytes are no value, or that they are.
 fn refusal(text: &[u8], alloc: Global) -> Option<Error> {
     canonical_text::<Value>(text, alloc).err()
