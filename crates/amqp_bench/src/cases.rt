@@ -2,15 +2,17 @@
 ghost use Rattle.std.specs.Prelude.{◌≤◌};
 
 use crate::bare::Bare;
-use crate::frames::{ATTACH, FLOW, PROPERTIES, TRANSFER};
-use crate::values::{Typed, application_properties};
+use crate::frames::{ATTACH, FLOW, MESSAGE, PROPERTIES, TRANSFER};
+use crate::values::{Typed, application_properties, message_of_data, message_of_properties};
 use amqp_attach::Attach;
-use amqp_codec::DeserializeTerm;
+use amqp_codec::{Deserialize, Serialize};
 use amqp_containers::Array;
 use amqp_map_sections::ApplicationProperties;
 use amqp_maps::OrderedMap;
 use amqp_message_headers::Properties;
+use amqp_messages::Message;
 use amqp_performatives::{Flow, Transfer};
+use amqp_sections::Data;
 use amqp_wire::{Error, Symbol};
 use std::alloc::Global;
 use std::time::Instant;
@@ -42,9 +44,12 @@ pub(crate) enum Case {
     Flow,
     Properties,
     ApplicationProperties,
+    Message,
+    MessageOfProperties,
+    MessageOfData,
 }
 
-pub(crate) const CASES: [Case; 17] = [
+pub(crate) const CASES: [Case; 20] = [
     Case::Uints,
     Case::Ulongs,
     Case::Strings,
@@ -62,6 +67,9 @@ pub(crate) const CASES: [Case; 17] = [
     Case::Flow,
     Case::Properties,
     Case::ApplicationProperties,
+    Case::Message,
+    Case::MessageOfProperties,
+    Case::MessageOfData,
 ];
 
 /// Cases whose times are compared: a type's, and that of the bare calls for the same bytes, which for a map keep its entries or
@@ -112,6 +120,9 @@ impl Case {
             Case::Flow => "a flow of 11 fields",
             Case::Properties => "properties of 13 fields",
             Case::ApplicationProperties => "application properties of 20 entries",
+            Case::Message => "a message of 316 bytes",
+            Case::MessageOfProperties => "a message of 1,000 application properties",
+            Case::MessageOfData => "a message of 1 MiB of data",
         }
     }
 
@@ -135,6 +146,9 @@ impl Case {
             Case::Flow => "flow",
             Case::Properties => "properties",
             Case::ApplicationProperties => "application",
+            Case::Message => "message",
+            Case::MessageOfProperties => "entries",
+            Case::MessageOfData => "data",
         }
     }
 
@@ -144,7 +158,12 @@ impl Case {
     {
         match self {
             Case::Uints | Case::Ulongs | Case::UintVec | Case::UlongArray => 10_000,
-            Case::Strings | Case::Map | Case::Symbols | Case::KeptSymbols | Case::SymbolMap => 1000,
+            Case::Strings
+            | Case::Map
+            | Case::Symbols
+            | Case::KeptSymbols
+            | Case::SymbolMap
+            | Case::MessageOfProperties => 1000,
             Case::LargeMap => 16_000,
             _ => 1,
         }
@@ -160,7 +179,8 @@ impl Case {
             | Case::Transfer
             | Case::Flow
             | Case::Properties
-            | Case::ApplicationProperties => 1000,
+            | Case::ApplicationProperties
+            | Case::Message => 1000,
             _ => 1,
         }
     }
@@ -168,7 +188,7 @@ impl Case {
     /// How many bytes a binary has.
     pub(crate) fn length(self) -> usize {
         match self {
-            Case::Binary => 1_048_576,
+            Case::Binary | Case::MessageOfData => 1_048_576,
             Case::Tiny => 5,
             _ => 0,
         }
@@ -182,6 +202,9 @@ impl Case {
             Case::Flow => Ok(Vec::from_slice(alloc, FLOW)?),
             Case::Properties => Ok(Vec::from_slice(alloc, PROPERTIES)?),
             Case::ApplicationProperties => application_properties(20, alloc),
+            Case::Message => Ok(Vec::from_slice(alloc, MESSAGE)?),
+            Case::MessageOfProperties => message_of_properties(1000, alloc),
+            Case::MessageOfData => message_of_data(self.length(), alloc),
             _ => Ok(Bare::new(self, Way::Writing, alloc)?.into_text()),
         }
     }
@@ -206,6 +229,9 @@ impl Case {
             Case::ApplicationProperties => {
                 self.best_of::<ApplicationProperties>(rt, way, rounds)
             }
+            Case::Message | Case::MessageOfProperties | Case::MessageOfData => {
+                self.best_of::<Message<Data>>(rt, way, rounds)
+            }
             _ => {
                 let work = Bare::new(self, way, rt.alloc())?;
                 best_round(rt, &work, self.times(), rounds)
@@ -213,7 +239,7 @@ impl Case {
         }
     }
 
-    fn best_of<T: DeserializeTerm>(
+    fn best_of<T: Deserialize + Serialize>(
         self,
         rt: &HostRuntime,
         way: Way,

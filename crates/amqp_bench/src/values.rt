@@ -1,8 +1,10 @@
 //! Values of types that are written by `to_vec` and read by `from_slice`.
 use crate::cases::{Way, Work};
-use amqp_codec::DeserializeTerm;
+use amqp_codec::{Deserialize, Serialize};
 use amqp_map_sections::ApplicationProperties;
+use amqp_messages::Message;
 use amqp_read_write::{from_slice, from_slice_counted, to_vec};
+use amqp_sections::Data;
 use amqp_simple_values::SimpleValue;
 use amqp_wire::Error;
 use std::alloc::Global;
@@ -15,7 +17,7 @@ pub(crate) struct Typed<T: Drop> {
     text: Vec<u8>,
 }
 
-impl<T: DeserializeTerm> Typed<T> {
+impl<T: Deserialize + Serialize> Typed<T> {
     /// The value that the text is of.
     pub(crate) fn new(way: Way, text: Vec<u8>, alloc: Global) -> Result<Typed<T>, Error> {
         let value = from_slice(&text, alloc)?;
@@ -23,7 +25,7 @@ impl<T: DeserializeTerm> Typed<T> {
     }
 }
 
-impl<T: DeserializeTerm> Work for Typed<T> {
+impl<T: Deserialize + Serialize> Work for Typed<T> {
     // How many bytes are written or read.
     fn run(&self, alloc: Global) -> Result<u64, Error> {
         match self.way {
@@ -36,12 +38,37 @@ impl<T: DeserializeTerm> Work for Typed<T> {
     }
 }
 
-/// The text of application properties, so many, each a number under a short name (Part 3, section 3.2.5).
-pub(crate) fn application_properties(count: u32, alloc: Global) -> Result<Vec<u8>, Error> {
+// Application properties, so many, each a number under a short name (Part 3, section 3.2.5).
+fn numbers(count: u32, alloc: Global) -> Result<ApplicationProperties, Error> {
     let mut builder = ApplicationProperties::builder(alloc);
     for index in 0..count {
         let name = format!(in alloc; "name {index}")?;
         builder = builder.insert(name, SimpleValue::Uint(index))?;
     }
-    to_vec(&builder.build(), alloc)
+    Ok(builder.build())
+}
+
+// The text of a message of these bytes, behind application properties.
+fn message(
+    application_properties: Option<ApplicationProperties>,
+    bytes: Vec<u8>,
+    alloc: Global,
+) -> Result<Vec<u8>, Error> {
+    let builder = Message::builder().application_properties(application_properties);
+    to_vec(&builder.data(Data::from(bytes)).build(), alloc)
+}
+
+/// The text of application properties, so many.
+pub(crate) fn application_properties(count: u32, alloc: Global) -> Result<Vec<u8>, Error> {
+    to_vec(&numbers(count, alloc)?, alloc)
+}
+
+/// The text of a message of so many application properties, and of data without bytes (Part 3, section 3.2).
+pub(crate) fn message_of_properties(count: u32, alloc: Global) -> Result<Vec<u8>, Error> {
+    message(Some(numbers(count, alloc)?), Vec::new(alloc), alloc)
+}
+
+/// The text of a message of so many bytes of data (Part 3, section 3.2.6).
+pub(crate) fn message_of_data(length: usize, alloc: Global) -> Result<Vec<u8>, Error> {
+    message(None, Vec::from_elem(alloc, 7u8, length)?, alloc)
 }
