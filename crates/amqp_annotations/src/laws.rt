@@ -11,7 +11,7 @@ ghost use Rattle.amqp_annotations.specs.BorrowedKeys.{borrowed_primitive};
 use crate::{Annotations, BorrowedKey, OwnedKey};
 use amqp_codec::{Canonical, Symbol};
 
-/// No spelling of a value of these is shorter than its canonical text, where no array stands in it.
+/// No spelling of a value of these is shorter than its canonical text, if it holds no array.
 pub fn texts_are_least()
     ensures owned_key { ⟦<OwnedKey as Canonical>⟧.is_least ≡ true }
     ensures annotations { ⟦<Annotations as Canonical>⟧.is_least ≡ true }

@@ -32,7 +32,7 @@ pub struct Attach {
     pub source: Option<Box<Source>>,
     /// Where the messages go to.
     pub target: Option<Box<TargetArchetype>>,
-    /// The states of unsettled deliveries, by their tags, where a link is taken up again.
+    /// The states of unsettled deliveries, by their tags, if a link is taken up again.
     pub unsettled: Option<Unsettled>,
     /// Whether not all unsettled deliveries are named.
     pub incomplete_unsettled: bool,

@@ -33,7 +33,7 @@ impl<T> TransparentVec<T> {
         values
     }
 
-    /// Adds a value behind the last. Where memory for it is refused it is dropped, nothing changes, and the answer is
+    /// Adds a value behind the last. If there is no memory for it, it is dropped, nothing changes, and the result is
     /// `Memory`.
     pub fn push(&mut self, value: T) -> Result<(), Error>
     where

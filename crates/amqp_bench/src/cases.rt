@@ -19,7 +19,7 @@ use std::time::Instant;
 
 /// What is timed: a value that is written or read.
 pub(crate) trait Work {
-    /// Writes or reads it once, and answers a number that hangs on all of it.
+    /// Writes or reads it once, and returns a number that depends on all of it.
     fn run(&self, alloc: Global) -> Result<u64, Error>;
 }
 

@@ -104,7 +104,7 @@ fn read_in_order<K: MapKey + Ord, V: DeserializeTerm, R: ByteSource>(
 impl<K: MapKey + Ord, V: DeserializeTerm> DeserializeTerm for BTreeMap<K, V> {
     ghost term = { btree_map_of K.term V.term K.cmp };
 
-    // The count is of keys and values, and is even: an odd one is `OddCount` where the map is begun.
+    // The count is of keys and values, and is even: an odd one is `OddCount` if the map is begun.
     fn read_value<R: ByteSource>(
         decoder: &mut Decoder<R>,
         alloc: Global,

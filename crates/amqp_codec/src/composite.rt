@@ -42,7 +42,7 @@ pub trait Composite: Sized + Drop {
         ensures rules { result.fields.now ≡ rules_of (slots table.fields) };
 
     /// A value whose optional fields are absent and whose default fields hold their defaults. What a mandatory field
-    /// holds doesn't matter: it is read before the value is answered.
+    /// holds doesn't matter: it is read before the value is returned.
     fn blank(alloc: Global) -> Self
         ensures { IsBlank table.fields result };
 

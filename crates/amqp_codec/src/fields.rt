@@ -33,7 +33,7 @@ pub trait FieldList: Sized + Drop {
         ensures { result.now ≡ rules_of (slots list.fields) };
 
     /// A value whose optional fields are absent and whose default fields hold their defaults. What a mandatory field
-    /// holds doesn't matter: it is read before the value is answered.
+    /// holds doesn't matter: it is read before the value is returned.
     fn blank(alloc: Global) -> Self
         ensures { IsBlank list.fields result };
 
@@ -134,8 +134,8 @@ pub fn read_fields<L: FieldList, R: ByteSource>(
     Ok(value)
 }
 
-/// Reads a value that is a list of fields by itself, without a descriptor: `Missing` and `EmptyMultiple` where a required
-/// field is null or left out, `Surplus` where items are left behind the last field, and else what a field's type answers.
+/// Reads a value that is a list of fields by itself, without a descriptor: `Missing` and `EmptyMultiple` if a required
+/// field is null or left out, `Surplus` if items are left behind the last field, and otherwise what the field's type returns.
 pub fn read_list<L: FieldList, R: ByteSource>(
     decoder: &mut Decoder<R>,
     alloc: Global,

@@ -38,7 +38,7 @@ pub fn each_in_type<T: Serialize>(values: &[T])
 }
 
 /// Reads so many values one after another. The count reserves nothing: memory is taken as values come, and `Memory` is
-/// answered where that is refused. An error of a value is the first of these that can't be read.
+/// returned if that is refused. An error of a value is the first of these that can't be read.
 pub fn read_each<T: DeserializeTerm, R: ByteSource>(
     count: u32,
     decoder: &mut Decoder<R>,

@@ -38,7 +38,7 @@ pub trait Deserialize: Sized + Drop {
     // From which state of a decoder a value is read, and the laws.
     ghost reading: { Reading Self };
 
-    /// Reads a value from what the decoder stands before. An error is `Memory`, where reading the type takes memory, the
+    /// Reads a value from what the decoder stands before. An error is `Memory`, if reading the type takes memory, the
     /// source's, or it names a fault that stands there.
     fn deserialize<R: ByteSource>(decoder: &mut Decoder<R>, alloc: Global) -> Result<Self, Error>
         ensures read { Tells R.remaining → AnswersRead reading.takes_memory reading.reads reading.fault decoder.old result decoder.new }
@@ -83,7 +83,7 @@ pub trait DeserializeTerm: SerializeTerm + Sized + Drop {
     // Which terms mean the values, which one is canonical, and the laws of both.
     ghost term: { TermType Self };
 
-    /// Reads a value from what the decoder stands before. An error is `Memory`, where reading the type takes memory, the
+    /// Reads a value from what the decoder stands before. An error is `Memory`, if reading the type takes memory, the
     /// source's, or it names a fault that stands there.
     fn read_value<R: ByteSource>(decoder: &mut Decoder<R>, alloc: Global) -> Result<Self, Error>
         ensures read { Tells R.remaining

@@ -19,8 +19,8 @@ use std::slice::Iter;
 use std::vec::IntoIter;
 
 /// Values of one type, which share a constructor where they are written (Part 1, section 1.2.4). They are refused in
-/// writing by `MixedArray`, where their constructors differ; by `ZeroWidthItems`, where one is null; and by
-/// `LazyInArray`, where one keeps its bytes. It lends the calls of its vector that change nothing, as `len`, `get` and
+/// writing by `MixedArray` if their constructors differ; by `ZeroWidthItems` if one is null; and by
+/// `LazyInArray` if one keeps its bytes. It lends the calls of its vector that change nothing, as `len`, `get` and
 /// `iter`. A copy wants memory, and each of its items is a copy of the one in its place.
 #[derive(Clone, Debug, PartialEq, Eq, PartialOrd, Ord, Hash, Drop)]
 pub struct Array<T>(pub Vec<T>);
@@ -34,7 +34,7 @@ impl<T> Array<T> {
         items
     }
 
-    /// Adds an item behind the last. Where memory for it is refused it is dropped, nothing changes, and the answer is
+    /// Adds an item behind the last. If there is no memory for it, it is dropped, nothing changes, and the result is
     /// `Memory`.
     pub fn push(&mut self, item: T) -> Result<(), Error>
     where

@@ -21,8 +21,8 @@ pub fn copies_are_equal<T: Clone + PartialEq>()
         → IsTrue (⟦<Array<T> as PartialEq>⟧.eq array copy) }
 {}
 
-/// An array is least exactly where its items are; but of a text in which an array stands that says nothing. A field of several values
-/// is always least: it is null where it holds none, and else what it holds stands in an array.
+/// An array is least exactly if its items are; but of a text in which an array stands that says nothing. A field of several values
+/// is always least: it is null if it holds none, and otherwise what it holds stands in an array.
 pub fn texts_are_least<T: DeserializeTerm>()
     ensures array { ⟦<Array<T> as Canonical>⟧.is_least ≡ T.term.is_least }
     ensures multiple { (n : T.term.is_never_null ≡ true) (s : T.term.ignores_standing ≡ true) (l : AreLeaves T.term)

@@ -62,7 +62,7 @@ pub fn read_multiple<T: DeserializeTerm, R: ByteSource>(
 }
 
 /// Reads a field that has at least one value into its place. It is refused as `read_multiple` refuses it, and by
-/// `EmptyMultiple` where an array without items stands.
+/// `EmptyMultiple` if an array without items comes there.
 pub fn read_mandatory_multiple<T: DeserializeTerm, R: ByteSource>(
     place: &mut Array<T>,
     decoder: &mut Decoder<R>,
@@ -112,7 +112,7 @@ pub fn is_null_mandatory_multiple<T: DeserializeTerm>(_field: &Array<T>) -> bool
 }
 
 /// Writes a field that has at least one value, as an array of them, also of one. It is refused as the array is, and by
-/// `EmptyMultiple` where it has none.
+/// `EmptyMultiple` if it has none.
 pub fn write_mandatory_multiple<T: DeserializeTerm>(
     field: &Array<T>,
     encoder: &mut Encoder,

@@ -136,8 +136,8 @@ impl<R: ByteSource> Decoder<R> {
         Ok(count)
     }
 
-    /// Begins an array (Part 1, section 1.6.24), and answers how many items it holds. The constructor that they share
-    /// stands for each of them in turn; `ZeroWidthItems` where its code has no data, `BadDescriptor` and `NonAscii`
+    /// Begins an array (Part 1, section 1.6.24), and returns how many items it holds. The constructor that they share
+    /// stands for each of them in turn; `ZeroWidthItems` if its code has no data, `BadDescriptor` and `NonAscii`
     /// as of `begin_described`, `Depth` past 128 descriptors or 128 nested values.
     pub fn begin_array(&mut self, alloc: Global) -> Result<u32, Error>
         ensures opened { Tells R.remaining → AnswersRead true OpensArray ArrayFault self.old result self.new }
@@ -152,7 +152,7 @@ impl<R: ByteSource> Decoder<R> {
         }
     }
 
-    /// Ends the array that is open: `Surplus` where items are left, `InvalidValue` where none is open.
+    /// Ends the array that is open: `Surplus` if items are left, `InvalidValue` if none is open.
     pub fn end_array(&mut self) -> Result<(), Error>
         ensures read { Tells R.remaining → AnswersRead false (λ st _ st'. Closes InArray st st') (CloseFault InArray) self.old result self.new }
         ensures tries { Tries false self.old result self.new }

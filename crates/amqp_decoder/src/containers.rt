@@ -93,7 +93,7 @@ impl<R: ByteSource> Decoder<R> {
         self.open(Place::InMap, count, content)
     }
 
-    /// Begins a list (Part 1, section 1.6.22), and answers how many values it holds; `Depth` past 128 nested
+    /// Begins a list (Part 1, section 1.6.22), and returns how many values it holds; `Depth` past 128 nested
     /// values.
     #[inline]
     pub fn begin_list(&mut self) -> Result<u32, Error>
@@ -108,8 +108,8 @@ impl<R: ByteSource> Decoder<R> {
         }
     }
 
-    /// Begins a map (Part 1, section 1.6.23), and answers how many items it holds, each key and each value being one;
-    /// `OddCount` where the number is odd.
+    /// Begins a map (Part 1, section 1.6.23), and returns how many items it holds, each key and each value being one;
+    /// `OddCount` if the number is odd.
     #[inline]
     pub fn begin_map(&mut self) -> Result<u32, Error>
         ensures read { Tells R.remaining → AnswersRead false (Opens map) (OpenFault map) self.old result self.new }
@@ -134,7 +134,7 @@ impl<R: ByteSource> Decoder<R> {
         Ok(())
     }
 
-    /// Ends the list that is open: `Surplus` where values are left, `InvalidValue` where none is open.
+    /// Ends the list that is open: `Surplus` if values are left, `InvalidValue` if none is open.
     #[inline]
     pub fn end_list(&mut self) -> Result<(), Error>
         ensures read { Tells R.remaining → AnswersRead false (λ st _ st'. Closes InList st st') (CloseFault InList) self.old result self.new }
@@ -143,7 +143,7 @@ impl<R: ByteSource> Decoder<R> {
         self.close(Place::InList)
     }
 
-    /// Ends the map that is open: `Surplus` where values are left, `InvalidValue` where none is open.
+    /// Ends the map that is open: `Surplus` if values are left, `InvalidValue` if none is open.
     #[inline]
     pub fn end_map(&mut self) -> Result<(), Error>
         ensures read { Tells R.remaining → AnswersRead false (λ st _ st'. Closes InMap st st') (CloseFault InMap) self.old result self.new }

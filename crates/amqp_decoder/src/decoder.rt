@@ -22,12 +22,12 @@ use amqp_wire::{ByteSource, Descriptor, Error, Limits};
 use std::alloc::Global;
 use std::marker::Model;
 
-/// A cursor over the terms of a source (Part 1, section 1.2). Once it has refused, it answers the same error to every call.
+/// A cursor over the terms of a source (Part 1, section 1.2). Once it has refused, it returns the same error from every call.
 ///
-/// A call that reads a value answers `Missing` if no item is left in what is open, `Cut` if the input ends in the
+/// A call that reads a value returns `Missing` if no item is left in what is open, `Cut` if the input ends in the
 /// value, `Size` if a size is wrong and all is there that the outermost size announces, `UnknownCode` and `FloatCode`
 /// of such a code, `WrongType` of another kind's, `Memory` if it takes memory and a growth is refused, `Read` if the
-/// source fails, and `Limit` if a limit of the caller is passed. What it answers besides is said of each call.
+/// source fails, and `Limit` if a limit of the caller is passed. What else it returns is said of each call.
 #[derive(Drop)]
 pub struct Decoder<R: ByteSource> {
     input: Input<R>,

@@ -105,8 +105,8 @@ impl<R: ByteSource> Decoder<R> {
         }
     }
 
-    /// Begins a described value (Part 1, section 1.2), and answers its descriptor; `BadDescriptor` where
-    /// that is neither a symbol nor a ulong, `NonAscii` where it is a symbol with a byte above 0x7f, and `Depth` past
+    /// Begins a described value (Part 1, section 1.2), and returns its descriptor; `BadDescriptor` if
+    /// that is neither a symbol nor a ulong, `NonAscii` if it is a symbol with a byte above 0x7f, and `Depth` past
     /// 128 nested values.
     pub fn begin_described(&mut self, alloc: Global) -> Result<Descriptor, Error>
         ensures opened { Tells R.remaining → AnswersRead true (λ st d st'. OpensDescribed st (descriptor_of d) st') OpenFault
@@ -171,8 +171,8 @@ impl<R: ByteSource> Decoder<R> {
         self.place_of_text(members, len)
     }
 
-    /// Begins a described value, and answers the place of the pair whose code or name its descriptor is;
-    /// `WrongDescriptor` where it is none of them, and otherwise as `begin_described`. Takes no memory.
+    /// Begins a described value, and returns the place of the pair whose code or name its descriptor is;
+    /// `WrongDescriptor` if it is none of them, and otherwise as `begin_described`. Takes no memory.
     pub fn begin_one_of(&mut self, members: &[(u64, &str)]) -> Result<usize, Error>
         ensures opened { Tells R.remaining → AnswersRead false (OpensOneOf members.now) (OneOfFault members.now) self.old result self.new }
         ensures nesting { Tells R.remaining → IfOk result (λ _. self.old.nesting ≤ 128) }
@@ -188,7 +188,7 @@ impl<R: ByteSource> Decoder<R> {
         Ok(place)
     }
 
-    /// Ends the described value that is open: `Surplus` where its value is left, `InvalidValue` where none is
+    /// Ends the described value that is open: `Surplus` if its value is left, `InvalidValue` if none is
     /// open.
     #[inline]
     pub fn end_described(&mut self) -> Result<(), Error>

@@ -127,7 +127,8 @@ pub fn rows()
         → Row st (ts ++ us) (b ++ c) after }
 {}
 
-/// A fault is the same before another source, and where values may nest deeper unless it is `Depth`; and none is want of memory or the source's.
+/// A fault is the same before another source, and if values may nest deeper, unless it is `Depth`; and none is lack of memory or the
+/// source's.
 pub fn faults()
     ensures arrays { (c : Setting) (st : State) (e : Error) → KeepsError c e → ArrayFault st e → ArrayFault (under c st) e }
     ensures described { (c : Setting) (st : State) (e : Error) → KeepsError c e → OpenDescribedFault st e
@@ -138,7 +139,7 @@ pub fn faults()
     ensures no_term { (st : State) (e : Error) → IsOutside e → TermFault st e → ⊥ }
 {}
 
-/// An error that says of bytes that they are no term, whatever type is read, names a fault only where no term stands; and where
+/// An error that says of bytes that they are no term, whatever type is read, reports a fault only if no term is there; and if
 /// none stands among the items of a container, or in a described value, none stands around it (Part 1, section 1.2).
 pub fn misspellings()
     ensures primitives { (k : ℕ) (st : State) (e : Error) → IsMisspelling e → PrimitiveFault k st e → NothingStands st }

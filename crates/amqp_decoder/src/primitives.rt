@@ -51,7 +51,7 @@ impl<R: ByteSource> Decoder<R> {
         Ok(())
     }
 
-    /// A boolean (Part 1, section 1.6.2); `BadBool` where its byte is above 1.
+    /// A boolean (Part 1, section 1.6.2); `BadBool` if its byte is above 1.
     #[inline]
     pub fn read_bool(&mut self) -> Result<bool, Error>
         ensures read { Tells R.remaining → AnswersRead false (ReadsValue (Means boolean)) (PrimitiveFault booleans) self.old result self.new }
@@ -259,7 +259,7 @@ impl<R: ByteSource> Decoder<R> {
         self.fixed(format_code::DECIMAL_128)
     }
 
-    /// A character (Part 1, section 1.6.16); `BadChar` where it is no Unicode scalar value.
+    /// A character (Part 1, section 1.6.16); `BadChar` if it is no Unicode scalar value.
     #[inline]
     pub fn read_char(&mut self) -> Result<char, Error>
         ensures read { Tells R.remaining → AnswersRead false (ReadsValue (Means char)) (PrimitiveFault chars) self.old result self.new }

@@ -204,7 +204,7 @@ impl<R: ByteSource> Decoder<R> {
 
     /// The bytes that spell the next term, of any kind, its constructor included (Part 1, section 1.2); `LazyInArray`
     /// where it is the item of an array, whose constructor is none of its own, and otherwise the errors of `term_len`. In
-    /// an open container `Size` is answered once all is there that the outermost one announces, and `Cut` before that.
+    /// an open container `Size` is returned once all is there that the outermost one announces, and `Cut` before that.
     pub fn read_term(&mut self, alloc: Global) -> Result<Vec<u8>, Error>
         ensures read { Tells R.remaining → AnswersRead true (λ st bytes st'. TakesTerm st bytes.items st') TermFault
             self.old result self.new }

@@ -141,7 +141,7 @@ impl<R: ByteSource> Decoder<R> {
         self.content(format_code::BINARY_8, format_code::BINARY_32, alloc)
     }
 
-    /// A text (Part 1, section 1.6.20); `BadUtf8` where it is not UTF-8.
+    /// A text (Part 1, section 1.6.20); `BadUtf8` if it is not UTF-8.
     pub fn read_string(&mut self, alloc: Global) -> Result<String, Error>
         ensures read { Tells R.remaining → AnswersRead true (ReadsValue (Means (λ text. string (string_bytes text)))) (PrimitiveFault strings)
             self.old result self.new }
@@ -154,7 +154,7 @@ impl<R: ByteSource> Decoder<R> {
         }
     }
 
-    /// A symbol (Part 1, section 1.6.21); `NonAscii` where a byte is above 0x7f.
+    /// A symbol (Part 1, section 1.6.21); `NonAscii` if a byte is above 0x7f.
     pub fn read_symbol(&mut self, alloc: Global) -> Result<Symbol, Error>
         ensures read { Tells R.remaining → AnswersRead true (ReadsValue (Means (λ text. symbol (string_bytes text.0)))) (PrimitiveFault symbols)
             self.old result self.new }

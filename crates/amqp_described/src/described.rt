@@ -28,7 +28,7 @@ pub struct Described<T> {
 }
 
 impl<T> Described<T> {
-    /// A copy, whose descriptor and value are copies of its own; `Memory` where memory for it is refused.
+    /// A copy, whose descriptor and value are copies of its own; `Memory` if there is no memory for it.
     pub fn clone(&self) -> Result<Described<T>, Error>
     where
         T: Clone + Drop,

@@ -10,7 +10,7 @@ use crate::Described;
 use amqp_codec::{Canonical, DeserializeTerm};
 use amqp_wire::{Descriptor, Symbol};
 
-/// A described value is least exactly where the value behind the descriptor is.
+/// A described value is least exactly if the value behind the descriptor is.
 pub fn texts_are_least<T: DeserializeTerm>()
     ensures described { ⟦<Described<T> as Canonical>⟧.is_least ≡ T.term.is_least }
 {}

@@ -103,7 +103,7 @@ fn head_of_code(number: u64) -> Head
     }
 }
 
-/// How many bytes a descriptor takes; refused where it is a symbol that isn't ASCII or is too long.
+/// How many bytes a descriptor takes; refused if it is a symbol that isn't ASCII or is too long.
 pub(crate) fn len_of(descriptor: &Descriptor) -> Result<usize, Error>
     ensures { result ≡ descriptor_length (descriptor_of descriptor.now) }
 {

@@ -26,7 +26,7 @@ pub(crate) enum Mode {
 }
 
 /// Measures what is written to it, or fills a buffer with its canonical text (Part 1, section 1.6). Once it
-/// has refused, it answers the same error to every call. It takes memory, and may answer `Memory` for want of
+/// has refused, it returns the same error from every call. It takes memory, and may return `Memory` for lack of
 /// it, only while it measures: where a list, map or array begins, and where a described value does that is the
 /// first item of an array.
 #[derive(Drop)]
@@ -65,7 +65,7 @@ impl Encoder {
         }
     }
 
-    /// Refuses the value for a reason of its type's own, or for want of memory of its own.
+    /// Refuses the value for a reason of its type's own, or for a lack of memory of its own.
     pub fn refuse(&mut self, error: Error) -> Result<(), Error>
         ensures { Writes self.old (refuse error ∷ []) result self.new }
     {
@@ -116,7 +116,7 @@ impl Encoder {
         }
     }
 
-    /// A symbol (Part 1, section 1.6.21); `NonAscii` where the text isn't ASCII.
+    /// A symbol (Part 1, section 1.6.21); `NonAscii` if the text isn't ASCII.
     pub fn write_symbol(&mut self, text: &str) -> Result<(), Error>
         ensures { Writes self.old (put (symbol text.now) ∷ []) result self.new }
     {
@@ -212,7 +212,7 @@ impl Encoder {
         self.begin(Container::List)
     }
 
-    /// Ends the list that is open; `InvalidValue` where none is.
+    /// Ends the list that is open; `InvalidValue` if none is.
     pub fn end_list(&mut self) -> Result<(), Error>
         ensures { Writes self.old (end list ∷ []) result self.new }
     {
@@ -226,7 +226,7 @@ impl Encoder {
         self.begin(Container::Map)
     }
 
-    /// Ends the map that is open; `OddCount` where a key has no value.
+    /// Ends the map that is open; `OddCount` if a key has no value.
     pub fn end_map(&mut self) -> Result<(), Error>
         ensures { Writes self.old (end map ∷ []) result self.new }
     {
@@ -240,7 +240,7 @@ impl Encoder {
         self.begin(Container::Array)
     }
 
-    /// Ends the array that is open; `InvalidValue` where none is.
+    /// Ends the array that is open; `InvalidValue` if none is.
     pub fn end_array(&mut self) -> Result<(), Error>
         ensures { Writes self.old (end array ∷ []) result self.new }
     {
@@ -264,7 +264,7 @@ impl Encoder {
         }
     }
 
-    /// Ends the described value that is open; `InvalidValue` where it doesn't hold exactly one value.
+    /// Ends the described value that is open; `InvalidValue` if it doesn't hold exactly one value.
     pub fn end_described(&mut self) -> Result<(), Error>
         ensures { Writes self.old (end_described ∷ []) result self.new }
     {
@@ -293,7 +293,7 @@ pub fn measuring_encoder(alloc: Global) -> Encoder
     }
 }
 
-/// The length of what was measured. An error is the encoder's refusal, or `InvalidValue` where it has refused nothing but
+/// The length of what was measured. An error is the encoder's refusal, or `InvalidValue` if it has refused nothing but
 /// a container is still open or it doesn't measure.
 #[inline(always)]
 pub fn measured_len(encoder: &Encoder) -> Result<usize, Error>
@@ -308,7 +308,7 @@ pub fn measured_len(encoder: &Encoder) -> Result<usize, Error>
 }
 
 /// Goes over to filling the room of a buffer, up to `limit` bytes in all, with the sizes that were measured. An encoder
-/// that has refused takes the buffer, and answers its error as before.
+/// that has refused takes the buffer, and returns its error as before.
 #[inline(always)]
 pub fn begin_filling(encoder: &mut Encoder, alloc: Global, buffer: Vec<u8>, limit: usize)
     requires { limit ≤ vec_capacity buffer }

@@ -73,7 +73,7 @@ impl MeasuredContainer {
         self.opened.is_described() && self.count != 0
     }
 
-    /// Its size; refused where that doesn't fit in four bytes.
+    /// Its size; refused if that doesn't fit in four bytes.
     pub(crate) fn size(self) -> Result<Size, Error>
         ensures { result ≡ size_of (seen self) }
     {

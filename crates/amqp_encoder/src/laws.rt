@@ -17,8 +17,8 @@ ghost use Rattle.amqp_encoder.specs.Writes.{Writes, bytes_of};
 ghost use Rattle.amqp_encoder.specs.Passes.{AreRefused, AreValues, BeginsFilling, BeginsMeasuring, Finds, HoldOthers, IsMeasured, as_size};
 ghost use Rattle.amqp_encoder.specs.Passes.{row_text, row_tokens};
 
-/// Where the calls for some terms were made of an encoder that measures, it answers Ok where nothing refuses the terms,
-/// and has then found their length and sizes; else it answers why they are refused, or that memory ran out, which it
+/// Where the calls for some terms were made of an encoder that measures, it returns Ok if nothing refuses the terms,
+/// and has then found their length and sizes; otherwise it returns why they are refused, or that memory ran out, which it
 /// takes of terms that hold a list, a map or an array.
 pub fn measuring()
     ensures found { (deep : List ℕ → ℕ) (ts : List Term) (old new : Encoder) → AreValues ts → BeginsMeasuring old
@@ -30,7 +30,7 @@ pub fn measuring()
         → ((e ≡ Memory) × HoldOthers ts) ⊎ AreRefused deep ts e }
 {}
 
-/// Where they were made of an encoder that fills, with what was measured and room for it, each of them was answered Ok,
+/// Where they were made of an encoder that fills, with what was measured and room for it, each of them returned Ok,
 /// and it has written their text. It takes no memory, so that none is refused for want of that.
 pub fn filling()
     ensures answered { (deep : List ℕ → ℕ) (ts : List Term) (len : ℕ) (sizes : List Size) (out : List ℕ) (limit : ℕ) (old new : Encoder)
@@ -62,8 +62,8 @@ pub fn refusals_are_sound()
         → AreRefused deep (u ∷ []) e → TermHasCause u e }
 {}
 
-/// An encoder that measures answers Ok exactly where the model refuses nothing and the machine counts the bytes; else it
-/// answers the named reason. It may run out of memory in either case.
+/// An encoder that measures returns Ok exactly if the model refuses nothing and the machine counts the bytes; else it
+/// returns the named reason. It may run out of memory in either case.
 pub fn accepted_exactly()
     ensures accepted { (deep : List ℕ → ℕ) (u : Term) (old new : Encoder) → KnowDepths deep (u ∷ []) → AreValues (u ∷ [])
         → BeginsMeasuring old → Writes old (tokens deep u) (Ok tt) new

@@ -64,7 +64,7 @@ impl Measure {
         }
     }
 
-    /// The length of all that was written; refused where a container is still open.
+    /// The length of all that was written; refused if a container is still open.
     #[inline(always)]
     pub(crate) fn measured(&self) -> Result<usize, Error>
         ensures { MatchResult result (λ len. (self.now.outer ≡ []) × (len ≡ self.now.frame.content))

@@ -40,7 +40,7 @@ pub fn conditions_are_read_again()
     ensures again { (v : _) → ⟦<ErrorCondition as Canonical>⟧.again v ≡ norm_condition v }
 {}
 
-/// No spelling of a value of these is shorter than its canonical text, where no array stands in it.
+/// No spelling of a value of these is shorter than its canonical text, if it holds no array.
 pub fn texts_are_least()
     ensures amqp_error { ⟦<AmqpError as Canonical>⟧.is_least ≡ true }
     ensures connection_error { ⟦<ConnectionError as Canonical>⟧.is_least ≡ true }

@@ -18,7 +18,7 @@ pub trait KindSum: Sized + Drop {
 
     ghost sum: { KindSumOf Self };
 
-    /// Reads the member of a kind, by `read_as`; where no member is of it, any member, which refuses it.
+    /// Reads the member of a kind, by `read_as`; if no member is of it, any member, which refuses it.
     fn read_member<R: ByteSource>(
         kind: Kind,
         decoder: &mut Decoder<R>,

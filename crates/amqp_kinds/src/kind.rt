@@ -32,7 +32,7 @@ pub enum Kind {
     Array,
 }
 
-/// The kind that a code announces: null where it announces none.
+/// The kind that a code announces: null if it announces none.
 pub fn kind_of(code: u8) -> Kind
     ensures { result ≡ kind_at code }
 {

@@ -218,7 +218,7 @@ fn data_len(code: u8, input: &[u8], nesting: usize, deep: Error) -> Result<usize
 }
 
 /// The length in bytes of the term that the input begins with and that nests at most so deep, refused as by `term_len`, but by this
-/// error where values nest deeper.
+/// error if values nest deeper.
 #[cycle(term)]
 pub fn len_of_term(input: &[u8], nesting: usize, deep: Error) -> Result<usize, Error>
     ensures found { IfOk result (λ n. IsFront (IsTerm nesting) input.now n) }

@@ -33,7 +33,7 @@ pub(crate) struct Measured {
     pub(crate) nesting: usize,
 }
 
-/// What the term holds that the bytes spell, or none where they are no term that nests at most 128 deep (Part 1, section 1.2).
+/// What the term holds that the bytes spell, or none if they are no term that nests at most 128 deep (Part 1, section 1.2).
 /// The bytes are walked over twice. The call allocates no memory.
 pub fn measures_of(input: &[u8]) -> Option<Measures>
     ensures measured { MatchOption result (IsTerm NESTING input.now → ⊥) (λ m. IsMeasured m.nodes m.nesting input.now) }

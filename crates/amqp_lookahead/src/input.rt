@@ -11,7 +11,7 @@ use std::marker::Model;
 /// The most bytes that are looked at before they are taken.
 pub(crate) const LOOK: usize = 64;
 
-// Copies as many of the bytes as the buffer holds, and answers how many.
+// Copies as many of the bytes as the buffer holds, and returns how many.
 #[inline(always)]
 fn copy_front(bytes: &[u8], buffer: &mut [u8]) -> usize
     ensures count { result ≡ min (length bytes.now) (length buffer.old) }
@@ -94,7 +94,7 @@ impl<R: ByteSource> Input<R> {
         source
     }
 
-    /// Fills the buffer with the next bytes, which are taken, and answers with how many: fewer than it holds only at the
+    /// Fills the buffer with the next bytes, which are taken, and returns how many: fewer than it holds only at the
     /// end of the input. An error is the source's, which has failed.
     pub fn pull(&mut self, buffer: &mut [u8]) -> Result<usize, ErrorKind>
         ensures fits { IfOk result (λ n. n ≤ length buffer.old) }
@@ -129,7 +129,7 @@ impl<R: ByteSource> Input<R> {
         Ok(count + more)
     }
 
-    /// Fills the buffer with the next bytes, which are taken, where all of them are at hand in the source; else answers false, and
+    /// Fills the buffer with the next bytes, which are taken, if all of them are at hand in the source; otherwise it returns false, and
     /// takes nothing.
     #[inline(always)]
     pub fn pull_ready(&mut self, buffer: &mut [u8]) -> bool
@@ -144,7 +144,7 @@ impl<R: ByteSource> Input<R> {
         self.source.pull_ready(buffer)
     }
 
-    /// Adds the next `count` bytes, which are taken, where all of them are at hand in the source; else answers false, and takes and
+    /// Adds the next `count` bytes, which are taken, if all of them are at hand in the source; otherwise it returns false, and takes and
     /// adds nothing. An error is a refused growth, which takes nothing either.
     #[inline(always)]
     pub fn append_ready(&mut self, count: usize, bytes: &mut Vec<u8>) -> Result<bool, AllocError>
@@ -160,7 +160,7 @@ impl<R: ByteSource> Input<R> {
         self.source.append_ready(count, bytes)
     }
 
-    /// Copies the next bytes, at most 64, to the buffer, and answers with how many: fewer than it holds only at the end of the
+    /// Copies the next bytes, at most 64, to the buffer, and returns how many: fewer than it holds only at the end of the
     /// input. They are looked at, and none of them is taken. An error is the source's, which has failed.
     #[inline(always)]
     pub fn peek(&mut self, buffer: &mut [u8]) -> Result<usize, ErrorKind>
@@ -205,7 +205,7 @@ impl<R: ByteSource> Input<R> {
         }
     }
 
-    // Copies the next bytes to the buffer, and answers how many, where the source keeps them at hand.
+    // Copies the next bytes to the buffer, and returns how many, where the source keeps them at hand.
     #[inline(always)]
     fn peek_whole(&mut self, buffer: &mut [u8]) -> Option<usize>
         requires { length buffer.old ≤ 64 }

@@ -69,7 +69,7 @@ pub fn longer_front<'a>(
     None
 }
 
-/// The same, where the front is known so far.
+/// The same, if the front is known so far.
 pub fn next_front<'a>(
     members: Members<'a>,
     known: Option<&'a [u8]>,

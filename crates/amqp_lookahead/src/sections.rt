@@ -119,7 +119,7 @@ impl<R: ByteSource> Input<R> {
         Ok(section_of_code(code))
     }
 
-    /// The code of the section whose whole descriptor, in any of its spellings, stands next within 64 bytes; `None` where
+    /// The code of the section whose whole descriptor, in any of its spellings, comes next within 64 bytes; `None` where
     /// none does. Nothing is taken, and at most 64 bytes are looked at. An error is the source's, which has failed.
     pub fn section_ahead(&mut self) -> Result<Option<u8>, ErrorKind>
         ensures ok { Tells R.remaining → IfOk result (λ section. LooksOn self.old self.new

@@ -5,7 +5,7 @@ use crate::OrderedMap;
 use amqp_codec::{Canonical, DeserializeTerm, MapKey};
 use std::hash::Hash;
 
-/// A map is least exactly where its keys and its values are.
+/// A map is least exactly if its keys and its values are.
 pub fn texts_are_least<K: MapKey, V: DeserializeTerm>()
     ensures map { ⟦<OrderedMap<K, V> as Canonical>⟧.is_least ≡ (K.term.is_least && V.term.is_least) }
 {}

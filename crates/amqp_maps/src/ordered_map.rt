@@ -106,7 +106,7 @@ impl<K: Eq + Hash + Drop, V> OrderedMap<K, V> {
     ///
     /// # Errors
     ///
-    /// `Memory`, where a new key wants memory and is refused it: the map stays as it was, and the pair is dropped.
+    /// `Memory`, if a new key needs memory and there is none: the map stays as it was, and the pair is dropped.
     pub fn insert(&mut self, key: K, value: V) -> Result<Option<V>, Error>
     where
         V: Drop,

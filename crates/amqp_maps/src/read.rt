@@ -66,7 +66,7 @@ fn read_pairs<K: MapKey, V: DeserializeTerm, R: ByteSource>(
 impl<K: MapKey, V: DeserializeTerm> DeserializeTerm for OrderedMap<K, V> {
     ghost term = { map_of K.term V.term };
 
-    // The count is of keys and values, and is even: an odd one is `OddCount` where the map is begun.
+    // The count is of keys and values, and is even: an odd one is `OddCount` if the map is begun.
     fn read_value<R: ByteSource>(
         decoder: &mut Decoder<R>,
         alloc: Global,

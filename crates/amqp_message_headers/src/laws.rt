@@ -8,7 +8,7 @@ use crate::{Header, MESSAGE_FORMAT, MessageId, Priority, Properties};
 use amqp_codec::{Canonical, Deserialize};
 use amqp_primitives::{Binary, Uuid};
 
-/// A header is read without memory, so that `from_slice` answers `Memory` for none.
+/// A header is read without memory, so that `from_slice` returns `Memory` for none.
 pub fn reading_takes_no_memory()
     ensures header { ⟦<Header as Deserialize>⟧.reading.takes_memory ≡ false }
     ensures priority { ⟦<Priority as Deserialize>⟧.reading.takes_memory ≡ false }

@@ -16,7 +16,7 @@ use std::alloc::Global;
 /// Begins a session on a channel.
 #[derive(Clone, Debug, PartialEq, Eq, Drop)]
 pub struct Begin {
-    /// The channel on which the peer began the session, where this answers it.
+    /// The channel on which the peer began the session, if this one answers that.
     pub remote_channel: Option<u16>,
     /// The number of the first transfer.
     pub next_outgoing_id: TransferNumber,

@@ -4,7 +4,7 @@ ghost use Rattle.std.specs.Prelude.{◌≡◌, true};
 use crate::{Begin, Close, Detach, Disposition, End, Flow, Open, Transfer};
 use amqp_codec::Canonical;
 
-/// No spelling of a value of these is shorter than its canonical text, where no array stands in it.
+/// No spelling of a value of these is shorter than its canonical text, if it holds no array.
 pub fn texts_are_least()
     ensures open { ⟦<Open as Canonical>⟧.is_least ≡ true }
     ensures begin { ⟦<Begin as Canonical>⟧.is_least ≡ true }

@@ -18,17 +18,17 @@ use std::alloc::Global;
 pub struct Transfer {
     /// The link on which it is transferred.
     pub handle: Handle,
-    /// The number of the delivery. It may be left out where a delivery goes on.
+    /// The number of the delivery. It may be left out if a delivery goes on.
     pub delivery_id: Option<DeliveryNumber>,
-    /// The sender's name of the delivery. It may be left out where a delivery goes on.
+    /// The sender's name of the delivery. It may be left out if a delivery goes on.
     pub delivery_tag: Option<DeliveryTag>,
-    /// The format of the message. It may be left out where a delivery goes on.
+    /// The format of the message. It may be left out if a delivery goes on.
     pub message_format: Option<MessageFormat>,
-    /// Whether the delivery is settled at the sender. Where it is left out, the transfers before say so, and else it is not.
+    /// Whether the delivery is settled at the sender. If it is left out, the transfers before say so, and otherwise it is not.
     pub settled: Option<bool>,
     /// Whether more of the message follows in other transfers.
     pub more: bool,
-    /// When the receiver settles the delivery. Where it is left out, the mode of the link counts.
+    /// When the receiver settles the delivery. If it is left out, the mode of the link counts.
     pub rcv_settle_mode: Option<ReceiverSettleMode>,
     /// The state of the delivery at the sender.
     pub state: Option<DeliveryState>,

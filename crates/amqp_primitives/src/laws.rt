@@ -6,7 +6,7 @@ ghost use Rattle.std.specs.Cmp.Lexicographic.{slice_cmp};
 use crate::{Binary, Dec32, Dec64, Dec128, SymbolRef, Timestamp, Uuid};
 use amqp_codec::{Canonical, Deserialize, Symbol};
 
-/// Primitives of a known width are read without memory, so that `from_slice` answers `Memory` for none of them.
+/// Primitives of a known width are read without memory, so that `from_slice` returns `Memory` for none of them.
 pub fn reading_takes_no_memory()
     ensures null { ⟦<() as Deserialize>⟧.reading.takes_memory ≡ false }
     ensures boolean { ⟦<bool as Deserialize>⟧.reading.takes_memory ≡ false }

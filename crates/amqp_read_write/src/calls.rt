@@ -15,7 +15,7 @@ use amqp_encoder::{Encoder, begin_filling, buffer_of, measured_len, measuring_en
 use amqp_wire::{Error, Limits};
 use std::alloc::Global;
 
-/// The value that the input begins with. What follows it is left. An error is `Memory`, where reading the type takes
+/// The value that the input begins with. What follows it is left. An error is `Memory`, if reading the type takes
 /// memory, or names a fault of an input that begins with no value; it is never `Read`, since a slice doesn't fail.
 pub fn from_slice<T: Deserialize>(input: &[u8], alloc: Global) -> Result<T, Error>
     ensures found { IfOk result (λ v. (n : ℕ) × BeginsWith T.reading input.now v n) }
@@ -93,7 +93,7 @@ pub fn encoded_len<T: Serialize>(value: &T, alloc: Global) -> Result<usize, Erro
     measure(value, &mut measuring_encoder(alloc))
 }
 
-/// Appends the value's canonical text to the buffer, and answers its length in bytes. The room is reserved once
+/// Appends the value's canonical text to the buffer, and returns its length in bytes. The room is reserved once
 /// and exactly. It is refused as `to_vec` is, and then leaves the buffer's content as it was.
 pub fn append_to_vec<T: Serialize>(
     value: &T,

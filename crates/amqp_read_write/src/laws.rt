@@ -26,7 +26,7 @@ use std::collections::BTreeMap;
 use std::rc::Rc;
 
 /// What is read from the front of an input is what that front spells, whatever stands behind it; and nothing behind it
-/// is looked at. So an error that says of bytes that they are no term is answered only of such (`IsUnreadable::unspelled`).
+/// is looked at. So an error that says of bytes that they are no term is returned only of such (`IsUnreadable::unspelled`).
 pub fn reading_is_spelling<T: DeserializeTerm>()
     ensures spelled { (input : List ℕ) (v : T) (n : ℕ) → BeginsWith ⟦<T as Deserialize>⟧.reading input v n
         → (n ≤ length input) × IsSpelled T.term (take n input) v }
@@ -55,7 +55,7 @@ pub fn one_term_is_written<T: DeserializeTerm>()
 {}
 
 /// What `canonical_text` promises holds of a type of terms without a condition: anything may follow a text, each text is
-/// read, as its value again, and it is the shortest where the type is least.
+/// read, as its value again, and it is the shortest if the type is least.
 pub fn terms_are_read_again<T: DeserializeTerm>()
     ensures follows { (more : List ℕ) → ⟦<T as Canonical>⟧.follows more }
     ensures kept { (v : T) → ⟦<T as Canonical>⟧.kept v }
@@ -69,7 +69,7 @@ pub fn one_value<T: DeserializeTerm>()
     ensures front { (b c x y : List ℕ) (v w : T) → IsSpelled T.term b v → IsSpelled T.term c w → b ++ x ≡ c ++ y → b ≡ c }
 {}
 
-/// What was read can be written, but where its size passes 32 bits.
+/// What was read can be written, unless its size passes 32 bits.
 pub fn what_is_read_is_writable<T: DeserializeTerm>()
     ensures { (b : List ℕ) (v : T) (r : Refusal) → IsSpelled T.term b v → Refuses r (T.term.canon v) → r ≡ too_large }
 {}
@@ -92,7 +92,7 @@ pub fn one_text_for_one_value<T: DeserializeTerm>()
         → written T.term w ≡ written T.term v }
 {}
 
-/// Two keys are equal if they are one value. So where they can be written, they are equal exactly if their canonical texts are;
+/// Two keys are equal if they are one value. So if they can be written, they are equal exactly if their canonical texts are;
 /// and equal keys are hashed alike.
 pub fn keys_are_compared_by_their_texts<K: MapKey>()
     ensures values { (v w : K) → Decides (K.eq v w) (K.term.same v w) }
@@ -100,7 +100,7 @@ pub fn keys_are_compared_by_their_texts<K: MapKey>()
     ensures hashes { (v w : K) → K.eq v w ≡ true → K.hash_input v ≡ K.hash_input w }
 {}
 
-/// No spelling of a value of a least type is shorter than its canonical text, where its term holds no array.
+/// No spelling of a value of a least type is shorter than its canonical text, if its term holds no array.
 pub fn canonical_text_is_least<T: DeserializeTerm>()
     ensures { T.term.is_least ≡ true → (b : List ℕ) (v : T) → IsBytes b → Everywhere IsNoArray (T.term.canon v) → IsSpelled T.term b v
         → length (written T.term v) ≤ length b }
@@ -123,7 +123,7 @@ pub fn texts_are_least()
     ensures symbol { ⟦<Symbol as Canonical>⟧.is_least ≡ true }
 {}
 
-/// What is made of other types is least exactly where they are.
+/// What is made of other types is least exactly if they are.
 pub fn texts_of_parts_are_least<K: MapKey + Ord, T: DeserializeTerm>()
     ensures option { ⟦<Option<T> as Canonical>⟧.is_least ≡ T.term.is_least }
     ensures boxed { ⟦<Box<T> as Canonical>⟧.is_least ≡ T.term.is_least }

@@ -89,7 +89,7 @@ fn read_array<R: ByteSource>(decoder: &mut Decoder<R>, alloc: Global) -> Result<
     decoder.end_array()
 }
 
-// Reads all of it, and answers how many bytes its texts have.
+// Reads all of it, and returns how many bytes its texts have.
 fn read_held(alloc: Global) -> Result<usize, Error> {
     let mut decoder = decoder_of(HELD, alloc);
     let texts = read_texts(&mut decoder, alloc)?;

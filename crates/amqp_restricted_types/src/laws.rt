@@ -10,7 +10,7 @@ use crate::{
 };
 use amqp_codec::{Canonical, Deserialize};
 
-/// Numbers are read without memory, so that `from_slice` answers `Memory` for none of them.
+/// Numbers are read without memory, so that `from_slice` returns `Memory` for none of them.
 pub fn reading_takes_no_memory()
     ensures role { ⟦<Role as Deserialize>⟧.reading.takes_memory ≡ false }
     ensures sender_settle_mode { ⟦<SenderSettleMode as Deserialize>⟧.reading.takes_memory ≡ false }

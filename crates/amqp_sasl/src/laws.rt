@@ -7,7 +7,7 @@ use crate::{
 };
 use amqp_codec::Canonical;
 
-/// No spelling of a value of these is shorter than its canonical text, where no array stands in it.
+/// No spelling of a value of these is shorter than its canonical text, if it holds no array.
 pub fn texts_are_least()
     ensures sasl_mechanisms { ⟦<SaslMechanisms as Canonical>⟧.is_least ≡ true }
     ensures sasl_init { ⟦<SaslInit as Canonical>⟧.is_least ≡ true }

@@ -26,7 +26,7 @@ impl SaslMechanisms {
     /// The code and the name of its descriptor.
     pub const DESCRIPTOR: (u64, &'static str) = (0x40, "amqp:sasl-mechanisms:list");
 
-    /// The frame that offers `ANONYMOUS` alone, which stands for the default. The only error is want of memory.
+    /// The frame that offers `ANONYMOUS` alone, which stands for the default. The only error is `Memory`.
     pub fn default_in(alloc: Global) -> Result<SaslMechanisms, Error>
         ensures anonymous { IfOk result (λ mechanisms. map (λ symbol. string_bytes symbol.0) mechanisms.sasl_server_mechanisms.0.items
             ≡ codes "ANONYMOUS" ∷ []) }

@@ -4,7 +4,7 @@ ghost use Rattle.std.specs.Prelude.{◌≡◌, true};
 use crate::SimpleValue;
 use amqp_codec::Canonical;
 
-/// No spelling of a simple value is shorter than its canonical text, where no array stands in it.
+/// No spelling of a simple value is shorter than its canonical text, if it holds no array.
 pub fn texts_are_least()
     ensures simple_value { ⟦<SimpleValue as Canonical>⟧.is_least ≡ true }
 {}

@@ -14,7 +14,7 @@ use amqp_wire::{Error, Symbol};
 use std::alloc::Global;
 
 impl SimpleValue {
-    /// A text of the same characters, in memory of its own; `Memory` where memory for it is refused.
+    /// A text of the same characters, in memory of its own; `Memory` if there is no memory for it.
     pub fn from_str_in(text: &str, alloc: Global) -> Result<SimpleValue, Error>
         ensures text { IfOk result (λ v. simple_term v ≡ leaf (string text.now)) }
         ensures memory { IfErr result (λ e. e ≡ Memory) }

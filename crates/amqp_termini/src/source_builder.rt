@@ -187,7 +187,7 @@ impl SourceBuilder {
         Ok(self)
     }
 
-    /// Puts a filter under this name, or null under it where there is none (Part 3, section 3.5.8). The only error is `Memory`, which
+    /// Puts a filter under this name, or null under it if there is none (Part 3, section 3.5.8). The only error is `Memory`, which
     /// drops the builder.
     pub fn add_to_filter(
         mut self,

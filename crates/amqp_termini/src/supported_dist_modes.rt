@@ -16,7 +16,7 @@ use amqp_values::Value;
 use std::alloc::Global;
 use std::marker::Model;
 
-/// The distribution modes that a node supports, in order: at least one where it was made here. It is read and written as the array of
+/// The distribution modes that a node supports, in order: at least one if it was made here. It is read and written as the array of
 /// them, so one without modes can be read.
 #[derive(Debug, PartialEq, Eq, Drop)]
 pub struct SupportedDistModes {
@@ -65,7 +65,7 @@ impl SupportedDistModes {
         SupportedDistModes::new(mode, alloc)
     }
 
-    /// Adds a mode behind the last. Where memory for it is refused nothing changes, and the answer is `Memory`.
+    /// Adds a mode behind the last. If there is no memory for it, nothing changes, and the result is `Memory`.
     pub fn add_mode(&mut self, mode: DistributionMode) -> Result<(), Error>
         ensures added { OnOk result (self.new.0.items ≡ self.old.0.items ++ mode ∷ []) }
         ensures kept { OnErr result (self.new.0.items ≡ self.old.0.items) }
@@ -74,7 +74,7 @@ impl SupportedDistModes {
         self.modes.push(mode)
     }
 
-    /// These modes, or the array again where it has none.
+    /// These modes, or the array again if it has none.
     pub fn try_from_modes(
         modes: Array<DistributionMode>,
     ) -> Result<SupportedDistModes, Array<DistributionMode>>

@@ -18,7 +18,7 @@ pub trait IntoValue: Sized {
     ///
     /// # Errors
     ///
-    /// `Memory`, where memory is refused: what was to be put in the value is dropped.
+    /// `Memory`, if memory runs out: what was to be put in the value is dropped.
     fn into_value(self, alloc: Global) -> Result<Value, Error>
         ensures value { IfOk result (into_value_gives self) }
         ensures memory { IfErr result (λ e. e ≡ Memory) };

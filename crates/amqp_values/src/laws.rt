@@ -4,7 +4,7 @@ ghost use Rattle.std.specs.Prelude.{◌≡◌, true};
 use crate::{Value, ValueMap};
 use amqp_codec::Canonical;
 
-/// No spelling of a value, or of a map of values, is shorter than its canonical text, where no array stands in it.
+/// No spelling of a value, or of a map of values, is shorter than its canonical text, if it holds no array.
 pub fn texts_are_least()
     ensures value { ⟦<Value as Canonical>⟧.is_least ≡ true }
     ensures map { ⟦<ValueMap as Canonical>⟧.is_least ≡ true }

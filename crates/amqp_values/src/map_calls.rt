@@ -55,7 +55,7 @@ impl ValueMap {
     ///
     /// # Errors
     ///
-    /// `Memory`, where a new key wants memory and is refused it: the map stays as it was, and the pair is dropped.
+    /// `Memory`, if a new key needs memory and there is none: the map stays as it was, and the pair is dropped.
     pub fn insert(&mut self, key: Value, value: Value) -> Result<Option<Value>, Error>
         ensures replaced { IfOk result (λ old. old ≡ lookup (value_eq key) (pairs_of self.old)) }
         ensures inserted { OnOk result (pairs_of self.new ≡ insert_entry value_eq (pairs_of self.old) key value) }

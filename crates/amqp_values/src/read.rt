@@ -136,7 +136,7 @@ fn read_array<R: ByteSource>(
     Ok(Value::Array(Array(values)))
 }
 
-// Reads a map. The count is of keys and values, and is even: an odd one is `OddCount` where the map is begun.
+// Reads a map. The count is of keys and values, and is even: an odd one is `OddCount` if the map is begun.
 #[cycle(reading)]
 fn read_map<R: ByteSource>(
     decoder: &mut Decoder<R>,

@@ -22,7 +22,7 @@ pub trait ByteSource {
     // It keeps all of its bytes at hand, and no pull of it fails.
     ghost is_whole: { Bool } = { false };
 
-    /// Moves the source's next bytes to the front of the buffer, and answers how many: at most as many as the buffer holds, and at
+    /// Moves the source's next bytes to the front of the buffer, and returns how many: at most as many as the buffer holds, and at
     /// least one, unless the source is at its end or the buffer is empty. An `Err` is the kind of a failure; then the source has
     /// failed, and from there on every pull is an `Err`.
     fn pull(&mut self, buffer: &mut [u8]) -> Result<usize, ErrorKind>
@@ -39,8 +39,8 @@ pub trait ByteSource {
     fn at_hand(&self) -> Option<&[u8]>
         ensures { MatchOption result (is_whole ≡ false) (λ s. (is_whole ≡ true) × (remaining self.now ≡ Some s.now)) };
 
-    /// Fills the whole buffer with the source's next bytes, where they are at hand, and answers true; else takes nothing, and answers
-    /// false, which says nothing of what a pull would give. A source that has failed answers false. It is the quick way to a few
+    /// Fills the whole buffer with the source's next bytes, if they are at hand, and returns true; otherwise it takes nothing, and returns
+    /// false, which says nothing of what a pull would give. A source that has failed returns false. It is the quick way to a few
     /// bytes, behind which `pull` stands; by default none are at hand.
     #[inline]
     fn pull_ready(&mut self, buffer: &mut [u8]) -> bool
@@ -53,8 +53,8 @@ pub trait ByteSource {
         false
     }
 
-    /// Adds the source's next `count` bytes, where all of them are at hand, and answers true; else takes and adds nothing, and
-    /// answers false, as `pull_ready` does. An `Err` is a refused growth; then nothing is taken and nothing added.
+    /// Adds the source's next `count` bytes, if all of them are at hand, and returns true; otherwise it takes and adds nothing, and
+    /// returns false, as `pull_ready` does. An `Err` is a refused growth; then nothing is taken and nothing added.
     #[inline]
     fn append_ready(&mut self, count: usize, bytes: &mut Vec<u8>) -> Result<bool, AllocError>
         ensures taken { result ≡ Ok true
@@ -72,7 +72,7 @@ pub trait ByteSource {
         ensures { result ≡ failed self.now };
 }
 
-/// Fills the buffer with the source's next bytes, however the source cuts them, and answers how many: fewer than the buffer holds
+/// Fills the buffer with the source's next bytes, however the source cuts them, and returns how many: fewer than the buffer holds
 /// only at the end of the source. An `Err` is the source's, which has failed; how many bytes it gave before isn't said.
 #[inline]
 pub fn pull_full<R: ByteSource>(source: &mut R, buffer: &mut [u8]) -> Result<usize, ErrorKind>

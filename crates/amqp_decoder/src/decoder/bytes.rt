@@ -92,7 +92,7 @@ impl<R: ByteSource> Decoder<R> {
         Ok(())
     }
 
-    // Fills the whole buffer with the next bytes, where they are at hand; else nothing is taken.
+    // Fills the whole buffer with the next bytes, if they are at hand; else nothing is taken.
     #[inline(always)]
     pub(super) fn pull_ready(&mut self, buffer: &mut [u8]) -> bool
         ensures taken { Tells R.remaining → result ≡ true → Pulls self.old buffer.new self.new }
@@ -116,7 +116,7 @@ impl<R: ByteSource> Decoder<R> {
         Ok(bytes)
     }
 
-    // Adds the next so many bytes, where they are at hand; else nothing is taken and nothing added.
+    // Adds the next so many bytes, if they are at hand; else nothing is taken and nothing added.
     #[inline(always)]
     pub(crate) fn append_ready(&mut self, count: u32, bytes: &mut Vec<u8>) -> Result<bool, Error>
         ensures taken { Tells R.remaining → result ≡ Ok true → (count ≤ length self.old.rest)

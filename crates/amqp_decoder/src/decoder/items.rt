@@ -85,7 +85,7 @@ impl<R: ByteSource> Decoder<R> {
         Ok(code)
     }
 
-    /// The first code of the next value's constructor, 0 for a described value; `Missing` where no value is left.
+    /// The first code of the next value's constructor, 0 for a described value; `Missing` if no value is left.
     /// Nothing is taken.
     #[inline]
     pub fn peek_code(&mut self) -> Result<u8, Error>

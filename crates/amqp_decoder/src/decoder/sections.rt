@@ -57,7 +57,7 @@ impl<R: ByteSource> Decoder<R> {
     }
 
     /// The code of the section whose whole descriptor, in any of its spellings, stands next at the top level within 64
-    /// bytes; `None` where none does. Nothing is taken, and at most 64 bytes are looked at; `InvalidValue` in a
+    /// bytes; `None` if none does. Nothing is taken, and at most 64 bytes are looked at; `InvalidValue` in a
     /// container.
     pub fn peek_section(&mut self) -> Result<Option<u8>, Error>
         ensures read { Tells R.remaining → AnswersRead false PeeksSection NotTop self.old result self.new }
