@@ -44,7 +44,7 @@ enum Answered {
 /// Answers the lines, and answers whether they were answered as they must be.
 pub(crate) fn check_all(rt: &HostRuntime) -> Result<bool, anyhow::Error> {
     let alloc = rt.alloc();
-    let (call, outcome) = match answered(alloc) {
+    let (call, outcome) = match answer_lines(alloc) {
         Answered::All => ("run", Outcome::Answered),
         Answered::ButOne => ("run, in a line", again(alloc)),
         Answered::Front => ("run", again(alloc)),
@@ -55,13 +55,13 @@ pub(crate) fn check_all(rt: &HostRuntime) -> Result<bool, anyhow::Error> {
 
 // How the lines are answered once more.
 fn again(alloc: Global) -> Outcome {
-    match answered(alloc) {
+    match answer_lines(alloc) {
         Answered::All => Outcome::OutOfMemory,
         _ => Outcome::Otherwise,
     }
 }
 
-fn answered(alloc: Global) -> Answered {
+fn answer_lines(alloc: Global) -> Answered {
     let Ok(mut output) = Vec::with_capacity(alloc, ROOM) else {
         return Answered::Front;
     };
