@@ -8,3 +8,4 @@ pub mod BodyTexts
 pub mod NullBodies
 pub mod PlainBodies
 pub mod EmptyBodies
+pub mod Members

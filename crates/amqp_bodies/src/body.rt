@@ -27,8 +27,8 @@ use amqp_sections::{AmqpSequence, AmqpValue, Data};
 use amqp_wire::{ByteSource, Error};
 use std::alloc::Global;
 
-/// The body of a message, of any kind (Part 3, section 3.2).
-#[derive(Debug, PartialEq, Eq, PartialOrd, Ord, Hash, Drop)]
+/// The body of a message, of any kind (Part 3, section 3.2). A copy wants memory; it is of the same kind, and what it holds is a copy.
+#[derive(Clone, Debug, PartialEq, Eq, PartialOrd, Ord, Hash, Drop)]
 pub enum Body<T> {
     /// One value.
     Value(AmqpValue<T>),

@@ -14,4 +14,5 @@ pub mod MessageTexts
 pub mod MessageAgain
 pub mod StrictAgain
 pub mod MessageCalls
+pub mod Wrappers
 pub mod Builders

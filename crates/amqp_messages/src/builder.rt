@@ -14,7 +14,7 @@ pub struct EmptyBody;
 
 /// A message that is made call by call. It begins without sections; the body is set by one of `body`, `value`, `sequence`,
 /// `sequence_batch`, `data` and `data_batch`.
-#[derive(Debug, Default, Drop)]
+#[derive(Clone, Debug, Default, Drop)]
 pub struct Builder<T> {
     /// How it is to be delivered.
     pub header: Option<Header>,

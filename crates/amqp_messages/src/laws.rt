@@ -2,11 +2,18 @@
 ghost use Rattle.std.specs.Prelude.{ℕ, List};
 ghost use Rattle.amqp_wire.specs.declared.limits.Limits.{Limits};
 ghost use Rattle.amqp_codec.specs.Reading.{BeginsWithin, BeginsWith};
+ghost use Rattle.amqp_messages.specs.Builders.{built};
+ghost use Rattle.amqp_messages.specs.MessageCalls.{HasBodyAlone};
+ghost use Rattle.amqp_messages.specs.declared.builder.Builder.{Builder as BuilderOf};
+ghost use Rattle.amqp_messages.specs.declared.message.Message.{Message as MessageOf};
 
+use crate::builder::Builder;
 use crate::message::Message;
 use crate::strict::Strict;
 use amqp_bodies::FromBody;
 use amqp_codec::Deserialize;
+use amqp_map_sections::{ApplicationProperties, DeliveryAnnotations, Footer, MessageAnnotations};
+use amqp_message_headers::{Header, Properties};
 
 /// Within limits of the caller nothing is read as a message that isn't read without, neither in any order nor strictly.
 pub fn limits_take_nothing<B: FromBody>()
@@ -16,4 +23,29 @@ pub fn limits_take_nothing<B: FromBody>()
     ensures strict { (limits : Limits) (input : List ℕ) (message : _) (n : ℕ)
         → BeginsWithin limits ⟦<Strict<B> as Deserialize>⟧.reading input message n
         → BeginsWith ⟦<Strict<B> as Deserialize>⟧.reading input message n }
+{}
+
+/// By default a message has no section but its body, which is the default of its type.
+pub fn defaults<B: Default>()
+    ensures message { (message : MessageOf B) → ⟦<Message<B> as Default>⟧.is_default message
+        → HasBodyAlone message × B.is_default message.body }
+    ensures builder { (builder : BuilderOf B) → ⟦<Builder<B> as Default>⟧.is_default builder
+        → HasBodyAlone (built builder) × B.is_default builder.body }
+{}
+
+/// Each section of a copy is a copy of the one in its place, and none is there besides.
+pub fn sections_are_copied<B: Clone>()
+    ensures header { (message copy : MessageOf B) → ⟦<Message<B> as Clone>⟧.is_clone message copy
+        → ⟦<Option<Header> as Clone>⟧.is_clone message.header copy.header }
+    ensures delivery_annotations { (message copy : MessageOf B) → ⟦<Message<B> as Clone>⟧.is_clone message copy
+        → ⟦<Option<DeliveryAnnotations> as Clone>⟧.is_clone message.delivery_annotations copy.delivery_annotations }
+    ensures message_annotations { (message copy : MessageOf B) → ⟦<Message<B> as Clone>⟧.is_clone message copy
+        → ⟦<Option<MessageAnnotations> as Clone>⟧.is_clone message.message_annotations copy.message_annotations }
+    ensures properties { (message copy : MessageOf B) → ⟦<Message<B> as Clone>⟧.is_clone message copy
+        → ⟦<Option<Properties> as Clone>⟧.is_clone message.properties copy.properties }
+    ensures application_properties { (message copy : MessageOf B) → ⟦<Message<B> as Clone>⟧.is_clone message copy
+        → ⟦<Option<ApplicationProperties> as Clone>⟧.is_clone message.application_properties copy.application_properties }
+    ensures body { (message copy : MessageOf B) → ⟦<Message<B> as Clone>⟧.is_clone message copy → B.is_clone message.body copy.body }
+    ensures footer { (message copy : MessageOf B) → ⟦<Message<B> as Clone>⟧.is_clone message copy
+        → ⟦<Option<Footer> as Clone>⟧.is_clone message.footer copy.footer }
 {}

@@ -4,14 +4,17 @@
 pub mod builder;
 mod calls;
 mod canonical;
+mod decode;
 pub mod laws;
 mod message;
 mod next;
 mod order;
 mod read;
 mod strict;
+pub mod wrappers;
 mod write;
 
+pub use decode::{DecodeIntoMessage, FromMessage};
 pub use message::Message;
 pub use order::Order;
 pub use read::read_message;

@@ -2,8 +2,9 @@
 use amqp_map_sections::{ApplicationProperties, DeliveryAnnotations, Footer, MessageAnnotations};
 use amqp_message_headers::{Header, Properties};
 
-/// A message (Part 3, section 3.2): its body, and the other sections that are there.
-#[derive(Debug, PartialEq, Eq, PartialOrd, Ord, Hash, Drop)]
+/// A message (Part 3, section 3.2): its body, and the other sections that are there. A copy wants memory, and each of its sections is a
+/// copy of the one in its place. By default it has none but the body, which is the default of its type.
+#[derive(Clone, Debug, Default, PartialEq, Eq, PartialOrd, Ord, Hash, Drop)]
 pub struct Message<B> {
     /// How it is to be delivered.
     pub header: Option<Header>,

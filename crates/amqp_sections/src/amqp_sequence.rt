@@ -1,7 +1,5 @@
 //! Lists as the body of a message (Part 3, section 3.2.7).
-ghost use Rattle.std.specs.Prelude.{◌≡◌, IfOk, IfErr, [], refl};
-ghost use Rattle.std.specs.List.{AllZip};
-ghost use Rattle.amqp_wire.specs.declared.error.Error.TheVariants.{Memory};
+ghost use Rattle.std.specs.Prelude.{◌≡◌, [], refl};
 ghost use Rattle.amqp_codec.specs.VecType.{vec_of, vec_agreement};
 ghost use Rattle.amqp_sections.specs.SectionType.{section_of, section_writing, section_agreement};
 ghost use Rattle.amqp_sections.specs.Sections.{sequence_naming, in_sequence};
@@ -13,8 +11,9 @@ use std::alloc::Global;
 // The code and the name of its descriptor.
 const DESCRIPTOR: (u64, &str) = (0x76, "amqp:amqp-sequence:list");
 
-/// A list of values of one type that is the body of a message, or a part of it (Part 3, section 3.2.7).
-#[derive(Debug, PartialEq, Eq, PartialOrd, Ord, Hash, Drop)]
+/// A list of values of one type that is the body of a message, or a part of it (Part 3, section 3.2.7). A copy wants memory, and each
+/// of its values is a copy of the one in its place.
+#[derive(Clone, Debug, PartialEq, Eq, PartialOrd, Ord, Hash, Drop)]
 pub struct AmqpSequence<T>(pub Vec<T>);
 
 impl<T> AmqpSequence<T> {
@@ -30,16 +29,6 @@ impl<T> AmqpSequence<T> {
         ensures { result.0.items ≡ [] }
     {
         AmqpSequence(Vec::new(alloc))
-    }
-
-    /// A copy, whose values are copies of its own; `Memory` where memory for it is refused.
-    pub fn clone(&self) -> Result<AmqpSequence<T>, Error>
-    where
-        T: Clone + Drop,
-        ensures values { IfOk result (λ copy. AllZip T.is_clone self.now.0.items copy.0.items) }
-        ensures memory { IfErr result (λ e. e ≡ Memory) }
-    {
-        Ok(AmqpSequence(self.0.clone()?))
     }
 }
 

@@ -1,6 +1,5 @@
 //! Values as the body of a message (Part 3, section 3.2.8).
-ghost use Rattle.std.specs.Prelude.{◌≡◌, IfOk, IfErr, refl};
-ghost use Rattle.amqp_wire.specs.declared.error.Error.TheVariants.{Memory};
+ghost use Rattle.std.specs.Prelude.{refl};
 ghost use Rattle.amqp_sections.specs.SectionType.{section_of, section_writing, section_agreement};
 ghost use Rattle.amqp_sections.specs.Sections.{value_naming, in_value};
 
@@ -12,21 +11,9 @@ use std::alloc::Global;
 const DESCRIPTOR: (u64, &str) = (0x77, "amqp:amqp-value:*");
 
 /// A value of one type that is the body of a message (Part 3, section 3.2.8). Where that type keeps the bytes that it read, so
-/// does the section, of what stands behind its descriptor.
-#[derive(Debug, PartialEq, Eq, PartialOrd, Ord, Hash, Drop)]
+/// does the section, of what stands behind its descriptor. A copy holds a copy of the value.
+#[derive(Clone, Debug, PartialEq, Eq, PartialOrd, Ord, Hash, Drop)]
 pub struct AmqpValue<T>(pub T);
-
-impl<T> AmqpValue<T> {
-    /// A copy, whose value is a copy of its own; `Memory` where memory for it is refused.
-    pub fn clone(&self) -> Result<AmqpValue<T>, Error>
-    where
-        T: Clone + Drop,
-        ensures value { IfOk result (λ copy. T.is_clone self.now.0 copy.0) }
-        ensures memory { IfErr result (λ e. e ≡ Memory) }
-    {
-        Ok(AmqpValue(self.0.clone()?))
-    }
-}
 
 impl<T: DeserializeTerm> Section<T> for AmqpValue<T> {
     ghost naming = { value_naming };

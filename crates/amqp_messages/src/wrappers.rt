@@ -1,0 +1,40 @@
+//! The wrappers through which a message is written and read.
+ghost use Rattle.amqp_codec.specs.Agreement.{via_writing};
+ghost use Rattle.amqp_batches.specs.WalkReading.{reading_via};
+ghost use Rattle.amqp_messages.specs.Wrappers.{written_in, read_in};
+
+use amqp_codec::{Deserialize, Encoder, Serialize};
+use amqp_decoder::Decoder;
+use amqp_wire::{ByteSource, Error};
+use std::alloc::Global;
+
+/// What is written as it is by itself: a `Message`, or a reference to one.
+#[derive(Debug, Drop)]
+pub struct Serializable<T>(pub T);
+
+impl<T: Serialize> Serialize for Serializable<T> {
+    ghost writing = { via_writing written_in T.writing };
+
+    fn serialize(&self, encoder: &mut Encoder) -> Result<(), Error> {
+        self.0.serialize(encoder)
+    }
+
+    fn in_type(&self) {
+        self.0.in_type();
+    }
+}
+
+/// What is read as it is by itself: a `Message`.
+#[derive(Debug, Drop)]
+pub struct Deserializable<T>(pub T);
+
+impl<T: Deserialize> Deserialize for Deserializable<T> {
+    ghost reading = { reading_via T.reading read_in };
+
+    fn deserialize<R: ByteSource>(
+        decoder: &mut Decoder<R>,
+        alloc: Global,
+    ) -> Result<Deserializable<T>, Error> {
+        Ok(Deserializable(T::deserialize(decoder, alloc)?))
+    }
+}
