@@ -72,6 +72,48 @@ pub mod definitions {
     };
 }
 
+/// What is proved of every value. Each law is a function that does nothing: a function that calls it may use its clauses. The modules
+/// hold the laws of the types and layers that they are named after.
+pub mod laws {
+    pub use amqp_annotations::laws as annotations;
+    pub use amqp_attach::laws as attach;
+    pub use amqp_batches::laws as batches;
+    pub use amqp_containers::laws as containers;
+    pub use amqp_decoder::laws as decoder;
+    pub use amqp_delivery::laws as delivery;
+    pub use amqp_described::laws as described;
+    pub use amqp_encoder::laws as encoder;
+    pub use amqp_errors::laws as errors;
+    pub use amqp_lengths::laws as lengths;
+    pub use amqp_lookahead::laws as lookahead;
+    pub use amqp_map_sections::laws as map_sections;
+    pub use amqp_maps::laws as maps;
+    pub use amqp_message_headers::laws as message_headers;
+    pub use amqp_messages::laws as messages;
+    pub use amqp_performatives::laws as performatives;
+    pub use amqp_primitives::laws as primitives;
+    pub use amqp_read_write::laws::{
+        canonical_text_is_least, canonical_text_is_read_again, count_is_bounded, faults_of_a_sum,
+        keys_are_compared_by_their_texts, limits_bound_reading, one_term_is_written,
+        one_text_for_one_value, one_value, reading_is_spelling, terms_are_read_again,
+        texts_are_least, texts_of_parts_are_least, what_is_read_is_writable,
+    };
+    pub use amqp_restricted_types::laws as restricted_types;
+    pub use amqp_sasl::laws as sasl;
+    pub use amqp_sections::laws as sections;
+    pub use amqp_simple_values::laws as simple_values;
+    pub use amqp_termini::laws as termini;
+    pub use amqp_values::laws as values;
+
+    /// The laws of terms and of the bytes that spell them (Part 1, sections 1.2 to 1.6).
+    pub mod model {
+        pub use amqp_model::{
+            canonical_text_is_least, canonical_text_spells, no_proper_front, nodes_are_bounded,
+            one_reading, one_text, parts_stand_in_one_way, tables, worked_refusals, worked_rows,
+        };
+    }
+}
+
 /// The types of messaging (Part 3).
 pub mod messaging {
     pub use amqp_batches::Batch;

@@ -1,0 +1,77 @@
+use super::*;
+use fe2o3_amqp_types::messaging::{Accepted, Data};
+use std::test::Fail;
+
+#[test]
+fn one_byte_more(rt: HostRuntime) -> Result<(), Fail> {
+    // Section 9 up to byte 255: the uint takes four bytes where one would do, and the ulong one.
+    let input: &[u8] = &[0, 0x53, 0x23, 0xc0, 8, 2, 0x70, 0, 0, 0, 9, 0x53, 255];
+    let text = one_byte_on(input, rt.alloc())?;
+    // The uint is written in one byte, and the ulong, which is 256 now, in eight.
+    let want = [
+        0, 0x53, 0x23, 0xc0, 12, 2, 0x52, 9, 0x80, 0, 0, 0, 0, 0, 0, 1, 0,
+    ];
+    assert_eq!(rt; text.as_slice(), want.as_slice());
+    // A front of the input is refused by name.
+    assert_eq!(rt;
+        one_byte_on(&input[..9], rt.alloc()).err(),
+        Some(Error::Cut)
+    );
+    Ok(())
+}
+
+#[test]
+fn relayed(rt: HostRuntime) -> Result<(), Fail> {
+    // An empty list that says its size goes on as one that doesn't.
+    let input: &[u8] = &[0, 0x53, 0x24, 0xc0, 1, 0];
+    let (text, len) = relay::<Accepted>(input, rt.alloc())?;
+    assert_eq!(rt; len, 6);
+    assert_eq!(rt; text.as_slice(), [0, 0x53, 0x24, 0x45].as_slice());
+    Ok(())
+}
+
+#[test]
+fn settled_or_not(rt: HostRuntime) -> Result<(), Fail> {
+    // The handle, three fields that are left out, and true.
+    let input: &[u8] = &[0, 0x53, 0x14, 0xc0, 6, 5, 0x43, 0x40, 0x40, 0x40, 0x41];
+    assert_eq!(rt; settled(input, rt.alloc())?, Some(true));
+    // The handle alone.
+    let input: &[u8] = &[0, 0x53, 0x14, 0xc0, 2, 1, 0x43];
+    assert_eq!(rt; settled(input, rt.alloc())?, None);
+    // A flow.
+    let input: &[u8] = &[0, 0x53, 0x13, 0xc0, 2, 1, 0x43];
+    assert_eq!(rt;
+        settled(input, rt.alloc()).err(),
+        Some(Error::WrongDescriptor)
+    );
+    Ok(())
+}
+
+#[test]
+fn entries_compared(rt: HostRuntime) -> Result<(), Fail> {
+    assert!(rt; are_of_one_value::<u32>(&[0x52, 1], &[0x52, 1]));
+    assert!(rt; !are_of_one_value::<u32>(&[0x52, 1], &[0x43]));
+    Ok(())
+}
+
+#[test]
+fn message_within_limits(rt: HostRuntime) -> Result<(), Fail> {
+    // A section of two bytes.
+    let input: &[u8] = &[0, 0x53, 0x75, 0xa0, 2, 8, 9];
+    let mut reader = input;
+    let Some(limits) = Limits::new(1, 7, 1) else {
+        panic!(rt; "no limits");
+    };
+    let message: Message<Data> = next_message(&mut reader, &limits, rt.alloc())?;
+    assert_eq!(rt; message.body, Data::from([8, 9].to_vec(rt.alloc())?));
+    // One byte less is allowed than the message takes.
+    let mut reader = input;
+    let Some(limits) = Limits::new(1, 6, 1) else {
+        panic!(rt; "no limits");
+    };
+    assert_eq!(rt;
+        next_message::<Data, _>(&mut reader, &limits, rt.alloc()).err(),
+        Some(Error::Limit)
+    );
+    Ok(())
+}

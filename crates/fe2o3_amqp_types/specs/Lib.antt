@@ -1,0 +1,11 @@
+pub mod Model
+pub mod Reading
+pub mod Writing
+pub mod Types
+pub mod Tables
+pub mod Values
+pub mod Messages
+pub mod Lengths
+pub mod Errors
+pub mod Decoder
+pub mod Encoder
