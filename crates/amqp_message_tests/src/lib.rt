@@ -4,7 +4,11 @@
 #[cfg(test)]
 mod batches;
 #[cfg(test)]
+mod bodies;
+#[cfg(test)]
 mod limits;
+#[cfg(test)]
+mod message_calls;
 #[cfg(test)]
 mod messages;
 #[cfg(test)]
