@@ -9,3 +9,7 @@ pub mod NullBodies
 pub mod PlainBodies
 pub mod EmptyBodies
 pub mod Members
+pub mod SomeReading
+pub mod Transposing
+pub mod StrippedBodies
+pub mod StrippedKinds

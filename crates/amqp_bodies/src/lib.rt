@@ -3,17 +3,21 @@
 
 mod body;
 mod calls;
+mod into;
 mod iterators;
 pub mod laws;
 mod made;
+mod optional;
+mod plain;
 mod sections;
 mod shown;
 mod traits;
+mod transpose;
 mod values;
 
 pub use body::Body;
 pub use iterators::{DataIter, IntoData, IntoSequence, SequenceIter};
 pub use traits::{
-    CanonicalBody, DeserializableBody, FromBody, FromEmptyBody, NullBody, SerializableBody,
-    ValueBody,
+    AsBodyRef, CanonicalBody, DeserializableBody, FromBody, FromEmptyBody, IntoBody, NullBody,
+    PlainFromBody, PlainIntoBody, SerializableBody, TransposeOption, ValueBody, ValueFromBody,
 };

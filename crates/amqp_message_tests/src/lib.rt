@@ -13,3 +13,5 @@ mod message_calls;
 mod messages;
 #[cfg(test)]
 mod parts;
+#[cfg(test)]
+mod plain;

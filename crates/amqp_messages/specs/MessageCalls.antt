@@ -1,4 +1,5 @@
--- How many sections a message has, which is the last, and which messages differ in the body alone (Part 3, section 3.2).
+-- How many sections a message has, which is the last, which messages differ in the body alone, and which have no other section (Part 3,
+-- section 3.2).
 use Rattle.std.specs.Prelude.{◌≡◌, ℕ, ◌+◌, Option, Some, None}
 use Rattle.amqp_messages.specs.declared.message.Message.{Message}
 
@@ -31,3 +32,15 @@ abbrev pub HasBodyAlone : {B : Type 0} → Message B → Type 0
 HasBodyAlone m =
     (m.header ≡ None) × (m.delivery_annotations ≡ None) × (m.message_annotations ≡ None) × (m.properties ≡ None)
     × (m.application_properties ≡ None) × (m.footer ≡ None)
+
+-- The message with this body and no other section.
+abbrev pub only_body : {B : Type 0} → B → Message B
+only_body b = record {
+  header = None;
+  delivery_annotations = None;
+  message_annotations = None;
+  properties = None;
+  application_properties = None;
+  body = b;
+  footer = None;
+}

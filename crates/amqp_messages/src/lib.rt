@@ -5,6 +5,7 @@ pub mod builder;
 mod calls;
 mod canonical;
 mod decode;
+mod from;
 pub mod laws;
 mod message;
 mod next;
