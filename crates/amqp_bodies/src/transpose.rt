@@ -2,17 +2,13 @@
 ghost use Rattle.std.specs.Prelude.{◌≡◌, [], None, IfOk, IfErr, MatchOption};
 ghost use Rattle.std.specs.List.{AllZip, Any};
 ghost use Rattle.amqp_wire.specs.declared.error.Error.TheVariants.{Memory};
-ghost use Rattle.amqp_primitives.specs.Types.{binary_type};
-ghost use Rattle.amqp_sections.specs.SectionType.{section_of};
-ghost use Rattle.amqp_sections.specs.Sections.{data_naming, in_data};
 ghost use Rattle.amqp_batches.specs.Unlimited.{term_without_limits};
 ghost use Rattle.amqp_batches.specs.Batches.{sections_in};
 ghost use Rattle.amqp_batches.specs.SectionGroups.{group_without_limits};
-ghost use Rattle.amqp_bodies.specs.Bodies.{section_made};
 ghost use Rattle.amqp_bodies.specs.BodySections.{any_body_without_limits};
 ghost use Rattle.amqp_bodies.specs.SeenReading.{seen_without_limits};
 ghost use Rattle.amqp_bodies.specs.Transposing.{optional, option_made, seen_stripped, run_stripped};
-ghost use Rattle.amqp_bodies.specs.StrippedBodies.{HasNone, AreAll, value_stripped, sequence_stripped, batch_stripped, data_stripped};
+ghost use Rattle.amqp_bodies.specs.StrippedBodies.{HasNone, AreAll, value_stripped, sequence_stripped, batch_stripped};
 ghost use Rattle.amqp_bodies.specs.StrippedBodies.{data_batch_stripped};
 ghost use Rattle.amqp_bodies.specs.StrippedKinds.{body_stripped};
 
@@ -185,32 +181,6 @@ impl<T: DeserializeTerm> TransposeOption<TransparentVec<AmqpSequence<T>>>
         <Option<TransparentVec<AmqpSequence<Option<T>>>> as DeserializableBody>::read_group(
             decoder, alloc,
         )
-    }
-
-    ghost none_is = { λ v h. h };
-
-    ghost is_none = { λ v h. h };
-}
-
-/// Nothing is data without bytes.
-impl<To: FromBody<Body = Data>> TransposeOption<To> for Data {
-    type From = Option<Data>;
-
-    ghost transposed = { option_made To.made
-        (optional data_stripped (term_without_limits (section_of in_data data_naming binary_type))) };
-
-    fn transpose(src: Option<Data>, alloc: Global) -> Result<Option<To>, Error> {
-        match src {
-            Some(data) if !data.0.0.is_empty() => Ok(Some(To::from_body(data, alloc)?)),
-            Some(_) | None => Ok(None),
-        }
-    }
-
-    fn read_from<R: ByteSource>(
-        decoder: &mut Decoder<R>,
-        alloc: Global,
-    ) -> Result<Option<Data>, Error> {
-        <Option<Data> as DeserializableBody>::read_group(decoder, alloc)
     }
 
     ghost none_is = { λ v h. h };
