@@ -78,6 +78,7 @@ pub mod laws {
     pub use amqp_annotations::laws as annotations;
     pub use amqp_attach::laws as attach;
     pub use amqp_batches::laws as batches;
+    pub use amqp_bodies::laws as bodies;
     pub use amqp_containers::laws as containers;
     pub use amqp_decoder::laws as decoder;
     pub use amqp_delivery::laws as delivery;
@@ -118,8 +119,9 @@ pub mod laws {
 pub mod messaging {
     pub use amqp_batches::Batch;
     pub use amqp_bodies::{
-        Body, CanonicalBody, DeserializableBody, FromBody, FromEmptyBody, NullBody,
-        SerializableBody, ValueBody,
+        AsBodyRef, Body, CanonicalBody, DataIter, DeserializableBody, FromBody, FromEmptyBody,
+        IntoBody, IntoData, IntoSequence, NullBody, PlainFromBody, PlainIntoBody, SequenceIter,
+        SerializableBody, TransposeOption, ValueBody, ValueFromBody,
     };
     pub use amqp_delivery::{
         Accepted, DeliveryState, Modified, Outcome, Received, Rejected, Released,
@@ -142,9 +144,14 @@ pub mod messaging {
         pub use amqp_bodies::Body;
         pub use amqp_messages::builder::{Builder, EmptyBody};
         pub use amqp_messages::{
-            Message, Strict, canonical_text_strict, decode_message_strict,
-            decode_message_strict_within,
+            DecodeIntoMessage, FromMessage, Message, Strict, canonical_text_strict,
+            decode_message_strict, decode_message_strict_within,
         };
+
+        /// The wrappers through which a message is written and read.
+        pub mod wrappers {
+            pub use amqp_messages::wrappers::{Deserializable, Serializable};
+        }
     }
 
     /// Headers of messages (Part 3, section 3.2.1).
