@@ -3,3 +3,4 @@ mod Requests
 mod SetLimits
 mod Progress
 mod Rows
+mod Texts

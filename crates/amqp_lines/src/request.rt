@@ -198,6 +198,7 @@ impl TypeName {
         alloc: Global,
     ) -> Result<(Vec<u8>, usize), Error>
         ensures text { IfOk result (λ r. IsText limits.now self input.now r.0.items r.1) }
+        ensures within { IfOk result (λ r. r.1 ≤ length input.now) }
         ensures refused { IfErr result (λ e. (e ≡ Memory) ⊎ HasNoText limits.now self input.now e) }
     {
         match self {

@@ -1,5 +1,5 @@
 //! Canonical texts within limits.
-ghost use Rattle.std.specs.Prelude.{◌≡◌, ◌⊎◌, IfOk, IfErr};
+ghost use Rattle.std.specs.Prelude.{◌≡◌, ◌≤◌, ◌⊎◌, length, IfOk, IfErr};
 ghost use Rattle.amqp_wire.specs.declared.error.Error.TheVariants.{Memory};
 ghost use Rattle.amqp_read_write.specs.Rewritten.{IsRewrittenWithin};
 ghost use Rattle.amqp_lines.specs.Answers.{HasNoTextWithin};
@@ -22,6 +22,7 @@ pub(crate) fn text_within<T: DeserializeTerm>(
 ) -> Result<(Vec<u8>, usize), Error>
     ensures text { IfOk result (λ r.
         IsRewrittenWithin limits.now ⟦<T as Deserialize>⟧.reading T.writing.canons input.now r.0.items r.1) }
+    ensures within { IfOk result (λ r. r.1 ≤ length input.now) }
     ensures refused { IfErr result (λ e.
         (e ≡ Memory) ⊎ HasNoTextWithin limits.now ⟦<T as Deserialize>⟧.reading T.writing.canons input.now e) }
 {
@@ -37,6 +38,7 @@ pub(crate) fn batch_text_within<T: BatchItem + DeserializeTerm>(
 ) -> Result<(Vec<u8>, usize), Error>
     ensures text { IfOk result (λ r. IsRewrittenWithin limits.now ⟦<Batch<T> as Deserialize>⟧.reading
         ⟦<Batch<T> as Serialize>⟧.writing.canons input.now r.0.items r.1) }
+    ensures within { IfOk result (λ r. r.1 ≤ length input.now) }
     ensures refused { IfErr result (λ e. (e ≡ Memory) ⊎ HasNoTextWithin limits.now ⟦<Batch<T> as Deserialize>⟧.reading
         ⟦<Batch<T> as Serialize>⟧.writing.canons input.now e) }
 {
@@ -52,6 +54,7 @@ pub(crate) fn body_text_within(
 ) -> Result<(Vec<u8>, usize), Error>
     ensures text { IfOk result (λ r. IsRewrittenWithin limits.now ⟦<Body<Value> as Deserialize>⟧.reading
         ⟦<Body<Value> as Serialize>⟧.writing.canons input.now r.0.items r.1) }
+    ensures within { IfOk result (λ r. r.1 ≤ length input.now) }
     ensures refused { IfErr result (λ e. (e ≡ Memory) ⊎ HasNoTextWithin limits.now ⟦<Body<Value> as Deserialize>⟧.reading
         ⟦<Body<Value> as Serialize>⟧.writing.canons input.now e) }
 {
@@ -66,6 +69,7 @@ pub(crate) fn message_text_within<B: CanonicalBody>(
 ) -> Result<(Vec<u8>, usize), Error>
     ensures text { IfOk result (λ r. IsRewrittenWithin limits.now ⟦<Message<B> as Deserialize>⟧.reading
         ⟦<Message<B> as Serialize>⟧.writing.canons input.now r.0.items r.1) }
+    ensures within { IfOk result (λ r. r.1 ≤ length input.now) }
     ensures refused { IfErr result (λ e. (e ≡ Memory) ⊎ HasNoTextWithin limits.now ⟦<Message<B> as Deserialize>⟧.reading
         ⟦<Message<B> as Serialize>⟧.writing.canons input.now e) }
 {
@@ -81,6 +85,7 @@ pub(crate) fn strict_text_within<B: CanonicalBody>(
 ) -> Result<(Vec<u8>, usize), Error>
     ensures text { IfOk result (λ r. IsRewrittenWithin limits.now ⟦<Strict<B> as Deserialize>⟧.reading
         ⟦<Strict<B> as Serialize>⟧.writing.canons input.now r.0.items r.1) }
+    ensures within { IfOk result (λ r. r.1 ≤ length input.now) }
     ensures refused { IfErr result (λ e. (e ≡ Memory) ⊎ HasNoTextWithin limits.now ⟦<Strict<B> as Deserialize>⟧.reading
         ⟦<Strict<B> as Serialize>⟧.writing.canons input.now e) }
 {
