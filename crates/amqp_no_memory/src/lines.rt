@@ -12,6 +12,7 @@ const LINES: &str = "accepted 005324c00000\n\
     accepted 005324c0020140\n\
     open 005310c01f08a10474657374404040404040e01002b300000003464f4f00000003424152\n\
     value c10702a1026b6b5207\n\
+    batch-data -\n\
     bogus 00";
 
 /// What is answered to them.
@@ -20,6 +21,7 @@ const ANSWERS: &str = "ok 00532445 0\n\
     no 7 Surplus\n\
     ok 005310c01f08a10474657374404040404040e01002b300000003464f4f00000003424152 0\n\
     ok c10702a1026b6b5207 0\n\
+    ok - 0\n\
     no 0 Line\n";
 
 /// What is answered to a line whose value finds no memory.
