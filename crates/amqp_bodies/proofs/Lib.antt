@@ -1,2 +1,3 @@
 pub mod PeekSteps
 pub mod BodySteps
+pub mod TransposeSteps

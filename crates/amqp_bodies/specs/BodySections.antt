@@ -1,5 +1,5 @@
 -- Bodies of any kind, by the type of their values (Part 3, sections 3.2.6 to 3.2.8).
-use Rattle.std.proofs.Common.{◌≡◌, Bool, true, false, [], refl, ap}
+use Rattle.std.proofs.Common.{◌≡◌, Bool, true, false, [], refl, ap, arith}
 use Rattle.amqp_model.specs.FieldType.{normal}
 use Rattle.amqp_codec.specs.TermType.{TermType}
 use Rattle.amqp_codec.specs.TermReading.{reading_of}
@@ -19,7 +19,7 @@ use Rattle.amqp_batches.specs.Batches.{sections_in, batch_reading, batch_writing
 use Rattle.amqp_batches.specs.SectionGroups.{group_without_limits, section_text, batch_text}
 use Rattle.amqp_bodies.specs.declared.body.Body.{Body}
 use Rattle.amqp_bodies.specs.declared.body.Body.TheVariants.{Empty}
-use Rattle.amqp_bodies.specs.Bodies.{Empties, Made, itself_or_empty}
+use Rattle.amqp_bodies.specs.Bodies.{Empties, Made, held_in, itself_or_empty}
 use Rattle.amqp_bodies.specs.BodyReading.{body_reading, body_without_limits}
 use Rattle.amqp_bodies.specs.BodyWriting.{body_writing}
 use Rattle.amqp_bodies.specs.BodyRewriting.{NoBodyFollows, null_code, each_again, IsEach, unread, body_rewrites}
@@ -77,3 +77,9 @@ abbrev pub value_made : {T : Type 0} → TermType T → Empties T → Made (Amqp
 value_made u e =
     itself_or_empty (reading_of (section_of in_value value_naming u)) (term_without_limits (section_of in_value value_naming u))
     (record { is = λ v. e.is v.0; test = λ v. e.test v.0; tested = λ v. e.tested v.0 })
+
+-- The value of a section, or what takes the place of a body that isn't there.
+abbrev pub plain_made : {T : Type 0} → TermType T → Empties T → Made (AmqpValue T) T
+plain_made u e =
+    held_in (reading_of (section_of in_value value_naming u)) (term_without_limits (section_of in_value value_naming u)) e u.same u.count
+    (λ s. s.0) u.sameness.sym (λ s t h. h.1) (λ s. omega arith)

@@ -8,3 +8,7 @@ pub mod BodyTexts
 pub mod NullBodies
 pub mod PlainBodies
 pub mod EmptyBodies
+pub mod SomeReading
+pub mod Transposing
+pub mod StrippedBodies
+pub mod StrippedKinds

@@ -1,7 +1,10 @@
--- What takes the place of a body that isn't there, among values of any kind and what may be absent.
+-- What takes the place of a body that isn't there, among values of any kind, what may be absent and the bytes of a term.
 use Rattle.std.proofs.Common.{◌≡◌, Bool, true, false, Option, Some, None, refl, sym, ap, subst}
+use Rattle.amqp_model.specs.Term.{kept}
+use Rattle.amqp_model.specs.Items.{is_null}
 use Rattle.amqp_codec.specs.TermType.{TermType}
 use Rattle.amqp_codec.specs.OptionType.{option_of}
+use Rattle.amqp_lazy.specs.LazyType.{Lazy, lazy_type}
 use Rattle.amqp_values.specs.declared.value.Value.{Value}
 use Rattle.amqp_values.specs.declared.value.Value.TheVariants.{Null}
 use Rattle.amqp_values.specs.ValueType.{value_type}
@@ -29,3 +32,11 @@ none_value = record { is = λ v. v ≡ None; test = is_none; tested = λ v e. ap
 
 pub none_is_null : {T : Type 0} (u : TermType T) (v : Option T) → v ≡ None → IsNull (option_of u) v
 none_is_null u v e = subst (IsNull (option_of u)) (sym e) refl
+
+-- The bytes of a null.
+abbrev pub lazy_null : Empties Lazy
+lazy_null = record {
+  is = IsNull lazy_type;
+  test = λ v. is_null (kept v.bytes.items);
+  tested = λ v h. ap (λ b. is_null (kept b)) (sym h.0);
+}

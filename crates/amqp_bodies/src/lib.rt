@@ -2,12 +2,16 @@
 #![tactic(auto)]
 
 mod body;
+mod into;
+mod optional;
+mod plain;
 mod sections;
 mod traits;
+mod transpose;
 mod values;
 
 pub use body::Body;
 pub use traits::{
-    CanonicalBody, DeserializableBody, FromBody, FromEmptyBody, NullBody, SerializableBody,
-    ValueBody,
+    AsBodyRef, CanonicalBody, DeserializableBody, FromBody, FromEmptyBody, IntoBody, NullBody,
+    PlainFromBody, PlainIntoBody, SerializableBody, TransposeOption, ValueBody, ValueFromBody,
 };

@@ -28,6 +28,7 @@ use amqp_decoder::Decoder;
 use amqp_sections::{AmqpSequence, AmqpValue, Data};
 use amqp_wire::{ByteSource, Error};
 use std::alloc::Global;
+use std::rc::Rc;
 
 impl<T> BodySection for AmqpValue<T> {}
 
@@ -37,6 +38,14 @@ impl BodySection for Data {}
 
 impl<T: BatchItem> BodySection for TransparentVec<T> {}
 
+impl<T: BodySection> BodySection for &T {}
+
+impl<T: BodySection> BodySection for &mut T {}
+
+impl<T: BodySection> BodySection for Box<T> {}
+
+impl<T: BodySection> BodySection for Rc<T> {}
+
 impl<T: SerializeTerm> SerializableBody for AmqpValue<T> {}
 
 impl<T: SerializeTerm> SerializableBody for AmqpSequence<T> {}
@@ -44,6 +53,14 @@ impl<T: SerializeTerm> SerializableBody for AmqpSequence<T> {}
 impl SerializableBody for Data {}
 
 impl<T: BatchItem> SerializableBody for TransparentVec<T> {}
+
+impl<T: SerializableBody> SerializableBody for &T {}
+
+impl<T: SerializableBody> SerializableBody for &mut T {}
+
+impl<T: SerializableBody> SerializableBody for Box<T> {}
+
+impl<T: SerializableBody> SerializableBody for Rc<T> {}
 
 impl<T: DeserializeTerm> DeserializableBody for AmqpValue<T> {
     ghost group = { reading_of ⟦<AmqpValue<T> as DeserializeTerm>⟧.term };

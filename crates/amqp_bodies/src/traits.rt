@@ -1,5 +1,5 @@
 //! What can be the body of a message (Part 3, section 3.2).
-ghost use Rattle.std.specs.Prelude.{◌≡◌, ◌⊎◌, ◌∷◌, [], ℕ, List, IfOk, IfErr};
+ghost use Rattle.std.specs.Prelude.{◌≡◌, ◌⊎◌, ◌∷◌, [], ℕ, List, Option, Some, None, IfOk, IfErr};
 ghost use Rattle.amqp_bodies.specs.BodyTexts.{IsBodyText};
 ghost use Rattle.amqp_bodies.specs.NullBodies.{IsNull};
 ghost use Rattle.amqp_model.specs.Term.{null, leaf};
@@ -10,7 +10,7 @@ ghost use Rattle.amqp_decoder.specs.Steps.{Tries};
 ghost use Rattle.amqp_codec.specs.Reading.{Reading};
 ghost use Rattle.amqp_bodies.specs.Bodies.{Empties, Made};
 
-use amqp_codec::{DeserializeTerm, Serialize};
+use amqp_codec::{DeserializeTerm, Serialize, SerializeTerm};
 use amqp_decoder::Decoder;
 use amqp_wire::{ByteSource, Error};
 use std::alloc::Global;
@@ -20,6 +20,36 @@ pub trait BodySection {}
 
 /// What can be written as the body of a message.
 pub trait SerializableBody: Serialize + BodySection {}
+
+/// A value of which the body of a message is made.
+pub trait IntoBody: Sized {
+    /// As what it is written.
+    type Body: SerializableBody;
+
+    // The body of a value.
+    ghost body: { Self → Self.Body };
+
+    /// The body of a message with this value. Takes no memory.
+    fn into_body(self) -> Self::Body
+        ensures { result ≡ body self };
+}
+
+/// A body that is also made of a borrowed value.
+pub trait AsBodyRef<'a, T: IntoBody<Body = Self>>: SerializableBody + Sized {
+    /// As what the borrowed value is written.
+    type BodyRef: SerializableBody;
+
+    // It is the body of a borrow of this value.
+    ghost borrows: { Self.BodyRef → T → Type 0 };
+
+    /// The body of a message with the borrowed value. Takes no memory.
+    fn as_body_ref(value: &'a T) -> Self::BodyRef
+        ensures { borrows result value.now };
+}
+
+/// A type whose values are written as an `AmqpValue` where they are the body of a message. A type of yours is `IntoBody` by
+/// an empty impl of this trait.
+pub trait PlainIntoBody: SerializeTerm {}
 
 /// What can be read as the body of a message.
 pub trait DeserializableBody: BodySection + Sized + Drop {
@@ -72,6 +102,61 @@ pub trait FromBody: FromEmptyBody + Drop {
     ghost is_empty: { (v : Self) → made.empty v → Self.FromEmptyBody.empties.is v };
 }
 
+/// A body in which there may be nothing. Nothing is a null in an `AmqpValue`; an `AmqpSequence` or `Data` that is empty; a batch without
+/// sections; a null among the items of a sequence; and no body.
+pub trait TransposeOption<To: FromBody>: BodySection + Sized {
+    /// As what it is read.
+    type From: DeserializableBody;
+
+    // How it is read, and what is made of it, with the laws.
+    ghost transposed: { Made Self.From (Option To) };
+
+    /// What is made of the body, or `None` if there is nothing in it. The only error is `Memory`.
+    fn transpose(src: Self::From, alloc: Global) -> Result<Option<To>, Error>
+        ensures value { IfOk result (λ v. transposed.of_body src v) }
+        ensures memory { IfErr result (λ e. e ≡ Memory) };
+
+    /// Reads a group of sections of the body, where a section of a body comes next, as `DeserializableBody::read_group` does.
+    fn read_from<R: ByteSource>(
+        decoder: &mut Decoder<R>,
+        alloc: Global,
+    ) -> Result<Self::From, Error>
+        ensures read { Tells R.remaining → AnswersRead transposed.group.takes_memory transposed.group.reads transposed.group.fault
+            decoder.old result decoder.new }
+        ensures tries { Tries transposed.group.takes_memory decoder.old result decoder.new };
+
+    // What takes the place of a body that isn't there is that there is nothing.
+    ghost none_is: { (v : Option To) → v ≡ None → transposed.empty v };
+
+    ghost is_none: { (v : Option To) → transposed.empty v → v ≡ None };
+}
+
+/// A body that may be empty, and is nothing then. It isn't exported, so no other crate adds one.
+pub trait EmptyIsNothing: DeserializableBody + FromBody<Body = Self> {
+    // How it is read where it may be absent, and what is made of it, with the laws.
+    ghost optional: { Made (Option Self) (Option Self) };
+
+    /// Itself, or `None` if it is empty.
+    fn unless_empty(self) -> Option<Self>
+        ensures { optional.of_body (Some self) result };
+
+    /// Reads a group of its sections, where a section of a body comes next.
+    fn read_optional<R: ByteSource>(
+        decoder: &mut Decoder<R>,
+        alloc: Global,
+    ) -> Result<Option<Self>, Error>
+        ensures read { Tells R.remaining → AnswersRead optional.group.takes_memory optional.group.reads optional.group.fault decoder.old
+            result decoder.new }
+        ensures tries { Tries optional.group.takes_memory decoder.old result decoder.new };
+
+    // What isn't there is made of what isn't there, and takes its place.
+    ghost of_none: { optional.of_body None None };
+
+    ghost none_is: { (v : Option Self) → v ≡ None → optional.empty v };
+
+    ghost is_none: { (v : Option Self) → optional.empty v → v ≡ None };
+}
+
 /// What can be both written and read as the body of a message, so that each message has one canonical text.
 pub trait CanonicalBody: FromBody<Body = Self> + SerializableBody {
     // What may stand behind its text; what that is read as; of which values that is the value; of which it is read at all.
@@ -92,6 +177,13 @@ pub trait ValueBody: DeserializeTerm + FromEmptyBody {
     // What takes the place of a body that isn't there is what a null means.
     ghost empty_is_null: { (v : Self) → Self.empties.is v → IsNull Self.term v };
 }
+
+/// A type whose values are read from an `AmqpValue` where they are the body of a message.
+pub trait ValueFromBody: ValueBody {}
+
+/// A type whose values are read from an `AmqpValue` where they are the body of a message, and of which none takes the place of
+/// a body that isn't there. A type of yours is `FromBody` by an empty impl of this trait.
+pub trait PlainFromBody: DeserializeTerm {}
 
 /// A type with a null among its values, so that a body of any kind that isn't there is read again from its text, as that.
 pub trait NullBody: ValueBody {

@@ -1,10 +1,11 @@
 //! Values as the body of a message (Part 3, section 3.2.8).
 ghost use Rattle.std.specs.Prelude.{None, refl};
 ghost use Rattle.amqp_values.specs.declared.value.Value.TheVariants.{Null};
-ghost use Rattle.amqp_bodies.specs.PlainBodies.{null_value, none_value, null_is_null, none_is_null};
+ghost use Rattle.amqp_bodies.specs.PlainBodies.{null_value, lazy_null, none_value, null_is_null, none_is_null};
 
 use crate::traits::{FromEmptyBody, NullBody, ValueBody};
 use amqp_codec::DeserializeTerm;
+use amqp_lazy::LazyValue;
 use amqp_values::Value;
 use amqp_wire::Error;
 use std::alloc::Global;
@@ -28,6 +29,19 @@ impl NullBody for Value {
     ghost nothing_is_null = { null_is_null Null refl };
 
     ghost nothing_is_written = { refl };
+}
+
+/// The bytes of a null.
+impl FromEmptyBody for LazyValue {
+    ghost empties = { lazy_null };
+
+    fn from_empty_body(alloc: Global) -> Result<LazyValue, Error> {
+        LazyValue::null(alloc)
+    }
+}
+
+impl ValueBody for LazyValue {
+    ghost empty_is_null = { λ v h. h };
 }
 
 /// `None`.

@@ -81,7 +81,7 @@ null_bytes b ([], c, few, (x, y, e, k, d)) =
     e ∙ ap (λ z. z ++ y) (k.0 ∙ ap (λ n. n ∷ []) is) ∙ ap (λ z. 0x40 ∷ z) (no_bytes y (subst (λ n. PrimitiveData (format n) null y) is d).0)
 null_bytes b (d ∷ ds, c, few, (x, y, e, k, h)) = absurd h
 
-null_spelled : enc (0x40 ∷ []) (leaf null)
+pub null_spelled : enc (0x40 ∷ []) (leaf null)
 unfolding enc
 null_spelled = ([], 0x40, omega arith, (0x40 ∷ [], [], refl, (refl, tt), (refl, refl, tt)))
 

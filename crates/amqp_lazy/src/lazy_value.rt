@@ -1,8 +1,10 @@
 //! `LazyValue`, the bytes of one term.
-ghost use Rattle.std.specs.Prelude.{◌≡◌, ◌≤◌, refl};
-ghost use Rattle.amqp_model.specs.Term.{Term};
+ghost use Rattle.std.specs.Prelude.{◌≡◌, ◌≤◌, ◌∷◌, [], IfOk, IfErr, refl};
+ghost use Rattle.amqp_model.specs.Term.{Term, null, leaf};
 ghost use Rattle.amqp_model.specs.Spelling.{enc};
 ghost use Rattle.amqp_model.specs.Measures.{nest, nodes};
+ghost use Rattle.amqp_model.specs.Standing.{whole};
+ghost use Rattle.amqp_wire.specs.declared.error.Error.TheVariants.{Memory};
 ghost use Rattle.amqp_lazy.specs.LazyType.{lazy_type, lazy_writing, lazy_agreement, SpellsTerm};
 
 use amqp_codec::{DeserializeTerm, Serialize, SerializeTerm};
@@ -41,6 +43,18 @@ impl Model for LazyValue {
 }
 
 impl LazyValue {
+    /// The bytes of a null. The only error is `Memory`.
+    pub fn null(alloc: Global) -> Result<LazyValue, Error>
+        ensures null { IfOk result (lazy_type.means (whole (0x40 ∷ [])) (leaf null)) }
+        ensures memory { IfErr result (λ e. e ≡ Memory) }
+    {
+        Ok(LazyValue {
+            bytes: Vec::from_slice(alloc, &[format_code::NULL])?,
+            nesting: 0,
+            nodes: 1,
+        })
+    }
+
     /// The bytes, which spell one term. It nests at most 128 deep.
     pub fn as_slice(&self) -> &[u8]
         ensures bytes { result.now ≡ self.now.bytes.items }

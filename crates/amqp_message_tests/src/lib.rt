@@ -9,3 +9,5 @@ mod limits;
 mod messages;
 #[cfg(test)]
 mod parts;
+#[cfg(test)]
+mod plain;

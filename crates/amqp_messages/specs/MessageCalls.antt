@@ -1,4 +1,5 @@
--- How many sections a message has, which is the last, and which messages differ in the body alone (Part 3, section 3.2).
+-- How many sections a message has, which is the last, which messages differ in the body alone, and which have no other section (Part 3,
+-- section 3.2).
 use Rattle.std.specs.Prelude.{◌≡◌, ℕ, ◌+◌, Option, Some, None}
 use Rattle.amqp_messages.specs.declared.message.Message.{Message}
 
@@ -25,3 +26,15 @@ abbrev pub HasSectionsOf : {B C : Type 0} → Message B → Message C → Type 0
 HasSectionsOf m n =
     (n.header ≡ m.header) × (n.delivery_annotations ≡ m.delivery_annotations) × (n.message_annotations ≡ m.message_annotations)
     × (n.properties ≡ m.properties) × (n.application_properties ≡ m.application_properties) × (n.footer ≡ m.footer)
+
+-- The message with this body and no other section.
+abbrev pub only_body : {B : Type 0} → B → Message B
+only_body b = record {
+  header = None;
+  delivery_annotations = None;
+  message_annotations = None;
+  properties = None;
+  application_properties = None;
+  body = b;
+  footer = None;
+}

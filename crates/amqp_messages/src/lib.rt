@@ -4,6 +4,7 @@
 pub mod builder;
 mod calls;
 mod canonical;
+mod from;
 pub mod laws;
 mod message;
 mod next;

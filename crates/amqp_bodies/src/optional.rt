@@ -1,0 +1,50 @@
+//! What may be absent as the body of a message (Part 3, section 3.2).
+ghost use Rattle.amqp_bodies.specs.SomeReading.{some_reading};
+
+use crate::traits::{BodySection, DeserializableBody, FromBody, TransposeOption};
+use amqp_decoder::Decoder;
+use amqp_wire::{ByteSource, Error};
+use std::alloc::Global;
+
+impl<B: BodySection> BodySection for Option<B> {}
+
+/// Where a section of a body comes next, the body is there.
+impl<B: DeserializableBody> DeserializableBody for Option<B> {
+    ghost group = { some_reading B.group };
+
+    fn read_group<R: ByteSource>(
+        decoder: &mut Decoder<R>,
+        alloc: Global,
+    ) -> Result<Option<B>, Error> {
+        Ok(Some(B::read_group(decoder, alloc)?))
+    }
+}
+
+/// `None` if there is no body, or nothing in it.
+impl<T> FromBody for Option<T>
+where
+    T: FromBody,
+    T::Body: TransposeOption<T>,
+{
+    type Body = <T::Body as TransposeOption<T>>::From;
+
+    ghost made = { T.Body.transposed };
+
+    fn from_body(
+        body: <T::Body as TransposeOption<T>>::From,
+        alloc: Global,
+    ) -> Result<Option<T>, Error> {
+        <T::Body as TransposeOption<T>>::transpose(body, alloc)
+    }
+
+    fn read_body<R: ByteSource>(
+        decoder: &mut Decoder<R>,
+        alloc: Global,
+    ) -> Result<<T::Body as TransposeOption<T>>::From, Error> {
+        <T::Body as TransposeOption<T>>::read_from(decoder, alloc)
+    }
+
+    ghost empty_is = { T.Body.none_is };
+
+    ghost is_empty = { T.Body.is_none };
+}

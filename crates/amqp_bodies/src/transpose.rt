@@ -1,0 +1,309 @@
+//! Bodies in which there may be nothing (Part 3, sections 3.2.6 to 3.2.8).
+ghost use Rattle.std.specs.Prelude.{◌≡◌, [], None, IfOk, IfErr, MatchOption};
+ghost use Rattle.std.specs.List.{AllZip, Any};
+ghost use Rattle.amqp_wire.specs.declared.error.Error.TheVariants.{Memory};
+ghost use Rattle.amqp_batches.specs.Unlimited.{term_without_limits};
+ghost use Rattle.amqp_batches.specs.Batches.{sections_in};
+ghost use Rattle.amqp_batches.specs.SectionGroups.{group_without_limits};
+ghost use Rattle.amqp_bodies.specs.Bodies.{section_made};
+ghost use Rattle.amqp_bodies.specs.BodySections.{any_body_without_limits};
+ghost use Rattle.amqp_bodies.specs.SeenReading.{seen_without_limits};
+ghost use Rattle.amqp_bodies.specs.Transposing.{optional, option_made, seen_stripped, run_stripped};
+ghost use Rattle.amqp_bodies.specs.StrippedBodies.{HasNone, AreAll, value_stripped, sequence_stripped, batch_stripped, data_stripped};
+ghost use Rattle.amqp_bodies.specs.StrippedBodies.{data_batch_stripped};
+ghost use Rattle.amqp_bodies.specs.StrippedKinds.{body_stripped};
+
+use crate::body::Body;
+use crate::traits::{
+    DeserializableBody, EmptyIsNothing, FromBody, FromEmptyBody, TransposeOption, ValueFromBody,
+};
+use amqp_batches::{Batch, TransparentVec};
+use amqp_codec::{Deserialize, DeserializeTerm};
+use amqp_decoder::Decoder;
+use amqp_sections::{AmqpSequence, AmqpValue, Data};
+use amqp_wire::{ByteSource, Error};
+use std::alloc::Global;
+
+// The items, or none where one of them is absent.
+fn all_items<T: Drop>(items: Vec<Option<T>>, alloc: Global) -> Result<Option<Vec<T>>, Error>
+    ensures items { IfOk result (λ found. MatchOption found (HasNone items.items) (λ values. AreAll items.items values.items)) }
+    ensures memory { IfErr result (λ e. e ≡ Memory) }
+{
+    let mut values = Vec::new(alloc);
+    for item in items {
+        match item {
+            Some(value) => {
+                if values.push(value).is_err() {
+                    return Err(Error::Memory);
+                }
+            }
+            None => return Ok(None),
+        }
+    }
+    Ok(Some(values))
+}
+
+// The sequences of a batch, or none where an item of one is absent.
+fn all_sequences<T: Drop>(
+    batch: Batch<AmqpSequence<Option<T>>>,
+    alloc: Global,
+) -> Result<Option<Batch<AmqpSequence<T>>>, Error>
+    ensures sequences { IfOk result (λ found. MatchOption found (Any (λ f. HasNone f.0.items) (sections_in batch))
+        (λ values. AllZip (λ f s. AreAll f.0.items s.0.items) (sections_in batch) (sections_in values))) }
+    ensures memory { IfErr result (λ e. e ≡ Memory) }
+{
+    let mut sequences = Vec::new(alloc);
+    for sequence in batch.into_inner() {
+        match all_items(sequence.0, alloc)? {
+            Some(items) => {
+                if sequences.push(AmqpSequence(items)).is_err() {
+                    return Err(Error::Memory);
+                }
+            }
+            None => return Ok(None),
+        }
+    }
+    Ok(Some(TransparentVec::new(sequences)))
+}
+
+/// Nothing is a null.
+impl<T: ValueFromBody> TransposeOption<T> for AmqpValue<T> {
+    type From = Option<AmqpValue<Option<T>>>;
+
+    ghost transposed = { option_made ⟦<T as FromBody>⟧.made
+        (optional (value_stripped T.term) (term_without_limits ⟦<AmqpValue<Option<T>> as DeserializeTerm>⟧.term)) };
+
+    fn transpose(src: Option<AmqpValue<Option<T>>>, alloc: Global) -> Result<Option<T>, Error> {
+        match src {
+            Some(AmqpValue(Some(value))) => Ok(Some(T::from_body(AmqpValue(value), alloc)?)),
+            Some(AmqpValue(None)) | None => Ok(None),
+        }
+    }
+
+    fn read_from<R: ByteSource>(
+        decoder: &mut Decoder<R>,
+        alloc: Global,
+    ) -> Result<Option<AmqpValue<Option<T>>>, Error> {
+        <Option<AmqpValue<Option<T>>> as DeserializableBody>::read_group(decoder, alloc)
+    }
+
+    ghost none_is = { λ v h. h };
+
+    ghost is_none = { λ v h. h };
+}
+
+/// Nothing is a null.
+impl<T: DeserializeTerm + FromEmptyBody> TransposeOption<AmqpValue<T>> for AmqpValue<T> {
+    type From = Option<AmqpValue<Option<T>>>;
+
+    ghost transposed = { option_made ⟦<AmqpValue<T> as FromBody>⟧.made
+        (optional (value_stripped T.term) (term_without_limits ⟦<AmqpValue<Option<T>> as DeserializeTerm>⟧.term)) };
+
+    fn transpose(
+        src: Option<AmqpValue<Option<T>>>,
+        _alloc: Global,
+    ) -> Result<Option<AmqpValue<T>>, Error> {
+        match src {
+            Some(AmqpValue(Some(value))) => Ok(Some(AmqpValue(value))),
+            Some(AmqpValue(None)) | None => Ok(None),
+        }
+    }
+
+    fn read_from<R: ByteSource>(
+        decoder: &mut Decoder<R>,
+        alloc: Global,
+    ) -> Result<Option<AmqpValue<Option<T>>>, Error> {
+        <Option<AmqpValue<Option<T>>> as DeserializableBody>::read_group(decoder, alloc)
+    }
+
+    ghost none_is = { λ v h. h };
+
+    ghost is_none = { λ v h. h };
+}
+
+/// Nothing is a sequence without items, and one with a null among them.
+impl<T: DeserializeTerm> TransposeOption<AmqpSequence<T>> for AmqpSequence<T> {
+    type From = Option<AmqpSequence<Option<T>>>;
+
+    ghost transposed = { option_made ⟦<AmqpSequence<T> as FromBody>⟧.made
+        (optional (sequence_stripped T.term) (term_without_limits ⟦<AmqpSequence<Option<T>> as DeserializeTerm>⟧.term)) };
+
+    fn transpose(
+        src: Option<AmqpSequence<Option<T>>>,
+        alloc: Global,
+    ) -> Result<Option<AmqpSequence<T>>, Error> {
+        match src {
+            Some(sequence) => match all_items(sequence.0, alloc)? {
+                Some(items) => {
+                    if items.is_empty() {
+                        return Ok(None);
+                    }
+                    Ok(Some(AmqpSequence(items)))
+                }
+                None => Ok(None),
+            },
+            None => Ok(None),
+        }
+    }
+
+    fn read_from<R: ByteSource>(
+        decoder: &mut Decoder<R>,
+        alloc: Global,
+    ) -> Result<Option<AmqpSequence<Option<T>>>, Error> {
+        <Option<AmqpSequence<Option<T>>> as DeserializableBody>::read_group(decoder, alloc)
+    }
+
+    ghost none_is = { λ v h. h };
+
+    ghost is_none = { λ v h. h };
+}
+
+/// Nothing is a batch without sequences, and one with a null among the items of a sequence.
+impl<T: DeserializeTerm> TransposeOption<TransparentVec<AmqpSequence<T>>>
+    for TransparentVec<AmqpSequence<T>> {
+    type From = Option<TransparentVec<AmqpSequence<Option<T>>>>;
+
+    ghost transposed = { option_made ⟦<TransparentVec<AmqpSequence<T>> as FromBody>⟧.made
+        (optional (seen_stripped (run_stripped 0x76 (batch_stripped T.term)))
+        (seen_without_limits _ (group_without_limits 0x76 ⟦<AmqpSequence<Option<T>> as DeserializeTerm>⟧.term))) };
+
+    fn transpose(
+        src: Option<TransparentVec<AmqpSequence<Option<T>>>>,
+        alloc: Global,
+    ) -> Result<Option<TransparentVec<AmqpSequence<T>>>, Error> {
+        match src {
+            Some(batch) if !batch.is_empty() => all_sequences(batch, alloc),
+            Some(_) | None => Ok(None),
+        }
+    }
+
+    fn read_from<R: ByteSource>(
+        decoder: &mut Decoder<R>,
+        alloc: Global,
+    ) -> Result<Option<TransparentVec<AmqpSequence<Option<T>>>>, Error> {
+        <Option<TransparentVec<AmqpSequence<Option<T>>>> as DeserializableBody>::read_group(
+            decoder, alloc,
+        )
+    }
+
+    ghost none_is = { λ v h. h };
+
+    ghost is_none = { λ v h. h };
+}
+
+/// Nothing is data without bytes.
+impl EmptyIsNothing for Data {
+    ghost optional = { option_made (section_made ⟦<Data as DeserializeTerm>⟧.term)
+        (optional data_stripped (term_without_limits ⟦<Data as DeserializeTerm>⟧.term)) };
+
+    fn unless_empty(self) -> Option<Data> {
+        if self.0.0.is_empty() {
+            return None;
+        }
+        Some(self)
+    }
+
+    fn read_optional<R: ByteSource>(
+        decoder: &mut Decoder<R>,
+        alloc: Global,
+    ) -> Result<Option<Data>, Error> {
+        <Option<Data> as DeserializableBody>::read_group(decoder, alloc)
+    }
+
+    ghost of_none = { tt };
+
+    ghost none_is = { λ v h. h };
+
+    ghost is_none = { λ v h. h };
+}
+
+/// Nothing is a batch without sections.
+impl TransposeOption<TransparentVec<Data>> for TransparentVec<Data> {
+    type From = Option<TransparentVec<Data>>;
+
+    ghost transposed = { option_made ⟦<TransparentVec<Data> as FromBody>⟧.made
+        (optional (seen_stripped (run_stripped 0x75 data_batch_stripped))
+        (seen_without_limits _ (group_without_limits 0x75 ⟦<Data as DeserializeTerm>⟧.term))) };
+
+    fn transpose(
+        src: Option<TransparentVec<Data>>,
+        _alloc: Global,
+    ) -> Result<Option<TransparentVec<Data>>, Error> {
+        match src {
+            Some(batch) if !batch.is_empty() => Ok(Some(batch)),
+            Some(_) | None => Ok(None),
+        }
+    }
+
+    fn read_from<R: ByteSource>(
+        decoder: &mut Decoder<R>,
+        alloc: Global,
+    ) -> Result<Option<TransparentVec<Data>>, Error> {
+        <Option<TransparentVec<Data>> as DeserializableBody>::read_group(decoder, alloc)
+    }
+
+    ghost none_is = { λ v h. h };
+
+    ghost is_none = { λ v h. h };
+}
+
+/// Nothing is a body that is empty.
+impl<T: EmptyIsNothing> TransposeOption<T> for T {
+    type From = Option<T>;
+
+    ghost transposed = { T.optional };
+
+    fn transpose(src: Option<T>, _alloc: Global) -> Result<Option<T>, Error> {
+        match src {
+            Some(body) => Ok(body.unless_empty()),
+            None => Ok(None),
+        }
+    }
+
+    fn read_from<R: ByteSource>(
+        decoder: &mut Decoder<R>,
+        alloc: Global,
+    ) -> Result<Option<T>, Error> {
+        T::read_optional(decoder, alloc)
+    }
+
+    ghost none_is = { T.none_is };
+
+    ghost is_none = { T.is_none };
+}
+
+/// Nothing is a null, a batch without sections, a null among the items of a sequence, and no body.
+impl<T: DeserializeTerm> TransposeOption<Body<T>> for Body<T> {
+    type From = Body<Option<T>>;
+
+    ghost transposed = { option_made ⟦<Body<T> as FromBody>⟧.made
+        (record {
+          group = ⟦<Body<Option<T>> as Deserialize>⟧.reading;
+          unlimited = seen_without_limits _ (any_body_without_limits ⟦<AmqpValue<Option<T>> as DeserializeTerm>⟧.term
+              ⟦<Data as DeserializeTerm>⟧.term ⟦<AmqpSequence<Option<T>> as DeserializeTerm>⟧.term);
+          stripped = seen_stripped (body_stripped (value_stripped T.term) data_batch_stripped (batch_stripped T.term));
+        }) };
+
+    fn transpose(src: Body<Option<T>>, alloc: Global) -> Result<Option<Body<T>>, Error> {
+        match src {
+            Body::Value(AmqpValue(Some(value))) => Ok(Some(Body::Value(AmqpValue(value)))),
+            Body::Data(batch) if !batch.is_empty() => Ok(Some(Body::Data(batch))),
+            Body::Sequence(batch) if !batch.is_empty() => match all_sequences(batch, alloc)? {
+                Some(sequences) => Ok(Some(Body::Sequence(sequences))),
+                None => Ok(None),
+            },
+            _ => Ok(None),
+        }
+    }
+
+    fn read_from<R: ByteSource>(
+        decoder: &mut Decoder<R>,
+        alloc: Global,
+    ) -> Result<Body<Option<T>>, Error> {
+        <Body<Option<T>> as DeserializableBody>::read_group(decoder, alloc)
+    }
+
+    ghost none_is = { λ v h. h };
+
+    ghost is_none = { λ v h. h };
+}
