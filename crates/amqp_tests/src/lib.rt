@@ -9,8 +9,6 @@ mod conditions;
 #[cfg(test)]
 mod delivery;
 #[cfg(test)]
-mod first_look;
-#[cfg(test)]
 mod from_readers;
 #[cfg(test)]
 mod iterators;
