@@ -27,12 +27,6 @@ HasSectionsOf m n =
     (n.header ≡ m.header) × (n.delivery_annotations ≡ m.delivery_annotations) × (n.message_annotations ≡ m.message_annotations)
     × (n.properties ≡ m.properties) × (n.application_properties ≡ m.application_properties) × (n.footer ≡ m.footer)
 
--- None of its sections is there but the body.
-abbrev pub HasBodyAlone : {B : Type 0} → Message B → Type 0
-HasBodyAlone m =
-    (m.header ≡ None) × (m.delivery_annotations ≡ None) × (m.message_annotations ≡ None) × (m.properties ≡ None)
-    × (m.application_properties ≡ None) × (m.footer ≡ None)
-
 -- The message with this body and no other section.
 abbrev pub only_body : {B : Type 0} → B → Message B
 only_body b = record {

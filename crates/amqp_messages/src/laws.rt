@@ -1,9 +1,9 @@
 //! What holds of messages beyond the laws of every type. The functions do nothing; their contracts are proved.
-ghost use Rattle.std.specs.Prelude.{ℕ, List};
+ghost use Rattle.std.specs.Prelude.{◌≡◌, ℕ, List};
 ghost use Rattle.amqp_wire.specs.declared.limits.Limits.{Limits};
 ghost use Rattle.amqp_codec.specs.Reading.{BeginsWithin, BeginsWith};
 ghost use Rattle.amqp_messages.specs.Builders.{built};
-ghost use Rattle.amqp_messages.specs.MessageCalls.{HasBodyAlone};
+ghost use Rattle.amqp_messages.specs.MessageCalls.{only_body};
 ghost use Rattle.amqp_messages.specs.declared.builder.Builder.{Builder as BuilderOf};
 ghost use Rattle.amqp_messages.specs.declared.message.Message.{Message as MessageOf};
 
@@ -28,9 +28,9 @@ pub fn limits_take_nothing<B: FromBody>()
 /// By default a message has no section but its body, which is the default of its type.
 pub fn defaults<B: Default>()
     ensures message { (message : MessageOf B) → ⟦<Message<B> as Default>⟧.is_default message
-        → HasBodyAlone message × B.is_default message.body }
+        → (message ≡ only_body message.body) × B.is_default message.body }
     ensures builder { (builder : BuilderOf B) → ⟦<Builder<B> as Default>⟧.is_default builder
-        → HasBodyAlone (built builder) × B.is_default builder.body }
+        → (built builder ≡ only_body builder.body) × B.is_default builder.body }
 {}
 
 /// Each section of a copy is a copy of the one in its place, and none is there besides.

@@ -1,21 +1,31 @@
 //! Five uses of `fe2o3_amqp_types`, as a caller writes them. Each is proved, and run by a test.
 #![tactic(auto)]
 
-ghost use Rattle.std.specs.Prelude.{◌≡◌, ◌+◌, ◌-◌, ◌^◌, ℕ, min, IfOk};
-ghost use Rattle.fe2o3_amqp_types.specs.Reading.{BeginsWith};
-ghost use Rattle.fe2o3_amqp_types.specs.Tables.{composite, received};
-ghost use Rattle.fe2o3_amqp_types.specs.Writing.{written};
+ghost use Rattle.std.specs.Prelude.{◌≡◌, ◌⊎◌, ◌+◌, ◌-◌, ◌^◌, ◌++◌, ℕ, List, length, take, min, true, IfOk, IfErr};
+ghost use Rattle.fe2o3_amqp_types.specs.Reading.{BeginsWith, IsUnreadable, BeginsWithin, IsUnreadableWithin, IsSpelled, IsReadError, Tells, known};
+ghost use Rattle.fe2o3_amqp_types.specs.Tables.{composite, received, transfer};
+ghost use Rattle.fe2o3_amqp_types.specs.Writing.{written, AreUnwritable, IsWritable, IsUnwritten};
 ghost use Rattle.fe2o3_amqp_types.specs.declared.messaging.Received.{Received};
+ghost use Rattle.fe2o3_amqp_types.specs.declared.performatives.Transfer.{Transfer};
 
-use fe2o3_amqp_types::codec::{Deserialize, Error, from_slice, to_vec};
-use fe2o3_amqp_types::laws::one_term_is_written;
-use fe2o3_amqp_types::messaging::Received;
+use fe2o3_amqp_types::codec::{
+    ByteSource, Deserialize, DeserializeTerm, Error, Limits, Serialize, canonical_text,
+    from_reader_within, from_slice, to_vec,
+};
+use fe2o3_amqp_types::laws::{
+    one_term_is_written, one_text_for_one_value, reading_is_spelling, terms_are_read_again,
+};
+use fe2o3_amqp_types::messaging::{FromBody, Message, Received};
+use fe2o3_amqp_types::performatives::Transfer;
 use std::alloc::Global;
 
-/// One byte more was received: the text of the state that the input begins with, its offset one higher.
+/// One byte more was received: the text of the state that the input begins with, its offset one higher. It is refused if the input begins
+/// with no such state, or if the changed one can't be written.
 pub fn one_byte_on(input: &[u8], alloc: Global) -> Result<Vec<u8>, Error>
     ensures text { IfOk result (λ text. (state : Received) × (n : ℕ) × BeginsWith ⟦<Received as Deserialize>⟧.reading input.now state n
         × (text.items ≡ written (composite received) (record state { section_offset = min (state.section_offset + 1) (2 ^ 64 - 1) }))) }
+    ensures refused { IfErr result (λ e. (e ≡ Error.Memory) ⊎ (IsUnreadable ⟦<Received as Deserialize>⟧.reading input.now e
+        ⊎ ((state : Received) × AreUnwritable (⟦<Received as Serialize>⟧.writing.canons state) e))) }
 {
     one_term_is_written::<Received>();
     let mut received: Received = from_slice(input, alloc)?;
@@ -23,20 +33,6 @@ pub fn one_byte_on(input: &[u8], alloc: Global) -> Result<Vec<u8>, Error>
     let text = to_vec(&received, alloc)?;
     Ok(text)
 }
-
-// ---- more uses
-ghost use Rattle.std.specs.Prelude.{◌⊎◌, ◌++◌, List, length, take, true, IfErr};
-ghost use Rattle.fe2o3_amqp_types.specs.Reading.{IsUnreadable, BeginsWithin, IsUnreadableWithin, IsSpelled, IsReadError, Tells, known};
-ghost use Rattle.fe2o3_amqp_types.specs.Tables.{transfer};
-ghost use Rattle.fe2o3_amqp_types.specs.Writing.{IsWritable, IsUnwritten};
-ghost use Rattle.fe2o3_amqp_types.specs.declared.performatives.Transfer.{Transfer};
-
-use fe2o3_amqp_types::codec::{
-    ByteSource, DeserializeTerm, Limits, canonical_text, from_reader_within,
-};
-use fe2o3_amqp_types::laws::{one_text_for_one_value, reading_is_spelling, terms_are_read_again};
-use fe2o3_amqp_types::messaging::{FromBody, Message};
-use fe2o3_amqp_types::performatives::Transfer;
 
 /// What a relay sends on for the value that came, and how many bytes that took: the canonical text, which is read as the same value
 /// whatever follows it.

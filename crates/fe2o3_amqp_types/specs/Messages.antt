@@ -23,6 +23,6 @@ pub use Rattle.amqp_bodies.specs.PlainBodies.{null_value, none_value, lazy_null}
 pub use Rattle.amqp_messages.specs.MessageTypes.{message_of, message_in, as_strict}
 pub use Rattle.amqp_messages.specs.MessageWalk.{message_walk}
 pub use Rattle.amqp_messages.specs.MessageAgain.{message_again}
-pub use Rattle.amqp_messages.specs.MessageCalls.{one_if_there, sections_of, last_code_of, HasSectionsOf, HasBodyAlone, only_body}
+pub use Rattle.amqp_messages.specs.MessageCalls.{one_if_there, sections_of, last_code_of, HasSectionsOf, only_body}
 pub use Rattle.amqp_messages.specs.Wrappers.{written_in, read_in}
 pub use Rattle.amqp_messages.specs.Builders.{built, with_body, empty_builder}
