@@ -164,74 +164,88 @@ abbrev pub ReturnsText : {T : Type 0} → Reading T → (T → List Term) → Li
 ReturnsText r canons limits input (Ok (text, n)) = IsRewrittenWithin limits r canons input text n
 ReturnsText r canons limits input (Err e) = HasNoTextWithin limits r canons input e
 
--- The same of a type of terms.
-abbrev pub Returns : {T : Type 0} → TermType T → Limits → List ℕ → Result (List ℕ × ℕ) Error → Type 0
-Returns u = ReturnsText (reading_of u) (λ v. u.canon v ∷ [])
+-- How values of a type are read, and as which terms they are written.
+pub record Rewriting : Type 1 where
+  pub T : Type 0
+  pub reading : Reading T
+  pub canons : T → List Term
+
+-- Of a type of terms.
+abbrev pub of_terms : {T : Type 0} → TermType T → Rewriting
+of_terms {T} u = record { T = T; reading = reading_of u; canons = λ v. u.canon v ∷ [] }
+
+-- Of what is several sections, one after another.
+abbrev pub of_sections : {T : Type 0} → Reading T → (T → List Term) → Rewriting
+of_sections {T} reading canons = record { T = T; reading = reading; canons = canons }
+
+-- Of the type with that name.
+abbrev pub rewriting_of : TypeName → Rewriting
+rewriting_of line_type.Accepted = of_terms (composite accepted)
+rewriting_of line_type.AmqpSequence = of_terms (section_of in_sequence sequence_naming (vec_of value_type))
+rewriting_of line_type.AmqpValue = of_terms (section_of in_value value_naming value_type)
+rewriting_of line_type.Annotations = of_terms annotations_type
+rewriting_of line_type.ApplicationProperties = of_terms (section_of in_application_properties application_properties_naming simple_map_type)
+rewriting_of line_type.Attach = of_terms (composite attach)
+rewriting_of line_type.BatchData = of_sections data_batch data_batch_writing.canons
+rewriting_of line_type.BatchSequence = of_sections sequence_batch sequence_batch_writing.canons
+rewriting_of line_type.Begin = of_terms (composite begin)
+rewriting_of line_type.Body = of_sections any_body any_body_writing.canons
+rewriting_of line_type.Boolean = of_terms boolean_type
+rewriting_of line_type.Close = of_terms (composite close)
+rewriting_of line_type.Coordinator = of_terms (composite coordinator)
+rewriting_of line_type.Data = of_terms (section_of in_data data_naming binary_type)
+rewriting_of line_type.Declare = of_terms (composite declare)
+rewriting_of line_type.Declared = of_terms (composite declared)
+rewriting_of line_type.DeleteOnClose = of_terms (composite delete_on_close)
+rewriting_of line_type.DeleteOnNoLinks = of_terms (composite delete_on_no_links)
+rewriting_of line_type.DeleteOnNoLinksOrMessages = of_terms (composite delete_on_no_links_or_messages)
+rewriting_of line_type.DeleteOnNoMessages = of_terms (composite delete_on_no_messages)
+rewriting_of line_type.DeliveryAnnotations = of_terms (section_of in_delivery_annotations delivery_annotations_naming annotations_type)
+rewriting_of line_type.DeliveryState = of_terms delivery_state
+rewriting_of line_type.Detach = of_terms (composite detach)
+rewriting_of line_type.Discharge = of_terms (composite discharge)
+rewriting_of line_type.Disposition = of_terms (composite disposition)
+rewriting_of line_type.End = of_terms (composite ending)
+rewriting_of line_type.Error = of_terms (composite error)
+rewriting_of line_type.ErrorCondition = of_terms condition_type
+rewriting_of line_type.Flow = of_terms (composite flow)
+rewriting_of line_type.Footer = of_terms (section_of in_footer footer_naming annotations_type)
+rewriting_of line_type.Header = of_terms (composite header)
+rewriting_of line_type.LifetimePolicy = of_terms lifetime_policy
+rewriting_of line_type.Message = of_sections (in_any_order of_any_body) (message_terms any_body_writing)
+rewriting_of line_type.MessageAnnotations = of_terms (section_of in_message_annotations message_annotations_naming annotations_type)
+rewriting_of line_type.MessageBatch = of_sections (in_any_order of_data_batch) (message_terms data_batch_writing)
+rewriting_of line_type.MessageData = of_sections (in_any_order of_data) (message_terms data_writing)
+rewriting_of line_type.MessageId = of_terms (kind_sum_type message_ids)
+rewriting_of line_type.MessageValue = of_sections (in_any_order of_one_value) (message_terms one_value_writing)
+rewriting_of line_type.Modified = of_terms (composite modified)
+rewriting_of line_type.Open = of_terms (composite opening)
+rewriting_of line_type.Outcome = of_terms outcome
+rewriting_of line_type.Performative = of_terms performative
+rewriting_of line_type.Properties = of_terms (composite properties)
+rewriting_of line_type.Received = of_terms (composite received)
+rewriting_of line_type.Rejected = of_terms (composite rejected)
+rewriting_of line_type.Released = of_terms (composite released)
+rewriting_of line_type.SaslChallenge = of_terms (composite sasl_challenge)
+rewriting_of line_type.SaslInit = of_terms (composite sasl_init)
+rewriting_of line_type.SaslMechanisms = of_terms (composite sasl_mechanisms)
+rewriting_of line_type.SaslOutcome = of_terms (composite sasl_outcome)
+rewriting_of line_type.SaslResponse = of_terms (composite sasl_response)
+rewriting_of line_type.SimpleValue = of_terms simple_type
+rewriting_of line_type.Source = of_terms (composite source)
+rewriting_of line_type.StrictMessage = of_sections (strictly of_any_body) (strict_terms any_body_writing)
+rewriting_of line_type.StrictMessageBatch = of_sections (strictly of_data_batch) (strict_terms data_batch_writing)
+rewriting_of line_type.StrictMessageData = of_sections (strictly of_data) (strict_terms data_writing)
+rewriting_of line_type.StrictMessageValue = of_sections (strictly of_one_value) (strict_terms one_value_writing)
+rewriting_of line_type.Target = of_terms (composite target)
+rewriting_of line_type.TargetArchetype = of_terms target_archetype
+rewriting_of line_type.TransactionalState = of_terms (composite transactional_state)
+rewriting_of line_type.Transfer = of_terms (composite transfer)
+rewriting_of line_type.Value = of_terms value_type
 
 -- The same of the type with that name.
 abbrev pub ReturnsOf : TypeName → Limits → List ℕ → Result (List ℕ × ℕ) Error → Type 0
-ReturnsOf line_type.Accepted = Returns (composite accepted)
-ReturnsOf line_type.AmqpSequence = Returns (section_of in_sequence sequence_naming (vec_of value_type))
-ReturnsOf line_type.AmqpValue = Returns (section_of in_value value_naming value_type)
-ReturnsOf line_type.Annotations = Returns annotations_type
-ReturnsOf line_type.ApplicationProperties = Returns (section_of in_application_properties application_properties_naming simple_map_type)
-ReturnsOf line_type.Attach = Returns (composite attach)
-ReturnsOf line_type.BatchData = ReturnsText data_batch data_batch_writing.canons
-ReturnsOf line_type.BatchSequence = ReturnsText sequence_batch sequence_batch_writing.canons
-ReturnsOf line_type.Begin = Returns (composite begin)
-ReturnsOf line_type.Body = ReturnsText any_body any_body_writing.canons
-ReturnsOf line_type.Boolean = Returns boolean_type
-ReturnsOf line_type.Close = Returns (composite close)
-ReturnsOf line_type.Coordinator = Returns (composite coordinator)
-ReturnsOf line_type.Data = Returns (section_of in_data data_naming binary_type)
-ReturnsOf line_type.Declare = Returns (composite declare)
-ReturnsOf line_type.Declared = Returns (composite declared)
-ReturnsOf line_type.DeleteOnClose = Returns (composite delete_on_close)
-ReturnsOf line_type.DeleteOnNoLinks = Returns (composite delete_on_no_links)
-ReturnsOf line_type.DeleteOnNoLinksOrMessages = Returns (composite delete_on_no_links_or_messages)
-ReturnsOf line_type.DeleteOnNoMessages = Returns (composite delete_on_no_messages)
-ReturnsOf line_type.DeliveryAnnotations = Returns (section_of in_delivery_annotations delivery_annotations_naming annotations_type)
-ReturnsOf line_type.DeliveryState = Returns delivery_state
-ReturnsOf line_type.Detach = Returns (composite detach)
-ReturnsOf line_type.Discharge = Returns (composite discharge)
-ReturnsOf line_type.Disposition = Returns (composite disposition)
-ReturnsOf line_type.End = Returns (composite ending)
-ReturnsOf line_type.Error = Returns (composite error)
-ReturnsOf line_type.ErrorCondition = Returns condition_type
-ReturnsOf line_type.Flow = Returns (composite flow)
-ReturnsOf line_type.Footer = Returns (section_of in_footer footer_naming annotations_type)
-ReturnsOf line_type.Header = Returns (composite header)
-ReturnsOf line_type.LifetimePolicy = Returns lifetime_policy
-ReturnsOf line_type.Message = ReturnsText (in_any_order of_any_body) (message_terms any_body_writing)
-ReturnsOf line_type.MessageAnnotations = Returns (section_of in_message_annotations message_annotations_naming annotations_type)
-ReturnsOf line_type.MessageBatch = ReturnsText (in_any_order of_data_batch) (message_terms data_batch_writing)
-ReturnsOf line_type.MessageData = ReturnsText (in_any_order of_data) (message_terms data_writing)
-ReturnsOf line_type.MessageId = Returns (kind_sum_type message_ids)
-ReturnsOf line_type.MessageValue = ReturnsText (in_any_order of_one_value) (message_terms one_value_writing)
-ReturnsOf line_type.Modified = Returns (composite modified)
-ReturnsOf line_type.Open = Returns (composite opening)
-ReturnsOf line_type.Outcome = Returns outcome
-ReturnsOf line_type.Performative = Returns performative
-ReturnsOf line_type.Properties = Returns (composite properties)
-ReturnsOf line_type.Received = Returns (composite received)
-ReturnsOf line_type.Rejected = Returns (composite rejected)
-ReturnsOf line_type.Released = Returns (composite released)
-ReturnsOf line_type.SaslChallenge = Returns (composite sasl_challenge)
-ReturnsOf line_type.SaslInit = Returns (composite sasl_init)
-ReturnsOf line_type.SaslMechanisms = Returns (composite sasl_mechanisms)
-ReturnsOf line_type.SaslOutcome = Returns (composite sasl_outcome)
-ReturnsOf line_type.SaslResponse = Returns (composite sasl_response)
-ReturnsOf line_type.SimpleValue = Returns simple_type
-ReturnsOf line_type.Source = Returns (composite source)
-ReturnsOf line_type.StrictMessage = ReturnsText (strictly of_any_body) (strict_terms any_body_writing)
-ReturnsOf line_type.StrictMessageBatch = ReturnsText (strictly of_data_batch) (strict_terms data_batch_writing)
-ReturnsOf line_type.StrictMessageData = ReturnsText (strictly of_data) (strict_terms data_writing)
-ReturnsOf line_type.StrictMessageValue = ReturnsText (strictly of_one_value) (strict_terms one_value_writing)
-ReturnsOf line_type.Target = Returns (composite target)
-ReturnsOf line_type.TargetArchetype = Returns target_archetype
-ReturnsOf line_type.TransactionalState = Returns (composite transactional_state)
-ReturnsOf line_type.Transfer = Returns (composite transfer)
-ReturnsOf line_type.Value = Returns value_type
+ReturnsOf named = ReturnsText (rewriting_of named).reading (rewriting_of named).canons
 
 abbrev pub IsText : Limits → TypeName → List ℕ → List ℕ → ℕ → Type 0
 IsText limits named input text n = ReturnsOf named limits input (Ok (text, n))

@@ -10,3 +10,7 @@ in_order D name i (row ∷ rows) = eqb (tag_of D row.1) i && (bytes_eq (name row
 
 abbrev pub has_name : {X : Type 0} → List ℕ → Bor (List ℕ) × X → Bool
 has_name name row = bytes_eq row.0.now name
+
+-- The number of a value of an enum: its place among them, from 1 on.
+abbrev pub number_in : (D : Declared) → D.D → ℕ
+number_in D v = tag_of D v + 1

@@ -10,3 +10,4 @@ mod request;
 mod text;
 
 pub use engine::run;
+pub use request::TypeName;

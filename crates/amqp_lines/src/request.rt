@@ -2,7 +2,7 @@
 ghost use Rattle.std.specs.Prelude.{◌≡◌, ◌≤◌, ◌⊎◌, ℕ, List, length, IfOk, IfErr, MatchOption, position, true};
 ghost use Rattle.amqp_wire.specs.declared.error.Error.TheVariants.{Memory};
 ghost use Rattle.amqp_lines.specs.Answers.{type_name, StandsFor, Asks, IsText, HasNoText};
-ghost use Rattle.amqp_lines.specs.Rows.{in_order, has_name};
+ghost use Rattle.amqp_lines.specs.Rows.{in_order, has_name, number_in};
 ghost use Rattle.amqp_lines.specs.contracts.request.TypeName.{the_type};
 ghost use Rattle.amqp_lines.specs.declared.request.TypeName.{TypeName};
 
@@ -30,9 +30,10 @@ use fe2o3_amqp_types::transaction::{
 use memchr::memchr;
 use std::alloc::Global;
 
-/// The types that a line may name.
+/// The types that a line may name. Each has a number: its place among them, from 1 on. A type that is added goes to the end, so that the
+/// others keep their numbers.
 #[derive(Clone, Copy, Debug, PartialEq, Eq)]
-pub(crate) enum TypeName {
+pub enum TypeName {
     Accepted,
     AmqpSequence,
     AmqpValue,
@@ -182,16 +183,45 @@ fn named(rows: &[(&str, TypeName)], name: &[u8]) -> Option<TypeName>
     Some(rows[place].1)
 }
 
+// The type that has this number, in a table of all types.
+fn numbered(rows: &[(&str, TypeName)], number: u32) -> Option<TypeName>
+    requires { in_order the_type type_name 0 rows.now ≡ true }
+    ensures { MatchOption result ((named : TypeName) → number_in the_type named ≡ number → ⊥)
+        (λ named. number_in the_type named ≡ number) }
+{
+    let before = number.checked_sub(1)? as usize;
+    if before < rows.len() {
+        Some(rows[before].1)
+    } else {
+        None
+    }
+}
+
 impl TypeName {
     /// The type that has this name in a line.
-    fn from_bytes(name: &[u8]) -> Option<TypeName>
+    pub fn from_bytes(name: &[u8]) -> Option<TypeName>
         ensures { MatchOption result ((named : TypeName) → type_name named ≡ name.now → ⊥) (λ named. type_name named ≡ name.now) }
     {
         named(NAMES, name)
     }
 
+    /// The type that has this number.
+    pub fn from_number(number: u32) -> Option<TypeName>
+        ensures { MatchOption result ((named : TypeName) → number_in the_type named ≡ number → ⊥)
+            (λ named. number_in the_type named ≡ number) }
+    {
+        numbered(NAMES, number)
+    }
+
+    /// The number of the type.
+    pub fn number(self) -> u32
+        ensures { result ≡ number_in the_type self }
+    {
+        self as u32 + 1
+    }
+
     /// Within the limits, the canonical text of the type's value that the input begins with, and how many bytes that value takes.
-    pub(crate) fn canonical_text(
+    pub fn canonical_text(
         self,
         input: &[u8],
         limits: &Limits,
