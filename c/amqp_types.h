@@ -1,0 +1,199 @@
+/* The data types of AMQP 1.0 (OASIS, Parts 1 to 5): values are read, measured and rewritten as their canonical text.
+ *
+ * Link with libamqp_types.a. No call keeps state, returns a pointer or gives the caller memory to free. So all of them may be called from any
+ * number of threads at once, if no two calls write to the same place. Memory that a call takes, it gives back: it comes from malloc and
+ * realloc of the program, and what they refuse is AMQP_ERROR_MEMORY.
+ *
+ * Each input and each room is a pointer and a length. The pointer may be null if the length is 0. What a call reads and what it writes may not
+ * overlap. Every other pointer points to one value, and is never null.
+ *
+ * docs/C.md says what of these calls is proved. */
+#ifndef AMQP_TYPES_H
+#define AMQP_TYPES_H
+
+#include <stddef.h>
+#include <stdint.h>
+
+#ifdef __cplusplus
+extern "C" {
+#endif
+
+/* The types, by the names that amqp_c_type knows. */
+enum amqp_type {
+    AMQP_TYPE_NONE = 0,
+    AMQP_TYPE_ACCEPTED = 1,
+    AMQP_TYPE_AMQP_SEQUENCE = 2,
+    AMQP_TYPE_AMQP_VALUE = 3,
+    AMQP_TYPE_ANNOTATIONS = 4,
+    AMQP_TYPE_APPLICATION_PROPERTIES = 5,
+    AMQP_TYPE_ATTACH = 6,
+    AMQP_TYPE_BATCH_DATA = 7,
+    AMQP_TYPE_BATCH_SEQUENCE = 8,
+    AMQP_TYPE_BEGIN = 9,
+    AMQP_TYPE_BODY = 10,
+    AMQP_TYPE_BOOLEAN = 11,
+    AMQP_TYPE_CLOSE = 12,
+    AMQP_TYPE_COORDINATOR = 13,
+    AMQP_TYPE_DATA = 14,
+    AMQP_TYPE_DECLARE = 15,
+    AMQP_TYPE_DECLARED = 16,
+    AMQP_TYPE_DELETE_ON_CLOSE = 17,
+    AMQP_TYPE_DELETE_ON_NO_LINKS = 18,
+    AMQP_TYPE_DELETE_ON_NO_LINKS_OR_MESSAGES = 19,
+    AMQP_TYPE_DELETE_ON_NO_MESSAGES = 20,
+    AMQP_TYPE_DELIVERY_ANNOTATIONS = 21,
+    AMQP_TYPE_DELIVERY_STATE = 22,
+    AMQP_TYPE_DETACH = 23,
+    AMQP_TYPE_DISCHARGE = 24,
+    AMQP_TYPE_DISPOSITION = 25,
+    AMQP_TYPE_END = 26,
+    AMQP_TYPE_ERROR = 27,
+    AMQP_TYPE_ERROR_CONDITION = 28,
+    AMQP_TYPE_FLOW = 29,
+    AMQP_TYPE_FOOTER = 30,
+    AMQP_TYPE_HEADER = 31,
+    AMQP_TYPE_LIFETIME_POLICY = 32,
+    AMQP_TYPE_MESSAGE = 33,
+    AMQP_TYPE_MESSAGE_ANNOTATIONS = 34,
+    AMQP_TYPE_MESSAGE_BATCH = 35,
+    AMQP_TYPE_MESSAGE_DATA = 36,
+    AMQP_TYPE_MESSAGE_ID = 37,
+    AMQP_TYPE_MESSAGE_VALUE = 38,
+    AMQP_TYPE_MODIFIED = 39,
+    AMQP_TYPE_OPEN = 40,
+    AMQP_TYPE_OUTCOME = 41,
+    AMQP_TYPE_PERFORMATIVE = 42,
+    AMQP_TYPE_PROPERTIES = 43,
+    AMQP_TYPE_RECEIVED = 44,
+    AMQP_TYPE_REJECTED = 45,
+    AMQP_TYPE_RELEASED = 46,
+    AMQP_TYPE_SASL_CHALLENGE = 47,
+    AMQP_TYPE_SASL_INIT = 48,
+    AMQP_TYPE_SASL_MECHANISMS = 49,
+    AMQP_TYPE_SASL_OUTCOME = 50,
+    AMQP_TYPE_SASL_RESPONSE = 51,
+    AMQP_TYPE_SIMPLE_VALUE = 52,
+    AMQP_TYPE_SOURCE = 53,
+    AMQP_TYPE_STRICT_MESSAGE = 54,
+    AMQP_TYPE_STRICT_MESSAGE_BATCH = 55,
+    AMQP_TYPE_STRICT_MESSAGE_DATA = 56,
+    AMQP_TYPE_STRICT_MESSAGE_VALUE = 57,
+    AMQP_TYPE_TARGET = 58,
+    AMQP_TYPE_TARGET_ARCHETYPE = 59,
+    AMQP_TYPE_TRANSACTIONAL_STATE = 60,
+    AMQP_TYPE_TRANSFER = 61,
+    AMQP_TYPE_VALUE = 62
+};
+
+/* The errors. Each of 1 to 31 is explained in docs/ERRORS.md; a slice doesn't fail, so no call returns AMQP_ERROR_READ. */
+enum amqp_error {
+    AMQP_ERROR_NONE = 0,
+    AMQP_ERROR_CUT = 1,
+    AMQP_ERROR_UNKNOWN_CODE = 2,
+    AMQP_ERROR_FLOAT_CODE = 3,
+    AMQP_ERROR_SIZE = 4,
+    AMQP_ERROR_ODD_COUNT = 5,
+    AMQP_ERROR_DUPLICATE_KEY = 6,
+    AMQP_ERROR_SURPLUS = 7,
+    AMQP_ERROR_MISSING = 8,
+    AMQP_ERROR_WRONG_DESCRIPTOR = 9,
+    AMQP_ERROR_DEPTH = 10,
+    AMQP_ERROR_ZERO_WIDTH_ITEMS = 11,
+    AMQP_ERROR_BAD_BOOL = 12,
+    AMQP_ERROR_BAD_CHAR = 13,
+    AMQP_ERROR_BAD_UTF8 = 14,
+    AMQP_ERROR_NON_ASCII = 15,
+    AMQP_ERROR_UNKNOWN_TEXT = 16,
+    AMQP_ERROR_UNKNOWN_NUMBER = 17,
+    AMQP_ERROR_EMPTY_MULTIPLE = 18,
+    AMQP_ERROR_EMPTY_BODY = 19,
+    AMQP_ERROR_NOT_SECTION = 20,
+    AMQP_ERROR_MEMORY = 21,
+    AMQP_ERROR_READ = 22,
+    AMQP_ERROR_MIXED_ARRAY = 23,
+    AMQP_ERROR_TOO_LARGE = 24,
+    AMQP_ERROR_INVALID_VALUE = 25,
+    AMQP_ERROR_LAZY_IN_ARRAY = 26,
+    AMQP_ERROR_WRONG_TYPE = 27,
+    AMQP_ERROR_BAD_DESCRIPTOR = 28,
+    AMQP_ERROR_CUSTOM = 29,
+    AMQP_ERROR_MISPLACED = 30,
+    AMQP_ERROR_LIMIT = 31,
+    AMQP_ERROR_NO_ROOM = 1000,  /* the text is longer than the room */
+    AMQP_ERROR_NO_TYPE = 1001,  /* no type has the number */
+    AMQP_ERROR_NO_LIMITS = 1002 /* the limits let values nest more than 128 deep */
+};
+
+/* What a call returns. */
+struct amqp_outcome {
+    uint32_t number; /* an amqp_error, 0 if the call did what it is for */
+    uint32_t detail; /* the format code that AMQP_ERROR_UNKNOWN_CODE, _FLOAT_CODE or _WRONG_TYPE names, otherwise 0 */
+};
+
+/* Limits on what is read. The greatest number of bytes or of items, UINT64_MAX, sets no limit. */
+struct amqp_limits {
+    uint32_t nesting; /* how many lists, maps, arrays of such values and described values stand in one another at most, up to 128 */
+    uint64_t bytes;   /* how many bytes are read at most */
+    uint64_t items;   /* how many values are in them at most: each primitive, list, map and array is one */
+};
+
+/* Sets the limits to the greatest, under which all is read that nests at most 128 deep. */
+void amqp_c_greatest(struct amqp_limits *limits);
+
+/* Returns the number of the type with this name, as "open" or "message-data", without a 0 at the end; or 0 if no type has it. */
+uint32_t amqp_c_type(const uint8_t *name, size_t len);
+
+/* Reads the value of the type that the input begins with, within the limits. What follows it is left.
+ * 0: *taken is how many bytes the value takes. No other number of bytes is a value of the type that the input begins with.
+ * 1 to 31: the input begins with no such value, and the error names a fault of it; or memory ran out (AMQP_ERROR_MEMORY).
+ * AMQP_ERROR_NO_TYPE, AMQP_ERROR_NO_LIMITS: of the number and the limits. After any error *taken is as it was. */
+struct amqp_outcome amqp_c_read(uint32_t type, const uint8_t *in, size_t len, const struct amqp_limits *limits, size_t *taken);
+
+/* Writes the canonical text of the value of the type that the input begins with, within the limits.
+ * 0: the first *written bytes of the room are the text, those behind are as they were, and the value takes *taken bytes of the input.
+ * AMQP_ERROR_NO_ROOM: the text has *written bytes, which is more than room, and the room is as it was; *taken is as above.
+ * Other errors: as of amqp_c_read, or AMQP_ERROR_TOO_LARGE if the value is too large to be written; all is as it was. */
+struct amqp_outcome amqp_c_canonical(uint32_t type, const uint8_t *in, size_t len, const struct amqp_limits *limits,
+                                     uint8_t *out, size_t room, size_t *written, size_t *taken);
+
+/* Tells how long the term is, one encoded value of any type, that the input begins with. It takes no memory.
+ * 0: the first *taken bytes are the term. 1 to 31: no front of the input is a term that nests at most 128 deep, and *taken is as it was. */
+struct amqp_outcome amqp_c_term_len(const uint8_t *in, size_t len, size_t *taken);
+
+/* Writes the name of the error with this number, as "Cut", if there is room for it, without a 0 at the end. Returns the length of the name,
+ * 0 if no error has the number. If the name is longer than the room, the room is as it was. */
+size_t amqp_c_error_name(uint32_t number, uint8_t *out, size_t room);
+
+/* The kinds of nodes. */
+enum amqp_kind {
+    AMQP_KIND_NONE = 0,
+    AMQP_KIND_NULL = 1,
+    AMQP_KIND_BOOL = 2,
+    AMQP_KIND_UBYTE = 3,
+    AMQP_KIND_USHORT = 4,
+    AMQP_KIND_UINT = 5,
+    AMQP_KIND_ULONG = 6,
+    AMQP_KIND_BYTE = 7,
+    AMQP_KIND_SHORT = 8,
+    AMQP_KIND_INT = 9,
+    AMQP_KIND_LONG = 10,
+    AMQP_KIND_DECIMAL32 = 11,
+    AMQP_KIND_DECIMAL64 = 12,
+    AMQP_KIND_DECIMAL128 = 13,
+    AMQP_KIND_CHAR = 14,
+    AMQP_KIND_TIMESTAMP = 15,
+    AMQP_KIND_UUID = 16,
+    AMQP_KIND_BINARY = 17,
+    AMQP_KIND_STRING = 18,
+    AMQP_KIND_SYMBOL = 19,
+    AMQP_KIND_DESCRIBED = 20,
+    AMQP_KIND_LIST = 21,
+    AMQP_KIND_MAP = 22,
+    AMQP_KIND_ARRAY = 23
+};
+
+#ifdef __cplusplus
+}
+#endif
+
+#endif

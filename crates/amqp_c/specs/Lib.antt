@@ -1,0 +1,6 @@
+pub mod Limits
+pub mod Outcomes
+pub mod Errors
+pub mod Room
+pub mod Terms
+pub mod Rewriting

@@ -1,0 +1,107 @@
+//! The calls.
+ghost use Rattle.std.specs.Prelude.{◌≡◌};
+ghost use Rattle.amqp_c.specs.Limits.{greatest_given};
+ghost use Rattle.amqp_c.specs.Errors.{TellsName};
+ghost use Rattle.amqp_c.specs.Terms.{TellsLength};
+ghost use Rattle.amqp_c.specs.Rewriting.{IsNumberOf, Reads, Rewrites, Written};
+
+use crate::errors::name_of_number;
+use crate::limits::GivenLimits;
+use crate::outcome::{DONE, FULL, Outcome};
+use crate::rewriting::{canonical_text, value_len};
+use crate::room::put;
+use amqp_lines::TypeName;
+use fe2o3_amqp_types::codec::term_len;
+use std::alloc::Global;
+
+/// The number of the type with this name in the program `amqp-canon`, or 0 if none has it.
+#[unsafe(no_mangle)]
+pub extern "C" fn amqp_c_type(name: &[u8]) -> u32
+    ensures { IsNumberOf name.now result }
+{
+    match TypeName::from_bytes(name) {
+        Some(named) => named.number(),
+        None => 0,
+    }
+}
+
+/// How many bytes the value takes that the input begins with, of the type of the number and within the limits.
+#[unsafe(no_mangle)]
+pub extern "C" fn amqp_c_read(
+    number: u32,
+    input: &[u8],
+    limits: &GivenLimits,
+    taken: &mut usize,
+    alloc: Global,
+) -> Outcome
+    ensures { Reads number limits.now input.now taken.old taken.new result }
+{
+    match value_len(number, input, limits, alloc) {
+        Ok(len) => {
+            *taken = len;
+            DONE
+        }
+        Err(failure) => failure.outcome(),
+    }
+}
+
+/// The canonical text of the value that the input begins with, of the type of the number and within the limits, and how many bytes that
+/// value takes. If there is no room for the text, its length is told, and the room is left as it is.
+#[unsafe(no_mangle)]
+pub extern "C" fn amqp_c_canonical(
+    number: u32,
+    input: &[u8],
+    limits: &GivenLimits,
+    out: &mut [u8],
+    written: &mut usize,
+    taken: &mut usize,
+    alloc: Global,
+) -> Outcome
+    ensures { Rewrites number limits.now input.now (record { room = out.old; written = written.old; taken = taken.old })
+        (record { room = out.new; written = written.new; taken = taken.new }) result }
+{
+    match canonical_text(number, input, limits, alloc) {
+        Ok((text, len)) => {
+            *written = text.len();
+            *taken = len;
+            if put(&text, out) { DONE } else { FULL }
+        }
+        Err(failure) => failure.outcome(),
+    }
+}
+
+/// How long the term is that the input begins with, of whatever type (Part 1, section 1.2).
+#[unsafe(no_mangle)]
+pub extern "C" fn amqp_c_term_len(input: &[u8], taken: &mut usize) -> Outcome
+    ensures { TellsLength input.now taken.old taken.new result }
+{
+    match term_len(input) {
+        Ok(len) => {
+            *taken = len;
+            DONE
+        }
+        Err(error) => Outcome::of_error(error),
+    }
+}
+
+/// Puts the name of the error that has this number into the room, if there is room for it, and returns its length in bytes, 0 if no error
+/// has the number.
+#[unsafe(no_mangle)]
+pub extern "C" fn amqp_c_error_name(number: u32, out: &mut [u8]) -> usize
+    ensures { TellsName number result out.old out.new }
+{
+    let Some(name) = name_of_number(number) else {
+        return 0;
+    };
+    let bytes = name.as_bytes();
+    put(bytes, out);
+    bytes.len()
+}
+
+/// Sets the limits to the greatest, under which all is read that nests at most 128 deep.
+#[unsafe(no_mangle)]
+pub extern "C" fn amqp_c_greatest(limits: &mut GivenLimits)
+    ensures { limits.new ≡ greatest_given }
+{
+    *limits = GivenLimits::greatest();
+}

@@ -1,0 +1,19 @@
+//! The library for C: what `fe2o3_amqp_types` reads and rewrites, by calls over bytes. Each call's name begins with `amqp_c_`. Types and errors
+//! cross as numbers, limits and outcomes as structs, and bytes as a pointer and a length. No call keeps anything, returns a pointer or
+//! allocates for its caller.
+#![tactic(auto)]
+
+mod errors;
+mod exports;
+mod limits;
+mod outcome;
+mod rewriting;
+mod room;
+#[cfg(test)]
+mod tests;
+
+pub use exports::{
+    amqp_c_canonical, amqp_c_error_name, amqp_c_greatest, amqp_c_read, amqp_c_term_len, amqp_c_type,
+};
+pub use limits::GivenLimits;
+pub use outcome::Outcome;
