@@ -1,0 +1,218 @@
+"""The data types of AMQP 1.0: values are read, measured and rewritten as their canonical text.
+
+Each call is one call of a shared object, `libamqp_types.so`, made of a static library that is proved; `docs/C.md` says what of it. The
+environment's `AMQP_TYPES_SO` names the file, if it is not where the system looks.
+
+>>> canonical(Type.ACCEPTED, bytes.fromhex("005324c00000ff"))
+(b'\x00S$E', 6)
+>>> read(Type.BOOLEAN, b"\x99")
+Traceback (most recent call last):
+amqp_canonical.AmqpError: UnknownCode: 0x99
+"""
+
+from __future__ import annotations
+
+import ctypes
+import enum
+import os
+from dataclasses import dataclass
+
+UNLIMITED = 2**64 - 1
+"""The number of bytes or of items that sets no limit."""
+
+_NO_ROOM = 1000
+_NAMES_A_CODE = (2, 3, 27)
+
+
+class Type(enum.IntEnum):
+    """A type, by the name that the program `amqp-canon` has for it."""
+
+    ACCEPTED = 1
+    AMQP_SEQUENCE = 2
+    AMQP_VALUE = 3
+    ANNOTATIONS = 4
+    APPLICATION_PROPERTIES = 5
+    ATTACH = 6
+    BATCH_DATA = 7
+    BATCH_SEQUENCE = 8
+    BEGIN = 9
+    BODY = 10
+    BOOLEAN = 11
+    CLOSE = 12
+    COORDINATOR = 13
+    DATA = 14
+    DECLARE = 15
+    DECLARED = 16
+    DELETE_ON_CLOSE = 17
+    DELETE_ON_NO_LINKS = 18
+    DELETE_ON_NO_LINKS_OR_MESSAGES = 19
+    DELETE_ON_NO_MESSAGES = 20
+    DELIVERY_ANNOTATIONS = 21
+    DELIVERY_STATE = 22
+    DETACH = 23
+    DISCHARGE = 24
+    DISPOSITION = 25
+    END = 26
+    ERROR = 27
+    ERROR_CONDITION = 28
+    FLOW = 29
+    FOOTER = 30
+    HEADER = 31
+    LIFETIME_POLICY = 32
+    MESSAGE = 33
+    MESSAGE_ANNOTATIONS = 34
+    MESSAGE_BATCH = 35
+    MESSAGE_DATA = 36
+    MESSAGE_ID = 37
+    MESSAGE_VALUE = 38
+    MODIFIED = 39
+    OPEN = 40
+    OUTCOME = 41
+    PERFORMATIVE = 42
+    PROPERTIES = 43
+    RECEIVED = 44
+    REJECTED = 45
+    RELEASED = 46
+    SASL_CHALLENGE = 47
+    SASL_INIT = 48
+    SASL_MECHANISMS = 49
+    SASL_OUTCOME = 50
+    SASL_RESPONSE = 51
+    SIMPLE_VALUE = 52
+    SOURCE = 53
+    STRICT_MESSAGE = 54
+    STRICT_MESSAGE_BATCH = 55
+    STRICT_MESSAGE_DATA = 56
+    STRICT_MESSAGE_VALUE = 57
+    TARGET = 58
+    TARGET_ARCHETYPE = 59
+    TRANSACTIONAL_STATE = 60
+    TRANSFER = 61
+    VALUE = 62
+
+    @staticmethod
+    def from_name(name: str) -> Type | None:
+        """Returns the type with this name, as `open` or `message-data`, or None if no type has it."""
+        raw = name.encode()
+        number = _library.amqp_c_type(raw, len(raw))
+        return Type(number) if number else None
+
+
+@dataclass(frozen=True)
+class Limits:
+    """Limits on what is read: how deep values nest, up to 128, how many bytes are read, and how many values are in them."""
+
+    nesting: int = 128
+    bytes: int = UNLIMITED
+    items: int = UNLIMITED
+
+
+class AmqpError(ValueError):
+    """Why a value is not read or not written: the error's number, its name, and the format code that it names, if it names one."""
+
+    def __init__(self, number: int, detail: int = 0):
+        self.number = number
+        self.name = error_name(number)
+        self.code = detail if number in _NAMES_A_CODE else None
+        super().__init__(self.name if self.code is None else f"{self.name}: 0x{self.code:02x}")
+
+
+class _Outcome(ctypes.Structure):
+    _fields_ = [("number", ctypes.c_uint32), ("detail", ctypes.c_uint32)]
+
+
+class _Limits(ctypes.Structure):
+    _fields_ = [("nesting", ctypes.c_uint32), ("bytes", ctypes.c_uint64), ("items", ctypes.c_uint64)]
+
+
+def _loaded() -> ctypes.CDLL:
+    """Loads the shared object and says what its calls take and return, as `c/amqp_types.h` does."""
+    library = ctypes.CDLL(os.environ.get("AMQP_TYPES_SO", "libamqp_types.so"))
+    size, place, number = ctypes.c_size_t, ctypes.POINTER(ctypes.c_size_t), ctypes.c_uint32
+    data, limits = ctypes.c_char_p, ctypes.POINTER(_Limits)
+    signatures = {
+        "amqp_c_type": ([data, size], number),
+        "amqp_c_read": ([number, data, size, limits, place], _Outcome),
+        "amqp_c_canonical": ([number, data, size, limits, ctypes.c_void_p, size, place, place], _Outcome),
+        "amqp_c_term_len": ([data, size, place], _Outcome),
+        "amqp_c_error_name": ([number, ctypes.c_void_p, size], size),
+        "amqp_c_greatest": ([limits], None),
+    }
+    for name, (takes, gives) in signatures.items():
+        call = getattr(library, name)
+        call.argtypes, call.restype = takes, gives
+    return library
+
+
+_library = _loaded()
+
+
+def greatest() -> Limits:
+    """Returns the greatest limits, under which all is read that nests at most 128 deep."""
+    limits = _Limits()
+    _library.amqp_c_greatest(ctypes.byref(limits))
+    return Limits(limits.nesting, limits.bytes, limits.items)
+
+
+def error_name(number: int) -> str:
+    """Returns the name of the error with this number, as `Cut`, or an empty text if no error has it."""
+    room = ctypes.create_string_buffer(32)
+    size = _library.amqp_c_error_name(number, room, len(room))
+    return room.raw[:size].decode()
+
+
+def _check(outcome: _Outcome) -> None:
+    if outcome.number:
+        raise AmqpError(outcome.number, outcome.detail)
+
+
+def read(of: Type, data: bytes, limits: Limits = Limits()) -> int:
+    """Returns how many bytes the value of the type takes that the data begin with, within the limits.
+
+    >>> read(Type.BOOLEAN, b"\x41\x42")
+    1
+    """
+    taken = ctypes.c_size_t()
+    given = _Limits(limits.nesting, limits.bytes, limits.items)
+    _check(_library.amqp_c_read(of, data, len(data), ctypes.byref(given), ctypes.byref(taken)))
+    return taken.value
+
+
+def canonical(of: Type, data: bytes, limits: Limits = Limits()) -> tuple[bytes, int]:
+    """Returns the canonical text of the value of the type that the data begin with, within the limits, and how many bytes the value takes."""
+    room = len(data)
+    while True:
+        text, needed, taken = canonical_into(of, data, room, limits)
+        if text is not None:
+            return text, taken
+        room = needed
+
+
+def canonical_into(of: Type, data: bytes, room: int, limits: Limits = Limits()) -> tuple[bytes | None, int, int]:
+    """Returns the same with so many bytes of room: the text, its length, and how many bytes the value takes; no text if it has more bytes.
+
+    >>> canonical_into(Type.BOOLEAN, b"\x56\x01", 0)
+    (None, 1, 2)
+    """
+    written, taken = ctypes.c_size_t(), ctypes.c_size_t()
+    given = _Limits(limits.nesting, limits.bytes, limits.items)
+    out = ctypes.create_string_buffer(room) if room else None
+    outcome = _library.amqp_c_canonical(
+        of, data, len(data), ctypes.byref(given), out, room, ctypes.byref(written), ctypes.byref(taken)
+    )
+    if outcome.number == _NO_ROOM:
+        return None, written.value, taken.value
+    _check(outcome)
+    text = out.raw[: written.value] if out is not None else b""
+    return text, written.value, taken.value
+
+
+def term_len(data: bytes) -> int:
+    """Returns how long the term is, one encoded value of any type, that the data begin with.
+
+    >>> term_len(b"\xa1\x02hi\x00")
+    4
+    """
+    taken = ctypes.c_size_t()
+    _check(_library.amqp_c_term_len(data, len(data), ctypes.byref(taken)))
+    return taken.value

@@ -1,0 +1,40 @@
+//! The calls as `c/amqp_types.h` declares them. Nothing compares these declarations with the library; the tests call each.
+
+#[repr(C)]
+#[derive(Clone, Copy)]
+pub(crate) struct Outcome {
+    pub number: u32,
+    pub detail: u32,
+}
+
+#[repr(C)]
+#[derive(Clone, Copy)]
+pub(crate) struct Limits {
+    pub nesting: u32,
+    pub bytes: u64,
+    pub items: u64,
+}
+
+extern "C" {
+    pub(crate) fn amqp_c_type(name: *const u8, len: usize) -> u32;
+    pub(crate) fn amqp_c_read(
+        number: u32,
+        input: *const u8,
+        len: usize,
+        limits: *const Limits,
+        taken: *mut usize,
+    ) -> Outcome;
+    pub(crate) fn amqp_c_canonical(
+        number: u32,
+        input: *const u8,
+        len: usize,
+        limits: *const Limits,
+        out: *mut u8,
+        room: usize,
+        written: *mut usize,
+        taken: *mut usize,
+    ) -> Outcome;
+    pub(crate) fn amqp_c_term_len(input: *const u8, len: usize, taken: *mut usize) -> Outcome;
+    pub(crate) fn amqp_c_error_name(number: u32, out: *mut u8, room: usize) -> usize;
+    pub(crate) fn amqp_c_greatest(limits: *mut Limits);
+}

@@ -1,0 +1,123 @@
+//! The rows that `AMQP_ROWS` names, a file each, and what no row says.
+
+use amqp_types_canonical::{canonical, canonical_into, read, term_len, Error, Limits, Text, Type};
+
+fn bytes_of(digits: &str) -> Option<Vec<u8>> {
+    if digits == "-" {
+        return Some(Vec::new());
+    }
+    if digits.is_empty() || digits.len() % 2 != 0 || !digits.bytes().all(|digit| digit.is_ascii_hexdigit()) {
+        return None;
+    }
+    Some((0..digits.len()).step_by(2).map(|i| u8::from_str_radix(&digits[i..i + 2], 16).unwrap()).collect())
+}
+
+fn digits_of(bytes: &[u8]) -> String {
+    match bytes {
+        [] => "-".to_string(),
+        bytes => bytes.iter().map(|byte| format!("{byte:02x}")).collect(),
+    }
+}
+
+fn number_of(digits: &str) -> Option<u64> {
+    let is_plain = digits.len() <= 19 && digits.bytes().all(|digit| digit.is_ascii_digit());
+    let number = digits.parse::<u64>().ok().filter(|_| is_plain)?;
+    (number.to_string() == digits).then_some(number)
+}
+
+fn limits_of(line: &str) -> Option<Limits> {
+    let words: Vec<&str> = line.strip_prefix("limits ")?.split(' ').collect();
+    let [nesting, bytes, items] = words[..] else { return None };
+    let nesting = u32::try_from(number_of(nesting)?).ok().filter(|nesting| *nesting <= 128)?;
+    Some(Limits { nesting, bytes: number_of(bytes)?, items: number_of(items)? })
+}
+
+// What the program answers to a line that sets no limits.
+fn answer(line: &str, limits: &Limits) -> String {
+    let asked = line.split_once(' ').and_then(|(name, digits)| Some((Type::from_name(name)?, bytes_of(digits)?)));
+    let Some((of, input)) = asked else { return "no 0 Line".to_string() };
+    let lengths = read(of, &input, limits);
+    match canonical(of, &input, limits) {
+        Ok((text, taken)) => {
+            assert_eq!(lengths, Ok(taken), "{line}");
+            check_room(of, &input, limits, &text, taken);
+            format!("ok {} {}", digits_of(&text), input.len() - taken)
+        }
+        Err(error) => {
+            assert_eq!(lengths, Err(error), "{line}");
+            assert!(!error.to_string().is_empty());
+            format!("no {} {}", error.number(), error.name())
+        }
+    }
+}
+
+// Room that is too small by one byte stays as it is, and of exact room all is written.
+fn check_room(of: Type, input: &[u8], limits: &Limits, text: &[u8], taken: usize) {
+    let mut room = vec![0xaa; text.len() + 1];
+    if let Some(less) = text.len().checked_sub(1) {
+        assert_eq!(canonical_into(of, input, limits, &mut room[..less]), Ok(Text::Needs(text.len())));
+        assert!(room.iter().all(|byte| *byte == 0xaa));
+    }
+    let fits = Text::Fits { written: text.len(), taken };
+    assert_eq!(canonical_into(of, input, limits, &mut room[..text.len()]), Ok(fits));
+    assert_eq!(room[..text.len()], *text);
+    assert_eq!(room[text.len()], 0xaa);
+}
+
+#[test]
+fn rows() {
+    let files = std::env::var("AMQP_ROWS").expect("AMQP_ROWS names files of rows, with a colon between two");
+    let mut rows = 0;
+    for file in files.split(':') {
+        let mut limits = Limits::greatest();
+        for row in std::fs::read_to_string(file).unwrap().lines() {
+            let Some((line, wanted)) = row.split_once(" => ").filter(|_| !row.starts_with('#')) else { continue };
+            let found = match limits_of(line) {
+                Some(set) => {
+                    limits = set;
+                    line.to_string()
+                }
+                None => answer(line, &limits),
+            };
+            assert_eq!(found, wanted, "{file}: {line}");
+            rows += 1;
+        }
+    }
+    println!("{rows} rows");
+    assert!(rows > 0);
+}
+
+#[test]
+fn names() {
+    for (name, of) in Type::all() {
+        assert_eq!(Type::from_name(name), Some(of));
+        assert_eq!(of.name(), name);
+    }
+    assert_eq!(Type::from_name(""), None);
+}
+
+#[test]
+fn limits_that_are_none() {
+    let deep = Limits { nesting: 129, ..Limits::greatest() };
+    assert_eq!(read(Type::Boolean, &[0x41], &deep), Err(Error::NoLimits));
+    assert_eq!(Error::NoLimits.name(), "NoLimits");
+}
+
+#[test]
+fn eight_threads() {
+    let threads = (0..8u8).map(|i| {
+        std::thread::spawn(move || {
+            for j in 0..20_000u32 {
+                let input = [0x53, i, 0x52, j as u8, i];
+                assert_eq!(canonical(Type::Value, &input, &Limits::greatest()), Ok((vec![0x53, i], 2)).map(|(text, taken)| {
+                    if i == 0 { (vec![0x44], taken) } else { (text, taken) }
+                }));
+                assert_eq!(term_len(&input[2..]), Ok(2));
+                assert_eq!(read(Type::Boolean, &input[2..], &Limits::greatest()), Err(Error::WrongType(0x52)));
+            }
+        })
+    });
+    for thread in threads.collect::<Vec<_>>() {
+        thread.join().unwrap();
+    }
+}
