@@ -192,6 +192,27 @@ enum amqp_kind {
     AMQP_KIND_ARRAY = 23
 };
 
+/* A value in a term. A described value is a node that holds two, its descriptor and its value. */
+struct amqp_node {
+    uint32_t kind;     /* an amqp_kind; AMQP_KIND_NONE of what is around a whole term */
+    uint32_t depth;    /* how many nodes it stands in */
+    uint8_t code;      /* its format code, 0 of a described value */
+    uint8_t item_code; /* of an array with items their format code, otherwise 0 */
+    size_t count;      /* how many values it holds: items of a list or an array, keys and values of a map, 2 of a described value */
+    size_t start;      /* where what it holds begins, behind its constructor, its size and its count; of an array, with their constructor */
+    size_t end;        /* where it ends */
+    size_t next;       /* where the next node begins: the first one in it, or else what follows it */
+};
+
+/* Tells which node of a term begins at a place of the input. A walk goes from node to node, and needs no tree: it begins with a node of zeros at
+ * the place where a whole term begins. What *node holds is found by handing it in again, with its next, and what follows one of these with the
+ * end of that one; walk.c does so in ten lines. No memory is taken. Each call reads the node to its end, so a walk reads each byte as often as
+ * nodes stand around it.
+ * On entry *node is the node around the place, all zeros if there is none; in an array its items have no constructor of their own.
+ * 0: *node is the node at the place. Otherwise no node stands there in the node around, and *node is as it was:
+ * AMQP_ERROR_CUT if the place is none of it, and errors of reading. */
+struct amqp_outcome amqp_c_next(const uint8_t *in, size_t len, size_t at, struct amqp_node *node);
+
 #ifdef __cplusplus
 }
 #endif

@@ -15,6 +15,8 @@ from __future__ import annotations
 import ctypes
 import enum
 import os
+import uuid
+from collections.abc import Iterator
 from dataclasses import dataclass
 
 UNLIMITED = 2**64 - 1
@@ -98,6 +100,34 @@ class Type(enum.IntEnum):
         return Type(number) if number else None
 
 
+class Kind(enum.IntEnum):
+    """What a node of a term is."""
+
+    NULL = 1
+    BOOL = 2
+    UBYTE = 3
+    USHORT = 4
+    UINT = 5
+    ULONG = 6
+    BYTE = 7
+    SHORT = 8
+    INT = 9
+    LONG = 10
+    DECIMAL32 = 11
+    DECIMAL64 = 12
+    DECIMAL128 = 13
+    CHAR = 14
+    TIMESTAMP = 15
+    UUID = 16
+    BINARY = 17
+    STRING = 18
+    SYMBOL = 19
+    DESCRIBED = 20
+    LIST = 21
+    MAP = 22
+    ARRAY = 23
+
+
 @dataclass(frozen=True)
 class Limits:
     """Limits on what is read: how deep values nest, up to 128, how many bytes are read, and how many values are in them."""
@@ -121,6 +151,19 @@ class _Outcome(ctypes.Structure):
     _fields_ = [("number", ctypes.c_uint32), ("detail", ctypes.c_uint32)]
 
 
+class _Node(ctypes.Structure):
+    _fields_ = [
+        ("kind", ctypes.c_uint32),
+        ("depth", ctypes.c_uint32),
+        ("code", ctypes.c_uint8),
+        ("item_code", ctypes.c_uint8),
+        ("count", ctypes.c_size_t),
+        ("start", ctypes.c_size_t),
+        ("end", ctypes.c_size_t),
+        ("next", ctypes.c_size_t),
+    ]
+
+
 class _Limits(ctypes.Structure):
     _fields_ = [("nesting", ctypes.c_uint32), ("bytes", ctypes.c_uint64), ("items", ctypes.c_uint64)]
 
@@ -135,6 +178,7 @@ def _loaded() -> ctypes.CDLL:
         "amqp_c_read": ([number, data, size, limits, place], _Outcome),
         "amqp_c_canonical": ([number, data, size, limits, ctypes.c_void_p, size, place, place], _Outcome),
         "amqp_c_term_len": ([data, size, place], _Outcome),
+        "amqp_c_next": ([data, size, size, ctypes.POINTER(_Node)], _Outcome),
         "amqp_c_error_name": ([number, ctypes.c_void_p, size], size),
         "amqp_c_greatest": ([limits], None),
     }
@@ -216,3 +260,141 @@ def term_len(data: bytes) -> int:
     taken = ctypes.c_size_t()
     _check(_library.amqp_c_term_len(data, len(data), ctypes.byref(taken)))
     return taken.value
+
+
+@dataclass(frozen=True)
+class Node:
+    """A value in a term, by its places in the data. A described value is a node that holds two, its descriptor and its value."""
+
+    kind: Kind
+    depth: int
+    code: int
+    item_code: int
+    count: int
+    start: int
+    end: int
+    next: int
+
+
+_NONE = Node(0, 0, 0, 0, 0, 0, 0, 0)  # what is around a whole term
+
+
+def node_at(data: bytes, at: int = 0, around: Node = _NONE) -> Node:
+    """Returns the node that begins at the place, in the node around it: the items of an array have no constructor of their own."""
+    node = _Node(around.kind, around.depth, around.code, around.item_code, around.count, around.start, around.end, around.next)
+    _check(_library.amqp_c_next(data, len(data), at, ctypes.byref(node)))
+    return Node(Kind(node.kind), node.depth, node.code, node.item_code, node.count, node.start, node.end, node.next)
+
+
+def nodes(data: bytes, at: int = 0, around: Node = _NONE) -> Iterator[Node]:
+    """Returns the nodes of the term that the data begin with, each before those in it.
+
+    >>> [(node.kind.name, node.depth) for node in nodes(bytes.fromhex("005323c005025209530d"))]
+    [('DESCRIBED', 0), ('ULONG', 1), ('LIST', 1), ('UINT', 2), ('ULONG', 2)]
+    """
+    node = node_at(data, at, around)
+    yield node
+    place = node.next
+    for _ in range(node.count):
+        for inner in nodes(data, place, node):
+            yield inner
+            if inner.depth == node.depth + 1:
+                place = inner.end
+
+
+class Symbol(str):
+    """A symbol."""
+
+    __slots__ = ()
+
+
+@dataclass(frozen=True)
+class Described:
+    """A value behind a descriptor, a number or a symbol."""
+
+    descriptor: int | Symbol
+    value: object
+
+
+@dataclass(frozen=True)
+class DecimalBytes:
+    """A decimal number of 32, 64 or 128 bits, as its bytes."""
+
+    raw: bytes
+
+
+def decode(data: bytes) -> tuple[object, int]:
+    """Returns the term that the data begin with as a value of Python, and how many bytes the term takes.
+
+    Null is None, a boolean a bool, a whole number an int, a char and a string a str, a symbol a `Symbol`, a binary bytes, a uuid a `UUID`, a
+    timestamp its milliseconds, a decimal number `DecimalBytes`, a list and an array a list, and a described value `Described`. A map is a dict; or
+    a list of its pairs, if one of its keys can't be a key in Python, or two of them would be one, as true and 1.
+
+    >>> decode(bytes.fromhex("005323c005025209530dff"))
+    (Described(descriptor=35, value=[9, 13]), 10)
+    >>> decode(bytes.fromhex("c10904a1016141a1016240"))
+    ({'a': True, 'b': None}, 11)
+    """
+    top = node_at(data)
+    return _value(data, top), top.end
+
+
+_ZEROS = {0x40: None, 0x41: True, 0x42: False, 0x43: 0, 0x44: 0}
+_SIGNED = (Kind.BYTE, Kind.SHORT, Kind.INT, Kind.LONG, Kind.TIMESTAMP)
+_UNSIGNED = (Kind.UBYTE, Kind.USHORT, Kind.UINT, Kind.ULONG)
+
+
+def _value(data: bytes, node: Node) -> object:
+    """Returns the value of a node."""
+    if node.kind is Kind.ARRAY:
+        return _array(data, node)
+    if node.kind in (Kind.DESCRIBED, Kind.LIST, Kind.MAP):
+        items = [_value(data, inner) for inner in _children(data, node)]
+        if node.kind is Kind.DESCRIBED:
+            return Described(*items)
+        return items if node.kind is Kind.LIST else _mapping(items)
+    if node.code in _ZEROS:
+        return _ZEROS[node.code]
+    raw = data[node.start : node.end]
+    if node.kind in _UNSIGNED or node.kind in _SIGNED:
+        return int.from_bytes(raw, "big", signed=node.kind in _SIGNED)
+    return {
+        Kind.BOOL: lambda: raw == b"\x01",
+        Kind.CHAR: lambda: chr(int.from_bytes(raw, "big")),
+        Kind.UUID: lambda: uuid.UUID(bytes=raw),
+        Kind.BINARY: lambda: raw,
+        Kind.STRING: lambda: raw.decode(),
+        Kind.SYMBOL: lambda: Symbol(raw.decode("ascii")),
+    }.get(node.kind, lambda: DecimalBytes(raw))()
+
+
+def _children(data: bytes, node: Node) -> Iterator[Node]:
+    """Returns the nodes that stand right in a node."""
+    place = node.next
+    for _ in range(node.count):
+        inner = node_at(data, place, node)
+        yield inner
+        place = inner.end
+
+
+def _array(data: bytes, node: Node) -> list[object]:
+    """Returns the items of an array, each behind the descriptors of their constructor."""
+    descriptors, place = [], node.start
+    while node.count and data[place] == 0:
+        mark = node_at(data, place + 1)
+        descriptors.append(_value(data, mark))
+        place = mark.end
+    items = [_value(data, inner) for inner in _children(data, node)]
+    for descriptor in reversed(descriptors):
+        items = [Described(descriptor, item) for item in items]
+    return items
+
+
+def _mapping(items: list[object]) -> dict | list[tuple[object, object]]:
+    """Returns a dict of the keys and values in turn, or their pairs if that can't be."""
+    pairs = list(zip(items[::2], items[1::2]))
+    try:
+        made = dict(pairs)
+    except TypeError:
+        return pairs
+    return made if len(made) == len(pairs) else pairs

@@ -13,10 +13,12 @@
 //! ```
 
 mod error;
+mod nodes;
 mod sys;
 mod types;
 
 pub use error::Error;
+pub use nodes::{Kind, Node, Nodes};
 pub use types::Type;
 
 /// The number of the error that the text has more bytes than there is room for.
@@ -72,9 +74,7 @@ fn told<T>(outcome: sys::Outcome, value: T) -> Result<T, Error> {
 pub fn read(of: Type, input: &[u8], limits: &Limits) -> Result<usize, Error> {
     let mut taken = 0;
     // SAFETY: each pointer and length are those of one slice, the other pointers are of values that live on, and what is written is named once.
-    let outcome = unsafe {
-        sys::amqp_c_read(of as u32, input.as_ptr(), input.len(), &limits.given(), &mut taken)
-    };
+    let outcome = unsafe { sys::amqp_c_read(of as u32, input.as_ptr(), input.len(), &limits.given(), &mut taken) };
     told(outcome, taken)
 }
 

@@ -15,15 +15,22 @@ pub(crate) struct Limits {
     pub items: u64,
 }
 
+#[repr(C)]
+#[derive(Clone, Copy, Debug, Default)]
+pub(crate) struct Node {
+    pub kind: u32,
+    pub depth: u32,
+    pub code: u8,
+    pub item_code: u8,
+    pub count: usize,
+    pub start: usize,
+    pub end: usize,
+    pub next: usize,
+}
+
 extern "C" {
     pub(crate) fn amqp_c_type(name: *const u8, len: usize) -> u32;
-    pub(crate) fn amqp_c_read(
-        number: u32,
-        input: *const u8,
-        len: usize,
-        limits: *const Limits,
-        taken: *mut usize,
-    ) -> Outcome;
+    pub(crate) fn amqp_c_read(number: u32, input: *const u8, len: usize, limits: *const Limits, taken: *mut usize) -> Outcome;
     pub(crate) fn amqp_c_canonical(
         number: u32,
         input: *const u8,
@@ -35,6 +42,7 @@ extern "C" {
         taken: *mut usize,
     ) -> Outcome;
     pub(crate) fn amqp_c_term_len(input: *const u8, len: usize, taken: *mut usize) -> Outcome;
+    pub(crate) fn amqp_c_next(input: *const u8, len: usize, at: usize, node: *mut Node) -> Outcome;
     pub(crate) fn amqp_c_error_name(number: u32, out: *mut u8, room: usize) -> usize;
     pub(crate) fn amqp_c_greatest(limits: *mut Limits);
 }

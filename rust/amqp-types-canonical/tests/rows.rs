@@ -1,6 +1,6 @@
 //! The rows that `AMQP_ROWS` names, a file each, and what no row says.
 
-use amqp_types_canonical::{canonical, canonical_into, read, term_len, Error, Limits, Text, Type};
+use amqp_types_canonical::{canonical, canonical_into, read, term_len, Error, Kind, Limits, Nodes, Text, Type};
 
 fn bytes_of(digits: &str) -> Option<Vec<u8>> {
     if digits == "-" {
@@ -109,9 +109,16 @@ fn eight_threads() {
         std::thread::spawn(move || {
             for j in 0..20_000u32 {
                 let input = [0x53, i, 0x52, j as u8, i];
-                assert_eq!(canonical(Type::Value, &input, &Limits::greatest()), Ok((vec![0x53, i], 2)).map(|(text, taken)| {
-                    if i == 0 { (vec![0x44], taken) } else { (text, taken) }
-                }));
+                assert_eq!(
+                    canonical(Type::Value, &input, &Limits::greatest()),
+                    Ok((vec![0x53, i], 2)).map(|(text, taken)| {
+                        if i == 0 {
+                            (vec![0x44], taken)
+                        } else {
+                            (text, taken)
+                        }
+                    })
+                );
                 assert_eq!(term_len(&input[2..]), Ok(2));
                 assert_eq!(read(Type::Boolean, &input[2..], &Limits::greatest()), Err(Error::WrongType(0x52)));
             }
@@ -120,4 +127,38 @@ fn eight_threads() {
     for thread in threads.collect::<Vec<_>>() {
         thread.join().unwrap();
     }
+}
+
+// Each node's kind, depth, and bytes.
+fn nodes_of(digits: &str) -> Vec<(Kind, usize, String)> {
+    let bytes = bytes_of(digits).unwrap();
+    Nodes::new(&bytes).map(|node| node.map(|node| (node.kind, node.depth, digits_of(node.data)))).collect::<Result<_, _>>().unwrap()
+}
+
+// (Part 1, sections 1.2.3 and 1.2.4: the items of a list have constructors, those of an array share one.)
+#[test]
+fn nodes() {
+    let text = |digits: &str| digits.to_string();
+    assert_eq!(
+        nodes_of("005323c005025209530d"),
+        [
+            (Kind::Described, 0, text("5323c005025209530d")),
+            (Kind::Ulong, 1, text("23")),
+            (Kind::List, 1, text("5209530d")),
+            (Kind::Uint, 2, text("09")),
+            (Kind::Ulong, 2, text("0d")),
+        ]
+    );
+    assert_eq!(
+        nodes_of("e00902005301a101610162"),
+        [(Kind::Array, 0, text("005301a101610162")), (Kind::String, 1, text("61")), (Kind::String, 1, text("62")),]
+    );
+    assert_eq!(nodes_of("45"), [(Kind::List, 0, text("-"))]);
+    assert_eq!(nodes_of("40ff"), [(Kind::Null, 0, text("-"))]);
+}
+
+#[test]
+fn refused_nodes() {
+    let found: Vec<_> = Nodes::new(&[0xc0, 0x02, 0x01, 0x72]).collect();
+    assert_eq!(found, [Err(Error::FloatCode(0x72))]);
 }

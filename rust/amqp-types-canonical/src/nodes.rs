@@ -1,0 +1,151 @@
+//! The nodes of a term.
+
+use crate::{sys, Error};
+
+/// What a node is.
+#[derive(Clone, Copy, Debug, PartialEq, Eq, Hash)]
+pub enum Kind {
+    /// Null.
+    Null,
+    /// A boolean.
+    Bool,
+    /// A ubyte.
+    Ubyte,
+    /// A ushort.
+    Ushort,
+    /// A uint.
+    Uint,
+    /// A ulong.
+    Ulong,
+    /// A byte.
+    Byte,
+    /// A short.
+    Short,
+    /// An int.
+    Int,
+    /// A long.
+    Long,
+    /// A decimal32.
+    Decimal32,
+    /// A decimal64.
+    Decimal64,
+    /// A decimal128.
+    Decimal128,
+    /// A char.
+    Char,
+    /// A timestamp.
+    Timestamp,
+    /// A uuid.
+    Uuid,
+    /// A binary.
+    Binary,
+    /// A string.
+    String,
+    /// A symbol.
+    Symbol,
+    /// A described value, which holds its descriptor and its value.
+    Described,
+    /// A list.
+    List,
+    /// A map, which holds its keys and values in turn.
+    Map,
+    /// An array.
+    Array,
+}
+
+/// The kinds in the order of their numbers, from 1 on.
+static KINDS: &[Kind] = &[
+    Kind::Null,
+    Kind::Bool,
+    Kind::Ubyte,
+    Kind::Ushort,
+    Kind::Uint,
+    Kind::Ulong,
+    Kind::Byte,
+    Kind::Short,
+    Kind::Int,
+    Kind::Long,
+    Kind::Decimal32,
+    Kind::Decimal64,
+    Kind::Decimal128,
+    Kind::Char,
+    Kind::Timestamp,
+    Kind::Uuid,
+    Kind::Binary,
+    Kind::String,
+    Kind::Symbol,
+    Kind::Described,
+    Kind::List,
+    Kind::Map,
+    Kind::Array,
+];
+
+/// A value in a term. A described value is a node that holds two, its descriptor and its value.
+#[derive(Clone, Copy, Debug, PartialEq, Eq)]
+pub struct Node<'a> {
+    /// What it is.
+    pub kind: Kind,
+    /// Its format code, 0 of a described value.
+    pub code: u8,
+    /// What it holds, behind its constructor, its size and its count: the bytes of its value, or of the nodes in it. What an array holds begins
+    /// with the constructor of its items.
+    pub data: &'a [u8],
+    /// How many nodes it stands in.
+    pub depth: usize,
+    /// How many nodes stand right in it.
+    pub count: usize,
+}
+
+/// The nodes of the term that the bytes begin with, each before those in it. After an error there is none.
+///
+/// ```
+/// use amqp_types_canonical::{Error, Kind, Nodes};
+///
+/// let list = [0xc0, 0x05, 0x02, 0x52, 0x09, 0xa1, 0x00, 0xff];
+/// let kinds = Nodes::new(&list).map(|node| Ok((node?.kind, node?.depth))).collect::<Result<Vec<_>, Error>>()?;
+/// assert_eq!(kinds, [(Kind::List, 0), (Kind::Uint, 1), (Kind::String, 1)]);
+/// # Ok::<(), Error>(())
+/// ```
+#[derive(Clone, Debug)]
+pub struct Nodes<'a> {
+    input: &'a [u8],
+    at: usize,
+    /// The nodes around the next one, each with how many nodes in it are still to come; at first what is around a whole term, with one.
+    open: Vec<(sys::Node, usize)>,
+}
+
+impl<'a> Nodes<'a> {
+    /// The nodes of the term that the input begins with.
+    pub fn new(input: &'a [u8]) -> Nodes<'a> {
+        Nodes { input, at: 0, open: vec![(sys::Node::default(), 1)] }
+    }
+}
+
+impl<'a> Iterator for Nodes<'a> {
+    type Item = Result<Node<'a>, Error>;
+
+    fn next(&mut self) -> Option<Result<Node<'a>, Error>> {
+        while self.open.last()?.1 == 0 {
+            self.open.pop();
+        }
+        let (around, left) = self.open.last_mut()?;
+        *left -= 1;
+        let mut node = *around;
+        // SAFETY: the pointer and the length are those of one slice, and the node is a value of its own.
+        let outcome = unsafe { sys::amqp_c_next(self.input.as_ptr(), self.input.len(), self.at, &mut node) };
+        if outcome.number != 0 {
+            self.open.clear();
+            return Some(Err(Error::from_outcome(outcome.number, outcome.detail)));
+        }
+        self.at = node.next;
+        let depth = self.open.len() - 1;
+        self.open.push((node, node.count));
+        Some(Ok(Node {
+            kind: KINDS[node.kind as usize - 1],
+            code: node.code,
+            data: &self.input[node.start..node.end],
+            depth,
+            count: node.count,
+        }))
+    }
+}
