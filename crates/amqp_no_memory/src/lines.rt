@@ -1,6 +1,5 @@
 //! Lines that are answered (`amqp_lines::run`).
-use crate::print_outcome;
-use crate::rows::Outcome;
+use crate::calls::{Outcome, print_outcome};
 use amqp_lines::run;
 use fe2o3_amqp_types::codec::Error;
 use std::alloc::Global;

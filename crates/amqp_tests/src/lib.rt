@@ -13,6 +13,8 @@ mod from_readers;
 #[cfg(test)]
 mod iterators;
 #[cfg(test)]
+mod limited_readers;
+#[cfg(test)]
 mod lines;
 #[cfg(test)]
 mod members;

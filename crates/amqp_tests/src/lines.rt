@@ -144,20 +144,25 @@ fn a_line_that_sets_limits_is_ok(rt: HostRuntime) -> Result<(), Fail> {
     )
 }
 
-// Gives one byte a call, and fails once none is left.
+// Gives one byte a call, and fails once it was called so often.
 #[derive(Drop)]
 struct OneByOne<'a> {
     bytes: &'a [u8],
+    calls: usize,
 }
 
 impl Read for OneByOne<'_> {
     fn read(&mut self, buffer: &mut [u8]) -> io::Result<usize> {
-        let Some((first, rest)) = self.bytes.split_first() else {
+        if self.calls == 0 {
             return Err(io::Error::from(ErrorKind::Interrupted));
-        };
+        }
+        self.calls -= 1;
         if buffer.is_empty() {
             return Ok(0);
         }
+        let Some((first, rest)) = self.bytes.split_first() else {
+            return Ok(0);
+        };
         buffer[0] = *first;
         self.bytes = rest;
         Ok(1)
@@ -189,6 +194,7 @@ impl Write for Narrow {
 fn failing_ends(rt: HostRuntime) -> Result<(), Fail> {
     let reader = OneByOne {
         bytes: b"accepted 00532445\nacc",
+        calls: 21,
     };
     let mut output = Vec::new(rt.alloc());
     let answer = run(reader, &mut output, rt.alloc());
@@ -206,5 +212,37 @@ fn failing_ends(rt: HostRuntime) -> Result<(), Fail> {
         rt.alloc(),
     );
     assert_eq!(rt; answer, Ok(true));
+    Ok(())
+}
+
+/// Lines of which some are refused.
+const LINES: &str = "accepted 005324c00000\n\
+    received 005323c005025209530dff\n\
+    accepted 005324c0020140\n\
+    batch-data -\n\
+    bogus 00";
+
+/// What is answered to them.
+const ANSWERS: &str = "ok 00532445 0\n\
+    ok 005323c005025209530d 1\n\
+    no 7 Surplus\n\
+    ok - 0\n\
+    no 0 Line\n";
+
+// Over a reader that gives one byte a call the lines are answered as text in memory is, and each call that fails ends them.
+#[test]
+fn lines_of_a_reader(rt: HostRuntime) -> Result<(), Fail> {
+    let alloc = rt.alloc();
+    let bytes = LINES.as_bytes();
+    for calls in 0..=bytes.len() {
+        let reader = OneByOne { bytes, calls };
+        let answer = run(reader, &mut Vec::new(alloc), alloc);
+        assert_eq!(rt; answer, Err(Error::Read(ErrorKind::Interrupted)));
+    }
+    let calls = 1000;
+    let mut output = Vec::new(alloc);
+    let answer = run(OneByOne { bytes, calls }, &mut output, alloc);
+    assert_eq!(rt; answer, Ok(false));
+    assert_eq!(rt; output.as_slice(), ANSWERS.as_bytes());
     Ok(())
 }

@@ -3,11 +3,12 @@
 use amqp_reading_tests::Dripping;
 use fe2o3_amqp_types::codec::{Deserialize, Error, from_reader, from_slice_counted};
 use fe2o3_amqp_types::definitions::ErrorCondition;
+use fe2o3_amqp_types::messaging::message::Strict;
 use fe2o3_amqp_types::messaging::{
-    Accepted, AmqpValue, Batch, Body, Data, Header, Message, Received,
+    Accepted, AmqpSequence, AmqpValue, Batch, Body, Data, Header, Message, Received,
 };
 use fe2o3_amqp_types::performatives::{Attach, Disposition, End, Open, Transfer};
-use fe2o3_amqp_types::primitives::{Array, Binary, LazyValue, Value};
+use fe2o3_amqp_types::primitives::{Array, Binary, Int, LazyValue, Value};
 use fe2o3_amqp_types::sasl::{SaslMechanisms, SaslOutcome};
 use std::alloc::Global;
 use std::io::ErrorKind;
@@ -218,6 +219,25 @@ fn deep_values(rt: HostRuntime) -> Result<(), Fail> {
 const THREE_DATA: &str =
     "00537045005375a009010203040506070809005375a009010203040506070809005375a009010203040506070809005378c10100";
 
+/// Messages without a body.
+const NO_BODY: Rows<'static> = &[
+    ("", Ok(0)),
+    ("00537045", Ok(0)),
+    ("0053704500537345", Ok(0)),
+    ("0053734500537045", Ok(0)),
+    (
+        "005370450053704500537045005370450053704500537045005370c0020141ff",
+        Ok(1),
+    ),
+    (
+        "005370450053704500537045005370450053704500537045ff",
+        Err(20),
+    ),
+];
+
+/// Messages of sequences: of an empty one, and of an int and a null.
+const SEQUENCES: Rows<'static> = &[("00537645", Ok(0)), ("005376c00402540140", Ok(0))];
+
 #[test]
 fn batches(rt: HostRuntime) -> Result<(), Fail> {
     let alloc = rt.alloc();
@@ -235,22 +255,34 @@ fn batches(rt: HostRuntime) -> Result<(), Fail> {
 
 #[test]
 fn messages_of_any_body(rt: HostRuntime) -> Result<(), Fail> {
-    check::<Message<Body<Value>>>(
+    check::<Message<Body<Value>>>(NO_BODY, rt.alloc())
+}
+
+#[test]
+fn messages_of_what_may_be_absent(rt: HostRuntime) -> Result<(), Fail> {
+    let alloc = rt.alloc();
+    check::<Message<Option<String>>>(NO_BODY, alloc)?;
+    check::<Message<Value>>(NO_BODY, alloc)?;
+    check::<Message<Option<AmqpSequence<Int>>>>(SEQUENCES, alloc)?;
+    check::<Message<Option<Batch<AmqpSequence<Int>>>>>(SEQUENCES, alloc)
+}
+
+#[test]
+fn strict_messages(rt: HostRuntime) -> Result<(), Fail> {
+    let alloc = rt.alloc();
+    check::<Strict<Option<String>>>(
         &[
-            ("", Ok(0)),
-            ("00537045", Ok(0)),
             ("0053704500537345", Ok(0)),
-            ("0053734500537045", Ok(0)),
-            (
-                "005370450053704500537045005370450053704500537045005370c0020141ff",
-                Ok(1),
-            ),
-            (
-                "005370450053704500537045005370450053704500537045ff",
-                Err(20),
-            ),
+            ("0053734500537045", Err(30)),
+            ("0053704500537045", Err(30)),
+            ("00537045ff", Err(20)),
         ],
-        rt.alloc(),
+        alloc,
+    )?;
+    check::<Strict<Data>>(&[("005375a00161005375a00162", Err(30))], alloc)?;
+    check::<Strict<Batch<Data>>>(
+        &[("005375a00161005375a00162", Ok(0)), (THREE_DATA, Ok(0))],
+        alloc,
     )
 }
 
@@ -258,6 +290,7 @@ fn messages_of_any_body(rt: HostRuntime) -> Result<(), Fail> {
 fn messages(rt: HostRuntime) -> Result<(), Fail> {
     let alloc = rt.alloc();
     check::<Message<AmqpValue<Value>>>(&[("0053704500537345", Ok(0))], alloc)?;
+    check::<Message<AmqpValue<LazyValue>>>(&[("005377a108746573745f737472", Ok(0))], alloc)?;
     check::<Message<Data>>(
         &[
             ("0053704500537345", Err(19)),
