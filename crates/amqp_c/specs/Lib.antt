@@ -3,4 +3,5 @@ pub mod Outcomes
 pub mod Errors
 pub mod Room
 pub mod Terms
+pub mod Nodes
 pub mod Rewriting

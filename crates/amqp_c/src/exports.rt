@@ -3,10 +3,12 @@ ghost use Rattle.std.specs.Prelude.{◌≡◌};
 ghost use Rattle.amqp_c.specs.Limits.{greatest_given};
 ghost use Rattle.amqp_c.specs.Errors.{TellsName};
 ghost use Rattle.amqp_c.specs.Terms.{TellsLength};
+ghost use Rattle.amqp_c.specs.Nodes.{TellsNode};
 ghost use Rattle.amqp_c.specs.Rewriting.{IsNumberOf, Reads, Rewrites, Written};
 
 use crate::errors::name_of_number;
 use crate::limits::GivenLimits;
+use crate::nodes::{Node, next_node};
 use crate::outcome::{DONE, FULL, Outcome};
 use crate::rewriting::{canonical_text, value_len};
 use crate::room::put;
@@ -78,6 +80,20 @@ pub extern "C" fn amqp_c_term_len(input: &[u8], taken: &mut usize) -> Outcome
     match term_len(input) {
         Ok(len) => {
             *taken = len;
+            DONE
+        }
+        Err(error) => Outcome::of_error(error),
+    }
+}
+
+/// The node of a term that begins at the place. On entry the node is the one around it, all zeros if there is none.
+#[unsafe(no_mangle)]
+pub extern "C" fn amqp_c_next(input: &[u8], at: usize, node: &mut Node) -> Outcome
+    ensures { TellsNode input.now at node.old node.new result }
+{
+    match next_node(input, at, node) {
+        Ok(next) => {
+            *node = next;
             DONE
         }
         Err(error) => Outcome::of_error(error),

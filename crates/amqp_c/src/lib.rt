@@ -6,6 +6,7 @@
 mod errors;
 mod exports;
 mod limits;
+mod nodes;
 mod outcome;
 mod rewriting;
 mod room;
@@ -13,7 +14,9 @@ mod room;
 mod tests;
 
 pub use exports::{
-    amqp_c_canonical, amqp_c_error_name, amqp_c_greatest, amqp_c_read, amqp_c_term_len, amqp_c_type,
+    amqp_c_canonical, amqp_c_error_name, amqp_c_greatest, amqp_c_next, amqp_c_read,
+    amqp_c_term_len, amqp_c_type,
 };
 pub use limits::GivenLimits;
+pub use nodes::Node;
 pub use outcome::Outcome;

@@ -1,8 +1,10 @@
 //! Each call, once where it does what it is for and once where it is refused.
 use crate::exports::{
-    amqp_c_canonical, amqp_c_error_name, amqp_c_greatest, amqp_c_read, amqp_c_term_len, amqp_c_type,
+    amqp_c_canonical, amqp_c_error_name, amqp_c_greatest, amqp_c_next, amqp_c_read,
+    amqp_c_term_len, amqp_c_type,
 };
 use crate::limits::GivenLimits;
+use crate::nodes::Node;
 use crate::outcome::Outcome;
 use std::test::Fail;
 
@@ -120,5 +122,104 @@ fn names_of_errors(rt: HostRuntime) -> Result<(), Fail> {
     assert_eq!(rt; amqp_c_error_name(0, &mut out), 0);
     assert_eq!(rt; amqp_c_error_name(32, &mut out), 0);
     assert_eq!(rt; out, *b"Limit");
+    Ok(())
+}
+
+// What is around a whole term.
+const NONE: Node = Node {
+    kind: 0,
+    depth: 0,
+    code: 0,
+    item_code: 0,
+    count: 0,
+    start: 0,
+    end: 0,
+    next: 0,
+};
+
+// (a described list, Part 1, sections 1.2.3 and 1.3)
+#[test]
+fn nodes_of_a_described_list(_rt: HostRuntime) -> Result<(), Fail> {
+    let described = Node {
+        kind: 20,
+        count: 2,
+        start: 1,
+        end: 10,
+        next: 1,
+        ..NONE
+    };
+    check_node(&TEXT, 0, &NONE, &described)?;
+    let descriptor = Node {
+        kind: 6,
+        depth: 1,
+        code: 0x53,
+        start: 2,
+        end: 3,
+        next: 3,
+        ..NONE
+    };
+    check_node(&TEXT, 1, &described, &descriptor)?;
+    let list = Node {
+        kind: 21,
+        depth: 1,
+        code: 0xc0,
+        count: 2,
+        start: 6,
+        end: 10,
+        next: 6,
+        ..NONE
+    };
+    check_node(&TEXT, 3, &described, &list)?;
+    let number = Node {
+        kind: 5,
+        depth: 2,
+        code: 0x52,
+        start: 7,
+        end: 8,
+        next: 8,
+        ..NONE
+    };
+    check_node(&TEXT, 6, &list, &number)
+}
+
+// (an array of two described strings, Part 1, section 1.2.4)
+#[test]
+fn nodes_of_an_array(_rt: HostRuntime) -> Result<(), Fail> {
+    let bytes = [
+        0xe0, 0x09, 0x02, 0x00, 0x53, 0x01, 0xa1, 0x01, 0x61, 0x01, 0x62,
+    ];
+    let array = Node {
+        kind: 23,
+        code: 0xe0,
+        item_code: 0xa1,
+        count: 2,
+        start: 3,
+        end: 11,
+        next: 7,
+        ..NONE
+    };
+    check_node(&bytes, 0, &NONE, &array)?;
+    let item = Node {
+        kind: 18,
+        depth: 1,
+        code: 0xa1,
+        start: 10,
+        end: 11,
+        next: 11,
+        ..NONE
+    };
+    check_node(&bytes, 9, &array, &item)?;
+    let mut node = array;
+    check(amqp_c_next(&bytes, 11, &mut node), 1, 0)?;
+    check(amqp_c_next(&bytes, 12, &mut node), 1, 0)
+}
+
+// The node at the place, in the node around it.
+fn check_node(input: &[u8], at: usize, around: &Node, wanted: &Node) -> Result<(), Fail> {
+    let mut node = *around;
+    check(amqp_c_next(input, at, &mut node), 0, 0)?;
+    if node != *wanted {
+        return Err(Fail::new(format_args!("{node:?} stands for {wanted:?}")));
+    }
     Ok(())
 }
