@@ -3,6 +3,9 @@
 use amqp_reading_tests::Dripping;
 use fe2o3_amqp_types::codec::{ByteSource, Deserialize, Error, ReadSource, from_reader};
 use fe2o3_amqp_types::messaging::{Accepted, DeliveryState, Received};
+use fe2o3_amqp_types::performatives::Open;
+use fe2o3_amqp_types::primitives::{Array, Binary, LazyValue, OrderedMap, Uint, Value};
+use fe2o3_amqp_types::sasl::SaslMechanisms;
 use std::alloc::Global;
 use std::test::Fail;
 
@@ -71,16 +74,16 @@ fn any_reader_is_a_source(rt: HostRuntime) -> Result<(), Fail> {
 }
 
 // Over this input each call fails in turn, and after them the byte behind it is left.
-fn check_failures(digits: &str, alloc: Global) -> Result<(), Fail> {
+fn check_failures<T: Deserialize>(digits: &str, alloc: Global) -> Result<(), Fail> {
     let input = format!(in alloc; "{digits}ff")?;
     let calls = digits.len() / 2;
     for call in 0..calls {
-        let (number, _) = left_behind::<DeliveryState>(input.as_str(), call, alloc)?;
+        let (number, _) = left_behind::<T>(input.as_str(), call, alloc)?;
         if number != Some(22) {
             return Err(Fail::new(format_args!("{digits} at {call}")));
         }
     }
-    let (number, left) = left_behind::<DeliveryState>(input.as_str(), calls, alloc)?;
+    let (number, left) = left_behind::<T>(input.as_str(), calls, alloc)?;
     if number.is_some() || left.as_str() != "ff" {
         return Err(Fail::new(format_args!("{digits} is read otherwise")));
     }
@@ -89,13 +92,26 @@ fn check_failures(digits: &str, alloc: Global) -> Result<(), Fail> {
 
 #[test]
 fn each_call_fails_in_turn(rt: HostRuntime) -> Result<(), Fail> {
-    check_failures("00532445", rt.alloc())?;
-    check_failures("005324c00000", rt.alloc())?;
-    check_failures(
-        "00a312616d71703a61636365707465643a6c697374c00100",
-        rt.alloc(),
-    )?;
-    check_failures("005323c005025209530d", rt.alloc())
+    let alloc = rt.alloc();
+    check_failures::<DeliveryState>("00532445", alloc)?;
+    check_failures::<DeliveryState>("005324c00000", alloc)?;
+    check_failures::<DeliveryState>("00a312616d71703a61636365707465643a6c697374c00100", alloc)?;
+    check_failures::<DeliveryState>("005323c005025209530d", alloc)
+}
+
+#[test]
+fn each_call_fails_in_turn_in_any_value(rt: HostRuntime) -> Result<(), Fail> {
+    let alloc = rt.alloc();
+    check_failures::<bool>("5601", alloc)?;
+    check_failures::<Option<Uint>>("40", alloc)?;
+    check_failures::<String>("a10161", alloc)?;
+    check_failures::<Binary>("b00000000161", alloc)?;
+    check_failures::<LazyValue>("c003015207", alloc)?;
+    check_failures::<Array<Uint>>("e00402520102", alloc)?;
+    check_failures::<OrderedMap<String, Uint>>("c10602a101615201", alloc)?;
+    check_failures::<Value>("00a30161c003015207", alloc)?;
+    check_failures::<SaslMechanisms>("005340c00401a30158", alloc)?;
+    check_failures::<Open>("005310c00701a10474657374", alloc)
 }
 
 // Each input is refused by the error of this number.
