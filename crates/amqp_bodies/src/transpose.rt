@@ -9,7 +9,7 @@ ghost use Rattle.amqp_bodies.specs.BodySections.{any_body_without_limits};
 ghost use Rattle.amqp_bodies.specs.SeenReading.{seen_without_limits};
 ghost use Rattle.amqp_bodies.specs.Transposing.{optional, option_made, seen_stripped, run_stripped};
 ghost use Rattle.amqp_bodies.specs.StrippedBodies.{HasNone, AreAll, value_stripped, sequence_stripped, batch_stripped};
-ghost use Rattle.amqp_bodies.specs.StrippedBodies.{data_batch_stripped};
+ghost use Rattle.amqp_bodies.specs.StrippedBodies.{data_stripped, data_batch_stripped};
 ghost use Rattle.amqp_bodies.specs.StrippedKinds.{body_stripped};
 
 use crate::body::Body;
@@ -181,6 +181,32 @@ impl<T: DeserializeTerm> TransposeOption<TransparentVec<AmqpSequence<T>>>
         <Option<TransparentVec<AmqpSequence<Option<T>>>> as DeserializableBody>::read_group(
             decoder, alloc,
         )
+    }
+
+    ghost none_is = { λ v h. h };
+
+    ghost is_none = { λ v h. h };
+}
+
+/// Nothing is data without bytes.
+impl<To: FromBody<Body = Data>> TransposeOption<To> for Data {
+    type From = Option<To::Body>;
+
+    ghost transposed = { option_made To.made
+        (optional data_stripped (term_without_limits ⟦<Data as DeserializeTerm>⟧.term)) };
+
+    fn transpose(src: Option<Data>, alloc: Global) -> Result<Option<To>, Error> {
+        match src {
+            Some(data) if !data.0.0.is_empty() => Ok(Some(To::from_body(data, alloc)?)),
+            Some(_) | None => Ok(None),
+        }
+    }
+
+    fn read_from<R: ByteSource>(
+        decoder: &mut Decoder<R>,
+        alloc: Global,
+    ) -> Result<Option<Data>, Error> {
+        <Option<Data> as DeserializableBody>::read_group(decoder, alloc)
     }
 
     ghost none_is = { λ v h. h };
