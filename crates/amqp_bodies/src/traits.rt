@@ -102,8 +102,8 @@ pub trait FromBody: FromEmptyBody + Drop {
     ghost is_empty: { (v : Self) → made.empty v → Self.FromEmptyBody.empties.is v };
 }
 
-/// A body in which there may be nothing. Nothing is a null in an `AmqpValue`; an `AmqpSequence` that is empty; a batch without sections; a
-/// null among the items of a sequence; and no body.
+/// A body in which there may be nothing. Nothing is a null in an `AmqpValue`; an `AmqpSequence` or `Data` that is empty; a batch without
+/// sections; a null among the items of a sequence; and no body.
 pub trait TransposeOption<To: FromBody>: BodySection + Sized {
     /// As what it is read.
     type From: DeserializableBody;

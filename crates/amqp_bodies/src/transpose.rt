@@ -189,15 +189,15 @@ impl<T: DeserializeTerm> TransposeOption<TransparentVec<AmqpSequence<T>>>
 }
 
 /// Nothing is data without bytes.
-impl<To: FromBody<Body = Data>> TransposeOption<To> for Data {
-    type From = Option<To::Body>;
+impl TransposeOption<Data> for Data {
+    type From = Option<Data>;
 
-    ghost transposed = { option_made To.made
+    ghost transposed = { option_made ⟦<Data as FromBody>⟧.made
         (optional data_stripped (term_without_limits ⟦<Data as DeserializeTerm>⟧.term)) };
 
-    fn transpose(src: Option<Data>, alloc: Global) -> Result<Option<To>, Error> {
+    fn transpose(src: Option<Data>, _alloc: Global) -> Result<Option<Data>, Error> {
         match src {
-            Some(data) if !data.0.0.is_empty() => Ok(Some(To::from_body(data, alloc)?)),
+            Some(data) if !data.0.0.is_empty() => Ok(Some(data)),
             Some(_) | None => Ok(None),
         }
     }

@@ -10,8 +10,9 @@ returns g c same message copy h =
     let application_properties = c.copies_of_options_are_equal-5.ensures c.copies_are_equal-2.ensures.application_properties in
     let footers = c.copies_of_options_are_equal-6.ensures c.copies_are_equal-2.ensures.footer in
     both (headers message.header copy.header h.0)
-    $ both (delivery_annotations message.delivery_annotations copy.delivery_annotations h.1)
-    $ both (message_annotations message.message_annotations copy.message_annotations h.2)
-    $ both (properties message.properties copy.properties h.3)
-    $ both (application_properties message.application_properties copy.application_properties h.4)
-    $ both (same message.body copy.body h.5) (footers message.footer copy.footer h.6)
+    (both (delivery_annotations message.delivery_annotations copy.delivery_annotations h.1.0)
+    (both (message_annotations message.message_annotations copy.message_annotations h.1.1.0)
+    (both (properties message.properties copy.properties h.1.1.1.0)
+    (both (application_properties message.application_properties copy.application_properties h.1.1.1.1.0)
+    (both (same message.body copy.body h.1.1.1.1.1.0)
+    (footers message.footer copy.footer h.1.1.1.1.1.1))))))
