@@ -5,6 +5,7 @@ ghost use Rattle.amqp_wire.specs.declared.error.Error.TheVariants.{Memory};
 ghost use Rattle.amqp_batches.specs.Unlimited.{term_without_limits};
 ghost use Rattle.amqp_batches.specs.Batches.{sections_in};
 ghost use Rattle.amqp_batches.specs.SectionGroups.{group_without_limits};
+ghost use Rattle.amqp_bodies.specs.Bodies.{section_made};
 ghost use Rattle.amqp_bodies.specs.BodySections.{any_body_without_limits};
 ghost use Rattle.amqp_bodies.specs.SeenReading.{seen_without_limits};
 ghost use Rattle.amqp_bodies.specs.Transposing.{optional, option_made, seen_stripped, run_stripped};
@@ -13,7 +14,9 @@ ghost use Rattle.amqp_bodies.specs.StrippedBodies.{data_stripped, data_batch_str
 ghost use Rattle.amqp_bodies.specs.StrippedKinds.{body_stripped};
 
 use crate::body::Body;
-use crate::traits::{DeserializableBody, FromBody, FromEmptyBody, TransposeOption, ValueFromBody};
+use crate::traits::{
+    DeserializableBody, EmptyIsNothing, FromBody, FromEmptyBody, TransposeOption, ValueFromBody,
+};
 use amqp_batches::{Batch, TransparentVec};
 use amqp_codec::{Deserialize, DeserializeTerm};
 use amqp_decoder::Decoder;
@@ -189,25 +192,25 @@ impl<T: DeserializeTerm> TransposeOption<TransparentVec<AmqpSequence<T>>>
 }
 
 /// Nothing is data without bytes.
-impl TransposeOption<Data> for Data {
-    type From = Option<Data>;
-
-    ghost transposed = { option_made ⟦<Data as FromBody>⟧.made
+impl EmptyIsNothing for Data {
+    ghost optional = { option_made (section_made ⟦<Data as DeserializeTerm>⟧.term)
         (optional data_stripped (term_without_limits ⟦<Data as DeserializeTerm>⟧.term)) };
 
-    fn transpose(src: Option<Data>, _alloc: Global) -> Result<Option<Data>, Error> {
-        match src {
-            Some(data) if !data.0.0.is_empty() => Ok(Some(data)),
-            Some(_) | None => Ok(None),
+    fn unless_empty(self) -> Option<Data> {
+        if self.0.0.is_empty() {
+            return None;
         }
+        Some(self)
     }
 
-    fn read_from<R: ByteSource>(
+    fn read_optional<R: ByteSource>(
         decoder: &mut Decoder<R>,
         alloc: Global,
     ) -> Result<Option<Data>, Error> {
         <Option<Data> as DeserializableBody>::read_group(decoder, alloc)
     }
+
+    ghost of_none = { tt };
 
     ghost none_is = { λ v h. h };
 
@@ -242,6 +245,31 @@ impl TransposeOption<TransparentVec<Data>> for TransparentVec<Data> {
     ghost none_is = { λ v h. h };
 
     ghost is_none = { λ v h. h };
+}
+
+/// Nothing is a body that is empty.
+impl<T: EmptyIsNothing> TransposeOption<T> for T {
+    type From = Option<T>;
+
+    ghost transposed = { T.optional };
+
+    fn transpose(src: Option<T>, _alloc: Global) -> Result<Option<T>, Error> {
+        match src {
+            Some(body) => Ok(body.unless_empty()),
+            None => Ok(None),
+        }
+    }
+
+    fn read_from<R: ByteSource>(
+        decoder: &mut Decoder<R>,
+        alloc: Global,
+    ) -> Result<Option<T>, Error> {
+        T::read_optional(decoder, alloc)
+    }
+
+    ghost none_is = { T.none_is };
+
+    ghost is_none = { T.is_none };
 }
 
 /// Nothing is a null, a batch without sections, a null among the items of a sequence, and no body.
