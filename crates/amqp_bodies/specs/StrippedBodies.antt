@@ -196,6 +196,10 @@ module _ {T : Type 0} (u : TermType T) where
 abbrev datas : Reading DataSection
 datas = reading_of (section_of in_data data_naming binary_type)
 
+-- Data without bytes are nothing.
+abbrev pub data_stripped : Stripped datas datas
+data_stripped = unless_empty datas (λ d. d.0.0.items ≡ []) (λ f g h e. sym h.1 ∙ e)
+
 -- A batch without sections is nothing.
 abbrev pub data_batch_stripped : Stripped (batch_reading 0x75 datas) (batch_reading 0x75 datas)
 data_batch_stripped =

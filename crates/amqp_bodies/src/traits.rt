@@ -1,5 +1,5 @@
 //! What can be the body of a message (Part 3, section 3.2).
-ghost use Rattle.std.specs.Prelude.{◌≡◌, ◌⊎◌, ◌∷◌, [], ℕ, List, Option, None, IfOk, IfErr};
+ghost use Rattle.std.specs.Prelude.{◌≡◌, ◌⊎◌, ◌∷◌, [], ℕ, List, Option, Some, None, IfOk, IfErr};
 ghost use Rattle.amqp_bodies.specs.BodyTexts.{IsBodyText};
 ghost use Rattle.amqp_bodies.specs.NullBodies.{IsNull};
 ghost use Rattle.amqp_model.specs.Term.{null, leaf};
@@ -102,8 +102,8 @@ pub trait FromBody: FromEmptyBody + Drop {
     ghost is_empty: { (v : Self) → made.empty v → Self.FromEmptyBody.empties.is v };
 }
 
-/// A body in which there may be nothing. Nothing is a null in an `AmqpValue`; an `AmqpSequence` that is empty; a batch without sections; a
-/// null among the items of a sequence; and no body.
+/// A body in which there may be nothing. Nothing is a null in an `AmqpValue`; an `AmqpSequence` or `Data` that is empty; a batch without
+/// sections; a null among the items of a sequence; and no body.
 pub trait TransposeOption<To: FromBody>: BodySection + Sized {
     /// As what it is read.
     type From: DeserializableBody;
@@ -129,6 +129,32 @@ pub trait TransposeOption<To: FromBody>: BodySection + Sized {
     ghost none_is: { (v : Option To) → v ≡ None → transposed.empty v };
 
     ghost is_none: { (v : Option To) → transposed.empty v → v ≡ None };
+}
+
+/// A body that may be empty, and is nothing then. It isn't exported, so no other crate adds one.
+pub trait EmptyIsNothing: DeserializableBody + FromBody<Body = Self> {
+    // How it is read where it may be absent, and what is made of it, with the laws.
+    ghost optional: { Made (Option Self) (Option Self) };
+
+    /// Itself, or `None` if it is empty.
+    fn unless_empty(self) -> Option<Self>
+        ensures { optional.of_body (Some self) result };
+
+    /// Reads a group of its sections, where a section of a body comes next.
+    fn read_optional<R: ByteSource>(
+        decoder: &mut Decoder<R>,
+        alloc: Global,
+    ) -> Result<Option<Self>, Error>
+        ensures read { Tells R.remaining → AnswersRead optional.group.takes_memory optional.group.reads optional.group.fault decoder.old
+            result decoder.new }
+        ensures tries { Tries optional.group.takes_memory decoder.old result decoder.new };
+
+    // What isn't there is made of what isn't there, and takes its place.
+    ghost of_none: { optional.of_body None None };
+
+    ghost none_is: { (v : Option Self) → v ≡ None → optional.empty v };
+
+    ghost is_none: { (v : Option Self) → optional.empty v → v ≡ None };
 }
 
 /// What can be both written and read as the body of a message, so that each message has one canonical text.

@@ -5,15 +5,18 @@ ghost use Rattle.amqp_wire.specs.declared.error.Error.TheVariants.{Memory};
 ghost use Rattle.amqp_batches.specs.Unlimited.{term_without_limits};
 ghost use Rattle.amqp_batches.specs.Batches.{sections_in};
 ghost use Rattle.amqp_batches.specs.SectionGroups.{group_without_limits};
+ghost use Rattle.amqp_bodies.specs.Bodies.{section_made};
 ghost use Rattle.amqp_bodies.specs.BodySections.{any_body_without_limits};
 ghost use Rattle.amqp_bodies.specs.SeenReading.{seen_without_limits};
 ghost use Rattle.amqp_bodies.specs.Transposing.{optional, option_made, seen_stripped, run_stripped};
 ghost use Rattle.amqp_bodies.specs.StrippedBodies.{HasNone, AreAll, value_stripped, sequence_stripped, batch_stripped};
-ghost use Rattle.amqp_bodies.specs.StrippedBodies.{data_batch_stripped};
+ghost use Rattle.amqp_bodies.specs.StrippedBodies.{data_stripped, data_batch_stripped};
 ghost use Rattle.amqp_bodies.specs.StrippedKinds.{body_stripped};
 
 use crate::body::Body;
-use crate::traits::{DeserializableBody, FromBody, FromEmptyBody, TransposeOption, ValueFromBody};
+use crate::traits::{
+    DeserializableBody, EmptyIsNothing, FromBody, FromEmptyBody, TransposeOption, ValueFromBody,
+};
 use amqp_batches::{Batch, TransparentVec};
 use amqp_codec::{Deserialize, DeserializeTerm};
 use amqp_decoder::Decoder;
@@ -188,6 +191,32 @@ impl<T: DeserializeTerm> TransposeOption<TransparentVec<AmqpSequence<T>>>
     ghost is_none = { λ v h. h };
 }
 
+/// Nothing is data without bytes.
+impl EmptyIsNothing for Data {
+    ghost optional = { option_made (section_made ⟦<Data as DeserializeTerm>⟧.term)
+        (optional data_stripped (term_without_limits ⟦<Data as DeserializeTerm>⟧.term)) };
+
+    fn unless_empty(self) -> Option<Data> {
+        if self.0.0.is_empty() {
+            return None;
+        }
+        Some(self)
+    }
+
+    fn read_optional<R: ByteSource>(
+        decoder: &mut Decoder<R>,
+        alloc: Global,
+    ) -> Result<Option<Data>, Error> {
+        <Option<Data> as DeserializableBody>::read_group(decoder, alloc)
+    }
+
+    ghost of_none = { tt };
+
+    ghost none_is = { λ v h. h };
+
+    ghost is_none = { λ v h. h };
+}
+
 /// Nothing is a batch without sections.
 impl TransposeOption<TransparentVec<Data>> for TransparentVec<Data> {
     type From = Option<TransparentVec<Data>>;
@@ -216,6 +245,31 @@ impl TransposeOption<TransparentVec<Data>> for TransparentVec<Data> {
     ghost none_is = { λ v h. h };
 
     ghost is_none = { λ v h. h };
+}
+
+/// Nothing is a body that is empty.
+impl<T: EmptyIsNothing> TransposeOption<T> for T {
+    type From = Option<T>;
+
+    ghost transposed = { T.optional };
+
+    fn transpose(src: Option<T>, _alloc: Global) -> Result<Option<T>, Error> {
+        match src {
+            Some(body) => Ok(body.unless_empty()),
+            None => Ok(None),
+        }
+    }
+
+    fn read_from<R: ByteSource>(
+        decoder: &mut Decoder<R>,
+        alloc: Global,
+    ) -> Result<Option<T>, Error> {
+        T::read_optional(decoder, alloc)
+    }
+
+    ghost none_is = { T.none_is };
+
+    ghost is_none = { T.is_none };
 }
 
 /// Nothing is a null, a batch without sections, a null among the items of a sequence, and no body.

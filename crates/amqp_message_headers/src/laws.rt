@@ -1,12 +1,12 @@
 //! What holds of headers and properties beyond the laws of every type. The functions do nothing; their contracts are proved.
-ghost use Rattle.std.specs.Prelude.{◌≡◌, true, false};
+ghost use Rattle.std.specs.Prelude.{◌≡◌, true, false, IsTrue, Option};
 ghost use Rattle.std.specs.Ordering.{nat_cmp};
 ghost use Rattle.std.specs.declared.cmp.Ordering.TheVariants.{Less};
 ghost use Rattle.amqp_message_headers.specs.declared.message_id.MessageId.TheVariants as id;
 
 use crate::{Header, MESSAGE_FORMAT, MessageId, Priority, Properties};
-use amqp_codec::{Canonical, Deserialize};
-use amqp_primitives::{Binary, Uuid};
+use amqp_codec::{Canonical, Deserialize, Symbol};
+use amqp_primitives::{Binary, Timestamp, Uuid};
 
 /// A header is read without memory, so that `from_slice` returns `Memory` for none.
 pub fn reading_takes_no_memory()
@@ -45,6 +45,32 @@ pub fn identifiers_are_ordered()
     ensures uuid_before_string { (x y : _) → ⟦<MessageId as Ord>⟧.cmp (id.Uuid x) (id.String y) ≡ Less }
     ensures binary_before_string { (x y : _) → ⟦<MessageId as Ord>⟧.cmp (id.Binary x) (id.String y) ≡ Less }
 {}
+
+/// Where copies of values are equal to them, so is a copy of a value that may be absent.
+pub fn copies_of_options_are_equal<T: Clone + PartialEq>()
+    ensures { ((v w : T) → T.is_clone v w → IsTrue (T.eq v w)) → (v copy : Option T) → ⟦<Option<T> as Clone>⟧.is_clone v copy
+        → IsTrue (⟦<Option<T> as PartialEq>⟧.eq v copy) }
+{}
+
+// A copy of an identifier is equal to it.
+fn copies_of_identifiers_are_equal()
+    ensures { (v copy : _) → ⟦<MessageId as Clone>⟧.is_clone v copy → IsTrue (⟦<MessageId as PartialEq>⟧.eq v copy) }
+{}
+
+/// A copy of each of these is equal to what it was made of.
+pub fn copies_are_equal()
+    ensures header { (v copy : _) → ⟦<Header as Clone>⟧.is_clone v copy → IsTrue (⟦<Header as PartialEq>⟧.eq v copy) }
+    ensures message_id { (v copy : _) → ⟦<MessageId as Clone>⟧.is_clone v copy → IsTrue (⟦<MessageId as PartialEq>⟧.eq v copy) }
+    ensures properties { (v copy : _) → ⟦<Properties as Clone>⟧.is_clone v copy → IsTrue (⟦<Properties as PartialEq>⟧.eq v copy) }
+{
+    copies_of_identifiers_are_equal();
+    copies_of_options_are_equal::<MessageId>();
+    copies_of_options_are_equal::<Binary>();
+    copies_of_options_are_equal::<String>();
+    copies_of_options_are_equal::<Symbol>();
+    copies_of_options_are_equal::<Timestamp>();
+    copies_of_options_are_equal::<u32>();
+}
 
 /// The constants of the standard.
 pub fn constants()

@@ -1,17 +1,9 @@
-//! Tests of batches, bodies and messages: each read in any spelling and order, written, and refused.
+//! Tests of messages: each read in any order, strictly and within limits, written, and refused.
 #![tactic(auto)]
 
-#[cfg(test)]
-mod batches;
-#[cfg(test)]
-mod bodies;
 #[cfg(test)]
 mod limits;
 #[cfg(test)]
 mod message_calls;
 #[cfg(test)]
 mod messages;
-#[cfg(test)]
-mod parts;
-#[cfg(test)]
-mod plain;

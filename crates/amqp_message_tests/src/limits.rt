@@ -1,7 +1,7 @@
 //! Messages within limits of the caller: each section counts against one limit of bytes and one of values.
-use crate::parts::bytes;
 use amqp_batches::Batch;
 use amqp_bodies::FromBody;
+use amqp_body_tests::parts::bytes;
 use amqp_codec::{Deserialize, Error};
 use amqp_messages::{Message, Strict, decode_message_strict_within};
 use amqp_read_write::from_slice_within;

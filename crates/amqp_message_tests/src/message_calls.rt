@@ -1,7 +1,7 @@
 //! Messages by default, copied, through wrappers and from readers. The digits are written out by the standard's tables.
-use crate::parts::{bytes, refused};
 use amqp_batches::Batch;
 use amqp_bodies::Body;
+use amqp_body_tests::parts::{bytes, refused};
 use amqp_codec::Error;
 use amqp_messages::builder::Builder;
 use amqp_messages::wrappers::{Deserializable, Serializable};

@@ -1,7 +1,7 @@
 //! Messages in any order and in the standard's (Part 3, section 3.2). The digits are written out by the standard's tables.
-use crate::parts::{read_and_written, refused};
 use amqp_batches::Batch;
 use amqp_bodies::{Body, CanonicalBody, FromBody};
+use amqp_body_tests::parts::{read_and_written, refused};
 use amqp_codec::Error;
 use amqp_messages::{Message, Strict, canonical_text_strict, decode_message_strict};
 use amqp_read_write::from_slice_counted;

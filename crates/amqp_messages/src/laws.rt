@@ -1,5 +1,5 @@
 //! What holds of messages beyond the laws of every type. The functions do nothing; their contracts are proved.
-ghost use Rattle.std.specs.Prelude.{◌≡◌, ℕ, List};
+ghost use Rattle.std.specs.Prelude.{◌≡◌, ℕ, List, IsTrue};
 ghost use Rattle.amqp_wire.specs.declared.limits.Limits.{Limits};
 ghost use Rattle.amqp_codec.specs.Reading.{BeginsWithin, BeginsWith};
 ghost use Rattle.amqp_messages.specs.Builders.{built};
@@ -13,6 +13,7 @@ use crate::strict::Strict;
 use amqp_bodies::FromBody;
 use amqp_codec::Deserialize;
 use amqp_map_sections::{ApplicationProperties, DeliveryAnnotations, Footer, MessageAnnotations};
+use amqp_message_headers::laws::copies_of_options_are_equal;
 use amqp_message_headers::{Header, Properties};
 
 /// Within limits of the caller nothing is read as a message that isn't read without, neither in any order nor strictly.
@@ -49,3 +50,18 @@ pub fn sections_are_copied<B: Clone>()
     ensures footer { (message copy : MessageOf B) → ⟦<Message<B> as Clone>⟧.is_clone message copy
         → ⟦<Option<Footer> as Clone>⟧.is_clone message.footer copy.footer }
 {}
+
+/// Where copies of bodies are equal to them, so is a copy of a message.
+pub fn copies_are_equal<B: Clone + PartialEq>()
+    ensures { ((v w : B) → B.is_clone v w → IsTrue (B.eq v w)) → (message copy : MessageOf B)
+        → ⟦<Message<B> as Clone>⟧.is_clone message copy → IsTrue (⟦<Message<B> as PartialEq>⟧.eq message copy) }
+{
+    amqp_message_headers::laws::copies_are_equal();
+    amqp_map_sections::laws::copies_are_equal();
+    copies_of_options_are_equal::<Header>();
+    copies_of_options_are_equal::<DeliveryAnnotations>();
+    copies_of_options_are_equal::<MessageAnnotations>();
+    copies_of_options_are_equal::<Properties>();
+    copies_of_options_are_equal::<ApplicationProperties>();
+    copies_of_options_are_equal::<Footer>();
+}

@@ -110,6 +110,9 @@ fn what_may_be_absent(rt: HostRuntime) -> Result<(), Fail> {
     assert!(rt; body::<Option<Batch<AmqpSequence<i32>>>>("00537645", alloc)?.is_some());
     assert!(rt; body::<Option<AmqpSequence<i32>>>("005376c00402540140", alloc)?.is_none());
     assert!(rt; body::<Option<Batch<AmqpSequence<i32>>>>("005376c00402540140", alloc)?.is_none());
+    assert!(rt; body::<Option<Data>>("005375a000", alloc)?.is_none());
+    assert!(rt; body::<Option<Data>>("005375a00161", alloc)?.is_some());
+    assert!(rt; body::<Option<Data>>("", alloc)?.is_none());
     assert!(rt; body::<Option<Batch<Data>>>("005375a000", alloc)?.is_some());
     assert!(rt; body::<Option<AmqpValue<u32>>>("00537740", alloc)?.is_none());
     assert!(rt; body::<Option<Body<u32>>>("00537740", alloc)?.is_none());

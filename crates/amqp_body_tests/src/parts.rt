@@ -5,13 +5,13 @@ use std::alloc::Global;
 use std::test::Fail;
 
 /// The bytes with these digits.
-pub(crate) fn bytes(digits: &str, alloc: Global) -> Result<Vec<u8>, Fail> {
+pub fn bytes(digits: &str, alloc: Global) -> Result<Vec<u8>, Fail> {
     Ok(hex::decode(alloc, digits)?)
 }
 
 /// The bytes with these digits begin with a value of the type, behind which so many bytes are left, and which is written with the
 /// other digits.
-pub(crate) fn read_and_written<T: Deserialize + Serialize>(
+pub fn read_and_written<T: Deserialize + Serialize>(
     digits: &str,
     written: &str,
     left: usize,
@@ -31,11 +31,7 @@ pub(crate) fn read_and_written<T: Deserialize + Serialize>(
 }
 
 /// The bytes with these digits are refused with this error.
-pub(crate) fn refused<T: Deserialize>(
-    digits: &str,
-    error: Error,
-    alloc: Global,
-) -> Result<(), Fail> {
+pub fn refused<T: Deserialize>(digits: &str, error: Error, alloc: Global) -> Result<(), Fail> {
     let input = hex::decode(alloc, digits)?;
     let answer: Result<(T, usize), Error> = from_slice_counted(input.as_slice(), alloc);
     match answer {

@@ -1,0 +1,10 @@
+//! Tests of batches and bodies: each read in any spelling, written, and refused.
+#![tactic(auto)]
+
+#[cfg(test)]
+mod batches;
+#[cfg(test)]
+mod bodies;
+pub mod parts;
+#[cfg(test)]
+mod plain;
