@@ -4,7 +4,7 @@ use Rattle.amqp_wire.specs.declared.error.Error.{Error}
 use Rattle.amqp_wire.specs.declared.error.Error.TheVariants.{Memory}
 use Rattle.amqp_wire.specs.declared.limits.Limits.{Limits}
 use Rattle.amqp_codec.specs.Reading.{Reading, BeginsWithin, IsUnreadableWithin}
-use Rattle.amqp_lines.specs.Answers.{rewriting_of, type_name, IsText, HasNoText}
+use Rattle.amqp_lines.specs.Answers.{of_type, type_name, IsText, HasNoText}
 use Rattle.amqp_lines.specs.Rows.{number_in}
 use Rattle.amqp_lines.specs.contracts.request.TypeName.{the_type}
 use Rattle.amqp_lines.specs.declared.request.TypeName.{TypeName}
@@ -37,11 +37,11 @@ pub record IsLengthWithin {T : Type 0} (limits : Limits) (r : Reading T) (input 
 
 -- The same of the type with that name.
 abbrev pub IsLengthOf : TypeName → Limits → List ℕ → ℕ → Type 0
-IsLengthOf named limits input n = IsLengthWithin limits (rewriting_of named).reading input n
+IsLengthOf = of_type (λ T reading canons limits input n. IsLengthWithin limits reading input n)
 
 -- Within the limits the input begins with no value of the type, and has the fault.
 abbrev pub HasNoLength : TypeName → Limits → List ℕ → Error → Type 0
-HasNoLength named limits input e = IsUnreadableWithin limits (rewriting_of named).reading input e
+HasNoLength = of_type (λ T reading canons limits input e. IsUnreadableWithin limits reading input e)
 
 -- Why a call over a type fails: no type has the number, or the limits are none, or memory ran out, or the type's value has this fault.
 abbrev pub Fails : ℕ → GivenLimits → (TypeName → Limits → Error → Type 0) → Failure → Type 0

@@ -164,88 +164,78 @@ abbrev pub ReturnsText : {T : Type 0} → Reading T → (T → List Term) → Li
 ReturnsText r canons limits input (Ok (text, n)) = IsRewrittenWithin limits r canons input text n
 ReturnsText r canons limits input (Err e) = HasNoTextWithin limits r canons input e
 
--- How values of a type are read, and as which terms they are written.
-pub record Rewriting : Type 1 where
-  pub T : Type 0
-  pub reading : Reading T
-  pub canons : T → List Term
+-- What is said of how values of a type are read, and as which terms they are written: said of a type of terms.
+abbrev pub of_terms : {A : Type 1} {T : Type 0} → ((T : Type 0) → Reading T → (T → List Term) → A) → TermType T → A
+of_terms {T = T} said u = said T (reading_of u) (λ v. u.canon v ∷ [])
 
--- Of a type of terms.
-abbrev pub of_terms : {T : Type 0} → TermType T → Rewriting
-of_terms {T} u = record { T = T; reading = reading_of u; canons = λ v. u.canon v ∷ [] }
-
--- Of what is several sections, one after another.
-abbrev pub of_sections : {T : Type 0} → Reading T → (T → List Term) → Rewriting
-of_sections {T} reading canons = record { T = T; reading = reading; canons = canons }
-
--- Of the type with that name.
-abbrev pub rewriting_of : TypeName → Rewriting
-rewriting_of line_type.Accepted = of_terms (composite accepted)
-rewriting_of line_type.AmqpSequence = of_terms (section_of in_sequence sequence_naming (vec_of value_type))
-rewriting_of line_type.AmqpValue = of_terms (section_of in_value value_naming value_type)
-rewriting_of line_type.Annotations = of_terms annotations_type
-rewriting_of line_type.ApplicationProperties = of_terms (section_of in_application_properties application_properties_naming simple_map_type)
-rewriting_of line_type.Attach = of_terms (composite attach)
-rewriting_of line_type.BatchData = of_sections data_batch data_batch_writing.canons
-rewriting_of line_type.BatchSequence = of_sections sequence_batch sequence_batch_writing.canons
-rewriting_of line_type.Begin = of_terms (composite begin)
-rewriting_of line_type.Body = of_sections any_body any_body_writing.canons
-rewriting_of line_type.Boolean = of_terms boolean_type
-rewriting_of line_type.Close = of_terms (composite close)
-rewriting_of line_type.Coordinator = of_terms (composite coordinator)
-rewriting_of line_type.Data = of_terms (section_of in_data data_naming binary_type)
-rewriting_of line_type.Declare = of_terms (composite declare)
-rewriting_of line_type.Declared = of_terms (composite declared)
-rewriting_of line_type.DeleteOnClose = of_terms (composite delete_on_close)
-rewriting_of line_type.DeleteOnNoLinks = of_terms (composite delete_on_no_links)
-rewriting_of line_type.DeleteOnNoLinksOrMessages = of_terms (composite delete_on_no_links_or_messages)
-rewriting_of line_type.DeleteOnNoMessages = of_terms (composite delete_on_no_messages)
-rewriting_of line_type.DeliveryAnnotations = of_terms (section_of in_delivery_annotations delivery_annotations_naming annotations_type)
-rewriting_of line_type.DeliveryState = of_terms delivery_state
-rewriting_of line_type.Detach = of_terms (composite detach)
-rewriting_of line_type.Discharge = of_terms (composite discharge)
-rewriting_of line_type.Disposition = of_terms (composite disposition)
-rewriting_of line_type.End = of_terms (composite ending)
-rewriting_of line_type.Error = of_terms (composite error)
-rewriting_of line_type.ErrorCondition = of_terms condition_type
-rewriting_of line_type.Flow = of_terms (composite flow)
-rewriting_of line_type.Footer = of_terms (section_of in_footer footer_naming annotations_type)
-rewriting_of line_type.Header = of_terms (composite header)
-rewriting_of line_type.LifetimePolicy = of_terms lifetime_policy
-rewriting_of line_type.Message = of_sections (in_any_order of_any_body) (message_terms any_body_writing)
-rewriting_of line_type.MessageAnnotations = of_terms (section_of in_message_annotations message_annotations_naming annotations_type)
-rewriting_of line_type.MessageBatch = of_sections (in_any_order of_data_batch) (message_terms data_batch_writing)
-rewriting_of line_type.MessageData = of_sections (in_any_order of_data) (message_terms data_writing)
-rewriting_of line_type.MessageId = of_terms (kind_sum_type message_ids)
-rewriting_of line_type.MessageValue = of_sections (in_any_order of_one_value) (message_terms one_value_writing)
-rewriting_of line_type.Modified = of_terms (composite modified)
-rewriting_of line_type.Open = of_terms (composite opening)
-rewriting_of line_type.Outcome = of_terms outcome
-rewriting_of line_type.Performative = of_terms performative
-rewriting_of line_type.Properties = of_terms (composite properties)
-rewriting_of line_type.Received = of_terms (composite received)
-rewriting_of line_type.Rejected = of_terms (composite rejected)
-rewriting_of line_type.Released = of_terms (composite released)
-rewriting_of line_type.SaslChallenge = of_terms (composite sasl_challenge)
-rewriting_of line_type.SaslInit = of_terms (composite sasl_init)
-rewriting_of line_type.SaslMechanisms = of_terms (composite sasl_mechanisms)
-rewriting_of line_type.SaslOutcome = of_terms (composite sasl_outcome)
-rewriting_of line_type.SaslResponse = of_terms (composite sasl_response)
-rewriting_of line_type.SimpleValue = of_terms simple_type
-rewriting_of line_type.Source = of_terms (composite source)
-rewriting_of line_type.StrictMessage = of_sections (strictly of_any_body) (strict_terms any_body_writing)
-rewriting_of line_type.StrictMessageBatch = of_sections (strictly of_data_batch) (strict_terms data_batch_writing)
-rewriting_of line_type.StrictMessageData = of_sections (strictly of_data) (strict_terms data_writing)
-rewriting_of line_type.StrictMessageValue = of_sections (strictly of_one_value) (strict_terms one_value_writing)
-rewriting_of line_type.Target = of_terms (composite target)
-rewriting_of line_type.TargetArchetype = of_terms target_archetype
-rewriting_of line_type.TransactionalState = of_terms (composite transactional_state)
-rewriting_of line_type.Transfer = of_terms (composite transfer)
-rewriting_of line_type.Value = of_terms value_type
+-- The same, said of the type with that name.
+abbrev pub of_type : {A : Type 1} → ((T : Type 0) → Reading T → (T → List Term) → A) → TypeName → A
+of_type said line_type.Accepted = of_terms said (composite accepted)
+of_type said line_type.AmqpSequence = of_terms said (section_of in_sequence sequence_naming (vec_of value_type))
+of_type said line_type.AmqpValue = of_terms said (section_of in_value value_naming value_type)
+of_type said line_type.Annotations = of_terms said annotations_type
+of_type said line_type.ApplicationProperties = of_terms said (section_of in_application_properties application_properties_naming simple_map_type)
+of_type said line_type.Attach = of_terms said (composite attach)
+of_type said line_type.BatchData = said _ data_batch data_batch_writing.canons
+of_type said line_type.BatchSequence = said _ sequence_batch sequence_batch_writing.canons
+of_type said line_type.Begin = of_terms said (composite begin)
+of_type said line_type.Body = said _ any_body any_body_writing.canons
+of_type said line_type.Boolean = of_terms said boolean_type
+of_type said line_type.Close = of_terms said (composite close)
+of_type said line_type.Coordinator = of_terms said (composite coordinator)
+of_type said line_type.Data = of_terms said (section_of in_data data_naming binary_type)
+of_type said line_type.Declare = of_terms said (composite declare)
+of_type said line_type.Declared = of_terms said (composite declared)
+of_type said line_type.DeleteOnClose = of_terms said (composite delete_on_close)
+of_type said line_type.DeleteOnNoLinks = of_terms said (composite delete_on_no_links)
+of_type said line_type.DeleteOnNoLinksOrMessages = of_terms said (composite delete_on_no_links_or_messages)
+of_type said line_type.DeleteOnNoMessages = of_terms said (composite delete_on_no_messages)
+of_type said line_type.DeliveryAnnotations = of_terms said (section_of in_delivery_annotations delivery_annotations_naming annotations_type)
+of_type said line_type.DeliveryState = of_terms said delivery_state
+of_type said line_type.Detach = of_terms said (composite detach)
+of_type said line_type.Discharge = of_terms said (composite discharge)
+of_type said line_type.Disposition = of_terms said (composite disposition)
+of_type said line_type.End = of_terms said (composite ending)
+of_type said line_type.Error = of_terms said (composite error)
+of_type said line_type.ErrorCondition = of_terms said condition_type
+of_type said line_type.Flow = of_terms said (composite flow)
+of_type said line_type.Footer = of_terms said (section_of in_footer footer_naming annotations_type)
+of_type said line_type.Header = of_terms said (composite header)
+of_type said line_type.LifetimePolicy = of_terms said lifetime_policy
+of_type said line_type.Message = said _ (in_any_order of_any_body) (message_terms any_body_writing)
+of_type said line_type.MessageAnnotations = of_terms said (section_of in_message_annotations message_annotations_naming annotations_type)
+of_type said line_type.MessageBatch = said _ (in_any_order of_data_batch) (message_terms data_batch_writing)
+of_type said line_type.MessageData = said _ (in_any_order of_data) (message_terms data_writing)
+of_type said line_type.MessageId = of_terms said (kind_sum_type message_ids)
+of_type said line_type.MessageValue = said _ (in_any_order of_one_value) (message_terms one_value_writing)
+of_type said line_type.Modified = of_terms said (composite modified)
+of_type said line_type.Open = of_terms said (composite opening)
+of_type said line_type.Outcome = of_terms said outcome
+of_type said line_type.Performative = of_terms said performative
+of_type said line_type.Properties = of_terms said (composite properties)
+of_type said line_type.Received = of_terms said (composite received)
+of_type said line_type.Rejected = of_terms said (composite rejected)
+of_type said line_type.Released = of_terms said (composite released)
+of_type said line_type.SaslChallenge = of_terms said (composite sasl_challenge)
+of_type said line_type.SaslInit = of_terms said (composite sasl_init)
+of_type said line_type.SaslMechanisms = of_terms said (composite sasl_mechanisms)
+of_type said line_type.SaslOutcome = of_terms said (composite sasl_outcome)
+of_type said line_type.SaslResponse = of_terms said (composite sasl_response)
+of_type said line_type.SimpleValue = of_terms said simple_type
+of_type said line_type.Source = of_terms said (composite source)
+of_type said line_type.StrictMessage = said _ (strictly of_any_body) (strict_terms any_body_writing)
+of_type said line_type.StrictMessageBatch = said _ (strictly of_data_batch) (strict_terms data_batch_writing)
+of_type said line_type.StrictMessageData = said _ (strictly of_data) (strict_terms data_writing)
+of_type said line_type.StrictMessageValue = said _ (strictly of_one_value) (strict_terms one_value_writing)
+of_type said line_type.Target = of_terms said (composite target)
+of_type said line_type.TargetArchetype = of_terms said target_archetype
+of_type said line_type.TransactionalState = of_terms said (composite transactional_state)
+of_type said line_type.Transfer = of_terms said (composite transfer)
+of_type said line_type.Value = of_terms said value_type
 
 -- The same of the type with that name.
 abbrev pub ReturnsOf : TypeName → Limits → List ℕ → Result (List ℕ × ℕ) Error → Type 0
-ReturnsOf named = ReturnsText (rewriting_of named).reading (rewriting_of named).canons
+ReturnsOf = of_type (λ T reading canons. ReturnsText reading canons)
 
 abbrev pub IsText : Limits → TypeName → List ℕ → List ℕ → ℕ → Type 0
 IsText limits named input text n = ReturnsOf named limits input (Ok (text, n))
