@@ -124,7 +124,7 @@ impl Limited for Strictly {
 }
 
 // Reads the value of the text from a reader that fails after so many calls.
-fn ended<T: Limited>(
+fn read_through<T: Limited>(
     input: &[u8],
     limits: &Limits,
     calls: usize,
@@ -148,14 +148,14 @@ fn check_within<T: Limited>(
     wanted: Result<bool, Error>,
     alloc: Global,
 ) -> Result<(), Fail> {
-    let whole = ended::<T>(input, limits, 1000, text, alloc);
+    let whole = read_through::<T>(input, limits, 1000, text, alloc);
     let bytes = limits.bytes();
     let passes = T::IS_BOUNDED && whole.given as u64 > bytes;
     if whole.answer != wanted || passes {
         return Err(Fail::new(format_args!("{input:?} within {bytes} bytes")));
     }
     for call in 0..whole.calls {
-        let failed = ended::<T>(input, limits, call, text, alloc).answer;
+        let failed = read_through::<T>(input, limits, call, text, alloc).answer;
         if failed != Err(Error::Read(ErrorKind::NotFound)) {
             return Err(Fail::new(format_args!("{input:?} within {bytes} bytes at call {call}")));
         }
