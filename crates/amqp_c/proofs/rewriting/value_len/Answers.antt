@@ -1,0 +1,8 @@
+use Rattle.std.proofs.lemmas.Result.{err_from_is_err_and}
+use Rattle.amqp_c.proofs.Requests.{refused}
+use Rattle.amqp_c.proofs.rewriting.value_len.Goals as goal
+
+pub returns-in_err-request-clause-refused : goal.returns-in_err-request-clause-refused
+returns-in_err-request-clause-refused c =
+    let p = err_from_is_err_and c.from_residual.result c.from_residual.ensures.1 in
+    rw (p.1, p.2) (refused _ _ _ _ c.in_err-request.ensures.refused)
