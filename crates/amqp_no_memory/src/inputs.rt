@@ -41,6 +41,3 @@ pub(crate) const UINTS_TEXT: &[u8] = b"\xe0\x0a\x02\x70\x00\x00\x00\x01\x00\x00\
 /// An array of one accepted state, in its canonical text (Part 1, section 1.6.24; Part 3, section 3.4.2).
 pub(crate) const ACCEPTED_STATES: &[u8] =
     b"\xe0\x0d\x01\x00\x53\x24\xd0\x00\x00\x00\x04\x00\x00\x00\x00";
-
-/// A map of one pair, a uint under a string (Part 1, section 1.6.23).
-pub(crate) const NAMED_UINT: &[u8] = b"\xc1\x07\x02\xa1\x02kk\x52\x07";

@@ -1,5 +1,6 @@
 //! Lines that are answered (`amqp_lines::run`).
-use crate::calls::{Outcome, print_outcome};
+use crate::print_outcome;
+use crate::rows::Outcome;
 use amqp_lines::run;
 use fe2o3_amqp_types::codec::Error;
 use std::alloc::Global;

@@ -1,8 +1,8 @@
 //! Values that are read, measured and written.
-use crate::calls::{Outcome, check, print_outcome};
 use crate::inputs::{
     ACCEPTED_STATES, ATTACH, ATTACH_TEXT, BATCH, MESSAGE, MESSAGE_TEXT, UINTS, UINTS_TEXT,
 };
+use crate::print_outcome;
 use fe2o3_amqp_types::codec::{
     Canonical, Deserialize, Error, Serialize, append_to_vec, canonical_text, encoded_len,
     from_slice, to_vec,
@@ -11,6 +11,28 @@ use fe2o3_amqp_types::messaging::{Accepted, Batch, Data, Message};
 use fe2o3_amqp_types::performatives::Attach;
 use fe2o3_amqp_types::primitives::{Array, Uint};
 use std::alloc::Global;
+
+/// How a call went.
+#[derive(Clone, Copy, PartialEq, Eq)]
+pub(crate) enum Outcome {
+    /// It answered as it must.
+    Answered,
+    /// A growth was refused in it, and made again it answered as it must.
+    OutOfMemory,
+    /// It answered otherwise.
+    Otherwise,
+}
+
+impl Outcome {
+    /// The words for it.
+    pub(crate) fn words(self) -> &'static str {
+        match self {
+            Outcome::Answered => "answered",
+            Outcome::OutOfMemory => "out of memory",
+            Outcome::Otherwise => "answered otherwise",
+        }
+    }
+}
 
 /// A call that is made of a value.
 #[derive(Clone, Copy)]
@@ -58,9 +80,8 @@ fn check_row<T: Canonical>(
     let (value, outcome) = value_read::<T>(input, rt.alloc())?;
     let mut well = print_outcome(rt, name, "from_slice", outcome)?;
     for (call, called) in CALLS {
-        well &= check(rt, name, *called, |alloc| {
-            is_answered(*call, &value, input, text, alloc)
-        })?;
+        let outcome = outcome_of(*call, &value, input, text, rt.alloc());
+        well &= print_outcome(rt, name, *called, outcome)?;
     }
     Ok(well)
 }
@@ -70,6 +91,23 @@ fn value_read<T: Deserialize>(input: &[u8], alloc: Global) -> Result<(T, Outcome
     match from_slice::<T>(input, alloc) {
         Err(Error::Memory) => Ok((from_slice::<T>(input, alloc)?, Outcome::OutOfMemory)),
         read => Ok((read?, Outcome::Answered)),
+    }
+}
+
+// How the call goes, made again where a growth was refused.
+fn outcome_of<T: Canonical>(
+    call: Call,
+    value: &T,
+    input: &[u8],
+    text: &[u8],
+    alloc: Global,
+) -> Outcome {
+    match is_answered(call, value, input, text, alloc) {
+        Ok(true) => Outcome::Answered,
+        Err(Error::Memory) if is_answered(call, value, input, text, alloc) == Ok(true) => {
+            Outcome::OutOfMemory
+        }
+        _ => Outcome::Otherwise,
     }
 }
 

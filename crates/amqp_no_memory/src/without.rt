@@ -1,6 +1,7 @@
 //! Types that are read without memory, and how long terms are. No growth is asked for here, so none can be refused.
-use crate::calls::{Outcome, print_outcome};
 use crate::inputs::{ACCEPTED_STATES, ATTACH, UINTS};
+use crate::print_outcome;
+use crate::rows::Outcome;
 use fe2o3_amqp_types::codec::{Deserialize, from_slice, from_slice_counted, term_len};
 use fe2o3_amqp_types::definitions::{ReceiverSettleMode, Role, SenderSettleMode};
 use fe2o3_amqp_types::messaging::{
