@@ -1,6 +1,6 @@
 //! Inputs with one byte changed: whatever is read of one is read again of its canonical text, which is written again unchanged.
 use crate::inputs::{BATCH, HEADER, NO_BODY, RECEIVED, SEVEN_HEADERS, SIX_HEADERS};
-use fe2o3_amqp_types::codec::{Canonical, Deserialize, Error, from_slice_counted, to_vec};
+use fe2o3_amqp_types::codec::{Canonical, Error, from_slice_counted, to_vec};
 use fe2o3_amqp_types::messaging::{AmqpValue, Batch, Body, Data, Header, Message, Received};
 use fe2o3_amqp_types::primitives::Value;
 use std::alloc::Global;
@@ -55,52 +55,11 @@ pub(crate) fn check_all(rt: &HostRuntime) -> Result<bool, anyhow::Error> {
     well &= check_row::<Message<Batch<Data>>>(rt, "message of three data", BATCH)?;
     well &= check_row::<Message<Body<Value>>>(rt, "message of seven headers", SEVEN_HEADERS)?;
     well &= check_row::<Message<Body<Value>>>(rt, "message of six headers", SIX_HEADERS)?;
-    well &= check_read_only(rt)?;
     Ok(well)
-}
-
-// Whether none misbehaves that is read as a type that can't be written.
-fn check_read_only(rt: &HostRuntime) -> Result<bool, anyhow::Error> {
-    let mut well = check_inputs(
-        rt,
-        "message of any value",
-        NO_BODY,
-        is_ended::<Message<Value>>,
-    )?;
-    well &= check_inputs(
-        rt,
-        "message of a string that may be absent",
-        NO_BODY,
-        is_ended::<Message<Option<String>>>,
-    )?;
-    well &= check_inputs(
-        rt,
-        "the same of seven headers",
-        SEVEN_HEADERS,
-        is_ended::<Message<Option<String>>>,
-    )?;
-    well &= check_inputs(
-        rt,
-        "the same of six headers",
-        SIX_HEADERS,
-        is_ended::<Message<Option<String>>>,
-    )?;
-    Ok(well)
-}
-
-fn check_row<T: Stable>(rt: &HostRuntime, name: &str, digits: &str) -> Result<bool, anyhow::Error> {
-    check_inputs(rt, name, digits, behaves::<T>)
 }
 
 // Whether no change of one byte misbehaves. One that does is printed, and then how many there are.
-fn check_inputs<F: Fn(&[u8], Global) -> bool>(
-    rt: &HostRuntime,
-    name: &str,
-    digits: &str,
-    behaves: F,
-) -> Result<bool, anyhow::Error>
-    requires { F.IsAlwaysCallable behaves }
-{
+fn check_row<T: Stable>(rt: &HostRuntime, name: &str, digits: &str) -> Result<bool, anyhow::Error> {
     let row = hex::decode(rt.alloc(), digits)?;
     let mut ill = 0u32;
     for place in 0..row.len() {
@@ -109,7 +68,7 @@ fn check_inputs<F: Fn(&[u8], Global) -> bool>(
             if let Some(changed) = input.get_mut(place) {
                 *changed = byte;
             }
-            if !behaves(input.as_slice(), rt.alloc()) {
+            if !behaves::<T>(input.as_slice(), rt.alloc()) {
                 ill = ill.saturating_add(1);
                 println!(rt; "{name}: misbehaves with the byte {byte:02x} in place {place}")?;
             }
@@ -127,15 +86,6 @@ fn behaves<T: Stable>(input: &[u8], alloc: Global) -> bool {
         Ok((value, len)) => len <= input.len() && is_stable(value, alloc) == Ok(true),
         Err(Error::Memory | Error::Read(_)) => false,
         Err(_) => true,
-    }
-}
-
-// Whether the input is read, or refused, though not for want of memory or a failing reader.
-fn is_ended<T: Deserialize>(input: &[u8], alloc: Global) -> bool {
-    let read: Result<(T, usize), Error> = from_slice_counted(input, alloc);
-    match read {
-        Ok((_value, len)) => len <= input.len(),
-        Err(error) => !matches!(error, Error::Memory | Error::Read(_)),
     }
 }
 
