@@ -30,6 +30,10 @@ pub record Stays (st : State) (b : State) : Type 0 where
   pub sound : b.failed ≡ st.failed
   pub top : (l : Option ℕ) → st.top ≡ top_level l → (m : Option ℕ) × (b.top ≡ top_level m)
 
+-- Whether one term is read alone.
+abbrev pub apart : Bool → State → State
+apart alone st = record st { failed = record { broken = st.failed.broken; alone = alone } }
+
 -- So many of the next bytes were looked at.
 abbrev pub looking : ℕ → State → State
 looking n st = record st { ahead = n }
@@ -49,7 +53,7 @@ start_within limits input = record {
   nesting = limits.nesting;
   quota = limit_of limits.items;
   error = None;
-  failed = false;
+  failed = record { broken = false; alone = false };
 }
 
 -- The limits under which all is read that nests at most 128 deep.
@@ -107,6 +111,9 @@ pub record Reading (T : Type 0) : Type 1 where
   pub reads_elsewhere : (source : ℕ) (failed : Bool) (st : State) (v : T) (b : State) → reads st v b
       → reads (elsewhere source failed st) v (elsewhere source failed b)
   pub fault_elsewhere : (source : ℕ) (failed : Bool) (st : State) (e : Error) → fault st e → fault (elsewhere source failed st) e
+  -- a type of terms looks at nothing behind one, so it is the same where one term is read alone
+  pub reads_alone : one_term ≡ true → (alone : Bool) (st : State) (v : T) (b : State) → reads st v b → reads (apart alone st) v (apart alone b)
+  pub fault_alone : one_term ≡ true → (alone : Bool) (st : State) (e : Error) → fault st e → fault (apart alone st) e
 
 -- Within the limits, the input begins with n bytes that are read as the value.
 pub record BeginsWithin {T : Type 0} (limits : Limits) (r : Reading T) (input : List ℕ) (v : T) (n : ℕ) : Type 0 where

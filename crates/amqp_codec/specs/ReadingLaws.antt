@@ -130,7 +130,7 @@ pub term_unspelled : {T : Type 0} (u : TermType T) (limits : Limits) (input : Li
 term_unspelled u limits input e i f b more t is s room bound = by (is_by_depth e) refl
   where
     deeper : Setting
-    deeper = record { source = 0; failed = false; deepen = λ n. max n (nest t); grows = λ n. omega arith; free = true }
+    deeper = record { source = 0; failed = false; deepen = λ n. max n (nest t); grows = λ n. omega arith; free = true; lone = λ a. a }
 
     by : (d : Bool) → is_by_depth e ≡ d → ⊥
     by true d =

@@ -32,13 +32,15 @@ use Rattle.amqp_lengths.specs.Faults.{inside}
 use Rattle.amqp_lengths.proofs.RefusedBytes.{fault_refuses}
 use Rattle.amqp_lengths.proofs.DeeperFaults.{fault_deeper}
 
--- Another source, which may have failed, a bound on nesting that is no lower, and whether as many values may begin as there are.
+-- Another source, which may have failed, a bound on nesting that is no lower, whether as many values may begin as there are, and
+-- whether one term is read alone.
 pub record Setting : Type 0 where
   pub source : ℕ
   pub failed : Bool
   pub deepen : ℕ → ℕ
   pub grows : (n : ℕ) → n ≤ deepen n
   pub free : Bool
+  pub lone : Bool → Bool
 
 -- How many may begin, unless as many may as there are.
 abbrev pub freed : Bool → Option ℕ → Option ℕ
@@ -46,11 +48,11 @@ freed free None = None
 freed free (Some n) = cond free None (Some n)
 
 abbrev pub under : Setting → State → State
-under c st = record st { source = c.source; failed = c.failed; nesting = c.deepen st.nesting; quota = freed c.free st.quota }
+under c st = record st { source = c.source; nesting = c.deepen st.nesting; quota = freed c.free st.quota; failed = record { broken = c.failed; alone = c.lone st.failed.alone } }
 
 -- Another source alone.
 abbrev pub another : ℕ → Bool → Setting
-another source failed = record { source = source; failed = failed; deepen = λ n. n; grows = λ n. omega arith; free = false }
+another source failed = record { source = source; failed = failed; deepen = λ n. n; grows = λ n. omega arith; free = false; lone = λ a. a }
 
 -- that as many may begin as there are changes nothing else
 pub freed_kept : (o : Option ℕ) → freed false o ≡ o
@@ -69,7 +71,7 @@ freed_has false (Some n) k h = h
 
 -- The same before a decoder of another source, which may have failed.
 abbrev pub elsewhere : ℕ → Bool → State → State
-elsewhere source failed st = record st { source = source; failed = failed }
+elsewhere source failed st = record st { source = source; failed = record { broken = failed; alone = st.failed.alone } }
 
 -- An error by depth isn't kept by a greater bound, and one by a limit not where more values may begin.
 abbrev pub IsByDepth : Error → Type 0

@@ -22,6 +22,12 @@ pub record Open : Type 0 where
   pub sized : Bool
   pub shared : Option (List Descriptor × ℕ)
 
+-- broken: the source has failed
+-- alone: one term is read, and what stands behind it isn't looked at
+pub record Course : Type 0 where
+  pub broken : Bool
+  pub alone : Bool
+
 -- rest: the bytes to the end of the input
 -- ahead: how many of them were looked at
 -- source: the borrow that the source is
@@ -30,7 +36,7 @@ pub record Open : Type 0 where
 -- nesting: how many containers and described values may be nested, at most 128
 -- quota: how many more values may begin, where a limit of the caller says it; a described value is one with its descriptor
 -- error: what was refused
--- failed: the source has failed
+-- failed: whether the source has failed, and whether one term is read alone
 pub record State : Type 0 where
   pub rest : List ℕ
   pub ahead : ℕ
@@ -40,7 +46,7 @@ pub record State : Type 0 where
   pub nesting : ℕ
   pub quota : Option ℕ
   pub error : Option Error
-  pub failed : Bool
+  pub failed : Course
 
 -- The error for a value that nests deeper: below 128, that is a limit of the caller.
 abbrev pub depth_error : ℕ → Error

@@ -25,7 +25,7 @@ RefusesBy error st e st' = st.error ≡ None → (e ≡ error) × (st' ≡ recor
 
 -- The source has failed.
 abbrev pub SourceFailed : Error → State → Type 0
-SourceFailed e st = IsReadError e × (st.failed ≡ true)
+SourceFailed e st = IsReadError e × (st.failed.broken ≡ true)
 
 -- A growth was refused, where the call takes memory, or the source has failed.
 abbrev pub IsExcused : Bool → Error → State → Type 0
@@ -101,7 +101,7 @@ GoesOn st st' = (st'.error ≡ st.error) × (st'.failed ≡ st.failed)
 -- call takes some.
 abbrev pub Fails : Bool → State → Error → State → Type 0
 Fails takes st e st' = (st'.error ≡ Some e) × ((st'.failed ≡ st.failed) ⊎ IsReadError e) × (e ≡ Memory → takes ≡ true)
-    × (IsReadError e → st'.failed ≡ true)
+    × (IsReadError e → st'.failed.broken ≡ true)
 
 -- What a call does that is asked of a decoder that has kept no error, whatever its source tells.
 abbrev pub Goes : {A : Type 0} → Bool → State → Result A Error → State → Type 0

@@ -34,6 +34,10 @@ pub struct Strict<B>(pub Message<B>);
 impl<B: FromBody> Deserialize for Strict<B> {
     ghost reading = { reading_via (walk_reading (message_walk Written (message_of B.made))) message_in };
 
+    fn is_one_term() -> bool {
+        false
+    }
+
     fn deserialize<R: ByteSource>(
         decoder: &mut Decoder<R>,
         alloc: Global,

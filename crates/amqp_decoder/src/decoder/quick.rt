@@ -1,5 +1,5 @@
 //! The quick way to a value whose bytes are all at hand, as they are in a slice.
-ghost use Rattle.std.specs.Prelude.{◌≡◌, ◌<◌, ◌-◌, ◌∷◌, drop, true, None, IfSome, MatchOption};
+ghost use Rattle.std.specs.Prelude.{◌≡◌, ◌<◌, ◌-◌, ◌∷◌, drop, true, false, None, IfSome, MatchOption};
 ghost use Rattle.amqp_wire.specs.Sources.{Tells};
 ghost use Rattle.amqp_decoder.specs.State.{after_look};
 ghost use Rattle.amqp_decoder.specs.Reading.{ReadsCode};
@@ -11,21 +11,24 @@ use super::Decoder;
 use amqp_wire::ByteSource;
 
 impl<R: ByteSource> Decoder<R> {
-    // Nothing was refused, a value is left that shares no constructor, and one more may begin.
+    // Nothing was refused, a value is left that shares no constructor, one more may begin, and it isn't read alone.
     #[inline(always)]
     pub(super) fn is_plain(&self) -> bool
-        ensures { result ≡ true → IsPlain self.now }
+        ensures plain { result ≡ true → IsPlain self.now }
+        ensures among { result ≡ true → self.now.failed.alone ≡ false }
     {
         // In an array nothing is plain, so that comes first.
         self.shared_code().is_none()
             && self.check().is_ok()
             && !self.is_done()
             && !self.passes_items(1)
+            && !self.alone
     }
 
     // The next byte, which isn't taken, if it is at hand.
     #[inline(always)]
     pub(super) fn look_at_hand(&mut self) -> Option<u8>
+        requires { self.old.failed.alone ≡ false }
         ensures next { MatchOption result (self.new ≡ self.old)
             (λ b. (self.old.rest ≡ b ∷ drop 1 self.old.rest) × (self.new ≡ after_look 1 self.old)) }
         ensures goes { GoesOn self.old self.new }
