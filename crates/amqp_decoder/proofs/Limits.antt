@@ -8,9 +8,6 @@ use Rattle.amqp_decoder.specs.State.{Has, lower, left_in, is_sized, emptied}
 limited : (n : ℕ) → (n ≡ unlimited → ⊥) → limit_of n ≡ Some n
 limited n some = ap (λ b. cond b None (Some n)) (ne_eqb n unlimited some)
 
-pub not_unlimited : (n : ℕ) → eqb n unlimited ≡ false → n ≡ unlimited → ⊥
-not_unlimited n f e = let t = eq-eqb n unlimited e in absurd (cc)
-
 pub unlimited_is : (n : ℕ) → n ≡ unlimited → limit_of n ≡ None
 unlimited_is n e = ap limit_of e
 

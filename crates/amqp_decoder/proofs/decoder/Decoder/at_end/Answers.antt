@@ -6,4 +6,4 @@ use Rattle.amqp_decoder.proofs.decoder.Decoder.at_end.Goals as goal
 pub look_next-requires : goal.look_next-requires
 look_next-requires g c = λ told.
     let top = c.in_ok-check_top.ensures.read in
-    shows_among _ _ _ (subst (λ (st : State). st.failed.alone ≡ false) (sym top.kept) top.among)
+    shows_among g.R.ByteSource.reserve 1 c.check_top.new.self (subst (λ (st : State). st.failed.alone ≡ false) (sym top.kept) top.among)

@@ -1,7 +1,7 @@
 use Rattle.std.proofs.Common.{◌≡◌, ◌-◌, None, sym, ap, ◌∙◌, subst, arith}
 use Rattle.amqp_wire.specs.Limits.{unlimited, limit_of}
 use Rattle.amqp_decoder.specs.State.{State, Has, bound_of, left_in}
-use Rattle.amqp_decoder.proofs.Limits.{not_unlimited, unbounded, few_bytes, limit_lowered}
+use Rattle.amqp_decoder.proofs.Limits.{unbounded, few_bytes, limit_lowered}
 use Rattle.amqp_decoder.proofs.Reserve.{spared_limit}
 use Rattle.amqp_decoder.proofs.decoder.Decoder.lower_limit.Goals as goal
 
@@ -14,7 +14,7 @@ invariant_of-self g c =
     let room : Has limit c.args.count =
     subst (λ o. Has (left_in o limit) c.args.count) none
     (subst (λ (x : State). Has x.top.left c.args.count) (sym c.self.view_is) c.requires.room) in
-    let some : d.bytes ≡ unlimited → ⊥ = not_unlimited d.bytes c.if-self.false in
+    let some : d.bytes ≡ unlimited → ⊥ = c.if-self.false in
     let less = limit_lowered d.bytes c.args.count (d.bytes - c.from.result) some (omega arith) (few_bytes d.bytes c.args.count some room)
     (ap (λ n. d.bytes - n) c.from.ensures) in (
       c.self.invariant.0,
