@@ -42,7 +42,7 @@ still_fresh st b f s =
     }
 
 abbrev course : Bool → Course
-course alone = record { broken = false; alone = alone }
+course alone = record { broken = false; alone = alone; free = true }
 
 -- without limits it stands as one at the start of what is left
 restarted : (st : State) → IsFresh st → looking 0 (elsewhere 0 false (without_limits st)) ≡ start st.rest

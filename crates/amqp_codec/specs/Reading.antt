@@ -6,7 +6,7 @@ use Rattle.amqp_model.specs.Measures.{nest, nodes}
 use Rattle.amqp_wire.specs.declared.error.Error.{Error}
 use Rattle.amqp_wire.specs.declared.limits.Limits.{Limits}
 use Rattle.amqp_wire.specs.Limits.{unlimited, limit_of}
-use Rattle.amqp_decoder.specs.State.{State, Has, top_level}
+use Rattle.amqp_decoder.specs.State.{State, Has, top_level, is_free}
 use Rattle.amqp_decoder.specs.OtherSource.{elsewhere, IsByDepth}
 use Rattle.amqp_decoder.specs.Misspelled.{IsMisspelling}
 use Rattle.amqp_decoder.specs.Steps.{IsOutside}
@@ -32,7 +32,7 @@ pub record Stays (st : State) (b : State) : Type 0 where
 
 -- Whether one term is read alone.
 abbrev pub apart : Bool → State → State
-apart alone st = record st { failed = record { broken = st.failed.broken; alone = alone } }
+apart alone st = record st { failed = record st.failed { alone = alone } }
 
 -- So many of the next bytes were looked at.
 abbrev pub looking : ℕ → State → State
@@ -53,7 +53,7 @@ start_within limits input = record {
   nesting = limits.nesting;
   quota = limit_of limits.items;
   error = None;
-  failed = record { broken = false; alone = false };
+  failed = record { broken = false; alone = false; free = is_free limits.nesting limits.bytes limits.items };
 }
 
 -- The limits under which all is read that nests at most 128 deep.
@@ -68,12 +68,12 @@ IsGreatest limits = (limits.nesting ≡ 128) × (limits.bytes ≡ unlimited) × 
 abbrev pub start : List ℕ → State
 start input = start_within greatest input
 
--- No front of the input within the limit on bytes is a term; if the error is a limit's or `Depth`, none that nests no deeper and
--- has no more values than the limits say.
+-- No front of the input is a term; if the error is a limit's or `Depth`, none that has no more bytes, nests no deeper and has no more
+-- values than the limits say.
 abbrev pub IsUnspelledWithin : Limits → Error → List ℕ → Type 0
 IsUnspelledWithin limits e input =
-    (b more : List ℕ) (t : Term) → input ≡ b ++ more → enc b t → Has (limit_of limits.bytes) (length b)
-    → (IsByDepth e → (nest t ≤ limits.nesting) × Has (limit_of limits.items) (nodes t)) → ⊥
+    (b more : List ℕ) (t : Term) → input ≡ b ++ more → enc b t
+    → (IsByDepth e → Has (limit_of limits.bytes) (length b) × (nest t ≤ limits.nesting) × Has (limit_of limits.items) (nodes t)) → ⊥
 
 -- No front of the input is a term; if the error is a limit's or `Depth`, none that nests at most 128 deep.
 abbrev pub IsUnspelled : Error → List ℕ → Type 0

@@ -4,7 +4,8 @@ use Rattle.std.proofs.Common.{Result, Ok, Err, unwrap_or, refl, sym, ap, ◌∙�
 use Rattle.std.proofs.lemmas.List.{length-drop}
 use Rattle.amqp_lookahead.specs.State.{State as Input, after_bytes as after_pull, after_look as after_peek}
 use Rattle.amqp_decoder.specs.declared.frame.OpenContainer.{OpenContainer}
-use Rattle.amqp_decoder.specs.State.{DescriptorValues, Open, State, Has, lower, bound_of, bytes_left, announced, after_bytes, top_level}
+use Rattle.amqp_decoder.specs.declared.frame.Place.TheVariants.{InList}
+use Rattle.amqp_decoder.specs.State.{DescriptorValues, Open, State, Has, lower, bound_of, bytes_left, announced, after_bytes, holding}
 use Rattle.amqp_decoder.specs.State.{open_of, stack, limit_around, unused, left_in, emptied}
 use Rattle.amqp_decoder.specs.Reserve.{Owes, Spared, Spares, Shows}
 use Rattle.std.specs.Option.{option_and}
@@ -97,12 +98,12 @@ owed_least [] most h = omega arith
 owed_least (f ∷ fs) most h =
     let own = bound_least f h.0 (bound_of f) refl h.2 in let others = owed_least fs h.1 h.3 in let least = h.4 in omega (arith, own, others, least)
 
--- nothing is open any more, and no byte is left
+-- an empty list is open, and nothing around it
 abbrev pub closed : State → State
-closed st = record st { top = top_level (Some 0); saved = [] }
+closed st = record st { top = holding InList 0 0; saved = [] }
 
 spared_closed : (reserve n : ℕ) (st : State) (s : Spared reserve 0 (length st.rest) st.ahead (st.top ∷ st.saved)) → n ≤ s.most
-    → Spared reserve n (length st.rest) st.ahead (top_level (Some 0) ∷ [])
+    → Spared reserve n (length st.rest) st.ahead (holding InList 0 0 ∷ [])
 spared_closed reserve n st s less =
     let fits = s.fits in
     record { seen = s.seen; most = 0; owed = (0, 0, refl, tt, omega arith); fits = omega (arith, fits, less) }
@@ -228,6 +229,22 @@ spared_left limit d fs f l left is less s =
       fits = s.fits;
     }
 
+-- bytes are counted that will be taken
+pub spared_left_for : {reserve there ahead : ℕ} (limit : Option ℕ) (d : ℕ) (fs : List OpenContainer) (f : OpenContainer) (l n left : ℕ)
+    → f.left ≡ Some l → n ≤ l → left ≡ l - n → Spared reserve 0 there ahead (open_of [] limit f ∷ stack [] (limit_around f.left limit) d fs)
+    → Spared reserve n there ahead (open_of [] limit (record f { left = Some left }) ∷ stack [] limit d fs)
+spared_left_for limit d fs f l n left is few less s =
+    let o = s.owed in
+    let own : l ≡ o.0 = some_is l o.0 (sym (ap (λ x. left_in x limit) is) ∙ o.2) in
+    let least = o.4 in
+    let fits = s.fits in
+    record {
+      seen = s.seen;
+      most = s.most - n;
+      owed = (left, o.1, refl, subst (λ x. Owes (stack [] (limit_around x limit) d fs) o.1) is o.3, omega (arith, own, few, less, least));
+      fits = omega (arith, own, few, least, fits);
+    }
+
 lower_some : (o : Option ℕ) (n l : ℕ) → o ≡ Some l → lower o n ≡ Some (l - n)
 lower_some o n l e = ap (λ x. lower x n) e
 
@@ -253,6 +270,39 @@ spared_limit limit less d fs f n is lowered_ same s =
       );
       fits = s.fits;
     }
+
+-- the same where no size bounds them
+pub spared_limit_for : {reserve there ahead : ℕ} (limit less : Option ℕ) (d : ℕ) (fs : List OpenContainer) (f : OpenContainer) (n : ℕ)
+    → f.left ≡ None → Has limit n → less ≡ lower limit n → emptied less ≡ emptied limit
+    → Spared reserve 0 there ahead (open_of [] limit f ∷ stack [] (limit_around f.left limit) d fs)
+    → Spared reserve n there ahead (open_of [] less f ∷ stack [] (limit_around f.left less) d fs)
+spared_limit_for limit less d fs f n is room lowered_ same s =
+    let o = s.owed in
+    let own : limit ≡ Some o.0 = sym (ap (λ x. left_in x limit) is) ∙ o.2 in
+    let few : n ≤ o.0 = has_some limit o.0 n own room in
+    let around : limit_around f.left limit ≡ limit_around f.left less =
+    ap (λ x. limit_around x limit) is ∙ sym same ∙ sym (ap (λ x. limit_around x less) is) in
+    let least = o.4 in
+    let fits = s.fits in
+    record {
+      seen = s.seen;
+      most = s.most - n;
+      owed = (
+        o.0 - n,
+        o.1,
+        ap (λ x. left_in x less) is ∙ lowered_ ∙ lower_some limit n o.0 own,
+        subst (λ z. Owes (stack [] z d fs) o.1) around o.3,
+        omega (arith, few, least),
+      );
+      fits = omega (arith, few, least, fits);
+    }
+
+-- where nothing bounds them, no reserve is kept
+pub spared_unbounded : {reserve n there ahead : ℕ} {fs : List Open} (f : OpenContainer) (limit : Option ℕ) → f.left ≡ None → limit ≡ None
+    → Spared reserve n there ahead (open_of [] limit f ∷ fs) → ⊥
+spared_unbounded f limit is none s =
+    let o = s.owed in
+    let own : None ≡ Some o.0 = sym none ∙ sym (ap (λ x. left_in x limit) is) ∙ o.2 in absurd (cc)
 
 -- what the input gives is taken
 pub spared_pulled : {reserve n : ℕ} {fs : List Open} (k : ℕ) (old new : Input) → new ≡ after_pull k old → k ≤ n

@@ -1,7 +1,7 @@
 //! The state of a decoder.
 ghost use Rattle.std.specs.Prelude.{◌≡◌, ◌≤◌, [], length, drop, false, true, Some, None, MatchResult};
 ghost use Rattle.amqp_wire.specs.Sources.{known, Tells};
-ghost use Rattle.amqp_decoder.specs.State.{top_level};
+ghost use Rattle.amqp_decoder.specs.State.{top_level, is_free};
 ghost use Rattle.amqp_wire.specs.Limits.{limit_of};
 ghost use Rattle.amqp_decoder.specs.Reserve.{Leaves};
 ghost use Rattle.amqp_decoder.specs.Rooms.{HasRoom};
@@ -46,7 +46,7 @@ pub struct Decoder<R: ByteSource> {
 
 impl<R: ByteSource> Model for Decoder<R> {
     ghost use Rattle.std.specs.Prelude.{◌≡◌, ◌≤◌, ◌<◌, ◌+◌, [], ◌∷◌, true, false, length, vec_len};
-    ghost use Rattle.amqp_decoder.specs.State.{State, stack, open_of, limit_around, AreNested, IsLevel, AreBounded};
+    ghost use Rattle.amqp_decoder.specs.State.{State, stack, open_of, limit_around, is_free, AreNested, IsLevel, AreBounded};
     ghost use Rattle.amqp_wire.specs.Limits.{limit_of};
     ghost use Rattle.amqp_wire.specs.Sources.{Tells};
     ghost use Rattle.amqp_decoder.specs.Rooms.{IsRoomy};
@@ -63,7 +63,7 @@ impl<R: ByteSource> Model for Decoder<R> {
       nesting = d.nesting;
       quota = limit_of d.items;
       error = d.error;
-      failed = record { broken = d.input.failed; alone = d.alone };
+      failed = record { broken = d.input.failed; alone = d.alone; free = is_free d.nesting d.bytes d.items };
     } };
 
     ghost invariant = { λ d. (d.depth ≤ d.nesting + 1) × AreNested d.depth d.frames d.top.last × (d.top.last ≤ vec_len d.descriptors) × IsLevel d.top
@@ -120,7 +120,7 @@ pub fn decoder_of<R: ByteSource>(source: R, alloc: Global) -> Decoder<R>
       nesting = 128;
       quota = None;
       error = None;
-      failed = record { broken = R.failed source; alone = false };
+      failed = record { broken = R.failed source; alone = false; free = true };
     } }
 {
     decoder_within(source, &Limits::greatest(), alloc)
@@ -137,7 +137,11 @@ pub fn decoder_within<R: ByteSource>(source: R, limits: &Limits, alloc: Global) 
       nesting = limits.now.nesting;
       quota = limit_of limits.now.items;
       error = None;
-      failed = record { broken = R.failed source; alone = false };
+      failed = record {
+        broken = R.failed source;
+        alone = false;
+        free = is_free limits.now.nesting limits.now.bytes limits.now.items;
+      };
     } }
 {
     decoder_at_top(source, limits, false, alloc)
@@ -156,7 +160,11 @@ pub fn decoder_of_term<R: ByteSource>(source: R, limits: &Limits, alloc: Global)
       nesting = limits.now.nesting;
       quota = limit_of limits.now.items;
       error = None;
-      failed = record { broken = R.failed source; alone = true };
+      failed = record {
+        broken = R.failed source;
+        alone = true;
+        free = is_free limits.now.nesting limits.now.bytes limits.now.items;
+      };
     } }
 {
     decoder_at_top(source, limits, true, alloc)
@@ -180,7 +188,11 @@ fn decoder_at_top<R: ByteSource>(
       nesting = limits.now.nesting;
       quota = limit_of limits.now.items;
       error = None;
-      failed = record { broken = R.failed source; alone = alone };
+      failed = record {
+        broken = R.failed source;
+        alone = alone;
+        free = is_free limits.now.nesting limits.now.bytes limits.now.items;
+      };
     } }
 {
     Decoder {

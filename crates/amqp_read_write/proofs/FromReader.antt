@@ -3,9 +3,9 @@ use Rattle.std.proofs.Common.{◌≡◌, ◌⊎◌, inl, inr, ℕ, ◌-◌, Bool
 use Rattle.std.proofs.Common.{None, refl, sym, ap, ◌∙◌, arith}
 use Rattle.std.proofs.lemmas.List.{length-drop}
 use Rattle.amqp_wire.specs.declared.error.Error.{Error}
-use Rattle.amqp_wire.specs.declared.error.Error.TheVariants.{Memory}
+use Rattle.amqp_wire.specs.declared.error.Error.TheVariants.{Memory, Limit}
 use Rattle.amqp_wire.specs.declared.limits.Limits.{Limits}
-use Rattle.amqp_decoder.specs.State.{Course, State}
+use Rattle.amqp_decoder.specs.State.{Course, State, is_free}
 use Rattle.amqp_decoder.specs.OtherSource.{elsewhere}
 use Rattle.amqp_decoder.specs.Steps.{IsExcused, IsReadError, Tries}
 use Rattle.amqp_decoder.specs.Reading.{RefusesRead, AnswersRead}
@@ -97,6 +97,18 @@ pub memory : {T : Type 0} (takes : Bool) (st : State) (res : Result T Error) (b 
 memory takes st (Ok v) b going h = tt
 memory takes st (Err x) b going h = (h.1 going).2
 
+-- A limit's error comes only where the caller has set one.
+pub limited : {T : Type 0} (takes : Bool) (limits : Limits) (st : State) (res : Result T Error) (b : State) → st.error ≡ None
+    → st.failed.free ≡ is_free limits.nesting limits.bytes limits.items → Tries takes st res b
+    → IfErr res (λ e. e ≡ Limit → IsGreatest limits → ⊥)
+limited takes limits st (Ok v) b going free h = tt
+limited takes limits st (Err e) b going free h = λ is (nesting, bytes, items).
+    let f = h.1 going in
+    let kept : b.failed ≡ st.failed = elim f.1 [ inl s ↦ s | inr i ↦ absurd (subst IsReadError is i) ] in
+    let bounded : is_free limits.nesting limits.bytes limits.items ≡ false =
+    sym free ∙ ap (λ (x : Course). x.free) (sym kept) ∙ f.4 is in
+    let free : is_free limits.nesting limits.bytes limits.items ≡ true = rw (nesting, bytes, items) refl in absurd (cc)
+
 -- a source that never fails is no reason
 pub refused_whole : {T : Type 0} (limits : Limits) (r : Reading T) (input : List ℕ) (e : Error) (b : State) → b.failed.broken ≡ false
     → RefusesRead r.takes_memory r.reads r.fault (start_within limits input) e b
@@ -148,7 +160,7 @@ pub record ReadAmong {T : Type 0} (r : Reading T) (st : State) (res : Result T E
   pub broken : after.failed.broken ≡ b.failed.broken
 
 among : Course → Course
-among f = record { broken = f.broken; alone = false }
+among f = record f { alone = false }
 
 module _ {T : Type 0} (r : Reading T) (st : State) (shared : st.failed.alone ≡ false) where
   read_apart : r.one_term ≡ true → (res : Result T Error) (b : State) → AnswersRead r.takes_memory r.reads r.fault (apart true st) res b
@@ -166,7 +178,7 @@ module _ {T : Type 0} (r : Reading T) (st : State) (shared : st.failed.alone ≡
   }
     where
       whole : among st.failed ≡ st.failed
-      whole = ap (λ x. record { broken = st.failed.broken; alone = x }) (sym shared)
+      whole = ap (λ x. record st.failed { alone = x }) (sym shared)
 
   read_by : (one : Bool) → r.one_term ≡ one → (res : Result T Error) (b : State)
       → AnswersRead r.takes_memory r.reads r.fault (apart one st) res b → ReadAmong r st res b

@@ -4,12 +4,13 @@ ghost use Rattle.std.specs.Int.{bytes_high_first};
 ghost use Rattle.amqp_wire.specs.Codes.{refusal_of};
 ghost use Rattle.amqp_wire.specs.declared.error.Error.TheVariants.{Memory};
 ghost use Rattle.amqp_wire.specs.Sources.{Tells};
-ghost use Rattle.amqp_decoder.specs.State.{after_bytes, announced, bound_of, Has, lower, top_level};
+ghost use Rattle.amqp_decoder.specs.State.{after_bytes, announced, bound_of, holding, Has, lower};
+ghost use Rattle.amqp_decoder.specs.declared.frame.Place.TheVariants.{InList};
 ghost use Rattle.amqp_decoder.specs.Reserve.{Spares};
 ghost use Rattle.amqp_decoder.specs.Steps.{Answers, Pulls, Misses, Takes, FallsShort, RefusesSize, NoRoom, Stops, Fails, Goes, GoesOn};
 
 use super::Decoder;
-use crate::frame::OpenContainer;
+use crate::frame::{OpenContainer, Place};
 use amqp_wire::{ByteSource, Error, format_code};
 
 /// The most bytes of skipped content that are pulled at once.
@@ -57,6 +58,7 @@ impl<R: ByteSource> Decoder<R> {
     fn passes_limit(&self, count: u32) -> bool
         ensures past { result ≡ true → (bound_of self.now.top ≡ None) × (Has self.now.top.left count → ⊥) }
         ensures within { result ≡ false → bound_of self.now.top ≡ None → Has self.now.top.left count }
+        ensures limited { result ≡ true → self.now.failed.free ≡ false }
     {
         match self.top.left {
             Some(_) => false,
@@ -116,6 +118,28 @@ impl<R: ByteSource> Decoder<R> {
         self.input.pull_ready(buffer)
     }
 
+    // Fills the whole buffer with the next bytes of a value, of which as many are left, if they are at hand; else nothing is taken.
+    #[inline(always)]
+    pub(super) fn take_ready(&mut self, buffer: &mut [u8]) -> bool
+        requires few { length buffer.old < 256 }
+        requires room { Has self.old.top.left (length buffer.old) }
+        ensures taken { Tells R.remaining → result ≡ true → Takes self.old buffer.new self.new }
+        ensures left { result ≡ false → self.new ≡ self.old }
+        ensures quota { self.new.quota ≡ self.old.quota }
+        ensures goes { GoesOn self.old self.new }
+    {
+        if !self.input.pull_ready(buffer) {
+            return false;
+        }
+        let count = buffer.len() as u32;
+        match self.top.left {
+            Some(left) => self.top.left = Some(left.saturating_sub(count)),
+            None if self.bytes == u64::MAX => {}
+            None => self.bytes = self.bytes.saturating_sub(u64::from(count)),
+        }
+        true
+    }
+
     // The next bytes, however the source gives them.
     #[cold]
     fn pull_bytes<const N: usize>(&mut self) -> Result<[u8; N], Error>
@@ -163,15 +187,19 @@ impl<R: ByteSource> Decoder<R> {
         Ok(())
     }
 
-    // Nothing is open any more, and no byte is left.
+    // An empty list is open, and nothing around it.
     fn close_all(&mut self)
-        ensures new { self.new ≡ record self.old { top = top_level (Some 0); saved = [] } }
+        ensures new { self.new ≡ record self.old { top = holding InList 0 0; saved = [] } }
         ensures spares { Tells R.remaining → Spares R.reserve (announced self.old) self.new }
         ensures own { Tells R.remaining → (own : ℕ) → Has self.old.top.left own → Spares R.reserve own self.new }
     {
-        self.bytes = 0;
         self.depth = 0;
-        self.top = OpenContainer::TOP;
+        self.top = OpenContainer {
+            items: 0,
+            left: Some(0),
+            place: Place::InList,
+            ..OpenContainer::TOP
+        };
     }
 
     // A size is wrong: all that the outermost size announces has to be there, else the input is cut. Outside

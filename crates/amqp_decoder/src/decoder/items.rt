@@ -94,6 +94,7 @@ impl<R: ByteSource> Decoder<R> {
         ensures read { Tells R.remaining → AnswersRead false PeeksCode BeginFault self.old result self.new }
         ensures tries { Tries false self.old result self.new }
     {
+        self.spares();
         if self.is_plain()
             && !self.is_spent()
             && let Some(code) = self.look_at_hand()

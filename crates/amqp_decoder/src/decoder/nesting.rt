@@ -4,6 +4,7 @@ ghost use Rattle.amqp_wire.specs.Sources.{Tells};
 ghost use Rattle.amqp_decoder.specs.Containers.{AtEnd, EndFault};
 ghost use Rattle.amqp_decoder.specs.Described.{in_described};
 ghost use Rattle.amqp_decoder.specs.State.{Open, bound_of, depth_error, holding, IsContainer};
+ghost use Rattle.amqp_wire.specs.declared.error.Error.TheVariants.{Limit};
 ghost use Rattle.amqp_decoder.specs.declared.frame.Place.TheVariants.{InDescribed};
 ghost use Rattle.amqp_decoder.specs.Reading.{AnswersRead};
 ghost use Rattle.amqp_decoder.specs.Reserve.{Spares};
@@ -45,7 +46,8 @@ impl<R: ByteSource> Decoder<R> {
     // The error for a value that nests too deep.
     #[inline]
     pub(crate) fn depth_error(&self) -> Error
-        ensures { result ≡ depth_error self.now.nesting }
+        ensures error { result ≡ depth_error self.now.nesting }
+        ensures limited { result ≡ Limit → self.now.failed.free ≡ false }
     {
         if self.nesting < NESTING {
             Error::Limit

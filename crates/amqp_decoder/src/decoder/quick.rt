@@ -1,34 +1,33 @@
 //! The quick way to a value whose bytes are all at hand, as they are in a slice.
-ghost use Rattle.std.specs.Prelude.{◌≡◌, ◌<◌, ◌-◌, ◌∷◌, drop, true, false, None, IfSome, MatchOption};
+ghost use Rattle.std.specs.Prelude.{◌≡◌, ◌<◌, ◌-◌, ◌∷◌, drop, true, None, IfSome, MatchOption};
 ghost use Rattle.amqp_wire.specs.Sources.{Tells};
 ghost use Rattle.amqp_decoder.specs.State.{after_look};
 ghost use Rattle.amqp_decoder.specs.Reading.{ReadsCode};
 ghost use Rattle.amqp_decoder.specs.Primitives.{ReadsFixed};
 ghost use Rattle.amqp_decoder.specs.Quick.{IsPlain};
+ghost use Rattle.amqp_decoder.specs.Reserve.{Shows};
 ghost use Rattle.amqp_decoder.specs.Steps.{Began, GoesOn};
 
 use super::Decoder;
 use amqp_wire::ByteSource;
 
 impl<R: ByteSource> Decoder<R> {
-    // Nothing was refused, a value is left that shares no constructor, one more may begin, and it isn't read alone.
+    // Nothing was refused, a value is left that shares no constructor, and one more may begin.
     #[inline(always)]
     pub(super) fn is_plain(&self) -> bool
-        ensures plain { result ≡ true → IsPlain self.now }
-        ensures among { result ≡ true → self.now.failed.alone ≡ false }
+        ensures { result ≡ true → IsPlain self.now }
     {
         // In an array nothing is plain, so that comes first.
         self.shared_code().is_none()
             && self.check().is_ok()
             && !self.is_done()
             && !self.passes_items(1)
-            && !self.alone
     }
 
     // The next byte, which isn't taken, if it is at hand.
     #[inline(always)]
     pub(super) fn look_at_hand(&mut self) -> Option<u8>
-        requires { self.old.failed.alone ≡ false }
+        requires { Tells R.remaining → Shows R.reserve 1 self.old }
         ensures next { MatchOption result (self.new ≡ self.old)
             (λ b. (self.old.rest ≡ b ∷ drop 1 self.old.rest) × (self.new ≡ after_look 1 self.old)) }
         ensures goes { GoesOn self.old self.new }
@@ -55,10 +54,9 @@ impl<R: ByteSource> Decoder<R> {
             return None;
         }
         let mut code = [0];
-        if !self.pull_ready(&mut code) {
+        if !self.take_ready(&mut code) {
             return None;
         }
-        self.take_left(1);
         self.take_item();
         self.count_begun(code[0]);
         Some(code[0])
@@ -78,10 +76,9 @@ impl<R: ByteSource> Decoder<R> {
             return None;
         }
         let mut bytes = [0; N];
-        if !self.pull_ready(&mut bytes) {
+        if !self.take_ready(&mut bytes) {
             return None;
         }
-        self.take_left(N as u32);
         self.take_item();
         self.count_begun(code);
         Some(bytes)
