@@ -1,6 +1,6 @@
 -- What keeps the reserve of a source.
 use Rattle.std.proofs.Common.{◌≡◌, ◌≤◌, ◌<◌, ◌+◌, ◌-◌, ℕ, zero, suc, Bool, true, false, cond, Option, Some, None, List, [], ◌∷◌, length, drop, max, get_or, set}
-use Rattle.std.proofs.Common.{Result, Ok, Err, unwrap_or, refl, sym, ap, ◌∙◌, subst, arith}
+use Rattle.std.proofs.Common.{Result, Ok, Err, MatchOption, unwrap_or, refl, sym, ap, ◌∙◌, subst, arith}
 use Rattle.std.proofs.lemmas.List.{length-drop}
 use Rattle.amqp_lookahead.specs.State.{State as Input, after_bytes as after_pull, after_look as after_peek}
 use Rattle.amqp_decoder.specs.declared.frame.OpenContainer.{OpenContainer}
@@ -347,3 +347,9 @@ spared_looked {reserve} {fs = fs} k old new is few shows s =
     let after : Spared reserve 0 (length old.rest) (max old.ahead k) fs =
     record { seen = omega (arith, seen, few, shows); most = s.most; owed = s.owed; fits = s.fits } in
     subst (λ (i : Input). Spared reserve 0 (length i.rest) i.ahead fs) (sym is) after
+
+pub spared_next : {reserve : ℕ} {fs : List Open} (o : Option ℕ) (old new : Input)
+    → MatchOption o (new ≡ old) (λ b. (old.rest ≡ b ∷ drop 1 old.rest) × (new ≡ after_peek 1 old)) → 1 + reserve ≤ length old.rest
+    → Spared reserve 0 (length old.rest) old.ahead fs → Spared reserve 0 (length new.rest) new.ahead fs
+spared_next {reserve} {fs = fs} None old new is shows s = subst (λ (i : Input). Spared reserve 0 (length i.rest) i.ahead fs) (sym is) s
+spared_next (Some b) old new (next, is) shows s = spared_looked {n = 1} 1 old new is (omega arith) shows s

@@ -118,6 +118,12 @@ refused_whole limits r input e b sound h = elim (refused_here limits r input 0 f
   | inr x ↦ elim x [ inl (i, f) ↦ absurd (cc) | inr u ↦ inr u ]
 ]
 
+-- no limit is passed where none is set
+pub never_limited : {A : Type 0} (limits : Limits) → IsGreatest limits → (res : Result A Error)
+    → IfErr res (λ e. e ≡ Limit → IsGreatest limits → ⊥) → IfErr res (λ e. e ≡ Limit → ⊥)
+never_limited limits g (Ok v) h = tt
+never_limited limits g (Err e) h = λ is. h is g
+
 -- What is read within the greatest limits is what is read without any.
 module _ {T : Type 0} (limits : Limits) (g : IsGreatest limits) (r : Reading T) (input : List ℕ) where
   pub counted_greatest : (res : Result (T × ℕ) Error) → IfOk res (λ v. BeginsWithin limits r input v.0 v.1)

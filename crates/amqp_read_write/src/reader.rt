@@ -1,6 +1,6 @@
 //! Whole values from a reader.
 ghost use Rattle.std.specs.Prelude.{◌≡◌, ◌⊎◌, ℕ, List, [], true, false, length, drop, IfOk, IfErr, MatchResult};
-ghost use Rattle.amqp_wire.specs.declared.error.Error.TheVariants.{Memory};
+ghost use Rattle.amqp_wire.specs.declared.error.Error.TheVariants.{Memory, Limit};
 ghost use Rattle.amqp_wire.specs.Sources.{known, Tells};
 ghost use Rattle.amqp_wire.specs.Limits.{limit_of};
 ghost use Rattle.amqp_decoder.specs.State.{Has};
@@ -8,7 +8,7 @@ ghost use Rattle.amqp_decoder.specs.Reserve.{Leaves};
 ghost use Rattle.amqp_decoder.specs.OtherSource.{elsewhere};
 ghost use Rattle.amqp_read_write.specs.Reserved.{reserved, IsRestOf};
 ghost use Rattle.amqp_decoder.specs.Steps.{IsReadError};
-ghost use Rattle.amqp_codec.specs.Reading.{apart, start_within, BeginsWith, IsUnreadable, BeginsWithin, IsUnreadableWithin};
+ghost use Rattle.amqp_codec.specs.Reading.{apart, start_within, IsGreatest, BeginsWith, IsUnreadable, BeginsWithin, IsUnreadableWithin};
 
 use amqp_codec::Deserialize;
 use amqp_decoder::{Decoder, decoder_of_term, decoder_within, source_of};
@@ -31,6 +31,7 @@ pub fn from_reader<T: Deserialize, R: ByteSource>(reader: &mut R, alloc: Global)
     ensures refused { Tells R.remaining → IfErr result (λ e. ((T.reading.takes_memory ≡ true) × (e ≡ Memory))
         ⊎ ((IsReadError e × (R.failed reader.new ≡ true)) ⊎ IsUnreadable T.reading (known (R.remaining reader.old)) e)) }
     ensures memory { IfErr result (λ e. e ≡ Memory → T.reading.takes_memory ≡ true) }
+    ensures unlimited { IfErr result (λ e. e ≡ Limit → ⊥) }
     ensures failed { IfErr result (λ e. IsReadError e → R.failed reader.new ≡ true) }
     ensures failing { MatchResult result (λ _. R.failed reader.new ≡ R.failed reader.old)
         (λ e. (R.failed reader.new ≡ R.failed reader.old) ⊎ IsReadError e) }
@@ -57,6 +58,7 @@ pub fn from_reader_within<T: Deserialize, R: ByteSource>(
         ⊎ ((IsReadError e × (R.failed reader.new ≡ true))
         ⊎ IsUnreadableWithin limits.now T.reading (known (R.remaining reader.old)) e)) }
     ensures memory { IfErr result (λ e. e ≡ Memory → T.reading.takes_memory ≡ true) }
+    ensures limited { IfErr result (λ e. e ≡ Limit → IsGreatest limits.now → ⊥) }
     ensures failed { IfErr result (λ e. IsReadError e → R.failed reader.new ≡ true) }
     ensures failing { MatchResult result (λ _. R.failed reader.new ≡ R.failed reader.old)
         (λ e. (R.failed reader.new ≡ R.failed reader.old) ⊎ IsReadError e) }
@@ -170,6 +172,7 @@ fn read_named<T: Deserialize, S: ByteSource, N: Name>(
         ⊎ ((IsReadError e × (S.failed result.1 ≡ true))
         ⊎ IsUnreadableWithin limits.now T.reading (known (S.remaining source)) e)) }
     ensures memory { IfErr result.0 (λ e. e ≡ Memory → T.reading.takes_memory ≡ true) }
+    ensures limited { IfErr result.0 (λ e. e ≡ Limit → IsGreatest limits.now → ⊥) }
     ensures failed { IfErr result.0 (λ e. IsReadError e → S.failed result.1 ≡ true) }
     ensures failing { MatchResult result.0 (λ _. S.failed result.1 ≡ S.failed source)
         (λ e. (S.failed result.1 ≡ S.failed source) ⊎ IsReadError e) }

@@ -1,7 +1,7 @@
 use Rattle.std.proofs.Common.{◌≡◌, drop, refl, sym, ap₂, ◌∙◌, false}
 use Rattle.amqp_wire.specs.Sources.{known}
 use Rattle.amqp_wire.specs.Limits.{limit_of}
-use Rattle.amqp_read_write.proofs.FromReader.{found, one, behind, refused, memory, failed, failing, read_among, still_alone}
+use Rattle.amqp_read_write.proofs.FromReader.{found, one, behind, refused, memory, limited, failed, failing, read_among, still_alone}
 use Rattle.amqp_read_write.proofs.Reserved.{rest_whole, reserve_left, taken_within}
 use Rattle.amqp_read_write.proofs.reader.read_named.Goals as goal
 
@@ -35,6 +35,11 @@ pub returns-clause-memory : goal.returns-clause-memory
 returns-clause-memory g c =
     let tries = rw c.decoder_for-decoder.ensures at c.deserialize-read.ensures.tries in
     memory g.T.Deserialize.reading.takes_memory _ _ _ refl tries
+
+pub returns-clause-limited : goal.returns-clause-limited
+returns-clause-limited g c =
+    let tries = rw c.decoder_for-decoder.ensures at c.deserialize-read.ensures.tries in
+    limited g.T.Deserialize.reading.takes_memory c.args.limits.now _ _ _ refl refl tries
 
 pub returns-clause-failed : goal.returns-clause-failed
 returns-clause-failed g c =
