@@ -36,6 +36,7 @@ impl<R: ByteSource> Decoder<R> {
     pub(super) fn passes_items(&self, count: u64) -> bool
         ensures past { result ≡ true → Has self.now.quota count → ⊥ }
         ensures within { result ≡ false → Has self.now.quota count }
+        ensures limited { result ≡ true → self.now.failed.free ≡ false }
     {
         count > self.items
     }
