@@ -1,7 +1,7 @@
 -- What it is to read a value of a type: from which state of a decoder, and what state is left.
 use Rattle.std.proofs.Common.{◌≡◌, ℕ, ◌+◌, ◌≤◌, Bool, true, false, List, [], ◌++◌, length, drop, Option, None, ◌-◌, arith}
 use Rattle.amqp_model.specs.Term.{Term}
-use Rattle.amqp_model.specs.Spelling.{enc}
+use Rattle.amqp_model.specs.Spelling.{IsSpelling}
 use Rattle.amqp_model.specs.Measures.{nest, nodes}
 use Rattle.amqp_wire.specs.declared.error.Error.{Error}
 use Rattle.amqp_wire.specs.declared.limits.Limits.{Limits}
@@ -72,12 +72,12 @@ start input = start_within greatest input
 -- values than the limits say.
 abbrev pub IsUnspelledWithin : Limits → Error → List ℕ → Type 0
 IsUnspelledWithin limits e input =
-    (b more : List ℕ) (t : Term) → input ≡ b ++ more → enc b t
+    (b more : List ℕ) (t : Term) → input ≡ b ++ more → IsSpelling b t
     → (IsByDepth e → Has (limit_of limits.bytes) (length b) × (nest t ≤ limits.nesting) × Has (limit_of limits.items) (nodes t)) → ⊥
 
 -- No front of the input is a term; if the error is a limit's or `Depth`, none that nests at most 128 deep.
 abbrev pub IsUnspelled : Error → List ℕ → Type 0
-IsUnspelled e input = (b more : List ℕ) (t : Term) → input ≡ b ++ more → enc b t → (IsByDepth e → nest t ≤ 128) → ⊥
+IsUnspelled e input = (b more : List ℕ) (t : Term) → input ≡ b ++ more → IsSpelling b t → (IsByDepth e → nest t ≤ 128) → ⊥
 
 pub record Reading (T : Type 0) : Type 1 where
   -- the two differ at most in where they lie in memory
