@@ -1,4 +1,4 @@
-"""The data types of AMQP 1.0: values are read, measured and rewritten as their canonical text.
+r"""The data types of AMQP 1.0: values are read, measured and rewritten as their canonical text.
 
 Each call is one call of a shared object, `libamqp_types.so`, made of a static library that is proved; `docs/C.md` says what of it. The
 environment's `AMQP_TYPES_SO` names the file, if it is not where the system looks.
@@ -252,7 +252,7 @@ def canonical_into(of: Type, data: bytes, room: int, limits: Limits = Limits()) 
 
 
 def term_len(data: bytes) -> int:
-    """Returns how long the term is, one encoded value of any type, that the data begin with.
+    r"""Returns how long the term is, one encoded value of any type, that the data begin with.
 
     >>> term_len(b"\xa1\x02hi\x00")
     4
