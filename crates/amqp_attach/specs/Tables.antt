@@ -2,7 +2,7 @@
 use Rattle.std.specs.Prelude.{List, Option, option_map}
 use Rattle.amqp_model.specs.FieldType.{normal}
 use Rattle.amqp_enums.specs.Types.{inl, inr, codes, refl, by_norm, TermType, boolean_type, uint_type, ulong_type, string_type, symbol_type}
-use Rattle.amqp_enums.specs.Types.{boxed, option_of, composite, mandatory, optional, default, none, field, Table}
+use Rattle.amqp_enums.specs.Types.{boxed, option_of, composite, mandatory, optional, default, none, field, ◌▸◌, Table}
 use Rattle.amqp_enums.specs.Types.{Choices, no_more, member, Chosen, SumOf, sum_of}
 use Rattle.amqp_codec.specs.MapReadingLaws.{map_of}
 use Rattle.amqp_containers.specs.MultipleFields.{multiple, normal_multiple}
@@ -38,20 +38,22 @@ abbrev pub attach : Table Attach
 attach = record {
   code = 0x12;
   name = codes "amqp:attach:list";
-  fields = field (λ v. v.name) (mandatory string_type refl refl)
-      (field (λ v. v.handle) (mandatory handle_type refl refl)
-      (field (λ v. v.role) (mandatory role_type refl refl)
-      (field (λ v. v.snd_settle_mode) (default sender_settle_mode_type refl refl mixed_by_default)
-      (field (λ v. v.rcv_settle_mode) (default receiver_settle_mode_type refl refl first_by_default)
-      (field (λ v. v.source) (optional (boxed (composite source)) refl refl)
-      (field (λ v. v.target) (optional (boxed target_archetype) refl refl)
-      (field (λ v. v.unsettled) (optional unsettled_type refl refl)
-      (field (λ v. v.incomplete_unsettled) (default boolean_type refl refl false_by_default)
-      (field (λ v. v.initial_delivery_count) (optional uint_type refl refl)
-      (field (λ v. v.max_message_size) (optional ulong_type refl refl)
-      (field (λ v. v.offered_capabilities) (multiple symbol_type refl refl (λ v. tt))
-      (field (λ v. v.desired_capabilities) (multiple symbol_type refl refl (λ v. tt))
-      (field (λ v. v.properties) (optional fields_type refl refl) none)))))))))))));
+  fields =
+      field (λ v. v.name) (mandatory string_type refl refl)
+      ▸ field (λ v. v.handle) (mandatory handle_type refl refl)
+      ▸ field (λ v. v.role) (mandatory role_type refl refl)
+      ▸ field (λ v. v.snd_settle_mode) (default sender_settle_mode_type refl refl mixed_by_default)
+      ▸ field (λ v. v.rcv_settle_mode) (default receiver_settle_mode_type refl refl first_by_default)
+      ▸ field (λ v. v.source) (optional (boxed (composite source)) refl refl)
+      ▸ field (λ v. v.target) (optional (boxed target_archetype) refl refl)
+      ▸ field (λ v. v.unsettled) (optional unsettled_type refl refl)
+      ▸ field (λ v. v.incomplete_unsettled) (default boolean_type refl refl false_by_default)
+      ▸ field (λ v. v.initial_delivery_count) (optional uint_type refl refl)
+      ▸ field (λ v. v.max_message_size) (optional ulong_type refl refl)
+      ▸ field (λ v. v.offered_capabilities) (multiple symbol_type refl refl (λ v. tt))
+      ▸ field (λ v. v.desired_capabilities) (multiple symbol_type refl refl (λ v. tt))
+      ▸ field (λ v. v.properties) (optional fields_type refl refl)
+      ▸ none;
   norm = by_norm norm_attach;
   norm_is = λ v. (refl, (refl, (refl, (refl, (refl, (refl, (refl, (refl, (refl, (refl, (refl, (refl, (refl, (refl, tt))))))))))))));
   is_small = refl;

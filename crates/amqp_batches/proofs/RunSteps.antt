@@ -10,7 +10,7 @@ use Rattle.amqp_decoder.specs.Steps.{RefusesBy}
 use Rattle.amqp_decoder.specs.Reading.{RefusesRead}
 use Rattle.amqp_decoder.specs.Sections.{PeeksSection}
 use Rattle.amqp_codec.specs.Reading.{Reading}
-use Rattle.amqp_batches.specs.StateLaws.{stays_then, alike_stays, alike_rest}
+use Rattle.amqp_batches.specs.StateLaws.{still_among, stays_then, alike_stays, alike_rest}
 use Rattle.amqp_batches.specs.Walk.{IsAtTop, Walk, Walked, WalkFault}
 use Rattle.amqp_batches.specs.Runs.{run_walk}
 use Rattle.amqp_batches.proofs.WalkSteps.{SoFar, peeked_top, peeked_alike, step_made, finished, step_refused, ran_out}
@@ -31,7 +31,7 @@ module _ {T : Type 0} (c : ℕ) (r : Reading T) where
   still_top mid o here p =
       let s = alike_stays mid here (peeked_alike mid o here p) in
       let t = peeked_top mid o here p in
-      (s.error ∙ t.0, s.place ∙ t.1, s.saved ∙ t.2)
+      (s.error ∙ t.0, s.place ∙ t.1, s.saved ∙ t.2, still_among s ∙ t.3)
 
   -- one more section was read
   pub one_more : (st : State) (xs ys : List T) (v : T) (mid : State) (o : Option ℕ) (here b : State) → ys ≡ xs ++ v ∷ []

@@ -9,7 +9,7 @@ use Rattle.amqp_decoder.specs.Sections.{NotTop, PeeksSection}
 use Rattle.amqp_decoder.proofs.Steps.{answered_later, first_kept}
 use Rattle.amqp_codec.specs.Reading.{Stays, looking, AreAlike}
 use Rattle.amqp_codec.specs.RefusalLaws.{NoneStands, excused_as, no_memory, or_else}
-use Rattle.amqp_batches.specs.StateLaws.{stays_then, alike_stays, alike_rest, alike_sym, alike_trans}
+use Rattle.amqp_batches.specs.StateLaws.{still_among, stays_then, alike_stays, alike_rest, alike_sym, alike_trans}
 use Rattle.amqp_batches.specs.Walk.{IsAtTop, Walk, Steps, Walked, WalkFault, not_top, in_step, not_made}
 use Rattle.amqp_batches.specs.WalkLaws.{GoesOn, goes_on, steps_leave, steps_top, one_step_more}
 
@@ -22,7 +22,7 @@ pub record SoFar {M V : Type 0} (w : Walk M V) (st : State) (m : M) (mid : State
   pub first : number ≡ 0 → mid ≡ st
 
 pub peeked_top : (st : State) (o : Option ℕ) (b : State) → PeeksSection st o b → IsAtTop st
-peeked_top st o b h = (h.going, h.place, h.saved)
+peeked_top st o b h = (h.going, h.place, h.saved, h.among)
 
 pub peeked_alike : (st : State) (o : Option ℕ) (b : State) → PeeksSection st o b → AreAlike st b
 peeked_alike st o b h = let k = h.kept in subst (AreAlike st) (sym k.3) refl
@@ -35,7 +35,7 @@ module _ {M V : Type 0} (w : Walk M V) where
   pub began_top : (st : State) (m : M) (mid : State) → SoFar w st m mid → IsAtTop mid → IsAtTop st
   began_top st m mid h t =
       let s = so_far_stays st m mid h in
-      (sym s.error ∙ t.0, sym s.place ∙ t.1, sym s.saved ∙ t.2)
+      (sym s.error ∙ t.0, sym s.place ∙ t.1, sym s.saved ∙ t.2, sym (still_among s) ∙ t.3)
 
   pub step_made : (st : State) (m x : M) (mid here b : State) → SoFar w st m mid → AreAlike mid here → w.step here m x b
       → SoFar w st x b
@@ -114,7 +114,7 @@ module _ {M V : Type 0} (w : Walk M V) where
 
       by_fault : NotTop mid e ⊎ w.fault mid m e → WalkFault w st e
       by_fault (inl n) =
-          let s = so_far_stays st m mid h in not_top ((λ p q. n.0 (s.place ∙ p) (s.saved ∙ q)), n.1)
+          let s = so_far_stays st m mid h in not_top ((λ p q a. n.0 (s.place ∙ p) (s.saved ∙ q) (still_among s ∙ a)), n.1)
       by_fault (inr x) = in_step h.number m h.last mid h.steps h.here x
 
       by_error : (o : Option Error) → mid.error ≡ o → IsExcused w.takes_memory e new ⊎ NoneStands (Walked w) st
@@ -122,14 +122,14 @@ module _ {M V : Type 0} (w : Walk M V) where
           or_else (excused_as e new no_memory)
           (λ x v b k.
           (let s = so_far_stays st m mid h in
-          none x (i, s.place ∙ k.top.1, s.saved ∙ k.top.2) v b k)) (r.named i)
+          none x (i, s.place ∙ k.top.1, s.saved ∙ k.top.2, still_among s ∙ k.top.3) v b k)) (r.named i)
       by_error (Some d) i = inr (λ v b k. (let j = (so_far_stays st m mid h).error ∙ k.top.0 in absurd (cc)))
 
   -- at the top level only, where nothing else refuses it
   pub peek_refused : {A : Type 0} (p : State → A → State → Type 0) (st : State) (m : M) (mid : State) (e : Error) (new : State)
       → SoFar w st m mid → RefusesRead false p NotTop mid e new → Refuses st e new
   peek_refused p st m mid e new h r =
-      look_refused p NotTop st m mid e new h (λ n. inl n) (λ n t v b k. n.0 t.1 t.2) r
+      look_refused p NotTop st m mid e new h (λ n. inl n) (λ n t v b k. n.0 t.1 t.2 t.3) r
 
   -- the next step was refused
   pub step_refused : {A : Type 0} {a : Bool} (p : State → A → State → Type 0) (f : State → Error → Type 0) (st : State) (m : M)

@@ -3,7 +3,7 @@ use Rattle.std.proofs.Common.{◌≡◌, ℕ, ◌-◌, ◌≤◌, false, List, [
 use Rattle.std.proofs.Common.{length-append}
 use Rattle.std.proofs.lemmas.List.{length-drop, drop_at}
 use Rattle.amqp_wire.specs.declared.error.Error.{Error}
-use Rattle.amqp_decoder.specs.State.{State, Open, top_level}
+use Rattle.amqp_decoder.specs.State.{Course, State, Open, top_level}
 use Rattle.amqp_decoder.specs.OtherSource.{elsewhere}
 use Rattle.amqp_codec.specs.Reading.{Reading, Stays, looking, start, greatest, BeginsWith}
 use Rattle.amqp_codec.specs.ReadingLaws.{is_read}
@@ -17,16 +17,17 @@ pub record IsFresh (st : State) : Type 0 where
   pub top : st.top ≡ top_level limit
   pub saved : st.saved ≡ []
   pub nesting : st.nesting ≤ 128
+  pub among : st.failed.alone ≡ false
 
 -- One without limits.
 abbrev pub IsUnlimited : State → Type 0
 IsUnlimited st = IsFresh st × (st ≡ without_limits st)
 
 pub start_unlimited : (input : List ℕ) → IsUnlimited (start input)
-start_unlimited input = (record { error = refl; limit = None; top = refl; saved = refl; nesting = omega arith }, refl)
+start_unlimited input = (record { error = refl; limit = None; top = refl; saved = refl; nesting = omega arith; among = refl }, refl)
 
 pub fresh_top : (st : State) → IsFresh st → IsAtTop st
-fresh_top st f = (f.error, ap (λ (o : Open). o.place) f.top, f.saved)
+fresh_top st f = (f.error, ap (λ (o : Open). o.place) f.top, f.saved, f.among)
 
 pub still_fresh : (st b : State) → IsFresh st → Stays st b → IsFresh b
 still_fresh st b f s =
@@ -37,20 +38,25 @@ still_fresh st b f s =
       top = t.1;
       saved = s.saved ∙ f.saved;
       nesting = (let same = s.nesting in let bound = f.nesting in omega (arith, same, bound));
+      among = still_among s ∙ f.among;
     }
+
+abbrev course : Bool → Course
+course alone = record { broken = false; alone = alone; free = true }
 
 -- without limits it stands as one at the start of what is left
 restarted : (st : State) → IsFresh st → looking 0 (elsewhere 0 false (without_limits st)) ≡ start st.rest
 restarted st f =
-    ap (λ (x : Open). record (start st.rest) { top = record x { left = None }; saved = st.saved; error = st.error }) f.top
-    ∙ ap (λ (x : List Open). record (start st.rest) { saved = x; error = st.error }) f.saved
-    ∙ ap (λ (x : Option Error). record (start st.rest) { error = x }) f.error
+    ap (λ (x : Open). record (start st.rest) { top = record x { left = None }; saved = st.saved; error = st.error; failed = course st.failed.alone }) f.top
+    ∙ ap (λ (x : List Open). record (start st.rest) { saved = x; error = st.error; failed = course st.failed.alone }) f.saved
+    ∙ ap (λ (x : Option Error). record (start st.rest) { error = x; failed = course st.failed.alone }) f.error
+    ∙ ap (λ x. record (start st.rest) { failed = course x }) f.among
 
 -- and one at the start of these bytes as it does
-resumed : (st : State) (text : List ℕ) → IsUnlimited st → st.rest ≡ text → elsewhere st.source st.failed (looking st.ahead (start text)) ≡ st
+resumed : (st : State) (text : List ℕ) → IsUnlimited st → st.rest ≡ text → elsewhere st.source st.failed.broken (looking st.ahead (start text)) ≡ st
 resumed st text f e =
-    ap (λ t. elsewhere st.source st.failed (looking st.ahead (start t))) (sym e)
-    ∙ ap (λ (z : State). elsewhere st.source st.failed (looking st.ahead z)) (sym (restarted st f.0)) ∙ sym f.1
+    ap (λ t. elsewhere st.source st.failed.broken (looking st.ahead (start t))) (sym e)
+    ∙ ap (λ (z : State). elsewhere st.source st.failed.broken (looking st.ahead z)) (sym (restarted st f.0)) ∙ sym f.1
 
 -- The value was read from some input.
 pub record IsRead {T : Type 0} (r : Reading T) (v : T) : Type 0 where
@@ -85,8 +91,8 @@ module _ {T : Type 0} (r : Reading T) (free : IsReadWithoutLimits r) where
   read_here st v text more fresh here h =
       let begun = looking st.ahead (start (text ++ more)) in
       let q = r.looked st.ahead (start (text ++ more)) v h.after h.read in
-      let p = r.reads_elsewhere st.source st.failed begun v (looking q.0 h.after) q.1 in
-      let last : State = elsewhere st.source st.failed (looking q.0 h.after) in
+      let p = r.reads_elsewhere st.source st.failed.broken begun v (looking q.0 h.after) q.1 in
+      let last : State = elsewhere st.source st.failed.broken (looking q.0 h.after) in
       let read : r.reads st v last = subst (λ (z : State). r.reads z v last) (resumed st (text ++ more) fresh here) p in
       let t = r.taken st v last read in
       let all : t.count ≡ length text =

@@ -88,6 +88,8 @@ module _ {V : Type 0} (c : ℕ) (r : Reading V) where
     taken = λ st v b h. any_taken (r.taken st v b h.1);
     stays = λ st v b h. r.stays st v b h.1;
     misspelled = λ h. absurd (no_term h);
+    reads_alone = λ h. absurd (no_term h);
+    fault_alone = λ h. absurd (no_term h);
     looked = λ n st v b h. (let f = r.looked n st v b h.1 in (f.0, (h.0, f.1)));
     reads_elsewhere = λ source failed st v b h. (h.0, r.reads_elsewhere source failed st v b h.1);
     fault_elsewhere = run_fault_elsewhere;

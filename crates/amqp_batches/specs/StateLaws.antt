@@ -1,7 +1,7 @@
 -- How a decoder stands behind what was read, and looks aside.
 use Rattle.std.proofs.Common.{◌≡◌, ◌+◌, Bool, true, length, drop, refl, sym, ap, ◌∙◌, arith}
 use Rattle.std.proofs.lemmas.List.{length-drop, drop-drop}
-use Rattle.amqp_decoder.specs.State.{State}
+use Rattle.amqp_decoder.specs.State.{Course, State}
 use Rattle.amqp_codec.specs.Reading.{Taken, Stays, looking, AreAlike}
 
 pub stays_self : (st : State) → Stays st st
@@ -27,6 +27,10 @@ stays_then h k = record {
   sound = k.sound ∙ h.sound;
   top = λ l e. (let m = h.top l e in k.top m.0 m.1);
 }
+
+-- one term is read alone as before
+pub still_among : {st b : State} → Stays st b → b.failed.alone ≡ st.failed.alone
+still_among h = ap (λ (x : Course). x.alone) h.sound
 
 pub taken_self : (st : State) → Taken true st st
 taken_self st = record { count = 0; within = omega arith; rest = refl; ahead = λ h. absurd (cc) }

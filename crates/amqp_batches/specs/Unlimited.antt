@@ -1,5 +1,5 @@
 -- What is read within limits of the caller is read without.
-use Rattle.std.proofs.Common.{◌≡◌, ◌≤◌, ℕ, List, None, sym, ap, subst, arith}
+use Rattle.std.proofs.Common.{◌≡◌, ◌≤◌, ℕ, true, List, None, sym, ap, subst, arith}
 use Rattle.amqp_wire.specs.declared.limits.Limits.{Limits}
 use Rattle.amqp_decoder.specs.State.{State}
 use Rattle.amqp_codec.specs.TermType.{TermType}
@@ -8,7 +8,8 @@ use Rattle.amqp_codec.specs.Reading.{Reading, BeginsWithin, BeginsWith}
 
 -- The same decoder without limits.
 abbrev pub without_limits : State → State
-without_limits st = record st { top = record st.top { left = None }; nesting = 128; quota = None }
+without_limits st =
+    record st { top = record st.top { left = None }; nesting = 128; quota = None; failed = record st.failed { free = true } }
 
 -- What is read within limits is read without.
 abbrev pub IsReadWithoutLimits : {T : Type 0} → Reading T → Type 0

@@ -31,6 +31,10 @@ impl<T: BatchItem> Serialize for TransparentVec<T> {
 impl<T: BatchItem + DeserializeTerm> Deserialize for TransparentVec<T> {
     ghost reading = { batch_reading T.code (reading_of T.term) };
 
+    fn is_one_term() -> bool {
+        false
+    }
+
     fn deserialize<R: ByteSource>(
         decoder: &mut Decoder<R>,
         alloc: Global,

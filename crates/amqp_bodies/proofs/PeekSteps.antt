@@ -9,14 +9,14 @@ use Rattle.amqp_decoder.specs.Sections.{NotTop, PeeksSection}
 use Rattle.amqp_decoder.proofs.Steps.{answered_later, first_kept}
 use Rattle.amqp_codec.specs.Reading.{Reading, looking}
 use Rattle.amqp_codec.specs.RefusalLaws.{NoneStands, excused_as, no_memory, or_else}
-use Rattle.amqp_batches.specs.StateLaws.{alike_stays, alike_rest}
+use Rattle.amqp_batches.specs.StateLaws.{still_among, alike_stays, alike_rest}
 use Rattle.amqp_batches.specs.Walk.{IsAtTop}
 use Rattle.amqp_batches.proofs.WalkSteps.{peeked_alike}
 use Rattle.amqp_bodies.specs.SeenReading.{SeenReads, SeenFault, read_behind, seen_reading}
 
 pub top_here : (st : State) (o : Option ℕ) (here : State) → PeeksSection st o here → IsAtTop here
 top_here st o here p =
-    let s = alike_stays st here (peeked_alike st o here p) in (s.error ∙ p.going, s.place ∙ p.place, s.saved ∙ p.saved)
+    let s = alike_stays st here (peeked_alike st o here p) in (s.error ∙ p.going, s.place ∙ p.place, s.saved ∙ p.saved, still_among s ∙ p.among)
 
 pub ahead_here : (st : State) (o : Option ℕ) (here : State) (c : ℕ) → PeeksSection st o here → o ≡ Some c → IsSectionAhead here.rest c
 ahead_here st o here c p i =
@@ -52,7 +52,7 @@ module _ {V : Type 0} (r : Reading V) where
           or_else (excused_as e new no_memory)
           (λ n v b h.
           (let s = alike_stays st h.seen h.alike in
-          let t = top h.seen v b h.read in n.0 (sym s.place ∙ t.1) (sym s.saved ∙ t.2))) (q.named i)
+          let t = top h.seen v b h.read in n.0 (sym s.place ∙ t.1) (sym s.saved ∙ t.2) (sym (still_among s) ∙ t.3))) (q.named i)
       by_error (Some d) i = inr (λ v b h. (let g = (seen_reading r).going st v b h in absurd (cc)))
 
   -- it was refused behind the look

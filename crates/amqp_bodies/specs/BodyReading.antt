@@ -189,6 +189,8 @@ module _ {T : Type 0} (rv : Reading (AmqpValue T)) (rd : Reading (TransparentVec
     taken = body_taken;
     stays = body_stays;
     misspelled = λ h. absurd (no_term h);
+    reads_alone = λ h. absurd (no_term h);
+    fault_alone = λ h. absurd (no_term h);
     looked = body_looked;
     reads_elsewhere = body_elsewhere;
     fault_elsewhere = fault_elsewhere;

@@ -1,7 +1,7 @@
 -- Null as the value of a body, which takes the place of one that isn't there (Part 3, section 3.2.8).
 use Rattle.std.proofs.Common.{ℕ, List, [], ◌∷◌, ◌++◌, refl, arith, inr}
 use Rattle.amqp_model.specs.Term.{null, leaf, described, code}
-use Rattle.amqp_model.specs.Spelling.{enc, Names}
+use Rattle.amqp_model.specs.Spelling.{IsSpelling, Names}
 use Rattle.amqp_model.specs.Standing.{whole}
 use Rattle.amqp_model.specs.FieldType.{normal}
 use Rattle.amqp_codec.specs.TermType.{TermType}
@@ -34,8 +34,8 @@ null_bytes = 0 ∷ 0x53 ∷ 0x77 ∷ 0x40 ∷ []
 null_named : Names (code 0x77) (0x53 ∷ 0x77 ∷ [])
 null_named = null_code.names
 
-null_spelled : enc null_bytes (described (code 0x77) (leaf null))
-unfolding enc
+null_spelled : IsSpelling null_bytes (described (code 0x77) (leaf null))
+unfolding IsSpelling
 null_spelled = (
   code 0x77 ∷ [],
   0x40,

@@ -90,6 +90,8 @@ module _ {V : Type 0} (r : Reading V) where
     taken = seen_taken;
     stays = λ st v b h. stays_then (alike_stays st h.seen h.alike) (r.stays h.seen v b h.read);
     misspelled = λ h. absurd (no_term h);
+    reads_alone = λ h. absurd (no_term h);
+    fault_alone = λ h. absurd (no_term h);
     looked = λ n st v b h. (b.ahead, record { seen = h.seen; alike = h.alike; read = h.read });
     reads_elsewhere = seen_elsewhere;
     fault_elsewhere = seen_fault_elsewhere;

@@ -1,10 +1,10 @@
 -- What may be absent, where it is there: it is read as what it holds.
-use Rattle.std.proofs.Common.{◌≡◌, ℕ, ◌+◌, ◌≤◌, Bool, length, Option, Some, None}
+use Rattle.std.proofs.Common.{◌≡◌, ℕ, ◌+◌, ◌≤◌, Bool, true, length, Option, Some, None}
 use Rattle.amqp_model.specs.FieldRules.{SameOption}
 use Rattle.amqp_model.specs.OptionLaws.{option_sym, option_trans}
 use Rattle.amqp_decoder.specs.State.{State}
 use Rattle.amqp_decoder.specs.OtherSource.{elsewhere}
-use Rattle.amqp_codec.specs.Reading.{Reading, Taken, Stays, looking, AreAlike}
+use Rattle.amqp_codec.specs.Reading.{Reading, Taken, Stays, apart, looking, AreAlike}
 use Rattle.amqp_batches.specs.Unlimited.{IsReadWithoutLimits}
 
 module _ {T : Type 0} (r : Reading T) where
@@ -47,6 +47,11 @@ module _ {T : Type 0} (r : Reading T) where
   some_elsewhere source failed st None b h = absurd h
   some_elsewhere source failed st (Some v) b h = r.reads_elsewhere source failed st v b h
 
+  pub some_alone : r.one_term ≡ true → (alone : Bool) (st : State) (v : Option T) (b : State) → SomeReads st v b
+      → SomeReads (apart alone st) v (apart alone b)
+  some_alone one alone st None b h = absurd h
+  some_alone one alone st (Some v) b h = r.reads_alone one alone st v b h
+
   -- It is never read as absent.
   abbrev pub some_reading : Reading (Option T)
   some_reading = record {
@@ -66,6 +71,8 @@ module _ {T : Type 0} (r : Reading T) where
     taken = some_taken;
     stays = some_stays;
     misspelled = r.misspelled;
+    reads_alone = some_alone;
+    fault_alone = r.fault_alone;
     looked = some_looked;
     reads_elsewhere = some_elsewhere;
     fault_elsewhere = r.fault_elsewhere;

@@ -68,6 +68,10 @@ impl<T: DeserializeTerm> Deserialize for Body<T> {
     ghost reading = { seen_reading (body_reading (reading_of ⟦<AmqpValue<T> as DeserializeTerm>⟧.term)
         ⟦<Batch<Data> as Deserialize>⟧.reading ⟦<Batch<AmqpSequence<T>> as Deserialize>⟧.reading) };
 
+    fn is_one_term() -> bool {
+        false
+    }
+
     fn deserialize<R: ByteSource>(
         decoder: &mut Decoder<R>,
         alloc: Global,

@@ -1,6 +1,7 @@
 -- What calls that follow one another say of their errors, whatever the source tells.
 use Rattle.std.proofs.Common.{◌≡◌, inl, inr, ℕ, zero, suc, Bool, true, false, Some, None, Result, Ok, Err, refl, ap, ◌∙◌, sym, subst}
 use Rattle.amqp_wire.specs.declared.error.Error.{Error}
+use Rattle.amqp_wire.specs.declared.error.Error.TheVariants.{Limit}
 use Rattle.amqp_decoder.specs.State.{State}
 use Rattle.amqp_decoder.specs.Steps.{IsOutside, RefusesBy, Began, Refused, Tries, Passed}
 use Rattle.amqp_decoder.proofs.NotOutside.{read_is_outside}
@@ -40,7 +41,7 @@ passed_then a b c h k = (
 
 pub refused_more : (takes more : Bool) (a : State) (e : Error) (c : State) → (takes ≡ true → more ≡ true) → Refused takes a e c
     → Refused more a e c
-refused_more takes more a e c wide r = (r.0, λ going. (let f = r.1 going in (f.0, f.1, λ m. wide (f.2 m), f.3)))
+refused_more takes more a e c wide r = (r.0, λ going. (let f = r.1 going in (f.0, f.1, λ m. wide (f.2 m), f.3, f.4)))
 
 -- the refused call came after others
 pub refused_later : (takes more : Bool) (a b : State) (e : Error) (c : State) → (takes ≡ true → more ≡ true) → Passed a b
@@ -49,7 +50,7 @@ refused_later takes more a b e c wide passed r = (
   λ d x. (let same = passed.1 d x in let k = r.0 d (ap (λ (s : State). s.error) same ∙ x) in (k.0, k.1 ∙ same)),
   λ going. (
       let f = r.1 (passed.0.0 ∙ going) in
-      (f.0, elim f.1 [ inl s ↦ inl (s ∙ passed.0.1) | inr i ↦ inr i ], λ m. wide (f.2 m), f.3)
+      (f.0, elim f.1 [ inl s ↦ inl (s ∙ passed.0.1) | inr i ↦ inr i ], λ m. wide (f.2 m), f.3, f.4)
       ),
 )
 
@@ -67,10 +68,10 @@ pub tries_behind : {A : Type 0} (takes more : Bool) (a b : State) (r : Result A 
 tries_behind takes more a b (Ok v) c wide h k = began_then a b c h k
 tries_behind takes more a b (Err e) c wide h k = refused_behind takes more a b e c wide h k
 
--- an error that is neither want of memory nor the source's was kept behind other calls
-pub refused_by : (takes : Bool) (a b : State) (error e : Error) (c : State) → (IsOutside error → ⊥) → Began a b
+-- an error that is neither want of memory nor the source's nor a limit's was kept behind other calls
+pub refused_by : (takes : Bool) (a b : State) (error e : Error) (c : State) → (IsOutside error → ⊥) → (error ≡ Limit → ⊥) → Began a b
     → RefusesBy error b e c → Refused takes a e c
-refused_by takes a b error e c plain h r =
+refused_by takes a b error e c plain other h r =
     let k = r h.1 in
     let out = λ (o : IsOutside e). plain (subst IsOutside k.0 o) in (
       λ d x. absurd (let y = h.0 in cc),
@@ -79,5 +80,6 @@ refused_by takes a b error e c plain h r =
         inl (ap (λ (s : State). s.failed) k.1 ∙ h.2),
         λ m. absurd (out (subst IsOutside (sym m) tt)),
         λ i. absurd (out (read_is_outside e i)),
+        λ l. absurd (other (sym k.0 ∙ l)),
       ),
     )

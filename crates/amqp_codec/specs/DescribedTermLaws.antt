@@ -3,7 +3,7 @@ use Rattle.std.proofs.Common.{◌≡◌, inl, inr, ◌⊎◌, ℕ, List, [], ◌
 use Rattle.std.proofs.Common.{Option, Some, None, option_map, drop, unwrap_or}
 use Rattle.amqp_model.specs.Term.{non_ascii, too_large, Descriptor, Term, leaf, container, described, kept, barred}
 use Rattle.amqp_model.specs.Constructors.{format}
-use Rattle.amqp_model.specs.Spelling.{IsValid, Names, descriptor_value, enc}
+use Rattle.amqp_model.specs.Spelling.{IsValid, Names, descriptor_value, IsSpelling}
 use Rattle.amqp_model.specs.Standing.{Standing, whole, part, Parts}
 use Rattle.amqp_model.specs.Text.{Alone, text, form, shortest, spell}
 use Rattle.amqp_model.specs.Ranges.{IsInRange}
@@ -16,9 +16,9 @@ use Rattle.amqp_codec.specs.TermType.{Spells, StandsCanonically, IsUnrefused, Is
 use Rattle.amqp_codec.specs.PrimitiveTermLaws.{data_valid}
 
 -- what is described stands behind the descriptor
-pub described_split : (b : List ℕ) (d : Descriptor) (t : Term) → enc b (described d t)
-    → (first second : List ℕ) × (b ≡ 0 ∷ (first ++ second)) × Names d first × enc second t
-unfolding enc
+pub described_split : (b : List ℕ) (d : Descriptor) (t : Term) → IsSpelling b (described d t)
+    → (first second : List ℕ) × (b ≡ 0 ∷ (first ++ second)) × Names d first × IsSpelling second t
+unfolding IsSpelling
 described_split b d t ([], c, few, (h, x, e, k, s)) = absurd s
 described_split b d t (f ∷ ds, c, few, (h, x, e, (first, second, e', named, k), s)) = (
   first,

@@ -1,7 +1,7 @@
 -- Types whose values are their terms: a term means a value if it is its canonical one, and the value is one that is meant.
 use Rattle.std.proofs.Common.{◌≡◌, ℕ, ◌≤◌, Bool, true, false, refl, sym, ap, ◌∙◌, subst, arith}
 use Rattle.amqp_model.specs.Term.{Term}
-use Rattle.amqp_model.specs.Spelling.{enc}
+use Rattle.amqp_model.specs.Spelling.{IsSpelling}
 use Rattle.amqp_model.specs.Standing.{Standing}
 use Rattle.amqp_model.specs.Text.{form}
 use Rattle.amqp_model.specs.Measures.{nest, nodes}
@@ -73,5 +73,5 @@ module _ {V : Type 0} {is_value is_meant : V → Type 0} {canon : V → Term} {s
     formed = λ s z t u v w m n e. ap form (sym m.0) ∙ e ∙ ap form n.0;
     never_null = laws.not_null;
     standing_ignored = λ _. exact_ignores;
-    least = λ _ b t v m bytes none e. text_is_least b (canon v) none bytes (subst (enc b) m.0 e);
+    least = λ _ b t v m bytes none e. text_is_least b (canon v) none bytes (subst (IsSpelling b) m.0 e);
   }

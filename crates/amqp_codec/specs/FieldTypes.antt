@@ -1,7 +1,7 @@
 -- Types of fields: no null means a value, and they don't look at how a term stands.
 use Rattle.std.proofs.Common.{◌≡◌, ℕ, ◌≤◌, Bool, true, false, List, [], sym, ◌∙◌}
 use Rattle.amqp_model.specs.Term.{Term}
-use Rattle.amqp_model.specs.Spelling.{enc}
+use Rattle.amqp_model.specs.Spelling.{IsSpelling}
 use Rattle.amqp_model.specs.Standing.{Standing, whole}
 use Rattle.amqp_model.specs.Measures.{nest, nodes}
 use Rattle.amqp_model.specs.Ranges.{Everywhere, IsValue}
@@ -18,7 +18,7 @@ anywhere = whole []
 -- The term t means a value whose canonical term is c, and in which so many values are; in a missing item are none.
 pub record FieldMeant (t c : Term) (count : ℕ) : Type 0 where
   pub missing : is_null t ≡ true → count ≡ 0
-  pub writable : (b : List ℕ) → enc b t → IsRefusedForSize c
+  pub writable : (b : List ℕ) → IsSpelling b t → IsRefusedForSize c
   pub nested : nest c ≤ nest t
   pub counted : count ≤ nodes t
 

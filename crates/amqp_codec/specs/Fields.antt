@@ -11,6 +11,12 @@ pub data Fields (V : Type 0) : Type 1 where
   none : Fields V
   field : {T : Type 0} → (V → T) → Field T → Fields V → Fields V
 
+infixr 5 ◌▸◌
+
+-- this field, and then those
+abbrev pub ◌▸◌ : {V : Type 0} → (Fields V → Fields V) → Fields V → Fields V
+f ▸ fs = f fs
+
 -- as the model's table
 abbrev pub slots : {V : Type 0} → Fields V → table.Fields V
 slots none = table.none

@@ -4,7 +4,7 @@ use Rattle.std.proofs.Common.{ap, ◌∙◌, subst, arith, max, suc}
 use Rattle.std.specs.Cmp.{first_so, second_so}
 use Rattle.amqp_model.specs.Term.{Refusal, too_large, null, Term, Terms, leaf, count}
 use Rattle.amqp_model.specs.Term as term
-use Rattle.amqp_model.specs.Spelling.{enc, items_of as ItemsStand}
+use Rattle.amqp_model.specs.Spelling.{IsSpelling, AreItemsOf as ItemsStand}
 use Rattle.amqp_model.specs.Text.{Alone, text, texts}
 use Rattle.amqp_model.specs.Measures.{nest, nests, all_nodes}
 use Rattle.amqp_model.specs.Ranges.{EverywhereIn, IsValue, IsNoArray, IsBytes}
@@ -67,8 +67,8 @@ items_counted (field get f fs) term.none v h =
     omega (arith, (f.laws.meant (leaf null) (get v) h.0).missing refl, items_counted fs term.none v h.1)
 items_counted (field get f fs) (term.more t ts) v h = omega (arith, (f.laws.meant t (get v) h.0).counted, items_counted fs ts v h.1)
 
-pub null_spelled : enc (0x40 ∷ []) (leaf null)
-unfolding enc
+pub null_spelled : IsSpelling (0x40 ∷ []) (leaf null)
+unfolding IsSpelling
 null_spelled = ([], 0x40, omega arith, (0x40 ∷ [], [], refl, (refl, tt), (refl, refl, tt)))
 
 abbrev OnlyLarge : Terms → Type 0
@@ -79,7 +79,7 @@ one_more t us h k r i = elim i [ inl j ↦ h r j | inr j ↦ k r j ]
 
 pub items_writable : {V : Type 0} (fs : Fields V) (ts : Terms) (b : List ℕ) (v : V) → ItemsStand ts b → Fits (slots fs) (items_of ts) v
     → (r : Refusal) → SomewhereIn (IsRefused r) (items fs v) → r ≡ too_large
-unfolding Fits canonical_items enc
+unfolding Fits canonical_items IsSpelling
 items_writable none ts b v s h = λ r i. absurd i
 items_writable (field get f fs) term.none b v s h =
     before_each OnlyLarge (f.slot.meaning.canon (get v)) (canonical_items (slots fs) v) (λ r i. absurd i)
@@ -107,7 +107,7 @@ none_left (u ∷ us) h = absurd (omega arith)
 -- their text is no longer than the items' bytes
 pub items_least : {V : Type 0} (fs : Fields V) (ts : Terms) (b : List ℕ) (v : V) → are_least fs ≡ true → IsBytes b
     → EverywhereIn IsNoArray (items fs v) → ItemsStand ts b → Fits (slots fs) (items_of ts) v → length (texts (items fs v) Alone) ≤ length b
-unfolding Fits canonical_items enc texts
+unfolding Fits canonical_items IsSpelling texts
 items_least none ts b v l i n s h = omega arith
 items_least (field get f fs) term.none b v l i n s h =
     omega (arith, none_left (canonical_items (slots (field get f fs)) v) (canonical_fewest (slots (field get f fs)) [] v h))

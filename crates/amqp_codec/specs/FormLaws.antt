@@ -6,7 +6,7 @@ use Rattle.amqp_model.specs.Term.{Primitive, null, boolean, ubyte, ushort, uint,
 use Rattle.amqp_model.specs.Term.{decimal64, decimal128, uuid, binary, string, symbol, Container, list, map, array, Descriptor, Term, Terms}
 use Rattle.amqp_model.specs.Term.{leaf, container, described, kept, barred, count}
 use Rattle.amqp_model.specs.Constructors.{Format, fixed, variable, compound, unknown, format}
-use Rattle.amqp_model.specs.Spelling.{PrimitiveData, ContainerData, HasWidthZero, data_of, items_of, elements_of}
+use Rattle.amqp_model.specs.Spelling.{PrimitiveData, ContainerData, HasWidthZero, IsDataOf, AreItemsOf, AreElementsOf}
 use Rattle.amqp_model.specs.Text.{wide, form, primitive_form, wide_code}
 use Rattle.amqp_model.specs.Items.{IsFree}
 use Rattle.amqp_model.specs.Refusals.{core, HasForm}
@@ -72,13 +72,13 @@ compound_in (variable w v) k n C b h = absurd h
 compound_in (compound j w) k n C b h = ap Some h.0
 compound_in unknown k n C b h = absurd h
 
-data_in : (k : Container) (ts : Terms) (c : ℕ) (b : List ℕ) → data_of (container k ts) [] c b → container_in (format c) ≡ Some k
-data_in list ts c b h = compound_in (format c) list (count ts) (items_of ts) b h
-data_in map ts c b h = compound_in (format c) map (count ts) (items_of ts) b h.1
-data_in array ts c b h = compound_in (format c) array (count ts) (elements_of ts) b h
+data_in : (k : Container) (ts : Terms) (c : ℕ) (b : List ℕ) → IsDataOf (container k ts) [] c b → container_in (format c) ≡ Some k
+data_in list ts c b h = compound_in (format c) list (count ts) (AreItemsOf ts) b h
+data_in map ts c b h = compound_in (format c) map (count ts) (AreItemsOf ts) b h.1
+data_in array ts c b h = compound_in (format c) array (count ts) (AreElementsOf ts) b h
 
 container_bare : (k : Container) (ts : Terms) (e : Descriptor) (ds : List Descriptor) (c : ℕ) (b : List ℕ)
-    → data_of (container k ts) (e ∷ ds) c b → ⊥
+    → IsDataOf (container k ts) (e ∷ ds) c b → ⊥
 container_bare list ts e ds c b h = h
 container_bare map ts e ds c b h = h
 container_bare array ts e ds c b h = h
@@ -86,7 +86,7 @@ container_bare array ts e ds c b h = h
 no_container : (k : Container) → None ≡ Some k → ⊥
 no_container k e = cc
 
-pub data_form : (t r : Term) (ds : List Descriptor) (c : ℕ) (b d : List ℕ) → data_of t ds c b → data_of r ds c d → form t ≡ form r
+pub data_form : (t r : Term) (ds : List Descriptor) (c : ℕ) (b d : List ℕ) → IsDataOf t ds c b → IsDataOf r ds c d → form t ≡ form r
 data_form (leaf p) (leaf q) [] c b d h k = primitive_forms c p q b d h k
 data_form (leaf p) (container j ts) [] c b d h k = absurd (no_container j (sym (primitive_in (format c) p b h) ∙ data_in j ts c d k))
 data_form (leaf p) (described f r) [] c b d h k = absurd k
@@ -123,7 +123,7 @@ map_none f None e = refl
 map_none f (Some x) e = cc
 
 -- what stands under a code that isn't of width zero has a form
-pub data_has_form : (t : Term) (ds : List Descriptor) (c : ℕ) (x : List ℕ) → (HasWidthZero (format c) → ⊥) → data_of t ds c x
+pub data_has_form : (t : Term) (ds : List Descriptor) (c : ℕ) (x : List ℕ) → (HasWidthZero (format c) → ⊥) → IsDataOf t ds c x
     → form t ≡ None → ⊥
 data_has_form (leaf p) [] c x some h n =
     let e : c ≡ 0x40 = one_code nulls 0x40 refl c (subst (λ k. kind_at c ≡ Some k) (null_kind p n) (kind_data c p x h)) in

@@ -6,7 +6,7 @@ use Rattle.std.proofs.lemmas.List.{length-append}
 use Rattle.amqp_model.specs.Term.{null, Refusal, too_large, Container, list, map as map_kind, array, Descriptor, Term, Terms, leaf}
 use Rattle.amqp_model.specs.Term.{container, described, kept, barred, none, more, count}
 use Rattle.amqp_model.specs.Constructors.{format}
-use Rattle.amqp_model.specs.Spelling.{ContainerData, HasWidthZero, data_of}
+use Rattle.amqp_model.specs.Spelling.{ContainerData, HasWidthZero, IsDataOf}
 use Rattle.amqp_model.specs.Standing.{Standing, whole, StandWhole, Parts}
 use Rattle.amqp_model.specs.Text.{Alone, text, texts, form}
 use Rattle.amqp_model.specs.Measures.{nest}
@@ -169,10 +169,10 @@ module _ {T : Type 0} (u : TermType T) (k : Container) (q : IsListOrArray k) whe
     meant : u.means standing term value
     part : IsPart standing
     bytes : List ℕ
-    spelled : data_of term ds c bytes
+    spelled : IsDataOf term ds c bytes
 
   shared_data : (ds : List Descriptor) (c : ℕ) (ss : List Standing) (s : Standing) (t : Term) → AreParts ds c ss → IsAmong s ss → Spells s t
-      → IsPart s × (b : List ℕ) × data_of t ds c b
+      → IsPart s × (b : List ℕ) × IsDataOf t ds c b
   shared_data ds c [] s t a i h = absurd i
   shared_data ds c (z ∷ zs) s t a (inl e) h =
       let is = e ∙ a.0.1 in (subst IsPart (sym is) tt, a.0.0, (subst (λ s. Spells s t) is h).1)

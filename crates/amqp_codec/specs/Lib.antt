@@ -14,6 +14,7 @@ pub mod KeptBytesLaws
 pub mod FieldTypes
 pub mod Slots
 pub mod Fieldless
+pub mod PlainTable
 pub mod Fields
 pub mod FieldsLaws
 pub mod MisspellingLaws

@@ -2,7 +2,7 @@
 use Rattle.std.proofs.Common.{◌≡◌, inl, inr, ℕ, ◌+◌, ◌≤◌, true, List, [], ◌∷◌, length, refl, sym, ap, subst, arith, suc}
 use Rattle.amqp_model.specs.Term.{Refusal, too_large, list, Descriptor, Term, Terms, container, none, more, count}
 use Rattle.amqp_model.specs.Constructors.{Format, compound, fixed, variable, unknown, format}
-use Rattle.amqp_model.specs.Spelling.{enc, data_of, ContainerData, items_of as ItemsStand}
+use Rattle.amqp_model.specs.Spelling.{IsSpelling, IsDataOf, ContainerData, AreItemsOf as ItemsStand}
 use Rattle.amqp_model.specs.Standing.{Standing, whole, part}
 use Rattle.amqp_model.specs.Text.{Alone, text, texts}
 use Rattle.amqp_model.specs.Measures.{nest}
@@ -37,13 +37,13 @@ data_items (fixed w f) ts b h = absurd h
 data_items (variable w f) ts b h = absurd h
 data_items unknown ts b h = absurd h
 
-list_items : (ts : Terms) (ds : List Descriptor) (c : ℕ) (b : List ℕ) → data_of (container list ts) ds c b
+list_items : (ts : Terms) (ds : List Descriptor) (c : ℕ) (b : List ℕ) → IsDataOf (container list ts) ds c b
     → (content : List ℕ) × ItemsStand ts content
 list_items ts [] c b h = data_items (format c) ts b h
 list_items ts (d ∷ ds) c b h = absurd h
 
 standing_items : (s : Standing) (ts : Terms) → Spells s (container list ts) → (content : List ℕ) × ItemsStand ts content
-unfolding enc
+unfolding IsSpelling
 standing_items (whole b) ts (ds, c, few, (h, x, e, k, s)) = list_items ts ds c x s
 standing_items (part ds c b) ts h = list_items ts ds c b h.1
 
@@ -91,7 +91,7 @@ module _ {V : Type 0} (fs : Fields V) (norm : Norm V) (norm_is : (v : V) → IsN
 
   spelled_least : are_least fs ≡ true → (b : List ℕ) (ts : Terms) (v : V) → Fits (slots fs) (items_of ts) v
       → IsNoShorter b (container list ts) (canonical_list (slots fs) v)
-  unfolding enc
+  unfolding IsSpelling
   spelled_least l b ts v f bytes n (d ∷ ds, c, few, (h, x, e, k, s)) = absurd s
   spelled_least l b ts v f bytes n ([], c, few, (h, x, e, k, s)) =
       let inner : (content : List ℕ) → IsBytes content → ItemsStand ts content → length (texts (items fs v) Alone) ≤ length content =

@@ -1,7 +1,7 @@
 -- Facts about null.
 use Rattle.std.proofs.Common.{◌≡◌, ℕ, ◌≤◌, Bool, true, false, cond, eqb, List, [], ◌∷◌, None, length, refl, sym, ap, subst, arith}
 use Rattle.amqp_model.specs.Term.{Primitive, null, Term, leaf, container, described, kept, barred}
-use Rattle.amqp_model.specs.Spelling.{enc}
+use Rattle.amqp_model.specs.Spelling.{IsSpelling}
 use Rattle.amqp_model.specs.Standing.{Standing}
 use Rattle.amqp_model.specs.Text.{Alone, text, form, primitive_form}
 use Rattle.amqp_model.specs.Measures.{nodes}
@@ -72,6 +72,6 @@ null_meant s t m = record {
 }
 
 -- no term is spelled by fewer bytes than null
-pub null_least : (b : List ℕ) (t : Term) → enc b t → length (text (leaf null) Alone) ≤ length b
+pub null_least : (b : List ℕ) (t : Term) → IsSpelling b t → length (text (leaf null) Alone) ≤ length b
 unfolding text
 null_least b t e = spelling_length b t e

@@ -4,7 +4,7 @@ use Rattle.std.proofs.Common.{◌∙◌, arith, append_assoc, length-append}
 use Rattle.std.proofs.lemmas.List.{drop_at}
 use Rattle.amqp_model.specs.Term.{null, Term, leaf, container, described, kept, barred, Descriptor}
 use Rattle.amqp_model.specs.Standing.{Standing}
-use Rattle.amqp_model.specs.Spelling.{enc}
+use Rattle.amqp_model.specs.Spelling.{IsSpelling}
 use Rattle.amqp_model.specs.Items.{is_null}
 use Rattle.amqp_model.specs.ItemLaws.{clash}
 use Rattle.amqp_model.proofs.Lengths.{spelling_length}
@@ -75,7 +75,7 @@ value_peeked means st none v b h =
 
 null_by : (shared : Option (List Descriptor × ℕ)) (s : List ℕ) (t : Term) → SpellsAs (standing shared s) t
     → is_null t ≡ true → t ≡ leaf null
-unfolding enc
+unfolding IsSpelling
 null_by shared s (leaf p) h n = ap leaf (null_primitive p n)
 null_by shared s (container k ts) h n = absurd (clash n refl)
 null_by shared s (described d t) h n = absurd (clash n refl)

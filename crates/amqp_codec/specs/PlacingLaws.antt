@@ -3,9 +3,9 @@ use Rattle.std.proofs.Common.{◌≡◌, inl, inr, ℕ, ◌+◌, ◌≤◌, ◌<
 use Rattle.std.proofs.Common.{append_assoc, le_of_suc-le-suc, lt_of_not-le}
 use Rattle.amqp_model.specs.Term.{Refusal, depth, Container, list, map, array, Descriptor, Term, Terms, container, none, more, count}
 use Rattle.amqp_model.specs.Constructors.{Format, fixed, variable, compound, unknown, format}
-use Rattle.amqp_model.specs.Spelling.{Names, IsValid, descriptor_value, ContainerData, Constructor, data_of, items_of}
-use Rattle.amqp_model.specs.Spelling.{elements_of}
-use Rattle.amqp_model.specs.Spelling.{shared_data_of, enc}
+use Rattle.amqp_model.specs.Spelling.{Names, IsValid, descriptor_value, ContainerData, Constructor, IsDataOf, AreItemsOf}
+use Rattle.amqp_model.specs.Spelling.{AreElementsOf}
+use Rattle.amqp_model.specs.Spelling.{AreSharedDataOf, IsSpelling}
 use Rattle.amqp_model.specs.Standing.{Standing, whole, part, StandWhole, StandAsData, StandInArray, StandIn, Parts}
 use Rattle.amqp_model.specs.Text.{Alone, First, Later, text, texts, form, compact_head, content_of, wide_code, first_place}
 use Rattle.amqp_model.specs.Measures.{nests}
@@ -29,8 +29,8 @@ container_placed (fixed w v) k n C D E b f h = absurd h
 container_placed (variable w v) k n C D E b f h = absurd h
 container_placed unknown k n C D E b f h = absurd h
 
-list_placed : (ts : Terms) (b : List ℕ) → items_of ts b → (ss : List Standing) × StandWhole ts ss b × (EachSpells ss ts × Share list ss)
-unfolding enc
+list_placed : (ts : Terms) (b : List ℕ) → AreItemsOf ts b → (ss : List Standing) × StandWhole ts ss b × (EachSpells ss ts × Share list ss)
+unfolding IsSpelling
 list_placed none b h = ([], (h, refl), (tt, tt))
 list_placed (more t ts) b (first, second, e, s, rest) =
     let r = list_placed ts second rest in (whole first ∷ r.0, (first, second, r.0, e, s, r.1, refl), ((s, r.2.0), tt))
@@ -42,14 +42,14 @@ constructor_named : (ds : List Descriptor) (c : ℕ) (b : List ℕ) → Construc
 constructor_named [] c b h = tt
 constructor_named (d ∷ ds) c b (first, second, e, n, h) = (names_valid d first n, constructor_named ds c second h)
 
-data_placed : (ts : Terms) (ds : List Descriptor) (c : ℕ) (b : List ℕ) → AreNamed ds → shared_data_of ts ds c b
+data_placed : (ts : Terms) (ds : List Descriptor) (c : ℕ) (b : List ℕ) → AreNamed ds → AreSharedDataOf ts ds c b
     → (ss : List Standing) × StandAsData ts ss ds c b × EachSpells ss ts × AreParts ds c ss
 data_placed none ds c b n h = ([], (h, refl), tt, tt)
 data_placed (more t ts) ds c b n (first, second, e, s, rest) =
     let r = data_placed ts ds c second n rest in
     (part ds c first ∷ r.0, (first, second, r.0, e, s, r.1, refl), ((n, s), r.2), ((first, refl), r.3))
 
-array_placed : (ts : Terms) (b : List ℕ) → elements_of ts b
+array_placed : (ts : Terms) (b : List ℕ) → AreElementsOf ts b
     → (ss : List Standing) × StandInArray ts ss b × (EachSpells ss ts × Share array ss)
 array_placed none b h = ([], refl, (tt, ([], 0x70, tt, λ h. h)))
 array_placed (more t ts) b (ds, c, few, (first, second, e, k, (wide, (x, y, e', s, rest)))) =
@@ -61,22 +61,22 @@ array_placed (more t ts) b (ds, c, few, (first, second, e, k, (wide, (x, y, e', 
     )
 
 items_placed : (k : Container) (ts : Terms) (ds : List Descriptor) (c : ℕ) (b : List ℕ)
-    → data_of (container k ts) ds c b → (ss : List Standing) × StandIn (container k ts) ss ds c b × (EachSpells ss ts × Share k ss)
+    → IsDataOf (container k ts) ds c b → (ss : List Standing) × StandIn (container k ts) ss ds c b × (EachSpells ss ts × Share k ss)
 items_placed list ts [] c b h =
-    container_placed (format c) list (count ts) (items_of ts) (StandWhole ts) (λ ss. EachSpells ss ts × Share list ss) b (list_placed ts) h
+    container_placed (format c) list (count ts) (AreItemsOf ts) (StandWhole ts) (λ ss. EachSpells ss ts × Share list ss) b (list_placed ts) h
 items_placed list ts (e ∷ ds) c b h = absurd h
 items_placed array ts [] c b h =
-    container_placed (format c) array (count ts) (elements_of ts) (StandInArray ts) (λ ss. EachSpells ss ts × Share array ss) b
+    container_placed (format c) array (count ts) (AreElementsOf ts) (StandInArray ts) (λ ss. EachSpells ss ts × Share array ss) b
     (array_placed ts) h
 items_placed array ts (e ∷ ds) c b h = absurd h
 items_placed map ts [] c b h =
-    container_placed (format c) map (count ts) (items_of ts) (StandWhole ts) (λ ss. EachSpells ss ts × Share map ss) b (list_placed ts) h.1
+    container_placed (format c) map (count ts) (AreItemsOf ts) (StandWhole ts) (λ ss. EachSpells ss ts × Share map ss) b (list_placed ts) h.1
 items_placed map ts (e ∷ ds) c b h = absurd h
 
 -- the parts of what stands somewhere
 pub placed : (k : Container) (s : Standing) (ts : Terms) → Spells s (container k ts)
     → (ss : List Standing) × Parts s (container k ts) ss × (EachSpells ss ts × Share k ss)
-unfolding enc
+unfolding IsSpelling
 placed k (whole b) ts (ds, c, few, (first, second, e, l, d)) =
     let r = items_placed k ts ds c second d in (r.0, (ds, c, few, (first, second, e, l, r.1)), r.2)
 placed k (part ds c b) ts d = items_placed k ts ds c b d.1

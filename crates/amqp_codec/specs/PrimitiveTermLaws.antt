@@ -3,7 +3,7 @@ use Rattle.std.proofs.Common.{◌≡◌, ℕ, List, [], ◌∷◌, sym, ap, subs
 use Rattle.amqp_model.specs.Term.{Primitive, null, Refusal, too_large, Container, Term, Terms, leaf, container, described, kept, barred}
 use Rattle.amqp_model.specs.Term.{Descriptor}
 use Rattle.amqp_model.specs.Constructors.{Format, fixed, variable, compound, unknown, format}
-use Rattle.amqp_model.specs.Spelling.{PrimitiveData, IsValid, data_of, enc}
+use Rattle.amqp_model.specs.Spelling.{PrimitiveData, IsValid, IsDataOf, IsSpelling}
 use Rattle.amqp_model.specs.Standing.{Standing, whole, part}
 use Rattle.amqp_model.specs.Refusals.{IsRefused}
 use Rattle.amqp_model.specs.Kept.{ExpandsTo}
@@ -29,12 +29,12 @@ data_valid (variable w v) p b h = h.4
 data_valid (compound k w) p b h = absurd h
 data_valid unknown p b h = absurd h
 
-leaf_valid : (p : Primitive) (ds : List Descriptor) (c : ℕ) (b : List ℕ) → data_of (leaf p) ds c b → IsValid p
+leaf_valid : (p : Primitive) (ds : List Descriptor) (c : ℕ) (b : List ℕ) → IsDataOf (leaf p) ds c b → IsValid p
 leaf_valid p [] c b h = data_valid (format c) p b h
 leaf_valid p (d ∷ ds) c b h = absurd h
 
 pub spelled_valid : (s : Standing) (p : Primitive) → Spells s (leaf p) → IsValid p
-unfolding enc
+unfolding IsSpelling
 spelled_valid (whole b) p (ds, c, few, (h, d, e, k, s)) = leaf_valid p ds c d s
 spelled_valid (part ds c b) p h = leaf_valid p ds c b h.1
 

@@ -1,12 +1,12 @@
 -- What it is to read a value of a type: from which state of a decoder, and what state is left.
 use Rattle.std.proofs.Common.{◌≡◌, ℕ, ◌+◌, ◌≤◌, Bool, true, false, List, [], ◌++◌, length, drop, Option, None, ◌-◌, arith}
 use Rattle.amqp_model.specs.Term.{Term}
-use Rattle.amqp_model.specs.Spelling.{enc}
+use Rattle.amqp_model.specs.Spelling.{IsSpelling}
 use Rattle.amqp_model.specs.Measures.{nest, nodes}
 use Rattle.amqp_wire.specs.declared.error.Error.{Error}
 use Rattle.amqp_wire.specs.declared.limits.Limits.{Limits}
 use Rattle.amqp_wire.specs.Limits.{unlimited, limit_of}
-use Rattle.amqp_decoder.specs.State.{State, Has, top_level}
+use Rattle.amqp_decoder.specs.State.{State, Has, top_level, is_free}
 use Rattle.amqp_decoder.specs.OtherSource.{elsewhere, IsByDepth}
 use Rattle.amqp_decoder.specs.Misspelled.{IsMisspelling}
 use Rattle.amqp_decoder.specs.Steps.{IsOutside}
@@ -30,6 +30,10 @@ pub record Stays (st : State) (b : State) : Type 0 where
   pub sound : b.failed ≡ st.failed
   pub top : (l : Option ℕ) → st.top ≡ top_level l → (m : Option ℕ) × (b.top ≡ top_level m)
 
+-- Whether one term is read alone.
+abbrev pub apart : Bool → State → State
+apart alone st = record st { failed = record st.failed { alone = alone } }
+
 -- So many of the next bytes were looked at.
 abbrev pub looking : ℕ → State → State
 looking n st = record st { ahead = n }
@@ -49,7 +53,7 @@ start_within limits input = record {
   nesting = limits.nesting;
   quota = limit_of limits.items;
   error = None;
-  failed = false;
+  failed = record { broken = false; alone = false; free = is_free limits.nesting limits.bytes limits.items };
 }
 
 -- The limits under which all is read that nests at most 128 deep.
@@ -64,16 +68,16 @@ IsGreatest limits = (limits.nesting ≡ 128) × (limits.bytes ≡ unlimited) × 
 abbrev pub start : List ℕ → State
 start input = start_within greatest input
 
--- No front of the input within the limit on bytes is a term; if the error is a limit's or `Depth`, none that nests no deeper and
--- has no more values than the limits say.
+-- No front of the input is a term; if the error is a limit's or `Depth`, none that has no more bytes, nests no deeper and has no more
+-- values than the limits say.
 abbrev pub IsUnspelledWithin : Limits → Error → List ℕ → Type 0
 IsUnspelledWithin limits e input =
-    (b more : List ℕ) (t : Term) → input ≡ b ++ more → enc b t → Has (limit_of limits.bytes) (length b)
-    → (IsByDepth e → (nest t ≤ limits.nesting) × Has (limit_of limits.items) (nodes t)) → ⊥
+    (b more : List ℕ) (t : Term) → input ≡ b ++ more → IsSpelling b t
+    → (IsByDepth e → Has (limit_of limits.bytes) (length b) × (nest t ≤ limits.nesting) × Has (limit_of limits.items) (nodes t)) → ⊥
 
 -- No front of the input is a term; if the error is a limit's or `Depth`, none that nests at most 128 deep.
 abbrev pub IsUnspelled : Error → List ℕ → Type 0
-IsUnspelled e input = (b more : List ℕ) (t : Term) → input ≡ b ++ more → enc b t → (IsByDepth e → nest t ≤ 128) → ⊥
+IsUnspelled e input = (b more : List ℕ) (t : Term) → input ≡ b ++ more → IsSpelling b t → (IsByDepth e → nest t ≤ 128) → ⊥
 
 pub record Reading (T : Type 0) : Type 1 where
   -- the two differ at most in where they lie in memory
@@ -107,6 +111,9 @@ pub record Reading (T : Type 0) : Type 1 where
   pub reads_elsewhere : (source : ℕ) (failed : Bool) (st : State) (v : T) (b : State) → reads st v b
       → reads (elsewhere source failed st) v (elsewhere source failed b)
   pub fault_elsewhere : (source : ℕ) (failed : Bool) (st : State) (e : Error) → fault st e → fault (elsewhere source failed st) e
+  -- a type of terms looks at nothing behind one, so it is the same where one term is read alone
+  pub reads_alone : one_term ≡ true → (alone : Bool) (st : State) (v : T) (b : State) → reads st v b → reads (apart alone st) v (apart alone b)
+  pub fault_alone : one_term ≡ true → (alone : Bool) (st : State) (e : Error) → fault st e → fault (apart alone st) e
 
 -- Within the limits, the input begins with n bytes that are read as the value.
 pub record BeginsWithin {T : Type 0} (limits : Limits) (r : Reading T) (input : List ℕ) (v : T) (n : ℕ) : Type 0 where

@@ -124,13 +124,13 @@ free_has : (o : Option ℕ) (k : ℕ) → Has (freed true o) k
 free_has None k = tt
 free_has (Some n) k = tt
 
--- before a decoder that lets values nest as deep as any term does
+-- before a decoder that lets values nest as deep as any term does, and have as many bytes
 pub term_unspelled : {T : Type 0} (u : TermType T) (limits : Limits) (input : List ℕ) (e : Error) → IsMisspelling e
     → u.faults.fault (start_within limits input) e → IsUnspelledWithin limits e input
-term_unspelled u limits input e i f b more t is s room bound = by (is_by_depth e) refl
+term_unspelled u limits input e i f b more t is s bound = by (is_by_depth e) refl
   where
     deeper : Setting
-    deeper = record { source = 0; failed = false; deepen = λ n. max n (nest t); grows = λ n. omega arith; free = true }
+    deeper = record { source = 0; deepen = λ n. max n (nest t); grows = λ n. omega arith; free = true; lift = true; course = λ f. f }
 
     by : (d : Bool) → is_by_depth e ≡ d → ⊥
     by true d =
@@ -138,12 +138,12 @@ term_unspelled u limits input e i f b more t is s room bound = by (is_by_depth e
         (record {
           going = refl;
           item = tt;
-          room = room;
+          room = (bound (by_depth_so e d)).0;
           after = more;
           rest = is;
           spelled = s;
-          nested = (let k = (bound (by_depth_so e d)).0 in omega (arith, k));
-          few = (bound (by_depth_so e d)).1;
+          nested = (let k = (bound (by_depth_so e d)).1 in omega (arith, k));
+          few = (bound (by_depth_so e d)).2;
         })
     by false d =
         u.faults.misspelled (under deeper (start_within limits input)) e (inl (omega arith)) i
@@ -151,7 +151,7 @@ term_unspelled u limits input e i f b more t is s room bound = by (is_by_depth e
         (record {
           going = refl;
           item = tt;
-          room = room;
+          room = tt;
           after = more;
           rest = is;
           spelled = s;
@@ -208,5 +208,5 @@ unreadable_greatest limits r input e g h =
     record {
       fault = fault;
       none = λ v n k. h.none v n (greatest_begins limits r input v n g k);
-      unspelled = λ one i b more t is s bound. r.misspelled one greatest input e i fault b more t is s tt (λ deep. (bound deep, tt));
+      unspelled = λ one i b more t is s bound. r.misspelled one greatest input e i fault b more t is s (λ deep. (tt, bound deep, tt));
     }

@@ -1,7 +1,7 @@
 -- Bytes that spell a value of a type.
 use Rattle.std.specs.Prelude.{ℕ, ◌≤◌, List}
 use Rattle.amqp_model.specs.Term.{Term}
-use Rattle.amqp_model.specs.Spelling.{enc}
+use Rattle.amqp_model.specs.Spelling.{IsSpelling}
 use Rattle.amqp_model.specs.Standing.{whole}
 use Rattle.amqp_model.specs.Text.{Alone, text}
 use Rattle.amqp_model.specs.Measures.{nest}
@@ -10,7 +10,7 @@ use Rattle.amqp_codec.specs.TermType.{TermType, IsUnrefused}
 -- The bytes are a term, nested no deeper than 128, that means the value.
 pub record IsSpelled {T : Type 0} (u : TermType T) (b : List ℕ) (v : T) : Type 0 where
   pub term : Term
-  pub spelled : enc b term
+  pub spelled : IsSpelling b term
   pub nested : nest term ≤ 128
   pub meant : u.means (whole b) term v
 

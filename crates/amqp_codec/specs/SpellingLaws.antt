@@ -2,7 +2,7 @@
 use Rattle.std.proofs.Common.{◌≡◌, ℕ, ◌+◌, ◌-◌, ◌≤◌, ◌↔◌, List, [], ◌++◌, length, take, refl, sym, ap, ◌∙◌, subst, arith, length-append}
 use Rattle.std.proofs.lemmas.List.{length-drop, take_at}
 use Rattle.amqp_model.specs.Term.{Term}
-use Rattle.amqp_model.specs.Spelling.{enc}
+use Rattle.amqp_model.specs.Spelling.{IsSpelling}
 use Rattle.amqp_model.specs.Measures.{nest, nodes}
 use Rattle.amqp_model.proofs.Unique.{one_term}
 use Rattle.amqp_wire.specs.declared.limits.Limits.{Limits}
@@ -84,7 +84,7 @@ module _ {T : Type 0} (u : TermType T) where
       }
 
   within_limits : (limits : Limits) (input : List ℕ) (v : T) (n : ℕ) → BeginsWith (reading_of u) input v n → Has (limit_of limits.bytes) n
-      → ((t : Term) → enc (take n input) t → (nest t ≤ limits.nesting) × Has (limit_of limits.items) (nodes t))
+      → ((t : Term) → IsSpelling (take n input) t → (nest t ≤ limits.nesting) × Has (limit_of limits.items) (nodes t))
       → BeginsWithin limits (reading_of u) input v n
   within_limits limits input v n h room deep =
       let k = h.read in
@@ -102,8 +102,8 @@ module _ {T : Type 0} (u : TermType T) where
             after = s.after;
             rest = s.rest;
             spelled = s.spelled;
-            nested = (let few = (deep k.term (subst (λ b. enc b k.term) f.1 s.spelled)).0 in omega (arith, few));
-            few = (deep k.term (subst (λ b. enc b k.term) f.1 s.spelled)).1;
+            nested = (let few = (deep k.term (subst (λ b. IsSpelling b k.term) f.1 s.spelled)).0 in omega (arith, few));
+            few = (deep k.term (subst (λ b. IsSpelling b k.term) f.1 s.spelled)).1;
           };
           moved = refl;
           meant = k.meant;
@@ -112,7 +112,7 @@ module _ {T : Type 0} (u : TermType T) where
       }
 
   no_deeper : (limits : Limits) (input : List ℕ) (v : T) (n : ℕ) → BeginsWithin limits (reading_of u) input v n → (t : Term)
-      → enc (take n input) t → (nest t ≤ limits.nesting) × Has (limit_of limits.items) (nodes t)
+      → IsSpelling (take n input) t → (nest t ≤ limits.nesting) × Has (limit_of limits.items) (nodes t)
   no_deeper limits input v n h t s =
       let k = h.read in
       let f = read_front limits input v n h in
@@ -123,7 +123,7 @@ module _ {T : Type 0} (u : TermType T) where
   -- within limits is read what is read without, as far as its bytes, how deep it nests and how many values it has are within them
   pub read_within : (limits : Limits) (input : List ℕ) (v : T) (n : ℕ) → BeginsWithin limits (reading_of u) input v n
       ↔ (BeginsWith (reading_of u) input v n × Has (limit_of limits.bytes) n
-      × ((t : Term) → enc (take n input) t → (nest t ≤ limits.nesting) × Has (limit_of limits.items) (nodes t)))
+      × ((t : Term) → IsSpelling (take n input) t → (nest t ≤ limits.nesting) × Has (limit_of limits.items) (nodes t)))
   read_within limits input v n = (
     λ h. (
       without_limits limits input v n h,

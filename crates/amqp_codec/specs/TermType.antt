@@ -1,7 +1,7 @@
 -- What a type of terms is: which terms mean its values, which one is canonical, and the laws of both, in groups.
 use Rattle.std.proofs.Common.{◌≡◌, ℕ, ◌≤◌, Bool, true, false, List, [], ◌∷◌, length, Some, None, refl, sym, ◌∙◌, subst}
 use Rattle.amqp_model.specs.Term.{null, Refusal, too_large, Term, Terms, leaf, container, described, kept, barred, none, more, Descriptor}
-use Rattle.amqp_model.specs.Spelling.{IsValid, descriptor_value, data_of, enc}
+use Rattle.amqp_model.specs.Spelling.{IsValid, descriptor_value, IsDataOf, IsSpelling}
 use Rattle.amqp_model.specs.Standing.{Standing, whole, part}
 use Rattle.amqp_model.specs.Text.{Alone, Later, text, form}
 use Rattle.amqp_model.specs.Measures.{nest, nodes}
@@ -27,8 +27,8 @@ AreNamed (d ∷ ds) = IsValid (descriptor_value d) × AreNamed ds
 
 -- The term is spelled by what it stands as; the descriptors that it shares are ones that can be spelled.
 abbrev pub Spells : Standing → Term → Type 0
-Spells (whole b) t = enc b t
-Spells (part ds c b) t = AreNamed ds × data_of t ds c b
+Spells (whole b) t = IsSpelling b t
+Spells (part ds c b) t = AreNamed ds × IsDataOf t ds c b
 
 -- A canonical term stands as its text, or as its data in a canonical array.
 abbrev pub StandsCanonically : Standing → Term → Type 0
@@ -122,7 +122,7 @@ pub record Meant (s : Standing) (t : Term) (is_value : Type 0) (c : Term) (count
 
 -- If the bytes spell t and the canonical term c holds no array, its text is no longer than they are.
 abbrev pub IsNoShorter : List ℕ → Term → Term → Type 0
-IsNoShorter b t c = IsBytes b → Everywhere IsNoArray c → enc b t → length (text c Alone) ≤ length b
+IsNoShorter b t c = IsBytes b → Everywhere IsNoArray c → IsSpelling b t → length (text c Alone) ≤ length b
 
 pub record TermType (T : Type 0) : Type 1 where
   -- a value of the type: its numbers are in their ranges, and so on

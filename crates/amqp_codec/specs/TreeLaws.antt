@@ -2,7 +2,7 @@
 use Rattle.std.proofs.Common.{◌≡◌, inl, inr, ℕ, List, [], ◌∷◌, Option, Some, None, refl, sym, subst}
 use Rattle.amqp_model.specs.Term.{Refusal, too_large, Container, list, map, array, Descriptor, Term, Terms, leaf, container}
 use Rattle.amqp_model.specs.Term.{described, kept, barred, none, more}
-use Rattle.amqp_model.specs.Spelling.{IsValid, descriptor_value, data_of, enc}
+use Rattle.amqp_model.specs.Spelling.{IsValid, descriptor_value, IsDataOf, IsSpelling}
 use Rattle.amqp_model.specs.Standing.{Standing, whole, part}
 use Rattle.amqp_model.specs.Text.{form}
 use Rattle.amqp_model.specs.Refusals.{SomewhereIn, IsRefused, IsItem, core}
@@ -58,7 +58,7 @@ mutual
 -- the items of an array are data under one constructor
 record DataUnder (ds : List Descriptor) (c : ℕ) (t : Term) : Type 0 where
   bytes : List ℕ
-  spelled : data_of t ds c bytes
+  spelled : IsDataOf t ds c bytes
 
 item_data : (ds : List Descriptor) (c : ℕ) (ss : List Standing) (ts : Terms) → AreParts ds c ss → EachSpells ss ts → (x : Term)
     → IsItem x ts → DataUnder ds c x
@@ -66,10 +66,10 @@ item_data ds c [] none a e x i = absurd i
 item_data ds c (s ∷ ss) none a e x i = absurd i
 item_data ds c [] (more t ts) a e x i = absurd e
 item_data ds c (s ∷ ss) (more t ts) a e x (inl is) =
-    record { bytes = a.0.0; spelled = subst (λ y. data_of y ds c a.0.0) (sym is) (subst (λ z. Spells z t) a.0.1 e.0).1 }
+    record { bytes = a.0.0; spelled = subst (λ y. IsDataOf y ds c a.0.0) (sym is) (subst (λ z. Spells z t) a.0.1 e.0).1 }
 item_data ds c (s ∷ ss) (more t ts) a e x (inr i) = item_data ds c ss ts a.1 e.1 x i
 
-kept_no_data : (t : Term) (ds : List Descriptor) (c : ℕ) (b : List ℕ) → IsKept (core t) → data_of t ds c b → ⊥
+kept_no_data : (t : Term) (ds : List Descriptor) (c : ℕ) (b : List ℕ) → IsKept (core t) → IsDataOf t ds c b → ⊥
 kept_no_data (leaf p) ds c b k h = k
 kept_no_data (container j ts) ds c b k h = k
 kept_no_data (described d t) [] c b k h = h
@@ -106,7 +106,7 @@ container_flawless array ts ss h e = array_flawless ts ss h e
 
 -- the descriptor of what is spelled can be spelled
 spelled_descriptor : (s : Standing) (d : Descriptor) (t : Term) → Spells s (described d t) → IsValid (descriptor_value d)
-unfolding enc
+unfolding IsSpelling
 spelled_descriptor (whole b) d t ([], c, few, (h, x, e, k, s)) = absurd s
 spelled_descriptor (whole b) d t (f ∷ ds, c, few, (h, x, e, (first, second, e', names, k), s)) =
     subst (λ z. IsValid (descriptor_value z)) (sym s.0) (names_valid f first names)
@@ -119,7 +119,7 @@ described_flawless d t v =
     record { unbarred = λ r e. cc; unmixed = λ h. h; no_null = λ h. h; no_kept = λ h. h; ascii = p.ascii }
 
 kept_not_spelled : (s : Standing) (t : Term) → IsKept t → Spells s t → ⊥
-unfolding enc
+unfolding IsSpelling
 kept_not_spelled (whole b) (kept x) k (ds, c, few, (h, d, e, n, s)) = s
 kept_not_spelled (part ds c b) (kept x) k h = h.1
 kept_not_spelled s (leaf p) k h = k
@@ -128,7 +128,7 @@ kept_not_spelled s (described d t) k h = k
 kept_not_spelled s (barred r) k h = k
 
 barred_not_spelled : (s : Standing) (r : Refusal) → Spells s (barred r) → ⊥
-unfolding enc
+unfolding IsSpelling
 barred_not_spelled (whole b) r (ds, c, few, (h, d, e, n, s)) = s
 barred_not_spelled (part ds c b) r h = h.1
 

@@ -1,7 +1,7 @@
 -- What writing a value is, in the terms that it is written as.
 use Rattle.std.specs.Prelude.{◌≡◌, ◌⊎◌, ℕ, ◌<◌, List, [], ◌∷◌, length, Result, Ok, Err}
 use Rattle.amqp_model.specs.Term.{null, Term, Terms, leaf, kept, count}
-use Rattle.amqp_model.specs.Spelling.{enc}
+use Rattle.amqp_model.specs.Spelling.{IsSpelling}
 use Rattle.amqp_model.specs.Measures.{nests}
 use Rattle.amqp_model.specs.Ranges.{EverywhereIn, IsValue}
 use Rattle.amqp_model.specs.Refusals.{SomewhereIn}
@@ -32,7 +32,7 @@ pub record WritesTerms (ts : List Term) (old : Encoder) (result : Result (Unit {
 -- What a canonical term itself needs, its parts aside: a number or text of its type, a value for each key of a map;
 -- and bytes that are kept spell a term.
 abbrev pub IsProper : Term → Type 0
-IsProper (kept b) = (t : Term) × enc b t
+IsProper (kept b) = (t : Term) × IsSpelling b t
 IsProper t = IsValue t
 
 abbrev pub AreProper : List Term → Type 0

@@ -38,6 +38,10 @@ pub trait Deserialize: Sized + Drop {
     // From which state of a decoder a value is read, and the laws.
     ghost reading: { Reading Self };
 
+    /// Whether the type is one term, so that nothing behind a value is looked at.
+    fn is_one_term() -> bool
+        ensures { result ≡ reading.one_term };
+
     /// Reads a value from what the decoder stands before. An error is `Memory`, if reading the type takes memory, the
     /// source's, or it names a fault that stands there.
     fn deserialize<R: ByteSource>(decoder: &mut Decoder<R>, alloc: Global) -> Result<Self, Error>
@@ -96,6 +100,10 @@ pub trait DeserializeTerm: SerializeTerm + Sized + Drop {
 
 impl<T: DeserializeTerm> Deserialize for T {
     ghost reading = { reading_of T.term };
+
+    fn is_one_term() -> bool {
+        true
+    }
 
     fn deserialize<R: ByteSource>(decoder: &mut Decoder<R>, alloc: Global) -> Result<T, Error> {
         T::read_value(decoder, alloc)

@@ -7,7 +7,7 @@ use Rattle.amqp_model.specs.Term.{Primitive, list, map, array, Container, Term, 
 use Rattle.amqp_model.specs.Term.{count, Descriptor}
 use Rattle.amqp_model.specs.Items.{items_of}
 use Rattle.amqp_model.specs.Constructors.{Format, fixed, variable, compound, unknown, format}
-use Rattle.amqp_model.specs.Spelling.{Constructor, PrimitiveData, ContainerData, data_of, elements_of, shared_data_of}
+use Rattle.amqp_model.specs.Spelling.{Constructor, PrimitiveData, ContainerData, IsDataOf, AreElementsOf, AreSharedDataOf}
 use Rattle.amqp_model.specs.Measures.{nest, nests, array_nest, all_nodes}
 use Rattle.amqp_model.specs.Standing.{Standing, StandInArray}
 use Rattle.amqp_decoder.specs.declared.frame.Place.TheVariants.{InArray}
@@ -28,11 +28,11 @@ use Rattle.amqp_decoder.proofs.ContainerTerms.{split_container, first_spelled, f
 use Rattle.amqp_decoder.proofs.ContainerTerms.{closed_at, counting, three, took_parts}
 
 -- what a row of terms under one constructor is as data
-all_data : (us : Terms) (ds : List Descriptor) (c : ℕ) (b : List ℕ) → AllSpelled (Some (ds, c)) us b → shared_data_of us ds c b
+all_data : (us : Terms) (ds : List Descriptor) (c : ℕ) (b : List ℕ) → AllSpelled (Some (ds, c)) us b → AreSharedDataOf us ds c b
 all_data none ds c b h = h
 all_data (more t us) ds c b (s, r, e, h, hs) = (s, r, e, h, all_data us ds c r hs)
 
-data_all : (us : Terms) (ds : List Descriptor) (c : ℕ) (b : List ℕ) → shared_data_of us ds c b → AllSpelled (Some (ds, c)) us b
+data_all : (us : Terms) (ds : List Descriptor) (c : ℕ) (b : List ℕ) → AreSharedDataOf us ds c b → AllSpelled (Some (ds, c)) us b
 data_all none ds c b h = h
 data_all (more t us) ds c b (s, r, e, h, hs) = (s, r, e, h, data_all us ds c r hs)
 
@@ -42,12 +42,12 @@ flat_holds (variable w f) k n C b flat h = h
 flat_holds (compound j w) k n C b flat h = flat
 flat_holds unknown k n C b flat h = h
 
-pub flat_array : (us : Terms) (ds : List Descriptor) (c : ℕ) (b : List ℕ) → IsFlat ds (format c) → data_of (container array us) ds c b → ⊥
+pub flat_array : (us : Terms) (ds : List Descriptor) (c : ℕ) (b : List ℕ) → IsFlat ds (format c) → IsDataOf (container array us) ds c b → ⊥
 flat_array us [] c b flat h = flat_holds (format c) array _ _ b flat h
 flat_array us (e ∷ ds) c b flat h = flat
 
 -- an item of a constructor that holds no others is a primitive
-flat_leaf : (t : Term) (ds : List Descriptor) (c : ℕ) (b : List ℕ) → IsFlat ds (format c) → data_of t ds c b
+flat_leaf : (t : Term) (ds : List Descriptor) (c : ℕ) (b : List ℕ) → IsFlat ds (format c) → IsDataOf t ds c b
     → (nest t ≡ 0) × ((us : Terms) → array_nest (more t us) ≡ array_nest us)
 flat_leaf t (e ∷ ds) c b flat h = absurd flat
 flat_leaf (leaf p) [] c b flat h = (refl, λ us. refl)
@@ -58,7 +58,7 @@ flat_leaf (described d t) [] c b flat h = absurd h
 flat_leaf (kept k) [] c b flat h = absurd h
 flat_leaf (barred r) [] c b flat h = absurd h
 
-flat_rows : (us : Terms) (ds : List Descriptor) (c : ℕ) (b : List ℕ) → IsFlat ds (format c) → shared_data_of us ds c b
+flat_rows : (us : Terms) (ds : List Descriptor) (c : ℕ) (b : List ℕ) → IsFlat ds (format c) → AreSharedDataOf us ds c b
     → (nests us ≡ 0) × (array_nest us ≡ 0)
 flat_rows none ds c b flat h = (refl, refl)
 flat_rows (more t us) ds c b flat (s, r, e, h, hs) =
@@ -81,7 +81,7 @@ flat_format (compound k w) p b h = h
 flat_format unknown p b h = tt
 
 -- the items hold no others, or the array counts in nesting
-flat_or_deep : (t : Term) (us : Terms) (ds : List Descriptor) (c : ℕ) (b : List ℕ) → data_of t ds c b
+flat_or_deep : (t : Term) (us : Terms) (ds : List Descriptor) (c : ℕ) (b : List ℕ) → IsDataOf t ds c b
     → IsFlat ds (format c) ⊎ (array_nest (more t us) ≡ suc (nests (more t us)))
 flat_or_deep (leaf p) us [] c b h = inl (flat_format (format c) p b h)
 flat_or_deep (leaf p) us (e ∷ ds) c b h = absurd h
@@ -105,7 +105,7 @@ record Started (us : Terms) (n content : ℕ) (at mid : State) : Type 0 where
   pub shared : Option (List Descriptor × ℕ)
   pub is : mid ≡ within (length own) shared n content at
   pub took : Takes (in_container InArray 0 content at) own (after_data (length own) (in_container InArray 0 content at))
-  pub elements : (b : List ℕ) → AllSpelled shared us b → elements_of us (own ++ b)
+  pub elements : (b : List ℕ) → AllSpelled shared us b → AreElementsOf us (own ++ b)
   pub stands : (ss : List Standing) (b : List ℕ) → StandUnder shared us ss b → StandInArray us ss (own ++ b)
   pub nested : (b : List ℕ) → AllSpelled shared us b → nests us ≤ at.nesting - suc (length at.saved)
       → array_nest us ≤ at.nesting - length at.saved
@@ -236,7 +236,7 @@ whole_array_with_parts st us new c =
       whole = append_assoc (bytes_high_first o.width h.size) (bytes_high_first o.width (count us)) (x ++ b);
     }) in
     let ss = row_standings c.mid (items_of us) b c.last c.items in
-    let data_is = data_of_content (elements_of us) (s.elements b rows) in
+    let data_is = data_of_content (AreElementsOf us) (s.elements b rows) in
     let parts_are = data_of_content (StandInArray us ss) (s.stands ss b (row_stands s.shared us c.mid b c.last shared c.items)) in
     let levels : length c.mid.saved ≡ suc (length d.mid.saved) = ap (λ (z : State). length z.saved) s.is in
     let limit : c.mid.nesting ≡ d.mid.nesting = ap (λ (z : State). z.nesting) s.is in
@@ -318,7 +318,7 @@ some_content : (n : ℕ) (content own items : List ℕ) (ds : List Descriptor) (
     → 0 < max n (length content)
 some_content n content own items ds c e k = omega (arith, ap length e, length-append own items, constructor_some ds c own k)
 
-beginning : (us : Terms) (content after : List ℕ) (at : State) → elements_of us content → at.rest ≡ content ++ after
+beginning : (us : Terms) (content after : List ℕ) (at : State) → AreElementsOf us content → at.rest ≡ content ++ after
     → array_nest us ≤ at.nesting - length at.saved → Beginning us content at
 beginning none content after at (inl e) rest deep = record {
   own = [];
@@ -365,7 +365,7 @@ pub array_parts : (st : State) (us : Terms) (new : State) → length st.saved �
 array_parts st us new few next =
     let k = next.stands in
     let f = front_of st.top.shared (container array us) next.bytes (container_bare array us) k.spelled in
-    let y = container_split (format f.code) array (count us) (elements_of us) f.data_ f.spelled in
+    let y = container_split (format f.code) array (count us) (AreElementsOf us) f.data_ f.spelled in
     let own = f.own in
     let content = y.content in
     let n = count us in

@@ -6,7 +6,7 @@ use Rattle.std.specs.Int.{bytes_high_first}
 use Rattle.amqp_model.specs.Term.{Container, list, map, array, Term, Terms, container, none, more, count, Descriptor}
 use Rattle.amqp_model.specs.Items.{items_of}
 use Rattle.amqp_model.specs.Constructors.{Format, fixed, variable, compound, unknown, format}
-use Rattle.amqp_model.specs.Spelling.{IsSize, ContainerData, IsKnown, Constructor, data_of, enc, items_of as items_spelled}
+use Rattle.amqp_model.specs.Spelling.{IsSize, ContainerData, IsKnown, Constructor, IsDataOf, IsSpelling, AreItemsOf as items_spelled}
 use Rattle.amqp_model.specs.Measures.{nest, nests, nodes, all_nodes}
 use Rattle.amqp_model.specs.Standing.{Standing, StandWhole, StandAsData, StandIn, Parts}
 use Rattle.amqp_decoder.specs.declared.frame.Place.{Place}
@@ -169,12 +169,12 @@ row_stands (Some (ds, c)) (more t us) st b st' e (s, r, f, k, row) =
 
 -- the items of a list or a map
 all_items : (us : Terms) (b : List ℕ) → AllSpelled None us b → items_spelled us b
-unfolding enc
+unfolding IsSpelling
 all_items none b h = h
 all_items (more t us) b (s, r, e, h, hs) = (s, r, e, h, all_items us r hs)
 
 items_all : (us : Terms) (b : List ℕ) → items_spelled us b → AllSpelled None us b
-unfolding enc
+unfolding IsSpelling
 items_all none b h = h
 items_all (more t us) b (s, r, e, h, hs) = (s, r, e, h, items_all us r hs)
 
@@ -185,19 +185,19 @@ IsRow map = Unit {0}
 IsRow array = ⊥
 
 container_data : (kind : Container) (us : Terms) (c : ℕ) (b : List ℕ) → IsRow kind → IsCount kind (count us)
-    → ContainerData (format c) kind (count us) (items_spelled us) b → data_of (container kind us) [] c b
+    → ContainerData (format c) kind (count us) (items_spelled us) b → IsDataOf (container kind us) [] c b
 container_data list us c b is n d = d
 container_data map us c b is n d = (n, d)
 container_data array us c b is n d = absurd is
 
-data_container : (kind : Container) (us : Terms) (c : ℕ) (b : List ℕ) → IsRow kind → data_of (container kind us) [] c b
+data_container : (kind : Container) (us : Terms) (c : ℕ) (b : List ℕ) → IsRow kind → IsDataOf (container kind us) [] c b
     → IsCount kind (count us) × ContainerData (format c) kind (count us) (items_spelled us) b
 data_container list us c b is d = (tt, d)
 data_container map us c b is d = d
 data_container array us c b is d = absurd is
 
 pub container_bare : (kind : Container) (us : Terms) (f : Descriptor) (ds : List Descriptor) (c : ℕ) (b : List ℕ)
-    → data_of (container kind us) (f ∷ ds) c b → ⊥
+    → IsDataOf (container kind us) (f ∷ ds) c b → ⊥
 container_bare list us f ds c b d = d
 container_bare map us f ds c b d = d
 container_bare array us f ds c b d = d
@@ -260,10 +260,10 @@ split_container F kind n C d s =
     subst (λ G. ContainerData G kind n C d) (sym s.announced) (refl, s.size, s.content, s.sized, s.inner, s.fits, s.few, s.whole)
 
 pub first_spelled : (o : Option (List Descriptor × ℕ)) (c : ℕ) (own b : List ℕ) (t : Term) → IsFirst o c own → IsKnown (format c)
-    → data_of t [] c b → SpellsAs (standing o (own ++ b)) t
-unfolding enc
+    → IsDataOf t [] c b → SpellsAs (standing o (own ++ b)) t
+unfolding IsSpelling
 first_spelled None c own b t first known d = ([], c, omega arith, (c ∷ [], b, ap (λ l. l ++ b) first, (refl, known), d))
-first_spelled (Some ([], k)) c own b t (e, f) known d = subst (λ x. data_of t [] k (x ++ b)) (sym e) (subst (λ x. data_of t [] x b) f d)
+first_spelled (Some ([], k)) c own b t (e, f) known d = subst (λ x. IsDataOf t [] k (x ++ b)) (sym e) (subst (λ x. IsDataOf t [] x b) f d)
 first_spelled (Some (e ∷ ds, k)) c own b t (f, g) known d = absurd (subst (λ x. IsKnown (format x)) g known)
 
 pub first_parts : (o : Option (List Descriptor × ℕ)) (c : ℕ) (own b : List ℕ) (kind : Container) (us : Terms) (ss : List Standing)
@@ -286,17 +286,17 @@ pub record Front (o : Option (List Descriptor × ℕ)) (t : Term) (s : List ℕ)
   pub data_ : List ℕ
   pub whole : s ≡ own ++ data_
   pub first : IsFirst o code own
-  pub spelled : data_of t [] code data_
+  pub spelled : IsDataOf t [] code data_
 
 front_own : (t : Term) (ds : List Descriptor) (c : ℕ) (first second s : List ℕ)
-    → ((f : Descriptor) (ds : List Descriptor) (c : ℕ) (b : List ℕ) → data_of t (f ∷ ds) c b → ⊥) → s ≡ first ++ second
-    → Constructor ds c first → data_of t ds c second → Front None t s
+    → ((f : Descriptor) (ds : List Descriptor) (c : ℕ) (b : List ℕ) → IsDataOf t (f ∷ ds) c b → ⊥) → s ≡ first ++ second
+    → Constructor ds c first → IsDataOf t ds c second → Front None t s
 front_own t [] c first second s bare e k d = record { code = c; own = first; data_ = second; whole = e; first = k.0; spelled = d }
 front_own t (f ∷ ds) c first second s bare e k d = absurd (bare f ds c second d)
 
 pub front_of : (o : Option (List Descriptor × ℕ)) (t : Term) (s : List ℕ)
-    → ((f : Descriptor) (ds : List Descriptor) (c : ℕ) (b : List ℕ) → data_of t (f ∷ ds) c b → ⊥) → SpellsAs (standing o s) t → Front o t s
-unfolding enc
+    → ((f : Descriptor) (ds : List Descriptor) (c : ℕ) (b : List ℕ) → IsDataOf t (f ∷ ds) c b → ⊥) → SpellsAs (standing o s) t → Front o t s
+unfolding IsSpelling
 front_of None t s bare (ds, c, few, (first, second, e, k, d)) = front_own t ds c first second s bare e k d
 front_of (Some ([], k)) t s bare d = record { code = k; own = []; data_ = s; whole = refl; first = (refl, refl); spelled = d }
 front_of (Some (f ∷ ds, k)) t s bare d = absurd (bare f ds k s d)

@@ -2,7 +2,7 @@
 use Rattle.std.proofs.Common.{◌≡◌, ◌≤◌, ℕ, Option, List, [], refl, ap, ◌∙◌, arith}
 use Rattle.amqp_model.specs.Term.{Term, leaf, container, described, kept, barred}
 use Rattle.amqp_model.specs.Constructors.{Format, fixed, variable, compound, unknown, format}
-use Rattle.amqp_model.specs.Spelling.{IsKnown, enc}
+use Rattle.amqp_model.specs.Spelling.{IsKnown, IsSpelling}
 use Rattle.amqp_model.specs.Measures.{nodes}
 use Rattle.amqp_model.proofs.Unique.{fronts}
 use Rattle.amqp_lengths.specs.Measured.{IsMeasured}
@@ -42,5 +42,5 @@ pub may_begin : (o : Option ℕ) (t : Term) (c : ℕ) → Has o (nodes t) → Ha
 may_begin o t c h = one_may_begin o c (has_less o 1 (nodes t) (some_nodes t) h)
 
 -- what was measured is the term's
-pub measured_nodes : (n k : ℕ) (b : List ℕ) (t : Term) → IsMeasured n k b → enc b t → nodes t ≡ n
+pub measured_nodes : (n k : ℕ) (b : List ℕ) (t : Term) → IsMeasured n k b → IsSpelling b t → nodes t ≡ n
 measured_nodes n k b t (u, h, is, deep, most) g = ap nodes (fronts b b [] [] t u g h refl).1 ∙ is

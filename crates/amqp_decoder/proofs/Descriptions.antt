@@ -4,7 +4,7 @@ use Rattle.std.proofs.Common.{◌≡◌, ℕ, ◌+◌, ◌<◌, ◌≤◌, List,
 use Rattle.std.proofs.Common.{ap, ap₂, ◌∙◌, subst, arith, append_assoc, length-append, drop-drop}
 use Rattle.std.proofs.lemmas.List.{drop_at}
 use Rattle.amqp_model.specs.Term.{list, map, array, Descriptor, Term, leaf, container, described, kept, barred}
-use Rattle.amqp_model.specs.Spelling.{Names, enc, data_of}
+use Rattle.amqp_model.specs.Spelling.{Names, IsSpelling, IsDataOf}
 use Rattle.amqp_model.specs.Measures.{nest, nodes}
 use Rattle.amqp_model.specs.Standing.{part, Parts}
 use Rattle.amqp_decoder.specs.declared.frame.Place.TheVariants.{InDescribed}
@@ -19,7 +19,7 @@ use Rattle.amqp_decoder.proofs.Steps.{has_none, lower_none}
 use Rattle.amqp_decoder.proofs.ReadPrimitives.{has_add, has_front, has_rest, lower-lower, minus-minus}
 
 -- a term nests at least as deep as it is described
-marks_nest : (t : Term) (ds : List Descriptor) (c : ℕ) (b : List ℕ) → data_of t ds c b → length ds ≤ nest t
+marks_nest : (t : Term) (ds : List Descriptor) (c : ℕ) (b : List ℕ) → IsDataOf t ds c b → length ds ≤ nest t
 marks_nest t [] c b h = omega arith
 marks_nest (described d t) (e ∷ ds) c b h = omega (arith, marks_nest t ds c b h.1)
 marks_nest (leaf p) (e ∷ ds) c b h = absurd h
@@ -31,7 +31,7 @@ marks_nest (barred r) (e ∷ ds) c b h = absurd h
 
 described_spelled : (o : Option (List Descriptor × ℕ)) (first own s : List ℕ) (d : Descriptor) (t : Term) → nest t < 128 → IsFirst o 0 first
     → IsDescriptor o d own → SpellsAs (standing (behind o) s) t → SpellsAs (standing o (first ++ (own ++ s))) (described d t)
-unfolding enc
+unfolding IsSpelling
 described_spelled None first own s d t few f n (ds, c, _, (h, x, e, k, data_)) = (
   d ∷ ds,
   c,
@@ -46,8 +46,8 @@ described_spelled None first own s d t few f n (ds, c, _, (h, x, e, k, data_)) =
 )
 described_spelled (Some ([], k)) first own s d t few f n h = absurd n
 described_spelled (Some (m ∷ ds, k)) first own s d t few f n h =
-    subst (λ l. data_of (described d t) (m ∷ ds) k (l ++ (own ++ s))) (sym f.0)
-    (subst (λ l. data_of (described d t) (m ∷ ds) k (l ++ s)) (sym n.0) (n.1, h))
+    subst (λ l. IsDataOf (described d t) (m ∷ ds) k (l ++ (own ++ s))) (sym f.0)
+    (subst (λ l. IsDataOf (described d t) (m ∷ ds) k (l ++ s)) (sym n.0) (n.1, h))
 
 described_parts : (o : Option (List Descriptor × ℕ)) (first own s : List ℕ) (d : Descriptor) (t : Term) → IsFirst o 0 first
     → IsDescriptor o d own → Parts (standing o (first ++ (own ++ s))) (described d t) (standing (behind o) s ∷ [])
@@ -140,7 +140,7 @@ described_term st d t b bound h = let x = described_with_parts st d t b bound h 
 
 pub described_split : (o : Option (List Descriptor × ℕ)) (z : List ℕ) (d : Descriptor) (t : Term) → SpellsAs (standing o z) (described d t)
     → (first own s : List ℕ) × IsFirst o 0 first × IsDescriptor o d own × (z ≡ first ++ (own ++ s)) × SpellsAs (standing (behind o) s) t
-unfolding enc
+unfolding IsSpelling
 described_split None z d t ([], c, few, (h, x, e, k, data_)) = absurd data_
 described_split None z d t (f ∷ ds, c, few, (h, x, e, (n, r, e', names, k), data_)) = (
   0 ∷ [],

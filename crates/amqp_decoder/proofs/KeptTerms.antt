@@ -5,7 +5,7 @@ use Rattle.std.proofs.lemmas.List.{drop_at, take-append-drop}
 use Rattle.std.specs.Int.{bytes_high_first}
 use Rattle.amqp_model.specs.Term.{Term, Descriptor}
 use Rattle.amqp_model.specs.Constructors.{Format, fixed, variable, compound, unknown, format}
-use Rattle.amqp_model.specs.Spelling.{IsKnown, Constructor, enc}
+use Rattle.amqp_model.specs.Spelling.{IsKnown, Constructor, IsSpelling}
 use Rattle.amqp_model.specs.Measures.{nest, nodes}
 use Rattle.amqp_model.proofs.Bytes.{rest, field, length-bytes}
 use Rattle.amqp_model.proofs.Same.{constructor_same}
@@ -65,8 +65,8 @@ pub record Spelling (b : List ℕ) : Type 0 where
   pub data_ : List ℕ
   pub whole : Whole code own data_ b
 
-spelling : (b : List ℕ) (t : Term) → enc b t → Spelling b
-unfolding enc
+spelling : (b : List ℕ) (t : Term) → IsSpelling b t → Spelling b
+unfolding IsSpelling
 spelling b t (ds, c, few, (first, second, is, k, d)) =
     record {
       code = c;
@@ -106,7 +106,7 @@ whole_of st m m' ds c d t u h = record { descriptors = ds; few = t.few; construc
 
 -- where a fault stands, no term does
 pub misspelled_not : (st : State) (e : Error) (s after : List ℕ) (t : Term) → SpellingFault st e → Has st.top.left (length s)
-    → st.rest ≡ s ++ after → enc s t → nest t ≤ st.nesting - length st.saved → ⊥
+    → st.rest ≡ s ++ after → IsSpelling s t → nest t ≤ st.nesting - length st.saved → ⊥
 misspelled_not st e s after t f room is spelled nested = not f
   where
     w : Spelling s

@@ -19,6 +19,7 @@ pub mod Opening
 pub mod Peeks
 pub mod Quick
 pub mod ReadPrimitives
+pub mod Reserve
 pub mod Rooms
 pub mod RowParts
 pub mod Rows

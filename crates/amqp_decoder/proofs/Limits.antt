@@ -1,9 +1,9 @@
 -- The bytes that a limit leaves.
-use Rattle.std.proofs.Common.{◌≡◌, ◌≤◌, ◌<◌, ℕ, ◌-◌, Bool, true, false, cond, eqb, Option, Some, None, unwrap_or, IsTrue, ◌↔◌, refl, sym, ap, ◌∙◌, subst}
+use Rattle.std.proofs.Common.{◌≡◌, ◌≤◌, ◌<◌, ℕ, ◌-◌, Bool, true, false, cond, eqb, nat_lt, Option, Some, None, unwrap_or, IsTrue, ◌↔◌, refl, sym, ap, ◌∙◌, subst}
 use Rattle.std.proofs.Common.{arith}
 use Rattle.std.proofs.lemmas.Bool.{eqb-true, eq-eqb, ne_eqb}
 use Rattle.amqp_wire.specs.Limits.{unlimited, limit_of}
-use Rattle.amqp_decoder.specs.State.{Has, lower, left_in, is_sized, emptied}
+use Rattle.amqp_decoder.specs.State.{Has, lower, left_in, is_sized, is_free, emptied}
 
 limited : (n : ℕ) → (n ≡ unlimited → ⊥) → limit_of n ≡ Some n
 limited n some = ap (λ b. cond b None (Some n)) (ne_eqb n unlimited some)
@@ -82,3 +82,20 @@ within_none o b n m is same few =
 
 pub not_sized : (o : Option ℕ) (l : ℕ) (limit : Option ℕ) → o ≡ Some l → cond (is_sized o) (left_in o limit) None ≡ None → ⊥
 not_sized o l limit is e = let x = unbounded o limit e in let y : Some l ≡ None = sym is ∙ x in cc
+
+-- the caller has set a limit
+none_else : (b : Bool) → cond b false false ≡ false
+none_else true = refl
+none_else false = refl
+
+pub bytes_bounded : (nesting b items : ℕ) → (b ≡ unlimited → ⊥) → is_free nesting b items ≡ false
+bytes_bounded nesting b items some =
+    ap (λ x. cond (nat_lt nesting 128) false (cond x (eqb items unlimited) false)) (ne_eqb b unlimited some) ∙ none_else (nat_lt nesting 128)
+
+pub items_bounded : (nesting b items : ℕ) → (items ≡ unlimited → ⊥) → is_free nesting b items ≡ false
+items_bounded nesting b items some =
+    ap (λ x. cond (nat_lt nesting 128) false (cond (eqb b unlimited) x false)) (ne_eqb items unlimited some)
+    ∙ ap (λ x. cond (nat_lt nesting 128) false x) (none_else (eqb b unlimited)) ∙ none_else (nat_lt nesting 128)
+
+pub nesting_bounded : (nesting b items : ℕ) → nat_lt nesting 128 ≡ true → is_free nesting b items ≡ false
+nesting_bounded nesting b items less = ap (λ x. cond x false (cond (eqb b unlimited) (eqb items unlimited) false)) less

@@ -5,7 +5,7 @@ use Rattle.std.proofs.lemmas.List.{drop_at}
 use Rattle.amqp_model.specs.Term.{Refusal, Primitive, list, map, array, Container, Term, Terms, leaf, container, described, kept, barred}
 use Rattle.amqp_model.specs.Term.{Descriptor}
 use Rattle.amqp_model.specs.Constructors.{Format, fixed, variable, compound, unknown, format}
-use Rattle.amqp_model.specs.Spelling.{PrimitiveData, IsKnown, data_of, enc}
+use Rattle.amqp_model.specs.Spelling.{PrimitiveData, IsKnown, IsDataOf, IsSpelling}
 use Rattle.amqp_model.specs.Measures.{nodes}
 use Rattle.amqp_model.proofs.Forms.{primitive_known}
 use Rattle.amqp_wire.specs.declared.error.Error.{Error}
@@ -58,22 +58,22 @@ record First (o : Option (List Descriptor × ℕ)) (t : Term) (s : List ℕ) : T
   pub first : IsFirst o code own
   pub under : IsUnder code t
 
-container_under : (kind : Container) (us : Terms) (c : ℕ) (b : List ℕ) → data_of (container kind us) [] c b → IsUnder c (container kind us)
+container_under : (kind : Container) (us : Terms) (c : ℕ) (b : List ℕ) → IsDataOf (container kind us) [] c b → IsUnder c (container kind us)
 container_under list us c b h = let s = container_split (format c) list _ _ b h in (s.width, s.announced)
 container_under map us c b h = let s = container_split (format c) map _ _ b h.1 in (s.width, s.announced)
 container_under array us c b h = let s = container_split (format c) array _ _ b h in (s.width, s.announced)
 
 unspelled : (o : Option (List Descriptor × ℕ)) (t : Term) (s : List ℕ)
-    → ((ds : List Descriptor) (c : ℕ) (b : List ℕ) → data_of t ds c b → ⊥) → SpellsAs (standing o s) t → ⊥
-unfolding enc
+    → ((ds : List Descriptor) (c : ℕ) (b : List ℕ) → IsDataOf t ds c b → ⊥) → SpellsAs (standing o s) t → ⊥
+unfolding IsSpelling
 unspelled None t s never (ds, c, few, (x, y, e, k, d)) = never ds c y d
 unspelled (Some (ds, c)) t s never d = never ds c s d
 
-never_kept : (l : List ℕ) (ds : List Descriptor) (c : ℕ) (b : List ℕ) → data_of (kept l) ds c b → ⊥
+never_kept : (l : List ℕ) (ds : List Descriptor) (c : ℕ) (b : List ℕ) → IsDataOf (kept l) ds c b → ⊥
 never_kept l [] c b d = d
 never_kept l (e ∷ ds) c b d = d
 
-never_barred : (r : Refusal) (ds : List Descriptor) (c : ℕ) (b : List ℕ) → data_of (barred r) ds c b → ⊥
+never_barred : (r : Refusal) (ds : List Descriptor) (c : ℕ) (b : List ℕ) → IsDataOf (barred r) ds c b → ⊥
 never_barred r [] c b d = d
 never_barred r (e ∷ ds) c b d = d
 

@@ -4,7 +4,7 @@ use Rattle.amqp_model.specs.Term.{Container}
 use Rattle.amqp_model.specs.Constructors.{Format, fixed, variable, compound, unknown, format}
 use Rattle.amqp_wire.specs.Codes.{is_known, refusal_of}
 use Rattle.amqp_wire.specs.declared.error.Error.TheVariants.{Memory, UnknownCode, FloatCode, WrongType, BadBool, BadChar, BadUtf8, NonAscii}
-use Rattle.amqp_wire.specs.declared.error.Error.TheVariants.{InvalidValue, Read}
+use Rattle.amqp_wire.specs.declared.error.Error.TheVariants.{InvalidValue, Read, Limit}
 use Rattle.amqp_wire.specs.declared.error.Error.{Error}
 use Rattle.amqp_decoder.specs.declared.frame.Place.{Place}
 use Rattle.amqp_decoder.specs.declared.frame.Place.TheVariants.{InArray}
@@ -179,7 +179,7 @@ announced_not_outside e out unknown st l = l
 
 -- what is named of the bytes of a term
 length_not_outside : {e : Error} → IsOutside e → (n nesting : ℕ) (b : List ℕ) → lengths.TermFault (depth_error n) nesting b e → ⊥
-length_not_outside out n nesting b f = elim (term_error (depth_error n) (depth_misspelled n) nesting b _ f) [ inl is ↦ subst IsOutside is out | inr said ↦ misspelling_inside _ said out ]
+length_not_outside out n nesting b f = elim (term_error (depth_error n) (depth_misspelled n) nesting b _ f) [ inl is ↦ subst IsOutside is out | inr said ↦ misspelling_inside _ said.0 out ]
 
 no_term_not_outside : {e : Error} → IsOutside e → (nesting : ℕ) (b : List ℕ) (st : State) → NoTerm nesting b st e → ⊥
 no_term_not_outside out nesting b st (wrong_size none f s) = size_not_outside out 0 st s
@@ -197,13 +197,21 @@ term_not_outside out st (misspelled item none f) = spelling_not_outside out st f
 term_not_outside out st (terms.too_many g full is) = subst IsOutside is out
 
 -- a call keeps the error that the bytes of a term have
-pub fails_by_length : (takes : Bool) (a b : State) (e d deep : Error) (n nesting : ℕ) (s : List ℕ) → deep ≡ depth_error n → e ≡ d → b ≡ record a { error = Some d }
-    → lengths.TermFault deep nesting s d → Fails takes a e b
-fails_by_length takes a b e d deep n nesting s named is h f =
+pub fails_by_length : (takes : Bool) (a b : State) (e d deep : Error) (n nesting : ℕ) (s : List ℕ) → deep ≡ depth_error n
+    → (deep ≡ Limit → a.failed.free ≡ false) → e ≡ d → b ≡ record a { error = Some d } → lengths.TermFault deep nesting s d → Fails takes a e b
+fails_by_length takes a b e d deep n nesting s named limited is h f =
     let plain = λ (out : IsOutside e). length_not_outside (subst IsOutside is out) n nesting s
     (subst (λ x. lengths.TermFault x nesting s d) named f) in (
       ap (λ (x : State). x.error) h ∙ ap Some (sym is),
       inl (ap (λ (x : State). x.failed) h),
       λ m. absurd (plain (subst IsOutside (sym m) tt)),
       λ r. absurd (plain (read_is_outside e r)),
+      λ l. ap (λ (x : State). x.failed.free) h ∙ limited (by_deep (sym is ∙ l)),
     )
+  where
+    by_deep : d ≡ Limit → deep ≡ Limit
+    by_deep l =
+        elim (term_error deep (subst IsMisspelling (sym named) (depth_misspelled n)) nesting s d f) [
+          | inl cut ↦ absurd (cc)
+          | inr said ↦ said.1 l
+        ]

@@ -3,7 +3,7 @@ use Rattle.std.proofs.Common.{◌≡◌, ◌≤◌, ℕ, ◌-◌, inl, inr, fals
 use Rattle.std.proofs.Common.{Result, Ok, Err, IfOk, IfErr, length, drop, length-append, ◌↔◌, min, max, refl, sym, ap, ◌∙◌, subst, arith}
 use Rattle.amqp_model.specs.Term.{Descriptor, Term}
 use Rattle.amqp_model.specs.Measures.{nodes}
-use Rattle.amqp_model.specs.Spelling.{Constructor, enc}
+use Rattle.amqp_model.specs.Spelling.{Constructor, IsSpelling}
 use Rattle.amqp_model.specs.Standing.{Standing}
 use Rattle.amqp_wire.specs.declared.error.Error.{Error}
 use Rattle.amqp_wire.specs.declared.error.Error.TheVariants.{Cut, Limit}
@@ -144,8 +144,8 @@ pub constructor_some : (ds : List Descriptor) (c : ℕ) (b : List ℕ) → Const
 constructor_some [] c b h = omega (arith, ap length h.0)
 constructor_some (d ∷ ds) c b (x, y, e, _, _) = omega (arith, ap length e)
 
-enc_some : (b : List ℕ) (t : Term) → enc b t → 1 ≤ length b
-unfolding enc
+enc_some : (b : List ℕ) (t : Term) → IsSpelling b t → 1 ≤ length b
+unfolding IsSpelling
 enc_some b t (ds, c, few, (x, y, e, h, k)) = omega (arith, ap length e, length-append x y, constructor_some ds c x h)
 
 -- a term that shares no constructor has a byte

@@ -67,14 +67,13 @@ quick_reads st code n (c ∷ b) new plain fits some long next rest e =
     (rest ∙ ap (λ x. x ∷ (b ++ drop (suc (length b)) st.rest)) same)))
 
 -- where the bytes are taken, and the value off the container
-pub quick_moved : (n k : ℕ) (s : List ℕ) (st a b d new : State) → length s ≡ n → a ≡ after_bytes (length s) st
-    → b ≡ record a { top = record a.top { left = lower a.top.left n } } → d ≡ record b { top = record b.top { items = lower b.top.items 1 } }
-    → new ≡ record d { quota = lower d.quota k } → new ≡ taken_quick n k st
-quick_moved n k s st a b d new long ea eb ed en =
+pub quick_moved : (n k : ℕ) (s : List ℕ) (st b d new : State) → length s ≡ n → b ≡ after_data (length s) st
+    → d ≡ record b { top = record b.top { items = lower b.top.items 1 } } → new ≡ record d { quota = lower d.quota k }
+    → new ≡ taken_quick n k st
+quick_moved n k s st b d new long eb ed en =
     en ∙ ap (λ (x : State). record x { quota = lower x.quota k })
-    (ed ∙ ap (λ (x : State). record x { top = record x.top { items = lower x.top.items 1 } })
-    (eb ∙ ap (λ (x : State). record x { top = record x.top { left = lower x.top.left n } }) ea))
-    ∙ ap (λ j. record (taken_quick n k st) { rest = drop j st.rest; ahead = st.ahead - j }) long
+    (ed ∙ ap (λ (x : State). record x { top = record x.top { items = lower x.top.items 1 } }) eb)
+    ∙ ap (λ j. taken_quick j k st) long
 
 -- a look the quick way
 pub quick_peeks : (st : State) (c : ℕ) (new : State) → IsPlain st → (st.top.left ≡ Some 0 → ⊥)

@@ -8,7 +8,7 @@ use Rattle.std.specs.Char.{IsScalar}
 use Rattle.amqp_model.specs.Term.{Primitive, char, Descriptor, leaf}
 use Rattle.amqp_model.specs.Constructors.{Format, fixed, variable, compound, unknown, format, boolean_byte}
 use Rattle.amqp_model.specs.Measures.{nodes}
-use Rattle.amqp_model.specs.Spelling.{PrimitiveData, IsValid, Constructor, data_of, enc}
+use Rattle.amqp_model.specs.Spelling.{PrimitiveData, IsValid, Constructor, IsDataOf, IsSpelling}
 use Rattle.amqp_model.proofs.Bytes.{front, field, length-bytes}
 use Rattle.amqp_model.proofs.Forms.{primitive_known}
 use Rattle.amqp_wire.specs.declared.error.Error.{Error}
@@ -53,7 +53,7 @@ after_code own b r e f = e ∙ ap (λ x. own ++ x) f ∙ sym (append_assoc own b
 
 leaf_spelled : (o : Option (List Descriptor × ℕ)) (c : ℕ) (own b : List ℕ) (p : Primitive) → IsFirst o c own → PrimitiveData (format c) p b
     → SpellsAs (standing o (own ++ b)) (leaf p)
-unfolding enc
+unfolding IsSpelling
 leaf_spelled None c own b p first d =
     ([], c, omega arith, (c ∷ [], b, ap (λ l. l ++ b) first, (refl, primitive_known (format c) p b d), d))
 leaf_spelled (Some ([], k)) c own b p (e, f) d =
@@ -96,12 +96,12 @@ pub record Split (o : Option (List Descriptor × ℕ)) (p : Primitive) (s : List
   pub spelled : PrimitiveData (format code) p data_
 
 split_own : (p : Primitive) (ds : List Descriptor) (c : ℕ) (first second s : List ℕ) → s ≡ first ++ second → Constructor ds c first
-    → data_of (leaf p) ds c second → Split None p s
+    → IsDataOf (leaf p) ds c second → Split None p s
 split_own p [] c first second s e k d = record { code = c; own = first; data_ = second; whole = e; first = k.0; spelled = d }
 split_own p (f ∷ ds) c first second s e k d = absurd d
 
 pub split_leaf : (o : Option (List Descriptor × ℕ)) (p : Primitive) (s : List ℕ) → SpellsAs (standing o s) (leaf p) → Split o p s
-unfolding enc
+unfolding IsSpelling
 split_leaf None p s (ds, c, few, (first, second, e, k, d)) = split_own p ds c first second s e k d
 split_leaf (Some ([], k)) p s d = record { code = k; own = []; data_ = s; whole = refl; first = (refl, refl); spelled = d }
 split_leaf (Some (f ∷ ds, k)) p s d = absurd d

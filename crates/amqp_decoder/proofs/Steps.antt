@@ -241,13 +241,14 @@ full_shared st c e new going item h full is kept =
 -- a call was refused behind two others
 pub refused_third : {takes : Bool} (st a m : State) (e : Error) (new : State) → Began st a → GoesOn a m → Fails false m e new
     → Refused takes st e new
-refused_third st a m e new (going, none, same) (kept, on) (error, failed, memory, read) = (
+refused_third st a m e new (going, none, same) (kept, on) (error, failed, memory, read, limit) = (
   λ d x. absurd (cc),
   λ g. (
     error,
     elim failed [ inl h ↦ inl (h ∙ on ∙ same) | inr h ↦ inr h ],
     λ h. (let no : false ≡ true = memory h in absurd (cc)),
     read,
+    limit,
   ),
 )
 

@@ -52,18 +52,6 @@ yes_known (variable w f) h = tt
 yes_known (compound k w) h = tt
 yes_known unknown h = let x : false ≡ true = h in absurd (cc)
 
-misspelled_by : (c : ℕ) (a b d k : Bool) → eqb c 0 ≡ d → is_known (format c) ≡ k → (c ≡ 0 → ⊥) → (IsKnown (format c) → ⊥)
-    → IsMisspelling (cond a (FloatCode c) (cond b (FloatCode c) (cond d (WrongType c) (cond k (WrongType c) (UnknownCode c)))))
-misspelled_by c true b d k g i some none = tt
-misspelled_by c false true d k g i some none = tt
-misspelled_by c false false true k g i some none = absurd (some (eqb-true c 0 g))
-misspelled_by c false false false true g i some none = absurd (none (yes_known (format c) i))
-misspelled_by c false false false false g i some none = tt
-
-misspelled_refusal : (c : ℕ) → (c ≡ 0 → ⊥) → (IsKnown (format c) → ⊥) → IsMisspelling (refusal_of c)
-misspelled_refusal c some none = misspelled_by c (eqb c 0x72) (eqb c 0x82) (eqb c 0) (is_known (format c)) refl refl some none
-
--- the errors of terms
 deep_by : (b : Bool) → IsMisspelling (cond b Limit Depth)
 deep_by true = tt
 deep_by false = tt
@@ -72,51 +60,67 @@ deep_by false = tt
 pub depth_misspelled : (n : ℕ) → IsMisspelling (depth_error n)
 depth_misspelled n = deep_by (nat_lt n 128)
 
-abbrev IsOfTerms : Error → Type 0
-IsOfTerms e = (e ≡ Cut) ⊎ IsMisspelling e
-
-misspelled_inside : (e : Error) → IsMisspelling e → IsMisspelling (inside e)
-misspelled_inside Cut h = tt
-misspelled_inside e h = h
-
-of_inside : (e : Error) → IsOfTerms e → IsMisspelling (inside e)
-of_inside e (inl is) = subst (λ x. IsMisspelling (inside x)) (sym is) tt
-of_inside e (inr h) = misspelled_inside e h
-
-of_value : (o : Option Primitive) (e : Error) → ValueFault o e → IsMisspelling e
-of_value None e h = subst IsMisspelling (sym h) tt
-of_value (Some (char n)) e h = subst IsMisspelling (sym h.1) tt
-of_value (Some (string s)) e h = subst IsMisspelling (sym h.1) tt
-of_value (Some (symbol s)) e h = subst IsMisspelling (sym h.1) tt
-of_value (Some p) e h = absurd h
-
-of_primitive : (F : Format) (input : List ℕ) (e : Error) → PrimitiveFault F input e → IsOfTerms e
-of_primitive F input e (primitive_wanting p h) = inl refl
-of_primitive F input e (primitive_no_value content after x b h) = inr (of_value (value_of F content) x h)
-
-of_descriptor : (input : List ℕ) (e : Error) → DescriptorFault input e → IsOfTerms e
-of_descriptor input e (descriptor_missing is) = inl refl
-of_descriptor input e (descriptor_other c after is known other) = inr tt
-of_descriptor input e (descriptor_unknown c after is some none) = inr (misspelled_refusal c some none)
-of_descriptor input e (descriptor_data c after x is code h) = of_primitive (format c) after x h
-
-of_constructor : (input : List ℕ) (e : Error) → ConstructorFault input e → IsOfTerms e
-of_constructor input e (constructor_ends n few b) = inl refl
-of_constructor input e (constructor_unknown n c after few b some none) = inr (misspelled_refusal c some none)
-of_constructor input e (constructor_long after b) = inr tt
-of_constructor input e (constructor_descriptor n after x few b h) = of_descriptor after x h
-
-of_content : (kind : Container) (w : ℕ) (input : List ℕ) (e : Error) → ContentFault kind w input e → IsOfTerms e
-of_content kind w input e (content_wanting h) = inl refl
-of_content kind w input e (content_small h) = inr tt
-of_content kind w input e (content_counted k h) = inr tt
-
+-- The errors of terms.
 -- deep: the error for values that nest too deep
 module _ (deep : Error) (said : IsMisspelling deep) where
+  -- it says of bytes that they are no term, and is a limit's only if the error for depth is
+  abbrev Says : Error → Type 0
+  Says e = IsMisspelling e × (e ≡ Limit → deep ≡ Limit)
+
+  misspelled_by : (c : ℕ) (a b d k : Bool) → eqb c 0 ≡ d → is_known (format c) ≡ k → (c ≡ 0 → ⊥) → (IsKnown (format c) → ⊥)
+      → Says (cond a (FloatCode c) (cond b (FloatCode c) (cond d (WrongType c) (cond k (WrongType c) (UnknownCode c)))))
+  misspelled_by c true b d k g i some none = (tt, λ l. absurd (cc))
+  misspelled_by c false true d k g i some none = (tt, λ l. absurd (cc))
+  misspelled_by c false false true k g i some none = absurd (some (eqb-true c 0 g))
+  misspelled_by c false false false true g i some none = absurd (none (yes_known (format c) i))
+  misspelled_by c false false false false g i some none = (tt, λ l. absurd (cc))
+
+  misspelled_refusal : (c : ℕ) → (c ≡ 0 → ⊥) → (IsKnown (format c) → ⊥) → Says (refusal_of c)
+  misspelled_refusal c some none = misspelled_by c (eqb c 0x72) (eqb c 0x82) (eqb c 0) (is_known (format c)) refl refl some none
+
+  abbrev IsOfTerms : Error → Type 0
+  IsOfTerms e = (e ≡ Cut) ⊎ Says e
+
+  misspelled_inside : (e : Error) → Says e → Says (inside e)
+  misspelled_inside Cut h = (tt, λ l. absurd (cc))
+  misspelled_inside e h = h
+
+  of_inside : (e : Error) → IsOfTerms e → Says (inside e)
+  of_inside e (inl is) = subst (λ x. Says (inside x)) (sym is) (tt, λ l. absurd (cc))
+  of_inside e (inr h) = misspelled_inside e h
+
+  of_value : (o : Option Primitive) (e : Error) → ValueFault o e → Says e
+  of_value None e h = subst Says (sym h) (tt, λ l. absurd (cc))
+  of_value (Some (char n)) e h = subst Says (sym h.1) (tt, λ l. absurd (cc))
+  of_value (Some (string s)) e h = subst Says (sym h.1) (tt, λ l. absurd (cc))
+  of_value (Some (symbol s)) e h = subst Says (sym h.1) (tt, λ l. absurd (cc))
+  of_value (Some p) e h = absurd h
+
+  of_primitive : (F : Format) (input : List ℕ) (e : Error) → PrimitiveFault F input e → IsOfTerms e
+  of_primitive F input e (primitive_wanting p h) = inl refl
+  of_primitive F input e (primitive_no_value content after x b h) = inr (of_value (value_of F content) x h)
+
+  of_descriptor : (input : List ℕ) (e : Error) → DescriptorFault input e → IsOfTerms e
+  of_descriptor input e (descriptor_missing is) = inl refl
+  of_descriptor input e (descriptor_other c after is known other) = inr (tt, λ l. absurd (cc))
+  of_descriptor input e (descriptor_unknown c after is some none) = inr (misspelled_refusal c some none)
+  of_descriptor input e (descriptor_data c after x is code h) = of_primitive (format c) after x h
+
+  of_constructor : (input : List ℕ) (e : Error) → ConstructorFault input e → IsOfTerms e
+  of_constructor input e (constructor_ends n few b) = inl refl
+  of_constructor input e (constructor_unknown n c after few b some none) = inr (misspelled_refusal c some none)
+  of_constructor input e (constructor_long after b) = inr (tt, λ l. absurd (cc))
+  of_constructor input e (constructor_descriptor n after x few b h) = of_descriptor after x h
+
+  of_content : (kind : Container) (w : ℕ) (input : List ℕ) (e : Error) → ContentFault kind w input e → IsOfTerms e
+  of_content kind w input e (content_wanting h) = inl refl
+  of_content kind w input e (content_small h) = inr (tt, λ l. absurd (cc))
+  of_content kind w input e (content_counted k h) = inr (tt, λ l. absurd (cc))
+
   mutual
     of_term : (nesting : ℕ) (input : List ℕ) (e : Error) → TermFault deep nesting input e → IsOfTerms e
     of_term nesting input e (term_constructor k b x h) = of_constructor b x h
-    of_term nesting input e (term_nests k b n c after there more) = inr said
+    of_term nesting input e (term_nests k b n c after there more) = inr (said, λ l. l)
     of_term nesting input e (term_data k b x n c left after there is h) = of_data c left after x h
 
     of_data : (code nesting : ℕ) (input : List ℕ) (e : Error) → DataFault deep code nesting input e → IsOfTerms e
@@ -126,29 +130,29 @@ module _ (deep : Error) (said : IsMisspelling deep) where
 
     of_container : (kind : Container) (w nesting : ℕ) (input : List ℕ) (e : Error) → ContainerFault deep kind w nesting input e → IsOfTerms e
     of_container kind w nesting input e (container_content k v m b x h) = of_content k v b x h
-    of_container kind w nesting input e (container_deep k v m b after there is) = inr said
-    of_container kind w nesting input e (container_unpaired k v m b n items after there odd) = inr tt
+    of_container kind w nesting input e (container_deep k v m b after there is) = inr (said, λ l. l)
+    of_container kind w nesting input e (container_unpaired k v m b n items after there odd) = inr (tt, λ l. absurd (cc))
     of_container kind w nesting input e (container_items k v m b x n left items after there is h) = inr (of_items left n items x h)
 
-    of_items : (nesting n : ℕ) (content : List ℕ) (e : Error) → ItemsFault deep nesting n content e → IsMisspelling e
+    of_items : (nesting n : ℕ) (content : List ℕ) (e : Error) → ItemsFault deep nesting n content e → Says e
     of_items nesting n content e (items_fault k m b x done after less there h) = of_inside x (of_term k after x h)
-    of_items nesting n content e (items_over k m b after there some) = tt
+    of_items nesting n content e (items_over k m b after there some) = (tt, λ l. absurd (cc))
 
     of_array : (w nesting : ℕ) (input : List ℕ) (e : Error) → ArrayFault deep w nesting input e → IsOfTerms e
     of_array w nesting input e (array_content v m b x h) = of_content array v b x h
     of_array w nesting input e (array_elements v m b x n items after there h) = inr (of_elements m n items x h)
 
-    of_elements : (nesting n : ℕ) (content : List ℕ) (e : Error) → ElementsFault deep nesting n content e → IsMisspelling e
-    of_elements nesting n content e (elements_missing k j b is some) = tt
+    of_elements : (nesting n : ℕ) (content : List ℕ) (e : Error) → ElementsFault deep nesting n content e → Says e
+    of_elements nesting n content e (elements_missing k j b is some) = (tt, λ l. absurd (cc))
     of_elements nesting n content e (elements_constructor k j b x some h) = of_inside x (of_constructor b x h)
-    of_elements nesting n content e (elements_over k j b m c after there is some) = tt
-    of_elements nesting n content e (elements_empty k j b m c after there some h) = tt
-    of_elements nesting n content e (elements_deep k j b m c after there some h) = said
+    of_elements nesting n content e (elements_over k j b m c after there is some) = (tt, λ l. absurd (cc))
+    of_elements nesting n content e (elements_empty k j b m c after there some h) = (tt, λ l. absurd (cc))
+    of_elements nesting n content e (elements_deep k j b m c after there some h) = (said, λ l. l)
     of_elements nesting n content e (elements_data k j b x m c left after there some is h) = of_shared c left j after x h
 
-    of_shared : (code nesting n : ℕ) (content : List ℕ) (e : Error) → SharedFault deep code nesting n content e → IsMisspelling e
+    of_shared : (code nesting n : ℕ) (content : List ℕ) (e : Error) → SharedFault deep code nesting n content e → Says e
     of_shared code nesting n content e (shared_fault c k m b x done after less there h) = of_inside x (of_data c k after x h)
-    of_shared code nesting n content e (shared_over c k m b after there some) = tt
+    of_shared code nesting n content e (shared_over c k m b after there some) = (tt, λ l. absurd (cc))
 
   -- bytes that are no term are refused since they end, or as such
   pub term_error : (nesting : ℕ) (input : List ℕ) (e : Error) → TermFault deep nesting input e → (e ≡ Cut) ⊎ IsMisspelling e

@@ -16,6 +16,7 @@ peeked (Ok o) st m new t looks is f = record {
   place = t.place;
   top = t.top;
   saved = t.saved;
+  among = t.among;
   answer = λ c. subst (λ (z : State). (o ≡ Some c) ↔ IsSectionAhead z.rest c) t.kept (is c);
   kept = subst (λ z. LooksOn z new) t.kept looks;
 }

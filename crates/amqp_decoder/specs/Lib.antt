@@ -8,6 +8,7 @@ pub mod Described
 pub mod Items
 pub mod Arrays
 pub mod Rooms
+pub mod Reserve
 pub mod Row
 pub mod Terms
 pub mod Misspelled

@@ -3,7 +3,7 @@ use Rattle.std.specs.Prelude.{◌≡◌, ℕ, ◌-◌, ◌^◌, ◌<◌, ◌≤�
 use Rattle.std.specs.Int.{bytes_high_first}
 use Rattle.amqp_model.specs.Term.{Primitive, Descriptor, Term, leaf}
 use Rattle.amqp_model.specs.Constructors.{Format, fixed, variable, compound, unknown, format}
-use Rattle.amqp_model.specs.Spelling.{PrimitiveData, data_of, enc}
+use Rattle.amqp_model.specs.Spelling.{PrimitiveData, IsDataOf, IsSpelling}
 use Rattle.amqp_model.specs.Measures.{nest, nodes}
 use Rattle.amqp_model.specs.Standing.{Standing, whole, part}
 use Rattle.amqp_wire.specs.declared.error.Error.{Error}
@@ -20,8 +20,8 @@ standing None s = whole s
 standing (Some (ds, c)) s = part ds c s
 
 abbrev pub SpellsAs : Standing → Term → Type 0
-SpellsAs (whole b) t = enc b t
-SpellsAs (part ds c b) t = data_of t ds c b
+SpellsAs (whole b) t = IsSpelling b t
+SpellsAs (part ds c b) t = IsDataOf t ds c b
 
 -- The term stands next, as these bytes.
 pub record Stands (st : State) (s : List ℕ) (t : Term) : Type 0 where

@@ -5,6 +5,7 @@ use Rattle.amqp_model.specs.Term.{Descriptor}
 use Rattle.amqp_model.specs.Constructors.{Format, unknown, format}
 use Rattle.amqp_wire.specs.declared.error.Error.{Error}
 use Rattle.amqp_wire.specs.declared.error.Error.TheVariants.{Depth, Limit}
+use Rattle.amqp_wire.specs.Limits.{unlimited}
 use Rattle.amqp_wire.specs.declared.descriptor.Descriptor.{Descriptor as DescriptorValue}
 pub use Rattle.amqp_lookahead.specs.Members.{descriptor_of}
 use Rattle.amqp_decoder.specs.declared.frame.OpenContainer.{OpenContainer}
@@ -22,6 +23,14 @@ pub record Open : Type 0 where
   pub sized : Bool
   pub shared : Option (List Descriptor × ℕ)
 
+-- broken: the source has failed
+-- alone: one term is read, and what stands behind it isn't looked at
+-- free: no limit of the caller bounds what is read
+pub record Course : Type 0 where
+  pub broken : Bool
+  pub alone : Bool
+  pub free : Bool
+
 -- rest: the bytes to the end of the input
 -- ahead: how many of them were looked at
 -- source: the borrow that the source is
@@ -30,7 +39,7 @@ pub record Open : Type 0 where
 -- nesting: how many containers and described values may be nested, at most 128
 -- quota: how many more values may begin, where a limit of the caller says it; a described value is one with its descriptor
 -- error: what was refused
--- failed: the source has failed
+-- failed: whether the source has failed, whether one term is read alone, and whether there are no limits of the caller
 pub record State : Type 0 where
   pub rest : List ℕ
   pub ahead : ℕ
@@ -40,11 +49,15 @@ pub record State : Type 0 where
   pub nesting : ℕ
   pub quota : Option ℕ
   pub error : Option Error
-  pub failed : Bool
+  pub failed : Course
 
 -- The error for a value that nests deeper: below 128, that is a limit of the caller.
 abbrev pub depth_error : ℕ → Error
 depth_error nesting = cond (nat_lt nesting 128) Limit Depth
+
+-- No limit of the caller bounds what is read: it may nest 128 deep, and have as many bytes and values as there are.
+abbrev pub is_free : ℕ → ℕ → ℕ → Bool
+is_free nesting bytes items = cond (nat_lt nesting 128) false (cond (eqb bytes unlimited) (eqb items unlimited) false)
 
 -- The top level, where the limit leaves so many bytes.
 abbrev pub top_level : Option ℕ → Open

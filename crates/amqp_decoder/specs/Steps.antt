@@ -1,5 +1,5 @@
 -- What the steps of a call promise.
-use Rattle.std.specs.Prelude.{◌≡◌, ℕ, ◌<◌, ◌≤◌, ◌⊎◌, Bool, true, List, ◌++◌, length, drop, Option, Some, None, Result, Ok, Err}
+use Rattle.std.specs.Prelude.{◌≡◌, ℕ, ◌<◌, ◌≤◌, ◌⊎◌, Bool, true, false, List, ◌++◌, length, drop, Option, Some, None, Result, Ok, Err}
 use Rattle.amqp_wire.specs.declared.error.Error.{Error}
 use Rattle.amqp_wire.specs.declared.error.Error.TheVariants.{Memory, Read, Cut, Size, Limit}
 use Rattle.amqp_decoder.specs.State.{State, Has, bound_of, after_data, after_bytes, announced}
@@ -25,7 +25,7 @@ RefusesBy error st e st' = st.error ≡ None → (e ≡ error) × (st' ≡ recor
 
 -- The source has failed.
 abbrev pub SourceFailed : Error → State → Type 0
-SourceFailed e st = IsReadError e × (st.failed ≡ true)
+SourceFailed e st = IsReadError e × (st.failed.broken ≡ true)
 
 -- A growth was refused, where the call takes memory, or the source has failed.
 abbrev pub IsExcused : Bool → Error → State → Type 0
@@ -97,11 +97,11 @@ pub record Stops (takes : Bool) (fault : Error → Type 0) (st : State) (e : Err
 abbrev pub GoesOn : State → State → Type 0
 GoesOn st st' = (st'.error ≡ st.error) × (st'.failed ≡ st.failed)
 
--- A call kept the error that it answers: the source's where that began to fail and only where it has, and want of memory only where the
--- call takes some.
+-- A call kept the error that it answers: the source's where that began to fail and only where it has, want of memory only where the
+-- call takes some, and a limit's only where the caller has set one.
 abbrev pub Fails : Bool → State → Error → State → Type 0
 Fails takes st e st' = (st'.error ≡ Some e) × ((st'.failed ≡ st.failed) ⊎ IsReadError e) × (e ≡ Memory → takes ≡ true)
-    × (IsReadError e → st'.failed ≡ true)
+    × (IsReadError e → st'.failed.broken ≡ true) × (e ≡ Limit → st'.failed.free ≡ false)
 
 -- What a call does that is asked of a decoder that has kept no error, whatever its source tells.
 abbrev pub Goes : {A : Type 0} → Bool → State → Result A Error → State → Type 0

@@ -1,8 +1,9 @@
 //! The state of a decoder.
-ghost use Rattle.std.specs.Prelude.{◌≡◌, [], length, drop, false, Some, None, MatchResult};
-ghost use Rattle.amqp_wire.specs.Sources.{known};
-ghost use Rattle.amqp_decoder.specs.State.{top_level};
+ghost use Rattle.std.specs.Prelude.{◌≡◌, ◌≤◌, [], length, drop, false, true, Some, None, MatchResult};
+ghost use Rattle.amqp_wire.specs.Sources.{known, Tells};
+ghost use Rattle.amqp_decoder.specs.State.{top_level, is_free};
 ghost use Rattle.amqp_wire.specs.Limits.{limit_of};
+ghost use Rattle.amqp_decoder.specs.Reserve.{Leaves};
 ghost use Rattle.amqp_decoder.specs.Rooms.{HasRoom};
 ghost use Rattle.amqp_decoder.specs.Steps.{RefusesBy};
 ghost use Rattle.amqp_wire.specs.declared.error.Error.{Error};
@@ -37,15 +38,19 @@ pub struct Decoder<R: ByteSource> {
     nesting: usize,
     bytes: u64,
     items: u64,
+    // One term is read, and what stands behind it isn't looked at.
+    alone: bool,
     descriptors: Vec<Descriptor>,
     frames: Row,
 }
 
 impl<R: ByteSource> Model for Decoder<R> {
-    ghost use Rattle.std.specs.Prelude.{◌≡◌, ◌≤◌, ◌+◌, length, vec_len};
-    ghost use Rattle.amqp_decoder.specs.State.{State, stack, open_of, limit_around, AreNested, IsLevel, AreBounded};
+    ghost use Rattle.std.specs.Prelude.{◌≡◌, ◌≤◌, ◌<◌, ◌+◌, [], ◌∷◌, true, false, length, vec_len};
+    ghost use Rattle.amqp_decoder.specs.State.{State, stack, open_of, limit_around, is_free, AreNested, IsLevel, AreBounded};
     ghost use Rattle.amqp_wire.specs.Limits.{limit_of};
+    ghost use Rattle.amqp_wire.specs.Sources.{Tells};
     ghost use Rattle.amqp_decoder.specs.Rooms.{IsRoomy};
+    ghost use Rattle.amqp_decoder.specs.Reserve.{Spared};
 
     ghost Value = { State };
 
@@ -58,12 +63,15 @@ impl<R: ByteSource> Model for Decoder<R> {
       nesting = d.nesting;
       quota = limit_of d.items;
       error = d.error;
-      failed = d.input.failed;
+      failed = record { broken = d.input.failed; alone = d.alone; free = is_free d.nesting d.bytes d.items };
     } };
 
     ghost invariant = { λ d. (d.depth ≤ d.nesting + 1) × AreNested d.depth d.frames d.top.last × (d.top.last ≤ vec_len d.descriptors) × IsLevel d.top
         × AreBounded d.depth d.frames d.top.place d.top.left × IsRoomy d.nesting d.depth (open_of d.descriptors.items (limit_of d.bytes) d.top)
-        × (d.nesting ≤ 128) × (length d.frames ≡ 129) };
+        × (d.nesting ≤ 128) × (length d.frames ≡ 129)
+        × (Tells R.remaining → d.alone ≡ true → d.input.failed ≡ false → 0 < R.reserve
+        → Spared R.reserve 0 (length d.input.rest) d.input.ahead (open_of [] (limit_of d.bytes) d.top
+        ∷ stack [] (limit_around d.top.left (limit_of d.bytes)) d.depth d.frames)) };
 }
 
 impl<R: ByteSource> Decoder<R> {
@@ -112,7 +120,7 @@ pub fn decoder_of<R: ByteSource>(source: R, alloc: Global) -> Decoder<R>
       nesting = 128;
       quota = None;
       error = None;
-      failed = R.failed source;
+      failed = record { broken = R.failed source; alone = false; free = true };
     } }
 {
     decoder_within(source, &Limits::greatest(), alloc)
@@ -129,7 +137,62 @@ pub fn decoder_within<R: ByteSource>(source: R, limits: &Limits, alloc: Global) 
       nesting = limits.now.nesting;
       quota = limit_of limits.now.items;
       error = None;
-      failed = R.failed source;
+      failed = record {
+        broken = R.failed source;
+        alone = false;
+        free = is_free limits.now.nesting limits.now.bytes limits.now.items;
+      };
+    } }
+{
+    decoder_at_top(source, limits, false, alloc)
+}
+
+/// A decoder of the source's bytes, at the top level, within these limits, which reads one term and looks at nothing behind it. It
+/// takes no more bytes than the limit says, also where it refuses.
+pub fn decoder_of_term<R: ByteSource>(source: R, limits: &Limits, alloc: Global) -> Decoder<R>
+    requires { Tells R.remaining → Leaves R.reserve (limit_of limits.now.bytes) (length (known (R.remaining source))) }
+    ensures { result ≡ record {
+      rest = known (R.remaining source);
+      ahead = 0;
+      source = R.name source;
+      top = top_level (limit_of limits.now.bytes);
+      saved = [];
+      nesting = limits.now.nesting;
+      quota = limit_of limits.now.items;
+      error = None;
+      failed = record {
+        broken = R.failed source;
+        alone = true;
+        free = is_free limits.now.nesting limits.now.bytes limits.now.items;
+      };
+    } }
+{
+    decoder_at_top(source, limits, true, alloc)
+}
+
+// The same, which reads one term alone or not.
+fn decoder_at_top<R: ByteSource>(
+    source: R,
+    limits: &Limits,
+    alone: bool,
+    alloc: Global,
+) -> Decoder<R>
+    requires { Tells R.remaining → alone ≡ true
+        → Leaves R.reserve (limit_of limits.now.bytes) (length (known (R.remaining source))) }
+    ensures { result ≡ record {
+      rest = known (R.remaining source);
+      ahead = 0;
+      source = R.name source;
+      top = top_level (limit_of limits.now.bytes);
+      saved = [];
+      nesting = limits.now.nesting;
+      quota = limit_of limits.now.items;
+      error = None;
+      failed = record {
+        broken = R.failed source;
+        alone = alone;
+        free = is_free limits.now.nesting limits.now.bytes limits.now.items;
+      };
     } }
 {
     Decoder {
@@ -140,6 +203,7 @@ pub fn decoder_within<R: ByteSource>(source: R, limits: &Limits, alloc: Global) 
         nesting: limits.nesting() as usize,
         bytes: limits.bytes(),
         items: limits.items(),
+        alone,
         descriptors: Vec::new(alloc),
         frames: Row::new(),
     }
@@ -149,7 +213,9 @@ pub fn decoder_within<R: ByteSource>(source: R, limits: &Limits, alloc: Global) 
 pub fn source_of<R: ByteSource>(decoder: Decoder<R>) -> R
     ensures named { R.name result ≡ decoder.source }
     ensures rest { known (R.remaining result) ≡ drop decoder.ahead decoder.rest }
-    ensures failed { R.failed result ≡ decoder.failed }
+    ensures failed { R.failed result ≡ decoder.failed.broken }
+    ensures kept { Tells R.remaining → decoder.failed.alone ≡ true → decoder.failed.broken ≡ false
+        → R.reserve ≤ length (known (R.remaining result)) }
 {
     let Decoder { input, .. } = decoder;
     input.into_source()
@@ -158,7 +224,7 @@ pub fn source_of<R: ByteSource>(decoder: Decoder<R>) -> R
 /// How many bytes of the decoder's input are left.
 pub fn unread(decoder: &Decoder<&[u8]>) -> usize
     ensures count { result ≡ length decoder.now.rest }
-    ensures whole { decoder.now.failed ≡ false }
+    ensures whole { decoder.now.failed.broken ≡ false }
 {
     decoder.input.unread()
 }

@@ -12,6 +12,7 @@ ghost use Rattle.amqp_decoder.specs.State.{after_bytes, descriptor_of};
 ghost use Rattle.amqp_decoder.specs.Steps.{Answers, Fails, Goes, Tries};
 ghost use Rattle.amqp_decoder.specs.Reading.{ReadsCode};
 ghost use Rattle.amqp_decoder.specs.Primitives.{AnswersFault};
+ghost use Rattle.amqp_decoder.specs.Reserve.{Spares};
 ghost use Rattle.amqp_decoder.specs.Rooms.{HasRoom};
 ghost use Rattle.amqp_decoder.specs.Described.{IsUnmarked, IsMark, TakesDescriptor, OpensDescribed, OpenFault, other_kind, symbol_code};
 ghost use Rattle.amqp_decoder.specs.Described.{IsDescribable, DescribedFault, MissesDescriptor, TakesPlace, MissesName, OpensOneOf};
@@ -125,6 +126,7 @@ impl<R: ByteSource> Decoder<R> {
 
     // The place of the member whose name the next so many bytes are.
     fn place_of_text(&mut self, members: Members<'_>, len: u32) -> Result<Option<usize>, Error>
+        requires { Tells R.remaining → Spares R.reserve len self.old }
         ensures ok { Tells R.remaining → IfOk result (λ place. (len ≤ length self.old.rest) × IsAscii (take len self.old.rest)
             × (place ≡ place_in members.now (of_name (take len self.old.rest))) × (self.new ≡ after_bytes len self.old)) }
         ensures err { Tells R.remaining → IfErr result (λ e. MissesName len self.old e self.new) }

@@ -13,4 +13,4 @@ mod terms;
 mod texts;
 
 pub use amqp_lengths::term_len;
-pub use decoder::{Decoder, decoder_of, decoder_within, source_of, unread};
+pub use decoder::{Decoder, decoder_of, decoder_of_term, decoder_within, source_of, unread};

@@ -5,6 +5,7 @@ ghost use Rattle.amqp_model.specs.Term.{binary, string, symbol};
 ghost use Rattle.amqp_wire.specs.Sources.{Tells};
 ghost use Rattle.amqp_lookahead.specs.Kinds.{binaries, strings, symbols};
 ghost use Rattle.amqp_decoder.specs.State.{after_bytes};
+ghost use Rattle.amqp_decoder.specs.Reserve.{Spares};
 ghost use Rattle.amqp_decoder.specs.Steps.{Answers, Misses, Goes, Tries};
 ghost use Rattle.amqp_decoder.specs.Reading.{AnswersRead};
 ghost use Rattle.amqp_decoder.specs.Primitives.{ReadsSize, SizedFault, ReadsSized, ReadsText, TextFault, AnswersFault, ReadsValue, Means};
@@ -25,6 +26,7 @@ impl<R: ByteSource> Decoder<R> {
     fn keep_pieces<const N: usize>(&mut self, len: u32, text: &mut Vec<u8>) -> Result<(), Error>
         requires some { 0 < N }
         requires few { N ≤ 4096 }
+        requires spares { Tells R.remaining → Spares R.reserve len self.old }
         ensures ok { Tells R.remaining → IfOk result (λ _. (len ≤ length self.old.rest)
             × (text.new.items ≡ text.old.items ++ take len self.old.rest) × (self.new ≡ after_bytes len self.old)) }
         ensures err { Tells R.remaining → IfErr result (λ e. Misses true len self.old e self.new) }
@@ -47,6 +49,7 @@ impl<R: ByteSource> Decoder<R> {
     // The same, in pieces that suit the length.
     #[cold]
     fn keep_in_pieces(&mut self, len: u32, text: &mut Vec<u8>) -> Result<(), Error>
+        requires { Tells R.remaining → Spares R.reserve len self.old }
         ensures ok { Tells R.remaining → IfOk result (λ _. (len ≤ length self.old.rest)
             × (text.new.items ≡ text.old.items ++ take len self.old.rest) × (self.new ≡ after_bytes len self.old)) }
         ensures err { Tells R.remaining → IfErr result (λ e. Misses true len self.old e self.new) }
@@ -62,6 +65,7 @@ impl<R: ByteSource> Decoder<R> {
     // The same, at once where the bytes are at hand.
     #[inline(always)]
     pub(crate) fn keep(&mut self, len: u32, text: &mut Vec<u8>) -> Result<(), Error>
+        requires { Tells R.remaining → Spares R.reserve len self.old }
         ensures ok { Tells R.remaining → IfOk result (λ _. (len ≤ length self.old.rest)
             × (text.new.items ≡ text.old.items ++ take len self.old.rest) × (self.new ≡ after_bytes len self.old)) }
         ensures err { Tells R.remaining → IfErr result (λ e. Misses true len self.old e self.new) }
@@ -77,6 +81,7 @@ impl<R: ByteSource> Decoder<R> {
     #[inline(always)]
     pub(crate) fn text_len(&mut self, wide: bool) -> Result<u32, Error>
         ensures ok { Tells R.remaining → IfOk result (λ n. ReadsSize (cond wide 4 1) self.old n self.new) }
+        ensures spares { Tells R.remaining → IfOk result (λ n. Spares R.reserve n self.new) }
         ensures err { Tells R.remaining → IfErr result (λ e. SizedFault false (cond wide 4 1) self.old e self.new) }
         ensures goes { Goes false self.old result self.new }
     {

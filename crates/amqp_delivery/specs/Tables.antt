@@ -2,7 +2,7 @@
 use Rattle.std.specs.Prelude.{option_map}
 use Rattle.amqp_model.specs.FieldType.{normal}
 use Rattle.amqp_enums.specs.Types.{inl, inr, codes, refl, unchanged, by_norm, TermType, boolean_type, uint_type, ulong_type, mandatory, optional}
-use Rattle.amqp_enums.specs.Types.{composite, none, field, Table, fieldless, Choices, no_more, member, Chosen, SumOf, sum_of}
+use Rattle.amqp_enums.specs.Types.{composite, none, field, ◌▸◌, plain, Table, fieldless, Choices, no_more, member, Chosen, SumOf, sum_of}
 use Rattle.amqp_primitives.specs.Types.{binary_type}
 use Rattle.amqp_fields.specs.FieldsType.{fields_type}
 use Rattle.amqp_errors.specs.Tables.{error, norm_error}
@@ -26,15 +26,11 @@ accepted = fieldless 0x24 (codes "amqp:accepted:list") refl
 
 -- Part 3, section 3.4.1
 abbrev pub received : Table Received
-received = record {
-  code = 0x23;
-  name = codes "amqp:received:list";
-  fields = field (λ v. v.section_number) (mandatory uint_type refl refl)
-      (field (λ v. v.section_offset) (mandatory ulong_type refl refl) none);
-  norm = unchanged;
-  norm_is = λ v. (refl, (refl, tt));
-  is_small = refl;
-}
+received = plain 0x23 (codes "amqp:received:list")
+    (field (λ v. v.section_number) (mandatory uint_type refl refl)
+    ▸ field (λ v. v.section_offset) (mandatory ulong_type refl refl)
+    ▸ none)
+    refl refl
 
 abbrev pub norm_rejected : Rejected → Rejected
 norm_rejected v = record v { error = option_map norm_error v.error }
@@ -44,7 +40,9 @@ abbrev pub rejected : Table Rejected
 rejected = record {
   code = 0x25;
   name = codes "amqp:rejected:list";
-  fields = field (λ v. v.error) (optional (composite error) refl refl) none;
+  fields =
+      field (λ v. v.error) (optional (composite error) refl refl)
+      ▸ none;
   norm = by_norm norm_rejected;
   norm_is = λ v. (refl, tt);
   is_small = refl;
@@ -56,50 +54,34 @@ released = fieldless 0x26 (codes "amqp:released:list") refl
 
 -- Part 3, section 3.4.5
 abbrev pub modified : Table Modified
-modified = record {
-  code = 0x27;
-  name = codes "amqp:modified:list";
-  fields = field (λ v. v.delivery_failed) (optional boolean_type refl refl)
-      (field (λ v. v.undeliverable_here) (optional boolean_type refl refl)
-      (field (λ v. v.message_annotations) (optional fields_type refl refl) none));
-  norm = unchanged;
-  norm_is = λ v. (refl, (refl, (refl, tt)));
-  is_small = refl;
-}
+modified = plain 0x27 (codes "amqp:modified:list")
+    (field (λ v. v.delivery_failed) (optional boolean_type refl refl)
+    ▸ field (λ v. v.undeliverable_here) (optional boolean_type refl refl)
+    ▸ field (λ v. v.message_annotations) (optional fields_type refl refl)
+    ▸ none)
+    refl refl
 
 -- Part 4, section 4.5.2
 abbrev pub declare : Table Declare
-declare = record {
-  code = 0x31;
-  name = codes "amqp:declare:list";
-  fields = field (λ v. v.global_id) (optional binary_type refl refl) none;
-  norm = unchanged;
-  norm_is = λ v. (refl, tt);
-  is_small = refl;
-}
+declare = plain 0x31 (codes "amqp:declare:list")
+    (field (λ v. v.global_id) (optional binary_type refl refl)
+    ▸ none)
+    refl refl
 
 -- Part 4, section 4.5.3
 abbrev pub discharge : Table Discharge
-discharge = record {
-  code = 0x32;
-  name = codes "amqp:discharge:list";
-  fields = field (λ v. v.txn_id) (mandatory binary_type refl refl)
-      (field (λ v. v.fail) (optional boolean_type refl refl) none);
-  norm = unchanged;
-  norm_is = λ v. (refl, (refl, tt));
-  is_small = refl;
-}
+discharge = plain 0x32 (codes "amqp:discharge:list")
+    (field (λ v. v.txn_id) (mandatory binary_type refl refl)
+    ▸ field (λ v. v.fail) (optional boolean_type refl refl)
+    ▸ none)
+    refl refl
 
 -- Part 4, section 4.5.5
 abbrev pub declared : Table Declared
-declared = record {
-  code = 0x33;
-  name = codes "amqp:declared:list";
-  fields = field (λ v. v.txn_id) (mandatory binary_type refl refl) none;
-  norm = unchanged;
-  norm_is = λ v. (refl, tt);
-  is_small = refl;
-}
+declared = plain 0x33 (codes "amqp:declared:list")
+    (field (λ v. v.txn_id) (mandatory binary_type refl refl)
+    ▸ none)
+    refl refl
 
 -- The outcomes in their order, and the one that a value is.
 abbrev pub ends : Choices Outcome
@@ -138,8 +120,10 @@ abbrev pub transactional_state : Table TransactionalState
 transactional_state = record {
   code = 0x34;
   name = codes "amqp:transactional-state:list";
-  fields = field (λ v. v.txn_id) (mandatory binary_type refl refl)
-      (field (λ v. v.outcome) (optional outcome refl refl) none);
+  fields =
+      field (λ v. v.txn_id) (mandatory binary_type refl refl)
+      ▸ field (λ v. v.outcome) (optional outcome refl refl)
+      ▸ none;
   norm = by_norm norm_transactional_state;
   norm_is = λ v. (refl, (refl, tt));
   is_small = refl;

@@ -2,7 +2,7 @@
 use Rattle.std.specs.Prelude.{◌≡◌, ◌<◌, ◌⊎◌, ℕ, List, length, Any}
 use Rattle.amqp_model.specs.Term.{Refusal, Term, kept}
 use Rattle.amqp_model.specs.Items.{terms_of}
-use Rattle.amqp_model.specs.Spelling.{enc}
+use Rattle.amqp_model.specs.Spelling.{IsSpelling}
 use Rattle.amqp_model.specs.Text.{Alone, text}
 use Rattle.amqp_model.specs.Measures.{nest}
 use Rattle.amqp_model.specs.Ranges.{EverywhereIn}
@@ -16,11 +16,11 @@ use Rattle.amqp_encoder.specs.Passes.{row_text}
 
 -- Kept bytes nest as deep as the term that they spell.
 abbrev pub IsNesting : (List ℕ → ℕ) → Type 0
-IsNesting deep = (b : List ℕ) (t : Term) → enc b t → deep b ≡ nest t
+IsNesting deep = (b : List ℕ) (t : Term) → IsSpelling b t → deep b ≡ nest t
 
 -- The same of the bytes that are kept in terms.
 abbrev pub KnowsDepth : (List ℕ → ℕ) → Term → Type 0
-KnowsDepth deep (kept b) = (t : Term) → enc b t → deep b ≡ nest t
+KnowsDepth deep (kept b) = (t : Term) → IsSpelling b t → deep b ≡ nest t
 KnowsDepth deep _ = Unit {0}
 
 abbrev pub KnowDepths : (List ℕ → ℕ) → List Term → Type 0

@@ -7,10 +7,11 @@ pub use Rattle.amqp_codec.specs.PrimitiveTypes.{uint_type, ulong_type, byte_type
 pub use Rattle.amqp_codec.specs.Wrappers.{via, boxed, string_type, symbol_type}
 pub use Rattle.amqp_codec.specs.OptionType.{option_of}
 pub use Rattle.amqp_codec.specs.Slots.{mandatory, optional, default}
-pub use Rattle.amqp_codec.specs.Fields.{Fields, none, field}
+pub use Rattle.amqp_codec.specs.Fields.{Fields, none, field, ◌▸◌}
 pub use Rattle.amqp_codec.specs.ListType.{ListTable, list_of}
 pub use Rattle.amqp_codec.specs.Composite.{Table, composite}
 pub use Rattle.amqp_codec.specs.Fieldless.{fieldless, has_none}
+pub use Rattle.amqp_codec.specs.PlainTable.{plain}
 pub use Rattle.amqp_enums.specs.Choices.{Choices, no_more, member, Chosen, SumOf, sum_of, sum_writing, sum_one, sum_agreement}
 pub use Rattle.amqp_enums.specs.Restricted.{IsDistinct, restricted_number, restricted_text}
 pub use Rattle.amqp_codec.specs.Agreement.{writing_of, one_term, agreement}

@@ -1,6 +1,6 @@
 -- The table of errors (Part 2, section 2.8.14).
 use Rattle.std.specs.Prelude.{None}
-use Rattle.amqp_enums.specs.Types.{codes, refl, by_norm, string_type, boxed, mandatory, optional, none, field, Table}
+use Rattle.amqp_enums.specs.Types.{codes, refl, by_norm, string_type, boxed, mandatory, optional, none, field, ◌▸◌, Table}
 use Rattle.amqp_fields.specs.FieldsType.{fields_type}
 use Rattle.amqp_errors.specs.Conditions.{condition_type, norm_condition}
 use Rattle.amqp_errors.specs.declared.error_condition.ErrorCondition.{ErrorCondition}
@@ -19,9 +19,11 @@ abbrev pub error : Table Error
 error = record {
   code = 0x1d;
   name = codes "amqp:error:list";
-  fields = field (λ v. v.condition) (mandatory condition_type refl refl)
-      (field (λ v. v.description) (optional string_type refl refl)
-      (field (λ v. v.info) (optional (boxed fields_type) refl refl) none));
+  fields =
+      field (λ v. v.condition) (mandatory condition_type refl refl)
+      ▸ field (λ v. v.description) (optional string_type refl refl)
+      ▸ field (λ v. v.info) (optional (boxed fields_type) refl refl)
+      ▸ none;
   norm = by_norm norm_error;
   norm_is = λ v. (refl, (refl, (refl, tt)));
   is_small = refl;

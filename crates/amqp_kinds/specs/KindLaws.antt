@@ -5,7 +5,7 @@ use Rattle.std.proofs.lemmas.Bool.{eqb-true}
 use Rattle.std.proofs.lemmas.List.{drop_at}
 use Rattle.amqp_model.specs.Term.{Primitive, Container, list, map, array, Descriptor, Term, leaf, container, described, kept, barred, count}
 use Rattle.amqp_model.specs.Constructors.{Format, fixed, variable, compound, unknown, format}
-use Rattle.amqp_model.specs.Spelling.{PrimitiveData, ContainerData, Constructor, data_of, items_of, elements_of, enc}
+use Rattle.amqp_model.specs.Spelling.{PrimitiveData, ContainerData, Constructor, IsDataOf, AreItemsOf, AreElementsOf, IsSpelling}
 use Rattle.amqp_lookahead.specs.Kinds.{kind_of, kind_under, kind_at as number_at}
 use Rattle.amqp_lookahead.proofs.KindsOfCodes.{kind_data}
 use Rattle.amqp_decoder.specs.State.{State, after_value, counted}
@@ -51,16 +51,16 @@ container_at : (k : Container) (n : ℕ) (C : List ℕ → Type 0) (c : ℕ) (b 
 container_at k n C c b h =
     behind_zero c (container_kind k) (λ e. subst (λ x. ContainerData (format x) k n C b) e h) (container_under (format c) k n C b h)
 
-data_kind : (t : Term) (c : ℕ) (b : List ℕ) → data_of t [] c b → kind_at c ≡ term_kind t
+data_kind : (t : Term) (c : ℕ) (b : List ℕ) → IsDataOf t [] c b → kind_at c ≡ term_kind t
 data_kind (leaf p) c b h = leaf_kind p c b h
-data_kind (container list ts) c b h = container_at list (count ts) (items_of ts) c b h
-data_kind (container map ts) c b h = container_at map (count ts) (items_of ts) c b h.1
-data_kind (container array ts) c b h = container_at array (count ts) (elements_of ts) c b h
+data_kind (container list ts) c b h = container_at list (count ts) (AreItemsOf ts) c b h
+data_kind (container map ts) c b h = container_at map (count ts) (AreItemsOf ts) c b h.1
+data_kind (container array ts) c b h = container_at array (count ts) (AreElementsOf ts) c b h
 data_kind (described d t) c b h = absurd h
 data_kind (kept x) c b h = absurd h
 data_kind (barred r) c b h = absurd h
 
-named_kind : (t : Term) (d : Descriptor) (ds : List Descriptor) (c : ℕ) (b : List ℕ) → data_of t (d ∷ ds) c b → kind.Described ≡ term_kind t
+named_kind : (t : Term) (d : Descriptor) (ds : List Descriptor) (c : ℕ) (b : List ℕ) → IsDataOf t (d ∷ ds) c b → kind.Described ≡ term_kind t
 named_kind (leaf p) d ds c b h = absurd h
 named_kind (container list ts) d ds c b h = absurd h
 named_kind (container map ts) d ds c b h = absurd h
@@ -79,7 +79,7 @@ record Begins (o : Option (List Descriptor × ℕ)) (s : List ℕ) (t : Term) : 
   tells : kind_at code ≡ term_kind t
 
 begins_own : (ds : List Descriptor) (c : ℕ) (x y s : List ℕ) (t : Term) → s ≡ x ++ y → Constructor ds c x
-    → data_of t ds c y → Begins None s t
+    → IsDataOf t ds c y → Begins None s t
 begins_own [] c x y s t e k h = record { code = c; own = x; others = y; first = k.0; whole = e; tells = data_kind t c y h }
 begins_own (d ∷ ds) c x y s t e (first, second, is, names, k) h = record {
   code = 0;
@@ -91,7 +91,7 @@ begins_own (d ∷ ds) c x y s t e (first, second, is, names, k) h = record {
 }
 
 begins : (o : Option (List Descriptor × ℕ)) (s : List ℕ) (t : Term) → SpellsAs (standing o s) t → Begins o s t
-unfolding enc
+unfolding IsSpelling
 begins None s t (ds, c, few, (x, y, e, k, h)) = begins_own ds c x y s t e k h
 begins (Some ([], k)) s t h =
     record { code = k; own = []; others = s; first = (refl, refl); whole = refl; tells = data_kind t k s h }

@@ -4,7 +4,7 @@ use Rattle.std.proofs.lemmas.Bool.{eqb-true}
 use Rattle.std.proofs.lemmas.Bool.Decides.{same_from_decides}
 use Rattle.amqp_model.specs.Term.{null, Refusal, too_large, Term, leaf, container, described, kept, barred}
 use Rattle.amqp_model.specs.Constructors.{format}
-use Rattle.amqp_model.specs.Spelling.{PrimitiveData, enc}
+use Rattle.amqp_model.specs.Spelling.{PrimitiveData, IsSpelling}
 use Rattle.amqp_model.specs.Standing.{Standing, whole, part}
 use Rattle.amqp_model.specs.Text.{text}
 use Rattle.amqp_model.specs.Measures.{nest, nodes}
@@ -45,15 +45,15 @@ lazy_bytes v = v.bytes.items
 
 -- The bytes spell a term.
 abbrev pub SpellsTerm : List ℕ → Type 0
-SpellsTerm b = (t : Term) × enc b t
+SpellsTerm b = (t : Term) × IsSpelling b t
 
 -- The bytes spell a term of so many values.
 abbrev pub IsCounted : Counted → Type 0
-IsCounted v = (t : Term) × enc v.bytes t × (nodes t ≡ v.nodes)
+IsCounted v = (t : Term) × IsSpelling v.bytes t × (nodes t ≡ v.nodes)
 
 -- A term means the bytes that spell it, where it stands as bytes of its own. As the data of an array's item it means none.
 abbrev pub MeansBytes : Standing → Term → Counted → Type 0
-MeansBytes (whole b) t v = (b ≡ v.bytes) × enc v.bytes t × (nodes t ≡ v.nodes)
+MeansBytes (whole b) t v = (b ≡ v.bytes) × IsSpelling v.bytes t × (nodes t ≡ v.nodes)
 MeansBytes (part ds c b) t v = ⊥
 
 -- The canonical term of bytes keeps them.
@@ -74,29 +74,29 @@ no_bytes [] h = refl
 no_bytes (n ∷ z) h = absurd (omega (arith, h))
 
 -- null is spelled in one way
-null_bytes : (b : List ℕ) → enc b (leaf null) → b ≡ 0x40 ∷ []
-unfolding enc
+null_bytes : (b : List ℕ) → IsSpelling b (leaf null) → b ≡ 0x40 ∷ []
+unfolding IsSpelling
 null_bytes b ([], c, few, (x, y, e, k, d)) =
     let is = one_code 0 0x40 refl c (kind_data c null y d) in
     e ∙ ap (λ z. z ++ y) (k.0 ∙ ap (λ n. n ∷ []) is) ∙ ap (λ z. 0x40 ∷ z) (no_bytes y (subst (λ n. PrimitiveData (format n) null y) is d).0)
 null_bytes b (d ∷ ds, c, few, (x, y, e, k, h)) = absurd h
 
-pub null_spelled : enc (0x40 ∷ []) (leaf null)
-unfolding enc
+pub null_spelled : IsSpelling (0x40 ∷ []) (leaf null)
+unfolding IsSpelling
 null_spelled = ([], 0x40, omega arith, (0x40 ∷ [], [], refl, (refl, tt), (refl, refl, tt)))
 
-none_keeps : (v b : List ℕ) → enc v (kept b) → ⊥
-unfolding enc
+none_keeps : (v b : List ℕ) → IsSpelling v (kept b) → ⊥
+unfolding IsSpelling
 none_keeps v b (ds, c, few, (x, y, e, k, d)) = d
 
-term_null : (v : List ℕ) (t : Term) → enc v t → is_null t ≡ true → v ≡ 0x40 ∷ []
-term_null v (leaf p) s h = null_bytes v (subst (λ q. enc v (leaf q)) (null_primitive p h) s)
+term_null : (v : List ℕ) (t : Term) → IsSpelling v t → is_null t ≡ true → v ≡ 0x40 ∷ []
+term_null v (leaf p) s h = null_bytes v (subst (λ q. IsSpelling v (leaf q)) (null_primitive p h) s)
 term_null v (container k ts) s h = absurd (clash h refl)
 term_null v (described d t) s h = absurd (clash h refl)
 term_null v (kept b) s h = absurd (none_keeps v b s)
 term_null v (barred r) s h = absurd (clash h refl)
 
-null_term : (v : List ℕ) (t : Term) → enc v t → v ≡ 0x40 ∷ [] → is_null t ≡ true
+null_term : (v : List ℕ) (t : Term) → IsSpelling v t → v ≡ 0x40 ∷ [] → is_null t ≡ true
 null_term v t s e = ap is_null (one_term v (0x40 ∷ []) [] [] t (leaf null) s null_spelled (ap (λ b. b ++ []) e))
 
 kept_null : (v : List ℕ) → is_null (kept v) ≡ true → v ≡ 0x40 ∷ []
@@ -105,12 +105,12 @@ kept_null (b ∷ []) h = ap (λ n. n ∷ []) (eqb-true b 0x40 h)
 kept_null (b ∷ c ∷ bs) h = absurd (clash h refl)
 
 -- bytes are null where the term is that they spell
-null_alike : (v : List ℕ) (t : Term) → enc v t → is_null (kept v) ≡ is_null t
+null_alike : (v : List ℕ) (t : Term) → IsSpelling v t → is_null (kept v) ≡ is_null t
 null_alike v t s =
     same_from_decides _ _ (kept_null v, (λ e. ap (λ b. is_null (kept b)) e)) (term_null v t s, null_term v t s)
 
 -- bytes spell one term
-pub one_spelled : (v : List ℕ) (t u : Term) → enc v t → enc v u → t ≡ u
+pub one_spelled : (v : List ℕ) (t u : Term) → IsSpelling v t → IsSpelling v u → t ≡ u
 one_spelled v t u s r = one_term v v [] [] t u s r refl
 
 kept_writable : (v : List ℕ) (r : Refusal) → IsRefused r (kept v) → r ≡ too_large

@@ -1,7 +1,7 @@
 //! `LazyValue`, the bytes of one term.
 ghost use Rattle.std.specs.Prelude.{◌≡◌, ◌≤◌, ◌∷◌, [], IfOk, IfErr, refl};
 ghost use Rattle.amqp_model.specs.Term.{Term, null, leaf};
-ghost use Rattle.amqp_model.specs.Spelling.{enc};
+ghost use Rattle.amqp_model.specs.Spelling.{IsSpelling};
 ghost use Rattle.amqp_model.specs.Measures.{nest, nodes};
 ghost use Rattle.amqp_model.specs.Standing.{whole};
 ghost use Rattle.amqp_wire.specs.declared.error.Error.TheVariants.{Memory};
@@ -59,8 +59,8 @@ impl LazyValue {
     pub fn as_slice(&self) -> &[u8]
         ensures bytes { result.now ≡ self.now.bytes.items }
         ensures term { SpellsTerm self.now.bytes.items }
-        ensures nodes { (t : Term) → enc self.now.bytes.items t → nodes t ≡ lazy_type.count self.now }
-        ensures nested { (t : Term) → enc self.now.bytes.items t → nest t ≤ 128 }
+        ensures nodes { (t : Term) → IsSpelling self.now.bytes.items t → nodes t ≡ lazy_type.count self.now }
+        ensures nested { (t : Term) → IsSpelling self.now.bytes.items t → nest t ≤ 128 }
     {
         self.bytes.as_slice()
     }

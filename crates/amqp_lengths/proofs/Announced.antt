@@ -5,7 +5,7 @@ use Rattle.std.proofs.lemmas.List.{length-append}
 use Rattle.std.specs.Int.{bytes_high_first}
 use Rattle.amqp_model.specs.Term.{Primitive, Container, list, map, array, Term, leaf, container, described, kept, barred, Descriptor, count}
 use Rattle.amqp_model.specs.Constructors.{Format, fixed, variable, compound, unknown, format}
-use Rattle.amqp_model.specs.Spelling.{PrimitiveData, IsSize, ContainerData, data_of, items_of, elements_of}
+use Rattle.amqp_model.specs.Spelling.{PrimitiveData, IsSize, ContainerData, IsDataOf, AreItemsOf, AreElementsOf}
 use Rattle.amqp_model.proofs.Bytes.{length-bytes, front, field}
 use Rattle.amqp_lengths.specs.Announced.{SizeThen, content_size, IsAnnounced, WantsSized, Wants}
 
@@ -40,11 +40,11 @@ container_announced (fixed w value) kind n C b h = absurd h
 container_announced (variable w value) kind n C b h = absurd h
 container_announced unknown kind n C b h = absurd h
 
-pub announced_data : (t : Term) (ds : List Descriptor) (c : ℕ) (b : List ℕ) → data_of t ds c b → IsAnnounced (format c) b
+pub announced_data : (t : Term) (ds : List Descriptor) (c : ℕ) (b : List ℕ) → IsDataOf t ds c b → IsAnnounced (format c) b
 announced_data (leaf p) [] c b h = primitive_announced (format c) p b h
-announced_data (container list ts) [] c b h = container_announced (format c) list (count ts) (items_of ts) b h
-announced_data (container map ts) [] c b h = container_announced (format c) map (count ts) (items_of ts) b h.1
-announced_data (container array ts) [] c b h = container_announced (format c) array (count ts) (elements_of ts) b h
+announced_data (container list ts) [] c b h = container_announced (format c) list (count ts) (AreItemsOf ts) b h
+announced_data (container map ts) [] c b h = container_announced (format c) map (count ts) (AreItemsOf ts) b h.1
+announced_data (container array ts) [] c b h = container_announced (format c) array (count ts) (AreElementsOf ts) b h
 announced_data (described d t) (e ∷ ds) c b h = announced_data t ds c b h.1
 announced_data (leaf p) (e ∷ ds) c b h = absurd h
 announced_data (container list ts) (e ∷ ds) c b h = absurd h

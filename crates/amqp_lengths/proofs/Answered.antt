@@ -4,7 +4,7 @@ use Rattle.std.proofs.Common.{subst, append_assoc, append-nil}
 use Rattle.std.proofs.lemmas.List.{take-append-drop}
 use Rattle.amqp_wire.specs.declared.error.Error.{Error}
 use Rattle.amqp_wire.specs.declared.error.Error.TheVariants.{Cut}
-use Rattle.amqp_model.specs.Spelling.{enc}
+use Rattle.amqp_model.specs.Spelling.{IsSpelling}
 use Rattle.amqp_model.proofs.Unique.{cut}
 use Rattle.amqp_lengths.specs.Fronts.{IsFront, NoFront, Refuses}
 use Rattle.amqp_lengths.specs.Lengths.{IsTerm, IsCutTerm}
@@ -30,7 +30,7 @@ pub cut_short : (k : ℕ) (input : List ℕ) (r : Result ℕ Error) → IfOk r (
 cut_short k input (Ok n) h g (more, t, some, s, deep) =
     let (u, q, low) = h.spelled in
     absurd (some (no_bytes (drop n input) more
-    (cut (take n input) (drop n input ++ more) t u (subst (λ b. enc b t) (behind n input more) s) q)))
+    (cut (take n input) (drop n input ++ more) t u (subst (λ b. IsSpelling b t) (behind n input more) s) q)))
 cut_short k input (Err e) h g (more, t, some, s, deep) = elim (is_cut e) [
   | inl c ↦ ap Err c
   | inr c ↦ absurd (g.none more (λ x. absurd (c x)) (input ++ more) [] (sym (append-nil (input ++ more))) (t, s, deep))

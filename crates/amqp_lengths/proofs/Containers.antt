@@ -4,7 +4,7 @@ use Rattle.std.proofs.Common.{sym, ap, ◌∙◌, subst, arith}
 use Rattle.amqp_wire.specs.declared.error.Error.{Error}
 use Rattle.amqp_model.specs.Term.{Container, list, map, array, leaf, container, described, kept, barred, none, count}
 use Rattle.amqp_model.specs.Constructors.{Format, fixed, variable, compound, unknown, format}
-use Rattle.amqp_model.specs.Spelling.{PrimitiveData, ContainerData, items_of, elements_of}
+use Rattle.amqp_model.specs.Spelling.{PrimitiveData, ContainerData, AreItemsOf, AreElementsOf}
 use Rattle.amqp_model.proofs.Same.{container_same}
 use Rattle.amqp_model.proofs.Bytes.{length-bytes}
 use Rattle.std.proofs.lemmas.List.{length-append, length-take-le}
@@ -75,19 +75,19 @@ pub container_unbegun : (kind : Container) (w k : ℕ) (input : List ℕ) (e : E
     → Refuses (IsContainer kind w k) input e
 container_unbegun kind w k input e h =
     refuses_part (IsContainer kind w k) (HasContent kind w) input e
-    (λ b (ts, deep, pairs, d). data_content kind w (count ts) (items_of ts) b d) h
+    (λ b (ts, deep, pairs, d). data_content kind w (count ts) (AreItemsOf ts) b d) h
 
 pub container_odd : (kind : Container) (w k n len : ℕ) (items input : List ℕ) (e : Error) → IsContent kind w n items (take len input)
     → (HasPairs kind n → ⊥) → Refuses (IsContainer kind w k) input e
 container_odd kind w k n len items input e h odd =
     refuses_never (IsContainer kind w k) input len e (λ b x y (ts, deep, pairs, d) s.
-    odd (subst (HasPairs kind) (sym (content_same kind w n (count ts) items (items_of ts) (take len input) b x y h d s).0) pairs))
+    odd (subst (HasPairs kind) (sym (content_same kind w n (count ts) items (AreItemsOf ts) (take len input) b x y h d s).0) pairs))
 
 pub container_bad : (kind : Container) (w k m n len : ℕ) (items input : List ℕ) (e : Error) → IsContent kind w n items (take len input)
     → k ≡ suc m → (Row (IsTerm m) n items → ⊥) → Refuses (IsContainer kind w k) input e
 container_bad kind w k m n len items input e h is bad =
     refuses_never (IsContainer kind w k) input len e (λ b x y (ts, deep, pairs, d) s.
-    let (same, i) = content_same kind w n (count ts) items (items_of ts) (take len input) b x y h d s in
+    let (same, i) = content_same kind w n (count ts) items (AreItemsOf ts) (take len input) b x y h d s in
     bad (subst (λ j. Row (IsTerm m) j items) (sym same) (items_rows m ts items (omega (arith, deep, is)) i)))
 
 pub container_found : (kind : Container) (w k m n len : ℕ) (items input : List ℕ) → IsFront (IsContent kind w n items) input len → k ≡ suc m
@@ -100,20 +100,20 @@ container_found kind w k m n len items input h is pairs r =
         ts,
         omega (arith, deep, is),
         subst (HasPairs kind) (sym l) pairs,
-        subst (λ j. ContainerData (compound kind w) kind j (items_of ts) (take len input)) (sym l)
-            (content_holds kind w n items (items_of ts) (take len input) h.spelled i),
+        subst (λ j. ContainerData (compound kind w) kind j (AreItemsOf ts) (take len input)) (sym l)
+            (content_holds kind w n items (AreItemsOf ts) (take len input) h.spelled i),
       );
     }
 
 pub array_unbegun : (w k : ℕ) (input : List ℕ) (e : Error) → Refuses (HasContent array w) input e → Refuses (IsArray w k) input e
 array_unbegun w k input e h =
-    refuses_part (IsArray w k) (HasContent array w) input e (λ b (ts, deep, d). data_content array w (count ts) (elements_of ts) b d) h
+    refuses_part (IsArray w k) (HasContent array w) input e (λ b (ts, deep, d). data_content array w (count ts) (AreElementsOf ts) b d) h
 
 pub array_bad : (w k n len : ℕ) (items input : List ℕ) (e : Error) → IsContent array w n items (take len input)
     → (HasElements k n items → ⊥) → Refuses (IsArray w k) input e
 array_bad w k n len items input e h bad =
     refuses_never (IsArray w k) input len e (λ b x y (ts, deep, d) s.
-    let (same, i) = content_same array w n (count ts) items (elements_of ts) (take len input) b x y h d s in
+    let (same, i) = content_same array w n (count ts) items (AreElementsOf ts) (take len input) b x y h d s in
     bad (ts, sym same, i, deep))
 
 pub array_found : (w k n len : ℕ) (items input : List ℕ) → IsFront (IsContent array w n items) input len → HasElements k n items
@@ -123,23 +123,23 @@ array_found w k n len items input h (ts, l, i, deep) = record {
   spelled = (
     ts,
     deep,
-    subst (λ j. ContainerData (compound array w) array j (elements_of ts) (take len input)) (sym l)
-        (content_holds array w n items (elements_of ts) (take len input) h.spelled i),
+    subst (λ j. ContainerData (compound array w) array j (AreElementsOf ts) (take len input)) (sym l)
+        (content_holds array w n items (AreElementsOf ts) (take len input) h.spelled i),
   );
 }
 
 -- under the code of a list
 pub list_data : (c w k : ℕ) (b : List ℕ) → format c ≡ compound list w → IsContainer list w k b → IsData c k b
 list_data c w k b is (ts, deep, pairs, d) =
-    (container list ts, subst (λ F. ContainerData F list (count ts) (items_of ts) b) (sym is) d, omega (arith, deep))
+    (container list ts, subst (λ F. ContainerData F list (count ts) (AreItemsOf ts) b) (sym is) d, omega (arith, deep))
 
 pub data_list : (c w k : ℕ) (b : List ℕ) → format c ≡ compound list w → IsData c k b → IsContainer list w k b
 data_list c w k b is (leaf p, h, deep) = absurd (subst (λ F. PrimitiveData F p b) is h)
-data_list c w k b is (container list ts, h, deep) = (ts, deep, tt, subst (λ F. ContainerData F list (count ts) (items_of ts) b) is h)
+data_list c w k b is (container list ts, h, deep) = (ts, deep, tt, subst (λ F. ContainerData F list (count ts) (AreItemsOf ts) b) is h)
 data_list c w k b is (container map ts, h, deep) = let e : list ≡ map =
-    (subst (λ F. ContainerData F map (count ts) (items_of ts) b) is h.1).0 in cc
+    (subst (λ F. ContainerData F map (count ts) (AreItemsOf ts) b) is h.1).0 in cc
 data_list c w k b is (container array ts, h, deep) = let e : list ≡ array =
-    (subst (λ F. ContainerData F array (count ts) (elements_of ts) b) is h).0 in cc
+    (subst (λ F. ContainerData F array (count ts) (AreElementsOf ts) b) is h).0 in cc
 data_list c w k b is (described d t, h, deep) = absurd h
 data_list c w k b is (kept x, h, deep) = absurd h
 data_list c w k b is (barred r, h, deep) = absurd h
@@ -147,15 +147,15 @@ data_list c w k b is (barred r, h, deep) = absurd h
 -- under the code of a map
 pub map_data : (c w k : ℕ) (b : List ℕ) → format c ≡ compound map w → IsContainer map w k b → IsData c k b
 map_data c w k b is (ts, deep, pairs, d) =
-    (container map ts, (pairs, subst (λ F. ContainerData F map (count ts) (items_of ts) b) (sym is) d), omega (arith, deep))
+    (container map ts, (pairs, subst (λ F. ContainerData F map (count ts) (AreItemsOf ts) b) (sym is) d), omega (arith, deep))
 
 pub data_map : (c w k : ℕ) (b : List ℕ) → format c ≡ compound map w → IsData c k b → IsContainer map w k b
 data_map c w k b is (leaf p, h, deep) = absurd (subst (λ F. PrimitiveData F p b) is h)
 data_map c w k b is (container list ts, h, deep) = let e : map ≡ list =
-    (subst (λ F. ContainerData F list (count ts) (items_of ts) b) is h).0 in cc
-data_map c w k b is (container map ts, h, deep) = (ts, deep, h.0, subst (λ F. ContainerData F map (count ts) (items_of ts) b) is h.1)
+    (subst (λ F. ContainerData F list (count ts) (AreItemsOf ts) b) is h).0 in cc
+data_map c w k b is (container map ts, h, deep) = (ts, deep, h.0, subst (λ F. ContainerData F map (count ts) (AreItemsOf ts) b) is h.1)
 data_map c w k b is (container array ts, h, deep) = let e : map ≡ array =
-    (subst (λ F. ContainerData F array (count ts) (elements_of ts) b) is h).0 in cc
+    (subst (λ F. ContainerData F array (count ts) (AreElementsOf ts) b) is h).0 in cc
 data_map c w k b is (described d t, h, deep) = absurd h
 data_map c w k b is (kept x, h, deep) = absurd h
 data_map c w k b is (barred r, h, deep) = absurd h
@@ -163,15 +163,15 @@ data_map c w k b is (barred r, h, deep) = absurd h
 -- under the code of an array
 pub array_data : (c w k : ℕ) (b : List ℕ) → format c ≡ compound array w → IsArray w k b → IsData c k b
 array_data c w k b is (ts, deep, d) =
-    (container array ts, subst (λ F. ContainerData F array (count ts) (elements_of ts) b) (sym is) d, deep)
+    (container array ts, subst (λ F. ContainerData F array (count ts) (AreElementsOf ts) b) (sym is) d, deep)
 
 pub data_array : (c w k : ℕ) (b : List ℕ) → format c ≡ compound array w → IsData c k b → IsArray w k b
 data_array c w k b is (leaf p, h, deep) = absurd (subst (λ F. PrimitiveData F p b) is h)
 data_array c w k b is (container list ts, h, deep) = let e : array ≡ list =
-    (subst (λ F. ContainerData F list (count ts) (items_of ts) b) is h).0 in cc
+    (subst (λ F. ContainerData F list (count ts) (AreItemsOf ts) b) is h).0 in cc
 data_array c w k b is (container map ts, h, deep) = let e : array ≡ map =
-    (subst (λ F. ContainerData F map (count ts) (items_of ts) b) is h.1).0 in cc
-data_array c w k b is (container array ts, h, deep) = (ts, deep, subst (λ F. ContainerData F array (count ts) (elements_of ts) b) is h)
+    (subst (λ F. ContainerData F map (count ts) (AreItemsOf ts) b) is h.1).0 in cc
+data_array c w k b is (container array ts, h, deep) = (ts, deep, subst (λ F. ContainerData F array (count ts) (AreElementsOf ts) b) is h)
 data_array c w k b is (described d t, h, deep) = absurd h
 data_array c w k b is (kept x, h, deep) = absurd h
 data_array c w k b is (barred r, h, deep) = absurd h
@@ -189,9 +189,9 @@ primitive_data c k b (p, h) = (leaf p, h, omega arith)
 
 pub data_primitive : (c k : ℕ) (b : List ℕ) → IsPrimitive (format c) → IsData c k b → PrimitiveOf c b
 data_primitive c k b is (leaf p, h, deep) = (p, h)
-data_primitive c k b is (container list ts, h, deep) = absurd (no_container (format c) list (count ts) (items_of ts) b is h)
-data_primitive c k b is (container map ts, h, deep) = absurd (no_container (format c) map (count ts) (items_of ts) b is h.1)
-data_primitive c k b is (container array ts, h, deep) = absurd (no_container (format c) array (count ts) (elements_of ts) b is h)
+data_primitive c k b is (container list ts, h, deep) = absurd (no_container (format c) list (count ts) (AreItemsOf ts) b is h)
+data_primitive c k b is (container map ts, h, deep) = absurd (no_container (format c) map (count ts) (AreItemsOf ts) b is h.1)
+data_primitive c k b is (container array ts, h, deep) = absurd (no_container (format c) array (count ts) (AreElementsOf ts) b is h)
 data_primitive c k b is (described d t, h, deep) = absurd h
 data_primitive c k b is (kept x, h, deep) = absurd h
 data_primitive c k b is (barred r, h, deep) = absurd h

@@ -7,7 +7,7 @@ use Rattle.amqp_wire.specs.declared.error.Error.{Error}
 use Rattle.amqp_model.specs.Term.{Container, list, map, array, Term, Terms, leaf, container, described, kept, barred, none, more}
 use Rattle.amqp_model.specs.Term.{Descriptor, count}
 use Rattle.amqp_model.specs.Constructors.{compound, format}
-use Rattle.amqp_model.specs.Spelling.{PrimitiveData, HasWidthZero, Constructor, Spelled, data_of, elements_of, shared_data_of}
+use Rattle.amqp_model.specs.Spelling.{PrimitiveData, HasWidthZero, Constructor, Spelled, IsDataOf, AreElementsOf, AreSharedDataOf}
 use Rattle.amqp_model.specs.Measures.{nest, nests, array_nest}
 use Rattle.amqp_lengths.specs.Fronts.{Refuses}
 use Rattle.amqp_lengths.specs.Pieces.{IsPrimitive}
@@ -20,12 +20,12 @@ use Rattle.amqp_lengths.proofs.Rows.{rows_data, data_rows}
 -- what stands behind the constructor of an array of these items
 abbrev pub Shared : Terms → List Descriptor → ℕ → List ℕ → Type 0
 Shared none ds c b = b ≡ []
-Shared (more t ts) ds c b = (HasWidthZero (format c) → ⊥) × shared_data_of (more t ts) ds c b
+Shared (more t ts) ds c b = (HasWidthZero (format c) → ⊥) × AreSharedDataOf (more t ts) ds c b
 
 spelled_begins : (D : List Descriptor → ℕ → List ℕ → Type 0) (b : List ℕ) → Spelled D b → (a r : List ℕ) × (b ≡ a ++ r) × HasConstructor a
 spelled_begins D b (ds, c, few, (first, second, e, k, h)) = (first, second, e, (length ds, c, (ds, refl, few, k)))
 
-elements_begin : (ts : Terms) (b : List ℕ) → (b ≡ [] → ⊥) → elements_of ts b → (a r : List ℕ) × (b ≡ a ++ r) × HasConstructor a
+elements_begin : (ts : Terms) (b : List ℕ) → (b ≡ [] → ⊥) → AreElementsOf ts b → (a r : List ℕ) × (b ≡ a ++ r) × HasConstructor a
 elements_begin none b some (inl e) = absurd (some e)
 elements_begin none b some (inr s) = spelled_begins _ b s
 elements_begin (more t ts) b some s = spelled_begins _ b s
@@ -57,16 +57,16 @@ elements_some k n b e some (none, l, s, deep) = some (sym l)
 elements_some k n b e some (more t ts, l, s, deep) = spelled_some _ b e s
 
 -- what stands behind the constructor that was found
-pub elements_behind : (n c : ℕ) (a x : List ℕ) (ts : Terms) (b : List ℕ) → (b ≡ [] → ⊥) → Constructs n c a → elements_of ts b → a ++ x ≡ b
+pub elements_behind : (n c : ℕ) (a x : List ℕ) (ts : Terms) (b : List ℕ) → (b ≡ [] → ⊥) → Constructs n c a → AreElementsOf ts b → a ++ x ≡ b
     → (ds : List Descriptor) × (length ds ≡ n) × Shared ts ds c x
 elements_behind n c a x none b some h (inl e) s = absurd (some e)
 elements_behind n c a x none b some h (inr (ds, c', few, (first, second, e, q, d))) s =
     let (es, r, l, is, v) = behind_constructor (λ ds c d. d ≡ []) n c a x ds c' first second b [] h e q d (s ∙ sym (append-nil b)) in
     (es, l, is ∙ append-nil r ∙ v)
 elements_behind n c a x (more t ts) b some h (ds, c', few, (first, second, e, q, d)) s =
-    let D : List Descriptor → ℕ → List ℕ → Type 0 = λ ds c d. (HasWidthZero (format c) → ⊥) × shared_data_of (more t ts) ds c d in
+    let D : List Descriptor → ℕ → List ℕ → Type 0 = λ ds c d. (HasWidthZero (format c) → ⊥) × AreSharedDataOf (more t ts) ds c d in
     let (es, r, l, is, v) = behind_constructor D n c a x ds c' first second b [] h e q d (s ∙ sym (append-nil b)) in
-    (es, l, (v.0, subst (shared_data_of (more t ts) es c) (sym (is ∙ append-nil r)) v.1))
+    (es, l, (v.0, subst (AreSharedDataOf (more t ts) es c) (sym (is ∙ append-nil r)) v.1))
 
 -- a constructor of no items
 pub elements_bare : (k n c len : ℕ) (b : List ℕ) → Constructs n c (take len b) → drop len b ≡ [] → HasElements k 0 b
@@ -92,14 +92,14 @@ counted (leaf p) ts h = absurd h
 counted (kept b) ts h = absurd h
 counted (barred r) ts h = absurd h
 
-held_counts : (t : Term) (kind : Container) (w c : ℕ) (b : List ℕ) → format c ≡ compound kind w → data_of t [] c b → Counts t
+held_counts : (t : Term) (kind : Container) (w c : ℕ) (b : List ℕ) → format c ≡ compound kind w → IsDataOf t [] c b → Counts t
 held_counts (leaf p) kind w c b is h = absurd (subst (λ F. PrimitiveData F p b) is h)
 held_counts (container k ts) kind w c b is h = tt
 held_counts (described d t) kind w c b is h = absurd h
 held_counts (kept x) kind w c b is h = absurd h
 held_counts (barred r) kind w c b is h = absurd h
 
-described_counts : (t : Term) (d : Descriptor) (ds : List Descriptor) (c : ℕ) (b : List ℕ) → data_of t (d ∷ ds) c b → Counts t
+described_counts : (t : Term) (d : Descriptor) (ds : List Descriptor) (c : ℕ) (b : List ℕ) → IsDataOf t (d ∷ ds) c b → Counts t
 described_counts (described e t) d ds c b h = tt
 described_counts (container k ts) d ds c b h = tt
 described_counts (leaf p) d ds c b h = absurd h
@@ -107,7 +107,7 @@ described_counts (kept x) d ds c b h = absurd h
 described_counts (barred r) d ds c b h = absurd h
 
 -- bare primitives nest in nothing
-flat : (ts : Terms) (c : ℕ) (b : List ℕ) → IsPrimitive (format c) → shared_data_of ts [] c b → (nests ts ≡ 0) × (array_nest ts ≡ 0)
+flat : (ts : Terms) (c : ℕ) (b : List ℕ) → IsPrimitive (format c) → AreSharedDataOf ts [] c b → (nests ts ≡ 0) × (array_nest ts ≡ 0)
 flat none c b is h = (refl, refl)
 flat (more (leaf p) ts) c b is (first, second, e, h, r) = let (m, n) = flat ts c second is r in (omega (arith, m), n)
 flat (more (container list us) ts) c b is (first, second, e, h, r) = absurd (no_container (format c) list (count us) _ first is h)
@@ -133,7 +133,7 @@ level_counted n c t ts h l m =
 level_flat : (c : ℕ) (t : Term) (ts : Terms) → levels_of 0 c ≡ 0 → nests (more t ts) ≡ 0 → array_nest (more t ts) ≡ 0 → IsLevel 0 c t ts
 level_flat c t ts l m e = record { most = λ k a. (omega (arith, l), omega (arith, m)); least = λ k a b. omega (arith, e) }
 
-deep_enough : (t : Term) (ds : List Descriptor) (c : ℕ) (b : List ℕ) → data_of t ds c b → length ds ≤ nest t
+deep_enough : (t : Term) (ds : List Descriptor) (c : ℕ) (b : List ℕ) → IsDataOf t ds c b → length ds ≤ nest t
 deep_enough t [] c b h = omega arith
 deep_enough (described d t) (e ∷ ds) c b h = omega (arith, deep_enough t ds c b h.1)
 deep_enough (leaf p) (e ∷ ds) c b h = absurd h
@@ -143,7 +143,7 @@ deep_enough (container array ts) (e ∷ ds) c b h = absurd h
 deep_enough (kept k) (e ∷ ds) c b h = absurd h
 deep_enough (barred r) (e ∷ ds) c b h = absurd h
 
-level_bare : (c : ℕ) (t : Term) (ts : Terms) (b : List ℕ) → Divided c (format c) → shared_data_of (more t ts) [] c b → IsLevel 0 c t ts
+level_bare : (c : ℕ) (t : Term) (ts : Terms) (b : List ℕ) → Divided c (format c) → AreSharedDataOf (more t ts) [] c b → IsLevel 0 c t ts
 level_bare c t ts b (inl (p, e)) h =
     let (m, n) = flat (more t ts) c b p h in
     level_flat c t ts (ap (λ x. 0 + cond (nat_lt 0 0 || x) 1 0) e) m n
@@ -153,7 +153,7 @@ level_bare c t ts b (inr (kind, w, is, e)) (first, second, s, h, r) =
 some_test : (n : ℕ) → nat_lt 0 (suc n) ≡ true
 some_test n = lt-ltb 0 (suc n) (omega arith)
 
-pub level : (ds : List Descriptor) (c : ℕ) (t : Term) (ts : Terms) (b : List ℕ) → Divided c (format c) → shared_data_of (more t ts) ds c b
+pub level : (ds : List Descriptor) (c : ℕ) (t : Term) (ts : Terms) (b : List ℕ) → Divided c (format c) → AreSharedDataOf (more t ts) ds c b
     → IsLevel (length ds) c t ts
 level [] c t ts b v h = level_bare c t ts b v h
 level (d ∷ ds) c t ts b v (first, second, s, h, r) =
@@ -177,7 +177,7 @@ elements_rows k n c j len b some h more_ (more t ts, l, s, deep) =
 
 found_items : (k n c len : ℕ) (b : List ℕ) (ds : List Descriptor) (ts : Terms) (j : ℕ) → Constructs n c (take len b) → length ds ≡ n
     → length ds ≤ 128 → Constructor ds c (take len b) → (HasWidthZero (format c) → ⊥) → (j ≡ 0 → ⊥) → count ts ≡ j
-    → levels_of n c ≤ k → nests ts ≤ length ds + (k - levels_of n c) → shared_data_of ts ds c (drop len b) → HasElements k j b
+    → levels_of n c ≤ k → nests ts ≤ length ds + (k - levels_of n c) → AreSharedDataOf ts ds c (drop len b) → HasElements k j b
 found_items k n c len b ds none j h m short q wide some l few low v = absurd (some (sym l))
 found_items k n c len b ds (more t ts) j h m short q wide some l few low v =
     let e = subst (λ i. IsLevel i c t ts) m (level ds c t ts (drop len b) (container_at c (constructs_known n c (take len b) h)) v) in

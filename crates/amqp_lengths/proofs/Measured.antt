@@ -11,7 +11,7 @@ use Rattle.amqp_wire.specs.declared.error.Error.{Error}
 use Rattle.amqp_model.specs.Term.{Primitive, Container, list, map, array, Term, Terms, leaf, container, described, kept, barred, none, more}
 use Rattle.amqp_model.specs.Term.{Descriptor, count}
 use Rattle.amqp_model.specs.Constructors.{compound, format}
-use Rattle.amqp_model.specs.Spelling.{Joined, PrimitiveData, ContainerData, data_of, items_of, elements_of, shared_data_of, enc}
+use Rattle.amqp_model.specs.Spelling.{Joined, PrimitiveData, ContainerData, IsDataOf, AreItemsOf, AreElementsOf, AreSharedDataOf, IsSpelling}
 use Rattle.amqp_model.specs.Measures.{nest, nests, array_nest, nodes, all_nodes}
 use Rattle.amqp_model.proofs.Count.{nodes_bounded}
 use Rattle.amqp_model.proofs.Same.{container_same, primitive_same}
@@ -27,17 +27,17 @@ use Rattle.amqp_lengths.proofs.Containers.{no_container}
 use Rattle.amqp_lengths.proofs.Elements.{IsLevel, level, elements_behind, elements_some, elements_unbegun}
 
 abbrev pub Whole : Term → List ℕ → Type 0
-Whole t b = enc b t
+Whole t b = IsSpelling b t
 
 abbrev pub Data : ℕ → Term → List ℕ → Type 0
-Data c t b = data_of t [] c b
+Data c t b = IsDataOf t [] c b
 
 abbrev pub Items : ℕ → Terms → List ℕ → Type 0
-Items c ts b = shared_data_of ts [] c b
+Items c ts b = AreSharedDataOf ts [] c b
 
 -- the first of some items, and the others
-pub terms_joined : (t : Term) (us : Terms) (b : List ℕ) → items_of (more t us) b → Joined (Whole t) (items_of us) b
-unfolding enc
+pub terms_joined : (t : Term) (us : Terms) (b : List ℕ) → AreItemsOf (more t us) b → Joined (Whole t) (AreItemsOf us) b
+unfolding IsSpelling
 terms_joined t us b h = h
 
 pub items_joined : (c : ℕ) (t : Term) (us : Terms) (b : List ℕ) → Items c (more t us) b → Joined (Data c t) (Items c us) b
@@ -170,7 +170,7 @@ pub left_none : (All : Terms → List ℕ → Type 0) (ts : Terms) (content : Li
 left_none All ts content done len n k most h = done_at ts done n k h.left h.counted h.nodes_are h.nests_are most
 
 -- the term within its descriptors
-stripped : (t : Term) (ds : List Descriptor) (c : ℕ) (b : List ℕ) → data_of t ds c b → (u : Term) × data_of u [] c b
+stripped : (t : Term) (ds : List Descriptor) (c : ℕ) (b : List ℕ) → IsDataOf t ds c b → (u : Term) × IsDataOf u [] c b
     × (nodes t ≡ nodes u) × (nest t ≡ length ds + nest u)
 stripped t [] c b h = (t, h, refl, omega arith)
 stripped (described d t) (e ∷ ds) c b (s, h) = let (u, k, m, n) = stripped t ds c b h in (u, k, m, omega (arith, n))
@@ -186,16 +186,16 @@ pub record Bare (n c len : ℕ) (input front after : List ℕ) (t : Term) : Type
   pub term : Term
   pub bytes : List ℕ
   pub is : drop len input ≡ bytes ++ after
-  pub spelled : data_of term [] c bytes
+  pub spelled : IsDataOf term [] c bytes
   pub long : length front ≡ len + length bytes
   pub nodes_are : nodes t ≡ nodes term
   pub nest_is : nest t ≡ n + nest term
 
 bare : (n c len : ℕ) (input : List ℕ) → IsFront (Constructs n c) input len → (t : Term) (front after : List ℕ) → input ≡ front ++ after
-    → enc front t → Bare n c len input front after t
-unfolding enc
+    → IsSpelling front t → Bare n c len input front after t
+unfolding IsSpelling
 bare n c len input f t front after is (ds, c', few, (first, second, s, q, d)) =
-    let (es, r, l, x, v) = behind_constructor (data_of t) n c (take len input) (drop len input) ds c' first second front after f.spelled s q d
+    let (es, r, l, x, v) = behind_constructor (IsDataOf t) n c (take len input) (drop len input) ds c' first second front after f.spelled s q d
     (take-append-drop len input ∙ is) in
     let (u, w, same, m) = stripped t es c r v in
     let within = f.within in
@@ -230,7 +230,7 @@ term_measured n c len l m d input f h t front after is s =
     (x.long ∙ ap (λ i. len + i) a, x.nodes_are ∙ b, x.nest_is ∙ ap (λ i. n + i) e)
 
 -- under the code of the empty list
-empty_list : (t : Term) (b : List ℕ) → data_of t [] 0x45 b → (length b ≡ 0) × (nodes t ≡ 1) × (nest t ≡ 1)
+empty_list : (t : Term) (b : List ℕ) → IsDataOf t [] 0x45 b → (length b ≡ 0) × (nodes t ≡ 1) × (nest t ≡ 1)
 empty_list (leaf p) b h = absurd h
 empty_list (container list none) b (k, size, content, is, empty, fits, room, s) = (ap length (s ∙ empty), refl, refl)
 empty_list (container list (more t ts)) b (k, size, content, is, items, fits, room, s) = absurd (omega (arith, room))
@@ -241,15 +241,15 @@ empty_list (kept x) b h = absurd h
 empty_list (barred r) b h = absurd h
 
 pub empty_measured : (c : ℕ) (input : List ℕ) → c ≡ 0x45 → Begins (Data c) input 0 1 1
-empty_measured c input e t front after is s = empty_list t front (subst (λ i. data_of t [] i front) e s)
+empty_measured c input e t front after is s = empty_list t front (subst (λ i. IsDataOf t [] i front) e s)
 
 -- under the code of a primitive
-primitive_held : (c : ℕ) (t : Term) (b : List ℕ) → IsPrimitive (format c) → data_of t [] c b
+primitive_held : (c : ℕ) (t : Term) (b : List ℕ) → IsPrimitive (format c) → IsDataOf t [] c b
     → (p : Primitive) × PrimitiveData (format c) p b × (nodes t ≡ 1) × (nest t ≡ 0)
 primitive_held c (leaf p) b is h = (p, h, refl, refl)
-primitive_held c (container list ts) b is h = absurd (no_container (format c) list (count ts) (items_of ts) b is h)
-primitive_held c (container map ts) b is h = absurd (no_container (format c) map (count ts) (items_of ts) b is h.1)
-primitive_held c (container array ts) b is h = absurd (no_container (format c) array (count ts) (elements_of ts) b is h)
+primitive_held c (container list ts) b is h = absurd (no_container (format c) list (count ts) (AreItemsOf ts) b is h)
+primitive_held c (container map ts) b is h = absurd (no_container (format c) map (count ts) (AreItemsOf ts) b is h.1)
+primitive_held c (container array ts) b is h = absurd (no_container (format c) array (count ts) (AreElementsOf ts) b is h)
 primitive_held c (described d t) b is h = absurd h
 primitive_held c (kept x) b is h = absurd h
 primitive_held c (barred r) b is h = absurd h
@@ -270,24 +270,24 @@ primitive_measured c len input p f t front after is s =
     (ap length same ∙ length-take-le len input f.within, m, d)
 
 -- under the code of a container
-held : (kind : Container) (c w : ℕ) (t : Term) (b : List ℕ) → format c ≡ compound kind w → data_of t [] c b
+held : (kind : Container) (c w : ℕ) (t : Term) (b : List ℕ) → format c ≡ compound kind w → IsDataOf t [] c b
     → (ts : Terms) × (t ≡ container kind ts) × ContainerData (compound kind w) kind (count ts) (contents kind ts) b
 held kind c w (leaf p) b is h = absurd (subst (λ F. PrimitiveData F p b) is h)
-held list c w (container list ts) b is h = (ts, refl, subst (λ F. ContainerData F list (count ts) (items_of ts) b) is h)
-held map c w (container map ts) b is h = (ts, refl, subst (λ F. ContainerData F map (count ts) (items_of ts) b) is h.1)
-held array c w (container array ts) b is h = (ts, refl, subst (λ F. ContainerData F array (count ts) (elements_of ts) b) is h)
+held list c w (container list ts) b is h = (ts, refl, subst (λ F. ContainerData F list (count ts) (AreItemsOf ts) b) is h)
+held map c w (container map ts) b is h = (ts, refl, subst (λ F. ContainerData F map (count ts) (AreItemsOf ts) b) is h.1)
+held array c w (container array ts) b is h = (ts, refl, subst (λ F. ContainerData F array (count ts) (AreElementsOf ts) b) is h)
 held list c w (container map ts) b is h =
-    let e : list ≡ map = (subst (λ F. ContainerData F map (count ts) (items_of ts) b) is h.1).0 in cc
+    let e : list ≡ map = (subst (λ F. ContainerData F map (count ts) (AreItemsOf ts) b) is h.1).0 in cc
 held list c w (container array ts) b is h =
-    let e : list ≡ array = (subst (λ F. ContainerData F array (count ts) (elements_of ts) b) is h).0 in cc
+    let e : list ≡ array = (subst (λ F. ContainerData F array (count ts) (AreElementsOf ts) b) is h).0 in cc
 held map c w (container list ts) b is h =
-    let e : map ≡ list = (subst (λ F. ContainerData F list (count ts) (items_of ts) b) is h).0 in cc
+    let e : map ≡ list = (subst (λ F. ContainerData F list (count ts) (AreItemsOf ts) b) is h).0 in cc
 held map c w (container array ts) b is h =
-    let e : map ≡ array = (subst (λ F. ContainerData F array (count ts) (elements_of ts) b) is h).0 in cc
+    let e : map ≡ array = (subst (λ F. ContainerData F array (count ts) (AreElementsOf ts) b) is h).0 in cc
 held array c w (container list ts) b is h =
-    let e : array ≡ list = (subst (λ F. ContainerData F list (count ts) (items_of ts) b) is h).0 in cc
+    let e : array ≡ list = (subst (λ F. ContainerData F list (count ts) (AreItemsOf ts) b) is h).0 in cc
 held array c w (container map ts) b is h =
-    let e : array ≡ map = (subst (λ F. ContainerData F map (count ts) (items_of ts) b) is h.1).0 in cc
+    let e : array ≡ map = (subst (λ F. ContainerData F map (count ts) (AreItemsOf ts) b) is h.1).0 in cc
 held kind c w (described d t) b is h = absurd h
 held kind c w (kept x) b is h = absurd h
 held kind c w (barred r) b is h = absurd h
@@ -301,7 +301,7 @@ pub record Held (kind : Container) (size len : ℕ) (items front : List ℕ) (t 
   pub long : length front ≡ len
 
 held_parts : (kind : Container) (c w size len : ℕ) (items input : List ℕ) → format c ≡ compound kind w
-    → IsFront (IsContent kind w size items) input len → (t : Term) (front after : List ℕ) → input ≡ front ++ after → data_of t [] c front
+    → IsFront (IsContent kind w size items) input len → (t : Term) (front after : List ℕ) → input ≡ front ++ after → IsDataOf t [] c front
     → Held kind size len items front t
 held_parts kind c w size len items input code f t front after is s =
     let (ts, e, h) = held kind c w t front code s in
@@ -334,8 +334,8 @@ container_measured kind c w size len m d items input code f h t front after is s
     (x.long, omega (arith, n, a), ap nest x.is ∙ b)
 
 -- the items of an array within their descriptors
-stripped_all : (ts : Terms) (ds : List Descriptor) (c : ℕ) (b : List ℕ) → shared_data_of ts ds c b → (us : Terms) × (count us ≡ count ts)
-    × shared_data_of us [] c b × (all_nodes ts ≡ all_nodes us) × (max (length ds) (nests ts) ≡ length ds + nests us)
+stripped_all : (ts : Terms) (ds : List Descriptor) (c : ℕ) (b : List ℕ) → AreSharedDataOf ts ds c b → (us : Terms) × (count us ≡ count ts)
+    × AreSharedDataOf us [] c b × (all_nodes ts ≡ all_nodes us) × (max (length ds) (nests ts) ≡ length ds + nests us)
 stripped_all none ds c b h = (none, refl, h, refl, omega arith)
 stripped_all (more t ts) ds c b (first, second, e, s, r) =
     let (u, k, m, d) = stripped t ds c first s in
@@ -346,7 +346,7 @@ stripped_all (more t ts) ds c b (first, second, e, s, r) =
 pub record Shared (n c size : ℕ) (b : List ℕ) (ts : Terms) : Type 0 where
   pub terms : Terms
   pub counted : count terms ≡ size
-  pub spelled : shared_data_of terms [] c b
+  pub spelled : AreSharedDataOf terms [] c b
   pub nodes_are : all_nodes ts ≡ all_nodes terms
   pub nests_are : array_nest ts ≡ levels_of n c + nests terms
 
@@ -359,7 +359,7 @@ level_sum n c a m x t ts h e f s =
     omega (arith, few, low, least, e, f, s)
 
 shared : (n c size len : ℕ) (b : List ℕ) → Constructs n c (take len b) → (size ≡ 0 → ⊥) → (ts : Terms) → count ts ≡ size
-    → elements_of ts b → (b ≡ [] → ⊥) → Shared n c size (drop len b) ts
+    → AreElementsOf ts b → (b ≡ [] → ⊥) → Shared n c size (drop len b) ts
 shared n c size len b h some none l s full = absurd (some (sym l))
 shared n c size len b h some (more t ts) l s full =
     let (ds, m, (wide, v)) = elements_behind n c (take len b) (drop len b) (more t ts) b full h s (take-append-drop len b) in
@@ -373,22 +373,22 @@ shared n c size len b h some (more t ts) l s full =
       nests_are = level_sum n c _ _ (nests us) t ts e refl refl (subst (λ i. max i (nests (more t ts)) ≡ i + nests us) m x);
     }
 
-full_of : (size : ℕ) (b : List ℕ) → (size ≡ 0 → ⊥) → (ts : Terms) → count ts ≡ size → elements_of ts b → b ≡ [] → ⊥
+full_of : (size : ℕ) (b : List ℕ) → (size ≡ 0 → ⊥) → (ts : Terms) → count ts ≡ size → AreElementsOf ts b → b ≡ [] → ⊥
 full_of size b some ts l s e = elements_some (array_nest ts) size b e some (ts, l, s, omega arith)
 
-pub elements_there : (size : ℕ) (b : List ℕ) (e : Error) → (size ≡ 0 → ⊥) → AllMeasurable elements_of array_nest size b
+pub elements_there : (size : ℕ) (b : List ℕ) (e : Error) → (size ≡ 0 → ⊥) → AllMeasurable AreElementsOf array_nest size b
     → Refuses HasConstructor b e → ⊥
 elements_there size b e some (ts, l, s, (few, low)) h = elements_unbegun 128 size b e (full_of size b some ts l s) h (ts, l, s, low)
 
 pub elements_shared : (n c size len : ℕ) (b : List ℕ) → IsFront (Constructs n c) b len → (size ≡ 0 → ⊥)
-    → AllMeasurable elements_of array_nest size b → AllMeasurable (Items c) nests size (drop len b)
+    → AllMeasurable AreElementsOf array_nest size b → AllMeasurable (Items c) nests size (drop len b)
 elements_shared n c size len b f some (ts, l, s, (few, low)) =
     let x = shared n c size len b f.spelled some ts l s (full_of size b some ts l s) in
     let nests_are = x.nests_are in
     (x.terms, x.counted, x.spelled, (subst (λ i. i < 2 ^ 64) x.nodes_are few, omega (arith, low, nests_are)))
 
 pub elements_measured : (n c size len m d : ℕ) (b : List ℕ) → IsFront (Constructs n c) b len → (size ≡ 0 → ⊥)
-    → AllMeasured (Items c) nests size (drop len b) m d → AllMeasured elements_of array_nest size b m (levels_of n c + d)
+    → AllMeasured (Items c) nests size (drop len b) m d → AllMeasured AreElementsOf array_nest size b m (levels_of n c + d)
 elements_measured n c size len m d b f some h ts l s =
     let x = shared n c size len b f.spelled some ts l s (full_of size b some ts l s) in
     let (y, z) = h x.terms x.counted x.spelled in
@@ -398,7 +398,7 @@ no_terms : (ts : Terms) → count ts ≡ 0 → (all_nodes ts ≡ 0) × (array_ne
 no_terms none e = (refl, refl)
 no_terms (more t ts) e = absurd (omega (arith, e))
 
-pub elements_none : (size : ℕ) (b : List ℕ) → size ≡ 0 → AllMeasured elements_of array_nest size b 0 0
+pub elements_none : (size : ℕ) (b : List ℕ) → size ≡ 0 → AllMeasured AreElementsOf array_nest size b 0 0
 elements_none size b e ts l s = no_terms ts (l ∙ e)
 
 -- some items' measures fit as the container's do

@@ -5,7 +5,7 @@ use Rattle.std.proofs.lemmas.List.{take-append-drop, length-drop}
 use Rattle.std.proofs.Math.Seq.{take-add}
 use Rattle.amqp_wire.specs.declared.error.Error.{Error}
 use Rattle.amqp_model.specs.Term.{Terms, none, more, Descriptor, count}
-use Rattle.amqp_model.specs.Spelling.{items_of, shared_data_of, enc}
+use Rattle.amqp_model.specs.Spelling.{AreItemsOf, AreSharedDataOf, IsSpelling}
 use Rattle.amqp_model.specs.Measures.{nests}
 use Rattle.amqp_model.proofs.Bytes.{rest}
 use Rattle.amqp_lengths.specs.Fronts.{IsFront, Refuses}
@@ -116,26 +116,26 @@ begins_less P n content i len most h less r =
     less (omega (arith, within, ap length empty, length-drop len content))
 
 -- the items of a list or map
-pub rows_items : (k n : ℕ) (b : List ℕ) → Row (IsTerm k) n b → (ts : Terms) × (count ts ≡ n) × (nests ts ≤ k) × items_of ts b
-unfolding enc
+pub rows_items : (k n : ℕ) (b : List ℕ) → Row (IsTerm k) n b → (ts : Terms) × (count ts ≡ n) × (nests ts ≤ k) × AreItemsOf ts b
+unfolding IsSpelling
 rows_items k zero b h = (none, refl, omega arith, h)
 rows_items k (suc n) b (first, second, e, (t, s, deep), r) =
     let (ts, c, d, i) = rows_items k n second r in (more t ts, ap suc c, omega (arith, deep, d), (first, second, e, s, i))
 
-pub items_rows : (k : ℕ) (ts : Terms) (b : List ℕ) → nests ts ≤ k → items_of ts b → Row (IsTerm k) (count ts) b
-unfolding enc
+pub items_rows : (k : ℕ) (ts : Terms) (b : List ℕ) → nests ts ≤ k → AreItemsOf ts b → Row (IsTerm k) (count ts) b
+unfolding IsSpelling
 items_rows k none b deep h = h
 items_rows k (more t ts) b deep (first, second, e, s, r) = (first, second, e, (t, s, omega arith), items_rows k ts second (omega arith) r)
 
 -- the data of the items of an array
 pub rows_data : (ds : List Descriptor) (c k n : ℕ) (b : List ℕ) → Row (IsData c k) n b → (ts : Terms) × (count ts ≡ n)
-    × (nests ts ≤ length ds + k) × shared_data_of ts ds c b
+    × (nests ts ≤ length ds + k) × AreSharedDataOf ts ds c b
 rows_data ds c k zero b h = (none, refl, omega arith, h)
 rows_data ds c k (suc n) b (first, second, e, (u, s, deep), r) =
     let (ts, l, d, i) = rows_data ds c k n second r in
     (more (describe ds u) ts, ap suc l, omega (arith, deep, d, described_nest ds u), (first, second, e, described_data ds u c first s, i))
 
-pub data_rows : (ds : List Descriptor) (c k : ℕ) (ts : Terms) (b : List ℕ) → nests ts ≤ length ds + k → shared_data_of ts ds c b
+pub data_rows : (ds : List Descriptor) (c k : ℕ) (ts : Terms) (b : List ℕ) → nests ts ≤ length ds + k → AreSharedDataOf ts ds c b
     → Row (IsData c k) (count ts) b
 data_rows ds c k none b deep h = h
 data_rows ds c k (more t ts) b deep (first, second, e, s, r) =

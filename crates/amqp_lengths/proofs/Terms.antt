@@ -6,7 +6,7 @@ use Rattle.std.proofs.lemmas.List.{length-drop}
 use Rattle.amqp_wire.specs.declared.error.Error.{Error}
 use Rattle.amqp_model.specs.Term.{Term, leaf, container, described, kept, barred, list, map, array, Descriptor}
 use Rattle.amqp_model.specs.Constructors.{format}
-use Rattle.amqp_model.specs.Spelling.{IsKnown, Constructor, data_of, enc}
+use Rattle.amqp_model.specs.Spelling.{IsKnown, Constructor, IsDataOf, IsSpelling}
 use Rattle.amqp_model.specs.Measures.{nest}
 use Rattle.amqp_model.proofs.Bytes.{rest}
 use Rattle.amqp_model.proofs.Same.{constructor_same}
@@ -16,7 +16,7 @@ use Rattle.amqp_lengths.specs.Lengths.{Constructs, HasConstructor, IsTerm, IsDat
 use Rattle.amqp_lengths.proofs.Fronts.{refuses_begun, refuses_behind, refuses_never}
 
 -- the term within its descriptors
-pub bare : (t : Term) (ds : List Descriptor) (c : ℕ) (b : List ℕ) → data_of t ds c b → (u : Term) × data_of u [] c b
+pub bare : (t : Term) (ds : List Descriptor) (c : ℕ) (b : List ℕ) → IsDataOf t ds c b → (u : Term) × IsDataOf u [] c b
     × (nest t ≡ length ds + nest u)
 bare t [] c b h = (t, h, omega arith)
 bare (described d t) (e ∷ ds) c b (s, h) = let (u, k, n) = bare t ds c b h in (u, k, omega (arith, n))
@@ -32,7 +32,7 @@ abbrev pub describe : List Descriptor → Term → Term
 describe [] t = t
 describe (d ∷ ds) t = described d (describe ds t)
 
-pub described_data : (ds : List Descriptor) (u : Term) (c : ℕ) (b : List ℕ) → data_of u [] c b → data_of (describe ds u) ds c b
+pub described_data : (ds : List Descriptor) (u : Term) (c : ℕ) (b : List ℕ) → IsDataOf u [] c b → IsDataOf (describe ds u) ds c b
 described_data [] u c b h = h
 described_data (d ∷ ds) u c b h = (refl, described_data ds u c b h)
 
@@ -60,16 +60,16 @@ behind_constructor D n c a x ds c' first second b y (es, l, few, k) s k' h e =
     (ds, second, sym (ap length one) ∙ l, rest a first x (second ++ y) (ap length same) all, subst (λ z. D ds z second) (sym code) h)
 
 term_behind : (k n c : ℕ) (a x b y : List ℕ) → Constructs n c a → IsTerm k b → a ++ x ≡ b ++ y → (r : List ℕ) × (x ≡ r ++ y) × (u : Term)
-    × data_of u [] c r × (n + nest u ≤ k)
-unfolding enc
+    × IsDataOf u [] c r × (n + nest u ≤ k)
+unfolding IsSpelling
 term_behind k n c a x b y h (t, (ds, c', few, (first, second, s, q, d)), deep) e =
-    let (es, r, l, u, v) = behind_constructor (data_of t) n c a x ds c' first second b y h s q d e in
+    let (es, r, l, u, v) = behind_constructor (IsDataOf t) n c a x ds c' first second b y h s q d e in
     let (w, f, m) = bare t es c r v in
     (r, u, w, f, omega (arith, l, m, deep))
 
 -- the constructor isn't there
 pub term_unbegun : (k : ℕ) (input : List ℕ) (e : Error) → Refuses HasConstructor input e → Refuses (IsTerm k) input e
-unfolding enc
+unfolding IsSpelling
 term_unbegun k input e h =
     refuses_begun (IsTerm k) HasConstructor input e
     (λ b (t, (ds, c, few, (first, second, s, q, d)), deep). (first, second, s, (length ds, c, (ds, refl, few, q)))) h
@@ -90,7 +90,7 @@ term_short k n m c len input e h is q =
 
 pub term_found : (k n m c len l : ℕ) (input : List ℕ) → IsFront (Constructs n c) input len → n + m ≡ k
     → IsFront (IsData c m) (drop len input) l → IsFront (IsTerm k) input (len + l)
-unfolding enc
+unfolding IsSpelling
 term_found k n m c len l input h is q =
     let (ds, long, few, s) = h.spelled in
     let (u, d, deep) = q.spelled in

@@ -2,7 +2,7 @@
 use Rattle.std.specs.Prelude.{◌≡◌, ℕ, zero, suc, ◌≤◌, ◌<◌, ◌+◌, ◌%◌, ◌||◌, cond, eqb, nat_lt, leb, List, [], ◌∷◌, ◌++◌, length}
 use Rattle.amqp_model.specs.Term.{Container, list, map, array, Term, Terms, Descriptor, count}
 use Rattle.amqp_model.specs.Constructors.{compound}
-use Rattle.amqp_model.specs.Spelling.{Joined, ContainerData, Names, Constructor, data_of, items_of, elements_of, enc}
+use Rattle.amqp_model.specs.Spelling.{Joined, ContainerData, Names, Constructor, IsDataOf, AreItemsOf, AreElementsOf, IsSpelling}
 use Rattle.amqp_model.specs.Measures.{nest, nests, array_nest}
 
 -- Descriptors, each after a 0.
@@ -23,11 +23,11 @@ HasConstructor b = (n c : ℕ) × Constructs n c b
 
 -- A term that nests at most so deep.
 abbrev pub IsTerm : ℕ → List ℕ → Type 0
-IsTerm nesting b = (t : Term) × enc b t × (nest t ≤ nesting)
+IsTerm nesting b = (t : Term) × IsSpelling b t × (nest t ≤ nesting)
 
 -- The data under a code of a term without descriptors that nests at most so deep.
 abbrev pub IsData : ℕ → ℕ → List ℕ → Type 0
-IsData c nesting b = (t : Term) × data_of t [] c b × (nest t ≤ nesting)
+IsData c nesting b = (t : Term) × IsDataOf t [] c b × (nest t ≤ nesting)
 
 -- n pieces that are P, one after another.
 abbrev pub Row : (List ℕ → Type 0) → ℕ → List ℕ → Type 0
@@ -43,15 +43,15 @@ HasPairs array n = Unit {0}
 -- The data of a list or map of a width whose items nest below so deep.
 abbrev pub IsContainer : Container → ℕ → ℕ → List ℕ → Type 0
 IsContainer kind w nesting b =
-    (ts : Terms) × (nests ts < nesting) × HasPairs kind (count ts) × ContainerData (compound kind w) kind (count ts) (items_of ts) b
+    (ts : Terms) × (nests ts < nesting) × HasPairs kind (count ts) × ContainerData (compound kind w) kind (count ts) (AreItemsOf ts) b
 
 -- The content of an array of n items.
 abbrev pub HasElements : ℕ → ℕ → List ℕ → Type 0
-HasElements nesting n b = (ts : Terms) × (count ts ≡ n) × elements_of ts b × (array_nest ts ≤ nesting)
+HasElements nesting n b = (ts : Terms) × (count ts ≡ n) × AreElementsOf ts b × (array_nest ts ≤ nesting)
 
 -- The data of an array of a width.
 abbrev pub IsArray : ℕ → ℕ → List ℕ → Type 0
-IsArray w nesting b = (ts : Terms) × (array_nest ts ≤ nesting) × ContainerData (compound array w) array (count ts) (elements_of ts) b
+IsArray w nesting b = (ts : Terms) × (array_nest ts ≤ nesting) × ContainerData (compound array w) array (count ts) (AreElementsOf ts) b
 
 -- How many levels lie between an array and the bare data of its items under a constructor of so many descriptors and
 -- this code.
@@ -61,4 +61,4 @@ levels_of n c = n + cond (nat_lt 0 n || (eqb c 0x45 || leb 0xc0 c)) 1 0
 -- The input is a proper front of a term.
 abbrev pub IsCutTerm : ℕ → List ℕ → Type 0
 IsCutTerm nesting input =
-    (more : List ℕ) × (t : Term) × (more ≡ [] → ⊥) × enc (input ++ more) t × (nest t ≤ nesting)
+    (more : List ℕ) × (t : Term) × (more ≡ [] → ⊥) × IsSpelling (input ++ more) t × (nest t ≤ nesting)

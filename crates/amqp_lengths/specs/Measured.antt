@@ -1,12 +1,12 @@
 -- How many values bytes hold, and how deep these nest.
 use Rattle.std.specs.Prelude.{◌≡◌, ℕ, ◌≤◌, ◌<◌, ◌^◌, List, ◌++◌, length}
 use Rattle.amqp_model.specs.Term.{Container, list, map, array, Term, Terms, container, count}
-use Rattle.amqp_model.specs.Spelling.{items_of, elements_of, enc}
+use Rattle.amqp_model.specs.Spelling.{AreItemsOf, AreElementsOf, IsSpelling}
 use Rattle.amqp_model.specs.Measures.{nest, nodes, all_nodes}
 
 -- The bytes spell a term of so many values, which nests so deep, and at most 128.
 abbrev pub IsMeasured : ℕ → ℕ → List ℕ → Type 0
-IsMeasured n k b = (t : Term) × enc b t × (nodes t ≡ n) × (nest t ≡ k) × (k ≤ 128)
+IsMeasured n k b = (t : Term) × IsSpelling b t × (nodes t ≡ n) × (nest t ≡ k) × (k ≤ 128)
 
 -- The front of the input that is a term is so long, and holds so much.
 abbrev pub Begins : (Term → List ℕ → Type 0) → List ℕ → ℕ → ℕ → ℕ → Type 0
@@ -31,9 +31,9 @@ AllMeasurable Items depth size b = (ts : Terms) × (count ts ≡ size) × Items 
 
 -- The content of a container.
 abbrev pub contents : Container → Terms → List ℕ → Type 0
-contents list ts b = items_of ts b
-contents map ts b = items_of ts b
-contents array ts b = elements_of ts b
+contents list ts b = AreItemsOf ts b
+contents map ts b = AreItemsOf ts b
+contents array ts b = AreElementsOf ts b
 
 abbrev pub content_nest : Container → Terms → ℕ
 content_nest kind ts = nest (container kind ts)

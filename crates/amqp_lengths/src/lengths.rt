@@ -1,7 +1,7 @@
 //! How long the term is that bytes begin with (Part 1, sections 1.2 and 1.6).
 ghost use Rattle.std.specs.Prelude.{◌≤◌, ◌<◌, ◌+◌, ◌≡◌, ℕ, List, ◌++◌, IfOk, IfErr, IsErr, IsTrue, ◌↔◌, MatchOption};
 ghost use Rattle.amqp_model.specs.Constructors.{format};
-ghost use Rattle.amqp_model.specs.Spelling.{IsKnown, enc};
+ghost use Rattle.amqp_model.specs.Spelling.{IsKnown, IsSpelling};
 ghost use Rattle.amqp_model.specs.Term.{Term};
 ghost use Rattle.amqp_wire.specs.declared.error.Error.TheVariants.{Cut, Depth};
 ghost use Rattle.amqp_lengths.specs.Fronts.{IsFront, Refuses, NoFront};
@@ -50,9 +50,9 @@ pub fn term_len(input: &[u8]) -> Result<usize, Error>
     ensures fault { IfErr result (λ e. TermFault Depth NESTING input.now e) }
     ensures cut_only { IfErr result (λ e. e ≡ Cut → AsksMore input.now) }
     ensures one_front { (s r after behind : List ℕ) (t u : Term) → input.now ≡ s ++ after → input.now ≡ r ++ behind
-        → enc s t → enc r u → s ≡ r }
+        → IsSpelling s t → IsSpelling r u → s ≡ r }
     ensures one_term { (s r after behind : List ℕ) (t u : Term) → input.now ≡ s ++ after → input.now ≡ r ++ behind
-        → enc s t → enc r u → t ≡ u }
+        → IsSpelling s t → IsSpelling r u → t ≡ u }
 {
     len_of_term(input, NESTING, Error::Depth)
 }

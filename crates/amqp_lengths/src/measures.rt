@@ -1,7 +1,7 @@
 //! How many values are in the term that bytes spell, and how deep they nest (Part 1, section 1.2).
 ghost use Rattle.std.specs.Prelude.{◌≡◌, ◌≤◌, ℕ, [], MatchOption};
 ghost use Rattle.amqp_model.specs.Constructors.{compound, format};
-ghost use Rattle.amqp_model.specs.Spelling.{IsKnown, data_of, items_of, elements_of, shared_data_of, enc};
+ghost use Rattle.amqp_model.specs.Spelling.{IsKnown, IsDataOf, AreItemsOf, AreElementsOf, AreSharedDataOf, IsSpelling};
 ghost use Rattle.amqp_model.specs.Measures.{nests, array_nest};
 ghost use Rattle.amqp_wire.specs.Containers.{container_of};
 ghost use Rattle.amqp_lengths.specs.Pieces.{width_of, IsPrimitive};
@@ -54,8 +54,8 @@ pub fn measures_of(input: &[u8]) -> Option<Measures>
 // The term that the input begins with.
 #[cycle(measure)]
 fn measure_term(input: &[u8]) -> Measured
-    requires { Measurable (λ t b. enc b t) input.now }
-    ensures { Begins (λ t b. enc b t) input.now result.len result.nodes result.nesting }
+    requires { Measurable (λ t b. IsSpelling b t) input.now }
+    ensures { Begins (λ t b. IsSpelling b t) input.now result.len result.nodes result.nesting }
 {
     let Ok(shared) = read_constructor(input) else {
         unreachable!()
@@ -89,8 +89,8 @@ fn container_at(code: u8) -> Option<(Container, bool)>
 #[cycle(measure)]
 fn measure_data(code: u8, input: &[u8]) -> Measured
     requires known { IsKnown (format code) }
-    requires begins { Measurable (λ t b. data_of t [] code b) input.now }
-    ensures { Begins (λ t b. data_of t [] code b) input.now result.len result.nodes result.nesting }
+    requires begins { Measurable (λ t b. IsDataOf t [] code b) input.now }
+    ensures { Begins (λ t b. IsDataOf t [] code b) input.now result.len result.nodes result.nesting }
 {
     if code == format_code::LIST_0 {
         return Measured {
@@ -115,9 +115,9 @@ fn measure_data(code: u8, input: &[u8]) -> Measured
 // The data of a list, map or array.
 #[cycle(measure)]
 fn measure_container(input: &[u8], wide: bool, container: Container) -> Measured
-    requires { (c : ℕ) × (format c ≡ compound (container_of container) (width_of wide)) × Measurable (λ t b. data_of t [] c b) input.now }
+    requires { (c : ℕ) × (format c ≡ compound (container_of container) (width_of wide)) × Measurable (λ t b. IsDataOf t [] c b) input.now }
     ensures { (c : ℕ) → format c ≡ compound (container_of container) (width_of wide)
-        → Begins (λ t b. data_of t [] c b) input.now result.len result.nodes result.nesting }
+        → Begins (λ t b. IsDataOf t [] c b) input.now result.len result.nodes result.nesting }
 {
     let Ok(parts) = read_content(input, wide, container) else {
         unreachable!()
@@ -152,8 +152,8 @@ fn measure_content(content: &[u8], count: usize, container: Container) -> Measur
 // So many terms.
 #[cycle(measure)]
 fn measure_items(content: &[u8], count: usize) -> Measures
-    requires { AllMeasurable items_of nests count content.now }
-    ensures { AllMeasured items_of nests count content.now result.nodes result.nesting }
+    requires { AllMeasurable AreItemsOf nests count content.now }
+    ensures { AllMeasured AreItemsOf nests count content.now result.nodes result.nesting }
 {
     let mut len = 0;
     let mut nodes = 0;
@@ -171,8 +171,8 @@ fn measure_items(content: &[u8], count: usize) -> Measures
 #[cycle(measure)]
 fn measure_shared(content: &[u8], code: u8, count: usize) -> Measures
     requires known { IsKnown (format code) }
-    requires items { AllMeasurable (λ ts b. shared_data_of ts [] code b) nests count content.now }
-    ensures { AllMeasured (λ ts b. shared_data_of ts [] code b) nests count content.now result.nodes result.nesting }
+    requires items { AllMeasurable (λ ts b. AreSharedDataOf ts [] code b) nests count content.now }
+    ensures { AllMeasured (λ ts b. AreSharedDataOf ts [] code b) nests count content.now result.nodes result.nesting }
 {
     let mut len = 0;
     let mut nodes = 0;
@@ -198,8 +198,8 @@ fn levels_of(shared: &Constructor) -> usize
 // The constructor and the items of an array.
 #[cycle(measure)]
 fn measure_elements(content: &[u8], count: usize) -> Measures
-    requires { AllMeasurable elements_of array_nest count content.now }
-    ensures { AllMeasured elements_of array_nest count content.now result.nodes result.nesting }
+    requires { AllMeasurable AreElementsOf array_nest count content.now }
+    ensures { AllMeasured AreElementsOf array_nest count content.now result.nodes result.nesting }
 {
     if count == 0 {
         return Measures {

@@ -12,7 +12,7 @@ use Rattle.amqp_decoder.proofs.Steps.{answered_later}
 use Rattle.amqp_codec.specs.Reading.{AreAlike}
 use Rattle.amqp_codec.proofs.Tries.{began_passed}
 use Rattle.amqp_codec.specs.RefusalLaws.{NoneStands, or_else}
-use Rattle.amqp_batches.specs.StateLaws.{alike_stays, alike_rest, alike_trans}
+use Rattle.amqp_batches.specs.StateLaws.{still_among, alike_stays, alike_rest, alike_trans}
 use Rattle.amqp_batches.specs.Walk.{IsAtTop, Walk, Steps, Walked, WalkFault, not_top, in_step}
 use Rattle.amqp_batches.specs.WalkLaws.{steps_top}
 use Rattle.amqp_batches.proofs.WalkSteps.{SoFar, so_far_stays, none_walked, step_made, step_refused, finished, ran_out, unmade}
@@ -34,7 +34,7 @@ module _ {M V : Type 0} (o : Order) (s : Shape M V) where
   -- no section that may stand there comes next
   fault_here : (st : State) (m : Progress M) (mid : State) (e : Error) → SoFar w st m mid → NextFault o m.left mid e → WalkFault w st e
   fault_here st m mid e h (next.not_top n) =
-      let s = so_far_stays w st m mid h in not_top ((λ p q. n.0 (s.place ∙ p) (s.saved ∙ q)), n.1)
+      let s = so_far_stays w st m mid h in not_top ((λ p q a. n.0 (s.place ∙ p) (s.saved ∙ q) (still_among s ∙ a)), n.1)
   fault_here st m mid e h (next.misplaced some a l i) =
       in_step h.number m h.last mid h.steps h.here (misplaced some a l i)
   fault_here st m mid e h (next.not_section {seen} some more none a f) =
@@ -44,7 +44,7 @@ module _ {M V : Type 0} (o : Order) (s : Shape M V) where
 
   none_next : (st : State) (m : Progress M) (mid : State) (e : Error) → SoFar w st m mid → NextFault o m.left mid e → NoneStands (Walked w) st
   none_next st m mid e h (next.not_top n) =
-      λ v b k. (let s = so_far_stays w st m mid h in n.0 (s.place ∙ k.top.1) (s.saved ∙ k.top.2))
+      λ v b k. (let s = so_far_stays w st m mid h in n.0 (s.place ∙ k.top.1) (s.saved ∙ k.top.2) (still_among s ∙ k.top.3))
   none_next st m mid e h (next.misplaced {c} some a l i) =
       none_walked w st m mid mid h refl
       (λ n x b like k.
@@ -104,7 +104,7 @@ module _ {M V : Type 0} (o : Order) (s : Shape M V) where
 
   top_there : (m : Progress M) (mid : State) (c : ℕ) (here : State) → FoundThere m mid c here → IsAtTop here
   top_there m mid c here f =
-      let s = alike_stays mid here f.alike in (s.error ∙ f.top.0, s.place ∙ f.top.1, s.saved ∙ f.top.2)
+      let s = alike_stays mid here f.alike in (s.error ∙ f.top.0, s.place ∙ f.top.1, s.saved ∙ f.top.2, still_among s ∙ f.top.3)
 
   -- one more group was read
   pub group_next : (st : State) (m x : Progress M) (mid : State) (c : ℕ) (here b : State) → SoFar w st m mid → FoundThere m mid c here
@@ -143,7 +143,7 @@ module _ {M V : Type 0} (o : Order) (s : Shape M V) where
   full_top : (st : State) (m : Progress M) (mid : State) → SoFar w st m mid → IsFull o m.left → IsAtTop mid
   full_top st m mid h f =
       let t = steps_top w h.number st w.blank m h.last (λ z. not_full m.left (left_is z) f) h.steps in
-      let k = so_far_stays w st m mid h in (k.error ∙ t.0, k.place ∙ t.1, k.saved ∙ t.2)
+      let k = so_far_stays w st m mid h in (k.error ∙ t.0, k.place ∙ t.1, k.saved ∙ t.2, still_among k ∙ t.3)
     where
       left_is : h.number ≡ 0 → m.left ≡ 7
       left_is z =

@@ -12,7 +12,7 @@ use Rattle.amqp_decoder.specs.Sections.{NotTop, Ends, PeeksSection}
 use Rattle.amqp_decoder.proofs.Steps.{answered_later, first_kept}
 use Rattle.amqp_codec.specs.Reading.{AreAlike}
 use Rattle.amqp_codec.specs.RefusalLaws.{NoneStands, excused_as, no_memory, or_else}
-use Rattle.amqp_batches.specs.StateLaws.{alike_stays, alike_rest, alike_trans}
+use Rattle.amqp_batches.specs.StateLaws.{still_among, alike_stays, alike_rest, alike_trans}
 use Rattle.amqp_batches.specs.Walk.{IsAtTop}
 use Rattle.amqp_batches.specs.NoSections.{NoSection}
 use Rattle.amqp_batches.proofs.WalkSteps.{peeked_alike}
@@ -44,11 +44,11 @@ module _ (o : Order) (left : ℕ) where
       by_error : (x : Option Error) → st.error ≡ x → IsExcused true e new ⊎ NoneStands (FindsNext o left) st
       by_error None i =
           or_else (excused_as e new no_memory)
-          (λ n v b h. (let t = finds_top st v b some h in n.0 t.1 t.2)) (q.named i)
+          (λ n v b h. (let t = finds_top st v b some h in n.0 t.1 t.2 t.3)) (q.named i)
       by_error (Some d) i = inr (λ v b h. (let t = finds_top st v b some h in let g = t.0 in absurd (cc)))
 
   pub ended : (st : State) (b : Bool) (mid : State) → b ≡ true → Ends st b mid → FindsNext o left st None mid
-  ended st b mid i h = let a = h.answer in at_end (h.going, h.place, h.saved) (a.0 i) refl (ends_alike st b mid h)
+  ended st b mid i h = let a = h.answer in at_end (h.going, h.place, h.saved, h.among) (a.0 i) refl (ends_alike st b mid h)
 
   module _ (st : State) (b : Bool) (mid : State) (some : IsFull o left → ⊥) (more : b ≡ false) (h : Ends st b mid) where
     not_ended : st.rest ≡ [] → ⊥
@@ -61,7 +61,7 @@ module _ (o : Order) (left : ℕ) where
         let only : IsExcused true e new =
         elim (q.named (s.error ∙ h.going)) [
           | inl x ↦ excused_as e new no_memory x
-          | inr x ↦ absurd (x.0 (s.place ∙ h.place) (s.saved ∙ h.saved))
+          | inr x ↦ absurd (x.0 (s.place ∙ h.place) (s.saved ∙ h.saved) (still_among s ∙ h.among))
         ] in
         record { kept = answered_later s.sound q.kept; again = λ d x. (let g = h.going in absurd (cc)); named = λ _. inl only; none = inl only }
 
@@ -80,7 +80,7 @@ module _ (o : Order) (left : ℕ) where
           let y = sym i ∙ z in absurd (cc)
 
       pub section_found : (c : ℕ) → found ≡ Some c → further o left c < left → FindsNext o left st (Some c) here
-      section_found c i l = section (h.going, h.place, h.saved) some (ahead c i) l refl alike
+      section_found c i l = section (h.going, h.place, h.saved, h.among) some (ahead c i) l refl alike
 
       going : here.error ≡ None
       going = (alike_stays st here alike).error ∙ h.going

@@ -1,6 +1,6 @@
 //! Messages from readers, and values from messages, by the type of the value (Part 3, section 3.2).
 ghost use Rattle.std.specs.Prelude.{◌≡◌, ◌⊎◌, ℕ, List, true, IfOk, IfErr, MatchResult};
-ghost use Rattle.amqp_wire.specs.declared.error.Error.TheVariants.{Memory};
+ghost use Rattle.amqp_wire.specs.declared.error.Error.TheVariants.{Memory, Limit};
 ghost use Rattle.amqp_wire.specs.Sources.{known, Tells};
 ghost use Rattle.amqp_decoder.specs.Steps.{IsReadError};
 ghost use Rattle.amqp_codec.specs.Reading.{BeginsWith, IsUnreadable};
@@ -47,6 +47,7 @@ impl<B: FromBody> DecodeIntoMessage for B {
             → ⟦<Message<B> as Deserialize>⟧.reading.same message w) }
         ensures refused { Tells R.remaining → IfErr result (λ e. (e ≡ Memory) ⊎ ((IsReadError e × (R.failed reader.new ≡ true))
             ⊎ IsUnreadable ⟦<Message<B> as Deserialize>⟧.reading (known (R.remaining reader.old)) e)) }
+        ensures unlimited { IfErr result (λ e. e ≡ Limit → ⊥) }
         ensures failed { IfErr result (λ e. IsReadError e → R.failed reader.new ≡ true) }
         ensures failing { MatchResult result (λ _. R.failed reader.new ≡ R.failed reader.old)
             (λ e. (R.failed reader.new ≡ R.failed reader.old) ⊎ IsReadError e) }

@@ -141,6 +141,10 @@ pub fn read_message<B: FromBody, R: ByteSource>(
 impl<B: FromBody> Deserialize for Message<B> {
     ghost reading = { walk_reading (message_walk Any (message_of B.made)) };
 
+    fn is_one_term() -> bool {
+        false
+    }
+
     fn deserialize<R: ByteSource>(
         decoder: &mut Decoder<R>,
         alloc: Global,

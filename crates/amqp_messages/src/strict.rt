@@ -1,10 +1,10 @@
 //! Messages whose sections stand in the standard's order, each kind at most once, to the end of the input (Part 3, section 3.2).
 ghost use Rattle.std.specs.Prelude.{◌≡◌, ◌⊎◌, ℕ, List, [], true, false, length, IfOk, IfErr, OnOk, MatchResult};
-ghost use Rattle.amqp_wire.specs.declared.error.Error.TheVariants.{Memory};
+ghost use Rattle.amqp_wire.specs.declared.error.Error.TheVariants.{Memory, Limit};
 ghost use Rattle.amqp_wire.specs.declared.limits.Limits.{Limits};
 ghost use Rattle.amqp_wire.specs.Sources.{known, Tells};
 ghost use Rattle.amqp_decoder.specs.Steps.{IsReadError};
-ghost use Rattle.amqp_codec.specs.Reading.{BeginsWith, IsUnreadable, BeginsWithin, IsUnreadableWithin};
+ghost use Rattle.amqp_codec.specs.Reading.{IsGreatest, BeginsWith, IsUnreadable, BeginsWithin, IsUnreadableWithin};
 ghost use Rattle.amqp_codec.specs.Agreement.{via_writing};
 ghost use Rattle.amqp_read_write.specs.Rewritten.{IsRewritten, IsReadAgain, AreReadAgain, IsOneText, IsOfNoOther, IsUnchanged, IsUnwritten};
 ghost use Rattle.amqp_annotations.specs.AnnotationsType.{annotations_agreement};
@@ -33,6 +33,10 @@ pub struct Strict<B>(pub Message<B>);
 /// In the standard's order, each kind at most once, to the end of the input: another section is `Misplaced`.
 impl<B: FromBody> Deserialize for Strict<B> {
     ghost reading = { reading_via (walk_reading (message_walk Written (message_of B.made))) message_in };
+
+    fn is_one_term() -> bool {
+        false
+    }
 
     fn deserialize<R: ByteSource>(
         decoder: &mut Decoder<R>,
@@ -84,6 +88,7 @@ pub fn decode_message_strict<B: FromBody, R: ByteSource>(
         → ⟦<Strict<B> as Deserialize>⟧.reading.same (as_strict message) w) }
     ensures refused { Tells R.remaining → IfErr result (λ e. (e ≡ Memory) ⊎ ((IsReadError e × (R.failed reader.new ≡ true))
         ⊎ IsUnreadable ⟦<Strict<B> as Deserialize>⟧.reading (known (R.remaining reader.old)) e)) }
+    ensures unlimited { IfErr result (λ e. e ≡ Limit → ⊥) }
     ensures failed { IfErr result (λ e. IsReadError e → R.failed reader.new ≡ true) }
     ensures failing { MatchResult result (λ _. R.failed reader.new ≡ R.failed reader.old)
         (λ e. (R.failed reader.new ≡ R.failed reader.old) ⊎ IsReadError e) }
@@ -110,6 +115,7 @@ pub fn decode_message_strict_within<B: FromBody, R: ByteSource>(
         → ⟦<Strict<B> as Deserialize>⟧.reading.same (as_strict message) w) }
     ensures refused { Tells R.remaining → IfErr result (λ e. (e ≡ Memory) ⊎ ((IsReadError e × (R.failed reader.new ≡ true))
         ⊎ IsUnreadableWithin limits.now ⟦<Strict<B> as Deserialize>⟧.reading (known (R.remaining reader.old)) e)) }
+    ensures limited { IfErr result (λ e. e ≡ Limit → IsGreatest limits.now → ⊥) }
     ensures failed { IfErr result (λ e. IsReadError e → R.failed reader.new ≡ true) }
     ensures failing { MatchResult result (λ _. R.failed reader.new ≡ R.failed reader.old)
         (λ e. (R.failed reader.new ≡ R.failed reader.old) ⊎ IsReadError e) }

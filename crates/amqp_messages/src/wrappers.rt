@@ -31,6 +31,10 @@ pub struct Deserializable<T>(pub T);
 impl<T: Deserialize> Deserialize for Deserializable<T> {
     ghost reading = { reading_via T.reading read_in };
 
+    fn is_one_term() -> bool {
+        T::is_one_term()
+    }
+
     fn deserialize<R: ByteSource>(
         decoder: &mut Decoder<R>,
         alloc: Global,

@@ -3,7 +3,7 @@ use Rattle.std.proofs.Common.{ℕ, ◌≤◌, List, [], ◌∷◌, length, arith
 use Rattle.amqp_model.specs.Term.{Primitive, Container, list, map, array, Term, Terms, leaf, container, described, kept, barred, none, more}
 use Rattle.amqp_model.specs.Term.{Descriptor, count}
 use Rattle.amqp_model.specs.Constructors.{Format, fixed, variable, compound, unknown, format}
-use Rattle.amqp_model.specs.Spelling.{PrimitiveData, ContainerData, HasWidthZero, data_of, items_of, elements_of, shared_data_of, enc}
+use Rattle.amqp_model.specs.Spelling.{PrimitiveData, ContainerData, HasWidthZero, IsDataOf, AreItemsOf, AreElementsOf, AreSharedDataOf, IsSpelling}
 use Rattle.amqp_model.specs.Measures.{nodes, all_nodes}
 use Rattle.amqp_model.proofs.Lengths.{joined_length, sized_length, frame_length, constructor_length}
 
@@ -31,20 +31,20 @@ container_length (variable w v) k n m C d h inner = absurd h
 container_length unknown k n m C d h inner = absurd h
 
 mutual
-  data_nodes : (t : Term) (ds : List Descriptor) (c : ℕ) (d : List ℕ) → data_of t ds c d → (nodes t ≤ suc (length d))
+  data_nodes : (t : Term) (ds : List Descriptor) (c : ℕ) (d : List ℕ) → IsDataOf t ds c d → (nodes t ≤ suc (length d))
       × ((HasWidthZero (format c) → ⊥) → nodes t ≤ length d)
   data_nodes (leaf p) [] c d h = (omega arith, primitive_length (format c) p d h)
   data_nodes (leaf p) (e ∷ ds) c d h = absurd h
   data_nodes (container list ts) [] c d h =
-      let r = container_length (format c) list (count ts) (all_nodes ts) (items_of ts) d h (λ b i. items_nodes ts b i) in
+      let r = container_length (format c) list (count ts) (all_nodes ts) (AreItemsOf ts) d h (λ b i. items_nodes ts b i) in
       (omega (arith, r.0), r.1)
   data_nodes (container list ts) (e ∷ ds) c d h = absurd h
   data_nodes (container map ts) [] c d h =
-      let r = container_length (format c) map (count ts) (all_nodes ts) (items_of ts) d h.1 (λ b i. items_nodes ts b i) in
+      let r = container_length (format c) map (count ts) (all_nodes ts) (AreItemsOf ts) d h.1 (λ b i. items_nodes ts b i) in
       (omega (arith, r.0), r.1)
   data_nodes (container map ts) (e ∷ ds) c d h = absurd h
   data_nodes (container array ts) [] c d h =
-      let r = container_length (format c) array (count ts) (all_nodes ts) (elements_of ts) d h (λ b i. elements_nodes ts b i) in
+      let r = container_length (format c) array (count ts) (all_nodes ts) (AreElementsOf ts) d h (λ b i. elements_nodes ts b i) in
       (omega (arith, r.0), r.1)
   data_nodes (container array ts) (e ∷ ds) c d h = absurd h
   data_nodes (described f t) [] c d h = absurd h
@@ -52,7 +52,7 @@ mutual
   data_nodes (kept b) ds c d h = absurd h
   data_nodes (barred r) ds c d h = absurd h
 
-  items_nodes : (ts : Terms) (b : List ℕ) → items_of ts b → all_nodes ts ≤ length b
+  items_nodes : (ts : Terms) (b : List ℕ) → AreItemsOf ts b → all_nodes ts ≤ length b
   items_nodes none b h = omega arith
   items_nodes (more t ts) b (first, second, e, (ds, c, few, (h, d, e', k, s)), rest) =
       omega (
@@ -64,7 +64,7 @@ mutual
         items_nodes ts second rest,
       )
 
-  elements_nodes : (ts : Terms) (b : List ℕ) → elements_of ts b → all_nodes ts ≤ length b
+  elements_nodes : (ts : Terms) (b : List ℕ) → AreElementsOf ts b → all_nodes ts ≤ length b
   elements_nodes none b h = omega arith
   elements_nodes (more t ts) b (ds, c, few, (h, d, e, k, (some, (first, second, e', s, rest)))) =
       omega (
@@ -75,13 +75,13 @@ mutual
         shared_nodes ts ds c second rest some,
       )
 
-  shared_nodes : (ts : Terms) (ds : List Descriptor) (c : ℕ) (b : List ℕ) → shared_data_of ts ds c b → (HasWidthZero (format c) → ⊥)
+  shared_nodes : (ts : Terms) (ds : List Descriptor) (c : ℕ) (b : List ℕ) → AreSharedDataOf ts ds c b → (HasWidthZero (format c) → ⊥)
       → all_nodes ts ≤ length b
   shared_nodes none ds c b h some = omega arith
   shared_nodes (more t ts) ds c b (first, second, e, s, rest) some =
       omega (arith, joined_length b first second e, (data_nodes t ds c first s).1 some, shared_nodes ts ds c second rest some)
 
-pub nodes_bounded : (b : List ℕ) (t : Term) → enc b t → nodes t ≤ length b
-unfolding enc
+pub nodes_bounded : (b : List ℕ) (t : Term) → IsSpelling b t → nodes t ≤ length b
+unfolding IsSpelling
 nodes_bounded b t (ds, c, few, (h, d, e, k, s)) =
     omega (arith, joined_length b h d e, constructor_length ds c h k, (data_nodes t ds c d s).0)

@@ -5,7 +5,7 @@ use Rattle.std.specs.Int.{bytes_high_first}
 use Rattle.amqp_model.specs.Term.{Container, list, map, array, Term, Terms, leaf, container, described, kept, barred, none, more}
 use Rattle.amqp_model.specs.Term.{Descriptor, count}
 use Rattle.amqp_model.specs.Constructors.{Format, fixed, variable, compound, unknown, format}
-use Rattle.amqp_model.specs.Spelling.{IsSize, ContainerData, descriptor_value, Names, Constructor, data_of, items_of, enc}
+use Rattle.amqp_model.specs.Spelling.{IsSize, ContainerData, descriptor_value, Names, Constructor, IsDataOf, AreItemsOf, IsSpelling}
 use Rattle.amqp_model.specs.Text.{Alone, shortest, spell, compact_head, text, texts}
 use Rattle.amqp_model.specs.Ranges.{Everywhere, EverywhereIn, IsBytes, IsNoArray}
 use Rattle.amqp_model.proofs.Lengths.{joined_length, frame_length, compact_cases}
@@ -79,7 +79,7 @@ descriptor_least f e h same (c, d, s, p) b =
 mutual
   unfolding text
 
-  least : (t : Term) (ds : List Descriptor) (c : ℕ) (h d : List ℕ) → Everywhere IsNoArray t → Constructor ds c h → data_of t ds c d
+  least : (t : Term) (ds : List Descriptor) (c : ℕ) (h d : List ℕ) → Everywhere IsNoArray t → Constructor ds c h → IsDataOf t ds c d
       → IsBytes h → IsBytes d → length (text t Alone) ≤ length h + length d
   least (leaf p) [] c h d g k s b b' =
       let one : length h ≡ 1 = ap length k.0 in omega (arith, shortest_least c p d b' s)
@@ -90,7 +90,7 @@ mutual
       let one : length h ≡ 1 = ap length k.0 in
       omega (
         arith,
-        container_least (format c) list (suc (count ts)) (suc (count ts)) (items_of (more t ts)) (texts (more t ts) Alone) d
+        container_least (format c) list (suc (count ts)) (suc (count ts)) (AreItemsOf (more t ts)) (texts (more t ts) Alone) d
             (format_least c) (omega arith) (inl (omega arith)) s b' (λ content b i. items_least (more t ts) content g.1 i b),
       )
   least (container list (more t ts)) (e ∷ ds) c h d g k s b b' = absurd s
@@ -98,7 +98,7 @@ mutual
       let one : length h ≡ 1 = ap length k.0 in
       omega (
         arith,
-        container_least (format c) map (count ts) (count ts) (items_of ts) (texts ts Alone) d (format_least c) (omega arith) (inr map_list)
+        container_least (format c) map (count ts) (count ts) (AreItemsOf ts) (texts ts Alone) d (format_least c) (omega arith) (inr map_list)
             s.1 b' (λ content b i. items_least ts content g.1 i b),
       )
   least (container map ts) (e ∷ ds) c h d g k s b b' = absurd s
@@ -115,7 +115,7 @@ mutual
   least (kept l) ds c h d g k s b b' = absurd s
   least (barred r) ds c h d g k s b b' = absurd s
 
-  items_least : (ts : Terms) (b : List ℕ) → EverywhereIn IsNoArray ts → items_of ts b → IsBytes b → length (texts ts Alone) ≤ length b
+  items_least : (ts : Terms) (b : List ℕ) → EverywhereIn IsNoArray ts → AreItemsOf ts b → IsBytes b → length (texts ts Alone) ≤ length b
   items_least none b g i h = omega arith
   items_least (more t ts) b g (first, second, e, (ds, c, few, (h, d, e', k, s)), rest) bytes =
       let b' : IsBytes (first ++ second) = subst IsBytes e bytes in
@@ -124,8 +124,8 @@ mutual
       let m = items_least ts second g.1 rest (bytes_right first second b') in
       omega (arith, joined_length b first second e, joined_length first h d e', length-append (text t Alone) (texts ts Alone))
 
-pub text_is_least : (b : List ℕ) (t : Term) → Everywhere IsNoArray t → IsBytes b → enc b t → length (text t Alone) ≤ length b
-unfolding enc
+pub text_is_least : (b : List ℕ) (t : Term) → Everywhere IsNoArray t → IsBytes b → IsSpelling b t → length (text t Alone) ≤ length b
+unfolding IsSpelling
 text_is_least b t g bytes (ds, c, few, (h, d, e, k, s)) =
     let b' : IsBytes (h ++ d) = subst IsBytes e bytes in
     omega (arith, joined_length b h d e, least t ds c h d g k s (bytes_left h d b') (bytes_right h d b'))

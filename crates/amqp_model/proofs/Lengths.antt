@@ -5,7 +5,7 @@ use Rattle.std.proofs.lemmas.Bool.{cond_both, ltb-true, ltb-false}
 use Rattle.std.proofs.lemmas.List.{length-append}
 use Rattle.std.specs.Int.{bytes_high_first}
 use Rattle.amqp_model.specs.Term.{Container, Term, Descriptor}
-use Rattle.amqp_model.specs.Spelling.{Constructor, enc}
+use Rattle.amqp_model.specs.Spelling.{Constructor, IsSpelling}
 use Rattle.amqp_model.specs.Text.{short_code, wide_code, size_and_count, is_short, compact_head}
 use Rattle.amqp_model.proofs.Bytes.{length-bytes}
 
@@ -26,8 +26,8 @@ pub constructor_length : (ds : List Descriptor) (c : ℕ) (b : List ℕ) → Con
 constructor_length [] c b h = subst (λ l. 1 ≤ length l) (sym h.0) (omega arith)
 constructor_length (d ∷ ds) c b h = subst (λ l. 1 ≤ length l) (sym h.2) (omega arith)
 
-pub spelling_length : (b : List ℕ) (t : Term) → enc b t → 1 ≤ length b
-unfolding enc
+pub spelling_length : (b : List ℕ) (t : Term) → IsSpelling b t → 1 ≤ length b
+unfolding IsSpelling
 spelling_length b t (ds, c, few, (first, second, e, k, h)) = omega (arith, joined_length b first second e, constructor_length ds c first k)
 
 both_true : (a b : Bool) → (a && b) ≡ true → (a ≡ true) × (b ≡ true)

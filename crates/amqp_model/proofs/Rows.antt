@@ -6,7 +6,7 @@ use Rattle.amqp_model.specs.Term.{Primitive, null, boolean, uint, symbol, binary
 use Rattle.amqp_model.specs.Term.{too_large, lazy_in_array, list, map, array, Term, Terms, leaf, container, described, kept, barred, none}
 use Rattle.amqp_model.specs.Term.{more, Descriptor, count}
 use Rattle.amqp_model.specs.Constructors.{format}
-use Rattle.amqp_model.specs.Spelling.{Joined, IsSize, HasWidthZero, Spelled, data_of, elements_of, shared_data_of, enc}
+use Rattle.amqp_model.specs.Spelling.{Joined, IsSize, HasWidthZero, Spelled, IsDataOf, AreElementsOf, AreSharedDataOf, IsSpelling}
 use Rattle.amqp_model.specs.Text.{Alone, spell, head, container_text, form, text, texts}
 use Rattle.amqp_model.specs.Measures.{nest, array_nest}
 use Rattle.amqp_model.specs.Kept.{ExpandsTo}
@@ -32,13 +32,13 @@ pub binary_253 : (s : List ℕ) → length s ≡ 253
     → take 11 (text (one_binary s) Alone) ≡ 0xd0 ∷ 0 ∷ 0 ∷ 0x01 ∷ 0x03 ∷ 0 ∷ 0 ∷ 0 ∷ 0x01 ∷ 0xa0 ∷ 0xfd ∷ []
 binary_253 s e = ap (take 11) (binary_list s 253 e) ∙ ap (λ m. take 11 (head Alone list 1 (suc (suc m)) ++ (0xa0 ∷ 253 ∷ s))) e
 
-pub empty_array_short : enc (0xe0 ∷ 0x01 ∷ 0x00 ∷ []) (container array none)
-unfolding enc
+pub empty_array_short : IsSpelling (0xe0 ∷ 0x01 ∷ 0x00 ∷ []) (container array none)
+unfolding IsSpelling
 empty_array_short =
     ([], 0xe0, omega arith, (0xe0 ∷ [], 1 ∷ 0 ∷ [], refl, (refl, tt), (refl, 1, [], inl refl, inl refl, omega arith, omega arith, refl)))
 
-pub empty_array_typed : enc (0xe0 ∷ 0x02 ∷ 0x00 ∷ 0x40 ∷ []) (container array none)
-unfolding enc
+pub empty_array_typed : IsSpelling (0xe0 ∷ 0x02 ∷ 0x00 ∷ 0x40 ∷ []) (container array none)
+unfolding IsSpelling
 empty_array_typed = (
   [],
   0xe0,
@@ -52,8 +52,8 @@ empty_array_typed = (
   ),
 )
 
-pub empty_list_sized : enc (0xc0 ∷ 0x00 ∷ 0x00 ∷ []) (container list none)
-unfolding enc
+pub empty_list_sized : IsSpelling (0xc0 ∷ 0x00 ∷ 0x00 ∷ []) (container list none)
+unfolding IsSpelling
 empty_list_sized = (
   [],
   0xc0,
@@ -80,7 +80,7 @@ bare D x b some ([], c, few, (h, d, e, k, s)) =
     subst (D [] x) (sym (ap (drop 1) all)) (subst (λ c. D [] c d) (sym (ap (λ l. get_or l 0 0) all)) s)
 bare D x b some (f ∷ ds, c, few, (h, d, e, k, s)) = absurd (some (ap (λ l. get_or l 0 0) (e ∙ ap (λ l. l ++ d) k.2)))
 
-array_only : (t : Term) (b : List ℕ) → data_of t [] 0xe0 b → (ts : Terms) × data_of (container array ts) [] 0xe0 b
+array_only : (t : Term) (b : List ℕ) → IsDataOf t [] 0xe0 b → (ts : Terms) × IsDataOf (container array ts) [] 0xe0 b
 array_only (leaf p) b h = absurd h
 array_only (container list ts) b h = absurd (array_list h.0)
 array_only (container map ts) b h = absurd (array_map h.1.0)
@@ -89,7 +89,7 @@ array_only (described d t) b h = absurd h
 array_only (kept l) b h = absurd h
 array_only (barred r) b h = absurd h
 
-map_only : (t : Term) (b : List ℕ) → data_of t [] 0xc1 b → (ts : Terms) × data_of (container map ts) [] 0xc1 b
+map_only : (t : Term) (b : List ℕ) → IsDataOf t [] 0xc1 b → (ts : Terms) × IsDataOf (container map ts) [] 0xc1 b
 map_only (leaf p) b h = absurd h
 map_only (container list ts) b h = absurd (map_list h.0)
 map_only (container map ts) b h = (ts, h)
@@ -98,30 +98,30 @@ map_only (described d t) b h = absurd h
 map_only (kept l) b h = absurd h
 map_only (barred r) b h = absurd h
 
-true_items : (ts : Terms) → 255 ≡ count ts → elements_of ts (0x41 ∷ []) → ⊥
+true_items : (ts : Terms) → 255 ≡ count ts → AreElementsOf ts (0x41 ∷ []) → ⊥
 true_items none n h = absurd (omega arith)
 true_items (more t ts) n h =
-    (bare (λ ds c d. (HasWidthZero (format c) → ⊥) × Joined (data_of t ds c) (shared_data_of ts ds c) d) 0x41 []
+    (bare (λ ds c d. (HasWidthZero (format c) → ⊥) × Joined (IsDataOf t ds c) (AreSharedDataOf ts ds c) d) 0x41 []
     (λ e. absurd (omega arith)) h).0 tt
 
-pub width_zero : (t : Term) → enc (0xe0 ∷ 0x02 ∷ 0xff ∷ 0x41 ∷ []) t → ⊥
-unfolding enc
+pub width_zero : (t : Term) → IsSpelling (0xe0 ∷ 0x02 ∷ 0xff ∷ 0x41 ∷ []) t → ⊥
+unfolding IsSpelling
 width_zero t h =
     let (ts, (_, size, content, s, c, fits, room, e)) =
-    array_only t (0x02 ∷ 0xff ∷ 0x41 ∷ []) (bare (data_of t) 0xe0 (0x02 ∷ 0xff ∷ 0x41 ∷ []) (λ e. absurd (omega arith)) h) in
+    array_only t (0x02 ∷ 0xff ∷ 0x41 ∷ []) (bare (IsDataOf t) 0xe0 (0x02 ∷ 0xff ∷ 0x41 ∷ []) (λ e. absurd (omega arith)) h) in
     let sizes = field 1 2 size (0xff ∷ 0x41 ∷ []) (bytes_high_first 1 (count ts) ++ content) (omega arith) fits e in
     let counts = field 1 255 (count ts) (0x41 ∷ []) content (omega arith) room sizes.1 in
-    true_items ts counts.0 (subst (elements_of ts) (sym counts.1) c)
+    true_items ts counts.0 (subst (AreElementsOf ts) (sym counts.1) c)
 
 no_size : (n : ℕ) (content : List ℕ) → IsSize map 1 n content 0 → ⊥
 no_size n content (inl e) = absurd (omega arith)
 no_size n content (inr (e, _, _, _)) = map_list e
 
-pub empty_size : (t : Term) → enc (0xc1 ∷ 0x00 ∷ 0x00 ∷ []) t → ⊥
-unfolding enc
+pub empty_size : (t : Term) → IsSpelling (0xc1 ∷ 0x00 ∷ 0x00 ∷ []) t → ⊥
+unfolding IsSpelling
 empty_size t h =
     let (ts, (_, (_, size, content, s, c, fits, room, e))) =
-    map_only t (0x00 ∷ 0x00 ∷ []) (bare (data_of t) 0xc1 (0x00 ∷ 0x00 ∷ []) (λ e. absurd (omega arith)) h) in
+    map_only t (0x00 ∷ 0x00 ∷ []) (bare (IsDataOf t) 0xc1 (0x00 ∷ 0x00 ∷ []) (λ e. absurd (omega arith)) h) in
     let sizes = field 1 0 size (0x00 ∷ []) (bytes_high_first 1 (count ts) ++ content) (omega arith) fits e in
     no_size (count ts) content (subst (IsSize map 1 (count ts) content) (sym sizes.0) s)
 

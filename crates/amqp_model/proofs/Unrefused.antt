@@ -4,7 +4,7 @@ use Rattle.std.proofs.Common.{sym, lt_of_not-le, le_of_suc-le-suc, IsAscii, slic
 use Rattle.amqp_model.specs.Term.{Primitive, null, binary, string, symbol, Refusal, depth, zero_width_items, non_ascii, mixed_array}
 use Rattle.amqp_model.specs.Term.{too_large, lazy_in_array, list, map, array, Term, Terms, leaf, container, described, kept, barred, none}
 use Rattle.amqp_model.specs.Term.{more}
-use Rattle.amqp_model.specs.Spelling.{descriptor_value, enc}
+use Rattle.amqp_model.specs.Spelling.{descriptor_value, IsSpelling}
 use Rattle.amqp_model.specs.Text.{Alone, wide, wide_code, form, text}
 use Rattle.amqp_model.specs.Measures.{nest}
 use Rattle.amqp_model.specs.Ranges.{IsValue, Everywhere, EverywhereIn}
@@ -110,7 +110,7 @@ pub unrefused_nests : (u t : Term) → IsUnrefused u → ExpandsTo u t → nest 
 unfolding Refuses
 unrefused_nests u t h r = le_of_suc-le-suc (below (nest t) 129 (λ l. h depth (inr (refl, (t, r, l)))))
 
-pub unrefused_spells : (u t : Term) → IsUnrefused u → Everywhere IsValue u → ExpandsTo u t → enc (text u Alone) t
+pub unrefused_spells : (u t : Term) → IsUnrefused u → Everywhere IsValue u → ExpandsTo u t → IsSpelling (text u Alone) t
 unrefused_spells u t h v r = text_spells u t (safe_is_good u v (unrefused_safe u h)) r (unrefused_nests u t h r)
 
 pub one_text : (u v t w : Term) → IsUnrefused u → Everywhere IsValue u → ExpandsTo u t → IsUnrefused v → Everywhere IsValue v

@@ -5,8 +5,8 @@ use Rattle.std.proofs.lemmas.List.{length-append}
 use Rattle.amqp_model.specs.Term.{Container, list, map, array, Term, Terms, leaf, container, described, kept, barred, none, more}
 use Rattle.amqp_model.specs.Term.{Descriptor, count}
 use Rattle.amqp_model.specs.Constructors.{Format, fixed, variable, compound, unknown, format}
-use Rattle.amqp_model.specs.Spelling.{Joined, PrimitiveData, ContainerData, IsKnown, descriptor_value, Constructor, Spelled, data_of}
-use Rattle.amqp_model.specs.Spelling.{items_of, elements_of, shared_data_of, enc}
+use Rattle.amqp_model.specs.Spelling.{Joined, PrimitiveData, ContainerData, IsKnown, descriptor_value, Constructor, Spelled, IsDataOf}
+use Rattle.amqp_model.specs.Spelling.{AreItemsOf, AreElementsOf, AreSharedDataOf, IsSpelling}
 use Rattle.amqp_model.specs.Text.{Alone, First, Later, wide, shortest, spell, short_code, wide_code, size_and_count, compact_head, head}
 use Rattle.amqp_model.specs.Text.{content_of, form, text, texts}
 use Rattle.amqp_model.specs.Measures.{nest, nests, array_nest}
@@ -49,10 +49,10 @@ compact_container k n C content c few fits =
 
 -- the text of u is a constructor and data of t
 Opens : Term → Term → Type 0
-Opens u t = (ds : List Descriptor) × (c : ℕ) × Joined (Constructor ds c) (data_of t ds c) (text u Alone)
+Opens u t = (ds : List Descriptor) × (c : ℕ) × Joined (Constructor ds c) (IsDataOf t ds c) (text u Alone)
 
 -- a term nests at least as deep as it has descriptors
-pub descriptors_nest : (t : Term) (ds : List Descriptor) (c : ℕ) (b : List ℕ) → data_of t ds c b → length ds ≤ nest t
+pub descriptors_nest : (t : Term) (ds : List Descriptor) (c : ℕ) (b : List ℕ) → IsDataOf t ds c b → length ds ≤ nest t
 descriptors_nest t [] c b h = omega arith
 descriptors_nest (leaf p) (d ∷ ds) c b h = absurd h
 descriptors_nest (container list ts) (d ∷ ds) c b h = absurd h
@@ -62,12 +62,12 @@ descriptors_nest (described e t) (d ∷ ds) c b h = omega (arith, descriptors_ne
 descriptors_nest (kept b') (d ∷ ds) c b h = absurd h
 descriptors_nest (barred r) (d ∷ ds) c b h = absurd h
 
-bare_opens : (u t : Term) (c : ℕ) (d : List ℕ) → text u Alone ≡ c ∷ d → IsKnown (format c) → data_of t [] c d → Opens u t
+bare_opens : (u t : Term) (c : ℕ) (d : List ℕ) → text u Alone ≡ c ∷ d → IsKnown (format c) → IsDataOf t [] c d → Opens u t
 unfolding Opens
 bare_opens u t c d e known h = ([], c, (c ∷ [], d, e, (refl, known), h))
 
 container_opens : (u t : Term) (k : Container) (n : ℕ) (C : List ℕ → Type 0)
-    → ((c : ℕ) (d : List ℕ) → ContainerData (format c) k n C d → data_of t [] c d) → IsContainerText k n C (text u Alone) → Opens u t
+    → ((c : ℕ) (d : List ℕ) → ContainerData (format c) k n C d → IsDataOf t [] c d) → IsContainerText k n C (text u Alone) → Opens u t
 unfolding IsContainerText
 container_opens u t k n C is (c, d, e, h) = bare_opens u t c d e (container_known (format c) k n C d h) (is c d h)
 
@@ -86,11 +86,11 @@ described_opens d e u t same g (ds, c, (first, second, s, k, h)) =
       ),
     )
 
-kept_opens : (b : List ℕ) (t : Term) → enc b t → Opens (kept b) t
-unfolding Opens text enc
+kept_opens : (b : List ℕ) (t : Term) → IsSpelling b t → Opens (kept b) t
+unfolding Opens text IsSpelling
 kept_opens b t (ds, c, few, h) = (ds, c, h)
 
-opens_spelled : (u t : Term) → nest t ≤ 128 → Opens u t → Spelled (data_of t) (text u Alone)
+opens_spelled : (u t : Term) → nest t ≤ 128 → Opens u t → Spelled (IsDataOf t) (text u Alone)
 unfolding Opens
 opens_spelled u t n (ds, c, (first, second, e, k, h)) = (ds, c, le_trans (descriptors_nest t ds c second h) n, (first, second, e, k, h))
 
@@ -153,7 +153,7 @@ nests_least (more (kept b) ts) = omega (arith, nests_least ts)
 nests_least (more (barred r) ts) = omega (arith, nests_least ts)
 
 mutual
-  unfolding text texts enc
+  unfolding text texts IsSpelling
 
   text_opens : (u t : Term) → Everywhere Good u → ExpandsTo u t → nest t ≤ 128 → Opens u t
   text_opens (leaf p) (leaf q) g r n =
@@ -164,27 +164,27 @@ mutual
       bare_opens (container list none) (container list none) 0x45 [] refl tt (refl, 0, [], inl refl, refl, omega arith, omega arith, refl)
   text_opens (container list (more u us)) (container list (more t ts)) g r n =
       let content = texts (more u us) Alone in
-      container_opens (container list (more u us)) (container list (more t ts)) list (count (more u us)) (items_of (more t ts))
-      (λ c d h. subst (λ z. ContainerData (format c) list z (items_of (more t ts)) d) (same_count (more u us) (more t ts) r.1) h)
-      (compact_container list (count (more u us)) (items_of (more t ts)) content
+      container_opens (container list (more u us)) (container list (more t ts)) list (count (more u us)) (AreItemsOf (more t ts))
+      (λ c d h. subst (λ z. ContainerData (format c) list z (AreItemsOf (more t ts)) d) (same_count (more u us) (more t ts) r.1) h)
+      (compact_container list (count (more u us)) (AreItemsOf (more t ts)) content
       (texts_spelled (more u us) (more t ts) g.1 r.1 (omega arith)) (texts_length (more u us) (more t ts) g.1 r.1) g.0.1)
   text_opens (container map us) (container map ts) g r n =
       let even : count ts % 2 ≡ 0 = subst (λ z. z % 2 ≡ 0) (same_count us ts r.1) g.0.0 in
-      container_opens (container map us) (container map ts) map (count us) (items_of ts)
-      (λ c d h. (even, subst (λ z. ContainerData (format c) map z (items_of ts) d) (same_count us ts r.1) h))
-      (compact_container map (count us) (items_of ts) (texts us Alone) (texts_spelled us ts g.1 r.1 (omega arith))
+      container_opens (container map us) (container map ts) map (count us) (AreItemsOf ts)
+      (λ c d h. (even, subst (λ z. ContainerData (format c) map z (AreItemsOf ts) d) (same_count us ts r.1) h))
+      (compact_container map (count us) (AreItemsOf ts) (texts us Alone) (texts_spelled us ts g.1 r.1 (omega arith))
       (texts_length us ts g.1 r.1) g.0.1)
   text_opens (container array us) (container array ts) g r n =
-      container_opens (container array us) (container array ts) array (count us) (elements_of ts)
-      (λ c d h. subst (λ z. ContainerData (format c) array z (elements_of ts) d) (same_count us ts r.1) h)
-      (compact_container array (count us) (elements_of ts) (content_of array (count us) (texts us First))
+      container_opens (container array us) (container array ts) array (count us) (AreElementsOf ts)
+      (λ c d h. subst (λ z. ContainerData (format c) array z (AreElementsOf ts) d) (same_count us ts r.1) h)
+      (compact_container array (count us) (AreElementsOf ts) (content_of array (count us) (texts us First))
       (elements_spelled us ts g.0.0.0 g.1 r.1 g.0.0.1 n) (elements_length us g.0.0.0 g.1 g.0.0.1) g.0.1)
   text_opens (described d u) (described e t) g r n = described_opens d e u t r.0 g.0 (text_opens u t g.1 r.1 (omega arith))
   text_opens (kept b) t g r n = kept_opens b t r
   text_opens (barred s) t g r n = absurd g.0
   text_opens u t g r n = let no_way : ⊥ = grind arith in absurd no_way
 
-  pub texts_spelled : (us ts : Terms) → EverywhereIn Good us → EachExpandsTo us ts → nests ts ≤ 128 → items_of ts (texts us Alone)
+  pub texts_spelled : (us ts : Terms) → EverywhereIn Good us → EachExpandsTo us ts → nests ts ≤ 128 → AreItemsOf ts (texts us Alone)
   texts_spelled none none g r n = refl
   texts_spelled none (more t ts) g r n = absurd r
   texts_spelled (more u us) none g r n = absurd r
@@ -197,39 +197,39 @@ mutual
   )
 
   pub data_spelled : (u t : Term) (f : Form) → Everywhere Good u → ExpandsTo u t → form u ≡ Some f → nest t ≤ 128
-      → data_of t f.0 f.1 (text u Later)
+      → IsDataOf t f.0 f.1 (text u Later)
   data_spelled (leaf p) (leaf q) f g r e n =
-      primitive_form_at (λ f. data_of (leaf q) f.0 f.1 (wide p).1) p f e
+      primitive_form_at (λ f. IsDataOf (leaf q) f.0 f.1 (wide p).1) p f e
       (subst (λ z. PrimitiveData (format (wide p).0) z (wide p).1) r (wide_spelling p g.0.0 g.0.1))
   data_spelled (container list us) (container list ts) f g r e n =
       let b = text (container list us) Later in
-      container_form_at (λ f. data_of (container list ts) f.0 f.1 b) list us f e
-      (subst (λ z. ContainerData (format 0xd0) list z (items_of ts) b) (same_count us ts r.1)
-      (wide_data list (count us) (items_of ts) (texts us Alone) (texts_spelled us ts g.1 r.1 (omega arith))
+      container_form_at (λ f. IsDataOf (container list ts) f.0 f.1 b) list us f e
+      (subst (λ z. ContainerData (format 0xd0) list z (AreItemsOf ts) b) (same_count us ts r.1)
+      (wide_data list (count us) (AreItemsOf ts) (texts us Alone) (texts_spelled us ts g.1 r.1 (omega arith))
       (texts_length us ts g.1 r.1) g.0.1))
   data_spelled (container map us) (container map ts) f g r e n =
       let b = text (container map us) Later in
-      container_form_at (λ f. data_of (container map ts) f.0 f.1 b) map us f e (
+      container_form_at (λ f. IsDataOf (container map ts) f.0 f.1 b) map us f e (
         subst (λ z. z % 2 ≡ 0) (same_count us ts r.1) g.0.0,
-        subst (λ z. ContainerData (format 0xd1) map z (items_of ts) b) (same_count us ts r.1)
-            (wide_data map (count us) (items_of ts) (texts us Alone) (texts_spelled us ts g.1 r.1 (omega arith))
+        subst (λ z. ContainerData (format 0xd1) map z (AreItemsOf ts) b) (same_count us ts r.1)
+            (wide_data map (count us) (AreItemsOf ts) (texts us Alone) (texts_spelled us ts g.1 r.1 (omega arith))
             (texts_length us ts g.1 r.1) g.0.1),
       )
   data_spelled (container array us) (container array ts) f g r e n =
       let b = text (container array us) Later in
-      container_form_at (λ f. data_of (container array ts) f.0 f.1 b) array us f e
-      (subst (λ z. ContainerData (format 0xf0) array z (elements_of ts) b) (same_count us ts r.1)
-      (wide_data array (count us) (elements_of ts) (content_of array (count us) (texts us First))
+      container_form_at (λ f. IsDataOf (container array ts) f.0 f.1 b) array us f e
+      (subst (λ z. ContainerData (format 0xf0) array z (AreElementsOf ts) b) (same_count us ts r.1)
+      (wide_data array (count us) (AreElementsOf ts) (content_of array (count us) (texts us First))
       (elements_spelled us ts g.0.0.0 g.1 r.1 g.0.0.1 n) (elements_length us g.0.0.0 g.1 g.0.0.1) g.0.1))
   data_spelled (described d u) (described d' t) f g r e n =
       let i = under d (form u) f e in
-      subst (λ f. data_of (described d' t) f.0 f.1 (text u Later)) i.2 (sym r.0, data_spelled u t i.0 g.1 r.1 i.1 (omega arith))
+      subst (λ f. IsDataOf (described d' t) f.0 f.1 (text u Later)) i.2 (sym r.0, data_spelled u t i.0 g.1 r.1 i.1 (omega arith))
   data_spelled (kept b) t f g r e n = cc
   data_spelled (barred s) t f g r e n = cc
   data_spelled u t f g r e n = let no_way : ⊥ = grind arith in absurd no_way
 
   pub shared_spelled : (us ts : Terms) (f : Form) → EverywhereIn Good us → EachExpandsTo us ts → HaveForm f us → nests ts ≤ 128
-      → shared_data_of ts f.0 f.1 (texts us Later)
+      → AreSharedDataOf ts f.0 f.1 (texts us Later)
   shared_spelled none none f g r e n = refl
   shared_spelled none (more t ts) f g r e n = absurd r
   shared_spelled (more u us) none f g r e n = absurd r
@@ -237,7 +237,7 @@ mutual
       (text u Later, texts us Later, refl, data_spelled u t f g.0 r.0 e.0 (omega arith), shared_spelled us ts f g.1 r.1 e.1 (omega arith))
 
   pub elements_spelled : (us ts : Terms) (f : Form) → EverywhereIn Good us → EachExpandsTo us ts → HaveForm f us → array_nest ts ≤ 128
-      → elements_of ts (content_of array (count us) (texts us First))
+      → AreElementsOf ts (content_of array (count us) (texts us First))
   elements_spelled none none f g r e n = inr ([], 0x40, omega arith, (0x40 ∷ [], [], refl, (refl, tt), refl))
   elements_spelled none (more t ts) f g r e n = absurd r
   elements_spelled (more u us) none f g r e n = absurd r
@@ -259,6 +259,6 @@ mutual
         ),
       )
 
-pub text_spells : (u t : Term) → Everywhere Good u → ExpandsTo u t → nest t ≤ 128 → enc (text u Alone) t
-unfolding enc
+pub text_spells : (u t : Term) → Everywhere Good u → ExpandsTo u t → nest t ≤ 128 → IsSpelling (text u Alone) t
+unfolding IsSpelling
 text_spells u t g r n = opens_spelled u t n (text_opens u t g r n)

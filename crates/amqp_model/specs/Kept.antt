@@ -1,7 +1,7 @@
 -- What a canonical term reads as (a notion of this project).
 use Rattle.std.specs.Prelude.{◌≡◌}
 use Rattle.amqp_model.specs.Term.{Term, Terms, leaf, container, described, kept, barred, none, more}
-use Rattle.amqp_model.specs.Spelling.{enc}
+use Rattle.amqp_model.specs.Spelling.{IsSpelling}
 
 -- t is u with the term that they spell in place of bytes that are kept.
 abbrev mutual
@@ -9,7 +9,7 @@ abbrev mutual
   ExpandsTo (leaf p) (leaf q) = p ≡ q
   ExpandsTo (container k us) (container l ts) = (k ≡ l) × EachExpandsTo us ts
   ExpandsTo (described d u) (described e t) = (d ≡ e) × ExpandsTo u t
-  ExpandsTo (kept b) t = enc b t
+  ExpandsTo (kept b) t = IsSpelling b t
   ExpandsTo (barred r) (barred s) = r ≡ s
   ExpandsTo _ _ = ⊥
 

@@ -71,32 +71,32 @@ abbrev pub Spelled : (List Descriptor → ℕ → List ℕ → Type 0) → List 
 Spelled Data b =
     (ds : List Descriptor) × (c : ℕ) × (length ds ≤ 128) × Joined (Constructor ds c) (Data ds c) b
 
--- data_of t ds c b: b is the data of t under the constructor of the descriptors ds and the code c.
+-- IsDataOf t ds c b: b is the data of t under the constructor of the descriptors ds and the code c.
 -- Part 1, section 1.6.23: a map has a value for each key.
 abbrev mutual
-  pub data_of : Term → List Descriptor → ℕ → List ℕ → Type 0
-  data_of (leaf p) [] c b = PrimitiveData (format c) p b
-  data_of (container list ts) [] c b = ContainerData (format c) list (count ts) (items_of ts) b
-  data_of (container map ts) [] c b = (count ts % 2 ≡ 0) × ContainerData (format c) map (count ts) (items_of ts) b
-  data_of (container array ts) [] c b = ContainerData (format c) array (count ts) (elements_of ts) b
-  data_of (described d t) (e ∷ ds) c b = (d ≡ e) × data_of t ds c b
-  data_of _ _ c b = ⊥
+  pub IsDataOf : Term → List Descriptor → ℕ → List ℕ → Type 0
+  IsDataOf (leaf p) [] c b = PrimitiveData (format c) p b
+  IsDataOf (container list ts) [] c b = ContainerData (format c) list (count ts) (AreItemsOf ts) b
+  IsDataOf (container map ts) [] c b = (count ts % 2 ≡ 0) × ContainerData (format c) map (count ts) (AreItemsOf ts) b
+  IsDataOf (container array ts) [] c b = ContainerData (format c) array (count ts) (AreElementsOf ts) b
+  IsDataOf (described d t) (e ∷ ds) c b = (d ≡ e) × IsDataOf t ds c b
+  IsDataOf _ _ c b = ⊥
 
   -- Part 1, section 1.2.3: the items of a list or map, each with its own constructor.
-  pub items_of : Terms → List ℕ → Type 0
-  items_of none b = b ≡ []
-  items_of (more t ts) b = Joined (Spelled (λ ds c. data_of t ds c)) (items_of ts) b
+  pub AreItemsOf : Terms → List ℕ → Type 0
+  AreItemsOf none b = b ≡ []
+  AreItemsOf (more t ts) b = Joined (Spelled (λ ds c. IsDataOf t ds c)) (AreItemsOf ts) b
 
   -- Part 1, section 1.2.4: the items of an array, under one constructor, whose code isn't of width zero.
   -- An array without items has one constructor or nothing.
-  pub elements_of : Terms → List ℕ → Type 0
-  elements_of none b = (b ≡ []) ⊎ Spelled (λ ds c d. d ≡ []) b
-  elements_of (more t ts) b = Spelled (λ ds c d. (HasWidthZero (format c) → ⊥) × Joined (data_of t ds c) (shared_data_of ts ds c) d) b
+  pub AreElementsOf : Terms → List ℕ → Type 0
+  AreElementsOf none b = (b ≡ []) ⊎ Spelled (λ ds c d. d ≡ []) b
+  AreElementsOf (more t ts) b = Spelled (λ ds c d. (HasWidthZero (format c) → ⊥) × Joined (IsDataOf t ds c) (AreSharedDataOf ts ds c) d) b
 
-  pub shared_data_of : Terms → List Descriptor → ℕ → List ℕ → Type 0
-  shared_data_of none ds c b = b ≡ []
-  shared_data_of (more t ts) ds c b = Joined (data_of t ds c) (shared_data_of ts ds c) b
+  pub AreSharedDataOf : Terms → List Descriptor → ℕ → List ℕ → Type 0
+  AreSharedDataOf none ds c b = b ≡ []
+  AreSharedDataOf (more t ts) ds c b = Joined (IsDataOf t ds c) (AreSharedDataOf ts ds c) b
 
 -- b spells t.
-unfoldable pub enc : List ℕ → Term → Type 0
-enc b t = Spelled (data_of t) b
+unfoldable pub IsSpelling : List ℕ → Term → Type 0
+IsSpelling b t = Spelled (IsDataOf t) b

@@ -2,7 +2,7 @@
 use Rattle.std.specs.Prelude.{◌≡◌, ℕ, List, [], ◌∷◌, ◌++◌}
 use Rattle.amqp_model.specs.Term.{list, map, array, Term, Terms, leaf, container, described, none, more, Descriptor, count}
 use Rattle.amqp_model.specs.Constructors.{format}
-use Rattle.amqp_model.specs.Spelling.{ContainerData, Names, Spelled, data_of, enc}
+use Rattle.amqp_model.specs.Spelling.{ContainerData, Names, Spelled, IsDataOf, IsSpelling}
 
 -- How a term stands: as bytes of its own, or as data under a constructor that it shares.
 pub data Standing : Type 0 where
@@ -13,14 +13,14 @@ pub data Standing : Type 0 where
 abbrev pub StandWhole : Terms → List Standing → List ℕ → Type 0
 StandWhole none ss b = (b ≡ []) × (ss ≡ [])
 StandWhole (more t ts) ss b =
-    (first second : List ℕ) × (others : List Standing) × (b ≡ first ++ second) × enc first t × StandWhole ts others second
+    (first second : List ℕ) × (others : List Standing) × (b ≡ first ++ second) × IsSpelling first t × StandWhole ts others second
     × (ss ≡ whole first ∷ others)
 
 -- Part 1, section 1.2.4: b is the data of an array's items, which stand so.
 abbrev pub StandAsData : Terms → List Standing → List Descriptor → ℕ → List ℕ → Type 0
 StandAsData none ss ds c b = (b ≡ []) × (ss ≡ [])
 StandAsData (more t ts) ss ds c b =
-    (first second : List ℕ) × (others : List Standing) × (b ≡ first ++ second) × data_of t ds c first × StandAsData ts others ds c second
+    (first second : List ℕ) × (others : List Standing) × (b ≡ first ++ second) × IsDataOf t ds c first × StandAsData ts others ds c second
     × (ss ≡ part ds c first ∷ others)
 
 abbrev pub StandInArray : Terms → List Standing → List ℕ → Type 0

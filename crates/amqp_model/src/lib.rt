@@ -6,7 +6,7 @@ ghost use Rattle.std.specs.Prelude.{◌≡◌, ℕ, true, pos, negsuc, List, [],
 ghost use Rattle.amqp_model.specs.Term.{Term, Refusal, depth, zero_width_items, non_ascii, mixed_array, too_large, lazy_in_array, leaf};
 ghost use Rattle.amqp_model.specs.Term.{null, boolean, uint, int, binary, symbol, kept, barred, Descriptor, container, list, map, array};
 ghost use Rattle.amqp_model.specs.Term.{described, code, none, more};
-ghost use Rattle.amqp_model.specs.Spelling.{enc};
+ghost use Rattle.amqp_model.specs.Spelling.{IsSpelling};
 ghost use Rattle.amqp_model.specs.Text.{text, Alone};
 ghost use Rattle.amqp_model.specs.Measures.{nest, nodes};
 ghost use Rattle.amqp_model.specs.Ranges.{Everywhere, IsValue, IsNoArray, IsBytes};
@@ -19,14 +19,14 @@ pub mod tables;
 /// No input has two fronts that spell terms, and no front spells two terms: arrays with a shared constructor and
 /// chains of descriptors included (Part 1, section 1.2).
 pub fn one_reading()
-    ensures one_front { (b c x y : List ℕ) (t u : Term) → enc b t → enc c u → b ++ x ≡ c ++ y → b ≡ c }
-    ensures one_term { (b c x y : List ℕ) (t u : Term) → enc b t → enc c u → b ++ x ≡ c ++ y → t ≡ u }
+    ensures one_front { (b c x y : List ℕ) (t u : Term) → IsSpelling b t → IsSpelling c u → b ++ x ≡ c ++ y → b ≡ c }
+    ensures one_term { (b c x y : List ℕ) (t u : Term) → IsSpelling b t → IsSpelling c u → b ++ x ≡ c ++ y → t ≡ u }
 {}
 
 /// The canonical text of a term that nothing refuses spells the term that it reads as (Part 1, sections 1.2 and 1.6).
 /// The numbers and texts of the term are of their types, and its maps have a value for each key.
 pub fn canonical_text_spells()
-    ensures spelled { (u t : Term) → ((r : Refusal) → Refuses r u → ⊥) → Everywhere IsValue u → ExpandsTo u t → enc (text u Alone) t }
+    ensures spelled { (u t : Term) → ((r : Refusal) → Refuses r u → ⊥) → Everywhere IsValue u → ExpandsTo u t → IsSpelling (text u Alone) t }
 {}
 
 /// Two such terms with one canonical text read as one term.
@@ -39,18 +39,18 @@ pub fn one_text()
 /// No spelling of a term without arrays is shorter than its canonical text (Part 1, section 1.6: each type has
 /// shorter and longer codes).
 pub fn canonical_text_is_least()
-    ensures no_longer { (b : List ℕ) (t : Term) → Everywhere IsNoArray t → IsBytes b → enc b t → length (text t Alone) ≤ length b }
+    ensures no_longer { (b : List ℕ) (t : Term) → Everywhere IsNoArray t → IsBytes b → IsSpelling b t → length (text t Alone) ≤ length b }
 {}
 
 /// A term has at most as many values as each of its spellings has bytes, whatever the counts of its arrays
 /// (Part 1, section 1.2.4).
 pub fn nodes_are_bounded()
-    ensures bounded { (b : List ℕ) (t : Term) → enc b t → nodes t ≤ length b }
+    ensures bounded { (b : List ℕ) (t : Term) → IsSpelling b t → nodes t ≤ length b }
 {}
 
 /// No proper front of a spelling spells a term (Part 1, section 1.2).
 pub fn no_proper_front()
-    ensures whole { (front after : List ℕ) (t u : Term) → enc (front ++ after) t → enc front u → after ≡ [] }
+    ensures whole { (front after : List ℕ) (t u : Term) → IsSpelling (front ++ after) t → IsSpelling front u → after ≡ [] }
 {}
 
 /// Where a term stands as these bytes, or as this data under a shared constructor, each of its parts stands in one way
@@ -78,11 +78,11 @@ pub fn worked_rows()
         ≡ 0xe0 ∷ 0x0a ∷ 1 ∷ 0xd0 ∷ 0 ∷ 0 ∷ 0 ∷ 4 ∷ 0 ∷ 0 ∷ 0 ∷ 0 ∷ [] }
     ensures empty_map { text (container map none) Alone ≡ 0xc1 ∷ 1 ∷ 0 ∷ [] }
     ensures empty_array { text (container array none) Alone ≡ 0xe0 ∷ 2 ∷ 0 ∷ 0x40 ∷ [] }
-    ensures empty_array_bare { enc (0xe0 ∷ 1 ∷ 0 ∷ []) (container array none) }
-    ensures empty_array_typed { enc (0xe0 ∷ 2 ∷ 0 ∷ 0x40 ∷ []) (container array none) }
-    ensures no_items_of_width_zero { (t : Term) → enc (0xe0 ∷ 2 ∷ 0xff ∷ 0x41 ∷ []) t → ⊥ }
-    ensures empty_list_sized { enc (0xc0 ∷ 0 ∷ 0 ∷ []) (container list none) }
-    ensures no_map_of_size_zero { (t : Term) → enc (0xc1 ∷ 0 ∷ 0 ∷ []) t → ⊥ }
+    ensures empty_array_bare { IsSpelling (0xe0 ∷ 1 ∷ 0 ∷ []) (container array none) }
+    ensures empty_array_typed { IsSpelling (0xe0 ∷ 2 ∷ 0 ∷ 0x40 ∷ []) (container array none) }
+    ensures no_items_of_width_zero { (t : Term) → IsSpelling (0xe0 ∷ 2 ∷ 0xff ∷ 0x41 ∷ []) t → ⊥ }
+    ensures empty_list_sized { IsSpelling (0xc0 ∷ 0 ∷ 0 ∷ []) (container list none) }
+    ensures no_map_of_size_zero { (t : Term) → IsSpelling (0xc1 ∷ 0 ∷ 0 ∷ []) t → ⊥ }
 {}
 
 /// Worked refusals: one for each reason that a term itself can give, a term that nothing refuses, and arrays that an item with a

@@ -3,7 +3,7 @@ use Rattle.std.proofs.Common.{◌≡◌, inl, inr, ℕ, ◌≤◌, max, Bool, tr
 use Rattle.std.specs.Str.{bytes_eq}
 use Rattle.std.proofs.lemmas.Slice.Eq.{bytes_eq-Decides}
 use Rattle.amqp_model.specs.Term.{lazy_in_array, Term, Terms, leaf, container, described, kept, barred, none, more}
-use Rattle.amqp_model.specs.Spelling.{enc}
+use Rattle.amqp_model.specs.Spelling.{IsSpelling}
 use Rattle.amqp_model.specs.Measures.{nest, nests}
 use Rattle.amqp_model.specs.Ranges.{Everywhere, EverywhereIn}
 use Rattle.amqp_model.specs.Refusals.{SomewhereIn, HasKeptItem, IsRefused}
@@ -22,7 +22,7 @@ use Rattle.amqp_codec.specs.ProperLaws.{everywhere_as, everywhere_in_as, proper_
 
 -- no depth is too great
 abbrev IsSafe : (List ℕ → ℕ) → Type 0
-IsSafe deep = (b : List ℕ) (t : Term) → enc b t → deep b ≤ nest t
+IsSafe deep = (b : List ℕ) (t : Term) → IsSpelling b t → deep b ≤ nest t
 
 raised : (f g : List ℕ → ℕ) → ((b : List ℕ) → f b ≤ g b) → IsSafe g → (t : Term) → KnowsDepth f t → KnowsDepth g t
 raised f g l s (leaf p) h = tt
@@ -31,18 +31,18 @@ raised f g l s (described d t) h = tt
 raised f g l s (kept b) h = λ t e. omega (arith, h t e, l b, s b t e)
 raised f g l s (barred r) h = tt
 
-same_term : (b : List ℕ) (t u : Term) → enc b t → enc b u → t ≡ u
+same_term : (b : List ℕ) (t u : Term) → IsSpelling b t → IsSpelling b u → t ≡ u
 same_term b t u h k = one_term b b [] [] t u h k refl
 
 abbrev depth_at : List ℕ → ℕ → List ℕ → ℕ
 depth_at b n c = cond (bytes_eq b c) n 0
 
-at_least : (b c : List ℕ) (t u : Term) (test : Bool) → bytes_eq b c ≡ test → enc b t → enc c u → cond test (nest t) 0 ≤ nest u
-at_least b c t u true e h k = let i : b ≡ c = (bytes_eq-Decides b c).0 e in let j : t ≡ u = same_term c t u (subst (λ x. enc x t) i h) k in
+at_least : (b c : List ℕ) (t u : Term) (test : Bool) → bytes_eq b c ≡ test → IsSpelling b t → IsSpelling c u → cond test (nest t) 0 ≤ nest u
+at_least b c t u true e h k = let i : b ≡ c = (bytes_eq-Decides b c).0 e in let j : t ≡ u = same_term c t u (subst (λ x. IsSpelling x t) i h) k in
     omega (arith, ap nest j)
 at_least b c t u false e h k = omega arith
 
-at_itself : (b : List ℕ) (t u : Term) → enc b t → enc b u → depth_at b (nest t) b ≡ nest u
+at_itself : (b : List ℕ) (t u : Term) → IsSpelling b t → IsSpelling b u → depth_at b (nest t) b ≡ nest u
 at_itself b t u h k = rw ((bytes_eq-Decides b b).1 refl) (ap nest (same_term b t u h k))
 
 -- bytes that are kept nest as deep as the term that they spell, where there is one

@@ -3,13 +3,13 @@ use Rattle.std.proofs.Common.{◌≡◌, ◌⊎◌, inl, inr, ℕ, ◌-◌, Bool
 use Rattle.std.proofs.Common.{None, refl, sym, ap, ◌∙◌, arith}
 use Rattle.std.proofs.lemmas.List.{length-drop}
 use Rattle.amqp_wire.specs.declared.error.Error.{Error}
-use Rattle.amqp_wire.specs.declared.error.Error.TheVariants.{Memory}
+use Rattle.amqp_wire.specs.declared.error.Error.TheVariants.{Memory, Limit}
 use Rattle.amqp_wire.specs.declared.limits.Limits.{Limits}
-use Rattle.amqp_decoder.specs.State.{State}
+use Rattle.amqp_decoder.specs.State.{Course, State, is_free}
 use Rattle.amqp_decoder.specs.OtherSource.{elsewhere}
 use Rattle.amqp_decoder.specs.Steps.{IsExcused, IsReadError, Tries}
 use Rattle.amqp_decoder.specs.Reading.{RefusesRead, AnswersRead}
-use Rattle.amqp_codec.specs.Reading.{Reading, start_within, IsGreatest, BeginsWithin, IsUnreadableWithin, BeginsWith, IsUnreadable}
+use Rattle.amqp_codec.specs.Reading.{Reading, apart, start_within, IsGreatest, BeginsWithin, IsUnreadableWithin, BeginsWith, IsUnreadable}
 use Rattle.amqp_codec.specs.ReadingLaws.{is_read, read_one, begins_greatest, greatest_begins, unreadable_greatest}
 
 module _ {T : Type 0} (limits : Limits) (r : Reading T) (input : List ℕ) (source : ℕ) (failed : Bool) where
@@ -35,11 +35,11 @@ module _ {T : Type 0} (limits : Limits) (r : Reading T) (input : List ℕ) (sour
       ap (λ i. drop i b.rest) ahead ∙ (t.rest ∙ ap (λ i. drop i input) n_is)
 
   refused_here : (e : Error) (b : State) → RefusesRead r.takes_memory r.reads r.fault begin e b → ((r.takes_memory ≡ true) × (e ≡ Memory))
-      ⊎ ((IsReadError e × (b.failed ≡ true)) ⊎ IsUnreadableWithin limits r input e)
+      ⊎ ((IsReadError e × (b.failed.broken ≡ true)) ⊎ IsUnreadableWithin limits r input e)
   refused_here e b h = go (h.named refl) h.none
     where
       go : IsExcused r.takes_memory e b ⊎ r.fault begin e → IsExcused r.takes_memory e b ⊎ ((v : T) (st : State) → r.reads begin v st → ⊥)
-          → ((r.takes_memory ≡ true) × (e ≡ Memory)) ⊎ ((IsReadError e × (b.failed ≡ true)) ⊎ IsUnreadableWithin limits r input e)
+          → ((r.takes_memory ≡ true) × (e ≡ Memory)) ⊎ ((IsReadError e × (b.failed.broken ≡ true)) ⊎ IsUnreadableWithin limits r input e)
       go (inl (inl x)) n = inl x
       go (inl (inr x)) n = inr (inl x)
       go (inr f) (inl (inl x)) = inl x
@@ -67,12 +67,12 @@ module _ {T : Type 0} (limits : Limits) (r : Reading T) (input : List ℕ) (sour
   behind (Err x) b h own left e = tt
 
   pub refused : (res : Result T Error) (b : State) → AnswersRead r.takes_memory r.reads r.fault begin res b → (broken : Bool)
-      → broken ≡ b.failed → IfErr res (λ e. ((r.takes_memory ≡ true) × (e ≡ Memory))
+      → broken ≡ b.failed.broken → IfErr res (λ e. ((r.takes_memory ≡ true) × (e ≡ Memory))
       ⊎ ((IsReadError e × (broken ≡ true)) ⊎ IsUnreadableWithin limits r input e))
   refused (Ok v) b h broken e = tt
   refused (Err x) b h broken e = go (refused_here x b h)
     where
-      go : ((r.takes_memory ≡ true) × (x ≡ Memory)) ⊎ ((IsReadError x × (b.failed ≡ true)) ⊎ IsUnreadableWithin limits r input x)
+      go : ((r.takes_memory ≡ true) × (x ≡ Memory)) ⊎ ((IsReadError x × (b.failed.broken ≡ true)) ⊎ IsUnreadableWithin limits r input x)
           → ((r.takes_memory ≡ true) × (x ≡ Memory)) ⊎ ((IsReadError x × (broken ≡ true)) ⊎ IsUnreadableWithin limits r input x)
       go (inl m) = inl m
       go (inr (inl (i, f))) = inr (inl (i, e ∙ f))
@@ -80,14 +80,14 @@ module _ {T : Type 0} (limits : Limits) (r : Reading T) (input : List ℕ) (sour
 
 -- Whatever the source tells: where it begins to fail, that is never hidden behind another error,
 pub failing : {T : Type 0} (takes : Bool) (st : State) (res : Result T Error) (b : State) → st.error ≡ None → Tries takes st res b
-    → (broken before : Bool) → broken ≡ b.failed → before ≡ st.failed
+    → (broken before : Bool) → broken ≡ b.failed.broken → before ≡ st.failed.broken
     → MatchResult res (λ _. broken ≡ before) (λ e. (broken ≡ before) ⊎ IsReadError e)
-failing takes st (Ok v) b going h broken before e f = e ∙ h.2 ∙ sym f
-failing takes st (Err x) b going h broken before e f = elim (h.1 going).1 [ inl s ↦ inl (e ∙ s ∙ sym f) | inr i ↦ inr i ]
+failing takes st (Ok v) b going h broken before e f = e ∙ ap (λ (x : Course). x.broken) h.2 ∙ sym f
+failing takes st (Err x) b going h broken before e f = elim (h.1 going).1 [ inl s ↦ inl (e ∙ ap (λ (x : Course). x.broken) s ∙ sym f) | inr i ↦ inr i ]
 
 -- its error comes only where it has failed,
 pub failed : {T : Type 0} (takes : Bool) (st : State) (res : Result T Error) (b : State) → st.error ≡ None → Tries takes st res b
-    → (broken : Bool) → broken ≡ b.failed → IfErr res (λ e. IsReadError e → broken ≡ true)
+    → (broken : Bool) → broken ≡ b.failed.broken → IfErr res (λ e. IsReadError e → broken ≡ true)
 failed takes st (Ok v) b going h broken e = tt
 failed takes st (Err x) b going h broken e = λ i. e ∙ (h.1 going).3 i
 
@@ -97,14 +97,32 @@ pub memory : {T : Type 0} (takes : Bool) (st : State) (res : Result T Error) (b 
 memory takes st (Ok v) b going h = tt
 memory takes st (Err x) b going h = (h.1 going).2
 
+-- A limit's error comes only where the caller has set one.
+pub limited : {T : Type 0} (takes : Bool) (limits : Limits) (st : State) (res : Result T Error) (b : State) → st.error ≡ None
+    → st.failed.free ≡ is_free limits.nesting limits.bytes limits.items → Tries takes st res b
+    → IfErr res (λ e. e ≡ Limit → IsGreatest limits → ⊥)
+limited takes limits st (Ok v) b going free h = tt
+limited takes limits st (Err e) b going free h = λ is (nesting, bytes, items).
+    let f = h.1 going in
+    let kept : b.failed ≡ st.failed = elim f.1 [ inl s ↦ s | inr i ↦ absurd (subst IsReadError is i) ] in
+    let bounded : is_free limits.nesting limits.bytes limits.items ≡ false =
+    sym free ∙ ap (λ (x : Course). x.free) (sym kept) ∙ f.4 is in
+    let free : is_free limits.nesting limits.bytes limits.items ≡ true = rw (nesting, bytes, items) refl in absurd (cc)
+
 -- a source that never fails is no reason
-pub refused_whole : {T : Type 0} (limits : Limits) (r : Reading T) (input : List ℕ) (e : Error) (b : State) → b.failed ≡ false
+pub refused_whole : {T : Type 0} (limits : Limits) (r : Reading T) (input : List ℕ) (e : Error) (b : State) → b.failed.broken ≡ false
     → RefusesRead r.takes_memory r.reads r.fault (start_within limits input) e b
     → ((r.takes_memory ≡ true) × (e ≡ Memory)) ⊎ IsUnreadableWithin limits r input e
 refused_whole limits r input e b sound h = elim (refused_here limits r input 0 false e b h) [
   | inl m ↦ inl m
   | inr x ↦ elim x [ inl (i, f) ↦ absurd (cc) | inr u ↦ inr u ]
 ]
+
+-- no limit is passed where none is set
+pub never_limited : {A : Type 0} (limits : Limits) → IsGreatest limits → (res : Result A Error)
+    → IfErr res (λ e. e ≡ Limit → IsGreatest limits → ⊥) → IfErr res (λ e. e ≡ Limit → ⊥)
+never_limited limits g (Ok v) h = tt
+never_limited limits g (Err e) h = λ is. h is g
 
 -- What is read within the greatest limits is what is read without any.
 module _ {T : Type 0} (limits : Limits) (g : IsGreatest limits) (r : Reading T) (input : List ℕ) where
@@ -138,3 +156,57 @@ module _ {T : Type 0} (limits : Limits) (g : IsGreatest limits) (r : Reading T) 
   refused_whole_greatest (Ok v) h = tt
   refused_whole_greatest (Err e) (inl m) = inl m
   refused_whole_greatest (Err e) (inr u) = inr (unreadable_greatest limits r input e g u)
+
+-- One term alone is read as it is where what stands behind it may be looked at.
+pub record ReadAmong {T : Type 0} (r : Reading T) (st : State) (res : Result T Error) (b : State) : Type 0 where
+  pub after : State
+  pub read : AnswersRead r.takes_memory r.reads r.fault st res after
+  pub rest : after.rest ≡ b.rest
+  pub ahead : after.ahead ≡ b.ahead
+  pub broken : after.failed.broken ≡ b.failed.broken
+
+among : Course → Course
+among f = record f { alone = false }
+
+module _ {T : Type 0} (r : Reading T) (st : State) (shared : st.failed.alone ≡ false) where
+  read_apart : r.one_term ≡ true → (res : Result T Error) (b : State) → AnswersRead r.takes_memory r.reads r.fault (apart true st) res b
+      → AnswersRead r.takes_memory r.reads r.fault st res (apart false b)
+  read_apart one (Ok v) b h =
+      subst (λ (x : Bool). r.reads (apart x st) v (apart false b)) (sym shared) (r.reads_alone one false (apart true st) v b h)
+  read_apart one (Err e) b h = record {
+    kept = record { error = h.kept.error; source = elim h.kept.source [ inl x ↦ inl (ap among x ∙ whole) | inr x ↦ inr x ] };
+    again = λ d x. (let k = h.again d x in (k.0, ap (apart false) k.1 ∙ ap (λ f. record st { failed = f }) whole));
+    named = λ g. elim (h.named g) [
+      | inl x ↦ inl x
+      | inr x ↦ inr (subst (λ (x : Bool). r.fault (apart x st) e) (sym shared) (r.fault_alone one false (apart true st) e x))
+    ];
+    none = elim h.none [ inl x ↦ inl x | inr x ↦ inr (λ v c k. x v (apart true c) (r.reads_alone one true st v c k)) ];
+  }
+    where
+      whole : among st.failed ≡ st.failed
+      whole = ap (λ x. record st.failed { alone = x }) (sym shared)
+
+  read_by : (one : Bool) → r.one_term ≡ one → (res : Result T Error) (b : State)
+      → AnswersRead r.takes_memory r.reads r.fault (apart one st) res b → ReadAmong r st res b
+  read_by true is res b h = record { after = apart false b; read = read_apart is res b h; rest = refl; ahead = refl; broken = refl }
+  read_by false is res b h = record {
+    after = b;
+    read = subst (λ x. AnswersRead r.takes_memory r.reads r.fault (apart x st) res b) (sym shared) h;
+    rest = refl;
+    ahead = refl;
+    broken = refl;
+  }
+
+  pub read_among : (res : Result T Error) (b : State) → AnswersRead r.takes_memory r.reads r.fault (apart r.one_term st) res b
+      → ReadAmong r st res b
+  read_among res b h = read_by r.one_term refl res b h
+
+-- It is still read alone where its source hasn't failed.
+pub still_alone : {T : Type 0} (takes : Bool) (st : State) (res : Result T Error) (b : State) → st.error ≡ None → Tries takes st res b
+    → b.failed.broken ≡ false → b.failed.alone ≡ st.failed.alone
+still_alone takes st (Ok v) b going h sound = ap (λ (x : Course). x.alone) h.2
+still_alone takes st (Err e) b going h sound =
+    elim (h.1 going).1 [
+      | inl s ↦ ap (λ (x : Course). x.alone) s
+      | inr i ↦ (let broken = (h.1 going).3 i in absurd (cc))
+    ]

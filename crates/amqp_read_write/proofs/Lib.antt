@@ -1,4 +1,5 @@
 pub mod Depths
 pub mod Passes
+pub mod Reserved
 pub mod Rewrites
 pub mod FromReader

@@ -1,10 +1,10 @@
 //! Whole values from bytes and to bytes.
 ghost use Rattle.std.specs.Prelude.{◌≡◌, ◌≤◌, ◌⊎◌, ◌++◌, ℕ, List, true, length, IfOk, IfErr, OnOk, OnErr};
-ghost use Rattle.amqp_wire.specs.declared.error.Error.TheVariants.{Memory};
+ghost use Rattle.amqp_wire.specs.declared.error.Error.TheVariants.{Memory, Limit};
 ghost use Rattle.amqp_encoder.specs.declared.size.Size.{Size};
 ghost use Rattle.amqp_encoder.specs.Passes.{row_text, BeginsMeasuring, Finds};
 ghost use Rattle.amqp_decoder.specs.Steps.{IsReadError};
-ghost use Rattle.amqp_codec.specs.Reading.{BeginsWith, IsUnreadable, BeginsWithin, IsUnreadableWithin};
+ghost use Rattle.amqp_codec.specs.Reading.{IsGreatest, BeginsWith, IsUnreadable, BeginsWithin, IsUnreadableWithin};
 ghost use Rattle.amqp_read_write.specs.Rewritten.{IsRewritten, IsReadAgain, AreReadAgain, IsOneText, IsOfNoOther, IsUnchanged, IsShortest, AreShortest};
 ghost use Rattle.amqp_read_write.specs.Rewritten.{IsUnwritten, IsRewrittenWithin, IsUnwrittenWithin, ReadsNoMore};
 ghost use Rattle.amqp_codec.specs.Written.{AreMeasured, AreUnwritable, AreWritable};
@@ -16,13 +16,14 @@ use amqp_wire::{Error, Limits};
 use std::alloc::Global;
 
 /// The value that the input begins with. What follows it is left. An error is `Memory`, if reading the type takes
-/// memory, or names a fault of an input that begins with no value; it is never `Read`, since a slice doesn't fail.
+/// memory, or names a fault of an input that begins with no value; it is never `Read`, since a slice doesn't fail, nor `Limit`.
 pub fn from_slice<T: Deserialize>(input: &[u8], alloc: Global) -> Result<T, Error>
     ensures found { IfOk result (λ v. (n : ℕ) × BeginsWith T.reading input.now v n) }
     ensures one { (v w : _) (n m : ℕ) → BeginsWith T.reading input.now v n → BeginsWith T.reading input.now w m → T.reading.same v w }
     ensures refused { IfErr result (λ e. ((T.reading.takes_memory ≡ true) × (e ≡ Memory)) ⊎ IsUnreadable T.reading input.now e) }
     ensures memory { IfErr result (λ e. e ≡ Memory → T.reading.takes_memory ≡ true) }
     ensures unfailing { IfErr result (λ e. IsReadError e → ⊥) }
+    ensures unlimited { IfErr result (λ e. e ≡ Limit → ⊥) }
 {
     let (value, _) = from_slice_counted(input, alloc)?;
     Ok(value)
@@ -38,6 +39,7 @@ pub fn from_slice_counted<T: Deserialize>(input: &[u8], alloc: Global) -> Result
     ensures refused { IfErr result (λ e. ((T.reading.takes_memory ≡ true) × (e ≡ Memory)) ⊎ IsUnreadable T.reading input.now e) }
     ensures memory { IfErr result (λ e. e ≡ Memory → T.reading.takes_memory ≡ true) }
     ensures unfailing { IfErr result (λ e. IsReadError e → ⊥) }
+    ensures unlimited { IfErr result (λ e. e ≡ Limit → ⊥) }
 {
     from_slice_within(input, &Limits::greatest(), alloc)
 }
@@ -58,6 +60,7 @@ pub fn from_slice_within<T: Deserialize>(
         ((T.reading.takes_memory ≡ true) × (e ≡ Memory)) ⊎ IsUnreadableWithin limits.now T.reading input.now e) }
     ensures memory { IfErr result (λ e. e ≡ Memory → T.reading.takes_memory ≡ true) }
     ensures unfailing { IfErr result (λ e. IsReadError e → ⊥) }
+    ensures limited { IfErr result (λ e. e ≡ Limit → IsGreatest limits.now → ⊥) }
 {
     let mut decoder = decoder_within(input, limits, alloc);
     let read = T::deserialize(&mut decoder, alloc);

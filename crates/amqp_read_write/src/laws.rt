@@ -1,7 +1,7 @@
 //! The laws of every type of terms, over the bytes that spell its values.
 ghost use Rattle.std.specs.Prelude.{◌≡◌, ◌≤◌, ◌↔◌, ℕ, Bool, true, false, ◌&&◌, List, ◌++◌, length};
 ghost use Rattle.amqp_model.specs.Term.{Refusal, too_large, Term};
-ghost use Rattle.amqp_model.specs.Spelling.{enc};
+ghost use Rattle.amqp_model.specs.Spelling.{IsSpelling};
 ghost use Rattle.amqp_model.specs.Measures.{nest, nodes};
 ghost use Rattle.amqp_model.specs.Ranges.{Everywhere, IsNoArray, IsBytes};
 ghost use Rattle.amqp_model.specs.Refusals.{Refuses};
@@ -41,7 +41,7 @@ pub fn reading_is_spelling<T: DeserializeTerm>()
 pub fn limits_bound_reading<T: DeserializeTerm>()
     ensures { (limits : Limits) (input : List ℕ) (v : T) (n : ℕ) → BeginsWithin limits ⟦<T as Deserialize>⟧.reading input v n
         ↔ (BeginsWith ⟦<T as Deserialize>⟧.reading input v n × Has (limit_of limits.bytes) n
-        × ((t : Term) → enc (take n input) t → (nest t ≤ limits.nesting) × Has (limit_of limits.items) (nodes t))) }
+        × ((t : Term) → IsSpelling (take n input) t → (nest t ≤ limits.nesting) × Has (limit_of limits.items) (nodes t))) }
 {}
 
 /// What `to_vec`, `encoded_len` and `append_to_vec` say of a value's canonical terms, they say of the canonical term

@@ -1,12 +1,17 @@
 //! Whole values from a reader.
-ghost use Rattle.std.specs.Prelude.{◌≡◌, ◌⊎◌, ℕ, true, false, drop, IfOk, IfErr, MatchResult};
-ghost use Rattle.amqp_wire.specs.declared.error.Error.TheVariants.{Memory};
+ghost use Rattle.std.specs.Prelude.{◌≡◌, ◌⊎◌, ℕ, List, [], true, false, length, drop, IfOk, IfErr, MatchResult};
+ghost use Rattle.amqp_wire.specs.declared.error.Error.TheVariants.{Memory, Limit};
 ghost use Rattle.amqp_wire.specs.Sources.{known, Tells};
+ghost use Rattle.amqp_wire.specs.Limits.{limit_of};
+ghost use Rattle.amqp_decoder.specs.State.{Has};
+ghost use Rattle.amqp_decoder.specs.Reserve.{Leaves};
+ghost use Rattle.amqp_decoder.specs.OtherSource.{elsewhere};
+ghost use Rattle.amqp_read_write.specs.Reserved.{reserved, IsRestOf};
 ghost use Rattle.amqp_decoder.specs.Steps.{IsReadError};
-ghost use Rattle.amqp_codec.specs.Reading.{BeginsWith, IsUnreadable, BeginsWithin, IsUnreadableWithin};
+ghost use Rattle.amqp_codec.specs.Reading.{apart, start_within, IsGreatest, BeginsWith, IsUnreadable, BeginsWithin, IsUnreadableWithin};
 
 use amqp_codec::Deserialize;
-use amqp_decoder::{decoder_within, source_of};
+use amqp_decoder::{Decoder, decoder_of_term, decoder_within, source_of};
 use amqp_wire::{ByteSource, Error, Limits};
 use std::alloc::{AllocError, Global};
 use std::io::ErrorKind;
@@ -26,6 +31,7 @@ pub fn from_reader<T: Deserialize, R: ByteSource>(reader: &mut R, alloc: Global)
     ensures refused { Tells R.remaining → IfErr result (λ e. ((T.reading.takes_memory ≡ true) × (e ≡ Memory))
         ⊎ ((IsReadError e × (R.failed reader.new ≡ true)) ⊎ IsUnreadable T.reading (known (R.remaining reader.old)) e)) }
     ensures memory { IfErr result (λ e. e ≡ Memory → T.reading.takes_memory ≡ true) }
+    ensures unlimited { IfErr result (λ e. e ≡ Limit → ⊥) }
     ensures failed { IfErr result (λ e. IsReadError e → R.failed reader.new ≡ true) }
     ensures failing { MatchResult result (λ _. R.failed reader.new ≡ R.failed reader.old)
         (λ e. (R.failed reader.new ≡ R.failed reader.old) ⊎ IsReadError e) }
@@ -34,7 +40,8 @@ pub fn from_reader<T: Deserialize, R: ByteSource>(reader: &mut R, alloc: Global)
 }
 
 /// Within limits of the caller, the value that the reader's bytes begin with, however it gives them. The reader is left behind the value.
-/// It is refused as `from_reader` is, and by `Limit` if it passes a limit.
+/// It is refused as `from_reader` is, and by `Limit` if it passes a limit. Of a type that is one term no more bytes are taken from a
+/// reader that hasn't failed than the limit says, also if the value is refused.
 pub fn from_reader_within<T: Deserialize, R: ByteSource>(
     reader: &mut R,
     limits: &Limits,
@@ -51,9 +58,12 @@ pub fn from_reader_within<T: Deserialize, R: ByteSource>(
         ⊎ ((IsReadError e × (R.failed reader.new ≡ true))
         ⊎ IsUnreadableWithin limits.now T.reading (known (R.remaining reader.old)) e)) }
     ensures memory { IfErr result (λ e. e ≡ Memory → T.reading.takes_memory ≡ true) }
+    ensures limited { IfErr result (λ e. e ≡ Limit → IsGreatest limits.now → ⊥) }
     ensures failed { IfErr result (λ e. IsReadError e → R.failed reader.new ≡ true) }
     ensures failing { MatchResult result (λ _. R.failed reader.new ≡ R.failed reader.old)
         (λ e. (R.failed reader.new ≡ R.failed reader.old) ⊎ IsReadError e) }
+    ensures taken { Tells R.remaining → T.reading.one_term ≡ true → R.failed reader.new ≡ false
+        → (n : ℕ) × Has (limit_of limits.now.bytes) n × (known (R.remaining reader.new) ≡ drop n (known (R.remaining reader.old))) }
 {
     let (read, _reader) = read_named::<T, _, Brand>(reader, limits, alloc);
     read
@@ -62,18 +72,30 @@ pub fn from_reader_within<T: Deserialize, R: ByteSource>(
 // The name of a source, which a call picks.
 trait Name {
     ghost name: { ℕ };
+
+    // The bytes that it had.
+    ghost origin: { List ℕ };
+
+    // So many of the last of them stay in it.
+    ghost reserve: { ℕ };
 }
 
 impl Name for Brand {
     ghost name = { 0 };
+
+    ghost origin = { [] };
+
+    ghost reserve = { 0 };
 }
 
-// A source of that name. So the one that a decoder gives back is the one that it was made of.
+// A source of that name. So the one that a decoder gives back is the one that it was made of, and unless it has failed, it has the
+// rest of its bytes.
 #[derive(Drop)]
 struct Named<S: ByteSource, N: Name> {
     source: S,
     of: PhantomData<N>,
     ghost is_named: { S.name source ≡ N.name },
+    ghost is_rest: { Tells S.remaining → S.failed source ≡ false → IsRestOf N.origin (known (S.remaining source)) },
 }
 
 impl<S: ByteSource, N: Name> ByteSource for Named<S, N> {
@@ -84,6 +106,8 @@ impl<S: ByteSource, N: Name> ByteSource for Named<S, N> {
     ghost name = { λ s. S.name s.source };
 
     ghost is_whole = { S.is_whole };
+
+    ghost reserve = { N.reserve };
 
     fn pull(&mut self, buffer: &mut [u8]) -> Result<usize, ErrorKind> {
         self.source.pull(buffer)
@@ -109,13 +133,33 @@ impl<S: ByteSource, N: Name> ByteSource for Named<S, N> {
     }
 }
 
+// A decoder for a value of the type, within the limits.
+fn decoder_for<T: Deserialize, R: ByteSource>(
+    source: R,
+    limits: &Limits,
+    alloc: Global,
+) -> Decoder<R>
+    requires { Tells R.remaining → T.reading.one_term ≡ true
+        → Leaves R.reserve (limit_of limits.now.bytes) (length (known (R.remaining source))) }
+    ensures { result ≡ apart T.reading.one_term
+        (elsewhere (R.name source) (R.failed source) (start_within limits.now (known (R.remaining source)))) }
+{
+    if T::is_one_term() {
+        decoder_of_term(source, limits, alloc)
+    } else {
+        decoder_within(source, limits, alloc)
+    }
+}
+
 // Within the limits, the value that the source's bytes begin with, and the source, which is left behind it.
 fn read_named<T: Deserialize, S: ByteSource, N: Name>(
     source: S,
     limits: &Limits,
     alloc: Global,
 ) -> (Result<T, Error>, S)
-    requires { S.name source ≡ N.name }
+    requires named { S.name source ≡ N.name }
+    requires origin { Tells S.remaining → known (S.remaining source) ≡ N.origin }
+    requires reserve { N.reserve ≡ reserved T.reading.one_term (limit_of limits.now.bytes) (length N.origin) }
     ensures named { S.name result.1 ≡ S.name source }
     ensures found { Tells S.remaining
         → IfOk result.0 (λ v. (n : ℕ) × BeginsWithin limits.now T.reading (known (S.remaining source)) v n) }
@@ -128,15 +172,18 @@ fn read_named<T: Deserialize, S: ByteSource, N: Name>(
         ⊎ ((IsReadError e × (S.failed result.1 ≡ true))
         ⊎ IsUnreadableWithin limits.now T.reading (known (S.remaining source)) e)) }
     ensures memory { IfErr result.0 (λ e. e ≡ Memory → T.reading.takes_memory ≡ true) }
+    ensures limited { IfErr result.0 (λ e. e ≡ Limit → IsGreatest limits.now → ⊥) }
     ensures failed { IfErr result.0 (λ e. IsReadError e → S.failed result.1 ≡ true) }
     ensures failing { MatchResult result.0 (λ _. S.failed result.1 ≡ S.failed source)
         (λ e. (S.failed result.1 ≡ S.failed source) ⊎ IsReadError e) }
+    ensures taken { Tells S.remaining → T.reading.one_term ≡ true → S.failed result.1 ≡ false
+        → (n : ℕ) × Has (limit_of limits.now.bytes) n × (known (S.remaining result.1) ≡ drop n (known (S.remaining source))) }
 {
     let named = Named::<S, N> {
         source,
         of: PhantomData,
     };
-    let mut decoder = decoder_within(named, limits, alloc);
+    let mut decoder = decoder_for::<T, _>(named, limits, alloc);
     let read = T::deserialize(&mut decoder, alloc);
     let Named { source, .. } = source_of(decoder);
     (read, source)

@@ -1,6 +1,6 @@
 //! Limits of the caller: how they are made, and what a decoder answers within them.
 use crate::dripping::Dripping;
-use amqp_decoder::{Decoder, decoder_within, source_of};
+use amqp_decoder::{Decoder, decoder_of_term, decoder_within, source_of};
 use amqp_wire::{ByteSource, Error, Limits};
 use std::alloc::Global;
 use std::test::Fail;
@@ -132,6 +132,20 @@ fn bytes_of_a_reader(rt: HostRuntime) {
     let mut decoder = decoder_within(Dripping::new(NESTED, 100), &within(128, 0), alloc);
     assert_eq!(rt; decoder.peek_code(), Err(Error::Limit));
     assert_eq!(rt; source_of(decoder).bytes.len(), NESTED.len());
+}
+
+#[test]
+fn one_term_alone(rt: HostRuntime) {
+    let alloc = rt.alloc();
+    let greatest = Limits::greatest();
+    let mut decoder = decoder_of_term(NESTED, &greatest, alloc);
+    assert_eq!(rt; decoder.peek_code(), Ok(0));
+    assert_eq!(rt; decoder.at_end(), Err(Error::InvalidValue));
+    let mut decoder = decoder_of_term(NESTED, &greatest, alloc);
+    assert_eq!(rt; decoder.peek_section(), Err(Error::InvalidValue));
+    let mut decoder = decoder_of_term(Dripping::new(NESTED, 100), &within(128, 13), alloc);
+    assert_eq!(rt; read_nested(&mut decoder, alloc), Err(Error::Limit));
+    assert_eq!(rt; source_of(decoder).bytes.len(), 1);
 }
 
 /// An array of 255 ubytes, each 0, of which nothing is written yet.

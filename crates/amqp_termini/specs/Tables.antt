@@ -2,7 +2,7 @@
 use Rattle.std.specs.Prelude.{Bool, true, false, None, option_map}
 use Rattle.amqp_model.specs.FieldType.{normal}
 use Rattle.amqp_enums.specs.Types.{inl, inr, codes, refl, unchanged, by_norm, TermType, boolean_type, uint_type, string_type, symbol_type}
-use Rattle.amqp_enums.specs.Types.{optional, default, none, field, Table, fieldless}
+use Rattle.amqp_enums.specs.Types.{optional, default, none, field, ◌▸◌, Table, fieldless}
 use Rattle.amqp_enums.specs.Types.{Choices, no_more, member, Chosen, SumOf, sum_of}
 use Rattle.amqp_containers.specs.MultipleFields.{multiple, normal_multiple}
 use Rattle.amqp_restricted_types.specs.Defaults.{false_by_default}
@@ -35,17 +35,19 @@ abbrev pub source : Table Source
 source = record {
   code = 0x28;
   name = codes "amqp:source:list";
-  fields = field (λ v. v.address) (optional string_type refl refl)
-      (field (λ v. v.durable) (default terminus_durability_type refl refl not_durable_by_default)
-      (field (λ v. v.expiry_policy) (default terminus_expiry_policy_type refl refl session_end_by_default)
-      (field (λ v. v.timeout) (default uint_type refl refl zero_by_default)
-      (field (λ v. v.dynamic) (default boolean_type refl refl false_by_default)
-      (field (λ v. v.dynamic_node_properties) (optional fields_type refl refl)
-      (field (λ v. v.distribution_mode) (optional distribution_mode_type refl refl)
-      (field (λ v. v.filter) (optional fields_type refl refl)
-      (field (λ v. v.default_outcome) (optional outcome refl refl)
-      (field (λ v. v.outcomes) (multiple symbol_type refl refl (λ v. tt))
-      (field (λ v. v.capabilities) (multiple symbol_type refl refl (λ v. tt)) none))))))))));
+  fields =
+      field (λ v. v.address) (optional string_type refl refl)
+      ▸ field (λ v. v.durable) (default terminus_durability_type refl refl not_durable_by_default)
+      ▸ field (λ v. v.expiry_policy) (default terminus_expiry_policy_type refl refl session_end_by_default)
+      ▸ field (λ v. v.timeout) (default uint_type refl refl zero_by_default)
+      ▸ field (λ v. v.dynamic) (default boolean_type refl refl false_by_default)
+      ▸ field (λ v. v.dynamic_node_properties) (optional fields_type refl refl)
+      ▸ field (λ v. v.distribution_mode) (optional distribution_mode_type refl refl)
+      ▸ field (λ v. v.filter) (optional fields_type refl refl)
+      ▸ field (λ v. v.default_outcome) (optional outcome refl refl)
+      ▸ field (λ v. v.outcomes) (multiple symbol_type refl refl (λ v. tt))
+      ▸ field (λ v. v.capabilities) (multiple symbol_type refl refl (λ v. tt))
+      ▸ none;
   norm = by_norm norm_source;
   norm_is = λ v. (refl, (refl, (refl, (refl, (refl, (refl, (refl, (refl, (refl, (refl, (refl, tt)))))))))));
   is_small = refl;
@@ -59,13 +61,15 @@ abbrev pub target : Table Target
 target = record {
   code = 0x29;
   name = codes "amqp:target:list";
-  fields = field (λ v. v.address) (optional string_type refl refl)
-      (field (λ v. v.durable) (default terminus_durability_type refl refl not_durable_by_default)
-      (field (λ v. v.expiry_policy) (default terminus_expiry_policy_type refl refl session_end_by_default)
-      (field (λ v. v.timeout) (default uint_type refl refl zero_by_default)
-      (field (λ v. v.dynamic) (default boolean_type refl refl false_by_default)
-      (field (λ v. v.dynamic_node_properties) (optional fields_type refl refl)
-      (field (λ v. v.capabilities) (multiple symbol_type refl refl (λ v. tt)) none))))));
+  fields =
+      field (λ v. v.address) (optional string_type refl refl)
+      ▸ field (λ v. v.durable) (default terminus_durability_type refl refl not_durable_by_default)
+      ▸ field (λ v. v.expiry_policy) (default terminus_expiry_policy_type refl refl session_end_by_default)
+      ▸ field (λ v. v.timeout) (default uint_type refl refl zero_by_default)
+      ▸ field (λ v. v.dynamic) (default boolean_type refl refl false_by_default)
+      ▸ field (λ v. v.dynamic_node_properties) (optional fields_type refl refl)
+      ▸ field (λ v. v.capabilities) (multiple symbol_type refl refl (λ v. tt))
+      ▸ none;
   norm = by_norm norm_target;
   norm_is = λ v. (refl, (refl, (refl, (refl, (refl, (refl, (refl, tt)))))));
   is_small = refl;
@@ -79,7 +83,9 @@ abbrev pub coordinator : Table Coordinator
 coordinator = record {
   code = 0x30;
   name = codes "amqp:coordinator:list";
-  fields = field (λ v. v.capabilities) (multiple txn_capability_type refl refl (λ v. tt)) none;
+  fields =
+      field (λ v. v.capabilities) (multiple txn_capability_type refl refl (λ v. tt))
+      ▸ none;
   norm = by_norm norm_coordinator;
   norm_is = λ v. (refl, tt);
   is_small = refl;

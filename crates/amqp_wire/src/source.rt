@@ -22,6 +22,10 @@ pub trait ByteSource {
     // It keeps all of its bytes at hand, and no pull of it fails.
     ghost is_whole: { Bool } = { false };
 
+    // So many of the last bytes of a source that tells them stay in it while one term is read within limits: none, unless an impl
+    // says more.
+    ghost reserve: { ℕ } = { 0 };
+
     /// Moves the source's next bytes to the front of the buffer, and returns how many: at most as many as the buffer holds, and at
     /// least one, unless the source is at its end or the buffer is empty. An `Err` is the kind of a failure; then the source has
     /// failed, and from there on every pull is an `Err`.

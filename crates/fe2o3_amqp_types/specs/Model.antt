@@ -6,8 +6,8 @@ pub use Rattle.amqp_model.specs.Term.{Descriptor, name, code, Container, list, m
 pub use Rattle.amqp_model.specs.Term.{Refusal, duplicate_key, depth, zero_width_items, non_ascii, empty_multiple, mixed_array, too_large}
 pub use Rattle.amqp_model.specs.Term.{lazy_in_array, custom}
 pub use Rattle.amqp_model.specs.Constructors.{Format, fixed, variable, compound, unknown, format}
-unfoldable pub use Rattle.amqp_model.specs.Spelling.{enc}
-pub use Rattle.amqp_model.specs.Spelling.{IsValid, IsKnown, descriptor_value, data_of, elements_of, shared_data_of}
+unfoldable pub use Rattle.amqp_model.specs.Spelling.{IsSpelling}
+pub use Rattle.amqp_model.specs.Spelling.{IsValid, IsKnown, descriptor_value, IsDataOf, AreElementsOf, AreSharedDataOf}
 pub use Rattle.amqp_model.specs.Standing.{Standing, whole, part, Parts}
 unfoldable pub use Rattle.amqp_model.specs.Text.{text, texts}
 pub use Rattle.amqp_model.specs.Text.{Place, Alone, First, Later, form}

@@ -4,16 +4,27 @@ ghost use Rattle.std.specs.Int.{bytes_high_first};
 ghost use Rattle.amqp_wire.specs.Codes.{refusal_of};
 ghost use Rattle.amqp_wire.specs.declared.error.Error.TheVariants.{Memory};
 ghost use Rattle.amqp_wire.specs.Sources.{Tells};
-ghost use Rattle.amqp_decoder.specs.State.{after_bytes, announced, bound_of, Has, lower};
+ghost use Rattle.amqp_decoder.specs.State.{after_bytes, announced, bound_of, holding, Has, lower};
+ghost use Rattle.amqp_decoder.specs.declared.frame.Place.TheVariants.{InList};
+ghost use Rattle.amqp_decoder.specs.Reserve.{Spares};
 ghost use Rattle.amqp_decoder.specs.Steps.{Answers, Pulls, Misses, Takes, FallsShort, RefusesSize, NoRoom, Stops, Fails, Goes, GoesOn};
 
 use super::Decoder;
+use crate::frame::{OpenContainer, Place};
 use amqp_wire::{ByteSource, Error, format_code};
 
 /// The most bytes of skipped content that are pulled at once.
 const SKIP: usize = 256;
 
 impl<R: ByteSource> Decoder<R> {
+    // Promises that the reserve of the source stays.
+    #[inline(always)]
+    pub(super) fn spares(&self)
+        ensures { Tells R.remaining → Spares R.reserve 0 self.now }
+    {
+        let _alone = &self.alone;
+    }
+
     // How many bytes the size of the open container leaves, where one is open.
     #[inline(always)]
     pub(crate) fn left(&self) -> Option<u32>
@@ -25,7 +36,7 @@ impl<R: ByteSource> Decoder<R> {
     // So many bytes are left in the open container.
     #[inline(always)]
     fn set_left(&mut self, left: u32)
-        requires { (l : ℕ) × (bound_of self.old.top ≡ Some l) }
+        requires { (l : ℕ) × (bound_of self.old.top ≡ Some l) × (left ≤ l) }
         ensures { self.new ≡ record self.old { top = record self.old.top { left = Some left } } }
     {
         self.top.left = Some(left);
@@ -47,6 +58,7 @@ impl<R: ByteSource> Decoder<R> {
     fn passes_limit(&self, count: u32) -> bool
         ensures past { result ≡ true → (bound_of self.now.top ≡ None) × (Has self.now.top.left count → ⊥) }
         ensures within { result ≡ false → bound_of self.now.top ≡ None → Has self.now.top.left count }
+        ensures limited { result ≡ true → self.now.failed.free ≡ false }
     {
         match self.top.left {
             Some(_) => false,
@@ -78,6 +90,7 @@ impl<R: ByteSource> Decoder<R> {
     // Fills the whole buffer with the next bytes.
     #[inline]
     pub(crate) fn pull_all(&mut self, buffer: &mut [u8]) -> Result<(), Error>
+        requires { Tells R.remaining → Spares R.reserve (length buffer.old) self.old }
         ensures ok { Tells R.remaining → IfOk result (λ _. Pulls self.old buffer.new self.new) }
         ensures err { Tells R.remaining → IfErr result (λ e. Misses false (length buffer.old) self.old e self.new) }
         ensures goes { Goes false self.old result self.new }
@@ -95,6 +108,7 @@ impl<R: ByteSource> Decoder<R> {
     // Fills the whole buffer with the next bytes, if they are at hand; else nothing is taken.
     #[inline(always)]
     pub(super) fn pull_ready(&mut self, buffer: &mut [u8]) -> bool
+        requires { Tells R.remaining → Spares R.reserve (length buffer.old) self.old }
         ensures taken { Tells R.remaining → result ≡ true → Pulls self.old buffer.new self.new }
         ensures left { result ≡ false → self.new ≡ self.old }
         ensures open { self.new.top ≡ self.old.top }
@@ -104,9 +118,32 @@ impl<R: ByteSource> Decoder<R> {
         self.input.pull_ready(buffer)
     }
 
+    // Fills the whole buffer with the next bytes of a value, of which as many are left, if they are at hand; else nothing is taken.
+    #[inline(always)]
+    pub(super) fn take_ready(&mut self, buffer: &mut [u8]) -> bool
+        requires few { length buffer.old < 256 }
+        requires room { Has self.old.top.left (length buffer.old) }
+        ensures taken { Tells R.remaining → result ≡ true → Takes self.old buffer.new self.new }
+        ensures left { result ≡ false → self.new ≡ self.old }
+        ensures quota { self.new.quota ≡ self.old.quota }
+        ensures goes { GoesOn self.old self.new }
+    {
+        if !self.input.pull_ready(buffer) {
+            return false;
+        }
+        let count = buffer.len() as u32;
+        match self.top.left {
+            Some(left) => self.top.left = Some(left.saturating_sub(count)),
+            None if self.bytes == u64::MAX => {}
+            None => self.bytes = self.bytes.saturating_sub(u64::from(count)),
+        }
+        true
+    }
+
     // The next bytes, however the source gives them.
     #[cold]
     fn pull_bytes<const N: usize>(&mut self) -> Result<[u8; N], Error>
+        requires { Tells R.remaining → Spares R.reserve N self.old }
         ensures ok { Tells R.remaining → IfOk result (λ bytes. Pulls self.old bytes self.new) }
         ensures err { Tells R.remaining → IfErr result (λ e. Misses false N self.old e self.new) }
         ensures goes { Goes false self.old result self.new }
@@ -119,6 +156,7 @@ impl<R: ByteSource> Decoder<R> {
     // Adds the next so many bytes, if they are at hand; else nothing is taken and nothing added.
     #[inline(always)]
     pub(crate) fn append_ready(&mut self, count: u32, bytes: &mut Vec<u8>) -> Result<bool, Error>
+        requires { Tells R.remaining → Spares R.reserve count self.old }
         ensures taken { Tells R.remaining → result ≡ Ok true → (count ≤ length self.old.rest)
             × (bytes.new.items ≡ bytes.old.items ++ take count self.old.rest) × (self.new ≡ after_bytes count self.old) }
         ensures left { result ≡ Ok false → (self.new ≡ self.old) × (bytes.new.items ≡ bytes.old.items) }
@@ -133,6 +171,7 @@ impl<R: ByteSource> Decoder<R> {
 
     // Takes and drops so many bytes.
     fn skip(&mut self, count: u64) -> Result<(), Error>
+        requires { Tells R.remaining → Spares R.reserve count self.old }
         ensures ok { Tells R.remaining → IfOk result (λ _. count ≤ length self.old.rest) }
         ensures new { Tells R.remaining → IfOk result (λ _. self.new ≡ after_bytes count self.old) }
         ensures err { Tells R.remaining → IfErr result (λ e. Misses false count self.old e self.new) }
@@ -146,6 +185,21 @@ impl<R: ByteSource> Decoder<R> {
             left -= n;
         }
         Ok(())
+    }
+
+    // An empty list is open, and nothing around it.
+    fn close_all(&mut self)
+        ensures new { self.new ≡ record self.old { top = holding InList 0 0; saved = [] } }
+        ensures spares { Tells R.remaining → Spares R.reserve (announced self.old) self.new }
+        ensures own { Tells R.remaining → (own : ℕ) → Has self.old.top.left own → Spares R.reserve own self.new }
+    {
+        self.depth = 0;
+        self.top = OpenContainer {
+            items: 0,
+            left: Some(0),
+            place: Place::InList,
+            ..OpenContainer::TOP
+        };
     }
 
     // A size is wrong: all that the outermost size announces has to be there, else the input is cut. Outside
@@ -162,6 +216,7 @@ impl<R: ByteSource> Decoder<R> {
             Some(_) => self.announced(),
             None => u64::from(own),
         };
+        self.close_all();
         match self.skip(count) {
             Ok(()) => self.stop(Error::Size),
             Err(error) => error,
@@ -206,11 +261,13 @@ impl<R: ByteSource> Decoder<R> {
     #[inline(always)]
     pub(crate) fn lower(&mut self, count: u32) -> Result<(), Error>
         ensures room { IfOk result (λ _. Has self.old.top.left count) }
+        ensures spares { Tells R.remaining → IfOk result (λ _. Spares R.reserve count self.new) }
         ensures new { IfOk result (λ _. self.new ≡ record self.old { top = record self.old.top { left = lower self.old.top.left count } }) }
         ensures err { Tells R.remaining → IfErr result (λ e. FallsShort count self.old e self.new) }
         ensures full { Tells R.remaining → IfErr result (λ e. Stops false (NoRoom count self.old) self.old e self.new) }
         ensures goes { Goes false self.old result self.new }
     {
+        self.spares();
         if !self.has_left(count) {
             return Err(self.refuse_size(count));
         }

@@ -1,7 +1,7 @@
 //! How many values begin, where the caller limits that.
 ghost use Rattle.std.specs.Prelude.{◌≡◌, ◌≤◌, None, Some, IfOk, IfErr, false, true};
 ghost use Rattle.amqp_model.specs.Term.{Term};
-ghost use Rattle.amqp_model.specs.Spelling.{enc};
+ghost use Rattle.amqp_model.specs.Spelling.{IsSpelling};
 ghost use Rattle.amqp_model.specs.Measures.{nest, nodes};
 ghost use Rattle.amqp_wire.specs.declared.error.Error.TheVariants.{Limit};
 ghost use Rattle.amqp_decoder.specs.State.{Has, lower, counted};
@@ -36,6 +36,7 @@ impl<R: ByteSource> Decoder<R> {
     pub(super) fn passes_items(&self, count: u64) -> bool
         ensures past { result ≡ true → Has self.now.quota count → ⊥ }
         ensures within { result ≡ false → Has self.now.quota count }
+        ensures limited { result ≡ true → self.now.failed.free ≡ false }
     {
         count > self.items
     }
@@ -108,9 +109,9 @@ impl<R: ByteSource> Decoder<R> {
 
     // The values of a term begin.
     pub(crate) fn count_term(&mut self, bytes: &[u8]) -> Result<(), Error>
-        ensures ok { (t : Term) → enc bytes.now t → nest t ≤ 128 → IfOk result (λ _. Has self.old.quota (nodes t)
+        ensures ok { (t : Term) → IsSpelling bytes.now t → nest t ≤ 128 → IfOk result (λ _. Has self.old.quota (nodes t)
             × (self.new ≡ record self.old { quota = lower self.old.quota (nodes t) })) }
-        ensures err { (t : Term) → enc bytes.now t → nest t ≤ 128 → IfErr result (λ e. (Has self.old.quota (nodes t) → ⊥) × (e ≡ Limit)
+        ensures err { (t : Term) → IsSpelling bytes.now t → nest t ≤ 128 → IfErr result (λ e. (Has self.old.quota (nodes t) → ⊥) × (e ≡ Limit)
             × (self.new ≡ record self.old { error = Some Limit })) }
         ensures goes { Goes false self.old result self.new }
     {

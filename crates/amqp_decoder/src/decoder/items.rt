@@ -2,6 +2,7 @@
 ghost use Rattle.std.specs.Prelude.{◌≡◌, [], ◌∷◌, length, drop, min, false, Some, IfOk, IfErr, ◌↔◌, IsTrue, MatchOption};
 ghost use Rattle.amqp_wire.specs.Sources.{Tells};
 ghost use Rattle.amqp_decoder.specs.State.{after_look, lower};
+ghost use Rattle.amqp_decoder.specs.Reserve.{Shows};
 ghost use Rattle.amqp_decoder.specs.Reading.{AnswersRead, ReadsCode, BeginFault, PeeksCode, IsLeft};
 ghost use Rattle.amqp_decoder.specs.Steps.{Answers, SourceFailed, Goes, Tries};
 
@@ -41,6 +42,7 @@ impl<R: ByteSource> Decoder<R> {
     // The next byte, if there is one, which isn't taken.
     #[inline(always)]
     pub(crate) fn look_next(&mut self) -> Result<Option<u8>, Error>
+        requires { Tells R.remaining → Shows R.reserve 1 self.old }
         ensures found { Tells R.remaining → IfOk result
             (λ next. MatchOption next (self.old.rest ≡ []) (λ b. self.old.rest ≡ b ∷ drop 1 self.old.rest)) }
         ensures new { Tells R.remaining → IfOk result (λ _. self.new ≡ after_look (min 1 (length self.old.rest)) self.old) }
@@ -92,6 +94,7 @@ impl<R: ByteSource> Decoder<R> {
         ensures read { Tells R.remaining → AnswersRead false PeeksCode BeginFault self.old result self.new }
         ensures tries { Tries false self.old result self.new }
     {
+        self.spares();
         if self.is_plain()
             && !self.is_spent()
             && let Some(code) = self.look_at_hand()
@@ -114,6 +117,7 @@ impl<R: ByteSource> Decoder<R> {
         if self.is_spent() {
             return Err(self.refuse_size(1));
         }
+        self.spares();
         match self.look_next()? {
             Some(code) => self.check_count(code),
             None => Err(self.stop(Error::Cut)),

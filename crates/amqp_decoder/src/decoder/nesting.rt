@@ -4,8 +4,10 @@ ghost use Rattle.amqp_wire.specs.Sources.{Tells};
 ghost use Rattle.amqp_decoder.specs.Containers.{AtEnd, EndFault};
 ghost use Rattle.amqp_decoder.specs.Described.{in_described};
 ghost use Rattle.amqp_decoder.specs.State.{Open, bound_of, depth_error, holding, IsContainer};
+ghost use Rattle.amqp_wire.specs.declared.error.Error.TheVariants.{Limit};
 ghost use Rattle.amqp_decoder.specs.declared.frame.Place.TheVariants.{InDescribed};
 ghost use Rattle.amqp_decoder.specs.Reading.{AnswersRead};
+ghost use Rattle.amqp_decoder.specs.Reserve.{Spares};
 ghost use Rattle.amqp_decoder.specs.Rooms.{HasRoom};
 ghost use Rattle.amqp_decoder.specs.Steps.{RefusesSize, Fails, Goes, GoesOn, Tries};
 
@@ -44,7 +46,8 @@ impl<R: ByteSource> Decoder<R> {
     // The error for a value that nests too deep.
     #[inline]
     pub(crate) fn depth_error(&self) -> Error
-        ensures { result ≡ depth_error self.now.nesting }
+        ensures error { result ≡ depth_error self.now.nesting }
+        ensures limited { result ≡ Limit → self.now.failed.free ≡ false }
     {
         if self.nesting < NESTING {
             Error::Limit
@@ -69,6 +72,7 @@ impl<R: ByteSource> Decoder<R> {
     pub(crate) fn enter(&mut self, place: Place, items: u32, content: u32) -> Result<(), Error>
         requires container { IsContainer place }
         requires room { (length self.old.saved < self.old.nesting) ⊎ (items ≡ 0) }
+        requires spares { Tells R.remaining → Spares R.reserve content self.old }
         ensures ok { IfOk result (λ _. (length self.old.saved ≤ self.old.nesting)
             × (self.new ≡ record self.old { top = holding place items content; saved = self.old.top ∷ self.old.saved })) }
         ensures err { IfErr result (λ e. (e ≡ depth_error self.old.nesting) × (self.old.nesting < length self.old.saved)
@@ -100,7 +104,8 @@ impl<R: ByteSource> Decoder<R> {
         items: u32,
         content: u32,
     ) -> Result<(), Error>
-        requires { IsContainer place }
+        requires container { IsContainer place }
+        requires spares { Tells R.remaining → Spares R.reserve content self.old }
         ensures ok { IfOk result (λ _. (length self.old.saved < self.old.nesting)
             × (self.new ≡ record self.old { top = holding place items content; saved = self.old.top ∷ self.old.saved })) }
         ensures err { IfErr result (λ e. (e ≡ depth_error self.old.nesting) × (self.old.nesting ≤ length self.old.saved)

@@ -5,6 +5,7 @@ ghost use Rattle.amqp_decoder.specs.State.{after_look};
 ghost use Rattle.amqp_decoder.specs.Reading.{ReadsCode};
 ghost use Rattle.amqp_decoder.specs.Primitives.{ReadsFixed};
 ghost use Rattle.amqp_decoder.specs.Quick.{IsPlain};
+ghost use Rattle.amqp_decoder.specs.Reserve.{Shows};
 ghost use Rattle.amqp_decoder.specs.Steps.{Began, GoesOn};
 
 use super::Decoder;
@@ -26,6 +27,7 @@ impl<R: ByteSource> Decoder<R> {
     // The next byte, which isn't taken, if it is at hand.
     #[inline(always)]
     pub(super) fn look_at_hand(&mut self) -> Option<u8>
+        requires { Tells R.remaining → Shows R.reserve 1 self.old }
         ensures next { MatchOption result (self.new ≡ self.old)
             (λ b. (self.old.rest ≡ b ∷ drop 1 self.old.rest) × (self.new ≡ after_look 1 self.old)) }
         ensures goes { GoesOn self.old self.new }
@@ -52,10 +54,9 @@ impl<R: ByteSource> Decoder<R> {
             return None;
         }
         let mut code = [0];
-        if !self.pull_ready(&mut code) {
+        if !self.take_ready(&mut code) {
             return None;
         }
-        self.take_left(1);
         self.take_item();
         self.count_begun(code[0]);
         Some(code[0])
@@ -75,10 +76,9 @@ impl<R: ByteSource> Decoder<R> {
             return None;
         }
         let mut bytes = [0; N];
-        if !self.pull_ready(&mut bytes) {
+        if !self.take_ready(&mut bytes) {
             return None;
         }
-        self.take_left(N as u32);
         self.take_item();
         self.count_begun(code);
         Some(bytes)

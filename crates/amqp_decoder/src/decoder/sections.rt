@@ -14,16 +14,17 @@ use crate::frame::Place;
 use amqp_wire::{ByteSource, Error};
 
 impl<R: ByteSource> Decoder<R> {
-    // Nothing is open.
+    // Nothing is open, and what stands next may be looked at.
     fn is_top(&self) -> bool
-        ensures is { IsTrue result ↔ ((self.now.top.place ≡ Top) × (self.now.saved ≡ [])) }
+        ensures is { IsTrue result ↔ ((self.now.top.place ≡ Top) × (self.now.saved ≡ []) × (self.now.failed.alone ≡ false)) }
         ensures level { self.now.top.place ≡ Top → self.now.top ≡ top_level self.now.top.left }
     {
-        self.top.place == Place::Top && self.depth == 0
+        self.top.place == Place::Top && self.depth == 0 && !self.alone
     }
 
     // The code of the section whose descriptor stands next.
     fn section_ahead(&mut self) -> Result<Option<u8>, Error>
+        requires { self.old.failed.alone ≡ false }
         ensures looks { Tells R.remaining → IfOk result (λ _. LooksOn self.old self.new) }
         ensures ok { Tells R.remaining → IfOk result (λ section. (c : ℕ) → (section ≡ Some c) ↔ IsSectionAhead self.old.rest c) }
         ensures err { IfErr result (λ e. Answers self.old e self.new × SourceFailed e self.new) }

@@ -1,7 +1,7 @@
 use Rattle.std.proofs.Common.{◌+◌, ◌<◌, length, sym, ap, ◌∙◌, subst, arith}
 use Rattle.std.proofs.lemmas.List.{length-drop}
 use Rattle.amqp_model.specs.Term.{count}
-use Rattle.amqp_model.specs.Spelling.{items_of, elements_of}
+use Rattle.amqp_model.specs.Spelling.{AreItemsOf, AreElementsOf}
 use Rattle.amqp_model.specs.Measures.{nests, array_nest}
 use Rattle.amqp_wire.specs.Containers.{container_of}
 use Rattle.amqp_lengths.specs.Pieces.{width_of}
@@ -109,7 +109,7 @@ measure_items-measure_term-item-requires t c =
     let less : i.done < count ts = omega (arith, l, c.loop-done-test.true) in (
       omega (arith, ap length (tail_all i.len c.args.content.now), length-drop i.len c.args.content.now),
       subst (Measurable Whole) (sym (tail_all i.len c.args.content.now))
-          (next_fits Whole items_of terms_joined ts c.args.content.now i.done i.len i.nodes i.nesting less (i.invariant ts l s) fits),
+          (next_fits Whole AreItemsOf terms_joined ts c.args.content.now i.done i.len i.nodes i.nesting less (i.invariant ts l s) fits),
     )
 
 pub measure_items-overflow_add-len : goal.measure_items-overflow_add-len
@@ -119,7 +119,7 @@ measure_items-overflow_add-len t c =
     let item = c.measure_term-item.result in
     let less : i.done < count ts = omega (arith, l, c.loop-done-test.true) in
     let begins = subst (λ b. Begins Whole b item.len item.nodes item.nesting) (tail_all i.len c.args.content.now) c.measure_term-item.ensures in
-    let sums = sums_fit Whole items_of terms_joined ts c.args.content.now i.done i.len i.nodes i.nesting item.len item.nodes item.nesting less
+    let sums = sums_fit Whole AreItemsOf terms_joined ts c.args.content.now i.done i.len i.nodes i.nesting item.len item.nodes item.nesting less
     (i.invariant ts l s) fits begins in
     omega (arith, sums.0)
 
@@ -130,7 +130,7 @@ measure_items-overflow_add-nodes t c =
     let item = c.measure_term-item.result in
     let less : i.done < count ts = omega (arith, l, c.loop-done-test.true) in
     let begins = subst (λ b. Begins Whole b item.len item.nodes item.nesting) (tail_all i.len c.args.content.now) c.measure_term-item.ensures in
-    let sums = sums_fit Whole items_of terms_joined ts c.args.content.now i.done i.len i.nodes i.nesting item.len item.nodes item.nesting less
+    let sums = sums_fit Whole AreItemsOf terms_joined ts c.args.content.now i.done i.len i.nodes i.nesting item.len item.nodes item.nesting less
     (i.invariant ts l s) fits begins in
     omega (arith, sums.1)
 
@@ -141,14 +141,14 @@ measure_items-loop-done-preserved t c ts l s =
     let less : i.done < count ts = omega (arith, l, c.loop-done-test.true) in
     let begins = subst (λ b. Begins Whole b item.len item.nodes item.nesting) (tail_all i.len c.args.content.now) c.measure_term-item.ensures in
     let top = c.max-nesting.ensures ∙ greater i.nesting item.nesting in
-    subst (Left items_of ts c.args.content.now (i.done + 1) (i.len + item.len) (i.nodes + item.nodes)) (sym top)
-    (left_more Whole items_of terms_joined ts c.args.content.now i.done i.len i.nodes i.nesting item.len item.nodes item.nesting less
+    subst (Left AreItemsOf ts c.args.content.now (i.done + 1) (i.len + item.len) (i.nodes + item.nodes)) (sym top)
+    (left_more Whole AreItemsOf terms_joined ts c.args.content.now i.done i.len i.nodes i.nesting item.len item.nodes item.nesting less
     (i.invariant ts l s) begins)
 
 pub measure_items-returns : goal.measure_items-returns
 measure_items-returns t c ts l s =
     let i = c.loop-done in
-    left_none items_of ts c.args.content.now i.done i.len i.nodes i.nesting (omega (arith, l, c.loop-done-test.false)) (i.invariant ts l s)
+    left_none AreItemsOf ts c.args.content.now i.done i.len i.nodes i.nesting (omega (arith, l, c.loop-done-test.false)) (i.invariant ts l s)
 
 pub measure_shared-measure_data-item-requires : goal.measure_shared-measure_data-item-requires
 measure_shared-measure_data-item-requires t c =
@@ -204,7 +204,7 @@ measure_elements-overflow_add-result t c =
     let items = c.measure_shared-items.result in
     let all = subst (λ b. AllMeasured (Items s.code) nests c.args.count b items.nodes items.nesting) (tail_all s.len c.args.content.now)
     c.measure_shared-items.ensures in
-    let fits = all_fit elements_of array_nest c.args.count c.args.content.now items.nodes (levels_of s.descriptors s.code + items.nesting)
+    let fits = all_fit AreElementsOf array_nest c.args.count c.args.content.now items.nodes (levels_of s.descriptors s.code + items.nesting)
     c.requires
     (elements_measured s.descriptors s.code c.args.count s.len items.nodes items.nesting c.args.content.now c.in-Ok.ensures.found
     c.if-count-eq0.false all) in
@@ -216,6 +216,6 @@ measure_elements-returns t c =
     let items = c.measure_shared-items.result in
     let all = subst (λ b. AllMeasured (Items s.code) nests c.args.count b items.nodes items.nesting) (tail_all s.len c.args.content.now)
     c.measure_shared-items.ensures in
-    subst (λ k. AllMeasured elements_of array_nest c.args.count c.args.content.now items.nodes (k + items.nesting)) (sym c.levels_of.ensures)
+    subst (λ k. AllMeasured AreElementsOf array_nest c.args.count c.args.content.now items.nodes (k + items.nesting)) (sym c.levels_of.ensures)
     (elements_measured s.descriptors s.code c.args.count s.len items.nodes items.nesting c.args.content.now c.in-Ok.ensures.found
     c.if-count-eq0.false all)

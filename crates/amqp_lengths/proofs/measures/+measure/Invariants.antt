@@ -1,6 +1,6 @@
 use Rattle.std.proofs.Common.{◌≡◌, [], length, ◌+◌, ◌*◌}
 use Rattle.amqp_model.specs.Term.{Terms, count}
-use Rattle.amqp_model.specs.Spelling.{items_of, shared_data_of}
+use Rattle.amqp_model.specs.Spelling.{AreItemsOf, AreSharedDataOf}
 use Rattle.amqp_lengths.proofs.Measured.{Left}
 use Rattle.amqp_lengths.proofs.measures.+measure.Given as goal
 
@@ -27,9 +27,9 @@ decreases-measure_content l = 8 * length l.content.now + 7
 
 abbrev pub invariant-measure_items-loop-done : goal.invariant-measure_items-loop-done
 invariant-measure_items-loop-done l =
-    (ts : Terms) → count ts ≡ l.count → items_of ts l.content → Left items_of ts l.content l.done l.len l.nodes l.nesting
+    (ts : Terms) → count ts ≡ l.count → AreItemsOf ts l.content → Left AreItemsOf ts l.content l.done l.len l.nodes l.nesting
 
 abbrev pub invariant-measure_shared-loop-done : goal.invariant-measure_shared-loop-done
 invariant-measure_shared-loop-done l =
-    (ts : Terms) → count ts ≡ l.count → shared_data_of ts [] l.code l.content
-    → Left (λ us b. shared_data_of us [] l.code b) ts l.content l.done l.len l.nodes l.nesting
+    (ts : Terms) → count ts ≡ l.count → AreSharedDataOf ts [] l.code l.content
+    → Left (λ us b. AreSharedDataOf us [] l.code b) ts l.content l.done l.len l.nodes l.nesting

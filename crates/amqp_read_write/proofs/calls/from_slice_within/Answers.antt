@@ -1,7 +1,7 @@
 use Rattle.std.proofs.Common.{arith, refl}
 use Rattle.std.proofs.lemmas.Result.{err_from_is_err_and}
 use Rattle.amqp_codec.specs.ReadingLaws.{read_one, read_bounded, is_read, memory_wanted, never_failing}
-use Rattle.amqp_read_write.proofs.FromReader.{refused_whole}
+use Rattle.amqp_read_write.proofs.FromReader.{limited, refused_whole}
 use Rattle.amqp_read_write.proofs.calls.from_slice_within.Goals as goal
 
 pub returns-clause-found : goal.returns-clause-found
@@ -38,3 +38,9 @@ returns-in_err-value-clause-unfailing g c =
 
 pub returns-in_err-value-clause-one : goal.returns-in_err-value-clause-one
 returns-in_err-value-clause-one g c v w n m h k = read_one c.args.limits.now g.T.Deserialize.reading c.args.input.now v w n m h k
+
+pub returns-in_err-value-clause-limited : goal.returns-in_err-value-clause-limited
+returns-in_err-value-clause-limited g c =
+    let p = err_from_is_err_and c.from_residual.result c.from_residual.ensures.1 in
+    rw (p.1, p.2) (limited g.T.Deserialize.reading.takes_memory c.args.limits.now _ _ _ refl refl
+    (rw c.decoder_within-decoder.ensures at c.in_err-value.ensures.tries))

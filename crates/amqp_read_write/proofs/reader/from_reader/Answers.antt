@@ -1,6 +1,6 @@
 use Rattle.amqp_wire.specs.Sources.{known}
 use Rattle.amqp_codec.specs.Reading.{IsGreatest}
-use Rattle.amqp_read_write.proofs.FromReader.{one_greatest, behind_greatest, refused_greatest}
+use Rattle.amqp_read_write.proofs.FromReader.{never_limited, one_greatest, behind_greatest, refused_greatest}
 use Rattle.amqp_read_write.proofs.reader.from_reader.Goals as goal
 
 pub returns-clause-one : goal.returns-clause-one
@@ -19,3 +19,8 @@ returns-clause-refused g c = λ told.
     let limits : IsGreatest c.greatest.result = (c.greatest.ensures.nesting, c.greatest.ensures.bytes, c.greatest.ensures.items) in
     refused_greatest _ limits g.T.Deserialize.reading (known (g.R.ByteSource.remaining c.args.reader.now)) _ _
     (c.from_reader_within.ensures.refused told)
+
+pub returns-clause-unlimited : goal.returns-clause-unlimited
+returns-clause-unlimited g c =
+    let limits : IsGreatest c.greatest.result = (c.greatest.ensures.nesting, c.greatest.ensures.bytes, c.greatest.ensures.items) in
+    never_limited _ limits _ c.from_reader_within.ensures.limited

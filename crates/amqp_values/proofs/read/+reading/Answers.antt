@@ -588,7 +588,7 @@ pub read_list-returns-in_err-inner-clause-tries : goal.read_list-returns-in_err-
 read_list-returns-in_err-inner-clause-tries g t c =
     let p = err_from_is_err_and c.from_residual-in_err-inner.result c.from_residual-in_err-inner.ensures.1 in
     rw (p.1, p.2)
-    (refused_by true c.args.decoder.now c.begin_list.new.self Depth _ _ (λ o. o) c.in_ok-count.ensures.tries c.in_err-inner.ensures.err.1)
+    (refused_by true c.args.decoder.now c.begin_list.new.self Depth _ _ (λ o. o) (λ l. absurd (cc)) c.in_ok-count.ensures.tries c.in_err-inner.ensures.err.1)
 
 pub read_array-returns-in_err-count-clause-tries : goal.read_array-returns-in_err-count-clause-tries
 read_array-returns-in_err-count-clause-tries g t c =
@@ -615,7 +615,7 @@ pub read_array-returns-in_err-inner-clause-tries : goal.read_array-returns-in_er
 read_array-returns-in_err-inner-clause-tries g t c =
     let p = err_from_is_err_and c.from_residual-in_err-inner.result c.from_residual-in_err-inner.ensures.1 in
     rw (p.1, p.2)
-    (refused_by true c.args.decoder.now c.begin_array.new.self Depth _ _ (λ o. o) c.in_ok-count.ensures.tries c.in_err-inner.ensures.err.1)
+    (refused_by true c.args.decoder.now c.begin_array.new.self Depth _ _ (λ o. o) (λ l. absurd (cc)) c.in_ok-count.ensures.tries c.in_err-inner.ensures.err.1)
 
 pub read_map-returns-in_err-count-clause-tries : goal.read_map-returns-in_err-count-clause-tries
 read_map-returns-in_err-count-clause-tries g t c =
@@ -642,7 +642,7 @@ pub read_map-returns-in_err-inner-clause-tries : goal.read_map-returns-in_err-in
 read_map-returns-in_err-inner-clause-tries g t c =
     let p = err_from_is_err_and c.from_residual-in_err-inner.result c.from_residual-in_err-inner.ensures.1 in
     rw (p.1, p.2)
-    (refused_by true c.args.decoder.now c.begin_map.new.self Depth _ _ (λ o. o) c.in_ok-count.ensures.tries c.in_err-inner.ensures.err.1)
+    (refused_by true c.args.decoder.now c.begin_map.new.self Depth _ _ (λ o. o) (λ l. absurd (cc)) c.in_ok-count.ensures.tries c.in_err-inner.ensures.err.1)
 
 pub read_described-returns-in_err-descriptor-clause-tries : goal.read_described-returns-in_err-descriptor-clause-tries
 read_described-returns-in_err-descriptor-clause-tries g t c =
@@ -669,7 +669,7 @@ pub read_described-returns-in_err-inner-clause-tries : goal.read_described-retur
 read_described-returns-in_err-inner-clause-tries g t c =
     let p = err_from_is_err_and c.from_residual-in_err-inner.result c.from_residual-in_err-inner.ensures.1 in
     rw (p.1, p.2)
-    (refused_by true c.args.decoder.now c.begin_described.new.self Depth _ _ (λ o. o) c.in_ok-descriptor.ensures.tries c.in_err-inner.ensures.err.1)
+    (refused_by true c.args.decoder.now c.begin_described.new.self Depth _ _ (λ o. o) (λ l. absurd (cc)) c.in_ok-descriptor.ensures.tries c.in_err-inner.ensures.err.1)
 
 pub read_row-returns-in_err-value-clause-tries : goal.read_row-returns-in_err-value-clause-tries
 read_row-returns-in_err-value-clause-tries g t c =

@@ -19,6 +19,7 @@ invariant_of-self g c =
       subst (IsRoomy c.self.inside.nesting c.self.inside.depth) (sym (open_kept _ _ (limit_of c.self.inside.bytes) n c.self.inside.top (omega arith) front)) c.self.invariant.5,
       c.self.invariant.6,
       c.self.invariant.7,
+      c.self.invariant.8,
     )
 
 pub returns : goal.returns

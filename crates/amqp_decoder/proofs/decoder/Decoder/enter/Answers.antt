@@ -1,8 +1,10 @@
-use Rattle.std.proofs.Common.{arith, ◌<◌, ◌≡◌, length, refl, subst, ap, sym, ◌∙◌}
+use Rattle.std.proofs.Common.{arith, ◌<◌, ◌≡◌, Some, length, refl, subst, ap, sym, ◌∙◌}
 use Rattle.std.proofs.lemmas.List.{length-set}
 use Rattle.amqp_wire.specs.Limits.{limit_of}
 use Rattle.amqp_decoder.specs.State.{State, IsContainer, holding}
 use Rattle.amqp_decoder.proofs.Rows.{length-stack, stack-push, nested_push, bounded_push, room_inside}
+use Rattle.amqp_decoder.specs.Reserve.{Spares}
+use Rattle.amqp_decoder.proofs.Reserve.{spared_inside}
 use Rattle.amqp_decoder.proofs.decoder.Decoder.enter.Goals as goal
 
 pub invariant_of-self : goal.invariant_of-self
@@ -21,6 +23,10 @@ invariant_of-self g c =
       room_inside (holding c.args.place c.args.items c.args.content) _ _ _ _ c.args.place c.args.items refl deep limit inner c.requires.room,
       c.self.invariant.6,
       length-set _ _ _ ∙ c.self.invariant.7,
+      λ told one sound some. spared_inside c.self.inside.descriptors.items (limit_of c.self.inside.bytes) c.self.inside.depth c.self.inside.frames
+          c.self.inside.top (record { items = c.args.items; left = Some c.args.content; place = c.args.place; code = 0; first = c.self.inside.top.last; last = c.self.inside.top.last })
+          refl few
+          (subst (Spares g.R.ByteSource.reserve c.args.content) (sym c.self.view_is) (c.requires.spares told) one sound some),
     )
 
 pub returns-then-self-clause-err : goal.returns-then-self-clause-err

@@ -3,6 +3,7 @@ use Rattle.std.specs.Option.{option_and}
 use Rattle.std.proofs.lemmas.List.{length-set}
 use Rattle.amqp_wire.specs.Limits.{limit_of}
 use Rattle.amqp_decoder.proofs.Rows.{length-stack, described_push, nested_push, bounded_push, bounded_as, shared_behind, none_and}
+use Rattle.amqp_decoder.proofs.Reserve.{spared_described}
 use Rattle.amqp_decoder.proofs.decoder.Decoder.enter_described.Goals as goal
 
 pub invariant_of-self : goal.invariant_of-self
@@ -20,6 +21,8 @@ invariant_of-self g c =
       inl (omega arith),
       c.self.invariant.6,
       length-set _ _ _ ∙ c.self.invariant.7,
+      λ told one sound some. spared_described (limit_of c.self.inside.bytes) c.self.inside.depth c.self.inside.frames c.self.inside.top
+          c.and.result _ refl few c.and.ensures (c.self.invariant.8 told one sound some),
     )
 
 pub returns-clause-err : goal.returns-clause-err

@@ -2,7 +2,15 @@ use Rattle.std.proofs.Common.{rules, arith, ◌≡◌, ◌≤◌, ◌+◌, ◌-�
 use Rattle.amqp_decoder.proofs.SizedTexts.{kept_more}
 use Rattle.amqp_wire.specs.Sources.{Tells}
 use Rattle.amqp_decoder.specs.State.{after_bytes}
+use Rattle.std.proofs.lemmas.List.{length-take}
+use Rattle.amqp_decoder.proofs.Reserve.{spares_part}
 use Rattle.amqp_decoder.proofs.decoder.Decoder.keep_pieces.Goals as goal
+
+pub pull_all-requires : goal.pull_all-requires
+pull_all-requires g c = λ told.
+    spares_part g.R.ByteSource.reserve c.args.len (c.args.len - c.loop-left.left) (length (take c.min-n.result c.loop-left.buffer))
+    c.args.self.now c.loop-left.self (c.loop-left.invariant.3 told)
+    (omega (arith, c.min-n.ensures, length-take c.min-n.result c.loop-left.buffer, c.loop-left.invariant.0)) (c.requires.spares told)
 
 pub loop-left-preserved : goal.loop-left-preserved
 loop-left-preserved g c =

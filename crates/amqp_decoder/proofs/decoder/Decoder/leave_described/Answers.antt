@@ -1,15 +1,16 @@
-use Rattle.std.proofs.Common.{arith, ◌≡◌, ◌-◌, suc, sym, ap, ◌∙◌, inl}
+use Rattle.std.proofs.Common.{refl, arith, ◌≡◌, ◌-◌, suc, sym, ap, ◌∙◌, inl}
 use Rattle.amqp_wire.specs.Limits.{limit_of}
 use Rattle.amqp_decoder.specs.declared.frame.Place.TheVariants.{InDescribed}
 use Rattle.amqp_decoder.specs.State.{Open, State, stack, left_in, is_sized, limit_around}
 use Rattle.amqp_decoder.proofs.Rows.{outer_frame, bounded_as, stack_top, around_left, same_view}
+use Rattle.amqp_decoder.proofs.Reserve.{spared_outside_described}
 use Rattle.amqp_decoder.proofs.decoder.Decoder.leave_described.Goals as goal
 
 pub invariant_of-self : goal.invariant_of-self
 invariant_of-self g c =
     let described : c.self.inside.top.place ≡ InDescribed = ap (λ (st : State). st.top.place) c.self.view_is ∙ c.requires in
-    let one : c.self.inside.depth ≡ suc (c.self.inside.depth - 1) = omega arith in
-    let outer = outer_frame _ _ _ _ _ _ one c.self.invariant.1 c.self.invariant.4 in
+    let one_ : c.self.inside.depth ≡ suc (c.self.inside.depth - 1) = omega arith in
+    let outer = outer_frame _ _ _ _ _ _ one_ c.self.invariant.1 c.self.invariant.4 in
     rw (c.get.ensures) (
       omega arith,
       outer.0.2,
@@ -19,6 +20,8 @@ invariant_of-self g c =
       inl (omega arith),
       c.self.invariant.6,
       c.self.invariant.7,
+      λ told one sound some. spared_outside_described (limit_of c.self.inside.bytes) c.self.inside.depth (c.self.inside.depth - 1)
+          c.self.inside.frames c.self.inside.top refl one_ (outer.1.0 described) (c.self.invariant.8 told one sound some),
     )
 
 pub returns-clause-left : goal.returns-clause-left

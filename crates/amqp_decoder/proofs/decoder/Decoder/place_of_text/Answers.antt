@@ -6,7 +6,15 @@ use Rattle.amqp_decoder.specs.State.{after_bytes}
 use Rattle.amqp_lookahead.specs.Members.{FrontIs}
 use Rattle.amqp_decoder.proofs.SizedTexts.{kept_more}
 use Rattle.amqp_lookahead.proofs.Fronts.{ascii_both, no_place}
+use Rattle.std.proofs.lemmas.List.{length-take}
+use Rattle.amqp_decoder.proofs.Reserve.{spares_part}
 use Rattle.amqp_decoder.proofs.decoder.Decoder.place_of_text.Goals as goal
+
+pub pull_all-requires : goal.pull_all-requires
+pull_all-requires g c = λ told.
+    spares_part g.R.ByteSource.reserve c.args.len (c.args.len - c.loop-left.left) (length (take c.min-n.result c.loop-left.buffer))
+    c.args.self.now c.loop-left.self (c.loop-left.invariant.moved_ told)
+    (omega (arith, c.min-n.ensures, length-take c.min-n.result c.loop-left.buffer, c.loop-left.invariant.few)) (c.requires told)
 
 pub loop-left-preserved : goal.loop-left-preserved
 loop-left-preserved g c =

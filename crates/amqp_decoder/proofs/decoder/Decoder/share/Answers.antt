@@ -4,6 +4,7 @@ use Rattle.amqp_decoder.specs.declared.frame.Place.TheVariants.{InArray}
 use Rattle.amqp_decoder.specs.State.{State, shared_in, left_in, is_sized, limit_around}
 use Rattle.amqp_decoder.specs.Rooms.{HasFlatItems}
 use Rattle.amqp_decoder.proofs.Rows.{few_shared, shared_among, shared_front, nested_last, put_behind, same_view, bounded_as, length-stack}
+use Rattle.amqp_decoder.proofs.Reserve.{spared_kept}
 use Rattle.amqp_decoder.proofs.decoder.Decoder.share.Goals as goal
 
 pub overflow_add-last : goal.overflow_add-last
@@ -29,6 +30,7 @@ invariant_of-self g c =
       inr (inl refl),
       c.self.invariant.6,
       c.self.invariant.7,
+      λ told one sound some. spared_kept refl (c.self.invariant.8 told one sound some),
     )
 
 pub invariant_of-self-2 : goal.invariant_of-self-2
@@ -55,6 +57,7 @@ invariant_of-self-2 g c =
       ],
       c.self.invariant.6,
       c.self.invariant.7,
+      λ told one sound some. spared_kept refl (c.self.invariant.8 told one sound some),
     )
 
 pub returns-clause-ok : goal.returns-clause-ok
