@@ -7,7 +7,6 @@ use Rattle.std.specs.List.{copy_within}
 use Rattle.std.proofs.Math.Nat.{eq-or-lt_of_le}
 use Rattle.std.proofs.Math.Seq.{take-add, take-append-add, take-length}
 use borrow.Rule.Slice.PartMut.{put_mid, post_of}
-use Rattle.amqp_wire.specs.Sources.{known, IsTold}
 use Rattle.amqp_wire.proofs.Sources.{pulled}
 use Rattle.amqp_lookahead.specs.State.{State, after_look, after_bytes, pending, seen_of}
 

@@ -1,4 +1,4 @@
-use Rattle.std.proofs.Common.{rules, arith, ◌≡◌, ◌-◌, ◌++◌, ◌∙◌, ap, sym, take, Ok}
+use Rattle.std.proofs.Common.{arith, ◌≡◌, ◌-◌, ◌++◌, ◌∙◌, ap, sym, take}
 use Rattle.std.proofs.lemmas.List.{take_at}
 use Rattle.amqp_wire.proofs.Sources.{consumed_known}
 use Rattle.amqp_lookahead.proofs.Looks.{ready_there, ready_bytes, ready_rest, seen_less, moved_is, whole_at_hand}

@@ -1,4 +1,4 @@
-use Rattle.std.proofs.Common.{rules, arith, ◌≡◌, ◌-◌, length}
+use Rattle.std.proofs.Common.{arith, ◌≡◌, ◌-◌, length}
 use Rattle.amqp_wire.proofs.Sources.{consumed_known}
 use Rattle.amqp_lookahead.proofs.Looks.{ready_bytes, ready_rest, seen_less, moved_is, whole_at_hand}
 use Rattle.amqp_lookahead.proofs.input.Input.pull_ready.Goals.{else-is_none-via-then-is_none+else-self, else-is_none-via-else-is_none}
