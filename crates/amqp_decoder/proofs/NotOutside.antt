@@ -212,6 +212,6 @@ fails_by_length takes a b e d deep n nesting s named limited is h f =
     by_deep : d ≡ Limit → deep ≡ Limit
     by_deep l =
         elim (term_error deep (subst IsMisspelling (sym named) (depth_misspelled n)) nesting s d f) [
-          | inl cut ↦ absurd (cc)
+          | inl ended ↦ absurd (cc)
           | inr said ↦ said.1 l
         ]

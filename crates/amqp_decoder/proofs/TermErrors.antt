@@ -155,5 +155,6 @@ module _ (deep : Error) (said : IsMisspelling deep) where
     of_shared code nesting n content e (shared_over c k m b after there some) = (tt, λ l. absurd (cc))
 
   -- bytes that are no term are refused since they end, or as such
-  pub term_error : (nesting : ℕ) (input : List ℕ) (e : Error) → TermFault deep nesting input e → (e ≡ Cut) ⊎ IsMisspelling e
+  pub term_error : (nesting : ℕ) (input : List ℕ) (e : Error) → TermFault deep nesting input e
+      → (e ≡ Cut) ⊎ (IsMisspelling e × (e ≡ Limit → deep ≡ Limit))
   term_error nesting input e h = of_term nesting input e h
