@@ -7,6 +7,7 @@ use Rattle.amqp_decoder.specs.State.{Course, State, Open, top_level}
 use Rattle.amqp_decoder.specs.OtherSource.{elsewhere}
 use Rattle.amqp_codec.specs.Reading.{Reading, Stays, looking, start, greatest, BeginsWith}
 use Rattle.amqp_codec.specs.ReadingLaws.{is_read}
+use Rattle.amqp_batches.specs.StateLaws.{still_among}
 use Rattle.amqp_batches.specs.Unlimited.{without_limits, IsReadWithoutLimits, still_unlimited}
 use Rattle.amqp_batches.specs.Walk.{IsAtTop}
 

@@ -4,7 +4,12 @@ use Rattle.amqp_wire.specs.declared.error.Error.{Error}
 use Rattle.amqp_wire.specs.declared.error.Error.TheVariants.{Limit}
 use Rattle.amqp_decoder.specs.State.{State}
 use Rattle.amqp_decoder.specs.Steps.{IsOutside, RefusesBy, Began, Refused, Tries, Passed}
+use Rattle.amqp_decoder.specs.Misspelled.{IsMisspelling}
 use Rattle.amqp_decoder.proofs.NotOutside.{read_is_outside}
+use Rattle.amqp_model.specs.declared.tables.FieldRule.{FieldRule}
+use Rattle.amqp_codec.specs.FieldReading.{absence}
+use Rattle.amqp_codec.specs.FieldReadingLaws.{absence_not_outside}
+use Rattle.amqp_codec.specs.MisspellingLaws.{absence_spelled}
 use Rattle.amqp_codec.specs.Fields.{Fields, none, field, take_memory, takes_at}
 use Rattle.amqp_codec.specs.FieldsLaws.{either_first, either_second}
 
@@ -83,3 +88,9 @@ refused_by takes a b error e c plain other h r =
         λ l. absurd (other (sym k.0 ∙ l)),
       ),
     )
+
+-- a field was absent
+pub absent_refused : (takes : Bool) (a b : State) (k : FieldRule) (error e : Error) (c : State) → absence k ≡ Some error → Began a b
+    → RefusesBy error b e c → Refused takes a e c
+absent_refused takes a b k error e c is =
+    refused_by takes a b error e c (λ o. absence_not_outside o k is) (λ l. absence_spelled k error is (subst IsMisspelling (sym l) tt))

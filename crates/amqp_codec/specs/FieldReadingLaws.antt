@@ -139,7 +139,7 @@ fault_at_not_outside e out none i st f = f
 fault_at_not_outside e out (field get f fs) zero st x = f.faults.not_outside e out st x
 fault_at_not_outside e out (field get f fs) (suc i) st x = fault_at_not_outside e out fs i st x
 
-absence_not_outside : {e : Error} → IsOutside e → (k : FieldRule) → absence k ≡ Some e → ⊥
+pub absence_not_outside : {e : Error} → IsOutside e → (k : FieldRule) → absence k ≡ Some e → ⊥
 absence_not_outside out Mandatory h = subst IsOutside (sym (ap (λ x. unwrap_or x Missing) h)) out
 absence_not_outside out MandatoryMultiple h = subst IsOutside (sym (ap (λ x. unwrap_or x Missing) h)) out
 absence_not_outside out Optional h = cc

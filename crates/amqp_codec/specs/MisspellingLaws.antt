@@ -27,7 +27,7 @@ empty_spelled : (e : Error) → Some EmptyMultiple ≡ Some e → IsMisspelling 
 empty_spelled EmptyMultiple h i = i
 empty_spelled _ h i = cc
 
-absence_spelled : (k : FieldRule) (e : Error) → absence k ≡ Some e → IsMisspelling e → ⊥
+pub absence_spelled : (k : FieldRule) (e : Error) → absence k ≡ Some e → IsMisspelling e → ⊥
 absence_spelled Mandatory e h i = missing_spelled e h i
 absence_spelled MandatoryMultiple e h i = empty_spelled e h i
 absence_spelled Optional e h i = cc

@@ -3,11 +3,11 @@ use Rattle.std.proofs.lemmas.Result.{err_from_is_err_and}
 use Rattle.amqp_model.specs.Fields.{rules_of}
 use Rattle.amqp_model.specs.declared.tables.FieldRule.TheVariants.{Mandatory}
 use Rattle.amqp_codec.specs.Fields.{slots}
-use Rattle.amqp_codec.specs.FieldReading.{absence}
+use Rattle.amqp_codec.specs.FieldReading.{absence, rule_at}
 use Rattle.amqp_codec.specs.FieldReadingLaws.{not_absent}
 use Rattle.amqp_codec.proofs.FieldSteps.{open_refused, none_so_far, item_refused, left_out_refused, one_more, one_less, end_refused}
 use Rattle.amqp_codec.proofs.FieldSteps.{all_read, so_far_still}
-use Rattle.amqp_codec.proofs.Tries.{taking_none, taking_at, refused_behind}
+use Rattle.amqp_codec.proofs.Tries.{taking_none, taking_at, refused_behind, absent_refused}
 use Rattle.amqp_codec.proofs.fields.read_fields.Goals as goal
 use Rattle.amqp_codec.proofs.fields.read_fields.Goals.{then-index-count+in_ok-read_item, else-index-count+in_default}
 
@@ -40,6 +40,13 @@ returns-in-Some-clause-read g c tells =
     left_out_refused fs _ _ _ _ _ _ _ c.if-index-count.false within
     (ap (λ l. absence (get_or l i Mandatory)) (sym c.field_rules-rule-items.ensures) ∙ sym c.in-Some.ensures) c.refuse.ensures.first
     (c.loop-index.invariant.fields tells)
+
+pub returns-in-Some-clause-tries : goal.returns-in-Some-clause-tries
+returns-in-Some-clause-tries g c =
+    let i = c.loop-index.index in
+    absent_refused _ c.args.decoder.now c.loop-index.decoder (rule_at g.L.FieldList.list.fields i) _ _ _
+    (ap (λ l. absence (get_or l i Mandatory)) (sym c.field_rules-rule-items.ensures) ∙ sym c.in-Some.ensures)
+    c.loop-index.invariant.began c.refuse.ensures.first
 
 pub loop-index-preserved : goal.loop-index-preserved
 loop-index-preserved g c =

@@ -3,11 +3,11 @@ use Rattle.std.proofs.lemmas.Result.{err_from_is_err_and}
 use Rattle.amqp_model.specs.Term.{null}
 use Rattle.amqp_decoder.specs.Primitives.{Means}
 use Rattle.amqp_decoder.proofs.Peeks.{value-peeked}
-use Rattle.amqp_codec.specs.FieldReading.{absence}
+use Rattle.amqp_codec.specs.FieldReading.{absence, rule_at}
 use Rattle.amqp_codec.specs.FieldReadingLaws.{not_absent}
 use Rattle.amqp_codec.proofs.Options.{null_refused}
 use Rattle.amqp_codec.proofs.FieldSteps.{item_unbegun, filled_step, null_unfit, null_read}
-use Rattle.amqp_codec.proofs.Tries.{taking_none, refused_more}
+use Rattle.amqp_codec.proofs.Tries.{taking_none, refused_more, began_then, absent_refused}
 use Rattle.amqp_codec.proofs.fields.read_item.Goals as goal
 
 pub returns-in_err-peek_code-clause-read : goal.returns-in_err-peek_code-clause-read
@@ -43,3 +43,9 @@ pub returns-in_err-peek_code-clause-tries : goal.returns-in_err-peek_code-clause
 returns-in_err-peek_code-clause-tries g c =
     let p = err_from_is_err_and c.from_residual.result c.from_residual.ensures.1 in
     rw (p.1, p.2) (refused_more false _ c.args.decoder.now _ _ (taking_none _) c.in_err-peek_code.ensures.tries)
+
+pub returns-in-Some-clause-tries : goal.returns-in-Some-clause-tries
+returns-in-Some-clause-tries g c =
+    absent_refused _ c.args.decoder.now _ (rule_at g.L.FieldList.list.fields c.args.index) _ _ _
+    (ap absence (sym c.requires.its_rule) ∙ sym c.in-Some.ensures)
+    (began_then c.args.decoder.now _ _ c.in_ok-peek_code.ensures.tries c.in_ok-read_null.ensures.tries) c.refuse.ensures.first
