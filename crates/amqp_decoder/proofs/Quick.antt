@@ -1,9 +1,9 @@
 -- A value that is read the quick way is one that is read by its parts.
-use Rattle.std.proofs.Common.{◌≡◌, ◌<◌, ◌≤◌, ℕ, ◌-◌, ◌+◌, Option, Some, None, List, [], ◌∷◌, ◌++◌, length, drop, get_or, min, refl, sym, ap, ◌∙◌, subst, arith, suc}
+use Rattle.std.proofs.Common.{◌≡◌, ◌<◌, ℕ, ◌-◌, ◌+◌, Option, Some, List, [], ◌∷◌, ◌++◌, length, drop, get_or, min, refl, sym, ap, ◌∙◌, subst, arith, suc}
 use Rattle.std.proofs.Common.{drop-drop}
 use Rattle.std.proofs.lemmas.List.{length-drop, take_all}
 use Rattle.amqp_lookahead.proofs.SectionsAhead.{bytes_at, bytes_are}
-use Rattle.amqp_decoder.specs.State.{State, Has, lower, counted, after_data, after_bytes, after_look}
+use Rattle.amqp_decoder.specs.State.{State, Has, lower, counted, after_data, after_look}
 use Rattle.amqp_decoder.specs.Steps.{Takes}
 use Rattle.amqp_decoder.specs.Reading.{ReadsCode, PeeksCode}
 use Rattle.amqp_decoder.specs.Primitives.{ReadsFixed}

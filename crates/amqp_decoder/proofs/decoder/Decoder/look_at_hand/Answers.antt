@@ -1,4 +1,4 @@
-use Rattle.std.proofs.Common.{◌≡◌, [], false, sym, ◌∙◌, subst}
+use Rattle.std.proofs.Common.{◌≡◌, false, sym, ◌∙◌, subst}
 use Rattle.amqp_decoder.specs.Reserve.{Shows}
 use Rattle.amqp_decoder.proofs.Reserve.{spared_next}
 use Rattle.amqp_decoder.proofs.decoder.Decoder.look_at_hand.Goals as goal

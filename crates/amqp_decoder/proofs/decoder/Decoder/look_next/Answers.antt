@@ -1,4 +1,4 @@
-use Rattle.std.proofs.Common.{◌≡◌, [], false, sym, ◌∙◌, subst}
+use Rattle.std.proofs.Common.{◌≡◌, false, sym, ◌∙◌, subst}
 use Rattle.amqp_decoder.specs.Reserve.{Shows}
 use Rattle.amqp_decoder.proofs.Reserve.{spared_looked}
 use Rattle.amqp_decoder.proofs.decoder.Decoder.look_next.Goals as goal

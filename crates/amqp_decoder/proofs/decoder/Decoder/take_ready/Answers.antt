@@ -1,4 +1,4 @@
-use Rattle.std.proofs.Common.{rules, arith, ◌≡◌, ◌≤◌, ◌-◌, ℕ, Some, None, false, true, length, sym, ap, ◌∙◌, subst}
+use Rattle.std.proofs.Common.{rules, arith, ◌≡◌, ◌≤◌, ◌-◌, Some, None, false, length, sym, ◌∙◌, subst}
 use Rattle.amqp_wire.specs.Limits.{unlimited, limit_of}
 use Rattle.amqp_decoder.specs.State.{State, Has, left_in}
 use Rattle.amqp_decoder.proofs.Limits.{few_bytes, limit_lowered}
