@@ -5,7 +5,7 @@ use fe2o3_amqp_types::messaging::{Batch, Data, Message, Received};
 use fe2o3_amqp_types::performatives::{Attach, Disposition, Open};
 use std::alloc::Global;
 
-/// Cuts off the ends of all inputs, and answers whether all fronts come to what they must.
+/// Cuts off the ends of all inputs, and returns whether all fronts come to what they must.
 pub(crate) fn check_all(rt: &HostRuntime) -> Result<bool, anyhow::Error> {
     let mut well = check_term::<Received>(rt, "received", RECEIVED)?;
     well &= check_term::<Disposition>(rt, "disposition", DISPOSITION)?;

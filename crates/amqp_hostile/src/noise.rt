@@ -1,52 +1,68 @@
 //! Inputs with one byte changed: whatever is read of one is read again of its canonical text, which is written again unchanged.
 use crate::inputs::{BATCH, HEADER, NO_BODY, RECEIVED, SEVEN_HEADERS, SIX_HEADERS};
-use fe2o3_amqp_types::codec::{Canonical, Error, from_slice_counted, to_vec};
+use fe2o3_amqp_types::codec::{Canonical, Deserialize, Error, from_slice_counted, to_vec};
 use fe2o3_amqp_types::messaging::{AmqpValue, Batch, Body, Data, Header, Message, Received};
 use fe2o3_amqp_types::primitives::Value;
 use std::alloc::Global;
 
-/// What can be read and written again.
-trait Stable: Canonical + PartialEq + Drop + Sized {
-    /// The value that its text is read as.
-    fn as_read_again(self) -> Self;
+/// A message whose body may be absent.
+type Absent = Message<Option<String>>;
+
+/// What an input is read as.
+trait Checked: Deserialize + Drop + Sized {
+    /// Whether the value is written, and read again, as it must be. It is so of a type that is only read.
+    fn is_stable(self, alloc: Global) -> Result<bool, Error>;
 }
 
-impl Stable for Received {
-    fn as_read_again(self) -> Received {
-        self
+impl Checked for Received {
+    fn is_stable(self, alloc: Global) -> Result<bool, Error> {
+        is_rewritten(&self, alloc)
     }
 }
 
-impl Stable for Header {
-    fn as_read_again(self) -> Header {
-        self
+impl Checked for Header {
+    fn is_stable(self, alloc: Global) -> Result<bool, Error> {
+        is_rewritten(&self, alloc)
     }
 }
 
-impl Stable for Message<AmqpValue<Value>> {
-    fn as_read_again(self) -> Message<AmqpValue<Value>> {
-        self
+impl Checked for Message<AmqpValue<Value>> {
+    fn is_stable(self, alloc: Global) -> Result<bool, Error> {
+        is_rewritten(&self, alloc)
     }
 }
 
-impl Stable for Message<Batch<Data>> {
-    fn as_read_again(self) -> Message<Batch<Data>> {
-        self
+impl Checked for Message<Batch<Data>> {
+    fn is_stable(self, alloc: Global) -> Result<bool, Error> {
+        is_rewritten(&self, alloc)
     }
 }
 
 /// A body that isn't there is written as a null, and read again as that.
-impl Stable for Message<Body<Value>> {
-    fn as_read_again(self) -> Message<Body<Value>> {
-        let mut message = self;
-        if message.body == Body::Empty {
-            message.body = Body::Value(AmqpValue(Value::Null));
+impl Checked for Message<Body<Value>> {
+    fn is_stable(self, alloc: Global) -> Result<bool, Error> {
+        let text = to_vec(&self, alloc)?;
+        let mut wanted = self;
+        if wanted.body == Body::Empty {
+            wanted.body = Body::Value(AmqpValue(Value::Null));
         }
-        message
+        is_text_of(text.as_slice(), &wanted, alloc)
     }
 }
 
-/// Changes each byte of all inputs, and answers whether none misbehaves.
+impl Checked for Message<Value> {
+    fn is_stable(self, _alloc: Global) -> Result<bool, Error> {
+        Ok(true)
+    }
+}
+
+impl Checked for Absent {
+    fn is_stable(self, _alloc: Global) -> Result<bool, Error> {
+        Ok(true)
+    }
+}
+
+/// Changes each byte of all inputs, and returns whether none misbehaves.
 pub(crate) fn check_all(rt: &HostRuntime) -> Result<bool, anyhow::Error> {
     let mut well = check_row::<Received>(rt, "received", RECEIVED)?;
     well &= check_row::<Header>(rt, "header", HEADER)?;
@@ -55,11 +71,25 @@ pub(crate) fn check_all(rt: &HostRuntime) -> Result<bool, anyhow::Error> {
     well &= check_row::<Message<Batch<Data>>>(rt, "message of three data", BATCH)?;
     well &= check_row::<Message<Body<Value>>>(rt, "message of seven headers", SEVEN_HEADERS)?;
     well &= check_row::<Message<Body<Value>>>(rt, "message of six headers", SIX_HEADERS)?;
+    well &= check_read_only(rt)?;
+    Ok(well)
+}
+
+// Whether none misbehaves that is read as a type that can't be written.
+fn check_read_only(rt: &HostRuntime) -> Result<bool, anyhow::Error> {
+    let mut well = check_row::<Message<Value>>(rt, "message of any value", NO_BODY)?;
+    well &= check_row::<Absent>(rt, "message of a string that may be absent", NO_BODY)?;
+    well &= check_row::<Absent>(rt, "the same of seven headers", SEVEN_HEADERS)?;
+    well &= check_row::<Absent>(rt, "the same of six headers", SIX_HEADERS)?;
     Ok(well)
 }
 
 // Whether no change of one byte misbehaves. One that does is printed, and then how many there are.
-fn check_row<T: Stable>(rt: &HostRuntime, name: &str, digits: &str) -> Result<bool, anyhow::Error> {
+fn check_row<T: Checked>(
+    rt: &HostRuntime,
+    name: &str,
+    digits: &str,
+) -> Result<bool, anyhow::Error> {
     let row = hex::decode(rt.alloc(), digits)?;
     let mut ill = 0u32;
     for place in 0..row.len() {
@@ -79,20 +109,28 @@ fn check_row<T: Stable>(rt: &HostRuntime, name: &str, digits: &str) -> Result<bo
     Ok(ill == 0)
 }
 
-// Whether the input is refused, though not for want of memory or a failing reader; or read, and then written and read again as it must.
-fn behaves<T: Stable>(input: &[u8], alloc: Global) -> bool {
+// Whether the input is refused, though not because memory ran out or a reader failed; or read, and then written and read again as it must.
+fn behaves<T: Checked>(input: &[u8], alloc: Global) -> bool {
     let read: Result<(T, usize), Error> = from_slice_counted(input, alloc);
     match read {
-        Ok((value, len)) => len <= input.len() && is_stable(value, alloc) == Ok(true),
+        Ok((value, len)) => len <= input.len() && value.is_stable(alloc) == Ok(true),
         Err(Error::Memory | Error::Read(_)) => false,
         Err(_) => true,
     }
 }
 
 // Whether the value's text is read to its end, as the value, and written again unchanged.
-fn is_stable<T: Stable>(value: T, alloc: Global) -> Result<bool, Error> {
-    let text = to_vec(&value, alloc)?;
-    let (again, len): (T, usize) = from_slice_counted(text.as_slice(), alloc)?;
+fn is_rewritten<T: Canonical + PartialEq + Drop>(value: &T, alloc: Global) -> Result<bool, Error> {
+    is_text_of(to_vec(value, alloc)?.as_slice(), value, alloc)
+}
+
+// Whether the text is read to its end, as the value, and written again unchanged.
+fn is_text_of<T: Canonical + PartialEq + Drop>(
+    text: &[u8],
+    value: &T,
+    alloc: Global,
+) -> Result<bool, Error> {
+    let (again, len): (T, usize) = from_slice_counted(text, alloc)?;
     let text_again = to_vec(&again, alloc)?;
-    Ok(len == text.len() && text_again == text && again == value.as_read_again())
+    Ok(len == text.len() && text_again.as_slice() == text && again == *value)
 }

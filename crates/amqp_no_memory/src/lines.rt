@@ -1,7 +1,6 @@
 //! Lines that are answered (`amqp_lines::run`).
-use crate::print_outcome;
-use crate::rows::Outcome;
 use amqp_lines::run;
+use amqp_no_memory_calls::{Outcome, print_outcome};
 use fe2o3_amqp_types::codec::Error;
 use std::alloc::Global;
 use std::str;
@@ -43,7 +42,7 @@ enum Answered {
     Otherwise,
 }
 
-/// Answers the lines, and answers whether they were answered as they must be.
+/// Answers the lines, and returns whether they were answered as they must be.
 pub(crate) fn check_all(rt: &HostRuntime) -> Result<bool, anyhow::Error> {
     let alloc = rt.alloc();
     let (call, outcome) = match answer_lines(alloc) {

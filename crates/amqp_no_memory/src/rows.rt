@@ -2,7 +2,7 @@
 use crate::inputs::{
     ACCEPTED_STATES, ATTACH, ATTACH_TEXT, BATCH, MESSAGE, MESSAGE_TEXT, UINTS, UINTS_TEXT,
 };
-use crate::print_outcome;
+use amqp_no_memory_calls::{Outcome, check, print_outcome};
 use fe2o3_amqp_types::codec::{
     Canonical, Deserialize, Error, Serialize, append_to_vec, canonical_text, encoded_len,
     from_slice, to_vec,
@@ -11,28 +11,6 @@ use fe2o3_amqp_types::messaging::{Accepted, Batch, Data, Message};
 use fe2o3_amqp_types::performatives::Attach;
 use fe2o3_amqp_types::primitives::{Array, Uint};
 use std::alloc::Global;
-
-/// How a call went.
-#[derive(Clone, Copy, PartialEq, Eq)]
-pub(crate) enum Outcome {
-    /// It answered as it must.
-    Answered,
-    /// A growth was refused in it, and made again it answered as it must.
-    OutOfMemory,
-    /// It answered otherwise.
-    Otherwise,
-}
-
-impl Outcome {
-    /// The words for it.
-    pub(crate) fn words(self) -> &'static str {
-        match self {
-            Outcome::Answered => "answered",
-            Outcome::OutOfMemory => "out of memory",
-            Outcome::Otherwise => "answered otherwise",
-        }
-    }
-}
 
 /// A call that is made of a value.
 #[derive(Clone, Copy)]
@@ -55,7 +33,7 @@ const CALLS: &[(Call, &str)] = &[
 /// What stands in a buffer before a text is appended.
 const OTHERS: [u8; 2] = [0xaa, 0xbb];
 
-/// Reads, measures and writes all values, and answers whether every call went as it must.
+/// Reads, measures and writes all values, and returns whether every call went as it must.
 pub(crate) fn check_all(rt: &HostRuntime) -> Result<bool, anyhow::Error> {
     let mut well = check_row::<Attach>(rt, "attach", ATTACH, ATTACH_TEXT)?;
     well &= check_row::<Message<Batch<Data>>>(rt, "message of three data", BATCH, BATCH)?;
@@ -80,13 +58,14 @@ fn check_row<T: Canonical>(
     let (value, outcome) = value_read::<T>(input, rt.alloc())?;
     let mut well = print_outcome(rt, name, "from_slice", outcome)?;
     for (call, called) in CALLS {
-        let outcome = outcome_of(*call, &value, input, text, rt.alloc());
-        well &= print_outcome(rt, name, *called, outcome)?;
+        well &= check(rt, name, *called, |alloc| {
+            is_answered(*call, &value, input, text, alloc)
+        })?;
     }
     Ok(well)
 }
 
-// The value that the input begins with, read again where a growth was refused.
+// The value that the input begins with, read again if a growth was refused.
 fn value_read<T: Deserialize>(input: &[u8], alloc: Global) -> Result<(T, Outcome), Error> {
     match from_slice::<T>(input, alloc) {
         Err(Error::Memory) => Ok((from_slice::<T>(input, alloc)?, Outcome::OutOfMemory)),
@@ -94,24 +73,7 @@ fn value_read<T: Deserialize>(input: &[u8], alloc: Global) -> Result<(T, Outcome
     }
 }
 
-// How the call goes, made again where a growth was refused.
-fn outcome_of<T: Canonical>(
-    call: Call,
-    value: &T,
-    input: &[u8],
-    text: &[u8],
-    alloc: Global,
-) -> Outcome {
-    match is_answered(call, value, input, text, alloc) {
-        Ok(true) => Outcome::Answered,
-        Err(Error::Memory) if is_answered(call, value, input, text, alloc) == Ok(true) => {
-            Outcome::OutOfMemory
-        }
-        _ => Outcome::Otherwise,
-    }
-}
-
-// Whether the call is answered by the text or its length. A refusal that changes a buffer is no right answer.
+// Whether the call returns the text or its length. A refusal that changes a buffer is no right answer.
 fn is_answered<T: Canonical>(
     call: Call,
     value: &T,
@@ -131,7 +93,7 @@ fn is_answered<T: Canonical>(
     }
 }
 
-// Whether the text is appended to the buffer. Where it is refused, the buffer is as it was.
+// Whether the text is appended to the buffer. If it is refused, the buffer is as it was.
 fn is_appended<T: Serialize>(
     value: &T,
     buffer: Vec<u8>,

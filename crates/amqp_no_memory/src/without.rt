@@ -1,7 +1,6 @@
 //! Types that are read without memory, and how long terms are. No growth is asked for here, so none can be refused.
 use crate::inputs::{ACCEPTED_STATES, ATTACH, UINTS};
-use crate::print_outcome;
-use crate::rows::Outcome;
+use amqp_no_memory_calls::{Outcome, print_outcome};
 use fe2o3_amqp_types::codec::{Deserialize, from_slice, from_slice_counted, term_len};
 use fe2o3_amqp_types::definitions::{ReceiverSettleMode, Role, SenderSettleMode};
 use fe2o3_amqp_types::messaging::{
@@ -11,7 +10,7 @@ use fe2o3_amqp_types::messaging::{
 use fe2o3_amqp_types::primitives::{Byte, Int, Long, Short, Ubyte, Uint, Ulong, Ushort};
 use std::alloc::Global;
 
-/// Reads values of all these types, and answers whether every call went as it must.
+/// Reads values of all these types, and returns whether every call went as it must.
 pub(crate) fn check_all(rt: &HostRuntime) -> Result<bool, anyhow::Error> {
     let alloc = rt.alloc();
     let mut well = print_read(rt, "whole numbers", are_numbers_read(alloc))?;

@@ -1,0 +1,22 @@
+//! The program `amqp-no-memory-composites`: it makes each call that takes memory over composites, while one growth is refused
+//! (`amqp_no_memory_calls`).
+#![tactic(auto)]
+
+mod builders;
+mod copies;
+mod errors;
+mod lifetimes;
+mod modes;
+
+use amqp_no_memory_calls::{ask_for_growths, status};
+use std::process::ExitCode;
+
+fn main(rt: HostRuntime) -> Result<ExitCode, anyhow::Error> {
+    ask_for_growths(&rt)?;
+    let mut well = errors::check_all(&rt)?;
+    well &= lifetimes::check_all(&rt)?;
+    well &= modes::check_all(&rt)?;
+    well &= builders::check_all(&rt)?;
+    well &= copies::check_all(&rt)?;
+    Ok(status(well))
+}

@@ -1,0 +1,20 @@
+//! The program `amqp-no-memory-values`: it makes each call that takes memory over values that aren't composites, while one growth is
+//! refused (`amqp_no_memory_calls`).
+#![tactic(auto)]
+
+mod copies;
+mod growing;
+mod made;
+mod readers;
+
+use amqp_no_memory_calls::{ask_for_growths, status};
+use std::process::ExitCode;
+
+fn main(rt: HostRuntime) -> Result<ExitCode, anyhow::Error> {
+    ask_for_growths(&rt)?;
+    let mut well = readers::check_all(&rt)?;
+    well &= growing::check_all(&rt)?;
+    well &= made::check_all(&rt)?;
+    well &= copies::check_all(&rt)?;
+    Ok(status(well))
+}
