@@ -3,3 +3,4 @@ mod Announced
 mod Shared
 mod DataKinds
 mod Told
+mod Walking

@@ -6,3 +6,4 @@ pub mod Terms
 pub mod Items
 pub mod Nodes
 pub mod Rewriting
+pub mod Walks
