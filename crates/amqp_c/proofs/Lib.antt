@@ -1,1 +1,6 @@
 mod Requests
+mod Announced
+mod Shared
+mod DataKinds
+mod Told
+mod Walking

@@ -5,6 +5,7 @@
 
 mod errors;
 mod exports;
+mod laws;
 mod limits;
 mod nodes;
 mod outcome;
@@ -17,6 +18,7 @@ pub use exports::{
     amqp_c_canonical, amqp_c_error_name, amqp_c_greatest, amqp_c_next, amqp_c_read,
     amqp_c_term_len, amqp_c_type,
 };
+pub use laws::walks;
 pub use limits::GivenLimits;
 pub use nodes::Node;
 pub use outcome::Outcome;

@@ -1,7 +1,16 @@
 //! One node of a term: a value in it, for walking the term without a tree (Part 1, section 1.2).
-ghost use Rattle.std.specs.Prelude.{◌≡◌, ◌≤◌, ◌+◌, length, drop, IfOk, IfErr};
+ghost use Rattle.std.specs.Prelude.{◌≡◌, ◌≤◌, ◌<◌, ◌+◌, ◌^◌, ◌⊎◌, ℕ, List, [], ◌++◌, length, drop, MatchOption, IfOk, IfErr};
 ghost use Rattle.amqp_model.specs.Constructors.{format};
-ghost use Rattle.amqp_c.specs.Nodes.{head_of, Announces, IsTermPart, IsItemPart, IsPart, IsNoPart, reach_of, inner_depth, IsNode, IsNoNode};
+ghost use Rattle.amqp_model.specs.Spelling.{IsKnown, Constructor, data_of};
+ghost use Rattle.amqp_model.specs.Term.{Term, Descriptor};
+ghost use Rattle.amqp_lengths.specs.Announced.{IsAnnounced, Wants};
+ghost use Rattle.amqp_lengths.specs.Fronts.{IsFront};
+ghost use Rattle.amqp_lengths.specs.Pieces.{IsNumber, fixed_width};
+ghost use Rattle.amqp_kinds.specs.declared.kind.Kind.TheVariants.{Array};
+ghost use Rattle.amqp_kinds.specs.Kinds.{kind_at};
+ghost use Rattle.amqp_c.specs.Items.{size_of, behind_size, RefusesItem};
+ghost use Rattle.amqp_c.specs.Nodes.{kind_number, head_of, Announces, IsDataNode, BeginsWithTerm, BeginsWithItem, IsPart, IsNoPart};
+ghost use Rattle.amqp_c.specs.Nodes.{reach_of, inner_depth, IsNode, IsNoNode};
 ghost use Rattle.amqp_c.specs.Terms.{RefusesTerm};
 
 use amqp_kinds::{Kind, kind_of};
@@ -30,15 +39,19 @@ pub struct Node {
     pub next: usize,
 }
 
-// A node, by places that are counted from where it begins.
-#[derive(Clone, Copy)]
-struct Part {
-    code: u8,
-    item_code: u8,
-    count: usize,
-    start: usize,
-    len: usize,
-    first: usize,
+// How many bytes the size has that the data of a code begins with.
+fn size_width(code: u8) -> usize
+    ensures size { result ≡ size_of (format code) }
+    ensures some { IsKnown (format code) → 0xa0 ≤ code → 1 ≤ result }
+    ensures most { result ≤ 4 }
+{
+    match code {
+        format_code::BINARY_8 | format_code::STRING_8 | format_code::SYMBOL_8 => 1,
+        format_code::LIST_8 | format_code::MAP_8 | format_code::ARRAY_8 => 1,
+        format_code::BINARY_32 | format_code::STRING_32 | format_code::SYMBOL_32 => 4,
+        format_code::LIST_32 | format_code::MAP_32 | format_code::ARRAY_32 => 4,
+        _ => 0,
+    }
 }
 
 // How many bytes stand before what the data of a code holds.
@@ -46,24 +59,9 @@ fn head_len(code: u8) -> usize
     ensures head { result ≡ head_of (format code) }
     ensures most { result ≤ 8 }
 {
-    match code {
-        format_code::BINARY_8 | format_code::STRING_8 | format_code::SYMBOL_8 => 1,
-        format_code::BINARY_32 | format_code::STRING_32 | format_code::SYMBOL_32 => 4,
-        format_code::LIST_8 | format_code::MAP_8 | format_code::ARRAY_8 => 2,
-        format_code::LIST_32 | format_code::MAP_32 | format_code::ARRAY_32 => 8,
-        _ => 0,
-    }
-}
-
-// The width of a value whose code is of a fixed one: the high half of the code says it.
-fn fixed_width(code: u8) -> usize {
-    match code / 16 {
-        0x4 => 0,
-        0x5 => 1,
-        0x6 => 2,
-        0x7 => 4,
-        0x8 => 8,
-        _ => 16,
+    match kind_of(code) {
+        Kind::List | Kind::Map | Kind::Array => 2 * size_width(code),
+        _ => size_width(code),
     }
 }
 
@@ -83,10 +81,80 @@ fn count_in(code: u8, bytes: &[u8]) -> usize
     }
 }
 
+// The width of a value whose code is of a fixed one: the high half of the code says it.
+fn fixed_width(code: u8) -> usize
+    ensures { result ≡ fixed_width code }
+{
+    match code / 16 {
+        0x4 => 0,
+        0x5 => 1,
+        0x6 => 2,
+        0x7 => 4,
+        0x8 => 8,
+        _ => 16,
+    }
+}
+
+// How many bytes belong behind the size of a code's data: as many as it says, and the count of a list of the size 0.
+fn behind_size(code: u8, size: usize) -> usize
+    ensures { result ≡ behind_size (format code) size }
+{
+    match code {
+        _ if size > 0 => size,
+        format_code::LIST_8 | format_code::LIST_32 => size_width(code),
+        _ => 0,
+    }
+}
+
+// The number of so many bytes that these begin with.
+fn number(width: usize, bytes: &[u8]) -> Option<usize>
+    requires { (width ≡ 1) ⊎ (width ≡ 4) }
+    ensures { MatchOption result (length bytes.now < width) (λ n. IsFront (IsNumber width n) bytes.now width) }
+{
+    match (width, bytes) {
+        (1, [size, ..]) => Some(usize::from(*size)),
+        (4, [a, b, c, d, ..]) => Some(u32::from_be_bytes([*a, *b, *c, *d]) as usize),
+        _ => None,
+    }
+}
+
+// How many bytes the data of a known code announces at the front of these.
+fn announced_len(code: u8, bytes: &[u8]) -> Option<usize>
+    requires { IsKnown (format code) }
+    ensures { MatchOption result (Wants (format code) bytes.now) (λ n. (n ≤ length bytes.now → IsFront (IsAnnounced (format code)) bytes.now n)
+        × (length bytes.now < n → Wants (format code) bytes.now)) }
+{
+    if code < format_code::BINARY_8 {
+        return Some(fixed_width(code));
+    }
+    let width = size_width(code);
+    let size = number(width, bytes)?;
+    Some(width + behind_size(code, size))
+}
+
+// How many bytes the data of an item has that these begin with, by the code of the items.
+fn item_len(code: u8, bytes: &[u8]) -> Result<usize, Error>
+    ensures found { IfOk result (λ n. IsFront (IsAnnounced (format code)) bytes.now n) }
+    ensures refused { IfErr result (λ e. RefusesItem code bytes.now e) }
+{
+    if code == format_code::DESCRIBED {
+        return Err(format_code::refusal(code));
+    }
+    if let Some(error) = format_code::unknown(code) {
+        return Err(error);
+    }
+    match announced_len(code, bytes) {
+        Some(len) if len <= bytes.len() => Ok(len),
+        _ => Err(Error::Cut),
+    }
+}
+
 // The code of an array's items, and how many bytes their constructor has: descriptors, each behind a 0, and then the code. Bytes that end
 // before there is a code have the code 0.
 fn shared_code(bytes: &[u8]) -> (u8, usize)
-    ensures { result.1 ≤ length bytes.now }
+    ensures within { result.1 ≤ length bytes.now }
+    ensures found { (ds : List Descriptor) (c : ℕ) (own behind : List ℕ) → bytes.now ≡ own ++ behind → Constructor ds c own
+        → (result.0 ≡ c) × (result.1 ≡ length own) }
 {
     let mut len = 0;
     while let Some((code, rest)) = bytes[len..].split_first() {
@@ -101,119 +169,114 @@ fn shared_code(bytes: &[u8]) -> (u8, usize)
     (format_code::DESCRIBED, len)
 }
 
-// How many bytes the data of a code has at the front of these: the items of an array have no constructor of their own.
-fn item_len(code: u8, bytes: &[u8]) -> Result<usize, Error>
-    ensures { IfOk result (λ n. n ≤ length bytes.now) }
+// Of data of a code that announces so many items, the code of an array's items, 0 of other data, and the place of the first item: the end if
+// there is none.
+fn first_item(code: u8, count: usize, bytes: &[u8]) -> (u8, usize)
+    ensures within { result.1 ≤ length bytes.now }
+    ensures none { count ≡ 0 → (result.0 ≡ 0) × (result.1 ≡ length bytes.now) }
+    ensures array { 0 < count → kind_at code ≡ Array → (ds : List Descriptor) (c : ℕ) (own behind : List ℕ)
+        → drop (head_of (format code)) bytes.now ≡ own ++ behind → Constructor ds c own
+        → (result.0 ≡ c) × (result.1 ≡ head_of (format code) + length own) }
+    ensures other { 0 < count → (kind_at code ≡ Array → ⊥) → head_of (format code) ≤ length bytes.now
+        → (result.0 ≡ 0) × (result.1 ≡ head_of (format code)) }
 {
-    if code == format_code::DESCRIBED || format_code::unknown(code).is_some() {
-        return Err(format_code::refusal(code));
+    if count == 0 {
+        return (format_code::DESCRIBED, bytes.len());
     }
-    let len = match (head_len(code), bytes) {
-        (0, _) => fixed_width(code),
-        (2, [0, ..]) if code == format_code::LIST_8 => 2,
-        (8, [0, 0, 0, 0, ..]) if code == format_code::LIST_32 => 8,
-        (1 | 2, [size, ..]) => 1 + usize::from(*size),
-        (4 | 8, [a, b, c, d, ..]) => 4 + u32::from_be_bytes([*a, *b, *c, *d]) as usize,
-        _ => return Err(Error::Cut),
-    };
-    if len > bytes.len() {
-        return Err(Error::Cut);
-    }
-    Ok(len)
-}
-
-// What stands behind the first byte.
-fn behind_first(bytes: &[u8]) -> &[u8]
-    ensures { result.now ≡ drop 1 bytes.now }
-{
-    match bytes.split_first() {
-        Some((_, behind)) => behind,
-        None => bytes,
-    }
-}
-
-impl Part {
-    // A node of this code and data, which stands behind so many bytes, and of this length.
-    fn of_data(code: u8, bytes: &[u8], before: usize, len: usize) -> Part
-        requires { before ≤ 1 }
-        ensures code { result.code ≡ code }
-        ensures start { result.start ≡ before + head_of (format code) }
-        ensures count { Announces (format code) bytes.now result.count }
-        ensures len { result.len ≡ len }
-        ensures first { result.first ≤ len }
-        ensures near { result.start ≤ 9 }
-    {
-        let head = head_len(code);
-        let start = before + head;
-        let count = count_in(code, bytes);
-        let (item_code, first) = match (kind_of(code), bytes.get(head..)) {
-            (_, _) if count == 0 => (format_code::DESCRIBED, len),
-            (Kind::Array, Some(content)) => {
-                let (item_code, own) = shared_code(content);
-                (item_code, start + own)
-            }
-            (_, _) => (format_code::DESCRIBED, start),
-        };
-        Part {
-            code,
-            item_code,
-            count,
-            start,
-            len,
-            first: first.min(len),
+    let head = head_len(code).min(bytes.len());
+    match kind_of(code) {
+        Kind::Array => {
+            let (item_code, own) = shared_code(&bytes[head..]);
+            (item_code, head + own)
         }
-    }
-
-    // The node of the term that the bytes begin with.
-    fn of_term(bytes: &[u8]) -> Result<Part, Error>
-        ensures term { IfOk result (λ part. IsTermPart bytes.now part.code part.start part.count part.len) }
-        ensures first { IfOk result (λ part. part.first ≤ part.len) }
-        ensures near { IfOk result (λ part. part.start ≤ 9) }
-        ensures refused { IfErr result (λ e. RefusesTerm bytes.now e) }
-    {
-        let len = term_len(bytes)?;
-        match bytes.first() {
-            Some(code) if *code != format_code::DESCRIBED => {
-                Ok(Part::of_data(*code, behind_first(&bytes[..len]), 1, len))
-            }
-            _ => Ok(Part {
-                code: format_code::DESCRIBED,
-                item_code: format_code::DESCRIBED,
-                count: 2,
-                start: 1,
-                len,
-                first: len.min(1),
-            }),
-        }
-    }
-
-    // The node of the data of this code that the bytes begin with.
-    fn of_item(code: u8, bytes: &[u8]) -> Result<Part, Error>
-        ensures item { IfOk result (λ part. IsItemPart bytes.now code part.code part.start part.count part.len) }
-        ensures first { IfOk result (λ part. part.first ≤ part.len) }
-        ensures near { IfOk result (λ part. part.start ≤ 9) }
-    {
-        let len = item_len(code, bytes)?;
-        Ok(Part::of_data(code, &bytes[..len], 0, len))
-    }
-
-    // The node that the bytes begin with, in the node around it.
-    fn of_node(bytes: &[u8], around: &Node) -> Result<Part, Error>
-        ensures part { IfOk result (λ part. IsPart around.now bytes.now part.code part.start part.count part.len) }
-        ensures within { IfOk result (λ part. part.len ≤ length bytes.now) }
-        ensures first { IfOk result (λ part. part.first ≤ part.len) }
-        ensures near { IfOk result (λ part. part.start ≤ 9) }
-        ensures refused { IfErr result (λ e. IsNoPart around.now bytes.now e) }
-    {
-        if around.kind == Kind::Array as u32 + 1 {
-            Part::of_item(around.item_code, bytes)
-        } else {
-            Part::of_term(bytes)
-        }
+        _ => (format_code::DESCRIBED, head),
     }
 }
 
 impl Node {
+    // The node of data of the code, which begins at the place.
+    fn of_data(code: u8, bytes: &[u8], at: usize, depth: u32) -> Node
+        requires { at + length bytes.now < 2 ^ 63 }
+        ensures code { result.code ≡ code }
+        ensures kind { result.kind ≡ kind_number (kind_at code) }
+        ensures depth { result.depth ≡ depth }
+        ensures starts { result.start ≡ at + head_of (format code) }
+        ensures items { Announces (format code) bytes.now result.count }
+        ensures ends { result.end ≡ at + length bytes.now }
+        ensures next { result.next ≤ result.end }
+        ensures term { (t : Term) → data_of t [] code bytes.now → IsDataNode t code bytes.now at result }
+    {
+        let count = count_in(code, bytes);
+        let (item_code, first) = first_item(code, count, bytes);
+        Node {
+            kind: kind_of(code) as u32 + 1,
+            depth,
+            code,
+            item_code,
+            count,
+            start: at + head_len(code),
+            end: at + bytes.len(),
+            next: at + first,
+        }
+    }
+
+    // The node of the term that the bytes begin with, which begins at the place.
+    fn of_term(bytes: &[u8], at: usize, depth: u32) -> Result<Node, Error>
+        requires { at + length bytes.now < 2 ^ 63 }
+        ensures term { IfOk result (λ node. BeginsWithTerm bytes.now at node) }
+        ensures kind { IfOk result (λ node. node.kind ≡ kind_number (kind_at node.code)) }
+        ensures depth { IfOk result (λ node. node.depth ≡ depth) }
+        ensures next { IfOk result (λ node. node.next ≤ node.end) }
+        ensures refused { IfErr result (λ e. RefusesTerm bytes.now e) }
+    {
+        let len = term_len(bytes)?;
+        match bytes[..len].split_first() {
+            Some((code, data)) if *code != format_code::DESCRIBED => {
+                Ok(Node::of_data(*code, data, at + 1, depth))
+            }
+            _ => Ok(Node {
+                kind: Kind::Described as u32 + 1,
+                depth,
+                code: format_code::DESCRIBED,
+                item_code: format_code::DESCRIBED,
+                count: 2,
+                start: at + 1,
+                end: at + len,
+                next: at + 1,
+            }),
+        }
+    }
+
+    // The node of the item of an array that the bytes begin with, whose data of this code begins at the place.
+    fn of_item(code: u8, bytes: &[u8], at: usize, depth: u32) -> Result<Node, Error>
+        requires { at + length bytes.now < 2 ^ 63 }
+        ensures item { IfOk result (λ node. BeginsWithItem code bytes.now at node) }
+        ensures kind { IfOk result (λ node. node.kind ≡ kind_number (kind_at node.code)) }
+        ensures depth { IfOk result (λ node. node.depth ≡ depth) }
+        ensures next { IfOk result (λ node. node.next ≤ node.end) }
+        ensures refused { IfErr result (λ e. RefusesItem code bytes.now e) }
+    {
+        let len = item_len(code, bytes)?;
+        Ok(Node::of_data(code, &bytes[..len], at, depth))
+    }
+
+    // The node that the bytes begin with, in the node around it.
+    fn of_part(bytes: &[u8], at: usize, around: &Node) -> Result<Node, Error>
+        requires { at + length bytes.now < 2 ^ 63 }
+        ensures part { IfOk result (λ node. IsPart around.now bytes.now at node) }
+        ensures kind { IfOk result (λ node. node.kind ≡ kind_number (kind_at node.code)) }
+        ensures depth { IfOk result (λ node. node.depth ≡ inner_depth around.now) }
+        ensures next { IfOk result (λ node. node.next ≤ node.end) }
+        ensures refused { IfErr result (λ e. IsNoPart around.now bytes.now e) }
+    {
+        let depth = around.inner_depth();
+        if around.kind == Kind::Array as u32 + 1 {
+            Node::of_item(around.item_code, bytes, at, depth)
+        } else {
+            Node::of_term(bytes, at, depth)
+        }
+    }
+
     // Up to where it reaches: all of the input if it is no node.
     fn reach(&self, input: &[u8]) -> usize
         ensures { result ≡ reach_of input.now self.now }
@@ -246,15 +309,5 @@ pub(crate) fn next_node(input: &[u8], at: usize, around: &Node) -> Result<Node, 
     let Some(bytes) = input.get(at..reach) else {
         return Err(Error::Cut);
     };
-    let part = Part::of_node(bytes, around)?;
-    Ok(Node {
-        kind: kind_of(part.code) as u32 + 1,
-        depth: around.inner_depth(),
-        code: part.code,
-        item_code: part.item_code,
-        count: part.count,
-        start: at + part.start,
-        end: at + part.len,
-        next: at + part.first,
-    })
+    Node::of_part(bytes, at, around)
 }

@@ -1,0 +1,26 @@
+//! The laws of walks. The function does nothing; its contract is proved.
+ghost use Rattle.std.specs.Prelude.{◌≡◌, ◌≤◌, ℕ, List, [], ◌∷◌, ◌++◌, length};
+ghost use Rattle.amqp_model.specs.Term.{Term};
+ghost use Rattle.amqp_model.specs.Spelling.{enc};
+ghost use Rattle.amqp_model.specs.Measures.{nest};
+ghost use Rattle.amqp_wire.specs.declared.error.Error.{Error};
+ghost use Rattle.amqp_c.specs.declared.nodes.Node.{Node};
+ghost use Rattle.amqp_c.specs.Nodes.{IsWithin, IsNode, IsNoNode, bytes_at, reach_of};
+ghost use Rattle.amqp_c.specs.Walks.{nothing, parts_of, StandsIn, StandIn, IsNodeOf, Walks, AreOf};
+
+/// A walk of a term meets each value in it once. In a node stand the parts of its term, from its `next` on. Where terms stand in a node, the call at
+/// the first of them isn't refused, it tells its node, and the others stand from the end of that node on, up to the end of the node around.
+pub fn walks()
+    ensures first { (input b after : List ℕ) (at : ℕ) (around node : Node) (t : Term) → bytes_at input at around ≡ b ++ after → StandsIn around t b
+        → IsNode input at around node → IsNodeOf around t b at node
+        → (node.count ≡ length (parts_of t)) × IsWithin input node.next node × StandIn node (parts_of t) (bytes_at input node.next node) }
+    ensures further { (input : List ℕ) (at : ℕ) (around node : Node) (t : Term) (ts : List Term) → StandIn around (t ∷ ts) (bytes_at input at around)
+        → IsNode input at around node
+        → (b : List ℕ) × IsNodeOf around t b at node × IsWithin input node.end around × StandIn around ts (bytes_at input node.end around) }
+    ensures told { (input : List ℕ) (at : ℕ) (around : Node) (t : Term) (ts : List Term) (e : Error) → StandIn around (t ∷ ts) (bytes_at input at around)
+        → IsWithin input at around → IsNoNode input at around e → ⊥ }
+    ensures last { (input : List ℕ) (at : ℕ) (around : Node) → StandIn around [] (bytes_at input at around) → IsWithin input at around
+        → at ≡ reach_of input around }
+    ensures once { (input front after : List ℕ) (t : Term) (told : List Node) → input ≡ front ++ after → enc front t → nest t ≤ 128
+        → Walks input nothing 0 1 told → AreOf (t ∷ []) told }
+{}
