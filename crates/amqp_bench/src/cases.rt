@@ -13,6 +13,7 @@ use amqp_message_headers::Properties;
 use amqp_messages::Message;
 use amqp_performatives::{Flow, Transfer};
 use amqp_sections::Data;
+use amqp_values::Value;
 use amqp_wire::{Error, Symbol};
 use std::alloc::Global;
 use std::time::Instant;
@@ -39,6 +40,7 @@ pub(crate) enum Case {
     UlongArray,
     SymbolMap,
     LargeMap,
+    ValueMap,
     Attach,
     Transfer,
     Flow,
@@ -49,7 +51,7 @@ pub(crate) enum Case {
     MessageOfData,
 }
 
-pub(crate) const CASES: [Case; 20] = [
+pub(crate) const CASES: [Case; 21] = [
     Case::Uints,
     Case::Ulongs,
     Case::Strings,
@@ -62,6 +64,7 @@ pub(crate) const CASES: [Case; 20] = [
     Case::UlongArray,
     Case::SymbolMap,
     Case::LargeMap,
+    Case::ValueMap,
     Case::Attach,
     Case::Transfer,
     Case::Flow,
@@ -115,6 +118,7 @@ impl Case {
             Case::UlongArray => "an Array<u64> of 10,000",
             Case::SymbolMap => "an OrderedMap<Symbol, u32> of 1,000",
             Case::LargeMap => "an OrderedMap<Symbol, u32> of 16,000",
+            Case::ValueMap => "an OrderedMap<Symbol, Value> of 1,000",
             Case::Attach => "an attach of 14 fields",
             Case::Transfer => "a transfer",
             Case::Flow => "a flow of 11 fields",
@@ -141,6 +145,7 @@ impl Case {
             Case::UlongArray => "array",
             Case::SymbolMap => "ordered",
             Case::LargeMap => "large",
+            Case::ValueMap => "values",
             Case::Attach => "attach",
             Case::Transfer => "transfer",
             Case::Flow => "flow",
@@ -163,6 +168,7 @@ impl Case {
             | Case::Symbols
             | Case::KeptSymbols
             | Case::SymbolMap
+            | Case::ValueMap
             | Case::MessageOfProperties => 1000,
             Case::LargeMap => 16_000,
             _ => 1,
@@ -222,6 +228,7 @@ impl Case {
             Case::SymbolMap | Case::LargeMap => {
                 self.best_of::<OrderedMap<Symbol, u32>>(rt, way, rounds)
             }
+            Case::ValueMap => self.best_of::<OrderedMap<Symbol, Value>>(rt, way, rounds),
             Case::Attach => self.best_of::<Attach>(rt, way, rounds),
             Case::Transfer => self.best_of::<Transfer>(rt, way, rounds),
             Case::Flow => self.best_of::<Flow>(rt, way, rounds),
