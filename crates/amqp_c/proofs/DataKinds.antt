@@ -3,7 +3,7 @@ use Rattle.std.proofs.Common.{◌≡◌, ℕ, Bool, true, false, cond, eqb, List
 use Rattle.std.proofs.lemmas.Bool.{eqb-true}
 use Rattle.amqp_model.specs.Term.{Primitive, Container, list, map, array, Term, leaf, container, described, kept, barred, count}
 use Rattle.amqp_model.specs.Constructors.{Format, fixed, variable, compound, unknown, format}
-use Rattle.amqp_model.specs.Spelling.{PrimitiveData, ContainerData, data_of, items_of, elements_of}
+use Rattle.amqp_model.specs.Spelling.{PrimitiveData, ContainerData, IsDataOf, AreItemsOf, AreElementsOf}
 use Rattle.amqp_lookahead.specs.Kinds.{kind_of, kind_under, kind_at as number_at}
 use Rattle.amqp_lookahead.proofs.KindsOfCodes.{kind_data}
 use Rattle.amqp_kinds.specs.declared.kind.Kind.{Kind}
@@ -43,11 +43,11 @@ container_at : (k : Container) (n : ℕ) (C : List ℕ → Type 0) (c : ℕ) (b 
 container_at k n C c b h =
     behind_zero c (container_kind k) (λ e. subst (λ x. ContainerData (format x) k n C b) e h) (container_under (format c) k n C b h)
 
-pub data_kind : (t : Term) (c : ℕ) (b : List ℕ) → data_of t [] c b → kind_at c ≡ term_kind t
+pub data_kind : (t : Term) (c : ℕ) (b : List ℕ) → IsDataOf t [] c b → kind_at c ≡ term_kind t
 data_kind (leaf p) c b h = leaf_kind p c b h
-data_kind (container list ts) c b h = container_at list (count ts) (items_of ts) c b h
-data_kind (container map ts) c b h = container_at map (count ts) (items_of ts) c b h.1
-data_kind (container array ts) c b h = container_at array (count ts) (elements_of ts) c b h
+data_kind (container list ts) c b h = container_at list (count ts) (AreItemsOf ts) c b h
+data_kind (container map ts) c b h = container_at map (count ts) (AreItemsOf ts) c b h.1
+data_kind (container array ts) c b h = container_at array (count ts) (AreElementsOf ts) c b h
 data_kind (described d t) c b h = absurd h
 data_kind (kept x) c b h = absurd h
 data_kind (barred r) c b h = absurd h

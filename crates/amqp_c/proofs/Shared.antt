@@ -4,7 +4,7 @@ use Rattle.std.proofs.Math.Seq.{drop-drop}
 use Rattle.std.proofs.lemmas.List.{take-append-drop, length-append, length-take-le}
 use Rattle.amqp_model.specs.Term.{Descriptor, leaf}
 use Rattle.amqp_model.specs.Constructors.{Format, fixed, variable, compound, unknown, format}
-use Rattle.amqp_model.specs.Spelling.{IsKnown, PrimitiveData, Names, Constructor, descriptor_value, enc}
+use Rattle.amqp_model.specs.Spelling.{IsKnown, PrimitiveData, Names, Constructor, descriptor_value, IsSpelling}
 use Rattle.amqp_model.proofs.Bytes.{rest}
 use Rattle.amqp_model.proofs.Unique.{one_front}
 use Rattle.amqp_lengths.specs.Fronts.{IsFront, NoFront}
@@ -25,8 +25,8 @@ primitive_known (compound k w) d b h = tt
 primitive_known unknown d b h = h
 
 -- a descriptor is a term
-pub named_term : (d : Descriptor) (b : List ℕ) → Names d b → enc b (leaf (descriptor_value d))
-unfolding enc
+pub named_term : (d : Descriptor) (b : List ℕ) → Names d b → IsSpelling b (leaf (descriptor_value d))
+unfolding IsSpelling
 named_term d b (c, data_, is, h) =
     ([], c, omega arith, (c ∷ [], data_, is, (refl, primitive_known (format c) d data_ h), h))
 

@@ -7,7 +7,7 @@ use Rattle.std.specs.Int.{bytes_high_first}
 use Rattle.amqp_model.specs.Term.{Primitive, Term, Terms, leaf, container, described, kept, barred, list, map, array, none, more, count, Container}
 use Rattle.amqp_model.specs.Term.{Descriptor}
 use Rattle.amqp_model.specs.Constructors.{Format, fixed, variable, compound, unknown, format}
-use Rattle.amqp_model.specs.Spelling.{PrimitiveData, ContainerData, Names, Constructor, data_of, items_of, elements_of, shared_data_of, enc, IsKnown}
+use Rattle.amqp_model.specs.Spelling.{PrimitiveData, ContainerData, Names, Constructor, IsDataOf, AreItemsOf, AreElementsOf, AreSharedDataOf, IsSpelling, IsKnown}
 use Rattle.amqp_model.proofs.Bytes.{length-bytes, field}
 use Rattle.amqp_lengths.specs.Announced.{IsAnnounced}
 use Rattle.amqp_lengths.specs.Fronts.{IsFront}
@@ -80,7 +80,7 @@ held_none c b at first node m e = record {
 }
 
 held_terms : (ts : Terms) (c : ℕ) (b head content : List ℕ) (at first : ℕ) (node : Node) → IsMade c b at first node → b ≡ head ++ content
-    → length head ≡ head_of (format c) → (kind_at c ≡ Array → ⊥) → node.count ≡ count ts → items_of ts content → HoldsTerms ts content node
+    → length head ≡ head_of (format c) → (kind_at c ≡ Array → ⊥) → node.count ≡ count ts → AreItemsOf ts content → HoldsTerms ts content node
 held_terms none c b head content at first node m is long other all h =
     let start = m.starts in
     let end = m.ends in
@@ -102,7 +102,7 @@ held_terms (more t ts) c b head content at first node m is long other all h =
 
 held_items : (t : Term) (ts : Terms) (c : ℕ) (b head content : List ℕ) (at first : ℕ) (node : Node) → IsMade c b at first node
     → b ≡ head ++ content → length head ≡ head_of (format c) → kind_at c ≡ Array → node.count ≡ count (more t ts)
-    → elements_of (more t ts) content → HoldsItems (more t ts) content node
+    → AreElementsOf (more t ts) content → HoldsItems (more t ts) content node
 held_items t ts c b head content at first node m is long kind all (ds, d, few, (own, behind, e, k, (wide, items))) =
     let start = m.starts in
     let stop = m.next in
@@ -116,7 +116,7 @@ held_items t ts c b head content at first node m is long kind all (ds, d, few, (
       behind = behind;
       is = e;
       constructor = subst (λ z. Constructor ds z own) (sym found.0) k;
-      items = subst (λ z. shared_data_of (more t ts) ds z behind) (sym found.0) items;
+      items = subst (λ z. AreSharedDataOf (more t ts) ds z behind) (sym found.0) items;
       all = all;
       next = omega (arith, start, stop, found.1);
     }
@@ -127,7 +127,7 @@ list_array e = cc
 map_array : MapKind ≡ Array → ⊥
 map_array e = cc
 
-pub data_node : (t : Term) (c : ℕ) (b : List ℕ) (at first : ℕ) (node : Node) → IsMade c b at first node → data_of t [] c b
+pub data_node : (t : Term) (c : ℕ) (b : List ℕ) (at first : ℕ) (node : Node) → IsMade c b at first node → IsDataOf t [] c b
     → IsDataNode t c b at node
 data_node (leaf p) c b at first node m h =
     let (head, content, is, long, value, none_) = primitive_parts (format c) p b node.count h m.items in
@@ -143,7 +143,7 @@ data_node (leaf p) c b at first node m h =
       holds = (subst (λ z. value_of (format z) content ≡ Some p) (sym m.code) value, held_none c b at first node m none_);
     }
 data_node (container list ts) c b at first node m h =
-    let (head, content, is, long, items, all) = container_parts (format c) list (count ts) (items_of ts) b node.count h m.items in
+    let (head, content, is, long, items, all) = container_parts (format c) list (count ts) (AreItemsOf ts) b node.count h m.items in
     let kind = data_kind (container list ts) c b h in
     record {
       kind = m.kind ∙ ap kind_number kind;
@@ -157,7 +157,7 @@ data_node (container list ts) c b at first node m h =
       holds = held_terms ts c b head content at first node m is long (λ e. list_array (sym kind ∙ e)) all items;
     }
 data_node (container map ts) c b at first node m h =
-    let (head, content, is, long, items, all) = container_parts (format c) map (count ts) (items_of ts) b node.count h.1 m.items in
+    let (head, content, is, long, items, all) = container_parts (format c) map (count ts) (AreItemsOf ts) b node.count h.1 m.items in
     let kind = data_kind (container map ts) c b h in
     record {
       kind = m.kind ∙ ap kind_number kind;
@@ -171,7 +171,7 @@ data_node (container map ts) c b at first node m h =
       holds = held_terms ts c b head content at first node m is long (λ e. map_array (sym kind ∙ e)) all items;
     }
 data_node (container array none) c b at first node m h =
-    let (head, content, is, long, items, all) = container_parts (format c) array 0 (elements_of none) b node.count h m.items in
+    let (head, content, is, long, items, all) = container_parts (format c) array 0 (AreElementsOf none) b node.count h m.items in
     record {
       kind = m.kind ∙ ap kind_number (data_kind (container array none) c b h);
       code = m.code;
@@ -185,7 +185,7 @@ data_node (container array none) c b at first node m h =
     }
 data_node (container array (more t ts)) c b at first node m h =
     let (head, content, is, long, items, all) =
-    container_parts (format c) array (count (more t ts)) (elements_of (more t ts)) b node.count h m.items in
+    container_parts (format c) array (count (more t ts)) (AreElementsOf (more t ts)) b node.count h m.items in
     let kind = data_kind (container array (more t ts)) c b h in
     record {
       kind = m.kind ∙ ap kind_number kind;
@@ -204,13 +204,13 @@ data_node (barred r) c b at first node m h = absurd h
 
 -- the first byte of a term, and what stands behind it
 abbrev Bare : Term → List ℕ → Type 0
-Bare t b = (c : ℕ) × (others : List ℕ) × (b ≡ c ∷ others) × data_of t [] c others × IsKnown (format c)
+Bare t b = (c : ℕ) × (others : List ℕ) × (b ≡ c ∷ others) × IsDataOf t [] c others × IsKnown (format c)
 
 abbrev Described : Term → List ℕ → Type 0
-Described t b = (d : Descriptor) × (u : Term) × (first second : List ℕ) × (t ≡ described d u) × (b ≡ 0 ∷ (first ++ second)) × Names d first × enc second u
+Described t b = (d : Descriptor) × (u : Term) × (first second : List ℕ) × (t ≡ described d u) × (b ≡ 0 ∷ (first ++ second)) × Names d first × IsSpelling second u
 
-under : (t : Term) (d : Descriptor) (ds : List Descriptor) (c : ℕ) (b : List ℕ) → data_of t (d ∷ ds) c b
-    → (u : Term) × (t ≡ described d u) × data_of u ds c b
+under : (t : Term) (d : Descriptor) (ds : List Descriptor) (c : ℕ) (b : List ℕ) → IsDataOf t (d ∷ ds) c b
+    → (u : Term) × (t ≡ described d u) × IsDataOf u ds c b
 under (described e t) d ds c b h = (t, ap (λ x. described x t) h.0, h.1)
 under (leaf p) d ds c b h = absurd h
 under (container list ts) d ds c b h = absurd h
@@ -219,8 +219,8 @@ under (container array ts) d ds c b h = absurd h
 under (kept x) d ds c b h = absurd h
 under (barred r) d ds c b h = absurd h
 
-opened : (t : Term) (b : List ℕ) → enc b t → Bare t b ⊎ Described t b
-unfolding enc
+opened : (t : Term) (b : List ℕ) → IsSpelling b t → Bare t b ⊎ Described t b
+unfolding IsSpelling
 opened t b ([], c, few, (own, others, e, k, h)) = inl (c, others, e ∙ ap (λ x. x ++ others) k.0, h, k.1)
 opened t b (d ∷ ds, c, few, (own, others, e, (first, second, is, n, k), h)) =
     let (u, same, g) = under t d ds c others h in
@@ -235,14 +235,14 @@ opened t b (d ∷ ds, c, few, (own, others, e, (first, second, is, n, k), h)) =
       (ds, c, omega (arith, few), (second, others, refl, k, g)),
     )
 
-pub term_some : (t : Term) (b : List ℕ) → enc b t → 1 ≤ length b
+pub term_some : (t : Term) (b : List ℕ) → IsSpelling b t → 1 ≤ length b
 term_some t b h = by_first (opened t b h)
   where
     by_first : Bare t b ⊎ Described t b → 1 ≤ length b
     by_first (inl (c, others, is, g, k)) = omega (arith, ap length is)
     by_first (inr (d, u, first, second, same, is, n, g)) = omega (arith, ap length is)
 
-bare_node : (t : Term) (c : ℕ) (others b : List ℕ) (at : ℕ) (node : Node) → data_of t [] c others → IsBareNode t b at node → IsTermNode t b at node
+bare_node : (t : Term) (c : ℕ) (others b : List ℕ) (at : ℕ) (node : Node) → IsDataOf t [] c others → IsBareNode t b at node → IsTermNode t b at node
 bare_node (leaf p) c others b at node h g = g
 bare_node (container k ts) c others b at node h g = g
 bare_node (described d t) c others b at node h g = absurd h
@@ -263,7 +263,7 @@ front_node bytes len at node f h = record {
 
 -- a term that begins with no 0
 pub bare_told : (bytes : List ℕ) (len at : ℕ) (node : Node) (code : ℕ) (data_ : List ℕ) → IsFront (IsTerm 128) bytes len
-    → take len bytes ≡ code ∷ data_ → (code ≡ 0 → ⊥) → ((t : Term) → data_of t [] code data_ → IsDataNode t code data_ (at + 1) node)
+    → take len bytes ≡ code ∷ data_ → (code ≡ 0 → ⊥) → ((t : Term) → IsDataOf t [] code data_ → IsDataNode t code data_ (at + 1) node)
     → BeginsWithTerm bytes at node
 bare_told bytes len at node code data_ f is some told =
     front_node bytes len at node f (by_first f.spelled.0 (opened f.spelled.0 (take len bytes) f.spelled.1))
@@ -271,7 +271,7 @@ bare_told bytes len at node code data_ f is some told =
     by_first : (t : Term) → Bare t (take len bytes) ⊎ Described t (take len bytes) → IsTermNode t (take len bytes) at node
     by_first t (inl (c, others, e, h, k)) =
         let same = heads code c data_ others (sym is ∙ e) in
-        let own : data_of t [] code data_ = subst₂ (λ x y. data_of t [] x y) (sym same.0) (sym same.1) h in
+        let own : IsDataOf t [] code data_ = subst₂ (λ x y. IsDataOf t [] x y) (sym same.0) (sym same.1) h in
         bare_node t code data_ (take len bytes) at node own
         (record { first = code; others = data_; is = is; spelled = own; told = told t own })
     by_first t (inr (d, u, first, second, e, b, n, h)) = absurd (some (heads code 0 data_ (first ++ second) (sym is ∙ b)).0)
@@ -311,7 +311,7 @@ described_told bytes len at node f zero_ two =
 -- an item of an array
 pub item_told : (c : ℕ) (bytes : List ℕ) (len at : ℕ) (node : Node) → IsFront (IsAnnounced (format c)) bytes len → node.code ≡ c
     → node.start ≡ at + head_of (format c) → node.end ≡ at + length (take len bytes) → Announces (format c) (take len bytes) node.count
-    → ((t : Term) → data_of t [] c (take len bytes) → IsDataNode t c (take len bytes) at node) → BeginsWithItem c bytes at node
+    → ((t : Term) → IsDataOf t [] c (take len bytes) → IsDataNode t c (take len bytes) at node) → BeginsWithItem c bytes at node
 item_told c bytes len at node f code starts ends items told = record {
   front = take len bytes;
   after = drop len bytes;
@@ -325,5 +325,5 @@ item_told c bytes len at node f code starts ends items told = record {
       let same : take len bytes ≡ own =
       announced_once (format c) (take len bytes) own (drop len bytes) behind f.spelled (announced_data t [] c own h)
       (take-append-drop len bytes ∙ is) in
-      subst (λ b. IsDataNode t c b at node) same (told t (subst (λ b. data_of t [] c b) (sym same) h));
+      subst (λ b. IsDataNode t c b at node) same (told t (subst (λ b. IsDataOf t [] c b) (sym same) h));
 }

@@ -6,7 +6,7 @@ use Rattle.std.proofs.lemmas.Bool.{eqb-true, eqb-false}
 use Rattle.std.proofs.lemmas.List.{take-append-drop, take_all, length-append, length-drop, length-take-le}
 use Rattle.amqp_wire.specs.declared.error.Error.{Error}
 use Rattle.amqp_model.specs.Term.{Term, Terms, leaf, container, described, kept, barred, list, map, array, none, more, count, Descriptor}
-use Rattle.amqp_model.specs.Spelling.{Spelled, descriptor_value, data_of, items_of, shared_data_of, enc}
+use Rattle.amqp_model.specs.Spelling.{Spelled, descriptor_value, IsDataOf, AreItemsOf, AreSharedDataOf, IsSpelling}
 use Rattle.amqp_model.specs.Measures.{nest, nests, array_nest}
 use Rattle.amqp_model.specs.Refusals.{core}
 use Rattle.amqp_model.proofs.Unique.{one_front, one_term}
@@ -77,11 +77,11 @@ cores_count none = refl
 cores_count (more t ts) = ap suc (cores_count ts)
 
 -- items of a list or map
-spelled_alone : (t : Term) (b : List ℕ) → Spelled (λ ds c. data_of t ds c) b → enc b t
-unfolding enc
+spelled_alone : (t : Term) (b : List ℕ) → Spelled (λ ds c. IsDataOf t ds c) b → IsSpelling b t
+unfolding IsSpelling
 spelled_alone t b h = h
 
-each_in : (around : Node) (ts : Terms) (b : List ℕ) → (around.kind ≡ array_number → ⊥) → items_of ts b → nests ts ≤ 128 → StandIn around (each ts) b
+each_in : (around : Node) (ts : Terms) (b : List ℕ) → (around.kind ≡ array_number → ⊥) → AreItemsOf ts b → nests ts ≤ 128 → StandIn around (each ts) b
 each_in around none b other h deep = h
 each_in around (more t ts) b other (first, second, e, k, w) deep = (
   first,
@@ -92,7 +92,7 @@ each_in around (more t ts) b other (first, second, e, k, w) deep = (
 )
 
 -- items of an array
-core_data : (t : Term) (ds : List Descriptor) (c : ℕ) (b : List ℕ) → data_of t ds c b → data_of (core t) [] c b
+core_data : (t : Term) (ds : List Descriptor) (c : ℕ) (b : List ℕ) → IsDataOf t ds c b → IsDataOf (core t) [] c b
 core_data (described d t) (e ∷ ds) c b h = core_data t ds c b h.1
 core_data (described d t) [] c b h = absurd h
 core_data (leaf p) [] c b h = h
@@ -120,7 +120,7 @@ nests_array (more (kept x) ts) = omega (arith, nests_array ts)
 nests_array (more (barred r) ts) = omega (arith, nests_array ts)
 
 cores_in : (around : Node) (ts : Terms) (ds : List Descriptor) (b : List ℕ) → around.kind ≡ array_number
-    → shared_data_of ts ds around.item_code b → nests ts ≤ 128 → StandIn around (cores ts) b
+    → AreSharedDataOf ts ds around.item_code b → nests ts ≤ 128 → StandIn around (cores ts) b
 cores_in around none ds b is h deep = h
 cores_in around (more t ts) ds b is (first, second, e, k, w) deep = (
   first,
@@ -261,7 +261,7 @@ parts_stand input b after at around node t e stands told is =
     (h.all, within, subst (λ l. StandIn node (parts_of t) l) (sym same) h.stand)
 
 -- the node of a term that stands there
-begun : (bytes b after : List ℕ) (at : ℕ) (node : Node) (t : Term) → bytes ≡ b ++ after → enc b t → BeginsWithTerm bytes at node
+begun : (bytes b after : List ℕ) (at : ℕ) (node : Node) (t : Term) → bytes ≡ b ++ after → IsSpelling b t → BeginsWithTerm bytes at node
     → IsTermNode t b at node
 begun bytes b after at node t e h g =
     let whole : g.front ++ g.after ≡ b ++ after = sym g.is ∙ e in
@@ -332,7 +332,7 @@ one_met input b after around at n told t e s stands (goes_on a node p left inner
     of_more t [] a node b p inner later found (met input node node.next node.count inner (parts_of t) all parts w)
     (none_left input a node.end left later (omega (arith, e)) v)
 
-pub once_met : (input front after : List ℕ) (t : Term) (told : List Node) → input ≡ front ++ after → enc front t → nest t ≤ 128
+pub once_met : (input front after : List ℕ) (t : Term) (told : List Node) → input ≡ front ++ after → IsSpelling front t → nest t ≤ 128
     → Walks input nothing 0 1 told → AreOf (t ∷ []) told
 once_met input front after t told e h deep w =
     one_met input front after nothing 0 1 told t refl (take_all (length input - 0) input (omega arith) ∙ e)

@@ -5,7 +5,7 @@ use Rattle.amqp_wire.specs.declared.error.Error.TheVariants.{Cut}
 use Rattle.amqp_wire.specs.Codes.{refusal_of}
 use Rattle.amqp_model.specs.Term.{Term}
 use Rattle.amqp_model.specs.Constructors.{Format, fixed, variable, compound, unknown, format}
-use Rattle.amqp_model.specs.Spelling.{IsKnown, data_of}
+use Rattle.amqp_model.specs.Spelling.{IsKnown, IsDataOf}
 use Rattle.amqp_lengths.specs.Announced.{content_size, Wants}
 
 -- How many bytes the size has that data of this format begins with.
@@ -28,5 +28,5 @@ ItemFault c bytes e = ((IsKnown (format c) → ⊥) × (e ≡ refusal_of c)) ⊎
 
 -- The bytes begin with no term's data under the code, and the error names the fault.
 pub record RefusesItem (c : ℕ) (bytes : List ℕ) (e : Error) : Type 0 where
-  pub none : (t : Term) (front after : List ℕ) → bytes ≡ front ++ after → data_of t [] c front → ⊥
+  pub none : (t : Term) (front after : List ℕ) → bytes ≡ front ++ after → IsDataOf t [] c front → ⊥
   pub fault : ItemFault c bytes e

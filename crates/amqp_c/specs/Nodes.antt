@@ -2,7 +2,7 @@
 use Rattle.std.specs.Prelude.{◌≡◌, ◌⊎◌, ℕ, ◌<◌, ◌≤◌, ◌+◌, ◌-◌, ◌^◌, min, cond, eqb, List, [], ◌∷◌, ◌++◌, length, take, drop, Some}
 use Rattle.amqp_model.specs.Term.{Term, Terms, leaf, container, described, list, map, array, none, more, count, Descriptor}
 use Rattle.amqp_model.specs.Constructors.{Format, fixed, variable, compound, unknown, format}
-use Rattle.amqp_model.specs.Spelling.{Joined, Names, Constructor, data_of, items_of, shared_data_of, enc}
+use Rattle.amqp_model.specs.Spelling.{Joined, Names, Constructor, IsDataOf, AreItemsOf, AreSharedDataOf, IsSpelling}
 use Rattle.amqp_model.specs.Measures.{nest}
 use Rattle.amqp_wire.specs.declared.error.Error.{Error}
 use Rattle.amqp_wire.specs.declared.error.Error.TheVariants.{Cut}
@@ -45,7 +45,7 @@ pub record HoldsNone (node : Node) : Type 0 where
 
 -- The node holds the items of a list or the keys and values of a map, which these bytes are, and the next node is the first of them.
 pub record HoldsTerms (ts : Terms) (content : List ℕ) (node : Node) : Type 0 where
-  pub terms : items_of ts content
+  pub terms : AreItemsOf ts content
   pub all : node.count ≡ count ts
   pub no_items : node.item_code ≡ 0
   pub next : node.next ≡ node.start
@@ -58,7 +58,7 @@ pub record HoldsItems (ts : Terms) (content : List ℕ) (node : Node) : Type 0 w
   pub behind : List ℕ
   pub is : content ≡ own ++ behind
   pub constructor : Constructor descriptors node.item_code own
-  pub items : shared_data_of ts descriptors node.item_code behind
+  pub items : AreSharedDataOf ts descriptors node.item_code behind
   pub all : node.count ≡ count ts
   pub next : node.next ≡ node.start + length own
 
@@ -95,14 +95,14 @@ pub record IsDescribedNode (d : Descriptor) (t : Term) (bytes : List ℕ) (at : 
   pub two : node.count ≡ 2
   pub no_items : node.item_code ≡ 0
   pub next : node.next ≡ node.start
-  pub holds : Joined (Names d) (λ b. enc b t) content
+  pub holds : Joined (Names d) (λ b. IsSpelling b t) content
 
 -- The bytes from the place on are a code and the data of a term under it, whose node this is.
 pub record IsBareNode (t : Term) (bytes : List ℕ) (at : ℕ) (node : Node) : Type 0 where
   pub first : ℕ
   pub others : List ℕ
   pub is : bytes ≡ first ∷ others
-  pub spelled : data_of t [] first others
+  pub spelled : IsDataOf t [] first others
   pub told : IsDataNode t first others (at + 1) node
 
 -- The node is that of the term that these bytes spell from the place on.
@@ -116,7 +116,7 @@ pub record BeginsWithTerm (bytes : List ℕ) (at : ℕ) (node : Node) : Type 0 w
   pub front : List ℕ
   pub after : List ℕ
   pub is : bytes ≡ front ++ after
-  pub spelled : enc front term
+  pub spelled : IsSpelling front term
   pub nests : nest term ≤ 128
   pub told : IsTermNode term front at node
 
@@ -131,7 +131,7 @@ pub record BeginsWithItem (c : ℕ) (bytes : List ℕ) (at : ℕ) (node : Node) 
   pub starts : node.start ≡ at + head_of (format c)
   pub ends : node.end ≡ at + length front
   pub items : Announces (format c) front node.count
-  pub term : (t : Term) (own behind : List ℕ) → bytes ≡ own ++ behind → data_of t [] c own → IsDataNode t c own at node
+  pub term : (t : Term) (own behind : List ℕ) → bytes ≡ own ++ behind → IsDataOf t [] c own → IsDataNode t c own at node
 
 -- The number of the kind of arrays.
 abbrev pub array_number : ℕ

@@ -1,7 +1,7 @@
 -- Walks over terms: the first node in a node is asked for at its `next`, and each further one at the end of the one before it.
 use Rattle.std.specs.Prelude.{◌≡◌, ℕ, suc, ◌≤◌, List, [], ◌∷◌, ◌++◌}
 use Rattle.amqp_model.specs.Term.{Term, Terms, leaf, container, described, list, map, array, none, more}
-use Rattle.amqp_model.specs.Spelling.{Joined, descriptor_value, data_of, enc}
+use Rattle.amqp_model.specs.Spelling.{Joined, descriptor_value, IsDataOf, IsSpelling}
 use Rattle.amqp_model.specs.Measures.{nest}
 use Rattle.amqp_model.specs.Refusals.{core}
 use Rattle.amqp_c.specs.Nodes.{array_number, IsTermNode, IsDataNode, IsNode}
@@ -30,8 +30,8 @@ parts_of _ = []
 
 -- The term stands in the node as these bytes: in an array as data under the code of its items, and elsewhere with a constructor of its own.
 pub record StandsIn (around : Node) (t : Term) (b : List ℕ) : Type 0 where
-  pub term : (around.kind ≡ array_number → ⊥) → enc b t
-  pub item : around.kind ≡ array_number → data_of t [] around.item_code b
+  pub term : (around.kind ≡ array_number → ⊥) → IsSpelling b t
+  pub item : around.kind ≡ array_number → IsDataOf t [] around.item_code b
   pub nests : nest t ≤ 128
 
 -- So do these terms, one behind another.

@@ -1,7 +1,7 @@
 //! The laws of walks. The function does nothing; its contract is proved.
 ghost use Rattle.std.specs.Prelude.{◌≡◌, ◌≤◌, ℕ, List, [], ◌∷◌, ◌++◌, length};
 ghost use Rattle.amqp_model.specs.Term.{Term};
-ghost use Rattle.amqp_model.specs.Spelling.{enc};
+ghost use Rattle.amqp_model.specs.Spelling.{IsSpelling};
 ghost use Rattle.amqp_model.specs.Measures.{nest};
 ghost use Rattle.amqp_wire.specs.declared.error.Error.{Error};
 ghost use Rattle.amqp_c.specs.declared.nodes.Node.{Node};
@@ -21,6 +21,6 @@ pub fn walks()
         → IsWithin input at around → IsNoNode input at around e → ⊥ }
     ensures last { (input : List ℕ) (at : ℕ) (around : Node) → StandIn around [] (bytes_at input at around) → IsWithin input at around
         → at ≡ reach_of input around }
-    ensures once { (input front after : List ℕ) (t : Term) (told : List Node) → input ≡ front ++ after → enc front t → nest t ≤ 128
+    ensures once { (input front after : List ℕ) (t : Term) (told : List Node) → input ≡ front ++ after → IsSpelling front t → nest t ≤ 128
         → Walks input nothing 0 1 told → AreOf (t ∷ []) told }
 {}

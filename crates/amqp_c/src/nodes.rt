@@ -1,7 +1,7 @@
 //! One node of a term: a value in it, for walking the term without a tree (Part 1, section 1.2).
 ghost use Rattle.std.specs.Prelude.{◌≡◌, ◌≤◌, ◌<◌, ◌+◌, ◌^◌, ◌⊎◌, ℕ, List, [], ◌++◌, length, drop, MatchOption, IfOk, IfErr};
 ghost use Rattle.amqp_model.specs.Constructors.{format};
-ghost use Rattle.amqp_model.specs.Spelling.{IsKnown, Constructor, data_of};
+ghost use Rattle.amqp_model.specs.Spelling.{IsKnown, Constructor, IsDataOf};
 ghost use Rattle.amqp_model.specs.Term.{Term, Descriptor};
 ghost use Rattle.amqp_lengths.specs.Announced.{IsAnnounced, Wants};
 ghost use Rattle.amqp_lengths.specs.Fronts.{IsFront};
@@ -204,7 +204,7 @@ impl Node {
         ensures items { Announces (format code) bytes.now result.count }
         ensures ends { result.end ≡ at + length bytes.now }
         ensures next { result.next ≤ result.end }
-        ensures term { (t : Term) → data_of t [] code bytes.now → IsDataNode t code bytes.now at result }
+        ensures term { (t : Term) → IsDataOf t [] code bytes.now → IsDataNode t code bytes.now at result }
     {
         let count = count_in(code, bytes);
         let (item_code, first) = first_item(code, count, bytes);
