@@ -12,11 +12,11 @@ another_is source failed st =
     ap₂ (λ q fs. record (elsewhere source failed st) { quota = q; saved = fs }) (freed_kept st.quota) (unlifted st.saved)
 
 -- Whether one term is read alone.
-abbrev lonely : Bool → State → Setting
+abbrev pub lonely : Bool → State → Setting
 lonely alone st =
     record { source = st.source; deepen = λ n. n; grows = λ n. omega arith; free = false; lift = false; course = λ f. record f { alone = alone } }
 
-lonely_is : (alone : Bool) (st b : State) → b.source ≡ st.source → under (lonely alone st) b ≡ apart alone b
+pub lonely_is : (alone : Bool) (st b : State) → b.source ≡ st.source → under (lonely alone st) b ≡ apart alone b
 lonely_is alone st b source =
     ap (λ s. record (under (lonely alone st) b) { source = s }) (sym source)
     ∙ ap₂ (λ q fs. record (apart alone b) { quota = q; saved = fs }) (freed_kept b.quota) (unlifted b.saved)

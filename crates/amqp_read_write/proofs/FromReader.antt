@@ -165,7 +165,7 @@ pub record ReadAmong {T : Type 0} (r : Reading T) (st : State) (res : Result T E
   pub ahead : after.ahead ≡ b.ahead
   pub broken : after.failed.broken ≡ b.failed.broken
 
-among : Course → Course
+abbrev among : Course → Course
 among f = record f { alone = false }
 
 module _ {T : Type 0} (r : Reading T) (st : State) (shared : st.failed.alone ≡ false) where

@@ -3,20 +3,16 @@ use Rattle.std.proofs.Common.{◌≡◌, ◌-◌, ◌+◌, ◌≤◌, ◌<◌, �
 use Rattle.std.proofs.lemmas.List.{length-drop, length-append, drop-drop, drop_at}
 use Rattle.std.specs.Io.KnownBytes.{Consumes}
 use Rattle.amqp_wire.specs.Sources.{known, IsTold}
+use Rattle.amqp_wire.proofs.Sources.{consumed_known}
 use Rattle.amqp_decoder.specs.State.{Has}
 use Rattle.amqp_decoder.specs.Reserve.{Leaves}
 use Rattle.amqp_read_write.specs.Reserved.{reserved, IsRestOf}
 
 -- some more bytes were taken
-consumed : (old new : Option (List ℕ)) (s : List ℕ) → IsTold old → IsTold new → Consumes old new s → known old ≡ s ++ known new
-consumed None new s (x, e) told h = absurd (cc)
-consumed (Some xs) None s old (x, e) h = absurd (cc)
-consumed (Some xs) (Some ys) s old told h = h
-
-pub rest_behind : (origin : List ℕ) (old new : Option (List ℕ)) (s : List ℕ) → IsTold old → IsTold new → Consumes old new s
+pub rest_behind : (origin : List ℕ) (old new : Option (List ℕ)) (s : List ℕ) → IsTold old → Consumes old new s
     → IsRestOf origin (known old) → IsRestOf origin (known new)
-rest_behind origin old new s told also h (n, few, is) =
-    let split : drop n origin ≡ s ++ known new = sym is ∙ consumed old new s told also h in
+rest_behind origin old new s told h (n, few, is) =
+    let split : drop n origin ≡ s ++ known new = sym is ∙ consumed_known old new s told h in
     let long = ap length split ∙ length-append s (known new) in
     let left = length-drop n origin in (
       n + length s,

@@ -46,6 +46,6 @@ returns-in_err-peek_code-clause-tries g c =
 
 pub returns-in-Some-clause-tries : goal.returns-in-Some-clause-tries
 returns-in-Some-clause-tries g c =
-    absent_refused _ c.args.decoder.now _ (rule_at g.L.FieldList.list.fields c.args.index) _ _ _
+    absent_refused _ c.args.decoder.now c.read_null.new.self (rule_at g.L.FieldList.list.fields c.args.index) _ _ _
     (ap absence (sym c.requires.its_rule) ∙ sym c.in-Some.ensures)
-    (began_then c.args.decoder.now _ _ c.in_ok-peek_code.ensures.tries c.in_ok-read_null.ensures.tries) c.refuse.ensures.first
+    (began_then c.args.decoder.now c.peek_code.new.self c.read_null.new.self c.in_ok-peek_code.ensures.tries c.in_ok-read_null.ensures.tries) c.refuse.ensures.first
