@@ -1,13 +1,14 @@
-/* Reads and rewrites one input by Proton C and by this library, in one process, turn about. tools/beside-proton builds and runs it.
+/* Reads, writes and rewrites one input by Proton C and by this library, in one process, turn about. tools/beside-proton builds and runs it.
  *
- *     beside_proton time TYPE FILE ROUNDS        the least time of each operation, in nanoseconds, of so many rounds
- *     beside_proton once TYPE FILE OPERATION N   runs one operation N times, for instructions to be counted
+ *     beside_proton time TYPE FILE ROUNDS        prints the least time of each operation, in nanoseconds, of so many rounds
+ *     beside_proton run TYPE FILE OPERATION N    runs one operation N times, for instructions to be counted
  *
  * The file holds one term, or the sections of a message, which Proton decodes one after another. */
 #define _POSIX_C_SOURCE 200809L
 #include "amqp_types.h"
 
 #include <proton/codec.h>
+#include <stdbool.h>
 #include <stdint.h>
 #include <stdio.h>
 #include <stdlib.h>
@@ -37,24 +38,27 @@ static void decode(pn_data_t *tree) {
     }
 }
 
-static void proton_kept(void) {
-    pn_data_clear(kept);
-    decode(kept);
-}
-
-static void proton_fresh(void) {
+static void proton_reads(void) {
     pn_data_t *tree = pn_data(16);
     decode(tree);
     pn_data_free(tree);
 }
 
-static void proton_rewrites(void) {
-    pn_data_t *tree = pn_data(16);
-    decode(tree);
+static void encode(pn_data_t *tree) {
     ssize_t written = pn_data_encode(tree, (char *)out, ROOM);
     if (written <= 0)
         fail("Proton doesn't encode the tree");
     sink += (size_t)written;
+}
+
+static void proton_writes(void) {
+    encode(kept);
+}
+
+static void proton_rewrites(void) {
+    pn_data_t *tree = pn_data(16);
+    decode(tree);
+    encode(tree);
     pn_data_free(tree);
 }
 
@@ -80,12 +84,18 @@ static void measures(void) {
     sink += all;
 }
 
+static void copies(void) {
+    memcpy(out, in, len);
+    sink += out[len / 2];
+}
+
 static const struct operation {
     const char *name;
     void (*run)(void);
 } operations[] = {
-    {"proton-kept", proton_kept}, {"proton-fresh", proton_fresh}, {"reads", reads},
+    {"proton-reads", proton_reads},       {"reads", reads},       {"proton-writes", proton_writes},
     {"proton-rewrites", proton_rewrites}, {"rewrites", rewrites}, {"measures", measures},
+    {"copies", copies},
 };
 
 enum { OPERATIONS = sizeof operations / sizeof *operations };
@@ -120,23 +130,36 @@ static void time_all(long rounds) {
         printf("%s %.1f\n", operations[i].name, least[i]);
 }
 
-int main(int argc, char **argv) {
-    if (argc < 5)
-        fail("time TYPE FILE ROUNDS, or once TYPE FILE OPERATION N");
-    FILE *file = fopen(argv[3], "rb");
+static void run(const char *name, long times) {
+    for (int i = 0; i < OPERATIONS; i++)
+        if (strcmp(name, operations[i].name) == 0) {
+            time_of(&operations[i], times);
+            return;
+        }
+    fail("no operation has the name");
+}
+
+static void read_file(const char *name) {
+    FILE *file = fopen(name, "rb");
     if (file == NULL)
-        fail(argv[3]);
+        fail(name);
     len = fread(in, 1, ROOM, file);
     fclose(file);
+}
+
+int main(int argc, char **argv) {
+    bool timed = argc == 5 && strcmp(argv[1], "time") == 0;
+    if (!timed && (argc != 6 || strcmp(argv[1], "run") != 0))
+        fail("time TYPE FILE ROUNDS, or run TYPE FILE OPERATION N");
     type = amqp_c_type((const uint8_t *)argv[2], strlen(argv[2]));
+    read_file(argv[3]);
     amqp_c_greatest(&limits);
     kept = pn_data(16);
-    if (strcmp(argv[1], "time") == 0)
+    decode(kept);
+    if (timed)
         time_all(atol(argv[4]));
-    for (int i = 0; argc == 6 && i < OPERATIONS; i++)
-        if (strcmp(argv[4], operations[i].name) == 0)
-            for (long times = atol(argv[5]); times > 0; times--)
-                operations[i].run();
+    else
+        run(argv[4], atol(argv[5]));
     pn_data_free(kept);
     return 0;
 }
