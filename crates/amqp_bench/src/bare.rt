@@ -88,11 +88,8 @@ fn serialize(case: Case, content: &Content, encoder: &mut Encoder) -> Result<(),
         Case::Ulongs | Case::UlongArray => write_ulongs(&content.numbers, encoder),
         Case::Strings => write_strings(&content.texts, encoder),
         Case::Map => write_map(content, encoder),
-        Case::Symbols
-        | Case::KeptSymbols
-        | Case::SymbolMap
-        | Case::LargeMap
-        | Case::ValueMap => write_symbols(&content.symbols, encoder),
+        Case::Symbols | Case::KeptSymbols | Case::SymbolMap | Case::LargeMap | Case::ValueMap =>
+            write_symbols(&content.symbols, encoder),
         _ => encoder.write_binary(&content.bytes),
     }
 }
