@@ -12,7 +12,6 @@ pub data Fields (V : Type 0) : Type 1 where
   field : {T : Type 0} → (V → T) → Field T → Fields V → Fields V
 
 infixr 5 ◌▸◌
-
 -- this field, and then those
 abbrev pub ◌▸◌ : {V : Type 0} → (Fields V → Fields V) → Fields V → Fields V
 f ▸ fs = f fs
