@@ -2,7 +2,6 @@
 use Rattle.std.proofs.Common.{◌≡◌, inl, inr, ℕ, ◌*◌, ◌/◌, ◌&&◌, Bool, true, List, [], ◌∷◌, None, refl, sym, ap, ◌∙◌, subst, arith}
 use Rattle.amqp_model.specs.Term.{map, Term}
 use Rattle.amqp_model.specs.Standing.{Standing}
-use Rattle.amqp_model.specs.FieldType.{normal}
 use Rattle.amqp_wire.specs.declared.error.Error.{Error}
 use Rattle.amqp_wire.specs.declared.error.Error.TheVariants.{Memory, DuplicateKey}
 use Rattle.amqp_decoder.specs.declared.frame.Place.TheVariants.{InMap}

@@ -1,5 +1,5 @@
 -- What calls that follow one another say of their errors, whatever the source tells.
-use Rattle.std.proofs.Common.{◌≡◌, inl, inr, ℕ, zero, suc, Bool, true, false, Some, None, Result, Ok, Err, refl, ap, ◌∙◌, sym, subst}
+use Rattle.std.proofs.Common.{◌≡◌, inl, inr, ℕ, zero, suc, Bool, true, false, Some, Result, Ok, Err, refl, ap, ◌∙◌, sym, subst}
 use Rattle.amqp_wire.specs.declared.error.Error.{Error}
 use Rattle.amqp_wire.specs.declared.error.Error.TheVariants.{Limit}
 use Rattle.amqp_decoder.specs.State.{State}

@@ -1,6 +1,5 @@
 -- The type of a composite: a described list whose items fit its table (Part 1, sections 1.4 and 1.5).
 use Rattle.std.proofs.Common.{◌≡◌, ℕ, true, List, [], ◌∷◌, refl, arith, ltb}
-use Rattle.amqp_model.specs.Term.{name, code}
 use Rattle.amqp_model.specs.FieldType.{Norm, normal}
 use Rattle.amqp_model.specs.Fields.{IsNormal}
 use Rattle.amqp_model.specs.Composite.{Describes}

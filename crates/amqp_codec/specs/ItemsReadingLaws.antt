@@ -1,6 +1,6 @@
 -- The items of a list or an array that are read are those of the term that stands there, and their faults those of that.
-use Rattle.std.proofs.Common.{◌≡◌, ℕ, ◌+◌, ◌<◌, suc, Bool, true, false, List, [], ◌∷◌, ◌++◌, length, None, refl, sym, ap, ◌∙◌, subst, arith}
-use Rattle.amqp_model.specs.Term.{Container, Term, Terms, container, none, more, count}
+use Rattle.std.proofs.Common.{◌≡◌, ℕ, ◌<◌, suc, false, List, [], ◌∷◌, ◌++◌, length, refl, sym, ap, ◌∙◌, subst, arith}
+use Rattle.amqp_model.specs.Term.{Term, Terms, container, none, more, count}
 use Rattle.amqp_model.specs.Items.{items_of}
 use Rattle.amqp_model.specs.Standing.{Standing, Parts}
 use Rattle.amqp_wire.specs.declared.error.Error.{Error}
@@ -10,7 +10,7 @@ use Rattle.amqp_decoder.specs.OtherSource.{Setting, under, KeepsError, value, cl
 use Rattle.amqp_decoder.specs.Rooms.{HasRoom}
 use Rattle.amqp_decoder.specs.Misspelled.{IsMisspelling, NothingStands}
 use Rattle.amqp_decoder.specs.Primitives.{standing, Stands, ReadsValue}
-use Rattle.amqp_decoder.specs.Items.{Next, NextWithParts, Row, row_standings}
+use Rattle.amqp_decoder.specs.Items.{Row, row_standings}
 use Rattle.amqp_decoder.proofs.ContainerTerms.{together, used_up}
 use Rattle.amqp_decoder.proofs.OneReading.{value_same, stands_same}
 use Rattle.amqp_decoder.proofs.NotOutside.{close_not_outside}
@@ -21,7 +21,7 @@ use Rattle.amqp_codec.specs.TermType.{TermType}
 use Rattle.amqp_codec.specs.Each.{EachMeans, MeansItems}
 use Rattle.amqp_codec.specs.EachLaws.{values_many}
 use Rattle.amqp_codec.specs.ItemsTypeLaws.{items_cases, mean_as}
-use Rattle.amqp_codec.specs.ItemsReading.{ReadsEach, ReadsRow, RowFault, Held, Opening, ItemsRead, ItemsFault, unopened, at_item, unclosed}
+use Rattle.amqp_codec.specs.ItemsReading.{ReadsEach, ReadsRow, Held, Opening, ItemsRead, ItemsFault, unopened, at_item, unclosed}
 
 count_items : (ts : Terms) → length (items_of ts) ≡ count ts
 count_items none = refl

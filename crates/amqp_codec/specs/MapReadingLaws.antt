@@ -4,7 +4,6 @@ use Rattle.std.proofs.Common.{subst, arith, length-append}
 use Rattle.amqp_model.specs.Term.{map, Term, Terms, container, count}
 use Rattle.amqp_model.specs.Items.{items_of}
 use Rattle.amqp_model.specs.Standing.{Standing, Parts}
-use Rattle.amqp_model.specs.FieldType.{normal}
 use Rattle.amqp_wire.specs.declared.error.Error.{Error}
 use Rattle.amqp_decoder.specs.declared.frame.Place.TheVariants.{InMap}
 use Rattle.amqp_model.specs.Measures.{nodes}

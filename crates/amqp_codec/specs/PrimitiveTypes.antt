@@ -1,9 +1,5 @@
 -- The types of primitives (Part 1, section 1.6).
-use Rattle.std.proofs.Common.{◌≡◌, ℕ, ◌<◌, ◌^◌, ℤ, pos, Bool, true, false, List, [], length, refl, sym, ap, ◌∙◌, arith}
-use Rattle.std.specs.Prelude.{FitsSigned}
-use Rattle.std.specs.Int.{w8, w16, w32, w64}
-use Rattle.std.specs.Char.{IsScalar}
-use Rattle.std.specs.Str.{IsUtf8}
+use Rattle.std.proofs.Common.{◌≡◌, ℕ, ℤ, pos, Bool, true, false, List, [], refl, sym, ap, ◌∙◌, arith}
 use Rattle.amqp_model.specs.Term.{Primitive, null, boolean, ubyte, ushort, uint, ulong, byte, short, int, long, char, timestamp, decimal32}
 use Rattle.amqp_model.specs.Term.{decimal64, decimal128, uuid, binary, string, symbol, Term, leaf}
 use Rattle.amqp_model.specs.Ranges.{IsInRange}

@@ -1,4 +1,4 @@
-use Rattle.std.proofs.Common.{false, Some, arith, rules, add-one, ap, sym, ◌∙◌, ◌≡◌, ◌<◌, length, get_or}
+use Rattle.std.proofs.Common.{false, arith, rules, add-one, ap, sym, ◌∙◌, ◌≡◌, ◌<◌, length, get_or}
 use Rattle.std.proofs.lemmas.Result.{err_from_is_err_and}
 use Rattle.amqp_model.specs.Fields.{rules_of}
 use Rattle.amqp_model.specs.declared.tables.FieldRule.TheVariants.{Mandatory}

@@ -1,7 +1,5 @@
-use Rattle.std.proofs.Common.{true, rules, ap, ◌∙◌, arith, length, length-append, [], ◌∷◌, ◌++◌, subst, sym}
+use Rattle.std.proofs.Common.{true, rules, ap, ◌∙◌, arith, length, length-append, [], ◌∷◌}
 use Rattle.std.proofs.lemmas.Result.{err_from_is_err_and}
-use Rattle.amqp_decoder.specs.Primitives.{ReadsValue}
-use Rattle.amqp_codec.specs.ItemsReading.{ReadsEach}
 use Rattle.amqp_codec.specs.ItemsReadingLaws.{each_more}
 use Rattle.amqp_codec.proofs.ItemsSteps.{pushed, value_refused, no_room}
 use Rattle.amqp_codec.proofs.Tries.{taking_some, refused_later}
