@@ -47,7 +47,7 @@ ready_rest origin buffer old new before after true told taken left same rest sou
 ready_rest origin buffer old new before after false told taken left same rest sound =
     unmoved origin old new (left refl) (rest (sym same ∙ sound))
 
-is_done : {E : Type 0} → Result Bool E → Bool
+abbrev is_done : {E : Type 0} → Result Bool E → Bool
 is_done (Ok b) = b
 is_done (Err e) = false
 
