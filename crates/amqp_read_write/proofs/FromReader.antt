@@ -1,13 +1,13 @@
 -- What is read from a reader is what is read from its bytes.
 use Rattle.std.proofs.Common.{◌≡◌, ◌⊎◌, inl, inr, ℕ, ◌-◌, Bool, true, false, List, length, drop, Result, Ok, Err, IfOk, IfErr, MatchResult}
-use Rattle.std.proofs.Common.{None, refl, sym, ap, ◌∙◌, arith}
+use Rattle.std.proofs.Common.{None, refl, sym, ap, ◌∙◌, subst, arith}
 use Rattle.std.proofs.lemmas.List.{length-drop}
 use Rattle.amqp_wire.specs.declared.error.Error.{Error}
 use Rattle.amqp_wire.specs.declared.error.Error.TheVariants.{Memory, Limit}
 use Rattle.amqp_wire.specs.declared.limits.Limits.{Limits}
 use Rattle.amqp_decoder.specs.State.{Course, State, is_free}
 use Rattle.amqp_decoder.specs.OtherSource.{elsewhere}
-use Rattle.amqp_decoder.specs.Steps.{IsExcused, IsReadError, Tries}
+use Rattle.amqp_decoder.specs.Steps.{IsExcused, IsReadError, Refused, Tries}
 use Rattle.amqp_decoder.specs.Reading.{RefusesRead, AnswersRead}
 use Rattle.amqp_codec.specs.Reading.{Reading, apart, start_within, IsGreatest, BeginsWithin, IsUnreadableWithin, BeginsWith, IsUnreadable}
 use Rattle.amqp_codec.specs.ReadingLaws.{is_read, read_one, begins_greatest, greatest_begins, unreadable_greatest}
@@ -98,16 +98,20 @@ memory takes st (Ok v) b going h = tt
 memory takes st (Err x) b going h = (h.1 going).2
 
 -- A limit's error comes only where the caller has set one.
-pub limited : {T : Type 0} (takes : Bool) (limits : Limits) (st : State) (res : Result T Error) (b : State) → st.error ≡ None
-    → st.failed.free ≡ is_free limits.nesting limits.bytes limits.items → Tries takes st res b
-    → IfErr res (λ e. e ≡ Limit → IsGreatest limits → ⊥)
-limited takes limits st (Ok v) b going free h = tt
-limited takes limits st (Err e) b going free h = λ is (nesting, bytes, items).
+pub limited_refused : (takes : Bool) (limits : Limits) (st : State) (e : Error) (b : State) → st.error ≡ None
+    → st.failed.free ≡ is_free limits.nesting limits.bytes limits.items → Refused takes st e b → e ≡ Limit → IsGreatest limits → ⊥
+limited_refused takes limits st e b going free h is (nesting, bytes, items) =
     let f = h.1 going in
     let kept : b.failed ≡ st.failed = elim f.1 [ inl s ↦ s | inr i ↦ absurd (subst IsReadError is i) ] in
     let bounded : is_free limits.nesting limits.bytes limits.items ≡ false =
     sym free ∙ ap (λ (x : Course). x.free) (sym kept) ∙ f.4 is in
     let free : is_free limits.nesting limits.bytes limits.items ≡ true = rw (nesting, bytes, items) refl in absurd (cc)
+
+pub limited : {T : Type 0} (takes : Bool) (limits : Limits) (st : State) (res : Result T Error) (b : State) → st.error ≡ None
+    → st.failed.free ≡ is_free limits.nesting limits.bytes limits.items → Tries takes st res b
+    → IfErr res (λ e. e ≡ Limit → IsGreatest limits → ⊥)
+limited takes limits st (Ok v) b going free h = tt
+limited takes limits st (Err e) b going free h = limited_refused takes limits st e b going free h
 
 -- a source that never fails is no reason
 pub refused_whole : {T : Type 0} (limits : Limits) (r : Reading T) (input : List ℕ) (e : Error) (b : State) → b.failed.broken ≡ false

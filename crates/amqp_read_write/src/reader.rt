@@ -158,7 +158,7 @@ fn read_named<T: Deserialize, S: ByteSource, N: Name>(
     alloc: Global,
 ) -> (Result<T, Error>, S)
     requires named { S.name source ≡ N.name }
-    requires origin { Tells S.remaining → known (S.remaining source) ≡ N.origin }
+    requires origin { known (S.remaining source) ≡ N.origin }
     requires reserve { N.reserve ≡ reserved T.reading.one_term (limit_of limits.now.bytes) (length N.origin) }
     ensures named { S.name result.1 ≡ S.name source }
     ensures found { Tells S.remaining

@@ -24,4 +24,4 @@ returns-clause-refused g c =
 pub returns-clause-unlimited : goal.returns-clause-unlimited
 returns-clause-unlimited g c =
     let limits : IsGreatest c.greatest.result = (c.greatest.ensures.nesting, c.greatest.ensures.bytes, c.greatest.ensures.items) in
-    never_limited _ limits _ c.from_slice_within.ensures.limited
+    never_limited c.greatest.result limits _ c.from_slice_within.ensures.limited

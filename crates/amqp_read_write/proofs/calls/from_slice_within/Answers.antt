@@ -1,7 +1,8 @@
-use Rattle.std.proofs.Common.{arith, refl}
+use Rattle.std.proofs.Common.{arith, refl, ap}
 use Rattle.std.proofs.lemmas.Result.{err_from_is_err_and}
+use Rattle.amqp_decoder.specs.State.{State}
 use Rattle.amqp_codec.specs.ReadingLaws.{read_one, read_bounded, is_read, memory_wanted, never_failing}
-use Rattle.amqp_read_write.proofs.FromReader.{limited, refused_whole}
+use Rattle.amqp_read_write.proofs.FromReader.{limited_refused, refused_whole}
 use Rattle.amqp_read_write.proofs.calls.from_slice_within.Goals as goal
 
 pub returns-clause-found : goal.returns-clause-found
@@ -42,5 +43,6 @@ returns-in_err-value-clause-one g c v w n m h k = read_one c.args.limits.now g.T
 pub returns-in_err-value-clause-limited : goal.returns-in_err-value-clause-limited
 returns-in_err-value-clause-limited g c =
     let p = err_from_is_err_and c.from_residual.result c.from_residual.ensures.1 in
-    rw (p.1, p.2) (limited g.T.Deserialize.reading.takes_memory c.args.limits.now _ _ _ refl refl
-    (rw c.decoder_within-decoder.ensures at c.in_err-value.ensures.tries))
+    rw (p.1, p.2) (limited_refused g.T.Deserialize.reading.takes_memory c.args.limits.now c.decoder_within-decoder.result _
+    c.deserialize-read.new.decoder (ap (λ (x : State). x.error) c.decoder_within-decoder.ensures)
+    (ap (λ (x : State). x.failed.free) c.decoder_within-decoder.ensures) c.in_err-value.ensures.tries)

@@ -1,9 +1,17 @@
-use Rattle.std.proofs.Common.{◌≡◌, drop, refl, sym, ap₂, ◌∙◌, false}
+use Rattle.std.proofs.Common.{◌≡◌, length, drop, refl, sym, ap, ap₂, ◌∙◌, false}
 use Rattle.amqp_wire.specs.Sources.{known}
 use Rattle.amqp_wire.specs.Limits.{limit_of}
+use Rattle.amqp_read_write.specs.Reserved.{reserved}
 use Rattle.amqp_read_write.proofs.FromReader.{found, one, behind, refused, memory, limited, failed, failing, read_among, still_alone}
 use Rattle.amqp_read_write.proofs.Reserved.{rest_whole, reserve_left, taken_within}
 use Rattle.amqp_read_write.proofs.reader.read_named.Goals as goal
+
+pub decoder_for-decoder-requires : goal.decoder_for-decoder-requires
+decoder_for-decoder-requires g c = λ told term.
+    let one = g.T.Deserialize.reading.one_term in
+    let limit = limit_of c.args.limits.now.bytes in
+    reserve_left one limit (length (known (g.S.ByteSource.remaining c.args.source))) g.N.Name.reserve term
+    (c.requires.reserve ∙ ap (λ s. reserved one limit (length s)) (sym c.requires.origin))
 
 pub returns-clause-found : goal.returns-clause-found
 returns-clause-found g c = λ told.
@@ -56,5 +64,5 @@ returns-clause-taken g c = λ told term sound.
     let tries = rw c.decoder_for-decoder.ensures at c.deserialize-read.ensures.tries in
     let whole = sym c.source_of-source.ensures.failed ∙ sound in
     let alone = still_alone g.T.Deserialize.reading.takes_memory _ _ _ refl tries whole ∙ term in
-    rw (c.requires.origin told) (taken_within g.T.Deserialize.reading.one_term (limit_of c.args.limits.now.bytes) g.N.Name.origin _ g.N.Name.reserve
+    rw c.requires.origin (taken_within g.T.Deserialize.reading.one_term (limit_of c.args.limits.now.bytes) g.N.Name.origin _ g.N.Name.reserve
     term c.requires.reserve (c.source_of-source.result.is_rest told sound) (c.source_of-source.ensures.kept (λ s. told s.source) alone whole))
