@@ -106,7 +106,7 @@ module _ {T : Type 0} (c : ℕ) (r : Reading T) (free : IsReadWithoutLimits r) (
       record {
         after = k.last;
         read = record {
-          top = (refl, refl, refl);
+          top = (refl, refl, refl, refl);
           number = k.number;
           part = map again vs;
           last = k.last;

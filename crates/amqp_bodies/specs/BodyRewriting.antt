@@ -123,13 +123,13 @@ module _ {T : Type 0} (rv : Reading (AmqpValue T)) (rd : Reading (TransparentVec
     reads_again (Value v) more i l f ends =
         let k = tv.rewriting.reads_again v more i l f (tv.ends more (λ c is. ends c (inr (inr is)))) in
         let b = tv.begins v i l more in
-        record { after = k.after; read = ((refl, refl, refl), (subst (IsSectionAhead (row_text (tv.writing.canons v) ++ more)) b.1 b.2, k.read)); left = k.left }
+        record { after = k.after; read = ((refl, refl, refl, refl), (subst (IsSectionAhead (row_text (tv.writing.canons v) ++ more)) b.1 b.2, k.read)); left = k.left }
     reads_again (Data v) more i l f ends =
         let k = td.rewriting.reads_again v more i l f (td.ends more (λ c is. ends c (inl is))) in
-        record { after = k.after; read = ((refl, refl, refl), k.read); left = k.left }
+        record { after = k.after; read = ((refl, refl, refl, refl), k.read); left = k.left }
     reads_again (Sequence v) more i l f ends =
         let k = ts.rewriting.reads_again v more i l f (ts.ends more (λ c is. ends c (inr (inl is)))) in
-        record { after = k.after; read = ((refl, refl, refl), k.read); left = k.left }
+        record { after = k.after; read = ((refl, refl, refl, refl), k.read); left = k.left }
     reads_again Empty more i l f ends = empty.reads_again l more ends
 
     text_again : (v : Body T) → w.is_value v → AreWritable (w.canons v) → row_text (w.canons (body_again v)) ≡ row_text (w.canons v)

@@ -67,7 +67,7 @@ module _ {T : Type 0} {uv : TermType T} {wv : Writing T} (av : Agreement uv wv) 
     again = Value nil;
     reads_again = λ l more ends.
         (let k = subst (λ b. BeginsWith rv (b ++ more) nil (length b)) (sym null_text) (null_begins uv nil more is_null) in
-        record { after = k.after; read = ((refl, refl, refl), (null_ahead more, k.read)); left = k.left });
+        record { after = k.after; read = ((refl, refl, refl, refl), (null_ahead more, k.read)); left = k.left });
     text_again = ap row_text nil_canons;
   }
 

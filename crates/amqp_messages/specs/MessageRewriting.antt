@@ -307,7 +307,7 @@ module _ {M V : Type 0} (o : Order) (s : Shape M V) where
         (record {
           after = r.last;
           read = record {
-            top = (refl, refl, refl);
+            top = (refl, refl, refl, refl);
             number = r.number;
             part = so r.rest_left (after y.entries (y.parts v) s.blank);
             last = r.last;
