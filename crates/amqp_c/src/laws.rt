@@ -22,5 +22,5 @@ pub fn walks()
     ensures last { (input : List ℕ) (at : ℕ) (around : Node) → StandIn around [] (bytes_at input at around) → IsWithin input at around
         → at ≡ reach_of input around }
     ensures once { (input front after : List ℕ) (t : Term) (told : List Node) → input ≡ front ++ after → enc front t → nest t ≤ 128
-        → Walks input nothing 0 1 told → AreOf (t ∷ []) told }
+        → Walks input nothing 0 1 told → AreOf input (t ∷ []) told }
 {}
