@@ -10,7 +10,8 @@ use Rattle.amqp_model.specs.Spelling.{Spelled, descriptor_value, data_of, items_
 use Rattle.amqp_model.specs.Measures.{nest, nests, array_nest}
 use Rattle.amqp_model.specs.Refusals.{core}
 use Rattle.amqp_model.proofs.Unique.{one_front, one_term}
-use Rattle.amqp_c.specs.Nodes.{array_number, HoldsNone, HoldsTerms, IsDataNode, IsBareNode, IsTermNode, BeginsWithTerm, IsWithin, IsNode, IsNoNode, IsNoPart, bytes_at, reach_of}
+use Rattle.amqp_c.specs.Nodes.{array_number, HoldsNone, HoldsTerms, IsDataNode, IsBareNode, IsTermNode, BeginsWithTerm}
+use Rattle.amqp_c.specs.Nodes.{IsWithin, IsNode, IsNoNode, IsNoPart, bytes_at, reach_of}
 use Rattle.amqp_c.specs.Walks.{nothing, each, cores, parts_of, StandsIn, StandIn, IsNodeOf, Walks, stops, goes_on, IsMet, AreOf, of_none, of_more}
 use Rattle.amqp_c.specs.declared.nodes.Node.{Node}
 use Rattle.amqp_c.proofs.Shared.{named_term}
@@ -320,7 +321,8 @@ met input around at n told (t ∷ ts) e (first, second, s, stands, others) (goes
     let found = node_there input first second p a node t s stands is in
     let (all, within, parts) = parts_stand input first second p a node t s stands is found in
     let (b, same, within2, rest_) = others_stand input p a node t ts (first, second, s, stands, others) is in
-    of_more t ts node inner later (met_there input first second p a node t s stands found) (met input node node.next node.count inner (parts_of t) all parts w)
+    of_more t ts node inner later (met_there input first second p a node t s stands found)
+    (met input node node.next node.count inner (parts_of t) all parts w)
     (met input a node.end left later ts (omega (arith, e)) rest_ v)
 
 -- a walk of a whole term
@@ -334,7 +336,8 @@ one_met input b after around at n told t e s stands (stops a p) = absurd (omega 
 one_met input b after around at n told t e s stands (goes_on a node p left inner later is w v) =
     let found = node_there input b after p a node t s stands is in
     let (all, within, parts) = parts_stand input b after p a node t s stands is found in
-    of_more t [] node inner later (met_there input b after p a node t s stands found) (met input node node.next node.count inner (parts_of t) all parts w)
+    of_more t [] node inner later (met_there input b after p a node t s stands found)
+    (met input node node.next node.count inner (parts_of t) all parts w)
     (none_left input a node.end left later (omega (arith, e)) v)
 
 pub once_met : (input front after : List ℕ) (t : Term) (told : List Node) → input ≡ front ++ after → enc front t → nest t ≤ 128
