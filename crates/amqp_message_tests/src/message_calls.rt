@@ -38,26 +38,6 @@ fn a_copy_of_a_message(rt: HostRuntime) -> Result<(), Fail> {
     Ok(())
 }
 
-// A builder that has a default header and a section of data.
-fn begun(alloc: Global) -> Result<Builder<Data>, Fail> {
-    let section = Data::copy_of(b"a", alloc)?;
-    Ok(
-        Builder::new()
-            .header(Some(Default::default()))
-            .data(section),
-    )
-}
-
-#[test]
-fn a_copy_of_a_builder(rt: HostRuntime) -> Result<(), Fail> {
-    let builder = begun(rt.alloc())?;
-    let copy = builder.clone()?;
-    assert!(rt;
-        copy.build() == from_slice(&bytes("00537045005375a00161", rt.alloc())?, rt.alloc())?
-    );
-    Ok(())
-}
-
 #[test]
 fn written_through_a_wrapper(rt: HostRuntime) -> Result<(), Fail> {
     let alloc = rt.alloc();
