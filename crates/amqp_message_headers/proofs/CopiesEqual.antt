@@ -1,27 +1,17 @@
 -- A copy is equal to what it was made of.
-use Rattle.std.proofs.Common.{◌≡◌, ◌&&◌, ℕ, ℤ, Bool, true, nat_eq, int_eq, List, sym, subst}
-use Rattle.std.proofs.lemmas.Bool.{and_from}
-use Rattle.std.proofs.lemmas.Cmp.{nat_eq_equiv, int_eq_equiv, nat_list_eq_equiv}
+use Rattle.std.proofs.Common.{◌≡◌, ℕ, ℤ, true, nat_eq, int_eq, List, sym}
+use Rattle.std.proofs.lemmas.Bool.Decides.{Decides-int_eq}
 use Rattle.std.proofs.lemmas.List.Elements.{same_from_all_zip}
-use Rattle.std.specs.Cmp.{IsEquivalence}
-use Rattle.std.specs.Cmp.Lexicographic.{pointwise}
+use Rattle.std.proofs.lemmas.Slice.Eq.{bytes_eq-Decides}
+use Rattle.std.specs.Cmp.{unsigned_Decides}
 use Rattle.std.specs.List.{AllZip}
-
-module _ {T : Type 0} (E : T → T → Bool) (laws : IsEquivalence E) where
-  pub same_is_equal : (v w : T) → w ≡ v → E v w ≡ true
-  same_is_equal v w e = subst (λ x. E v x ≡ true) (sym e) (laws.refl v)
+use Rattle.std.specs.Str.{bytes_eq}
 
 pub same_number : (n m : ℕ) → m ≡ n → nat_eq n m ≡ true
-same_number = same_is_equal nat_eq nat_eq_equiv
+same_number n m e = (unsigned_Decides n m).1 (sym e)
 
 pub same_integer : (n m : ℤ) → m ≡ n → int_eq n m ≡ true
-same_integer = same_is_equal int_eq int_eq_equiv
+same_integer n m e = (Decides-int_eq n m).1 (sym e)
 
-pub same_bytes : (xs ys : List ℕ) → ys ≡ xs → pointwise nat_eq xs ys ≡ true
-same_bytes = same_is_equal (pointwise nat_eq) nat_list_eq_equiv
-
-pub copied_bytes : (xs ys : List ℕ) → AllZip (λ x y. y ≡ x) xs ys → pointwise nat_eq xs ys ≡ true
-copied_bytes xs ys h = same_bytes xs ys (same_from_all_zip _ xs ys h (λ x y e. e))
-
-pub both : {a b : Bool} → a ≡ true → b ≡ true → (a && b) ≡ true
-both {a} {b} h k = and_from a b h k
+pub copied_bytes : (xs ys : List ℕ) → AllZip (λ x y. y ≡ x) xs ys → bytes_eq xs ys ≡ true
+copied_bytes xs ys h = (bytes_eq-Decides xs ys).1 (sym (same_from_all_zip _ xs ys h (λ x y e. e)))
