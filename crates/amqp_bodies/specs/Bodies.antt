@@ -19,7 +19,7 @@ no_value = record { is = λ v. ⊥; test = λ v. false; tested = λ v h. absurd 
 -- group: how the body is read; empty: the values that take the place of one that isn't there; of_body: the value is made of the body
 pub record BodyLaws {S B : Type 0} (group : Reading S) (empty : B → Type 0) (same : B → B → Type 0) (count : B → ℕ)
     (of_body : S → B → Type 0) : Type 0 where
-  -- limits of the caller take nothing from it
+  -- limits of the caller bound it
   pub bound : IsBoundByLimits group
   pub same_sym : (v w : B) → same v w → same w v
   pub same_trans : (v w x : B) → same v w → same w x → same v x
