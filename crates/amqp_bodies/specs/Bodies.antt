@@ -16,6 +16,14 @@ pub record Empties (B : Type 0) : Type 1 where
 abbrev pub no_value : {B : Type 0} → Empties B
 no_value = record { is = λ v. ⊥; test = λ v. false; tested = λ v h. absurd h }
 
+-- What is the same of the one reading is the same of the other, which counts no more values in it.
+pub record IsLike {S : Type 0} (r other : Reading S) : Type 0 where
+  pub same : (s t : S) → r.same s t → other.same s t
+  pub counted : (s : S) → other.count s ≤ r.count s
+
+pub like_itself : {S : Type 0} (r : Reading S) → IsLike r r
+like_itself r = record { same = λ s t h. h; counted = λ s. omega arith }
+
 -- group: how the body is read; empty: the values that take the place of one that isn't there; of_body: the value is made of the body
 pub record BodyLaws {S B : Type 0} (group : Reading S) (empty : B → Type 0) (same : B → B → Type 0) (count : B → ℕ)
     (of_body : S → B → Type 0) : Type 0 where

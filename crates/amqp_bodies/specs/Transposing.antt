@@ -6,7 +6,7 @@ use Rattle.amqp_codec.specs.Reading.{Reading}
 use Rattle.amqp_batches.specs.Bounds.{IsBoundByLimits}
 use Rattle.amqp_batches.specs.SectionGroups.{run_reading}
 use Rattle.amqp_bodies.specs.SeenReading.{seen_reading}
-use Rattle.amqp_bodies.specs.Bodies.{Made}
+use Rattle.amqp_bodies.specs.Bodies.{Made, IsLike}
 use Rattle.amqp_bodies.specs.SomeReading.{some_reading, some_bound}
 
 -- Where there is nothing in what is read so, and what else stands in it, with the laws. `whole` is how the latter is read by itself.
@@ -17,11 +17,25 @@ pub record Stripped {F S : Type 0} (group : Reading F) (whole : Reading S) : Typ
   pub apart : (f g : F) (t : S) → group.same f g → is_nothing f → holds g t → ⊥
   pub counted : (f : F) (s : S) → holds f s → whole.count s ≤ group.count f
 
+-- So it is of what is read like the latter.
+abbrev pub stripped_as : {F S : Type 0} {group : Reading F} {whole other : Reading S} → IsLike whole other → Stripped group whole
+    → Stripped group other
+stripped_as l x = record {
+  is_nothing = x.is_nothing;
+  holds = x.holds;
+  one = λ f g s t h i j. l.same s t (x.one f g s t h i j);
+  apart = x.apart;
+  counted = λ f s i. omega (arith, x.counted f s i, l.counted s);
+}
+
 -- How a body is read in which there may be nothing.
 pub record Transposed (F : Type 0) {S : Type 0} (whole : Reading S) : Type 1 where
   pub group : Reading F
   pub bound : IsBoundByLimits group
   pub stripped : Stripped group whole
+
+abbrev pub transposed_as : {F S : Type 0} {whole other : Reading S} → IsLike whole other → Transposed F whole → Transposed F other
+transposed_as l t = record { group = t.group; bound = t.bound; stripped = stripped_as l t.stripped }
 
 -- The value is absent where there is nothing in the body, and is else made of what stands in it.
 abbrev pub IsTransposed : {F S B : Type 0} (m : Made S B) → Transposed F m.group → F → Option B → Type 0

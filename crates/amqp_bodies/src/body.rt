@@ -7,6 +7,7 @@ ghost use Rattle.amqp_sections.specs.SectionType.{section_of, section_agreement}
 ghost use Rattle.amqp_sections.specs.Sections.{data_naming, in_data, sequence_naming, in_sequence, value_naming, in_value};
 ghost use Rattle.amqp_batches.specs.RepeatedSections.{data_section, sequence_section};
 ghost use Rattle.amqp_bodies.specs.BodyRewriting.{NoBodyFollows};
+ghost use Rattle.amqp_bodies.specs.Bodies.{like_itself};
 ghost use Rattle.amqp_bodies.specs.BodySections.{again_as_body, IsReadAsBody, IsSome, value_section, any_body_rewrites};
 ghost use Rattle.amqp_bodies.specs.BodySections.{empty_body, body_made, any_body_bound};
 ghost use Rattle.amqp_codec.specs.TermReading.{reading_of};
@@ -141,6 +142,8 @@ impl<T: DeserializeTerm> FromBody for Body<T> {
     fn read_body<R: ByteSource>(decoder: &mut Decoder<R>, alloc: Global) -> Result<Body<T>, Error> {
         <Body<T> as DeserializableBody>::read_group(decoder, alloc)
     }
+
+    ghost like_body = { like_itself _ };
 
     ghost empty_is = { λ v h. h };
 

@@ -47,6 +47,8 @@ where
         <T::Body as TransposeOption<T>>::read_from(decoder, alloc)
     }
 
+    ghost like_body = { T.Body.like_from };
+
     ghost empty_is = { T.Body.none_is };
 
     ghost is_empty = { T.Body.is_none };

@@ -1,5 +1,5 @@
 //! Values that are read from the body of a message (Part 3, section 3.2.8).
-ghost use Rattle.amqp_bodies.specs.Bodies.{no_value};
+ghost use Rattle.amqp_bodies.specs.Bodies.{no_value, like_itself};
 ghost use Rattle.amqp_bodies.specs.BodySections.{plain_made};
 
 use crate::traits::{
@@ -52,6 +52,8 @@ impl<T: ValueFromBody> FromBody for T {
     ) -> Result<AmqpValue<T>, Error> {
         <AmqpValue<T> as DeserializableBody>::read_group(decoder, alloc)
     }
+
+    ghost like_body = { like_itself _ };
 
     ghost empty_is = { λ v h. h };
 

@@ -14,7 +14,7 @@ ghost use Rattle.amqp_bodies.specs.BodyTexts.{section_is_text, batch_is_text};
 ghost use Rattle.amqp_bodies.specs.NullBodies.{value_is_text};
 ghost use Rattle.amqp_codec.specs.TermReading.{reading_of};
 ghost use Rattle.amqp_batches.specs.SectionGroups.{run_reading, group_bound};
-ghost use Rattle.amqp_bodies.specs.Bodies.{itself, section_made, no_value};
+ghost use Rattle.amqp_bodies.specs.Bodies.{itself, section_made, no_value, like_itself};
 ghost use Rattle.amqp_bodies.specs.BodySections.{value_made};
 ghost use Rattle.amqp_bodies.specs.SeenReading.{seen_reading, seen_bound};
 
@@ -157,6 +157,8 @@ impl<T: DeserializeTerm + FromEmptyBody> FromBody for AmqpValue<T> {
         <AmqpValue<T> as DeserializableBody>::read_group(decoder, alloc)
     }
 
+    ghost like_body = { like_itself _ };
+
     ghost empty_is = { λ v h. h };
 
     ghost is_empty = { λ v h. h };
@@ -178,6 +180,8 @@ impl<T: DeserializeTerm> FromBody for AmqpSequence<T> {
         <AmqpSequence<T> as DeserializableBody>::read_group(decoder, alloc)
     }
 
+    ghost like_body = { like_itself _ };
+
     ghost empty_is = { λ v h. h };
 
     ghost is_empty = { λ v h. h };
@@ -195,6 +199,8 @@ impl FromBody for Data {
     fn read_body<R: ByteSource>(decoder: &mut Decoder<R>, alloc: Global) -> Result<Data, Error> {
         <Data as DeserializableBody>::read_group(decoder, alloc)
     }
+
+    ghost like_body = { like_itself _ };
 
     ghost empty_is = { λ v h. h };
 
@@ -217,6 +223,8 @@ impl<T: BatchItem + DeserializeTerm> FromBody for TransparentVec<T> {
     ) -> Result<TransparentVec<T>, Error> {
         <TransparentVec<T> as DeserializableBody>::read_group(decoder, alloc)
     }
+
+    ghost like_body = { like_itself _ };
 
     ghost empty_is = { λ v h. h };
 

@@ -1,5 +1,5 @@
 //! What can be the body of a message (Part 3, section 3.2).
-ghost use Rattle.std.specs.Prelude.{◌≡◌, ◌⊎◌, ◌∷◌, [], ℕ, List, Option, Some, None, IfOk, IfErr};
+ghost use Rattle.std.specs.Prelude.{◌≡◌, ◌⊎◌, ◌∷◌, [], ℕ, List, Option, Some, None, IfOk, IfErr, MatchOption};
 ghost use Rattle.amqp_bodies.specs.BodyTexts.{IsBodyText};
 ghost use Rattle.amqp_bodies.specs.NullBodies.{IsNull};
 ghost use Rattle.amqp_model.specs.Term.{null, leaf};
@@ -8,7 +8,9 @@ ghost use Rattle.amqp_wire.specs.declared.error.Error.TheVariants.{Memory, Empty
 ghost use Rattle.amqp_decoder.specs.Reading.{AnswersRead};
 ghost use Rattle.amqp_decoder.specs.Steps.{Tries};
 ghost use Rattle.amqp_codec.specs.Reading.{Reading};
-ghost use Rattle.amqp_bodies.specs.Bodies.{Empties, Made};
+ghost use Rattle.amqp_bodies.specs.Bodies.{Empties, Made, IsLike};
+ghost use Rattle.amqp_bodies.specs.SomeReading.{some_reading};
+ghost use Rattle.amqp_bodies.specs.Transposing.{Transposed};
 
 use amqp_codec::{DeserializeTerm, Serialize, SerializeTerm};
 use amqp_decoder::Decoder;
@@ -96,6 +98,9 @@ pub trait FromBody: FromEmptyBody + Drop {
             decoder.new }
         ensures tries { Tries made.group.takes_memory decoder.old result decoder.new };
 
+    // It is read like any body of that type.
+    ghost like_body: { IsLike Self.Body.group made.group };
+
     // The values that take the place of a body that isn't there are those that `from_empty_body` tells of.
     ghost empty_is: { (v : Self) → Self.FromEmptyBody.empties.is v → made.empty v };
 
@@ -125,6 +130,9 @@ pub trait TransposeOption<To: FromBody>: BodySection + Sized {
             decoder.old result decoder.new }
         ensures tries { Tries transposed.group.takes_memory decoder.old result decoder.new };
 
+    // It is read like any body of that type.
+    ghost like_from: { IsLike From.group transposed.group };
+
     // What takes the place of a body that isn't there is that there is nothing.
     ghost none_is: { (v : Option To) → v ≡ None → transposed.empty v };
 
@@ -132,13 +140,13 @@ pub trait TransposeOption<To: FromBody>: BodySection + Sized {
 }
 
 /// A body that may be empty, and is nothing then. It isn't exported, so no other crate adds one.
-pub trait EmptyIsNothing: DeserializableBody + FromBody<Body = Self> {
-    // How it is read where it may be absent, and what is made of it, with the laws.
-    ghost optional: { Made (Option Self) (Option Self) };
+pub trait EmptyIsNothing: DeserializableBody {
+    // How it is read where it may be absent, and when it is nothing, with the laws.
+    ghost optional: { Transposed (Option Self) Self.group };
 
     /// Itself, or `None` if it is empty.
     fn unless_empty(self) -> Option<Self>
-        ensures { optional.of_body (Some self) result };
+        ensures { MatchOption result (optional.stripped.is_nothing (Some self)) (optional.stripped.holds (Some self)) };
 
     /// Reads a group of its sections, where a section of a body comes next.
     fn read_optional<R: ByteSource>(
@@ -149,12 +157,11 @@ pub trait EmptyIsNothing: DeserializableBody + FromBody<Body = Self> {
             result decoder.new }
         ensures tries { Tries optional.group.takes_memory decoder.old result decoder.new };
 
-    // What isn't there is made of what isn't there, and takes its place.
-    ghost of_none: { optional.of_body None None };
+    // What isn't there is nothing.
+    ghost of_none: { optional.stripped.is_nothing None };
 
-    ghost none_is: { (v : Option Self) → v ≡ None → optional.empty v };
-
-    ghost is_none: { (v : Option Self) → optional.empty v → v ≡ None };
+    // It is read like any body that may be absent.
+    ghost like_optional: { IsLike (some_reading Self.group) optional.group };
 }
 
 /// What can be both written and read as the body of a message, so that each message has one canonical text.

@@ -5,18 +5,16 @@ ghost use Rattle.amqp_wire.specs.declared.error.Error.TheVariants.{Memory};
 ghost use Rattle.amqp_batches.specs.BoundLaws.{term_bound};
 ghost use Rattle.amqp_batches.specs.Batches.{sections_in};
 ghost use Rattle.amqp_batches.specs.SectionGroups.{group_bound};
-ghost use Rattle.amqp_bodies.specs.Bodies.{section_made};
+ghost use Rattle.amqp_bodies.specs.Bodies.{like_itself};
 ghost use Rattle.amqp_bodies.specs.BodySections.{any_body_bound};
 ghost use Rattle.amqp_bodies.specs.SeenReading.{seen_bound};
-ghost use Rattle.amqp_bodies.specs.Transposing.{optional, option_made, seen_stripped, run_stripped};
+ghost use Rattle.amqp_bodies.specs.Transposing.{optional, option_made, transposed_as, seen_stripped, run_stripped};
 ghost use Rattle.amqp_bodies.specs.StrippedBodies.{HasNone, AreAll, value_stripped, sequence_stripped, batch_stripped};
 ghost use Rattle.amqp_bodies.specs.StrippedBodies.{data_stripped, data_batch_stripped};
 ghost use Rattle.amqp_bodies.specs.StrippedKinds.{body_stripped};
 
 use crate::body::Body;
-use crate::traits::{
-    DeserializableBody, EmptyIsNothing, FromBody, FromEmptyBody, TransposeOption, ValueFromBody,
-};
+use crate::traits::{DeserializableBody, EmptyIsNothing, FromBody, TransposeOption};
 use amqp_batches::{Batch, TransparentVec};
 use amqp_codec::{Deserialize, DeserializeTerm};
 use amqp_decoder::Decoder;
@@ -67,15 +65,18 @@ fn all_sequences<T: Drop>(
 }
 
 /// Nothing is a null.
-impl<T: ValueFromBody> TransposeOption<T> for AmqpValue<T> {
+impl<T: DeserializeTerm, To> TransposeOption<To> for AmqpValue<T>
+where
+    To: FromBody<Body = AmqpValue<T>>,
+{
     type From = Option<AmqpValue<Option<T>>>;
 
-    ghost transposed = { option_made ⟦<T as FromBody>⟧.made
-        (optional (value_stripped T.term) (term_bound ⟦<AmqpValue<Option<T>> as DeserializeTerm>⟧.term)) };
+    ghost transposed = { option_made To.made
+        (transposed_as To.like_body (optional (value_stripped T.term) (term_bound ⟦<AmqpValue<Option<T>> as DeserializeTerm>⟧.term))) };
 
-    fn transpose(src: Option<AmqpValue<Option<T>>>, alloc: Global) -> Result<Option<T>, Error> {
+    fn transpose(src: Option<AmqpValue<Option<T>>>, alloc: Global) -> Result<Option<To>, Error> {
         match src {
-            Some(AmqpValue(Some(value))) => Ok(Some(T::from_body(AmqpValue(value), alloc)?)),
+            Some(AmqpValue(Some(value))) => Ok(Some(To::from_body(AmqpValue(value), alloc)?)),
             Some(AmqpValue(None)) | None => Ok(None),
         }
     }
@@ -87,34 +88,7 @@ impl<T: ValueFromBody> TransposeOption<T> for AmqpValue<T> {
         <Option<AmqpValue<Option<T>>> as DeserializableBody>::read_group(decoder, alloc)
     }
 
-    ghost none_is = { λ v h. h };
-
-    ghost is_none = { λ v h. h };
-}
-
-/// Nothing is a null.
-impl<T: DeserializeTerm + FromEmptyBody> TransposeOption<AmqpValue<T>> for AmqpValue<T> {
-    type From = Option<AmqpValue<Option<T>>>;
-
-    ghost transposed = { option_made ⟦<AmqpValue<T> as FromBody>⟧.made
-        (optional (value_stripped T.term) (term_bound ⟦<AmqpValue<Option<T>> as DeserializeTerm>⟧.term)) };
-
-    fn transpose(
-        src: Option<AmqpValue<Option<T>>>,
-        _alloc: Global,
-    ) -> Result<Option<AmqpValue<T>>, Error> {
-        match src {
-            Some(AmqpValue(Some(value))) => Ok(Some(AmqpValue(value))),
-            Some(AmqpValue(None)) | None => Ok(None),
-        }
-    }
-
-    fn read_from<R: ByteSource>(
-        decoder: &mut Decoder<R>,
-        alloc: Global,
-    ) -> Result<Option<AmqpValue<Option<T>>>, Error> {
-        <Option<AmqpValue<Option<T>>> as DeserializableBody>::read_group(decoder, alloc)
-    }
+    ghost like_from = { like_itself _ };
 
     ghost none_is = { λ v h. h };
 
@@ -122,23 +96,23 @@ impl<T: DeserializeTerm + FromEmptyBody> TransposeOption<AmqpValue<T>> for AmqpV
 }
 
 /// Nothing is a sequence without items, and one with a null among them.
-impl<T: DeserializeTerm> TransposeOption<AmqpSequence<T>> for AmqpSequence<T> {
+impl<T: DeserializeTerm, To> TransposeOption<To> for AmqpSequence<T>
+where
+    To: FromBody<Body = AmqpSequence<T>>,
+{
     type From = Option<AmqpSequence<Option<T>>>;
 
-    ghost transposed = { option_made ⟦<AmqpSequence<T> as FromBody>⟧.made
-        (optional (sequence_stripped T.term) (term_bound ⟦<AmqpSequence<Option<T>> as DeserializeTerm>⟧.term)) };
+    ghost transposed = { option_made To.made
+        (transposed_as To.like_body (optional (sequence_stripped T.term) (term_bound ⟦<AmqpSequence<Option<T>> as DeserializeTerm>⟧.term))) };
 
-    fn transpose(
-        src: Option<AmqpSequence<Option<T>>>,
-        alloc: Global,
-    ) -> Result<Option<AmqpSequence<T>>, Error> {
+    fn transpose(src: Option<AmqpSequence<Option<T>>>, alloc: Global) -> Result<Option<To>, Error> {
         match src {
             Some(sequence) => match all_items(sequence.0, alloc)? {
                 Some(items) => {
                     if items.is_empty() {
                         return Ok(None);
                     }
-                    Ok(Some(AmqpSequence(items)))
+                    Ok(Some(To::from_body(AmqpSequence(items), alloc)?))
                 }
                 None => Ok(None),
             },
@@ -153,26 +127,33 @@ impl<T: DeserializeTerm> TransposeOption<AmqpSequence<T>> for AmqpSequence<T> {
         <Option<AmqpSequence<Option<T>>> as DeserializableBody>::read_group(decoder, alloc)
     }
 
+    ghost like_from = { like_itself _ };
+
     ghost none_is = { λ v h. h };
 
     ghost is_none = { λ v h. h };
 }
 
 /// Nothing is a batch without sequences, and one with a null among the items of a sequence.
-impl<T: DeserializeTerm> TransposeOption<TransparentVec<AmqpSequence<T>>>
-    for TransparentVec<AmqpSequence<T>> {
+impl<T: DeserializeTerm, To> TransposeOption<To> for TransparentVec<AmqpSequence<T>>
+where
+    To: FromBody<Body = TransparentVec<AmqpSequence<T>>>,
+{
     type From = Option<TransparentVec<AmqpSequence<Option<T>>>>;
 
-    ghost transposed = { option_made ⟦<TransparentVec<AmqpSequence<T>> as FromBody>⟧.made
-        (optional (seen_stripped (run_stripped 0x76 (batch_stripped T.term)))
-        (seen_bound _ (group_bound 0x76 ⟦<AmqpSequence<Option<T>> as DeserializeTerm>⟧.term))) };
+    ghost transposed = { option_made To.made
+        (transposed_as To.like_body (optional (seen_stripped (run_stripped 0x76 (batch_stripped T.term)))
+        (seen_bound _ (group_bound 0x76 ⟦<AmqpSequence<Option<T>> as DeserializeTerm>⟧.term)))) };
 
     fn transpose(
         src: Option<TransparentVec<AmqpSequence<Option<T>>>>,
         alloc: Global,
-    ) -> Result<Option<TransparentVec<AmqpSequence<T>>>, Error> {
+    ) -> Result<Option<To>, Error> {
         match src {
-            Some(batch) if !batch.is_empty() => all_sequences(batch, alloc),
+            Some(batch) if !batch.is_empty() => match all_sequences(batch, alloc)? {
+                Some(sequences) => Ok(Some(To::from_body(sequences, alloc)?)),
+                None => Ok(None),
+            },
             Some(_) | None => Ok(None),
         }
     }
@@ -186,6 +167,8 @@ impl<T: DeserializeTerm> TransposeOption<TransparentVec<AmqpSequence<T>>>
         )
     }
 
+    ghost like_from = { like_itself _ };
+
     ghost none_is = { λ v h. h };
 
     ghost is_none = { λ v h. h };
@@ -193,8 +176,7 @@ impl<T: DeserializeTerm> TransposeOption<TransparentVec<AmqpSequence<T>>>
 
 /// Nothing is data without bytes.
 impl EmptyIsNothing for Data {
-    ghost optional = { option_made (section_made ⟦<Data as DeserializeTerm>⟧.term)
-        (optional data_stripped (term_bound ⟦<Data as DeserializeTerm>⟧.term)) };
+    ghost optional = { optional data_stripped (term_bound ⟦<Data as DeserializeTerm>⟧.term) };
 
     fn unless_empty(self) -> Option<Data> {
         if self.0.0.is_empty() {
@@ -212,25 +194,23 @@ impl EmptyIsNothing for Data {
 
     ghost of_none = { tt };
 
-    ghost none_is = { λ v h. h };
-
-    ghost is_none = { λ v h. h };
+    ghost like_optional = { like_itself _ };
 }
 
 /// Nothing is a batch without sections.
-impl TransposeOption<TransparentVec<Data>> for TransparentVec<Data> {
+impl<To> TransposeOption<To> for TransparentVec<Data>
+where
+    To: FromBody<Body = TransparentVec<Data>>,
+{
     type From = Option<TransparentVec<Data>>;
 
-    ghost transposed = { option_made ⟦<TransparentVec<Data> as FromBody>⟧.made
-        (optional (seen_stripped (run_stripped 0x75 data_batch_stripped))
-        (seen_bound _ (group_bound 0x75 ⟦<Data as DeserializeTerm>⟧.term))) };
+    ghost transposed = { option_made To.made
+        (transposed_as To.like_body (optional (seen_stripped (run_stripped 0x75 data_batch_stripped))
+        (seen_bound _ (group_bound 0x75 ⟦<Data as DeserializeTerm>⟧.term)))) };
 
-    fn transpose(
-        src: Option<TransparentVec<Data>>,
-        alloc: Global,
-    ) -> Result<Option<TransparentVec<Data>>, Error> {
+    fn transpose(src: Option<TransparentVec<Data>>, alloc: Global) -> Result<Option<To>, Error> {
         match src {
-            Some(batch) if !batch.is_empty() => Ok(Some(batch)),
+            Some(batch) if !batch.is_empty() => Ok(Some(To::from_body(batch, alloc)?)),
             Some(_) | None => Ok(None),
         }
     }
@@ -242,20 +222,28 @@ impl TransposeOption<TransparentVec<Data>> for TransparentVec<Data> {
         <Option<TransparentVec<Data>> as DeserializableBody>::read_group(decoder, alloc)
     }
 
+    ghost like_from = { like_itself _ };
+
     ghost none_is = { λ v h. h };
 
     ghost is_none = { λ v h. h };
 }
 
 /// Nothing is a body that is empty.
-impl<T: EmptyIsNothing> TransposeOption<T> for T {
+impl<T: EmptyIsNothing, To> TransposeOption<To> for T
+where
+    To: FromBody<Body = T>,
+{
     type From = Option<T>;
 
-    ghost transposed = { T.optional };
+    ghost transposed = { option_made To.made (transposed_as To.like_body T.optional) };
 
-    fn transpose(src: Option<T>, _alloc: Global) -> Result<Option<T>, Error> {
+    fn transpose(src: Option<T>, alloc: Global) -> Result<Option<To>, Error> {
         match src {
-            Some(body) => Ok(body.unless_empty()),
+            Some(body) => match body.unless_empty() {
+                Some(body) => Ok(Some(To::from_body(body, alloc)?)),
+                None => Ok(None),
+            },
             None => Ok(None),
         }
     }
@@ -267,29 +255,38 @@ impl<T: EmptyIsNothing> TransposeOption<T> for T {
         T::read_optional(decoder, alloc)
     }
 
-    ghost none_is = { T.none_is };
+    ghost like_from = { T.like_optional };
 
-    ghost is_none = { T.is_none };
+    ghost none_is = { λ v h. h };
+
+    ghost is_none = { λ v h. h };
 }
 
 /// Nothing is a null, a batch without sections, a null among the items of a sequence, and no body.
-impl<T: DeserializeTerm> TransposeOption<Body<T>> for Body<T> {
+impl<T: DeserializeTerm, To> TransposeOption<To> for Body<T>
+where
+    To: FromBody<Body = Body<T>>,
+{
     type From = Body<Option<T>>;
 
-    ghost transposed = { option_made ⟦<Body<T> as FromBody>⟧.made
+    ghost transposed = { option_made To.made (transposed_as To.like_body
         (record {
           group = ⟦<Body<Option<T>> as Deserialize>⟧.reading;
           bound = seen_bound _ (any_body_bound ⟦<AmqpValue<Option<T>> as DeserializeTerm>⟧.term
               ⟦<Data as DeserializeTerm>⟧.term ⟦<AmqpSequence<Option<T>> as DeserializeTerm>⟧.term);
           stripped = seen_stripped (body_stripped (value_stripped T.term) data_batch_stripped (batch_stripped T.term));
-        }) };
+        })) };
 
-    fn transpose(src: Body<Option<T>>, alloc: Global) -> Result<Option<Body<T>>, Error> {
+    fn transpose(src: Body<Option<T>>, alloc: Global) -> Result<Option<To>, Error> {
         match src {
-            Body::Value(AmqpValue(Some(value))) => Ok(Some(Body::Value(AmqpValue(value)))),
-            Body::Data(batch) if !batch.is_empty() => Ok(Some(Body::Data(batch))),
+            Body::Value(AmqpValue(Some(value))) => {
+                Ok(Some(To::from_body(Body::Value(AmqpValue(value)), alloc)?))
+            }
+            Body::Data(batch) if !batch.is_empty() => {
+                Ok(Some(To::from_body(Body::Data(batch), alloc)?))
+            }
             Body::Sequence(batch) if !batch.is_empty() => match all_sequences(batch, alloc)? {
-                Some(sequences) => Ok(Some(Body::Sequence(sequences))),
+                Some(sequences) => Ok(Some(To::from_body(Body::Sequence(sequences), alloc)?)),
                 None => Ok(None),
             },
             _ => Ok(None),
@@ -302,6 +299,8 @@ impl<T: DeserializeTerm> TransposeOption<Body<T>> for Body<T> {
     ) -> Result<Body<Option<T>>, Error> {
         <Body<Option<T>> as DeserializableBody>::read_group(decoder, alloc)
     }
+
+    ghost like_from = { like_itself _ };
 
     ghost none_is = { λ v h. h };
 
