@@ -46,7 +46,8 @@ code_left (d ∷ es) c x left behind others e (first, second, is, n, k) some =
     absurd (some (heads x 0 others ((first ++ second) ++ behind) (e ∙ ap (λ l. l ++ behind) is)).0)
 
 abbrev Named : ℕ → List ℕ → List ℕ → List ℕ → Type 0
-Named c others left behind = (d : Descriptor) × (es : List Descriptor) × (first second : List ℕ) × (others ≡ first ++ (second ++ behind)) × Names d first
+Named c others left behind =
+    (d : Descriptor) × (es : List Descriptor) × (first second : List ℕ) × (others ≡ first ++ (second ++ behind)) × Names d first
     × Constructor es c second × (length left ≡ 1 + (length first + length second))
 
 descriptor_left : (es : List Descriptor) (c : ℕ) (left behind others : List ℕ) → 0 ∷ others ≡ left ++ behind → Constructor es c left

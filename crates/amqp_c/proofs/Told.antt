@@ -207,7 +207,8 @@ abbrev Bare : Term → List ℕ → Type 0
 Bare t b = (c : ℕ) × (others : List ℕ) × (b ≡ c ∷ others) × IsDataOf t [] c others × IsKnown (format c)
 
 abbrev Described : Term → List ℕ → Type 0
-Described t b = (d : Descriptor) × (u : Term) × (first second : List ℕ) × (t ≡ described d u) × (b ≡ 0 ∷ (first ++ second)) × Names d first × IsSpelling second u
+Described t b =
+    (d : Descriptor) × (u : Term) × (first second : List ℕ) × (t ≡ described d u) × (b ≡ 0 ∷ (first ++ second)) × Names d first × IsSpelling second u
 
 under : (t : Term) (d : Descriptor) (ds : List Descriptor) (c : ℕ) (b : List ℕ) → IsDataOf t (d ∷ ds) c b
     → (u : Term) × (t ≡ described d u) × IsDataOf u ds c b

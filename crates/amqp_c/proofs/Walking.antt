@@ -10,8 +10,9 @@ use Rattle.amqp_model.specs.Spelling.{Spelled, descriptor_value, IsDataOf, AreIt
 use Rattle.amqp_model.specs.Measures.{nest, nests, array_nest}
 use Rattle.amqp_model.specs.Refusals.{core}
 use Rattle.amqp_model.proofs.Unique.{one_front, one_term}
-use Rattle.amqp_c.specs.Nodes.{array_number, HoldsNone, HoldsTerms, IsDataNode, IsBareNode, IsTermNode, BeginsWithTerm, IsWithin, IsNode, IsNoNode, IsNoPart, bytes_at, reach_of}
-use Rattle.amqp_c.specs.Walks.{nothing, each, cores, parts_of, StandsIn, StandIn, IsNodeOf, Walks, stops, goes_on, AreOf, of_none, of_more}
+use Rattle.amqp_c.specs.Nodes.{array_number, HoldsNone, HoldsTerms, IsDataNode, IsBareNode, IsTermNode, BeginsWithTerm}
+use Rattle.amqp_c.specs.Nodes.{IsWithin, IsNode, IsNoNode, IsNoPart, bytes_at, reach_of}
+use Rattle.amqp_c.specs.Walks.{nothing, each, cores, parts_of, StandsIn, StandIn, IsNodeOf, Walks, stops, goes_on, IsMet, AreOf, of_none, of_more}
 use Rattle.amqp_c.specs.declared.nodes.Node.{Node}
 use Rattle.amqp_c.proofs.Shared.{named_term}
 
@@ -305,9 +306,14 @@ goes_so input at around t ts e (first, second, is, stands, others) within (inr h
 pub stops_so : (input : List ℕ) (at : ℕ) (around : Node) → bytes_at input at around ≡ [] → IsWithin input at around → at ≡ reach_of input around
 stops_so input at around e within = let all = size_at input [] at around within e in omega (arith, all)
 
+met_there : (input b after : List ℕ) (at : ℕ) (around node : Node) (t : Term) → bytes_at input at around ≡ b ++ after → StandsIn around t b
+    → IsNodeOf around t b at node → IsMet input t node
+met_there input b after at around node t e stands told =
+    record { around = around; at = at; front = b; after = after; is = e; stands = stands; told = told }
+
 -- a walk meets each once
 pub met : (input : List ℕ) (around : Node) (at n : ℕ) (told : List Node) (ts : List Term) → n ≡ length ts
-    → StandIn around ts (bytes_at input at around) → Walks input around at n told → AreOf ts told
+    → StandIn around ts (bytes_at input at around) → Walks input around at n told → AreOf input ts told
 met input around at n told [] e h (stops a p) = of_none
 met input around at n told (t ∷ ts) e h (stops a p) = absurd (omega (arith, e))
 met input around at n told [] e h (goes_on a node p left inner later is w v) = absurd (omega (arith, e))
@@ -315,25 +321,27 @@ met input around at n told (t ∷ ts) e (first, second, s, stands, others) (goes
     let found = node_there input first second p a node t s stands is in
     let (all, within, parts) = parts_stand input first second p a node t s stands is found in
     let (b, same, within2, rest_) = others_stand input p a node t ts (first, second, s, stands, others) is in
-    of_more t ts a node first p inner later found (met input node node.next node.count inner (parts_of t) all parts w)
+    of_more t ts node inner later (met_there input first second p a node t s stands found)
+    (met input node node.next node.count inner (parts_of t) all parts w)
     (met input a node.end left later ts (omega (arith, e)) rest_ v)
 
 -- a walk of a whole term
-none_left : (input : List ℕ) (around : Node) (at n : ℕ) (told : List Node) → n ≡ 0 → Walks input around at n told → AreOf [] told
+none_left : (input : List ℕ) (around : Node) (at n : ℕ) (told : List Node) → n ≡ 0 → Walks input around at n told → AreOf input [] told
 none_left input around at n told e (stops a p) = of_none
 none_left input around at n told e (goes_on a node p left inner later is w v) = absurd (omega (arith, e))
 
 one_met : (input b after : List ℕ) (around : Node) (at n : ℕ) (told : List Node) (t : Term) → n ≡ 1 → bytes_at input at around ≡ b ++ after
-    → StandsIn around t b → Walks input around at n told → AreOf (t ∷ []) told
+    → StandsIn around t b → Walks input around at n told → AreOf input (t ∷ []) told
 one_met input b after around at n told t e s stands (stops a p) = absurd (omega (arith, e))
 one_met input b after around at n told t e s stands (goes_on a node p left inner later is w v) =
     let found = node_there input b after p a node t s stands is in
     let (all, within, parts) = parts_stand input b after p a node t s stands is found in
-    of_more t [] a node b p inner later found (met input node node.next node.count inner (parts_of t) all parts w)
+    of_more t [] node inner later (met_there input b after p a node t s stands found)
+    (met input node node.next node.count inner (parts_of t) all parts w)
     (none_left input a node.end left later (omega (arith, e)) v)
 
 pub once_met : (input front after : List ℕ) (t : Term) (told : List Node) → input ≡ front ++ after → IsSpelling front t → nest t ≤ 128
-    → Walks input nothing 0 1 told → AreOf (t ∷ []) told
+    → Walks input nothing 0 1 told → AreOf input (t ∷ []) told
 once_met input front after t told e h deep w =
     one_met input front after nothing 0 1 told t refl (take_all (length input - 0) input (omega arith) ∙ e)
     (record { term = λ _. h; item = λ a. absurd (omega (arith, a)); nests = deep }) w

@@ -120,8 +120,8 @@ pub record BeginsWithTerm (bytes : List ℕ) (at : ℕ) (node : Node) : Type 0 w
   pub nests : nest term ≤ 128
   pub told : IsTermNode term front at node
 
--- The bytes from the place on begin with as much data as the code of an array's items announces, and the node is that of the term whose data under the
--- code they begin with, if there is one.
+-- The bytes from the place on begin with as much data as the code of an array's items announces, and the node is that of the term whose data under
+-- the code they begin with, if there is one.
 pub record BeginsWithItem (c : ℕ) (bytes : List ℕ) (at : ℕ) (node : Node) : Type 0 where
   pub front : List ℕ
   pub after : List ℕ

@@ -4,7 +4,7 @@ use Rattle.amqp_model.specs.Term.{Term, Terms, leaf, container, described, list,
 use Rattle.amqp_model.specs.Spelling.{Joined, descriptor_value, IsDataOf, IsSpelling}
 use Rattle.amqp_model.specs.Measures.{nest}
 use Rattle.amqp_model.specs.Refusals.{core}
-use Rattle.amqp_c.specs.Nodes.{array_number, IsTermNode, IsDataNode, IsNode}
+use Rattle.amqp_c.specs.Nodes.{array_number, IsTermNode, IsDataNode, IsNode, bytes_at}
 use Rattle.amqp_c.specs.declared.nodes.Node.{Node}
 
 -- What stands around a whole term.
@@ -51,8 +51,18 @@ pub data Walks (input : List ℕ) : Node → ℕ → ℕ → List Node → Type 
       → Walks input node node.next node.count inner → Walks input around node.end left later
       → Walks input around at (suc left) (node ∷ (inner ++ later))
 
--- The nodes are those of the terms and of all that stand in them, each once: behind the node of a term stand those of its parts.
-pub data AreOf : List Term → List Node → Type 0 where
-  of_none : AreOf [] []
-  of_more : (t : Term) (ts : List Term) (around node : Node) (b : List ℕ) (at : ℕ) (inner later : List Node) → IsNodeOf around t b at node
-      → AreOf (parts_of t) inner → AreOf ts later → AreOf (t ∷ ts) (node ∷ (inner ++ later))
+-- The term stands at a place of the input, and the node is its.
+pub record IsMet (input : List ℕ) (t : Term) (node : Node) : Type 0 where
+  pub around : Node
+  pub at : ℕ
+  pub front : List ℕ
+  pub after : List ℕ
+  pub is : bytes_at input at around ≡ front ++ after
+  pub stands : StandsIn around t front
+  pub told : IsNodeOf around t front at node
+
+-- The nodes are those of the terms and of all that stand in them, each once: behind the node of a term are those of its parts.
+pub data AreOf (input : List ℕ) : List Term → List Node → Type 0 where
+  of_none : AreOf input [] []
+  of_more : (t : Term) (ts : List Term) (node : Node) (inner later : List Node) → IsMet input t node → AreOf input (parts_of t) inner
+      → AreOf input ts later → AreOf input (t ∷ ts) (node ∷ (inner ++ later))

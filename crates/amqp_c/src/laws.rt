@@ -17,10 +17,10 @@ pub fn walks()
     ensures further { (input : List ℕ) (at : ℕ) (around node : Node) (t : Term) (ts : List Term) → StandIn around (t ∷ ts) (bytes_at input at around)
         → IsNode input at around node
         → (b : List ℕ) × IsNodeOf around t b at node × IsWithin input node.end around × StandIn around ts (bytes_at input node.end around) }
-    ensures told { (input : List ℕ) (at : ℕ) (around : Node) (t : Term) (ts : List Term) (e : Error) → StandIn around (t ∷ ts) (bytes_at input at around)
-        → IsWithin input at around → IsNoNode input at around e → ⊥ }
+    ensures told { (input : List ℕ) (at : ℕ) (around : Node) (t : Term) (ts : List Term) (e : Error)
+        → StandIn around (t ∷ ts) (bytes_at input at around) → IsWithin input at around → IsNoNode input at around e → ⊥ }
     ensures last { (input : List ℕ) (at : ℕ) (around : Node) → StandIn around [] (bytes_at input at around) → IsWithin input at around
         → at ≡ reach_of input around }
     ensures once { (input front after : List ℕ) (t : Term) (told : List Node) → input ≡ front ++ after → IsSpelling front t → nest t ≤ 128
-        → Walks input nothing 0 1 told → AreOf (t ∷ []) told }
+        → Walks input nothing 0 1 told → AreOf input (t ∷ []) told }
 {}
