@@ -39,8 +39,8 @@ one_more R (v ∷ xs) [] x y h k = absurd h
 one_more R (v ∷ xs) (w ∷ ys) x y h k = (h.0, one_more R xs ys x y h.1 k)
 
 -- what holds of the one that is there
-pub there : {F : Type 0} (P : F → Type 0) (o : Option F) (f : F) → o ≡ Some f → P f → MatchOption o ⊥ P
-there P o f e p = subst (λ x. MatchOption x ⊥ P) (sym e) p
+pub there : {F N : Type 0} (P : F → Type 0) (o : Option F) (f : F) → o ≡ Some f → P f → MatchOption o N P
+there {N = N} P o f e p = subst (λ x. MatchOption x N P) (sym e) p
 
 none_before : {A B : Type 0} (R : A → B → Type 0) (xs : List A) (ys : List B) → AllZip R xs ys → ys ≡ [] → xs ≡ []
 none_before R [] ys h e = refl
