@@ -1,6 +1,5 @@
 mod Requests
 mod Announced
 mod Shared
-mod DataKinds
 mod Told
 mod Walking

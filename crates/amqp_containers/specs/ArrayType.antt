@@ -1,5 +1,5 @@
 -- Arrays of values of one type (Part 1, section 1.6.24).
-use Rattle.std.proofs.Common.{◌≡◌, ℕ, List, None, refl, ap, ◌∙◌, inl, inr}
+use Rattle.std.proofs.Common.{◌≡◌, ℕ, None, refl, ap, ◌∙◌, inl, inr}
 use Rattle.amqp_model.specs.Term.{array}
 use Rattle.amqp_model.specs.FieldType.{Norm, normal, unchanged, by_norm}
 use Rattle.amqp_decoder.specs.declared.frame.Place.TheVariants.{InArray}

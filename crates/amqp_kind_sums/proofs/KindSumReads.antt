@@ -1,20 +1,17 @@
 -- A sum of primitive types is read: its first code is looked at, and the member of that kind is read.
-use Rattle.std.proofs.Common.{◌≡◌, ℕ, zero, suc, true, false, Result, Ok, Err, refl, sym, ap, ◌∙◌, subst}
-use Rattle.amqp_model.specs.Term.{Primitive, Term, leaf}
-use Rattle.amqp_model.specs.Standing.{Standing}
+use Rattle.std.proofs.Common.{ℕ, zero, suc, true, false, Result, Ok, Err, refl, sym, ap, ◌∙◌, subst}
+use Rattle.amqp_model.specs.Term.{leaf}
 use Rattle.amqp_wire.specs.declared.error.Error.{Error}
 use Rattle.amqp_decoder.specs.State.{State}
 use Rattle.amqp_decoder.specs.Reading.{BeginFault, PeeksCode, AnswersRead, RefusesRead}
 use Rattle.amqp_decoder.specs.Primitives.{standing, ReadsValue}
 use Rattle.amqp_decoder.proofs.Peeks.{value-peeked}
-use Rattle.amqp_codec.specs.Faults.{Faults}
 use Rattle.amqp_codec.specs.TreeType.{tree_term}
 use Rattle.amqp_codec.specs.RefusalLaws.{no_memory, refused_first, refused_later}
 use Rattle.amqp_codec.specs.PeekLaws.{peeked_going, peeked_failed, value_peeked}
-use Rattle.amqp_kinds.specs.declared.kind.Kind.{Kind}
 use Rattle.amqp_kinds.specs.Kinds.{term_kind, kind_at}
 use Rattle.amqp_kinds.specs.KindLaws.{kind_there}
-use Rattle.amqp_kinds.specs.KindReading.{KindFault, no_value, of_kind, ReadsMember}
+use Rattle.amqp_kinds.specs.KindReading.{no_value, of_kind}
 use Rattle.amqp_kinds.specs.TreeMeanings.{leaf_means, means_leaf}
 use Rattle.amqp_kind_sums.specs.KindMembers.{KindMembers, no_more, member, KindSumOf, IsAt, AreMade, reads_at, faults_at}
 use Rattle.amqp_kind_sums.specs.KindMembers.{takes_at}

@@ -1,5 +1,5 @@
 -- Values of sums of primitive types are keys of maps: to be equal is to be one primitive.
-use Rattle.std.proofs.Common.{◌≡◌, Bool, true, false, eqb, ap}
+use Rattle.std.proofs.Common.{◌≡◌, Bool, false, eqb, ap}
 use Rattle.std.specs.Bool.{Decides}
 use Rattle.std.proofs.lemmas.Bool.{eq-eqb}
 use Rattle.amqp_model.specs.Term.{Primitive, leaf}

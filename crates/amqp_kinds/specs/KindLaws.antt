@@ -51,7 +51,7 @@ container_at : (k : Container) (n : ℕ) (C : List ℕ → Type 0) (c : ℕ) (b 
 container_at k n C c b h =
     behind_zero c (container_kind k) (λ e. subst (λ x. ContainerData (format x) k n C b) e h) (container_under (format c) k n C b h)
 
-data_kind : (t : Term) (c : ℕ) (b : List ℕ) → IsDataOf t [] c b → kind_at c ≡ term_kind t
+pub data_kind : (t : Term) (c : ℕ) (b : List ℕ) → IsDataOf t [] c b → kind_at c ≡ term_kind t
 data_kind (leaf p) c b h = leaf_kind p c b h
 data_kind (container list ts) c b h = container_at list (count ts) (AreItemsOf ts) c b h
 data_kind (container map ts) c b h = container_at map (count ts) (AreItemsOf ts) c b h.1

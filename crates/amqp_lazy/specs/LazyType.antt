@@ -1,5 +1,5 @@
 -- Values that are the bytes of a term (Part 1, section 1.2).
-use Rattle.std.proofs.Common.{◌≡◌, ℕ, ◌≤◌, true, false, List, [], ◌∷◌, ◌++◌, length, refl, sym, ap, ap₂, ◌∙◌, subst, arith, Vec, Global}
+use Rattle.std.proofs.Common.{◌≡◌, ℕ, true, false, List, [], ◌∷◌, ◌++◌, length, refl, sym, ap, ap₂, ◌∙◌, subst, arith, Vec, Global}
 use Rattle.std.proofs.lemmas.Bool.{eqb-true}
 use Rattle.std.proofs.lemmas.Bool.Decides.{same_from_decides}
 use Rattle.amqp_model.specs.Term.{null, Refusal, too_large, Term, leaf, container, described, kept, barred}
@@ -7,7 +7,7 @@ use Rattle.amqp_model.specs.Constructors.{format}
 use Rattle.amqp_model.specs.Spelling.{PrimitiveData, IsSpelling}
 use Rattle.amqp_model.specs.Standing.{Standing, whole, part}
 use Rattle.amqp_model.specs.Text.{text}
-use Rattle.amqp_model.specs.Measures.{nest, nodes}
+use Rattle.amqp_model.specs.Measures.{nodes}
 use Rattle.amqp_model.specs.Refusals.{IsRefused}
 use Rattle.amqp_model.specs.Kept.{ExpandsTo}
 use Rattle.amqp_model.specs.Items.{is_null}

@@ -1,1 +1,1 @@
-pub mod CopiesEqual
+mod CopiesEqual

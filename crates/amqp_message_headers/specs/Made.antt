@@ -1,5 +1,5 @@
 -- Headers and properties that calls make.
-use Rattle.std.specs.Prelude.{Option, Some, None, false}
+use Rattle.std.specs.Prelude.{None, false}
 use Rattle.amqp_message_headers.specs.declared.header.Header.{Header}
 use Rattle.amqp_message_headers.specs.declared.properties.Properties.{Properties}
 

@@ -1,5 +1,5 @@
 -- Sections of a message that are one value behind a descriptor (Part 3, section 3.2; Part 1, section 1.5).
-use Rattle.std.proofs.Common.{◌≡◌, ℕ, true, List, [], ◌∷◌, refl, ap, sym, arith, ltb}
+use Rattle.std.proofs.Common.{◌≡◌, ℕ, true, List, [], ◌∷◌, refl, ap, arith, ltb}
 use Rattle.std.proofs.lemmas.Bool.{ltb-true}
 use Rattle.amqp_model.specs.Term.{Descriptor, name, code}
 use Rattle.amqp_model.specs.Composite.{Table, Describes}

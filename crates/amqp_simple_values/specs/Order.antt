@@ -5,7 +5,6 @@ use Rattle.std.specs.Hash as fed
 use Rattle.std.specs.declared.cmp.Ordering.{Ordering}
 use Rattle.std.specs.Ordering.{as_partial_cmp, eq_by_cmp}
 use Rattle.std.specs.Cmp.{IsTotalOrder, IsPartialOrder, on_total, on_po}
-use Rattle.amqp_values.specs.Equality.{value_eq}
 use Rattle.amqp_values.specs.EqualityLaws.{values_decide}
 use Rattle.amqp_values.specs.Order.{value_cmp}
 use Rattle.amqp_values.specs.OrderLaws.{values_po, values_total, values_tied}

@@ -1,4 +1,4 @@
-use Rattle.std.proofs.Common.{false, true, ap, subst}
+use Rattle.std.proofs.Common.{false, true}
 use Rattle.std.proofs.lemmas.Result.{err_from_is_err_and}
 use Rattle.amqp_kind_sums.proofs.KindSumReads.{peek_refused, answers}
 use Rattle.amqp_codec.proofs.Tries.{taking_some, refused_more, tries_behind}

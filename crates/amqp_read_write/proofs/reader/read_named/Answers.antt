@@ -1,9 +1,9 @@
-use Rattle.std.proofs.Common.{◌≡◌, length, drop, refl, sym, ap, ap₂, ◌∙◌, false}
+use Rattle.std.proofs.Common.{length, drop, refl, sym, ap, ap₂, ◌∙◌}
 use Rattle.amqp_wire.specs.Sources.{known}
 use Rattle.amqp_wire.specs.Limits.{limit_of}
 use Rattle.amqp_read_write.specs.Reserved.{reserved}
 use Rattle.amqp_read_write.proofs.FromReader.{found, one, behind, refused, memory, limited, failed, failing, read_among, still_alone}
-use Rattle.amqp_read_write.proofs.Reserved.{rest_whole, reserve_left, taken_within}
+use Rattle.amqp_read_write.proofs.Reserved.{reserve_left, taken_within}
 use Rattle.amqp_read_write.proofs.reader.read_named.Goals as goal
 
 pub decoder_for-decoder-requires : goal.decoder_for-decoder-requires

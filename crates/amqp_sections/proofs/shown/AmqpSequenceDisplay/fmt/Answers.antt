@@ -1,4 +1,4 @@
-use Rattle.std.proofs.Common.{[], rules, Some, Ok, ◌+◌, cond, ltb, take, codes, refl, sym, ap, ◌∙◌, arith}
+use Rattle.std.proofs.Common.{[], rules, Some, Ok, ◌+◌, cond, ltb, take, codes, sym, ap, ◌∙◌, arith}
 use Rattle.std.proofs.lemmas.Bool.{lt-ltb}
 use Rattle.std.proofs.Debugs.{debug_items-take}
 use Rattle.std.proofs.Output.{displays_on_IsOk_append, displays_on_ok_of_eq, then_text_assoc}
