@@ -2,4 +2,3 @@ pub mod Exits
 pub mod WalkSteps
 pub mod RunSteps
 pub mod NoSectionSteps
-pub mod Limits

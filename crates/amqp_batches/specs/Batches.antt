@@ -18,8 +18,8 @@ use Rattle.amqp_batches.specs.Walk.{Walked}
 use Rattle.amqp_batches.specs.WalkReading.{walk_reading, reading_via}
 use Rattle.amqp_batches.specs.Runs.{run_walk}
 use Rattle.amqp_batches.specs.Sections.{IsSection}
-use Rattle.amqp_batches.specs.Unlimited.{IsReadWithoutLimits, term_without_limits}
-use Rattle.amqp_batches.specs.UnlimitedLaws.{run_without_limits}
+use Rattle.amqp_batches.specs.Bounds.{IsBoundByLimits}
+use Rattle.amqp_batches.specs.BoundLaws.{term_bound, run_bound}
 use Rattle.amqp_batches.specs.Resuming.{IsRead}
 use Rattle.amqp_batches.specs.RowLaws.{each_proper}
 use Rattle.amqp_batches.specs.RunRewriting.{run_again, run_was_read, all_same_canons, all_texts_again}
@@ -44,8 +44,8 @@ batch_writing w = record {
 abbrev pub batch_reading : {T : Type 0} → ℕ → Reading T → Reading (TransparentVec T)
 batch_reading c r = reading_via (walk_reading (run_walk c r)) sections_in
 
-pub batch_without_limits : {T : Type 0} (c : ℕ) (r : Reading T) → IsReadWithoutLimits r → IsReadWithoutLimits (batch_reading c r)
-batch_without_limits c r free st v b = run_without_limits c r free st (sections_in v) b
+pub batch_bound : {T : Type 0} (c : ℕ) (r : Reading T) → IsBoundByLimits r → IsBoundByLimits (batch_reading c r)
+batch_bound c r bound st v b = run_bound c r bound st (sections_in v) b
 
 -- Each section is normalised.
 abbrev pub batch_again : {T : Type 0} → TermType T → TransparentVec T → TransparentVec T
@@ -69,19 +69,19 @@ module _ {T : Type 0} (c : ℕ) {u : TermType T} {w : Writing T} (s : IsSection 
   abbrev r : Reading T
   r = reading_of u
 
-  abbrev free : IsReadWithoutLimits r
-  free = term_without_limits u
+  abbrev bound : IsBoundByLimits r
+  bound = term_bound u
 
   was_read : (input : List ℕ) (b : TransparentVec T) (n : ℕ) → BeginsWith (batch_reading c r) input b n → All (IsRead r) (sections_in b)
-  was_read input b n h = run_was_read c r free w s (rewrites a) input (sections_in b) h.after h.read
+  was_read input b n h = run_was_read c r bound w s (rewrites a) input (sections_in b) h.after h.read
 
   pub batch_rewrites : Rewriting (batch_reading c r) (batch_writing w).canons (batch_writing w).is_value (λ more. IsSectionAhead more c → ⊥)
       (batch_again u) (λ _. Unit {0}) (λ _. Unit {0}) false
   batch_rewrites = record {
     alone = λ h. (let e = ap length h.split in absurd (cc));
-    canons_same = λ v x h. all_same_canons c r free w s (rewrites a) (sections_in v) (sections_in x) h;
+    canons_same = λ v x h. all_same_canons c r bound w s (rewrites a) (sections_in v) (sections_in x) h;
     reads_again = λ v more i _ f ends.
-        (let k = run_again c r free w s (rewrites a) (sections_in v) more i f ends in
+        (let k = run_again c r bound w s (rewrites a) (sections_in v) more i f ends in
         record {
           after = k.after;
           read = subst (λ vs. Walked (run_walk c r) (start (row_text (flat_map w.canons (sections_in v)) ++ more)) vs k.after)
@@ -89,12 +89,12 @@ module _ {T : Type 0} (c : ℕ) {u : TermType T} {w : Writing T} (s : IsSection 
           left = k.left;
         });
     text_again = λ v i f.
-        ap (λ vs. row_text (flat_map w.canons vs)) (again_each u v) ∙ all_texts_again c r free w s (rewrites a) (sections_in v) i f;
-    value = λ input v n h. all_values c r free w s (rewrites a) (sections_in v) (was_read input v n h);
+        ap (λ vs. row_text (flat_map w.canons vs)) (again_each u v) ∙ all_texts_again c r bound w s (rewrites a) (sections_in v) i f;
+    value = λ input v n h. all_values c r bound w s (rewrites a) (sections_in v) (was_read input v n h);
     lasting = λ input v n h. tt;
     own = λ input v n h _.
         subst (λ vs. AllZip r.same vs (sections_in v)) (sym (again_each u v))
-        (all_own c r free w s (rewrites a) (sections_in v) (was_read input v n h));
-    large = λ input v n e h x. all_large c r free w s (rewrites a) (sections_in v) e (was_read input v n h) x;
+        (all_own c r bound w s (rewrites a) (sections_in v) (was_read input v n h));
+    large = λ input v n e h x. all_large c r bound w s (rewrites a) (sections_in v) e (was_read input v n h) x;
     least = λ l. absurd (cc);
   }

@@ -7,7 +7,7 @@ use Rattle.amqp_encoder.specs.Passes.{row_text}
 use Rattle.amqp_codec.specs.Reading.{Reading}
 use Rattle.amqp_codec.specs.Rewriting.{Rewriting}
 use Rattle.amqp_codec.specs.Written.{AreUnwritable, Writing}
-use Rattle.amqp_batches.specs.Unlimited.{IsReadWithoutLimits}
+use Rattle.amqp_batches.specs.Bounds.{IsBoundByLimits}
 use Rattle.amqp_batches.specs.Resuming.{IsRead}
 
 -- Its text begins as one of its sections, whose codes these are.
@@ -19,7 +19,7 @@ pub record GroupText {G : Type 0} (reading : Reading G) (is_code : ℕ → Type 
   pub kept : G → Type 0
   pub lasts : G → Type 0
   pub is_least : Bool
-  pub unlimited : IsReadWithoutLimits reading
+  pub bound : IsBoundByLimits reading
   pub rewriting : Rewriting reading writing.canons writing.is_value follows again kept lasts is_least
   pub begins : (g : G) → writing.is_value g → lasts g → (more : List ℕ)
       → (c : ℕ) × is_code c × IsSectionAhead (row_text (writing.canons g) ++ more) c
@@ -50,7 +50,7 @@ widened f t = record {
   kept = t.kept;
   lasts = t.lasts;
   is_least = t.is_least;
-  unlimited = t.unlimited;
+  bound = t.bound;
   rewriting = t.rewriting;
   begins = λ g i l more. (let b = t.begins g i l more in (b.0, f b.0 b.1, b.2));
   ends = λ more none. t.ends more (λ c p. none c (f c p));

@@ -5,8 +5,8 @@ pub mod WalkReading
 pub mod ViaRewriting
 pub mod RunLaws
 pub mod Runs
-pub mod Unlimited
-pub mod UnlimitedLaws
+pub mod Bounds
+pub mod BoundLaws
 pub mod Resuming
 pub mod RowLaws
 pub mod Sections

@@ -1,24 +1,15 @@
 -- What was read in the midst of an input could have been read at its start, and the other way round.
-use Rattle.std.proofs.Common.{◌≡◌, ℕ, ◌-◌, ◌≤◌, Bool, true, false, List, [], ◌++◌, length, drop, Option, None, refl, sym, ap, ap₂, ◌∙◌, subst, arith}
+use Rattle.std.proofs.Common.{◌≡◌, ℕ, ◌-◌, Bool, true, false, List, ◌++◌, length, drop, Option, None, refl, sym, ap, ap₂, ◌∙◌, subst, arith}
 use Rattle.std.proofs.Common.{length-append}
 use Rattle.std.proofs.lemmas.List.{length-drop, drop_at}
 use Rattle.amqp_wire.specs.declared.error.Error.{Error}
-use Rattle.amqp_decoder.specs.State.{Course, State, Open, top_level}
+use Rattle.amqp_decoder.specs.State.{Course, State, Open}
 use Rattle.amqp_decoder.specs.OtherSource.{elsewhere}
-use Rattle.amqp_codec.specs.Reading.{Reading, Stays, looking, start, greatest, BeginsWith}
+use Rattle.amqp_codec.specs.Reading.{Reading, looking, start, greatest, BeginsWith}
 use Rattle.amqp_codec.specs.ReadingLaws.{is_read}
-use Rattle.amqp_batches.specs.StateLaws.{still_among}
-use Rattle.amqp_batches.specs.Unlimited.{without_limits, IsReadWithoutLimits, still_unlimited}
+use Rattle.amqp_batches.specs.Bounds.{IsFresh, without_limits, IsBoundByLimits}
+use Rattle.amqp_batches.specs.BoundLaws.{still_fresh, free_of_limits, still_unlimited}
 use Rattle.amqp_batches.specs.Walk.{IsAtTop}
-
--- A decoder at the top level, which has refused nothing.
-pub record IsFresh (st : State) : Type 0 where
-  pub error : st.error ≡ None
-  pub limit : Option ℕ
-  pub top : st.top ≡ top_level limit
-  pub saved : st.saved ≡ []
-  pub nesting : st.nesting ≤ 128
-  pub among : st.failed.alone ≡ false
 
 -- One without limits.
 abbrev pub IsUnlimited : State → Type 0
@@ -29,18 +20,6 @@ start_unlimited input = (record { error = refl; limit = None; top = refl; saved 
 
 pub fresh_top : (st : State) → IsFresh st → IsAtTop st
 fresh_top st f = (f.error, ap (λ (o : Open). o.place) f.top, f.saved, f.among)
-
-pub still_fresh : (st b : State) → IsFresh st → Stays st b → IsFresh b
-still_fresh st b f s =
-    let t = s.top f.limit f.top in
-    record {
-      error = s.error ∙ f.error;
-      limit = t.0;
-      top = t.1;
-      saved = s.saved ∙ f.saved;
-      nesting = (let same = s.nesting in let bound = f.nesting in omega (arith, same, bound));
-      among = still_among s ∙ f.among;
-    }
 
 abbrev course : Bool → Course
 course alone = record { broken = false; alone = alone; free = true }
@@ -72,13 +51,13 @@ pub record IsReadHere {T : Type 0} (r : Reading T) (st : State) (v : T) (more : 
   pub fresh : IsUnlimited last
   pub left : last.rest ≡ more
 
-module _ {T : Type 0} (r : Reading T) (free : IsReadWithoutLimits r) where
+module _ {T : Type 0} (r : Reading T) (bound : IsBoundByLimits r) where
   pub was_read : (st : State) (v : T) (b : State) → IsFresh st → r.reads st v b
       → (n : ℕ) × BeginsWith r st.rest v n
   was_read st v b fresh h =
       let none : State = without_limits st in
       let last : State = elsewhere 0 false (without_limits b) in
-      let f = r.reads_elsewhere 0 false none v (without_limits b) (free st v b fresh.nesting h) in
+      let f = r.reads_elsewhere 0 false none v (without_limits b) (free_of_limits r bound st v b fresh h) in
       let q = r.looked 0 (elsewhere 0 false none) v last f in
       let after : State = looking q.0 last in
       let read : r.reads (start st.rest) v after = subst (λ (z : State). r.reads z v after) (restarted st fresh) q.1 in
@@ -109,6 +88,6 @@ module _ {T : Type 0} (r : Reading T) (free : IsReadWithoutLimits r) where
       record {
         last = last;
         read = read;
-        fresh = (still_fresh st last fresh.0 (r.stays st v last read), still_unlimited r free st v last fresh.1 read);
+        fresh = (still_fresh st last fresh.0 (r.stays st v last read), still_unlimited r bound st v last fresh.0 fresh.1 read);
         left = t.rest ∙ ap₂ drop all here ∙ drop_at text more (length text) refl;
       }

@@ -20,15 +20,16 @@ use Rattle.amqp_batches.specs.Runs.{run_walk}
 use Rattle.amqp_batches.specs.Sections.{IsSection, begins_as_section}
 use Rattle.amqp_batches.specs.RowLaws.{row_text_none, row_text_joined, each_proper, front_writable, back_writable, front_or_back}
 use Rattle.amqp_batches.specs.RowLaws.{none_refused}
-use Rattle.amqp_batches.specs.Unlimited.{IsReadWithoutLimits}
-use Rattle.amqp_batches.specs.Resuming.{IsFresh, IsUnlimited, fresh_top, start_unlimited, still_fresh, IsRead, is_read_so, IsReadHere, read_here}
+use Rattle.amqp_batches.specs.Bounds.{IsFresh, IsBoundByLimits}
+use Rattle.amqp_batches.specs.BoundLaws.{still_fresh}
+use Rattle.amqp_batches.specs.Resuming.{IsUnlimited, fresh_top, start_unlimited, IsRead, is_read_so, IsReadHere, read_here}
 
 -- of a section anything may follow the text, and every value is kept and lasts
 abbrev pub SectionRewriting : {T : Type 0} → Reading T → Writing T → (T → T) → Bool → Type 0
 SectionRewriting r w again is_least =
     Rewriting r w.canons w.is_value (λ _. Unit {0}) again (λ _. Unit {0}) (λ _. Unit {0}) is_least
 
-module _ {T : Type 0} (c : ℕ) (r : Reading T) (free : IsReadWithoutLimits r) (w : Writing T) (s : IsSection c w) {again : T → T}
+module _ {T : Type 0} (c : ℕ) (r : Reading T) (bound : IsBoundByLimits r) (w : Writing T) (s : IsSection c w) {again : T → T}
     {is_least : Bool} (laws : SectionRewriting r w again is_least) where
   abbrev pub canons_all : List T → List Term
   canons_all vs = flat_map w.canons vs
@@ -82,7 +83,7 @@ module _ {T : Type 0} (c : ℕ) (r : Reading T) (free : IsReadWithoutLimits r) (
       let next = texts_of vs ++ more in
       let split : st.rest ≡ text ++ next = here ∙ ap (λ b. b ++ more) (text_more v vs) ∙ append_assoc text (texts_of vs) more in
       let one : IsReadHere r st (again v) next =
-      read_here r free st (again v) text next fresh split (laws.reads_again v next b.value tt b.first tt) in
+      read_here r bound st (again v) text next fresh split (laws.reads_again v next b.value tt b.first tt) in
       let ahead = subst (λ z. IsSectionAhead z c) (sym split) (begins_as_section c w s v next) in
       let all = run_read one.last (xs ++ again v ∷ []) vs more one.fresh one.left b.values b.others in
       record {
@@ -124,7 +125,7 @@ module _ {T : Type 0} (c : ℕ) (r : Reading T) (free : IsReadWithoutLimits r) (
   steps_read zero st xs ys b fresh (i, j) h = subst (All (IsRead r)) (sym i) h
   steps_read (suc n) st xs ys b fresh (zs, mid, k, m) h =
       steps_read n mid zs ys b (still_fresh st mid fresh (r.stays st k.item mid k.read)) m
-      (subst (All (IsRead r)) (sym k.grows) (All-push (IsRead r) xs k.item h (is_read_so r free st k.item mid fresh k.read)))
+      (subst (All (IsRead r)) (sym k.grows) (All-push (IsRead r) xs k.item h (is_read_so r bound st k.item mid fresh k.read)))
 
   pub run_was_read : (input : List ℕ) (vs : List T) (b : State) → Walked walk (start input) vs b → All (IsRead r) vs
   run_was_read input vs b h =

@@ -20,13 +20,14 @@ use Rattle.amqp_codec.specs.Reading.{Reading, BeginsWith}
 use Rattle.amqp_codec.specs.Rewriting.{Rewriting, rewrites}
 use Rattle.amqp_batches.specs.declared.transparent_vec.TransparentVec.{TransparentVec}
 use Rattle.amqp_batches.specs.StateLaws.{any_taken}
-use Rattle.amqp_batches.specs.Unlimited.{IsReadWithoutLimits, term_without_limits}
+use Rattle.amqp_batches.specs.Bounds.{IsBoundByLimits}
+use Rattle.amqp_batches.specs.BoundLaws.{term_bound, takes_so}
 use Rattle.amqp_batches.specs.Walk.{Steps, Walked}
 use Rattle.amqp_batches.specs.WalkLaws.{no_term}
 use Rattle.amqp_batches.specs.Runs.{run_walk}
 use Rattle.amqp_batches.specs.RowLaws.{row_text_joined}
 use Rattle.amqp_batches.specs.Sections.{IsSection, begins_as_section}
-use Rattle.amqp_batches.specs.Batches.{sections_in, batch_writing, batch_reading, batch_without_limits, batch_again, batch_rewrites}
+use Rattle.amqp_batches.specs.Batches.{sections_in, batch_writing, batch_reading, batch_bound, batch_again, batch_rewrites}
 use Rattle.amqp_batches.specs.GroupTexts.{GroupText}
 
 -- One section, by the record of its type.
@@ -39,7 +40,7 @@ section_text c {u} {w} s a = record {
   kept = λ _. Unit {0};
   lasts = λ _. Unit {0};
   is_least = u.is_least;
-  unlimited = term_without_limits u;
+  bound = term_bound u;
   rewriting = rewrites a;
   begins = λ v i l more. (c, refl, begins_as_section c w s v more);
   ends = λ more f. tt;
@@ -95,10 +96,12 @@ module _ {V : Type 0} (c : ℕ) (r : Reading V) where
     fault_elsewhere = run_fault_elsewhere;
   }
 
--- limits of the caller take nothing from a batch
-pub group_without_limits : {T : Type 0} (c : ℕ) (u : TermType T) → IsReadWithoutLimits (run_reading c (batch_reading c (reading_of u)))
-group_without_limits c u st v b bound h =
-    (h.0, batch_without_limits c (reading_of u) (term_without_limits u) st v b bound h.1)
+-- limits of the caller bound it as a group
+pub group_bound : {T : Type 0} (c : ℕ) (u : TermType T) → IsBoundByLimits (run_reading c (batch_reading c (reading_of u)))
+group_bound c u st v b fresh h =
+    let batch = batch_reading c (reading_of u) in
+    takes_so (λ first last. batch.reads first v last) (λ first last. RunReads c batch first v last) st b st b refl refl
+    (λ free nesting left quota l q read. (h.0, read)) (batch_bound c (reading_of u) (term_bound u) st v b fresh h.1)
 
 module _ {T : Type 0} (c : ℕ) {u : TermType T} {w : Writing T} (s : IsSection c w) (a : Agreement u w) where
   abbrev r : Reading T
@@ -160,7 +163,7 @@ module _ {T : Type 0} (c : ℕ) {u : TermType T} {w : Writing T} (s : IsSection 
     kept = λ _. Unit {0};
     lasts = λ b. sections_in b ≡ [] → ⊥;
     is_least = false;
-    unlimited = group_without_limits c u;
+    bound = group_bound c u;
     rewriting = run_rewrites;
     begins = λ b i l more. (c, refl, begins_so (sections_in b) l more);
     ends = λ more f. f c refl;

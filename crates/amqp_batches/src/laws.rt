@@ -1,11 +1,14 @@
 //! What holds of values that stand one after another beyond the laws of every type. The functions do nothing; their contracts are proved.
-ghost use Rattle.std.specs.Prelude.{◌≡◌, ℕ, List, IsTrue};
+ghost use Rattle.std.specs.Prelude.{◌≡◌, ◌↔◌, ℕ, List, IsTrue, take};
 ghost use Rattle.std.specs.List.{AllZip};
 ghost use Rattle.std.specs.Cmp.Lexicographic.{slice_cmp};
 ghost use Rattle.amqp_batches.specs.declared.transparent_vec.TransparentVec.{TransparentVec};
 ghost use Rattle.amqp_batches.specs.Transparent.{vec_in};
+ghost use Rattle.amqp_batches.specs.Bounds.{AreAllowed};
 ghost use Rattle.amqp_codec.specs.Reading.{BeginsWithin, BeginsWith};
+ghost use Rattle.amqp_decoder.specs.State.{Has};
 ghost use Rattle.amqp_wire.specs.declared.limits.Limits.{Limits};
+ghost use Rattle.amqp_wire.specs.Limits.{limit_of};
 
 use crate::run::BatchItem;
 use crate::transparent_vec::TransparentVec;
@@ -31,9 +34,12 @@ pub fn orders<T: Ord>()
         → ⟦<TransparentVec<T> as Deref>⟧.deref_gives b w → ⟦<TransparentVec<T> as Ord>⟧.cmp a b ≡ slice_cmp T.cmp v.items w.items }
 {}
 
-/// Within limits of the caller nothing is read as a batch that isn't read without.
-pub fn limits_take_nothing<T: BatchItem + DeserializeTerm>()
-    ensures { (limits : Limits) (input : List ℕ) (run : TransparentVec T) (n : ℕ)
+/// Within limits of the caller a batch is read from the first n bytes exactly if it is read from them without, n is no more than the limit
+/// on bytes, and the sections that they are nest no deeper and have no more values together than the limits say; a described value is one
+/// with its descriptor.
+pub fn limits_bound_batches<T: BatchItem + DeserializeTerm>()
+    ensures within { (limits : Limits) (input : List ℕ) (run : TransparentVec T) (n : ℕ)
         → BeginsWithin limits ⟦<TransparentVec<T> as Deserialize>⟧.reading input run n
-        → BeginsWith ⟦<TransparentVec<T> as Deserialize>⟧.reading input run n }
+        ↔ (BeginsWith ⟦<TransparentVec<T> as Deserialize>⟧.reading input run n × Has (limit_of limits.bytes) n
+        × AreAllowed limits (take n input)) }
 {}

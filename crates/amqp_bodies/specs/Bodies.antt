@@ -3,7 +3,8 @@ use Rattle.std.proofs.Common.{◌≡◌, ◌≤◌, ℕ, Bool, true, false, cond
 use Rattle.amqp_codec.specs.TermType.{TermType}
 use Rattle.amqp_codec.specs.TermReading.{reading_of}
 use Rattle.amqp_codec.specs.Reading.{Reading}
-use Rattle.amqp_batches.specs.Unlimited.{IsReadWithoutLimits, term_without_limits}
+use Rattle.amqp_batches.specs.Bounds.{IsBoundByLimits}
+use Rattle.amqp_batches.specs.BoundLaws.{term_bound}
 
 -- The values that take the place of a body that isn't there, and a test that each of them passes.
 pub record Empties (B : Type 0) : Type 1 where
@@ -18,8 +19,8 @@ no_value = record { is = λ v. ⊥; test = λ v. false; tested = λ v h. absurd 
 -- group: how the body is read; empty: the values that take the place of one that isn't there; of_body: the value is made of the body
 pub record BodyLaws {S B : Type 0} (group : Reading S) (empty : B → Type 0) (same : B → B → Type 0) (count : B → ℕ)
     (of_body : S → B → Type 0) : Type 0 where
-  -- limits of the caller take nothing from it
-  pub unlimited : IsReadWithoutLimits group
+  -- limits of the caller bound it
+  pub bound : IsBoundByLimits group
   pub same_sym : (v w : B) → same v w → same w v
   pub same_trans : (v w x : B) → same v w → same w x → same v x
   pub one : (s t : S) (v w : B) → group.same s t → of_body s v → of_body t w → same v w
@@ -38,9 +39,9 @@ pub record Made (S B : Type 0) : Type 1 where
   pub of_body : S → B → Type 0
   pub laws : BodyLaws group empty same count of_body
 
-pub itself_laws : {S : Type 0} (r : Reading S) → IsReadWithoutLimits r → BodyLaws r (λ v. ⊥) r.same r.count (λ s v. v ≡ s)
-itself_laws r free = record {
-  unlimited = free;
+pub itself_laws : {S : Type 0} (r : Reading S) → IsBoundByLimits r → BodyLaws r (λ v. ⊥) r.same r.count (λ s v. v ≡ s)
+itself_laws r bound = record {
+  bound = bound;
   same_sym = r.same_sym;
   same_trans = r.same_trans;
   one = λ s t v w h e f. subst (λ x. r.same x w) (sym e) (subst (r.same s) (sym f) h);
@@ -50,19 +51,19 @@ itself_laws r free = record {
 }
 
 -- What is read as itself, and where no value takes the place of a body that isn't there.
-abbrev pub itself : {S : Type 0} (r : Reading S) → IsReadWithoutLimits r → Made S S
-itself r free = record {
+abbrev pub itself : {S : Type 0} (r : Reading S) → IsBoundByLimits r → Made S S
+itself r bound = record {
   group = r;
   empty = λ v. ⊥;
   same = r.same;
   count = r.count;
   of_body = λ s v. v ≡ s;
-  laws = itself_laws r free;
+  laws = itself_laws r bound;
 }
 
 -- A section.
 abbrev pub section_made : {S : Type 0} → TermType S → Made S S
-section_made u = itself (reading_of u) (term_without_limits u)
+section_made u = itself (reading_of u) (term_bound u)
 
 -- The same, or both take the place of a body that isn't there.
 pub data AreLinked {B : Type 0} (same : B → B → Type 0) (empty : B → Type 0) : B → B → Type 0 where
@@ -84,12 +85,12 @@ some_counted : (b : Bool) (n : ℕ) → cond b 0 n ≤ n
 some_counted true n = omega arith
 some_counted false n = omega arith
 
-module _ {S B : Type 0} (r : Reading S) (free : IsReadWithoutLimits r) (e : Empties B) (same : B → B → Type 0) (count : B → ℕ) (get : S → B)
+module _ {S B : Type 0} (r : Reading S) (bound : IsBoundByLimits r) (e : Empties B) (same : B → B → Type 0) (count : B → ℕ) (get : S → B)
     (sames : (v w : B) → same v w → same w v) (to : (s t : S) → r.same s t → same (get s) (get t))
     (counts : (s : S) → count (get s) ≤ r.count s) where
   pub held_laws : BodyLaws r e.is (AreLinked same e.is) (count_some e count) (λ s v. v ≡ get s)
   held_laws = record {
-    unlimited = free;
+    bound = bound;
     same_sym = linked_sym same e.is sames;
     same_trans = λ v w x h k. by_way_of w h k;
     one = λ s t v w h i j. alike (subst (λ x. same x w) (sym i) (subst (same (get s)) (sym j) (to s t h)));
@@ -112,5 +113,5 @@ module _ {S B : Type 0} (r : Reading S) (free : IsReadWithoutLimits r) (e : Empt
   }
 
 -- What is read as itself, or takes the place of a body that isn't there.
-abbrev pub itself_or_empty : {S : Type 0} (r : Reading S) → IsReadWithoutLimits r → Empties S → Made S S
-itself_or_empty r free e = held_in r free e r.same r.count (λ v. v) r.same_sym (λ s t h. h) (λ s. omega arith)
+abbrev pub itself_or_empty : {S : Type 0} (r : Reading S) → IsBoundByLimits r → Empties S → Made S S
+itself_or_empty r bound e = held_in r bound e r.same r.count (λ v. v) r.same_sym (λ s t h. h) (λ s. omega arith)

@@ -1,5 +1,5 @@
 -- How a body of any kind is read: as one group of sections (Part 3, section 3.2).
-use Rattle.std.proofs.Common.{◌≡◌, ℕ, ◌+◌, ◌≤◌, Bool, true, false, length, Option, Some, None, subst, arith}
+use Rattle.std.proofs.Common.{◌≡◌, ℕ, ◌+◌, ◌≤◌, Bool, true, false, length, Option, Some, None, refl, subst, arith}
 use Rattle.amqp_model.specs.FieldRules.{SameOption}
 use Rattle.amqp_model.specs.OptionLaws.{option_sym, option_trans}
 use Rattle.amqp_wire.specs.declared.error.Error.{Error}
@@ -16,11 +16,12 @@ use Rattle.amqp_sections.specs.declared.amqp_sequence.AmqpSequence.{AmqpSequence
 use Rattle.amqp_sections.specs.declared.amqp_value.AmqpValue.{AmqpValue}
 use Rattle.amqp_batches.specs.declared.transparent_vec.TransparentVec.{TransparentVec}
 use Rattle.amqp_batches.specs.StateLaws.{any_taken}
-use Rattle.amqp_batches.specs.Unlimited.{IsReadWithoutLimits}
+use Rattle.amqp_batches.specs.Bounds.{IsBoundByLimits}
+use Rattle.amqp_batches.specs.BoundLaws.{takes_so}
 use Rattle.amqp_batches.specs.Walk.{IsAtTop}
 use Rattle.amqp_batches.specs.NoSections.{NoSection, no_section_elsewhere, no_section_not_outside}
 use Rattle.amqp_batches.specs.WalkLaws.{no_term}
-use Rattle.amqp_batches.specs.SectionGroups.{run_reading}
+use Rattle.amqp_batches.specs.SectionGroups.{RunReads, run_reading}
 use Rattle.amqp_bodies.specs.declared.body.Body.{Body}
 use Rattle.amqp_bodies.specs.declared.body.Body.TheVariants.{Value, Data, Sequence, Empty}
 
@@ -196,9 +197,15 @@ module _ {T : Type 0} (rv : Reading (AmqpValue T)) (rd : Reading (TransparentVec
     fault_elsewhere = fault_elsewhere;
   }
 
-  pub body_without_limits : IsReadWithoutLimits rv → IsReadWithoutLimits (run_reading 0x75 rd) → IsReadWithoutLimits (run_reading 0x76 rs)
-      → IsReadWithoutLimits body_reading
-  body_without_limits fv fd fs st (Value v) b bound h = (h.0, (h.1.0, fv st v b bound h.1.1))
-  body_without_limits fv fd fs st (Data v) b bound h = (h.0, fd st v b bound h.1)
-  body_without_limits fv fd fs st (Sequence v) b bound h = (h.0, fs st v b bound h.1)
-  body_without_limits fv fd fs st Empty b bound h = absurd h
+  pub body_bound : IsBoundByLimits rv → IsBoundByLimits (run_reading 0x75 rd) → IsBoundByLimits (run_reading 0x76 rs)
+      → IsBoundByLimits body_reading
+  body_bound bv bd bs st (Value v) b fresh h =
+      takes_so (λ first last. rv.reads first v last) (λ first last. BodyReads first (Value v) last) st b st b refl refl
+      (λ free nesting left quota l q read. (h.0, (h.1.0, read))) (bv st v b fresh h.1.1)
+  body_bound bv bd bs st (Data v) b fresh h =
+      takes_so (λ first last. RunReads 0x75 rd first v last) (λ first last. BodyReads first (Data v) last) st b st b refl refl
+      (λ free nesting left quota l q read. (h.0, read)) (bd st v b fresh h.1)
+  body_bound bv bd bs st (Sequence v) b fresh h =
+      takes_so (λ first last. RunReads 0x76 rs first v last) (λ first last. BodyReads first (Sequence v) last) st b st b refl refl
+      (λ free nesting left quota l q read. (h.0, read)) (bs st v b fresh h.1)
+  body_bound bv bd bs st Empty b fresh h = absurd h

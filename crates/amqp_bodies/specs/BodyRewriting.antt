@@ -18,7 +18,7 @@ use Rattle.amqp_batches.specs.GroupTexts.{GroupText}
 use Rattle.amqp_batches.specs.SectionGroups.{run_reading}
 use Rattle.amqp_bodies.specs.declared.body.Body.{Body}
 use Rattle.amqp_bodies.specs.declared.body.Body.TheVariants.{Value, Data, Sequence, Empty}
-use Rattle.amqp_bodies.specs.BodyReading.{body_reading, body_without_limits, SameBody}
+use Rattle.amqp_bodies.specs.BodyReading.{body_reading, body_bound, SameBody}
 use Rattle.amqp_bodies.specs.BodyWriting.{null_section, null_proper, body_writing}
 
 -- The codes of data, sequences and values.
@@ -192,7 +192,7 @@ module _ {T : Type 0} (rv : Reading (AmqpValue T)) (rd : Reading (TransparentVec
       kept = IsBodyKept;
       lasts = DoesBodyLast;
       is_least = false;
-      unlimited = body_without_limits rv rd rs tv.unlimited td.unlimited ts.unlimited;
+      bound = body_bound rv rd rs tv.bound td.bound ts.bound;
       rewriting = body_rewrites;
       begins = begins;
       ends = λ more f. f;

@@ -13,14 +13,15 @@ use Rattle.amqp_sections.specs.Sections.{in_value, value_naming}
 use Rattle.amqp_sections.specs.declared.data.Data.{Data as DataSection}
 use Rattle.amqp_sections.specs.declared.amqp_sequence.AmqpSequence.{AmqpSequence}
 use Rattle.amqp_sections.specs.declared.amqp_value.AmqpValue.{AmqpValue}
-use Rattle.amqp_batches.specs.Unlimited.{IsReadWithoutLimits, term_without_limits}
+use Rattle.amqp_batches.specs.Bounds.{IsBoundByLimits}
+use Rattle.amqp_batches.specs.BoundLaws.{term_bound}
 use Rattle.amqp_batches.specs.Sections.{IsSection}
 use Rattle.amqp_batches.specs.Batches.{sections_in, batch_reading, batch_writing, batch_again}
-use Rattle.amqp_batches.specs.SectionGroups.{group_without_limits, section_text, batch_text}
+use Rattle.amqp_batches.specs.SectionGroups.{group_bound, section_text, batch_text}
 use Rattle.amqp_bodies.specs.declared.body.Body.{Body}
 use Rattle.amqp_bodies.specs.declared.body.Body.TheVariants.{Empty}
 use Rattle.amqp_bodies.specs.Bodies.{Empties, Made, held_in, itself_or_empty}
-use Rattle.amqp_bodies.specs.BodyReading.{body_reading, body_without_limits}
+use Rattle.amqp_bodies.specs.BodyReading.{body_reading, body_bound}
 use Rattle.amqp_bodies.specs.BodyWriting.{body_writing}
 use Rattle.amqp_bodies.specs.BodyRewriting.{NoBodyFollows, null_code, each_again, IsEach, unread, body_rewrites}
 
@@ -58,28 +59,28 @@ module _ {T : Type 0} (uv : TermType (AmqpValue T)) (ud : TermType DataSection) 
         let rs = batch_reading 0x76 (reading_of us) in
         body_rewrites rv rd rs tv td ts (unread rv rd rs tv td ts)
 
-pub any_body_without_limits : {T : Type 0} (uv : TermType (AmqpValue T)) (ud : TermType DataSection) (us : TermType (AmqpSequence T))
-    → IsReadWithoutLimits (body_reading (reading_of uv) (batch_reading 0x75 (reading_of ud)) (batch_reading 0x76 (reading_of us)))
-any_body_without_limits uv ud us =
-    body_without_limits (reading_of uv) (batch_reading 0x75 (reading_of ud)) (batch_reading 0x76 (reading_of us)) (term_without_limits uv)
-    (group_without_limits 0x75 ud) (group_without_limits 0x76 us)
+pub any_body_bound : {T : Type 0} (uv : TermType (AmqpValue T)) (ud : TermType DataSection) (us : TermType (AmqpSequence T))
+    → IsBoundByLimits (body_reading (reading_of uv) (batch_reading 0x75 (reading_of ud)) (batch_reading 0x76 (reading_of us)))
+any_body_bound uv ud us =
+    body_bound (reading_of uv) (batch_reading 0x75 (reading_of ud)) (batch_reading 0x76 (reading_of us)) (term_bound uv)
+    (group_bound 0x75 ud) (group_bound 0x76 us)
 
 -- What takes the place of a body that isn't there.
 abbrev pub empty_body : {T : Type 0} → Empties (Body T)
 empty_body = record { is = λ v. v ≡ Empty; test = is_empty; tested = λ v h. ap is_empty h }
 
 -- One of any kind is read as itself.
-abbrev pub body_made : {T : Type 0} (r : Reading (Body T)) → IsReadWithoutLimits r → Made (Body T) (Body T)
-body_made r free = itself_or_empty r free empty_body
+abbrev pub body_made : {T : Type 0} (r : Reading (Body T)) → IsBoundByLimits r → Made (Body T) (Body T)
+body_made r bound = itself_or_empty r bound empty_body
 
 -- A value is read as itself, and what takes the place of a body is told by the value.
 abbrev pub value_made : {T : Type 0} → TermType T → Empties T → Made (AmqpValue T) (AmqpValue T)
 value_made u e =
-    itself_or_empty (reading_of (section_of in_value value_naming u)) (term_without_limits (section_of in_value value_naming u))
+    itself_or_empty (reading_of (section_of in_value value_naming u)) (term_bound (section_of in_value value_naming u))
     (record { is = λ v. e.is v.0; test = λ v. e.test v.0; tested = λ v. e.tested v.0 })
 
 -- The value of a section, or what takes the place of a body that isn't there.
 abbrev pub plain_made : {T : Type 0} → TermType T → Empties T → Made (AmqpValue T) T
 plain_made u e =
-    held_in (reading_of (section_of in_value value_naming u)) (term_without_limits (section_of in_value value_naming u)) e u.same u.count
+    held_in (reading_of (section_of in_value value_naming u)) (term_bound (section_of in_value value_naming u)) e u.same u.count
     (λ s. s.0) u.sameness.sym (λ s t h. h.1) (λ s. omega arith)

@@ -9,20 +9,21 @@ use Rattle.amqp_codec.specs.Agreement.{Agreement}
 use Rattle.amqp_codec.specs.Reading.{Reading}
 use Rattle.amqp_codec.specs.Rewriting.{Rewriting}
 use Rattle.amqp_codec.specs.Written.{Writing}
-use Rattle.amqp_batches.specs.Unlimited.{IsReadWithoutLimits, term_without_limits}
+use Rattle.amqp_batches.specs.Bounds.{IsBoundByLimits}
+use Rattle.amqp_batches.specs.BoundLaws.{term_bound}
 use Rattle.amqp_batches.specs.Sections.{IsSection}
 use Rattle.amqp_batches.specs.Batches.{sections_in, batch_reading, batch_writing, batch_again}
-use Rattle.amqp_batches.specs.SectionGroups.{run_reading, group_without_limits, section_text, batch_text}
+use Rattle.amqp_batches.specs.SectionGroups.{run_reading, group_bound, section_text, batch_text}
 use Rattle.amqp_batches.specs.WalkLaws.{no_term}
 use Rattle.amqp_batches.specs.GroupTexts.{GroupText, IsSound, widened}
 use Rattle.amqp_bodies.specs.Bodies.{Made, Empties, itself, section_made, AreLinked, alike, both_empty, by_way_of, itself_or_empty}
-use Rattle.amqp_bodies.specs.SeenReading.{seen_reading, seen_without_limits, seen_text}
+use Rattle.amqp_bodies.specs.SeenReading.{seen_reading, seen_bound, seen_text}
 use Rattle.amqp_bodies.specs.BodyRewriting.{IsBodyCode}
 
 -- The text of a body is read again.
 pub record IsBodyGroup {B : Type 0} (reading : Reading B) (writing : Writing B) (follows : List ℕ → Type 0) (again : B → B)
     (kept lasts : B → Type 0) : Type 0 where
-  pub unlimited : IsReadWithoutLimits reading
+  pub bound : IsBoundByLimits reading
   pub rewriting : Rewriting reading writing.canons writing.is_value follows again kept lasts false
   -- it begins as one of a body's sections, and ends where none follows
   pub begins : (v : B) → writing.is_value v → lasts v → (more : List ℕ)
@@ -39,7 +40,7 @@ body_group {writing = writing} {follows} {again} {kept} {lasts} g = record {
   kept = kept;
   lasts = lasts;
   is_least = false;
-  unlimited = g.unlimited;
+  bound = g.bound;
   rewriting = g.rewriting;
   begins = g.begins;
   ends = g.ends;
@@ -72,12 +73,12 @@ forget_least x = record {
 
 pub group_is_body : {B : Type 0} {reading : Reading B} (t : GroupText reading IsBodyCode)
     → IsBodyGroup reading t.writing t.follows t.again t.kept t.lasts
-group_is_body t = record { unlimited = t.unlimited; rewriting = forget_least t.rewriting; begins = t.begins; ends = t.ends }
+group_is_body t = record { bound = t.bound; rewriting = forget_least t.rewriting; begins = t.begins; ends = t.ends }
 
 -- What is read as itself is written as itself.
-pub itself_text : {B : Type 0} (r : Reading B) (free : IsReadWithoutLimits r) (t : GroupText r IsBodyCode)
-    → IsBodyText (itself r free) t.writing t.follows t.again t.kept t.lasts
-itself_text r free t = record {
+pub itself_text : {B : Type 0} (r : Reading B) (bound : IsBoundByLimits r) (t : GroupText r IsBodyCode)
+    → IsBodyText (itself r bound) t.writing t.follows t.again t.kept t.lasts
+itself_text r bound t = record {
   group = group_is_body t;
   to_body = λ s v e. e;
   of_itself = λ v. refl;
@@ -93,10 +94,10 @@ linked_same r empty one v w (both_empty h k) = one v w h k
 linked_same r empty one v w (by_way_of x h k) = r.same_trans v x w (linked_same r empty one v x h) (linked_same r empty one x w k)
 
 -- So is what takes the place of a body, if it is read again and there is one such value at most.
-pub itself_or_empty_text : {B : Type 0} (r : Reading B) (free : IsReadWithoutLimits r) (e : Empties B) (t : GroupText r IsBodyCode)
+pub itself_or_empty_text : {B : Type 0} (r : Reading B) (bound : IsBoundByLimits r) (e : Empties B) (t : GroupText r IsBodyCode)
     → ((v : B) → e.is v → IsSound (body_group (group_is_body t)) v) → ((v w : B) → e.is v → e.is w → r.same v w)
-    → IsBodyText (itself_or_empty r free e) t.writing t.follows t.again t.kept t.lasts
-itself_or_empty_text r free e t sound one = record {
+    → IsBodyText (itself_or_empty r bound e) t.writing t.follows t.again t.kept t.lasts
+itself_or_empty_text r bound e t sound one = record {
   group = group_is_body t;
   to_body = λ s v i. i;
   of_itself = λ v. refl;
@@ -109,7 +110,7 @@ itself_or_empty_text r free e t sound one = record {
 pub section_is_text : {S : Type 0} (c : ℕ) {u : TermType S} {w : Writing S} → IsSection c w → Agreement u w → IsBodyCode c
     → IsBodyText (section_made u) w (λ _. Unit {0}) (normal u.norm) (λ _. Unit {0}) (λ _. Unit {0})
 section_is_text c {u} s a is =
-    itself_text (reading_of u) (term_without_limits u) (widened (λ k e. subst IsBodyCode (sym e) is) (section_text c s a))
+    itself_text (reading_of u) (term_bound u) (widened (λ k e. subst IsBodyCode (sym e) is) (section_text c s a))
 
 repeated_code : (c : ℕ) → (c ≡ 0x75) ⊎ (c ≡ 0x76) → IsBodyCode c
 repeated_code c (inl e) = inl e
@@ -117,8 +118,8 @@ repeated_code c (inr e) = inr (inl e)
 
 -- Several of one kind, of which there is one at least.
 pub batch_is_text : {T : Type 0} (c : ℕ) {u : TermType T} {w : Writing T} → IsSection c w → Agreement u w → (c ≡ 0x75) ⊎ (c ≡ 0x76)
-    → IsBodyText (itself (seen_reading (run_reading c (batch_reading c (reading_of u)))) (seen_without_limits _ (group_without_limits c u)))
+    → IsBodyText (itself (seen_reading (run_reading c (batch_reading c (reading_of u)))) (seen_bound _ (group_bound c u)))
     (batch_writing w) (λ more. IsSectionAhead more c → ⊥) (batch_again u) (λ _. Unit {0}) (λ b. sections_in b ≡ [] → ⊥)
 batch_is_text c {u} s a is =
-    itself_text (seen_reading (run_reading c (batch_reading c (reading_of u)))) (seen_without_limits _ (group_without_limits c u))
+    itself_text (seen_reading (run_reading c (batch_reading c (reading_of u)))) (seen_bound _ (group_bound c u))
     (widened (λ k e. repeated_code k (subst (λ z. (z ≡ 0x75) ⊎ (z ≡ 0x76)) (sym e) is)) (seen_text _ (batch_text c s a)))

@@ -15,7 +15,7 @@ use Rattle.amqp_codec.specs.ReadingLaws.{read_one}
 use Rattle.amqp_sections.specs.SectionType.{section_of, section_writing, section_agreement}
 use Rattle.amqp_sections.specs.Sections.{in_value, value_naming}
 use Rattle.amqp_sections.specs.declared.amqp_value.AmqpValue.{AmqpValue}
-use Rattle.amqp_batches.specs.Unlimited.{term_without_limits}
+use Rattle.amqp_batches.specs.BoundLaws.{term_bound}
 use Rattle.amqp_batches.specs.Resuming.{IsRead}
 use Rattle.amqp_batches.specs.GroupTexts.{GroupText, read_sound, widened}
 use Rattle.amqp_batches.specs.SectionGroups.{section_text}
@@ -71,7 +71,7 @@ pub value_is_text : {T : Type 0} {u : TermType T} {w : Writing T} → Agreement 
 value_is_text {u = u} {w} a e is =
     let t : GroupText (reading_of (values u)) IsBodyCode =
     widened (λ k i. inr (inr i)) (section_text 0x77 (value_section in_value w) (section_agreement in_value value_naming a)) in
-    itself_or_empty_text (reading_of (values u)) (term_without_limits (values u))
+    itself_or_empty_text (reading_of (values u)) (term_bound (values u))
     (record { is = λ v. e.is v.0; test = λ v. e.test v.0; tested = λ v. e.tested v.0 }) t
     (λ v h. read_sound (body_group (group_is_body t)) v (null_read u v (is v.0 h)))
     (λ v x h k. one_null u v x (is v.0 h) (is x.0 k))

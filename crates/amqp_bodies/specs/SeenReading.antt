@@ -6,7 +6,8 @@ use Rattle.amqp_decoder.specs.State.{State}
 use Rattle.amqp_decoder.specs.OtherSource.{elsewhere}
 use Rattle.amqp_codec.specs.Reading.{Reading, Taken, looking, AreAlike, start, BeginsWith}
 use Rattle.amqp_codec.specs.Rewriting.{Rewriting}
-use Rattle.amqp_batches.specs.Unlimited.{without_limits, IsReadWithoutLimits}
+use Rattle.amqp_batches.specs.Bounds.{limited_to, IsBoundByLimits}
+use Rattle.amqp_batches.specs.BoundLaws.{still_fresh, takes_so}
 use Rattle.amqp_batches.specs.StateLaws.{stays_then, alike_stays, alike_rest, alike_sym, alike_trans, any_taken}
 use Rattle.amqp_batches.specs.WalkLaws.{no_term}
 use Rattle.amqp_batches.specs.GroupTexts.{GroupText}
@@ -97,14 +98,15 @@ module _ {V : Type 0} (r : Reading V) where
     fault_elsewhere = seen_fault_elsewhere;
   }
 
-  pub seen_without_limits : IsReadWithoutLimits r → IsReadWithoutLimits seen_reading
-  seen_without_limits free st v b bound h =
-      let same = (alike_stays st h.seen h.alike).nesting in
-      record {
-        seen = without_limits h.seen;
-        alike = ap without_limits h.alike;
-        read = free h.seen v b (omega (arith, bound, same)) h.read;
-      }
+  pub seen_bound : IsBoundByLimits r → IsBoundByLimits seen_reading
+  seen_bound bound st v b fresh h =
+      takes_so (λ first last. r.reads first v last) (λ first last. SeenReads first v last) h.seen b st b (alike_sym st h.seen h.alike) refl
+      (λ free nesting left quota l q read. record {
+        seen = limited_to free nesting left quota h.seen;
+        alike = ap (limited_to free nesting left quota) h.alike;
+        read = read;
+      })
+      (bound h.seen v b (still_fresh st h.seen fresh (alike_stays st h.seen h.alike)) h.read)
 
   -- of a whole input it makes no difference
   unseen : (input : List ℕ) (v : V) (n : ℕ) → BeginsWith seen_reading input v n → BeginsWith r input v n
@@ -139,7 +141,7 @@ module _ {V : Type 0} (r : Reading V) where
     kept = t.kept;
     lasts = t.lasts;
     is_least = t.is_least;
-    unlimited = seen_without_limits t.unlimited;
+    bound = seen_bound t.bound;
     rewriting = seen_rewrites t.rewriting;
     begins = t.begins;
     ends = t.ends;

@@ -5,7 +5,7 @@ use Rattle.amqp_model.specs.OptionLaws.{option_sym, option_trans}
 use Rattle.amqp_decoder.specs.State.{State}
 use Rattle.amqp_decoder.specs.OtherSource.{elsewhere}
 use Rattle.amqp_codec.specs.Reading.{Reading, Taken, Stays, apart, looking, AreAlike}
-use Rattle.amqp_batches.specs.Unlimited.{IsReadWithoutLimits}
+use Rattle.amqp_batches.specs.Bounds.{IsBoundByLimits}
 
 module _ {T : Type 0} (r : Reading T) where
   abbrev pub SomeReads : State → Option T → State → Type 0
@@ -78,6 +78,6 @@ module _ {T : Type 0} (r : Reading T) where
     fault_elsewhere = r.fault_elsewhere;
   }
 
-  pub some_without_limits : IsReadWithoutLimits r → IsReadWithoutLimits some_reading
-  some_without_limits free st None b bound h = absurd h
-  some_without_limits free st (Some v) b bound h = free st v b bound h
+  pub some_bound : IsBoundByLimits r → IsBoundByLimits some_reading
+  some_bound bound st None b fresh h = absurd h
+  some_bound bound st (Some v) b fresh h = bound st v b fresh h

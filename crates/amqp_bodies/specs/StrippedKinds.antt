@@ -1,5 +1,5 @@
 -- What stands in a body of any kind in which there may be nothing (Part 3, sections 3.2.6 to 3.2.8).
-use Rattle.std.proofs.Common.{◌≡◌, ◌≤◌, Option, Some, None}
+use Rattle.std.proofs.Common.{◌≤◌, Option, Some, None}
 use Rattle.amqp_model.specs.FieldRules.{SameOption}
 use Rattle.amqp_codec.specs.Reading.{Reading}
 use Rattle.amqp_sections.specs.declared.data.Data.{Data as DataSection}

@@ -3,11 +3,11 @@ use Rattle.std.proofs.Common.{◌≡◌, ◌≤◌, ℕ, Option, Some, None, Mat
 use Rattle.amqp_model.specs.FieldRules.{SameOption}
 use Rattle.amqp_model.specs.OptionLaws.{option_sym, option_trans}
 use Rattle.amqp_codec.specs.Reading.{Reading}
-use Rattle.amqp_batches.specs.Unlimited.{IsReadWithoutLimits}
+use Rattle.amqp_batches.specs.Bounds.{IsBoundByLimits}
 use Rattle.amqp_batches.specs.SectionGroups.{run_reading}
 use Rattle.amqp_bodies.specs.SeenReading.{seen_reading}
-use Rattle.amqp_bodies.specs.Bodies.{BodyLaws, Made}
-use Rattle.amqp_bodies.specs.SomeReading.{some_reading, some_without_limits}
+use Rattle.amqp_bodies.specs.Bodies.{Made}
+use Rattle.amqp_bodies.specs.SomeReading.{some_reading, some_bound}
 
 -- Where there is nothing in what is read so, and what else stands in it, with the laws. `whole` is how the latter is read by itself.
 pub record Stripped {F S : Type 0} (group : Reading F) (whole : Reading S) : Type 1 where
@@ -20,7 +20,7 @@ pub record Stripped {F S : Type 0} (group : Reading F) (whole : Reading S) : Typ
 -- How a body is read in which there may be nothing.
 pub record Transposed (F : Type 0) {S : Type 0} (whole : Reading S) : Type 1 where
   pub group : Reading F
-  pub unlimited : IsReadWithoutLimits group
+  pub bound : IsBoundByLimits group
   pub stripped : Stripped group whole
 
 -- The value is absent where there is nothing in the body, and is else made of what stands in it.
@@ -60,7 +60,7 @@ module _ {F S B : Type 0} (m : Made S B) (t : Transposed F m.group) where
     count = count_made;
     of_body = IsTransposed m t;
     laws = record {
-      unlimited = t.unlimited;
+      bound = t.bound;
       same_sym = option_sym m.same m.laws.same_sym;
       same_trans = option_trans m.same m.laws.same_trans;
       one = made_one;
@@ -95,8 +95,8 @@ module _ {F S : Type 0} {group : Reading F} {whole : Reading S} (x : Stripped gr
   abbrev pub some_stripped : Stripped (some_reading group) whole
   some_stripped = record { is_nothing = IsNothing; holds = HoldsIn; one = some_holds_one; apart = some_apart; counted = some_held_counted }
 
-  abbrev pub optional : IsReadWithoutLimits group → Transposed (Option F) whole
-  optional free = record { group = some_reading group; unlimited = some_without_limits group free; stripped = some_stripped }
+  abbrev pub optional : IsBoundByLimits group → Transposed (Option F) whole
+  optional bound = record { group = some_reading group; bound = some_bound group bound; stripped = some_stripped }
 
 -- What is read is there unless it is empty.
 module _ {F : Type 0} (r : Reading F) (is_empty : F → Type 0) (kept : (f g : F) → r.same f g → is_empty f → is_empty g) where

@@ -1,11 +1,25 @@
 //! What holds of bodies beyond the laws of every type. The functions do nothing; their contracts are proved.
-ghost use Rattle.std.specs.Prelude.{IsTrue};
+ghost use Rattle.std.specs.Prelude.{◌↔◌, ℕ, List, IsTrue, take};
+ghost use Rattle.amqp_wire.specs.declared.limits.Limits.{Limits};
+ghost use Rattle.amqp_wire.specs.Limits.{limit_of};
+ghost use Rattle.amqp_decoder.specs.State.{Has};
+ghost use Rattle.amqp_codec.specs.Reading.{BeginsWithin, BeginsWith};
+ghost use Rattle.amqp_batches.specs.Bounds.{AreAllowed};
 ghost use Rattle.amqp_bodies.specs.Members.{AreRelated};
 ghost use Rattle.amqp_bodies.specs.declared.body.Body.{Body as BodyOf};
 
 use crate::body::Body;
+use crate::traits::FromBody;
 use amqp_batches::Batch;
 use amqp_sections::{AmqpSequence, AmqpValue, Data};
+
+/// Within limits of the caller a body is read from the first n bytes exactly if it is read from them without, n is no more than the limit on
+/// bytes, and the sections that they are nest no deeper and have no more values together than the limits say; a described value is one with
+/// its descriptor.
+pub fn limits_bound_bodies<B: FromBody>()
+    ensures within { (limits : Limits) (input : List ℕ) (body : B.Body) (n : ℕ) → BeginsWithin limits B.made.group input body n
+        ↔ (BeginsWith B.made.group input body n × Has (limit_of limits.bytes) n × AreAllowed limits (take n input)) }
+{}
 
 /// A copy of a body is of the same kind, and holds a copy of what that holds.
 pub fn contents_are_copied<T: Clone>()

@@ -13,10 +13,10 @@ ghost use Rattle.amqp_batches.specs.RepeatedSections.{data_section, sequence_sec
 ghost use Rattle.amqp_bodies.specs.BodyTexts.{section_is_text, batch_is_text};
 ghost use Rattle.amqp_bodies.specs.NullBodies.{value_is_text};
 ghost use Rattle.amqp_codec.specs.TermReading.{reading_of};
-ghost use Rattle.amqp_batches.specs.SectionGroups.{run_reading, group_without_limits};
+ghost use Rattle.amqp_batches.specs.SectionGroups.{run_reading, group_bound};
 ghost use Rattle.amqp_bodies.specs.Bodies.{itself, section_made, no_value};
 ghost use Rattle.amqp_bodies.specs.BodySections.{value_made};
-ghost use Rattle.amqp_bodies.specs.SeenReading.{seen_reading, seen_without_limits};
+ghost use Rattle.amqp_bodies.specs.SeenReading.{seen_reading, seen_bound};
 
 use crate::traits::{
     BodySection, CanonicalBody, DeserializableBody, FromBody, FromEmptyBody, SerializableBody,
@@ -205,7 +205,7 @@ impl<T: BatchItem + DeserializeTerm> FromBody for TransparentVec<T> {
     type Body = TransparentVec<T>;
 
     ghost made = { itself (seen_reading (run_reading T.code ⟦<TransparentVec<T> as Deserialize>⟧.reading))
-        (seen_without_limits _ (group_without_limits T.code T.term)) };
+        (seen_bound _ (group_bound T.code T.term)) };
 
     fn from_body(body: TransparentVec<T>, _alloc: Global) -> Result<TransparentVec<T>, Error> {
         Ok(body)

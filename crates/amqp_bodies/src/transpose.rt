@@ -2,12 +2,12 @@
 ghost use Rattle.std.specs.Prelude.{◌≡◌, [], None, IfOk, IfErr, MatchOption};
 ghost use Rattle.std.specs.List.{AllZip, Any};
 ghost use Rattle.amqp_wire.specs.declared.error.Error.TheVariants.{Memory};
-ghost use Rattle.amqp_batches.specs.Unlimited.{term_without_limits};
+ghost use Rattle.amqp_batches.specs.BoundLaws.{term_bound};
 ghost use Rattle.amqp_batches.specs.Batches.{sections_in};
-ghost use Rattle.amqp_batches.specs.SectionGroups.{group_without_limits};
+ghost use Rattle.amqp_batches.specs.SectionGroups.{group_bound};
 ghost use Rattle.amqp_bodies.specs.Bodies.{section_made};
-ghost use Rattle.amqp_bodies.specs.BodySections.{any_body_without_limits};
-ghost use Rattle.amqp_bodies.specs.SeenReading.{seen_without_limits};
+ghost use Rattle.amqp_bodies.specs.BodySections.{any_body_bound};
+ghost use Rattle.amqp_bodies.specs.SeenReading.{seen_bound};
 ghost use Rattle.amqp_bodies.specs.Transposing.{optional, option_made, seen_stripped, run_stripped};
 ghost use Rattle.amqp_bodies.specs.StrippedBodies.{HasNone, AreAll, value_stripped, sequence_stripped, batch_stripped};
 ghost use Rattle.amqp_bodies.specs.StrippedBodies.{data_stripped, data_batch_stripped};
@@ -71,7 +71,7 @@ impl<T: ValueFromBody> TransposeOption<T> for AmqpValue<T> {
     type From = Option<AmqpValue<Option<T>>>;
 
     ghost transposed = { option_made ⟦<T as FromBody>⟧.made
-        (optional (value_stripped T.term) (term_without_limits ⟦<AmqpValue<Option<T>> as DeserializeTerm>⟧.term)) };
+        (optional (value_stripped T.term) (term_bound ⟦<AmqpValue<Option<T>> as DeserializeTerm>⟧.term)) };
 
     fn transpose(src: Option<AmqpValue<Option<T>>>, alloc: Global) -> Result<Option<T>, Error> {
         match src {
@@ -97,7 +97,7 @@ impl<T: DeserializeTerm + FromEmptyBody> TransposeOption<AmqpValue<T>> for AmqpV
     type From = Option<AmqpValue<Option<T>>>;
 
     ghost transposed = { option_made ⟦<AmqpValue<T> as FromBody>⟧.made
-        (optional (value_stripped T.term) (term_without_limits ⟦<AmqpValue<Option<T>> as DeserializeTerm>⟧.term)) };
+        (optional (value_stripped T.term) (term_bound ⟦<AmqpValue<Option<T>> as DeserializeTerm>⟧.term)) };
 
     fn transpose(
         src: Option<AmqpValue<Option<T>>>,
@@ -126,7 +126,7 @@ impl<T: DeserializeTerm> TransposeOption<AmqpSequence<T>> for AmqpSequence<T> {
     type From = Option<AmqpSequence<Option<T>>>;
 
     ghost transposed = { option_made ⟦<AmqpSequence<T> as FromBody>⟧.made
-        (optional (sequence_stripped T.term) (term_without_limits ⟦<AmqpSequence<Option<T>> as DeserializeTerm>⟧.term)) };
+        (optional (sequence_stripped T.term) (term_bound ⟦<AmqpSequence<Option<T>> as DeserializeTerm>⟧.term)) };
 
     fn transpose(
         src: Option<AmqpSequence<Option<T>>>,
@@ -165,7 +165,7 @@ impl<T: DeserializeTerm> TransposeOption<TransparentVec<AmqpSequence<T>>>
 
     ghost transposed = { option_made ⟦<TransparentVec<AmqpSequence<T>> as FromBody>⟧.made
         (optional (seen_stripped (run_stripped 0x76 (batch_stripped T.term)))
-        (seen_without_limits _ (group_without_limits 0x76 ⟦<AmqpSequence<Option<T>> as DeserializeTerm>⟧.term))) };
+        (seen_bound _ (group_bound 0x76 ⟦<AmqpSequence<Option<T>> as DeserializeTerm>⟧.term))) };
 
     fn transpose(
         src: Option<TransparentVec<AmqpSequence<Option<T>>>>,
@@ -194,7 +194,7 @@ impl<T: DeserializeTerm> TransposeOption<TransparentVec<AmqpSequence<T>>>
 /// Nothing is data without bytes.
 impl EmptyIsNothing for Data {
     ghost optional = { option_made (section_made ⟦<Data as DeserializeTerm>⟧.term)
-        (optional data_stripped (term_without_limits ⟦<Data as DeserializeTerm>⟧.term)) };
+        (optional data_stripped (term_bound ⟦<Data as DeserializeTerm>⟧.term)) };
 
     fn unless_empty(self) -> Option<Data> {
         if self.0.0.is_empty() {
@@ -223,7 +223,7 @@ impl TransposeOption<TransparentVec<Data>> for TransparentVec<Data> {
 
     ghost transposed = { option_made ⟦<TransparentVec<Data> as FromBody>⟧.made
         (optional (seen_stripped (run_stripped 0x75 data_batch_stripped))
-        (seen_without_limits _ (group_without_limits 0x75 ⟦<Data as DeserializeTerm>⟧.term))) };
+        (seen_bound _ (group_bound 0x75 ⟦<Data as DeserializeTerm>⟧.term))) };
 
     fn transpose(
         src: Option<TransparentVec<Data>>,
@@ -279,7 +279,7 @@ impl<T: DeserializeTerm> TransposeOption<Body<T>> for Body<T> {
     ghost transposed = { option_made ⟦<Body<T> as FromBody>⟧.made
         (record {
           group = ⟦<Body<Option<T>> as Deserialize>⟧.reading;
-          unlimited = seen_without_limits _ (any_body_without_limits ⟦<AmqpValue<Option<T>> as DeserializeTerm>⟧.term
+          bound = seen_bound _ (any_body_bound ⟦<AmqpValue<Option<T>> as DeserializeTerm>⟧.term
               ⟦<Data as DeserializeTerm>⟧.term ⟦<AmqpSequence<Option<T>> as DeserializeTerm>⟧.term);
           stripped = seen_stripped (body_stripped (value_stripped T.term) data_batch_stripped (batch_stripped T.term));
         }) };

@@ -26,15 +26,15 @@ use Rattle.amqp_map_sections.specs.SimpleMaps.{simple_map_type}
 use Rattle.amqp_message_headers.specs.Tables.{header, properties}
 use Rattle.amqp_batches.specs.declared.transparent_vec.TransparentVec.{TransparentVec}
 use Rattle.amqp_batches.specs.Batches.{batch_reading, batch_writing}
-use Rattle.amqp_batches.specs.SectionGroups.{run_reading, group_without_limits}
+use Rattle.amqp_batches.specs.SectionGroups.{run_reading, group_bound}
 use Rattle.amqp_batches.specs.WalkReading.{walk_reading, reading_via}
 use Rattle.amqp_bodies.specs.declared.body.Body.{Body}
 use Rattle.amqp_bodies.specs.Bodies.{Made, itself, section_made}
 use Rattle.amqp_bodies.specs.BodyReading.{body_reading}
-use Rattle.amqp_bodies.specs.BodySections.{any_body_without_limits, body_made, value_made}
+use Rattle.amqp_bodies.specs.BodySections.{any_body_bound, body_made, value_made}
 use Rattle.amqp_bodies.specs.BodyWriting.{body_writing}
 use Rattle.amqp_bodies.specs.PlainBodies.{null_value}
-use Rattle.amqp_bodies.specs.SeenReading.{seen_reading, seen_without_limits}
+use Rattle.amqp_bodies.specs.SeenReading.{seen_reading, seen_bound}
 use Rattle.amqp_messages.specs.declared.message.Message.{Message}
 use Rattle.amqp_messages.specs.declared.order.Order.TheVariants.{Any, Written}
 use Rattle.amqp_messages.specs.declared.strict.Strict.{Strict}
@@ -83,7 +83,7 @@ any_body_writing = body_writing one_value_writing data_batch_writing sequence_ba
 
 -- How the bodies of messages are read: of any kind, one value, one section of data, and several.
 abbrev pub of_any_body : Made (Body Value) (Body Value)
-of_any_body = body_made any_body (seen_without_limits _ (any_body_without_limits one_value_type data_type sequence_type))
+of_any_body = body_made any_body (seen_bound _ (any_body_bound one_value_type data_type sequence_type))
 
 abbrev pub of_one_value : Made (AmqpValue Value) (AmqpValue Value)
 of_one_value = value_made value_type null_value
@@ -92,7 +92,7 @@ abbrev pub of_data : Made Data Data
 of_data = section_made data_type
 
 abbrev pub of_data_batch : Made (TransparentVec Data) (TransparentVec Data)
-of_data_batch = itself (seen_reading (run_reading 0x75 data_batch)) (seen_without_limits _ (group_without_limits 0x75 data_type))
+of_data_batch = itself (seen_reading (run_reading 0x75 data_batch)) (seen_bound _ (group_bound 0x75 data_type))
 
 -- Messages with such a body: in any order of their sections, and strictly in the standard's.
 abbrev pub in_any_order : {S B : Type 0} → Made S B → Reading (Message B)

@@ -42,7 +42,7 @@ pub(crate) fn batch_text_within<T: BatchItem + DeserializeTerm>(
     ensures refused { IfErr result (λ e. (e ≡ Memory) ⊎ HasNoTextWithin limits.now ⟦<Batch<T> as Deserialize>⟧.reading
         ⟦<Batch<T> as Serialize>⟧.writing.canons input.now e) }
 {
-    amqp_batches::laws::limits_take_nothing::<T>();
+    amqp_batches::laws::limits_bound_batches::<T>();
     canonical_text_within::<Batch<T>>(input, limits, alloc)
 }
 
@@ -73,7 +73,7 @@ pub(crate) fn message_text_within<B: CanonicalBody>(
     ensures refused { IfErr result (λ e. (e ≡ Memory) ⊎ HasNoTextWithin limits.now ⟦<Message<B> as Deserialize>⟧.reading
         ⟦<Message<B> as Serialize>⟧.writing.canons input.now e) }
 {
-    amqp_messages::laws::limits_take_nothing::<B>();
+    amqp_messages::laws::limits_bound_messages::<B>();
     canonical_text_within::<Message<B>>(input, limits, alloc)
 }
 
@@ -89,6 +89,6 @@ pub(crate) fn strict_text_within<B: CanonicalBody>(
     ensures refused { IfErr result (λ e. (e ≡ Memory) ⊎ HasNoTextWithin limits.now ⟦<Strict<B> as Deserialize>⟧.reading
         ⟦<Strict<B> as Serialize>⟧.writing.canons input.now e) }
 {
-    amqp_messages::laws::limits_take_nothing::<B>();
+    amqp_messages::laws::limits_bound_messages::<B>();
     canonical_text_within::<Strict<B>>(input, limits, alloc)
 }

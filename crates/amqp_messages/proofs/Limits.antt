@@ -1,8 +1,11 @@
 -- Messages within limits of the caller.
-use Rattle.std.proofs.Common.{ℕ, List}
+use Rattle.std.proofs.Common.{ℕ, List, ◌↔◌, take}
 use Rattle.amqp_wire.specs.declared.limits.Limits.{Limits}
+use Rattle.amqp_wire.specs.Limits.{limit_of}
+use Rattle.amqp_decoder.specs.State.{Has}
 use Rattle.amqp_codec.specs.Reading.{BeginsWithin, BeginsWith}
-use Rattle.amqp_batches.specs.Unlimited.{IsReadWithoutLimits, begins_without_limits}
+use Rattle.amqp_batches.specs.Bounds.{AreAllowed, IsBoundByLimits}
+use Rattle.amqp_batches.specs.BoundLaws.{bounded}
 use Rattle.amqp_batches.specs.WalkReading.{walk_reading, reading_via}
 use Rattle.amqp_bodies.specs.Bodies.{Made}
 use Rattle.amqp_messages.specs.declared.order.Order.{Order}
@@ -11,21 +14,23 @@ use Rattle.amqp_messages.specs.declared.message.Message.{Message}
 use Rattle.amqp_messages.specs.declared.strict.Strict.{Strict}
 use Rattle.amqp_messages.specs.MessageWalk.{message_walk}
 use Rattle.amqp_messages.specs.MessageTypes.{message_of, message_in}
-use Rattle.amqp_messages.specs.MessageLimits.{message_without_limits}
-use Rattle.amqp_messages.specs.KindLimits.{shape_without_limits}
+use Rattle.amqp_messages.specs.MessageLimits.{message_bound}
+use Rattle.amqp_messages.specs.KindLimits.{shape_bound}
 
 module _ {S B : Type 0} (made : Made S B) where
-  free : (o : Order) → IsReadWithoutLimits (walk_reading (message_walk o (message_of made)))
-  free o = message_without_limits o (message_of made) (shape_without_limits _ _ _ _ _ _ made)
+  bound : (o : Order) → IsBoundByLimits (walk_reading (message_walk o (message_of made)))
+  bound o = message_bound o (message_of made) (shape_bound _ _ _ _ _ _ made)
 
-  pub message_begins : (o : Order) (limits : Limits) (input : List ℕ) (v : Message B) (n : ℕ)
+  pub message_bounded : (o : Order) (limits : Limits) (input : List ℕ) (v : Message B) (n : ℕ)
       → BeginsWithin limits (walk_reading (message_walk o (message_of made))) input v n
-      → BeginsWith (walk_reading (message_walk o (message_of made))) input v n
-  message_begins o = begins_without_limits (walk_reading (message_walk o (message_of made))) (free o)
+      ↔ (BeginsWith (walk_reading (message_walk o (message_of made))) input v n × Has (limit_of limits.bytes) n
+      × AreAllowed limits (take n input))
+  message_bounded o = bounded (walk_reading (message_walk o (message_of made))) (bound o)
 
-  pub strict_begins_so : (limits : Limits) (input : List ℕ) (v : Strict B) (n : ℕ)
+  pub strict_bounded : (limits : Limits) (input : List ℕ) (v : Strict B) (n : ℕ)
       → BeginsWithin limits (reading_via (walk_reading (message_walk Written (message_of made))) message_in) input v n
-      → BeginsWith (reading_via (walk_reading (message_walk Written (message_of made))) message_in) input v n
-  strict_begins_so =
-      begins_without_limits (reading_via (walk_reading (message_walk Written (message_of made))) message_in)
-      (λ st v b. free Written st (message_in v) b)
+      ↔ (BeginsWith (reading_via (walk_reading (message_walk Written (message_of made))) message_in) input v n
+      × Has (limit_of limits.bytes) n × AreAllowed limits (take n input))
+  strict_bounded =
+      bounded (reading_via (walk_reading (message_walk Written (message_of made))) message_in)
+      (λ st v b. bound Written st (message_in v) b)

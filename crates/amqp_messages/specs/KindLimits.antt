@@ -1,4 +1,4 @@
--- Limits of the caller take nothing from any kind of section.
+-- Limits of the caller bound what is read of each kind of section.
 use Rattle.std.proofs.Common.{Bool, true, false, eqb}
 use Rattle.amqp_codec.specs.TermType.{TermType}
 use Rattle.amqp_map_sections.specs.declared.application_properties.ApplicationProperties.{ApplicationProperties}
@@ -7,14 +7,15 @@ use Rattle.amqp_map_sections.specs.declared.footer.Footer.{Footer}
 use Rattle.amqp_map_sections.specs.declared.message_annotations.MessageAnnotations.{MessageAnnotations}
 use Rattle.amqp_message_headers.specs.declared.header.Header.{Header}
 use Rattle.amqp_message_headers.specs.declared.properties.Properties.{Properties}
-use Rattle.amqp_batches.specs.Unlimited.{IsReadWithoutLimits, term_without_limits}
+use Rattle.amqp_batches.specs.Bounds.{IsBoundByLimits}
+use Rattle.amqp_batches.specs.BoundLaws.{term_bound}
 use Rattle.amqp_bodies.specs.Bodies.{Made}
 use Rattle.amqp_messages.specs.declared.message.Groups.{Groups}
 use Rattle.amqp_messages.specs.Groups.{Kind}
 use Rattle.amqp_messages.specs.Messages as messages
 use Rattle.amqp_messages.specs.Messages.{Readings, pick, weight}
 use Rattle.amqp_messages.specs.MessageTypes.{readings_of, shape_of}
-use Rattle.amqp_messages.specs.MessageLimits.{AreReadWithoutLimits}
+use Rattle.amqp_messages.specs.MessageLimits.{AreBoundByLimits}
 
 -- what holds of both holds of the one that is picked
 pub pick_both : {A : Type 1} (P : A → Type 0) (b : Bool) (x y : A) → P x → P y → P (pick b x y)
@@ -26,14 +27,14 @@ module _ {S B : Type 0} (uh : TermType Header) (ud : TermType DeliveryAnnotation
   abbrev r : Readings S
   r = readings_of uh ud um up ua uf made.group
 
-  abbrev IsKindUnlimited : Kind (Groups S) (messages.AreAlike r) (weight r) → Type 0
-  IsKindUnlimited k = IsReadWithoutLimits k.reading
+  abbrev IsKindBound : Kind (Groups S) (messages.AreAlike r) (weight r) → Type 0
+  IsKindBound k = IsBoundByLimits k.reading
 
-  pub shape_without_limits : AreReadWithoutLimits (shape_of uh ud um up ua uf made)
-  shape_without_limits c =
-      pick_both IsKindUnlimited (eqb c 0x70) _ _ (term_without_limits uh)
-      (pick_both IsKindUnlimited (eqb c 0x71) _ _ (term_without_limits ud)
-      (pick_both IsKindUnlimited (eqb c 0x72) _ _ (term_without_limits um)
-      (pick_both IsKindUnlimited (eqb c 0x73) _ _ (term_without_limits up)
-      (pick_both IsKindUnlimited (eqb c 0x74) _ _ (term_without_limits ua)
-      (pick_both IsKindUnlimited (eqb c 0x78) _ _ (term_without_limits uf) made.laws.unlimited)))))
+  pub shape_bound : AreBoundByLimits (shape_of uh ud um up ua uf made)
+  shape_bound c =
+      pick_both IsKindBound (eqb c 0x70) _ _ (term_bound uh)
+      (pick_both IsKindBound (eqb c 0x71) _ _ (term_bound ud)
+      (pick_both IsKindBound (eqb c 0x72) _ _ (term_bound um)
+      (pick_both IsKindBound (eqb c 0x73) _ _ (term_bound up)
+      (pick_both IsKindBound (eqb c 0x74) _ _ (term_bound ua)
+      (pick_both IsKindBound (eqb c 0x78) _ _ (term_bound uf) made.laws.bound)))))

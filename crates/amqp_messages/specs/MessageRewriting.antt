@@ -17,13 +17,15 @@ use Rattle.amqp_batches.specs.Walk.{Walk, Steps}
 use Rattle.amqp_batches.specs.WalkReading.{walk_reading}
 use Rattle.amqp_batches.specs.RowLaws.{row_text_none, row_text_joined, both_proper, front_writable, back_writable, front_or_back}
 use Rattle.amqp_batches.specs.RowLaws.{none_refused}
-use Rattle.amqp_batches.specs.Resuming.{IsFresh, IsUnlimited, fresh_top, start_unlimited, still_fresh, IsRead, is_read_so, IsReadHere, read_here}
+use Rattle.amqp_batches.specs.Bounds.{IsFresh}
+use Rattle.amqp_batches.specs.BoundLaws.{still_fresh}
+use Rattle.amqp_batches.specs.Resuming.{IsUnlimited, fresh_top, start_unlimited, IsRead, is_read_so, IsReadHere, read_here}
 use Rattle.amqp_messages.specs.declared.order.Order.{Order}
 use Rattle.amqp_messages.specs.declared.order.Order.TheVariants.{Any, Written}
 use Rattle.amqp_messages.specs.Orders.{behind, further}
 use Rattle.amqp_messages.specs.Groups.{Kind, Shape, Progress, GroupStep}
 use Rattle.amqp_messages.specs.MessageWalk.{message_walk}
-use Rattle.amqp_messages.specs.MessageLimits.{AreReadWithoutLimits}
+use Rattle.amqp_messages.specs.MessageLimits.{AreBoundByLimits}
 use Rattle.amqp_batches.specs.GroupTexts.{IsSound}
 use Rattle.amqp_messages.specs.Entries.{Entry, Entries, no_more, entry, optional, size, row_of, AreValues, Last}
 use Rattle.amqp_messages.specs.Entries.{AreKept, AreSound, AreSame, AreAgain, after, IsClear, Fall}
@@ -117,7 +119,7 @@ module _ {M V : Type 0} (o : Order) (s : Shape M V) where
       (λ k is h. (let p = e.placed k is in let r = behind_rest k h in absurd (omega (arith, p, r)))) in
       let text = row_text (e.text.writing.canons g) in
       let r : IsReadHere e.reading st (e.text.again g) rest =
-      read_here e.reading e.text.unlimited st (e.text.again g) text rest fresh here (e.text.rewriting.reads_again g rest i l f ended) in
+      read_here e.reading e.text.bound st (e.text.again g) text rest fresh here (e.text.rewriting.reads_again g rest i l f ended) in
       record {
         next = further o left c;
         last = r.last;
@@ -186,15 +188,15 @@ module _ {M V : Type 0} (o : Order) (s : Shape M V) where
   Keeps P =
       (c : ℕ) (g : (s.kind_of c).Group) (m : M) → IsRead (s.kind_of c).reading g → P m → P ((s.kind_of c).put g m)
 
-  steps_keep : AreReadWithoutLimits s → (P : M → Type 0) → Keeps P → (n : ℕ) (st : State) (m x : Progress M) (b : State) → IsFresh st → P m.part
+  steps_keep : AreBoundByLimits s → (P : M → Type 0) → Keeps P → (n : ℕ) (st : State) (m x : Progress M) (b : State) → IsFresh st → P m.part
       → Steps walk n st m x b → P x.part
-  steps_keep free P h zero st m x b fresh p (i, j) = subst (λ (z : Progress M). P z.part) (sym i) p
-  steps_keep free P h (suc n) st m x b fresh p (y, mid, k, r) =
+  steps_keep bound P h zero st m x b fresh p (i, j) = subst (λ (z : Progress M). P z.part) (sym i) p
+  steps_keep bound P h (suc n) st m x b fresh p (y, mid, k, r) =
       let g = k.fills in
       let reading = (s.kind_of k.code).reading in
       let q : P y.part =
-      subst P (sym g.is) (h k.code g.group m.part (is_read_so reading (free k.code) st g.group mid fresh g.read) p) in
-      steps_keep free P h n mid y x b (still_fresh st mid fresh (reading.stays st g.group mid g.read)) q r
+      subst P (sym g.is) (h k.code g.group m.part (is_read_so reading (bound k.code) st g.group mid fresh g.read) p) in
+      steps_keep bound P h n mid y x b (still_fresh st mid fresh (reading.stays st g.group mid g.read)) q r
 
   some_as : {A : Type 0} (P Q : A → Type 0) → ((v : A) → P v → Q v) → (v : Option A) → IfSome v P → IfSome v Q
   some_as P Q f None h = tt
@@ -271,7 +273,7 @@ module _ {M V : Type 0} (o : Order) (s : Shape M V) where
     pub made_sound : (m : M) (v : V) → s.finish m v → AreSound entries m → AreSound entries (parts v)
     pub blank_sound : AreSound entries s.blank
     pub keeps : Keeps (AreSound entries)
-    pub unlimited : AreReadWithoutLimits s
+    pub bound : AreBoundByLimits s
     pub agains : (v : V) → AreAgain entries (parts v) (parts (again v))
     pub canons_are : (v : V) → canons v ≡ row_of entries (parts v)
     pub to_value : (v : V) → is_value v → AreValues entries (parts v)
@@ -288,7 +290,7 @@ module _ {M V : Type 0} (o : Order) (s : Shape M V) where
     sound input v n h =
         let k = h.read in
         y.made_sound k.part.part v k.made
-        (steps_keep y.unlimited (AreSound y.entries) y.keeps k.number (start input) walk.blank k.part k.last (start_unlimited input).0
+        (steps_keep y.bound (AreSound y.entries) y.keeps k.number (start input) walk.blank k.part k.last (start_unlimited input).0
         y.blank_sound k.steps)
 
     writable : (v : V) → AreWritable (canons v) → AreWritable (row_of y.entries (y.parts v))

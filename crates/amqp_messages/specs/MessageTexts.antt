@@ -27,14 +27,14 @@ use Rattle.amqp_messages.specs.declared.message.Groups.{Groups}
 use Rattle.amqp_messages.specs.Orders.{behind}
 use Rattle.amqp_messages.specs.Groups.{Kind, GroupRead, Shape}
 use Rattle.amqp_messages.specs.MessageWalk.{message_walk}
-use Rattle.amqp_messages.specs.Messages.{Readings, pick, kind_of, weight}
+use Rattle.amqp_messages.specs.Messages.{Readings, kind_of, weight}
 use Rattle.amqp_messages.specs.Messages as messages
 use Rattle.amqp_messages.specs.MessageTypes.{readings_of, shape_of}
 use Rattle.amqp_messages.specs.MessageWriting.{message_writing}
 use Rattle.amqp_messages.specs.Entries.{Entry, Entries, no_more, entry, AreSound}
 use Rattle.amqp_messages.specs.MessageRewriting.{Keeps, Layout, rewrites_rows}
-use Rattle.amqp_messages.specs.MessageLimits.{AreReadWithoutLimits}
-use Rattle.amqp_messages.specs.KindLimits.{pick_both, shape_without_limits}
+use Rattle.amqp_messages.specs.MessageLimits.{AreBoundByLimits}
+use Rattle.amqp_messages.specs.KindLimits.{pick_both, shape_bound}
 
 -- A section of this code, by its record and how it is written.
 pub record SectionLaws {T : Type 0} (c : ℕ) (u : TermType T) (w : Writing T) : Type 0 where
@@ -242,8 +242,8 @@ module _ {B : Type 0}
         (λ g m r a. (a.0, (a.1.0, (a.1.1.0, (a.1.1.1.0, (a.1.1.1.1.0, (a.1.1.1.1.1.0, (read_sound (text_of sf) g r, tt))))))))
         (λ g m r a. (a.0, (a.1.0, (a.1.1.0, (a.1.1.1.0, (a.1.1.1.1.0, (read_sound (body_group body.group) g r, a.1.1.1.1.1.1))))))))))))
 
-    kinds_without_limits : AreReadWithoutLimits shape
-    kinds_without_limits = shape_without_limits uh ud um up ua uf made
+    kinds_bound : AreBoundByLimits shape
+    kinds_bound = shape_bound uh ud um up ua uf made
 
     body_sound : (a : Option B) (v : B) → messages.IsBodyOf readings made.empty made.same made.count made.of_body made.laws a v
         → IfSome a (IsSound (body_group body.group)) → IsSound (body_group body.group) v
@@ -282,7 +282,7 @@ module _ {B : Type 0}
       made_sound = made_sound;
       blank_sound = (tt, (tt, (tt, (tt, (tt, (tt, (tt, tt)))))));
       keeps = keeps_sound o;
-      unlimited = kinds_without_limits;
+      bound = kinds_bound;
       agains = λ v. (refl, (refl, (refl, (refl, (refl, (refl, (refl, tt)))))));
       canons_are = λ v. refl;
       to_value = λ v i. i;

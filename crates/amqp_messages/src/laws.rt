@@ -1,7 +1,10 @@
 //! What holds of messages beyond the laws of every type. The functions do nothing; their contracts are proved.
-ghost use Rattle.std.specs.Prelude.{◌≡◌, ℕ, List, IsTrue};
+ghost use Rattle.std.specs.Prelude.{◌≡◌, ◌↔◌, ℕ, List, IsTrue, take};
 ghost use Rattle.amqp_wire.specs.declared.limits.Limits.{Limits};
+ghost use Rattle.amqp_wire.specs.Limits.{limit_of};
+ghost use Rattle.amqp_decoder.specs.State.{Has};
 ghost use Rattle.amqp_codec.specs.Reading.{BeginsWithin, BeginsWith};
+ghost use Rattle.amqp_batches.specs.Bounds.{AreAllowed};
 ghost use Rattle.amqp_messages.specs.Builders.{built};
 ghost use Rattle.amqp_messages.specs.MessageCalls.{only_body};
 ghost use Rattle.amqp_messages.specs.declared.builder.Builder.{Builder as BuilderOf};
@@ -16,14 +19,18 @@ use amqp_map_sections::{ApplicationProperties, DeliveryAnnotations, Footer, Mess
 use amqp_message_headers::laws::copies_of_options_are_equal;
 use amqp_message_headers::{Header, Properties};
 
-/// Within limits of the caller nothing is read as a message that isn't read without, neither in any order nor strictly.
-pub fn limits_take_nothing<B: FromBody>()
+/// Within limits of the caller a message is read from the first n bytes exactly if it is read from them without, n is no more than the limit
+/// on bytes, and the sections that they are nest no deeper and have no more values together than the limits say; a described value is one
+/// with its descriptor. So it is in any order of the sections, and strictly.
+pub fn limits_bound_messages<B: FromBody>()
     ensures any { (limits : Limits) (input : List ℕ) (message : _) (n : ℕ)
         → BeginsWithin limits ⟦<Message<B> as Deserialize>⟧.reading input message n
-        → BeginsWith ⟦<Message<B> as Deserialize>⟧.reading input message n }
+        ↔ (BeginsWith ⟦<Message<B> as Deserialize>⟧.reading input message n × Has (limit_of limits.bytes) n
+        × AreAllowed limits (take n input)) }
     ensures strict { (limits : Limits) (input : List ℕ) (message : _) (n : ℕ)
         → BeginsWithin limits ⟦<Strict<B> as Deserialize>⟧.reading input message n
-        → BeginsWith ⟦<Strict<B> as Deserialize>⟧.reading input message n }
+        ↔ (BeginsWith ⟦<Strict<B> as Deserialize>⟧.reading input message n × Has (limit_of limits.bytes) n
+        × AreAllowed limits (take n input)) }
 {}
 
 /// By default a message has no section but its body, which is the default of its type.

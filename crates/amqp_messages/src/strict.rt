@@ -148,6 +148,7 @@ pub fn canonical_text_strict<B: CanonicalBody>(
     ensures refused { IfErr result (λ e. (e ≡ Memory) ⊎ (IsUnreadable ⟦<Strict<B> as Deserialize>⟧.reading input.now e
         ⊎ IsUnwritten ⟦<Strict<B> as Deserialize>⟧.reading ⟦<Strict<B> as Serialize>⟧.writing.canons input.now e)) }
     ensures unfailing { IfErr result (λ e. IsReadError e → ⊥) }
+    ensures unlimited { IfErr result (λ e. e ≡ Limit → ⊥) }
     ensures in_any_order { (bytes : List ℕ) (strict : _) (n : ℕ) → BeginsWith ⟦<Strict<B> as Deserialize>⟧.reading bytes strict n
         → BeginsWith ⟦<Message<B> as Deserialize>⟧.reading bytes (message_in strict) n × (n ≡ length bytes) }
     ensures strictly { AreReadAgain ⟦<Strict<B> as Deserialize>⟧.reading ⟦<Strict<B> as Serialize>⟧.writing.canons

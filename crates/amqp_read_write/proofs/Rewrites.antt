@@ -3,7 +3,7 @@ use Rattle.std.proofs.Common.{◌≡◌, ◌⊎◌, inl, inr, ℕ, ◌≤◌, Bo
 use Rattle.std.proofs.lemmas.List.{append-nil}
 use Rattle.amqp_model.specs.Term.{Term}
 use Rattle.amqp_wire.specs.declared.error.Error.{Error}
-use Rattle.amqp_wire.specs.declared.error.Error.TheVariants.{Memory}
+use Rattle.amqp_wire.specs.declared.error.Error.TheVariants.{Memory, Limit}
 use Rattle.amqp_wire.specs.declared.limits.Limits.{Limits}
 use Rattle.amqp_encoder.specs.Passes.{row_text}
 use Rattle.amqp_decoder.specs.Steps.{IsReadError}
@@ -91,3 +91,10 @@ pub unfailing : {T : Type 0} {r : Reading T} {canons : T → List Term} {input :
 unfailing (inl m) read = subst IsReadError m read
 unfailing {r = r} {input = input} {e = e} (inr (inl u)) read = r.not_outside e (read_is_outside e read) (start input) u.fault
 unfailing (inr (inr w)) read = subst IsReadError w.large read
+
+-- nor that of a limit, where what is read may be refused for its size alone
+pub unlimited : {T : Type 0} {r : Reading T} {canons : T → List Term} {input : List ℕ} {is_value : T → Type 0} {follows : List ℕ → Type 0}
+    {again : T → T} {kept lasts : T → Type 0} {is_least : Bool} → Rewriting r canons is_value follows again kept lasts is_least
+    → (v : T) (n : ℕ) (e : Error) → BeginsWith r input v n → (e ≡ Memory) ⊎ AreUnwritable (canons v) e → e ≡ Limit → ⊥
+unlimited laws v n e h (inl m) l = absurd (cc (m, l))
+unlimited {input = input} laws v n e h (inr u) l = absurd (cc (laws.large input v n e h u, l))

@@ -141,6 +141,7 @@ pub fn canonical_text<T: Canonical>(input: &[u8], alloc: Global) -> Result<(Vec<
     ensures refused { IfErr result (λ e.
         (e ≡ Memory) ⊎ (IsUnreadable T.reading input.now e ⊎ IsUnwritten T.reading T.writing.canons input.now e)) }
     ensures unfailing { IfErr result (λ e. IsReadError e → ⊥) }
+    ensures unlimited { IfErr result (λ e. e ≡ Limit → ⊥) }
 {
     let (value, len) = from_slice_counted::<T>(input, alloc)?;
     let text = to_vec(&value, alloc)?;

@@ -10,6 +10,7 @@ pub use Rattle.amqp_map_sections.specs.MapSections.{footer_naming, in_footer}
 pub use Rattle.amqp_message_headers.specs.Made.{default_header, no_properties}
 pub use Rattle.amqp_message_headers.specs.MessageIds.{id_primitive}
 pub use Rattle.amqp_batches.specs.Sections.{IsSection}
+pub use Rattle.amqp_batches.specs.Bounds.{AreAllowed, IsBoundByLimits}
 pub use Rattle.amqp_batches.specs.Transparent.{vec_in}
 pub use Rattle.amqp_batches.specs.Batches.{sections_in, batch_reading, batch_writing, batch_again}
 pub use Rattle.amqp_bodies.specs.Bodies.{Empties, Made, no_value, section_made, itself}

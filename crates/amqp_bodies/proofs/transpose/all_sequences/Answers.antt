@@ -1,5 +1,4 @@
 use Rattle.std.proofs.Common.{rules, ◌≡◌, [], ◌∷◌, ◌++◌}
-use Rattle.std.specs.List.{AllZip, Contains}
 use Rattle.std.specs.Vec.Iter.{into_iter_items}
 use Rattle.amqp_batches.specs.Batches.{sections_in}
 use Rattle.amqp_bodies.specs.StrippedBodies.{HasNone, AreAll}

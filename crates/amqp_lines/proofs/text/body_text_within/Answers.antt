@@ -1,4 +1,4 @@
-use Rattle.amqp_batches.specs.Unlimited.{begins_without_limits}
+use Rattle.amqp_batches.specs.BoundLaws.{begins_without_limits}
 use Rattle.amqp_lines.specs.Messages.{any_body, of_any_body}
 use Rattle.amqp_lines.proofs.Texts.{taken_within}
 use Rattle.amqp_lines.proofs.text.body_text_within.Goals as goal
@@ -9,4 +9,4 @@ returns-clause-within c =
 
 pub returns-clause-refused : goal.returns-clause-refused
 returns-clause-refused c =
-    c.canonical_text_within.ensures.refused (begins_without_limits any_body of_any_body.laws.unlimited c.args.limits.now)
+    c.canonical_text_within.ensures.refused (begins_without_limits any_body of_any_body.laws.bound c.args.limits.now)

@@ -1,5 +1,5 @@
 use Rattle.std.proofs.lemmas.Result.{err_from_is_err_and}
-use Rattle.amqp_read_write.proofs.Rewrites.{read_again, one_text, no_other, every_text, unchanged, shortest, all_shortest, unwritten, unfailing}
+use Rattle.amqp_read_write.proofs.Rewrites.{read_again, one_text, no_other, every_text, unchanged, shortest, all_shortest, unwritten, unfailing, unlimited}
 use Rattle.amqp_read_write.proofs.calls.canonical_text.Goals as goal
 
 pub returns-clause-text : goal.returns-clause-text
@@ -43,6 +43,11 @@ returns-in_err-text-clause-unfailing g c =
     let p = err_from_is_err_and c.from_residual-in_err-text.result c.from_residual-in_err-text.ensures.1 in
     rw (p.1, p.2) (unfailing (unwritten g.met.T.Canonical.rewrites c.args.input.now _ _ _ c.in_ok-value.ensures.found
     c.in_err-text.ensures.refused))
+
+pub returns-in_err-text-clause-unlimited : goal.returns-in_err-text-clause-unlimited
+returns-in_err-text-clause-unlimited g c =
+    let p = err_from_is_err_and c.from_residual-in_err-text.result c.from_residual-in_err-text.ensures.1 in
+    rw (p.1, p.2) (unlimited g.met.T.Canonical.rewrites _ _ _ c.in_ok-value.ensures.found c.in_err-text.ensures.refused)
 
 pub returns-in_err-value-clause-shortest : goal.returns-in_err-value-clause-shortest
 returns-in_err-value-clause-shortest g c = all_shortest g.met.T.Canonical.rewrites

@@ -1,4 +1,4 @@
-use Rattle.std.proofs.Common.{rules, refl}
+use Rattle.std.proofs.Common.{rules}
 use Rattle.amqp_bodies.proofs.TransposeSteps.{there}
 use Rattle.amqp_bodies.proofs.transpose.AmqpValueAnyTransposeOptionAny.transpose.Goals as goal
 
