@@ -1,11 +1,12 @@
 -- The fields of a composite are read one after another.
 use Rattle.std.proofs.Common.{◌≡◌, inl, inr, ℕ, zero, suc, ◌<◌, ◌≤◌, Bool, true, false, List, [], ◌∷◌, ◌++◌, length, get_or, None, Result}
-use Rattle.std.proofs.Common.{Ok, Err, refl, sym, ap, ◌∙◌, subst, arith, length-append, Some}
+use Rattle.std.proofs.Common.{Ok, Err, IfOk, IfErr, refl, sym, ap, ◌∙◌, subst, arith, length-append, Some}
 use Rattle.amqp_model.specs.Term.{null, list, Term, leaf, count}
 use Rattle.amqp_model.specs.Items.{is_null, terms_of}
 use Rattle.amqp_model.specs.ItemLaws.{clash, items_of-terms_of}
 use Rattle.amqp_model.specs.Slot.{is_required}
 use Rattle.amqp_model.specs.Fields.{Fits, rules_of}
+use Rattle.amqp_model.specs.declared.tables.FieldRule.{FieldRule}
 use Rattle.amqp_model.specs.declared.tables.FieldRule.TheVariants.{Mandatory}
 use Rattle.amqp_wire.specs.declared.error.Error.{Error}
 use Rattle.amqp_decoder.specs.declared.frame.Place.TheVariants.{InList}
@@ -26,7 +27,7 @@ use Rattle.amqp_codec.specs.Fields.{Fields, slots, take_memory}
 use Rattle.amqp_codec.specs.FieldReading.{absence, MeansAt, FaultAt, FitsFront, KeepsBut, FitsAt, ItemRead, ItemFault, no_item, null_item}
 use Rattle.amqp_codec.specs.FieldReading.{in_item, FieldsSoFar, FieldsRead, FieldsFault, FillsField, ReadsItem, no_list, at_item, left_out}
 use Rattle.amqp_codec.specs.FieldReading.{not_ended, rule_at, IsBlank}
-use Rattle.amqp_codec.specs.FieldReadingLaws.{absent, filled_at, unfilled_at, front_null, front_filled, front_missing, front_end}
+use Rattle.amqp_codec.specs.FieldReadingLaws.{not_absent, absent, filled_at, unfilled_at, front_null, front_filled, front_missing, front_end}
 use Rattle.amqp_codec.specs.FieldReadingLaws.{front_start, fits_value, fits_null, fits_few}
 use Rattle.amqp_codec.specs.RefusalLaws.{no_memory, opened_going, opened_sound, refused_first, refused_later, value_going}
 use Rattle.amqp_codec.specs.PeekLaws.{peeked_failed, peeked_going, not_null, value_peeked}
@@ -240,6 +241,14 @@ module _ {V : Type 0} (fs : Fields V) (i : ℕ) where
             let z : is_null k.term ≡ true = ap is_null (sym o.1 ∙ h.meant) in
             elim k.meant [ inl x ↦ clash (absent (rule_at fs i) e is) x.1 | inr x ↦ clash z x.0 ]);
       }
+
+  -- null was taken, and fits or not
+  pub null_step : (v : V) (st mid : State) (r : Result (Unit {0}) Error) (b : State) (k : FieldRule) → k ≡ rule_at fs i
+      → ReadsValue (Means (λ (_ : Unit {0}). null)) st tt mid → IfOk r (λ _. (absence k ≡ None) × (b ≡ mid))
+      → IfErr r (λ e. (error : Error) × (absence k ≡ Some error) × RefusesBy error mid e b) → ReadsItem fs i v v st r b
+  null_step v st mid (Ok u) b k its h (fits, same) e =
+      subst (ItemRead fs i v v st) (sym same) (null_read v st mid (not_absent _ (ap absence (sym its) ∙ fits)) h)
+  null_step v st mid (Err e) b k its h o (error, is, refused) = null_unfit st mid e b (ap absence (sym its) ∙ is) refused h
 
   -- the field was filled
   pub value_read : (v w : V) (st mid b : State) (c : ℕ) → PeeksCode st c mid → ReadsValue (MeansAt fs i) mid w b → KeepsBut fs i v w

@@ -1,5 +1,5 @@
 -- What calls that follow one another say of their errors, whatever the source tells.
-use Rattle.std.proofs.Common.{◌≡◌, inl, inr, ℕ, zero, suc, Bool, true, false, Some, Result, Ok, Err, refl, ap, ◌∙◌, sym, subst}
+use Rattle.std.proofs.Common.{◌≡◌, inl, inr, ℕ, zero, suc, Bool, true, false, Some, None, Result, Ok, Err, IfOk, IfErr, refl, ap, ◌∙◌, sym, subst}
 use Rattle.amqp_wire.specs.declared.error.Error.{Error}
 use Rattle.amqp_wire.specs.declared.error.Error.TheVariants.{Limit}
 use Rattle.amqp_decoder.specs.State.{State}
@@ -94,3 +94,10 @@ pub absent_refused : (takes : Bool) (a b : State) (k : FieldRule) (error e : Err
     → RefusesBy error b e c → Refused takes a e c
 absent_refused takes a b k error e c is =
     refused_by takes a b error e c (λ o. absence_not_outside o k is) (λ l. absence_spelled k error is (subst IsMisspelling (sym l) tt))
+
+-- a field that was null may be so, or not
+pub null_tried : (takes : Bool) (a b : State) (k : FieldRule) (r : Result (Unit {0}) Error) (c : State) → Began a b
+    → IfOk r (λ _. (absence k ≡ None) × (c ≡ b)) → IfErr r (λ e. (error : Error) × (absence k ≡ Some error) × RefusesBy error b e c)
+    → Tries takes a r c
+null_tried takes a b k (Ok u) c h (fits, same) e = subst (Began a) (sym same) h
+null_tried takes a b k (Err e) c h o (error, is, refused) = absent_refused takes a b k error e c is h refused

@@ -73,14 +73,17 @@ pub trait Composite: Sized + Drop {
 impl<C: Composite> FieldList for C {
     ghost list = { fields_of C.table };
 
+    #[inline(always)]
     fn field_rules() -> &'static [FieldRule] {
         C::table().fields
     }
 
+    #[inline(always)]
     fn blank(alloc: Global) -> C {
         <C as Composite>::blank(alloc)
     }
 
+    #[inline(always)]
     fn fill_field<R: ByteSource>(
         &mut self,
         index: usize,
@@ -90,10 +93,12 @@ impl<C: Composite> FieldList for C {
         <C as Composite>::fill_field(self, index, decoder, alloc)
     }
 
+    #[inline(always)]
     fn is_null_field(&self, index: usize) -> bool {
         <C as Composite>::is_null_field(self, index)
     }
 
+    #[inline(always)]
     fn write_field(&self, index: usize, encoder: &mut Encoder) -> Result<(), Error> {
         <C as Composite>::write_field(self, index, encoder)
     }
@@ -113,6 +118,7 @@ impl<C: CompositeTerm> DeserializeTerm for C {
 
     ghost term = { composite C.table };
 
+    #[inline(always)]
     fn read_value<R: ByteSource>(decoder: &mut Decoder<R>, alloc: Global) -> Result<C, Error> {
         read_composite(decoder, alloc)
     }
@@ -122,6 +128,7 @@ impl<C: CompositeTerm> DeserializeTerm for C {
 
 /// Reads a composite: a described list under the code or the name of its table. Another descriptor is `WrongDescriptor`;
 /// the list is refused as `read_list` refuses it.
+#[inline(always)]
 pub fn read_composite<C: Composite, R: ByteSource>(
     decoder: &mut Decoder<R>,
     alloc: Global,
@@ -137,6 +144,7 @@ pub fn read_composite<C: Composite, R: ByteSource>(
 }
 
 /// Writes a composite under its table's code. It is refused as its fields are, by the encoder's errors.
+#[inline(always)]
 pub fn write_composite<C: Composite>(value: &C, encoder: &mut Encoder) -> Result<(), Error>
     ensures { WritesTerms (canonical_term (table_of C.table) value.now ∷ []) encoder.old result encoder.new }
 {

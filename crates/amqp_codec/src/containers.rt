@@ -13,6 +13,7 @@ use std::rc::Rc;
 impl<T: SerializeTerm> Serialize for Option<T> {
     ghost writing = { option_writing T.writing };
 
+    #[inline(always)]
     fn serialize(&self, encoder: &mut Encoder) -> Result<(), Error> {
         match self {
             Some(value) => value.serialize(encoder),

@@ -1,6 +1,6 @@
 //! Lists of fields (Part 1, section 1.4): one reader and one writer for all. They alone know of omitted ends, surplus
 //! items, defaults and trailing nulls.
-ghost use Rattle.std.specs.Prelude.{◌≡◌, ◌<◌, ◌≤◌, false, [], ◌∷◌, length, take, Ok};
+ghost use Rattle.std.specs.Prelude.{◌≡◌, ◌<◌, ◌≤◌, false, [], ◌∷◌, length, take, None, Ok, Some, IfOk, IfErr};
 ghost use Rattle.amqp_model.specs.Items.{is_null};
 ghost use Rattle.amqp_model.specs.Fields.{rules_of, canonical_terms, canonical_items};
 ghost use Rattle.amqp_model.specs.Composite.{MeansList, canonical_list};
@@ -11,7 +11,7 @@ ghost use Rattle.amqp_codec.specs.Written.{WritesTerms};
 ghost use Rattle.amqp_wire.specs.Sources.{Tells};
 ghost use Rattle.amqp_decoder.specs.Reading.{AnswersRead};
 ghost use Rattle.amqp_decoder.specs.Primitives.{ReadsValue};
-ghost use Rattle.amqp_decoder.specs.Steps.{Tries};
+ghost use Rattle.amqp_decoder.specs.Steps.{RefusesBy, Tries};
 ghost use Rattle.amqp_codec.specs.FieldReading.{FieldsRead, FieldsFault, Fills, FillsField, IsBlank, ReadsItem, absence, rule_at};
 
 use crate::DeserializeTerm;
@@ -61,6 +61,7 @@ pub trait FieldList: Sized + Drop {
 }
 
 /// Reads a value into its place. It is refused as its type is.
+#[inline(always)]
 pub fn read_into<T: DeserializeTerm, R: ByteSource>(
     place: &mut T,
     decoder: &mut Decoder<R>,
@@ -74,6 +75,7 @@ pub fn read_into<T: DeserializeTerm, R: ByteSource>(
 }
 
 /// Reads a value into the place of an optional one. It is refused as its type is.
+#[inline(always)]
 pub fn read_some<T: DeserializeTerm, R: ByteSource>(
     place: &mut Option<T>,
     decoder: &mut Decoder<R>,
@@ -112,7 +114,20 @@ fn absence(rule: FieldRule) -> Option<Error>
     }
 }
 
+// A field may be null or left out.
+#[inline(always)]
+fn check_absent<R: ByteSource>(rule: FieldRule, decoder: &mut Decoder<R>) -> Result<(), Error>
+    ensures ok { IfOk result (λ _. (absence rule ≡ None) × (decoder.new ≡ decoder.old)) }
+    ensures err { IfErr result (λ e. (error : _) × (absence rule ≡ Some error) × RefusesBy error decoder.old e decoder.new) }
+{
+    match absence(rule) {
+        Some(error) => Err(decoder.refuse(error)),
+        None => Ok(()),
+    }
+}
+
 /// Reads a list of fields, which may stand behind a descriptor that was read.
+#[inline(always)]
 pub fn read_fields<L: FieldList, R: ByteSource>(
     decoder: &mut Decoder<R>,
     alloc: Global,
@@ -147,8 +162,29 @@ pub fn read_list<L: FieldList, R: ByteSource>(
     read_fields(decoder, alloc)
 }
 
-// Reads an item into its field.
+// Reads an item into its field. A null at hand is taken in one step.
+#[inline(always)]
 fn read_item<L: FieldList, R: ByteSource>(
+    value: &mut L,
+    index: usize,
+    rule: FieldRule,
+    decoder: &mut Decoder<R>,
+    alloc: Global,
+) -> Result<(), Error>
+    requires within { index < length (rules_of (slots L.list.fields)) }
+    requires its_rule { rule ≡ rule_at L.list.fields index }
+    ensures read { Tells R.remaining → ReadsItem L.list.fields index value.old value.new decoder.old result decoder.new }
+    ensures tries { Tries (takes_at L.list.fields index) decoder.old result decoder.new }
+{
+    if decoder.take_null() {
+        return check_absent(rule, decoder);
+    }
+    read_any_item(value, index, rule, decoder, alloc)
+}
+
+// The same, whatever comes next.
+#[inline(always)]
+fn read_any_item<L: FieldList, R: ByteSource>(
     value: &mut L,
     index: usize,
     rule: FieldRule,
@@ -164,13 +200,11 @@ fn read_item<L: FieldList, R: ByteSource>(
         return value.fill_field(index, decoder, alloc);
     }
     decoder.read_null()?;
-    match absence(rule) {
-        Some(error) => Err(decoder.refuse(error)),
-        None => Ok(()),
-    }
+    check_absent(rule, decoder)
 }
 
 /// Writes a value as the list of its fields, without the nulls at its end. It is refused as its fields are.
+#[inline(always)]
 pub fn write_list<L: FieldList>(value: &L, encoder: &mut Encoder) -> Result<(), Error>
     ensures { WritesTerms (canonical_list (slots L.list.fields) value.now ∷ []) encoder.old result encoder.new }
 {
@@ -181,6 +215,7 @@ pub fn write_list<L: FieldList>(value: &L, encoder: &mut Encoder) -> Result<(), 
 }
 
 // How many fields there are without the nulls at the end.
+#[inline(always)]
 fn count_items<L: FieldList>(value: &L) -> usize
     ensures within { result ≤ length (rules_of (slots L.list.fields)) }
     ensures trimmed { take result (canonical_terms (slots L.list.fields) value.now) ≡ canonical_items (slots L.list.fields) value.now }
@@ -193,6 +228,7 @@ fn count_items<L: FieldList>(value: &L) -> usize
 }
 
 // Writes the first fields, so many of them.
+#[inline(always)]
 fn write_items<L: FieldList>(value: &L, count: usize, encoder: &mut Encoder) -> Result<(), Error>
     requires within { count ≤ length (rules_of (slots L.list.fields)) }
     requires going { answer_of encoder.now ≡ Ok tt }
@@ -205,6 +241,7 @@ fn write_items<L: FieldList>(value: &L, count: usize, encoder: &mut Encoder) -> 
 }
 
 // Writes a field.
+#[inline(always)]
 #[tactic(auto, using(crate::proofs::Trimming::null_written))]
 fn write_item<L: FieldList>(value: &L, index: usize, encoder: &mut Encoder) -> Result<(), Error>
     requires within { index < length (rules_of (slots L.list.fields)) }

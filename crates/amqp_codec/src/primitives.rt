@@ -40,6 +40,7 @@ impl DeserializeTerm for () {
 impl Serialize for bool {
     ghost writing = { writing_of boolean_type refl };
 
+    #[inline(always)]
     fn serialize(&self, encoder: &mut Encoder) -> Result<(), Error> {
         encoder.write_bool(*self)
     }

@@ -32,7 +32,7 @@ fn is_possible(size: u32, width: u32, is_list: bool) -> bool
 impl<R: ByteSource> Decoder<R> {
     // The count of a container, and how many bytes stand behind it. A size counts the count too; the size 0 is that
     // of a list without items.
-    #[inline]
+    #[inline(always)]
     pub(crate) fn header(&mut self, wide: bool, is_list: bool) -> Result<(u32, u32), Error>
         ensures ok { Tells R.remaining → IfOk result (λ h. ReadsHeader is_list (cond wide 4 1) self.old h.0 h.1 self.new) }
         ensures err { Tells R.remaining
@@ -69,7 +69,7 @@ impl<R: ByteSource> Decoder<R> {
     }
 
     // Opens a list whose code was taken.
-    #[inline]
+    #[inline(always)]
     fn open_list(&mut self, wide: bool) -> Result<u32, Error>
         ensures ok { Tells R.remaining → IfOk result (λ n. Enters list (cond wide 4 1) self.old n self.new) }
         ensures err { Tells R.remaining → IfErr result (λ e. Stops false (EnterFault list (cond wide 4 1) self.old) self.old e self.new) }
@@ -123,7 +123,7 @@ impl<R: ByteSource> Decoder<R> {
     }
 
     // Ends the list or map that is open.
-    #[inline]
+    #[inline(always)]
     fn close(&mut self, place: Place) -> Result<(), Error>
         ensures read { Tells R.remaining → AnswersRead false (λ st _ st'. Closes place st st') (CloseFault place) self.old result self.new }
         ensures tries { Tries false self.old result self.new }
@@ -135,7 +135,7 @@ impl<R: ByteSource> Decoder<R> {
     }
 
     /// Ends the list that is open: `Surplus` if values are left, `InvalidValue` if none is open.
-    #[inline]
+    #[inline(always)]
     pub fn end_list(&mut self) -> Result<(), Error>
         ensures read { Tells R.remaining → AnswersRead false (λ st _ st'. Closes InList st st') (CloseFault InList) self.old result self.new }
         ensures tries { Tries false self.old result self.new }

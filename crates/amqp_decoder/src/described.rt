@@ -29,7 +29,7 @@ const PIECE: usize = 256;
 
 impl<R: ByteSource> Decoder<R> {
     // Takes the code of a described value.
-    #[inline]
+    #[inline(always)]
     fn begin_descriptor(&mut self) -> Result<(), Error>
         ensures ok { Tells R.remaining → IfOk result (λ _. ReadsCode self.old 0 self.new) }
         ensures err { Tells R.remaining → IfErr result (λ e. AnswersFault false DescribedFault self.old e self.new) }
@@ -192,7 +192,7 @@ impl<R: ByteSource> Decoder<R> {
 
     /// Ends the described value that is open: `Surplus` if its value is left, `InvalidValue` if none is
     /// open.
-    #[inline]
+    #[inline(always)]
     pub fn end_described(&mut self) -> Result<(), Error>
         ensures read { AnswersRead false (λ st _ st'. ClosesDescribed InDescribed st st') (EndFault InDescribed) self.old result self.new }
         ensures tries { Tries false self.old result self.new }

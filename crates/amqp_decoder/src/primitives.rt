@@ -1,5 +1,5 @@
 //! The calls that read primitives whose data has a known width (Part 1, section 1.6).
-ghost use Rattle.std.specs.Prelude.{◌<◌, ◌≡◌, Some, MatchOption, IfOk, IfErr, false};
+ghost use Rattle.std.specs.Prelude.{◌<◌, ◌≡◌, Some, MatchOption, IfOk, IfErr, false, true};
 ghost use Rattle.amqp_model.specs.Term.{null, boolean, ubyte, ushort, uint, ulong, byte, short, int, long, char, timestamp, decimal32};
 ghost use Rattle.amqp_model.specs.Term.{decimal64, decimal128, uuid};
 ghost use Rattle.amqp_wire.specs.Sources.{Tells};
@@ -8,7 +8,7 @@ ghost use Rattle.amqp_decoder.specs.Primitives.{ReadsFixed, FixedFault, AnswersF
 ghost use Rattle.amqp_decoder.specs.Primitives.{LacksDataOf};
 ghost use Rattle.amqp_lookahead.specs.Kinds.{kind_at, nulls, booleans, ubytes, ushorts, uints, ulongs, bytes, shorts, ints, longs, decimals32};
 ghost use Rattle.amqp_lookahead.specs.Kinds.{decimals64, decimals128, chars, timestamps, uuids};
-ghost use Rattle.amqp_decoder.specs.Steps.{Goes, Tries};
+ghost use Rattle.amqp_decoder.specs.Steps.{Began, Goes, Tries};
 
 use crate::Decoder;
 use amqp_wire::{ByteSource, Error, format_code};
@@ -49,6 +49,20 @@ impl<R: ByteSource> Decoder<R> {
     {
         let _data = self.fixed::<0>(format_code::NULL)?;
         Ok(())
+    }
+
+    /// Takes a null that comes next, if it is at hand, and returns whether it did. Otherwise nothing is taken, which says nothing of what
+    /// comes next.
+    #[inline]
+    pub fn take_null(&mut self) -> bool
+        ensures taken { Tells R.remaining → result ≡ true → ReadsValue (Means (λ (_ : Unit {0}). null)) self.old tt self.new }
+        ensures left { result ≡ false → self.new ≡ self.old }
+        ensures began { result ≡ true → Began self.old self.new }
+    {
+        match self.quick::<1>(format_code::NULL) {
+            Some(_) => true,
+            None => false,
+        }
     }
 
     /// A boolean (Part 1, section 1.6.2); `BadBool` if its byte is above 1.
@@ -137,7 +151,7 @@ impl<R: ByteSource> Decoder<R> {
     }
 
     // The data of a ulong under its code, or `None` where the code is another kind's.
-    #[inline]
+    #[inline(always)]
     pub(crate) fn ulong_data(&mut self, code: u8) -> Result<Option<u64>, Error>
         ensures ok { Tells R.remaining → IfOk result
             (λ o. MatchOption o ((kind_at code ≡ Some ulongs → ⊥) × (self.new ≡ self.old))

@@ -206,6 +206,7 @@ impl Encoder {
     }
 
     /// Begins a list (Part 1, section 1.6.22); `Depth` past 128 nested values.
+    #[inline(always)]
     pub fn begin_list(&mut self) -> Result<(), Error>
         ensures { Writes self.old (begin list ∷ []) result self.new }
     {
@@ -213,6 +214,7 @@ impl Encoder {
     }
 
     /// Ends the list that is open; `InvalidValue` if none is.
+    #[inline(always)]
     pub fn end_list(&mut self) -> Result<(), Error>
         ensures { Writes self.old (end list ∷ []) result self.new }
     {

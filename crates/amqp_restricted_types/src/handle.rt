@@ -38,6 +38,7 @@ impl From<Handle> for u32 {
 impl Serialize for Handle {
     ghost writing = { writing_of handle_type refl };
 
+    #[inline(always)]
     fn serialize(&self, encoder: &mut Encoder) -> Result<(), Error> {
         encoder.write_uint(self.0)
     }

@@ -61,6 +61,7 @@ impl RestrictedNumber for ReceiverSettleMode {
 impl Serialize for ReceiverSettleMode {
     ghost writing = { writing_of receiver_settle_mode_type refl };
 
+    #[inline(always)]
     fn serialize(&self, encoder: &mut Encoder) -> Result<(), Error> {
         write_number(self, encoder)
     }

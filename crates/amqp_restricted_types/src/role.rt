@@ -67,6 +67,7 @@ impl RestrictedNumber for Role {
 impl Serialize for Role {
     ghost writing = { writing_of role_type refl };
 
+    #[inline(always)]
     fn serialize(&self, encoder: &mut Encoder) -> Result<(), Error> {
         write_number(self, encoder)
     }

@@ -65,6 +65,7 @@ impl RestrictedNumber for SenderSettleMode {
 impl Serialize for SenderSettleMode {
     ghost writing = { writing_of sender_settle_mode_type refl };
 
+    #[inline(always)]
     fn serialize(&self, encoder: &mut Encoder) -> Result<(), Error> {
         write_number(self, encoder)
     }

@@ -303,7 +303,7 @@ impl<R: ByteSource> Decoder<R> {
     }
 
     // A number of one byte, or of four.
-    #[inline]
+    #[inline(always)]
     pub(crate) fn number(&mut self, wide: bool) -> Result<u32, Error>
         ensures ok { Tells R.remaining → IfOk result (λ n. Takes self.old (bytes_high_first (cond wide 4 1) n) self.new) }
         ensures err { Tells R.remaining → IfErr result (λ e. FallsShort (cond wide 4 1) self.old e self.new) }
