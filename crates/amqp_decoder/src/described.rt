@@ -2,7 +2,7 @@
 ghost use Rattle.amqp_decoder.specs.declared.frame.Place.TheVariants.{InDescribed};
 ghost use Rattle.amqp_decoder.specs.Reading.{AnswersRead};
 ghost use Rattle.amqp_decoder.specs.Containers.{ClosesDescribed, EndFault};
-ghost use Rattle.std.specs.Prelude.{◌≡◌, ◌≤◌, ◌<◌, length, take, Some, None, IfOk, IfErr, MatchOption, IsAscii, true, false};
+ghost use Rattle.std.specs.Prelude.{◌≡◌, ◌≤◌, ◌<◌, length, take, Some, None, IfOk, IfErr, IsAscii, true, false};
 ghost use Rattle.amqp_wire.specs.declared.error.Error.TheVariants.{Memory};
 ghost use Rattle.amqp_model.specs.Term.{name as of_name};
 ghost use Rattle.amqp_wire.specs.Sources.{Tells};
@@ -14,7 +14,7 @@ ghost use Rattle.amqp_decoder.specs.Reading.{ReadsCode};
 ghost use Rattle.amqp_decoder.specs.Primitives.{AnswersFault};
 ghost use Rattle.amqp_decoder.specs.Reserve.{Spares};
 ghost use Rattle.amqp_decoder.specs.Rooms.{HasRoom};
-ghost use Rattle.amqp_decoder.specs.Described.{IsUnmarked, IsMark, TakesDescriptor, OpensDescribed, OpenFault, other_kind, symbol_code};
+ghost use Rattle.amqp_decoder.specs.Described.{TakesDescriptor, OpensDescribed, OpenFault, other_kind, symbol_code};
 ghost use Rattle.amqp_decoder.specs.Described.{IsDescribable, DescribedFault, MissesDescriptor, TakesPlace, MissesName, OpensOneOf};
 ghost use Rattle.amqp_decoder.specs.Described.{OneOfFault};
 

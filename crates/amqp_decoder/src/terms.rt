@@ -1,5 +1,5 @@
 //! The bytes of whole terms (Part 1, section 1.2).
-ghost use Rattle.std.specs.Prelude.{◌≡◌, ◌<◌, ◌≤◌, ◌↔◌, ◌^◌, ◌-◌, ◌∷◌, [], ℕ, cond, length, drop, IsTrue, IsAscii, Some, None, Err, IfOk};
+ghost use Rattle.std.specs.Prelude.{◌≡◌, ◌<◌, ◌^◌, ◌-◌, ◌∷◌, [], ℕ, cond, length, Some, Err, IfOk};
 ghost use Rattle.std.specs.Prelude.{IfErr, true, false};
 ghost use Rattle.std.specs.Int.{bytes_high_first};
 ghost use Rattle.amqp_model.specs.Constructors.{format};

@@ -1,5 +1,5 @@
 //! The calls that read texts and binaries (Part 1, sections 1.6.19 to 1.6.21).
-ghost use Rattle.std.specs.Prelude.{◌<◌, ◌≤◌, ◌≡◌, ◌++◌, ℕ, List, length, take, cond, Some, IsAscii, string_bytes, IfOk, IfErr, true};
+ghost use Rattle.std.specs.Prelude.{◌<◌, ◌≤◌, ◌≡◌, ◌++◌, length, take, cond, IsAscii, string_bytes, IfOk, IfErr, true};
 ghost use Rattle.std.specs.Prelude.{false};
 ghost use Rattle.amqp_model.specs.Term.{binary, string, symbol};
 ghost use Rattle.amqp_wire.specs.Sources.{Tells};

@@ -1,5 +1,5 @@
 //! What values are written to.
-ghost use Rattle.std.specs.Prelude.{◌≡◌, ◌≤◌, ℕ, [], ◌∷◌, length, Some, None, OnOk, IfOk, IfErr, List, Ok, Err};
+ghost use Rattle.std.specs.Prelude.{◌≡◌, ◌≤◌, ℕ, [], ◌∷◌, length, OnOk, IfOk, IfErr, List, Ok, Err};
 ghost use Rattle.std.specs.Vec.{vec_capacity};
 ghost use Rattle.amqp_model.specs.Term.{Primitive, null, symbol, list, map, array};
 ghost use Rattle.amqp_encoder.specs.State.{Stopped};

@@ -1,11 +1,11 @@
 //! The filling pass: it writes into a room that was measured before, and never grows.
-ghost use Rattle.std.specs.Prelude.{◌≡◌, ◌≤◌, ◌<◌, ◌+◌, ◌++◌, [], ◌∷◌, ◌^◌, ℕ, List, length, take, drop};
+ghost use Rattle.std.specs.Prelude.{◌≡◌, ◌≤◌, ◌<◌, ◌+◌, ◌++◌, [], length, take, drop};
 ghost use Rattle.std.specs.Vec.{vec_capacity, vec_len};
 ghost use Rattle.amqp_model.specs.Term.{array};
 ghost use Rattle.amqp_model.specs.Text.{Alone, head, first_place};
 ghost use Rattle.amqp_encoder.specs.Opening.{opening};
 ghost use Rattle.amqp_wire.specs.Containers.{container_of};
-ghost use Rattle.amqp_encoder.specs.Values.{place_of, descriptor_of, shortest_text};
+ghost use Rattle.amqp_encoder.specs.Values.{place_of, descriptor_of};
 ghost use Rattle.amqp_encoder.specs.State.{to_fill};
 ghost use Rattle.amqp_encoder.specs.declared.places.Shortest.TheVariants.{Wide};
 ghost use Rattle.amqp_encoder.specs.Filling.{emit, fill_value, fill_null_at, fill_keep, fill_open, fill_begin, fill_begin_described};

@@ -1,11 +1,11 @@
 //! The measuring pass: every refusal, and the size of every container.
-ghost use Rattle.std.specs.Prelude.{◌≡◌, nat_eq, ◌≤◌, ◌<◌, ◌∷◌, [], ◌+◌, ◌++◌, ◌^◌, ℕ, List, length, slice_index, set, take, drop};
-ghost use Rattle.std.specs.Prelude.{MatchResult, IfOk, OnOk, OnErr, IfErr, Result, Ok, Err, false};
+ghost use Rattle.std.specs.Prelude.{◌≡◌, nat_eq, ◌≤◌, ◌<◌, ◌∷◌, [], ◌+◌, ◌++◌, ◌^◌, List, length, slice_index, set, take};
+ghost use Rattle.std.specs.Prelude.{MatchResult, OnOk, IfErr, Result, Ok, Err, false};
 ghost use Rattle.std.specs.Cmp.Lexicographic.{pointwise};
 ghost use Rattle.std.specs.Bool.{OnTrue, OnFalse};
 ghost use Rattle.amqp_wire.specs.declared.error.Error.TheVariants.{InvalidValue, Memory};
 ghost use Rattle.amqp_wire.specs.Containers.{container_of};
-ghost use Rattle.amqp_encoder.specs.Values.{place_of, descriptor_of};
+ghost use Rattle.amqp_encoder.specs.Values.{descriptor_of};
 ghost use Rattle.amqp_encoder.specs.Tokens.{TakesMemory, begin, begin_described};
 ghost use Rattle.amqp_encoder.specs.State.{at_start, seen};
 ghost use Rattle.amqp_encoder.specs.Opening.{opening};

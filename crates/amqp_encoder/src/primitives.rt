@@ -1,5 +1,5 @@
 //! The primitive kinds (Part 1, sections 1.6.2 to 1.6.21).
-ghost use Rattle.std.specs.Prelude.{◌≡◌, [], ◌∷◌};
+ghost use Rattle.std.specs.Prelude.{[], ◌∷◌};
 ghost use Rattle.amqp_model.specs.Term.{boolean, ubyte, ushort, uint, ulong, byte, short, int, long, char, timestamp, decimal32, decimal64};
 ghost use Rattle.amqp_model.specs.Term.{decimal128, uuid, binary, string};
 ghost use Rattle.amqp_encoder.specs.Tokens.{put};
