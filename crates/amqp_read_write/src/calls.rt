@@ -128,7 +128,7 @@ pub fn append_to_vec<T: Serialize>(
 }
 
 /// The canonical text of the value that the input begins with, and how many bytes that value takes there.
-/// An error is `Memory`, a fault of an input that begins with no value, or `TooLarge`.
+/// An error is `Memory`, a fault of an input that begins with no value, or `TooLarge`; never `Limit`.
 pub fn canonical_text<T: Canonical>(input: &[u8], alloc: Global) -> Result<(Vec<u8>, usize), Error>
     ensures text { IfOk result (λ r. IsRewritten T.reading T.writing.canons input.now r.0.items r.1) }
     ensures read_again { IfOk result (λ r. IsReadAgain T.reading T.follows T.again T.kept input.now r.0.items r.1) }
