@@ -52,7 +52,7 @@ impl<T: Drop> Body<T> {
 impl Body<Value> {
     /// The body that is this section of data. The only error is `Memory`.
     pub fn from_data(data: Data, alloc: Global) -> Result<Body<Value>, Error>
-        ensures data { IfOk result (λ body. body_data body ≡ Some (data.0 ∷ [])) }
+        ensures data { IfOk result (λ body. body_data body ≡ Some («data».0 ∷ [])) }
         ensures memory { IfErr result (λ e. e ≡ Memory) }
     {
         let mut batch = Batch::new(Vec::new(alloc));
