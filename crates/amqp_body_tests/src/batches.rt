@@ -1,9 +1,10 @@
 //! Batches and bodies by themselves (Part 3, sections 3.2.6 to 3.2.8). The digits are written out by the standard's tables.
-use crate::parts::{read_and_written, refused};
+use crate::parts::read_and_written;
 use amqp_batches::Batch;
 use amqp_bodies::Body;
 use amqp_codec::Error;
 use amqp_sections::{AmqpSequence, Data};
+use amqp_test_helpers::check_refused;
 use amqp_values::Value;
 use std::test::Fail;
 
@@ -30,8 +31,8 @@ fn a_batch_is_the_longest_run(rt: HostRuntime) -> Result<(), Fail> {
 #[test]
 fn a_section_that_has_begun_is_whole(rt: HostRuntime) -> Result<(), Fail> {
     let alloc = rt.alloc();
-    refused::<Batch<Data>>("005375a00161005375a00561", Error::Cut, alloc)?;
-    refused::<Batch<Data>>("00537545", Error::WrongType(0x45), alloc)
+    check_refused::<Batch<Data>>("005375a00161005375a00561", Error::Cut, alloc)?;
+    check_refused::<Batch<Data>>("00537545", Error::WrongType(0x45), alloc)
 }
 
 #[test]
@@ -45,9 +46,9 @@ fn a_body_is_one_group(rt: HostRuntime) -> Result<(), Fail> {
         alloc,
     )?;
     read_and_written::<Body<Value>>("005376450053764500537545", "0053764500537645", 4, alloc)?;
-    refused::<Body<Value>>("00537045", Error::WrongDescriptor, alloc)?;
-    refused::<Body<Value>>("", Error::Cut, alloc)?;
-    refused::<Body<Value>>("ff", Error::NotSection, alloc)?;
-    refused::<Body<Value>>("00532445", Error::NotSection, alloc)?;
-    refused::<Body<Value>>("0053", Error::Cut, alloc)
+    check_refused::<Body<Value>>("00537045", Error::WrongDescriptor, alloc)?;
+    check_refused::<Body<Value>>("", Error::Cut, alloc)?;
+    check_refused::<Body<Value>>("ff", Error::NotSection, alloc)?;
+    check_refused::<Body<Value>>("00532445", Error::NotSection, alloc)?;
+    check_refused::<Body<Value>>("0053", Error::Cut, alloc)
 }

@@ -1,5 +1,4 @@
 //! Values as the bodies of messages (Part 3, section 3.2.8). The digits are written out by the standard's tables.
-use crate::parts::{bytes, refused};
 use amqp_batches::Batch;
 use amqp_bodies::{AsBodyRef, Body, FromBody, IntoBody};
 use amqp_codec::{Error, Symbol};
@@ -8,8 +7,9 @@ use amqp_lazy::LazyValue;
 use amqp_maps::OrderedMap;
 use amqp_messages::Message;
 use amqp_primitives::{Binary, Dec32, Dec64, Dec128, SymbolRef, Timestamp, Uuid};
-use amqp_read_write::{from_slice_counted, to_vec};
+use amqp_read_write::from_slice_counted;
 use amqp_sections::{AmqpSequence, AmqpValue, Data};
+use amqp_test_helpers::{check_made, check_refused, check_written, is};
 use amqp_values::Value;
 use std::alloc::Global;
 use std::borrow::CowStr;
@@ -18,18 +18,17 @@ use std::test::Fail;
 
 // The body of the message with these digits.
 fn body<B: FromBody>(digits: &str, alloc: Global) -> Result<B, Fail> {
-    let input = bytes(digits, alloc)?;
+    let input = hex::decode(alloc, digits)?;
     let (message, _len): (Message<B>, usize) = from_slice_counted(input.as_slice(), alloc)?;
     Ok(message.body)
 }
 
-// The digits of the body that the value is written as.
-fn written<T: IntoBody>(value: T, alloc: Global) -> Result<String, Fail>
+// The value is written as the body with these digits.
+fn check_body<T: IntoBody>(value: T, digits: &str, alloc: Global) -> Result<(), Fail>
 where
     T::Body: Drop,
 {
-    let text = to_vec(&value.into_body(), alloc)?;
-    Ok(hex::encode(alloc, &text)?)
+    check_written(&value.into_body(), digits, alloc)
 }
 
 // The message with these digits has a value of the type as its body, which is written as the same digits.
@@ -38,11 +37,7 @@ where
     <T as IntoBody>::Body: Drop,
 {
     let value: T = body(digits, alloc)?;
-    let text = written(value, alloc)?;
-    if text.as_str() != digits {
-        return Err(Fail::new(format_args!("{digits} is written as {text}")));
-    }
-    Ok(())
+    check_body(value, digits, alloc)
 }
 
 #[test]
@@ -80,12 +75,18 @@ fn values_of_any_width(rt: HostRuntime) -> Result<(), Fail> {
     both::<LazyValue>("00537741", alloc)
 }
 
+fn is_null(value: LazyValue) -> bool {
+    value.as_slice() == [0x40].as_slice()
+}
+
 #[test]
 fn a_lazy_value_is_null_without_a_body(rt: HostRuntime) -> Result<(), Fail> {
-    let alloc = rt.alloc();
-    let value: LazyValue = body("", alloc)?;
-    assert!(rt; value.as_slice() == [0x40].as_slice());
+    assert!(rt; is_null(body("", rt.alloc())?));
     Ok(())
+}
+
+fn is_absent<B: Drop>(body: Option<B>) -> bool {
+    body.is_none()
 }
 
 #[test]
@@ -95,54 +96,53 @@ fn a_value_is_read(rt: HostRuntime) -> Result<(), Fail> {
     assert_eq!(rt; body::<Option<u32>>("0053775207", alloc)?, Some(7));
     assert_eq!(rt; body::<Option<u32>>("00537740", alloc)?, None);
     assert_eq!(rt; body::<Option<u32>>("", alloc)?, None);
-    refused::<Message<u32>>("0053704500537345", Error::EmptyBody, alloc)?;
-    refused::<Message<String>>("0053704500537345", Error::EmptyBody, alloc)?;
-    refused::<Message<()>>("", Error::EmptyBody, alloc)?;
-    assert_eq!(rt; body::<Value>("0053704500537345", alloc)?, Value::Null);
-    assert!(rt; body::<Option<String>>("0053704500537345", alloc)?.is_none());
+    check_refused::<Message<u32>>("0053704500537345", Error::EmptyBody, alloc)?;
+    check_refused::<Message<String>>("0053704500537345", Error::EmptyBody, alloc)?;
+    check_refused::<Message<()>>("", Error::EmptyBody, alloc)?;
+    assert!(rt; is(body("0053704500537345", alloc)?, Value::Null));
+    assert!(rt; is_absent(body::<Option<String>>("0053704500537345", alloc)?));
     Ok(())
 }
 
 #[test]
 fn what_may_be_absent(rt: HostRuntime) -> Result<(), Fail> {
     let alloc = rt.alloc();
-    assert!(rt; body::<Option<AmqpSequence<i32>>>("00537645", alloc)?.is_none());
-    assert!(rt; body::<Option<Batch<AmqpSequence<i32>>>>("00537645", alloc)?.is_some());
-    assert!(rt; body::<Option<AmqpSequence<i32>>>("005376c00402540140", alloc)?.is_none());
-    assert!(rt; body::<Option<Batch<AmqpSequence<i32>>>>("005376c00402540140", alloc)?.is_none());
-    assert!(rt; body::<Option<Data>>("005375a000", alloc)?.is_none());
-    assert!(rt; body::<Option<Data>>("005375a00161", alloc)?.is_some());
-    assert!(rt; body::<Option<Data>>("", alloc)?.is_none());
-    assert!(rt; body::<Option<Batch<Data>>>("005375a000", alloc)?.is_some());
-    assert!(rt; body::<Option<AmqpValue<u32>>>("00537740", alloc)?.is_none());
-    assert!(rt; body::<Option<Body<u32>>>("00537740", alloc)?.is_none());
-    assert!(rt; body::<Option<Body<u32>>>("005375a000", alloc)?.is_some());
-    assert!(rt; body::<Option<Body<u32>>>("", alloc)?.is_none());
+    assert!(rt; is_absent(body::<Option<AmqpSequence<i32>>>("00537645", alloc)?));
+    assert!(rt; !is_absent(body::<Option<Batch<AmqpSequence<i32>>>>("00537645", alloc)?));
+    assert!(rt; is_absent(body::<Option<AmqpSequence<i32>>>("005376c00402540140", alloc)?));
+    assert!(rt; is_absent(body::<Option<Batch<AmqpSequence<i32>>>>("005376c00402540140", alloc)?));
+    assert!(rt; is_absent(body::<Option<Data>>("005375a000", alloc)?));
+    assert!(rt; !is_absent(body::<Option<Data>>("005375a00161", alloc)?));
+    assert!(rt; is_absent(body::<Option<Data>>("", alloc)?));
+    assert!(rt; !is_absent(body::<Option<Batch<Data>>>("005375a000", alloc)?));
+    assert!(rt; is_absent(body::<Option<AmqpValue<u32>>>("00537740", alloc)?));
+    assert!(rt; is_absent(body::<Option<Body<u32>>>("00537740", alloc)?));
+    assert!(rt; !is_absent(body::<Option<Body<u32>>>("005375a000", alloc)?));
+    assert!(rt; is_absent(body::<Option<Body<u32>>>("", alloc)?));
     Ok(())
 }
 
 #[test]
 fn a_value_is_written(rt: HostRuntime) -> Result<(), Fail> {
     let alloc = rt.alloc();
-    assert!(rt; written(7u32, alloc)?.as_str() == "0053775207");
-    assert!(rt; written(&7u32, alloc)?.as_str() == "0053775207");
-    assert!(rt; written("a", alloc)?.as_str() == "005377a10161");
-    assert!(rt; written(SymbolRef("a"), alloc)?.as_str() == "005377a30161");
-    assert!(rt; written(CowStr::Borrowed("a"), alloc)?.as_str() == "005377a10161");
-    assert!(rt; written(AmqpValue(7u32), alloc)?.as_str() == "0053775207");
-    assert!(rt; written(AmqpValue::as_body_ref(&7u32), alloc)?.as_str() == "0053775207");
-    assert!(rt; written(Data::copy_of(b"a", alloc)?, alloc)?.as_str() == "005375a00161");
+    check_body(7u32, "0053775207", alloc)?;
+    check_body(&7u32, "0053775207", alloc)?;
+    check_body("a", "005377a10161", alloc)?;
+    check_body(SymbolRef("a"), "005377a30161", alloc)?;
+    check_body(CowStr::Borrowed("a"), "005377a10161", alloc)?;
+    check_body(AmqpValue(7u32), "0053775207", alloc)?;
+    check_body(AmqpValue::as_body_ref(&7u32), "0053775207", alloc)?;
+    check_body(Data::copy_of(b"a", alloc)?, "005375a00161", alloc)?;
     let empty: Body<u32> = Body::Empty;
-    assert!(rt; written(empty, alloc)?.as_str() == "00537740");
-    Ok(())
+    check_body(empty, "00537740", alloc)
+}
+
+fn has_one_section(message: Message<AmqpValue<u32>>) -> bool {
+    message.sections() == 1
 }
 
 #[test]
 fn a_message_of_a_value(rt: HostRuntime) -> Result<(), Fail> {
-    let alloc = rt.alloc();
-    let message = Message::from(7u32);
-    assert_eq!(rt; message.sections(), 1);
-    let text = hex::encode(alloc, &to_vec(&message, alloc)?)?;
-    assert!(rt; text.as_str() == "0053775207");
-    Ok(())
+    assert!(rt; has_one_section(Message::from(7u32)));
+    check_made(Ok(Message::from(7u32)), "0053775207", rt.alloc())
 }

@@ -5,7 +5,7 @@ use amqp_full_composites::delivery::{
     full_declare, full_declared, full_discharge, full_error, full_modified, full_received,
     full_rejected, full_transactional_state,
 };
-use amqp_full_composites::parts::{check, check_made};
+use amqp_test_helpers::{check_made, check_written};
 use std::test::Fail;
 
 #[test]
@@ -23,7 +23,7 @@ fn fields_of_an_error(rt: HostRuntime) -> Result<(), Fail> {
 
 #[test]
 fn fields_of_a_received(rt: HostRuntime) -> Result<(), Fail> {
-    check(
+    check_written(
         &full_received(),
         "005323c00f02\
          700000012c\
@@ -34,12 +34,12 @@ fn fields_of_a_received(rt: HostRuntime) -> Result<(), Fail> {
 
 #[test]
 fn accepted_has_no_fields(rt: HostRuntime) -> Result<(), Fail> {
-    check(&Accepted {}, "00532445", rt.alloc())
+    check_written(&Accepted {}, "00532445", rt.alloc())
 }
 
 #[test]
 fn released_has_no_fields(rt: HostRuntime) -> Result<(), Fail> {
-    check(&Released {}, "00532645", rt.alloc())
+    check_written(&Released {}, "00532645", rt.alloc())
 }
 
 #[test]

@@ -1,12 +1,23 @@
-//! Tests of composites: each built field by field and written; the builders of sources and targets, and lifetimes.
+//! Tests of composites: each built field by field and written; copies, conversions and what is made by a call; the texts of errors;
+//! the builders of sources and targets, and lifetimes.
 #![tactic(auto)]
 
 #[cfg(test)]
 mod builders;
 #[cfg(test)]
+mod copies;
+#[cfg(test)]
 mod delivery;
 #[cfg(test)]
+mod errors;
+#[cfg(test)]
 mod growth;
+#[cfg(test)]
+mod makers;
+#[cfg(test)]
+mod members;
+#[cfg(test)]
+mod parts;
 #[cfg(test)]
 mod performatives;
 #[cfg(test)]

@@ -1,11 +1,12 @@
 //! Each performative once, its fields by their names (Part 2, section 2.7). The digits are written out by the standard's tables, a
 //! line for the descriptor, the size and the count of the list, and a line for each field.
-use amqp_full_composites::parts::{check, check_made};
 use amqp_full_composites::performatives::{
     full_attach, full_begin, full_close, full_detach, full_disposition, full_end, full_flow,
     full_open, full_transfer,
 };
+use amqp_performatives::{Disposition, Flow, Transfer};
 use amqp_restricted_types::Role;
+use amqp_test_helpers::check_made;
 use std::test::Fail;
 
 #[test]
@@ -70,13 +71,19 @@ fn fields_of_an_attach(rt: HostRuntime) -> Result<(), Fail> {
     )
 }
 
+fn without_drain(flow: Flow) -> Flow {
+    Flow {
+        drain: false,
+        ..flow
+    }
+}
+
 // Drain and echo are both true, so it is also written without drain.
 #[test]
 fn fields_of_a_flow(rt: HostRuntime) -> Result<(), Fail> {
     let alloc = rt.alloc();
-    let mut flow = full_flow(alloc)?;
-    check(
-        &flow,
+    check_made(
+        full_flow(alloc),
         "005313c01e0b\
          5201\
          5202\
@@ -91,21 +98,35 @@ fn fields_of_a_flow(rt: HostRuntime) -> Result<(), Fail> {
          c10602a301705209",
         alloc,
     )?;
-    flow.drain = false;
-    check(
-        &flow,
+    check_made(
+        full_flow(alloc).map(without_drain),
         "005313c01e0b520152025203700000019052055206520752084041c10602a301705209",
         alloc,
     )
+}
+
+fn whole(transfer: Transfer) -> Transfer {
+    Transfer {
+        more: false,
+        aborted: false,
+        ..transfer
+    }
+}
+
+fn begun(transfer: Transfer) -> Transfer {
+    Transfer {
+        resume: false,
+        aborted: false,
+        ..transfer
+    }
 }
 
 // Four of the fields are true, so it is also written without two of them, and without other two.
 #[test]
 fn fields_of_a_transfer(rt: HostRuntime) -> Result<(), Fail> {
     let alloc = rt.alloc();
-    let mut transfer = full_transfer(alloc)?;
-    check(
-        &transfer,
+    check_made(
+        full_transfer(alloc),
         "005314c0160b\
          5201\
          5202\
@@ -120,29 +141,32 @@ fn fields_of_a_transfer(rt: HostRuntime) -> Result<(), Fail> {
          41",
         alloc,
     )?;
-    transfer.aborted = false;
-    transfer.more = false;
-    check(
-        &transfer,
+    check_made(
+        full_transfer(alloc).map(whole),
         "005314c0160b52015202a002030452054240500100532445414041",
         alloc,
     )?;
-    transfer.more = true;
-    transfer.resume = false;
-    check(
-        &transfer,
+    check_made(
+        full_transfer(alloc).map(begun),
         "005314c0160b52015202a002030452054241500100532445404041",
         alloc,
     )
+}
+
+fn unsettled_by_the_sender() -> Disposition {
+    Disposition {
+        role: Role::Sender,
+        settled: false,
+        ..full_disposition()
+    }
 }
 
 // Role, settled and batchable are all written as true, so it is also written with another role and without settled.
 #[test]
 fn fields_of_a_disposition(rt: HostRuntime) -> Result<(), Fail> {
     let alloc = rt.alloc();
-    let mut disposition = full_disposition();
-    check(
-        &disposition,
+    check_made(
+        Ok(full_disposition()),
         "005315c00c06\
          41\
          5201\
@@ -152,9 +176,11 @@ fn fields_of_a_disposition(rt: HostRuntime) -> Result<(), Fail> {
          41",
         alloc,
     )?;
-    disposition.role = Role::Sender;
-    disposition.settled = false;
-    check(&disposition, "005315c00c064252015202400053264541", alloc)
+    check_made(
+        Ok(unsettled_by_the_sender()),
+        "005315c00c064252015202400053264541",
+        alloc,
+    )
 }
 
 #[test]

@@ -1,9 +1,9 @@
 //! Each type of the security layer once, its fields by their names (Part 5, section 5.3.3). The digits are written out by the
 //! standard's tables.
-use amqp_full_composites::parts::check_made;
 use amqp_full_composites::sasl::{
     full_challenge, full_init, full_mechanisms, full_outcome, full_response,
 };
+use amqp_test_helpers::check_made;
 use std::test::Fail;
 
 #[test]

@@ -1,7 +1,7 @@
 //! A source, a target and a coordinator, their fields by their names (Part 3, section 3.5; Part 4, section 4.5.1). The digits are
 //! written out by the standard's tables.
-use amqp_full_composites::parts::check_made;
 use amqp_full_composites::termini::{full_coordinator, full_source, full_target};
+use amqp_test_helpers::check_made;
 use std::test::Fail;
 
 #[test]

@@ -3,28 +3,78 @@ use crate::parts::{
     binary_of, error_of, fields_of, symbols_of, text_fields_of, text_of, two_symbols_of,
 };
 use amqp_attach::{Attach, Unsettled};
-use amqp_codec::Error as CodecError;
+use amqp_codec::{Error as CodecError, Symbol};
+use amqp_containers::Array;
 use amqp_delivery::{Accepted, DeliveryState, Released};
+use amqp_fields::Fields;
 use amqp_performatives::{Begin, Close, Detach, Disposition, End, Flow, Open, Transfer};
 use amqp_restricted_types::{
-    ChannelMax, Handle, MaxFrameSize, ReceiverSettleMode, Role, SenderSettleMode,
+    ChannelMax, Handle, IetfLanguageTag, MaxFrameSize, ReceiverSettleMode, Role, SenderSettleMode,
 };
 use amqp_termini::{Source, Target, TargetArchetype};
 use amqp_values::Value;
 use std::alloc::Global;
 
-pub fn full_open(alloc: Global) -> Result<Open, CodecError> {
-    Ok(Open {
+#[derive(Drop)]
+struct Names {
+    container_id: String,
+    hostname: String,
+}
+
+fn full_names(alloc: Global) -> Result<Names, CodecError> {
+    Ok(Names {
         container_id: text_of("c", alloc)?,
-        hostname: Some(text_of("h", alloc)?),
+        hostname: text_of("h", alloc)?,
+    })
+}
+
+#[derive(Drop)]
+struct Locales {
+    outgoing: Array<IetfLanguageTag>,
+    incoming: Array<IetfLanguageTag>,
+}
+
+fn full_locales(alloc: Global) -> Result<Locales, CodecError> {
+    Ok(Locales {
+        outgoing: symbols_of("en", alloc)?,
+        incoming: two_symbols_of("de", "fr", alloc)?,
+    })
+}
+
+// What a connection and a link end with.
+#[derive(Drop)]
+struct Extensions {
+    offered_capabilities: Array<Symbol>,
+    desired_capabilities: Array<Symbol>,
+    properties: Fields,
+}
+
+fn full_extensions(
+    properties: Result<Fields, CodecError>,
+    alloc: Global,
+) -> Result<Extensions, CodecError> {
+    Ok(Extensions {
+        properties: properties?,
+        offered_capabilities: symbols_of("o", alloc)?,
+        desired_capabilities: symbols_of("d", alloc)?,
+    })
+}
+
+pub fn full_open(alloc: Global) -> Result<Open, CodecError> {
+    let names = full_names(alloc)?;
+    let locales = full_locales(alloc)?;
+    let extensions = full_extensions(text_fields_of("p", "v", alloc), alloc)?;
+    Ok(Open {
+        container_id: names.container_id,
+        hostname: Some(names.hostname),
         max_frame_size: MaxFrameSize(512),
         channel_max: ChannelMax(9),
         idle_time_out: Some(30000),
-        outgoing_locales: Some(symbols_of("en", alloc)?),
-        incoming_locales: Some(two_symbols_of("de", "fr", alloc)?),
-        offered_capabilities: Some(symbols_of("o", alloc)?),
-        desired_capabilities: Some(symbols_of("d", alloc)?),
-        properties: Some(text_fields_of("p", "v", alloc)?),
+        outgoing_locales: Some(locales.outgoing),
+        incoming_locales: Some(locales.incoming),
+        offered_capabilities: Some(extensions.offered_capabilities),
+        desired_capabilities: Some(extensions.desired_capabilities),
+        properties: Some(extensions.properties),
     })
 }
 
@@ -59,22 +109,40 @@ fn two_unsettled(alloc: Global) -> Result<Unsettled, CodecError> {
     Ok(unsettled)
 }
 
+#[derive(Drop)]
+struct Ends {
+    source: Box<Source>,
+    target: Box<TargetArchetype>,
+    unsettled: Unsettled,
+}
+
+fn full_ends(alloc: Global) -> Result<Ends, CodecError> {
+    Ok(Ends {
+        source: boxed_source(alloc)?,
+        target: boxed_target(alloc)?,
+        unsettled: two_unsettled(alloc)?,
+    })
+}
+
 pub fn full_attach(alloc: Global) -> Result<Attach, CodecError> {
+    let name = text_of("link", alloc)?;
+    let ends = full_ends(alloc)?;
+    let extensions = full_extensions(fields_of("p", Value::Bool(false), alloc), alloc)?;
     Ok(Attach {
-        name: text_of("link", alloc)?,
+        name,
         handle: Handle(2),
         role: Role::Sender,
         snd_settle_mode: SenderSettleMode::Unsettled,
         rcv_settle_mode: ReceiverSettleMode::Second,
-        source: Some(boxed_source(alloc)?),
-        target: Some(boxed_target(alloc)?),
-        unsettled: Some(two_unsettled(alloc)?),
+        source: Some(ends.source),
+        target: Some(ends.target),
+        unsettled: Some(ends.unsettled),
         incomplete_unsettled: true,
         initial_delivery_count: Some(10),
         max_message_size: Some(11),
-        offered_capabilities: Some(symbols_of("o", alloc)?),
-        desired_capabilities: Some(symbols_of("d", alloc)?),
-        properties: Some(fields_of("p", Value::Bool(false), alloc)?),
+        offered_capabilities: Some(extensions.offered_capabilities),
+        desired_capabilities: Some(extensions.desired_capabilities),
+        properties: Some(extensions.properties),
     })
 }
 

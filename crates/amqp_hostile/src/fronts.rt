@@ -62,10 +62,21 @@ fn wanted(len: usize) -> Result<usize, Error> {
     }
 }
 
+// What the closure says of the value that was read.
+fn asked<T: Drop, F: Fn(&T) -> usize>(
+    read: Result<(T, usize), Error>,
+    ask: F,
+) -> Result<usize, Error>
+    requires { F.IsAlwaysCallable ask }
+{
+    let (value, _len) = read?;
+    Ok(ask(&value))
+}
+
 // How many sections of data the message has that the input is, or why it is none.
 fn sections_read(input: &[u8], alloc: Global) -> Result<usize, Error> {
-    let (message, _len): (Message<Batch<Data>>, usize) = from_slice_counted(input, alloc)?;
-    Ok(message.body.len())
+    let read: Result<(Message<Batch<Data>>, usize), Error> = from_slice_counted(input, alloc);
+    asked(read, |message| message.body.len())
 }
 
 // Whether each proper front of the message comes to what it must. One that doesn't is printed, and then how many there are.

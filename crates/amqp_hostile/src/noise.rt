@@ -16,49 +16,62 @@ trait Checked: Deserialize + Drop + Sized {
 
 impl Checked for Received {
     fn is_stable(self, alloc: Global) -> Result<bool, Error> {
-        is_rewritten(&self, alloc)
+        is_rewritten(self, alloc)
     }
 }
 
 impl Checked for Header {
     fn is_stable(self, alloc: Global) -> Result<bool, Error> {
-        is_rewritten(&self, alloc)
+        is_rewritten(self, alloc)
     }
 }
 
 impl Checked for Message<AmqpValue<Value>> {
     fn is_stable(self, alloc: Global) -> Result<bool, Error> {
-        is_rewritten(&self, alloc)
+        is_rewritten(self, alloc)
     }
 }
 
 impl Checked for Message<Batch<Data>> {
     fn is_stable(self, alloc: Global) -> Result<bool, Error> {
-        is_rewritten(&self, alloc)
+        is_rewritten(self, alloc)
     }
 }
 
-/// A body that isn't there is written as a null, and read again as that.
 impl Checked for Message<Body<Value>> {
     fn is_stable(self, alloc: Global) -> Result<bool, Error> {
-        let text = to_vec(&self, alloc)?;
-        let mut wanted = self;
-        if wanted.body == Body::Empty {
-            wanted.body = Body::Value(AmqpValue(Value::Null));
-        }
-        is_text_of(text.as_slice(), &wanted, alloc)
+        let text = to_vec(&self, alloc);
+        is_text_of(text, read_again(self), alloc)
     }
 }
 
 impl Checked for Message<Value> {
     fn is_stable(self, _alloc: Global) -> Result<bool, Error> {
+        drop(self);
         Ok(true)
     }
 }
 
 impl Checked for Absent {
     fn is_stable(self, _alloc: Global) -> Result<bool, Error> {
+        drop(self);
         Ok(true)
+    }
+}
+
+// The message with this body in place of its own.
+fn with_body<B: Drop>(message: Message<B>, body: B) -> Message<B> {
+    let mut message = message;
+    message.body = body;
+    message
+}
+
+// What the message is read again as: a body that isn't there is written as a null.
+fn read_again(message: Message<Body<Value>>) -> Message<Body<Value>> {
+    if message.body.is_empty() {
+        with_body(message, Body::Value(AmqpValue(Value::Null)))
+    } else {
+        message
     }
 }
 
@@ -120,17 +133,19 @@ fn behaves<T: Checked>(input: &[u8], alloc: Global) -> bool {
 }
 
 // Whether the value's text is read to its end, as the value, and written again unchanged.
-fn is_rewritten<T: Canonical + PartialEq + Drop>(value: &T, alloc: Global) -> Result<bool, Error> {
-    is_text_of(to_vec(value, alloc)?.as_slice(), value, alloc)
+fn is_rewritten<T: Canonical + PartialEq + Drop>(value: T, alloc: Global) -> Result<bool, Error> {
+    let text = to_vec(&value, alloc);
+    is_text_of(text, value, alloc)
 }
 
-// Whether the text is read to its end, as the value, and written again unchanged.
+// Whether the text that was written is read to its end, as the value, and written again unchanged.
 fn is_text_of<T: Canonical + PartialEq + Drop>(
-    text: &[u8],
-    value: &T,
+    written: Result<Vec<u8>, Error>,
+    value: T,
     alloc: Global,
 ) -> Result<bool, Error> {
-    let (again, len): (T, usize) = from_slice_counted(text, alloc)?;
+    let text = written?;
+    let (again, len): (T, usize) = from_slice_counted(text.as_slice(), alloc)?;
     let text_again = to_vec(&again, alloc)?;
-    Ok(len == text.len() && text_again.as_slice() == text && again == *value)
+    Ok(len == text.len() && text_again == text && again == value)
 }

@@ -1,7 +1,6 @@
 //! Messages within limits of the caller: each section counts against one limit of bytes and one of values.
 use amqp_batches::Batch;
 use amqp_bodies::FromBody;
-use amqp_body_tests::parts::bytes;
 use amqp_codec::{Deserialize, Error};
 use amqp_messages::{Message, Strict, decode_message_strict_within};
 use amqp_read_write::from_slice_within;
@@ -24,14 +23,14 @@ fn within(nesting: u32, bytes: u64, items: u64) -> Limits {
 
 // How many bytes of the text are read.
 fn taken<T: Deserialize>(digits: &str, limits: &Limits, alloc: Global) -> Result<usize, Fail> {
-    let input = bytes(digits, alloc)?;
+    let input = hex::decode(alloc, digits)?;
     let (_value, len): (T, usize) = from_slice_within(input.as_slice(), limits, alloc)?;
     Ok(len)
 }
 
 // The text passes a limit.
 fn passes<T: Deserialize>(digits: &str, limits: &Limits, alloc: Global) -> Result<bool, Fail> {
-    let input = bytes(digits, alloc)?;
+    let input = hex::decode(alloc, digits)?;
     let answer: Result<(T, usize), Error> = from_slice_within(input.as_slice(), limits, alloc);
     match answer {
         Ok(_) => Ok(false),
@@ -71,7 +70,7 @@ fn a_run_ends_at_the_limit_or_passes_it(rt: HostRuntime) -> Result<(), Fail> {
 }
 
 fn strict_length<B: FromBody>(digits: &str, limits: &Limits, alloc: Global) -> Result<bool, Fail> {
-    let input = bytes(digits, alloc)?;
+    let input = hex::decode(alloc, digits)?;
     let mut reader = input.as_slice();
     let answer: Result<Message<B>, Error> = decode_message_strict_within(
         &mut reader,

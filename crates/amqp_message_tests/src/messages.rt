@@ -1,11 +1,12 @@
 //! Messages in any order and in the standard's (Part 3, section 3.2). The digits are written out by the standard's tables.
 use amqp_batches::Batch;
 use amqp_bodies::{Body, CanonicalBody, FromBody};
-use amqp_body_tests::parts::{read_and_written, refused};
+use amqp_body_tests::parts::read_and_written;
 use amqp_codec::Error;
 use amqp_messages::{Message, Strict, canonical_text_strict, decode_message_strict};
 use amqp_read_write::from_slice_counted;
 use amqp_sections::{AmqpSequence, AmqpValue, Data};
+use amqp_test_helpers::check_refused;
 use amqp_values::Value;
 use std::alloc::Global;
 use std::test::Fail;
@@ -26,7 +27,7 @@ fn a_message_without_a_body(rt: HostRuntime) -> Result<(), Fail> {
         alloc,
     )?;
     read_and_written::<Message<Body<Value>>>("", "00537740", 0, alloc)?;
-    refused::<Message<Data>>("0053704500537345", Error::EmptyBody, alloc)
+    check_refused::<Message<Data>>("0053704500537345", Error::EmptyBody, alloc)
 }
 
 #[test]
@@ -40,17 +41,25 @@ fn a_run_is_one_group(rt: HostRuntime) -> Result<(), Fail> {
     read_and_written::<Message<Data>>("005375a00161005375a00162", "005375a00162", 0, alloc)
 }
 
+// A header, seven sections of data, and a footer.
+const SEVEN_DATA: &str = concat!(
+    "00537045",
+    "005375a00161",
+    "005375a00161",
+    "005375a00161",
+    "005375a00161",
+    "005375a00161",
+    "005375a00161",
+    "005375a00161",
+    "005378c10100"
+);
+
 #[test]
 fn a_run_of_seven_is_one_group(rt: HostRuntime) -> Result<(), Fail> {
     let alloc = rt.alloc();
-    let mut digits = String::from_str(alloc, "00537045")?;
-    for _ in 0..7 {
-        digits.push_str("005375a00161")?;
-    }
-    digits.push_str("005378c10100")?;
-    read_and_written::<Message<Batch<Data>>>(&digits, &digits, 0, alloc)?;
+    read_and_written::<Message<Batch<Data>>>(SEVEN_DATA, SEVEN_DATA, 0, alloc)?;
     // as single data each is a group of its own, so that reading stops behind the sixth
-    read_and_written::<Message<Data>>(&digits, "00537045005375a00161", 12, alloc)
+    read_and_written::<Message<Data>>(SEVEN_DATA, "00537045005375a00161", 12, alloc)
 }
 
 #[test]
@@ -62,14 +71,14 @@ fn the_last_of_a_kind_counts_and_seven_groups_are_read(rt: HostRuntime) -> Resul
         1,
         alloc,
     )?;
-    refused::<Message<Body<Value>>>(
+    check_refused::<Message<Body<Value>>>(
         "005370450053704500537045005370450053704500537045ff",
         Error::NotSection,
         alloc,
     )?;
-    refused::<Message<Body<Value>>>("0053704500532445", Error::NotSection, alloc)?;
-    refused::<Message<Body<Value>>>("005370450053", Error::Cut, alloc)?;
-    refused::<Message<Data>>("00537741", Error::WrongDescriptor, alloc)
+    check_refused::<Message<Body<Value>>>("0053704500532445", Error::NotSection, alloc)?;
+    check_refused::<Message<Body<Value>>>("005370450053", Error::Cut, alloc)?;
+    check_refused::<Message<Data>>("00537741", Error::WrongDescriptor, alloc)
 }
 
 #[test]
@@ -102,47 +111,72 @@ fn strict_messages(rt: HostRuntime) -> Result<(), Fail> {
     Ok(())
 }
 
+fn strict_sections<B: FromBody>(digits: &str, alloc: Global) -> Result<usize, Fail> {
+    let input = hex::decode(alloc, digits)?;
+    let mut reader = input.as_slice();
+    let message: Message<B> = decode_message_strict(&mut reader, alloc)?;
+    Ok(message.sections())
+}
+
 #[test]
 fn strict_messages_of_a_reader(rt: HostRuntime) -> Result<(), Fail> {
-    let alloc = rt.alloc();
-    let input = hex::decode(alloc, WHOLE)?;
-    let mut reader = input.as_slice();
-    let message: Message<Body<Value>> = decode_message_strict(&mut reader, alloc)?;
-    assert_eq!(rt; message.sections(), 7);
+    assert_eq!(rt; strict_sections::<Body<Value>>(WHOLE, rt.alloc())?, 7);
     Ok(())
+}
+
+// A whole message with these digits behind it is refused with this error.
+fn check_behind_whole(digits: &str, wanted: Error, alloc: Global) -> Result<(), Fail> {
+    let mut input = String::from_str(alloc, WHOLE)?;
+    input.push_str(digits)?;
+    check_refused::<Strict<Body<Value>>>(&input, wanted, alloc)
 }
 
 #[test]
 fn what_is_misplaced(rt: HostRuntime) -> Result<(), Fail> {
     let alloc = rt.alloc();
-    refused::<Strict<Body<Value>>>("0053734500537045", Error::Misplaced, alloc)?;
-    refused::<Strict<Body<Value>>>("0053704500537045", Error::Misplaced, alloc)?;
-    refused::<Strict<Body<Value>>>("00537045ff", Error::NotSection, alloc)?;
-    refused::<Strict<Data>>("005375a00161005375a00162", Error::Misplaced, alloc)?;
-    refused::<Strict<Body<Value>>>("00537741005375a00161", Error::Misplaced, alloc)?;
-    let mut input = String::from_str(alloc, WHOLE)?;
-    input.push_str("00")?;
-    refused::<Strict<Body<Value>>>(&input, Error::Cut, alloc)?;
-    let mut input = String::from_str(alloc, WHOLE)?;
-    input.push_str("ff")?;
-    refused::<Strict<Body<Value>>>(&input, Error::NotSection, alloc)
+    check_refused::<Strict<Body<Value>>>("0053734500537045", Error::Misplaced, alloc)?;
+    check_refused::<Strict<Body<Value>>>("0053704500537045", Error::Misplaced, alloc)?;
+    check_refused::<Strict<Body<Value>>>("00537045ff", Error::NotSection, alloc)?;
+    check_refused::<Strict<Data>>("005375a00161005375a00162", Error::Misplaced, alloc)?;
+    check_refused::<Strict<Body<Value>>>("00537741005375a00161", Error::Misplaced, alloc)?;
+    check_behind_whole("00", Error::Cut, alloc)?;
+    check_behind_whole("ff", Error::NotSection, alloc)
 }
 
-// The text of the strict message that the bytes are.
-fn strict_text<B: CanonicalBody>(digits: &str, alloc: Global) -> Result<String, Fail> {
+// The bytes are a strict message with this text.
+fn check_strict_text<B: CanonicalBody>(
+    digits: &str,
+    wanted: &str,
+    alloc: Global,
+) -> Result<(), Fail> {
     let input = hex::decode(alloc, digits)?;
     let text = canonical_text_strict::<B>(input.as_slice(), alloc)?;
-    Ok(hex::encode(alloc, &text)?)
+    let text = hex::encode(alloc, &text)?;
+    if text.as_str() != wanted {
+        return Err(Fail::new(format_args!("{digits} has the text {text}")));
+    }
+    Ok(())
 }
 
 #[test]
 fn texts_of_strict_messages(rt: HostRuntime) -> Result<(), Fail> {
     let alloc = rt.alloc();
-    let text = strict_text::<Body<Value>>("0053704500537345", alloc)?;
-    assert!(rt; text.as_str() == "005370450053734500537740");
-    let text = strict_text::<Body<Value>>(WHOLE, alloc)?;
-    assert!(rt; text.as_str() == WHOLE);
-    Ok(())
+    check_strict_text::<Body<Value>>("0053704500537345", "005370450053734500537740", alloc)?;
+    check_strict_text::<Body<Value>>(WHOLE, WHOLE, alloc)
+}
+
+// The sections, in this order, are a message that is written in the standard's.
+fn check_order(sections: &[&str], alloc: Global) -> Result<(), Fail> {
+    let mut digits = String::new(alloc);
+    for section in sections {
+        digits.push_str(section)?;
+    }
+    read_and_written::<Message<AmqpValue<Value>>>(
+        &digits,
+        "005370c0020141005373c00301530100537741005378c10100",
+        0,
+        alloc,
+    )
 }
 
 #[test]
@@ -152,22 +186,7 @@ fn one_text_in_three_orders(rt: HostRuntime) -> Result<(), Fail> {
     let properties = "005373c003015301";
     let value = "00537741";
     let footer = "005378c10100";
-    let orders: [[&str; 4]; 3] = [
-        [header, properties, value, footer],
-        [footer, value, properties, header],
-        [value, header, footer, properties],
-    ];
-    for order in orders {
-        let mut digits = String::new(alloc);
-        for section in order {
-            digits.push_str(section)?;
-        }
-        read_and_written::<Message<AmqpValue<Value>>>(
-            &digits,
-            "005370c0020141005373c00301530100537741005378c10100",
-            0,
-            alloc,
-        )?;
-    }
-    Ok(())
+    check_order(&[header, properties, value, footer], alloc)?;
+    check_order(&[footer, value, properties, header], alloc)?;
+    check_order(&[value, header, footer, properties], alloc)
 }

@@ -83,12 +83,19 @@ fn outcome_of<F: Fn(Global) -> Result<bool, Error>>(is_answered: F, alloc: Globa
     }
 }
 
-/// Whether the value's canonical text is this.
-pub fn is_text<T: Serialize>(value: &T, text: &[u8], alloc: Global) -> Result<bool, Error> {
-    Ok(to_vec(value, alloc)?.as_slice() == text)
+/// Whether what was made has this canonical text.
+pub fn is_text<T: Serialize + Drop>(
+    made: Result<T, Error>,
+    text: &[u8],
+    alloc: Global,
+) -> Result<bool, Error> {
+    let value = made?;
+    let written = to_vec(&value, alloc)?;
+    Ok(written.as_slice() == text)
 }
 
 /// Whether the symbol that was made is this text.
 pub fn is_symbol(made: Result<Symbol, Error>, text: &str) -> Result<bool, Error> {
-    Ok(made?.as_str() == text)
+    let symbol = made?;
+    Ok(symbol.as_str() == text)
 }

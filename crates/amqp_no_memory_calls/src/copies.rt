@@ -1,8 +1,8 @@
-//! Copies of values.
+//! Copies of values and of builders.
 use crate::calls::check;
 use amqp_codec::{Deserialize, Error};
 use amqp_read_write::from_slice;
-use std::alloc::Global;
+use amqp_test_helpers::{is, is_copied};
 
 /// Copies the value that the bytes begin with, and returns whether the call went as it must.
 pub fn check_copy<T: Deserialize + Clone + PartialEq + Drop>(
@@ -10,15 +10,19 @@ pub fn check_copy<T: Deserialize + Clone + PartialEq + Drop>(
     name: &str,
     input: &[u8],
 ) -> Result<bool, anyhow::Error> {
-    check(rt, name, "clone", |alloc| is_copied::<T>(input, alloc))
+    check(rt, name, "clone", |alloc| {
+        is_copied::<T>(from_slice(input, alloc))
+    })
 }
 
-// Whether a copy of the value that the bytes begin with is equal to it.
-fn is_copied<T: Deserialize + Clone + PartialEq + Drop>(
-    input: &[u8],
-    alloc: Global,
-) -> Result<bool, Error> {
-    let value: T = from_slice(input, alloc)?;
-    let copy = value.clone()?;
-    Ok(copy == value)
+/// Whether a copy of the builder builds the same value.
+pub fn is_builder_copied<B: Clone + Drop, T: PartialEq + Drop, F: Fn(B) -> T>(
+    made: Result<B, Error>,
+    build: F,
+) -> Result<bool, Error>
+    requires { F.IsAlwaysCallable build }
+{
+    let builder = made?;
+    let copy = builder.clone()?;
+    Ok(is(build(copy), build(builder)))
 }

@@ -36,5 +36,5 @@ fn is_grown<G: Growing>(text: &[u8], alloc: Global) -> Result<bool, Error> {
             Err(_) => return Ok(false),
         }
     }
-    is_text(&grown, text, alloc)
+    is_text(Ok(grown), text, alloc)
 }

@@ -12,5 +12,5 @@ mod copies;
 mod growing;
 
 pub use calls::{Outcome, ask_for_growths, check, is_symbol, is_text, print_outcome, status};
-pub use copies::check_copy;
+pub use copies::{check_copy, is_builder_copied};
 pub use growing::{Growing, check_growing};

@@ -1,7 +1,7 @@
 //! The builders of sources and targets (Part 3, sections 3.5.3 and 3.5.4).
 use amqp_codec::{Descriptor, Error, Symbol};
 use amqp_described::Described;
-use amqp_no_memory_calls::{check, is_text};
+use amqp_no_memory_calls::{check, is_builder_copied, is_text};
 use amqp_restricted_types::DistributionMode;
 use amqp_termini::{
     DeleteOnClose, LifetimePolicy, Source, SourceBuilder, SupportedDistModes, Target, TargetBuilder,
@@ -89,71 +89,92 @@ fn mode(alloc: Global) -> Result<SupportedDistModes, Error> {
     SupportedDistModes::new(DistributionMode::Move, alloc)
 }
 
-fn is_source_of_a_lifetime(alloc: Global) -> Result<bool, Error> {
-    let builder = Source::builder().add_lifetime_policy(lifetime(), alloc)?;
-    is_text(&builder.build(), SOURCE_OF_A_LIFETIME, alloc)
-}
-
-fn is_source_of_a_mode(alloc: Global) -> Result<bool, Error> {
-    let builder = Source::builder().add_supported_dist_modes(mode(alloc)?, alloc)?;
-    is_text(&builder.build(), SOURCE_OF_A_MODE, alloc)
-}
-
-fn is_target_of_a_lifetime(alloc: Global) -> Result<bool, Error> {
-    let builder = Target::builder().add_lifetime_policy(lifetime(), alloc)?;
-    is_text(&builder.build(), TARGET_OF_A_LIFETIME, alloc)
-}
-
-fn is_target_of_a_mode(alloc: Global) -> Result<bool, Error> {
-    let builder = Target::builder().add_supported_dist_modes(mode(alloc)?, alloc)?;
-    is_text(&builder.build(), TARGET_OF_A_MODE, alloc)
-}
-
 fn symbol(text: &str, alloc: Global) -> Result<Symbol, Error> {
     Ok(Symbol::from(String::from_str(alloc, text)?))
 }
 
+// Whether the source that is built has this text.
+fn is_source(
+    builder: Result<SourceBuilder, Error>,
+    text: &[u8],
+    alloc: Global,
+) -> Result<bool, Error> {
+    is_text(builder.map(SourceBuilder::build), text, alloc)
+}
+
+// Whether the target that is built has this text.
+fn is_target(
+    builder: Result<TargetBuilder, Error>,
+    text: &[u8],
+    alloc: Global,
+) -> Result<bool, Error> {
+    is_text(builder.map(TargetBuilder::build), text, alloc)
+}
+
+fn is_source_of_a_lifetime(alloc: Global) -> Result<bool, Error> {
+    let builder = Source::builder().add_lifetime_policy(lifetime(), alloc);
+    is_source(builder, SOURCE_OF_A_LIFETIME, alloc)
+}
+
+fn is_source_of_a_mode(alloc: Global) -> Result<bool, Error> {
+    let modes = mode(alloc)?;
+    let builder = Source::builder().add_supported_dist_modes(modes, alloc);
+    is_source(builder, SOURCE_OF_A_MODE, alloc)
+}
+
+fn is_target_of_a_lifetime(alloc: Global) -> Result<bool, Error> {
+    let builder = Target::builder().add_lifetime_policy(lifetime(), alloc);
+    is_target(builder, TARGET_OF_A_LIFETIME, alloc)
+}
+
+fn is_target_of_a_mode(alloc: Global) -> Result<bool, Error> {
+    let modes = mode(alloc)?;
+    let builder = Target::builder().add_supported_dist_modes(modes, alloc);
+    is_target(builder, TARGET_OF_A_MODE, alloc)
+}
+
 fn is_source_of_no_filter(alloc: Global) -> Result<bool, Error> {
-    let builder = Source::builder().add_to_filter(symbol("a", alloc)?, None, alloc)?;
-    is_text(&builder.build(), SOURCE_OF_NO_FILTER, alloc)
+    let name = symbol("a", alloc)?;
+    let builder = Source::builder().add_to_filter(name, None, alloc);
+    is_source(builder, SOURCE_OF_NO_FILTER, alloc)
 }
 
 fn is_source_of_a_filter(alloc: Global) -> Result<bool, Error> {
+    let name = symbol("b", alloc)?;
     let filter = Described {
         descriptor: Descriptor::Code(7),
         value: Value::Bool(true),
     };
-    let builder = Source::builder().add_to_filter(symbol("b", alloc)?, Some(filter), alloc)?;
-    is_text(&builder.build(), SOURCE_OF_A_FILTER, alloc)
+    let builder = Source::builder().add_to_filter(name, Some(filter), alloc);
+    is_source(builder, SOURCE_OF_A_FILTER, alloc)
 }
 
 fn is_source_of_a_plain_filter(alloc: Global) -> Result<bool, Error> {
+    let name = symbol("c", alloc)?;
     let builder = Source::builder().add_to_filter_using_legacy_format(
-        symbol("c", alloc)?,
+        name,
         Value::Bool(false),
         alloc,
-    )?;
-    is_text(&builder.build(), SOURCE_OF_A_PLAIN_FILTER, alloc)
+    );
+    is_source(builder, SOURCE_OF_A_PLAIN_FILTER, alloc)
 }
 
 // A builder of a source that has an address.
 fn source_builder(alloc: Global) -> Result<SourceBuilder, Error> {
-    Ok(Source::builder().address(String::from_str(alloc, "a")?))
+    let address = String::from_str(alloc, "a")?;
+    Ok(Source::builder().address(address))
 }
 
 fn is_source_copied(alloc: Global) -> Result<bool, Error> {
-    let builder = source_builder(alloc)?;
-    let copy = builder.clone()?;
-    Ok(copy.build() == builder.build())
+    is_builder_copied(source_builder(alloc), SourceBuilder::build)
 }
 
 // A builder of a target that has an address.
 fn target_builder(alloc: Global) -> Result<TargetBuilder, Error> {
-    Ok(Target::builder().address(String::from_str(alloc, "a")?))
+    let address = String::from_str(alloc, "a")?;
+    Ok(Target::builder().address(address))
 }
 
 fn is_target_copied(alloc: Global) -> Result<bool, Error> {
-    let builder = target_builder(alloc)?;
-    let copy = builder.clone()?;
-    Ok(copy.build() == builder.build())
+    is_builder_copied(target_builder(alloc), TargetBuilder::build)
 }

@@ -75,12 +75,12 @@ fn is_transaction_error_named(alloc: Global) -> Result<bool, Error> {
 }
 
 fn is_error_made(alloc: Global) -> Result<bool, Error> {
-    let condition = ErrorCondition::AmqpError(AmqpError::NotFound);
     let info = from_slice(INFO, alloc)?;
-    let error = ErrorOfAnEnd::new(condition, None, Some(info), alloc)?;
-    is_text(&error, ERROR, alloc)
+    let condition = ErrorCondition::AmqpError(AmqpError::NotFound);
+    let error = ErrorOfAnEnd::new(condition, None, Some(info), alloc);
+    is_text(error, ERROR, alloc)
 }
 
 fn are_mechanisms_made(alloc: Global) -> Result<bool, Error> {
-    is_text(&SaslMechanisms::default_in(alloc)?, MECHANISMS, alloc)
+    is_text(SaslMechanisms::default_in(alloc), MECHANISMS, alloc)
 }

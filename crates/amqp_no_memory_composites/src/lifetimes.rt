@@ -26,31 +26,31 @@ pub(crate) fn check_all(rt: &HostRuntime) -> Result<bool, anyhow::Error> {
 }
 
 fn is_close(alloc: Global) -> Result<bool, Error> {
-    let value = DeleteOnClose::new().into_value(alloc)?;
-    is_text(&value, b"\x00\x53\x2b\x45", alloc)
+    let value = DeleteOnClose::new().into_value(alloc);
+    is_text(value, b"\x00\x53\x2b\x45", alloc)
 }
 
 fn is_no_links(alloc: Global) -> Result<bool, Error> {
-    let value = DeleteOnNoLinks::new().into_value(alloc)?;
-    is_text(&value, b"\x00\x53\x2c\x45", alloc)
+    let value = DeleteOnNoLinks::new().into_value(alloc);
+    is_text(value, b"\x00\x53\x2c\x45", alloc)
 }
 
 fn is_no_messages(alloc: Global) -> Result<bool, Error> {
-    let value = DeleteOnNoMessages::new().into_value(alloc)?;
-    is_text(&value, b"\x00\x53\x2d\x45", alloc)
+    let value = DeleteOnNoMessages::new().into_value(alloc);
+    is_text(value, b"\x00\x53\x2d\x45", alloc)
 }
 
 fn is_no_links_or_messages(alloc: Global) -> Result<bool, Error> {
-    let value = DeleteOnNoLinksOrMessages::new().into_value(alloc)?;
-    is_text(&value, b"\x00\x53\x2e\x45", alloc)
+    let value = DeleteOnNoLinksOrMessages::new().into_value(alloc);
+    is_text(value, b"\x00\x53\x2e\x45", alloc)
 }
 
 fn is_policy(alloc: Global) -> Result<bool, Error> {
     let policy = LifetimePolicy::from(DeleteOnClose::new());
-    is_text(&policy.into_value(alloc)?, b"\x00\x53\x2b\x45", alloc)
+    is_text(policy.into_value(alloc), b"\x00\x53\x2b\x45", alloc)
 }
 
 fn is_property(alloc: Global) -> Result<bool, Error> {
     let policy = LifetimePolicy::from(DeleteOnClose::new());
-    is_text(&policy.into_fields(alloc)?, PROPERTY, alloc)
+    is_text(policy.into_fields(alloc), PROPERTY, alloc)
 }

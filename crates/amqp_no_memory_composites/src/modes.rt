@@ -43,18 +43,20 @@ pub(crate) fn check_all(rt: &HostRuntime) -> Result<bool, anyhow::Error> {
 }
 
 fn is_new(alloc: Global) -> Result<bool, Error> {
-    is_text(&Modes::begun(alloc)?, MODE, alloc)
+    is_text(Modes::begun(alloc), MODE, alloc)
 }
 
 fn is_made_of_a_mode(alloc: Global) -> Result<bool, Error> {
-    let modes = SupportedDistModes::from_mode(DistributionMode::Move, alloc)?;
-    is_text(&modes, MODE, alloc)
+    let modes = SupportedDistModes::from_mode(DistributionMode::Move, alloc);
+    is_text(modes, MODE, alloc)
 }
 
 fn is_value(alloc: Global) -> Result<bool, Error> {
-    is_text(&Modes::begun(alloc)?.into_value(alloc)?, MODE, alloc)
+    let modes = Modes::begun(alloc)?;
+    is_text(modes.into_value(alloc), MODE, alloc)
 }
 
 fn is_property(alloc: Global) -> Result<bool, Error> {
-    is_text(&Modes::begun(alloc)?.into_fields(alloc)?, PROPERTY, alloc)
+    let modes = Modes::begun(alloc)?;
+    is_text(modes.into_fields(alloc), PROPERTY, alloc)
 }

@@ -40,17 +40,21 @@ pub(crate) fn check_all(rt: &HostRuntime) -> Result<bool, anyhow::Error> {
     Ok(well)
 }
 
+fn numbers(alloc: Global) -> Result<Vec<i32>, Error> {
+    Ok(Vec::from_slice(alloc, &[1, 2])?)
+}
+
 fn is_made_of_items(alloc: Global) -> Result<bool, Error> {
-    let body: Body<i32> = Body::from_items(Vec::from_slice(alloc, &[1, 2])?, alloc)?;
-    is_text(&body, SEQUENCE, alloc)
+    let items = numbers(alloc)?;
+    is_text(Body::from_items(items, alloc), SEQUENCE, alloc)
 }
 
 fn is_made_of_a_sequence(alloc: Global) -> Result<bool, Error> {
-    let sequence: AmqpSequence<i32> = AmqpSequence(Vec::from_slice(alloc, &[1, 2])?);
-    is_text(&Body::from_sequence(sequence, alloc)?, SEQUENCE, alloc)
+    let sequence = AmqpSequence(numbers(alloc)?);
+    is_text(Body::from_sequence(sequence, alloc), SEQUENCE, alloc)
 }
 
 fn is_made_of_data(alloc: Global) -> Result<bool, Error> {
-    let body = Body::from_data(Data::copy_of(b"a", alloc)?, alloc)?;
-    is_text(&body, DATA, alloc)
+    let data = Data::copy_of(b"a", alloc)?;
+    is_text(Body::from_data(data, alloc), DATA, alloc)
 }

@@ -8,7 +8,7 @@ use amqp_message_headers::MessageId;
 use amqp_message_headers::properties::{Builder as PropertiesBuilder, Properties};
 use amqp_messages::Message;
 use amqp_messages::builder::Builder;
-use amqp_no_memory_calls::{check, check_copy};
+use amqp_no_memory_calls::{check, check_copy, is_builder_copied};
 use amqp_sections::{AmqpSequence, AmqpValue, Data};
 use amqp_values::Value;
 use std::alloc::Global;
@@ -80,22 +80,20 @@ fn check_bodies(rt: &HostRuntime) -> Result<bool, anyhow::Error> {
 
 // A builder of properties that have an address.
 fn properties_builder(alloc: Global) -> Result<PropertiesBuilder, Error> {
-    Ok(Properties::builder().to(String::from_str(alloc, "a")?))
+    let address = String::from_str(alloc, "a")?;
+    Ok(Properties::builder().to(address))
 }
 
 fn are_properties_copied(alloc: Global) -> Result<bool, Error> {
-    let builder = properties_builder(alloc)?;
-    let copy = builder.clone()?;
-    Ok(copy.build() == builder.build())
+    is_builder_copied(properties_builder(alloc), PropertiesBuilder::build)
 }
 
 // A builder of a message that has a body.
 fn message_builder(alloc: Global) -> Result<Builder<Data>, Error> {
-    Ok(Builder::new().data(Data::copy_of(b"a", alloc)?))
+    let data = Data::copy_of(b"a", alloc)?;
+    Ok(Builder::new().data(data))
 }
 
 fn is_message_copied(alloc: Global) -> Result<bool, Error> {
-    let builder = message_builder(alloc)?;
-    let copy = builder.clone()?;
-    Ok(copy.build() == builder.build())
+    is_builder_copied(message_builder(alloc), Builder::build)
 }

@@ -1,7 +1,7 @@
 //! Keys and sections that calls make (Part 3, section 3.2).
 use amqp_annotations::OwnedKey;
 use amqp_codec::Error;
-use amqp_map_sections::{ApplicationProperties, DeliveryAnnotations};
+use amqp_map_sections::{ApplicationProperties, DeliveryAnnotations, MapBuilder};
 use amqp_no_memory_calls::{check, is_text};
 use amqp_primitives::SymbolRef;
 use amqp_sections::Data;
@@ -29,27 +29,27 @@ pub(crate) fn check_all(rt: &HostRuntime) -> Result<bool, anyhow::Error> {
 }
 
 fn is_key_of_a_text(alloc: Global) -> Result<bool, Error> {
-    is_text(&OwnedKey::from_str_in("key", alloc)?, KEY, alloc)
+    is_text(OwnedKey::from_str_in("key", alloc), KEY, alloc)
 }
 
 fn is_key_of_a_symbol(alloc: Global) -> Result<bool, Error> {
-    let key = OwnedKey::from_symbol_ref(SymbolRef("key"), alloc)?;
-    is_text(&key, KEY, alloc)
+    let key = OwnedKey::from_symbol_ref(SymbolRef("key"), alloc);
+    is_text(key, KEY, alloc)
 }
 
 fn are_bytes_copied(alloc: Global) -> Result<bool, Error> {
-    let section = Data::copy_of(b"abc", alloc)?;
-    is_text(&section, b"\x00\x53\x75\xa0\x03abc", alloc)
+    let section = Data::copy_of(b"abc", alloc);
+    is_text(section, b"\x00\x53\x75\xa0\x03abc", alloc)
 }
 
 fn are_annotations_built(alloc: Global) -> Result<bool, Error> {
     let key = OwnedKey::from_str_in("key", alloc)?;
-    let builder = DeliveryAnnotations::builder(alloc).insert(key, Value::Uint(1))?;
-    is_text(&builder.build(), ANNOTATIONS, alloc)
+    let builder = DeliveryAnnotations::builder(alloc).insert(key, Value::Uint(1));
+    is_text(builder.map(MapBuilder::build), ANNOTATIONS, alloc)
 }
 
 fn are_properties_built(alloc: Global) -> Result<bool, Error> {
     let key = String::from_str(alloc, "sn")?;
-    let builder = ApplicationProperties::builder(alloc).insert(key, SimpleValue::Int(1))?;
-    is_text(&builder.build(), PROPERTIES, alloc)
+    let builder = ApplicationProperties::builder(alloc).insert(key, SimpleValue::Int(1));
+    is_text(builder.map(MapBuilder::build), PROPERTIES, alloc)
 }

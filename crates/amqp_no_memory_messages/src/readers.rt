@@ -35,21 +35,25 @@ pub(crate) fn check_all(rt: &HostRuntime) -> Result<bool, anyhow::Error> {
 
 fn is_decoded(alloc: Global) -> Result<bool, Error> {
     let mut reader = MESSAGE;
-    let message = Batch::<Data>::decode_message_from_reader(&mut reader, alloc)?;
-    is_text(&message, MESSAGE, alloc)
+    let message = Batch::<Data>::decode_message_from_reader(&mut reader, alloc);
+    is_text(message, MESSAGE, alloc)
 }
 
 fn is_decoded_strictly(alloc: Global) -> Result<bool, Error> {
     let mut reader = MESSAGE;
-    let message: Message<Batch<Data>> = decode_message_strict(&mut reader, alloc)?;
-    is_text(&message, MESSAGE, alloc)
+    let message: Result<Message<Batch<Data>>, Error> = decode_message_strict(&mut reader, alloc);
+    is_text(message, MESSAGE, alloc)
 }
 
 fn is_decoded_strictly_within(alloc: Global) -> Result<bool, Error> {
     let mut reader = MESSAGE;
     let limits = Limits::greatest();
-    let message: Message<Batch<Data>> = decode_message_strict_within(&mut reader, &limits, alloc)?;
-    is_text(&message, MESSAGE, alloc)
+    let message: Result<Message<Batch<Data>>, Error> = decode_message_strict_within(
+        &mut reader,
+        &limits,
+        alloc,
+    );
+    is_text(message, MESSAGE, alloc)
 }
 
 fn is_rewritten_strictly(alloc: Global) -> Result<bool, Error> {

@@ -1,7 +1,7 @@
 //! Values that are made of bodies and of messages, also of such whose items may be absent.
 use amqp_batches::Batch;
 use amqp_bodies::{Body, FromBody, FromEmptyBody, TransposeOption};
-use amqp_codec::Error;
+use amqp_codec::{Error, Serialize};
 use amqp_lazy::LazyValue;
 use amqp_messages::FromMessage;
 use amqp_messages::builder::Builder;
@@ -28,17 +28,20 @@ pub(crate) fn check_all(rt: &HostRuntime) -> Result<bool, anyhow::Error> {
 }
 
 // Whether the sequence is there.
-fn is_sequence(made: &Option<AmqpSequence<i32>>, alloc: Global) -> Result<bool, Error> {
-    match made {
-        Some(sequence) => is_text(sequence, SEQUENCE, alloc),
+fn is_sequence<T: Serialize + Drop>(
+    made: Result<Option<T>, Error>,
+    alloc: Global,
+) -> Result<bool, Error> {
+    match made? {
+        Some(sequence) => is_text(Ok(sequence), SEQUENCE, alloc),
         None => Ok(false),
     }
 }
 
 fn is_made_of_a_body(alloc: Global) -> Result<bool, Error> {
     let absent: Absent = from_slice(SEQUENCE, alloc)?;
-    let made = <Option<AmqpSequence<i32>> as FromBody>::from_body(absent, alloc)?;
-    is_sequence(&made, alloc)
+    let made = <Option<AmqpSequence<i32>> as FromBody>::from_body(absent, alloc);
+    is_sequence(made, alloc)
 }
 
 fn is_made_of_nothing(alloc: Global) -> Result<bool, Error> {
@@ -49,27 +52,24 @@ fn is_made_of_nothing(alloc: Global) -> Result<bool, Error> {
 fn is_made_of_a_message(alloc: Global) -> Result<bool, Error> {
     let absent: Absent = from_slice(SEQUENCE, alloc)?;
     let message = Builder::new().body(absent).build();
-    let made = <Option<AmqpSequence<i32>> as FromMessage<Absent>>::from_message(message, alloc)?;
-    is_sequence(&made, alloc)
+    let made = <Option<AmqpSequence<i32>> as FromMessage<Absent>>::from_message(message, alloc);
+    is_sequence(made, alloc)
 }
 
 fn is_sequence_transposed(alloc: Global) -> Result<bool, Error> {
     let absent: Absent = from_slice(SEQUENCE, alloc)?;
-    is_sequence(&AmqpSequence::<i32>::transpose(absent, alloc)?, alloc)
+    is_sequence(AmqpSequence::<i32>::transpose(absent, alloc), alloc)
 }
 
 fn is_batch_transposed(alloc: Global) -> Result<bool, Error> {
-    let absent: Batch<AmqpSequence<Option<i32>>> = from_slice(SEQUENCE, alloc)?;
-    match Batch::<AmqpSequence<i32>>::transpose(Some(absent), alloc)? {
-        Some(batch) => is_text(&batch, SEQUENCE, alloc),
-        None => Ok(false),
-    }
+    let absent = from_slice(SEQUENCE, alloc)?;
+    is_sequence(
+        Batch::<AmqpSequence<i32>>::transpose(Some(absent), alloc),
+        alloc,
+    )
 }
 
 fn is_body_transposed(alloc: Global) -> Result<bool, Error> {
-    let absent: Body<Option<i32>> = from_slice(SEQUENCE, alloc)?;
-    match Body::<i32>::transpose(absent, alloc)? {
-        Some(body) => is_text(&body, SEQUENCE, alloc),
-        None => Ok(false),
-    }
+    let absent = from_slice(SEQUENCE, alloc)?;
+    is_sequence(Body::<i32>::transpose(absent, alloc), alloc)
 }

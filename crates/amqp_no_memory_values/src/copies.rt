@@ -8,6 +8,7 @@ use amqp_no_memory_calls::{check, check_copy};
 use amqp_primitives::Binary;
 use amqp_read_write::from_slice;
 use amqp_simple_values::SimpleValue;
+use amqp_test_helpers::{are_equal, is_copied};
 use amqp_values::{Value, ValueMap};
 use std::alloc::Global;
 
@@ -37,14 +38,17 @@ fn check_values(rt: &HostRuntime) -> Result<bool, anyhow::Error> {
     Ok(well)
 }
 
+// A descriptor that is a name.
+fn descriptor(alloc: Global) -> Result<Descriptor, Error> {
+    let name = String::from_str(alloc, "a")?;
+    Ok(Descriptor::Name(Symbol::from(name)))
+}
+
 fn is_descriptor_copied(alloc: Global) -> Result<bool, Error> {
-    let descriptor = Descriptor::Name(Symbol::from(String::from_str(alloc, "a")?));
-    let copy = descriptor.clone()?;
-    Ok(copy == descriptor)
+    is_copied(descriptor(alloc))
 }
 
 fn is_described_copied(alloc: Global) -> Result<bool, Error> {
     let described: Described<u32> = from_slice(b"\x00\xa3\x01a\x52\x07", alloc)?;
-    let copy = described.clone()?;
-    Ok(copy == described)
+    are_equal(described.clone(), Ok(described))
 }

@@ -34,7 +34,7 @@ fn is_capability_named(alloc: Global) -> Result<bool, Error> {
 }
 
 fn is_text_held(alloc: Global) -> Result<bool, Error> {
-    is_text(&SimpleValue::from_str_in("a", alloc)?, b"\xa1\x01a", alloc)
+    is_text(SimpleValue::from_str_in("a", alloc), b"\xa1\x01a", alloc)
 }
 
 fn is_value_made(alloc: Global) -> Result<bool, Error> {
@@ -42,5 +42,5 @@ fn is_value_made(alloc: Global) -> Result<bool, Error> {
         descriptor: Descriptor::Code(5),
         value: Value::Bool(true),
     };
-    is_text(&described.into_value(alloc)?, b"\x00\x53\x05\x41", alloc)
+    is_text(described.into_value(alloc), b"\x00\x53\x05\x41", alloc)
 }

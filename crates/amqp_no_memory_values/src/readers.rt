@@ -1,5 +1,5 @@
 //! A value that is read in each way.
-use amqp_codec::Error;
+use amqp_codec::{Error, Serialize};
 use amqp_no_memory_calls::{check, is_text};
 use amqp_read_write::{
     Limits, from_reader, from_reader_within, from_slice_counted, from_slice_within,
@@ -19,25 +19,32 @@ pub(crate) fn check_all(rt: &HostRuntime) -> Result<bool, anyhow::Error> {
     Ok(well)
 }
 
+// Whether the map was read, and all of its bytes.
+fn is_whole<T: Serialize + Drop>(
+    read: Result<(T, usize), Error>,
+    alloc: Global,
+) -> Result<bool, Error> {
+    let (value, len) = read?;
+    let is_map = is_text(Ok(value), MAP, alloc)?;
+    Ok(is_map && len == MAP.len())
+}
+
 fn is_counted(alloc: Global) -> Result<bool, Error> {
-    let (value, len): (Value, usize) = from_slice_counted(MAP, alloc)?;
-    Ok(len == MAP.len() && is_text(&value, MAP, alloc)?)
+    is_whole::<Value>(from_slice_counted(MAP, alloc), alloc)
 }
 
 fn is_read_within(alloc: Global) -> Result<bool, Error> {
-    let limits = Limits::greatest();
-    let (value, len): (Value, usize) = from_slice_within(MAP, &limits, alloc)?;
-    Ok(len == MAP.len() && is_text(&value, MAP, alloc)?)
+    is_whole::<Value>(from_slice_within(MAP, &Limits::greatest(), alloc), alloc)
 }
 
 fn is_read_from_reader(alloc: Global) -> Result<bool, Error> {
     let mut reader = MAP;
-    let value: Value = from_reader(&mut reader, alloc)?;
-    Ok(reader.is_empty() && is_text(&value, MAP, alloc)?)
+    let value: Result<Value, Error> = from_reader(&mut reader, alloc);
+    Ok(is_text(value, MAP, alloc)? && reader.is_empty())
 }
 
 fn is_read_from_reader_within(alloc: Global) -> Result<bool, Error> {
     let mut reader = MAP;
-    let value: Value = from_reader_within(&mut reader, &Limits::greatest(), alloc)?;
-    Ok(reader.is_empty() && is_text(&value, MAP, alloc)?)
+    let value: Result<Value, Error> = from_reader_within(&mut reader, &Limits::greatest(), alloc);
+    Ok(is_text(value, MAP, alloc)? && reader.is_empty())
 }

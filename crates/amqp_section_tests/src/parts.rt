@@ -1,7 +1,8 @@
-//! The tests of what is read and refused.
+//! What is rewritten and printed.
 use amqp_codec::{DeserializeTerm, Error};
-use amqp_read_write::{canonical_text, from_slice};
+use amqp_read_write::canonical_text;
 use std::alloc::Global;
+use std::fmt::Display;
 use std::test::Fail;
 
 /// The bytes with these digits are a value of the type, whose canonical text has the other digits.
@@ -22,23 +23,13 @@ pub(crate) fn rewritten<T: DeserializeTerm>(
     Ok(())
 }
 
-/// The bytes with these digits are refused with this error.
-pub(crate) fn refused<T: DeserializeTerm>(
-    digits: &str,
-    error: Error,
+/// Whether the value is printed as this text.
+pub(crate) fn is_printed<T: Display + Drop>(
+    made: Result<T, Error>,
+    text: &str,
     alloc: Global,
-) -> Result<(), Fail> {
-    let input = hex::decode(alloc, digits)?;
-    let answer: Result<T, Error> = from_slice(input.as_slice(), alloc);
-    match answer {
-        Ok(_) => Err(Fail::new(format_args!("{digits} is read"))),
-        Err(other) if other == error => Ok(()),
-        Err(other) => Err(Fail::new(format_args!("{digits} is refused by {other:?}"))),
-    }
-}
-
-/// What such digits are read as.
-pub(crate) fn read<T: DeserializeTerm>(digits: &str, alloc: Global) -> Result<T, Fail> {
-    let input = hex::decode(alloc, digits)?;
-    Ok(from_slice(input.as_slice(), alloc)?)
+) -> Result<bool, Error> {
+    let value = made?;
+    let printed = value.to_string(alloc)?;
+    Ok(printed.as_str() == text)
 }

@@ -1,5 +1,6 @@
 //! The texts of error conditions, both ways (Part 2, sections 2.8.14 to 2.8.18; Part 4, section 4.5.8).
 use amqp_enums::restricted::{RestrictedText, from_symbol, symbol_of};
+use amqp_test_helpers::{are_equal, check_made, is_refused};
 use fe2o3_amqp_types::codec::{Error, Symbol, from_slice, to_vec};
 use fe2o3_amqp_types::definitions::{
     AmqpError, ConnectionError, ErrorCondition, LinkError, SessionError,
@@ -51,36 +52,62 @@ const TRANSACTION: &[&str] = &[
     "amqp:transaction:timeout",
 ];
 
+// What the bytes of the symbol are read as.
+fn condition_of(symbol: &Symbol, alloc: Global) -> Result<ErrorCondition, Error> {
+    let bytes = to_vec(symbol, alloc)?;
+    from_slice(bytes.as_slice(), alloc)
+}
+
+// Whether the value is taken out of its symbol again.
+fn is_taken_back<T: RestrictedText + PartialEq>(value: T, alloc: Global) -> Result<bool, Error> {
+    let symbol = symbol_of(&value, alloc)?;
+    match from_symbol::<T>(symbol) {
+        Ok(taken) => Ok(taken == value),
+        Err(_) => Ok(false),
+    }
+}
+
+// Whether the value's symbol is this text, and is read as its condition.
+fn is_read<T: RestrictedText + Into<ErrorCondition>>(
+    value: T,
+    text: &str,
+    alloc: Global,
+) -> Result<bool, Error> {
+    let symbol = symbol_of(&value, alloc)?;
+    let is_condition = are_equal(condition_of(&symbol, alloc), Ok(value.into()))?;
+    Ok(is_condition && symbol.as_str() == text)
+}
+
+// Whether the text is that of a value, both ways, and is read as its condition.
+fn is_listed<T: RestrictedText + PartialEq + Into<ErrorCondition>>(
+    text: &str,
+    alloc: Global,
+) -> bool {
+    T::from_text(text).map(|value| is_taken_back(value, alloc)) == Some(Ok(true))
+        && T::from_text(text).map(|value| is_read(value, text, alloc)) == Some(Ok(true))
+}
+
 // The first text that isn't that of a value, both ways, or that is read as another condition.
 fn first_wrong<T: RestrictedText + PartialEq + Into<ErrorCondition>>(
     texts: &[&'static str],
     alloc: Global,
-) -> Result<Option<&'static str>, Fail> {
+) -> Option<&'static str> {
     for text in texts {
-        let Some(value) = T::from_text(*text) else {
-            return Ok(Some(*text));
-        };
-        let symbol = symbol_of(&value, alloc)?;
-        let spelled = to_vec(&symbol, alloc)?;
-        let read: ErrorCondition = from_slice(spelled.as_slice(), alloc)?;
-        let same = symbol.as_str() == *text && from_symbol(symbol) == Ok(value);
-        let again = T::from_text(*text).is_some_and(|value| read == value.into());
-        if !(same && again) {
-            return Ok(Some(*text));
+        if !is_listed::<T>(*text, alloc) {
+            return Some(*text);
         }
     }
-    Ok(None)
+    None
 }
 
 #[test]
-fn listed_texts(rt: HostRuntime) -> Result<(), Fail> {
+fn listed_texts(rt: HostRuntime) {
     let alloc = rt.alloc();
-    assert_eq!(rt; first_wrong::<AmqpError>(AMQP, alloc)?, None);
-    assert_eq!(rt; first_wrong::<ConnectionError>(CONNECTION, alloc)?, None);
-    assert_eq!(rt; first_wrong::<SessionError>(SESSION, alloc)?, None);
-    assert_eq!(rt; first_wrong::<LinkError>(LINK, alloc)?, None);
-    assert_eq!(rt; first_wrong::<TransactionError>(TRANSACTION, alloc)?, None);
-    Ok(())
+    assert_eq!(rt; first_wrong::<AmqpError>(AMQP, alloc), None);
+    assert_eq!(rt; first_wrong::<ConnectionError>(CONNECTION, alloc), None);
+    assert_eq!(rt; first_wrong::<SessionError>(SESSION, alloc), None);
+    assert_eq!(rt; first_wrong::<LinkError>(LINK, alloc), None);
+    assert_eq!(rt; first_wrong::<TransactionError>(TRANSACTION, alloc), None);
 }
 
 #[test]
@@ -101,29 +128,36 @@ fn places_in_their_enums(rt: HostRuntime) {
     );
 }
 
+// A condition that the standard doesn't list.
+fn foo(alloc: Global) -> Result<ErrorCondition, Error> {
+    let text = String::from_str(alloc, "foo")?;
+    Ok(ErrorCondition::Custom(Symbol(text)))
+}
+
 #[test]
 fn texts_of_their_own(rt: HostRuntime) -> Result<(), Fail> {
     let alloc = rt.alloc();
-    let foo = [0xa3, 0x03, 0x66, 0x6f, 0x6f];
-    let read: ErrorCondition = from_slice(&foo, alloc)?;
-    let symbol = Symbol(String::from_str(alloc, "foo")?);
-    assert_eq!(rt; read, ErrorCondition::Custom(symbol));
-    assert_eq!(rt; to_vec(&read, alloc)?.as_slice(), foo.as_slice());
-    let refused: Result<AmqpError, Error> = from_slice(&foo, alloc);
-    assert_eq!(rt; refused.err(), Some(Error::UnknownText));
+    let bytes = [0xa3, 0x03, 0x66, 0x6f, 0x6f];
+    assert!(rt; are_equal(from_slice(&bytes, alloc), foo(alloc))?);
+    check_made::<ErrorCondition>(from_slice(&bytes, alloc), "a303666f6f", alloc)?;
+    assert!(rt; is_refused::<AmqpError>(from_slice(&bytes, alloc), Error::UnknownText));
     Ok(())
+}
+
+// Whether the symbol is given back.
+fn is_given_back<T: Drop>(taken: Result<T, Symbol>, text: &str) -> bool {
+    match taken {
+        Ok(_) => false,
+        Err(symbol) => symbol.as_str() == text,
+    }
 }
 
 #[test]
 fn other_texts_are_given_back(rt: HostRuntime) -> Result<(), Fail> {
-    let alloc = rt.alloc();
+    let text = "amqp:link:stolen";
     assert_eq!(rt; AmqpError::try_from("foo").err(), Some("foo"));
     assert_eq!(rt; LinkError::try_from("amqp:link:").err(), Some("amqp:link:"));
-    let symbol = Symbol(String::from_str(alloc, "amqp:link:stolen")?);
-    let given = SessionError::try_from(symbol).err();
-    assert_eq!(rt;
-        given.is_some_and(|symbol| symbol.as_str() == "amqp:link:stolen"),
-        true
-    );
+    let symbol = Symbol(String::from_str(rt.alloc(), text)?);
+    assert!(rt; is_given_back(SessionError::try_from(symbol), text));
     Ok(())
 }

@@ -1,28 +1,24 @@
 //! Delivery states: values that are written and read, and the codes that errors hold.
-use fe2o3_amqp_types::codec::{Deserialize, Error, Serialize, from_slice, to_vec};
+use amqp_test_helpers::{check_written, is_made, is_refused};
+use fe2o3_amqp_types::codec::{Deserialize, Error, Serialize, from_slice};
 use fe2o3_amqp_types::messaging::{Accepted, DeliveryState, Received, Released};
 use std::alloc::Global;
 use std::test::Fail;
 
-fn refusal<T: Deserialize>(digits: &str, alloc: Global) -> Result<Option<Error>, Fail> {
-    let input = hex::decode(alloc, digits)?;
-    let read: Result<T, Error> = from_slice(input.as_slice(), alloc);
-    Ok(read.err())
-}
+const RECEIVED: Received = Received {
+    section_number: 9,
+    section_offset: 13,
+};
 
 // The value is written so, and that is read as the value.
-fn check_both_ways<T: Serialize + Deserialize + PartialEq>(
-    value: &T,
+fn check_both_ways<T: Serialize + Deserialize + PartialEq + Drop>(
+    value: T,
     digits: &str,
     alloc: Global,
 ) -> Result<(), Fail> {
-    let wanted = hex::decode(alloc, digits)?;
-    let text = to_vec(value, alloc)?;
-    if text != wanted {
-        return Err(Fail::new(format_args!("{digits} isn't written")));
-    }
-    let read: T = from_slice(text.as_slice(), alloc)?;
-    if read != *value {
+    check_written(&value, digits, alloc)?;
+    let bytes = hex::decode(alloc, digits)?;
+    if !is_made(from_slice(bytes.as_slice(), alloc), value)? {
         return Err(Fail::new(format_args!("{digits} is read otherwise")));
     }
     Ok(())
@@ -30,31 +26,28 @@ fn check_both_ways<T: Serialize + Deserialize + PartialEq>(
 
 #[test]
 fn accepted_both_ways(rt: HostRuntime) -> Result<(), Fail> {
-    check_both_ways(&Accepted {}, "00532445", rt.alloc())
+    check_both_ways(Accepted {}, "00532445", rt.alloc())
 }
 
 #[test]
 fn received_both_ways(rt: HostRuntime) -> Result<(), Fail> {
-    let received = Received {
-        section_number: 9,
-        section_offset: 13,
-    };
-    check_both_ways(&received, "005323c005025209530d", rt.alloc())?;
-    let state = DeliveryState::from(received);
-    check_both_ways(&state, "005323c005025209530d", rt.alloc())
+    check_both_ways(RECEIVED, "005323c005025209530d", rt.alloc())?;
+    let state = DeliveryState::from(RECEIVED);
+    check_both_ways(state, "005323c005025209530d", rt.alloc())
 }
 
 #[test]
 fn released_both_ways(rt: HostRuntime) -> Result<(), Fail> {
-    check_both_ways(&Released {}, "00532645", rt.alloc())?;
+    check_both_ways(Released {}, "00532645", rt.alloc())?;
     let state = DeliveryState::from(Released {});
-    check_both_ways(&state, "00532645", rt.alloc())
+    check_both_ways(state, "00532645", rt.alloc())
 }
 
 // Each text is refused so.
 fn check_refusals<T: Deserialize>(rows: &[(&str, Error)], alloc: Global) -> Result<(), Fail> {
     for (digits, error) in rows {
-        if refusal::<T>(*digits, alloc)? != Some(*error) {
+        let bytes = hex::decode(alloc, digits)?;
+        if !is_refused::<T>(from_slice(bytes.as_slice(), alloc), *error) {
             return Err(Fail::new(format_args!("{digits} is refused otherwise")));
         }
     }

@@ -1,6 +1,7 @@
 //! Values from readers: over a slice, over a reader that gives one byte a call, and over one that fails at its k-th call
 //! for every k.
-use amqp_reading_tests::Dripping;
+use amqp_decoder_tests::Dripping;
+use amqp_test_helpers::{is_made, is_refused};
 use fe2o3_amqp_types::codec::{ByteSource, Deserialize, Error, ReadSource, from_reader};
 use fe2o3_amqp_types::messaging::{Accepted, DeliveryState, Received};
 use fe2o3_amqp_types::performatives::Open;
@@ -9,82 +10,80 @@ use fe2o3_amqp_types::sasl::SaslMechanisms;
 use std::alloc::Global;
 use std::test::Fail;
 
-// Reads a value of T from a reader that fails after so many calls, and answers the number of the error, if there is
-// one, and what the reader has left.
-fn left_behind<T: Deserialize>(
-    digits: &str,
-    calls: usize,
-    alloc: Global,
-) -> Result<(Option<u8>, String), Fail> {
-    let bytes = hex::decode(alloc, digits)?;
-    let mut reader = Dripping::new(bytes.as_slice(), calls);
-    let read: Result<T, Error> = from_reader(&mut reader, alloc);
-    let number = match read {
+// Reads a value of T from the reader, and returns the number of the error, if there is one.
+fn error_of<T: Deserialize>(reader: &mut Dripping<'_>, alloc: Global) -> Option<u8> {
+    let read: Result<T, Error> = from_reader(reader, alloc);
+    match read {
         Ok(_) => None,
         Err(error) => Some(error.number()),
-    };
-    Ok((number, hex::encode(alloc, reader.bytes)?))
+    }
 }
 
 // Whether the next value of the reader is this one.
-fn is_next<T: Deserialize + PartialEq>(
-    value: &T,
+fn is_next<T: Deserialize + PartialEq + Drop>(
+    value: T,
     reader: &mut &[u8],
     alloc: Global,
 ) -> Result<bool, Error> {
-    let read: T = from_reader(reader, alloc)?;
-    Ok(read == *value)
+    is_made(from_reader(reader, alloc), value)
 }
+
+// An accepted state, and a byte behind it.
+const ACCEPTED: &[u8] = &[0x00, 0x53, 0x24, 0x45, 0xff];
 
 #[test]
 fn the_next_byte_is_left(rt: HostRuntime) -> Result<(), Fail> {
-    let bytes = hex::decode(rt.alloc(), "00532445ff")?;
-    let mut reader = bytes.as_slice();
-    assert!(rt; is_next(&Accepted {}, &mut reader, rt.alloc())?);
+    let mut reader = ACCEPTED;
+    assert!(rt; is_next(Accepted {}, &mut reader, rt.alloc())?);
     assert_eq!(rt; reader, [0xff].as_slice());
     Ok(())
+}
+
+// Whether a received and an accepted state are all that the reader gives.
+fn are_two_states(reader: &mut &[u8], alloc: Global) -> Result<bool, Error> {
+    let received = Received {
+        section_number: 9,
+        section_offset: 13,
+    };
+    Ok(
+        is_next(DeliveryState::from(received), reader, alloc)?
+            && is_next(DeliveryState::from(Accepted {}), reader, alloc)?
+            && reader.is_empty(),
+    )
 }
 
 #[test]
 fn values_in_a_row(rt: HostRuntime) -> Result<(), Fail> {
     let bytes = hex::decode(rt.alloc(), "005323c005025209530d00532445")?;
     let mut reader = bytes.as_slice();
-    let first = DeliveryState::from(Received {
-        section_number: 9,
-        section_offset: 13,
-    });
-    assert!(rt; is_next(&first, &mut reader, rt.alloc())?);
-    let second = DeliveryState::from(Accepted {});
-    assert!(rt; is_next(&second, &mut reader, rt.alloc())?);
-    assert!(rt; reader.is_empty());
+    assert!(rt; are_two_states(&mut reader, rt.alloc())?);
     Ok(())
 }
 
 #[test]
 fn any_reader_is_a_source(rt: HostRuntime) -> Result<(), Fail> {
-    let bytes = hex::decode(rt.alloc(), "00532445ff")?;
-    let mut source = ReadSource::new(bytes.as_slice());
-    let read: Accepted = from_reader(&mut source, rt.alloc())?;
-    assert_eq!(rt; read, Accepted {});
+    let mut source = ReadSource::new(ACCEPTED);
+    assert!(rt; is_made(from_reader(&mut source, rt.alloc()), Accepted {})?);
     assert_eq!(rt; source.reader, [0xff].as_slice());
     assert!(rt; !source.failed());
     let refused: Result<Accepted, Error> = from_reader(&mut source, rt.alloc());
-    assert_eq!(rt; refused, Err(Error::UnknownCode(0xff)));
+    assert!(rt; is_refused(refused, Error::UnknownCode(0xff)));
     Ok(())
 }
 
 // Over this input each call fails in turn, and after them the byte behind it is left.
 fn check_failures<T: Deserialize>(digits: &str, alloc: Global) -> Result<(), Fail> {
-    let input = format!(in alloc; "{digits}ff")?;
-    let calls = digits.len() / 2;
+    let mut input = hex::decode(alloc, digits)?;
+    let calls = input.len();
+    input.push(0xff)?;
     for call in 0..calls {
-        let (number, _) = left_behind::<T>(input.as_str(), call, alloc)?;
-        if number != Some(22) {
+        let mut reader = Dripping::new(input.as_slice(), call);
+        if error_of::<T>(&mut reader, alloc) != Some(22) {
             return Err(Fail::new(format_args!("{digits} at {call}")));
         }
     }
-    let (number, left) = left_behind::<T>(input.as_str(), calls, alloc)?;
-    if number.is_some() || left.as_str() != "ff" {
+    let mut reader = Dripping::new(input.as_slice(), calls);
+    if error_of::<T>(&mut reader, alloc).is_some() || reader.bytes != [0xff].as_slice() {
         return Err(Fail::new(format_args!("{digits} is read otherwise")));
     }
     Ok(())
@@ -117,8 +116,9 @@ fn each_call_fails_in_turn_in_any_value(rt: HostRuntime) -> Result<(), Fail> {
 // Each input is refused by the error of this number.
 fn check_refusals(rows: &[(&str, u8)], alloc: Global) -> Result<(), Fail> {
     for (digits, number) in rows {
-        let (refused, _) = left_behind::<Accepted>(*digits, 100, alloc)?;
-        if refused != Some(*number) {
+        let input = hex::decode(alloc, digits)?;
+        let mut reader = Dripping::new(input.as_slice(), 100);
+        if error_of::<Accepted>(&mut reader, alloc) != Some(*number) {
             return Err(Fail::new(format_args!("{digits} is refused otherwise")));
         }
     }

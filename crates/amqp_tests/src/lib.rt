@@ -1,5 +1,4 @@
-//! Tests that cross crates: calls on values of several crates, and the program's engine over readers and writers. What a line of the
-//! program says stands in the files of `amqp_worked_rows`.
+//! Tests that cross crates: calls on values of several crates, over slices and over readers.
 #![tactic(auto)]
 
 #[cfg(test)]
@@ -14,8 +13,6 @@ mod from_readers;
 mod iterators;
 #[cfg(test)]
 mod limited_readers;
-#[cfg(test)]
-mod lines;
 #[cfg(test)]
 mod members;
 #[cfg(test)]

@@ -1,7 +1,7 @@
 //! Limits of the caller over two readers: one that gives one byte a call, and one that fails at its k-th call, which is answered by that
 //! failure for every k. The limit of bytes ends at each place of the input, from its first byte on up to one behind what is read. The digits
 //! are written out by the standard's tables.
-use amqp_reading_tests::Dripping;
+use amqp_decoder_tests::Dripping;
 use fe2o3_amqp_types::codec::{Deserialize, Error, Limits, Serialize, from_reader_within, to_vec};
 use fe2o3_amqp_types::messaging::message::decode_message_strict_within;
 use fe2o3_amqp_types::messaging::{Batch, Data, Message, Received};
@@ -163,12 +163,13 @@ fn check_within<T: Limited>(
     Ok(())
 }
 
-// A text of so many items, and what stands behind it: within fewer bytes or items than it takes, a limit is passed.
-fn check<T: Limited>(digits: &str, behind: &str, items: u64, alloc: Global) -> Result<(), Fail> {
-    let text = hex::decode(alloc, digits)?;
-    let mut input = hex::decode(alloc, digits)?;
-    input.extend_from_slice(hex::decode(alloc, behind)?.as_slice())?;
-    let (text, input) = (text.as_slice(), input.as_slice());
+// An input that begins with a text of so many items: within fewer bytes or items than that takes, a limit is passed.
+fn check_input<T: Limited>(
+    input: &[u8],
+    text: &[u8],
+    items: u64,
+    alloc: Global,
+) -> Result<(), Fail> {
     let len = text.len() as u64;
     for bytes in 0..len {
         check_within::<T>(input, &within(bytes, items), text, Err(Error::Limit), alloc)?;
@@ -176,14 +177,19 @@ fn check<T: Limited>(digits: &str, behind: &str, items: u64, alloc: Global) -> R
     for fewer in 0..items {
         check_within::<T>(input, &within(len, fewer), text, Err(Error::Limit), alloc)?;
     }
-    check_within::<T>(input, &within(len, items), text, Ok(true), alloc)?;
-    check_within::<T>(
-        input,
-        &within(len.saturating_add(1), items),
-        text,
-        Ok(true),
-        alloc,
-    )
+    for bytes in [len, len.saturating_add(1)] {
+        check_within::<T>(input, &within(bytes, items), text, Ok(true), alloc)?;
+    }
+    Ok(())
+}
+
+// The digits of a text of so many items, and of what stands behind it.
+fn check<T: Limited>(digits: &str, behind: &str, items: u64, alloc: Global) -> Result<(), Fail> {
+    let text = hex::decode(alloc, digits)?;
+    let behind = hex::decode(alloc, behind)?;
+    let mut input = text.clone()?;
+    input.extend_from_slice(behind.as_slice())?;
+    check_input::<T>(input.as_slice(), text.as_slice(), items, alloc)
 }
 
 #[test]

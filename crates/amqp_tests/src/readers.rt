@@ -1,6 +1,7 @@
 //! Worked rows over two readers: one that gives one byte a call, which is answered as a slice is, and one that fails at its k-th call,
 //! which is answered by that failure for every k. The digits are written out by the standard's tables.
-use amqp_reading_tests::Dripping;
+use amqp_decoder_tests::Dripping;
+use amqp_test_helpers::{is, is_refused};
 use fe2o3_amqp_types::codec::{Deserialize, Error, from_reader, from_slice_counted};
 use fe2o3_amqp_types::definitions::ErrorCondition;
 use fe2o3_amqp_types::messaging::message::Strict;
@@ -31,10 +32,7 @@ fn read_from<T: Deserialize>(
 // Whether a reader that fails after so many calls is answered by its failure.
 fn is_failed<T: Deserialize>(input: &[u8], calls: usize, alloc: Global) -> bool {
     let (answer, _, _) = read_from::<T>(input, calls, alloc);
-    match answer {
-        Ok(_) => false,
-        Err(error) => error == Error::Read(ErrorKind::NotFound),
-    }
+    is_refused(answer, Error::Read(ErrorKind::NotFound))
 }
 
 // How many calls it takes to read the input as a slice is read, which is answered so; or `None`, if it is answered otherwise.
@@ -46,11 +44,11 @@ fn calls_taken<T: Deserialize + PartialEq>(
     let enough = input.len().saturating_mul(4).saturating_add(8);
     let read: Result<(T, usize), Error> = from_slice_counted(input, alloc);
     let (answer, behind, calls) = read_from::<T>(input, enough, alloc);
-    let is_answered = match (read, answer, wanted) {
-        (Ok((value, len)), Ok(same), Ok(left)) => {
-            same == value && len.checked_add(left) == Some(input.len()) && behind <= left
+    let is_answered = match (read, wanted) {
+        (Ok((value, len)), Ok(left)) => {
+            is(answer, Ok(value)) && len.checked_add(left) == Some(input.len()) && behind <= left
         }
-        (Err(error), Err(same), Err(number)) => same == error && error.number() == number,
+        (Err(error), Err(number)) => is_refused(answer, error) && error.number() == number,
         _ => false,
     };
     if is_answered {

@@ -1,6 +1,6 @@
 //! The calls of a map, and what no contract says of it: that a refused growth changes nothing in fact.
-use crate::keys::hash_of;
 use amqp_maps::OrderedMap;
+use amqp_test_helpers::{have_equal_hashes, is_copied};
 use amqp_wire::{Error, Symbol};
 use std::alloc::Global;
 use std::cmp::Ordering;
@@ -28,26 +28,44 @@ fn is_row(map: &OrderedMap<u32, u32>, pairs: &[(u32, u32)]) -> bool {
     true
 }
 
+fn is_value_replaced(map: &mut OrderedMap<u32, u32>) -> bool {
+    map.insert(3, 5) == Ok(Some(2))
+        && is_row(map, &[(7, 1), (3, 5), (9, 3)])
+        && map.get(&3) == Some(&5)
+        && map.get(&4).is_none()
+}
+
+fn is_key_removed(map: &mut OrderedMap<u32, u32>) -> bool {
+    map.shift_remove(&7) == Some(1)
+        && map.shift_remove(&7).is_none()
+        && is_row(map, &[(3, 5), (9, 3)])
+}
+
+fn is_key_put_last(map: &mut OrderedMap<u32, u32>) -> bool {
+    map.insert(7, 4) == Ok(None)
+        && is_row(map, &[(3, 5), (9, 3), (7, 4)])
+        && !map.is_empty()
+        && map.values().next() == Some(&5)
+}
+
 #[test]
 fn keys_keep_their_places(rt: HostRuntime) -> Result<(), Fail> {
     let mut map = made(&[(7, 1), (3, 2), (9, 3)], rt.alloc())?;
-    assert_eq!(rt; map.insert(3, 5), Ok(Some(2)));
-    assert!(rt; is_row(&map, &[(7, 1), (3, 5), (9, 3)]));
-    assert_eq!(rt; map.get(&3), Some(&5));
-    assert_eq!(rt; map.get(&4), None);
-    assert_eq!(rt; map.shift_remove(&7), Some(1));
-    assert_eq!(rt; map.shift_remove(&7), None);
-    assert!(rt; is_row(&map, &[(3, 5), (9, 3)]));
-    assert_eq!(rt; map.insert(7, 4), Ok(None));
-    assert!(rt; is_row(&map, &[(3, 5), (9, 3), (7, 4)]));
-    assert!(rt; !map.is_empty());
-    assert_eq!(rt; map.values().next(), Some(&5));
+    let well = is_value_replaced(&mut map) && is_key_removed(&mut map) && is_key_put_last(&mut map);
+    assert!(rt; well);
     Ok(())
+}
+
+// Whether the map of two pairs, 1 to 2 and 3 to 4, compares so with the map of these.
+fn compares(pairs: &[(u32, u32)], order: Ordering, alloc: Global) -> Result<bool, Error> {
+    let other = made(pairs, alloc)?;
+    let map = made(&[(1, 2), (3, 4)], alloc)?;
+    Ok(map.cmp(&other) == order && (map == other) == (order == Ordering::Equal))
 }
 
 #[test]
 fn maps_compare_as_lists_of_pairs(rt: HostRuntime) -> Result<(), Fail> {
-    let map = made(&[(1, 2), (3, 4)], rt.alloc())?;
+    let alloc = rt.alloc();
     let rows: [(&[(u32, u32)], Ordering); 5] = [
         (&[(1, 2), (3, 4)], Ordering::Equal),
         (&[(3, 4), (1, 2)], Ordering::Less),
@@ -56,69 +74,76 @@ fn maps_compare_as_lists_of_pairs(rt: HostRuntime) -> Result<(), Fail> {
         (&[(1, 2), (3, 5)], Ordering::Less),
     ];
     for (pairs, order) in rows {
-        let other = made(pairs, rt.alloc())?;
-        assert!(rt; map.cmp(&other) == order, "of {pairs:?}");
-        assert!(rt;
-            (map == other) == (order == Ordering::Equal),
-            "of {pairs:?}"
-        );
+        assert!(rt; compares(pairs, order, alloc)?, "of {pairs:?}");
     }
-    let copy = map.clone()?;
-    assert!(rt; copy == map);
+    assert!(rt; is_copied(made(&[(1, 2), (3, 4)], alloc))?);
     Ok(())
+}
+
+fn lends_pairs(map: &OrderedMap<u32, u32>) -> bool {
+    let mut lent = map.into_iter();
+    lent.next_back() == Some((&3, &2)) && lent.next() == Some((&7, &1)) && lent.next().is_none()
+}
+
+fn lends_values(map: &OrderedMap<u32, u32>) -> bool {
+    let mut values = map.values();
+    values.next() == Some(&1) && values.next() == Some(&2) && values.next().is_none()
+}
+
+fn moves_pairs(map: OrderedMap<u32, u32>, alloc: Global) -> Result<bool, Error> {
+    let pairs: Vec<(u32, u32)> = map.into_iter().collect(alloc)?;
+    Ok(pairs.as_slice() == [(7, 1), (3, 2)].as_slice())
 }
 
 #[test]
 fn pairs_in_their_order(rt: HostRuntime) -> Result<(), Fail> {
     let map = made(&[(7, 1), (3, 2)], rt.alloc())?;
-    let mut lent = (&map).into_iter();
-    assert_eq!(rt; lent.next_back(), Some((&3, &2)));
-    assert_eq!(rt; lent.next(), Some((&7, &1)));
-    assert_eq!(rt; lent.next(), None);
-    let mut values = map.values();
-    assert_eq!(rt; values.next(), Some(&1));
-    assert_eq!(rt; values.next(), Some(&2));
-    assert_eq!(rt; values.next(), None);
-    let pairs: Vec<(u32, u32)> = map.into_iter().collect(rt.alloc())?;
-    assert_eq!(rt; pairs.as_slice(), [(7, 1), (3, 2)].as_slice());
+    let are_lent = lends_pairs(&map) && lends_values(&map);
+    let are_moved = moves_pairs(map, rt.alloc())?;
+    assert!(rt; are_lent && are_moved);
     Ok(())
 }
 
 #[test]
 fn equal_maps_have_equal_hashes(rt: HostRuntime) -> Result<(), Fail> {
-    let map = made(&[(7, 1), (3, 2)], rt.alloc())?;
-    let equal = made(&[(7, 1), (3, 2)], rt.alloc())?;
-    let turned = made(&[(3, 2), (7, 1)], rt.alloc())?;
-    assert!(rt; hash_of(&map) == hash_of(&equal));
-    assert!(rt; hash_of(&map) != hash_of(&turned));
+    let alloc = rt.alloc();
+    let pairs = &[(7, 1), (3, 2)];
+    let turned = &[(3, 2), (7, 1)];
+    assert!(rt; have_equal_hashes(made(pairs, alloc), made(pairs, alloc))?);
+    assert!(rt; !have_equal_hashes(made(pairs, alloc), made(turned, alloc))?);
     Ok(())
+}
+
+// How many keys these texts are.
+fn keys_of(texts: &[&str], alloc: Global) -> Result<usize, Error> {
+    let mut map = OrderedMap::new(alloc);
+    for text in texts {
+        map.insert(Symbol(String::from_str(alloc, text)?), true)?;
+    }
+    Ok(map.len())
 }
 
 #[test]
 fn symbols_are_keys(rt: HostRuntime) -> Result<(), Fail> {
-    let mut map = OrderedMap::new(rt.alloc());
-    for text in ["a", "b", "a"] {
-        map.insert(Symbol(String::from_str(rt.alloc(), text)?), true)?;
-    }
-    assert_eq!(rt; map.len(), 2);
+    assert_eq!(rt; keys_of(&["a", "b", "a"], rt.alloc())?, 2);
     Ok(())
+}
+
+// Whether the key is put into the map, or the map is as it was, since memory ran out.
+fn is_put(map: &mut OrderedMap<u32, u32>, key: u32) -> bool {
+    let was = map.len();
+    match map.insert(key, key) {
+        Ok(old) => old.is_none(),
+        Err(error) => error == Error::Memory && map.len() == was && map.get(&key).is_none(),
+    }
 }
 
 // Twenty keys take three growths, of four allocations each. Each is refused in turn by hand: `rt try --test --fail-alloc N`, for N from 1
 // to 12.
 #[test]
-fn refused_growth(rt: HostRuntime) -> Result<(), Fail> {
+fn refused_growth(rt: HostRuntime) {
     let mut map = OrderedMap::new(rt.alloc());
     for key in 0..20u32 {
-        let was = map.len();
-        match map.insert(key, key) {
-            Ok(old) => assert_eq!(rt; old, None),
-            Err(error) => {
-                assert_eq!(rt; error, Error::Memory);
-                assert_eq!(rt; map.len(), was);
-                assert_eq!(rt; map.get(&key), None);
-            }
-        }
+        assert!(rt; is_put(&mut map, key), "of {key}");
     }
-    Ok(())
 }

@@ -14,6 +14,8 @@ mod nests;
 #[cfg(test)]
 mod order;
 #[cfg(test)]
+mod parts;
+#[cfg(test)]
 mod simple;
 #[cfg(test)]
 mod values;

@@ -38,6 +38,12 @@ fn a_value_within_limits(rt: HostRuntime) {
     assert_eq!(rt; left(LISTS, &Limits::greatest(), alloc), Ok(1));
 }
 
+// How many bytes so many lists take, one in another.
+fn nest_taken(levels: u8, limits: &Limits, alloc: Global) -> Result<Result<usize, Error>, Fail> {
+    let text = nested(levels, alloc)?;
+    Ok(taken(text.as_slice(), limits, alloc))
+}
+
 #[test]
 fn a_value_that_nests_deeper(rt: HostRuntime) -> Result<(), Fail> {
     let alloc = rt.alloc();
@@ -46,15 +52,10 @@ fn a_value_that_nests_deeper(rt: HostRuntime) -> Result<(), Fail> {
         assert_eq!(rt; taken(LISTS, &limits, alloc), Err(Error::Limit));
         assert_eq!(rt; left(LISTS, &limits, alloc), Err(Error::Limit));
     }
-    let deep = nested(128, alloc)?;
     let limits = within(127, u64::MAX);
-    assert_eq!(rt; taken(deep.as_slice(), &limits, alloc), Err(Error::Limit));
-    let deeper = nested(129, alloc)?;
+    assert_eq!(rt; nest_taken(128, &limits, alloc)?, Err(Error::Limit));
     let greatest = Limits::greatest();
-    assert_eq!(rt;
-        taken(deeper.as_slice(), &greatest, alloc),
-        Err(Error::Depth)
-    );
+    assert_eq!(rt; nest_taken(129, &greatest, alloc)?, Err(Error::Depth));
     Ok(())
 }
 

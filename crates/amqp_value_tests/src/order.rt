@@ -1,12 +1,15 @@
 //! The order and the hash of values of any kind and of maps of them, and maps whose keys they are.
+use amqp_codec::{Deserialize, MapKey};
 use amqp_containers::Array;
+use amqp_described::Described;
 use amqp_maps::OrderedMap;
 use amqp_read_write::from_slice;
+use amqp_test_helpers::{are_equal, hash_of, is_refused};
 use amqp_values::{IntoValue, Value, ValueMap};
 use amqp_wire::Error;
 use std::alloc::Global;
 use std::cmp::Ordering;
-use std::hash::{DefaultHasher, Hash, Hasher};
+use std::hash::Hash;
 use std::test::Fail;
 
 /// Texts of values that hold no others, each before the next.
@@ -69,114 +72,181 @@ const MAPS: [&[u8]; 5] = [
     &[0xc1, 4, 2, 0x52, 1, 0x40],
 ];
 
-fn ascending(alloc: Global) -> Result<Vec<Value>, Fail> {
-    let mut row: Vec<Value> = Vec::new(alloc);
-    for text in LEAVES.iter() {
-        row.push(from_slice(text, alloc)?)?;
-    }
-    for text in HOLDERS.iter() {
-        row.push(from_slice(text, alloc)?)?;
+// The values of the texts of each group.
+fn row_of<T: Deserialize>(groups: &[&[&[u8]]], alloc: Global) -> Result<Vec<T>, Error> {
+    let mut row: Vec<T> = Vec::new(alloc);
+    for group in groups {
+        for text in group.iter() {
+            row.push(from_slice(text, alloc)?)?;
+        }
     }
     Ok(row)
 }
 
-fn hash_of<T: Hash>(value: &T) -> u64 {
-    let mut hasher = DefaultHasher::new();
-    value.hash(&mut hasher);
-    hasher.finish()
+fn ascending(alloc: Global) -> Result<Vec<Value>, Error> {
+    row_of(&[&LEAVES, &HOLDERS], alloc)
+}
+
+fn ascending_maps(alloc: Global) -> Result<Vec<ValueMap>, Error> {
+    row_of(&[&MAPS], alloc)
+}
+
+// Whether the two compare so.
+fn is_in_order<T: Ord>(first: &T, second: &T, order: Ordering) -> bool {
+    first.cmp(second) == order
+        && first.partial_cmp(second) == Some(order)
+        && (*first == *second) == (order == Ordering::Equal)
+}
+
+// Whether the values compare as their places do.
+fn is_ascending<T: Ord + Drop>(row: Vec<T>) -> bool {
+    for (left, first) in row.iter().enumerate() {
+        for (right, second) in row.iter().enumerate() {
+            if !is_in_order(first, second, left.cmp(&right)) {
+                return false;
+            }
+        }
+    }
+    true
+}
+
+// Whether a copy of each value has its hash, and no other value has.
+fn has_hashes_apart<T: Clone + Hash + Drop>(row: Vec<T>) -> Result<bool, Error> {
+    for (left, value) in row.iter().enumerate() {
+        let copy = value.clone()?;
+        for (right, other) in row.iter().enumerate() {
+            if (hash_of(&copy) == hash_of(other)) != (left == right) {
+                return Ok(false);
+            }
+        }
+    }
+    Ok(true)
 }
 
 #[test]
 fn each_before_the_next(rt: HostRuntime) -> Result<(), Fail> {
-    let row = ascending(rt.alloc())?;
-    for left in 0..row.len() {
-        for right in 0..row.len() {
-            let order = left.cmp(&right);
-            assert_eq!(rt; row[left].cmp(&row[right]), order);
-            assert_eq!(rt; row[left].partial_cmp(&row[right]), Some(order));
-            assert_eq!(rt; row[left] == row[right], order == Ordering::Equal);
-        }
-    }
+    assert!(rt; is_ascending(ascending(rt.alloc())?));
     Ok(())
 }
 
 #[test]
 fn equal_values_have_equal_hashes(rt: HostRuntime) -> Result<(), Fail> {
-    let row = ascending(rt.alloc())?;
-    for left in 0..row.len() {
-        let copy = row[left].clone()?;
-        for right in 0..row.len() {
-            assert_eq!(rt; hash_of(&copy) == hash_of(&row[right]), left == right);
-        }
-    }
+    assert!(rt; has_hashes_apart(ascending(rt.alloc())?)?);
     Ok(())
 }
 
 #[test]
 fn each_map_before_the_next(rt: HostRuntime) -> Result<(), Fail> {
     let alloc = rt.alloc();
-    let mut row: Vec<ValueMap> = Vec::new(alloc);
-    for text in MAPS.iter() {
-        row.push(from_slice(text, alloc)?)?;
-    }
-    for left in 0..row.len() {
-        let copy = row[left].clone()?;
-        for right in 0..row.len() {
-            let order = left.cmp(&right);
-            assert_eq!(rt; row[left].cmp(&row[right]), order);
-            assert_eq!(rt; row[left].partial_cmp(&row[right]), Some(order));
-            assert_eq!(rt; row[left] == row[right], order == Ordering::Equal);
-            assert_eq!(rt; hash_of(&copy) == hash_of(&row[right]), left == right);
-        }
-    }
+    assert!(rt; is_ascending(ascending_maps(alloc)?));
+    assert!(rt; has_hashes_apart(ascending_maps(alloc)?)?);
     Ok(())
+}
+
+// What the map has for the key.
+fn found<K: MapKey>(map: Result<OrderedMap<K, u32>, Error>, key: K) -> Result<Option<u32>, Error> {
+    let map = map?;
+    Ok(map.get(&key).copied())
 }
 
 #[test]
 fn keys_that_are_maps(rt: HostRuntime) -> Result<(), Fail> {
     let alloc = rt.alloc();
     let one: &[u8] = &[0xc1, 6, 2, 0xc1, 1, 0, 0x52, 7];
-    let map: OrderedMap<ValueMap, u32> = from_slice(one, alloc)?;
-    assert_eq!(rt; map.get(&ValueMap::new(alloc)), Some(&7));
+    assert_eq!(rt;
+        found(from_slice(one, alloc), ValueMap::new(alloc))?,
+        Some(7)
+    );
     let twice: &[u8] = &[
         0xc1, 17, 4, 0xc1, 1, 0, 0x52, 7, 0xd1, 0, 0, 0, 4, 0, 0, 0, 0, 0x52, 8,
     ];
     let refused: Result<OrderedMap<ValueMap, u32>, Error> = from_slice(twice, alloc);
-    assert_eq!(rt; refused.err(), Some(Error::DuplicateKey));
+    assert!(rt; is_refused(refused, Error::DuplicateKey));
     Ok(())
+}
+
+fn list(alloc: Global) -> Result<Value, Error> {
+    Ok(Value::from(vec![in alloc; Value::Uint(1), Value::Null]?))
+}
+
+// Whether each call that puts a key into an empty map answers what it replaces.
+fn is_filled(map: &mut OrderedMap<Value, u32>, alloc: Global) -> Result<bool, Error> {
+    Ok(
+        map.insert(list(alloc)?, 1)?.is_none()
+            && map.insert(Value::Ulong(1), 2)?.is_none()
+            && map.insert(list(alloc)?, 3)? == Some(1),
+    )
+}
+
+fn has_both_keys(map: &OrderedMap<Value, u32>, list: &Value) -> bool {
+    map.get(list) == Some(&3)
+        && map.get(&Value::Ulong(1)) == Some(&2)
+        && map.get(&Value::Uint(1)).is_none()
 }
 
 #[test]
 fn keys_of_any_kind(rt: HostRuntime) -> Result<(), Fail> {
     let alloc = rt.alloc();
+    let list = list(alloc)?;
     let mut map: OrderedMap<Value, u32> = OrderedMap::new(alloc);
-    let list = || vec![in alloc; Value::Uint(1), Value::Null];
-    assert_eq!(rt; map.insert(Value::from(list()?), 1)?, None);
-    assert_eq!(rt; map.insert(Value::Ulong(1), 2)?, None);
-    assert_eq!(rt; map.insert(Value::from(list()?), 3)?, Some(1));
-    assert_eq!(rt; map.get(&Value::from(list()?)), Some(&3));
-    assert_eq!(rt; map.get(&Value::Ulong(1)), Some(&2));
-    assert_eq!(rt; map.get(&Value::Uint(1)), None);
+    let well = is_filled(&mut map, alloc)? && has_both_keys(&map, &list);
+    assert!(rt; well);
     Ok(())
+}
+
+fn one_item(alloc: Global) -> Result<Vec<Value>, Error> {
+    Ok(vec![in alloc; Value::Uint(1)]?)
+}
+
+fn one_pair(alloc: Global) -> Result<ValueMap, Error> {
+    Ok(ValueMap(vec![in alloc; (Value::Null, Value::Null)]?))
+}
+
+fn are_made_of_others(alloc: Global) -> Result<bool, Error> {
+    Ok(
+        are_equal(
+            one_item(alloc).map(Value::from),
+            from_slice(&[0xc0, 3, 1, 0x52, 1], alloc),
+        )? && are_equal(
+            one_item(alloc).map(Array::from).map(Value::from),
+            from_slice(&[0xe0, 6, 1, 0x70, 0, 0, 0, 1], alloc),
+        )? && are_equal(
+            one_pair(alloc).map(Value::from),
+            from_slice(&[0xc1, 3, 2, 0x40, 0x40], alloc),
+        )?,
+    )
+}
+
+// What is described in a copy of the value.
+fn boxed(value: &Value) -> Result<Box<Described<Value>>, Error> {
+    match value.clone()? {
+        Value::Described(boxed) => Ok(boxed),
+        _ => Err(Error::InvalidValue),
+    }
+}
+
+fn is_made_of_box(value: &Value) -> Result<bool, Error> {
+    let made = Value::from(boxed(value)?);
+    Ok(made == *value)
+}
+
+fn is_made_of_described(value: &Value, alloc: Global) -> Result<bool, Error> {
+    let made = Box::into_inner(boxed(value)?).into_value(alloc)?;
+    Ok(made == *value)
+}
+
+// Whether the described value is made of what is in it, in its box and out of it.
+fn is_made_again(value: Result<Value, Error>, alloc: Global) -> Result<bool, Error> {
+    let value = value?;
+    let of_described = is_made_of_described(&value, alloc);
+    let of_box = is_made_of_box(&value);
+    Ok(of_described? && of_box?)
 }
 
 #[test]
 fn made_of_what_holds_others(rt: HostRuntime) -> Result<(), Fail> {
     let alloc = rt.alloc();
-    let list: Value = from_slice(&[0xc0, 3, 1, 0x52, 1], alloc)?;
-    assert_eq!(rt; Value::from(vec![in alloc; Value::Uint(1)]?), list);
-    let array: Value = from_slice(&[0xe0, 6, 1, 0x70, 0, 0, 0, 1], alloc)?;
-    let items = vec![in alloc; Value::Uint(1)]?;
-    assert_eq!(rt; Value::from(Array::from(items)), array);
-    let map: Value = from_slice(&[0xc1, 3, 2, 0x40, 0x40], alloc)?;
-    let pairs = vec![in alloc; (Value::Null, Value::Null)]?;
-    assert_eq!(rt; Value::from(ValueMap(pairs)), map);
-    let described: Value = from_slice(&[0, 0x53, 1, 0x40], alloc)?;
-    if let Value::Described(boxed) = described.clone()? {
-        assert_eq!(rt; Box::into_inner(boxed).into_value(alloc)?, described);
-    }
-    if let Value::Described(boxed) = described.clone()? {
-        assert_eq!(rt; Value::from(boxed), described);
-    }
+    assert!(rt; are_made_of_others(alloc)?);
+    assert!(rt; is_made_again(from_slice(&[0, 0x53, 1, 0x40], alloc), alloc)?);
     Ok(())
 }

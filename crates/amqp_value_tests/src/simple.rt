@@ -1,16 +1,20 @@
 //! Simple values: what they are made of and give back.
-use amqp_codec::{DeserializeTerm, Error, Symbol};
+use crate::parts::{is_taken_of, order_of};
+use amqp_codec::{Error, MapKey, Symbol};
 use amqp_containers::Array;
 use amqp_described::Described;
 use amqp_maps::OrderedMap;
 use amqp_primitives::{Binary, Dec32, Dec64, Dec128, Timestamp, Uuid};
 use amqp_read_write::from_slice;
 use amqp_simple_values::SimpleValue;
+use amqp_test_helpers::{
+    are_equal, have_equal_hashes, is, is_copied, is_given_back, is_less, is_read, is_refused,
+    is_taken, read,
+};
 use amqp_values::{Value, ValueMap};
 use amqp_wire::Descriptor;
 use std::alloc::Global;
 use std::cmp::Ordering;
-use std::hash::{DefaultHasher, Hash, Hasher};
 use std::test::Fail;
 
 /// A value of each kind.
@@ -38,151 +42,230 @@ const KINDS: [&str; 21] = [
     "005324e0020040",
 ];
 
-// What such digits are read as.
-fn read<T: DeserializeTerm>(digits: &str, alloc: Global) -> Result<T, Fail> {
-    let input = hex::decode(alloc, digits)?;
-    Ok(from_slice(input.as_slice(), alloc)?)
+fn has_code(simple: &SimpleValue, code: u8) -> bool {
+    simple.format_code() == code
+}
+
+// Whether the simple value has the code of the value of any kind.
+fn has_code_of(
+    simple: Result<SimpleValue, Error>,
+    value: Result<Value, Error>,
+) -> Result<bool, Error> {
+    let value = value?;
+    let simple = simple?;
+    Ok(has_code(&simple, value.format_code()))
+}
+
+fn simple(input: &[u8], alloc: Global) -> Result<SimpleValue, Error> {
+    from_slice(input, alloc)
+}
+
+fn value(input: &[u8], alloc: Global) -> Result<Value, Error> {
+    from_slice(input, alloc)
+}
+
+// Whether the value that the bytes are is simple, and of any kind, and one is made of the other.
+fn is_of_both_types(input: &[u8], alloc: Global) -> Result<bool, Error> {
+    Ok(
+        is_copied(simple(input, alloc))?
+            && has_code_of(simple(input, alloc), value(input, alloc))?
+            && are_equal(simple(input, alloc).map(Value::from), value(input, alloc))?
+            && are_equal(
+                value(input, alloc).and_then(SimpleValue::try_from),
+                simple(input, alloc),
+            )?,
+    )
+}
+
+fn is_not_simple(value: Value) -> bool {
+    is_refused(SimpleValue::try_from(value), Error::InvalidValue)
 }
 
 #[test]
 fn as_values_of_any_kind_and_back(rt: HostRuntime) -> Result<(), Fail> {
     let alloc = rt.alloc();
     for digits in &KINDS {
-        let value: Value = read(*digits, alloc)?;
-        let simple: SimpleValue = read(*digits, alloc)?;
-        let copy = simple.clone()?;
-        assert_eq!(rt; copy, simple);
-        assert_eq!(rt; simple.format_code(), value.format_code());
-        assert_eq!(rt; Value::from(copy), value);
-        assert_eq!(rt; SimpleValue::try_from(value), Ok(simple));
+        let input = hex::decode(alloc, *digits)?;
+        assert!(rt; is_of_both_types(input.as_slice(), alloc)?, "of {digits}");
     }
-    let list = Value::List(Vec::new(alloc));
-    assert_eq!(rt; SimpleValue::try_from(list), Err(Error::InvalidValue));
-    let map = Value::Map(ValueMap::new(alloc));
-    assert_eq!(rt; SimpleValue::try_from(map), Err(Error::InvalidValue));
-    let array = Value::Array(Array::from(Vec::new(alloc)));
-    assert_eq!(rt; SimpleValue::try_from(array), Err(Error::InvalidValue));
+    assert!(rt; is_not_simple(Value::List(Vec::new(alloc))));
+    assert!(rt; is_not_simple(Value::Map(ValueMap::new(alloc))));
+    assert!(rt; is_not_simple(Value::Array(Array::from(Vec::new(alloc)))));
     Ok(())
+}
+
+fn are_numbers_given_back() -> bool {
+    is(SimpleValue::from(()), SimpleValue::default())
+        && is_taken(bool::try_from(SimpleValue::from(true)), true)
+        && is_taken(u8::try_from(SimpleValue::from(1u8)), 1)
+        && is_taken(u16::try_from(SimpleValue::from(2u16)), 2)
+        && is_taken(u32::try_from(SimpleValue::from(3u32)), 3)
+        && is_taken(u64::try_from(SimpleValue::from(4u64)), 4)
+        && is_taken(i8::try_from(SimpleValue::from(-1i8)), -1)
+        && is_taken(i16::try_from(SimpleValue::from(-2i16)), -2)
+        && is_taken(i32::try_from(SimpleValue::from(-3i32)), -3)
+        && is_taken(i64::try_from(SimpleValue::from(-4i64)), -4)
+        && is_taken(char::try_from(SimpleValue::from('a')), 'a')
+}
+
+fn are_bytes_given_back() -> bool {
+    is_taken(
+        Dec32::try_from(SimpleValue::from(Dec32([1; 4]))),
+        Dec32([1; 4]),
+    ) && is_taken(
+        Dec64::try_from(SimpleValue::from(Dec64([2; 8]))),
+        Dec64([2; 8]),
+    ) && is_taken(
+        Dec128::try_from(SimpleValue::from(Dec128([3; 16]))),
+        Dec128([3; 16]),
+    ) && is_taken(
+        Timestamp::try_from(SimpleValue::from(Timestamp(-1))),
+        Timestamp(-1),
+    ) && is_taken(
+        Uuid::try_from(SimpleValue::from(Uuid([4; 16]))),
+        Uuid([4; 16]),
+    )
 }
 
 #[test]
 fn numbers_and_back(rt: HostRuntime) {
-    assert_eq!(rt; SimpleValue::from(()), SimpleValue::default());
-    assert_eq!(rt; bool::try_from(SimpleValue::from(true)), Ok(true));
-    assert_eq!(rt; u8::try_from(SimpleValue::from(1u8)), Ok(1));
-    assert_eq!(rt; u16::try_from(SimpleValue::from(2u16)), Ok(2));
-    assert_eq!(rt; u32::try_from(SimpleValue::from(3u32)), Ok(3));
-    assert_eq!(rt; u64::try_from(SimpleValue::from(4u64)), Ok(4));
-    assert_eq!(rt; i8::try_from(SimpleValue::from(-1i8)), Ok(-1));
-    assert_eq!(rt; i16::try_from(SimpleValue::from(-2i16)), Ok(-2));
-    assert_eq!(rt; i32::try_from(SimpleValue::from(-3i32)), Ok(-3));
-    assert_eq!(rt; i64::try_from(SimpleValue::from(-4i64)), Ok(-4));
-    assert_eq!(rt; char::try_from(SimpleValue::from('a')), Ok('a'));
-    let narrow = SimpleValue::from(Dec32([1; 4]));
-    assert_eq!(rt; Dec32::try_from(narrow), Ok(Dec32([1; 4])));
-    let middle = SimpleValue::from(Dec64([2; 8]));
-    assert_eq!(rt; Dec64::try_from(middle), Ok(Dec64([2; 8])));
-    let wide = SimpleValue::from(Dec128([3; 16]));
-    assert_eq!(rt; Dec128::try_from(wide), Ok(Dec128([3; 16])));
-    let time = SimpleValue::from(Timestamp(-1));
-    assert_eq!(rt; Timestamp::try_from(time), Ok(Timestamp(-1)));
-    let uuid = SimpleValue::from(Uuid([4; 16]));
-    assert_eq!(rt; Uuid::try_from(uuid), Ok(Uuid([4; 16])));
+    assert!(rt; are_numbers_given_back());
+    assert!(rt; are_bytes_given_back());
+}
+
+fn has_each_number_its_kind() -> bool {
+    is(SimpleValue::from(true), SimpleValue::Bool(true))
+        && is(SimpleValue::from(1u8), SimpleValue::Ubyte(1))
+        && is(SimpleValue::from(1u16), SimpleValue::Ushort(1))
+        && is(SimpleValue::from(1u32), SimpleValue::Uint(1))
+        && is(SimpleValue::from(1u64), SimpleValue::Ulong(1))
+        && is(SimpleValue::from(1i8), SimpleValue::Byte(1))
+        && is(SimpleValue::from(1i16), SimpleValue::Short(1))
+        && is(SimpleValue::from(1i32), SimpleValue::Int(1))
+        && is(SimpleValue::from(1i64), SimpleValue::Long(1))
+        && !is(SimpleValue::Uint(1), SimpleValue::Ulong(1))
 }
 
 #[test]
 fn each_type_has_its_kind(rt: HostRuntime) {
-    assert_eq!(rt; SimpleValue::from(true), SimpleValue::Bool(true));
-    assert_eq!(rt; SimpleValue::from(1u8), SimpleValue::Ubyte(1));
-    assert_eq!(rt; SimpleValue::from(1u16), SimpleValue::Ushort(1));
-    assert_eq!(rt; SimpleValue::from(1u32), SimpleValue::Uint(1));
-    assert_eq!(rt; SimpleValue::from(1u64), SimpleValue::Ulong(1));
-    assert_eq!(rt; SimpleValue::from(1i8), SimpleValue::Byte(1));
-    assert_eq!(rt; SimpleValue::from(1i16), SimpleValue::Short(1));
-    assert_eq!(rt; SimpleValue::from(1i32), SimpleValue::Int(1));
-    assert_eq!(rt; SimpleValue::from(1i64), SimpleValue::Long(1));
-    assert!(rt; SimpleValue::Uint(1) != SimpleValue::Ulong(1));
-    assert_eq!(rt; SimpleValue::from('a').format_code(), 0x73);
-    assert_eq!(rt; SimpleValue::Null.format_code(), 0x40);
-    assert_eq!(rt;
-        u32::try_from(SimpleValue::Ulong(7)),
-        Err(SimpleValue::Ulong(7))
-    );
-    assert_eq!(rt; bool::try_from(SimpleValue::Null), Err(SimpleValue::Null));
+    assert!(rt; has_each_number_its_kind());
+    assert!(rt; has_code(&SimpleValue::from('a'), 0x73));
+    assert!(rt; has_code(&SimpleValue::Null, 0x40));
+    assert!(rt; is_given_back(u32::try_from(SimpleValue::Ulong(7)), SimpleValue::Ulong(7)));
+    assert!(rt; is_given_back(bool::try_from(SimpleValue::Null), SimpleValue::Null));
+}
+
+fn simple_text(text: &str, alloc: Global) -> Result<SimpleValue, Error> {
+    SimpleValue::from_str_in(text, alloc)
+}
+
+fn text(alloc: Global) -> Result<String, Error> {
+    Ok(String::from_str(alloc, "é")?)
+}
+
+fn symbol(alloc: Global) -> Result<Symbol, Error> {
+    Ok(Symbol(String::from_str(alloc, "a")?))
+}
+
+fn binary(alloc: Global) -> Result<Binary, Error> {
+    Ok(Binary(Vec::from_array(alloc, [1, 2])?))
+}
+
+fn are_texts_read(alloc: Global) -> Result<bool, Fail> {
+    Ok(
+        is_read("a102c3a9", simple_text("é", alloc), alloc)?
+            && is_read("a30161", symbol(alloc).map(SimpleValue::from), alloc)?
+            && is_read("a0020102", binary(alloc).map(SimpleValue::from), alloc)?,
+    )
+}
+
+fn are_texts_given_back(alloc: Global) -> Result<bool, Error> {
+    Ok(
+        is_taken_of(simple_text("é", alloc), text(alloc))?
+            && is_taken_of(symbol(alloc).map(SimpleValue::from), symbol(alloc))?
+            && is_taken_of(binary(alloc).map(SimpleValue::from), binary(alloc))?,
+    )
 }
 
 #[test]
 fn texts_and_back(rt: HostRuntime) -> Result<(), Fail> {
     let alloc = rt.alloc();
-    let text = SimpleValue::from_str_in("é", alloc)?;
-    assert_eq!(rt; text, read("a102c3a9", alloc)?);
-    assert_eq!(rt; text.format_code(), 0xb1);
-    let wanted = String::from_str(alloc, "é")?;
-    assert_eq!(rt; text, SimpleValue::from(wanted.clone()?));
-    assert_eq!(rt; String::try_from(text), Ok(wanted));
-    let symbol = Symbol(String::from_str(alloc, "a")?);
-    let simple = SimpleValue::from(symbol.clone()?);
-    assert_eq!(rt; simple, read("a30161", alloc)?);
-    assert_eq!(rt; Symbol::try_from(simple), Ok(symbol));
-    let binary = Binary(Vec::from_array(alloc, [1, 2])?);
-    let simple = SimpleValue::from(binary.clone()?);
-    assert_eq!(rt; simple, read("a0020102", alloc)?);
-    assert_eq!(rt; Binary::try_from(simple), Ok(binary));
+    assert!(rt; are_texts_read(alloc)?);
+    assert!(rt; has_code(&simple_text("é", alloc)?, 0xb1));
+    assert!(rt; are_equal(simple_text("é", alloc), text(alloc).map(SimpleValue::from))?);
+    assert!(rt; are_texts_given_back(alloc)?);
     Ok(())
 }
 
-fn hash_of<T: Hash>(value: &T) -> u64 {
-    let mut hasher = DefaultHasher::new();
-    value.hash(&mut hasher);
-    hasher.finish()
+// Whether an equal key is found in a map that has the key alone.
+fn is_found<K: MapKey>(
+    key: Result<K, Error>,
+    equal: Result<K, Error>,
+    alloc: Global,
+) -> Result<bool, Error> {
+    let equal = equal?;
+    let mut map: OrderedMap<K, u32> = OrderedMap::new(alloc);
+    map.insert(key?, 1)?;
+    Ok(map.get(&equal) == Some(&1))
+}
+
+fn are_equal_texts_one_key(alloc: Global) -> Result<bool, Error> {
+    Ok(
+        order_of(simple_text("a", alloc), simple_text("a", alloc))? == Ordering::Equal
+            && have_equal_hashes(simple_text("a", alloc), simple_text("a", alloc))?
+            && is_found(simple_text("a", alloc), simple_text("a", alloc), alloc)?,
+    )
+}
+
+fn is_a_before_b(alloc: Global) -> Result<bool, Error> {
+    Ok(
+        is_less(simple_text("a", alloc), simple_text("b", alloc))?
+            && !have_equal_hashes(simple_text("a", alloc), simple_text("b", alloc))?,
+    )
 }
 
 // The kinds are ordered as they are declared, and values of one kind by what they hold.
 #[test]
 fn order_and_hashes(rt: HostRuntime) -> Result<(), Fail> {
     let alloc = rt.alloc();
-    assert!(rt; SimpleValue::Uint(9) < SimpleValue::Ulong(1));
-    assert!(rt; SimpleValue::Uint(1) < SimpleValue::Uint(9));
-    let text = SimpleValue::from_str_in("a", alloc)?;
-    assert!(rt; SimpleValue::Null < text);
-    let equal = SimpleValue::from_str_in("a", alloc)?;
-    assert_eq!(rt; text.cmp(&equal), Ordering::Equal);
-    assert!(rt; hash_of(&text) == hash_of(&equal));
-    let other = SimpleValue::from_str_in("b", alloc)?;
-    assert!(rt; text < other && hash_of(&text) != hash_of(&other));
-    let mut map: OrderedMap<SimpleValue, u32> = OrderedMap::new(alloc);
-    map.insert(text, 1)?;
-    assert_eq!(rt; map.get(&equal), Some(&1));
+    assert!(rt; is_less(Ok(SimpleValue::Uint(9)), Ok(SimpleValue::Ulong(1)))?);
+    assert!(rt; is_less(Ok(SimpleValue::Uint(1)), Ok(SimpleValue::Uint(9)))?);
+    assert!(rt; is_less(Ok(SimpleValue::Null), simple_text("a", alloc))?);
+    assert!(rt; are_equal_texts_one_key(alloc)?);
+    assert!(rt; is_a_before_b(alloc)?);
     Ok(())
+}
+
+fn described_list(alloc: Global) -> Result<SimpleValue, Error> {
+    let described = Described {
+        descriptor: Descriptor::Code(0x24),
+        value: Value::List(Vec::new(alloc)),
+    };
+    Ok(SimpleValue::Described(Box::new(alloc, described)?))
 }
 
 #[test]
 fn a_described_list_is_simple(rt: HostRuntime) -> Result<(), Fail> {
     let alloc = rt.alloc();
-    let described = Described {
-        descriptor: Descriptor::Code(0x24),
-        value: Value::List(Vec::new(alloc)),
-    };
-    let wanted = SimpleValue::Described(Box::new(alloc, described)?);
-    let simple: SimpleValue = read("00532445", alloc)?;
-    assert_eq!(rt; simple, wanted);
-    assert_eq!(rt; simple.format_code(), 0);
-    let other: SimpleValue = read("00532545", alloc)?;
-    assert!(rt; other != wanted);
+    assert!(rt; is_read("00532445", described_list(alloc), alloc)?);
+    assert!(rt; has_code(&read("00532445", alloc)?, 0));
+    assert!(rt; !is_read("00532545", described_list(alloc), alloc)?);
     Ok(())
+}
+
+// Whether the value has the code, or memory ran out.
+fn has_code_if_made(simple: Result<SimpleValue, Error>, code: u8) -> bool {
+    match simple {
+        Ok(simple) => has_code(&simple, code),
+        Err(error) => error == Error::Memory,
+    }
 }
 
 // Each growth is refused in turn by hand: `rt try --test --fail-alloc N`, for N from 1 on.
 #[test]
 fn want_of_memory_is_named(rt: HostRuntime) {
-    match SimpleValue::from_str_in("é", rt.alloc()) {
-        Ok(text) => assert_eq!(rt; text.format_code(), 0xb1),
-        Err(error) => assert_eq!(rt; error, Error::Memory),
-    }
+    let alloc = rt.alloc();
+    assert!(rt; has_code_if_made(simple_text("é", alloc), 0xb1));
     let described = &[0x00, 0x53, 0x24, 0xa1, 0x01, 0x61];
-    let read: Result<SimpleValue, Error> = from_slice(described, rt.alloc());
-    match read {
-        Ok(simple) => assert_eq!(rt; simple.format_code(), 0),
-        Err(error) => assert_eq!(rt; error, Error::Memory),
-    }
+    assert!(rt; has_code_if_made(from_slice(described, alloc), 0));
 }

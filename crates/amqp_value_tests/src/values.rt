@@ -2,46 +2,58 @@
 use crate::nests::{chain, nested};
 use amqp_codec::Error;
 use amqp_containers::Array;
-use amqp_read_write::{canonical_text, from_slice, to_vec};
+use amqp_read_write::{canonical_text, from_slice};
+use amqp_test_helpers::{are_equal, refusal};
 use amqp_values::{Value, ValueMap};
 use amqp_wire::format_code;
 use std::alloc::Global;
 use std::test::Fail;
 
+fn value(text: &[u8], alloc: Global) -> Result<Value, Error> {
+    from_slice(text, alloc)
+}
+
 #[test]
 fn spellings_of_one_value_are_equal(rt: HostRuntime) -> Result<(), Fail> {
     let alloc = rt.alloc();
-    let short: Value = from_slice(&[0xc0, 2, 1, 0x43], alloc)?;
-    let wide: Value = from_slice(&[0xc0, 3, 1, 0x52, 0], alloc)?;
-    assert_eq!(rt; short, wide);
-    let other: Value = from_slice(&[0xc0, 2, 1, 0x44], alloc)?;
-    assert!(rt; short != other);
+    let short = &[0xc0, 2, 1, 0x43];
+    let wide = &[0xc0, 3, 1, 0x52, 0];
+    let other = &[0xc0, 2, 1, 0x44];
+    assert!(rt; are_equal(value(short, alloc), value(wide, alloc))?);
+    assert!(rt; !are_equal(value(short, alloc), value(other, alloc))?);
     Ok(())
+}
+
+fn mixed_array(alloc: Global) -> Result<Value, Error> {
+    let items = vec![in alloc; Value::Uint(1), Value::Bool(true)]?;
+    Ok(Value::Array(Array::from(items)))
+}
+
+fn map_with_a_key_twice(alloc: Global) -> Result<Value, Error> {
+    let first = (Value::Uint(0), Value::Null);
+    let second = (Value::Uint(0), Value::Bool(true));
+    Ok(Value::Map(ValueMap(vec![in alloc; first, second]?)))
 }
 
 #[test]
 fn what_isnt_written(rt: HostRuntime) -> Result<(), Fail> {
     let alloc = rt.alloc();
-    let mut items: Vec<Value> = Vec::new(alloc);
-    items.push(Value::Uint(1))?;
-    items.push(Value::Bool(true))?;
-    let mixed = Value::Array(Array::from(items));
-    assert_eq!(rt; to_vec(&mixed, alloc).err(), Some(Error::MixedArray));
-    let mut pairs: Vec<(Value, Value)> = Vec::new(alloc);
-    pairs.push((Value::Uint(0), Value::Null))?;
-    pairs.push((Value::Uint(0), Value::Bool(true)))?;
-    let map = Value::Map(ValueMap(pairs));
-    assert_eq!(rt; to_vec(&map, alloc).err(), Some(Error::DuplicateKey));
+    assert_eq!(rt;
+        refusal(mixed_array(alloc)?, alloc),
+        Some(Error::MixedArray)
+    );
+    assert_eq!(rt;
+        refusal(map_with_a_key_twice(alloc)?, alloc),
+        Some(Error::DuplicateKey)
+    );
     Ok(())
 }
 
 // So many lists, one in another, around an empty one.
-fn lists(levels: usize, alloc: Global) -> Result<Value, Fail> {
+fn lists(levels: usize, alloc: Global) -> Result<Value, Error> {
     let mut value = Value::List(Vec::new(alloc));
     for _ in 0..levels {
-        let mut items: Vec<Value> = Vec::new(alloc);
-        items.push(value)?;
-        value = Value::List(items);
+        value = Value::List(vec![in alloc; value]?);
     }
     Ok(value)
 }
@@ -49,37 +61,42 @@ fn lists(levels: usize, alloc: Global) -> Result<Value, Fail> {
 #[test]
 fn what_nests_too_deep_isnt_written(rt: HostRuntime) -> Result<(), Fail> {
     let alloc = rt.alloc();
-    assert_eq!(rt; to_vec(&lists(127, alloc)?, alloc).err(), None);
-    let refused = to_vec(&lists(128, alloc)?, alloc).err();
-    assert_eq!(rt; refused, Some(Error::Depth));
+    assert_eq!(rt; refusal(lists(127, alloc)?, alloc), None);
+    assert_eq!(rt; refusal(lists(128, alloc)?, alloc), Some(Error::Depth));
     Ok(())
 }
 
 // Why such bytes are no value, or that they are.
-fn refusal(text: &[u8], alloc: Global) -> Option<Error> {
+fn fault(text: &[u8], alloc: Global) -> Option<Error> {
     canonical_text::<Value>(text, alloc).err()
+}
+
+fn fault_of_nest(levels: u8, alloc: Global) -> Result<Option<Error>, Fail> {
+    let text = nested(levels, alloc)?;
+    Ok(fault(text.as_slice(), alloc))
+}
+
+fn fault_of_chain(descriptors: usize, code: u8, alloc: Global) -> Result<Option<Error>, Fail> {
+    let text = chain(descriptors, code, alloc)?;
+    Ok(fault(text.as_slice(), alloc))
+}
+
+// Whether the text of so many descriptors is what it is read from.
+fn is_chain_canonical(descriptors: usize, code: u8, alloc: Global) -> Result<bool, Fail> {
+    let described = chain(descriptors, code, alloc)?;
+    let (text, _) = canonical_text::<Value>(described.as_slice(), alloc)?;
+    Ok(text.as_slice() == described.as_slice())
 }
 
 #[test]
 fn as_deep_as_values_may_nest(rt: HostRuntime) -> Result<(), Fail> {
     let alloc = rt.alloc();
-    assert_eq!(rt; refusal(nested(127, alloc)?.as_slice(), alloc), None);
-    assert_eq!(rt; refusal(nested(128, alloc)?.as_slice(), alloc), None);
-    assert_eq!(rt;
-        refusal(nested(129, alloc)?.as_slice(), alloc),
-        Some(Error::Depth)
-    );
-    let described = chain(128, 0x40, alloc)?;
-    let (text, _) = canonical_text::<Value>(described.as_slice(), alloc)?;
-    assert_eq!(rt; text.as_slice(), described.as_slice());
-    assert_eq!(rt;
-        refusal(chain(129, 0x40, alloc)?.as_slice(), alloc),
-        Some(Error::Depth)
-    );
-    assert_eq!(rt;
-        refusal(chain(128, 0x45, alloc)?.as_slice(), alloc),
-        Some(Error::Depth)
-    );
+    assert_eq!(rt; fault_of_nest(127, alloc)?, None);
+    assert_eq!(rt; fault_of_nest(128, alloc)?, None);
+    assert_eq!(rt; fault_of_nest(129, alloc)?, Some(Error::Depth));
+    assert!(rt; is_chain_canonical(128, 0x40, alloc)?);
+    assert_eq!(rt; fault_of_chain(129, 0x40, alloc)?, Some(Error::Depth));
+    assert_eq!(rt; fault_of_chain(128, 0x45, alloc)?, Some(Error::Depth));
     Ok(())
 }
 
@@ -95,23 +112,32 @@ fn keyed(levels: u8, alloc: Global) -> Result<Vec<u8>, Fail> {
     Ok(text)
 }
 
+// Whether the text of a map that holds so many levels of lists is what it is read from.
+fn is_map_written_again(levels: u8, alloc: Global) -> Result<bool, Fail> {
+    let deep = keyed(levels, alloc)?;
+    let (text, _) = canonical_text::<ValueMap>(deep.as_slice(), alloc)?;
+    let (again, _) = canonical_text::<ValueMap>(text.as_slice(), alloc)?;
+    Ok(again.as_slice() == text.as_slice())
+}
+
+fn fault_of_map(levels: u8, alloc: Global) -> Result<Option<Error>, Fail> {
+    let text = keyed(levels, alloc)?;
+    Ok(canonical_text::<ValueMap>(text.as_slice(), alloc).err())
+}
+
 #[test]
 fn as_deep_as_values_of_a_map_may_nest(rt: HostRuntime) -> Result<(), Fail> {
     let alloc = rt.alloc();
-    let deep = keyed(127, alloc)?;
-    let (text, _) = canonical_text::<ValueMap>(deep.as_slice(), alloc)?;
-    let (again, _) = canonical_text::<ValueMap>(text.as_slice(), alloc)?;
-    assert_eq!(rt; again.as_slice(), text.as_slice());
-    let deeper = keyed(128, alloc)?;
-    let refused = canonical_text::<ValueMap>(deeper.as_slice(), alloc);
-    assert_eq!(rt; refused.err(), Some(Error::Depth));
+    assert!(rt; is_map_written_again(127, alloc)?);
+    assert_eq!(rt; fault_of_map(128, alloc)?, Some(Error::Depth));
     Ok(())
 }
 
 #[test]
 fn a_hostile_nest_is_refused_at_once(rt: HostRuntime) -> Result<(), Fail> {
-    let alloc = rt.alloc();
-    let text = chain(100_000, 0x40, alloc)?;
-    assert_eq!(rt; refusal(text.as_slice(), alloc), Some(Error::Depth));
+    assert_eq!(rt;
+        fault_of_chain(100_000, 0x40, rt.alloc())?,
+        Some(Error::Depth)
+    );
     Ok(())
 }

@@ -1,15 +1,6 @@
 //! Tests of types that are one of several: which member a value is, and what is made of each member.
-#![tactic(auto)]
-
-#[cfg(test)]
-mod answers;
-#[cfg(test)]
 mod order;
-#[cfg(test)]
 mod outcomes;
-#[cfg(test)]
 mod performatives;
-#[cfg(test)]
 mod states;
-#[cfg(test)]
 mod sums;

@@ -39,10 +39,8 @@ pub(crate) enum Step {
 
 // Whether this value is read.
 fn is_value<T: PartialEq + Drop>(read: Result<T, Error>, value: T) -> Result<bool, Error> {
-    match read {
-        Ok(found) => Ok(found == value),
-        Err(error) => Err(error),
-    }
+    let found = read?;
+    Ok(found == value)
 }
 
 // Whether the step's number is read.

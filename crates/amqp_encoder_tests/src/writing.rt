@@ -57,14 +57,12 @@ fn nested<'a>(
     end: Step<'a>,
     alloc: Global,
 ) -> Result<Vec<Step<'a>>, Error> {
+    let count = count as usize;
     let mut steps = Vec::new(alloc);
-    for _ in 0..count {
-        steps.push(begin)?;
-    }
+    steps.resize(count, begin)?;
     steps.extend_from_slice(inner)?;
-    for _ in 0..count {
-        steps.push(end)?;
-    }
+    let len = steps.len().saturating_add(count);
+    steps.resize(len, end)?;
     Ok(steps)
 }
 

@@ -6,20 +6,28 @@ use std::io;
 use std::io::{ErrorKind, Read, Write};
 use std::test::Fail;
 
-// Whether every line is `ok`, and what is answered.
-fn answer(input: &str, alloc: Global) -> Result<(bool, Vec<u8>), Error> {
+// How the engine ends over the reader, if this is what it answers, and nothing else.
+fn ending<R: Read + Drop>(reader: R, wanted: &str, alloc: Global) -> Option<Result<bool, Error>> {
     let mut output = Vec::new(alloc);
-    let all_ok = run(input.as_bytes(), &mut output, alloc)?;
-    Ok((all_ok, output))
+    let ended = run(reader, &mut output, alloc);
+    if output.as_slice() == wanted.as_bytes() {
+        Some(ended)
+    } else {
+        None
+    }
+}
+
+// Whether this is answered, and whether every line is `ok`.
+fn is_answered(input: &str, wanted: &str, all_ok: bool, alloc: Global) -> bool {
+    ending(input.as_bytes(), wanted, alloc) == Some(Ok(all_ok))
 }
 
 // Each input is answered so.
 fn check_answers(rows: &[(&str, &str)], alloc: Global) -> Result<(), Fail> {
     for (input, wanted) in rows {
-        let (_, output) = answer(*input, alloc)?;
-        if output.as_slice() != wanted.as_bytes() {
+        let Some(Ok(_)) = ending(input.as_bytes(), *wanted, alloc) else {
             return Err(Fail::new(format_args!("{input} is answered otherwise")));
-        }
+        };
     }
     Ok(())
 }
@@ -27,8 +35,7 @@ fn check_answers(rows: &[(&str, &str)], alloc: Global) -> Result<(), Fail> {
 // Each input is one line of another form.
 fn check_other_forms(inputs: &[&str], alloc: Global) -> Result<(), Fail> {
     for input in inputs {
-        let (all_ok, output) = answer(*input, alloc)?;
-        if all_ok || output.as_slice() != b"no 0 Line\n".as_slice() {
+        if !is_answered(*input, "no 0 Line\n", false, alloc) {
             return Err(Fail::new(format_args!("{input} is answered otherwise")));
         }
     }
@@ -36,14 +43,11 @@ fn check_other_forms(inputs: &[&str], alloc: Global) -> Result<(), Fail> {
 }
 
 #[test]
-fn lines_are_answered_in_order(rt: HostRuntime) -> Result<(), Fail> {
+fn lines_are_answered_in_order(rt: HostRuntime) {
     let input =
         "accepted 005324c00000\nreceived 005323c005025209530dff\ndelivery-state 005323c005025209530d";
-    let (all_ok, output) = answer(input, rt.alloc())?;
-    assert!(rt; all_ok);
-    let want = "ok 00532445 0\nok 005323c005025209530d 1\nok 005323c005025209530d 0\n";
-    assert_eq!(rt; output.as_slice(), want.as_bytes());
-    Ok(())
+    let wanted = "ok 00532445 0\nok 005323c005025209530d 1\nok 005323c005025209530d 0\n";
+    assert!(rt; is_answered(input, wanted, true, rt.alloc()));
 }
 
 #[test]
@@ -110,29 +114,22 @@ fn sections_in_a_row(rt: HostRuntime) -> Result<(), Fail> {
 }
 
 #[test]
-fn limits_hold_for_the_lines_behind(rt: HostRuntime) -> Result<(), Fail> {
-    let received = "received 005323c005025209530d";
-    let input = format!(in rt.alloc();
-        "limits 128 4 100\naccepted 00532445\naccepted 005324c00000\nlimits 1 100 100\n{received}\n\
-        limits 2 100 3\n{received}\nlimits 2 100 2\n{received}\nlimits 129 1 1"
-    )?;
-    let (all_ok, output) = answer(input.as_str(), rt.alloc())?;
-    assert!(rt; !all_ok);
-    let want = "limits 128 4 100\nok 00532445 0\nno 31 Limit\nlimits 1 100 100\nno 31 Limit\n\
+fn limits_hold_for_the_lines_behind(rt: HostRuntime) {
+    let input = "limits 128 4 100\naccepted 00532445\naccepted 005324c00000\n\
+        limits 1 100 100\nreceived 005323c005025209530d\n\
+        limits 2 100 3\nreceived 005323c005025209530d\n\
+        limits 2 100 2\nreceived 005323c005025209530d\nlimits 129 1 1";
+    let wanted = "limits 128 4 100\nok 00532445 0\nno 31 Limit\nlimits 1 100 100\nno 31 Limit\n\
         limits 2 100 3\nok 005323c005025209530d 0\nlimits 2 100 2\nno 31 Limit\nno 0 Line\n";
-    assert_eq!(rt; output.as_slice(), want.as_bytes());
-    Ok(())
+    assert!(rt; is_answered(input, wanted, false, rt.alloc()));
 }
 
 #[test]
 fn a_line_that_sets_limits_is_ok(rt: HostRuntime) -> Result<(), Fail> {
-    let (all_ok, output) = answer("accepted 00532445\nlimits 0 1 1\nboolean 41", rt.alloc())?;
-    assert!(rt; all_ok);
-    let want = "ok 00532445 0\nlimits 0 1 1\nok 41 0\n";
-    assert_eq!(rt; output.as_slice(), want.as_bytes());
-    let (all_ok, output) = answer("limits 0 1 1", rt.alloc())?;
-    assert!(rt; all_ok);
-    assert_eq!(rt; output.as_slice(), b"limits 0 1 1\n".as_slice());
+    let input = "accepted 00532445\nlimits 0 1 1\nboolean 41";
+    let wanted = "ok 00532445 0\nlimits 0 1 1\nok 41 0\n";
+    assert!(rt; is_answered(input, wanted, true, rt.alloc()));
+    assert!(rt; is_answered("limits 0 1 1", "limits 0 1 1\n", true, rt.alloc()));
     check_other_forms(
         &[
             "limits 00 1 1",
@@ -190,29 +187,24 @@ impl Write for Narrow {
     }
 }
 
+/// What a reader or a writer that fails is answered.
+const FAILED: Result<bool, Error> = Err(Error::Read(ErrorKind::Interrupted));
+
+// How the engine ends if the writer takes so many bytes of the answer to one line.
+fn ending_within(room: usize, alloc: Global) -> Result<bool, Error> {
+    run(b"accepted 00532445".as_slice(), &mut Narrow { room }, alloc)
+}
+
 #[test]
-fn failing_ends(rt: HostRuntime) -> Result<(), Fail> {
+fn failing_ends(rt: HostRuntime) {
+    let alloc = rt.alloc();
     let reader = OneByOne {
         bytes: b"accepted 00532445\nacc",
         calls: 21,
     };
-    let mut output = Vec::new(rt.alloc());
-    let answer = run(reader, &mut output, rt.alloc());
-    assert_eq!(rt; answer, Err(Error::Read(ErrorKind::Interrupted)));
-    assert_eq!(rt; output.as_slice(), b"ok 00532445 0\n".as_slice());
-    let answer = run(
-        b"accepted 00532445".as_slice(),
-        &mut Narrow { room: 13 },
-        rt.alloc(),
-    );
-    assert_eq!(rt; answer, Err(Error::Read(ErrorKind::Interrupted)));
-    let answer = run(
-        b"accepted 00532445".as_slice(),
-        &mut Narrow { room: 14 },
-        rt.alloc(),
-    );
-    assert_eq!(rt; answer, Ok(true));
-    Ok(())
+    assert_eq!(rt; ending(reader, "ok 00532445 0\n", alloc), Some(FAILED));
+    assert_eq!(rt; ending_within(13, alloc), FAILED);
+    assert_eq!(rt; ending_within(14, alloc), Ok(true));
 }
 
 /// Lines of which some are refused.
@@ -229,20 +221,25 @@ const ANSWERS: &str = "ok 00532445 0\n\
     ok - 0\n\
     no 0 Line\n";
 
+// The lines, from a reader that fails after so many calls.
+fn lines_within(calls: usize) -> OneByOne<'static> {
+    OneByOne {
+        bytes: LINES.as_bytes(),
+        calls,
+    }
+}
+
+// How the engine ends over the lines if the reader fails after so many calls.
+fn ending_after(calls: usize, alloc: Global) -> Result<bool, Error> {
+    run(lines_within(calls), &mut Vec::new(alloc), alloc)
+}
+
 // Over a reader that gives one byte a call the lines are answered as text in memory is, and each call that fails ends them.
 #[test]
-fn lines_of_a_reader(rt: HostRuntime) -> Result<(), Fail> {
+fn lines_of_a_reader(rt: HostRuntime) {
     let alloc = rt.alloc();
-    let bytes = LINES.as_bytes();
-    for calls in 0..=bytes.len() {
-        let reader = OneByOne { bytes, calls };
-        let answer = run(reader, &mut Vec::new(alloc), alloc);
-        assert_eq!(rt; answer, Err(Error::Read(ErrorKind::Interrupted)));
+    for calls in 0..=LINES.len() {
+        assert_eq!(rt; ending_after(calls, alloc), FAILED);
     }
-    let calls = 1000;
-    let mut output = Vec::new(alloc);
-    let answer = run(OneByOne { bytes, calls }, &mut output, alloc);
-    assert_eq!(rt; answer, Ok(false));
-    assert_eq!(rt; output.as_slice(), ANSWERS.as_bytes());
-    Ok(())
+    assert_eq!(rt; ending(lines_within(1000), ANSWERS, alloc), Some(Ok(false)));
 }

@@ -29,6 +29,31 @@ enum Row {
     Described,
 }
 
+fn read_item<R: ByteSource>(
+    decoder: &mut Decoder<R>,
+    row: Row,
+    alloc: Global,
+) -> Result<(), Error> {
+    match row {
+        Row::Ubytes => {
+            decoder.read_ubyte()?;
+        }
+        Row::Binaries => {
+            decoder.read_binary(alloc)?;
+        }
+        _ => decoder.read_null()?,
+    }
+    Ok(())
+}
+
+fn end_items<R: ByteSource>(decoder: &mut Decoder<R>, row: Row) -> Result<(), Error> {
+    match row {
+        Row::Nulls | Row::Binaries => decoder.end_list(),
+        Row::Map => decoder.end_map(),
+        _ => decoder.end_array(),
+    }
+}
+
 fn read_items<R: ByteSource>(
     decoder: &mut Decoder<R>,
     row: Row,
@@ -36,21 +61,9 @@ fn read_items<R: ByteSource>(
     alloc: Global,
 ) -> Result<u64, Error> {
     for _ in 0..count {
-        match row {
-            Row::Ubytes => {
-                decoder.read_ubyte()?;
-            }
-            Row::Binaries => {
-                decoder.read_binary(alloc)?;
-            }
-            _ => decoder.read_null()?,
-        }
+        read_item(decoder, row, alloc)?;
     }
-    match row {
-        Row::Nulls | Row::Binaries => decoder.end_list()?,
-        Row::Map => decoder.end_map()?,
-        _ => decoder.end_array()?,
-    }
+    end_items(decoder, row)?;
     Ok(u64::from(count))
 }
 
@@ -327,21 +340,32 @@ fn terms(rt: HostRuntime) -> Result<(), Fail> {
     )
 }
 
+/// A described ubyte, begun by the one or the other call, and one thousand.
+fn read_described_ubyte<R: ByteSource>(
+    decoder: &mut Decoder<R>,
+    is_by_any: bool,
+    alloc: Global,
+) -> Result<u64, Error> {
+    if decoder.peek_code()? != 0 {
+        return Err(Error::InvalidValue);
+    }
+    if is_by_any {
+        decoder.begin_described(alloc)?;
+    } else {
+        decoder.begin_one_of(&[(0x24, "b")])?;
+    }
+    let number = decoder.read_ubyte()?;
+    decoder.end_described()?;
+    Ok(1000 + u64::from(number))
+}
+
 /// The items of an array of described values, by both calls that begin one.
 fn read_shared<R: ByteSource>(decoder: &mut Decoder<R>, alloc: Global) -> Result<u64, Error> {
     let count = decoder.begin_array(alloc)?;
     let mut sum: u64 = 0;
     for index in 0..count {
-        if decoder.peek_code()? != 0 {
-            return Err(Error::InvalidValue);
-        }
-        if index % 2 == 0 {
-            decoder.begin_described(alloc)?;
-        } else {
-            decoder.begin_one_of(&[(0x24, "b")])?;
-        }
-        sum = sum.saturating_add(1000 + u64::from(decoder.read_ubyte()?));
-        decoder.end_described()?;
+        let item = read_described_ubyte(decoder, index % 2 == 0, alloc)?;
+        sum = sum.saturating_add(item);
     }
     decoder.end_array()?;
     Ok(sum)
