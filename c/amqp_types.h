@@ -7,12 +7,17 @@
  * Each input and each room is a pointer and a length. The pointer may be null if the length is 0. What a call reads and what it writes may not
  * overlap. Every other pointer points to one value, and is never null.
  *
- * docs/C.md says what of these calls is proved. */
+ * docs/C.md says what of these calls is proved.
+ *
+ * SPDX-License-Identifier: MIT OR Apache-2.0 */
 #ifndef AMQP_TYPES_H
 #define AMQP_TYPES_H
 
 #include <stddef.h>
 #include <stdint.h>
+
+/* The version of this library, which is apart from that of the Rust crate fe2o3-amqp-types. */
+#define AMQP_TYPES_VERSION "0.1.0"
 
 #ifdef __cplusplus
 extern "C" {

@@ -19,6 +19,12 @@ import uuid
 from collections.abc import Iterator
 from dataclasses import dataclass
 
+__version__ = "0.1.0"
+"""The version of this module, which is apart from that of the Rust crate `fe2o3-amqp-types`."""
+
+__license__ = "MIT OR Apache-2.0"
+"""The licenses of this module, of which you may choose one."""
+
 UNLIMITED = 2**64 - 1
 """The number of bytes or of items that sets no limit."""
 
