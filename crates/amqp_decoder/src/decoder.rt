@@ -38,7 +38,6 @@ pub struct Decoder<R: ByteSource> {
     nesting: usize,
     bytes: u64,
     items: u64,
-    hash_seed: u64,
     // One term is read, and what stands behind it isn't looked at.
     alone: bool,
     descriptors: Vec<Descriptor>,
@@ -85,12 +84,6 @@ impl<R: ByteSource> Decoder<R> {
             Some(kept) => kept,
             None => self.stop(error),
         }
-    }
-
-    /// The seed by which the keys of maps are hashed, which the limits give; 0 for none.
-    #[inline(always)]
-    pub fn hash_seed(&self) -> u64 {
-        self.hash_seed
     }
 
     // Keeps the error of a decoder that hasn't refused.
@@ -210,7 +203,6 @@ fn decoder_at_top<R: ByteSource>(
         nesting: limits.nesting() as usize,
         bytes: limits.bytes(),
         items: limits.items(),
-        hash_seed: limits.hash_seed(),
         alone,
         descriptors: Vec::new(alloc),
         frames: Row::new(),

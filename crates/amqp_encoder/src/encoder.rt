@@ -1,6 +1,5 @@
 //! What values are written to.
 ghost use Rattle.std.specs.Prelude.{◌≡◌, ◌≤◌, ℕ, [], ◌∷◌, length, OnOk, IfOk, IfErr, List, Ok, Err};
-ghost use Rattle.std.specs.Bool.{Decides};
 ghost use Rattle.std.specs.Vec.{vec_capacity};
 ghost use Rattle.amqp_model.specs.Term.{Primitive, null, symbol, list, map, array};
 ghost use Rattle.amqp_encoder.specs.State.{Stopped};
@@ -8,7 +7,7 @@ ghost use Rattle.amqp_wire.specs.Containers.{container_of};
 ghost use Rattle.amqp_encoder.specs.Values.{descriptor_of};
 ghost use Rattle.amqp_encoder.specs.Spelled.{IsFixed, IsVariable};
 ghost use Rattle.amqp_encoder.specs.Tokens.{put, keep, begin, end, begin_described, end_described, refuse};
-ghost use Rattle.amqp_encoder.specs.Writes.{Writes, Fills, pass_of, bytes_of};
+ghost use Rattle.amqp_encoder.specs.Writes.{Writes, pass_of, bytes_of};
 ghost use Rattle.amqp_encoder.specs.Passes.{BeginsMeasuring, BeginsFilling, Finds, FindsNone, answer_of};
 
 use crate::fill::Fill;
@@ -47,14 +46,6 @@ impl Encoder {
             Mode::Measuring | Mode::Filling => Ok(()),
             Mode::Stopped(error) => Err(error),
         }
-    }
-
-    /// Whether it fills a buffer with what was measured before.
-    #[inline(always)]
-    pub fn fills(&self) -> bool
-        ensures { Decides result (Fills (pass_of self.now)) }
-    {
-        matches!(self.mode, Mode::Filling)
     }
 
     // An error is the answer from here on.

@@ -2,12 +2,10 @@
 #![tactic(auto)]
 
 mod compared;
-mod key_hashing;
 pub mod laws;
 mod ordered_map;
 mod read;
 mod written;
 
 pub use indexmap::map::{IntoIter, Iter, Values};
-pub use key_hashing::{KeyHasher, KeyHashing};
 pub use ordered_map::OrderedMap;

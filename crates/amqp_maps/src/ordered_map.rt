@@ -8,7 +8,6 @@ ghost use Rattle.indexmap.specs.IndexMap.{insert_entry};
 ghost use Rattle.amqp_wire.specs.declared.error.Error.TheVariants.{Memory};
 ghost use Rattle.amqp_maps.specs.Pairs.{HaveDistinctKeys};
 
-use crate::KeyHashing;
 use amqp_wire::Error;
 use indexmap::IndexMap;
 use indexmap::map::{IntoIter, Iter, Values};
@@ -26,7 +25,7 @@ use std::marker::Model;
 /// is refused by `OddCount`, and one with two equal keys by `DuplicateKey`, right behind the second of them. The count reserves no memory.
 #[derive(Debug, Drop)]
 pub struct OrderedMap<K: Eq + Hash, V> {
-    pairs: IndexMap<K, V, KeyHashing>,
+    pairs: IndexMap<K, V>,
 }
 
 impl<K: Eq + Hash, V> Model for OrderedMap<K, V> {
@@ -46,12 +45,12 @@ impl<K: Eq + Hash, V> OrderedMap<K, V> {
         ensures { result ≡ [] }
     {
         OrderedMap {
-            pairs: IndexMap::with_hasher(alloc, KeyHashing { seed: 0 }),
+            pairs: IndexMap::new(alloc),
         }
     }
 
     // The map of these pairs.
-    pub(crate) fn of_pairs(pairs: IndexMap<K, V, KeyHashing>) -> OrderedMap<K, V>
+    pub(crate) fn of_pairs(pairs: IndexMap<K, V>) -> OrderedMap<K, V>
         ensures { result ≡ pairs.entries }
     {
         let _distinct = pairs.len();

@@ -11,7 +11,7 @@ ghost use Rattle.amqp_codec.specs.MapReading.{ReadsPairsRow, PairsFault};
 ghost use Rattle.amqp_codec.specs.MapReadingLaws.{map_of, map_faults};
 ghost use Rattle.amqp_codec.specs.MapWriting.{map_agreement};
 
-use crate::{KeyHashing, OrderedMap};
+use crate::OrderedMap;
 use amqp_codec::{DeserializeTerm, MapKey};
 use amqp_decoder::Decoder;
 use amqp_wire::{ByteSource, Error};
@@ -22,9 +22,9 @@ use std::alloc::Global;
 // The place behind the last pair, with room, for a key that none of them has. A key that one of them has is `DuplicateKey`, and
 // memory for the room that is refused is `Memory`.
 fn new_place<K: MapKey, V: DeserializeTerm>(
-    pairs: &mut IndexMap<K, V, KeyHashing>,
+    pairs: &mut IndexMap<K, V>,
     key: K,
-) -> Result<VacantEntry<'_, K, V, KeyHashing>, Error>
+) -> Result<VacantEntry<'_, K, V>, Error>
     ensures same_pairs { IfOk result (λ place. (entry_map_ref (Vacant place)).ghost_name ≡ pairs.entry.ghost_name) }
     ensures last { IfOk result (λ place. (v : V) → (map_with_value (Vacant place) v).entries ≡ insert_entry K.eq pairs.old.entries key v) }
     ensures new { OnOk result (get K.eq pairs.old key ≡ None) }
@@ -49,8 +49,7 @@ fn read_pairs<K: MapKey, V: DeserializeTerm, R: ByteSource>(
         (PairsFault K.term V.term count) decoder.old result decoder.new }
     ensures tries { Passes true decoder.old result decoder.new }
 {
-    let seed = decoder.hash_seed();
-    let mut pairs = IndexMap::with_hasher(alloc, KeyHashing { seed });
+    let mut pairs = IndexMap::new(alloc);
     for _ in 0..count {
         let key = K::read_value(decoder, alloc)?;
         match new_place(&mut pairs, key) {

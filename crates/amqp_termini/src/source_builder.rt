@@ -17,21 +17,13 @@ use amqp_values::Value;
 use std::alloc::Global;
 use std::marker::Model;
 
-// The value in a box. The only error is `Memory`.
-fn boxed<T: Drop>(value: T, alloc: Global) -> Result<Box<T>, Error>
-    ensures value { IfOk result (λ made. made.value ≡ value) }
-    ensures refused { IfErr result (λ e. e ≡ Memory) }
-{
-    Ok(Box::new(alloc, value)?)
-}
-
 // A filter's value, or null. The only error is `Memory`.
 fn filter_value(value: Option<Described<Value>>, alloc: Global) -> Result<Value, Error>
     ensures value { IfOk result (λ made. value_term made ≡ filter_term value) }
     ensures refused { IfErr result (λ e. e ≡ Memory) }
 {
     match value {
-        Some(described) => Ok(Value::Described(boxed(described, alloc)?)),
+        Some(described) => Ok(Value::Described(Box::new(alloc, described)?)),
         None => Ok(Value::Null),
     }
 }

@@ -20,4 +20,3 @@ pub mod Labels
 pub mod Order
 pub mod OrderLaws
 pub mod Hashed
-pub mod Digests

@@ -2,7 +2,6 @@
 #![tactic(auto)]
 
 mod copied;
-mod digest;
 mod equality;
 mod format_code;
 mod hashed;
@@ -16,7 +15,6 @@ mod map_calls;
 mod map_iter;
 mod order;
 mod read;
-mod sorted;
 mod taken;
 mod typing;
 mod value;

@@ -15,7 +15,7 @@ ghost use Rattle.amqp_values.specs.Levels.{faults_of, faults_at, value_in, IsBou
 ghost use Rattle.amqp_values.specs.ValueType.{value_type, value_agreement};
 ghost use Rattle.amqp_values.specs.ValueMapType.{value_map_type, value_map_agreement};
 
-use crate::keys::has_equal_keys;
+use crate::keys::is_among;
 use crate::typing::descriptor_typed;
 use crate::{Value, ValueMap};
 use amqp_codec::DeserializeTerm;
@@ -191,16 +191,15 @@ fn read_pairs<R: ByteSource>(
     let mut pairs = Vec::new(alloc);
     for _ in 0..count {
         let key = read_any(decoder, levels, alloc)?;
+        if is_among(&key, pairs.as_slice(), 0) {
+            return Err(decoder.refuse(Error::DuplicateKey));
+        }
         let value = read_any(decoder, levels, alloc)?;
         if pairs.push((key, value)).is_err() {
             return Err(decoder.refuse(Error::Memory));
         }
     }
-    match has_equal_keys(pairs.as_slice(), alloc) {
-        Ok(false) => Ok(pairs),
-        Ok(true) => Err(decoder.refuse(Error::DuplicateKey)),
-        Err(_) => Err(decoder.refuse(Error::Memory)),
-    }
+    Ok(pairs)
 }
 
 impl DeserializeTerm for Value {
