@@ -22,7 +22,7 @@ pub use nodes::{Kind, Node, Nodes};
 pub use types::Type;
 
 /// The version of this crate, which is apart from that of `fe2o3-amqp-types`.
-pub const VERSION: &str = env!("CARGO_PKG_VERSION");
+pub const VERSION: &str = "0.1.0";
 
 /// The number of the error that the text has more bytes than there is room for.
 const NO_ROOM: u32 = 1000;
