@@ -1,13 +1,13 @@
 /* The data types of AMQP 1.0 (OASIS, Parts 1 to 5): values are read, measured and rewritten as their canonical text.
  *
- * Link with libamqp_types.a. No call keeps state, returns a pointer or gives the caller memory to free. So all of them may be called from any
- * number of threads at once, if no two calls write to the same place. Memory that a call takes, it gives back: it comes from malloc and
- * realloc of the program, and what they refuse is AMQP_ERROR_MEMORY.
+ * Link with libamqp_types.a. No call keeps state, returns a pointer or gives the caller memory to free. So any number of threads may call them
+ * at once, if no two calls write to the same place. Calls free what they allocate, with the program's malloc, realloc and free. If an
+ * allocation fails, the error is AMQP_ERROR_MEMORY.
  *
- * Each input and each room is a pointer and a length. The pointer may be null if the length is 0. What a call reads and what it writes may not
- * overlap. Every other pointer points to one value, and is never null.
+ * Each input and each room is a pointer and a length. The pointer may be null if the length is 0. What a call reads and what it writes must
+ * not overlap. Every other pointer points to one value, and is never null.
  *
- * docs/C.md says what of these calls is proved.
+ * docs/C.md says what is proved about these calls.
  *
  * SPDX-License-Identifier: MIT OR Apache-2.0 */
 #ifndef AMQP_TYPES_H
@@ -16,7 +16,7 @@
 #include <stddef.h>
 #include <stdint.h>
 
-/* The version of this library, which is apart from that of the Rust crate fe2o3-amqp-types. */
+/* The version of this library, which is independent of that of the Rust crate fe2o3-amqp-types. */
 #define AMQP_TYPES_VERSION "0.1.0"
 
 #ifdef __cplusplus
@@ -90,7 +90,7 @@ enum amqp_type {
     AMQP_TYPE_VALUE = 62
 };
 
-/* The errors. Each of 1 to 31 is explained in docs/ERRORS.md; a slice doesn't fail, so no call returns AMQP_ERROR_READ. */
+/* The errors. docs/ERRORS.md explains each of 1 to 31. A slice doesn't fail, so no call returns AMQP_ERROR_READ. */
 enum amqp_error {
     AMQP_ERROR_NONE = 0,
     AMQP_ERROR_CUT = 1,
@@ -131,42 +131,50 @@ enum amqp_error {
 
 /* What a call returns. */
 struct amqp_outcome {
-    uint32_t number; /* an amqp_error, 0 if the call did what it is for */
-    uint32_t detail; /* the format code that AMQP_ERROR_UNKNOWN_CODE, _FLOAT_CODE or _WRONG_TYPE names, otherwise 0 */
+    uint32_t number; /* an amqp_error, 0 if there is none */
+    uint32_t detail; /* the format code of AMQP_ERROR_UNKNOWN_CODE, _FLOAT_CODE or _WRONG_TYPE; the reason of AMQP_ERROR_CUSTOM, which no
+                      * call returns; otherwise 0 */
 };
 
 /* Limits on what is read. The greatest number of bytes or of items, UINT64_MAX, sets no limit. */
 struct amqp_limits {
-    uint32_t nesting; /* how many lists, maps, arrays of such values and described values stand in one another at most, up to 128 */
+    uint32_t nesting; /* how deep values may nest, up to 128: lists, maps and described values count, and an array counts if one of its
+                       * items is no primitive */
     uint64_t bytes;   /* how many bytes are read at most */
     uint64_t items;   /* how many values are in them at most: each primitive, list, map and array is one */
+    uint64_t hash_seed; /* the seed by which the keys of hashed maps are hashed, which a peer must not know; 0 for none, and a faster hash */
 };
 
-/* Sets the limits to the greatest, under which all is read that nests at most 128 deep. */
+/* Sets the limits to the greatest, under which everything is read that nests at most 128 deep, without a seed. */
 void amqp_c_greatest(struct amqp_limits *limits);
+
+/* Sets the limits to those for input from a peer, of which at most this many bytes are read. Values nest at most 128 deep, and there are at
+ * most as many of them as bytes. The seed is 0: set one that the peer doesn't know. */
+void amqp_c_for_peers(struct amqp_limits *limits, uint64_t bytes);
 
 /* Returns the number of the type with this name, as "open" or "message-data", without a 0 at the end; or 0 if no type has it. */
 uint32_t amqp_c_type(const uint8_t *name, size_t len);
 
-/* Reads the value of the type that the input begins with, within the limits. What follows it is left.
- * 0: *taken is how many bytes the value takes. No other number of bytes is a value of the type that the input begins with.
- * 1 to 31: the input begins with no such value, and the error names a fault of it; or memory ran out (AMQP_ERROR_MEMORY).
- * AMQP_ERROR_NO_TYPE, AMQP_ERROR_NO_LIMITS: of the number and the limits. After any error *taken is as it was. */
+/* Reads the value of the type at the start of the input, within the limits. What follows it is ignored.
+ * 0: *taken is how many bytes the value takes. The input begins with no value of the type that takes another number of bytes.
+ * 1 to 31: the input begins with no such value, and the error reports a fault of it; or an allocation failed (AMQP_ERROR_MEMORY).
+ * AMQP_ERROR_NO_TYPE: no type has the number. AMQP_ERROR_NO_LIMITS: the limits let values nest more than 128 deep.
+ * After any error *taken is unchanged. */
 struct amqp_outcome amqp_c_read(uint32_t type, const uint8_t *in, size_t len, const struct amqp_limits *limits, size_t *taken);
 
-/* Writes the canonical text of the value of the type that the input begins with, within the limits.
- * 0: the first *written bytes of the room are the text, those behind are as they were, and the value takes *taken bytes of the input.
- * AMQP_ERROR_NO_ROOM: the text has *written bytes, which is more than room, and the room is as it was; *taken is as above.
- * Other errors: as of amqp_c_read, or AMQP_ERROR_TOO_LARGE if the value is too large to be written; all is as it was. */
+/* Writes the canonical text of the value of the type at the start of the input, within the limits.
+ * 0: the first *written bytes of the room are the text, and the others are unchanged. The value takes *taken bytes of the input.
+ * AMQP_ERROR_NO_ROOM: *written is the text's length, which is greater than room. The room is unchanged, and *taken is as above.
+ * Other errors: those of amqp_c_read, or AMQP_ERROR_TOO_LARGE if the value is too large to be written. Everything is unchanged. */
 struct amqp_outcome amqp_c_canonical(uint32_t type, const uint8_t *in, size_t len, const struct amqp_limits *limits,
                                      uint8_t *out, size_t room, size_t *written, size_t *taken);
 
-/* Tells how long the term is, one encoded value of any type, that the input begins with. It takes no memory.
- * 0: the first *taken bytes are the term. 1 to 31: no front of the input is a term that nests at most 128 deep, and *taken is as it was. */
+/* Measures the term at the start of the input: one encoded value, of any type. It doesn't allocate.
+ * 0: the first *taken bytes are the term. 1 to 31: no prefix of the input is a term that nests at most 128 deep, and *taken is unchanged. */
 struct amqp_outcome amqp_c_term_len(const uint8_t *in, size_t len, size_t *taken);
 
 /* Writes the name of the error with this number, as "Cut", if there is room for it, without a 0 at the end. Returns the length of the name,
- * 0 if no error has the number. If the name is longer than the room, the room is as it was. */
+ * or 0 if no error has the number. If the name is longer than the room, the room is unchanged. */
 size_t amqp_c_error_name(uint32_t number, uint8_t *out, size_t room);
 
 /* The kinds of nodes. */
@@ -197,25 +205,25 @@ enum amqp_kind {
     AMQP_KIND_ARRAY = 23
 };
 
-/* A value in a term. A described value is a node that holds two, its descriptor and its value. */
+/* A value in a term. A described value is a node with two in it, its descriptor and its value. */
 struct amqp_node {
-    uint32_t kind;     /* an amqp_kind; AMQP_KIND_NONE of what is around a whole term */
-    uint32_t depth;    /* how many nodes it stands in */
-    uint8_t code;      /* its format code, 0 of a described value */
-    uint8_t item_code; /* of an array with items their format code, otherwise 0 */
-    size_t count;      /* how many values it holds: items of a list or an array, keys and values of a map, 2 of a described value */
-    size_t start;      /* where what it holds begins, behind its constructor, its size and its count; of an array, with their constructor */
+    uint32_t kind;     /* an amqp_kind; AMQP_KIND_NONE for what is around a whole term */
+    uint32_t depth;    /* how many nodes are around it */
+    uint8_t code;      /* its format code, or 0 for a described value */
+    uint8_t item_code; /* for an array with items, their format code; otherwise 0 */
+    size_t count;      /* how many nodes are directly in it: items of a list or an array, keys and values of a map, 2 for a described value */
+    size_t start;      /* where its content begins, after its constructor, size and count; an array's begins with the items' constructor */
     size_t end;        /* where it ends */
-    size_t next;       /* where the next node begins: the first one in it, or else what follows it */
+    size_t next;       /* where the next node begins: the first one in it, or otherwise the one after it */
 };
 
-/* Tells which node of a term begins at a place of the input. A walk goes from node to node, and needs no tree: it begins with a node of zeros at
- * the place where a whole term begins. What *node holds is found by handing it in again, with its next, and what follows one of these with the
- * end of that one; walk.c does so in ten lines. No memory is taken. Each call reads the node to its end, so a walk reads each byte as often as
- * nodes stand around it.
- * On entry *node is the node around the place, all zeros if there is none; in an array its items have no constructor of their own.
- * 0: *node is the node at the place. Otherwise no node stands there in the node around, and *node is as it was:
- * AMQP_ERROR_CUT if the place is none of it, and errors of reading. */
+/* Finds the node of a term that begins at an offset of the input. Pass the enclosing node in *node, or all zeros if there is none; the call
+ * replaces it by the node at the offset. The items of an array have no constructor of their own, so they need the array as enclosing node.
+ * A walk goes from node to node, and needs no tree. It begins with a node of zeros, at the offset where a whole term begins. The first node in a
+ * node begins at the enclosing node's next, and each further one at the end of the one before it; walk.c shows how. The call doesn't allocate.
+ * Each call reads the node to its end. So a walk reads a byte once for its own node and once for each node around it.
+ * 0: *node is the node at the offset. Otherwise the enclosing node has no node there, and *node is unchanged. The error is AMQP_ERROR_CUT if
+ * the offset isn't in the enclosing node; other errors are those of reading. */
 struct amqp_outcome amqp_c_next(const uint8_t *in, size_t len, size_t at, struct amqp_node *node);
 
 #ifdef __cplusplus

@@ -1,4 +1,5 @@
-/* The program amqp-canon over the header alone: it answers each line of its input by the canonical text, or by the error.
+/* The program amqp_canon over the header alone: it answers each line of its input by the canonical text, or by the error. A number as its
+ * argument is the seed by which keys of maps are hashed, which changes no answer.
  *
  *     gcc canon.c $(pkg-config --cflags --libs amqp_types) -o canon
  *     echo 'accepted 005324c00000' | ./canon
@@ -90,7 +91,7 @@ static bool limits_of(const uint8_t *line, size_t len, struct amqp_limits *limit
     static const char word[] = "limits ";
     const uint8_t *text = line + sizeof word - 1, *end = line + len;
     uint64_t nesting;
-    struct amqp_limits found;
+    struct amqp_limits found = *limits;
     if (len < sizeof word || memcmp(line, word, sizeof word - 1) != 0)
         return false;
     if (!take_number(&text, end, false, &nesting) || nesting > 128)
@@ -135,11 +136,13 @@ static bool answer(const struct bytes *line, const struct amqp_limits *limits, s
     return true;
 }
 
-int main(void) {
+int main(int argc, char **argv) {
     struct bytes line = {0}, input = {0}, text = {0};
     struct amqp_limits limits;
     bool all_ok = true;
     amqp_c_greatest(&limits);
+    if (argc == 2)
+        limits.hash_seed = strtoull(argv[1], NULL, 10);
     while (next_line(stdin, &line)) {
         if (limits_of(line.at, line.len, &limits))
             printf("%.*s\n", (int)line.len, (const char *)line.at);

@@ -238,6 +238,8 @@ static void check_random(long many) {
                 limits.bytes = next_random(&state) % 60;
                 limits.items = next_random(&state) % 8;
             }
+            if (i % 2 == 1)
+                limits.hash_seed = next_random(&state);
             size_t len = make_input(&state, &corpora[type], made);
             read += check_input(&at, type, made, len, &limits);
             check_term(&at, made, len);
@@ -247,12 +249,15 @@ static void check_random(long many) {
 }
 
 static void check_edges(void) {
-    struct amqp_limits limits = {0}, deep = {129, 0, 0};
+    struct amqp_limits limits = {0}, deep = {129, 0, 0, 0};
     struct places at = places();
     size_t taken = 77, written = 77;
     uint8_t byte = 0x41, name[16];
     amqp_c_greatest(&limits);
-    require(limits.nesting == 128 && limits.bytes == UINT64_MAX && limits.items == UINT64_MAX, "the greatest limits");
+    require(limits.nesting == 128 && limits.bytes == UINT64_MAX && limits.items == UINT64_MAX && limits.hash_seed == 0, "the greatest limits");
+    amqp_c_for_peers(&limits, 1000);
+    require(limits.nesting == 128 && limits.bytes == 1000 && limits.items == 1000 && limits.hash_seed == 0, "limits for peers");
+    amqp_c_greatest(&limits);
     require(amqp_c_type(NULL, 0) == 0 && amqp_c_type((const uint8_t *)"openx", 4) == AMQP_TYPE_OPEN, "names");
     require(amqp_c_term_len(NULL, 0, &taken).number == AMQP_ERROR_CUT && taken == 77, "the length of no term");
     require(amqp_c_read(AMQP_TYPE_BOOLEAN, NULL, 0, &limits, &taken).number == AMQP_ERROR_CUT && taken == 77, "no input");

@@ -1,7 +1,7 @@
 r"""The data types of AMQP 1.0: values are read, measured and rewritten as their canonical text.
 
-Each call is one call of a shared object, `libamqp_types.so`, made of a static library that is proved; `docs/C.md` says what of it. The
-environment's `AMQP_TYPES_SO` names the file, if it is not where the system looks.
+Each call is made of calls of a shared object, `libamqp_types.so`. The shared object is made of a static library that is proved; `docs/C.md`
+says what is proved about it. The environment's `AMQP_TYPES_SO` names the file, if it isn't where the system looks.
 
 >>> canonical(Type.ACCEPTED, bytes.fromhex("005324c00000ff"))
 (b'\x00S$E', 6)
@@ -17,10 +17,10 @@ import enum
 import os
 import uuid
 from collections.abc import Iterator
-from dataclasses import dataclass
+from dataclasses import dataclass, field
 
 __version__ = "0.1.0"
-"""The version of this module, which is apart from that of the Rust crate `fe2o3-amqp-types`."""
+"""The version of this module, which is independent of that of the Rust crate `fe2o3-amqp-types`."""
 
 __license__ = "MIT OR Apache-2.0"
 """The licenses of this module, of which you may choose one."""
@@ -33,7 +33,7 @@ _NAMES_A_CODE = (2, 3, 27)
 
 
 class Type(enum.IntEnum):
-    """A type, by the name that the program `amqp-canon` has for it."""
+    """A type, by its name in the program `amqp_canon`."""
 
     ACCEPTED = 1
     AMQP_SEQUENCE = 2
@@ -100,14 +100,14 @@ class Type(enum.IntEnum):
 
     @staticmethod
     def from_name(name: str) -> Type | None:
-        """Returns the type with this name, as `open` or `message-data`, or None if no type has it."""
+        """Returns the type with this name, as `open` or `message-data`, or None if there is none."""
         raw = name.encode()
         number = _library.amqp_c_type(raw, len(raw))
         return Type(number) if number else None
 
 
 class Kind(enum.IntEnum):
-    """What a node of a term is."""
+    """The kind of a node of a term."""
 
     NULL = 1
     BOOL = 2
@@ -134,17 +134,26 @@ class Kind(enum.IntEnum):
     ARRAY = 23
 
 
+# Drawn once a process, and never 0.
+_PROCESS_SEED = int.from_bytes(os.urandom(8), "big") or 1
+
+
 @dataclass(frozen=True)
 class Limits:
-    """Limits on what is read: how deep values nest, up to 128, how many bytes are read, and how many values are in them."""
+    """Limits on what is read: how deep values nest, up to 128, how many bytes are read, and how many values are in them.
+
+    Keys of hashed maps are hashed by the seed, which a peer must not know. If none is given, it is the seed of this process. If it is 0, the
+    hash is faster.
+    """
 
     nesting: int = 128
     bytes: int = UNLIMITED
     items: int = UNLIMITED
+    hash_seed: int = field(default=_PROCESS_SEED, repr=False)
 
 
 class AmqpError(ValueError):
-    """Why a value is not read or not written: the error's number, its name, and the format code that it names, if it names one."""
+    """Why a value isn't read or isn't written: the error's number, its name, and the format code that it reports, if it reports one."""
 
     def __init__(self, number: int, detail: int = 0):
         self.number = number
@@ -171,11 +180,16 @@ class _Node(ctypes.Structure):
 
 
 class _Limits(ctypes.Structure):
-    _fields_ = [("nesting", ctypes.c_uint32), ("bytes", ctypes.c_uint64), ("items", ctypes.c_uint64)]
+    _fields_ = [
+        ("nesting", ctypes.c_uint32),
+        ("bytes", ctypes.c_uint64),
+        ("items", ctypes.c_uint64),
+        ("hash_seed", ctypes.c_uint64),
+    ]
 
 
 def _loaded() -> ctypes.CDLL:
-    """Loads the shared object and says what its calls take and return, as `c/amqp_types.h` does."""
+    """Loads the shared object and declares what its calls take and return, as `c/amqp_types.h` does."""
     library = ctypes.CDLL(os.environ.get("AMQP_TYPES_SO", "libamqp_types.so"))
     size, place, number = ctypes.c_size_t, ctypes.POINTER(ctypes.c_size_t), ctypes.c_uint32
     data, limits = ctypes.c_char_p, ctypes.POINTER(_Limits)
@@ -187,6 +201,7 @@ def _loaded() -> ctypes.CDLL:
         "amqp_c_next": ([data, size, size, ctypes.POINTER(_Node)], _Outcome),
         "amqp_c_error_name": ([number, ctypes.c_void_p, size], size),
         "amqp_c_greatest": ([limits], None),
+        "amqp_c_for_peers": ([limits, ctypes.c_uint64], None),
     }
     for name, (takes, gives) in signatures.items():
         call = getattr(library, name)
@@ -198,14 +213,25 @@ _library = _loaded()
 
 
 def greatest() -> Limits:
-    """Returns the greatest limits, under which all is read that nests at most 128 deep."""
+    """Returns the greatest limits, under which everything is read that nests at most 128 deep."""
     limits = _Limits()
     _library.amqp_c_greatest(ctypes.byref(limits))
     return Limits(limits.nesting, limits.bytes, limits.items)
 
 
+def for_peers(size: int) -> Limits:
+    """Returns limits for data from a peer, of which at most so many bytes are read. There are at most as many values as bytes."""
+    limits = _Limits()
+    _library.amqp_c_for_peers(ctypes.byref(limits), size)
+    return Limits(limits.nesting, limits.bytes, limits.items)
+
+
+def _given(limits: Limits) -> _Limits:
+    return _Limits(limits.nesting, limits.bytes, limits.items, limits.hash_seed)
+
+
 def error_name(number: int) -> str:
-    """Returns the name of the error with this number, as `Cut`, or an empty text if no error has it."""
+    """Returns the name of the error with this number, as `Cut`, or an empty text if there is none."""
     room = ctypes.create_string_buffer(32)
     size = _library.amqp_c_error_name(number, room, len(room))
     return room.raw[:size].decode()
@@ -217,19 +243,19 @@ def _check(outcome: _Outcome) -> None:
 
 
 def read(of: Type, data: bytes, limits: Limits = Limits()) -> int:
-    """Returns how many bytes the value of the type takes that the data begin with, within the limits.
+    """Returns how many bytes the value of the type at the start of the data takes, within the limits.
 
     >>> read(Type.BOOLEAN, b"\x41\x42")
     1
     """
     taken = ctypes.c_size_t()
-    given = _Limits(limits.nesting, limits.bytes, limits.items)
+    given = _given(limits)
     _check(_library.amqp_c_read(of, data, len(data), ctypes.byref(given), ctypes.byref(taken)))
     return taken.value
 
 
 def canonical(of: Type, data: bytes, limits: Limits = Limits()) -> tuple[bytes, int]:
-    """Returns the canonical text of the value of the type that the data begin with, within the limits, and how many bytes the value takes."""
+    """Returns the canonical text of the value of the type at the start of the data, within the limits, and how many bytes the value takes."""
     room = len(data)
     while True:
         text, needed, taken = canonical_into(of, data, room, limits)
@@ -239,13 +265,13 @@ def canonical(of: Type, data: bytes, limits: Limits = Limits()) -> tuple[bytes, 
 
 
 def canonical_into(of: Type, data: bytes, room: int, limits: Limits = Limits()) -> tuple[bytes | None, int, int]:
-    """Returns the same with so many bytes of room: the text, its length, and how many bytes the value takes; no text if it has more bytes.
+    """Returns the same with so many bytes of room: the text, its length, and how many bytes the value takes. A longer text is None.
 
     >>> canonical_into(Type.BOOLEAN, b"\x56\x01", 0)
     (None, 1, 2)
     """
     written, taken = ctypes.c_size_t(), ctypes.c_size_t()
-    given = _Limits(limits.nesting, limits.bytes, limits.items)
+    given = _given(limits)
     out = ctypes.create_string_buffer(room) if room else None
     outcome = _library.amqp_c_canonical(
         of, data, len(data), ctypes.byref(given), out, room, ctypes.byref(written), ctypes.byref(taken)
@@ -258,7 +284,7 @@ def canonical_into(of: Type, data: bytes, room: int, limits: Limits = Limits()) 
 
 
 def term_len(data: bytes) -> int:
-    r"""Returns how long the term is, one encoded value of any type, that the data begin with.
+    r"""Returns the length of the term at the start of the data: one encoded value, of any type.
 
     >>> term_len(b"\xa1\x02hi\x00")
     4
@@ -270,7 +296,7 @@ def term_len(data: bytes) -> int:
 
 @dataclass(frozen=True)
 class Node:
-    """A value in a term, by its places in the data. A described value is a node that holds two, its descriptor and its value."""
+    """A value in a term, by its offsets in the data. A described value is a node with two in it, its descriptor and its value."""
 
     kind: Kind
     depth: int
@@ -286,14 +312,14 @@ _NONE = Node(0, 0, 0, 0, 0, 0, 0, 0)  # what is around a whole term
 
 
 def node_at(data: bytes, at: int = 0, around: Node = _NONE) -> Node:
-    """Returns the node that begins at the place, in the node around it: the items of an array have no constructor of their own."""
+    """Returns the node that begins at the offset, in the enclosing node. The items of an array have no constructor of their own."""
     node = _Node(around.kind, around.depth, around.code, around.item_code, around.count, around.start, around.end, around.next)
     _check(_library.amqp_c_next(data, len(data), at, ctypes.byref(node)))
     return Node(Kind(node.kind), node.depth, node.code, node.item_code, node.count, node.start, node.end, node.next)
 
 
 def nodes(data: bytes, at: int = 0, around: Node = _NONE) -> Iterator[Node]:
-    """Returns the nodes of the term that the data begin with, each before those in it.
+    """Returns the nodes of the term at the start of the data, each before those in it.
 
     >>> [(node.kind.name, node.depth) for node in nodes(bytes.fromhex("005323c005025209530d"))]
     [('DESCRIBED', 0), ('ULONG', 1), ('LIST', 1), ('UINT', 2), ('ULONG', 2)]
@@ -316,7 +342,7 @@ class Symbol(str):
 
 @dataclass(frozen=True)
 class Described:
-    """A value behind a descriptor, a number or a symbol."""
+    """A value under a descriptor, which is a number or a symbol."""
 
     descriptor: int | Symbol
     value: object
@@ -330,11 +356,13 @@ class DecimalBytes:
 
 
 def decode(data: bytes) -> tuple[object, int]:
-    """Returns the term that the data begin with as a value of Python, and how many bytes the term takes.
+    """Returns the term at the start of the data as a value of Python, and how many bytes the term takes.
 
-    Null is None, a boolean a bool, a whole number an int, a char and a string a str, a symbol a `Symbol`, a binary bytes, a uuid a `UUID`, a
-    timestamp its milliseconds, a decimal number `DecimalBytes`, a list and an array a list, and a described value `Described`. A map is a dict; or
-    a list of its pairs, if one of its keys can't be a key in Python, or two of them would be one, as true and 1.
+    Null is None, a boolean a bool, and a whole number an int. A char and a string are a str, a symbol is a `Symbol`, and a binary is bytes. A uuid
+    is a `UUID`, a timestamp its milliseconds, and a decimal number `DecimalBytes`. A list and an array are a list, and a described value is
+    `Described`.
+
+    A map is a dict. It is a list of its pairs if one of its keys can't be a key in Python, or if two of them would be one, as true and 1.
 
     >>> decode(bytes.fromhex("005323c005025209530dff"))
     (Described(descriptor=35, value=[9, 13]), 10)
@@ -375,7 +403,7 @@ def _value(data: bytes, node: Node) -> object:
 
 
 def _children(data: bytes, node: Node) -> Iterator[Node]:
-    """Returns the nodes that stand right in a node."""
+    """Returns the nodes that are directly in a node."""
     place = node.next
     for _ in range(node.count):
         inner = node_at(data, place, node)
@@ -384,7 +412,7 @@ def _children(data: bytes, node: Node) -> Iterator[Node]:
 
 
 def _array(data: bytes, node: Node) -> list[object]:
-    """Returns the items of an array, each behind the descriptors of their constructor."""
+    """Returns the items of an array, each under the descriptors of their constructor."""
     descriptors, place = [], node.start
     while node.count and data[place] == 0:
         mark = node_at(data, place + 1)
@@ -397,7 +425,7 @@ def _array(data: bytes, node: Node) -> list[object]:
 
 
 def _mapping(items: list[object]) -> dict | list[tuple[object, object]]:
-    """Returns a dict of the keys and values in turn, or their pairs if that can't be."""
+    """Returns a dict of the keys and values in turn, or their pairs if it can't be a dict."""
     pairs = list(zip(items[::2], items[1::2]))
     try:
         made = dict(pairs)

@@ -60,6 +60,21 @@ class Decoded(unittest.TestCase):
         self.assertEqual(decoded("00532445"), Described(0x24, []))
         self.assertEqual(decoded("00a3016100530141"), Described(Symbol("a"), Described(1, True)))
 
+    def test_limits_for_peers(self):
+        """They bound bytes and values, and have a seed, which changes no answer."""
+        limits = amqp.for_peers(5)
+        self.assertEqual((limits.nesting, limits.bytes, limits.items), (128, 5, 5))
+        self.assertNotEqual(limits.hash_seed, 0)
+        with self.assertRaises(amqp.AmqpError) as caught:
+            amqp.canonical(amqp.Type.ACCEPTED, bytes.fromhex("005324c00000"), limits)
+        self.assertEqual(caught.exception.name, "Limit")
+        properties = bytes.fromhex("005374c10d04a1036f6e6543a10269745200")
+        for seed in (0, 1, 2**64 - 1):
+            self.assertEqual(
+                amqp.canonical(amqp.Type.APPLICATION_PROPERTIES, properties, amqp.Limits(hash_seed=seed)),
+                (bytes.fromhex("005374c10c04a1036f6e6543a102697443"), len(properties)),
+            )
+
     def test_refused(self):
         """An error has its number, its name and its code."""
         with self.assertRaises(amqp.AmqpError) as caught:

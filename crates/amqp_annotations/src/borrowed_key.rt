@@ -1,4 +1,4 @@
-//! Keys of annotations that are borrowed, and what annotations are looked up by.
+//! Borrowed keys of annotations, and the keys with which annotations are looked up.
 ghost use Rattle.std.specs.Prelude.{◌≡◌, IfErr, IfOk, string_bytes};
 ghost use Rattle.amqp_model.specs.Term.{symbol, ulong};
 ghost use Rattle.amqp_wire.specs.declared.error.Error.TheVariants.{Memory};
@@ -10,7 +10,7 @@ use amqp_codec::{Error, Symbol};
 use amqp_primitives::SymbolRef;
 use std::alloc::Global;
 
-/// The key of an annotation that is borrowed: a symbol or a number.
+/// A borrowed key of an annotation: a symbol or a number.
 #[derive(Clone, Debug, PartialEq, Eq, PartialOrd, Ord, Hash, Drop)]
 pub enum BorrowedKey<'k> {
     /// A symbol.
@@ -20,7 +20,7 @@ pub enum BorrowedKey<'k> {
 }
 
 impl<'k> BorrowedKey<'k> {
-    // The same key in memory of its own. The only error is `Memory`.
+    // An owned copy of the key. The only error is `Memory`.
     pub(crate) fn to_owned_key(&self, alloc: Global) -> Result<OwnedKey, Error>
         ensures same { IfOk result (λ made. owned_primitive made ≡ borrowed_primitive self.now) }
         ensures refused { IfErr result (λ e. e ≡ Memory) }
@@ -32,14 +32,14 @@ impl<'k> BorrowedKey<'k> {
     }
 }
 
-/// What annotations can be looked up by.
+/// What annotations can be looked up with.
 pub trait AnnotationKey {
     ghost use Rattle.amqp_model.specs.Term.{Primitive};
 
     // The symbol or the number.
     ghost primitive: { Self → Primitive };
 
-    /// The key, which is borrowed.
+    /// Returns the key, borrowed.
     fn key(&self) -> BorrowedKey<'_>
         ensures { borrowed_primitive result ≡ primitive self.now };
 }

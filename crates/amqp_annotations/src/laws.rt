@@ -1,4 +1,4 @@
-//! What holds of annotations and of their keys beyond the laws of every type. The functions do nothing; their contracts are proved.
+//! What holds for annotations and of their keys in addition to the laws of every type. The functions do nothing; their contracts are proved.
 ghost use Rattle.std.specs.Prelude.{◌≡◌, true};
 ghost use Rattle.std.specs.Ordering.{nat_cmp};
 ghost use Rattle.std.specs.declared.cmp.Ordering.TheVariants.{Less, Greater};
@@ -11,13 +11,13 @@ ghost use Rattle.amqp_annotations.specs.BorrowedKeys.{borrowed_primitive};
 use crate::{Annotations, BorrowedKey, OwnedKey};
 use amqp_codec::{Canonical, Symbol};
 
-/// No spelling of a value of these is shorter than its canonical text, if it holds no array.
+/// For these types, no encoding of a value is shorter than its canonical text, if it holds no array.
 pub fn texts_are_least()
     ensures owned_key { ⟦<OwnedKey as Canonical>⟧.is_least ≡ true }
     ensures annotations { ⟦<Annotations as Canonical>⟧.is_least ≡ true }
 {}
 
-/// Borrowed keys are equal, and stand in an order, as the owned keys of the same symbols and numbers do.
+/// Borrowed keys are equal, and are ordered, as the owned keys of the same symbols and numbers are.
 pub fn borrowed_keys_compare_as_owned()
     ensures equality { (v w : OwnedKey) (x y : BorrowedKey) → borrowed_primitive x ≡ owned_primitive v
         → borrowed_primitive y ≡ owned_primitive w
@@ -27,7 +27,7 @@ pub fn borrowed_keys_compare_as_owned()
         → ⟦<BorrowedKey<'static> as Ord>⟧.cmp x y ≡ ⟦<OwnedKey as Ord>⟧.cmp v w }
 {}
 
-/// Symbols come before numbers; symbols are ordered by their bytes, and numbers as numbers.
+/// Symbols come before numbers. Symbols are ordered by their bytes, and numbers as numbers.
 pub fn orders()
     ensures symbols { (s t : _) → ⟦<OwnedKey as Ord>⟧.cmp (key.Symbol s) (key.Symbol t) ≡ ⟦<Symbol as Ord>⟧.cmp s t }
     ensures symbol_first { (s : _) (n : _) → ⟦<OwnedKey as Ord>⟧.cmp (key.Symbol s) (key.Ulong n) ≡ Less }

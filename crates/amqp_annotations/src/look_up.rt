@@ -1,4 +1,4 @@
-//! Annotations are looked up and removed by keys of several types.
+//! Look-up and removal of annotations, with keys of several types.
 ghost use Rattle.std.specs.Prelude.{◌≡◌, IfErr, IfOk, OnErr};
 ghost use Rattle.std.specs.Map.{lookup, remove_entry};
 ghost use Rattle.std.specs.Option.{option_copied};
@@ -11,7 +11,7 @@ use amqp_codec::Error;
 use amqp_values::Value;
 use std::alloc::Global;
 
-/// The value under a key. It is found as by the owned key, which is copied for it, so the only error is `Memory`.
+/// Returns the value of `key`, if there is one. The key is copied to an owned key for the look-up, so the only error is `Memory`.
 pub fn annotation_get<'m, K: AnnotationKey>(
     map: &'m Annotations,
     key: &K,
@@ -25,8 +25,8 @@ pub fn annotation_get<'m, K: AnnotationKey>(
     Ok(map.get(&owned))
 }
 
-/// Removes a key, and hands back its value. The other pairs keep their order. It is found as by the owned key, which is copied for
-/// it, so the only error is `Memory`, and then nothing is removed.
+/// Removes a key, and returns its value, if there is one. The other pairs keep their order. The key is copied to an owned key for the
+/// look-up, so the only error is `Memory`, and then nothing is removed.
 pub fn annotation_remove<K: AnnotationKey>(
     map: &mut Annotations,
     key: &K,

@@ -16,8 +16,8 @@ use amqp_kind_sums::{Kind, KindSum, read_as, read_kind_sum};
 use amqp_primitives::SymbolRef;
 use std::alloc::Global;
 
-/// The key of an annotation: a symbol or a number, which its first code tells. Any other type is `WrongType`. Numbers are reserved by the
-/// standard, and symbols are free (Part 3, section 3.2.10).
+/// The key of an annotation: a symbol or a number, as its first code determines. Any other type is refused with `WrongType`. Numbers are
+/// reserved for the standard, and symbols are free (Part 3, section 3.2.10).
 #[derive(Clone, Debug, PartialEq, Eq, PartialOrd, Ord, Hash, Drop)]
 pub enum OwnedKey {
     /// A symbol.
@@ -27,7 +27,7 @@ pub enum OwnedKey {
 }
 
 impl OwnedKey {
-    /// The symbol of this text, which is copied. The only error is `Memory`.
+    /// Returns the symbol with a copy of this text. The only error is `Memory`.
     pub fn from_str_in(text: &str, alloc: Global) -> Result<OwnedKey, Error>
         ensures symbol { IfOk result (λ made. owned_primitive made ≡ symbol text.now) }
         ensures refused { IfErr result (λ e. e ≡ Memory) }
@@ -35,7 +35,7 @@ impl OwnedKey {
         Ok(OwnedKey::Symbol(Symbol(String::from_str(alloc, text)?)))
     }
 
-    /// The symbol, whose text is copied. The only error is `Memory`.
+    /// Returns the symbol with a copy of this symbol's text. The only error is `Memory`.
     pub fn from_symbol_ref(text: SymbolRef<'_>, alloc: Global) -> Result<OwnedKey, Error>
         ensures symbol { IfOk result (λ made. owned_primitive made ≡ symbol text.entry.0.now) }
         ensures refused { IfErr result (λ e. e ≡ Memory) }
@@ -43,7 +43,7 @@ impl OwnedKey {
         OwnedKey::from_str_in(text.as_str(), alloc)
     }
 
-    /// The symbol without characters. Takes no memory.
+    /// Returns the symbol without characters. It doesn't allocate.
     pub fn default_in(alloc: Global) -> OwnedKey
         ensures { owned_primitive result ≡ symbol [] }
     {
@@ -67,7 +67,7 @@ impl From<u64> for OwnedKey {
     }
 }
 
-/// The symbol of this text: a string is no key.
+/// Makes the symbol with this text: a string can't be a key.
 impl From<String> for OwnedKey {
     ghost from_gives = { λ text value. owned_primitive value ≡ symbol (string_bytes text) };
 

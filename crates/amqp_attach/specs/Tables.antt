@@ -11,7 +11,7 @@ use Rattle.amqp_primitives.specs.declared.binary.Binary.{Binary}
 use Rattle.amqp_restricted_types.specs.Defaults.{false_by_default}
 use Rattle.amqp_restricted_types.specs.Transport.{handle_type, role_type, sender_settle_mode_type, receiver_settle_mode_type}
 use Rattle.amqp_restricted_types.specs.TransportDefaults.{mixed_by_default, first_by_default}
-use Rattle.amqp_fields.specs.FieldsType.{fields_type}
+use Rattle.amqp_errors.specs.FieldsType.{fields_type}
 use Rattle.amqp_delivery.specs.Tables.{delivery_state}
 use Rattle.amqp_delivery.specs.declared.state.DeliveryState.{DeliveryState}
 use Rattle.amqp_termini.specs.Tables.{source, target_archetype}

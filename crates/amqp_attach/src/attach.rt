@@ -10,7 +10,7 @@ use amqp_codec::kernel::{
 use amqp_codec::{ByteSource, Decoder, Encoder, Error, Serialize, SerializeTerm, Symbol};
 use amqp_containers::Array;
 use amqp_containers::multiple::{is_null_multiple, read_multiple, write_multiple};
-use amqp_fields::Fields;
+use amqp_errors::Fields;
 use amqp_restricted_types::{Handle, ReceiverSettleMode, Role, SenderSettleMode, SequenceNo};
 use amqp_termini::{Source, TargetArchetype};
 use std::alloc::Global;
@@ -20,7 +20,7 @@ use std::alloc::Global;
 pub struct Attach {
     /// The name of the link.
     pub name: String,
-    /// The number by which the sender of this calls the link.
+    /// The number that the sender of this uses for the link.
     pub handle: Handle,
     /// Which end of the link the sender of this is.
     pub role: Role,
@@ -32,19 +32,19 @@ pub struct Attach {
     pub source: Option<Box<Source>>,
     /// Where the messages go to.
     pub target: Option<Box<TargetArchetype>>,
-    /// The states of unsettled deliveries, by their tags, if a link is taken up again.
+    /// The states of unsettled deliveries, by their tags, if a link is resumed.
     pub unsettled: Option<Unsettled>,
-    /// Whether not all unsettled deliveries are named.
+    /// Whether some unsettled deliveries aren't named.
     pub incomplete_unsettled: bool,
-    /// The number of the first delivery. The sender of messages gives it, the receiver need not.
+    /// The number of the first delivery. The sender of messages must give it, the receiver need not.
     pub initial_delivery_count: Option<SequenceNo>,
-    /// The greatest message that the sender of this takes, in bytes. Where it is left out or 0, there is no bound.
+    /// The size of the greatest message that the sender of this accepts, in bytes. If it is omitted or 0, there is no bound.
     pub max_message_size: Option<u64>,
     /// What the sender of this can do.
     pub offered_capabilities: Option<Array<Symbol>>,
     /// What the sender of this asks the peer to do.
     pub desired_capabilities: Option<Array<Symbol>>,
-    /// What else is said of it.
+    /// Further properties of the link.
     pub properties: Option<Fields>,
 }
 

@@ -1,4 +1,4 @@
-//! The begin of a link, which holds its two ends (Part 2, section 2.7.3), and the performatives as one type (Part 2, section 2.7).
+//! The begin of a link, with its two ends (Part 2, section 2.7.3), and the performatives as one type (Part 2, section 2.7).
 #![tactic(auto)]
 
 mod attach;

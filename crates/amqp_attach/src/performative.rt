@@ -9,7 +9,7 @@ use amqp_enums::{Sum, is_null_sum, read_as, read_sum, write_as};
 use amqp_performatives::{Begin, Close, Detach, Disposition, End, Flow, Open, Transfer};
 use std::alloc::Global;
 
-/// What a frame of AMQP holds. Any other descriptor is refused by `WrongDescriptor`.
+/// The performative of an AMQP frame. Any other descriptor is refused with `WrongDescriptor`.
 #[derive(Clone, Debug, PartialEq, Eq, Drop)]
 pub enum Performative {
     Open(Open),

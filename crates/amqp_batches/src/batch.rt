@@ -13,7 +13,7 @@ use amqp_encoder::Encoder;
 use amqp_wire::{ByteSource, Error};
 use std::alloc::Global;
 
-/// Sections of one kind that stand one after another.
+/// Sections of one kind, one after another.
 pub type Batch<T> = TransparentVec<T>;
 
 impl<T: BatchItem> Serialize for TransparentVec<T> {

@@ -1,4 +1,4 @@
-//! The sections of which several may stand in a message (Part 3, sections 3.2.6 and 3.2.7).
+//! The sections that may come several times in a message (Part 3, sections 3.2.6 and 3.2.7).
 ghost use Rattle.std.proofs.Common.{inl, inr};
 ghost use Rattle.std.specs.Prelude.{refl};
 ghost use Rattle.amqp_codec.specs.Agreement.{writing_of};

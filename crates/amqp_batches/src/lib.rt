@@ -1,4 +1,4 @@
-//! Batches: sections of one kind that stand one after another in a message's body (Part 3, sections 3.2.6 and 3.2.7).
+//! Batches: sections of one kind, one after another, in a message's body (Part 3, sections 3.2.6 and 3.2.7).
 #![tactic(auto)]
 
 mod batch;

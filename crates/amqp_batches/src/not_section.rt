@@ -1,4 +1,4 @@
-//! What stands where bytes are left and no section begins (Part 3, section 3.2).
+//! What comes next if bytes are left and no section begins (Part 3, section 3.2).
 ghost use Rattle.amqp_wire.specs.Sources.{Tells};
 ghost use Rattle.amqp_decoder.specs.Reading.{RefusesRead};
 ghost use Rattle.amqp_decoder.specs.State.{State};
@@ -10,8 +10,8 @@ use amqp_decoder::Decoder;
 use amqp_wire::{ByteSource, Error, format_code};
 use std::alloc::Global;
 
-/// Refuses what comes next because it is no section: `NotSection` if it isn't described, or if its whole descriptor is none of a
-/// section; otherwise the error of a descriptor that is cut or malformed. Takes memory for the descriptor.
+/// Refuses what comes next because it isn't a section. The error is `NotSection` if it isn't described, or if its whole descriptor isn't a
+/// section's. Otherwise it is the error of a descriptor that is cut or malformed. It allocates for the descriptor.
 pub fn no_section<R: ByteSource>(decoder: &mut Decoder<R>, alloc: Global) -> Error
     ensures read { Tells R.remaining → RefusesRead true (λ st (none : Unit {0}) b. ⊥) NoSection decoder.old result decoder.new }
     ensures tries { Refused true decoder.old result decoder.new }

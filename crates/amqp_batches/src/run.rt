@@ -13,24 +13,24 @@ use amqp_decoder::Decoder;
 use amqp_wire::{ByteSource, Error};
 use std::alloc::Global;
 
-/// A section of which several may stand in a message, one after another: `Data` and `AmqpSequence` (Part 3, section 3.2).
+/// A section that may come several times in a message, one after another: `Data` and `AmqpSequence` (Part 3, section 3.2).
 pub trait BatchItem: SerializeTerm {
     // The code of its descriptor.
     ghost code: { ℕ };
 
-    /// The code of its descriptor.
+    /// Returns the code of its descriptor.
     fn code() -> u8
         ensures { result ≡ code };
 
     // It is written as a section of this code.
     ghost is_section: { IsSection code Self.writing };
 
-    // That is one of which several may stand in a message.
+    // That is the code of a section that may come several times in a message.
     ghost is_repeated: { (code ≡ 0x75) ⊎ (code ≡ 0x76) };
 }
 
-/// Reads the sections of one kind that come next, which may be none. The run ends where no whole descriptor of that kind comes
-/// next; a section that has begun must be whole, and is refused as one by itself is.
+/// Reads the sections of one kind that come next; there may be none. The run ends if no whole descriptor of that kind comes next. A section
+/// that has begun must be whole; its errors are those of a section by itself.
 pub fn read_run<T: BatchItem + DeserializeTerm, R: ByteSource>(
     decoder: &mut Decoder<R>,
     alloc: Global,

@@ -1,4 +1,4 @@
-//! Values that stand one after another, with nothing around them.
+//! Values one after another, with nothing around them.
 ghost use Rattle.std.specs.Prelude.{◌≡◌, ◌++◌, ◌∷◌, [], IfErr, OnOk, OnErr};
 ghost use Rattle.std.specs.Slice.Iter.{iter_rest};
 ghost use Rattle.std.specs.Vec.Iter.{into_iter_items};
@@ -11,21 +11,20 @@ use std::ops::Deref;
 use std::slice::Iter;
 use std::vec::IntoIter;
 
-/// Values of one type that stand one after another, with nothing around them: no list, and no single term. So stand the
-/// sections of a message's body, where it has several (Part 3, section 3.2). It lends the calls of its vector that change
-/// nothing, as `len`, `get` and `iter`. A copy wants memory, and each of its values is a copy of the one in its place.
+/// Values of one type, one after another, with nothing around them: no list, and no single term. A message's body with several sections is
+/// one (Part 3, section 3.2). It derefs to its vector. `clone` allocates; its values are clones of the values, in order.
 #[derive(Clone, Debug, PartialEq, Eq, PartialOrd, Ord, Hash, Drop)]
 pub struct TransparentVec<T>(Vec<T>);
 
 impl<T> TransparentVec<T> {
-    /// The values in their order.
+    /// Returns these values, in their order.
     pub fn new(values: Vec<T>) -> TransparentVec<T>
         ensures { vec_in result ≡ values }
     {
         TransparentVec(values)
     }
 
-    /// The values, which are moved out of it.
+    /// Moves the values out of it, and returns them.
     pub fn into_inner(self) -> Vec<T>
         ensures { result ≡ vec_in self }
     {
@@ -33,8 +32,7 @@ impl<T> TransparentVec<T> {
         values
     }
 
-    /// Adds a value behind the last. If there is no memory for it, it is dropped, nothing changes, and the result is
-    /// `Memory`.
+    /// Adds a value after the last. If an allocation for it fails, the value is dropped, nothing changes, and the error is `Memory`.
     pub fn push(&mut self, value: T) -> Result<(), Error>
     where
         T: Drop,

@@ -35,7 +35,7 @@ impl Bare {
         })
     }
 
-    /// The canonical text.
+    /// Returns the canonical text.
     pub(crate) fn into_text(self) -> Vec<u8> {
         self.text
     }

@@ -75,8 +75,8 @@ pub(crate) const CASES: [Case; 21] = [
     Case::MessageOfData,
 ];
 
-/// Cases whose times are compared: a type's, and that of the bare calls for the same bytes, which for a map keep its entries or
-/// don't; and a map's, and that of one with a sixteenth of its entries.
+/// Cases whose times are compared. A type's is compared with that of the bare calls for the same bytes, which for a map keep its entries or
+/// don't. A map's is compared with that of a map with a sixteenth of its entries.
 pub(crate) const COMPARED: [(Case, Case); 5] = [
     (Case::UintVec, Case::Uints),
     (Case::UlongArray, Case::Ulongs),
@@ -94,7 +94,7 @@ pub(crate) enum Way {
 pub(crate) const WAYS: [Way; 2] = [Way::Writing, Way::Reading];
 
 impl Way {
-    /// The word that an argument names it by.
+    /// Returns the word by which an argument names it.
     pub(crate) fn word(self) -> &'static str {
         match self {
             Way::Writing => "writing",
@@ -130,7 +130,7 @@ impl Case {
         }
     }
 
-    /// The word that an argument names it by.
+    /// Returns the word by which an argument names it.
     pub(crate) fn word(self) -> &'static str {
         match self {
             Case::Uints => "uints",
@@ -157,7 +157,7 @@ impl Case {
         }
     }
 
-    /// How many values are counted: items, entries, or the one.
+    /// Returns how many values are counted: items, entries, or the one.
     pub(crate) fn values(self) -> u32
         ensures { result ≤ 16000 }
     {
@@ -175,7 +175,7 @@ impl Case {
         }
     }
 
-    /// How often a round writes or reads it, so that the clock's own time doesn't count.
+    /// Returns how often a round writes or reads it, so that the clock's own time doesn't count.
     pub(crate) fn times(self) -> u32
         ensures { result ≤ 1000 }
     {
@@ -191,7 +191,7 @@ impl Case {
         }
     }
 
-    /// How many bytes a binary has.
+    /// Returns how many bytes a binary has.
     pub(crate) fn length(self) -> usize {
         match self {
             Case::Binary | Case::MessageOfData => 1_048_576,
@@ -215,7 +215,7 @@ impl Case {
         }
     }
 
-    /// The nanoseconds of the best of some rounds.
+    /// Returns the nanoseconds of the best of some rounds.
     pub(crate) fn best(
         self,
         rt: &HostRuntime,

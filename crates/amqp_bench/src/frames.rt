@@ -1,4 +1,4 @@
-//! Frames, sections and a message that are read and written: their canonical texts.
+//! The canonical texts of performatives, of sections and of a message, which are read and written.
 
 /// An attach with each of its fourteen fields (Part 2, section 2.7.3).
 pub(crate) const ATTACH: &[u8] = &[

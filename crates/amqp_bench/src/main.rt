@@ -1,6 +1,6 @@
-//! The program `amqp-bench`: what writing and reading take, in nanoseconds a value. With the argument `run` it measures
-//! every case, and compares types with the bare calls for the same bytes; with `writing` or `reading`, a case's word and a
-//! number it does so many rounds of that one, for a profiler; else it prints nothing.
+//! The program `amqp_bench` measures the time of writing and reading, in nanoseconds a value. With the argument `run` it measures every
+//! case, and compares types with the bare calls for the same bytes. With `writing` or `reading`, a case's word and a number, it does so
+//! many rounds of that case, for a profiler. Otherwise it prints nothing.
 #![tactic(auto)]
 
 mod bare;

@@ -18,7 +18,7 @@ pub(crate) struct Typed<T: Drop> {
 }
 
 impl<T: Deserialize + Serialize> Typed<T> {
-    /// The value that the text is of.
+    /// Returns the value with this text.
     pub(crate) fn new(way: Way, text: Vec<u8>, alloc: Global) -> Result<Typed<T>, Error> {
         let value = from_slice(&text, alloc)?;
         Ok(Typed { way, value, text })
@@ -58,17 +58,17 @@ fn message(
     to_vec(&builder.data(Data::from(bytes)).build(), alloc)
 }
 
-/// The text of application properties, so many.
+/// Returns the text of `count` application properties.
 pub(crate) fn application_properties(count: u32, alloc: Global) -> Result<Vec<u8>, Error> {
     to_vec(&numbers(count, alloc)?, alloc)
 }
 
-/// The text of a message of so many application properties, and of data without bytes (Part 3, section 3.2).
+/// Returns the text of a message with `count` application properties, and with data without bytes (Part 3, section 3.2).
 pub(crate) fn message_of_properties(count: u32, alloc: Global) -> Result<Vec<u8>, Error> {
     message(Some(numbers(count, alloc)?), Vec::new(alloc), alloc)
 }
 
-/// The text of a message of so many bytes of data (Part 3, section 3.2.6).
+/// Returns the text of a message with `length` bytes of data (Part 3, section 3.2.6).
 pub(crate) fn message_of_data(length: usize, alloc: Global) -> Result<Vec<u8>, Error> {
     message(None, Vec::from_elem(alloc, 7u8, length)?, alloc)
 }

@@ -27,14 +27,15 @@ use amqp_sections::{AmqpSequence, AmqpValue, Data};
 use amqp_wire::{ByteSource, Error};
 use std::alloc::Global;
 
-/// The body of a message, of any kind (Part 3, section 3.2). A copy wants memory; it is of the same kind, and what it holds is a copy.
+/// The body of a message, of any kind (Part 3, section 3.2). `clone` allocates; the clone is of the same kind, and holds a clone of what
+/// the body holds.
 #[derive(Clone, Debug, PartialEq, Eq, PartialOrd, Ord, Hash, Drop)]
 pub enum Body<T> {
     /// One value.
     Value(AmqpValue<T>),
-    /// Sections of bytes, one after another.
+    /// Sections with bytes, one after another.
     Data(Batch<Data>),
-    /// Sections of lists, one after another.
+    /// Sections with lists, one after another.
     Sequence(Batch<AmqpSequence<T>>),
     /// The message has no body. It is written as a null value.
     Empty,
@@ -119,7 +120,7 @@ impl<T: DeserializeTerm> DeserializableBody for Body<T> {
     }
 }
 
-/// `Empty`.
+/// Returns `Empty`.
 impl<T> FromEmptyBody for Body<T> {
     ghost empties = { empty_body };
 
@@ -147,7 +148,7 @@ impl<T: DeserializeTerm> FromBody for Body<T> {
     ghost is_empty = { λ v h. h };
 }
 
-/// A body that isn't there is read again as a null.
+/// A body that is absent is read again as a null.
 impl<T: NullBody> CanonicalBody for Body<T> {
     ghost follows = { NoBodyFollows };
 

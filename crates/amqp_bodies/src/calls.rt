@@ -8,35 +8,35 @@ use crate::iterators::{DataIter, IntoData, IntoSequence, SequenceIter};
 use amqp_sections::AmqpValue;
 
 impl<T> Body<T> {
-    /// Whether it is sections of data.
+    /// Returns whether it is sections of data.
     pub fn is_data(&self) -> bool
         ensures { result ≡ is_some (body_data self.now) }
     {
         matches!(self, Body::Data(_))
     }
 
-    /// Whether it is sequences.
+    /// Returns whether it is sequences.
     pub fn is_sequence(&self) -> bool
         ensures { result ≡ is_some (body_sequences self.now) }
     {
         matches!(self, Body::Sequence(_))
     }
 
-    /// Whether it is one value.
+    /// Returns whether it is one value.
     pub fn is_value(&self) -> bool
         ensures { result ≡ is_some (body_value self.now) }
     {
         matches!(self, Body::Value(_))
     }
 
-    /// Whether the message has no body.
+    /// Returns whether the message has no body.
     pub fn is_empty(&self) -> bool
         ensures { result ≡ sections.is_empty self.now }
     {
         matches!(self, Body::Empty)
     }
 
-    /// The value that it is. A body of another kind is given back.
+    /// Returns the value that it is. A body of another kind is returned as the error.
     pub fn try_into_value(self) -> Result<T, Body<T>>
         ensures { result ≡ ok_or (body_value self) self }
     {
@@ -46,7 +46,7 @@ impl<T> Body<T> {
         }
     }
 
-    /// The bytes of its sections of data, one after another. A body of another kind is given back.
+    /// Returns an iterator over the bytes of its sections of data, in order. A body of another kind is returned as the error.
     pub fn try_into_data(self) -> Result<IntoData, Body<T>>
         ensures data { IfOk result (λ bytes. body_data self ≡ Some (data_left bytes)) }
         ensures other { IfErr result (λ body. (body ≡ self) × (body_data self ≡ None)) }
@@ -57,7 +57,7 @@ impl<T> Body<T> {
         }
     }
 
-    /// The lists of its sequences, one after another. A body of another kind is given back.
+    /// Returns an iterator over the lists of its sequences, in order. A body of another kind is returned as the error.
     pub fn try_into_sequence(self) -> Result<IntoSequence<T>, Body<T>>
     where
         T: Drop,
@@ -70,7 +70,7 @@ impl<T> Body<T> {
         }
     }
 
-    /// The value that it is. A body of another kind is given back.
+    /// Returns the value that it is. A body of another kind is returned as the error.
     pub fn try_as_value(&self) -> Result<&T, &Body<T>>
         ensures value { IfOk result (λ value. body_value self.now ≡ Some value.now) }
         ensures other { IfErr result (λ body. (body.now ≡ self.now) × (body_value self.now ≡ None)) }
@@ -81,7 +81,7 @@ impl<T> Body<T> {
         }
     }
 
-    /// The bytes of its sections of data, one after another. A body of another kind is given back.
+    /// Returns an iterator over the bytes of its sections of data, in order. A body of another kind is returned as the error.
     pub fn try_as_data(&self) -> Result<DataIter<'_>, &Body<T>>
         ensures data { IfOk result (λ bytes. body_data self.now ≡ Some (data_lent bytes)) }
         ensures other { IfErr result (λ body. (body.now ≡ self.now) × (body_data self.now ≡ None)) }
@@ -92,7 +92,7 @@ impl<T> Body<T> {
         }
     }
 
-    /// The lists of its sequences, one after another. A body of another kind is given back.
+    /// Returns an iterator over the lists of its sequences, in order. A body of another kind is returned as the error.
     pub fn try_as_sequence(&self) -> Result<SequenceIter<'_, T>, &Body<T>>
         ensures sequences { IfOk result (λ lists. body_sequences self.now ≡ Some (sequences_lent lists)) }
         ensures other { IfErr result (λ body. (body.now ≡ self.now) × (body_sequences self.now ≡ None)) }

@@ -1,4 +1,4 @@
-//! Of which values the body of a message is made (Part 3, sections 3.2.6 to 3.2.8).
+//! The values that the body of a message can be made of (Part 3, sections 3.2.6 to 3.2.8).
 ghost use Rattle.std.specs.Prelude.{◌≡◌};
 
 use crate::body::Body;
@@ -15,7 +15,7 @@ use std::borrow::CowStr;
 use std::collections::BTreeMap;
 use std::hash::Hash;
 
-/// A section with the value.
+/// The body is a section with the value.
 impl<T: PlainIntoBody> IntoBody for T {
     type Body = AmqpValue<T>;
 
@@ -36,7 +36,7 @@ impl<'a, T: 'a + SerializeTerm + IntoBody<Body = AmqpValue<T>>> AsBodyRef<'a, T>
     }
 }
 
-/// Itself.
+/// The body is the section itself.
 impl<T: SerializeTerm> IntoBody for AmqpValue<T> {
     type Body = AmqpValue<T>;
 
@@ -47,7 +47,7 @@ impl<T: SerializeTerm> IntoBody for AmqpValue<T> {
     }
 }
 
-/// Itself.
+/// The body is the section itself.
 impl<T: SerializeTerm> IntoBody for AmqpSequence<T> {
     type Body = AmqpSequence<T>;
 
@@ -58,7 +58,7 @@ impl<T: SerializeTerm> IntoBody for AmqpSequence<T> {
     }
 }
 
-/// Itself.
+/// The body is the section itself.
 impl IntoBody for Data {
     type Body = Data;
 
@@ -69,7 +69,7 @@ impl IntoBody for Data {
     }
 }
 
-/// Itself.
+/// The body is the batch itself.
 impl<T: BatchItem> IntoBody for TransparentVec<T> {
     type Body = TransparentVec<T>;
 
@@ -80,7 +80,7 @@ impl<T: BatchItem> IntoBody for TransparentVec<T> {
     }
 }
 
-/// Itself.
+/// The body is the value itself.
 impl<T: SerializeTerm> IntoBody for Body<T> {
     type Body = Body<T>;
 

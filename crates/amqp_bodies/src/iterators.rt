@@ -1,4 +1,4 @@
-//! What goes through the sections of a body (Part 3, sections 3.2.6 and 3.2.7).
+//! Iterators over the sections of a body (Part 3, sections 3.2.6 and 3.2.7).
 ghost use Rattle.std.specs.Iterator.{item_count, YieldsFirst, YieldsFirstRef};
 ghost use Rattle.amqp_bodies.specs.Members.{data_left, sequences_left, data_lent, sequences_lent};
 
@@ -8,7 +8,7 @@ use std::alloc::Global;
 use std::slice::Iter;
 use std::vec::IntoIter;
 
-/// The bytes of each section of data in order, which are moved out of a body.
+/// An iterator over the bytes of each section of data in order, which are moved out of a body.
 #[derive(Drop)]
 pub struct IntoData(pub(crate) IntoIter<Data, Global>);
 
@@ -29,7 +29,7 @@ impl Iterator for IntoData {
     }
 }
 
-/// The list of each sequence in order, which are moved out of a body.
+/// An iterator over the list of each sequence in order, which are moved out of a body.
 #[derive(Drop)]
 pub struct IntoSequence<T>(pub(crate) IntoIter<AmqpSequence<T>, Global>);
 
@@ -50,7 +50,7 @@ impl<T: Drop> Iterator for IntoSequence<T> {
     }
 }
 
-/// The bytes of each section of data of a body, in order.
+/// An iterator over the bytes of each section of data of a body, in order.
 #[derive(Drop)]
 pub struct DataIter<'a>(pub(crate) Iter<'a, Data>);
 
@@ -71,7 +71,7 @@ impl<'a> Iterator for DataIter<'a> {
     }
 }
 
-/// The list of each sequence of a body, in order.
+/// An iterator over the list of each sequence of a body, in order.
 #[derive(Drop)]
 pub struct SequenceIter<'a, T>(pub(crate) Iter<'a, AmqpSequence<T>>);
 

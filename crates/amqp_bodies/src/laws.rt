@@ -1,4 +1,4 @@
-//! What holds of bodies beyond the laws of every type. The functions do nothing; their contracts are proved.
+//! What holds for bodies in addition to the laws of every type. The functions do nothing; their contracts are proved.
 ghost use Rattle.std.specs.Prelude.{◌↔◌, ℕ, List, IsTrue, take};
 ghost use Rattle.amqp_wire.specs.declared.limits.Limits.{Limits};
 ghost use Rattle.amqp_wire.specs.Limits.{limit_of};
@@ -13,22 +13,22 @@ use crate::traits::FromBody;
 use amqp_batches::Batch;
 use amqp_sections::{AmqpSequence, AmqpValue, Data};
 
-/// Within limits of the caller a body is read from the first n bytes exactly if it is read from them without, n is no more than the limit on
-/// bytes, and the sections that they are nest no deeper and have no more values together than the limits say; a described value is one with
-/// its descriptor.
+/// Within limits of the caller, a body is read from the first n bytes exactly if it is read from them without limits, and they keep the
+/// limits. They do if n is at most the limit on bytes, and their sections nest no deeper and have together no more values than the limits
+/// allow. A described value is one with its descriptor.
 pub fn limits_bound_bodies<B: FromBody>()
     ensures within { (limits : Limits) (input : List ℕ) (body : B.Body) (n : ℕ) → BeginsWithin limits B.made.group input body n
         ↔ (BeginsWith B.made.group input body n × Has (limit_of limits.bytes) n × AreAllowed limits (take n input)) }
 {}
 
-/// A copy of a body is of the same kind, and holds a copy of what that holds.
+/// A clone of a body is of the same kind, and holds a clone of what the body holds.
 pub fn contents_are_copied<T: Clone>()
     ensures { (body copy : BodyOf T) → ⟦<Body<T> as Clone>⟧.is_clone body copy
         → AreRelated ⟦<AmqpValue<T> as Clone>⟧.is_clone ⟦<Batch<Data> as Clone>⟧.is_clone
         ⟦<Batch<AmqpSequence<T>> as Clone>⟧.is_clone body copy }
 {}
 
-/// Where copies of values are equal to them, so is a copy of a body.
+/// If clones of values are equal to them, a clone of a body is equal to the body.
 pub fn copies_are_equal<T: Clone + PartialEq>()
     ensures { ((v w : T) → T.is_clone v w → IsTrue (T.eq v w)) → (body copy : BodyOf T)
         → ⟦<Body<T> as Clone>⟧.is_clone body copy → IsTrue (⟦<Body<T> as PartialEq>⟧.eq body copy) }

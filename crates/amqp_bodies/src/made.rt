@@ -11,7 +11,7 @@ use amqp_values::Value;
 use amqp_wire::Error;
 use std::alloc::Global;
 
-/// The body that is this value.
+/// Makes the body that is this value.
 impl<T> From<T> for Body<T> {
     ghost from_gives = { λ value body. body ≡ body_of.Value (record { 0 = value }) };
 
@@ -20,7 +20,7 @@ impl<T> From<T> for Body<T> {
     }
 }
 
-/// The body that is this section.
+/// Makes the body that is this section.
 impl<T> From<AmqpValue<T>> for Body<T> {
     ghost from_gives = { λ value body. body ≡ body_of.Value value };
 
@@ -30,7 +30,7 @@ impl<T> From<AmqpValue<T>> for Body<T> {
 }
 
 impl<T: Drop> Body<T> {
-    /// The body that is one sequence, of these values. The only error is `Memory`.
+    /// Returns the body that is one sequence, of these values. The only error is `Memory`.
     pub fn from_items(values: Vec<T>, alloc: Global) -> Result<Body<T>, Error>
         ensures sequence { IfOk result (λ body. body_sequences body ≡ Some (values ∷ [])) }
         ensures memory { IfErr result (λ e. e ≡ Memory) }
@@ -38,7 +38,7 @@ impl<T: Drop> Body<T> {
         Body::from_sequence(AmqpSequence(values), alloc)
     }
 
-    /// The body that is this sequence. The only error is `Memory`.
+    /// Returns the body that is this sequence. The only error is `Memory`.
     pub fn from_sequence(sequence: AmqpSequence<T>, alloc: Global) -> Result<Body<T>, Error>
         ensures sequence { IfOk result (λ body. body_sequences body ≡ Some (sequence.0 ∷ [])) }
         ensures memory { IfErr result (λ e. e ≡ Memory) }
@@ -50,7 +50,7 @@ impl<T: Drop> Body<T> {
 }
 
 impl Body<Value> {
-    /// The body that is this section of data. The only error is `Memory`.
+    /// Returns the body that is this section of data. The only error is `Memory`.
     pub fn from_data(data: Data, alloc: Global) -> Result<Body<Value>, Error>
         ensures data { IfOk result (λ body. body_data body ≡ Some («data».0 ∷ [])) }
         ensures memory { IfErr result (λ e. e ≡ Memory) }

@@ -1,4 +1,4 @@
-//! What may be absent as the body of a message (Part 3, section 3.2).
+//! Optional bodies of messages (Part 3, section 3.2).
 ghost use Rattle.amqp_bodies.specs.SomeReading.{some_reading};
 
 use crate::traits::{BodySection, DeserializableBody, FromBody, TransposeOption};
@@ -8,7 +8,7 @@ use std::alloc::Global;
 
 impl<B: BodySection> BodySection for Option<B> {}
 
-/// Where a section of a body comes next, the body is there.
+/// If a section of a body comes next, the body is present.
 impl<B: DeserializableBody> DeserializableBody for Option<B>
 where
     Option<B>: Drop,
@@ -23,7 +23,7 @@ where
     }
 }
 
-/// `None` if there is no body, or nothing in it.
+/// It is `None` if there is no body, or nothing in it.
 impl<T> FromBody for Option<T>
 where
     T: FromBody,

@@ -17,7 +17,7 @@ use amqp_wire::{ByteSource, Error};
 use std::alloc::Global;
 use std::collections::BTreeMap;
 
-/// `EmptyBody`.
+/// Returns `EmptyBody`.
 impl<T: PlainFromBody> FromEmptyBody for T {
     ghost empties = { no_value };
 
@@ -36,7 +36,7 @@ impl ValueFromBody for Value {}
 
 impl ValueFromBody for LazyValue {}
 
-/// The value of the section.
+/// Returns the value of the section.
 impl<T: ValueFromBody> FromBody for T {
     type Body = AmqpValue<T>;
 

@@ -249,7 +249,7 @@ impl<T: DeserializeTerm> CanonicalBody for AmqpSequence<T> {
         (section_agreement in_sequence sequence_naming (vec_agreement T.agreement)) (inr (inl refl)) };
 }
 
-/// An empty batch is written as no sections, and those aren't read as a batch.
+/// An empty batch is written as no sections, which aren't read as a batch.
 impl<T: BatchItem + DeserializeTerm> CanonicalBody for TransparentVec<T> {
     ghost follows = { λ more. IsSectionAhead more T.code → ⊥ };
 

@@ -5,7 +5,7 @@ use crate::body::Body;
 use amqp_sections::AmqpValue;
 use std::fmt;
 
-/// A value as its section is printed; of the others only which kind they are.
+/// A value is printed as its section is; for the other bodies, only their kind is printed.
 impl<T: fmt::Display> fmt::Display for Body<T> {
     ghost output = { printed ⟦<AmqpValue<T> as fmt::Display>⟧.output };
 

@@ -21,43 +21,43 @@ pub trait BodySection {}
 /// What can be written as the body of a message.
 pub trait SerializableBody: Serialize + BodySection {}
 
-/// A value of which the body of a message is made.
+/// A value that the body of a message can be made of.
 pub trait IntoBody: Sized {
-    /// As what it is written.
+    /// The type that it is written as.
     type Body: SerializableBody;
 
     // The body of a value.
     ghost body: { Self → Self.Body };
 
-    /// The body of a message with this value. Takes no memory.
+    /// Returns the body of a message with this value. It doesn't allocate.
     fn into_body(self) -> Self::Body
         ensures { result ≡ body self };
 }
 
-/// A body that is also made of a borrowed value.
+/// A body that can also be made of a borrowed value.
 pub trait AsBodyRef<'a, T: IntoBody<Body = Self>>: SerializableBody + Sized {
-    /// As what the borrowed value is written.
+    /// The type that the borrowed value is written as.
     type BodyRef: SerializableBody;
 
     // It is the body of a borrow of this value.
     ghost borrows: { Self.BodyRef → T → Type 0 };
 
-    /// The body of a message with the borrowed value. Takes no memory.
+    /// Returns the body of a message with the borrowed value. It doesn't allocate.
     fn as_body_ref(value: &'a T) -> Self::BodyRef
         ensures { borrows result value.now };
 }
 
-/// A type whose values are written as an `AmqpValue` where they are the body of a message. A type of yours is `IntoBody` by
-/// an empty impl of this trait.
+/// A type whose values are written as an `AmqpValue` if they are the body of a message. Implement this empty trait to make your type
+/// `IntoBody`.
 pub trait PlainIntoBody: SerializeTerm {}
 
 /// What can be read as the body of a message.
 pub trait DeserializableBody: BodySection + Sized + Drop {
-    // How a group of its sections is read, where a section of a body comes next.
+    // How a group of its sections is read, if a section of a body comes next.
     ghost group: { Reading Self };
 
-    /// Reads a group of its sections, where a section of a body comes next: one section, or those of one kind that come one after
-    /// another. Another section is `WrongDescriptor`; what a section is refused for comes besides.
+    /// Reads a group of its sections, if a section of a body comes next: one section, or those of one kind that come one after another. It
+    /// returns `WrongDescriptor` for another section, and otherwise the errors of a section.
     fn read_group<R: ByteSource>(decoder: &mut Decoder<R>, alloc: Global) -> Result<Self, Error>
         ensures read { Tells R.remaining → AnswersRead group.takes_memory group.reads group.fault decoder.old result decoder.new }
         ensures tries { Tries group.takes_memory decoder.old result decoder.new };
@@ -68,26 +68,26 @@ pub trait FromEmptyBody: Sized {
     // The values that do.
     ghost empties: { Empties Self };
 
-    /// A value that takes the place of a body that isn't there, or `EmptyBody` if none does. The only other error is `Memory`.
+    /// Returns a value that takes the place of an absent body, or `EmptyBody` if there is no such value. The only other error is `Memory`.
     fn from_empty_body(alloc: Global) -> Result<Self, Error>
         ensures value { IfOk result empties.is }
         ensures refused { IfErr result (λ e. (e ≡ Memory) ⊎ ((e ≡ EmptyBody) × ((v : Self) → empties.is v → ⊥))) };
 }
 
-/// What is made of the body of a message that is read.
+/// What can be made of the body of a message that is read.
 pub trait FromBody: FromEmptyBody + Drop {
-    /// As what it is read.
+    /// The type that it is read as.
     type Body: DeserializableBody;
 
     // How the body is read, and the value made of it, with the laws.
     ghost made: { Made Self.Body Self };
 
-    /// The value that is made of the body. The only error is `Memory`.
+    /// Returns the value that is made of the body. The only error is `Memory`.
     fn from_body(body: Self::Body, alloc: Global) -> Result<Self, Error>
         ensures value { IfOk result (λ v. made.of_body body v) }
         ensures memory { IfErr result (λ e. e ≡ Memory) };
 
-    /// Reads a group of sections of the body, where a section of a body comes next, as the body's type does.
+    /// Reads a group of sections of the body, if a section of a body comes next, as the body's type does.
     fn read_body<R: ByteSource>(
         decoder: &mut Decoder<R>,
         alloc: Global,
@@ -96,27 +96,27 @@ pub trait FromBody: FromEmptyBody + Drop {
             decoder.new }
         ensures tries { Tries made.group.takes_memory decoder.old result decoder.new };
 
-    // The values that take the place of a body that isn't there are those that `from_empty_body` tells of.
+    // The values that take the place of an absent body are those that `from_empty_body` states.
     ghost empty_is: { (v : Self) → Self.FromEmptyBody.empties.is v → made.empty v };
 
     ghost is_empty: { (v : Self) → made.empty v → Self.FromEmptyBody.empties.is v };
 }
 
-/// A body in which there may be nothing. Nothing is a null in an `AmqpValue`; an `AmqpSequence` or `Data` that is empty; a batch without
-/// sections; a null among the items of a sequence; and no body.
+/// A body in which there may be nothing. Nothing is a null in an `AmqpValue`, an empty `AmqpSequence` or `Data`, or a batch without
+/// sections. It is also a null among the items of a sequence, and no body.
 pub trait TransposeOption<To: FromBody>: BodySection + Sized {
-    /// As what it is read.
+    /// The type that it is read as.
     type From: DeserializableBody;
 
     // How it is read, and what is made of it, with the laws.
     ghost transposed: { Made Self.From (Option To) };
 
-    /// What is made of the body, or `None` if there is nothing in it. The only error is `Memory`.
+    /// Returns what is made of the body, or `None` if there is nothing in it. The only error is `Memory`.
     fn transpose(src: Self::From, alloc: Global) -> Result<Option<To>, Error>
         ensures value { IfOk result (λ v. transposed.of_body src v) }
         ensures memory { IfErr result (λ e. e ≡ Memory) };
 
-    /// Reads a group of sections of the body, where a section of a body comes next, as `DeserializableBody::read_group` does.
+    /// Reads a group of sections of the body, if a section of a body comes next, as `DeserializableBody::read_group` does.
     fn read_from<R: ByteSource>(
         decoder: &mut Decoder<R>,
         alloc: Global,
@@ -125,22 +125,22 @@ pub trait TransposeOption<To: FromBody>: BodySection + Sized {
             decoder.old result decoder.new }
         ensures tries { Tries transposed.group.takes_memory decoder.old result decoder.new };
 
-    // What takes the place of a body that isn't there is that there is nothing.
+    // What takes the place of an absent body is `None`.
     ghost none_is: { (v : Option To) → v ≡ None → transposed.empty v };
 
     ghost is_none: { (v : Option To) → transposed.empty v → v ≡ None };
 }
 
-/// A body that may be empty, and is nothing then. It isn't exported, so no other crate adds one.
+/// A body that may be empty, and is `None` then. It isn't exported, so no other crate adds one.
 pub trait EmptyIsNothing: DeserializableBody + FromBody<Body = Self> {
-    // How it is read where it may be absent, and what is made of it, with the laws.
+    // How it is read if it may be absent, and what is made of it, with the laws.
     ghost optional: { Made (Option Self) (Option Self) };
 
-    /// Itself, or `None` if it is empty.
+    /// Returns itself, or `None` if it is empty.
     fn unless_empty(self) -> Option<Self>
         ensures { optional.of_body (Some self) result };
 
-    /// Reads a group of its sections, where a section of a body comes next.
+    /// Reads a group of its sections, if a section of a body comes next.
     fn read_optional<R: ByteSource>(
         decoder: &mut Decoder<R>,
         alloc: Global,
@@ -149,7 +149,7 @@ pub trait EmptyIsNothing: DeserializableBody + FromBody<Body = Self> {
             result decoder.new }
         ensures tries { Tries optional.group.takes_memory decoder.old result decoder.new };
 
-    // What isn't there is made of what isn't there, and takes its place.
+    // An absent body is made of an absent one, and takes its place.
     ghost of_none: { optional.of_body None None };
 
     ghost none_is: { (v : Option Self) → v ≡ None → optional.empty v };
@@ -159,7 +159,7 @@ pub trait EmptyIsNothing: DeserializableBody + FromBody<Body = Self> {
 
 /// What can be both written and read as the body of a message, so that each message has one canonical text.
 pub trait CanonicalBody: FromBody<Body = Self> + SerializableBody {
-    // What may stand behind its text; what that is read as; of which values that is the value; of which it is read at all.
+    // What may come after its text; what that is read as; of which values that is the value; of which it is read at all.
     ghost follows: { List ℕ → Type 0 };
 
     ghost again: { Self → Self };
@@ -174,18 +174,18 @@ pub trait CanonicalBody: FromBody<Body = Self> + SerializableBody {
 
 /// What can be the value of a message's body, so that a message that has no body is read again from its text.
 pub trait ValueBody: DeserializeTerm + FromEmptyBody {
-    // What takes the place of a body that isn't there is what a null means.
+    // What takes the place of an absent body is what a null means.
     ghost empty_is_null: { (v : Self) → Self.empties.is v → IsNull Self.term v };
 }
 
-/// A type whose values are read from an `AmqpValue` where they are the body of a message.
+/// A type whose values are read from an `AmqpValue` if they are the body of a message.
 pub trait ValueFromBody: ValueBody {}
 
-/// A type whose values are read from an `AmqpValue` where they are the body of a message, and of which none takes the place of
-/// a body that isn't there. A type of yours is `FromBody` by an empty impl of this trait.
+/// A type whose values are read from an `AmqpValue` if they are the body of a message. No value of it takes the place of an absent body.
+/// Implement this empty trait to make your type `FromBody`.
 pub trait PlainFromBody: DeserializeTerm {}
 
-/// A type with a null among its values, so that a body of any kind that isn't there is read again from its text, as that.
+/// A type with a null among its values, so that an absent body of any kind is read again from its text, as that null.
 pub trait NullBody: ValueBody {
     // The null.
     ghost nothing: { Self };

@@ -24,7 +24,7 @@ use amqp_sections::{AmqpSequence, AmqpValue, Data};
 use amqp_wire::{ByteSource, Error};
 use std::alloc::Global;
 
-// The items, or none where one of them is absent.
+// The items, or none if one of them is absent.
 fn all_items<T: Drop>(items: Vec<Option<T>>, alloc: Global) -> Result<Option<Vec<T>>, Error>
     ensures items { IfOk result (λ found. MatchOption found (HasNone items.items) (λ values. AreAll items.items values.items)) }
     ensures memory { IfErr result (λ e. e ≡ Memory) }
@@ -43,7 +43,7 @@ fn all_items<T: Drop>(items: Vec<Option<T>>, alloc: Global) -> Result<Option<Vec
     Ok(Some(values))
 }
 
-// The sequences of a batch, or none where an item of one is absent.
+// The sequences of a batch, or none if an item of one is absent.
 fn all_sequences<T: Drop>(
     batch: Batch<AmqpSequence<Option<T>>>,
     alloc: Global,
@@ -66,7 +66,7 @@ fn all_sequences<T: Drop>(
     Ok(Some(TransparentVec::new(sequences)))
 }
 
-/// Nothing is a null.
+/// A null is `None`.
 impl<T: ValueFromBody> TransposeOption<T> for AmqpValue<T> {
     type From = Option<AmqpValue<Option<T>>>;
 
@@ -92,7 +92,7 @@ impl<T: ValueFromBody> TransposeOption<T> for AmqpValue<T> {
     ghost is_none = { λ v h. h };
 }
 
-/// Nothing is a null.
+/// A null is `None`.
 impl<T: DeserializeTerm + FromEmptyBody> TransposeOption<AmqpValue<T>> for AmqpValue<T> {
     type From = Option<AmqpValue<Option<T>>>;
 
@@ -121,7 +121,7 @@ impl<T: DeserializeTerm + FromEmptyBody> TransposeOption<AmqpValue<T>> for AmqpV
     ghost is_none = { λ v h. h };
 }
 
-/// Nothing is a sequence without items, and one with a null among them.
+/// A sequence without items is `None`, and so is one with a null among them.
 impl<T: DeserializeTerm> TransposeOption<AmqpSequence<T>> for AmqpSequence<T> {
     type From = Option<AmqpSequence<Option<T>>>;
 
@@ -158,7 +158,7 @@ impl<T: DeserializeTerm> TransposeOption<AmqpSequence<T>> for AmqpSequence<T> {
     ghost is_none = { λ v h. h };
 }
 
-/// Nothing is a batch without sequences, and one with a null among the items of a sequence.
+/// A batch without sequences is `None`, and so is one with a null among the items of a sequence.
 impl<T: DeserializeTerm> TransposeOption<TransparentVec<AmqpSequence<T>>>
     for TransparentVec<AmqpSequence<T>> {
     type From = Option<TransparentVec<AmqpSequence<Option<T>>>>;
@@ -191,7 +191,7 @@ impl<T: DeserializeTerm> TransposeOption<TransparentVec<AmqpSequence<T>>>
     ghost is_none = { λ v h. h };
 }
 
-/// Nothing is data without bytes.
+/// Data without bytes is `None`.
 impl EmptyIsNothing for Data {
     ghost optional = { option_made (section_made ⟦<Data as DeserializeTerm>⟧.term)
         (optional data_stripped (term_bound ⟦<Data as DeserializeTerm>⟧.term)) };
@@ -217,7 +217,7 @@ impl EmptyIsNothing for Data {
     ghost is_none = { λ v h. h };
 }
 
-/// Nothing is a batch without sections.
+/// A batch without sections is `None`.
 impl TransposeOption<TransparentVec<Data>> for TransparentVec<Data> {
     type From = Option<TransparentVec<Data>>;
 
@@ -247,7 +247,7 @@ impl TransposeOption<TransparentVec<Data>> for TransparentVec<Data> {
     ghost is_none = { λ v h. h };
 }
 
-/// Nothing is a body that is empty.
+/// An empty body is `None`.
 impl<T: EmptyIsNothing> TransposeOption<T> for T {
     type From = Option<T>;
 
@@ -272,7 +272,7 @@ impl<T: EmptyIsNothing> TransposeOption<T> for T {
     ghost is_none = { T.is_none };
 }
 
-/// Nothing is a null, a batch without sections, a null among the items of a sequence, and no body.
+/// Each of these is `None`: a null, a batch without sections, a null among the items of a sequence, and no body.
 impl<T: DeserializeTerm> TransposeOption<Body<T>> for Body<T> {
     type From = Body<Option<T>>;
 

@@ -10,7 +10,7 @@ use amqp_values::Value;
 use amqp_wire::Error;
 use std::alloc::Global;
 
-/// `Null`.
+/// Returns `Null`.
 impl FromEmptyBody for Value {
     ghost empties = { null_value };
 
@@ -31,7 +31,7 @@ impl NullBody for Value {
     ghost nothing_is_written = { refl };
 }
 
-/// The bytes of a null.
+/// Returns the bytes of a null.
 impl FromEmptyBody for LazyValue {
     ghost empties = { lazy_null };
 
@@ -44,7 +44,7 @@ impl ValueBody for LazyValue {
     ghost empty_is_null = { λ v h. h };
 }
 
-/// `None`.
+/// Returns `None`.
 impl<T> FromEmptyBody for Option<T> {
     ghost empties = { none_value };
 

@@ -1,4 +1,4 @@
-//! What bodies are made of, what is taken out of them, and how they are printed. The digits are written out by the standard's tables.
+//! What bodies are made of, what is moved out of them, and how they are printed. The digits are written out by the standard's tables.
 use amqp_batches::Batch;
 use amqp_bodies::Body;
 use amqp_codec::Error;

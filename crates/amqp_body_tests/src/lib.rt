@@ -1,4 +1,4 @@
-//! Tests of batches and bodies: each read in any spelling, written, and refused.
+//! Tests of batches and bodies: each read in any encoding, written, and refused.
 #![tactic(auto)]
 
 #[cfg(test)]

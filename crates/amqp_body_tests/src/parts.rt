@@ -5,7 +5,7 @@ use amqp_test_helpers::check_written;
 use std::alloc::Global;
 use std::test::Fail;
 
-/// The bytes with these digits begin with a value of the type, behind which so many bytes are left, and which is written with the
+/// Checks that the bytes with these digits begin with a value of the type, that so many bytes follow it, and that it is written with the
 /// other digits.
 pub fn read_and_written<T: Deserialize + Serialize>(
     digits: &str,

@@ -8,7 +8,7 @@ use crate::outcome::{NO_LIMITS, NO_ROOM, NO_TYPE};
 use amqp_wire::Error;
 use std::io::ErrorKind;
 
-// An error with this number. Of errors that say something besides, it is one that says 0, or the kind `Other`.
+// An error with this number. If errors with this number differ in what else they say, it is the one with 0, or with the kind `Other`.
 fn error_numbered(number: u32) -> Option<Error>
     ensures { MatchOption result ((e : Error) → number_of e ≡ number → ⊥) (λ e. number_of e ≡ number) }
 {
@@ -48,7 +48,7 @@ fn error_numbered(number: u32) -> Option<Error>
     })
 }
 
-/// The name of the error that has this number.
+/// Returns the name of the error that has this number.
 pub(crate) fn name_of_number(number: u32) -> Option<&'static str>
     ensures { MatchOption result (IsNameless number) (λ name. IsNameOf number name.now) }
 {

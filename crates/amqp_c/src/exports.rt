@@ -1,6 +1,6 @@
 //! The calls.
 ghost use Rattle.std.specs.Prelude.{◌≡◌};
-ghost use Rattle.amqp_c.specs.Limits.{greatest_given};
+ghost use Rattle.amqp_c.specs.Limits.{greatest_given, peers_given};
 ghost use Rattle.amqp_c.specs.Errors.{TellsName};
 ghost use Rattle.amqp_c.specs.Terms.{TellsLength};
 ghost use Rattle.amqp_c.specs.Nodes.{TellsNode};
@@ -16,7 +16,7 @@ use amqp_lines::TypeName;
 use fe2o3_amqp_types::codec::term_len;
 use std::alloc::Global;
 
-/// The number of the type with this name in the program `amqp-canon`, or 0 if none has it.
+/// Returns the number of the type with this name in the program `amqp_canon`, or 0 if none has it.
 #[unsafe(no_mangle)]
 pub extern "C" fn amqp_c_type(name: &[u8]) -> u32
     ensures { IsNumberOf name.now result }
@@ -27,7 +27,7 @@ pub extern "C" fn amqp_c_type(name: &[u8]) -> u32
     }
 }
 
-/// How many bytes the value takes that the input begins with, of the type of the number and within the limits.
+/// Reads the value of the numbered type at the start of the input, within the limits, and writes its length to `taken`.
 #[unsafe(no_mangle)]
 pub extern "C" fn amqp_c_read(
     number: u32,
@@ -47,8 +47,8 @@ pub extern "C" fn amqp_c_read(
     }
 }
 
-/// The canonical text of the value that the input begins with, of the type of the number and within the limits, and how many bytes that
-/// value takes. If there is no room for the text, its length is told, and the room is left as it is.
+/// Writes the canonical text of the value of the numbered type at the start of the input, within the limits, and the value's length to
+/// `taken`. If there is no room for the text, its length is written to `written`, and `out` is unchanged.
 #[unsafe(no_mangle)]
 pub extern "C" fn amqp_c_canonical(
     number: u32,
@@ -72,7 +72,7 @@ pub extern "C" fn amqp_c_canonical(
     }
 }
 
-/// How long the term is that the input begins with, of whatever type (Part 1, section 1.2).
+/// Writes the length of the term at the start of the input, of any type, to `taken` (Part 1, section 1.2).
 #[unsafe(no_mangle)]
 pub extern "C" fn amqp_c_term_len(input: &[u8], taken: &mut usize) -> Outcome
     ensures { TellsLength input.now taken.old taken.new result }
@@ -86,7 +86,7 @@ pub extern "C" fn amqp_c_term_len(input: &[u8], taken: &mut usize) -> Outcome
     }
 }
 
-/// The node of a term that begins at the place. On entry the node is the one around it, all zeros if there is none.
+/// Replaces the enclosing node by the node of a term that begins at the offset. Around a whole term the enclosing node is all zeros.
 #[unsafe(no_mangle)]
 pub extern "C" fn amqp_c_next(input: &[u8], at: usize, node: &mut Node) -> Outcome
     ensures { TellsNode input.now at node.old node.new result }
@@ -100,8 +100,8 @@ pub extern "C" fn amqp_c_next(input: &[u8], at: usize, node: &mut Node) -> Outco
     }
 }
 
-/// Puts the name of the error that has this number into the room, if there is room for it, and returns its length in bytes, 0 if no error
-/// has the number.
+/// Writes the name of the error that has this number to `out`, if there is room for it. Returns the name's length in bytes, or 0 if no
+/// error has the number.
 #[unsafe(no_mangle)]
 pub extern "C" fn amqp_c_error_name(number: u32, out: &mut [u8]) -> usize
     ensures { TellsName number result out.old out.new }
@@ -114,10 +114,18 @@ pub extern "C" fn amqp_c_error_name(number: u32, out: &mut [u8]) -> usize
     bytes.len()
 }
 
-/// Sets the limits to the greatest, under which all is read that nests at most 128 deep.
+/// Sets the limits to the greatest, under which everything is read that nests at most 128 deep, without a seed.
 #[unsafe(no_mangle)]
 pub extern "C" fn amqp_c_greatest(limits: &mut GivenLimits)
     ensures { limits.new ≡ greatest_given }
 {
     *limits = GivenLimits::greatest();
+}
+
+/// Sets the limits to those for input from a peer, of which at most this many bytes are read.
+#[unsafe(no_mangle)]
+pub extern "C" fn amqp_c_for_peers(limits: &mut GivenLimits, bytes: u64)
+    ensures { limits.new ≡ peers_given bytes }
+{
+    *limits = GivenLimits::for_peers(bytes);
 }

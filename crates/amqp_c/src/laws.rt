@@ -8,8 +8,8 @@ ghost use Rattle.amqp_c.specs.declared.nodes.Node.{Node};
 ghost use Rattle.amqp_c.specs.Nodes.{IsWithin, IsNode, IsNoNode, bytes_at, reach_of};
 ghost use Rattle.amqp_c.specs.Walks.{nothing, parts_of, StandsIn, StandIn, IsNodeOf, Walks, AreOf};
 
-/// A walk of a term meets each value in it once. In a node stand the parts of its term, from its `next` on. Where terms stand in a node, the call at
-/// the first of them isn't refused, it tells its node, and the others stand from the end of that node on, up to the end of the node around.
+/// A walk of a term meets each value in it once. The parts of a node's term are in the node, from its `next` on. If terms come next in a
+/// node, the call at the first of them returns its node. The others come from the end of that node on, up to the end of the enclosing node.
 pub fn walks()
     ensures first { (input b after : List ℕ) (at : ℕ) (around node : Node) (t : Term) → bytes_at input at around ≡ b ++ after → StandsIn around t b
         → IsNode input at around node → IsNodeOf around t b at node

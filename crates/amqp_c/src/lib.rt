@@ -1,6 +1,6 @@
-//! The library for C: what `fe2o3_amqp_types` reads and rewrites, by calls over bytes. Each call's name begins with `amqp_c_`. Types and errors
-//! cross as numbers, limits and outcomes as structs, and bytes as a pointer and a length. No call keeps anything, returns a pointer or
-//! allocates for its caller.
+//! The library for C: what `fe2o3_amqp_types` reads and rewrites, by calls over bytes. Each call's name begins with `amqp_c_`. Types and
+//! errors are passed as numbers, limits and outcomes as structs, and bytes as a pointer and a length. No call keeps anything, returns a
+//! pointer or allocates for its caller.
 #![tactic(auto)]
 
 mod errors;

@@ -17,25 +17,26 @@ use amqp_kinds::{Kind, kind_of};
 use amqp_lengths::term_len;
 use amqp_wire::{Error, format_code};
 
-/// A value in a term. A described value is a node that holds two, its descriptor and its value.
+/// A value in a term. A described value is a node with two in it, its descriptor and its value.
 #[repr(C)]
 #[derive(Clone, Copy, Debug, PartialEq, Eq)]
 pub struct Node {
-    /// What it is: a number of a kind, or 0 of what stands around a whole term.
+    /// Its kind, as a number; 0 for what is around a whole term.
     pub kind: u32,
-    /// How many nodes it stands in.
+    /// How many nodes are around it.
     pub depth: u32,
-    /// Its format code, 0 of a described value.
+    /// Its format code, or 0 for a described value.
     pub code: u8,
-    /// The format code of the items of an array, 0 of one without items and of other nodes.
+    /// The format code of the items of an array; 0 for an array without items, and for other nodes.
     pub item_code: u8,
-    /// How many values it holds: items of a list or an array, keys and values of a map, 2 of a described value.
+    /// How many nodes are directly in it: items of a list or an array, keys and values of a map, 2 for a described value.
     pub count: usize,
-    /// Where what it holds begins, behind its constructor, its size and its count. What an array holds begins with the constructor of its items.
+    /// Where its content begins, after its constructor, its size and its count. The content of an array begins with the constructor of its
+    /// items.
     pub start: usize,
     /// Where it ends.
     pub end: usize,
-    /// Where the next node begins: the first one in it, or else what follows it.
+    /// Where the next node begins: the first one in it, or otherwise the one after it.
     pub next: usize,
 }
 
@@ -54,7 +55,7 @@ fn size_width(code: u8) -> usize
     }
 }
 
-// How many bytes stand before what the data of a code holds.
+// How many bytes come before the content of a code's data.
 fn head_len(code: u8) -> usize
     ensures head { result ≡ head_of (format code) }
     ensures most { result ≤ 8 }
@@ -95,7 +96,7 @@ fn fixed_width(code: u8) -> usize
     }
 }
 
-// How many bytes belong behind the size of a code's data: as many as it says, and the count of a list of the size 0.
+// How many bytes follow the size of a code's data: as many as it says, or the count of a list whose size is 0.
 fn behind_size(code: u8, size: usize) -> usize
     ensures { result ≡ behind_size (format code) size }
 {
@@ -118,7 +119,7 @@ fn number(width: usize, bytes: &[u8]) -> Option<usize>
     }
 }
 
-// How many bytes the data of a known code announces at the front of these.
+// How many bytes the data of a known code announces at the start of these.
 fn announced_len(code: u8, bytes: &[u8]) -> Option<usize>
     requires { IsKnown (format code) }
     ensures { MatchOption result (Wants (format code) bytes.now) (λ n. (n ≤ length bytes.now → IsFront (IsAnnounced (format code)) bytes.now n)
@@ -149,8 +150,8 @@ fn item_len(code: u8, bytes: &[u8]) -> Result<usize, Error>
     }
 }
 
-// The code of an array's items, and how many bytes their constructor has: descriptors, each behind a 0, and then the code. Bytes that end
-// before there is a code have the code 0.
+// The code of an array's items, and how many bytes their constructor has: descriptors, each after a 0, and then the code. If the bytes end
+// before there is a code, it is 0.
 fn shared_code(bytes: &[u8]) -> (u8, usize)
     ensures within { result.1 ≤ length bytes.now }
     ensures found { (ds : List Descriptor) (c : ℕ) (own behind : List ℕ) → bytes.now ≡ own ++ behind → Constructor ds c own
@@ -169,8 +170,8 @@ fn shared_code(bytes: &[u8]) -> (u8, usize)
     (format_code::DESCRIBED, len)
 }
 
-// Of data of a code that announces so many items, the code of an array's items, 0 of other data, and the place of the first item: the end if
-// there is none.
+// The code of an array's items, and the place of the first item, from the data of a code that announces so many items. The code is 0 for
+// other data, and the place is the end if there is no item.
 fn first_item(code: u8, count: usize, bytes: &[u8]) -> (u8, usize)
     ensures within { result.1 ≤ length bytes.now }
     ensures none { count ≡ 0 → (result.0 ≡ 0) × (result.1 ≡ length bytes.now) }
@@ -277,7 +278,7 @@ impl Node {
         }
     }
 
-    // Up to where it reaches: all of the input if it is no node.
+    // The end of the node in the input: the end of the input if it is no node.
     fn reach(&self, input: &[u8]) -> usize
         ensures { result ≡ reach_of input.now self.now }
     {
@@ -288,7 +289,7 @@ impl Node {
         }
     }
 
-    // How many nodes those in it stand in: none if it is no node.
+    // How deep the nodes in it are: 0 if it is no node.
     fn inner_depth(&self) -> u32
         ensures { result ≡ inner_depth self.now }
     {
@@ -300,7 +301,7 @@ impl Node {
     }
 }
 
-/// The node that begins at the place, in the node around it, if there is one: a whole term, or an item of an array.
+/// Returns the node that begins at the offset in the enclosing node, if there is one: a whole term, or an item of an array.
 pub(crate) fn next_node(input: &[u8], at: usize, around: &Node) -> Result<Node, Error>
     ensures found { IfOk result (λ node. IsNode input.now at around.now node) }
     ensures refused { IfErr result (λ e. IsNoNode input.now at around.now e) }

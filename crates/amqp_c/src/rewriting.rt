@@ -1,4 +1,4 @@
-//! What is read and rewritten as the type of a number.
+//! Reading and rewriting as the type with a number.
 ghost use Rattle.std.specs.Prelude.{◌≡◌, ◌⊎◌, IfOk, IfErr};
 ghost use Rattle.amqp_wire.specs.declared.error.Error.TheVariants.{Memory};
 ghost use Rattle.amqp_codec.specs.Reading.{IsUnreadableWithin};
@@ -143,7 +143,7 @@ impl Request {
     }
 }
 
-/// How many bytes the value takes that the input begins with, of the type of the number and within the limits.
+/// Returns how many bytes the value at the start of the input takes, of the numbered type and within the limits.
 pub(crate) fn value_len(
     number: u32,
     input: &[u8],
@@ -160,7 +160,7 @@ pub(crate) fn value_len(
     }
 }
 
-/// The canonical text of the value that the input begins with, of the type of the number and within the limits, and how many bytes that
+/// Returns the canonical text of the value at the start of the input, of the numbered type and within the limits, and how many bytes the
 /// value takes.
 pub(crate) fn canonical_text(
     number: u32,

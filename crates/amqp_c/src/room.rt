@@ -1,7 +1,8 @@
-//! Room of the caller.
+//! The caller's room for a text.
 ghost use Rattle.amqp_c.specs.Room.{Puts};
 
-/// Puts the text into the room's front if there is room for all of it, and otherwise leaves the room as it is. The answer is whether it did.
+/// Writes the text to the start of the room if there is room for all of it, and otherwise leaves the room unchanged. Returns whether it
+/// did.
 pub(crate) fn put(text: &[u8], room: &mut [u8]) -> bool
     ensures { Puts text.now room.old room.new result }
 {

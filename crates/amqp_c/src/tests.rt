@@ -1,4 +1,4 @@
-//! Each call, once where it does what it is for and once where it is refused.
+//! Tests of each call, once without an error and once with one.
 use crate::exports::{
     amqp_c_canonical, amqp_c_error_name, amqp_c_greatest, amqp_c_next, amqp_c_read,
     amqp_c_term_len, amqp_c_type,
@@ -8,7 +8,7 @@ use crate::nodes::Node;
 use crate::outcome::Outcome;
 use std::test::Fail;
 
-// A `Received` of section 9 and offset 13, in wider codes than it needs, and a byte behind it.
+// A `Received` of section 9 and offset 13, in wider codes than it needs, and a byte after it.
 const RECEIVED: [u8; 14] = [
     0x00, 0x53, 0x23, 0xc0, 0x08, 0x02, 0x70, 0x00, 0x00, 0x00, 0x09, 0x53, 0x0d, 0xff,
 ];
@@ -21,6 +21,7 @@ fn greatest() -> GivenLimits {
         nesting: 0,
         bytes: 0,
         items: 0,
+        hash_seed: 0,
     };
     amqp_c_greatest(&mut limits);
     limits
@@ -57,6 +58,7 @@ fn values_are_read(rt: HostRuntime) -> Result<(), Fail> {
         nesting: 129,
         bytes: 0,
         items: 0,
+        hash_seed: 0,
     };
     let outcome = amqp_c_read(received, &RECEIVED, &deep, &mut taken, rt.alloc());
     check(outcome, 1002, 0)?;

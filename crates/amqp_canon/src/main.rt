@@ -1,6 +1,6 @@
-//! The program `amqp-canon`: it reads lines `<type> <hex>` from standard input, and answers each by a line to standard output, with
-//! the value's canonical text or the error by which it is refused (`amqp_lines::run`). It ends with status 0 if every answer is `ok`,
-//! as it is of no lines, else with 1.
+//! The program `amqp_canon` reads lines `<type> <hex>` from standard input, and answers each by a line to standard output. The answer has
+//! the value's canonical text, or the error for which it is refused (`amqp_lines::run`). The status is 0 if every answer is `ok`, as for no
+//! lines, else 1.
 #![tactic(auto)]
 
 use amqp_lines::run;

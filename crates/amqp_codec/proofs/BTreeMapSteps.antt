@@ -41,7 +41,7 @@ module _ {K V : Type 0} (key : TermType K) (value : TermType V) (cmp : K → K �
   module _ {Told : Type 0} {n : ℕ} {st : State} {m : BTreeMap K V} {mid : State} (h : InOrderSoFar Told n st m mid) where
     pub fewer_so_far : (count : ℕ) → n < count → Told → ReadsFewer key value count st h.pairs mid
     fewer_so_far count l told = let long = h.long in
-        record { fewer = omega (arith, long, l); each = h.each told; others = h.others }
+        record { fewer = omega (arith, long, l); each = h.each told }
 
     pub all_so_far : Told → ReadsInOrder key value cmp n st m mid
     all_so_far told =

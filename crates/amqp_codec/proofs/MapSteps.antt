@@ -1,5 +1,5 @@
 -- The pairs of a map are read one after another: what each exit of the readers answers.
-use Rattle.std.proofs.Common.{◌≡◌, inl, inr, ℕ, ◌*◌, ◌/◌, ◌&&◌, Bool, true, List, [], ◌∷◌, None, refl, sym, ap, ◌∙◌, subst, arith}
+use Rattle.std.proofs.Common.{◌≡◌, inl, inr, ℕ, ◌*◌, ◌/◌, ◌&&◌, Bool, true, List, [], ◌∷◌, ◌++◌, length, length-append, None, refl, sym, ap, ◌∙◌, subst, arith}
 use Rattle.amqp_model.specs.Term.{map, Term}
 use Rattle.amqp_model.specs.Standing.{Standing}
 use Rattle.amqp_wire.specs.declared.error.Error.{Error}
@@ -15,16 +15,25 @@ use Rattle.amqp_decoder.proofs.OneReading.{value_same}
 use Rattle.amqp_decoder.proofs.Opening.{opens_same}
 use Rattle.amqp_codec.specs.TermType.{TermType}
 use Rattle.amqp_codec.specs.RefusalLaws.{NoneStands, refused_first, refused_later, value_going, opened_going, opened_sound}
-use Rattle.amqp_codec.specs.Pairs.{IsNew, MeansMap}
+use Rattle.amqp_codec.specs.Pairs.{IsNew, HaveOtherKeys, MeansMap}
 use Rattle.amqp_codec.specs.MapReading.{Pairs, ReadsPairsRow, ReadsFewer, PairsFault, at_key, twice, at_value, MapFault}
 use Rattle.amqp_codec.specs.MapReading.{unopened, at_pair, unclosed}
-use Rattle.amqp_codec.specs.MapReadingLaws.{pairs_still, pairs_behind, pairs_end, map_value, value_map}
+use Rattle.amqp_codec.specs.MapReadingLaws.{pairs_still, pairs_split, pairs_behind, pairs_end, map_value, value_map}
 
 -- the count of a map that was opened is twice that of its pairs
 pub by_two : {st : State} {n : ℕ} {first : State} → Opens map st n first → Opens map st (2 * (n / 2)) first
 by_two {st} {n} {first} h = subst (λ n. Opens map st n first) (omega (arith, h.data_.count)) h
 
 module _ {K V : Type 0} (key : TermType K) (value : TermType V) where
+  -- The first pair whose key is that of one before it.
+  pub record KeyTwice (ps : List (K × V)) : Type 0 where
+    pub before : List (K × V)
+    pub pair : K × V
+    pub behind : List (K × V)
+    pub is : ps ≡ before ++ pair ∷ behind
+    pub others : HaveOtherKeys key.same before
+    pub known : IsNew key.same pair.0 before → ⊥
+
   module _ (n : ℕ) where
     abbrev row : State → List (K × V) → State → Type 0
     row = ReadsPairsRow key value n
@@ -47,7 +56,7 @@ module _ {K V : Type 0} (key : TermType K) (value : TermType V) where
         → ReadsFewer key value n st ps mid → RefusesRead takes (ReadsValue key.means) key.faults.fault mid e new
         → RefusesRead true row row_fault st e new
     key_refused {takes} st [] mid e new h r =
-        let x : ReadsFewer key value n st [] st = record { fewer = h.fewer; each = refl; others = tt } in
+        let x : ReadsFewer key value n st [] st = record { fewer = h.fewer; each = refl } in
         refused_first (ReadsValue key.means) key.faults.fault row row_fault st e new (λ _. refl) (λ f. at_key [] st x f)
         (no_key st [] st x) (subst (λ z. RefusesRead takes (ReadsValue key.means) key.faults.fault z e new) h.each r)
     key_refused st (p ∷ ps) mid e new h r =
@@ -57,29 +66,50 @@ module _ {K V : Type 0} (key : TermType K) (value : TermType V) where
         (λ f. at_key (p ∷ ps) mid h f) (no_key st (p ∷ ps) mid h) r
 
     -- or it is that of a pair before it,
-    pub key_twice : (st : State) (ps : List (K × V)) (mid : State) (k : K) (after : State) (e : Error) (new : State)
-        → ReadsFewer key value n st ps mid → ReadsValue key.means mid k after → (IsNew key.same k ps → ⊥)
-        → RefusesBy DuplicateKey after e new → RefusesRead true row row_fault st e new
-    key_twice st ps mid k after e new h r same refused = let is = (refused (value_going r)).0 in record {
-      kept = answered_later (ap (λ (x : State). x.failed) r.moved ∙ (pairs_still key value st ps mid h.each).1)
-          (first_kept (value_going r) refused);
+    twice_behind : (st : State) (ps : List (K × V)) (mid : State) (k : K) (after : State) (e : Error) (new : State)
+        → ReadsFewer key value n st ps mid → HaveOtherKeys key.same ps → ReadsValue key.means mid k after → (IsNew key.same k ps → ⊥)
+        → e ≡ DuplicateKey → Answers st e new → RefusesRead true row row_fault st e new
+    twice_behind st ps mid k after e new h o r same is kept = record {
+      kept = kept;
       again = λ d x. absurd (let going = was_going st ps mid h.each r.stands.going in cc);
-      named = λ _. inr (twice ps mid after k h r same is);
+      named = λ _. inr (twice ps mid after k h o r same is);
       none = inr (λ qs b q.
           (let x = pairs_behind key value st mid b ps qs h.each q.each (omega (arith, h.fewer, q.long)) in
           let y = value_same key.means mid after x.after k x.pair.0 r x.at_key in
           same (x.new q.others k (key.sameness.one y.0 y.1 k x.pair.0 y.2 y.3))));
     }
 
+    pub key_twice : (st : State) (ps : List (K × V)) (mid : State) (k : K) (after : State) (e : Error) (new : State)
+        → ReadsFewer key value n st ps mid → HaveOtherKeys key.same ps → ReadsValue key.means mid k after → (IsNew key.same k ps → ⊥)
+        → RefusesBy DuplicateKey after e new → RefusesRead true row row_fault st e new
+    key_twice st ps mid k after e new h o r same refused =
+        twice_behind st ps mid k after e new h o r same (refused (value_going r)).0
+        (answered_later (ap (λ (x : State). x.failed) r.moved ∙ (pairs_still key value st ps mid h.each).1) (first_kept (value_going r) refused))
+
+    -- or all pairs were read, and the key of one is that of a pair before it,
+    pub row_twice : (st : State) (ps : List (K × V)) (b : State) (e : Error) (new : State) → length ps ≡ n → Pairs key value st ps b
+        → KeyTwice ps → RefusesBy DuplicateKey b e new → RefusesRead true row row_fault st e new
+    row_twice st ps b e new long each t refused =
+        let all = subst (λ z. Pairs key value st z b) t.is each in
+        let s = pairs_split key value st t.before t.pair t.behind b all in
+        let still = pairs_still key value st ps b each in
+        let going : b.error ≡ None = still.0 ∙ was_going st t.before s.mid s.before s.at_key.stands.going in
+        let h : ReadsFewer key value n st t.before s.mid = record {
+          fewer = omega (arith, long, ap length t.is, length-append t.before (t.pair ∷ t.behind));
+          each = s.before;
+        } in
+        twice_behind st t.before s.mid t.pair.0 s.after e new h t.others s.at_key t.known (refused going).0
+        (answered_later still.1 (first_kept going refused))
+
     -- or its value wasn't read,
     pub value_refused : {takes : Bool} (st : State) (ps : List (K × V)) (mid : State) (k : K) (after : State) (e : Error) (new : State)
-        → ReadsFewer key value n st ps mid → ReadsValue key.means mid k after → IsNew key.same k ps
+        → ReadsFewer key value n st ps mid → ReadsValue key.means mid k after
         → RefusesRead takes (ReadsValue value.means) value.faults.fault after e new → RefusesRead true row row_fault st e new
-    value_refused st ps mid k after e new h r fresh refused =
+    value_refused st ps mid k after e new h r refused =
         let still = pairs_still key value st ps mid h.each in
         refused_later (ReadsValue value.means) value.faults.fault row row_fault st after e new (λ _. refl)
         (ap (λ (x : State). x.failed) r.moved ∙ still.1) (was_going st ps mid h.each r.stands.going)
-        (ap (λ (x : State). x.error) r.moved ∙ r.stands.going) (λ f. at_value ps mid after k h r fresh f)
+        (ap (λ (x : State). x.error) r.moved ∙ r.stands.going) (λ f. at_value ps mid after k h r f)
         (λ none qs b q.
         (let x = pairs_behind key value st mid b ps qs h.each q.each (omega (arith, h.fewer, q.long)) in
         let y = value_same key.means mid x.after after x.pair.0 k x.at_key r in
@@ -95,7 +125,17 @@ module _ {K V : Type 0} (key : TermType K) (value : TermType V) where
       none = inl (inl (refl, is));
     }
 
-    -- or memory for a pair of the key was wanted, before its value was read
+    -- or memory was wanted behind all pairs,
+    pub no_memory : (st : State) (ps : List (K × V)) (b : State) (e : Error) (new : State) → Pairs key value st ps b → b.error ≡ None
+        → RefusesBy Memory b e new → RefusesRead true row row_fault st e new
+    no_memory st ps b e new each going refused = record {
+      kept = answered_later (pairs_still key value st ps b each).1 (first_kept going refused);
+      again = λ d x. absurd (let before = was_going st ps b each going in cc);
+      named = λ _. inl (inl (refl, (refused going).0));
+      none = inl (inl (refl, (refused going).0));
+    }
+
+    -- or for a pair of the key, before its value was read
     pub no_place : (st : State) (ps : List (K × V)) (mid : State) (k : K) (after : State) (e : Error) (new : State)
         → Pairs key value st ps mid → ReadsValue key.means mid k after → RefusesBy Memory after e new
         → RefusesRead true row row_fault st e new

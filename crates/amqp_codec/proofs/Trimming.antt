@@ -105,4 +105,4 @@ plain_null t h z = sym (nulls_alike-none_kept t h) ∙ nulls_alike-null t z
 -- null is written for a field that is null
 pub null_written : {V : Type 0} (fs : Fields V) (n : ℕ) (v : V) (a b : Encoder) (r : Result (Unit {0}) Error)
     → true ≡ is_null (canon_at fs n v) → Writes a (put null ∷ []) r b → WritesTerms (canon_at fs n v ∷ []) a r b
-null_written fs n v a b r z w = rw (plain_null (canon_at fs n v) (field_keeps_no_bytes fs n v) (sym z)) (record { calls = λ deep k. inl w })
+null_written fs n v a b r z w = rw (plain_null (canon_at fs n v) (field_keeps_no_bytes fs n v) (sym z)) (record { calls = λ deep k f. inl w })

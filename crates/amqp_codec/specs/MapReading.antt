@@ -25,19 +25,19 @@ module _ {K V : Type 0} (key : TermType K) (value : TermType V) where
     pub each : Pairs st ps b
     pub others : HaveOtherKeys key.same ps
 
-  -- Fewer were read, no two of which have the same key.
+  -- Fewer were read.
   pub record ReadsFewer (n : ℕ) (st : State) (ps : List (K × V)) (mid : State) : Type 0 where
     pub fewer : length ps < n
     pub each : Pairs st ps mid
-    pub others : HaveOtherKeys key.same ps
 
-  -- Why so many aren't read: behind fewer that are, the next key isn't; or it is one of theirs; or it is none, and its value isn't.
+  -- Why so many aren't read: behind fewer that are, the next key isn't; or it is one of theirs, no two of which are the same; or its value
+  -- isn't.
   pub data PairsFault (n : ℕ) (st : State) (e : Error) : Type 0 where
     at_key : (ps : List (K × V)) (mid : State) → ReadsFewer n st ps mid → key.faults.fault mid e → PairsFault n st e
-    twice : (ps : List (K × V)) (mid after : State) (k : K) → ReadsFewer n st ps mid → ReadsValue key.means mid k after
-        → (IsNew key.same k ps → ⊥) → e ≡ DuplicateKey → PairsFault n st e
+    twice : (ps : List (K × V)) (mid after : State) (k : K) → ReadsFewer n st ps mid → HaveOtherKeys key.same ps
+        → ReadsValue key.means mid k after → (IsNew key.same k ps → ⊥) → e ≡ DuplicateKey → PairsFault n st e
     at_value : (ps : List (K × V)) (mid after : State) (k : K) → ReadsFewer n st ps mid → ReadsValue key.means mid k after
-        → IsNew key.same k ps → value.faults.fault after e → PairsFault n st e
+        → value.faults.fault after e → PairsFault n st e
 
   -- A map of so many pairs was opened, they were read, and it was closed.
   pub record MapRead (st : State) (ps : List (K × V)) (b : State) : Type 0 where

@@ -79,17 +79,16 @@ module _ {K V : Type 0} (key : TermType K) (value : TermType V) where
 
   fewer_elsewhere : (c : Setting) (n : ℕ) (st : State) (ps : List (K × V)) (mid : State) → ReadsFewer key value n st ps mid
       → ReadsFewer key value n (under c st) ps (under c mid)
-  fewer_elsewhere c n st ps mid h =
-      record { fewer = h.fewer; each = pairs_elsewhere c st ps mid h.each; others = h.others }
+  fewer_elsewhere c n st ps mid h = record { fewer = h.fewer; each = pairs_elsewhere c st ps mid h.each }
 
   row_elsewhere : (c : Setting) (n : ℕ) (st : State) (e : Error) → KeepsError c e → PairsFault key value n st e
       → PairsFault key value n (under c st) e
   row_elsewhere c n st e keeps (at_key ps mid h f) =
       at_key ps (under c mid) (fewer_elsewhere c n st ps mid h) (key.faults.fault_elsewhere c mid e keeps f)
-  row_elsewhere c n st e keeps (twice ps mid after k h r same is) =
-      twice ps (under c mid) (under c after) k (fewer_elsewhere c n st ps mid h) (value_elsewhere c key.means r) same is
-  row_elsewhere c n st e keeps (at_value ps mid after k h r new f) =
-      at_value ps (under c mid) (under c after) k (fewer_elsewhere c n st ps mid h) (value_elsewhere c key.means r) new
+  row_elsewhere c n st e keeps (twice ps mid after k h o r same is) =
+      twice ps (under c mid) (under c after) k (fewer_elsewhere c n st ps mid h) o (value_elsewhere c key.means r) same is
+  row_elsewhere c n st e keeps (at_value ps mid after k h r f) =
+      at_value ps (under c mid) (under c after) k (fewer_elsewhere c n st ps mid h) (value_elsewhere c key.means r)
       (value.faults.fault_elsewhere c after e keeps f)
 
   pub map_elsewhere : (c : Setting) (st : State) (e : Error) → KeepsError c e → MapFault key value st e → MapFault key value (under c st) e
@@ -101,8 +100,8 @@ module _ {K V : Type 0} (key : TermType K) (value : TermType V) where
 
   row_not_outside : {e : Error} → IsOutside e → (n : ℕ) (st : State) → PairsFault key value n st e → ⊥
   row_not_outside {e} out n st (at_key ps mid h f) = key.faults.not_outside e out mid f
-  row_not_outside out n st (twice ps mid after k h r same is) = subst IsOutside is out
-  row_not_outside {e} out n st (at_value ps mid after k h r new f) = value.faults.not_outside e out after f
+  row_not_outside out n st (twice ps mid after k h o r same is) = subst IsOutside is out
+  row_not_outside {e} out n st (at_value ps mid after k h r f) = value.faults.not_outside e out after f
 
   pub map_not_outside : {e : Error} → IsOutside e → (st : State) → MapFault key value st e → ⊥
   map_not_outside out st (unopened h) = open_not_outside out map st h
@@ -116,8 +115,8 @@ module _ {K V : Type 0} (key : TermType K) (value : TermType V) where
       nothing_in_container map tt st (2 * n) first mid (items_of t.terms) t.bytes o t.row
       (omega (arith, h.fewer, taken_long Turn first (in_turn ps) mid t, twice_as_many ps))
       (key.faults.misspelled mid e (room_row (items_of t.terms) first t.bytes mid t.row (room_inside map st (2 * n) first o)) is f)
-  row_misspelled st n first e is o (twice ps mid after k h r same d) = absurd (subst IsMisspelling d is)
-  row_misspelled st n first e is o (at_value ps mid after k h r new f) =
+  row_misspelled st n first e is o (twice ps mid after k h u r same d) = absurd (subst IsMisspelling d is)
+  row_misspelled st n first e is o (at_value ps mid after k h r f) =
       let t = each_taken Turn first (in_turn ps ++ inl k ∷ []) after (key_in_turn first ps k mid after h.each r) in
       let one : length (in_turn ps ++ inl k ∷ []) ≡ length (in_turn ps) + 1 = length-append (in_turn ps) (inl k ∷ []) in
       nothing_in_container map tt st (2 * n) first after (items_of t.terms) t.bytes o t.row
@@ -180,6 +179,20 @@ module _ {K V : Type 0} (key : TermType K) (value : TermType V) where
       → ReadsValue key.means mid k after → ReadsValue value.means after v b → Pairs key value st (ps ++ (k, v) ∷ []) b
   pairs_more st [] k v mid after b h r q = (after, b, subst (λ (x : State). ReadsValue key.means x k after) h r, q, refl)
   pairs_more st (p ∷ ps) k v mid after b (m, n, h, j, rest) r q = (m, n, h, j, pairs_more n ps k v mid after b rest r q)
+
+  -- those before a pair, and its key
+  pub record Split (st : State) (ps : List (K × V)) (p : K × V) : Type 0 where
+    pub mid : State
+    pub after : State
+    pub before : Pairs key value st ps mid
+    pub at_key : ReadsValue key.means mid p.0 after
+
+  pub pairs_split : (st : State) (ps : List (K × V)) (p : K × V) (qs : List (K × V)) (b : State) → Pairs key value st (ps ++ p ∷ qs) b
+      → Split st ps p
+  pairs_split st [] p qs b (m, n, h, k, r) = record { mid = st; after = m; before = refl; at_key = h }
+  pairs_split st (o ∷ ps) p qs b (m, n, h, k, r) =
+      let s = pairs_split n ps p qs b r in
+      record { mid = s.mid; after = s.after; before = (m, n, h, k, s.before); at_key = s.at_key }
 
   new_more : (k l : K) (v : V) (ps : List (K × V)) → (key.same k l → ⊥) → IsNew key.same k ps → IsNew key.same k (ps ++ (l, v) ∷ [])
   new_more k l v [] n h = (n, tt)

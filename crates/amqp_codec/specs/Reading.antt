@@ -56,11 +56,11 @@ start_within limits input = record {
   failed = record { broken = false; alone = false; free = is_free limits.nesting limits.bytes limits.items };
 }
 
--- The limits under which all is read that nests at most 128 deep.
+-- The limits under which all is read that nests at most 128 deep, without a seed for hashes.
 abbrev pub greatest : Limits
-greatest = record { nesting = 128; bytes = unlimited; items = unlimited; nests = omega arith }
+greatest = record { nesting = 128; bytes = unlimited; items = unlimited; hash_seed = 0; nests = omega arith }
 
--- They are these three numbers.
+-- They are these three numbers, whatever their seed.
 abbrev pub IsGreatest : Limits → Type 0
 IsGreatest limits = (limits.nesting ≡ 128) × (limits.bytes ≡ unlimited) × (limits.items ≡ unlimited)
 

@@ -1,10 +1,10 @@
 -- What writing a value is, in the terms that it is written as.
 use Rattle.std.specs.Prelude.{◌≡◌, ◌⊎◌, ℕ, ◌<◌, List, [], ◌∷◌, length, Result, Ok, Err}
-use Rattle.amqp_model.specs.Term.{null, Term, Terms, leaf, kept, count}
+use Rattle.amqp_model.specs.Term.{null, Term, Terms, Refusal, leaf, kept, count}
 use Rattle.amqp_model.specs.Spelling.{IsSpelling}
 use Rattle.amqp_model.specs.Measures.{nests}
 use Rattle.amqp_model.specs.Ranges.{EverywhereIn, IsValue}
-use Rattle.amqp_model.specs.Refusals.{SomewhereIn}
+use Rattle.amqp_model.specs.Refusals.{SomewhereIn, IsRefused}
 use Rattle.amqp_model.specs.Kept.{EachExpandsTo}
 use Rattle.amqp_model.specs.Items.{terms_of}
 use Rattle.amqp_wire.specs.declared.error.Error.{Error}
@@ -16,7 +16,7 @@ use Rattle.amqp_encoder.specs.Measuring.{MAX}
 use Rattle.amqp_encoder.specs.Passes.{row_text, row_tokens, answer_of, IsMeasured}
 use Rattle.amqp_encoder.specs.Reasons.{HasReason}
 use Rattle.amqp_encoder.specs.Refused.{KnowDepths}
-use Rattle.amqp_encoder.specs.Writes.{Writes, Follows, pass_of, bytes_of}
+use Rattle.amqp_encoder.specs.Writes.{Writes, Fills, Follows, pass_of, bytes_of}
 
 -- The type of a value ran out of memory of its own, and refused the value for that.
 pub record GivesUp (old : Encoder) (result : Result (Unit {0}) Error) (new : Encoder) : Type 0 where
@@ -25,9 +25,13 @@ pub record GivesUp (old : Encoder) (result : Result (Unit {0}) Error) (new : Enc
   pub state : pass_of new ≡ Stopped Memory
   pub kept : Follows (bytes_of old) (bytes_of new)
 
+-- What an encoder fills was measured, so that nothing in it is refused.
+abbrev pub AreFreeIfFilled : Encoder → List Term → Type 0
+AreFreeIfFilled old ts = Fills (pass_of old) → (r : Refusal) → SomewhereIn (IsRefused r) (terms_of ts) → ⊥
+
 -- The calls for the terms were made in their order, up to a refusal; or a type ran out of memory of its own.
 pub record WritesTerms (ts : List Term) (old : Encoder) (result : Result (Unit {0}) Error) (new : Encoder) : Type 0 where
-  pub calls : (deep : List ℕ → ℕ) → KnowDepths deep ts → Writes old (row_tokens deep ts) result new ⊎ GivesUp old result new
+  pub calls : (deep : List ℕ → ℕ) → KnowDepths deep ts → AreFreeIfFilled old ts → Writes old (row_tokens deep ts) result new ⊎ GivesUp old result new
 
 -- What a canonical term itself needs, its parts aside: a number or text of its type, a value for each key of a map;
 -- and bytes that are kept spell a term.

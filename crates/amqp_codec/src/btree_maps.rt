@@ -75,9 +75,9 @@ fn is_known<K: Ord, V>(map: &BTreeMap<K, V>, key: &K) -> bool
     map.contains_key(key)
 }
 
-// Reads so many pairs, in whatever order they stand. The count reserves nothing: memory is taken as pairs come, and `Memory`
-// is answered where that is refused. A key that is equal to one before it is `DuplicateKey`, before its value is read. Any
-// other error is of the first key or value that can't be read.
+// Reads so many pairs, in any order. The count reserves nothing: memory is allocated as pairs come, and if that fails, the error is
+// `Memory`. A key that is equal to one before it is `DuplicateKey`, before its value is read. Any other error is that of the first key or
+// value that can't be read.
 fn read_in_order<K: MapKey + Ord, V: DeserializeTerm, R: ByteSource>(
     count: u32,
     decoder: &mut Decoder<R>,
@@ -104,7 +104,7 @@ fn read_in_order<K: MapKey + Ord, V: DeserializeTerm, R: ByteSource>(
 impl<K: MapKey + Ord, V: DeserializeTerm> DeserializeTerm for BTreeMap<K, V> {
     ghost term = { btree_map_of K.term V.term K.cmp };
 
-    // The count is of keys and values, and is even: an odd one is `OddCount` if the map is begun.
+    // The count is of keys and values, and is even: if the map is begun, an odd one is `OddCount`.
     fn read_value<R: ByteSource>(
         decoder: &mut Decoder<R>,
         alloc: Global,

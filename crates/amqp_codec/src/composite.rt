@@ -35,18 +35,18 @@ pub trait Composite: Sized + Drop {
 
     ghost table: { Table Self };
 
-    /// The table as data.
+    /// Returns the table as data.
     fn table() -> Table
         ensures code { result.descriptor.0 ≡ table.code }
         ensures name { result.descriptor.1.now ≡ table.name }
         ensures rules { result.fields.now ≡ rules_of (slots table.fields) };
 
-    /// A value whose optional fields are absent and whose default fields hold their defaults. What a mandatory field
-    /// holds doesn't matter: it is read before the value is returned.
+    /// Returns a value whose optional fields are absent and whose default fields hold their defaults. What a mandatory field holds doesn't
+    /// matter: the field is read before the value is returned.
     fn blank(alloc: Global) -> Self
         ensures { IsBlank table.fields result };
 
-    /// Reads the field of this number, from 0 on, whose item is there and isn't null. It is refused as its type is.
+    /// Reads the field of this number, from 0 on, whose item is present and isn't null. It returns the errors of the field's type.
     fn fill_field<R: ByteSource>(
         &mut self,
         index: usize,
@@ -57,7 +57,7 @@ pub trait Composite: Sized + Drop {
         ensures read { Tells R.remaining → FillsField table.fields index self.old self.new decoder.old result decoder.new }
         ensures tries { Tries (takes_at table.fields index) decoder.old result decoder.new };
 
-    /// Whether the field of this number, from 0 on, is written as null.
+    /// Returns whether the field of this number, from 0 on, is written as null.
     fn is_null_field(&self, index: usize) -> bool
         requires within { index < length (rules_of (slots table.fields)) }
         ensures { result ≡ is_null (canon_at table.fields index self.now) };
@@ -69,7 +69,7 @@ pub trait Composite: Sized + Drop {
             → WritesTerms (canon_at table.fields index self.now ∷ []) encoder.old result encoder.new };
 }
 
-// Behind its descriptor stands the list of its fields.
+// After its descriptor comes the list of its fields.
 impl<C: Composite> FieldList for C {
     ghost list = { fields_of C.table };
 
@@ -104,8 +104,8 @@ impl<C: Composite> FieldList for C {
     }
 }
 
-/// A composite type that is written as its table says, from which it is read as its table says too, as one term. It stands
-/// apart from `Composite`, since `serialize` calls `write_composite`, which takes that trait.
+/// A composite type that is read and written as its table says, as one term. It is separate from `Composite`, since `serialize` calls
+/// `write_composite`, which takes that trait.
 pub trait CompositeTerm: Composite + SerializeTerm {
     ghost use Rattle.amqp_codec.specs.Composite.{composite};
     ghost use Rattle.amqp_codec.specs.Agreement.{Agreement};
@@ -126,8 +126,8 @@ impl<C: CompositeTerm> DeserializeTerm for C {
     ghost agreement = { C.agrees };
 }
 
-/// Reads a composite: a described list under the code or the name of its table. Another descriptor is `WrongDescriptor`;
-/// the list is refused as `read_list` refuses it.
+/// Reads a composite: a described list under the code or the name of its table. For another descriptor it returns `WrongDescriptor`, and
+/// for the list the errors of `read_list`.
 #[inline(always)]
 pub fn read_composite<C: Composite, R: ByteSource>(
     decoder: &mut Decoder<R>,
@@ -143,7 +143,7 @@ pub fn read_composite<C: Composite, R: ByteSource>(
     Ok(value)
 }
 
-/// Writes a composite under its table's code. It is refused as its fields are, by the encoder's errors.
+/// Writes a composite under its table's code. It returns the encoder's errors for its fields.
 #[inline(always)]
 pub fn write_composite<C: Composite>(value: &C, encoder: &mut Encoder) -> Result<(), Error>
     ensures { WritesTerms (canonical_term (table_of C.table) value.now ∷ []) encoder.old result encoder.new }

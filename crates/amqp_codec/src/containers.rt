@@ -1,4 +1,4 @@
-//! Optional values, boxes and values that several own, which are read and written; and references, which are written only.
+//! Optional values, boxes and values with several owners, which are read and written; and references, which are written only.
 ghost use Rattle.amqp_codec.specs.OptionType.{option_of};
 ghost use Rattle.amqp_codec.specs.Wrappers.{boxed, in_box, reference_counted, in_rc};
 ghost use Rattle.amqp_codec.specs.Agreement.{option_one, option_agreement, option_writing, via_writing, held_agreement};

@@ -16,12 +16,12 @@ pub trait Fieldless: Sized + Drop {
 
     ghost no_fields: { HasNoFields table.fields };
 
-    /// The code and the name of its descriptor.
+    /// Returns the code and the name of its descriptor.
     fn descriptor() -> (u64, &'static str)
         ensures code { result.0 ≡ table.code }
         ensures name { result.1.now ≡ table.name };
 
-    /// The value.
+    /// Returns the value.
     fn value() -> Self;
 }
 

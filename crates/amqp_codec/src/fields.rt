@@ -1,5 +1,5 @@
-//! Lists of fields (Part 1, section 1.4): one reader and one writer for all. They alone know of omitted ends, surplus
-//! items, defaults and trailing nulls.
+//! Lists of fields (Part 1, section 1.4): one reader and one writer for all. Only they handle omitted ends, surplus items, defaults and
+//! trailing nulls.
 ghost use Rattle.std.specs.Prelude.{◌≡◌, ◌<◌, ◌≤◌, false, [], ◌∷◌, length, take, None, Ok, Some, IfOk, IfErr};
 ghost use Rattle.amqp_model.specs.Items.{is_null};
 ghost use Rattle.amqp_model.specs.Fields.{rules_of, canonical_terms, canonical_items};
@@ -21,23 +21,23 @@ pub use amqp_model::tables::FieldRule;
 use amqp_wire::{ByteSource, Error, format_code};
 use std::alloc::Global;
 
-/// A value that is a list of fields: its fields by their numbers, for which `read_list` and `write_list` do the rest. Each
-/// composite is one, behind its descriptor; a type of a user's own may be one by itself.
+/// A value that is a list of fields. It gives its fields by their numbers, and `read_list` and `write_list` do the rest. Each composite is
+/// one, after its descriptor; a user's own type may be one by itself.
 pub trait FieldList: Sized + Drop {
     ghost use Rattle.amqp_codec.specs.ListType.{ListTable};
 
     ghost list: { ListTable Self };
 
-    /// The rules of the fields, in order.
+    /// Returns the rules of the fields, in order.
     fn field_rules() -> &'static [FieldRule]
         ensures { result.now ≡ rules_of (slots list.fields) };
 
-    /// A value whose optional fields are absent and whose default fields hold their defaults. What a mandatory field
-    /// holds doesn't matter: it is read before the value is returned.
+    /// Returns a value whose optional fields are absent and whose default fields hold their defaults. What a mandatory field holds doesn't
+    /// matter: the field is read before the value is returned.
     fn blank(alloc: Global) -> Self
         ensures { IsBlank list.fields result };
 
-    /// Reads the field of this number, from 0 on, whose item is there and isn't null. It is refused as its type is.
+    /// Reads the field of this number, from 0 on, whose item is present and isn't null. It returns the errors of the field's type.
     fn fill_field<R: ByteSource>(
         &mut self,
         index: usize,
@@ -48,7 +48,7 @@ pub trait FieldList: Sized + Drop {
         ensures read { Tells R.remaining → FillsField list.fields index self.old self.new decoder.old result decoder.new }
         ensures tries { Tries (takes_at list.fields index) decoder.old result decoder.new };
 
-    /// Whether the field of this number, from 0 on, is written as null.
+    /// Returns whether the field of this number, from 0 on, is written as null.
     fn is_null_field(&self, index: usize) -> bool
         requires within { index < length (rules_of (slots list.fields)) }
         ensures { result ≡ is_null (canon_at list.fields index self.now) };
@@ -60,7 +60,7 @@ pub trait FieldList: Sized + Drop {
             → WritesTerms (canon_at list.fields index self.now ∷ []) encoder.old result encoder.new };
 }
 
-/// Reads a value into its place. It is refused as its type is.
+/// Reads a value into its place. It returns the errors of the value's type.
 #[inline(always)]
 pub fn read_into<T: DeserializeTerm, R: ByteSource>(
     place: &mut T,
@@ -74,7 +74,7 @@ pub fn read_into<T: DeserializeTerm, R: ByteSource>(
     Ok(())
 }
 
-/// Reads a value into the place of an optional one. It is refused as its type is.
+/// Reads a value into the place of an optional one. It returns the errors of the value's type.
 #[inline(always)]
 pub fn read_some<T: DeserializeTerm, R: ByteSource>(
     place: &mut Option<T>,
@@ -96,14 +96,14 @@ pub fn write_value<T: DeserializeTerm>(value: &T, encoder: &mut Encoder) -> Resu
     value.serialize(encoder)
 }
 
-/// Promises that what a field holds is a value of its type. Does nothing.
+/// Promises that what a field holds is a value of its type. It does nothing.
 pub fn value_in_type<T: DeserializeTerm>(value: &T)
     ensures { T.term.is_value value.now }
 {
     value.in_type();
 }
 
-// The error for a field that is null or left out, where it must be there.
+// The error for a field that is null or omitted but must be present.
 fn absence(rule: FieldRule) -> Option<Error>
     ensures { result ≡ absence rule }
 {
@@ -114,7 +114,7 @@ fn absence(rule: FieldRule) -> Option<Error>
     }
 }
 
-// A field may be null or left out.
+// A field may be null or omitted.
 #[inline(always)]
 fn check_absent<R: ByteSource>(rule: FieldRule, decoder: &mut Decoder<R>) -> Result<(), Error>
     ensures ok { IfOk result (λ _. (absence rule ≡ None) × (decoder.new ≡ decoder.old)) }
@@ -126,7 +126,7 @@ fn check_absent<R: ByteSource>(rule: FieldRule, decoder: &mut Decoder<R>) -> Res
     }
 }
 
-/// Reads a list of fields, which may stand behind a descriptor that was read.
+/// Reads a list of fields, which may come after a descriptor that was read.
 #[inline(always)]
 pub fn read_fields<L: FieldList, R: ByteSource>(
     decoder: &mut Decoder<R>,
@@ -149,8 +149,12 @@ pub fn read_fields<L: FieldList, R: ByteSource>(
     Ok(value)
 }
 
-/// Reads a value that is a list of fields by itself, without a descriptor: `Missing` and `EmptyMultiple` if a required
-/// field is null or left out, `Surplus` if items are left behind the last field, and otherwise what the field's type returns.
+/// Reads a value that is a list of fields by itself, without a descriptor.
+///
+/// # Errors
+///
+/// It returns `Missing` or `EmptyMultiple` if a mandatory field is null or omitted, and `Surplus` if items follow the last field. Any other
+/// error is that of a field's type, or of the list itself.
 pub fn read_list<L: FieldList, R: ByteSource>(
     decoder: &mut Decoder<R>,
     alloc: Global,
@@ -203,7 +207,7 @@ fn read_any_item<L: FieldList, R: ByteSource>(
     check_absent(rule, decoder)
 }
 
-/// Writes a value as the list of its fields, without the nulls at its end. It is refused as its fields are.
+/// Writes a value as the list of its fields, without the nulls at its end. It returns the errors of its fields.
 #[inline(always)]
 pub fn write_list<L: FieldList>(value: &L, encoder: &mut Encoder) -> Result<(), Error>
     ensures { WritesTerms (canonical_list (slots L.list.fields) value.now ∷ []) encoder.old result encoder.new }

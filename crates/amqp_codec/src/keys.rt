@@ -9,8 +9,8 @@ use crate::DeserializeTerm;
 use amqp_wire::Symbol;
 use std::hash::Hash;
 
-/// What may be the key of a map, in which no two keys are equal: two keys that can be written are equal exactly if their
-/// canonical texts are, and equal keys have one hash.
+/// What may be the key of a map, in which no two keys are equal. Two keys that can be written are equal exactly if their canonical texts
+/// are, and equal keys have one hash.
 pub trait MapKey: DeserializeTerm + Eq + Hash {
     // Equal keys are one value, which is read as it was written.
     ghost is_key: { IsKey Self.term Self.eq };

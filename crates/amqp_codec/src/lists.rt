@@ -1,4 +1,4 @@
-//! Lists of values of one type (Part 1, section 1.6.22), and what they share with arrays: their items, one after another.
+//! Lists of values of one type (Part 1, section 1.6.22), and what they have in common with arrays: items, one after another.
 ghost use Rattle.std.specs.Prelude.{All, refl, true};
 ghost use Rattle.std.specs.List.{flat_map};
 ghost use Rattle.amqp_model.specs.Term.{list};
@@ -17,7 +17,7 @@ use amqp_encoder::Encoder;
 use amqp_wire::{ByteSource, Error};
 use std::alloc::Global;
 
-/// Writes the values one after another. It is refused as they are, and by an encoder that has refused before.
+/// Writes the values one after another. It returns the errors of the values, or the error of an encoder that has refused before.
 pub fn write_each<T: Serialize>(values: &[T], encoder: &mut Encoder) -> Result<(), Error>
     ensures { WritesTerms (flat_map T.writing.canons values.now) encoder.old result encoder.new }
 {
@@ -28,7 +28,7 @@ pub fn write_each<T: Serialize>(values: &[T], encoder: &mut Encoder) -> Result<(
     Ok(())
 }
 
-/// Promises that the values are of their type. Takes no memory.
+/// Promises that the values are of their type. It doesn't allocate.
 pub fn each_in_type<T: Serialize>(values: &[T])
     ensures { All T.writing.is_value values.now }
 {
@@ -37,8 +37,8 @@ pub fn each_in_type<T: Serialize>(values: &[T])
     }
 }
 
-/// Reads so many values one after another. The count reserves nothing: memory is taken as values come, and `Memory` is
-/// returned if that is refused. An error of a value is the first of these that can't be read.
+/// Reads so many values one after another. The count reserves nothing: memory is allocated as values come, and if that fails, the error is
+/// `Memory`. Any other error is that of the first value that can't be read.
 pub fn read_each<T: DeserializeTerm, R: ByteSource>(
     count: u32,
     decoder: &mut Decoder<R>,

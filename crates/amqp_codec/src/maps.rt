@@ -1,4 +1,4 @@
-//! What maps share in writing (Part 1, section 1.6.23): a key and its value.
+//! What all maps use in writing (Part 1, section 1.6.23): a key and its value.
 ghost use Rattle.std.specs.Prelude.{[], ◌∷◌};
 ghost use Rattle.amqp_codec.specs.Written.{WritesTerms, canon_of};
 
@@ -6,7 +6,7 @@ use crate::SerializeTerm;
 use amqp_encoder::Encoder;
 use amqp_wire::Error;
 
-/// Writes a key and then its value, into a map that is open. It is refused as they are.
+/// Writes a key and then its value, into a map that is open. It returns the errors of the key and of the value.
 pub fn write_pair<K: SerializeTerm, V: SerializeTerm>(
     key: &K,
     value: &V,
@@ -18,7 +18,7 @@ pub fn write_pair<K: SerializeTerm, V: SerializeTerm>(
     value.serialize(encoder)
 }
 
-/// Promises that a key and its value are of their types. Takes no memory.
+/// Promises that a key and its value are of their types. It doesn't allocate.
 pub fn pair_in_type<K: SerializeTerm, V: SerializeTerm>(key: &K, value: &V)
     ensures key { K.writing.is_value key.now }
     ensures value { V.writing.is_value value.now }

@@ -1,4 +1,4 @@
-//! Texts (Part 1, section 1.6.20) and symbols (section 1.6.21). Those that are borrowed are written only.
+//! Texts (Part 1, section 1.6.20) and symbols (section 1.6.21). Borrowed ones are written only.
 ghost use Rattle.std.specs.Prelude.{refl};
 ghost use Rattle.std.specs.Cow.{cow_str_bytes};
 ghost use Rattle.amqp_codec.specs.PrimitiveTypes.{string_bytes_type};

@@ -23,36 +23,36 @@ pub trait Serialize {
     // The canonical terms, one for each section, and what a value of the type is.
     ghost writing: { Writing Self };
 
-    /// Writes the value to an encoder that measures, and again to one that fills. A type that takes memory of its
-    /// own for this may refuse its value for want of it, by `Encoder::refuse`.
+    /// Writes the value to an encoder that measures, and again to one that fills. A type that allocates here may fail, by
+    /// `Encoder::refuse`.
     fn serialize(&self, encoder: &mut Encoder) -> Result<(), Error>
         ensures { WritesTerms (writing.canons self.now) encoder.old result encoder.new };
 
-    /// Promises that the value is one of its type. Takes no memory.
+    /// Promises that the value is one of its type. It doesn't allocate.
     fn in_type(&self)
         ensures { writing.is_value self.now };
 }
 
-/// What can be read. A type that is one term has this by `DeserializeTerm`; what is no term writes it by hand.
+/// What can be read. A one-term type has this by `DeserializeTerm`; any other type implements it by hand.
 pub trait Deserialize: Sized + Drop {
     // From which state of a decoder a value is read, and the laws.
     ghost reading: { Reading Self };
 
-    /// Whether the type is one term, so that nothing behind a value is looked at.
+    /// Returns whether the type is one term, so that nothing after a value is looked at.
     fn is_one_term() -> bool
         ensures { result ≡ reading.one_term };
 
-    /// Reads a value from what the decoder stands before. An error is `Memory`, if reading the type takes memory, the
-    /// source's, or it names a fault that stands there.
+    /// Reads the value that comes next. An error is `Memory`, if reading the type allocates, or the source's; or it reports a fault of the
+    /// value.
     fn deserialize<R: ByteSource>(decoder: &mut Decoder<R>, alloc: Global) -> Result<Self, Error>
         ensures read { Tells R.remaining → AnswersRead reading.takes_memory reading.reads reading.fault decoder.old result decoder.new }
         ensures tries { Tries reading.takes_memory decoder.old result decoder.new };
 }
 
-/// What can be both read and written, so that each value has one canonical text, which is read as that value again. A type
-/// that is one term has this by `DeserializeTerm`; what is no term writes it by hand.
+/// What can be both read and written, so that each value has one canonical text, which is read as that value again. A one-term type has
+/// this by `DeserializeTerm`; any other type implements it by hand.
 pub trait Canonical: Deserialize + Serialize {
-    // What may stand behind a text: anything, unless an impl says less.
+    // What may come after a text: anything, unless an impl says less.
     ghost follows: { List ℕ → Type 0 } = { λ _. Unit {0} };
 
     // What the text of a value is read as.
@@ -64,7 +64,7 @@ pub trait Canonical: Deserialize + Serialize {
     // Its text is read at all: always, unless an impl says less.
     ghost lasts: { Self → Type 0 } = { λ _. Unit {0} };
 
-    // No spelling of a value without arrays is shorter than its text.
+    // No encoding of a value without arrays is shorter than its text.
     ghost is_least: { Bool };
 
     // The laws.
@@ -73,7 +73,7 @@ pub trait Canonical: Deserialize + Serialize {
 
 /// What is written as one term, which may be an item of a list, a map or an array.
 pub trait SerializeTerm: Serialize {
-    /// Whether the value's canonical term is null.
+    /// Returns whether the value's canonical term is null.
     fn is_null(&self) -> bool
         ensures { result ≡ is_null (canon_of Self.writing self.now) };
 
@@ -81,14 +81,14 @@ pub trait SerializeTerm: Serialize {
     ghost is_term: { IsOneTerm Self.writing };
 }
 
-/// What is read and written as one term. From the record `term` it is `Deserialize` and `Canonical` too, so what is generic
-/// in such a type is bounded by this trait alone, and reads by `read_value`.
+/// What is read and written as one term. By its record `term` it is `Deserialize` and `Canonical` too. So code that is generic in such a
+/// type needs this trait alone as a bound, and reads by `read_value`.
 pub trait DeserializeTerm: SerializeTerm + Sized + Drop {
     // Which terms mean the values, which one is canonical, and the laws of both.
     ghost term: { TermType Self };
 
-    /// Reads a value from what the decoder stands before. An error is `Memory`, if reading the type takes memory, the
-    /// source's, or it names a fault that stands there.
+    /// Reads the value that comes next. An error is `Memory`, if reading the type allocates, or the source's; or it reports a fault of the
+    /// value.
     fn read_value<R: ByteSource>(decoder: &mut Decoder<R>, alloc: Global) -> Result<Self, Error>
         ensures read { Tells R.remaining
             → AnswersRead term.takes_memory (ReadsValue term.means) term.faults.fault decoder.old result decoder.new }

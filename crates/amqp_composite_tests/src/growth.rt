@@ -1,4 +1,4 @@
-//! Builders while memory is refused. Each growth is refused in turn by hand: `rt try --test --fail-alloc N`, for N from 1 on.
+//! Builders while an allocation fails. Each allocation fails in turn by hand: `rt try --test --fail-alloc N`, for N from 1 on.
 use amqp_codec::Error;
 use amqp_read_write::to_vec;
 use amqp_restricted_types::DistributionMode;

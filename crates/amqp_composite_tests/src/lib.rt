@@ -1,4 +1,4 @@
-//! Tests of composites: each built field by field and written; copies, conversions and what is made by a call; the texts of errors;
+//! Tests of composites: each built field by field and written; copies, conversions and what is made by a call. Also the texts of errors,
 //! the builders of sources and targets, and lifetimes.
 #![tactic(auto)]
 
@@ -14,10 +14,6 @@ mod errors;
 mod growth;
 #[cfg(test)]
 mod makers;
-#[cfg(test)]
-mod members;
-#[cfg(test)]
-mod parts;
 #[cfg(test)]
 mod performatives;
 #[cfg(test)]

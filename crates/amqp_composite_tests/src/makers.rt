@@ -1,4 +1,4 @@
-//! What is made by a call: errors, requests, frames of the security layer, and defaults.
+//! What is made by a call: errors, requests, frame bodies of the security layer, and defaults.
 use amqp_codec::Error as CodecError;
 use amqp_delivery::Declare;
 use amqp_errors::{

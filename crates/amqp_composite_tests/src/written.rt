@@ -1,4 +1,4 @@
-//! What is written, and what targets of both kinds are taken back as.
+//! What is written, and which targets of both kinds are returned.
 use amqp_codec::{Deserialize, Error, Serialize};
 use amqp_containers::Array;
 use amqp_full_composites::parts::text_of;

@@ -18,15 +18,16 @@ use std::ops::Deref;
 use std::slice::Iter;
 use std::vec::IntoIter;
 
-/// Values of one type, which share a constructor where they are written (Part 1, section 1.2.4). They are refused in
-/// writing by `MixedArray` if their constructors differ; by `ZeroWidthItems` if one is null; and by
-/// `LazyInArray` if one keeps its bytes. It lends the calls of its vector that change nothing, as `len`, `get` and
-/// `iter`. A copy wants memory, and each of its items is a copy of the one in its place.
+/// Values of one type, which are written under one constructor (Part 1, section 1.2.4). It derefs to its vector. `clone` allocates; its
+/// items are clones of the items, in order.
+///
+/// In writing it is refused with `MixedArray` if the constructors of its items differ, with `ZeroWidthItems` if an item is null, and with
+/// `LazyInArray` if an item has kept bytes.
 #[derive(Clone, Debug, PartialEq, Eq, PartialOrd, Ord, Hash, Drop)]
 pub struct Array<T>(pub Vec<T>);
 
 impl<T> Array<T> {
-    /// The items, which are moved out of it.
+    /// Moves the items out of the array, and returns them.
     pub fn into_inner(self) -> Vec<T>
         ensures { result ≡ self.0 }
     {
@@ -34,8 +35,7 @@ impl<T> Array<T> {
         items
     }
 
-    /// Adds an item behind the last. If there is no memory for it, it is dropped, nothing changes, and the result is
-    /// `Memory`.
+    /// Adds an item after the last. If an allocation for it fails, the item is dropped, nothing changes, and the error is `Memory`.
     pub fn push(&mut self, item: T) -> Result<(), Error>
     where
         T: Drop,

@@ -1,5 +1,5 @@
-//! Fields of several values (Part 1, section 1.4). A composite holds their values in an array, and where there may be none in
-//! an option of one: what is read there, when it is null, and what is written.
+//! Fields of several values (Part 1, section 1.4): what is read there, when the field is null, and what is written. A composite holds the
+//! values in an array, or in an option of one if there may be none.
 ghost use Rattle.std.specs.Prelude.{◌≡◌, [], ◌∷◌, true};
 ghost use Rattle.amqp_model.specs.Items.{is_null};
 ghost use Rattle.amqp_wire.specs.Sources.{Tells};
@@ -46,8 +46,8 @@ fn read_several<T: DeserializeTerm, R: ByteSource>(
     }
 }
 
-/// Reads a field that may have no values into its place: the items of an array, of which none are `None`, or one value by
-/// itself. It is refused as an array of such values is, or as one of them is.
+/// Reads a field that may have no values into its place. The values are the items of an array, or one value by itself; if there are no
+/// items, the field is `None`. It returns the errors of an array of such values, or of one of them.
 pub fn read_multiple<T: DeserializeTerm, R: ByteSource>(
     place: &mut Option<Array<T>>,
     decoder: &mut Decoder<R>,
@@ -61,8 +61,8 @@ pub fn read_multiple<T: DeserializeTerm, R: ByteSource>(
     Ok(())
 }
 
-/// Reads a field that has at least one value into its place. It is refused as `read_multiple` refuses it, and by
-/// `EmptyMultiple` if an array without items comes there.
+/// Reads a field that has at least one value into its place. It returns the errors of `read_multiple`, or `EmptyMultiple` if an array
+/// without items comes there.
 pub fn read_mandatory_multiple<T: DeserializeTerm, R: ByteSource>(
     place: &mut Array<T>,
     decoder: &mut Decoder<R>,
@@ -81,7 +81,7 @@ pub fn read_mandatory_multiple<T: DeserializeTerm, R: ByteSource>(
     }
 }
 
-/// Whether a field that may have no values is written as null: it has none.
+/// Returns whether a field that may have no values is written as null: it has none.
 pub fn is_null_multiple<T: DeserializeTerm>(field: &Option<Array<T>>) -> bool
     ensures { result ≡ is_null (multiple_canon T.term.canon field.now) }
 {
@@ -91,7 +91,7 @@ pub fn is_null_multiple<T: DeserializeTerm>(field: &Option<Array<T>>) -> bool
     }
 }
 
-/// Writes a field that may have no values: an array of them, also of one, and null for none. It is refused as the array is.
+/// Writes a field that may have no values: an array of them, also for one, and null for none. It returns the errors of the array.
 pub fn write_multiple<T: DeserializeTerm>(
     field: &Option<Array<T>>,
     encoder: &mut Encoder,
@@ -104,15 +104,15 @@ pub fn write_multiple<T: DeserializeTerm>(
     }
 }
 
-/// Whether a field that has at least one value is written as null, which it never is.
+/// Returns whether a field that has at least one value is written as null, which it never is.
 pub fn is_null_mandatory_multiple<T: DeserializeTerm>(_field: &Array<T>) -> bool
     ensures { result ≡ is_null (mandatory_multiple_canon T.term.canon _field.now) }
 {
     false
 }
 
-/// Writes a field that has at least one value, as an array of them, also of one. It is refused as the array is, and by
-/// `EmptyMultiple` if it has none.
+/// Writes a field that has at least one value, as an array of the values, also for one. It returns the errors of the array, or
+/// `EmptyMultiple` if the field has no value.
 pub fn write_mandatory_multiple<T: DeserializeTerm>(
     field: &Array<T>,
     encoder: &mut Encoder,

@@ -32,7 +32,7 @@ fn is_flat(descriptors: &[Descriptor], code: u8) -> bool
 }
 
 impl<R: ByteSource> Decoder<R> {
-    // Adds the descriptor that stands next.
+    // Adds the descriptor that comes next.
     fn keep_descriptor(
         &mut self,
         descriptors: &mut Vec<Descriptor>,
@@ -69,7 +69,7 @@ impl<R: ByteSource> Decoder<R> {
         }
     }
 
-    // The constructor that stands next: its descriptors, and its code.
+    // The constructor that comes next: its descriptors, and its code.
     fn constructor(&mut self, alloc: Global) -> Result<(Vec<Descriptor>, u8), Error>
         ensures code { IfOk result (λ found. 0 < found.1) }
         ensures few { IfOk result (λ found. vec_len found.0 ≤ 128) }
@@ -89,7 +89,7 @@ impl<R: ByteSource> Decoder<R> {
         Ok((descriptors, code))
     }
 
-    // So many items of the open array share the constructor that stands next.
+    // So many items of the open array share the constructor that comes next.
     fn take_constructor(&mut self, count: u32, alloc: Global) -> Result<(), Error>
         ensures ok { Tells R.remaining → self.old.top.shared ≡ None → self.old.top.place ≡ InArray
             → IfOk result (λ _. Shares count self.old self.new) }
@@ -136,9 +136,14 @@ impl<R: ByteSource> Decoder<R> {
         Ok(count)
     }
 
-    /// Begins an array (Part 1, section 1.6.24), and returns how many items it holds. The constructor that they share
-    /// stands for each of them in turn; `ZeroWidthItems` if its code has no data, `BadDescriptor` and `NonAscii`
-    /// as of `begin_described`, `Depth` past 128 descriptors or 128 nested values.
+    /// Begins an array (Part 1, section 1.6.24), and returns how many items it holds. The constructor that they share is the constructor of
+    /// each of them in turn.
+    ///
+    /// # Errors
+    ///
+    /// - `ZeroWidthItems`, if the constructor's code has no data.
+    /// - `BadDescriptor` and `NonAscii`, as for `begin_described`.
+    /// - `Depth`, if there are more than 128 descriptors, or values nest more than 128 deep.
     pub fn begin_array(&mut self, alloc: Global) -> Result<u32, Error>
         ensures opened { Tells R.remaining → AnswersRead true OpensArray ArrayFault self.old result self.new }
         ensures room { HasRoom self.old }
@@ -152,7 +157,7 @@ impl<R: ByteSource> Decoder<R> {
         }
     }
 
-    /// Ends the array that is open: `Surplus` if items are left, `InvalidValue` if none is open.
+    /// Ends the array that is open. It returns `Surplus` if items are left, and `InvalidValue` if no array is open.
     pub fn end_array(&mut self) -> Result<(), Error>
         ensures read { Tells R.remaining → AnswersRead false (λ st _ st'. Closes InArray st st') (CloseFault InArray) self.old result self.new }
         ensures tries { Tries false self.old result self.new }

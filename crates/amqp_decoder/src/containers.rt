@@ -21,7 +21,7 @@ pub(crate) fn width(wide: bool) -> u32
     if wide { 4 } else { 1 }
 }
 
-// A size that can be right: it counts the count, or it is the 0 of a list without items.
+// Whether a size can be right: it counts the count, or it is the 0 of a list without items.
 #[inline]
 fn is_possible(size: u32, width: u32, is_list: bool) -> bool
     ensures { IsTrue result ↔ IsPossible is_list width size }
@@ -30,8 +30,7 @@ fn is_possible(size: u32, width: u32, is_list: bool) -> bool
 }
 
 impl<R: ByteSource> Decoder<R> {
-    // The count of a container, and how many bytes stand behind it. A size counts the count too; the size 0 is that
-    // of a list without items.
+    // The count of a container, and how many bytes follow it. A size counts the count too; the size 0 is that of a list without items.
     #[inline(always)]
     pub(crate) fn header(&mut self, wide: bool, is_list: bool) -> Result<(u32, u32), Error>
         ensures ok { Tells R.remaining → IfOk result (λ h. ReadsHeader is_list (cond wide 4 1) self.old h.0 h.1 self.new) }
@@ -93,8 +92,7 @@ impl<R: ByteSource> Decoder<R> {
         self.open(Place::InMap, count, content)
     }
 
-    /// Begins a list (Part 1, section 1.6.22), and returns how many values it holds; `Depth` past 128 nested
-    /// values.
+    /// Begins a list (Part 1, section 1.6.22), and returns how many items it holds. It returns `Depth` if values nest more than 128 deep.
     #[inline]
     pub fn begin_list(&mut self) -> Result<u32, Error>
         ensures read { Tells R.remaining → AnswersRead false (Opens list) (OpenFault list) self.old result self.new }
@@ -108,8 +106,8 @@ impl<R: ByteSource> Decoder<R> {
         }
     }
 
-    /// Begins a map (Part 1, section 1.6.23), and returns how many items it holds, each key and each value being one;
-    /// `OddCount` if the number is odd.
+    /// Begins a map (Part 1, section 1.6.23), and returns how many items it holds: each key is one, and each value. It returns `OddCount`
+    /// if the number is odd.
     #[inline]
     pub fn begin_map(&mut self) -> Result<u32, Error>
         ensures read { Tells R.remaining → AnswersRead false (Opens map) (OpenFault map) self.old result self.new }
@@ -134,7 +132,7 @@ impl<R: ByteSource> Decoder<R> {
         Ok(())
     }
 
-    /// Ends the list that is open: `Surplus` if values are left, `InvalidValue` if none is open.
+    /// Ends the list that is open. It returns `Surplus` if items are left, and `InvalidValue` if no list is open.
     #[inline(always)]
     pub fn end_list(&mut self) -> Result<(), Error>
         ensures read { Tells R.remaining → AnswersRead false (λ st _ st'. Closes InList st st') (CloseFault InList) self.old result self.new }
@@ -143,7 +141,7 @@ impl<R: ByteSource> Decoder<R> {
         self.close(Place::InList)
     }
 
-    /// Ends the map that is open: `Surplus` if values are left, `InvalidValue` if none is open.
+    /// Ends the map that is open. It returns `Surplus` if items are left, and `InvalidValue` if no map is open.
     #[inline]
     pub fn end_map(&mut self) -> Result<(), Error>
         ensures read { Tells R.remaining → AnswersRead false (λ st _ st'. Closes InMap st st') (CloseFault InMap) self.old result self.new }

@@ -23,12 +23,19 @@ use amqp_wire::{ByteSource, Descriptor, Error, Limits};
 use std::alloc::Global;
 use std::marker::Model;
 
-/// A cursor over the terms of a source (Part 1, section 1.2). Once it has refused, it returns the same error from every call.
+/// A cursor over the terms of a source (Part 1, section 1.2). After an error, every call returns the same error.
 ///
-/// A call that reads a value returns `Missing` if no item is left in what is open, `Cut` if the input ends in the
-/// value, `Size` if a size is wrong and all is there that the outermost size announces, `UnknownCode` and `FloatCode`
-/// of such a code, `WrongType` of another kind's, `Memory` if it takes memory and a growth is refused, `Read` if the
-/// source fails, and `Limit` if a limit of the caller is passed. What else it returns is said of each call.
+/// # Errors
+///
+/// These are the errors of each call that reads a value; each call's comment adds its own.
+///
+/// - `Missing`, if what is open has no item left.
+/// - `Cut`, if the input ends in the value.
+/// - `Size`, if a size is wrong, and all bytes are present that the outermost size announces.
+/// - `UnknownCode` and `FloatCode` for such a code, and `WrongType` for the code of another kind.
+/// - `Memory`, if the call allocates and an allocation fails.
+/// - `Read`, if the source fails.
+/// - `Limit`, if the value is past a limit of the caller.
 #[derive(Drop)]
 pub struct Decoder<R: ByteSource> {
     input: Input<R>,
@@ -38,7 +45,8 @@ pub struct Decoder<R: ByteSource> {
     nesting: usize,
     bytes: u64,
     items: u64,
-    // One term is read, and what stands behind it isn't looked at.
+    hash_seed: u64,
+    // One term is read, and what comes after it isn't looked at.
     alone: bool,
     descriptors: Vec<Descriptor>,
     frames: Row,
@@ -75,7 +83,7 @@ impl<R: ByteSource> Model for Decoder<R> {
 }
 
 impl<R: ByteSource> Decoder<R> {
-    /// Keeps the error, which every later call returns. If the decoder has refused before, that first error stays, and is returned.
+    /// Keeps the error, which every later call returns. If the decoder has kept an error before, it keeps and returns that first one.
     pub fn refuse(&mut self, error: Error) -> Error
         ensures first { RefusesBy error self.old result self.new }
         ensures again { (kept : Error) → self.old.error ≡ Some kept → (result ≡ kept) × (self.new ≡ self.old) }
@@ -84,6 +92,12 @@ impl<R: ByteSource> Decoder<R> {
             Some(kept) => kept,
             None => self.stop(error),
         }
+    }
+
+    /// Returns the seed by which the keys of maps are hashed, which the limits give; 0 for none.
+    #[inline(always)]
+    pub fn hash_seed(&self) -> u64 {
+        self.hash_seed
     }
 
     // Keeps the error of a decoder that hasn't refused.
@@ -96,7 +110,7 @@ impl<R: ByteSource> Decoder<R> {
         error
     }
 
-    /// The error of a decoder that has refused.
+    /// Returns the decoder's error, if it has refused.
     #[inline(always)]
     pub fn check(&self) -> Result<(), Error>
         ensures error { MatchResult result (λ _. self.now.error ≡ None) (λ e. self.now.error ≡ Some e) }
@@ -109,7 +123,7 @@ impl<R: ByteSource> Decoder<R> {
     }
 }
 
-/// A decoder of the source's bytes, at the top level, which reads all that nests at most 128 deep.
+/// Returns a decoder of the source's bytes, at the top level, which reads everything that nests at most 128 deep.
 pub fn decoder_of<R: ByteSource>(source: R, alloc: Global) -> Decoder<R>
     ensures { result ≡ record {
       rest = known (R.remaining source);
@@ -126,7 +140,7 @@ pub fn decoder_of<R: ByteSource>(source: R, alloc: Global) -> Decoder<R>
     decoder_within(source, &Limits::greatest(), alloc)
 }
 
-/// A decoder of the source's bytes, at the top level, within these limits.
+/// Returns a decoder of the source's bytes, at the top level, within these limits.
 pub fn decoder_within<R: ByteSource>(source: R, limits: &Limits, alloc: Global) -> Decoder<R>
     ensures { result ≡ record {
       rest = known (R.remaining source);
@@ -147,8 +161,8 @@ pub fn decoder_within<R: ByteSource>(source: R, limits: &Limits, alloc: Global) 
     decoder_at_top(source, limits, false, alloc)
 }
 
-/// A decoder of the source's bytes, at the top level, within these limits, which reads one term and looks at nothing behind it. It
-/// takes no more bytes than the limit says, also where it refuses.
+/// Returns a decoder of the source's bytes, at the top level, within these limits. It reads one term and looks at nothing after it. It
+/// takes no more bytes than the limit allows, even if it refuses.
 pub fn decoder_of_term<R: ByteSource>(source: R, limits: &Limits, alloc: Global) -> Decoder<R>
     requires { Tells R.remaining → Leaves R.reserve (limit_of limits.now.bytes) (length (known (R.remaining source))) }
     ensures { result ≡ record {
@@ -203,13 +217,14 @@ fn decoder_at_top<R: ByteSource>(
         nesting: limits.nesting() as usize,
         bytes: limits.bytes(),
         items: limits.items(),
+        hash_seed: limits.hash_seed(),
         alone,
         descriptors: Vec::new(alloc),
         frames: Row::new(),
     }
 }
 
-/// The source; bytes that were looked at are out of it.
+/// Returns the source. Bytes that were looked at are gone from it.
 pub fn source_of<R: ByteSource>(decoder: Decoder<R>) -> R
     ensures named { R.name result ≡ decoder.source }
     ensures rest { known (R.remaining result) ≡ drop decoder.ahead decoder.rest }
@@ -221,7 +236,7 @@ pub fn source_of<R: ByteSource>(decoder: Decoder<R>) -> R
     input.into_source()
 }
 
-/// How many bytes of the decoder's input are left.
+/// Returns how many bytes of the decoder's input are left.
 pub fn unread(decoder: &Decoder<&[u8]>) -> usize
     ensures count { result ≡ length decoder.now.rest }
     ensures whole { decoder.now.failed.broken ≡ false }

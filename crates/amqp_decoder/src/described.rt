@@ -89,7 +89,7 @@ impl<R: ByteSource> Decoder<R> {
         Ok(Descriptor::Name(self.ascii(text)?))
     }
 
-    // The descriptor that stands next, or is shared.
+    // The descriptor that comes next, or is shared.
     fn next_descriptor(&mut self, alloc: Global) -> Result<Descriptor, Error>
         ensures ok { Tells R.remaining → IsDescribable self.old.top.shared
             → IfOk result (λ d. TakesDescriptor self.old (descriptor_of d) self.new) }
@@ -106,9 +106,13 @@ impl<R: ByteSource> Decoder<R> {
         }
     }
 
-    /// Begins a described value (Part 1, section 1.2), and returns its descriptor; `BadDescriptor` if
-    /// that is neither a symbol nor a ulong, `NonAscii` if it is a symbol with a byte above 0x7f, and `Depth` past
-    /// 128 nested values.
+    /// Begins a described value (Part 1, section 1.2), and returns its descriptor.
+    ///
+    /// # Errors
+    ///
+    /// - `BadDescriptor`, if the descriptor is neither a symbol nor a ulong.
+    /// - `NonAscii`, if it is a symbol with a byte above 0x7f.
+    /// - `Depth`, if values nest more than 128 deep.
     pub fn begin_described(&mut self, alloc: Global) -> Result<Descriptor, Error>
         ensures opened { Tells R.remaining → AnswersRead true (λ st d st'. OpensDescribed st (descriptor_of d) st') OpenFault
             self.old result self.new }
@@ -153,7 +157,7 @@ impl<R: ByteSource> Decoder<R> {
         }
     }
 
-    // The place of the member whose descriptor stands next.
+    // The place of the member whose descriptor comes next.
     fn place_of_next(&mut self, members: Members<'_>) -> Result<Option<usize>, Error>
         ensures ok { Tells R.remaining → IsDescribable self.old.top.shared
             → IfOk result (λ place. TakesPlace members.now self.old place self.new) }
@@ -173,8 +177,8 @@ impl<R: ByteSource> Decoder<R> {
         self.place_of_text(members, len)
     }
 
-    /// Begins a described value, and returns the place of the pair whose code or name its descriptor is;
-    /// `WrongDescriptor` if it is none of them, and otherwise as `begin_described`. Takes no memory.
+    /// Begins a described value, and returns the place of the pair whose code or name is its descriptor. It doesn't allocate. It returns
+    /// `WrongDescriptor` if there is no such pair, and otherwise the errors of `begin_described`.
     pub fn begin_one_of(&mut self, members: &[(u64, &str)]) -> Result<usize, Error>
         ensures opened { Tells R.remaining → AnswersRead false (OpensOneOf members.now) (OneOfFault members.now) self.old result self.new }
         ensures nesting { Tells R.remaining → IfOk result (λ _. self.old.nesting ≤ 128) }
@@ -190,8 +194,7 @@ impl<R: ByteSource> Decoder<R> {
         Ok(place)
     }
 
-    /// Ends the described value that is open: `Surplus` if its value is left, `InvalidValue` if none is
-    /// open.
+    /// Ends the described value that is open. It returns `Surplus` if its value is left, and `InvalidValue` if no described value is open.
     #[inline(always)]
     pub fn end_described(&mut self) -> Result<(), Error>
         ensures read { AnswersRead false (λ st _ st'. ClosesDescribed InDescribed st st') (EndFault InDescribed) self.old result self.new }

@@ -3,7 +3,7 @@
 ghost use Rattle.std.specs.Prelude.{◌≡◌, ◌↔◌, IsTrue, Some};
 ghost use Rattle.amqp_decoder.specs.State.{items_of};
 
-/// Where a value stands.
+/// Where a value is.
 #[derive(Clone, Copy, PartialEq, Eq)]
 #[repr(u8)]
 pub(crate) enum Place {
@@ -14,10 +14,9 @@ pub(crate) enum Place {
     InDescribed,
 }
 
-/// How many items and how many bytes are left in an open container, without what stands in the containers
-/// that are open in it. At the top level no size bounds them. The bytes of a described value are those of what it
-/// stands in, which has none left until it ends. The code, which isn't 0, and the descriptors from `first` to `last`
-/// of the decoder's row are the constructor that the items share.
+/// How many items and how many bytes are left in an open container, without those of the containers that are open in it. At the top level
+/// no size bounds them. The bytes of a described value are those of what it is in, which has none left until it ends. The code, which isn't
+/// 0, and the descriptors from `first` to `last` of the decoder's row are the constructor that the items share.
 #[derive(Clone, Copy)]
 pub(crate) struct OpenContainer {
     pub items: u32,
@@ -39,7 +38,7 @@ impl OpenContainer {
         last: 0,
     };
 
-    /// No item is left.
+    /// Returns whether no item is left.
     #[inline(always)]
     pub(crate) fn is_done(&self) -> bool
         ensures { IsTrue result ↔ (items_of self.now.place self.now.items ≡ Some 0) }

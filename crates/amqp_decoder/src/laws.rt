@@ -22,7 +22,7 @@ ghost use Rattle.amqp_decoder.specs.Rooms.{HasFlatItems, HasRoom};
 ghost use Rattle.amqp_decoder.specs.Described.{OpensDescribed, OneOfFault, OpenFault as OpenDescribedFault};
 ghost use Rattle.amqp_decoder.specs.Items.{Next, NextWithParts, Row, row_standings, Contains, ContainsArray, DescribedStands};
 
-/// What is read after a look is what is read without it.
+/// What is read after a look is what is read without the look.
 pub fn looks()
     ensures moved { (n k : ℕ) (st : State) → n ≤ k → after_bytes k (after_look n st) ≡ after_bytes k st }
     ensures on { (n k : ℕ) (st : State) → n ≤ k → after_data k (after_look n st) ≡ after_data k st }
@@ -33,23 +33,23 @@ pub fn looks()
     ensures begun { (st looked after : State) (c d : ℕ) → PeeksCode st c looked → (ReadsCode looked d after ↔ ReadsCode st d after) }
 {}
 
-/// A list that is opened, whose items are taken in turn, and that is closed is a term that stood there and is taken, with
-/// the items as its parts; and where a list stands, this is how it is taken (Part 1, sections 1.2.3 and 1.6.22).
+/// A list that is opened, whose items are taken in turn, and that is closed is a term that was there and is taken, with the items as its
+/// parts. And if a list comes next, this is how it is taken (Part 1, sections 1.2.3 and 1.6.22).
 pub fn lists()
     ensures taken { (st after : State) (items : Terms) → Contains list st (items_of items) after ↔ Next st (container list items) after }
     ensures stands { (st after : State) (items : Terms) (c : Contains list st (items_of items) after)
         → NextWithParts st (container list items) (row_standings c.mid (items_of items) c.bytes c.last c.items) after }
 {}
 
-/// The same of a map, whose items are its keys and values in turn (Part 1, section 1.6.23).
+/// The same for a map, whose items are its keys and values in turn (Part 1, section 1.6.23).
 pub fn maps()
     ensures taken { (st after : State) (items : Terms) → Contains map st (items_of items) after ↔ Next st (container map items) after }
     ensures stands { (st after : State) (items : Terms) (c : Contains map st (items_of items) after)
         → NextWithParts st (container map items) (row_standings c.mid (items_of items) c.bytes c.last c.items) after }
 {}
 
-/// The same of an array, whose items stand under the constructor that they share (Part 1, sections 1.2.4 and 1.6.24); where
-/// it stands, it is taken so where containers have room, as they do in every decoder.
+/// The same for an array, whose items are under the constructor that they share (Part 1, sections 1.2.4 and 1.6.24). If an array comes
+/// next, it is taken so if containers have room, as they have in every decoder.
 pub fn arrays()
     ensures opened { (st after : State) (n : ℕ) → OpensArray st n after → (after.top.place ≡ InArray) × (after.top.items ≡ Some n) }
     ensures whole { (st after : State) (items : Terms) → ContainsArray st (items_of items) after → Next st (container array items) after }
@@ -59,8 +59,9 @@ pub fn arrays()
         → ContainsArray st (items_of items) after }
 {}
 
-/// A described value that is opened, whose value is taken, and that is closed is a term that stood there and is taken, with
-/// the value as its part; and where a described value stands, this is how it is taken (Part 1, section 1.2).
+/// A described value that is opened, whose value is taken, and that is closed is a term that was there and is taken, with the value as its
+/// part. For that, values may nest at most 128 deep, as in every decoder. And if a described value comes next, this is how it is taken
+/// (Part 1, section 1.2).
 pub fn described_values()
     ensures whole { (st after : State) (d : Descriptor) (t : Term) → st.nesting ≤ 128 → DescribedStands st d t after
         → Next st (described d t) after }
@@ -69,7 +70,7 @@ pub fn described_values()
     ensures parts { (st after : State) (d : Descriptor) (t : Term) → Next st (described d t) after → DescribedStands st d t after }
 {}
 
-/// Containers have room at the top level, keep it where something is looked at or taken, and have it in what is opened.
+/// Containers have room at the top level, keep it if something is looked at or taken, and have it in what is opened.
 pub fn rooms()
     ensures top { (st : State) → st.saved ≡ [] → HasRoom st }
     ensures fits { (st : State) → HasRoom st → Has st.top.items 1 → (HasFlatItems st.top.shared → ⊥) → length st.saved ≤ st.nesting }
@@ -81,8 +82,8 @@ pub fn rooms()
     ensures opened_described { (st after : State) (d : Descriptor) → OpensDescribed st d after → HasRoom after }
 {}
 
-/// At the top level a term stands within limits exactly if it stands without them, has no more bytes, nests no deeper and has no more
-/// values; and a look at the next code goes no further than the bytes that are left.
+/// At the top level, a term is there within limits exactly if it is there without limits, has no more bytes, nests no deeper and has no
+/// more values. And a look at the next code goes no further than the bytes that are left.
 pub fn limits()
     ensures stands { (nesting : ℕ) (left quota : Option ℕ) (st : State) (s : List ℕ) (t : Term) → nesting ≤ st.nesting → st.top.left ≡ None
         → st.quota ≡ None → (Stands (limited nesting left quota st) s t
@@ -90,8 +91,8 @@ pub fn limits()
     ensures looked { (st looked : State) (c : ℕ) → PeeksCode st c looked → Has st.top.left st.ahead → Has looked.top.left looked.ahead }
 {}
 
-/// At one state one term stands, as these bytes, and it leaves one state; of two rows of terms the shorter is the front of
-/// the longer; and a container is opened and closed in one way.
+/// At one state one term comes next, as one row of bytes, and one state follows it. Of two rows of terms, the shorter is a prefix of the
+/// longer. And a container is opened and closed in one way.
 pub fn one_reading()
     ensures stands { (st : State) (s r : List ℕ) (t u : Term) → Stands st s t → Stands st r u → (s ≡ r) × (t ≡ u) }
     ensures next { (st after other : State) (t u : Term) → Next st t after → Next st u other → (t ≡ u) × (after ≡ other) }
@@ -103,7 +104,7 @@ pub fn one_reading()
     ensures closes { (place : Place) (st after other : State) → Closes place st after → Closes place st other → after ≡ other }
 {}
 
-/// A type whose values terms mean, as they stand.
+/// A type whose values are meant by terms, at their places.
 pub trait HasMeaning {
     ghost use Rattle.amqp_model.specs.Term.{Term};
     ghost use Rattle.amqp_model.specs.Standing.{Standing};
@@ -111,8 +112,8 @@ pub trait HasMeaning {
     ghost means: { Standing → Term → Self → Type 0 };
 }
 
-/// Two values that are read at one state are meant by one term, and leave one state; and a look at the next code changes
-/// nothing of what is read.
+/// Two values that are read at one state are meant by one term, and one state follows them. And a look at the next code doesn't change what
+/// is read.
 pub fn one_value<T: HasMeaning>()
     ensures one { (st after other : State) (v w : T) → ReadsValue T.means st v after → ReadsValue T.means st w other
         → (s : Standing) × (t : Term) × T.means s t v × T.means s t w × (after ≡ other) }
@@ -120,15 +121,15 @@ pub fn one_value<T: HasMeaning>()
         → (ReadsValue T.means looked v after ↔ ReadsValue T.means st v after) }
 {}
 
-/// Terms that are taken in a row, and then others, are taken in a row.
+/// Terms that are taken in a row, and then other terms, are taken in one row.
 pub fn rows()
     ensures one { (t : Term) (st after : State) → Next st t after → (b : List ℕ) × Row st (t ∷ []) b after }
     ensures joined { (ts us : List Term) (st mid after : State) (b c : List ℕ) → Row st ts b mid → Row mid us c after
         → Row st (ts ++ us) (b ++ c) after }
 {}
 
-/// A fault is the same before another source, and if values may nest deeper, unless it is `Depth`; and none is lack of memory or the
-/// source's.
+/// A fault is the same for another source. It is also the same if values may nest deeper, or if limits on bytes or on values are lifted,
+/// unless it is `Depth` or `Limit`. And no fault is `Memory` or the source's.
 pub fn faults()
     ensures arrays { (c : Setting) (st : State) (e : Error) → KeepsError c e → ArrayFault st e → ArrayFault (under c st) e }
     ensures described { (c : Setting) (st : State) (e : Error) → KeepsError c e → OpenDescribedFault st e
@@ -139,8 +140,8 @@ pub fn faults()
     ensures no_term { (st : State) (e : Error) → IsOutside e → TermFault st e → ⊥ }
 {}
 
-/// An error that says of bytes that they are no term, whatever type is read, reports a fault only if no term is there; and if
-/// none stands among the items of a container, or in a described value, none stands around it (Part 1, section 1.2).
+/// An error which means that the bytes are no term, whatever type is read, reports a fault only if no term is there. And if no term is
+/// there among the items of a container, or in a described value, none is there around it (Part 1, section 1.2).
 pub fn misspellings()
     ensures primitives { (k : ℕ) (st : State) (e : Error) → IsMisspelling e → PrimitiveFault k st e → NothingStands st }
     ensures lists { (st : State) (e : Error) → IsMisspelling e → OpenFault list st e → NothingStands st }

@@ -29,7 +29,7 @@ impl<R: ByteSource> Decoder<R> {
         self.take()
     }
 
-    /// Null (Part 1, section 1.6.1).
+    /// Reads a null (Part 1, section 1.6.1).
     #[inline]
     pub fn read_null(&mut self) -> Result<(), Error>
         ensures read { Tells R.remaining → AnswersRead false (ReadsValue (Means (λ _. null))) (PrimitiveFault nulls) self.old result self.new }
@@ -51,7 +51,7 @@ impl<R: ByteSource> Decoder<R> {
         Ok(())
     }
 
-    /// Takes a null that comes next, if it is at hand, and returns whether it did. Otherwise nothing is taken, which says nothing of what
+    /// Takes a null that comes next, if it is at hand, and returns whether it did. Otherwise it takes nothing, and says nothing about what
     /// comes next.
     #[inline]
     pub fn take_null(&mut self) -> bool
@@ -65,7 +65,7 @@ impl<R: ByteSource> Decoder<R> {
         }
     }
 
-    /// A boolean (Part 1, section 1.6.2); `BadBool` if its byte is above 1.
+    /// Reads a boolean (Part 1, section 1.6.2). It returns `BadBool` if the boolean's byte is above 1.
     #[inline]
     pub fn read_bool(&mut self) -> Result<bool, Error>
         ensures read { Tells R.remaining → AnswersRead false (ReadsValue (Means boolean)) (PrimitiveFault booleans) self.old result self.new }
@@ -98,7 +98,7 @@ impl<R: ByteSource> Decoder<R> {
         }
     }
 
-    /// An unsigned integer of 8 bits (Part 1, section 1.6.3).
+    /// Reads an unsigned integer of 8 bits (Part 1, section 1.6.3).
     #[inline]
     pub fn read_ubyte(&mut self) -> Result<u8, Error>
         ensures read { Tells R.remaining → AnswersRead false (ReadsValue (Means ubyte)) (PrimitiveFault ubytes) self.old result self.new }
@@ -107,7 +107,7 @@ impl<R: ByteSource> Decoder<R> {
         Ok(u8::from_be_bytes(self.fixed(format_code::UBYTE)?))
     }
 
-    /// An unsigned integer of 16 bits (Part 1, section 1.6.4).
+    /// Reads an unsigned integer of 16 bits (Part 1, section 1.6.4).
     #[inline]
     pub fn read_ushort(&mut self) -> Result<u16, Error>
         ensures read { Tells R.remaining → AnswersRead false (ReadsValue (Means ushort)) (PrimitiveFault ushorts) self.old result self.new }
@@ -116,7 +116,7 @@ impl<R: ByteSource> Decoder<R> {
         Ok(u16::from_be_bytes(self.fixed(format_code::USHORT)?))
     }
 
-    /// An unsigned integer of 32 bits (Part 1, section 1.6.5).
+    /// Reads an unsigned integer of 32 bits (Part 1, section 1.6.5).
     #[inline]
     pub fn read_uint(&mut self) -> Result<u32, Error>
         ensures read { Tells R.remaining → AnswersRead false (ReadsValue (Means uint)) (PrimitiveFault uints) self.old result self.new }
@@ -150,7 +150,7 @@ impl<R: ByteSource> Decoder<R> {
         }
     }
 
-    // The data of a ulong under its code, or `None` where the code is another kind's.
+    // The data of a ulong under its code, or `None` if the code is another kind's.
     #[inline(always)]
     pub(crate) fn ulong_data(&mut self, code: u8) -> Result<Option<u64>, Error>
         ensures ok { Tells R.remaining → IfOk result
@@ -167,7 +167,7 @@ impl<R: ByteSource> Decoder<R> {
         }
     }
 
-    /// An unsigned integer of 64 bits (Part 1, section 1.6.6).
+    /// Reads an unsigned integer of 64 bits (Part 1, section 1.6.6).
     #[inline]
     pub fn read_ulong(&mut self) -> Result<u64, Error>
         ensures read { Tells R.remaining → AnswersRead false (ReadsValue (Means ulong)) (PrimitiveFault ulongs) self.old result self.new }
@@ -199,7 +199,7 @@ impl<R: ByteSource> Decoder<R> {
         }
     }
 
-    /// A signed integer of 8 bits (Part 1, section 1.6.7).
+    /// Reads a signed integer of 8 bits (Part 1, section 1.6.7).
     #[inline]
     pub fn read_byte(&mut self) -> Result<i8, Error>
         ensures read { Tells R.remaining → AnswersRead false (ReadsValue (Means byte)) (PrimitiveFault bytes) self.old result self.new }
@@ -208,7 +208,7 @@ impl<R: ByteSource> Decoder<R> {
         Ok(i8::from_be_bytes(self.fixed(format_code::BYTE)?))
     }
 
-    /// A signed integer of 16 bits (Part 1, section 1.6.8).
+    /// Reads a signed integer of 16 bits (Part 1, section 1.6.8).
     #[inline]
     pub fn read_short(&mut self) -> Result<i16, Error>
         ensures read { Tells R.remaining → AnswersRead false (ReadsValue (Means short)) (PrimitiveFault shorts) self.old result self.new }
@@ -217,7 +217,7 @@ impl<R: ByteSource> Decoder<R> {
         Ok(i16::from_be_bytes(self.fixed(format_code::SHORT)?))
     }
 
-    /// A signed integer of 32 bits (Part 1, section 1.6.9).
+    /// Reads a signed integer of 32 bits (Part 1, section 1.6.9).
     #[inline]
     pub fn read_int(&mut self) -> Result<i32, Error>
         ensures read { Tells R.remaining → AnswersRead false (ReadsValue (Means int)) (PrimitiveFault ints) self.old result self.new }
@@ -230,7 +230,7 @@ impl<R: ByteSource> Decoder<R> {
         }
     }
 
-    /// A signed integer of 64 bits (Part 1, section 1.6.10).
+    /// Reads a signed integer of 64 bits (Part 1, section 1.6.10).
     #[inline]
     pub fn read_long(&mut self) -> Result<i64, Error>
         ensures read { Tells R.remaining → AnswersRead false (ReadsValue (Means long)) (PrimitiveFault longs) self.old result self.new }
@@ -243,7 +243,7 @@ impl<R: ByteSource> Decoder<R> {
         }
     }
 
-    /// The bytes of a decimal of 32 bits (Part 1, section 1.6.13).
+    /// Reads the bytes of a decimal of 32 bits (Part 1, section 1.6.13).
     #[inline]
     pub fn read_dec32(&mut self) -> Result<[u8; 4], Error>
         ensures read { Tells R.remaining
@@ -253,7 +253,7 @@ impl<R: ByteSource> Decoder<R> {
         self.fixed(format_code::DECIMAL_32)
     }
 
-    /// The bytes of a decimal of 64 bits (Part 1, section 1.6.14).
+    /// Reads the bytes of a decimal of 64 bits (Part 1, section 1.6.14).
     #[inline]
     pub fn read_dec64(&mut self) -> Result<[u8; 8], Error>
         ensures read { Tells R.remaining
@@ -263,7 +263,7 @@ impl<R: ByteSource> Decoder<R> {
         self.fixed(format_code::DECIMAL_64)
     }
 
-    /// The bytes of a decimal of 128 bits (Part 1, section 1.6.15).
+    /// Reads the bytes of a decimal of 128 bits (Part 1, section 1.6.15).
     #[inline]
     pub fn read_dec128(&mut self) -> Result<[u8; 16], Error>
         ensures read { Tells R.remaining → AnswersRead false (ReadsValue (Means decimal128)) (PrimitiveFault decimals128)
@@ -273,7 +273,7 @@ impl<R: ByteSource> Decoder<R> {
         self.fixed(format_code::DECIMAL_128)
     }
 
-    /// A character (Part 1, section 1.6.16); `BadChar` if it is no Unicode scalar value.
+    /// Reads a character (Part 1, section 1.6.16). It returns `BadChar` if the character isn't a Unicode scalar value.
     #[inline]
     pub fn read_char(&mut self) -> Result<char, Error>
         ensures read { Tells R.remaining → AnswersRead false (ReadsValue (Means char)) (PrimitiveFault chars) self.old result self.new }
@@ -286,7 +286,7 @@ impl<R: ByteSource> Decoder<R> {
         }
     }
 
-    /// The milliseconds of a timestamp (Part 1, section 1.6.17).
+    /// Reads the milliseconds of a timestamp (Part 1, section 1.6.17).
     #[inline]
     pub fn read_timestamp(&mut self) -> Result<i64, Error>
         ensures read { Tells R.remaining
@@ -296,7 +296,7 @@ impl<R: ByteSource> Decoder<R> {
         Ok(i64::from_be_bytes(self.fixed(format_code::TIMESTAMP)?))
     }
 
-    /// The bytes of a UUID (Part 1, section 1.6.18).
+    /// Reads the bytes of a UUID (Part 1, section 1.6.18).
     #[inline]
     pub fn read_uuid(&mut self) -> Result<[u8; 16], Error>
         ensures read { Tells R.remaining → AnswersRead false (ReadsValue (Means uuid)) (PrimitiveFault uuids) self.old result self.new }

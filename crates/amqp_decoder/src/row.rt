@@ -8,7 +8,7 @@ use crate::frame::{OpenContainer, Place};
 use amqp_wire::nesting::LEVELS;
 use std::marker::Model;
 
-/// Where a value stands, and whether a size bounds it.
+/// Where a value is, and whether a size bounds it.
 #[derive(Clone, Copy)]
 #[repr(u8)]
 enum Kind {
@@ -73,8 +73,8 @@ fn bound(is_sized: bool, left: u32) -> Option<u32>
     if is_sized { Some(left) } else { None }
 }
 
-/// The containers that are open around the innermost one, the outermost first. Each part of them stands in a row of its own, so that
-/// a decoder is small and quick to make.
+/// The containers that are open around the innermost one, the outermost first. Each of their parts is in a row of its own, so that a
+/// decoder is small and fast to make.
 #[derive(Drop)]
 pub(crate) struct Row {
     items: [u32; LEVELS],
@@ -99,7 +99,7 @@ impl Model for Row {
 }
 
 impl Row {
-    /// A row in which nothing is open.
+    /// Returns a row in which nothing is open.
     pub(crate) fn new() -> Row
         ensures { length result ≡ 129 }
     {
@@ -113,7 +113,7 @@ impl Row {
         }
     }
 
-    /// The container at a place.
+    /// Returns the container at a place.
     #[inline]
     pub(crate) fn get(&self, at: usize) -> OpenContainer
         requires { at < 129 }
@@ -145,7 +145,7 @@ impl Row {
         self.last[at] = container.last;
     }
 
-    /// How many descriptors the first so many containers share together.
+    /// Returns how many descriptors the first `depth` containers share together.
     pub(crate) fn descriptors_in(&self, depth: usize) -> u16
         requires { depth ≤ 129 }
         ensures { result ≡ shared_in depth self.now }
@@ -156,7 +156,7 @@ impl Row {
         self.get(depth - 1).last
     }
 
-    /// How many bytes the sizes of the first so many containers leave.
+    /// Returns how many bytes the sizes of the first `depth` containers leave.
     pub(crate) fn left_in(&self, depth: usize) -> u64
         requires { depth ≤ 129 }
         ensures sum { result ≡ sum_by left_of (take depth self.now) }

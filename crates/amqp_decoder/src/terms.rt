@@ -47,7 +47,7 @@ fn data_of(code: u8) -> Data
     }
 }
 
-// How many bytes belong behind a size: as many as it says, or the count of a list whose size is 0.
+// How many bytes follow a size: as many as it says, or the count of a list whose size is 0.
 fn content_len(size: u32, wide: bool, is_list: bool) -> u32
     ensures empty { is_list ≡ true → size ≡ 0 → result ≡ cond wide 4 1 }
     ensures other { is_list ≡ false → result ≡ size }
@@ -85,7 +85,7 @@ impl<R: ByteSource> Decoder<R> {
         self.keep(len, bytes)
     }
 
-    // Adds a number of one byte or of four, and answers it.
+    // Adds a number of one byte or of four, and returns it.
     fn keep_number(&mut self, wide: bool, bytes: &mut Vec<u8>) -> Result<u32, Error>
         ensures ok { Tells R.remaining → IfOk result
             (λ n. Keeps (λ s. s ≡ bytes_high_first (cond wide 4 1) n) bytes.old.items self.old bytes.new.items self.new) }
@@ -134,7 +134,7 @@ impl<R: ByteSource> Decoder<R> {
         }
     }
 
-    // Adds the constructor that stands next, and answers its code.
+    // Adds the constructor that comes next, and returns its code.
     fn keep_constructor(&mut self, bytes: &mut Vec<u8>) -> Result<u8, Error>
         ensures ok { Tells R.remaining
             → IfOk result (λ code. Keeps (IsConstructor code) bytes.old.items self.old bytes.new.items self.new) }
@@ -202,9 +202,13 @@ impl<R: ByteSource> Decoder<R> {
         Ok(bytes)
     }
 
-    /// The bytes that spell the next term, of any kind, its constructor included (Part 1, section 1.2); `LazyInArray`
-    /// where it is the item of an array, whose constructor is none of its own, and otherwise the errors of `term_len`. In
-    /// an open container `Size` is returned once all is there that the outermost one announces, and `Cut` before that.
+    /// Reads the next term of any kind, and returns the bytes that encode it, its constructor included (Part 1, section 1.2).
+    ///
+    /// # Errors
+    ///
+    /// It returns `LazyInArray` if the term is the item of an array, whose constructor isn't its own, and otherwise the errors of
+    /// `term_len`. In an open container, a wrong size is `Size` if all bytes are present that the outermost one announces, and otherwise
+    /// `Cut`.
     pub fn read_term(&mut self, alloc: Global) -> Result<Vec<u8>, Error>
         ensures read { Tells R.remaining → AnswersRead true (λ st bytes st'. TakesTerm st bytes.items st') TermFault
             self.old result self.new }

@@ -62,7 +62,7 @@ impl<R: ByteSource> Decoder<R> {
         }
     }
 
-    // The same, at once where the bytes are at hand.
+    // The same, at once if the bytes are at hand.
     #[inline(always)]
     pub(crate) fn keep(&mut self, len: u32, text: &mut Vec<u8>) -> Result<(), Error>
         requires { Tells R.remaining → Spares R.reserve len self.old }
@@ -137,7 +137,7 @@ impl<R: ByteSource> Decoder<R> {
         }
     }
 
-    /// Bytes (Part 1, section 1.6.19).
+    /// Reads bytes (Part 1, section 1.6.19).
     pub fn read_binary(&mut self, alloc: Global) -> Result<Vec<u8>, Error>
         ensures read { Tells R.remaining → AnswersRead true (ReadsValue (Means (λ bytes. binary bytes.items))) (PrimitiveFault binaries)
             self.old result self.new }
@@ -146,7 +146,7 @@ impl<R: ByteSource> Decoder<R> {
         self.content(format_code::BINARY_8, format_code::BINARY_32, alloc)
     }
 
-    /// A text (Part 1, section 1.6.20); `BadUtf8` if it is not UTF-8.
+    /// Reads a text (Part 1, section 1.6.20). It returns `BadUtf8` if the text isn't UTF-8.
     pub fn read_string(&mut self, alloc: Global) -> Result<String, Error>
         ensures read { Tells R.remaining → AnswersRead true (ReadsValue (Means (λ text. string (string_bytes text)))) (PrimitiveFault strings)
             self.old result self.new }
@@ -159,7 +159,7 @@ impl<R: ByteSource> Decoder<R> {
         }
     }
 
-    /// A symbol (Part 1, section 1.6.21); `NonAscii` if a byte is above 0x7f.
+    /// Reads a symbol (Part 1, section 1.6.21). It returns `NonAscii` if a byte is above 0x7f.
     pub fn read_symbol(&mut self, alloc: Global) -> Result<Symbol, Error>
         ensures read { Tells R.remaining → AnswersRead true (ReadsValue (Means (λ text. symbol (string_bytes text.0)))) (PrimitiveFault symbols)
             self.old result self.new }

@@ -2,7 +2,7 @@
 use amqp_wire::ByteSource;
 use std::io::ErrorKind;
 
-/// A source that gives one byte a call, and fails once it was called so often.
+/// A source that gives one byte a call, and fails after a number of calls.
 #[derive(Drop)]
 pub struct Dripping<'a> {
     /// The bytes that are left.
@@ -13,7 +13,7 @@ pub struct Dripping<'a> {
 }
 
 impl<'a> Dripping<'a> {
-    /// A source of the bytes that fails after so many calls.
+    /// Returns a source of the bytes that fails after so many calls.
     pub fn new(bytes: &'a [u8], calls: usize) -> Dripping<'a> {
         Dripping {
             bytes,

@@ -1,11 +1,11 @@
-//! Limits of the caller: how they are made, and what a decoder answers within them.
+//! Limits of the caller: how they are made, and what a decoder returns within them.
 use crate::dripping::Dripping;
 use amqp_decoder::{Decoder, decoder_of_term, decoder_within, source_of};
 use amqp_wire::{ByteSource, Error, Limits};
 use std::alloc::Global;
 use std::test::Fail;
 
-/// Two described lists in one another, of which the inner one holds a uint, and a null.
+/// Two described lists, one in the other: the inner one holds a uint. Then a null.
 const NESTED: &[u8] = &[
     0x00, 0x53, 0x01, 0xc0, 0x08, 0x01, 0x00, 0x53, 0x02, 0xc0, 0x02, 0x01, 0x43, 0x40,
 ];
@@ -150,7 +150,7 @@ fn announced_bytes(rt: HostRuntime) {
     );
 }
 
-/// What reading the nested lists answers, and how many of the reader's bytes are left.
+/// Returns what reading the nested lists returns, and how many of the reader's bytes are left.
 fn read_and_left(decoder: Decoder<Dripping<'_>>, alloc: Global) -> (Result<(), Error>, usize) {
     let mut decoder = decoder;
     let read = read_nested(&mut decoder, alloc);
@@ -201,7 +201,7 @@ fn one_term_alone(rt: HostRuntime) {
     assert!(rt; is_one_left(rt.alloc()));
 }
 
-/// An array of 255 ubytes, each 0, of which nothing is written yet.
+/// The start of an array of 255 ubytes: its code, its size and its count.
 const UBYTES: [u8; 9] = [0xf0, 0x00, 0x00, 0x01, 0x04, 0x00, 0x00, 0x00, 0xff];
 
 fn nested_of(items: u64, alloc: Global) -> Result<(), Error> {

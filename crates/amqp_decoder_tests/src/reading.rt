@@ -124,10 +124,10 @@ fn read<R: ByteSource>(decoder: &mut Decoder<R>, row: Row, alloc: Global) -> Res
     }
 }
 
-/// What a reader that fails is answered.
+/// What a reader that fails leads to.
 const FAILED: Result<u64, Error> = Err(Error::Read(ErrorKind::NotFound));
 
-/// Whether the input is read so, over each source.
+/// Returns whether the input is read so, over each source.
 fn is_read(row: Row, input: &[u8], wanted: Result<u64, Error>, alloc: Global) -> bool {
     let mut decoder = decoder_of(input, alloc);
     if read(&mut decoder, row, alloc) != wanted {
@@ -148,10 +148,10 @@ fn is_read(row: Row, input: &[u8], wanted: Result<u64, Error>, alloc: Global) ->
     true
 }
 
-/// What is read of an input in digits, and what that answers.
+/// What is read from an input in digits, and what that returns.
 type Rows<'a> = &'a [(Row, &'a str, Result<u64, Error>)];
 
-/// Each row is read so.
+/// Checks that each row is read so.
 fn check(rows: Rows<'_>, alloc: Global) -> Result<(), Fail> {
     for (row, digits, wanted) in rows {
         let input = hex::decode(alloc, digits)?;
@@ -252,7 +252,7 @@ fn len(input: &[u8]) -> Result<u64, Error> {
     Ok(term_len(input)? as u64)
 }
 
-/// So many described values in one another around this code are read so, value by value and as one term.
+/// Checks that so many described values in one another around this code are read so, value by value and as one term.
 fn check_nested(
     depth: usize,
     end: u8,
@@ -286,7 +286,7 @@ fn nesting(rt: HostRuntime) -> Result<(), Fail> {
 /// An array of one empty list that a code describes.
 const WHOLE: &str = "e00d01005324d00000000400000000";
 
-/// Each term has this length.
+/// Checks that each term has this length.
 fn check_lengths(rows: &[(&str, Result<u64, Error>)], alloc: Global) -> Result<(), Fail> {
     for (digits, wanted) in rows {
         let input = hex::decode(alloc, digits)?;
@@ -297,7 +297,7 @@ fn check_lengths(rows: &[(&str, Result<u64, Error>)], alloc: Global) -> Result<(
     Ok(())
 }
 
-/// Whether each front of the term is cut.
+/// Returns whether each proper prefix of the term is cut.
 fn is_cut_everywhere(term: &[u8]) -> bool {
     for count in 0..term.len() {
         if len(&term[..count]) != Err(Error::Cut) {
@@ -340,7 +340,7 @@ fn terms(rt: HostRuntime) -> Result<(), Fail> {
     )
 }
 
-/// A described ubyte, begun by the one or the other call, and one thousand.
+/// Reads a described ubyte, begun by one call or the other, and adds one thousand.
 fn read_described_ubyte<R: ByteSource>(
     decoder: &mut Decoder<R>,
     is_by_any: bool,
@@ -359,7 +359,7 @@ fn read_described_ubyte<R: ByteSource>(
     Ok(1000 + u64::from(number))
 }
 
-/// The items of an array of described values, by both calls that begin one.
+/// Reads the items of an array of described values, by both calls that begin one.
 fn read_shared<R: ByteSource>(decoder: &mut Decoder<R>, alloc: Global) -> Result<u64, Error> {
     let count = decoder.begin_array(alloc)?;
     let mut sum: u64 = 0;
@@ -371,7 +371,7 @@ fn read_shared<R: ByteSource>(decoder: &mut Decoder<R>, alloc: Global) -> Result
     Ok(sum)
 }
 
-/// Each array is read so.
+/// Checks that each array is read so.
 fn check_shared(rows: &[(&str, Result<u64, Error>)], alloc: Global) -> Result<(), Fail> {
     for (digits, wanted) in rows {
         let input = hex::decode(alloc, digits)?;
@@ -413,7 +413,7 @@ fn what_stands_behind(rt: HostRuntime) -> Result<(), Fail> {
     Ok(())
 }
 
-/// The section that is ahead, how many bytes are left then, and whether the input ends here.
+/// Returns the section that comes next, how many bytes are left then, and whether the input ends here.
 fn look_ahead(input: &[u8], alloc: Global) -> Result<(Option<u8>, usize, bool), Error> {
     let mut decoder = decoder_of(input, alloc);
     let section = decoder.peek_section()?;
@@ -422,7 +422,7 @@ fn look_ahead(input: &[u8], alloc: Global) -> Result<(Option<u8>, usize, bool), 
     Ok((section, left, ends))
 }
 
-/// Before each input this section is ahead, and nothing is taken by that.
+/// Checks that this section comes next in each input, and that nothing is taken by that.
 fn check_sections(rows: &[(&str, Option<u8>)], alloc: Global) -> Result<(), Fail> {
     for (digits, wanted) in rows {
         let input = hex::decode(alloc, digits)?;

@@ -1,4 +1,4 @@
-//! Each reading call once, with the values and the errors that it answers.
+//! Each reading call once, with the values and the errors that it returns.
 use crate::steps::{Step, check};
 use amqp_decoder::{Decoder, decoder_of};
 use amqp_wire::{ByteSource, Descriptor, Error};
@@ -59,7 +59,7 @@ fn booleans_bytes_and_null(rt: HostRuntime) -> Result<(), Fail> {
     check(digits, &steps, ENDED, Error::Cut, rt.alloc())
 }
 
-/// A binary, a string, a symbol, a described null and an array of one described ubyte, each with a text in it.
+/// Reads a binary, a string, a symbol, a described null and an array of one described ubyte, each with a text in it.
 const HELD: &[u8] = &[
     0xa0, 0x02, 0xff, 0x00, 0xa1, 0x02, 0xc3, 0xa9, 0xb3, 0, 0, 0, 1, 0x61, 0x00, 0xa3, 0x01, 0x62,
     0x40, 0xe0, 0x07, 0x01, 0x00, 0xa3, 0x01, 0x63, 0x50, 0x09, 0xc0, 0x02, 0x01, 0x43,

@@ -1,10 +1,10 @@
-//! The calls of a decoder, and what each answers, as steps.
+//! The calls of a decoder, and what each returns, as steps.
 use amqp_decoder::{Decoder, decoder_of};
 use amqp_wire::{ByteSource, Error};
 use std::alloc::Global;
 use std::test::Fail;
 
-/// One call of a decoder, and what it answers.
+/// One call of a decoder, and what it returns.
 #[derive(Clone, Copy)]
 pub(crate) enum Step {
     Null,
@@ -95,7 +95,7 @@ fn is_answered<R: ByteSource>(
     }
 }
 
-/// Over these bytes the steps are answered in turn, and then each of the others is refused by this error.
+/// Checks that over these bytes the steps return so in turn, and that each of the others is then refused with this error.
 pub(crate) fn check(
     digits: &str,
     steps: &[Step],

@@ -4,7 +4,7 @@ use Rattle.amqp_model.specs.FieldType.{normal}
 use Rattle.amqp_enums.specs.Types.{inl, inr, codes, refl, by_norm, TermType, boolean_type, uint_type, ulong_type, mandatory, optional}
 use Rattle.amqp_enums.specs.Types.{composite, none, field, ◌▸◌, plain, Table, fieldless, Choices, no_more, member, Chosen, SumOf, sum_of}
 use Rattle.amqp_primitives.specs.Types.{binary_type}
-use Rattle.amqp_fields.specs.FieldsType.{fields_type}
+use Rattle.amqp_errors.specs.FieldsType.{fields_type}
 use Rattle.amqp_errors.specs.Tables.{error, norm_error}
 use Rattle.amqp_delivery.specs.declared.accepted.Accepted.{Accepted}
 use Rattle.amqp_delivery.specs.declared.declare.Declare.{Declare}

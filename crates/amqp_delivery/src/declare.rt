@@ -19,7 +19,7 @@ impl Declare {
     /// The code and the name of its descriptor.
     pub const DESCRIPTOR: (u64, &'static str) = (0x31, "amqp:declare:list");
 
-    /// A request with this identifier.
+    /// Returns a request with this identifier.
     pub fn new(global_id: Option<TransactionId>) -> Declare
         ensures { result.global_id ≡ global_id }
     {

@@ -1,4 +1,4 @@
-//! What holds of the types of deliveries beyond the laws of every type. The functions do nothing; their contracts are
+//! What holds for the types of deliveries in addition to the laws of every type. The functions do nothing; their contracts are
 //! proved.
 ghost use Rattle.std.specs.Prelude.{◌≡◌, true, false};
 ghost use Rattle.std.specs.Ordering.{nat_cmp, ordering_then};
@@ -10,7 +10,7 @@ use crate::{
 };
 use amqp_codec::{Canonical, Deserialize, Serialize};
 
-/// They are read without memory, so that `from_slice` returns `Memory` for none of them.
+/// They are read without allocating, so `from_slice` never returns `Memory` for them.
 pub fn reading_takes_no_memory()
     ensures accepted { ⟦<Accepted as Deserialize>⟧.reading.takes_memory ≡ false }
     ensures received { ⟦<Received as Deserialize>⟧.reading.takes_memory ≡ false }
@@ -22,7 +22,7 @@ pub fn outcomes_are_states()
     ensures { (o : _) → ⟦<DeliveryState as Serialize>⟧.writing.canons (as_state o) ≡ ⟦<Outcome as Serialize>⟧.writing.canons o }
 {}
 
-/// No spelling of a value of these is shorter than its canonical text, if it holds no array.
+/// For these types, no encoding of a value is shorter than its canonical text, if it holds no array.
 pub fn texts_are_least()
     ensures accepted { ⟦<Accepted as Canonical>⟧.is_least ≡ true }
     ensures received { ⟦<Received as Canonical>⟧.is_least ≡ true }

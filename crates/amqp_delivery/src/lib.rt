@@ -1,4 +1,4 @@
-//! Delivery states (Part 3, section 3.4), and what is said of transactions (Part 4, section 4.5).
+//! Delivery states (Part 3, section 3.4), and the requests and outcomes of transactions (Part 4, section 4.5).
 #![tactic(auto)]
 
 mod accepted;

@@ -6,7 +6,7 @@ use amqp_codec::kernel::{
     Composite, CompositeTerm, FieldRule, Table, read_some, value_in_type, write_composite,
 };
 use amqp_codec::{ByteSource, Decoder, Encoder, Error, Serialize, SerializeTerm};
-use amqp_fields::Fields;
+use amqp_errors::Fields;
 use std::alloc::Global;
 
 /// The message was not processed, and is changed before it is sent again.
@@ -16,7 +16,7 @@ pub struct Modified {
     pub delivery_failed: Option<bool>,
     /// Whether the message is not to be sent to this node again.
     pub undeliverable_here: Option<bool>,
-    /// The annotations that are put to those of the message, or in their place.
+    /// Annotations that are added to those of the message, or replace them.
     pub message_annotations: Option<Fields>,
 }
 

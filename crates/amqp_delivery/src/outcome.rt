@@ -9,7 +9,7 @@ use amqp_codec::{ByteSource, Decoder, DeserializeTerm, Encoder, Error, Serialize
 use amqp_enums::{Sum, is_null_sum, read_as, read_sum, write_as};
 use std::alloc::Global;
 
-/// The outcome of a delivery: a state in which it ends. Any other descriptor is refused by `WrongDescriptor`.
+/// The outcome of a delivery: a state in which it ends. Any other descriptor is refused with `WrongDescriptor`.
 #[derive(Clone, Debug, PartialEq, Eq, Drop)]
 pub enum Outcome {
     Accepted(Accepted),

@@ -6,42 +6,42 @@ ghost use Rattle.amqp_delivery.specs.Members.{outcome_declared};
 use crate::{Accepted, Declared, Modified, Outcome, Rejected, Released};
 
 impl Outcome {
-    /// Whether it is the accepted outcome.
+    /// Returns whether it is the accepted outcome.
     pub fn is_accepted(&self) -> bool
         ensures { result ≡ is_some (outcome_accepted self.now) }
     {
         matches!(self, Outcome::Accepted(_))
     }
 
-    /// Whether it is the rejected outcome.
+    /// Returns whether it is the rejected outcome.
     pub fn is_rejected(&self) -> bool
         ensures { result ≡ is_some (outcome_rejected self.now) }
     {
         matches!(self, Outcome::Rejected(_))
     }
 
-    /// Whether it is the released outcome.
+    /// Returns whether it is the released outcome.
     pub fn is_released(&self) -> bool
         ensures { result ≡ is_some (outcome_released self.now) }
     {
         matches!(self, Outcome::Released(_))
     }
 
-    /// Whether it is the modified outcome.
+    /// Returns whether it is the modified outcome.
     pub fn is_modified(&self) -> bool
         ensures { result ≡ is_some (outcome_modified self.now) }
     {
         matches!(self, Outcome::Modified(_))
     }
 
-    /// Whether it is the outcome of a declared transaction.
+    /// Returns whether it is the outcome of a declared transaction.
     pub fn is_declared(&self) -> bool
         ensures { result ≡ is_some (outcome_declared self.now) }
     {
         matches!(self, Outcome::Declared(_))
     }
 
-    /// The accepted outcome, or else the error.
+    /// Returns the accepted outcome, or else the error.
     pub fn accepted_or<E: Drop>(self, error: E) -> Result<Accepted, E>
         ensures { result ≡ ok_or (outcome_accepted self) error }
     {
@@ -51,7 +51,7 @@ impl Outcome {
         }
     }
 
-    /// The rejected outcome, or else the error.
+    /// Returns the rejected outcome, or else the error.
     pub fn rejected_or<E: Drop>(self, error: E) -> Result<Rejected, E>
         ensures { result ≡ ok_or (outcome_rejected self) error }
     {
@@ -61,7 +61,7 @@ impl Outcome {
         }
     }
 
-    /// The released outcome, or else the error.
+    /// Returns the released outcome, or else the error.
     pub fn released_or<E: Drop>(self, error: E) -> Result<Released, E>
         ensures { result ≡ ok_or (outcome_released self) error }
     {
@@ -71,7 +71,7 @@ impl Outcome {
         }
     }
 
-    /// The modified outcome, or else the error.
+    /// Returns the modified outcome, or else the error.
     pub fn modified_or<E: Drop>(self, error: E) -> Result<Modified, E>
         ensures { result ≡ ok_or (outcome_modified self) error }
     {
@@ -81,7 +81,7 @@ impl Outcome {
         }
     }
 
-    /// The outcome of a declared transaction, or else the error.
+    /// Returns the outcome of a declared transaction, or else the error.
     pub fn declared_or<E: Drop>(self, error: E) -> Result<Declared, E>
         ensures { result ≡ ok_or (outcome_declared self) error }
     {
@@ -91,7 +91,7 @@ impl Outcome {
         }
     }
 
-    /// The accepted outcome, or else the error that the closure makes of the whole. It isn't called otherwise.
+    /// Returns the accepted outcome, or else the error that the closure makes of the whole. Only then is the closure called.
     pub fn accepted_or_else<E, F: FnOnce(Outcome) -> E + Drop>(
         self,
         make_error: F,
@@ -105,7 +105,7 @@ impl Outcome {
         }
     }
 
-    /// The rejected outcome, or else the error that the closure makes of the whole. It isn't called otherwise.
+    /// Returns the rejected outcome, or else the error that the closure makes of the whole. Only then is the closure called.
     pub fn rejected_or_else<E, F: FnOnce(Outcome) -> E + Drop>(
         self,
         make_error: F,
@@ -119,7 +119,7 @@ impl Outcome {
         }
     }
 
-    /// The released outcome, or else the error that the closure makes of the whole. It isn't called otherwise.
+    /// Returns the released outcome, or else the error that the closure makes of the whole. Only then is the closure called.
     pub fn released_or_else<E, F: FnOnce(Outcome) -> E + Drop>(
         self,
         make_error: F,
@@ -133,7 +133,7 @@ impl Outcome {
         }
     }
 
-    /// The modified outcome, or else the error that the closure makes of the whole. It isn't called otherwise.
+    /// Returns the modified outcome, or else the error that the closure makes of the whole. Only then is the closure called.
     pub fn modified_or_else<E, F: FnOnce(Outcome) -> E + Drop>(
         self,
         make_error: F,
@@ -147,7 +147,7 @@ impl Outcome {
         }
     }
 
-    /// The outcome of a declared transaction, or else the error that the closure makes of the whole. It isn't called otherwise.
+    /// Returns the outcome of a declared transaction, or else the error that the closure makes of the whole. Only then is the closure called.
     pub fn declared_or_else<E, F: FnOnce(Outcome) -> E + Drop>(
         self,
         make_error: F,

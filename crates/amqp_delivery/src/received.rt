@@ -6,7 +6,7 @@ use amqp_codec::kernel::{Composite, CompositeTerm, FieldRule, Table, read_into, 
 use amqp_codec::{ByteSource, Decoder, Encoder, Error, Serialize, SerializeTerm};
 use std::alloc::Global;
 
-/// How far a message was received: the section and the byte in it with which the sender may go on.
+/// How far a message was received: the section, and the byte in it, from which the sender may continue.
 #[derive(Clone, Debug, PartialEq, Eq, PartialOrd, Ord, Drop)]
 pub struct Received {
     /// The number of the section, from 0 on.

@@ -9,7 +9,7 @@ use amqp_codec::{ByteSource, Decoder, Encoder, Error as CodecError, Serialize, S
 use amqp_errors::Error;
 use std::alloc::Global;
 
-/// The message was not processed, and is not to be.
+/// The message was not processed, and won't be.
 #[derive(Clone, Debug, PartialEq, Eq, Drop)]
 pub struct Rejected {
     /// Why it was not processed.

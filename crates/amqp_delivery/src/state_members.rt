@@ -6,7 +6,7 @@ ghost use Rattle.amqp_delivery.specs.Members.{state_modified, state_declared, is
 use crate::{Accepted, Declared, DeliveryState, Modified, Received, Rejected, Released};
 
 impl DeliveryState {
-    /// Whether the delivery ends in it, so that no other state follows.
+    /// Returns whether the delivery ends in it, so that no other state follows.
     pub fn is_terminal(&self) -> bool
         ensures { result ≡ is_terminal self.now }
     {
@@ -20,42 +20,42 @@ impl DeliveryState {
         }
     }
 
-    /// Whether it is the received state.
+    /// Returns whether it is the received state.
     pub fn is_received(&self) -> bool
         ensures { result ≡ is_some (state_received self.now) }
     {
         matches!(self, DeliveryState::Received(_))
     }
 
-    /// Whether it is the accepted outcome.
+    /// Returns whether it is the accepted outcome.
     pub fn is_accepted(&self) -> bool
         ensures { result ≡ is_some (state_accepted self.now) }
     {
         matches!(self, DeliveryState::Accepted(_))
     }
 
-    /// Whether it is the rejected outcome.
+    /// Returns whether it is the rejected outcome.
     pub fn is_rejected(&self) -> bool
         ensures { result ≡ is_some (state_rejected self.now) }
     {
         matches!(self, DeliveryState::Rejected(_))
     }
 
-    /// Whether it is the released outcome.
+    /// Returns whether it is the released outcome.
     pub fn is_released(&self) -> bool
         ensures { result ≡ is_some (state_released self.now) }
     {
         matches!(self, DeliveryState::Released(_))
     }
 
-    /// Whether it is the modified outcome.
+    /// Returns whether it is the modified outcome.
     pub fn is_modified(&self) -> bool
         ensures { result ≡ is_some (state_modified self.now) }
     {
         matches!(self, DeliveryState::Modified(_))
     }
 
-    /// The received state, or else the error.
+    /// Returns the received state, or else the error.
     pub fn received_or<E: Drop>(self, error: E) -> Result<Received, E>
         ensures { result ≡ ok_or (state_received self) error }
     {
@@ -65,7 +65,7 @@ impl DeliveryState {
         }
     }
 
-    /// The accepted outcome, or else the error.
+    /// Returns the accepted outcome, or else the error.
     pub fn accepted_or<E: Drop>(self, error: E) -> Result<Accepted, E>
         ensures { result ≡ ok_or (state_accepted self) error }
     {
@@ -75,7 +75,7 @@ impl DeliveryState {
         }
     }
 
-    /// The rejected outcome, or else the error.
+    /// Returns the rejected outcome, or else the error.
     pub fn rejected_or<E: Drop>(self, error: E) -> Result<Rejected, E>
         ensures { result ≡ ok_or (state_rejected self) error }
     {
@@ -85,7 +85,7 @@ impl DeliveryState {
         }
     }
 
-    /// The released outcome, or else the error.
+    /// Returns the released outcome, or else the error.
     pub fn released_or<E: Drop>(self, error: E) -> Result<Released, E>
         ensures { result ≡ ok_or (state_released self) error }
     {
@@ -95,7 +95,7 @@ impl DeliveryState {
         }
     }
 
-    /// The modified outcome, or else the error.
+    /// Returns the modified outcome, or else the error.
     pub fn modified_or<E: Drop>(self, error: E) -> Result<Modified, E>
         ensures { result ≡ ok_or (state_modified self) error }
     {
@@ -105,7 +105,7 @@ impl DeliveryState {
         }
     }
 
-    /// The outcome of a declared transaction, or else the error.
+    /// Returns the outcome of a declared transaction, or else the error.
     pub fn declared_or<E: Drop>(self, error: E) -> Result<Declared, E>
         ensures { result ≡ ok_or (state_declared self) error }
     {
@@ -115,7 +115,7 @@ impl DeliveryState {
         }
     }
 
-    /// The accepted outcome, or else the error that the closure makes of the whole. It isn't called otherwise.
+    /// Returns the accepted outcome, or else the error that the closure makes of the whole. Only then is the closure called.
     pub fn accepted_or_else<E, F: FnOnce(DeliveryState) -> E + Drop>(
         self,
         make_error: F,
@@ -129,7 +129,7 @@ impl DeliveryState {
         }
     }
 
-    /// The rejected outcome, or else the error that the closure makes of the whole. It isn't called otherwise.
+    /// Returns the rejected outcome, or else the error that the closure makes of the whole. Only then is the closure called.
     pub fn rejected_or_else<E, F: FnOnce(DeliveryState) -> E + Drop>(
         self,
         make_error: F,
@@ -143,7 +143,7 @@ impl DeliveryState {
         }
     }
 
-    /// The released outcome, or else the error that the closure makes of the whole. It isn't called otherwise.
+    /// Returns the released outcome, or else the error that the closure makes of the whole. Only then is the closure called.
     pub fn released_or_else<E, F: FnOnce(DeliveryState) -> E + Drop>(
         self,
         make_error: F,
@@ -157,7 +157,7 @@ impl DeliveryState {
         }
     }
 
-    /// The modified outcome, or else the error that the closure makes of the whole. It isn't called otherwise.
+    /// Returns the modified outcome, or else the error that the closure makes of the whole. Only then is the closure called.
     pub fn modified_or_else<E, F: FnOnce(DeliveryState) -> E + Drop>(
         self,
         make_error: F,
@@ -171,7 +171,7 @@ impl DeliveryState {
         }
     }
 
-    /// The outcome of a declared transaction, or else the error that the closure makes of the whole. It isn't called otherwise.
+    /// Returns the outcome of a declared transaction, or else the error that the closure makes of the whole. Only then is the closure called.
     pub fn declared_or_else<E, F: FnOnce(DeliveryState) -> E + Drop>(
         self,
         make_error: F,

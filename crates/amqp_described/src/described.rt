@@ -1,4 +1,4 @@
-//! Values behind a descriptor of their own (Part 1, section 1.2).
+//! Values under a descriptor of their own (Part 1, section 1.2).
 ghost use Rattle.std.specs.Prelude.{◌≡◌, IfOk, IfErr, refl};
 ghost use Rattle.amqp_model.specs.Spelling.{descriptor_value};
 ghost use Rattle.amqp_model.specs.Ranges.{IsInRange};
@@ -15,20 +15,22 @@ use amqp_encoder::Encoder;
 use amqp_wire::{ByteSource, Descriptor, Error};
 use std::alloc::Global;
 
-/// A value behind a descriptor of its own, which says what the value means (Part 1, sections 1.2 and 1.5). A descriptor is read in any
-/// spelling of a symbol or a ulong: any other is `BadDescriptor`, a symbol that isn't ASCII `NonAscii`, what isn't described `WrongType`,
-/// and what is nested more than 128 deep `Depth`. It is written in the shortest: a symbol that isn't ASCII is `NonAscii`, and items of an
-/// array that have different descriptors are `MixedArray`. What the value itself is refused for comes besides.
+/// A value under a descriptor of its own, which identifies what the value means (Part 1, sections 1.2 and 1.5). A descriptor is read in any
+/// encoding of a symbol or a ulong, and written in the shortest.
+///
+/// In reading, any other descriptor is `BadDescriptor`, and a symbol that isn't ASCII is `NonAscii`. What isn't described is `WrongType`,
+/// and what nests more than 128 deep is `Depth`. In writing, a symbol that isn't ASCII is `NonAscii`, and items of an array with different
+/// descriptors are `MixedArray`. The errors of the value itself may be returned, too.
 #[derive(Debug, PartialEq, Eq, PartialOrd, Ord, Hash, Drop)]
 pub struct Described<T> {
-    /// What tells the meaning of the value.
+    /// What identifies the meaning of the value.
     pub descriptor: Descriptor,
     /// The value.
     pub value: T,
 }
 
 impl<T> Described<T> {
-    /// A copy, whose descriptor and value are copies of its own; `Memory` if there is no memory for it.
+    /// Returns a clone, whose descriptor is a copy and whose value is a clone. It returns `Memory` if an allocation fails.
     pub fn clone(&self) -> Result<Described<T>, Error>
     where
         T: Clone + Drop,

@@ -1,4 +1,4 @@
-//! What holds of described values beyond the laws of every type. The functions do nothing; their contracts are proved.
+//! What holds for described values in addition to the laws of every type. The functions do nothing; their contracts are proved.
 ghost use Rattle.std.specs.Prelude.{◌≡◌, IsTrue};
 ghost use Rattle.std.specs.Ordering.{nat_cmp, ordering_then};
 ghost use Rattle.std.specs.declared.cmp.Ordering.TheVariants.{Less, Greater};
@@ -10,12 +10,12 @@ use crate::Described;
 use amqp_codec::{Canonical, DeserializeTerm};
 use amqp_wire::{Descriptor, Symbol};
 
-/// A described value is least exactly if the value behind the descriptor is.
+/// A described value is shortest (`is_least`) exactly if the value under the descriptor is.
 pub fn texts_are_least<T: DeserializeTerm>()
     ensures described { ⟦<Described<T> as Canonical>⟧.is_least ≡ T.term.is_least }
 {}
 
-/// Descriptors are ordered with the names first, as symbols, and then the codes.
+/// Descriptors are ordered with the names first, which are ordered as symbols, and then the codes.
 pub fn descriptors_are_ordered()
     ensures names { (s t : _) → ⟦<Descriptor as Ord>⟧.cmp (descriptor.Name s) (descriptor.Name t) ≡ ⟦<Symbol as Ord>⟧.cmp s t }
     ensures name_first { (s : _) (n : _) → ⟦<Descriptor as Ord>⟧.cmp (descriptor.Name s) (descriptor.Code n) ≡ Less }
@@ -23,13 +23,13 @@ pub fn descriptors_are_ordered()
     ensures codes { (n m : _) → ⟦<Descriptor as Ord>⟧.cmp (descriptor.Code n) (descriptor.Code m) ≡ nat_cmp n m }
 {}
 
-/// Described values are ordered by their descriptors, and then by what stands behind them.
+/// Described values are ordered by their descriptors, and then by the values under them.
 pub fn orders<T: Ord>()
     ensures described { (a b : Described T) → ⟦<Described<T> as Ord>⟧.cmp a b
         ≡ ordering_then (⟦<Descriptor as Ord>⟧.cmp a.descriptor b.descriptor) (T.cmp a.value b.value) }
 {}
 
-/// Where copies of values are equal to them, so is a copy of a described value, as `Described::clone` makes it.
+/// If clones of values are equal to them, a clone of a described value, as `Described::clone` makes it, is equal to it.
 pub fn copies_are_equal<T: Clone + PartialEq>()
     ensures { ((v w : T) → T.is_clone v w → IsTrue (T.eq v w)) → (described copy : Described T)
         → descriptor_of copy.descriptor ≡ descriptor_of described.descriptor → T.is_clone described.value copy.value

@@ -1,4 +1,4 @@
-//! Described values: a value of any type behind a descriptor of its own (Part 1, section 1.2).
+//! Described values: a value of any type under a descriptor of its own (Part 1, section 1.2).
 #![tactic(auto)]
 
 mod described;

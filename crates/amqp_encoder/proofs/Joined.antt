@@ -5,8 +5,8 @@ use Rattle.std.proofs.lemmas.List.{append-nil}
 use Rattle.amqp_wire.specs.declared.error.Error.{Error}
 use Rattle.amqp_wire.specs.declared.error.Error.TheVariants.{Memory}
 use Rattle.amqp_encoder.specs.Tokens.{Token}
-use Rattle.amqp_encoder.specs.State.{Filled}
-use Rattle.amqp_encoder.specs.Writes.{step, steps, fill, filling, outcome, Runs, Writes, Follows, MayRunOut, AnyMayRunOut}
+use Rattle.amqp_encoder.specs.State.{Measured, Filled}
+use Rattle.amqp_encoder.specs.Writes.{Fills, step, steps, measure, measuring, fill, filling, outcome, Runs, Writes, Follows, MayRunOut, AnyMayRunOut}
 use Rattle.amqp_encoder.specs.Writes.{RunsOut, IsGoing, pass_of, bytes_of}
 use Rattle.amqp_encoder.specs.declared.encoder.Encoder.{Encoder}
 use Rattle.amqp_encoder.specs.State.{Pass, Measuring, Filling, Stopped}
@@ -51,6 +51,25 @@ unfolding AnyMayRunOut
 only_measuring s [] n h = h
 only_measuring s (t ∷ ts) n (inl h) = n (measures_now s t h)
 only_measuring s (t ∷ ts) n (inr h) = only_measuring (step s t) ts (measures_no_more s t n) h
+
+-- no call makes it fill
+fills_before : (s : Pass) (t : Token) → Fills (step s t) → Fills s
+fills_before (Measuring m) t h = measured (measure t m) h where
+  measured : (r : Result Measured Error) → Fills (measuring r) → ⊥
+  measured (Ok n) h = h
+  measured (Err e) h = h
+fills_before (Filling f) t h = tt
+fills_before (Stopped e) t h = h
+
+filled_before : (s : Pass) (ts : List Token) → Fills (steps s ts) → Fills s
+unfolding steps
+filled_before s [] h = h
+filled_before s (t ∷ ts) h = fills_before s t (filled_before (step s t) ts h)
+
+pub fills_from : (a : Encoder) (ts : List Token) (r : Result (Unit {0}) Error) (b : Encoder) → Writes a ts r b → Fills (pass_of b)
+    → Fills (pass_of a)
+fills_from a ts r b w h =
+    elim w.runs.state [ inl e ↦ filled_before (pass_of a) ts (rw e at h) | inr o ↦ absurd (rw o.1 at h) ]
 
 -- a filling pass takes no memory
 pub filling_never : (f : Filled) (ts : List Token) → AnyMayRunOut (Filling f) ts → ⊥

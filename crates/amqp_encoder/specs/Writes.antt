@@ -85,6 +85,11 @@ pass_in (mode.Stopped e) m f = Stopped e
 abbrev pub pass_of : Encoder → Pass
 pass_of e = pass_in e.mode e.measure e.fill
 
+-- it fills
+abbrev pub Fills : Pass → Type 0
+Fills (Filling f) = Unit {0}
+Fills _ = ⊥
+
 -- the buffer's bytes: those that a filling pass has written behind what was there
 abbrev pub bytes_of : Encoder → List ℕ
 bytes_of e = e.fill.out

@@ -33,7 +33,7 @@ impl Head {
     }
 }
 
-/// The text of a descriptor, which a code has none of.
+/// Returns the text of a descriptor, which is empty for a code.
 pub(crate) fn text_of(descriptor: &Descriptor) -> &[u8]
     ensures { result.now ≡ tail_of (descriptor_of descriptor.now) }
 {
@@ -43,7 +43,7 @@ pub(crate) fn text_of(descriptor: &Descriptor) -> &[u8]
     }
 }
 
-/// The bytes of a descriptor after the 0 and before its text, of which four bytes tell the length.
+/// Returns the bytes of a descriptor after the 0 and before its text. Four of them are the length of the text.
 pub(crate) fn head_of(descriptor: &Descriptor) -> Head
     requires { length (tail_of (descriptor_of descriptor.now)) < 2 ^ 32 }
     ensures { result ++ tail_of (descriptor_of descriptor.now) ≡ descriptor_bytes (descriptor_of descriptor.now) }
@@ -103,7 +103,7 @@ fn head_of_code(number: u64) -> Head
     }
 }
 
-/// How many bytes a descriptor takes; refused if it is a symbol that isn't ASCII or is too long.
+/// Returns how many bytes a descriptor takes. It is refused if it is a symbol that isn't ASCII or is too long.
 pub(crate) fn len_of(descriptor: &Descriptor) -> Result<usize, Error>
     ensures { result ≡ descriptor_length (descriptor_of descriptor.now) }
 {
@@ -121,7 +121,7 @@ pub(crate) fn len_of(descriptor: &Descriptor) -> Result<usize, Error>
     }
 }
 
-/// A symbol is ASCII (Part 1, section 1.6.21), and its length fits in four bytes.
+/// Checks that a symbol is ASCII (Part 1, section 1.6.21), and that its length fits in four bytes.
 pub(crate) fn check_symbol(text: &str) -> Result<(), Error>
     ensures { result ≡ checked (symbol text.now) }
 {

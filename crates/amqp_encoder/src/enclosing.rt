@@ -9,9 +9,9 @@ use amqp_wire::nesting::LEVELS;
 use std::alloc::{AllocError, Global};
 use std::marker::Model;
 
-/// So many are kept whole without taking memory.
+/// How many of them are kept whole without allocating.
 const OUTERMOST: usize = 8;
-/// So many there may be within those.
+/// How many there may be within those.
 const INNER: usize = LEVELS - OUTERMOST;
 
 /// The outermost ones.
@@ -70,11 +70,10 @@ impl Outermost {
     }
 }
 
-/// A described value without a value yet, in a few bytes: one that stands alone, or an item of an array that has no bytes of
-/// its own.
+/// A described value without a value yet, in a few bytes: one that is by itself, or an item of an array that has no bytes of its own.
 #[derive(Clone, Copy)]
 struct Brief {
-    /// Of one that stands alone its bytes so far, which are its descriptor's; of an item where its constructor goes on.
+    /// For one by itself, its bytes so far, which are its descriptor's; for an item, where its constructor goes on.
     number: [u8; 8],
     place: Place,
     code: u8,
@@ -116,7 +115,7 @@ impl Brief {
     }
 }
 
-/// Described values within those, in a few bytes each.
+/// Described values within the outermost ones, in a few bytes each.
 #[derive(Drop)]
 struct DescribedInner {
     briefs: [Brief; INNER],
@@ -177,8 +176,8 @@ impl DescribedInner {
     }
 }
 
-/// The values that are open around the innermost one. The outermost ones take no memory. Of those within, described values
-/// are kept in a few bytes each, until memory is taken for all.
+/// The values that are open around the innermost one. The outermost ones are kept without allocating. Of those within, described values are
+/// kept in a few bytes each, until memory is allocated for all.
 #[derive(Drop)]
 pub(crate) struct Enclosing {
     outermost: Outermost,
@@ -220,7 +219,7 @@ impl Enclosing {
         self.inner.len() + self.described.len() + self.outermost.len()
     }
 
-    /// Takes the memory to keep whatever is opened next and within that.
+    /// Allocates the memory to keep whatever is opened next and within that.
     #[inline(always)]
     pub(crate) fn reserve(&mut self) -> Result<(), AllocError>
         ensures items { self.new.items ≡ self.old.items }
@@ -245,7 +244,7 @@ impl Enclosing {
         self.inner.reserve_exact(INNER)
     }
 
-    /// One more, within the others.
+    /// Adds one more, within the others.
     #[inline(always)]
     pub(crate) fn push(&mut self, frame: MeasuredContainer)
         requires levels { length self.old.items < 129 }
@@ -275,7 +274,7 @@ impl Enclosing {
         }
     }
 
-    /// The innermost one, which leaves.
+    /// Removes the innermost one, and returns it.
     #[inline(always)]
     pub(crate) fn pop(&mut self) -> Option<MeasuredContainer>
         ensures { MatchOption result ((self.old.items ≡ []) × (self.new ≡ self.old)) (λ frame. (self.old.items ≡ seen frame ∷ self.new.items)

@@ -1,5 +1,6 @@
 //! What values are written to.
 ghost use Rattle.std.specs.Prelude.{◌≡◌, ◌≤◌, ℕ, [], ◌∷◌, length, OnOk, IfOk, IfErr, List, Ok, Err};
+ghost use Rattle.std.specs.Bool.{Decides};
 ghost use Rattle.std.specs.Vec.{vec_capacity};
 ghost use Rattle.amqp_model.specs.Term.{Primitive, null, symbol, list, map, array};
 ghost use Rattle.amqp_encoder.specs.State.{Stopped};
@@ -7,7 +8,7 @@ ghost use Rattle.amqp_wire.specs.Containers.{container_of};
 ghost use Rattle.amqp_encoder.specs.Values.{descriptor_of};
 ghost use Rattle.amqp_encoder.specs.Spelled.{IsFixed, IsVariable};
 ghost use Rattle.amqp_encoder.specs.Tokens.{put, keep, begin, end, begin_described, end_described, refuse};
-ghost use Rattle.amqp_encoder.specs.Writes.{Writes, pass_of, bytes_of};
+ghost use Rattle.amqp_encoder.specs.Writes.{Writes, Fills, pass_of, bytes_of};
 ghost use Rattle.amqp_encoder.specs.Passes.{BeginsMeasuring, BeginsFilling, Finds, FindsNone, answer_of};
 
 use crate::fill::Fill;
@@ -25,20 +26,19 @@ pub(crate) enum Mode {
     Stopped(Error),
 }
 
-/// Measures what is written to it, or fills a buffer with its canonical text (Part 1, section 1.6). Once it
-/// has refused, it returns the same error from every call. It takes memory, and may return `Memory` for lack of
-/// it, only while it measures: where a list, map or array begins, and where a described value does that is the
-/// first item of an array.
+/// Measures what is written to it, or fills a buffer with its canonical text (Part 1, section 1.6). After an error, every call returns the
+/// same error. The encoder allocates, and may return `Memory`, only while it measures. It does so at the beginning of a list, map or array,
+/// and of a described value that is the first item of an array.
 #[derive(Drop)]
 pub struct Encoder {
     mode: Mode,
-    // Both passes stand side by side, so that going over from one to the other writes no row anew.
+    // Both passes are side by side, so that going over from one to the other writes no row again.
     measure: Measure,
     fill: Fill,
 }
 
 impl Encoder {
-    /// The error of an encoder that has refused.
+    /// Returns the encoder's error, if it has refused.
     pub fn check(&self) -> Result<(), Error>
         ensures { result ≡ answer_of self.now }
     {
@@ -48,7 +48,15 @@ impl Encoder {
         }
     }
 
-    // An error is the answer from here on.
+    /// Returns whether it fills a buffer with what was measured before.
+    #[inline(always)]
+    pub fn fills(&self) -> bool
+        ensures { Decides result (Fills (pass_of self.now)) }
+    {
+        matches!(self.mode, Mode::Filling)
+    }
+
+    // An error is returned by every call from here on.
     #[inline(always)]
     fn settle(&mut self, outcome: Result<(), Error>) -> Result<(), Error>
         ensures same { result ≡ outcome }
@@ -65,7 +73,7 @@ impl Encoder {
         }
     }
 
-    /// Refuses the value for a reason of its type's own, or for a lack of memory of its own.
+    /// Refuses the value for a reason of its type's own, or because the type couldn't allocate.
     pub fn refuse(&mut self, error: Error) -> Result<(), Error>
         ensures { Writes self.old (refuse error ∷ []) result self.new }
     {
@@ -76,7 +84,7 @@ impl Encoder {
         }
     }
 
-    /// A primitive of fixed width, with its code and its data as the first item of an array.
+    /// Writes a primitive of fixed width, with its code and its data as the first item of an array.
     #[inline(always)]
     pub(crate) fn put<const N: usize>(
         &mut self,
@@ -99,7 +107,7 @@ impl Encoder {
         }
     }
 
-    /// A binary or a string, with its codes.
+    /// Writes a binary or a string, with its codes.
     pub(crate) fn put_bytes(&mut self, short: u8, wide: u8, bytes: &[u8]) -> Result<(), Error>
         ensures { (p : Primitive) → IsVariable p short wide bytes.now → Writes self.old (put p ∷ []) result self.new }
     {
@@ -116,7 +124,7 @@ impl Encoder {
         }
     }
 
-    /// A symbol (Part 1, section 1.6.21); `NonAscii` if the text isn't ASCII.
+    /// Writes a symbol (Part 1, section 1.6.21). It returns `NonAscii` if the text isn't ASCII.
     pub fn write_symbol(&mut self, text: &str) -> Result<(), Error>
         ensures { Writes self.old (put (symbol text.now) ∷ []) result self.new }
     {
@@ -137,7 +145,7 @@ impl Encoder {
         }
     }
 
-    /// Null (Part 1, section 1.6.1); `ZeroWidthItems` as the item of an array.
+    /// Writes null (Part 1, section 1.6.1). It returns `ZeroWidthItems` for the item of an array.
     #[inline(always)]
     pub fn write_null(&mut self) -> Result<(), Error>
         ensures { Writes self.old (put null ∷ []) result self.new }
@@ -155,8 +163,8 @@ impl Encoder {
         }
     }
 
-    /// The bytes of one term, as they are; the caller owes that they are one term, and that it nests so
-    /// deep. `LazyInArray` as the item of an array, under descriptors too.
+    /// Writes the bytes of one term, as they are. The caller must make sure that they are one term, and that it nests so deep. It returns
+    /// `LazyInArray` for the item of an array, also under descriptors.
     pub fn write_term(&mut self, bytes: &[u8], nesting: usize) -> Result<(), Error>
         ensures { Writes self.old (keep bytes.now nesting ∷ []) result self.new }
     {
@@ -205,7 +213,7 @@ impl Encoder {
         }
     }
 
-    /// Begins a list (Part 1, section 1.6.22); `Depth` past 128 nested values.
+    /// Begins a list (Part 1, section 1.6.22). It returns `Depth` if values nest more than 128 deep.
     #[inline(always)]
     pub fn begin_list(&mut self) -> Result<(), Error>
         ensures { Writes self.old (begin list ∷ []) result self.new }
@@ -213,7 +221,7 @@ impl Encoder {
         self.begin(Container::List)
     }
 
-    /// Ends the list that is open; `InvalidValue` if none is.
+    /// Ends the list that is open. It returns `InvalidValue` if no list is open.
     #[inline(always)]
     pub fn end_list(&mut self) -> Result<(), Error>
         ensures { Writes self.old (end list ∷ []) result self.new }
@@ -228,28 +236,28 @@ impl Encoder {
         self.begin(Container::Map)
     }
 
-    /// Ends the map that is open; `OddCount` if a key has no value.
+    /// Ends the map that is open. It returns `OddCount` if a key has no value.
     pub fn end_map(&mut self) -> Result<(), Error>
         ensures { Writes self.old (end map ∷ []) result self.new }
     {
         self.end(Container::Map)
     }
 
-    /// Begins an array (Part 1, section 1.6.24). Its items need one constructor, else `MixedArray`.
+    /// Begins an array (Part 1, section 1.6.24). Its items need one constructor; otherwise the error is `MixedArray`.
     pub fn begin_array(&mut self) -> Result<(), Error>
         ensures { Writes self.old (begin array ∷ []) result self.new }
     {
         self.begin(Container::Array)
     }
 
-    /// Ends the array that is open; `InvalidValue` if none is.
+    /// Ends the array that is open. It returns `InvalidValue` if no array is open.
     pub fn end_array(&mut self) -> Result<(), Error>
         ensures { Writes self.old (end array ∷ []) result self.new }
     {
         self.end(Container::Array)
     }
 
-    /// Begins a described value (Part 1, section 1.2), of which one value is to follow.
+    /// Begins a described value (Part 1, section 1.2). One value must follow.
     pub fn begin_described(&mut self, descriptor: &Descriptor) -> Result<(), Error>
         ensures { Writes self.old (begin_described (descriptor_of descriptor.now) ∷ []) result self.new }
     {
@@ -266,7 +274,7 @@ impl Encoder {
         }
     }
 
-    /// Ends the described value that is open; `InvalidValue` if it doesn't hold exactly one value.
+    /// Ends the described value that is open. It returns `InvalidValue` if that doesn't hold exactly one value.
     pub fn end_described(&mut self) -> Result<(), Error>
         ensures { Writes self.old (end_described ∷ []) result self.new }
     {
@@ -284,7 +292,7 @@ impl Encoder {
     }
 }
 
-/// An encoder that measures, and makes every refusal.
+/// Returns an encoder that measures, and makes every refusal.
 pub fn measuring_encoder(alloc: Global) -> Encoder
     ensures { BeginsMeasuring result }
 {
@@ -295,8 +303,8 @@ pub fn measuring_encoder(alloc: Global) -> Encoder
     }
 }
 
-/// The length of what was measured. An error is the encoder's refusal, or `InvalidValue` if it has refused nothing but
-/// a container is still open or it doesn't measure.
+/// Returns the length of what was measured. An error is the encoder's own; if it has none, it is `InvalidValue`, because a container is
+/// still open or the encoder doesn't measure.
 #[inline(always)]
 pub fn measured_len(encoder: &Encoder) -> Result<usize, Error>
     ensures found { IfOk result (λ len. (sizes : List Size) × Finds encoder.now len sizes) }
@@ -309,8 +317,8 @@ pub fn measured_len(encoder: &Encoder) -> Result<usize, Error>
     }
 }
 
-/// Goes over to filling the room of a buffer, up to `limit` bytes in all, with the sizes that were measured. An encoder
-/// that has refused takes the buffer, and returns its error as before.
+/// Begins to fill the spare capacity of a buffer, up to `limit` bytes in all, with the sizes that were measured. An encoder that has
+/// refused takes the buffer too, and returns its error as before.
 #[inline(always)]
 pub fn begin_filling(encoder: &mut Encoder, alloc: Global, buffer: Vec<u8>, limit: usize)
     requires { limit ≤ vec_capacity buffer }
@@ -326,7 +334,7 @@ pub fn begin_filling(encoder: &mut Encoder, alloc: Global, buffer: Vec<u8>, limi
     }
 }
 
-/// The buffer, also after a refusal.
+/// Returns the buffer, also after an error.
 #[inline(always)]
 pub fn buffer_of(encoder: Encoder) -> Vec<u8>
     ensures { result.items ≡ bytes_of encoder }

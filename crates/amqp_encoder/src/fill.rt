@@ -1,4 +1,4 @@
-//! The filling pass: it writes into a room that was measured before, and never grows.
+//! The filling pass: it writes into a buffer whose size was measured before, and never grows it.
 ghost use Rattle.std.specs.Prelude.{◌≡◌, ◌≤◌, ◌<◌, ◌+◌, ◌++◌, [], length, take, drop};
 ghost use Rattle.std.specs.Vec.{vec_capacity, vec_len};
 ghost use Rattle.amqp_model.specs.Term.{array};
@@ -52,7 +52,7 @@ impl Model for Fill {
 }
 
 impl Fill {
-    /// With no room to fill yet.
+    /// Returns a pass without a buffer to fill yet.
     pub(crate) fn new(alloc: Global) -> Fill
         ensures { result ≡ to_fill [] [] 0 }
     {
@@ -67,7 +67,7 @@ impl Fill {
         }
     }
 
-    /// Begins to fill the room of a buffer. What is left in the row is not seen.
+    /// Begins to fill the spare capacity of a buffer. What is left in the row is not seen.
     #[inline(always)]
     pub(crate) fn start(&mut self, sizes: Sizes, out: Vec<u8>, limit: usize)
         requires { limit ≤ vec_capacity out }
@@ -97,7 +97,7 @@ impl Fill {
         out
     }
 
-    /// Writes these bytes and those, if there is room for both.
+    /// Writes the bytes of `head` and then of `body`, if there is room for both.
     #[inline(always)]
     fn emit(&mut self, head: &[u8], body: &[u8]) -> Result<(), Error>
         ensures does { Does (emit (head.now ++ body.now) self.old) result self.new }
@@ -117,8 +117,8 @@ impl Fill {
         Ok(())
     }
 
-    /// Writes a few bytes: one by one, which is faster than a call that copies them, and into a buffer that is taken out
-    /// for it, so that no byte may be a part of the encoder.
+    /// Writes a few bytes. It writes them one by one, which is faster than a call that copies them. It writes into a buffer that is taken
+    /// out of the encoder, so that no byte can be a part of the encoder.
     #[inline(always)]
     fn emit_each(&mut self, bytes: &[u8]) -> Result<(), Error>
         ensures does { Does (emit bytes.now self.old) result self.new }
@@ -145,7 +145,7 @@ impl Fill {
         Ok(())
     }
 
-    /// A primitive, with its code and its data as the first item of an array.
+    /// Writes a primitive, with its code and its data as the first item of an array.
     #[inline(always)]
     pub(crate) fn put<const N: usize>(
         &mut self,
@@ -175,7 +175,7 @@ impl Fill {
         self.put_in_array(wide)
     }
 
-    // It stands apart, so that what `put` inlines stays small.
+    // It is separate, so that what `put` inlines stays small.
     #[inline(never)]
     fn put_in_array<const N: usize>(&mut self, wide: [u8; N]) -> Result<(), Error>
         requires { 1 ≤ N }
@@ -189,7 +189,7 @@ impl Fill {
         }
     }
 
-    /// A binary, a string or a symbol, with its codes.
+    /// Writes a binary, a string or a symbol, with its codes.
     #[inline(always)]
     pub(crate) fn put_bytes(&mut self, short: u8, wide: u8, bytes: &[u8]) -> Result<(), Error>
         ensures does { Does (fill_bytes short wide bytes.now self.old) result self.new }
@@ -231,7 +231,7 @@ impl Fill {
         }
     }
 
-    /// Writes what stands before the values of a container, the first of which stands so.
+    /// Writes what comes before the values of a container, whose first value is at this place.
     fn open(&mut self, head: &[u8], body: &[u8], place: Place) -> Result<(), Error>
         ensures does { Does (fill_open (head.now ++ body.now) (place_of place) self.old) result self.new }
         ensures kept { take (length self.old.out) self.new.out ≡ self.old.out }
@@ -309,7 +309,7 @@ impl Fill {
         self.open(&[wide_code(container), a, b, c, d, e, f, g, h], &[], first)
     }
 
-    /// An array without items holds the constructor of null.
+    /// Opens an array without items, which holds the constructor of null.
     fn open_empty_array(&mut self, first: Place) -> Result<(), Error>
         ensures does { Does (fill_open (opening self.old.place array 0 0) (place_of first) self.old) result self.new }
         ensures kept { take (length self.old.out) self.new.out ≡ self.old.out }
@@ -352,7 +352,7 @@ impl Fill {
         }
     }
 
-    // It stands apart, so that what a small code takes stays small.
+    // It is separate, so that what a small code takes stays small.
     #[inline(never)]
     fn begin_other_described(&mut self, descriptor: &Descriptor) -> Result<(), Error>
         ensures does { Does (fill_described (descriptor_of descriptor.now) self.old) result self.new }

@@ -12,11 +12,11 @@ use crate::places::{Opened, Place, first_place};
 use crate::size::{MAX_CONTENT, Size};
 use amqp_wire::{Container, Error};
 
-/// An open container, or the row of values that stand in none.
+/// An open container, or the row of values that are in none.
 #[derive(Clone, Copy)]
 pub(crate) struct MeasuredContainer {
     pub(crate) opened: Opened,
-    /// Where its next value stands.
+    /// Where its next value is.
     pub(crate) place: Place,
     /// The code of the items of the array that the next value is an item of, once it has one.
     pub(crate) code: u8,
@@ -25,12 +25,12 @@ pub(crate) struct MeasuredContainer {
     pub(crate) count: usize,
     /// Its place among the sizes.
     pub(crate) index: usize,
-    /// Where the next value's constructor goes on among the descriptors that are kept.
+    /// Where the next value's constructor goes on among the kept descriptors.
     pub(crate) form: usize,
 }
 
 impl MeasuredContainer {
-    /// The row of values that stand in no container.
+    /// Returns the row of values that are in no container.
     pub(crate) fn outermost() -> MeasuredContainer
         ensures { seen result ≡ holding list 0 0 }
     {
@@ -51,7 +51,7 @@ impl MeasuredContainer {
         }
     }
 
-    /// A described value that stands where the next value does, under so many bytes of descriptor.
+    /// Returns a described value at the place of the next value, under so many bytes of descriptor.
     pub(crate) fn of_described(self, content: usize, form: usize) -> MeasuredContainer
         ensures { seen result ≡ describing (seen self) content form }
     {
@@ -66,14 +66,14 @@ impl MeasuredContainer {
         }
     }
 
-    /// A described value that has its value.
+    /// Returns whether it is a described value that has its value.
     pub(crate) fn is_full(self) -> bool
         ensures { result ≡ is_full (seen self) }
     {
         self.opened.is_described() && self.count != 0
     }
 
-    /// Its size; refused if that doesn't fit in four bytes.
+    /// Returns its size. It is refused if the size doesn't fit in four bytes.
     pub(crate) fn size(self) -> Result<Size, Error>
         ensures { result ≡ size_of (seen self) }
     {
@@ -87,7 +87,7 @@ impl MeasuredContainer {
     }
 }
 
-/// An array without items holds the constructor of null (Part 1, section 1.2.4).
+/// Returns whether it is an array without items, which holds the constructor of null (Part 1, section 1.2.4).
 pub(crate) fn is_filled_up(container: Container, size: Size) -> bool
     ensures filled { OnTrue result ((container_of container ≡ array) × (size.count ≡ 0)) }
     ensures unfilled { OnFalse result (filler (container_of container) size.count ≡ []) }
@@ -99,7 +99,7 @@ pub(crate) fn is_filled_up(container: Container, size: Size) -> bool
     }
 }
 
-/// How many bytes stand before a container's items, in its place.
+/// Returns how many bytes come before a container's items, in its place.
 pub(crate) fn opening_len(place: Place, container: Container, size: Size) -> usize
     ensures same { result ≡ length (opening (place_of place) (container_of container) size.count size.content) }
     ensures short { result ≤ 10 }

@@ -17,9 +17,9 @@ ghost use Rattle.amqp_encoder.specs.Writes.{Writes, bytes_of};
 ghost use Rattle.amqp_encoder.specs.Passes.{AreRefused, AreValues, BeginsFilling, BeginsMeasuring, Finds, HoldOthers, IsMeasured, as_size};
 ghost use Rattle.amqp_encoder.specs.Passes.{row_text, row_tokens};
 
-/// Where the calls for some terms were made of an encoder that measures, it returns Ok if nothing refuses the terms,
-/// and has then found their length and sizes; otherwise it returns why they are refused, or that memory ran out, which it
-/// takes of terms that hold a list, a map or an array.
+/// If the calls for some terms are made on an encoder that measures, and it returns `Ok`, it has found their length and sizes. An error is
+/// a reason why they are refused; or `Memory`, if they hold a list, a map or an array. The numbers and texts of the terms must be of their
+/// types.
 pub fn measuring()
     ensures found { (deep : List ℕ → ℕ) (ts : List Term) (old new : Encoder) → AreValues ts → BeginsMeasuring old
         → Writes old (row_tokens deep ts) (Ok tt) new
@@ -30,8 +30,8 @@ pub fn measuring()
         → ((e ≡ Memory) × HoldOthers ts) ⊎ AreRefused deep ts e }
 {}
 
-/// Where they were made of an encoder that fills, with what was measured and room for it, each of them returned Ok,
-/// and it has written their text. It takes no memory, so that none is refused for want of that.
+/// If they are made on an encoder that fills, with what was measured and room for it, each of them returns `Ok`, and it has written their
+/// text. It doesn't allocate, so the error is never `Memory`.
 pub fn filling()
     ensures answered { (deep : List ℕ → ℕ) (ts : List Term) (len : ℕ) (sizes : List Size) (out : List ℕ) (limit : ℕ) (old new : Encoder)
         (first rest : List Token) (answer : Result (Unit {0}) Error) → IsMeasured deep ts len sizes
@@ -42,9 +42,8 @@ pub fn filling()
         → BeginsFilling old sizes out limit → Writes old (row_tokens deep ts) answer new → bytes_of new ≡ out ++ row_text ts }
 {}
 
-/// Each reason for which the model refuses one of the terms is a reason for the encoder, by its error, where it is told how
-/// deep the bytes nest that are kept in the terms. A term that nests too deep in bytes that are kept in an array is refused
-/// for those bytes.
+/// Each reason for which the model refuses one of the terms is a reason for the encoder, by its error. For that, the encoder must be told
+/// how deep the kept bytes in the terms nest. A term that nests too deep in kept bytes in an array is refused for those bytes.
 pub fn refusals_are_complete()
     ensures nesting { (deep : List ℕ → ℕ) (us : List Term) → IsNesting deep → KnowDepths deep us }
     ensures complete { (deep : List ℕ → ℕ) (us : List Term) (r : Refusal) → KnowDepths deep us → Any (Refuses r) us
@@ -53,8 +52,9 @@ pub fn refusals_are_complete()
         → AreRefused deep (u ∷ []) (error_of r) ⊎ ((r ≡ depth) × AreRefused deep (u ∷ []) LazyInArray) }
 {}
 
-/// Each error of the encoder names a reason for which the model refuses one of the terms, but for more bytes or terms than
-/// the machine counts. A count that doesn't fit in four bytes is of items whose size doesn't fit either.
+/// Each error of the encoder is a reason for which the model refuses one of the terms, except if there are more bytes or terms than the
+/// machine counts. The conditions are those of `measuring` and `refusals_are_complete`. If a count doesn't fit in four bytes, the size of
+/// its items doesn't either.
 pub fn refusals_are_sound()
     ensures sound { (deep : List ℕ → ℕ) (us ts : List Term) (e : Error) → KnowDepths deep us → AreValues us → AllRead us ts
         → AreRefused deep us e → HasCause us e }
@@ -62,8 +62,8 @@ pub fn refusals_are_sound()
         → AreRefused deep (u ∷ []) e → TermHasCause u e }
 {}
 
-/// An encoder that measures returns Ok exactly if the model refuses nothing and the machine counts the bytes; else it
-/// returns the named reason. It may run out of memory in either case.
+/// An encoder that measures returns `Ok` exactly if the model refuses nothing and the machine counts the bytes. Otherwise it returns such a
+/// reason. In either case it may instead return `Memory`. The conditions are those of `refusals_are_sound`.
 pub fn accepted_exactly()
     ensures accepted { (deep : List ℕ → ℕ) (u : Term) (old new : Encoder) → KnowDepths deep (u ∷ []) → AreValues (u ∷ [])
         → BeginsMeasuring old → Writes old (tokens deep u) (Ok tt) new
@@ -76,7 +76,7 @@ pub fn accepted_exactly()
         → ((r : Refusal) → Refuses r u → ⊥) → length (text u Alone) ≤ MAX → (answer ≡ Ok tt) ⊎ (answer ≡ Err Memory) }
 {}
 
-/// The same of terms in a row.
+/// The same for terms in a row.
 pub fn rows_accepted_exactly()
     ensures accepted { (deep : List ℕ → ℕ) (us : List Term) (old new : Encoder) → KnowDepths deep us → AreValues us → BeginsMeasuring old
         → Writes old (row_tokens deep us) (Ok tt) new
@@ -89,7 +89,7 @@ pub fn rows_accepted_exactly()
         → ((e : Error) → HasCause us e → ⊥) → (answer ≡ Ok tt) ⊎ (answer ≡ Err Memory) }
 {}
 
-/// Calls one after another are calls in a row; after a refusal the further calls change nothing.
+/// Calls one after another are calls in a row. After a refusal, further calls change nothing.
 pub fn calls_in_a_row()
     ensures joined { (a b c : Encoder) (xs ys : List Token) (r : Result (Unit {0}) Error) → Writes a xs (Ok tt) b → Writes b ys r c
         → Writes a (xs ++ ys) r c }

@@ -64,7 +64,7 @@ impl Measure {
         }
     }
 
-    /// The length of all that was written; refused if a container is still open.
+    /// Returns the length of all that was written. It is refused if a container is still open.
     #[inline(always)]
     pub(crate) fn measured(&self) -> Result<usize, Error>
         ensures { MatchResult result (λ len. (self.now.outer ≡ []) × (len ≡ self.now.frame.content))
@@ -76,7 +76,7 @@ impl Measure {
         Ok(self.top.content)
     }
 
-    /// The sizes of the containers in the order in which they begin, which are moved out of it.
+    /// Moves the sizes of the containers out of it, in the order in which they begin.
     #[inline(always)]
     pub(crate) fn take_sizes(&mut self, alloc: Global) -> Sizes
         ensures { result ≡ self.old.sizes }
@@ -91,7 +91,7 @@ impl Measure {
         self.enclosing.len() != 0
     }
 
-    /// A value whose constructor ends in this code begins. The items of an array share one constructor.
+    /// Begins a value whose constructor ends in this code. The items of an array share one constructor.
     #[inline(always)]
     fn enter(&mut self, code: u8) -> Result<(), Error>
         ensures does { Does (enter code self.old) result self.new }
@@ -112,7 +112,7 @@ impl Measure {
         Ok(())
     }
 
-    /// A value of so many bytes ends.
+    /// Ends a value of so many bytes.
     #[inline(always)]
     fn leave(&mut self, len: usize) -> Result<(), Error>
         ensures { Does (leave len self.old) result self.new }
@@ -129,7 +129,7 @@ impl Measure {
         Ok(())
     }
 
-    /// A primitive, with its code and its data as the first item of an array.
+    /// Measures a primitive, with its code and its data as the first item of an array.
     #[inline(always)]
     pub(crate) fn put(&mut self, shortest: Shortest, wide: &[u8]) -> Result<(), Error>
         requires { 1 ≤ length wide.now }
@@ -143,7 +143,7 @@ impl Measure {
         }
     }
 
-    /// A value of so many bytes, whose constructor ends in this code.
+    /// Measures a value of so many bytes, whose constructor ends in this code.
     #[inline(always)]
     fn count(&mut self, code: u8, len: usize) -> Result<(), Error>
         ensures { Does (measure_value code len self.old) result self.new }
@@ -159,7 +159,7 @@ impl Measure {
         self.count_apart(code, len)
     }
 
-    // It stands apart, so that what `put` inlines stays small.
+    // It is separate, so that what `put` inlines stays small.
     #[inline(never)]
     fn count_apart(&mut self, code: u8, len: usize) -> Result<(), Error>
         ensures { Does (measure_value code len self.old) result self.new }
@@ -167,7 +167,7 @@ impl Measure {
         self.count(code, len)
     }
 
-    /// A binary or a string, with the code that it has in an array.
+    /// Measures a binary or a string, with the code that it has in an array.
     pub(crate) fn put_bytes(&mut self, code: u8, len: usize) -> Result<(), Error>
         ensures { Does (measure_bytes code len self.old) result self.new }
     {
@@ -197,7 +197,7 @@ impl Measure {
         self.put_variable(code, text.len())
     }
 
-    /// Null has no data, so it is no item of an array (Part 1, section 1.2.4).
+    /// Measures null. It has no data, so it can't be an item of an array (Part 1, section 1.2.4).
     pub(crate) fn put_null(&mut self) -> Result<(), Error>
         ensures { Does (measure_null_at self.old.frame.place self.old) result self.new }
     {
@@ -207,7 +207,7 @@ impl Measure {
         }
     }
 
-    /// The bytes of a term, which nests so deep. They bring a constructor of their own.
+    /// Measures the bytes of a term, which nests so deep. They have a constructor of their own.
     pub(crate) fn keep(&mut self, len: usize, nesting: usize) -> Result<(), Error>
         ensures { Does (measure_keep len nesting self.old) result self.new }
     {
@@ -222,7 +222,7 @@ impl Measure {
         }
     }
 
-    /// A value begins within the open one, by a call that may take memory.
+    /// Begins a value within the open one, in a call that may allocate.
     fn open(&mut self, frame: MeasuredContainer) -> Result<(), Error>
         requires { length self.old.outer < 129 }
         ensures opened { OnOk result (self.new ≡ record {
@@ -239,7 +239,7 @@ impl Measure {
         Ok(())
     }
 
-    /// A described value begins within the open one, by a call that takes no memory.
+    /// Begins a described value within the open one, in a call that doesn't allocate.
     fn open_described(&mut self, content: usize, form: usize)
         requires levels { length self.old.outer < 129 }
         requires unfilled { is_full self.old.frame ≡ false }
@@ -335,7 +335,7 @@ impl Measure {
         }
     }
 
-    /// A described value begins as the first item of an array: its descriptor is kept, for those of the items after it.
+    /// Begins a described value as the first item of an array. Its descriptor is kept, for those of the items after it.
     #[inline(never)]
     fn begin_first_item(&mut self, descriptor: &Descriptor, len: usize) -> Result<(), Error>
         requires levels { length self.old.outer < 129 }
@@ -350,7 +350,7 @@ impl Measure {
         self.open(self.top.of_described(len, form))
     }
 
-    /// One begins as a later item of an array, with the descriptor that the first has.
+    /// Begins a described value as a later item of an array, with the descriptor that the first has.
     #[inline(never)]
     fn begin_later_item(&mut self, descriptor: &Descriptor) -> Result<(), Error>
         requires levels { length self.old.outer < 129 }
@@ -364,7 +364,7 @@ impl Measure {
         Ok(())
     }
 
-    /// Where the constructor goes on behind these bytes, which it must have.
+    /// Returns where the constructor goes on after these bytes, which it must have.
     #[tactic(auto, using(std::proofs::lemmas::List::take_rest, std::proofs::lemmas::List::drop_min))]
     fn form_after(&self, head: &[u8], text: &[u8]) -> Result<usize, Error>
         ensures { result ≡ form_after (head.now ++ text.now) self.now }
@@ -389,7 +389,7 @@ impl Measure {
     }
 }
 
-/// Whether bytes begin with these and those.
+/// Returns whether bytes begin with `head` and then `text`.
 #[tactic(auto, using(crate::proofs::Texts::goes_on_true, crate::proofs::Texts::goes_on_first, crate::proofs::Texts::goes_on_second))]
 fn goes_on(bytes: &[u8], head: &[u8], text: &[u8]) -> bool
     ensures value { result ≡ pointwise nat_eq (take (length (head.now ++ text.now)) bytes.now) (head.now ++ text.now) }

@@ -1,4 +1,4 @@
-//! Where a value stands, and what is open around it (Part 1, sections 1.2 and 1.6).
+//! Where a value is, and what is open around it (Part 1, sections 1.2 and 1.6).
 ghost use Rattle.std.specs.Prelude.{◌≡◌, ◌≤◌, ℕ, List, length, Some};
 ghost use Rattle.amqp_model.specs.Term.{list, uint, ulong, int, long};
 ghost use Rattle.amqp_model.specs.Text.{next, wide, shortest, spell, short_code, wide_code, first_place};
@@ -9,8 +9,8 @@ ghost use Rattle.amqp_encoder.specs.Measuring.{around, is_none, is_odd_map, hold
 use amqp_wire::nesting::NESTING;
 use amqp_wire::{Container, format_code};
 
-/// Where a value stands: by itself, or as the first item of an array, which brings the constructor of
-/// all, or as a later one, which is data alone (Part 1, section 1.2.4).
+/// Where a value is. It is by itself; or the first item of an array, with the constructor of all items; or a later item, which is data
+/// alone (Part 1, section 1.2.4).
 #[derive(Clone, Copy)]
 pub(crate) enum Place {
     Alone,
@@ -19,7 +19,7 @@ pub(crate) enum Place {
 }
 
 impl Place {
-    /// Where the value after this one stands.
+    /// Returns where the value after this one is.
     pub(crate) fn next(self) -> Place
         ensures { place_of result ≡ next (place_of self) }
     {
@@ -30,7 +30,7 @@ impl Place {
     }
 }
 
-/// The container is a list.
+/// Returns whether the container is a list.
 pub(crate) fn is_list(container: Container) -> bool
     ensures { result ≡ holds (Some list) (container_of container) }
 {
@@ -40,7 +40,7 @@ pub(crate) fn is_list(container: Container) -> bool
     }
 }
 
-/// The code with one byte for the size.
+/// Returns the code with one byte for the size.
 pub(crate) fn short_code(container: Container) -> u8
     ensures { result ≡ short_code (container_of container) }
 {
@@ -51,7 +51,7 @@ pub(crate) fn short_code(container: Container) -> u8
     }
 }
 
-/// The code with four bytes for the size.
+/// Returns the code with four bytes for the size.
 pub(crate) fn wide_code(container: Container) -> u8
     ensures { result ≡ wide_code (container_of container) }
 {
@@ -62,7 +62,7 @@ pub(crate) fn wide_code(container: Container) -> u8
     }
 }
 
-/// Where the first item of the container stands.
+/// Returns where the first item of the container is.
 pub(crate) fn first_place(container: Container) -> Place
     ensures { place_of result ≡ first_place (container_of container) }
 {
@@ -72,7 +72,7 @@ pub(crate) fn first_place(container: Container) -> Place
     }
 }
 
-/// A map has a value for each key (Part 1, section 1.6.23).
+/// Returns whether it is a map with a key without a value (Part 1, section 1.6.23).
 pub(crate) fn is_odd(container: Container, count: usize) -> bool
     ensures { result ≡ is_odd_map (container_of container) count }
 {
@@ -82,8 +82,8 @@ pub(crate) fn is_odd(container: Container, count: usize) -> bool
     }
 }
 
-/// How many containers may be open around it. An array counts in nesting once an item does, so it may
-/// stand one deeper.
+/// Returns how many containers may be open around it. An array counts in nesting if one of its items is no primitive, so an array of
+/// primitives may be one deeper.
 pub(crate) fn around(container: Container) -> usize
     ensures same { result ≡ around (container_of container) }
     ensures within { result ≤ NESTING }
@@ -123,8 +123,7 @@ impl Opened {
     }
 }
 
-/// How a primitive is written where it stands by itself: a code alone, a code and a byte, or as it is
-/// written in an array.
+/// How a primitive is written by itself: a code alone, a code and a byte, or as in an array.
 #[derive(Clone, Copy)]
 pub(crate) enum Shortest {
     Code(u8),
@@ -177,7 +176,7 @@ impl Shortest {
         Shortest::Wide
     }
 
-    /// How many bytes it takes, where it takes so many in an array.
+    /// Returns how many bytes it takes, if it takes `wide` bytes in an array.
     pub(crate) fn len(self, wide: usize) -> usize
         ensures { (bytes : List ℕ) → length bytes ≡ wide → length (shortest_text self bytes) ≡ result }
     {

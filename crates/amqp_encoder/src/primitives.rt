@@ -10,7 +10,7 @@ use crate::places::Shortest;
 use amqp_wire::{Error, format_code};
 
 impl Encoder {
-    /// A boolean (Part 1, section 1.6.2).
+    /// Writes a boolean (Part 1, section 1.6.2).
     #[inline(always)]
     pub fn write_bool(&mut self, value: bool) -> Result<(), Error>
         ensures { Writes self.old (put (boolean value) ∷ []) result self.new }
@@ -28,7 +28,7 @@ impl Encoder {
         }
     }
 
-    /// An unsigned integer of 8 bits (Part 1, section 1.6.3).
+    /// Writes an unsigned integer of 8 bits (Part 1, section 1.6.3).
     #[inline(always)]
     pub fn write_ubyte(&mut self, value: u8) -> Result<(), Error>
         ensures { Writes self.old (put (ubyte value) ∷ []) result self.new }
@@ -36,7 +36,7 @@ impl Encoder {
         self.put(Shortest::Wide, [format_code::UBYTE, value])
     }
 
-    /// An unsigned integer of 16 bits (Part 1, section 1.6.4).
+    /// Writes an unsigned integer of 16 bits (Part 1, section 1.6.4).
     #[inline(always)]
     pub fn write_ushort(&mut self, value: u16) -> Result<(), Error>
         ensures { Writes self.old (put (ushort value) ∷ []) result self.new }
@@ -45,7 +45,7 @@ impl Encoder {
         self.put(Shortest::Wide, [format_code::USHORT, a, b])
     }
 
-    /// An unsigned integer of 32 bits (Part 1, section 1.6.5).
+    /// Writes an unsigned integer of 32 bits (Part 1, section 1.6.5).
     #[inline(always)]
     pub fn write_uint(&mut self, value: u32) -> Result<(), Error>
         ensures { Writes self.old (put (uint value) ∷ []) result self.new }
@@ -55,7 +55,7 @@ impl Encoder {
         self.put(shortest, [format_code::UINT, a, b, c, d])
     }
 
-    /// An unsigned integer of 64 bits (Part 1, section 1.6.6).
+    /// Writes an unsigned integer of 64 bits (Part 1, section 1.6.6).
     #[inline(always)]
     pub fn write_ulong(&mut self, value: u64) -> Result<(), Error>
         ensures { Writes self.old (put (ulong value) ∷ []) result self.new }
@@ -65,7 +65,7 @@ impl Encoder {
         self.put(shortest, [format_code::ULONG, a, b, c, d, e, f, g, h])
     }
 
-    /// A signed integer of 8 bits (Part 1, section 1.6.7).
+    /// Writes a signed integer of 8 bits (Part 1, section 1.6.7).
     #[inline(always)]
     pub fn write_byte(&mut self, value: i8) -> Result<(), Error>
         ensures { Writes self.old (put (byte value) ∷ []) result self.new }
@@ -74,7 +74,7 @@ impl Encoder {
         self.put(Shortest::Wide, [format_code::BYTE, a])
     }
 
-    /// A signed integer of 16 bits (Part 1, section 1.6.8).
+    /// Writes a signed integer of 16 bits (Part 1, section 1.6.8).
     #[inline(always)]
     pub fn write_short(&mut self, value: i16) -> Result<(), Error>
         ensures { Writes self.old (put (short value) ∷ []) result self.new }
@@ -83,7 +83,7 @@ impl Encoder {
         self.put(Shortest::Wide, [format_code::SHORT, a, b])
     }
 
-    /// A signed integer of 32 bits (Part 1, section 1.6.9).
+    /// Writes a signed integer of 32 bits (Part 1, section 1.6.9).
     #[inline(always)]
     pub fn write_int(&mut self, value: i32) -> Result<(), Error>
         ensures { Writes self.old (put (int value) ∷ []) result self.new }
@@ -93,7 +93,7 @@ impl Encoder {
         self.put(shortest, [format_code::INT, a, b, c, d])
     }
 
-    /// A signed integer of 64 bits (Part 1, section 1.6.10).
+    /// Writes a signed integer of 64 bits (Part 1, section 1.6.10).
     #[inline(always)]
     pub fn write_long(&mut self, value: i64) -> Result<(), Error>
         ensures { Writes self.old (put (long value) ∷ []) result self.new }
@@ -103,7 +103,7 @@ impl Encoder {
         self.put(shortest, [format_code::LONG, a, b, c, d, e, f, g, h])
     }
 
-    /// A decimal number of 32 bits, as its bytes (Part 1, section 1.6.13).
+    /// Writes a decimal number of 32 bits, as its bytes (Part 1, section 1.6.13).
     pub fn write_dec32(&mut self, value: [u8; 4]) -> Result<(), Error>
         ensures { Writes self.old (put (decimal32 value) ∷ []) result self.new }
     {
@@ -112,7 +112,7 @@ impl Encoder {
         self.put(Shortest::Wide, wide)
     }
 
-    /// A decimal number of 64 bits, as its bytes (Part 1, section 1.6.14).
+    /// Writes a decimal number of 64 bits, as its bytes (Part 1, section 1.6.14).
     pub fn write_dec64(&mut self, value: [u8; 8]) -> Result<(), Error>
         ensures { Writes self.old (put (decimal64 value) ∷ []) result self.new }
     {
@@ -121,7 +121,7 @@ impl Encoder {
         self.put(Shortest::Wide, wide)
     }
 
-    /// A decimal number of 128 bits, as its bytes (Part 1, section 1.6.15).
+    /// Writes a decimal number of 128 bits, as its bytes (Part 1, section 1.6.15).
     pub fn write_dec128(&mut self, value: [u8; 16]) -> Result<(), Error>
         ensures { Writes self.old (put (decimal128 value) ∷ []) result self.new }
     {
@@ -130,7 +130,7 @@ impl Encoder {
         self.put(Shortest::Wide, wide)
     }
 
-    /// A Unicode character (Part 1, section 1.6.16).
+    /// Writes a Unicode character (Part 1, section 1.6.16).
     #[inline(always)]
     pub fn write_char(&mut self, value: char) -> Result<(), Error>
         ensures { Writes self.old (put (char value) ∷ []) result self.new }
@@ -139,7 +139,7 @@ impl Encoder {
         self.put(Shortest::Wide, [format_code::CHAR, a, b, c, d])
     }
 
-    /// A point in time, in milliseconds since 1970 (Part 1, section 1.6.17).
+    /// Writes a point in time, in milliseconds since 1970 (Part 1, section 1.6.17).
     #[inline(always)]
     pub fn write_timestamp(&mut self, value: i64) -> Result<(), Error>
         ensures { Writes self.old (put (timestamp value) ∷ []) result self.new }
@@ -151,7 +151,7 @@ impl Encoder {
         )
     }
 
-    /// A universally unique identifier, as its bytes (Part 1, section 1.6.18).
+    /// Writes a universally unique identifier, as its bytes (Part 1, section 1.6.18).
     pub fn write_uuid(&mut self, value: [u8; 16]) -> Result<(), Error>
         ensures { Writes self.old (put (uuid value) ∷ []) result self.new }
     {
@@ -160,14 +160,14 @@ impl Encoder {
         self.put(Shortest::Wide, wide)
     }
 
-    /// Bytes (Part 1, section 1.6.19).
+    /// Writes bytes (Part 1, section 1.6.19).
     pub fn write_binary(&mut self, value: &[u8]) -> Result<(), Error>
         ensures { Writes self.old (put (binary value.now) ∷ []) result self.new }
     {
         self.put_bytes(format_code::BINARY_8, format_code::BINARY_32, value)
     }
 
-    /// A text (Part 1, section 1.6.20).
+    /// Writes a text (Part 1, section 1.6.20).
     pub fn write_string(&mut self, value: &str) -> Result<(), Error>
         ensures { Writes self.old (put (string value.now) ∷ []) result self.new }
     {

@@ -11,10 +11,10 @@ pub(crate) struct Size {
     pub(crate) count: u32,
 }
 
-/// The most content of a container: its size counts four bytes for the count too.
+/// The greatest content of a container: its size counts four bytes for the count too.
 pub(crate) const MAX_CONTENT: u32 = 0xffff_fffb;
 
-/// So many sizes take no memory.
+/// How many sizes are kept without allocating.
 const FIRST: usize = 8;
 
 /// The sizes of containers, in the order in which they begin.

@@ -101,7 +101,7 @@ pub(crate) fn write(steps: &[Step<'_>], encoder: &mut Encoder, alloc: Global) ->
     Ok(())
 }
 
-/// What a measuring pass over the steps answers.
+/// Returns what a measuring pass over the steps returns.
 pub(crate) fn measure(
     steps: &[Step<'_>],
     encoder: &mut Encoder,
@@ -111,7 +111,7 @@ pub(crate) fn measure(
     measured_len(encoder)
 }
 
-/// Puts the bytes of the steps behind those that a buffer has. After a refusal the buffer has these alone.
+/// Appends the bytes of the steps to those of a buffer. After an error the buffer has only its old bytes.
 pub(crate) fn append(steps: &[Step<'_>], buffer: &mut Vec<u8>, alloc: Global) -> Result<(), Error> {
     let mut encoder = measuring_encoder(alloc);
     let len = measure(steps, &mut encoder, alloc)?;

@@ -14,7 +14,7 @@ fn digits(steps: &[Step<'_>], alloc: Global) -> Result<String, Fail> {
 /// Steps, and the digits of what they write.
 type Rows<'a> = &'a [(&'a [Step<'a>], &'a str)];
 
-/// Each row is written so.
+/// Checks that each row is written so.
 fn check(rows: Rows<'_>, alloc: Global) -> Result<(), Fail> {
     for (steps, wanted) in rows {
         let written = digits(steps, alloc)?;
@@ -28,7 +28,7 @@ fn check(rows: Rows<'_>, alloc: Global) -> Result<(), Fail> {
 /// Steps, and why they are refused.
 type Refusals<'a> = &'a [(&'a [Step<'a>], Error)];
 
-/// Whether the steps are refused so, and leave a buffer as it was.
+/// Returns whether the steps are refused so, and leave a buffer unchanged.
 fn is_refused_whole(steps: &[Step<'_>], error: Error, alloc: Global) -> Result<bool, Fail> {
     let mut buffer = [0xaa, 0xbb].to_vec(alloc)?;
     let outcome = append(steps, &mut buffer, alloc);
@@ -39,7 +39,7 @@ fn is_refused_whole(steps: &[Step<'_>], error: Error, alloc: Global) -> Result<b
     )
 }
 
-/// Each row is refused so.
+/// Checks that each row is refused so.
 fn check_refusals(rows: Refusals<'_>, alloc: Global) -> Result<(), Fail> {
     for (steps, error) in rows {
         if !is_refused_whole(steps, *error, alloc)? {
@@ -49,7 +49,7 @@ fn check_refusals(rows: Refusals<'_>, alloc: Global) -> Result<(), Fail> {
     Ok(())
 }
 
-/// So many of a step, these steps, and so many of another.
+/// Returns so many of a step, these steps, and so many of another.
 fn nested<'a>(
     count: u32,
     begin: Step<'a>,
@@ -215,10 +215,10 @@ fn every_primitive_kind(rt: HostRuntime) -> Result<(), Fail> {
     )
 }
 
-/// Steps, the digits with which what they write begins, and how many bytes it has.
+/// Steps, the digits at the start of what they write, and how many bytes they write.
 type Fronts<'a> = &'a [(&'a [Step<'a>], &'a str, usize)];
 
-/// What each row writes begins so, and is so long.
+/// Checks that what each row writes begins so, and has this length.
 fn check_fronts(rows: Fronts<'_>, alloc: Global) -> Result<(), Fail> {
     for (steps, front, whole) in rows {
         let written = digits(steps, alloc)?;
@@ -355,7 +355,7 @@ fn refused_calls(rt: HostRuntime) -> Result<(), Fail> {
     )
 }
 
-/// Whether these steps are written in 128 values that so begin and end, and refused in one more.
+/// Returns whether these steps are written in 128 values that begin and end so, and refused in one more.
 fn is_bounded<'a>(
     begin: Step<'a>,
     inner: &[Step<'a>],
@@ -380,7 +380,7 @@ fn nesting(rt: HostRuntime) -> Result<(), Fail> {
     Ok(())
 }
 
-/// Whether the encoder answers this error to each step.
+/// Returns whether the encoder returns this error for each step.
 fn is_refused(steps: &[Step<'_>], error: Error, encoder: &mut Encoder, alloc: Global) -> bool {
     for step in steps {
         if take_step(*step, encoder, alloc) != Err(error) {
@@ -397,7 +397,7 @@ fn the_same_error_again(rt: HostRuntime) {
     assert!(rt; is_refused(&steps, Error::InvalidValue, &mut encoder, rt.alloc()));
 }
 
-/// Whether the list that is measured is ended, and how long it is.
+/// Returns whether the list that is measured is ended, and how long it is.
 fn measured_list(
     count: u32,
     item: &[u8],
@@ -436,7 +436,7 @@ fn a_room_that_is_too_small(rt: HostRuntime) -> Result<(), Fail> {
     Ok(())
 }
 
-/// Whether the steps are written so behind two bytes of a buffer, or refused for want of memory alone, which leaves it.
+/// Returns whether the steps are written so after two bytes of a buffer, or refused with `Memory`, which leaves the buffer unchanged.
 fn is_written_or_left(
     steps: &[Step<'_>],
     text: &[u8],

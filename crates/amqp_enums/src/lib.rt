@@ -1,4 +1,4 @@
-//! Types that are one of several: sums of composites, and restricted numbers and texts, each by one reader and one writer.
+//! Types that are one of several: sums of composites, and restricted numbers and texts, with one reader and one writer for each.
 #![tactic(auto)]
 
 pub mod restricted;

@@ -15,7 +15,7 @@ use amqp_encoder::Encoder;
 use amqp_wire::{ByteSource, Error, Symbol};
 use std::alloc::Global;
 
-/// A primitive type, some numbers of which are those of a restricted type.
+/// A primitive type, some of whose numbers are those of a restricted type.
 pub trait Base: Sized + Drop {
     ghost use Rattle.amqp_codec.specs.PrimitiveTypes.{Base};
 
@@ -80,7 +80,7 @@ impl Base for u32 {
     }
 }
 
-/// A type each value of which is a number of its own.
+/// A type with a number for each value.
 pub trait RestrictedNumber: Sized + Drop {
     ghost use Rattle.std.specs.Prelude.{MatchOption};
 
@@ -90,16 +90,16 @@ pub trait RestrictedNumber: Sized + Drop {
     // The table: the number of each value.
     ghost numbers: { Self → Self.Number };
 
-    /// The value's number.
+    /// Returns the value's number.
     fn number(&self) -> Self::Number
         ensures { result ≡ numbers self.now };
 
-    /// The value that has this number.
+    /// Returns the value that has this number.
     fn from_number(number: Self::Number) -> Option<Self>
         ensures { MatchOption result (IsUnknown numbers number) (λ value. numbers value ≡ number) };
 }
 
-/// Reads a value by its number. Takes no memory. Any other number of the primitive type is `UnknownNumber`.
+/// Reads a value by its number. It doesn't allocate. Any other number of the primitive type is refused with `UnknownNumber`.
 pub fn read_number<T: RestrictedNumber, R: ByteSource>(decoder: &mut Decoder<R>) -> Result<T, Error>
     ensures read { Tells R.remaining → ReadsRestricted T.Number.base UnknownNumber T.numbers false decoder.old result decoder.new }
     ensures tries { Tries false decoder.old result decoder.new }
@@ -118,23 +118,23 @@ pub fn write_number<T: RestrictedNumber>(value: &T, encoder: &mut Encoder) -> Re
     value.number().write(encoder)
 }
 
-/// A type each value of which is a text of its own.
+/// A type with a text for each value.
 pub trait RestrictedText: Sized + Drop {
     ghost use Rattle.std.specs.Prelude.{MatchOption, ℕ, List};
 
     // The table: the text of each value.
     ghost texts: { Self → List ℕ };
 
-    /// The value's text.
+    /// Returns the value's text.
     fn text(&self) -> &'static str
         ensures { result.now ≡ texts self.now };
 
-    /// The value that has this text.
+    /// Returns the value that has this text.
     fn from_text(text: &str) -> Option<Self>
         ensures { MatchOption result (IsUnknown texts text.now) (λ value. texts value ≡ text.now) };
 }
 
-/// Reads a value by its text, for which it takes memory. Any other symbol is `UnknownText`.
+/// Reads a value by its text, for which it allocates. Any other symbol is refused with `UnknownText`.
 pub fn read_text<T: RestrictedText, R: ByteSource>(
     decoder: &mut Decoder<R>,
     alloc: Global,
@@ -156,7 +156,7 @@ pub fn write_text<T: RestrictedText>(value: &T, encoder: &mut Encoder) -> Result
     encoder.write_symbol(value.text())
 }
 
-/// The value's text as a symbol. The only error is `Memory`.
+/// Returns the value's text as a symbol. The only error is `Memory`.
 pub fn symbol_of<T: RestrictedText>(value: &T, alloc: Global) -> Result<Symbol, Error>
     ensures text { IfOk result (λ symbol. string_bytes symbol.0 ≡ T.texts value.now) }
     ensures refused { IfErr result (λ e. e ≡ Memory) }
@@ -164,7 +164,7 @@ pub fn symbol_of<T: RestrictedText>(value: &T, alloc: Global) -> Result<Symbol, 
     Ok(String::from_str(alloc, value.text())?.into())
 }
 
-/// The value that has this text, or the symbol again.
+/// Returns the value that has this text. A symbol with any other text is returned as the error.
 pub fn from_symbol<T: RestrictedText>(symbol: Symbol) -> Result<T, Symbol>
     ensures { Converts T.texts (string_bytes symbol.0) symbol result }
 {

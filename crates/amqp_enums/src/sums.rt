@@ -1,5 +1,5 @@
-//! Sums of composites, each read as the member whose descriptor stands there (Part 1, section 1.4). A sum is one list of
-//! its members, `Choices` in `specs/Choices.antt`; what is read at a place of it is made by that member's constructor.
+//! Sums of composites, each read as the member whose descriptor comes next (Part 1, section 1.4). A sum is one list of its members,
+//! `Choices` in `specs/Choices.antt`. What is read at a place of it is made by that member's constructor.
 ghost use Rattle.std.specs.Prelude.{◌≡◌, ◌<◌, length, map};
 ghost use Rattle.amqp_model.specs.Items.{is_null};
 ghost use Rattle.amqp_wire.specs.Sources.{Tells};
@@ -25,7 +25,7 @@ pub trait Sum: Sized + Drop {
 
     ghost sum: { SumOf Self };
 
-    /// The codes and names of the members, in order.
+    /// Returns the codes and names of the members, in order.
     fn descriptors() -> &'static [(u64, &'static str)]
         ensures { map as_name result.now ≡ names_of sum.choices };
 
@@ -54,7 +54,7 @@ pub fn read_sum<S: Sum, R: ByteSource>(decoder: &mut Decoder<R>, alloc: Global) 
     Ok(value)
 }
 
-/// Reads the fields of a member of a sum, and makes it the sum's.
+/// Reads the fields of a member of a sum, and converts it to the sum.
 pub fn read_as<C: Composite, S: From<C> + Drop, R: ByteSource>(
     decoder: &mut Decoder<R>,
     alloc: Global,
@@ -68,8 +68,7 @@ pub fn read_as<C: Composite, S: From<C> + Drop, R: ByteSource>(
     Ok(S::from(member))
 }
 
-/// Writes the member that a sum of composites holds, which is how the sum is written. It is refused as its member is, by the
-/// encoder's errors.
+/// Writes the member that a sum of composites holds, which is how the sum is written. It returns the encoder's errors for the member.
 pub fn write_as<S: Sum, C: SerializeTerm>(
     _sum: &S,
     member: &C,
@@ -81,7 +80,7 @@ pub fn write_as<S: Sum, C: SerializeTerm>(
     member.serialize(encoder)
 }
 
-/// Whether a sum of composites is null, which it never is.
+/// Returns whether a sum of composites is null, which it never is.
 pub fn is_null_sum<S: Sum>(_value: &S) -> bool
     ensures { result ≡ is_null (canon_of (sum_writing S.sum) _value.now) }
 {

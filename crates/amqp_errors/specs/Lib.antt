@@ -1,3 +1,4 @@
+pub mod FieldsType
 pub mod TextTable
 pub mod NormalType
 pub mod Texts

@@ -17,11 +17,11 @@ use std::alloc::Global;
 /// An error that isn't of one kind of endpoint alone.
 #[derive(Clone, Debug, PartialEq, Eq, Hash, Drop)]
 pub enum AmqpError {
-    /// Something failed inside, which an operator may have to mend: `amqp:internal-error`.
+    /// An internal error occurred, and an operator may have to intervene: `amqp:internal-error`.
     InternalError,
-    /// What the peer wants to work with isn't there: `amqp:not-found`.
+    /// The peer tried to use something that doesn't exist: `amqp:not-found`.
     NotFound,
-    /// The peer may not work with it: `amqp:unauthorized-access`.
+    /// The peer tried to use something that it may not access: `amqp:unauthorized-access`.
     UnauthorizedAccess,
     /// Data couldn't be decoded: `amqp:decode-error`.
     DecodeError,
@@ -33,11 +33,11 @@ pub enum AmqpError {
     InvalidField,
     /// What the peer asked for isn't implemented: `amqp:not-implemented`.
     NotImplemented,
-    /// Another client works with what the client wants: `amqp:resource-locked`.
+    /// The client tried to use something that another client is using: `amqp:resource-locked`.
     ResourceLocked,
     /// A precondition of the request didn't hold: `amqp:precondition-failed`.
     PreconditionFailed,
-    /// What the client works with was deleted: `amqp:resource-deleted`.
+    /// Something that the client is using was deleted: `amqp:resource-deleted`.
     ResourceDeleted,
     /// A frame was sent that isn't permitted in the current state: `amqp:illegal-state`.
     IllegalState,
@@ -46,7 +46,7 @@ pub enum AmqpError {
 }
 
 impl AmqpError {
-    /// The text. Takes no memory.
+    /// Returns the text. It doesn't allocate.
     pub fn as_str(&self) -> &'static str
         ensures { result.now ≡ amqp_error_texts self.now }
     {
@@ -67,7 +67,7 @@ impl AmqpError {
         }
     }
 
-    /// The text as a symbol. The only error is `Memory`.
+    /// Returns the text as a symbol. The only error is `Memory`.
     pub fn to_symbol(&self, alloc: Global) -> Result<Symbol, Error>
         ensures text { IfOk result (λ symbol. string_bytes symbol.0 ≡ amqp_error_texts self.now) }
         ensures refused { IfErr result (λ e. e ≡ Memory) }
@@ -76,7 +76,7 @@ impl AmqpError {
     }
 }
 
-/// Gives any other text back.
+/// Returns any other text as the error.
 impl<'a> TryFrom<&'a str> for AmqpError {
     type Error = &'a str;
 
@@ -102,7 +102,7 @@ impl<'a> TryFrom<&'a str> for AmqpError {
     }
 }
 
-/// Gives any other symbol back.
+/// Returns any other symbol as the error.
 impl TryFrom<Symbol> for AmqpError {
     type Error = Symbol;
 

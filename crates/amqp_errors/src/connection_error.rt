@@ -19,14 +19,14 @@ use std::alloc::Global;
 pub enum ConnectionError {
     /// An operator has closed it: `amqp:connection:forced`.
     ConnectionForced,
-    /// No valid frame was found in the bytes that came in: `amqp:connection:framing-error`.
+    /// No valid frame was found in the incoming bytes: `amqp:connection:framing-error`.
     FramingError,
-    /// The peer is to connect to another place, which the error's information names: `amqp:connection:redirect`.
+    /// The peer is to connect elsewhere, as the error's information says: `amqp:connection:redirect`.
     Redirect,
 }
 
 impl ConnectionError {
-    /// The text. Takes no memory.
+    /// Returns the text. It doesn't allocate.
     pub fn as_str(&self) -> &'static str
         ensures { result.now ≡ connection_error_texts self.now }
     {
@@ -37,7 +37,7 @@ impl ConnectionError {
         }
     }
 
-    /// The text as a symbol. The only error is `Memory`.
+    /// Returns the text as a symbol. The only error is `Memory`.
     pub fn to_symbol(&self, alloc: Global) -> Result<Symbol, Error>
         ensures text { IfOk result (λ symbol. string_bytes symbol.0 ≡ connection_error_texts self.now) }
         ensures refused { IfErr result (λ e. e ≡ Memory) }
@@ -46,7 +46,7 @@ impl ConnectionError {
     }
 }
 
-/// Gives any other text back.
+/// Returns any other text as the error.
 impl<'a> TryFrom<&'a str> for ConnectionError {
     type Error = &'a str;
 
@@ -62,7 +62,7 @@ impl<'a> TryFrom<&'a str> for ConnectionError {
     }
 }
 
-/// Gives any other symbol back.
+/// Returns any other symbol as the error.
 impl TryFrom<Symbol> for ConnectionError {
     type Error = Symbol;
 

@@ -5,14 +5,13 @@ ghost use Rattle.amqp_enums.specs.Types.{composite, one_term, refl, agreement, w
 ghost use Rattle.amqp_errors.specs.Tables.{alone, error};
 
 use crate::{
-    AmqpError, ConnectionError, ErrorCondition, LinkError, SessionError, TransactionError,
+    AmqpError, ConnectionError, ErrorCondition, Fields, LinkError, SessionError, TransactionError,
 };
 use amqp_codec::kernel::{
     Composite, CompositeTerm, FieldRule, Table, read_into, read_some, value_in_type,
     write_composite,
 };
 use amqp_codec::{ByteSource, Decoder, Encoder, Error as CodecError, Serialize, SerializeTerm};
-use amqp_fields::Fields;
 use std::alloc::Global;
 
 /// What went wrong.
@@ -20,9 +19,9 @@ use std::alloc::Global;
 pub struct Error {
     /// Which error it is.
     pub condition: ErrorCondition,
-    /// What a person may read of it.
+    /// A description of it, for a person to read.
     pub description: Option<String>,
-    /// What else is known of it.
+    /// Further information about it.
     pub info: Option<Box<Fields>>,
 }
 
@@ -30,8 +29,8 @@ impl Error {
     /// The code and the name of its descriptor.
     pub const DESCRIPTOR: (u64, &'static str) = (0x1d, "amqp:error:list");
 
-    /// An error of this condition, with what may be read of it and what else is known. The only error is `Memory`: the
-    /// information is boxed.
+    /// Returns an error with this condition, this description and this information. The only error of the call is `Memory`: the information
+    /// is boxed.
     pub fn new(
         condition: ErrorCondition,
         description: Option<String>,
@@ -55,7 +54,7 @@ impl Error {
     }
 }
 
-/// An error that says its condition alone.
+/// Makes the error with this condition alone.
 impl From<ErrorCondition> for Error {
     ghost from_gives = { λ condition error. error ≡ alone condition };
 

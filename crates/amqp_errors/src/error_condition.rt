@@ -9,8 +9,8 @@ use amqp_codec::{
 };
 use std::alloc::Global;
 
-/// What went wrong: a listed error, or one of an extension's own. A symbol is read as the listed error whose text it is, and else as
-/// `Custom`; so a `Custom` of a listed text is read back as the listed error.
+/// What went wrong: a listed error, or an extension's own. A symbol is read as the listed error whose text it is, and otherwise as
+/// `Custom`. So a `Custom` with the text of a listed error is read back as the listed error.
 #[derive(Clone, Debug, PartialEq, Eq, Drop)]
 pub enum ErrorCondition {
     /// An error that isn't of one kind of endpoint alone.

@@ -1,4 +1,4 @@
-//! What holds of error conditions beyond the laws of every type. The functions do nothing; their contracts are proved.
+//! What holds for error conditions in addition to the laws of every type. The functions do nothing; their contracts are proved.
 ghost use Rattle.std.specs.Prelude.{◌≡◌, true, string_bytes};
 ghost use Rattle.amqp_wire.specs.declared.symbol.Symbol.{Symbol};
 ghost use Rattle.amqp_errors.specs.Texts.{amqp_error_texts, connection_error_texts, session_error_texts};
@@ -11,7 +11,8 @@ use crate::{
 };
 use amqp_codec::Canonical;
 
-/// A `Custom` of a listed text stands for the listed error, as which it is read back; a `Custom` of any other text for itself.
+/// The normal form of a `Custom` with the text of a listed error is that error, as which it is read back. A `Custom` with any other text is
+/// its own normal form.
 pub fn normal_conditions()
     ensures amqp_errors { (s : Symbol) (e : _) → string_bytes s.0 ≡ amqp_error_texts e
         → norm_condition (condition.Custom s) ≡ condition.AmqpError e }
@@ -26,7 +27,7 @@ pub fn normal_conditions()
     ensures others { (s : Symbol) → IsUnlisted (string_bytes s.0) → norm_condition (condition.Custom s) ≡ condition.Custom s }
 {}
 
-/// Every other condition stands for itself.
+/// Every other condition is its own normal form.
 pub fn listed_conditions_are_normal()
     ensures amqp_errors { (e : _) → norm_condition (condition.AmqpError e) ≡ condition.AmqpError e }
     ensures connection_errors { (e : _) → norm_condition (condition.ConnectionError e) ≡ condition.ConnectionError e }
@@ -35,12 +36,12 @@ pub fn listed_conditions_are_normal()
     ensures transaction_errors { (e : _) → norm_condition (condition.TransactionError e) ≡ condition.TransactionError e }
 {}
 
-/// The canonical text of a condition is read again as the condition that it stands for.
+/// The canonical text of a condition is read again as the condition's normal form.
 pub fn conditions_are_read_again()
     ensures again { (v : _) → ⟦<ErrorCondition as Canonical>⟧.again v ≡ norm_condition v }
 {}
 
-/// No spelling of a value of these is shorter than its canonical text, if it holds no array.
+/// For these types, no encoding of a value is shorter than its canonical text, if it holds no array.
 pub fn texts_are_least()
     ensures amqp_error { ⟦<AmqpError as Canonical>⟧.is_least ≡ true }
     ensures connection_error { ⟦<ConnectionError as Canonical>⟧.is_least ≡ true }

@@ -23,14 +23,14 @@ pub enum LinkError {
     TransferLimitExceeded,
     /// The peer has sent a larger message than the link allows: `amqp:link:message-size-exceeded`.
     MessageSizeExceeded,
-    /// The peer is to attach to another address, which the error's information names: `amqp:link:redirect`.
+    /// The peer is to attach to another address, as the error's information says: `amqp:link:redirect`.
     Redirect,
     /// The link was attached elsewhere: `amqp:link:stolen`.
     Stolen,
 }
 
 impl LinkError {
-    /// The text. Takes no memory.
+    /// Returns the text. It doesn't allocate.
     pub fn as_str(&self) -> &'static str
         ensures { result.now ≡ link_error_texts self.now }
     {
@@ -43,7 +43,7 @@ impl LinkError {
         }
     }
 
-    /// The text as a symbol. The only error is `Memory`.
+    /// Returns the text as a symbol. The only error is `Memory`.
     pub fn to_symbol(&self, alloc: Global) -> Result<Symbol, Error>
         ensures text { IfOk result (λ symbol. string_bytes symbol.0 ≡ link_error_texts self.now) }
         ensures refused { IfErr result (λ e. e ≡ Memory) }
@@ -52,7 +52,7 @@ impl LinkError {
     }
 }
 
-/// Gives any other text back.
+/// Returns any other text as the error.
 impl<'a> TryFrom<&'a str> for LinkError {
     type Error = &'a str;
 
@@ -70,7 +70,7 @@ impl<'a> TryFrom<&'a str> for LinkError {
     }
 }
 
-/// Gives any other symbol back.
+/// Returns any other symbol as the error.
 impl TryFrom<Symbol> for LinkError {
     type Error = Symbol;
 

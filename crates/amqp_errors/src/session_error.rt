@@ -28,7 +28,7 @@ pub enum SessionError {
 }
 
 impl SessionError {
-    /// The text. Takes no memory.
+    /// Returns the text. It doesn't allocate.
     pub fn as_str(&self) -> &'static str
         ensures { result.now ≡ session_error_texts self.now }
     {
@@ -40,7 +40,7 @@ impl SessionError {
         }
     }
 
-    /// The text as a symbol. The only error is `Memory`.
+    /// Returns the text as a symbol. The only error is `Memory`.
     pub fn to_symbol(&self, alloc: Global) -> Result<Symbol, Error>
         ensures text { IfOk result (λ symbol. string_bytes symbol.0 ≡ session_error_texts self.now) }
         ensures refused { IfErr result (λ e. e ≡ Memory) }
@@ -49,7 +49,7 @@ impl SessionError {
     }
 }
 
-/// Gives any other text back.
+/// Returns any other text as the error.
 impl<'a> TryFrom<&'a str> for SessionError {
     type Error = &'a str;
 
@@ -66,7 +66,7 @@ impl<'a> TryFrom<&'a str> for SessionError {
     }
 }
 
-/// Gives any other symbol back.
+/// Returns any other symbol as the error.
 impl TryFrom<Symbol> for SessionError {
     type Error = Symbol;
 

@@ -17,7 +17,7 @@ use std::alloc::Global;
 /// An error of a transaction.
 #[derive(Clone, Debug, PartialEq, Eq, Hash, Drop)]
 pub enum TransactionError {
-    /// There is no transaction of that identifier: `amqp:transaction:unknown-id`.
+    /// There is no transaction with that identifier: `amqp:transaction:unknown-id`.
     UnknownId,
     /// The transaction was rolled back: `amqp:transaction:rollback`.
     Rollback,
@@ -26,7 +26,7 @@ pub enum TransactionError {
 }
 
 impl TransactionError {
-    /// The text. Takes no memory.
+    /// Returns the text. It doesn't allocate.
     pub fn as_str(&self) -> &'static str
         ensures { result.now ≡ transaction_error_texts self.now }
     {
@@ -37,7 +37,7 @@ impl TransactionError {
         }
     }
 
-    /// The text as a symbol. The only error is `Memory`.
+    /// Returns the text as a symbol. The only error is `Memory`.
     pub fn to_symbol(&self, alloc: Global) -> Result<Symbol, Error>
         ensures text { IfOk result (λ symbol. string_bytes symbol.0 ≡ transaction_error_texts self.now) }
         ensures refused { IfErr result (λ e. e ≡ Memory) }
@@ -46,7 +46,7 @@ impl TransactionError {
     }
 }
 
-/// Gives any other text back.
+/// Returns any other text as the error.
 impl<'a> TryFrom<&'a str> for TransactionError {
     type Error = &'a str;
 
@@ -62,7 +62,7 @@ impl<'a> TryFrom<&'a str> for TransactionError {
     }
 }
 
-/// Gives any other symbol back.
+/// Returns any other symbol as the error.
 impl TryFrom<Symbol> for TransactionError {
     type Error = Symbol;
 

@@ -1,4 +1,4 @@
-//! States, outcomes and errors with a value in every field, and what is said of transactions.
+//! States, outcomes and errors with a value in every field, and the requests and outcomes of transactions.
 use crate::parts::{binary_of, error_of, fields_of, text_fields_of, text_of};
 use amqp_codec::Error as CodecError;
 use amqp_delivery::{

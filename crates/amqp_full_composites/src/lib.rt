@@ -1,4 +1,4 @@
-//! Composites with a value in every field, of which the tests of composites are made, and small values.
+//! Composites with a value in every field, from which the tests of composites are made, and small values.
 #![tactic(auto)]
 
 pub mod delivery;

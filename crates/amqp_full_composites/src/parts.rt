@@ -1,8 +1,7 @@
-//! Small values, of which the fields of greater ones are made.
+//! Small values, from which the fields of greater ones are made.
 use amqp_codec::{Error as CodecError, Symbol};
 use amqp_containers::Array;
-use amqp_errors::{Error, ErrorCondition};
-use amqp_fields::Fields;
+use amqp_errors::{Error, ErrorCondition, Fields};
 use amqp_primitives::Binary;
 use amqp_values::Value;
 use std::alloc::Global;
@@ -19,14 +18,14 @@ pub fn symbol_of(text: &str, alloc: Global) -> Result<Symbol, CodecError> {
     Ok(Symbol::from(String::from_str(alloc, text)?))
 }
 
-/// An array of one symbol.
+/// Returns an array of one symbol.
 pub fn symbols_of(text: &str, alloc: Global) -> Result<Array<Symbol>, CodecError> {
     let mut symbols = Array::from(Vec::new(alloc));
     symbols.push(symbol_of(text, alloc)?)?;
     Ok(symbols)
 }
 
-/// An array of two symbols.
+/// Returns an array of two symbols.
 pub fn two_symbols_of(
     first: &str,
     second: &str,
@@ -37,7 +36,7 @@ pub fn two_symbols_of(
     Ok(symbols)
 }
 
-/// A map of one pair.
+/// Returns a map of one pair.
 pub fn fields_of(text: &str, value: Value, alloc: Global) -> Result<Fields, CodecError> {
     let key = symbol_of(text, alloc)?;
     let mut fields = Fields::new(alloc);
@@ -45,13 +44,13 @@ pub fn fields_of(text: &str, value: Value, alloc: Global) -> Result<Fields, Code
     Ok(fields)
 }
 
-/// A map of one pair, whose value is a string.
+/// Returns a map of one pair, whose value is a string.
 pub fn text_fields_of(key: &str, text: &str, alloc: Global) -> Result<Fields, CodecError> {
     let value = Value::String(text_of(text, alloc)?);
     fields_of(key, value, alloc)
 }
 
-/// An error of an extension's own, without more information.
+/// Returns an error of an extension's own, without more information.
 pub fn error_of(condition: &str, description: &str, alloc: Global) -> Result<Error, CodecError> {
     Ok(Error {
         condition: ErrorCondition::Custom(symbol_of(condition, alloc)?),

@@ -1,4 +1,4 @@
-//! Frames of the security layer with a value in every field.
+//! Frame bodies of the security layer with a value in every field.
 use crate::parts::{binary_of, symbol_of, text_of, two_symbols_of};
 use amqp_codec::Error as CodecError;
 use amqp_restricted_types::SaslCode;

@@ -1,11 +1,12 @@
-//! Inputs that are cut: each proper front of a term is refused by `Cut`, and of a message each that doesn't end behind a whole section.
+//! Inputs that are cut. Each proper prefix of a term is refused with `Cut`, and so is each prefix of a message that doesn't end after a
+//! whole section.
 use crate::inputs::{ATTACH, BATCH, DISPOSITION, OPEN, OPEN_WITH_CAPABILITIES, RECEIVED};
 use fe2o3_amqp_types::codec::{Deserialize, Error, from_slice_counted, term_len};
 use fe2o3_amqp_types::messaging::{Batch, Data, Message, Received};
 use fe2o3_amqp_types::performatives::{Attach, Disposition, Open};
 use std::alloc::Global;
 
-/// Cuts off the ends of all inputs, and returns whether all fronts come to what they must.
+/// Cuts off the ends of all inputs, and returns whether all prefixes come to what they must.
 pub(crate) fn check_all(rt: &HostRuntime) -> Result<bool, anyhow::Error> {
     let mut well = check_term::<Received>(rt, "received", RECEIVED)?;
     well &= check_term::<Disposition>(rt, "disposition", DISPOSITION)?;
@@ -16,7 +17,7 @@ pub(crate) fn check_all(rt: &HostRuntime) -> Result<bool, anyhow::Error> {
     Ok(well)
 }
 
-// Whether each proper front of a term is cut, and the whole isn't. A front that isn't is printed, and then how many there are.
+// Whether each proper prefix of a term is cut, and the whole isn't. A prefix that isn't is printed, and then how many there are.
 fn check_term<T: Deserialize>(
     rt: &HostRuntime,
     name: &str,
@@ -44,14 +45,14 @@ fn check_term<T: Deserialize>(
     )
 }
 
-// How many bytes the value takes that the input begins with, or why there is none.
+// How many bytes the value at the start of the input takes, or why there is none.
 fn length_read<T: Deserialize>(input: &[u8], alloc: Global) -> Result<usize, Error> {
     let (_value, len): (T, usize) = from_slice_counted(input, alloc)?;
     Ok(len)
 }
 
-// What a front of the message must come to: no body behind nothing or the header, a message with as many sections of data as are whole,
-// or `Cut`.
+// What a prefix of the message must come to: no body after nothing or after the header, a message with as many sections of data as are
+// whole, or `Cut`.
 fn wanted(len: usize) -> Result<usize, Error> {
     match len {
         0 | 4 => Err(Error::EmptyBody),
@@ -79,7 +80,7 @@ fn sections_read(input: &[u8], alloc: Global) -> Result<usize, Error> {
     asked(read, |message| message.body.len())
 }
 
-// Whether each proper front of the message comes to what it must. One that doesn't is printed, and then how many there are.
+// Whether each proper prefix of the message comes to what it must. One that doesn't is printed, and then how many there are.
 fn check_message(rt: &HostRuntime) -> Result<bool, anyhow::Error> {
     let input = hex::decode(rt.alloc(), BATCH)?;
     let whole = input.as_slice();

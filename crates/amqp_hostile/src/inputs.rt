@@ -6,7 +6,7 @@ pub(crate) const RECEIVED: &str = "005323c005025209530d";
 /// A disposition of one accepted delivery (Part 2, section 2.7.6).
 pub(crate) const DISPOSITION: &str = "005315c009054143404100532445";
 
-/// An attach that spells out each field, up to the last null (Part 2, section 2.7.3).
+/// An attach that has each field, up to the last null (Part 2, section 2.7.3).
 pub(crate) const ATTACH: &str =
     "005312c0580ea114727573742d72656365697665722d6c696e6b2d314342500040005328c00f0ba102713140404040404040404040005329c008\
     074040404040404040404380ffffffffffffffffa30b5348415245442d535542534040";
@@ -18,7 +18,7 @@ pub(crate) const OPEN: &str = "005310c00701a10474657374";
 pub(crate) const OPEN_WITH_CAPABILITIES: &str =
     "005310c01f08a10474657374404040404040e01002b300000003464f4f00000003424152";
 
-/// A header that spells out each default (Part 3, section 3.2.1).
+/// A header that has each default (Part 3, section 3.2.1).
 pub(crate) const HEADER: &str = "005370c00705425004404243";
 
 /// A message without a body: a header and properties (Part 3, section 3.2).
@@ -28,7 +28,7 @@ pub(crate) const NO_BODY: &str = "0053704500537345";
 pub(crate) const BATCH: &str =
     "00537045005375a009010203040506070809005375a009010203040506070809005375a009010203040506070809005378c10100";
 
-/// Seven headers, and a byte behind them.
+/// Seven headers, and a byte after them.
 pub(crate) const SEVEN_HEADERS: &str =
     "005370450053704500537045005370450053704500537045005370c0020141ff";
 

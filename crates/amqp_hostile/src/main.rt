@@ -1,6 +1,6 @@
-//! The program `amqp-hostile`: it makes inputs as a hostile peer might send them, and checks what each comes to. Of some values and
-//! messages it cuts off the end at each place, and puts each of the 256 bytes in each place. It prints how many inputs it made and what
-//! they came to, and each that came to something else; and ends with status 0 if there is none, else with 1.
+//! The program `amqp_hostile` makes inputs as a hostile peer might send them, and checks what each comes to. It cuts off the end of some
+//! values and messages at each place, and puts each of the 256 bytes in each place. It prints how many inputs it made and what they came
+//! to, and each that came to something else. The status is 0 if there is none of these, else 1.
 #![tactic(auto)]
 
 mod fronts;

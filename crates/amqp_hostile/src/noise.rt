@@ -1,4 +1,4 @@
-//! Inputs with one byte changed: whatever is read of one is read again of its canonical text, which is written again unchanged.
+//! Inputs with one byte changed. Whatever is read from one is read again from its canonical text, which is written again unchanged.
 use crate::inputs::{BATCH, HEADER, NO_BODY, RECEIVED, SEVEN_HEADERS, SIX_HEADERS};
 use fe2o3_amqp_types::codec::{Canonical, Deserialize, Error, from_slice_counted, to_vec};
 use fe2o3_amqp_types::messaging::{AmqpValue, Batch, Body, Data, Header, Message, Received};
@@ -10,7 +10,7 @@ type Absent = Message<Option<String>>;
 
 /// What an input is read as.
 trait Checked: Deserialize + Drop + Sized {
-    /// Whether the value is written, and read again, as it must be. It is so of a type that is only read.
+    /// Returns whether the value is written, and read again, as it must be. For a type that is only read, it returns true.
     fn is_stable(self, alloc: Global) -> Result<bool, Error>;
 }
 

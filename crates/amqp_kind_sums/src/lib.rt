@@ -1,4 +1,4 @@
-//! Sums of primitive types, told from each other by their kinds: one reader for all (Part 1, section 1.6).
+//! Sums of primitive types, distinguished by their kinds, with one reader for all (Part 1, section 1.6).
 #![tactic(auto)]
 
 mod read;

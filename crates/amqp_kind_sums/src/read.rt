@@ -1,5 +1,5 @@
-//! Sums of primitive types, each read as the member whose kind stands there. A sum is one list of its members, `KindMembers` in
-//! `specs/KindMembers.antt`; what is read at a place of it is made by that member's constructor.
+//! Sums of primitive types, each read as the member whose kind comes next. A sum is one list of its members, `KindMembers` in
+//! `specs/KindMembers.antt`. What is read at a place of it is made by that member's constructor.
 ghost use Rattle.std.specs.Prelude.{true};
 ghost use Rattle.amqp_wire.specs.Sources.{Tells};
 ghost use Rattle.amqp_decoder.specs.Reading.{AnswersRead};
@@ -18,7 +18,7 @@ pub trait KindSum: Sized + Drop {
 
     ghost sum: { KindSumOf Self };
 
-    /// Reads the member of a kind, by `read_as`; if no member is of it, any member, which refuses it.
+    /// Reads the member of a kind, by `read_as`. If no member is of that kind, it reads any member, which refuses it.
     fn read_member<R: ByteSource>(
         kind: Kind,
         decoder: &mut Decoder<R>,
@@ -29,7 +29,7 @@ pub trait KindSum: Sized + Drop {
         ensures tries { Tries (takes_at sum.members (sum.place kind)) decoder.old result decoder.new };
 }
 
-/// Reads a sum of primitive types: the member whose kind stands there. What is of no member's kind is refused by its code.
+/// Reads a sum of primitive types: the member whose kind comes next. What is of no member's kind is refused for its code.
 pub fn read_kind_sum<S: KindSum, R: ByteSource>(
     decoder: &mut Decoder<R>,
     alloc: Global,

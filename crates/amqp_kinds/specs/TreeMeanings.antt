@@ -178,13 +178,13 @@ module _ {V : Type 0} (term : V → Term) (are : (v : V) → IsTree (term v)) wh
       let n = neither (same_term (term k) (term p.0)) (is_among_keys (term k) (canons_of term (turns ps))) h in
       (λ e. clash ((terms_decide (term k) (term p.0) (are k)).1 e) n.0, among_not k ps n.1)
 
-  keys_differ : (ps : List (V × V)) → HaveOtherKeys Same ps → has_equal_keys (canons_of term (turns ps)) ≡ false
+  pub keys_differ : (ps : List (V × V)) → HaveOtherKeys Same ps → has_equal_keys (canons_of term (turns ps)) ≡ false
   keys_differ [] h = refl
   keys_differ (p ∷ ps) h =
       either_false (is_among_keys (term p.0) (canons_of term (turns ps))) (has_equal_keys (canons_of term (turns ps)))
       (not_among p.0 ps h.0) (keys_differ ps h.1)
 
-  differ_keys : (ps : List (V × V)) → has_equal_keys (canons_of term (turns ps)) ≡ false → HaveOtherKeys Same ps
+  pub differ_keys : (ps : List (V × V)) → has_equal_keys (canons_of term (turns ps)) ≡ false → HaveOtherKeys Same ps
   differ_keys [] h = tt
   differ_keys (p ∷ ps) h =
       let n = neither (is_among_keys (term p.0) (canons_of term (turns ps))) (has_equal_keys (canons_of term (turns ps))) h in

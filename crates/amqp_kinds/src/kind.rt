@@ -1,4 +1,4 @@
-//! The kinds of terms, which first codes tell.
+//! The kinds of terms, which are determined by first codes.
 ghost use Rattle.std.specs.Prelude.{◌≡◌};
 ghost use Rattle.amqp_kinds.specs.Kinds.{kind_at};
 
@@ -32,7 +32,7 @@ pub enum Kind {
     Array,
 }
 
-/// The kind that a code announces: null if it announces none.
+/// Returns the kind that a code announces: null if it announces none.
 pub fn kind_of(code: u8) -> Kind
     ensures { result ≡ kind_at code }
 {

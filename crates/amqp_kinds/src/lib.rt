@@ -1,4 +1,4 @@
-//! The kinds of terms (Part 1, sections 1.2 and 1.6), and how a value of any kind is read by the kind of what stands there.
+//! The kinds of terms (Part 1, sections 1.2 and 1.6), and how a value of any kind is read by the kind of what comes next.
 #![tactic(auto)]
 
 mod kind;

@@ -1,4 +1,4 @@
-//! How a value is read as one of the types that it may be of.
+//! How a value is read as one of the types that it may have.
 ghost use Rattle.amqp_wire.specs.Sources.{Tells};
 ghost use Rattle.amqp_decoder.specs.Reading.{AnswersRead};
 ghost use Rattle.amqp_decoder.specs.Steps.{Tries};
@@ -9,7 +9,7 @@ use amqp_decoder::Decoder;
 use amqp_wire::{ByteSource, Error};
 use std::alloc::Global;
 
-/// Reads a value of a type, and makes it one of what may be of this type. It is refused as the type's.
+/// Reads a value of type `T`, and converts it to `V`. It returns the errors of `T`.
 pub fn read_as<T: DeserializeTerm, V: From<T> + Drop, R: ByteSource>(
     decoder: &mut Decoder<R>,
     alloc: Global,

@@ -1,4 +1,4 @@
-//! Equality, order, hash and copies of a `LazyValue`, which are those of its bytes.
+//! Equality, order, hash and clones of a `LazyValue`, which are those of its bytes.
 ghost use Rattle.std.specs.Prelude.{◌≡◌, Some, nat_eq, refl};
 ghost use Rattle.std.specs.Ordering.{nat_cmp};
 ghost use Rattle.std.specs.Cmp.{on_per, on_equiv, on_po, on_total, unsigned_po, partial_equiv_from_equiv};

@@ -15,13 +15,14 @@ use amqp_wire::{ByteSource, Error, format_code};
 use std::alloc::{AllocError, Global};
 use std::marker::Model;
 
-/// The bytes of one term of any kind, its constructor included, as they were read (Part 1, section 1.2). It is written as these bytes,
-/// so that a value can be handed on without being understood.
+/// The bytes of one term of any kind, its constructor included, as they were read (Part 1, section 1.2). It is written as these bytes, so
+/// that a value can be passed on without being understood.
 ///
-/// What is read is checked to spell a term that nests at most 128 deep, and refused as `amqp_decoder::term_len` refuses it; that no two
-/// keys of a map in it are equal isn't looked at. What stands in it counts in how deep values nest, in reading and in writing, and in
-/// how many values there are.
-/// As an item of an array, whose constructor is shared, it is refused by `LazyInArray`, in reading and in writing.
+/// What is read is checked to encode a term that nests at most 128 deep. If it doesn't, the error is one of `codec::term_len` of
+/// `fe2o3_amqp_types`. Whether two keys of a map in it are equal isn't checked. The values in it count in how deep values nest, in reading
+/// and in writing, and in how many values there are.
+///
+/// As an item of an array, whose constructor is shared, it is refused with `LazyInArray`, in reading and in writing.
 #[derive(Debug, Drop)]
 pub struct LazyValue {
     bytes: Vec<u8>,
@@ -43,7 +44,7 @@ impl Model for LazyValue {
 }
 
 impl LazyValue {
-    /// The bytes of a null. The only error is `Memory`.
+    /// Returns the bytes of a null. The only error is `Memory`.
     pub fn null(alloc: Global) -> Result<LazyValue, Error>
         ensures null { IfOk result (lazy_type.means (whole (0x40 ∷ [])) (leaf null)) }
         ensures memory { IfErr result (λ e. e ≡ Memory) }
@@ -55,7 +56,7 @@ impl LazyValue {
         })
     }
 
-    /// The bytes, which spell one term. It nests at most 128 deep.
+    /// Returns the bytes, which encode one term. It nests at most 128 deep.
     pub fn as_slice(&self) -> &[u8]
         ensures bytes { result.now ≡ self.now.bytes.items }
         ensures term { SpellsTerm self.now.bytes.items }
@@ -69,7 +70,7 @@ impl LazyValue {
 impl Clone for LazyValue {
     ghost is_clone = { λ v w. (w.bytes.items ≡ v.bytes.items) × (w.nodes ≡ v.nodes) };
 
-    // It wants memory for the bytes.
+    // It allocates for the bytes.
     fn clone(&self) -> Result<LazyValue, AllocError> {
         Ok(LazyValue {
             bytes: self.bytes.clone()?,
@@ -105,7 +106,7 @@ impl SerializeTerm for LazyValue {
 impl DeserializeTerm for LazyValue {
     ghost term = { lazy_type };
 
-    // What is read is a term; of a source that doesn't give the bytes that it tells of, what isn't one is `InvalidValue`.
+    // What is read is a term. If a source doesn't give the bytes that its contract states, what isn't a term is `InvalidValue`.
     fn read_value<R: ByteSource>(
         decoder: &mut Decoder<R>,
         alloc: Global,

@@ -1,4 +1,4 @@
-//! Values of any kind that are kept as the bytes that they were read from (Part 1, section 1.2).
+//! Values of any kind that keep the bytes that they were read from (Part 1, section 1.2).
 #![tactic(auto)]
 
 mod compared;

@@ -37,7 +37,7 @@ fn descriptor_len(input: &[u8]) -> Result<usize, Error>
     }
 }
 
-/// The constructor that the input begins with.
+/// Reads the constructor at the start of the input.
 pub(crate) fn read_constructor(input: &[u8]) -> Result<Constructor, Error>
     ensures found { IfOk result (λ c. IsFront (Constructs c.descriptors c.code) input.now c.len) }
     ensures refused { IfErr result (λ e. Refuses HasConstructor input.now e) }

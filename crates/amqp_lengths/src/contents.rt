@@ -17,7 +17,7 @@ pub(crate) struct Content<'a> {
     pub(crate) items: &'a [u8],
 }
 
-/// The content of a container. A list without items may have the size 0.
+/// Reads the content of a container. A list without items may have the size 0.
 pub(crate) fn read_content(
     input: &[u8],
     wide: bool,

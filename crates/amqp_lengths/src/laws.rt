@@ -1,12 +1,12 @@
-//! The laws of why bytes begin with no term. The functions do nothing; their contracts are proved.
+//! The laws of the faults of bytes that begin with no term. The functions do nothing; their contracts are proved.
 ghost use Rattle.std.specs.Prelude.{◌≡◌, ◌≤◌, ℕ, List};
 ghost use Rattle.amqp_wire.specs.declared.error.Error.{Error};
 ghost use Rattle.amqp_lengths.specs.Fronts.{Refuses};
 ghost use Rattle.amqp_lengths.specs.Lengths.{IsTerm};
 ghost use Rattle.amqp_lengths.specs.Faults.{inside, TermFault};
 
-/// Bytes in which a fault stands begin with no term that nests so deep at most; and the fault stands where terms may nest deeper,
-/// too, unless it is the one that is named where they nest too deep (Part 1, section 1.2).
+/// Bytes with a fault begin with no term that nests at most so deep. The fault is also there if terms may nest deeper, unless it is the
+/// error for too deep nesting (Part 1, section 1.2).
 pub fn faults()
     ensures refuse { (deep : Error) (nesting : ℕ) (input : List ℕ) (e : Error) → TermFault deep nesting input e → Refuses (IsTerm nesting) input e }
     ensures deeper { (deep other : Error) → inside deep ≡ deep → (nesting more : ℕ) (input : List ℕ) (e : Error) → nesting ≤ more

@@ -1,4 +1,4 @@
-//! How long the term is that bytes begin with (Part 1, sections 1.2 and 1.6).
+//! How long the term at the start of the input is (Part 1, sections 1.2 and 1.6).
 ghost use Rattle.std.specs.Prelude.{◌≤◌, ◌<◌, ◌+◌, ◌≡◌, ℕ, List, ◌++◌, IfOk, IfErr, IsErr, IsTrue, ◌↔◌, MatchOption};
 ghost use Rattle.amqp_model.specs.Constructors.{format};
 ghost use Rattle.amqp_model.specs.Spelling.{IsKnown, IsSpelling};
@@ -19,14 +19,14 @@ use amqp_wire::format_code::{has_width_zero, is_compound};
 use amqp_wire::nesting::NESTING;
 use amqp_wire::{Container, Error, format_code};
 
-/// Returns the length in bytes of the AMQP term (one encoded value, of any type) at the start of `input`, from the first
-/// byte of its constructor to the last byte of its data (Part 1, section 1.2). Bytes after the term are ignored. No input
-/// starts with two different terms. The call allocates no memory.
+/// Returns the length in bytes of the AMQP term at the start of `input`: one encoded value, of any type (Part 1, section 1.2). The length
+/// is from the first byte of the term's constructor to the last byte of its data. Bytes after the term are ignored. No input starts with
+/// two different terms. The call doesn't allocate.
 ///
 /// # Errors
 ///
-/// If `input` does not start with a term that is nested at most 128 deep, the call returns an error that names a fault of
-/// the bytes. If the bytes have several faults, it is not specified which of them is named.
+/// If `input` doesn't start with a term that nests at most 128 deep, the call returns an error that reports a fault of the bytes. If the
+/// bytes have several faults, which one is reported is unspecified.
 ///
 /// - `Cut` if the input ends before the end of a constructor, or before the end of the data that a constructor announces.
 ///   Every proper prefix of such a term, the empty input included, returns `Cut`.
@@ -37,12 +37,12 @@ use amqp_wire::{Container, Error, format_code};
 /// - `BadChar` if the four bytes of a char are not a Unicode scalar value.
 /// - `BadUtf8` if the bytes of a string are not UTF-8.
 /// - `NonAscii` if a symbol, or a descriptor that is a symbol, has a byte above 0x7f.
-/// - `Size` if the size of a list, a map or an array is not the size of its count and its items. This includes a value that
-///   reaches past the end of the container that it is in.
+/// - `Size` if the size of a list, a map or an array is not the size of its count and its items. This includes a value that extends past
+///   the end of the container that it is in.
 /// - `OddCount` if the count of a map is odd.
 /// - `ZeroWidthItems` if an array has items, and their constructor has a code without data (0x40 to 0x45).
-/// - `Depth` if described values, lists, maps and arrays of such values are nested more than 128 deep, or if a constructor has
-///   more than 128 descriptors.
+/// - `Depth` if values nest more than 128 deep, or if a constructor has more than 128 descriptors. Described values, lists and maps count
+///   in nesting, and an array counts if one of its items is no primitive.
 pub fn term_len(input: &[u8]) -> Result<usize, Error>
     ensures found { IfOk result (λ n. IsFront (IsTerm NESTING) input.now n) }
     ensures none { IfErr result (λ _. NoFront (IsTerm NESTING) input.now) }
@@ -57,7 +57,7 @@ pub fn term_len(input: &[u8]) -> Result<usize, Error>
     len_of_term(input, NESTING, Error::Depth)
 }
 
-// In a container what is announced is there, so that a value that asks for more is too long.
+// In a container, what is announced is present, so a value that needs more bytes is too long.
 fn within<T>(answer: Result<T, Error>) -> Result<T, Error>
     ensures found { IfOk result (λ value. answer ≡ Ok value) }
     ensures refused { IfErr result (λ _. IsErr answer) }
@@ -112,8 +112,8 @@ fn check_data(
     }
 }
 
-// How much deeper the items of an array may nest than the array: its items count where they are no bare primitives,
-// and so does each descriptor.
+// How much deeper the items of an array may nest than the array. The array counts if its items are no bare primitives, and so does each
+// descriptor.
 fn nesting_of_items(shared: &Constructor, nesting: usize) -> Option<usize>
     ensures { MatchOption result (nesting < levels_of shared.now.descriptors shared.now.code)
         (λ left. left + levels_of shared.now.descriptors shared.now.code ≡ nesting) }
@@ -217,8 +217,8 @@ fn data_len(code: u8, input: &[u8], nesting: usize, deep: Error) -> Result<usize
     }
 }
 
-/// The length in bytes of the term that the input begins with and that nests at most so deep, refused as by `term_len`, but by this
-/// error if values nest deeper.
+/// Returns the length in bytes of the term at the start of the input, if it nests at most `nesting` deep. It returns the errors of
+/// `term_len`, but `deep` if values nest deeper.
 #[cycle(term)]
 pub fn len_of_term(input: &[u8], nesting: usize, deep: Error) -> Result<usize, Error>
     ensures found { IfOk result (λ n. IsFront (IsTerm nesting) input.now n) }

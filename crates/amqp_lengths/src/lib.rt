@@ -1,4 +1,4 @@
-//! How long the terms are that bytes begin with: a reading of slices that takes no memory.
+//! How long the terms at the start of bytes are: a reading of slices that doesn't allocate.
 #![tactic(auto)]
 
 mod constructors;

@@ -1,4 +1,4 @@
-//! How many values are in the term that bytes spell, and how deep they nest (Part 1, section 1.2).
+//! How many values are in the term that bytes encode, and how deep they nest (Part 1, section 1.2).
 ghost use Rattle.std.specs.Prelude.{◌≡◌, ◌≤◌, ℕ, [], MatchOption};
 ghost use Rattle.amqp_model.specs.Constructors.{compound, format};
 ghost use Rattle.amqp_model.specs.Spelling.{IsKnown, IsDataOf, AreItemsOf, AreElementsOf, AreSharedDataOf, IsSpelling};
@@ -21,7 +21,7 @@ use amqp_wire::{Container, Error, format_code};
 pub struct Measures {
     /// How many values: the term itself, and each item in it. A described value is one with its descriptor.
     pub nodes: usize,
-    /// How deep they nest, at most 128: described values, lists, maps, and arrays of such values count.
+    /// How deep they nest, at most 128. Described values, lists and maps count, and an array counts if one of its items is no primitive.
     pub nesting: usize,
 }
 
@@ -33,8 +33,8 @@ pub(crate) struct Measured {
     pub(crate) nesting: usize,
 }
 
-/// What the term holds that the bytes spell, or none if they are no term that nests at most 128 deep (Part 1, section 1.2).
-/// The bytes are walked over twice. The call allocates no memory.
+/// Returns what the term that the bytes encode holds, or `None` if they are no term that nests at most 128 deep (Part 1, section 1.2). The
+/// bytes are walked over twice. The call doesn't allocate.
 pub fn measures_of(input: &[u8]) -> Option<Measures>
     ensures measured { MatchOption result (IsTerm NESTING input.now → ⊥) (λ m. IsMeasured m.nodes m.nesting input.now) }
 {
@@ -186,8 +186,7 @@ fn measure_shared(content: &[u8], code: u8, count: usize) -> Measures
     Measures { nodes, nesting }
 }
 
-// How many levels an array of such items lies above their bare data: it counts itself where they are no bare primitives, and
-// so does each descriptor.
+// How many levels an array of such items is above their bare data: it counts if they are no bare primitives, and so does each descriptor.
 fn levels_of(shared: &Constructor) -> usize
     requires { shared.now.descriptors ≤ 128 }
     ensures { result ≡ levels_of shared.now.descriptors shared.now.code }

@@ -57,7 +57,7 @@ fn check_value(code: u8, bytes: &[u8]) -> Result<(), Error>
     }
 }
 
-/// The length of the data of a primitive under its code.
+/// Returns the length of the data of a primitive under its code.
 pub(crate) fn primitive_len(code: u8, input: &[u8]) -> Result<usize, Error>
     requires { IsPrimitive (format code) }
     ensures found { IfOk result (λ n. IsFront (PrimitiveOf code) input.now n) }

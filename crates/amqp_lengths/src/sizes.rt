@@ -7,14 +7,14 @@ ghost use Rattle.amqp_lengths.specs.Announced.{WantsSized};
 
 use amqp_wire::Error;
 
-/// How many bytes a size or a count has: four, or one.
+/// Returns how many bytes a size or a count has: four, or one.
 pub(crate) fn width_of(wide: bool) -> usize
     ensures { result ≡ width_of wide }
 {
     if wide { 4 } else { 1 }
 }
 
-/// The number that the input begins with, of one byte or of four.
+/// Returns the number at the start of the input, of one byte or of four.
 pub(crate) fn number(input: &[u8], wide: bool) -> Result<usize, Error>
     ensures found { IfOk result (λ n. IsFront (IsNumber (width_of wide) n) input.now (width_of wide)) }
     ensures refused { IfErr result (λ e. (e ≡ Cut) × (length input.now < width_of wide)) }
@@ -26,7 +26,7 @@ pub(crate) fn number(input: &[u8], wide: bool) -> Result<usize, Error>
     }
 }
 
-/// So many bytes.
+/// Returns the first `width` bytes.
 pub(crate) fn fixed(input: &[u8], width: usize) -> Result<&[u8], Error>
     ensures found { IfOk result (λ bytes. (width ≤ length input.now) × (bytes.now ≡ take width input.now)) }
     ensures refused { IfErr result (λ e. (e ≡ Cut) × (length input.now < width)) }
@@ -37,7 +37,7 @@ pub(crate) fn fixed(input: &[u8], width: usize) -> Result<&[u8], Error>
     }
 }
 
-/// What a size of one byte or of four announces.
+/// Returns what a size of one byte or of four announces.
 pub(crate) fn sized(input: &[u8], wide: bool) -> Result<&[u8], Error>
     ensures found { IfOk result (λ content. IsFront (IsSized (width_of wide) content.now) input.now (width_of wide + length content.now)) }
     ensures refused { IfErr result (λ e. Refuses (HasSize (width_of wide)) input.now e) }

@@ -187,7 +187,7 @@ impl Write for Narrow {
     }
 }
 
-/// What a reader or a writer that fails is answered.
+/// What a reader or a writer that fails leads to.
 const FAILED: Result<bool, Error> = Err(Error::Read(ErrorKind::Interrupted));
 
 // How the engine ends if the writer takes so many bytes of the answer to one line.
@@ -207,14 +207,14 @@ fn failing_ends(rt: HostRuntime) {
     assert_eq!(rt; ending_within(14, alloc), Ok(true));
 }
 
-/// Lines of which some are refused.
+/// Lines, some of which are refused.
 const LINES: &str = "accepted 005324c00000\n\
     received 005323c005025209530dff\n\
     accepted 005324c0020140\n\
     batch-data -\n\
     bogus 00";
 
-/// What is answered to them.
+/// The answers to them.
 const ANSWERS: &str = "ok 00532445 0\n\
     ok 005323c005025209530d 1\n\
     no 7 Surplus\n\

@@ -32,16 +32,16 @@ is_answer limits line (Limited set) h =
     subst (λ l. IsAnswer limits line (l ++ (10 ∷ [])) true set) h.0 (limited set h)
 is_answer limits line NoRequest (asks, sets) = other asks sets
 
--- the three greatest numbers are the greatest limits
-of_numbers : (nesting bytes items : ℕ) (most : nesting ≤ 128) → nesting ≡ 128 → bytes ≡ unlimited → items ≡ unlimited
-    → record { nesting = nesting; bytes = bytes; items = items; nests = most } ≡ greatest
-of_numbers nesting bytes items most e f g =
-    subst (λ n. (most : n ≤ 128) → record { nesting = n; bytes = bytes; items = items; nests = most } ≡ greatest) (sym e)
-    (λ most. rw (f, g)
-    (ap (λ m. record { nesting = 128; bytes = unlimited; items = unlimited; nests = m }) (le_prop most greatest.nests))) most
+-- the three greatest numbers without a seed are the greatest limits
+of_numbers : (nesting bytes items seed : ℕ) (most : nesting ≤ 128) → nesting ≡ 128 → bytes ≡ unlimited → items ≡ unlimited → seed ≡ 0
+    → record { nesting = nesting; bytes = bytes; items = items; hash_seed = seed; nests = most } ≡ greatest
+of_numbers nesting bytes items seed most e f g none =
+    subst (λ n. (most : n ≤ 128) → record { nesting = n; bytes = bytes; items = items; hash_seed = seed; nests = most } ≡ greatest) (sym e)
+    (λ most. rw (f, g, none)
+    (ap (λ m. record { nesting = 128; bytes = unlimited; items = unlimited; hash_seed = 0; nests = m }) (le_prop most greatest.nests))) most
 
-pub greatest_is : (limits : Limits) → IsGreatest limits → limits ≡ greatest
-greatest_is limits (e, f, g) = of_numbers limits.nesting limits.bytes limits.items limits.nests e f g
+pub greatest_is : (limits : Limits) → IsGreatest limits → limits.hash_seed ≡ 0 → limits ≡ greatest
+greatest_is limits (e, f, g) none = of_numbers limits.nesting limits.bytes limits.items limits.hash_seed limits.nests e f g none
 
 -- So many lines at least were taken.
 abbrev pub IsShorter : Option (List ℕ) → Option (List ℕ) → ℕ → Type 0
@@ -59,11 +59,11 @@ pub record Progress (limits : Limits) (input now before after : Option (List ℕ
   pub appended : Appends before after output
   pub answered : AnswersOn limits input now output all
 
-begun_at : (limits : Limits) (input now : Option (List ℕ)) → IsGreatest limits → Keeps input now → AnswersOn limits input now [] true
+begun_at : (limits : Limits) (input now : Option (List ℕ)) → limits ≡ greatest → Keeps input now → AnswersOn limits input now [] true
 begun_at limits None now g k = tt
 begun_at limits (Some xs) None g k = k
 begun_at limits (Some xs) (Some rest) g k =
-    λ o a h. subst (λ z. AreAnswers greatest z o a) k (subst (λ l. AreAnswers l rest o a) (greatest_is limits g) h)
+    λ o a h. subst (λ z. AreAnswers greatest z o a) k (subst (λ l. AreAnswers l rest o a) g h)
 
 unshortened : (input now : Option (List ℕ)) → Keeps input now → IsShorter input now 0
 unshortened None now k = tt
@@ -82,13 +82,13 @@ shorter (Some xs) None new line n t h = absurd h
 shorter (Some xs) (Some r) None line n t h = t
 shorter (Some xs) (Some r) (Some rest) line n t h = omega (arith, h, line_shortens r line rest t)
 
-pub begun : (limits : Limits) (input now before : Option (List ℕ)) → IsGreatest limits → Keeps input now
+pub begun : (limits : Limits) (input now before : Option (List ℕ)) → IsGreatest limits → limits.hash_seed ≡ 0 → Keeps input now
     → Progress limits input now before before 0 true
-begun limits input now before g k = record {
+begun limits input now before g none k = record {
   counted = unshortened input now k;
   output = [];
   appended = Appends-nil before;
-  answered = begun_at limits input now g k;
+  answered = begun_at limits input now (greatest_is limits g none) k;
 }
 
 further : (limits after : Limits) (input now new : Option (List ℕ)) (line output text : List ℕ) (all good : Bool)

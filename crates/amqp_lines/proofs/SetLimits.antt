@@ -84,9 +84,9 @@ joined line all nesting others bytes items n b i e (h, f) (k, g) (en, ln) (eb, l
     ∙ ap (λ x. decimal n ++ (32 ∷ x)) (g ∙ (ap (λ x. x ++ (32 ∷ items)) eb ∙ ap (λ x. decimal b ++ (32 ∷ x)) ei))))
 
 pub limits_made : (line : List ℕ) (made : Option Limits) (n b i : ℕ)
-    → MatchOption made (128 < n) (λ l. (l.nesting ≡ n) × (l.bytes ≡ b) × (l.items ≡ i))
+    → MatchOption made (128 < n) (λ l. (l.nesting ≡ n) × (l.bytes ≡ b) × (l.items ≡ i) × (l.hash_seed ≡ 0))
     → ((limits : Limits) → SetsLimits line limits → n ≡ limits.nesting)
     → line ≡ codes "limits " ++ (decimal n ++ (32 ∷ (decimal b ++ (32 ∷ decimal i)))) → b < 10 ^ 19 → i < 10 ^ 19
     → MatchOption made ((limits : Limits) → SetsLimits line limits → ⊥) (λ l. SetsLimits line l)
 limits_made line None n b i h same e lb li = λ limits s. let most = limits.nests in omega (arith, h, same limits s, most)
-limits_made line (Some l) n b i (x, y, z) same e lb li = (rw (x, y, z) e, rw y lb, rw z li)
+limits_made line (Some l) n b i (x, y, z, none) same e lb li = (rw (x, y, z) e, rw y lb, rw z li, none)

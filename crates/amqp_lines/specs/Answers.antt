@@ -138,7 +138,7 @@ limits_line limits = codes "limits " ++ (decimal limits.nesting ++ (32 ∷ (deci
 
 -- The line sets these limits. Its numbers have at most 19 digits.
 abbrev pub SetsLimits : List ℕ → Limits → Type 0
-SetsLimits line limits = (line ≡ limits_line limits) × (limits.bytes < 10 ^ 19) × (limits.items < 10 ^ 19)
+SetsLimits line limits = (line ≡ limits_line limits) × (limits.bytes < 10 ^ 19) × (limits.items < 10 ^ 19) × (limits.hash_seed ≡ 0)
 
 -- The hexadecimal digits of bytes, and `-` for none.
 abbrev pub digits_of : List ℕ → List ℕ

@@ -5,24 +5,25 @@ ghost use Rattle.amqp_lines.specs.Answers.{printed_of, is_good, limits_after, An
 
 use crate::limits::limits_of;
 use crate::request::Request;
-use fe2o3_amqp_types::codec::{Error, Limits};
+use amqp_codec::Error;
+use amqp_read_write::Limits;
 use std::alloc::Global;
 
-/// What a line is answered.
+/// The answer to a line.
 #[derive(Drop)]
 pub(crate) enum Answer {
-    /// The value's canonical text, and how many of the line's bytes stand behind the value.
+    /// The value's canonical text, and how many of the line's bytes follow the value.
     Rewritten { text: Vec<u8>, left: usize },
     /// Why no value is read, or why it can't be written.
     Refused(Error),
     /// The limits that the line sets.
     Limited(Limits),
-    /// The line is of no such form.
+    /// The line has another form.
     NoRequest,
 }
 
 impl Answer {
-    /// The answer to a line within the limits. The only error is want of memory for the line's bytes.
+    /// Returns the answer to a line within the limits. The only error is `Memory`.
     pub(crate) fn to_line(line: &[u8], limits: &Limits, alloc: Global) -> Result<Answer, Error>
         ensures answers { IfOk result (λ answer. AnswersLine limits.now line.now answer) }
         ensures err { IfErr result (λ e. e ≡ Memory) }
@@ -43,7 +44,7 @@ impl Answer {
         }
     }
 
-    /// Whether it counts as `ok`.
+    /// Returns whether it counts as `ok`.
     pub(crate) fn is_ok(&self) -> bool
         ensures { result ≡ is_good self.now }
     {
@@ -53,7 +54,7 @@ impl Answer {
         }
     }
 
-    /// The limits that hold behind the line.
+    /// Returns the limits for the lines after this one.
     pub(crate) fn limits_after(&self, before: &Limits) -> Limits
         ensures { result ≡ limits_after before.now self.now }
     {
@@ -63,7 +64,7 @@ impl Answer {
         }
     }
 
-    /// The answer as it is printed, with its line feed. The only error is want of memory.
+    /// Returns the answer as it is printed, with its line feed. The only error is `Memory`.
     pub(crate) fn printed(&self, alloc: Global) -> Result<String, Error>
         ensures printed { IfOk result (λ text. string_bytes text ≡ printed_of self.now) }
         ensures err { IfErr result (λ e. e ≡ Memory) }

@@ -7,24 +7,33 @@ ghost use Rattle.amqp_wire.specs.declared.error.Error.TheVariants.{TooLarge};
 
 use crate::answer::Answer;
 use crate::lines::Lines;
-use fe2o3_amqp_types::codec::{Error, Limits, ReadSource};
+use amqp_codec::Error;
+use amqp_read_write::{Limits, ReadSource};
 use std::alloc::Global;
 use std::io::{ErrorKind, Read, Write};
 
-/// Answers each line of the reader by a line to the writer, in order, and answers whether every one of them is `ok`, as where
-/// there are no lines.
+/// Writes for each line of the reader one line to the writer, in order. Returns whether all answers are `ok`, as they are if there are no
+/// lines.
 ///
-/// A line is `<type> <hex>`: the name of a type, one space, and an even, positive number of hexadecimal digits of either case, or
-/// `-` for no bytes. Lines end with a line feed, which the last may lack. The answer is `ok <hex> <left>`, with the canonical text of
-/// the type's value that the bytes begin with, in digits of lower case, and the number of bytes behind that value; or
-/// `no <number> <name>` of the error by which it isn't read or not written; or `no 0 Line` of a line of another form.
+/// A line is `<type> <hex>`: the name of a type, one space, and an even, positive number of hexadecimal digits of either case, or `-` for
+/// no bytes. Lines end with a line feed, which the last may lack. The answer is one of these:
 ///
-/// A line `limits <nesting> <bytes> <items>` sets the limits within which the lines behind it are read (`Limits`), up to the next one: three
-/// decimal numbers of at most 19 digits without leading zeros, of which the first is at most 128, with one space between. It is answered
-/// by itself, which counts as `ok`. Before the first one the greatest limits hold.
+/// - `ok <hex> <left>`, with the canonical text of the type's value at the start of the bytes, in lower case, and the number of bytes after
+///   that value;
+/// - `no <number> <name>`, with the error for which the value isn't read or not written;
+/// - `no 0 Line`, for a line of another form.
 ///
-/// An error is `Memory` where a line or its answer can't be held, `Read` where the reader or the writer fails, or `TooLarge` past
-/// 2^64 - 1 lines; then nothing is said of what was written.
+/// A line `limits <nesting> <bytes> <items>` sets the limits within which the lines after it are read (`Limits`), up to the next such line.
+/// It has three decimal numbers of at most 19 digits without leading zeros, with one space between. The first is at most 128. The answer is
+/// the line itself, and counts as `ok`. Before the first such line there are no limits but the greatest.
+///
+/// # Errors
+///
+/// - `Memory`, if a line or its answer can't be held.
+/// - `Read`, if the reader or the writer fails.
+/// - `TooLarge`, if there are more than 2^64 - 1 lines.
+///
+/// After an error, what was written is unspecified.
 pub fn run<R: Read + Drop, W: Write>(
     reader: R,
     writer: &mut W,
@@ -47,7 +56,7 @@ pub fn run<R: Read + Drop, W: Write>(
     Err(Error::TooLarge)
 }
 
-// Answers one line within the limits, which it may set anew, and whether the answer is `ok`.
+// Answers one line within the limits, which it may change, and returns whether the answer is `ok`.
 fn answer_line<W: Write>(
     line: &[u8],
     limits: &mut Limits,
@@ -76,7 +85,7 @@ fn flush<W: Write>(writer: &mut W) -> Result<(), Error>
     }
 }
 
-// Writes all of the bytes. No kind of failure is tried again: after one, a front of the bytes was written, and not all.
+// Writes all of the bytes. No failure is retried: after one, a proper prefix of the bytes was written.
 fn write_whole<W: Write>(writer: &mut W, bytes: &[u8]) -> Result<(), Error>
     ensures written { OnOk result (Appends (W.contents writer.old) (W.contents writer.new) bytes.now) }
     ensures part { OnErr result ((n : ℕ) × (n < length bytes.now)

@@ -1,5 +1,5 @@
-//! The engine of the program `amqp-canon`: each line of its input names a type and gives bytes in hexadecimal digits, and is answered
-//! by a line with the canonical text of the type's value that the bytes begin with, or with the error by which they are refused.
+//! The engine of the program `amqp_canon`. Each line of its input names a type and gives bytes in hexadecimal digits. The answer is a line
+//! with the canonical text of the type's value at the start of the bytes, or with the error for which they are refused.
 #![tactic(auto)]
 
 mod answer;

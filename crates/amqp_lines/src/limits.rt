@@ -4,14 +4,14 @@ ghost use Rattle.amqp_wire.specs.declared.limits.Limits.{Limits};
 ghost use Rattle.amqp_lines.specs.Lines.{HasNo};
 ghost use Rattle.amqp_lines.specs.Answers.{IsNumber, SetsLimits};
 
-use fe2o3_amqp_types::codec::Limits;
+use amqp_read_write::Limits;
 use memchr::memchr;
 use std::str;
 
-/// The least number of more than 19 digits.
+/// The least number with more than 19 digits.
 const TOO_LONG: u64 = 10_000_000_000_000_000_000;
 
-/// The limits that a line `limits <nesting> <bytes> <items>` sets, or `None` if it has another form.
+/// Returns the limits that a line `limits <nesting> <bytes> <items>` sets, or `None` if it has another form.
 pub(crate) fn limits_of(line: &[u8]) -> Option<Limits>
     ensures { MatchOption result ((limits : Limits) → SetsLimits line.now limits → ⊥) (λ limits. SetsLimits line.now limits) }
 {
@@ -24,7 +24,7 @@ pub(crate) fn limits_of(line: &[u8]) -> Option<Limits>
     }
 }
 
-// What stands before the first space, and what stands behind it.
+// What comes before the first space, and what comes after it.
 fn split_at_space(bytes: &[u8]) -> Option<(&[u8], &[u8])>
     ensures { MatchOption result (HasNo 32 bytes.now)
         (λ parts. HasNo 32 parts.0.now × (bytes.now ≡ parts.0.now ++ (32 ∷ parts.1.now))) }

@@ -6,12 +6,12 @@ ghost use Rattle.amqp_wire.specs.declared.error.Error.TheVariants.{Memory};
 ghost use Rattle.amqp_lines.specs.Answers.{IsOutside};
 ghost use Rattle.amqp_lines.specs.Lines.{HasNo, TakesLine, with_feed};
 
-use fe2o3_amqp_types::codec::{ByteSource, Error};
+use amqp_codec::{ByteSource, Error};
 use memchr::memchr;
 use std::alloc::Global;
 use std::marker::Model;
 
-/// The most bytes that are pulled at once.
+/// How many bytes are pulled at once at most.
 const PIECE: usize = 4096;
 
 /// The lines of a source that are still to come, each ended by a line feed, which the last may lack.
@@ -35,7 +35,7 @@ impl<R: ByteSource> Model for Lines<R> {
 }
 
 impl<R: ByteSource> Lines<R> {
-    /// The lines of what the source gives from here on.
+    /// Returns the lines of what the source gives from here on.
     pub(crate) fn new(source: R) -> Self
         ensures { Keeps (R.remaining source) result }
     {
@@ -47,7 +47,7 @@ impl<R: ByteSource> Lines<R> {
         }
     }
 
-    // Pulls bytes where none are left, and answers whether there are any now.
+    // Pulls bytes if none are left, and returns whether there are any now.
     fn refill(&mut self) -> Result<bool, Error>
         ensures kept { IfOk result (λ _. Keeps self.old self.new) }
         ensures err { IfErr result IsOutside }
@@ -66,7 +66,7 @@ impl<R: ByteSource> Lines<R> {
         }
     }
 
-    // Moves what is left of the line from the buffer, and answers whether its end was there.
+    // Moves what is left of the line from the buffer, and returns whether its end was there.
     fn take_piece(&mut self, line: &mut Vec<u8>) -> Result<bool, Error>
         ensures taken { IfOk result (λ ended. (piece : List ℕ) × HasNo 10 piece × (line.new.items ≡ line.old.items ++ piece)
             × Consumes self.old self.new (with_feed ended piece)) }
@@ -79,7 +79,7 @@ impl<R: ByteSource> Lines<R> {
         Ok(ended)
     }
 
-    /// The next line, without its line feed, or `None` where the source has ended. An error is want of memory or the source's.
+    /// Returns the next line, without its line feed, or `None` if the source has ended. An error is `Memory` or the source's.
     pub(crate) fn next_line(&mut self, alloc: Global) -> Result<Option<Vec<u8>>, Error>
         ensures line { IfOk result (λ o. IfSome self.old
             (λ input. MatchOption self.new ⊥ (λ rest. MatchOption o (input ≡ []) (λ line. TakesLine input line.items rest)))) }
@@ -101,7 +101,7 @@ impl<R: ByteSource> Lines<R> {
     }
 }
 
-// How many bytes stand before the first line feed, how many with it, and whether there is one.
+// How many bytes come before the first line feed, how many with it, and whether there is one.
 fn until_feed(bytes: &[u8]) -> (usize, usize, bool)
     ensures within { result.0 ≤ length bytes.now }
     ensures taken_within { result.1 ≤ length bytes.now }

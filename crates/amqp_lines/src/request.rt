@@ -9,29 +9,33 @@ ghost use Rattle.amqp_lines.specs.declared.request.TypeName.{TypeName};
 use crate::text::{
     batch_text_within, body_text_within, message_text_within, strict_text_within, text_within,
 };
-use fe2o3_amqp_types::codec::{Error, Limits};
-use fe2o3_amqp_types::definitions;
-use fe2o3_amqp_types::definitions::ErrorCondition;
-use fe2o3_amqp_types::messaging::annotations::Annotations;
-use fe2o3_amqp_types::messaging::{
-    Accepted, AmqpSequence, AmqpValue, ApplicationProperties, Batch, Body, Data, DeleteOnClose,
-    DeleteOnNoLinks, DeleteOnNoLinksOrMessages, DeleteOnNoMessages, DeliveryAnnotations,
-    DeliveryState, Footer, Header, LifetimePolicy, MessageAnnotations, MessageId, Modified,
-    Outcome, Properties, Received, Rejected, Released, Source, Target, TargetArchetype,
+use amqp_annotations::Annotations;
+use amqp_attach::{Attach, Performative};
+use amqp_batches::Batch;
+use amqp_bodies::Body;
+use amqp_codec::Error;
+use amqp_delivery::{
+    Accepted, Declare, Declared, DeliveryState, Discharge, Modified, Outcome, Received, Rejected,
+    Released, TransactionalState,
 };
-use fe2o3_amqp_types::performatives::{
-    Attach, Begin, Close, Detach, Disposition, End, Flow, Open, Performative, Transfer,
+use amqp_errors::ErrorCondition;
+use amqp_map_sections::{ApplicationProperties, DeliveryAnnotations, Footer, MessageAnnotations};
+use amqp_message_headers::{Header, MessageId, Properties};
+use amqp_performatives::{Begin, Close, Detach, Disposition, End, Flow, Open, Transfer};
+use amqp_read_write::Limits;
+use amqp_sasl::{SaslChallenge, SaslInit, SaslMechanisms, SaslOutcome, SaslResponse};
+use amqp_sections::{AmqpSequence, AmqpValue, Data};
+use amqp_simple_values::SimpleValue;
+use amqp_termini::{
+    Coordinator, DeleteOnClose, DeleteOnNoLinks, DeleteOnNoLinksOrMessages, DeleteOnNoMessages,
+    LifetimePolicy, Source, Target, TargetArchetype,
 };
-use fe2o3_amqp_types::primitives::{Boolean, SimpleValue, Value};
-use fe2o3_amqp_types::sasl::{SaslChallenge, SaslInit, SaslMechanisms, SaslOutcome, SaslResponse};
-use fe2o3_amqp_types::transaction::{
-    Coordinator, Declare, Declared, Discharge, TransactionalState,
-};
+use amqp_values::Value;
 use memchr::memchr;
 use std::alloc::Global;
 
-/// The types that a line may name. Each has a number: its place among them, from 1 on. A type that is added goes to the end, so that the
-/// others keep their numbers.
+/// The types that a line may name. The number of a type is its place among them, from 1 on. A new type goes to the end, so that the others
+/// keep their numbers.
 #[derive(Clone, Copy, Debug, PartialEq, Eq)]
 pub enum TypeName {
     Accepted,
@@ -198,14 +202,14 @@ fn numbered(rows: &[(&str, TypeName)], number: u32) -> Option<TypeName>
 }
 
 impl TypeName {
-    /// The type that has this name in a line.
+    /// Returns the type that has this name in a line.
     pub fn from_bytes(name: &[u8]) -> Option<TypeName>
         ensures { MatchOption result ((named : TypeName) → type_name named ≡ name.now → ⊥) (λ named. type_name named ≡ name.now) }
     {
         named(NAMES, name)
     }
 
-    /// The type that has this number.
+    /// Returns the type that has this number.
     pub fn from_number(number: u32) -> Option<TypeName>
         ensures { MatchOption result ((named : TypeName) → number_in the_type named ≡ number → ⊥)
             (λ named. number_in the_type named ≡ number) }
@@ -213,14 +217,15 @@ impl TypeName {
         numbered(NAMES, number)
     }
 
-    /// The number of the type.
+    /// Returns the number of the type.
     pub fn number(self) -> u32
         ensures { result ≡ number_in the_type self }
     {
         self as u32 + 1
     }
 
-    /// Within the limits, the canonical text of the type's value that the input begins with, and how many bytes that value takes.
+    /// Returns the canonical text of the type's value at the start of the input, within the limits, and the number of bytes that the value
+    /// takes.
     pub fn canonical_text(
         self,
         input: &[u8],
@@ -246,7 +251,7 @@ impl TypeName {
             ),
             TypeName::Begin => text_within::<Begin>(input, limits, alloc),
             TypeName::Body => body_text_within(input, limits, alloc),
-            TypeName::Boolean => text_within::<Boolean>(input, limits, alloc),
+            TypeName::Boolean => text_within::<bool>(input, limits, alloc),
             TypeName::Close => text_within::<Close>(input, limits, alloc),
             TypeName::Coordinator => text_within::<Coordinator>(input, limits, alloc),
             TypeName::Data => text_within::<Data>(input, limits, alloc),
@@ -266,7 +271,7 @@ impl TypeName {
             TypeName::Discharge => text_within::<Discharge>(input, limits, alloc),
             TypeName::Disposition => text_within::<Disposition>(input, limits, alloc),
             TypeName::End => text_within::<End>(input, limits, alloc),
-            TypeName::Error => text_within::<definitions::Error>(input, limits, alloc),
+            TypeName::Error => text_within::<amqp_errors::Error>(input, limits, alloc),
             TypeName::ErrorCondition => text_within::<ErrorCondition>(input, limits, alloc),
             TypeName::Flow => text_within::<Flow>(input, limits, alloc),
             TypeName::Footer => text_within::<Footer>(input, limits, alloc),
@@ -308,7 +313,7 @@ impl TypeName {
     }
 }
 
-/// A line `<type> <hex>`: the type that it names, and the bytes that its digits stand for.
+/// A line `<type> <hex>`: the type that it names, and the bytes that its digits mean.
 #[derive(Drop)]
 pub(crate) struct Request {
     pub type_name: TypeName,
@@ -316,7 +321,7 @@ pub(crate) struct Request {
 }
 
 impl Request {
-    /// What a line asks for, or `None` where it has another form. The only error is want of memory.
+    /// Returns what a line asks for, or `None` if it has another form. The only error is `Memory`.
     pub(crate) fn from_line(line: &[u8], alloc: Global) -> Result<Option<Request>, Error>
         ensures asked { IfOk result (λ o. MatchOption o ((named : TypeName) (input : List ℕ) → Asks line.now named input
             → ⊥) (λ request. Asks line.now request.type_name request.input.items)) }

@@ -4,17 +4,17 @@ ghost use Rattle.amqp_wire.specs.declared.error.Error.TheVariants.{Memory};
 ghost use Rattle.amqp_read_write.specs.Rewritten.{IsRewrittenWithin};
 ghost use Rattle.amqp_lines.specs.Answers.{HasNoTextWithin};
 
-use amqp_batches::BatchItem;
-use amqp_read_write::canonical_text_within;
+use amqp_batches::{Batch, BatchItem};
+use amqp_bodies::{Body, CanonicalBody};
+use amqp_codec::{Deserialize, DeserializeTerm, Error, Serialize};
+use amqp_messages::{Message, Strict};
 use amqp_read_write::laws::limits_bound_reading;
-use fe2o3_amqp_types::codec::{Deserialize, DeserializeTerm, Error, Limits, Serialize};
-use fe2o3_amqp_types::messaging::message::{Message, Strict};
-use fe2o3_amqp_types::messaging::{Batch, Body, CanonicalBody};
-use fe2o3_amqp_types::primitives::Value;
+use amqp_read_write::{Limits, canonical_text_within};
+use amqp_values::Value;
 use std::alloc::Global;
 
-/// Within the limits, the canonical text of the value that the input begins with, and how many bytes that value takes there. An error is
-/// `Memory`, a fault of an input that begins with no value within the limits, or `TooLarge`.
+/// Returns the canonical text of the value at the start of the input, within the limits, and the number of bytes that the value takes
+/// there. An error is `Memory`, a fault of an input that begins with no value within the limits, or `TooLarge`.
 pub(crate) fn text_within<T: DeserializeTerm>(
     input: &[u8],
     limits: &Limits,
@@ -30,7 +30,7 @@ pub(crate) fn text_within<T: DeserializeTerm>(
     canonical_text_within::<T>(input, limits, alloc)
 }
 
-/// The same of a batch: sections of one kind that stand one after another.
+/// The same for a batch: sections of one kind, one after another.
 pub(crate) fn batch_text_within<T: BatchItem + DeserializeTerm>(
     input: &[u8],
     limits: &Limits,
@@ -46,7 +46,7 @@ pub(crate) fn batch_text_within<T: BatchItem + DeserializeTerm>(
     canonical_text_within::<Batch<T>>(input, limits, alloc)
 }
 
-/// The same of a body of any kind.
+/// The same for a body of any kind.
 pub(crate) fn body_text_within(
     input: &[u8],
     limits: &Limits,
@@ -61,7 +61,7 @@ pub(crate) fn body_text_within(
     canonical_text_within::<Body<Value>>(input, limits, alloc)
 }
 
-/// The same of a message, whose sections stand in any order.
+/// The same for a message, whose sections are in any order.
 pub(crate) fn message_text_within<B: CanonicalBody>(
     input: &[u8],
     limits: &Limits,
@@ -77,7 +77,7 @@ pub(crate) fn message_text_within<B: CanonicalBody>(
     canonical_text_within::<Message<B>>(input, limits, alloc)
 }
 
-/// The same of a message that is read strictly.
+/// The same for a message that is read strictly.
 pub(crate) fn strict_text_within<B: CanonicalBody>(
     input: &[u8],
     limits: &Limits,

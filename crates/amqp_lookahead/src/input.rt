@@ -8,7 +8,7 @@ use std::alloc::AllocError;
 use std::io::ErrorKind;
 use std::marker::Model;
 
-/// The most bytes that are looked at before they are taken.
+/// How many bytes are looked at before they are taken at most.
 pub(crate) const LOOK: usize = 64;
 
 // Copies as many of the bytes as the buffer holds, and returns how many.
@@ -27,8 +27,8 @@ fn copy_front(bytes: &[u8], buffer: &mut [u8]) -> usize
     bytes.len()
 }
 
-/// The bytes of a source. Those that were looked at are the next that are taken. Where the source has all of its bytes at hand they stay
-/// in it, and it is known how many were not looked at; else they are moved to a buffer.
+/// The bytes of a source. Those that were looked at are the next that are taken. If the source has all of its bytes at hand, they stay in
+/// it, and the number of those not looked at is kept. Otherwise they are moved to a buffer.
 #[derive(Drop)]
 pub struct Input<R: ByteSource> {
     source: R,
@@ -58,7 +58,7 @@ impl<R: ByteSource> Model for Input<R> {
 }
 
 impl<R: ByteSource> Input<R> {
-    /// The source's bytes, of which none was looked at.
+    /// Returns the source's bytes, none of which was looked at.
     pub fn new(source: R) -> Self
         ensures { result ≡ record { rest = known (R.remaining source); ahead = 0; source = R.name source; failed = R.failed source } }
     {
@@ -75,7 +75,7 @@ impl<R: ByteSource> Input<R> {
         }
     }
 
-    /// The source; bytes that were looked at are out of it.
+    /// Returns the source. Bytes that were looked at are gone from it.
     pub fn into_source(self) -> R
         ensures named { R.name result ≡ self.source }
         ensures rest { known (R.remaining result) ≡ drop self.ahead self.rest }
@@ -94,8 +94,8 @@ impl<R: ByteSource> Input<R> {
         source
     }
 
-    /// Fills the buffer with the next bytes, which are taken, and returns how many: fewer than it holds only at the
-    /// end of the input. An error is the source's, which has failed.
+    /// Fills the buffer with the next bytes, which are taken, and returns how many. They are fewer than it holds only at the end of the
+    /// input. An error is the source's, which has failed.
     pub fn pull(&mut self, buffer: &mut [u8]) -> Result<usize, ErrorKind>
         ensures fits { IfOk result (λ n. n ≤ length buffer.old) }
         ensures bytes { Tells R.remaining → IfOk result (λ n. self.old.rest ≡ take n buffer.new ++ drop n self.old.rest) }
@@ -110,7 +110,7 @@ impl<R: ByteSource> Input<R> {
         }
     }
 
-    // The same, where the bytes that were looked at stand in the buffer.
+    // The same, if the bytes that were looked at are in the buffer.
     fn pull_moved(&mut self, buffer: &mut [u8]) -> Result<usize, ErrorKind>
         requires { R.is_whole ≡ false }
         ensures fits { IfOk result (λ n. n ≤ length buffer.old) }
@@ -129,8 +129,8 @@ impl<R: ByteSource> Input<R> {
         Ok(count + more)
     }
 
-    /// Fills the buffer with the next bytes, which are taken, if all of them are at hand in the source; otherwise it returns false, and
-    /// takes nothing.
+    /// Fills the buffer with the next bytes, which are taken, if all of them are at hand in the source, and returns true. Otherwise it
+    /// returns false, and takes nothing.
     #[inline(always)]
     pub fn pull_ready(&mut self, buffer: &mut [u8]) -> bool
         ensures bytes { Tells R.remaining → result ≡ true → self.old.rest ≡ buffer.new ++ drop (length buffer.old) self.old.rest }
@@ -144,8 +144,8 @@ impl<R: ByteSource> Input<R> {
         self.source.pull_ready(buffer)
     }
 
-    /// Adds the next `count` bytes, which are taken, if all of them are at hand in the source; otherwise it returns false, and takes and
-    /// adds nothing. An error is a refused growth, which takes nothing either.
+    /// Appends the next `count` bytes, which are taken, if all of them are at hand in the source, and returns true. Otherwise it returns
+    /// false, and takes and appends nothing. An error is an allocation that failed, which takes nothing either.
     #[inline(always)]
     pub fn append_ready(&mut self, count: usize, bytes: &mut Vec<u8>) -> Result<bool, AllocError>
         ensures there { Tells R.remaining → result ≡ Ok true → count ≤ length self.old.rest }
@@ -160,8 +160,8 @@ impl<R: ByteSource> Input<R> {
         self.source.append_ready(count, bytes)
     }
 
-    /// Copies the next bytes, at most 64, to the buffer, and returns how many: fewer than it holds only at the end of the
-    /// input. They are looked at, and none of them is taken. An error is the source's, which has failed.
+    /// Copies the next bytes, at most 64, to the buffer, and returns how many. They are fewer than it holds only at the end of the input.
+    /// They are looked at, and none of them is taken. An error is the source's, which has failed.
     #[inline(always)]
     pub fn peek(&mut self, buffer: &mut [u8]) -> Result<usize, ErrorKind>
         requires { length buffer.old ≤ 64 }
@@ -178,7 +178,7 @@ impl<R: ByteSource> Input<R> {
         }
     }
 
-    /// The next byte, which isn't taken, if the source keeps its bytes at hand and has one left.
+    /// Returns the next byte, which isn't taken, if the source keeps its bytes at hand and has one left.
     #[inline(always)]
     pub fn next_at_hand(&self) -> Option<u8>
         ensures next { IfSome result (λ b. self.now.rest ≡ b ∷ drop 1 self.now.rest) }
@@ -205,7 +205,7 @@ impl<R: ByteSource> Input<R> {
         }
     }
 
-    // Copies the next bytes to the buffer, and returns how many, where the source keeps them at hand.
+    // Copies the next bytes to the buffer, and returns how many, if the source keeps them at hand.
     #[inline(always)]
     fn peek_whole(&mut self, buffer: &mut [u8]) -> Option<usize>
         requires { length buffer.old ≤ 64 }
@@ -246,7 +246,7 @@ impl<R: ByteSource> Input<R> {
 }
 
 impl Input<&[u8]> {
-    /// How many bytes are left.
+    /// Returns how many bytes are left.
     pub fn unread(&self) -> usize
         ensures count { result ≡ length self.now.rest }
         ensures whole { self.now.failed ≡ false }

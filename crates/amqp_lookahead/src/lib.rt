@@ -1,5 +1,4 @@
-//! The input of a decoder: the bytes of a source, which are looked at before they are taken, and the codes and names that
-//! stand in them.
+//! The input of a decoder: the bytes of a source, which are looked at before they are taken, and the codes and names in them.
 #![tactic(auto)]
 
 mod input;

@@ -1,5 +1,5 @@
-//! Members that a described value may be, and symbolic descriptors that are compared with theirs piece by piece, as they
-//! are read.
+//! Members that a described value may be, and symbolic descriptors that are compared with the members' names piece by piece, as they are
+//! read.
 ghost use Rattle.std.specs.Prelude.{◌≡◌, ◌+◌, ◌++◌, ℕ, length, take, All, Option, Some, None, ◌≤◌, ◌↔◌, IsTrue, IfSome, List, MatchOption};
 ghost use Rattle.std.specs.Prelude.{string_bytes};
 ghost use Rattle.amqp_model.specs.Term.{code as of_code, name as of_name};
@@ -10,7 +10,7 @@ use amqp_wire::Descriptor;
 /// The members that a described value may be, each by its code and its name.
 pub type Members<'a> = &'a [(u64, &'a str)];
 
-/// The place of the member with this descriptor.
+/// Returns the place of the member with this descriptor.
 pub fn place_of(members: Members<'_>, descriptor: &Descriptor) -> Option<usize>
     ensures { result ≡ place_in members.now (descriptor_of descriptor.now) }
 {
@@ -20,14 +20,14 @@ pub fn place_of(members: Members<'_>, descriptor: &Descriptor) -> Option<usize>
     }
 }
 
-/// The place of the member with this code.
+/// Returns the place of the member with this code.
 pub fn place_of_code(members: Members<'_>, code: u64) -> Option<usize>
     ensures { result ≡ place_in members.now (of_code code) }
 {
     members.iter().position(|m| m.0 == code)
 }
 
-/// The place of the member with this name.
+/// Returns the place of the member with this name.
 pub fn place_of_name(members: Members<'_>, name: &[u8]) -> Option<usize>
     ensures { result ≡ place_in members.now (of_name name.now) }
 {
@@ -49,7 +49,7 @@ fn goes_on(name: &[u8], known: &[u8], piece: &[u8], len: usize) -> bool
     &behind[..piece.len()] == piece
 }
 
-/// The front of a member's name of so many bytes, which begins as `known` and goes on with the piece.
+/// Returns the prefix of a member's name of `len` bytes that is `known` and then the piece.
 pub fn longer_front<'a>(
     members: Members<'a>,
     known: &[u8],
@@ -69,7 +69,7 @@ pub fn longer_front<'a>(
     None
 }
 
-/// The same, if the front is known so far.
+/// The same, if the prefix is known so far.
 pub fn next_front<'a>(
     members: Members<'a>,
     known: Option<&'a [u8]>,

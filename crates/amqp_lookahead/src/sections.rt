@@ -25,7 +25,7 @@ const SECTIONS: Members<'static> = &[
     (0x78, "amqp:footer:map"),
 ];
 
-/// The members that a section may be.
+/// Returns the members that a section may be.
 fn section_members() -> Members<'static>
     ensures { map as_name result.now ≡ sections }
 {
@@ -35,7 +35,7 @@ fn section_members() -> Members<'static>
 /// The code of the first section.
 const FIRST: u8 = 0x70;
 
-/// The code of the section at a place.
+/// Returns the code of the section at a place.
 fn section_at(place: Option<usize>) -> Option<u8>
     requires { IfSome place (λ i. i < 9) }
     ensures { result ≡ option_map (λ i. 0x70 + i) place }
@@ -46,21 +46,21 @@ fn section_at(place: Option<usize>) -> Option<u8>
     }
 }
 
-/// The section with this code.
+/// Returns the section with this code.
 fn section_of_code(code: u64) -> Option<u8>
     ensures { (c : ℕ) → (result ≡ Some c) ↔ IsOfSection c (of_code code) }
 {
     section_at(place_of_code(section_members(), code))
 }
 
-/// The code of the section with this name.
+/// Returns the code of the section with this name.
 fn section_of_name(name: &[u8]) -> Option<u8>
     ensures { (c : ℕ) → (result ≡ Some c) ↔ IsOfSection c (of_name name.now) }
 {
     section_at(place_of_name(section_members(), name))
 }
 
-/// The size of a text that these bytes are.
+/// Returns the size of a text that these bytes are.
 fn text_size(bytes: [u8; 4]) -> usize
     ensures fits { result < 256 ^ 4 }
     ensures value { bytes_high_first 4 result ≡ bytes }
@@ -69,7 +69,7 @@ fn text_size(bytes: [u8; 4]) -> usize
 }
 
 impl<R: ByteSource> Input<R> {
-    // The section that these bytes name, so many that begin so far behind the next one.
+    // The section that these bytes name: so many bytes, which begin so far after the next one.
     fn section_named(&mut self, start: usize, len: usize) -> Result<Option<u8>, ErrorKind>
         requires { start ≤ 64 }
         ensures ok { Tells R.remaining → IfOk result (λ section. LooksOn self.old self.new
@@ -88,7 +88,7 @@ impl<R: ByteSource> Input<R> {
         Ok(section_of_name(&front[start..]))
     }
 
-    // The section whose name stands next behind a size of four bytes.
+    // The section whose name comes next after a size of four bytes.
     fn section_of_symbol(&mut self) -> Result<Option<u8>, ErrorKind>
         ensures ok { Tells R.remaining → IfOk result (λ section. LooksOn self.old self.new
             × ((c : ℕ) → (section ≡ Some c) ↔ IsLongNameAhead self.old.rest c)) }
@@ -103,7 +103,7 @@ impl<R: ByteSource> Input<R> {
         self.section_named(6, text_size([a, b, c, d]))
     }
 
-    // The section whose code stands next as eight bytes.
+    // The section whose code comes next as eight bytes.
     fn section_of_ulong(&mut self) -> Result<Option<u8>, ErrorKind>
         ensures ok { Tells R.remaining → IfOk result (λ section. LooksOn self.old self.new
             × ((c : ℕ) → (section ≡ Some c) ↔ IsLongCodeAhead self.old.rest c)) }
@@ -119,8 +119,8 @@ impl<R: ByteSource> Input<R> {
         Ok(section_of_code(code))
     }
 
-    /// The code of the section whose whole descriptor, in any of its spellings, comes next within 64 bytes; `None` where
-    /// none does. Nothing is taken, and at most 64 bytes are looked at. An error is the source's, which has failed.
+    /// Returns the code of the section that comes next, if its whole descriptor, in any of its encodings, ends within 64 bytes; otherwise
+    /// `None`. Nothing is taken, and at most 64 bytes are looked at. An error is the source's, which has failed.
     pub fn section_ahead(&mut self) -> Result<Option<u8>, ErrorKind>
         ensures ok { Tells R.remaining → IfOk result (λ section. LooksOn self.old self.new
             × ((c : ℕ) → (section ≡ Some c) ↔ IsSectionAhead self.old.rest c)) }

@@ -20,14 +20,14 @@ impl ApplicationProperties {
     /// The code and the name of its descriptor.
     pub const DESCRIPTOR: (u64, &'static str) = (0x74, "amqp:application-properties:map");
 
-    /// The map without pairs. Takes no memory.
+    /// Returns the section without pairs. It doesn't allocate.
     pub fn new(alloc: Global) -> ApplicationProperties
         ensures { result.0 ≡ [] }
     {
         ApplicationProperties(OrderedMap::new(alloc))
     }
 
-    /// A section to be made call by call, which has no pairs. Takes no memory.
+    /// Returns a builder of a section, without pairs. It doesn't allocate.
     pub fn builder(alloc: Global) -> MapBuilder<String, SimpleValue, ApplicationProperties>
         ensures { result ≡ [] }
     {

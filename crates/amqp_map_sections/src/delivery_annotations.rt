@@ -21,14 +21,14 @@ impl DeliveryAnnotations {
     /// The code and the name of its descriptor.
     pub const DESCRIPTOR: (u64, &'static str) = (0x71, "amqp:delivery-annotations:map");
 
-    /// The map without pairs. Takes no memory.
+    /// Returns the section without pairs. It doesn't allocate.
     pub fn new(alloc: Global) -> DeliveryAnnotations
         ensures { result.0 ≡ [] }
     {
         DeliveryAnnotations(OrderedMap::new(alloc))
     }
 
-    /// A section to be made call by call, which has no pairs. Takes no memory.
+    /// Returns a builder of a section, without pairs. It doesn't allocate.
     pub fn builder(alloc: Global) -> MapBuilder<OwnedKey, Value, DeliveryAnnotations>
         ensures { result ≡ [] }
     {

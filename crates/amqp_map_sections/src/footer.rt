@@ -13,7 +13,7 @@ use amqp_values::Value;
 use std::alloc::Global;
 use std::ops::{Deref, DerefMut};
 
-/// A footer (Part 3, section 3.2.9): details of a message or delivery that are known only when the whole bare message is, as a signature.
+/// A footer (Part 3, section 3.2.9): details about a message or delivery that need the whole bare message, as a signature.
 #[derive(Clone, Debug, PartialEq, Eq, PartialOrd, Ord, Hash, Drop)]
 pub struct Footer(pub Annotations);
 
@@ -21,14 +21,14 @@ impl Footer {
     /// The code and the name of its descriptor.
     pub const DESCRIPTOR: (u64, &'static str) = (0x78, "amqp:footer:map");
 
-    /// The map without pairs. Takes no memory.
+    /// Returns the section without pairs. It doesn't allocate.
     pub fn new(alloc: Global) -> Footer
         ensures { result.0 ≡ [] }
     {
         Footer(OrderedMap::new(alloc))
     }
 
-    /// A section to be made call by call, which has no pairs. Takes no memory.
+    /// Returns a builder of a section, without pairs. It doesn't allocate.
     pub fn builder(alloc: Global) -> MapBuilder<OwnedKey, Value, Footer>
         ensures { result ≡ [] }
     {

@@ -1,4 +1,4 @@
-//! What holds of the sections that are maps beyond the laws of every type. The functions do nothing; their contracts are proved.
+//! What holds for the sections that are maps in addition to the laws of every type. The functions do nothing; their contracts are proved.
 ghost use Rattle.std.specs.Prelude.{◌≡◌, true, IsTrue};
 
 use crate::{ApplicationProperties, DeliveryAnnotations, Footer, MessageAnnotations};
@@ -7,7 +7,7 @@ use amqp_codec::Canonical;
 use amqp_simple_values::SimpleValue;
 use amqp_values::Value;
 
-/// No spelling of a value of these is shorter than its canonical text, if it holds no array.
+/// For these types, no encoding of a value is shorter than its canonical text, if it holds no array.
 pub fn texts_are_least()
     ensures delivery_annotations { ⟦<DeliveryAnnotations as Canonical>⟧.is_least ≡ true }
     ensures message_annotations { ⟦<MessageAnnotations as Canonical>⟧.is_least ≡ true }
@@ -15,12 +15,12 @@ pub fn texts_are_least()
     ensures footer { ⟦<Footer as Canonical>⟧.is_least ≡ true }
 {}
 
-// A copy of a key is equal to it.
+// A clone of a key is equal to it.
 fn copies_of_keys_are_equal()
     ensures { (v copy : _) → ⟦<OwnedKey as Clone>⟧.is_clone v copy → IsTrue (⟦<OwnedKey as PartialEq>⟧.eq v copy) }
 {}
 
-/// A copy of each of these is equal to what it was made of.
+/// A clone of each of these is equal to what it was made of.
 pub fn copies_are_equal()
     ensures delivery_annotations { (v copy : _) → ⟦<DeliveryAnnotations as Clone>⟧.is_clone v copy
         → IsTrue (⟦<DeliveryAnnotations as PartialEq>⟧.eq v copy) }

@@ -1,4 +1,4 @@
-//! The sections of messages that are maps (Part 3, sections 3.2.2, 3.2.3, 3.2.5 and 3.2.9), and how they are made call by call.
+//! The sections of messages that are maps (Part 3, sections 3.2.2, 3.2.3, 3.2.5 and 3.2.9), and their builder.
 #![tactic(auto)]
 
 mod application_properties;

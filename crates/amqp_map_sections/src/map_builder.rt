@@ -1,4 +1,4 @@
-//! Sections that are maps, made call by call.
+//! Sections that are maps and are made call by call.
 ghost use Rattle.std.specs.Prelude.{◌≡◌, [], IfErr, IfOk};
 ghost use Rattle.indexmap.specs.IndexMap.{insert_entry};
 ghost use Rattle.amqp_wire.specs.declared.error.Error.TheVariants.{Memory};
@@ -9,7 +9,7 @@ use std::alloc::Global;
 use std::hash::Hash;
 use std::marker::{Model, PhantomData};
 
-/// A section that is a map, and is made call by call.
+/// A section that is a map, which is made call by call.
 #[derive(Debug, Drop)]
 pub struct MapBuilder<K: Eq + Hash, V, T> {
     map: OrderedMap<K, V>,
@@ -25,7 +25,7 @@ impl<K: Eq + Hash, V, T> Model for MapBuilder<K, V, T> {
 }
 
 impl<K: Eq + Hash, V, T> MapBuilder<K, V, T> {
-    /// The map without pairs. Takes no memory.
+    /// Returns a builder without pairs. It doesn't allocate.
     pub fn new(alloc: Global) -> MapBuilder<K, V, T>
         ensures { result ≡ [] }
     {
@@ -54,7 +54,7 @@ impl<K: Eq + Hash, V, T> MapBuilder<K, V, T> {
         self.map
     }
 
-    /// The section of these pairs.
+    /// Returns the section with these pairs.
     pub fn build(self) -> T
     where
         T: From<MapBuilder<K, V, T>>,

@@ -13,7 +13,7 @@ use amqp_values::Value;
 use std::alloc::Global;
 use std::ops::{Deref, DerefMut};
 
-/// Message annotations (Part 3, section 3.2.3): what is told to the infrastructure, and carried along at every hop.
+/// Message annotations (Part 3, section 3.2.3): information for the infrastructure, which is passed on at every hop.
 #[derive(Clone, Debug, PartialEq, Eq, PartialOrd, Ord, Hash, Drop)]
 pub struct MessageAnnotations(pub Annotations);
 
@@ -21,14 +21,14 @@ impl MessageAnnotations {
     /// The code and the name of its descriptor.
     pub const DESCRIPTOR: (u64, &'static str) = (0x72, "amqp:message-annotations:map");
 
-    /// The map without pairs. Takes no memory.
+    /// Returns the section without pairs. It doesn't allocate.
     pub fn new(alloc: Global) -> MessageAnnotations
         ensures { result.0 ≡ [] }
     {
         MessageAnnotations(OrderedMap::new(alloc))
     }
 
-    /// A section to be made call by call, which has no pairs. Takes no memory.
+    /// Returns a builder of a section, without pairs. It doesn't allocate.
     pub fn builder(alloc: Global) -> MapBuilder<OwnedKey, Value, MessageAnnotations>
         ensures { result ≡ [] }
     {

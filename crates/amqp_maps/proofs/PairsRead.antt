@@ -20,7 +20,7 @@ module _ {K V : Type 0} (key : TermType K) (value : TermType V) where
   module _ {Told : Type 0} {n : ℕ} {st : State} {ps : List (K × V)} {mid : State} (h : PairsSoFar Told n st ps mid) where
     pub fewer_so_far : (count : ℕ) → n < count → Told → ReadsFewer key value count st ps mid
     fewer_so_far count l told = let long = h.long in
-        record { fewer = omega (arith, long, l); each = h.each told; others = h.others }
+        record { fewer = omega (arith, long, l); each = h.each told }
 
     -- A value was put behind them at a new key. qs: the pairs then; w: what they are by the value that is put there
     pub one_more_so_far : {eq : K → K → Bool} {S : Type 0} (is_key : IsKey key eq) (w : V → IndexMap K V S) (k : K) (v r : V)

@@ -8,6 +8,7 @@ ghost use Rattle.indexmap.specs.IndexMap.{insert_entry};
 ghost use Rattle.amqp_wire.specs.declared.error.Error.TheVariants.{Memory};
 ghost use Rattle.amqp_maps.specs.Pairs.{HaveDistinctKeys};
 
+use crate::KeyHashing;
 use amqp_wire::Error;
 use indexmap::IndexMap;
 use indexmap::map::{IntoIter, Iter, Values};
@@ -15,17 +16,17 @@ use std::alloc::{AllocError, Global};
 use std::hash::Hash;
 use std::marker::Model;
 
-/// A map whose pairs stand in the order in which their keys were inserted first. No two of its keys are equal. A key is found by
-/// its hash.
+/// A map whose pairs are in the order in which their keys were first inserted. No two of its keys are equal. A key is found by its hash.
 ///
-/// It counts as the list of its pairs: two maps with the same pairs in another order are not equal, since the standard has the
-/// order of a map's pairs count. Equality, order and hash are those of the list, a pair by its key and then by its value.
+/// Equality, order and hash are those of the list of its pairs; a pair goes by its key and then by its value. Two maps with the same pairs
+/// in another order aren't equal, since in the standard the order of a map's pairs counts.
 ///
-/// Where keys and values are read and written, so is it (section 1.6.23), by its pairs in their order. A map with an odd number of items
-/// is refused by `OddCount`, and one with two equal keys by `DuplicateKey`, right behind the second of them. The count reserves no memory.
+/// If keys and values can be read and written, so can the map (section 1.6.23), by its pairs in their order. A map with an odd number of
+/// items is refused with `OddCount`. A map with two equal keys is refused with `DuplicateKey`, right after the second of them. The count
+/// reserves no memory.
 #[derive(Debug, Drop)]
 pub struct OrderedMap<K: Eq + Hash, V> {
-    pairs: IndexMap<K, V>,
+    pairs: IndexMap<K, V, KeyHashing>,
 }
 
 impl<K: Eq + Hash, V> Model for OrderedMap<K, V> {
@@ -40,31 +41,31 @@ impl<K: Eq + Hash, V> Model for OrderedMap<K, V> {
 }
 
 impl<K: Eq + Hash, V> OrderedMap<K, V> {
-    /// A map without pairs. Takes no memory.
+    /// Returns a map without pairs. It doesn't allocate.
     pub fn new(alloc: Global) -> OrderedMap<K, V>
         ensures { result ≡ [] }
     {
         OrderedMap {
-            pairs: IndexMap::new(alloc),
+            pairs: IndexMap::with_hasher(alloc, KeyHashing { seed: 0 }),
         }
     }
 
     // The map of these pairs.
-    pub(crate) fn of_pairs(pairs: IndexMap<K, V>) -> OrderedMap<K, V>
+    pub(crate) fn of_pairs(pairs: IndexMap<K, V, KeyHashing>) -> OrderedMap<K, V>
         ensures { result ≡ pairs.entries }
     {
         let _distinct = pairs.len();
         OrderedMap { pairs }
     }
 
-    /// The value of a key.
+    /// Returns the value of `key`, if there is one.
     pub fn get(&self, key: &K) -> Option<&V>
         ensures { option_copied result ≡ lookup (K.eq key.now) self.now }
     {
         self.pairs.get(key)
     }
 
-    /// The number of pairs.
+    /// Returns the number of pairs.
     pub fn len(&self) -> usize
         ensures length { result ≡ length self.now }
         ensures distinct { HaveDistinctKeys K.eq self.now }
@@ -72,14 +73,14 @@ impl<K: Eq + Hash, V> OrderedMap<K, V> {
         self.pairs.len()
     }
 
-    /// Whether there are no pairs.
+    /// Returns whether there are no pairs.
     pub fn is_empty(&self) -> bool
         ensures { IsTrue result ↔ (self.now ≡ []) }
     {
         self.pairs.is_empty()
     }
 
-    /// The pairs in order, each as a key and a value.
+    /// Returns an iterator over the pairs in order, each as a key and a value.
     pub fn iter(&self) -> Iter<'_, K, V>
         ensures pairs { result ≡ self.now }
         ensures in_order { ShowsInOrder (deref_pair {K = K} {X = V}) }
@@ -90,7 +91,7 @@ impl<K: Eq + Hash, V> OrderedMap<K, V> {
         self.pairs.iter()
     }
 
-    /// The values in the order of their keys.
+    /// Returns an iterator over the values, in the order of their keys.
     pub fn values(&self) -> Values<'_, K, V>
         ensures values { result ≡ values_of self.now }
         ensures in_order { ShowsInOrder (deref {X = V}) }
@@ -102,11 +103,11 @@ impl<K: Eq + Hash, V> OrderedMap<K, V> {
 }
 
 impl<K: Eq + Hash + Drop, V> OrderedMap<K, V> {
-    /// Inserts a pair. A key that is there keeps its place, and its value is replaced and handed back; a new key goes last.
+    /// Inserts a pair. A key in the map keeps its place, and its old value is replaced and returned. A new key goes last.
     ///
     /// # Errors
     ///
-    /// `Memory`, if a new key needs memory and there is none: the map stays as it was, and the pair is dropped.
+    /// `Memory`, if the key is new and an allocation fails: the map is unchanged, and the pair is dropped.
     pub fn insert(&mut self, key: K, value: V) -> Result<Option<V>, Error>
     where
         V: Drop,
@@ -119,7 +120,7 @@ impl<K: Eq + Hash + Drop, V> OrderedMap<K, V> {
         Ok(self.pairs.insert(key, value)?)
     }
 
-    /// Removes a key, and hands back its value. The other pairs keep their order.
+    /// Removes a key, and returns its value, if there is one. The other pairs keep their order.
     pub fn shift_remove(&mut self, key: &K) -> Option<V>
         ensures value { result ≡ lookup (K.eq key.now) self.old }
         ensures removed { self.new ≡ remove_entry (K.eq key.now) self.old }
@@ -131,7 +132,7 @@ impl<K: Eq + Hash + Drop, V> OrderedMap<K, V> {
 impl<K: Eq + Hash + Clone, V: Clone> Clone for OrderedMap<K, V> {
     ghost is_clone = { AllZip (λ p q. K.is_clone p.0 q.0 × V.is_clone p.1 q.1) };
 
-    // It wants memory, and fails too where a key's clone isn't equal to the key, or hashes otherwise.
+    // It allocates, and fails too if a key's clone isn't equal to the key, or has another hash.
     fn clone(&self) -> Result<OrderedMap<K, V>, AllocError> {
         Ok(OrderedMap {
             pairs: self.pairs.clone()?,

@@ -11,7 +11,7 @@ ghost use Rattle.amqp_codec.specs.MapReading.{ReadsPairsRow, PairsFault};
 ghost use Rattle.amqp_codec.specs.MapReadingLaws.{map_of, map_faults};
 ghost use Rattle.amqp_codec.specs.MapWriting.{map_agreement};
 
-use crate::OrderedMap;
+use crate::{KeyHashing, OrderedMap};
 use amqp_codec::{DeserializeTerm, MapKey};
 use amqp_decoder::Decoder;
 use amqp_wire::{ByteSource, Error};
@@ -19,12 +19,12 @@ use indexmap::IndexMap;
 use indexmap::map::{Entry, VacantEntry};
 use std::alloc::Global;
 
-// The place behind the last pair, with room, for a key that none of them has. A key that one of them has is `DuplicateKey`, and
-// memory for the room that is refused is `Memory`.
+// The place after the last pair, with room, for a key that none of them has. A key that one of them has is `DuplicateKey`, and a failed
+// allocation of the room is `Memory`.
 fn new_place<K: MapKey, V: DeserializeTerm>(
-    pairs: &mut IndexMap<K, V>,
+    pairs: &mut IndexMap<K, V, KeyHashing>,
     key: K,
-) -> Result<VacantEntry<'_, K, V>, Error>
+) -> Result<VacantEntry<'_, K, V, KeyHashing>, Error>
     ensures same_pairs { IfOk result (λ place. (entry_map_ref (Vacant place)).ghost_name ≡ pairs.entry.ghost_name) }
     ensures last { IfOk result (λ place. (v : V) → (map_with_value (Vacant place) v).entries ≡ insert_entry K.eq pairs.old.entries key v) }
     ensures new { OnOk result (get K.eq pairs.old key ≡ None) }
@@ -37,9 +37,9 @@ fn new_place<K: MapKey, V: DeserializeTerm>(
     }
 }
 
-// Reads so many pairs one after another. The count reserves nothing: memory is taken as keys come, and `Memory` is answered
-// where that is refused. A key that is equal to one before it is `DuplicateKey`, before its value is read. Any other error is
-// of the first key or value that can't be read. Each key is hashed once.
+// Reads so many pairs one after another. The count reserves nothing: memory is allocated as keys come, and if that fails, the error is
+// `Memory`. A key that is equal to one before it is `DuplicateKey`, before its value is read. Any other error is that of the first key or
+// value that can't be read. Each key is hashed once.
 fn read_pairs<K: MapKey, V: DeserializeTerm, R: ByteSource>(
     count: u32,
     decoder: &mut Decoder<R>,
@@ -49,7 +49,8 @@ fn read_pairs<K: MapKey, V: DeserializeTerm, R: ByteSource>(
         (PairsFault K.term V.term count) decoder.old result decoder.new }
     ensures tries { Passes true decoder.old result decoder.new }
 {
-    let mut pairs = IndexMap::new(alloc);
+    let seed = decoder.hash_seed();
+    let mut pairs = IndexMap::with_hasher(alloc, KeyHashing { seed });
     for _ in 0..count {
         let key = K::read_value(decoder, alloc)?;
         match new_place(&mut pairs, key) {

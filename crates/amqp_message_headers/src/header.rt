@@ -15,15 +15,15 @@ use std::marker::Model;
 /// The header of a message: how it is to be delivered (Part 3, section 3.2.1). Nodes on the way of the message may change it.
 #[derive(Clone, Debug, PartialEq, Eq, PartialOrd, Ord, Hash, Drop)]
 pub struct Header {
-    /// Whether the message must survive the loss or restart of a node. `false` if the field is left out.
+    /// Whether the message must survive the loss or restart of a node. `false` if the field is omitted.
     pub durable: bool,
-    /// The priority of the message, greater numbers before smaller ones. 4 if the field is left out.
+    /// The priority of the message: greater numbers come before smaller ones. 4 if the field is omitted.
     pub priority: Priority,
     /// For how many milliseconds the message is live. `None` means without end.
     pub ttl: Option<u32>,
-    /// Whether no other link has acquired the message before. `false` if the field is left out.
+    /// Whether no other link has acquired the message before. `false` if the field is omitted.
     pub first_acquirer: bool,
-    /// How many earlier attempts to deliver the message have failed. 0 if the field is left out.
+    /// How many earlier attempts to deliver the message have failed. 0 if the field is omitted.
     pub delivery_count: u32,
 }
 
@@ -31,7 +31,7 @@ impl Header {
     /// The code and the name of its descriptor.
     pub const DESCRIPTOR: (u64, &'static str) = (0x70, "amqp:header:list");
 
-    /// A header to be made call by call, in which every field is left out.
+    /// Returns a builder of a header, in which every field is omitted.
     pub fn builder() -> Builder
         ensures { result ≡ default_header }
     {
@@ -39,7 +39,7 @@ impl Header {
     }
 }
 
-/// Every field is left out.
+/// By default every field is omitted.
 impl Default for Header {
     ghost is_default = { λ made. made ≡ default_header };
 
@@ -141,7 +141,7 @@ impl CompositeTerm for Header {
     ghost agrees = { agreement (composite header) refl };
 }
 
-/// A header that is made call by call. A field that no call sets is left out.
+/// A header that is made call by call. A field that no call sets is omitted.
 #[derive(Clone, Debug, Drop)]
 pub struct Builder {
     header: Header,
@@ -159,7 +159,7 @@ impl Model for Builder {
     ghost view = { λ b. b.header };
 }
 
-/// Every field is left out.
+/// By default every field is omitted.
 impl Default for Builder {
     ghost is_default = { λ builder. builder ≡ default_header };
 
@@ -169,7 +169,7 @@ impl Default for Builder {
 }
 
 impl Builder {
-    /// Every field is left out.
+    /// Returns a builder in which every field is omitted.
     pub fn new() -> Builder
         ensures { result ≡ default_header }
     {
@@ -218,7 +218,7 @@ impl Builder {
         self
     }
 
-    /// The header.
+    /// Returns the header.
     pub fn build(self) -> Header
         ensures { result ≡ self }
     {

@@ -1,4 +1,4 @@
-//! What holds of headers and properties beyond the laws of every type. The functions do nothing; their contracts are proved.
+//! What holds for headers and properties in addition to the laws of every type. The functions do nothing; their contracts are proved.
 ghost use Rattle.std.specs.Prelude.{◌≡◌, true, false, IsTrue, Option};
 ghost use Rattle.std.specs.Ordering.{nat_cmp};
 ghost use Rattle.std.specs.declared.cmp.Ordering.TheVariants.{Less};
@@ -8,13 +8,13 @@ use crate::{Header, MESSAGE_FORMAT, MessageId, Priority, Properties};
 use amqp_codec::{Canonical, Deserialize, Symbol};
 use amqp_primitives::{Binary, Timestamp, Uuid};
 
-/// A header is read without memory, so that `from_slice` returns `Memory` for none.
+/// A header and a priority are read without allocating, so `from_slice` never returns `Memory` for them.
 pub fn reading_takes_no_memory()
     ensures header { ⟦<Header as Deserialize>⟧.reading.takes_memory ≡ false }
     ensures priority { ⟦<Priority as Deserialize>⟧.reading.takes_memory ≡ false }
 {}
 
-/// No spelling of a value of these is shorter than its canonical text.
+/// For these types, no encoding of a value is shorter than its canonical text.
 pub fn texts_are_least()
     ensures header { ⟦<Header as Canonical>⟧.is_least ≡ true }
     ensures priority { ⟦<Priority as Canonical>⟧.is_least ≡ true }
@@ -32,7 +32,8 @@ pub fn orders()
     ensures priority { (a b : _) → ⟦<Priority as Ord>⟧.cmp a b ≡ nat_cmp a.0 b.0 }
 {}
 
-/// Identifiers stand in the order of the enum: numbers, identifiers of 16 bytes, bytes, texts; two of one kind as their contents do.
+/// Identifiers are ordered as the enum's variants are: numbers, identifiers of 16 bytes, bytes, texts. Two of one variant are ordered as
+/// their contents.
 pub fn identifiers_are_ordered()
     ensures numbers { (x y : _) → ⟦<MessageId as Ord>⟧.cmp (id.Ulong x) (id.Ulong y) ≡ nat_cmp x y }
     ensures uuids { (x y : _) → ⟦<MessageId as Ord>⟧.cmp (id.Uuid x) (id.Uuid y) ≡ ⟦<Uuid as Ord>⟧.cmp x y }
@@ -46,18 +47,18 @@ pub fn identifiers_are_ordered()
     ensures binary_before_string { (x y : _) → ⟦<MessageId as Ord>⟧.cmp (id.Binary x) (id.String y) ≡ Less }
 {}
 
-/// Where copies of values are equal to them, so is a copy of a value that may be absent.
+/// If clones of values are equal to them, a clone of an optional value is equal to it.
 pub fn copies_of_options_are_equal<T: Clone + PartialEq>()
     ensures { ((v w : T) → T.is_clone v w → IsTrue (T.eq v w)) → (v copy : Option T) → ⟦<Option<T> as Clone>⟧.is_clone v copy
         → IsTrue (⟦<Option<T> as PartialEq>⟧.eq v copy) }
 {}
 
-// A copy of an identifier is equal to it.
+// A clone of an identifier is equal to it.
 fn copies_of_identifiers_are_equal()
     ensures { (v copy : _) → ⟦<MessageId as Clone>⟧.is_clone v copy → IsTrue (⟦<MessageId as PartialEq>⟧.eq v copy) }
 {}
 
-/// A copy of each of these is equal to what it was made of.
+/// A clone of each of these is equal to what it was made of.
 pub fn copies_are_equal()
     ensures header { (v copy : _) → ⟦<Header as Clone>⟧.is_clone v copy → IsTrue (⟦<Header as PartialEq>⟧.eq v copy) }
     ensures message_id { (v copy : _) → ⟦<MessageId as Clone>⟧.is_clone v copy → IsTrue (⟦<MessageId as PartialEq>⟧.eq v copy) }

@@ -1,4 +1,4 @@
-//! Headers and properties of messages (Part 3, sections 3.2.1 and 3.2.4), and what stands in them.
+//! Headers and properties of messages (Part 3, sections 3.2.1 and 3.2.4), and the types of their fields.
 #![tactic(auto)]
 
 pub mod header;
@@ -12,5 +12,5 @@ pub use message_id::MessageId;
 pub use priority::Priority;
 pub use properties::Properties;
 
-/// The format of messages as the standard has them (Part 3, section 3.2.16).
+/// The format of messages in the standard (Part 3, section 3.2.16).
 pub const MESSAGE_FORMAT: u32 = 0;

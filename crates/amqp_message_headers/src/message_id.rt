@@ -14,7 +14,7 @@ use amqp_kind_sums::{Kind, KindSum, read_as, read_kind_sum};
 use amqp_primitives::{Binary, Uuid};
 use std::alloc::Global;
 
-/// The identifier of a message, of one of four types, which its first code tells. Any other type is `WrongType`.
+/// The identifier of a message, of one of four types, as its first code determines. Any other type is refused with `WrongType`.
 #[derive(Clone, Debug, PartialEq, Eq, PartialOrd, Ord, Hash, Drop)]
 pub enum MessageId {
     /// A number (Part 3, section 3.2.11).

@@ -6,7 +6,7 @@ ghost use Rattle.amqp_message_headers.specs.Priorities.{priority_type};
 use amqp_codec::{ByteSource, Decoder, DeserializeTerm, Encoder, Error, Serialize, SerializeTerm};
 use std::alloc::Global;
 
-/// How urgent a message is, beside others: a greater number is more urgent. The default is 4 (Part 3, section 3.2.1).
+/// How urgent a message is, compared with others: a greater number is more urgent. The default is 4 (Part 3, section 3.2.1).
 #[derive(Clone, Copy, Debug, PartialEq, Eq, PartialOrd, Ord, Hash)]
 pub struct Priority(pub u8);
 

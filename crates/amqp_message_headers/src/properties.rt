@@ -13,13 +13,13 @@ use amqp_primitives::{Binary, Timestamp};
 use std::alloc::Global;
 use std::marker::Model;
 
-/// The properties of a message (Part 3, section 3.2.4): fields of the bare message, which no node on its way may change. Each is `None` if
-/// it is left out.
+/// The properties of a message (Part 3, section 3.2.4): fields of the bare message, which no node on its way may change. A field is `None`
+/// if it is omitted.
 #[derive(Clone, Debug, PartialEq, Eq, PartialOrd, Ord, Hash, Drop)]
 pub struct Properties {
     /// Identifies the message among all messages of its sender.
     pub message_id: Option<MessageId>,
-    /// The identity of the user who has produced the message, as the receiver may check it.
+    /// The identity of the user who produced the message, as the receiver may check it.
     pub user_id: Option<Binary>,
     /// The address of the node that the message is sent to.
     pub to: Option<String>,
@@ -35,7 +35,7 @@ pub struct Properties {
     pub content_encoding: Option<Symbol>,
     /// When the message expires, in milliseconds since the Unix epoch.
     pub absolute_expiry_time: Option<Timestamp>,
-    /// When the message was made, in milliseconds since the Unix epoch.
+    /// When the message was created, in milliseconds since the Unix epoch.
     pub creation_time: Option<Timestamp>,
     /// The group that the message belongs to.
     pub group_id: Option<String>,
@@ -49,7 +49,7 @@ impl Properties {
     /// The code and the name of its descriptor.
     pub const DESCRIPTOR: (u64, &'static str) = (0x73, "amqp:properties:list");
 
-    /// Every field is left out.
+    /// Returns properties in which every field is omitted.
     pub fn new() -> Properties
         ensures { result ≡ no_properties }
     {
@@ -70,7 +70,7 @@ impl Properties {
         }
     }
 
-    /// Properties to be made call by call, in which every field is left out.
+    /// Returns a builder of properties, in which every field is omitted.
     pub fn builder() -> Builder
         ensures { result ≡ no_properties }
     {
@@ -78,7 +78,7 @@ impl Properties {
     }
 }
 
-/// Every field is left out.
+/// By default every field is omitted.
 impl Default for Properties {
     ghost is_default = { λ made. made ≡ no_properties };
 
@@ -214,7 +214,7 @@ impl CompositeTerm for Properties {
     ghost agrees = { agreement (composite properties) refl };
 }
 
-/// Properties that are made call by call. A field that no call sets is left out.
+/// Properties that are made call by call. A field that no call sets is omitted.
 #[derive(Clone, Debug, Drop)]
 pub struct Builder {
     properties: Properties,
@@ -232,7 +232,7 @@ impl Model for Builder {
     ghost view = { λ b. b.properties };
 }
 
-/// Every field is left out.
+/// By default every field is omitted.
 impl Default for Builder {
     ghost is_default = { λ builder. builder ≡ no_properties };
 
@@ -242,7 +242,7 @@ impl Default for Builder {
 }
 
 impl Builder {
-    /// Every field is left out.
+    /// Returns a builder in which every field is omitted.
     pub fn new() -> Builder
         ensures { result ≡ no_properties }
     {
@@ -259,7 +259,7 @@ impl Builder {
         self
     }
 
-    /// Sets the identity of the user who has produced the message.
+    /// Sets the identity of the user who produced the message.
     pub fn user_id(mut self, user: Binary) -> Builder
         ensures { result ≡ record self { user_id = Some user } }
     {
@@ -323,7 +323,7 @@ impl Builder {
         self
     }
 
-    /// Sets when the message was made, in milliseconds since the Unix epoch.
+    /// Sets when the message was created, in milliseconds since the Unix epoch.
     pub fn creation_time(mut self, time: Option<Timestamp>) -> Builder
         ensures { result ≡ record self { creation_time = time } }
     {
@@ -355,7 +355,7 @@ impl Builder {
         self
     }
 
-    /// The properties.
+    /// Returns the properties.
     pub fn build(self) -> Properties
         ensures { result ≡ self }
     {

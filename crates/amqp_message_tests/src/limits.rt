@@ -1,9 +1,9 @@
 //! Messages within limits of the caller: each section counts against one limit of bytes and one of values.
 use amqp_batches::Batch;
-use amqp_bodies::FromBody;
-use amqp_codec::{Deserialize, Error};
-use amqp_messages::{Message, Strict, decode_message_strict_within};
-use amqp_read_write::from_slice_within;
+use amqp_bodies::{CanonicalBody, FromBody};
+use amqp_codec::{Canonical, Deserialize, Error};
+use amqp_messages::{Message, Strict, canonical_text_strict_within, decode_message_strict_within};
+use amqp_read_write::{canonical_text_within, from_slice_within};
 use amqp_sections::Data;
 use amqp_wire::Limits;
 use std::alloc::Global;
@@ -88,5 +88,46 @@ fn strict_messages_have_limits(rt: HostRuntime) -> Result<(), Fail> {
     let alloc = rt.alloc();
     assert!(rt; strict_length::<Batch<Data>>(MESSAGE, &within(2, 22, 4), alloc)?);
     assert!(rt; !strict_length::<Batch<Data>>(MESSAGE, &within(2, 22, 3), alloc)?);
+    Ok(())
+}
+
+// Whether the text with these digits is rewritten as itself, all of it.
+fn is_rewritten<T: Canonical>(digits: &str, limits: &Limits, alloc: Global) -> Result<bool, Fail> {
+    let input = hex::decode(alloc, digits)?;
+    let (text, len) = canonical_text_within::<T>(input.as_slice(), limits, alloc)?;
+    Ok(text.as_slice() == input.as_slice() && len == input.len())
+}
+
+fn is_rewritten_strictly<B: CanonicalBody>(
+    digits: &str,
+    limits: &Limits,
+    alloc: Global,
+) -> Result<bool, Fail> {
+    let input = hex::decode(alloc, digits)?;
+    let text = canonical_text_strict_within::<B>(input.as_slice(), limits, alloc)?;
+    Ok(text.as_slice() == input.as_slice())
+}
+
+// Whether neither call rewrites the text within these limits.
+fn passes_rewritten<B: CanonicalBody>(
+    digits: &str,
+    limits: &Limits,
+    alloc: Global,
+) -> Result<bool, Fail> {
+    let input = hex::decode(alloc, digits)?;
+    let lenient = canonical_text_within::<Message<B>>(input.as_slice(), limits, alloc).err();
+    let strict = canonical_text_strict_within::<B>(input.as_slice(), limits, alloc).err();
+    Ok(lenient == Some(Error::Limit) && strict == Some(Error::Limit))
+}
+
+#[test]
+fn texts_have_limits(rt: HostRuntime) -> Result<(), Fail> {
+    let alloc = rt.alloc();
+    let exact = within(2, 22, 4).with_hash_seed(7);
+    assert!(rt; is_rewritten::<Message<Batch<Data>>>(MESSAGE, &exact, alloc)?);
+    assert!(rt; is_rewritten_strictly::<Batch<Data>>(MESSAGE, &exact, alloc)?);
+    assert!(rt; passes_rewritten::<Batch<Data>>(MESSAGE, &within(2, 21, 4), alloc)?);
+    assert!(rt; passes_rewritten::<Batch<Data>>(MESSAGE, &Limits::for_peers(21), alloc)?);
+    assert!(rt; is_rewritten_strictly::<Batch<Data>>(MESSAGE, &Limits::for_peers(22), alloc)?);
     Ok(())
 }

@@ -2,8 +2,8 @@
 use Rattle.std.proofs.Common.{◌≡◌, ℕ, List, length, subst}
 use Rattle.amqp_wire.specs.declared.limits.Limits.{Limits}
 use Rattle.amqp_model.specs.Term.{Term}
-use Rattle.amqp_codec.specs.Reading.{Reading, BeginsWithin, greatest}
-use Rattle.amqp_read_write.specs.Rewritten.{IsRewritten, IsReadAgain, IsOneText, IsOfNoOther}
+use Rattle.amqp_codec.specs.Reading.{Reading, BeginsWithin}
+use Rattle.amqp_read_write.specs.Rewritten.{IsRewrittenWithin, IsReadAgain, IsOneText, IsOfNoOther}
 use Rattle.amqp_batches.specs.WalkReading.{walk_reading, reading_via}
 use Rattle.amqp_bodies.specs.Bodies.{Made}
 use Rattle.amqp_messages.specs.declared.order.Order.TheVariants.{Any, Written}
@@ -25,13 +25,14 @@ module _ {S B : Type 0} (made : Made S B) where
         strict_whole (message_of made) limits input (message_in v) n k,
       )
 
-  module _ {canons : Strict B → List Term} {input text : List ℕ} {n : ℕ} (h : IsRewritten strict canons input text n) where
+  module _ (limits : Limits) {canons : Strict B → List Term} {input text : List ℕ} {n : ℕ}
+      (h : IsRewrittenWithin limits strict canons input text n) where
     is_all : n ≡ length input
-    is_all = (strict_message greatest input h.value n h.read).1
+    is_all = (strict_message limits input h.value n h.read).1
 
     -- what is said of its length is said of the input's
-    pub text_of_all : IsRewritten strict canons input text (length input)
-    text_of_all = subst (IsRewritten strict canons input text) is_all h
+    pub text_of_all : IsRewrittenWithin limits strict canons input text (length input)
+    text_of_all = subst (IsRewrittenWithin limits strict canons input text) is_all h
 
     pub again_of_all : {follows : List ℕ → Type 0} {again : Strict B → Strict B} {kept : Strict B → Type 0}
         → IsReadAgain strict follows again kept input text n → IsReadAgain strict follows again kept input text (length input)

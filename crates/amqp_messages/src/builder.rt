@@ -1,4 +1,4 @@
-//! Messages made call by call (Part 3, section 3.2).
+//! Messages that are made call by call (Part 3, section 3.2).
 ghost use Rattle.std.specs.Prelude.{◌≡◌};
 ghost use Rattle.amqp_messages.specs.Builders.{built, empty_builder, with_body};
 
@@ -8,19 +8,19 @@ use amqp_map_sections::{ApplicationProperties, DeliveryAnnotations, Footer, Mess
 use amqp_message_headers::{Header, Properties};
 use amqp_sections::{AmqpSequence, AmqpValue, Data};
 
-/// Stands for the body while a message has none yet.
+/// The body of a builder that has no body yet.
 #[derive(Debug, Default, Drop)]
 pub struct EmptyBody;
 
-/// A message that is made call by call. It begins without sections; the body is set by one of `body`, `value`, `sequence`,
+/// A message that is made call by call. It begins without sections. The body is set by one of `body`, `value`, `sequence`,
 /// `sequence_batch`, `data` and `data_batch`.
 #[derive(Clone, Debug, Default, Drop)]
 pub struct Builder<T> {
-    /// How it is to be delivered.
+    /// How the message is to be delivered.
     pub header: Option<Header>,
-    /// What is said of its delivery from node to node.
+    /// What is said about its delivery from node to node.
     pub delivery_annotations: Option<DeliveryAnnotations>,
-    /// What is said of it from its sender on.
+    /// What is said about it from its sender on.
     pub message_annotations: Option<MessageAnnotations>,
     /// Its properties by the standard.
     pub properties: Option<Properties>,
@@ -28,12 +28,12 @@ pub struct Builder<T> {
     pub application_properties: Option<ApplicationProperties>,
     /// What it carries.
     pub body: T,
-    /// What can only be told behind the body.
+    /// What can only be told after the body.
     pub footer: Option<Footer>,
 }
 
 impl Builder<EmptyBody> {
-    /// No section is there yet.
+    /// Returns a builder without sections.
     pub fn new() -> Builder<EmptyBody>
         ensures { result ≡ empty_builder }
     {
@@ -50,7 +50,7 @@ impl Builder<EmptyBody> {
 }
 
 impl<T> Builder<T> {
-    /// Sets the header; `None` leaves it out.
+    /// Sets the header; `None` omits it.
     pub fn header(mut self, header: Option<Header>) -> Builder<T>
         ensures { result ≡ record self { header = header } }
     {
@@ -58,7 +58,7 @@ impl<T> Builder<T> {
         self
     }
 
-    /// Sets the delivery annotations; `None` leaves them out.
+    /// Sets the delivery annotations; `None` omits them.
     pub fn delivery_annotations(
         mut self,
         delivery_annotations: Option<DeliveryAnnotations>,
@@ -69,7 +69,7 @@ impl<T> Builder<T> {
         self
     }
 
-    /// Sets the message annotations; `None` leaves them out.
+    /// Sets the message annotations; `None` omits them.
     pub fn message_annotations(
         mut self,
         message_annotations: Option<MessageAnnotations>,
@@ -80,7 +80,7 @@ impl<T> Builder<T> {
         self
     }
 
-    /// Sets the properties; `None` leaves them out.
+    /// Sets the properties; `None` omits them.
     pub fn properties(mut self, properties: Option<Properties>) -> Builder<T>
         ensures { result ≡ record self { properties = properties } }
     {
@@ -88,7 +88,7 @@ impl<T> Builder<T> {
         self
     }
 
-    /// Sets the application properties; `None` leaves them out.
+    /// Sets the application properties; `None` omits them.
     pub fn application_properties(
         mut self,
         application_properties: Option<ApplicationProperties>,
@@ -99,7 +99,7 @@ impl<T> Builder<T> {
         self
     }
 
-    /// Sets the footer; `None` leaves it out.
+    /// Sets the footer; `None` omits it.
     pub fn footer(mut self, footer: Option<Footer>) -> Builder<T>
         ensures { result ≡ record self { footer = footer } }
     {
@@ -133,7 +133,7 @@ impl<T> Builder<T> {
         self.body(AmqpValue(value))
     }
 
-    /// Sets the body to one section of a list.
+    /// Sets the body to one section with a list.
     pub fn sequence<V>(self, sequence: AmqpSequence<V>) -> Builder<AmqpSequence<V>>
     where
         T: Drop,
@@ -142,7 +142,7 @@ impl<T> Builder<T> {
         self.body(sequence)
     }
 
-    /// Sets the body to sections of lists, one after another.
+    /// Sets the body to sections with lists, one after another.
     pub fn sequence_batch<V>(self, batch: Batch<AmqpSequence<V>>) -> Builder<Batch<AmqpSequence<V>>>
     where
         T: Drop,
@@ -151,7 +151,7 @@ impl<T> Builder<T> {
         self.body(batch)
     }
 
-    /// Sets the body to one section of bytes.
+    /// Sets the body to one section with bytes.
     pub fn data(self, data: Data) -> Builder<Data>
     where
         T: Drop,
@@ -160,7 +160,7 @@ impl<T> Builder<T> {
         self.body(data)
     }
 
-    /// Sets the body to sections of bytes, one after another.
+    /// Sets the body to sections with bytes, one after another.
     pub fn data_batch(self, batch: Batch<Data>) -> Builder<Batch<Data>>
     where
         T: Drop,
@@ -169,7 +169,7 @@ impl<T> Builder<T> {
         self.body(batch)
     }
 
-    /// The message.
+    /// Returns the message.
     pub fn build(self) -> Message<T>
         ensures { result ≡ built self }
     {
@@ -186,7 +186,7 @@ impl<T> Builder<T> {
 }
 
 impl Message<EmptyBody> {
-    /// A message that is made call by call, of which no section is there yet.
+    /// Returns a builder of a message, without sections.
     pub fn builder() -> Builder<EmptyBody>
         ensures { result ≡ empty_builder }
     {

@@ -4,7 +4,7 @@ ghost use Rattle.amqp_messages.specs.MessageCalls.{one_if_there, sections_of, la
 
 use crate::message::Message;
 
-// One for a section that is there.
+// One for a section that is present.
 fn count<T>(section: &Option<T>) -> usize
     ensures count { result ≡ one_if_there section.now }
     ensures few { result ≤ 1 }
@@ -16,7 +16,7 @@ fn count<T>(section: &Option<T>) -> usize
 }
 
 impl<B> Message<B> {
-    /// How many sections it has: one for the body, and the others that are there.
+    /// Returns how many sections it has: one for the body, and the others that are present.
     pub fn sections(&self) -> usize
         ensures { result ≡ sections_of self.now }
     {
@@ -25,7 +25,7 @@ impl<B> Message<B> {
         count(&self.header) + annotations + properties + 1 + count(&self.footer)
     }
 
-    /// The code of its last section: 0x78 if it has a footer, otherwise 0x77, whatever the body is.
+    /// Returns the code of its last section: 0x78 if it has a footer, otherwise 0x77, whatever the body is.
     pub fn last_section_code(&self) -> u8
         ensures { result ≡ last_code_of self.now }
     {
@@ -35,7 +35,7 @@ impl<B> Message<B> {
         }
     }
 
-    /// The message with another body, which the closure makes of this one.
+    /// Returns the message with another body, which the closure makes of this one.
     pub fn map_body<C, F: FnOnce(B) -> C>(self, change: F) -> Message<C>
         requires { F.pre change self.body }
         ensures body { F.post change self.body result.body }

@@ -9,7 +9,7 @@ use crate::message::Message;
 use amqp_bodies::CanonicalBody;
 use amqp_codec::Canonical;
 
-/// In whatever order its sections stand, a message has one text: the sections in the standard's order. Nothing may follow it.
+/// A message has one text, whatever the order of its sections was: the sections in the standard's order. Nothing may follow it.
 impl<B: CanonicalBody> Canonical for Message<B> {
     ghost follows = { λ more. more ≡ [] };
 

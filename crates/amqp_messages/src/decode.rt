@@ -13,15 +13,15 @@ use amqp_read_write::from_reader;
 use amqp_wire::{ByteSource, Error};
 use std::alloc::Global;
 
-/// What a message can be read with as its body: whatever is made of a body that is read.
+/// What can be the body of a message that is read from a reader.
 pub trait DecodeIntoMessage: Sized {
-    /// Why there is no message.
+    /// The error if there is no message.
     type DecodeError;
 
     // The bytes begin with the message, which takes so many of them.
     ghost begins: { List ℕ → MessageOf Self → ℕ → Type 0 };
 
-    /// The message that the reader's bytes begin with.
+    /// Reads the message at the start of the reader's bytes.
     fn decode_message_from_reader<R: ByteSource>(
         reader: &mut R,
         alloc: Global,
@@ -29,8 +29,8 @@ pub trait DecodeIntoMessage: Sized {
         ensures found { Tells R.remaining → IfOk result (λ message. (n : ℕ) × begins (known (R.remaining reader.old)) message n) };
 }
 
-/// As `from_reader` reads the message: its sections stand in any order, of each kind the last counts, and at most seven groups are read.
-/// The reader may have been read further than the message goes.
+/// Reads the message as `from_reader` does: its sections are in any order, the last of each kind counts, and at most seven groups are read.
+/// The reader may have been read further than the end of the message.
 impl<B: FromBody> DecodeIntoMessage for B {
     type DecodeError = Error;
 
@@ -56,12 +56,12 @@ impl<B: FromBody> DecodeIntoMessage for B {
     }
 }
 
-/// What is made of a message with this body: whatever is made of a body that is read so.
+/// What can be made of a message with this body. Each type that can be made of a body that is read is one.
 pub trait FromMessage<B>: Sized {
     // The value is made of the body.
     ghost of_body: { B → Self → Type 0 };
 
-    /// The value that is made of the message's body; its other sections are dropped. The only error is `Memory`.
+    /// Makes the value of the message's body, and drops the other sections. The only error is `Memory`.
     fn from_message(message: Message<B>, alloc: Global) -> Result<Self, Error>
         ensures value { IfOk result (λ v. of_body message.body v) }
         ensures memory { IfErr result (λ e. e ≡ Memory) };

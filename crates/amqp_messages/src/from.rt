@@ -1,11 +1,11 @@
-//! Messages of a value (Part 3, section 3.2).
+//! Messages made of a value (Part 3, section 3.2).
 ghost use Rattle.std.specs.Prelude.{◌≡◌};
 ghost use Rattle.amqp_messages.specs.MessageCalls.{only_body};
 
 use crate::message::Message;
 use amqp_bodies::IntoBody;
 
-/// The message whose body is the value's, without any other section.
+/// Makes the message whose body is the value's, without any other section.
 impl<T: IntoBody<Body = B>, B> From<T> for Message<B> {
     ghost from_gives = { λ value message. message ≡ only_body (T.body value) };
 

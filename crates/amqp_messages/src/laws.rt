@@ -1,4 +1,4 @@
-//! What holds of messages beyond the laws of every type. The functions do nothing; their contracts are proved.
+//! What holds for messages in addition to the laws of every type. The functions do nothing; their contracts are proved.
 ghost use Rattle.std.specs.Prelude.{◌≡◌, ◌↔◌, ℕ, List, IsTrue, take};
 ghost use Rattle.amqp_wire.specs.declared.limits.Limits.{Limits};
 ghost use Rattle.amqp_wire.specs.Limits.{limit_of};
@@ -19,9 +19,9 @@ use amqp_map_sections::{ApplicationProperties, DeliveryAnnotations, Footer, Mess
 use amqp_message_headers::laws::copies_of_options_are_equal;
 use amqp_message_headers::{Header, Properties};
 
-/// Within limits of the caller a message is read from the first n bytes exactly if it is read from them without, n is no more than the limit
-/// on bytes, and the sections that they are nest no deeper and have no more values together than the limits say; a described value is one
-/// with its descriptor. So it is in any order of the sections, and strictly.
+/// Within limits of the caller, a message is read from the first n bytes exactly if it is read from them without limits, and they keep the
+/// limits. They do if n is at most the limit on bytes, and their sections nest no deeper and have together no more values than the limits
+/// allow. A described value is one with its descriptor. That is so for sections in any order, and for strict messages.
 pub fn limits_bound_messages<B: FromBody>()
     ensures any { (limits : Limits) (input : List ℕ) (message : _) (n : ℕ)
         → BeginsWithin limits ⟦<Message<B> as Deserialize>⟧.reading input message n
@@ -33,7 +33,7 @@ pub fn limits_bound_messages<B: FromBody>()
         × AreAllowed limits (take n input)) }
 {}
 
-/// By default a message has no section but its body, which is the default of its type.
+/// By default a message has only its body, which is the default of its type.
 pub fn defaults<B: Default>()
     ensures message { (message : MessageOf B) → ⟦<Message<B> as Default>⟧.is_default message
         → (message ≡ only_body message.body) × B.is_default message.body }
@@ -41,7 +41,7 @@ pub fn defaults<B: Default>()
         → (built builder ≡ only_body builder.body) × B.is_default builder.body }
 {}
 
-/// Each section of a copy is a copy of the one in its place, and none is there besides.
+/// Each section of a clone is a clone of the message's section, and it has no other sections.
 pub fn sections_are_copied<B: Clone>()
     ensures header { (message copy : MessageOf B) → ⟦<Message<B> as Clone>⟧.is_clone message copy
         → ⟦<Option<Header> as Clone>⟧.is_clone message.header copy.header }
@@ -58,7 +58,7 @@ pub fn sections_are_copied<B: Clone>()
         → ⟦<Option<Footer> as Clone>⟧.is_clone message.footer copy.footer }
 {}
 
-/// Where copies of bodies are equal to them, so is a copy of a message.
+/// If clones of bodies are equal to them, a clone of a message is equal to the message.
 pub fn copies_are_equal<B: Clone + PartialEq>()
     ensures { ((v w : B) → B.is_clone v w → IsTrue (B.eq v w)) → (message copy : MessageOf B)
         → ⟦<Message<B> as Clone>⟧.is_clone message copy → IsTrue (⟦<Message<B> as PartialEq>⟧.eq message copy) }

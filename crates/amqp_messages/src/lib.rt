@@ -1,4 +1,4 @@
-//! Messages: their sections in any order, and as the standard orders them (Part 3, section 3.2).
+//! Messages: their sections in any order, and in the standard's order (Part 3, section 3.2).
 #![tactic(auto)]
 
 pub mod builder;
@@ -20,5 +20,6 @@ pub use message::Message;
 pub use order::Order;
 pub use read::read_message;
 pub use strict::{
-    Strict, canonical_text_strict, decode_message_strict, decode_message_strict_within,
+    Strict, canonical_text_strict, canonical_text_strict_within, decode_message_strict,
+    decode_message_strict_within,
 };

@@ -35,7 +35,7 @@ impl Order {
         }
     }
 
-    // How many groups there may still be behind one whose section has this code.
+    // How many groups may still follow one whose section has this code.
     pub(crate) fn further(self, left: u8, code: u8) -> u8
         ensures { result ≡ further self left code }
     {
@@ -46,8 +46,9 @@ impl Order {
     }
 }
 
-/// The code of the section that comes next, where so many groups may still come; `None` if none is looked for, or the input ends.
-/// A section that may not stand there is `Misplaced`; what is no section, `NotSection` or the error of its descriptor.
+/// Returns the code of the section that comes next, if at most `left` groups may still come. It returns `None` if no section is looked for,
+/// or at the end of the input. A section that may not come there is `Misplaced`. What isn't a section is `NotSection`, or the error of its
+/// descriptor.
 pub(crate) fn next_section<R: ByteSource>(
     order: Order,
     left: u8,

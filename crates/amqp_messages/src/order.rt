@@ -1,10 +1,10 @@
-//! In which order the sections of a message may stand (Part 3, section 3.2).
+//! The order that the sections of a message may have (Part 3, section 3.2).
 
-/// In which order the sections of a message may stand.
+/// The order that the sections of a message may have.
 #[derive(Clone, Copy, Debug, PartialEq, Eq, Drop)]
 pub enum Order {
-    /// In any, and each kind several times.
+    /// Any order, and each kind any number of times.
     Any,
-    /// In that of the standard, each kind at most once.
+    /// The standard's order, each kind at most once.
     Written,
 }

@@ -22,7 +22,7 @@ use amqp_message_headers::{Header, Properties};
 use amqp_wire::{ByteSource, Error};
 use std::alloc::Global;
 
-// Reads a section, which takes the place of an earlier one.
+// Reads a section, which replaces an earlier one.
 fn put_section<T: DeserializeTerm, R: ByteSource>(
     place: &mut Option<T>,
     decoder: &mut Decoder<R>,
@@ -35,7 +35,7 @@ fn put_section<T: DeserializeTerm, R: ByteSource>(
     Ok(())
 }
 
-// Reads a group of the body's sections, which takes the place of an earlier one.
+// Reads a group of the body's sections, which replaces an earlier one.
 fn put_body<B: FromBody, R: ByteSource>(
     place: &mut Option<B::Body>,
     decoder: &mut Decoder<R>,
@@ -64,7 +64,7 @@ impl<S: Drop> Groups<S> {
         }
     }
 
-    // Reads the group that begins with the section of this code; it takes the place of an earlier one of its kind.
+    // Reads the group that begins with the section of this code. It replaces an earlier one of its kind.
     fn read_group<B: FromBody<Body = S>, R: ByteSource>(
         &mut self,
         code: u8,
@@ -115,7 +115,7 @@ impl<S: Drop> Groups<S> {
     }
 }
 
-/// Reads a message whose sections stand in this order.
+/// Reads a message whose sections are in this order.
 pub fn read_message<B: FromBody, R: ByteSource>(
     order: Order,
     decoder: &mut Decoder<R>,
@@ -137,7 +137,8 @@ pub fn read_message<B: FromBody, R: ByteSource>(
     }
 }
 
-/// In any order, and each kind several times: the last of each kind counts. After the seventh group the rest is left.
+/// The sections are in any order, and each kind any number of times: the last of each kind counts. What follows the seventh group isn't
+/// read.
 impl<B: FromBody> Deserialize for Message<B> {
     ghost reading = { walk_reading (message_walk Any (message_of B.made)) };
 

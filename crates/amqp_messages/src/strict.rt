@@ -1,4 +1,4 @@
-//! Messages whose sections stand in the standard's order, each kind at most once, to the end of the input (Part 3, section 3.2).
+//! Messages whose sections are in the standard's order, each kind at most once, to the end of the input (Part 3, section 3.2).
 ghost use Rattle.std.specs.Prelude.{◌≡◌, ◌⊎◌, ℕ, List, [], true, false, length, IfOk, IfErr, OnOk, MatchResult};
 ghost use Rattle.amqp_wire.specs.declared.error.Error.TheVariants.{Memory, Limit};
 ghost use Rattle.amqp_wire.specs.declared.limits.Limits.{Limits};
@@ -7,6 +7,7 @@ ghost use Rattle.amqp_decoder.specs.Steps.{IsReadError};
 ghost use Rattle.amqp_codec.specs.Reading.{IsGreatest, BeginsWith, IsUnreadable, BeginsWithin, IsUnreadableWithin};
 ghost use Rattle.amqp_codec.specs.Agreement.{via_writing};
 ghost use Rattle.amqp_read_write.specs.Rewritten.{IsRewritten, IsReadAgain, AreReadAgain, IsOneText, IsOfNoOther, IsUnchanged, IsUnwritten};
+ghost use Rattle.amqp_read_write.specs.Rewritten.{IsRewrittenWithin, IsUnwrittenWithin};
 ghost use Rattle.amqp_annotations.specs.AnnotationsType.{annotations_agreement};
 ghost use Rattle.amqp_map_sections.specs.SimpleMaps.{simple_map_agreement};
 ghost use Rattle.amqp_batches.specs.WalkReading.{walk_reading, reading_via};
@@ -16,13 +17,14 @@ ghost use Rattle.amqp_messages.specs.MessageTypes.{message_of, message_in, as_st
 ghost use Rattle.amqp_messages.specs.MessageWalk.{message_walk};
 ghost use Rattle.amqp_messages.specs.StrictAgain.{strict_is_rewritten};
 
+use crate::laws::limits_bound_messages;
 use crate::message::Message;
 use crate::order::Order;
 use crate::read::read_message;
 use amqp_bodies::{CanonicalBody, FromBody, SerializableBody};
 use amqp_codec::{Canonical, Deserialize, Encoder, Serialize};
 use amqp_decoder::Decoder;
-use amqp_read_write::{canonical_text, from_reader, from_reader_within};
+use amqp_read_write::{canonical_text, canonical_text_within, from_reader, from_reader_within};
 use amqp_wire::{ByteSource, Error, Limits};
 use std::alloc::Global;
 
@@ -30,7 +32,7 @@ use std::alloc::Global;
 #[derive(Debug, PartialEq, Eq, Drop)]
 pub struct Strict<B>(pub Message<B>);
 
-/// In the standard's order, each kind at most once, to the end of the input: another section is `Misplaced`.
+/// The sections are in the standard's order, each kind at most once, to the end of the input. Any other section is `Misplaced`.
 impl<B: FromBody> Deserialize for Strict<B> {
     ghost reading = { reading_via (walk_reading (message_walk Written (message_of B.made))) message_in };
 
@@ -58,7 +60,7 @@ impl<B: SerializableBody> Serialize for Strict<B> {
     }
 }
 
-/// It is written as any message.
+/// It is written as any other message.
 impl<B: CanonicalBody> Canonical for Strict<B> {
     ghost follows = { λ more. more ≡ [] };
 
@@ -73,10 +75,13 @@ impl<B: CanonicalBody> Canonical for Strict<B> {
     ghost rewrites = { strict_is_rewritten annotations_agreement simple_map_agreement B.is_text };
 }
 
-/// The message that the reader's bytes are, read strictly: its sections stand in the standard's order (header, delivery annotations,
-/// message annotations, properties, application properties, body, footer), each kind at most once, and nothing follows them. A section
-/// that doesn't come after those before it is `Misplaced`; any other error is that of a message in any order. A strict message is a message
-/// in any order, with the same value, and it is the whole input.
+/// Reads the message that the reader's bytes are, strictly. Its sections are in the standard's order: header, delivery annotations, message
+/// annotations, properties, application properties, body, footer. Each kind comes at most once, and nothing follows them. A strict message
+/// is a message in any order too, with the same value, and it is the whole input.
+///
+/// # Errors
+///
+/// A section that isn't later in that order than all sections before it is `Misplaced`. Any other error is that of a message in any order.
 pub fn decode_message_strict<B: FromBody, R: ByteSource>(
     reader: &mut R,
     alloc: Global,
@@ -101,8 +106,8 @@ pub fn decode_message_strict<B: FromBody, R: ByteSource>(
     }
 }
 
-/// Within limits of the caller, the message that the reader's bytes are, read strictly. It is refused as by `decode_message_strict`, and by
-/// `Limit` if it passes a limit.
+/// Reads the message that the reader's bytes are, strictly and within limits of the caller. It returns the errors of
+/// `decode_message_strict`, or `Limit` if the message is past a limit.
 pub fn decode_message_strict_within<B: FromBody, R: ByteSource>(
     reader: &mut R,
     limits: &Limits,
@@ -129,8 +134,12 @@ pub fn decode_message_strict_within<B: FromBody, R: ByteSource>(
     }
 }
 
-/// The canonical text of the message that the input is, read strictly. An error is `Memory`, that of an input which is no strict message,
-/// or `TooLarge`. The text of every message that can be written is read strictly as it is read in any order.
+/// Returns the canonical text of the message that the input is, read strictly. The text of every message that can be written is read
+/// strictly as it is read in any order.
+///
+/// # Errors
+///
+/// An error is `Memory`, that of an input which isn't a strict message, or `TooLarge`.
 pub fn canonical_text_strict<B: CanonicalBody>(
     input: &[u8],
     alloc: Global,
@@ -159,6 +168,42 @@ pub fn canonical_text_strict<B: CanonicalBody>(
         ⟦<Message<B> as Canonical>⟧.lasts }
 {
     match canonical_text::<Strict<B>>(input, alloc) {
+        Ok((text, _len)) => Ok(text),
+        Err(error) => Err(error),
+    }
+}
+
+/// Returns the canonical text of the message that the input is, read strictly and within limits of the caller. The clauses of
+/// `canonical_text_strict` about the text hold here, too.
+///
+/// # Errors
+///
+/// An error is `Memory`, that of an input which isn't a strict message within the limits, or `TooLarge`.
+pub fn canonical_text_strict_within<B: CanonicalBody>(
+    input: &[u8],
+    limits: &Limits,
+    alloc: Global,
+) -> Result<Vec<u8>, Error>
+    ensures text { IfOk result (λ text. IsRewrittenWithin limits.now ⟦<Strict<B> as Deserialize>⟧.reading
+        ⟦<Strict<B> as Serialize>⟧.writing.canons input.now text.items (length input.now)) }
+    ensures read_again { IfOk result (λ text. IsReadAgain ⟦<Strict<B> as Deserialize>⟧.reading ⟦<Strict<B> as Canonical>⟧.follows
+        ⟦<Strict<B> as Canonical>⟧.again ⟦<Strict<B> as Canonical>⟧.kept input.now text.items (length input.now)) }
+    ensures one_text { IfOk result (λ text. IsOneText ⟦<Strict<B> as Deserialize>⟧.reading ⟦<Strict<B> as Serialize>⟧.writing.canons
+        input.now text.items (length input.now)) }
+    ensures no_other { IfOk result (λ text. IsOfNoOther ⟦<Strict<B> as Deserialize>⟧.reading ⟦<Strict<B> as Serialize>⟧.writing.canons
+        ⟦<Strict<B> as Canonical>⟧.kept input.now text.items (length input.now)) }
+    ensures unchanged { IfOk result (λ text. IsUnchanged ⟦<Strict<B> as Deserialize>⟧.reading ⟦<Strict<B> as Serialize>⟧.writing.canons
+        text.items) }
+    ensures refused { IfErr result (λ e. (e ≡ Memory) ⊎ (IsUnreadableWithin limits.now ⟦<Strict<B> as Deserialize>⟧.reading input.now e
+        ⊎ IsUnwrittenWithin limits.now ⟦<Strict<B> as Deserialize>⟧.reading ⟦<Strict<B> as Serialize>⟧.writing.canons input.now e)) }
+    ensures unfailing { IfErr result (λ e. IsReadError e → ⊥) }
+    ensures limited { IfErr result (λ e. e ≡ Limit → IsGreatest limits.now → ⊥) }
+    ensures in_any_order { (bytes : List ℕ) (strict : _) (n : ℕ)
+        → BeginsWithin limits.now ⟦<Strict<B> as Deserialize>⟧.reading bytes strict n
+        → BeginsWithin limits.now ⟦<Message<B> as Deserialize>⟧.reading bytes (message_in strict) n × (n ≡ length bytes) }
+{
+    limits_bound_messages::<B>();
+    match canonical_text_within::<Strict<B>>(input, limits, alloc) {
         Ok((text, _len)) => Ok(text),
         Err(error) => Err(error),
     }

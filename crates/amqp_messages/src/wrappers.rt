@@ -1,4 +1,4 @@
-//! The wrappers through which a message is written and read.
+//! The wrappers with which a message is written and read.
 ghost use Rattle.amqp_codec.specs.Agreement.{via_writing};
 ghost use Rattle.amqp_batches.specs.WalkReading.{reading_via};
 ghost use Rattle.amqp_messages.specs.Wrappers.{written_in, read_in};
@@ -8,7 +8,7 @@ use amqp_decoder::Decoder;
 use amqp_wire::{ByteSource, Error};
 use std::alloc::Global;
 
-/// What is written as it is by itself: a `Message`, or a reference to one.
+/// A wrapper that is written as what it holds: a `Message`, or a reference to one.
 #[derive(Debug, Drop)]
 pub struct Serializable<T>(pub T);
 
@@ -24,7 +24,7 @@ impl<T: Serialize> Serialize for Serializable<T> {
     }
 }
 
-/// What is read as it is by itself: a `Message`.
+/// A wrapper that is read as what it holds: a `Message`.
 #[derive(Debug, Drop)]
 pub struct Deserializable<T>(pub T);
 

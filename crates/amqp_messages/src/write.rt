@@ -1,4 +1,4 @@
-//! Writing messages: the sections that are there, in the standard's order (Part 3, section 3.2).
+//! Writing messages: the sections that are present, in the standard's order (Part 3, section 3.2).
 ghost use Rattle.std.specs.Prelude.{IfSome};
 ghost use Rattle.amqp_codec.specs.Written.{WritesTerms};
 ghost use Rattle.amqp_messages.specs.Entries.{optional};
@@ -10,7 +10,7 @@ use amqp_codec::{Encoder, Error, Serialize};
 use amqp_map_sections::{ApplicationProperties, DeliveryAnnotations, Footer, MessageAnnotations};
 use amqp_message_headers::{Header, Properties};
 
-// Writes a section that may be absent, of which nothing is written then.
+// Writes a section that may be absent; then nothing is written.
 fn write_some<T: Serialize>(section: &Option<T>, encoder: &mut Encoder) -> Result<(), Error>
     ensures { WritesTerms (optional T.writing.canons section.now) encoder.old result encoder.new }
 {
@@ -20,7 +20,7 @@ fn write_some<T: Serialize>(section: &Option<T>, encoder: &mut Encoder) -> Resul
     }
 }
 
-// Promises that a section that is there is of its type.
+// Promises that a section that is present is of its type.
 fn some_in_type<T: Serialize>(section: &Option<T>)
     ensures { IfSome section.now T.writing.is_value }
 {
@@ -29,7 +29,8 @@ fn some_in_type<T: Serialize>(section: &Option<T>)
     }
 }
 
-/// In the standard's order: header, delivery annotations, message annotations, properties, application properties, body, footer.
+/// Writes the sections in the standard's order: header, delivery annotations, message annotations, properties, application properties,
+/// body, footer.
 impl<B: SerializableBody> Serialize for Message<B> {
     ghost writing = { message_writing ⟦<Header as Serialize>⟧.writing ⟦<DeliveryAnnotations as Serialize>⟧.writing
         ⟦<MessageAnnotations as Serialize>⟧.writing ⟦<Properties as Serialize>⟧.writing

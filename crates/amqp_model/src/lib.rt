@@ -1,5 +1,5 @@
-//! The AMQP 1.0 encoding (OASIS AMQP 1.0, Part 1): `specs/` says what bytes spell a value and which of them are
-//! canonical, and the functions here carry the laws of both. They do nothing; their contracts are proved.
+//! The AMQP 1.0 encoding (OASIS AMQP 1.0, Part 1): `specs/` defines which bytes encode a value and which of them are canonical. The
+//! functions here carry the laws of both. They do nothing; their contracts are proved.
 #![tactic(auto)]
 
 ghost use Rattle.std.specs.Prelude.{◌≡◌, ℕ, true, pos, negsuc, List, [], ◌∷◌, ◌++◌, ◌^◌, ◌≤◌, length, take};
@@ -16,15 +16,15 @@ ghost use Rattle.amqp_model.specs.Standing.{Standing, Parts};
 
 pub mod tables;
 
-/// No input has two fronts that spell terms, and no front spells two terms: arrays with a shared constructor and
-/// chains of descriptors included (Part 1, section 1.2).
+/// No input has two prefixes that encode terms, and no prefix encodes two terms. Arrays with a shared constructor and chains of descriptors
+/// are included (Part 1, section 1.2).
 pub fn one_reading()
     ensures one_front { (b c x y : List ℕ) (t u : Term) → IsSpelling b t → IsSpelling c u → b ++ x ≡ c ++ y → b ≡ c }
     ensures one_term { (b c x y : List ℕ) (t u : Term) → IsSpelling b t → IsSpelling c u → b ++ x ≡ c ++ y → t ≡ u }
 {}
 
-/// The canonical text of a term that nothing refuses spells the term that it reads as (Part 1, sections 1.2 and 1.6).
-/// The numbers and texts of the term are of their types, and its maps have a value for each key.
+/// The canonical text of a term that nothing refuses encodes the term that it reads as (Part 1, sections 1.2 and 1.6). For that, the
+/// numbers and texts of the term must be of their types, and its maps must have a value for each key.
 pub fn canonical_text_spells()
     ensures spelled { (u t : Term) → ((r : Refusal) → Refuses r u → ⊥) → Everywhere IsValue u → ExpandsTo u t → IsSpelling (text u Alone) t }
 {}
@@ -36,30 +36,28 @@ pub fn one_text()
         → text u Alone ≡ text v Alone → t ≡ w }
 {}
 
-/// No spelling of a term without arrays is shorter than its canonical text (Part 1, section 1.6: each type has
-/// shorter and longer codes).
+/// No encoding of a term without arrays is shorter than its canonical text (Part 1, section 1.6: each type has shorter and longer codes).
 pub fn canonical_text_is_least()
     ensures no_longer { (b : List ℕ) (t : Term) → Everywhere IsNoArray t → IsBytes b → IsSpelling b t → length (text t Alone) ≤ length b }
 {}
 
-/// A term has at most as many values as each of its spellings has bytes, whatever the counts of its arrays
-/// (Part 1, section 1.2.4).
+/// A term has at most as many values as each of its encodings has bytes, whatever the counts of its arrays (Part 1, section 1.2.4).
 pub fn nodes_are_bounded()
     ensures bounded { (b : List ℕ) (t : Term) → IsSpelling b t → nodes t ≤ length b }
 {}
 
-/// No proper front of a spelling spells a term (Part 1, section 1.2).
+/// No proper prefix of an encoding encodes a term (Part 1, section 1.2).
 pub fn no_proper_front()
     ensures whole { (front after : List ℕ) (t u : Term) → IsSpelling (front ++ after) t → IsSpelling front u → after ≡ [] }
 {}
 
-/// Where a term stands as these bytes, or as this data under a shared constructor, each of its parts stands in one way
-/// (Part 1, sections 1.2.3 and 1.2.4): this says which bytes a value keeps that is written as it was read.
+/// If a term is encoded as these bytes, or as this data under a shared constructor, its parts are encoded in one way (Part 1, sections
+/// 1.2.3 and 1.2.4). So it is determined which bytes a value with kept bytes has.
 pub fn parts_stand_in_one_way()
     ensures one_way { (s : Standing) (t : Term) (parts others : List Standing) → Parts s t parts → Parts s t others → parts ≡ others }
 {}
 
-/// Worked rows: canonical texts, and spellings that are terms or none (Part 1, section 1.6).
+/// Worked rows: canonical texts, and bytes that encode a term or none (Part 1, section 1.6).
 pub fn worked_rows()
     ensures uint_0 { text (leaf (uint 0)) Alone ≡ 0x43 ∷ [] }
     ensures uint_255 { text (leaf (uint 255)) Alone ≡ 0x52 ∷ 0xff ∷ [] }
@@ -85,8 +83,8 @@ pub fn worked_rows()
     ensures no_map_of_size_zero { (t : Term) → IsSpelling (0xc1 ∷ 0 ∷ 0 ∷ []) t → ⊥ }
 {}
 
-/// Worked refusals: one for each reason that a term itself can give, a term that nothing refuses, and arrays that an item with a
-/// reason of its own doesn't make mixed, but where it is the only one that is described (Part 1, section 1.2.4).
+/// Worked refusals: one for each reason that a term itself can give, and a term that nothing refuses. Also arrays that an item with a
+/// reason of its own doesn't make mixed, unless it is the only described item (Part 1, section 1.2.4).
 pub fn worked_refusals()
     ensures mixed_items { Refuses mixed_array (container array (more (leaf (uint 1)) (more (leaf (boolean true)) none))) }
     ensures null_item { Refuses zero_width_items (container array (more (leaf null) none)) }

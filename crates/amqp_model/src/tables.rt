@@ -1,4 +1,4 @@
-//! The tables of fields by which composite values are written, and the laws of all tables.
+//! The tables of fields by which composites are written, and the laws of all tables.
 ghost use Rattle.std.specs.Prelude.{◌≡◌, ◌↔◌, ◌≤◌, ◌<◌, ℕ, List, [], ◌∷◌, ◌++◌, true, false, length, get_or, Some, None};
 ghost use Rattle.std.specs.List.{AllZip};
 ghost use Rattle.amqp_model.specs.Term.{null, code, name, list, array, empty_multiple, Term, leaf, described, container, barred, Terms};
@@ -15,13 +15,13 @@ ghost use Rattle.amqp_model.specs.declared.tables.FieldRule.TheVariants.{Optiona
 /// The rules of fields (Part 1, section 1.4).
 #[derive(Clone, Copy, Debug, PartialEq, Eq)]
 pub enum FieldRule {
-    /// A value must be there.
+    /// A value must be present.
     Mandatory,
     /// Null is no value.
     Optional,
     /// Null is the default value.
     Default,
-    /// Any number of values, where null is none.
+    /// Any number of values; null is none.
     Multiple,
     /// At least one value.
     MandatoryMultiple,
@@ -34,13 +34,13 @@ pub trait HasTable {
     ghost table: { Table Self };
 }
 
-/// The canonical items of a value fit its table as the value again, normalised, where no refusal stands in them.
+/// The canonical items of a value fit its table as the value again, normalised, if no refusal is in them.
 pub fn canonical_items_fit<C: HasTable>()
     ensures { (v : C) → AreValues C.table.fields v → AreFree (canonical_items C.table.fields v)
         → Fits C.table.fields (canonical_items C.table.fields v) (normal C.table.norm v) }
 {}
 
-/// One list of items fits a table as one value, up to where it lies in memory.
+/// One list of items fits a table as one value, apart from where the value is in memory.
 pub fn one_value<C: HasTable>()
     ensures { (items : List Term) (v w : C) → Fits C.table.fields items v → Fits C.table.fields items w → Same C.table.fields v w }
 {}
@@ -50,7 +50,7 @@ pub fn canonical_items_are_fewest<C: HasTable>()
     ensures { (items : List Term) (v : C) → Fits C.table.fields items v → length (canonical_items C.table.fields v) ≤ length items }
 {}
 
-/// What fits as a value is a value of the type, its own normal value, and can be written; its canonical items are the value.
+/// What fits as a value is a value of the type and its own normal value, and it can be written. Its canonical items fit as the value.
 pub fn fitting_values_are_canonical<C: HasTable>()
     ensures values { (items : List Term) (v : C) → Fits C.table.fields items v → AreValues C.table.fields v }
     ensures normal { (items : List Term) (v : C) → Fits C.table.fields items v → Same C.table.fields (normal C.table.norm v) v }
@@ -58,13 +58,13 @@ pub fn fitting_values_are_canonical<C: HasTable>()
     ensures again { (items : List Term) (v : C) → Fits C.table.fields items v → Fits C.table.fields (canonical_items C.table.fields v) v }
 {}
 
-/// Normalising keeps the canonical items, and once is enough.
+/// Normalising a value doesn't change its canonical items, and normalising it twice is the same as once.
 pub fn normal_values<C: HasTable>()
     ensures items { (v : C) → canonical_items C.table.fields (normal C.table.norm v) ≡ canonical_items C.table.fields v }
     ensures once { (v : C) → Same C.table.fields (normal C.table.norm (normal C.table.norm v)) (normal C.table.norm v) }
 {}
 
-/// Values that differ only in where they lie in memory have the same canonical items, and what fits the one fits the other.
+/// Values that differ only in where they are in memory have the same canonical items, and what fits one fits the other.
 pub fn same_values<C: HasTable>()
     ensures reflexive { (v : C) → Same C.table.fields v v }
     ensures symmetric { (v w : C) → Same C.table.fields v w → Same C.table.fields w v }
@@ -73,7 +73,7 @@ pub fn same_values<C: HasTable>()
     ensures fits { (items : List Term) (v w : C) → Same C.table.fields v w → Fits C.table.fields items v → Fits C.table.fields items w }
 {}
 
-/// There are no more items than fields; a null at the end is as a missing item, and neither fits a field that is required.
+/// There are no more items than fields. A null at the end means the same as a missing item, and neither fits a mandatory field.
 pub fn missing_items<C: HasTable>()
     ensures no_surplus { (items : List Term) (v : C) → Fits C.table.fields items v → length items ≤ length (rules_of C.table.fields) }
     ensures as_null { (items : List Term) (v : C) → length items < length (rules_of C.table.fields)
@@ -82,7 +82,7 @@ pub fn missing_items<C: HasTable>()
         → is_required (get_or (rules_of C.table.fields) index Optional) ≡ true → is_null (get_or items index (leaf null)) ≡ false }
 {}
 
-/// A composite is a described list whose items fit; its descriptor is the code or the name, and the canonical one is the code.
+/// A composite is a described list whose items fit. Its descriptor is the code or the name, and the canonical one is the code.
 pub fn composite_terms<C: HasTable>()
     ensures by_code { (items : Terms) (v : C) → MeansComposite C.table (described (code C.table.code) (container list items)) v
         ↔ Fits C.table.fields (items_of items) v }
@@ -101,7 +101,7 @@ pub trait HasFieldType {
     ghost field_type: { FieldType Self };
 }
 
-/// Null doesn't fit a mandatory field, and is no value in an optional one, where any other term is what it means.
+/// Null doesn't fit a mandatory field, and is no value in an optional field. There any other term is what it means.
 pub fn mandatory_and_optional_fields<T: HasFieldType>()
     ensures mandatory { (t : Term) (v : T) → (mandatory T.field_type).meaning.means t v ↔ (is_null t ≡ false)
         × T.field_type.meaning.means t v }
@@ -120,8 +120,7 @@ pub trait HasDefault {
     ghost default_value: { DefaultValue field_type.meaning };
 }
 
-/// In a field with a default null is the default value, any other term is what it means, and the default value is written
-/// as null.
+/// In a field with a default, null is the default value, and any other term is what it means. The default value is written as null.
 pub fn default_fields<T: HasDefault>()
     ensures null { (t : Term) (v : T) → is_null t ≡ true
         → ((default T.field_type T.default_value).meaning.means t v ↔ T.field_type.meaning.same v T.default_value.value) }
@@ -141,8 +140,8 @@ pub trait HasItems<A> {
     ghost array: { ArrayOf item.meaning Self };
 }
 
-/// In a multiple field null and an array without items are no value, another array is its items, and any other term is
-/// an array of one; an array is written also for one item, and null for none.
+/// In a multiple field, null and an array without items are no value. Another array is its items, and any other term is an array of one. An
+/// array is written also for one item, and null for none.
 pub fn multiple_fields<A, V: HasItems<A>>()
     ensures null { (t : Term) → is_null t ≡ true → (multiple V.item V.array).meaning.means t None }
     ensures no_items { (multiple V.item V.array).meaning.means (container array none) None }
@@ -155,7 +154,7 @@ pub fn multiple_fields<A, V: HasItems<A>>()
     ensures canonical_none { (v : V) → V.array.contents v ≡ [] → (multiple V.item V.array).meaning.canon (Some v) ≡ leaf null }
 {}
 
-/// A mandatory and multiple field takes the same terms, but none without an item; a value without items is refused.
+/// A mandatory and multiple field takes the same terms, but only those with an item. A value without items is refused.
 pub fn mandatory_multiple_fields<A, V: HasItems<A>>()
     ensures same_terms { (t : Term) (v : V) → (mandatory_multiple V.item V.array).meaning.means t v
         ↔ (multiple V.item V.array).meaning.means t (Some v) }

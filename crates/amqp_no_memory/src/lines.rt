@@ -14,7 +14,7 @@ const LINES: &str = "accepted 005324c00000\n\
     batch-data -\n\
     bogus 00";
 
-/// What is answered to them.
+/// The answers to them.
 const ANSWERS: &str = "ok 00532445 0\n\
     ok 005323c005025209530d 1\n\
     no 7 Surplus\n\
@@ -23,10 +23,10 @@ const ANSWERS: &str = "ok 00532445 0\n\
     ok - 0\n\
     no 0 Line\n";
 
-/// What is answered to a line whose value finds no memory.
+/// The answer to a line for whose value an allocation fails.
 const NO_MEMORY: &str = "no 21 Memory";
 
-/// The room for the answers, so that no growth is asked for as they are written.
+/// The room for the answers, so that writing them doesn't allocate.
 const ROOM: usize = 1024;
 
 /// How the lines are answered.
@@ -34,9 +34,9 @@ const ROOM: usize = 1024;
 enum Answered {
     /// Each as it must be.
     All,
-    /// Memory ran out for the value of one line, and the others are answered as they must be.
+    /// An allocation failed for the value of one line, and the others are answered as they must be.
     ButOne,
-    /// Memory ran out for a line or its answer, behind such as are answered as they must be.
+    /// An allocation failed for a line or its answer, after others that are answered as they must be.
     Front,
     /// Otherwise.
     Otherwise,

@@ -1,4 +1,4 @@
-//! The program `amqp-no-memory`: it reads, measures and writes whole values, and answers lines, while one growth of memory is refused
+//! The program `amqp_no_memory` reads, measures and writes whole values, and answers lines, while one allocation fails
 //! (`amqp_no_memory_calls`).
 #![tactic(auto)]
 

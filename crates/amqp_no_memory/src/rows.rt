@@ -12,7 +12,7 @@ use fe2o3_amqp_types::performatives::Attach;
 use fe2o3_amqp_types::primitives::{Array, Uint};
 use std::alloc::Global;
 
-/// A call that is made of a value.
+/// A call that is made with a value.
 #[derive(Clone, Copy)]
 enum Call {
     EncodedLen,
@@ -30,7 +30,7 @@ const CALLS: &[(Call, &str)] = &[
     (Call::CanonicalText, "canonical_text"),
 ];
 
-/// What stands in a buffer before a text is appended.
+/// What is in a buffer before a text is appended.
 const OTHERS: [u8; 2] = [0xaa, 0xbb];
 
 /// Reads, measures and writes all values, and returns whether every call went as it must.

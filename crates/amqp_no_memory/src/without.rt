@@ -1,4 +1,4 @@
-//! Types that are read without memory, and how long terms are. No growth is asked for here, so none can be refused.
+//! Types that are read without allocating, and how long terms are. Nothing is allocated here, so no allocation can fail.
 use crate::inputs::{ACCEPTED_STATES, ATTACH, UINTS};
 use amqp_no_memory_calls::{Outcome, print_outcome};
 use fe2o3_amqp_types::codec::{Deserialize, from_slice, from_slice_counted, term_len};

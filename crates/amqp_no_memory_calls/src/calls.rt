@@ -10,7 +10,7 @@ use std::process::ExitCode;
 pub enum Outcome {
     /// It returned what it must.
     Answered,
-    /// A growth was refused in it, and made again it returned what it must.
+    /// An allocation failed in it, and the same call, made again, returned what it must.
     OutOfMemory,
     /// It returned something else.
     Otherwise,
@@ -27,7 +27,7 @@ impl Outcome {
     }
 }
 
-/// Asks for as many growths as standard input says, each of which is given back before the next.
+/// Makes as many allocations as standard input says, and frees each before the next.
 pub fn ask_for_growths(rt: &(impl Input + AllocGlobal)) -> Result<(), anyhow::Error> {
     let mut number = String::new(rt.alloc());
     rt.reader().read_to_string(&mut number)?;
@@ -38,7 +38,7 @@ pub fn ask_for_growths(rt: &(impl Input + AllocGlobal)) -> Result<(), anyhow::Er
     Ok(())
 }
 
-/// The status of a program of which every call went as it must, or of which one didn't.
+/// Returns the status of a program: whether every call went as it must.
 pub fn status(well: bool) -> ExitCode {
     if well {
         ExitCode::SUCCESS
@@ -58,8 +58,8 @@ pub fn print_outcome(
     Ok(outcome != Outcome::Otherwise)
 }
 
-/// Makes a call, of which the closure says whether it returns what it must, and returns whether it went so. What the call is made of is
-/// made in the closure, too, which says `false` if a refused growth changes what was there.
+/// Makes a call, and returns whether it went as it must. The closure makes the call, and returns whether the call returns what it must.
+/// What the call needs is made in the closure, too. It returns `false` if a failed allocation changes something.
 pub fn check<R: Print + AllocGlobal, F: Fn(Global) -> Result<bool, Error>>(
     rt: &R,
     name: &str,
@@ -83,7 +83,7 @@ fn outcome_of<F: Fn(Global) -> Result<bool, Error>>(is_answered: F, alloc: Globa
     }
 }
 
-/// Whether what was made has this canonical text.
+/// Returns whether what was made has this canonical text.
 pub fn is_text<T: Serialize + Drop>(
     made: Result<T, Error>,
     text: &[u8],
@@ -94,7 +94,7 @@ pub fn is_text<T: Serialize + Drop>(
     Ok(written.as_slice() == text)
 }
 
-/// Whether the symbol that was made is this text.
+/// Returns whether the symbol that was made is this text.
 pub fn is_symbol(made: Result<Symbol, Error>, text: &str) -> Result<bool, Error> {
     let symbol = made?;
     Ok(symbol.as_str() == text)

@@ -4,7 +4,7 @@ use amqp_codec::{Deserialize, Error};
 use amqp_read_write::from_slice;
 use amqp_test_helpers::{is, is_copied};
 
-/// Copies the value that the bytes begin with, and returns whether the call went as it must.
+/// Copies the value at the start of the bytes, and returns whether the call went as it must.
 pub fn check_copy<T: Deserialize + Clone + PartialEq + Drop>(
     rt: &(impl Print + AllocGlobal),
     name: &str,
@@ -15,7 +15,7 @@ pub fn check_copy<T: Deserialize + Clone + PartialEq + Drop>(
     })
 }
 
-/// Whether a copy of the builder builds the same value.
+/// Returns whether a copy of the builder builds the same value.
 pub fn is_builder_copied<B: Clone + Drop, T: PartialEq + Drop, F: Fn(B) -> T>(
     made: Result<B, Error>,
     build: F,

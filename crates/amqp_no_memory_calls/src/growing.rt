@@ -8,7 +8,7 @@ pub trait Growing {
     /// What the value of a number is added to.
     type Grown: Serialize + PartialEq + Drop;
 
-    /// What it is before the first.
+    /// Returns what it is before the first.
     fn begun(alloc: Global) -> Result<Self::Grown, Error>;
 
     /// Adds the value of the number.

@@ -1,10 +1,11 @@
-//! What the programs share that make calls while one growth of memory is refused (`tools/no-memory` runs them). A call in which it is
-//! refused must return that memory ran out, and change nothing else: the same call, made again, returns what it must. For each call a
-//! program prints one line, which ends with `answered`, or with `out of memory` if the growth was refused in it, or with
-//! `answered otherwise`; it ends with status 0 if no call did that.
+//! What the programs have in common that make calls while one allocation fails (`tools/no-memory` runs them). A call in which it fails must
+//! return that memory ran out, and change nothing else: the same call, made again, returns what it must.
 //!
-//! Standard input is a number: so many growths are asked for before the first call, and what they gave is given back. So one and the
-//! same growth of all, counted from the first, falls into each call in turn.
+//! For each call a program prints one line. It ends with `answered`, with `out of memory` if the allocation failed in it, or with
+//! `answered otherwise`. The status is 0 if no line ends with `answered otherwise`.
+//!
+//! Standard input is a number: so many allocations are made, and freed, before the first call. So the same allocation of all, counted from
+//! the first, is made in each call in turn.
 #![tactic(auto)]
 
 mod calls;

@@ -1,4 +1,4 @@
-//! Copies of composites that hold texts, bytes, lists, maps or boxes. Each value is read of its bytes, and copied.
+//! Copies of composites that hold texts, bytes, lists, maps or boxes. Each value is read from its bytes, and copied.
 use amqp_attach::{Attach, Performative};
 use amqp_delivery::{
     Declare, Declared, DeliveryState, Discharge, Modified, Outcome, Rejected, TransactionalState,

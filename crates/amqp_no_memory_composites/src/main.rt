@@ -1,4 +1,4 @@
-//! The program `amqp-no-memory-composites`: it makes each call that takes memory over composites, while one growth is refused
+//! The program `amqp_no_memory_composites` makes each call that allocates over composites, while one allocation fails
 //! (`amqp_no_memory_calls`).
 #![tactic(auto)]
 

@@ -1,4 +1,4 @@
-//! Copies of messages and of their sections (Part 3, section 3.2). Each value is read of its bytes, and copied.
+//! Copies of messages and of their sections (Part 3, section 3.2). Each value is read from its bytes, and copied.
 use amqp_annotations::OwnedKey;
 use amqp_batches::Batch;
 use amqp_bodies::Body;

@@ -1,5 +1,5 @@
-//! The program `amqp-no-memory-messages`: it makes each call that takes memory over messages, their bodies and their sections, while one
-//! growth is refused (`amqp_no_memory_calls`).
+//! The program `amqp_no_memory_messages` makes each call that allocates over messages, their bodies and their sections, while one
+//! allocation fails (`amqp_no_memory_calls`).
 #![tactic(auto)]
 
 mod annotations;

@@ -2,11 +2,11 @@
 use amqp_batches::Batch;
 use amqp_codec::Error;
 use amqp_messages::{
-    DecodeIntoMessage, Message, canonical_text_strict, decode_message_strict,
-    decode_message_strict_within,
+    DecodeIntoMessage, Message, canonical_text_strict, canonical_text_strict_within,
+    decode_message_strict, decode_message_strict_within,
 };
 use amqp_no_memory_calls::{check, is_text};
-use amqp_read_write::Limits;
+use amqp_read_write::{Limits, canonical_text_within};
 use amqp_sections::Data;
 use std::alloc::Global;
 
@@ -30,6 +30,13 @@ pub(crate) fn check_all(rt: &HostRuntime) -> Result<bool, anyhow::Error> {
         "canonical_text_strict",
         is_rewritten_strictly,
     )?;
+    well &= check(
+        rt,
+        "message",
+        "canonical_text_strict_within",
+        is_rewritten_strictly_within,
+    )?;
+    well &= check(rt, "message", "canonical_text_within", is_rewritten_within)?;
     Ok(well)
 }
 
@@ -59,4 +66,16 @@ fn is_decoded_strictly_within(alloc: Global) -> Result<bool, Error> {
 fn is_rewritten_strictly(alloc: Global) -> Result<bool, Error> {
     let text = canonical_text_strict::<Batch<Data>>(MESSAGE, alloc)?;
     Ok(text.as_slice() == MESSAGE)
+}
+
+fn is_rewritten_strictly_within(alloc: Global) -> Result<bool, Error> {
+    let limits = Limits::for_peers(MESSAGE.len() as u64);
+    let text = canonical_text_strict_within::<Batch<Data>>(MESSAGE, &limits, alloc)?;
+    Ok(text.as_slice() == MESSAGE)
+}
+
+fn is_rewritten_within(alloc: Global) -> Result<bool, Error> {
+    let limits = Limits::for_peers(MESSAGE.len() as u64);
+    let (text, len) = canonical_text_within::<Message<Batch<Data>>>(MESSAGE, &limits, alloc)?;
+    Ok(text.as_slice() == MESSAGE && len == MESSAGE.len())
 }

@@ -1,4 +1,4 @@
-//! Values that are made of bodies and of messages, also of such whose items may be absent.
+//! Values that are made of bodies and of messages, also of those whose items may be absent.
 use amqp_batches::Batch;
 use amqp_bodies::{Body, FromBody, FromEmptyBody, TransposeOption};
 use amqp_codec::{Error, Serialize};

@@ -1,4 +1,4 @@
-//! Copies of values that hold texts, bytes, lists, maps or boxes. Each value is read of its bytes, and copied.
+//! Copies of values that hold texts, bytes, lists, maps or boxes. Each value is read from its bytes, and copied.
 use amqp_codec::{Descriptor, Error, Symbol};
 use amqp_containers::Array;
 use amqp_described::Described;

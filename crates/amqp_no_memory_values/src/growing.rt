@@ -10,7 +10,7 @@ use std::alloc::Global;
 const NUMBERS: &[u8] =
     b"\xe0\x16\x05\x70\x00\x00\x00\x00\x00\x00\x00\x01\x00\x00\x00\x02\x00\x00\x00\x03\x00\x00\x00\x04";
 
-/// A map in which each of these numbers stands under itself (Part 1, section 1.6.23).
+/// A map in which each of these numbers is under itself (Part 1, section 1.6.23).
 const PAIRS: &[u8] =
     b"\xc1\x13\x0a\x43\x43\x52\x01\x52\x01\x52\x02\x52\x02\x52\x03\x52\x03\x52\x04\x52\x04";
 

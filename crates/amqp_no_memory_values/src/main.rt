@@ -1,5 +1,5 @@
-//! The program `amqp-no-memory-values`: it makes each call that takes memory over values that aren't composites, while one growth is
-//! refused (`amqp_no_memory_calls`).
+//! The program `amqp_no_memory_values` makes each call that allocates over values that aren't composites, while one allocation fails
+//! (`amqp_no_memory_calls`).
 #![tactic(auto)]
 
 mod copies;

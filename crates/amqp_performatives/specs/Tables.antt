@@ -8,7 +8,7 @@ use Rattle.amqp_primitives.specs.Types.{binary_type}
 use Rattle.amqp_restricted_types.specs.Defaults.{false_by_default}
 use Rattle.amqp_restricted_types.specs.Transport.{channel_max_type, handle_type, max_frame_size_type, role_type, receiver_settle_mode_type}
 use Rattle.amqp_restricted_types.specs.TransportDefaults.{greatest_frame_size, greatest_channel, greatest_handle}
-use Rattle.amqp_fields.specs.FieldsType.{fields_type}
+use Rattle.amqp_errors.specs.FieldsType.{fields_type}
 use Rattle.amqp_errors.specs.Tables.{error, norm_error}
 use Rattle.amqp_delivery.specs.Tables.{delivery_state}
 use Rattle.amqp_performatives.specs.declared.open.Open.{Open}

@@ -9,18 +9,18 @@ use amqp_codec::kernel::{
 use amqp_codec::{ByteSource, Decoder, Encoder, Error, Serialize, SerializeTerm, Symbol};
 use amqp_containers::Array;
 use amqp_containers::multiple::{is_null_multiple, read_multiple, write_multiple};
-use amqp_fields::Fields;
+use amqp_errors::Fields;
 use amqp_restricted_types::{Handle, TransferNumber};
 use std::alloc::Global;
 
 /// Begins a session on a channel.
 #[derive(Clone, Debug, PartialEq, Eq, Drop)]
 pub struct Begin {
-    /// The channel on which the peer began the session, if this one answers that.
+    /// The channel on which the peer began the session, if this answers the peer's begin.
     pub remote_channel: Option<u16>,
     /// The number of the first transfer.
     pub next_outgoing_id: TransferNumber,
-    /// How many transfers the sender of this can take.
+    /// How many transfers the sender of this can receive.
     pub incoming_window: u32,
     /// How many transfers it may send.
     pub outgoing_window: u32,
@@ -30,7 +30,7 @@ pub struct Begin {
     pub offered_capabilities: Option<Array<Symbol>>,
     /// What the sender of this asks the peer to do.
     pub desired_capabilities: Option<Array<Symbol>>,
-    /// What else is said of it.
+    /// Further properties of the session.
     pub properties: Option<Fields>,
 }
 

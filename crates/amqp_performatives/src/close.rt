@@ -13,7 +13,7 @@ use std::alloc::Global;
 /// Closes a connection.
 #[derive(Clone, Debug, PartialEq, Eq, Drop)]
 pub struct Close {
-    /// What went wrong, if it is for that.
+    /// What went wrong, if that is why the connection ends.
     pub error: Option<Error>,
 }
 
@@ -21,7 +21,7 @@ impl Close {
     /// The code and the name of its descriptor.
     pub const DESCRIPTOR: (u64, &'static str) = (0x18, "amqp:close:list");
 
-    /// An end of the connection, for this error or without one.
+    /// Returns a close of the connection, for this error or without one.
     pub fn new(error: Option<Error>) -> Close
         ensures { result.error ≡ error }
     {

@@ -16,9 +16,9 @@ use std::alloc::Global;
 pub struct Detach {
     /// The link.
     pub handle: Handle,
-    /// Whether the link ends with it.
+    /// Whether the link is closed, too.
     pub closed: bool,
-    /// What went wrong, if it is for that.
+    /// What went wrong, if that is why the link is detached.
     pub error: Option<Error>,
 }
 

@@ -11,20 +11,20 @@ use amqp_delivery::DeliveryState;
 use amqp_restricted_types::{DeliveryNumber, Role};
 use std::alloc::Global;
 
-/// The state of deliveries in a row, and whether they are settled.
+/// The state of a row of deliveries, and whether they are settled.
 #[derive(Clone, Debug, PartialEq, Eq, Drop)]
 pub struct Disposition {
-    /// Which end of the links is told of, by the end that sends this.
+    /// Which ends of the links this is about: the sending ones, or the receiving ones.
     pub role: Role,
     /// The first delivery.
     pub first: DeliveryNumber,
-    /// The last delivery. Where it is left out, it is the first.
+    /// The last delivery. If it is omitted, it is the first.
     pub last: Option<DeliveryNumber>,
     /// Whether the deliveries are settled at the end that sends this.
     pub settled: bool,
     /// The state of the deliveries.
     pub state: Option<DeliveryState>,
-    /// Whether the peer need not answer soon by a change of the deliveries' state.
+    /// Whether the peer need not soon report a change of the deliveries' state.
     pub batchable: bool,
 }
 

@@ -12,7 +12,7 @@ use std::alloc::Global;
 /// Ends a session.
 #[derive(Clone, Debug, PartialEq, Eq, Drop)]
 pub struct End {
-    /// What went wrong, if it is for that.
+    /// What went wrong, if that is why the session ends.
     pub error: Option<Error>,
 }
 

@@ -7,26 +7,26 @@ use amqp_codec::kernel::{
     write_composite,
 };
 use amqp_codec::{ByteSource, Decoder, Encoder, Error, Serialize, SerializeTerm};
-use amqp_fields::Fields;
+use amqp_errors::Fields;
 use amqp_restricted_types::{Handle, SequenceNo, TransferNumber};
 use std::alloc::Global;
 
-/// Tells how much of a session, or of a link, may flow.
+/// States how much of a session, or of a link, may flow.
 #[derive(Clone, Debug, PartialEq, Eq, Drop)]
 pub struct Flow {
-    /// The number of the next transfer that is awaited. It is left out until the peer has begun the session.
+    /// The number of the next transfer that is expected. It is omitted until the peer has begun the session.
     pub next_incoming_id: Option<TransferNumber>,
-    /// How many transfers the sender of this can take.
+    /// How many transfers the sender of this can receive.
     pub incoming_window: u32,
     /// The number of the next transfer that it sends.
     pub next_outgoing_id: TransferNumber,
     /// How many transfers it may send.
     pub outgoing_window: u32,
-    /// The link whose flow is told. Where it is left out, the session's alone is told.
+    /// The link whose flow this is. If it is omitted, this is the session's flow alone.
     pub handle: Option<Handle>,
     /// The number of the link's deliveries so far.
     pub delivery_count: Option<SequenceNo>,
-    /// How many messages more the receiver takes.
+    /// How many more messages the receiver can take.
     pub link_credit: Option<u32>,
     /// How many messages the sender has at hand.
     pub available: Option<u32>,
@@ -34,7 +34,7 @@ pub struct Flow {
     pub drain: bool,
     /// Whether the peer is asked for its own flow.
     pub echo: bool,
-    /// What else is said of the link.
+    /// Further properties of the link.
     pub properties: Option<Fields>,
 }
 

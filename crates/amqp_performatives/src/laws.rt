@@ -1,10 +1,10 @@
-//! What holds of performatives beyond the laws of every type. The function does nothing; its contract is proved.
+//! What holds for performatives in addition to the laws of every type. The function does nothing; its contract is proved.
 ghost use Rattle.std.specs.Prelude.{◌≡◌, true};
 
 use crate::{Begin, Close, Detach, Disposition, End, Flow, Open, Transfer};
 use amqp_codec::Canonical;
 
-/// No spelling of a value of these is shorter than its canonical text, if it holds no array.
+/// For these types, no encoding of a value is shorter than its canonical text, if it holds no array.
 pub fn texts_are_least()
     ensures open { ⟦<Open as Canonical>⟧.is_least ≡ true }
     ensures begin { ⟦<Begin as Canonical>⟧.is_least ≡ true }

@@ -1,5 +1,5 @@
-//! Performatives but `Attach`: what the frames of connections, sessions, links and deliveries hold (Part 2, section 2.7). The
-//! frames themselves aren't here.
+//! All performatives but `Attach`: those of connections, sessions, links and deliveries (Part 2, section 2.7). The frames that they are in
+//! aren't here.
 #![tactic(auto)]
 
 mod begin;

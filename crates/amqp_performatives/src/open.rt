@@ -9,22 +9,22 @@ use amqp_codec::kernel::{
 use amqp_codec::{ByteSource, Decoder, Encoder, Error, Serialize, SerializeTerm, Symbol};
 use amqp_containers::Array;
 use amqp_containers::multiple::{is_null_multiple, read_multiple, write_multiple};
-use amqp_fields::Fields;
+use amqp_errors::Fields;
 use amqp_restricted_types::{ChannelMax, IetfLanguageTag, MaxFrameSize, Milliseconds};
 use std::alloc::Global;
 
-/// Opens a connection, and says how it may be used.
+/// Opens a connection, and states how it may be used.
 #[derive(Clone, Debug, PartialEq, Eq, Drop)]
 pub struct Open {
-    /// The name of the container that sends it.
+    /// The name of the container that sends this.
     pub container_id: String,
-    /// The name of the host that the sender means to reach.
+    /// The name of the host that the sender wants to reach.
     pub hostname: Option<String>,
-    /// The greatest frame that the sender of this takes, in bytes.
+    /// The size of the greatest frame that the sender of this accepts, in bytes.
     pub max_frame_size: MaxFrameSize,
-    /// The greatest channel that may be used.
+    /// The greatest channel number that may be used.
     pub channel_max: ChannelMax,
-    /// After how many milliseconds without a frame the sender of this takes the peer for lost.
+    /// The sender's `idle-time-out`, in milliseconds without a frame.
     pub idle_time_out: Option<Milliseconds>,
     /// The locales in which the sender of this can write texts.
     pub outgoing_locales: Option<Array<IetfLanguageTag>>,
@@ -34,7 +34,7 @@ pub struct Open {
     pub offered_capabilities: Option<Array<Symbol>>,
     /// What the sender of this asks the peer to do.
     pub desired_capabilities: Option<Array<Symbol>>,
-    /// What else is said of it.
+    /// Further properties of the connection.
     pub properties: Option<Fields>,
 }
 

@@ -13,30 +13,31 @@ use amqp_restricted_types::{
 };
 use std::alloc::Global;
 
-/// A message, or a part of one, goes over a link.
+/// Transfers a message, or a part of one, over a link.
 #[derive(Clone, Debug, PartialEq, Eq, Drop)]
 pub struct Transfer {
-    /// The link on which it is transferred.
+    /// The link over which it is transferred.
     pub handle: Handle,
-    /// The number of the delivery. It may be left out if a delivery goes on.
+    /// The number of the delivery. It may be omitted if a delivery continues.
     pub delivery_id: Option<DeliveryNumber>,
-    /// The sender's name of the delivery. It may be left out if a delivery goes on.
+    /// The sender's name for the delivery. It may be omitted if a delivery continues.
     pub delivery_tag: Option<DeliveryTag>,
-    /// The format of the message. It may be left out if a delivery goes on.
+    /// The format of the message. It may be omitted if a delivery continues.
     pub message_format: Option<MessageFormat>,
-    /// Whether the delivery is settled at the sender. If it is left out, the transfers before say so, and otherwise it is not.
+    /// Whether the delivery is settled at the sender. If it is omitted, the earlier transfers of the delivery say so, and otherwise it
+    /// isn't settled.
     pub settled: Option<bool>,
     /// Whether more of the message follows in other transfers.
     pub more: bool,
-    /// When the receiver settles the delivery. If it is left out, the mode of the link counts.
+    /// When the receiver settles the delivery. If it is omitted, the mode of the link counts.
     pub rcv_settle_mode: Option<ReceiverSettleMode>,
     /// The state of the delivery at the sender.
     pub state: Option<DeliveryState>,
-    /// Whether an unsettled delivery is taken up again.
+    /// Whether an unsettled delivery is resumed.
     pub resume: bool,
-    /// Whether the message is given up, so that what came of it is dropped.
+    /// Whether the message is aborted, so that what was received of it is dropped.
     pub aborted: bool,
-    /// Whether the sender need not be told soon of a change of the delivery's state.
+    /// Whether the peer need not soon report a change of the delivery's state.
     pub batchable: bool,
 }
 

@@ -10,7 +10,7 @@ use amqp_codec::{
 };
 use std::alloc::Global;
 
-/// Bytes without a meaning of their own (Part 1, section 1.6.19). More than 4,294,967,295 can't be written, and are refused by
+/// Bytes without a meaning of their own (Part 1, section 1.6.19). More than 4,294,967,295 can't be written, and are refused with
 /// `Error::TooLarge`.
 #[derive(Clone, Debug, PartialEq, Eq, PartialOrd, Ord, Hash, Drop)]
 pub struct Binary(pub Vec<u8>);
@@ -19,14 +19,14 @@ pub struct Binary(pub Vec<u8>);
 pub type ByteBuf = Binary;
 
 impl Binary {
-    /// The bytes, borrowed.
+    /// Returns the bytes, borrowed.
     pub fn as_slice(&self) -> &[u8]
         ensures { result.now ≡ self.now.0.items }
     {
         self.0.as_slice()
     }
 
-    /// The bytes, moved out of the value.
+    /// Moves the bytes out of the value, and returns them.
     pub fn into_inner(self) -> Vec<u8>
         ensures { result ≡ self.0 }
     {

@@ -10,20 +10,20 @@ use amqp_codec::{
 };
 use std::alloc::Global;
 
-/// A decimal number of 128 bits (Part 1, section 1.6.15): the bytes of IEEE 754's decimal128, which are kept as they are. Two are
-/// equal if their bytes are, and are ordered by them.
+/// A decimal number of 128 bits (Part 1, section 1.6.15): the bytes of IEEE 754's decimal128, which aren't changed. Two are equal if their
+/// bytes are, and are ordered by them.
 #[derive(Clone, Debug, PartialEq, Eq, PartialOrd, Ord, Hash, Drop)]
 pub struct Dec128(pub [u8; 16]);
 
 impl Dec128 {
-    /// The 16 bytes, the most significant first.
+    /// Returns the 16 bytes, the most significant first.
     pub fn as_slice(&self) -> &[u8]
         ensures { result.now ≡ self.now.0 }
     {
         &self.0
     }
 
-    /// The 16 bytes, moved out of the number.
+    /// Moves the 16 bytes out of the number, and returns them.
     pub fn into_inner(self) -> [u8; 16]
         ensures { result ≡ self.0 }
     {

@@ -10,20 +10,20 @@ use amqp_codec::{
 };
 use std::alloc::Global;
 
-/// A decimal number of 32 bits (Part 1, section 1.6.13): the bytes of IEEE 754's decimal32, which are kept as they are. Two are
-/// equal if their bytes are, and are ordered by them.
+/// A decimal number of 32 bits (Part 1, section 1.6.13): the bytes of IEEE 754's decimal32, which aren't changed. Two are equal if their
+/// bytes are, and are ordered by them.
 #[derive(Clone, Debug, PartialEq, Eq, PartialOrd, Ord, Hash, Drop)]
 pub struct Dec32(pub [u8; 4]);
 
 impl Dec32 {
-    /// The 4 bytes, the most significant first.
+    /// Returns the 4 bytes, the most significant first.
     pub fn as_slice(&self) -> &[u8]
         ensures { result.now ≡ self.now.0 }
     {
         &self.0
     }
 
-    /// The 4 bytes, moved out of the number.
+    /// Moves the 4 bytes out of the number, and returns them.
     pub fn into_inner(self) -> [u8; 4]
         ensures { result ≡ self.0 }
     {

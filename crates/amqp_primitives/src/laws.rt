@@ -1,4 +1,4 @@
-//! What holds of the primitive types beyond the laws of every type. The functions do nothing; their contracts are proved.
+//! What holds for the primitive types in addition to the laws of every type. The functions do nothing; their contracts are proved.
 ghost use Rattle.std.specs.Prelude.{◌≡◌, true, false, string_bytes};
 ghost use Rattle.std.specs.Ordering.{nat_cmp, int_cmp};
 ghost use Rattle.std.specs.Cmp.Lexicographic.{slice_cmp};
@@ -6,7 +6,7 @@ ghost use Rattle.std.specs.Cmp.Lexicographic.{slice_cmp};
 use crate::{Binary, Dec32, Dec64, Dec128, SymbolRef, Timestamp, Uuid};
 use amqp_codec::{Canonical, Deserialize, Symbol};
 
-/// Primitives of a known width are read without memory, so that `from_slice` returns `Memory` for none of them.
+/// Primitives of a known width are read without allocating, so `from_slice` never returns `Memory` for them.
 pub fn reading_takes_no_memory()
     ensures null { ⟦<() as Deserialize>⟧.reading.takes_memory ≡ false }
     ensures boolean { ⟦<bool as Deserialize>⟧.reading.takes_memory ≡ false }
@@ -26,7 +26,7 @@ pub fn reading_takes_no_memory()
     ensures uuid { ⟦<Uuid as Deserialize>⟧.reading.takes_memory ≡ false }
 {}
 
-/// No spelling of a value of these is shorter than its canonical text.
+/// For these types, no encoding of a value is shorter than its canonical text.
 pub fn texts_are_least()
     ensures decimal32 { ⟦<Dec32 as Canonical>⟧.is_least ≡ true }
     ensures decimal64 { ⟦<Dec64 as Canonical>⟧.is_least ≡ true }
@@ -36,8 +36,8 @@ pub fn texts_are_least()
     ensures binary { ⟦<Binary as Canonical>⟧.is_least ≡ true }
 {}
 
-/// Points in time are ordered as their milliseconds, all others as their bytes, by the first that differs, and a row of bytes
-/// before a longer one that begins with it.
+/// Points in time are ordered as their milliseconds. The other types are ordered as their bytes, by the first that differs; a row of bytes
+/// comes before a longer one that begins with it.
 pub fn orders()
     ensures timestamp { (a b : _) → ⟦<Timestamp as Ord>⟧.cmp a b ≡ int_cmp a.0 b.0 }
     ensures decimal32 { (a b : _) → ⟦<Dec32 as Ord>⟧.cmp a b ≡ slice_cmp nat_cmp a.0 b.0 }

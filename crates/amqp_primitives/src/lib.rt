@@ -1,5 +1,5 @@
-//! The primitive types that std doesn't have (Part 1, section 1.6): decimals, points in time, identifiers, bytes; and symbols whose
-//! text is borrowed.
+//! The primitive types that std doesn't have (Part 1, section 1.6): decimals, points in time, identifiers and bytes; and symbols whose text
+//! is borrowed.
 #![tactic(auto)]
 
 mod binary;

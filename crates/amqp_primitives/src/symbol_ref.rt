@@ -5,19 +5,19 @@ ghost use Rattle.amqp_codec.specs.PrimitiveTypes.{symbol_bytes_type};
 
 use amqp_codec::{Encoder, Error, Serialize, SerializeTerm};
 
-/// A symbol whose text is borrowed, for writing alone. One that isn't ASCII is refused in writing, by `Error::NonAscii`.
+/// A symbol whose text is borrowed, only for writing. One that isn't ASCII is refused in writing, with `Error::NonAscii`.
 #[derive(Clone, Debug, PartialEq, Eq, PartialOrd, Ord, Hash, Drop)]
 pub struct SymbolRef<'a>(pub &'a str);
 
 impl<'a> SymbolRef<'a> {
-    /// The text of the symbol.
+    /// Returns the text of the symbol.
     pub fn as_str(&self) -> &'a str
         ensures { result.now ≡ self.now.0.now }
     {
         self.0
     }
 
-    /// The text of the symbol, moved out of it.
+    /// Moves the text out of the symbol, and returns it.
     pub fn into_inner(self) -> &'a str
         ensures { result.now ≡ self.entry.0.now }
     {

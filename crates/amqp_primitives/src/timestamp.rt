@@ -15,7 +15,7 @@ use std::alloc::Global;
 pub struct Timestamp(pub i64);
 
 impl Timestamp {
-    /// The milliseconds since the start of 1970.
+    /// Returns the milliseconds since the start of 1970.
     pub fn into_inner(self) -> i64
         ensures { result ≡ self.0 }
     {

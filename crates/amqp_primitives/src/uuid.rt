@@ -10,19 +10,19 @@ use amqp_codec::{
 };
 use std::alloc::Global;
 
-/// A universally unique identifier (Part 1, section 1.6.18; RFC 4122): its 16 bytes. Which of its forms they have is not looked at.
+/// A universally unique identifier (Part 1, section 1.6.18; RFC 4122): its 16 bytes. Which of its forms they have isn't checked.
 #[derive(Clone, Debug, PartialEq, Eq, PartialOrd, Ord, Hash, Drop)]
 pub struct Uuid(pub [u8; 16]);
 
 impl Uuid {
-    /// The 16 bytes, the most significant first.
+    /// Returns the 16 bytes, the most significant first.
     pub fn as_slice(&self) -> &[u8]
         ensures { result.now ≡ self.now.0 }
     {
         &self.0
     }
 
-    /// The 16 bytes, moved out of the identifier.
+    /// Moves the 16 bytes out of the identifier, and returns them.
     pub fn into_inner(self) -> [u8; 16]
         ensures { result ≡ self.0 }
     {

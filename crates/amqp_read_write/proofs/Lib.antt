@@ -2,4 +2,5 @@ pub mod Depths
 pub mod Passes
 pub mod Reserved
 pub mod Rewrites
+pub mod Unwritten
 pub mod FromReader

@@ -15,7 +15,7 @@ use Rattle.amqp_encoder.specs.Passes.{row_text, as_size, BeginsMeasuring, Begins
 use Rattle.amqp_encoder.proofs.Rows.{HasFound, HasFilled, filled_bytes}
 use Rattle.amqp_encoder.proofs.Rows as rows
 use Rattle.amqp_encoder.specs.Refused.{KnowDepths}
-use Rattle.amqp_codec.specs.Written.{GivesUp, WritesTerms, AreProper, AreUnwritable, AreWritable, AreMeasured}
+use Rattle.amqp_codec.specs.Written.{GivesUp, AreFreeIfFilled, WritesTerms, AreProper, AreUnwritable, AreWritable, AreMeasured}
 use Rattle.amqp_codec.specs.ProperLaws.{proper_values}
 use Rattle.amqp_read_write.proofs.Depths.{depths, unwritable}
 use Rattle.amqp_read_write.proofs.Depths as depth
@@ -24,6 +24,10 @@ found_same : (s : Pass) (m n : ℕ) (xs ys : List Size) → Found s m xs → Fou
 found_same (Measuring s) m n xs ys h k = (sym k.1 ∙ h.1, sym k.2 ∙ h.2)
 found_same (Filling s) m n xs ys h k = absurd h
 found_same (Stopped e) m n xs ys h k = absurd h
+
+-- what begins to measure doesn't fill
+measures : (old : Encoder) (ts : List Term) → BeginsMeasuring old → AreFreeIfFilled old ts
+measures old ts b fills = absurd (rw b at fills)
 
 memory : (e : Error) (r : Result (Unit {0}) Error) → r ≡ Err e → r ≡ Err Memory → e ≡ Memory
 memory e r h k = cc
@@ -40,7 +44,7 @@ module _ (ts : List Term) (proper : AreProper ts) where
       → WritesTerms ts old r new → (e ≡ Memory) ⊎ AreUnwritable ts e
   measuring_refused old new r e b i w =
       let d = depths ts proper in
-      elim (w.calls d.0 d.1) [
+      elim (w.calls d.0 d.1 (measures old ts b)) [
         | inr g ↦ inl (memory e r i g.answer)
         | inl c ↦
             let f : HasFound d.0 ts (pass_of new) (Err e) = rw i at (rows.measured d.0 ts old r new (proper_values ts proper) b c) in
@@ -51,7 +55,7 @@ module _ (ts : List Term) (proper : AreProper ts) where
       (wrote : WritesTerms ts old r new) where
     found_by : (deep : List ℕ → ℕ) → KnowDepths deep ts → HasFound deep ts (pass_of new) (Ok tt)
     found_by deep k =
-        elim (wrote.calls deep k) [
+        elim (wrote.calls deep k (measures old ts begins)) [
           | inr g ↦ absurd (not_memory r went g.answer)
           | inl c ↦ rw went at (rows.measured deep ts old r new (proper_values ts proper) begins c)
         ]
@@ -66,7 +70,7 @@ module _ (ts : List Term) (proper : AreProper ts) where
       h.1,
     )
     ended (Err e) h (inl k) = let d = depths ts proper in
-        elim (wrote.calls d.0 d.1) [ inr g ↦ absurd (not_memory r went g.answer) | inl c ↦ let a = c.runs.answer in cc ]
+        elim (wrote.calls d.0 d.1 (measures old ts begins)) [ inr g ↦ absurd (not_memory r went g.answer) | inl c ↦ let a = c.runs.answer in cc ]
     ended (Err e) h (inr k) = let d = depths ts proper in
         k.1 (length (row_text ts)) (map as_size (all_sizes (terms_of ts))) (found_by d.0 d.1).0
 
@@ -95,9 +99,12 @@ module _ (ts : List Term) (proper : AreProper ts) where
   module _ (len : ℕ) (sizes : List Size) (out : List ℕ) (limit : ℕ) (old new : Encoder) (r : Result (Unit {0}) Error)
       (measured : AreMeasured ts len sizes) (room : length out + len ≤ limit) (begins : BeginsFilling old sizes out limit)
       (wrote : WritesTerms ts old r new) where
+    free : AreFreeIfFilled old ts
+    free fills = let d = depths ts proper in (measured d.0 d.1).free
+
     filled_by : HasFilled (depths ts proper).0 (out ++ row_text ts) new r ⊎ GivesUp old r new
     filled_by = let d = depths ts proper in
-        elim (wrote.calls d.0 d.1) [
+        elim (wrote.calls d.0 d.1 free) [
           | inl c ↦ inl (rows.written d.0 ts len sizes out limit old r new (measured d.0 d.1) room begins c)
           | inr g ↦ inr g
         ]
@@ -115,5 +122,5 @@ module _ (ts : List Term) (proper : AreProper ts) where
     front_kept n i =
         let d = depths ts proper in
         let kept = filled_bytes old _ begins in
-        let k : Follows out (bytes_of new) = elim (wrote.calls d.0 d.1) [ inl c ↦ rw kept at c.kept | inr g ↦ rw kept at g.kept ] in
+        let k : Follows out (bytes_of new) = elim (wrote.calls d.0 d.1 free) [ inl c ↦ rw kept at c.kept | inr g ↦ rw kept at g.kept ] in
         rw (i, k.1) (take-append_seam out k.0)

@@ -12,7 +12,7 @@ use Rattle.amqp_codec.specs.Reading.{Reading, BeginsWith, BeginsWithin, IsUnread
 use Rattle.amqp_codec.specs.ReadingLaws.{read_one}
 use Rattle.amqp_codec.specs.Rewriting.{Rewriting}
 use Rattle.amqp_read_write.specs.Rewritten.{IsRewritten, IsReadAgain, AreReadAgain, IsOneText, IsOfNoOther, IsUnchanged, IsShortest, AreShortest, IsUnwritten}
-use Rattle.amqp_read_write.specs.Rewritten.{IsUnwrittenWithin, ReadsNoMore}
+use Rattle.amqp_read_write.specs.Rewritten.{IsRewrittenWithin, IsUnwrittenWithin, ReadsNoMore}
 use Rattle.amqp_codec.specs.Written.{AreWritable, AreUnwritable}
 
 module _ {T : Type 0} {r : Reading T} {canons : T → List Term} {is_value : T → Type 0} {follows : List ℕ → Type 0} {again : T → T}
@@ -69,6 +69,20 @@ module _ {T : Type 0} {r : Reading T} {canons : T → List Term} {is_value : T �
 
     pub shortest : is_least ≡ true → IsShortest r canons input text n
     shortest l v w other m k j s bytes none = subst (λ b. length b ≤ m) (one_text v w other m k j s) (laws.least l other w m bytes none j)
+
+  -- what is said of a text that was written after its value was read within limits
+  pub without_limits : (limits : Limits) → ReadsNoMore limits r → (input text : List ℕ) (n : ℕ)
+      → IsRewrittenWithin limits r canons input text n → IsRewritten r canons input text n
+  without_limits limits more input text n h =
+      let read = more input h.value n h.read in
+      record {
+        value = h.value;
+        read = read;
+        one = λ w m k. (read_one greatest r input h.value w n m read k).0;
+        bounded = h.bounded;
+        writable = h.writable;
+        text_is = h.text_is;
+      }
 
   -- what was read within limits is refused for its size, as what is read without
   pub unwritten_within : (limits : Limits) (more : ReadsNoMore limits r) (input : List ℕ) (v : T) (n : ℕ) (e : Error)

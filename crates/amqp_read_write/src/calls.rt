@@ -15,8 +15,12 @@ use amqp_encoder::{Encoder, begin_filling, buffer_of, measured_len, measuring_en
 use amqp_wire::{Error, Limits};
 use std::alloc::Global;
 
-/// The value that the input begins with. What follows it is left. An error is `Memory`, if reading the type takes
-/// memory, or names a fault of an input that begins with no value; it is never `Read`, since a slice doesn't fail, nor `Limit`.
+/// Reads the value at the start of `input`. What follows it is ignored.
+///
+/// # Errors
+///
+/// `Memory` is returned only if reading the type allocates. Any other error reports a fault of an input that begins with no value. It is
+/// never `Read`, since a slice doesn't fail, and never `Limit`.
 pub fn from_slice<T: Deserialize>(input: &[u8], alloc: Global) -> Result<T, Error>
     ensures found { IfOk result (λ v. (n : ℕ) × BeginsWith T.reading input.now v n) }
     ensures one { (v w : _) (n m : ℕ) → BeginsWith T.reading input.now v n → BeginsWith T.reading input.now w m → T.reading.same v w }
@@ -29,8 +33,8 @@ pub fn from_slice<T: Deserialize>(input: &[u8], alloc: Global) -> Result<T, Erro
     Ok(value)
 }
 
-/// The value that the input begins with, and how many bytes it takes. It is refused as `from_slice` is. No input begins with two
-/// values, and no value that an input begins with has more values in it than it takes bytes.
+/// Reads the value at the start of `input`, and returns it and the number of bytes that it takes. It returns the errors of `from_slice`. No
+/// input begins with two values. No value that an input begins with has more values in it than it takes bytes.
 pub fn from_slice_counted<T: Deserialize>(input: &[u8], alloc: Global) -> Result<(T, usize), Error>
     ensures found { IfOk result (λ r. BeginsWith T.reading input.now r.0 r.1) }
     ensures one { (v w : _) (n m : ℕ) → BeginsWith T.reading input.now v n → BeginsWith T.reading input.now w m
@@ -44,9 +48,12 @@ pub fn from_slice_counted<T: Deserialize>(input: &[u8], alloc: Global) -> Result
     from_slice_within(input, &Limits::greatest(), alloc)
 }
 
-/// Within limits of the caller, the value that the input begins with, and how many bytes it takes. It is refused as `from_slice` is, and
-/// by `Limit` if it passes a limit. No input begins with two values, and no value that an input begins with has more values in it than it
-/// takes bytes.
+/// Reads the value at the start of `input`, within limits of the caller, and returns it and the number of bytes that it takes. No input
+/// begins with two values. No value that an input begins with has more values in it than it takes bytes.
+///
+/// # Errors
+///
+/// It returns the errors of `from_slice`, or `Limit` if the input is past a limit. `Limit` is returned only if the caller has set a limit.
 pub fn from_slice_within<T: Deserialize>(
     input: &[u8],
     limits: &Limits,
@@ -69,9 +76,12 @@ pub fn from_slice_within<T: Deserialize>(
     Ok((value, input.len().saturating_sub(left)))
 }
 
-/// The canonical text of the value: that of each of its canonical terms, one after another (Part 1, section 1.6).
-/// It is measured first, so that its bytes are reserved once and exactly. An error is a reason why the terms
-/// can't be written, or `Memory`.
+/// Returns the canonical text of the value: that of each of its canonical terms, one after another (Part 1, section 1.6). The text is
+/// measured first, and its bytes are then reserved once and exactly.
+///
+/// # Errors
+///
+/// An error is `Memory`, or a reason why the terms can't be written.
 pub fn to_vec<T: Serialize>(value: &T, alloc: Global) -> Result<Vec<u8>, Error>
     ensures is_value { T.writing.is_value value.now }
     ensures text { IfOk result (λ text. text.items ≡ row_text (T.writing.canons value.now)) }
@@ -86,7 +96,7 @@ pub fn to_vec<T: Serialize>(value: &T, alloc: Global) -> Result<Vec<u8>, Error>
     Ok(buffer_of(encoder))
 }
 
-/// The length in bytes of the value's canonical text, refused as `to_vec` is.
+/// Returns the length in bytes of the value's canonical text. It returns the errors of `to_vec`.
 pub fn encoded_len<T: Serialize>(value: &T, alloc: Global) -> Result<usize, Error>
     ensures is_value { T.writing.is_value value.now }
     ensures len { IfOk result (λ len. len ≡ length (row_text (T.writing.canons value.now))) }
@@ -96,8 +106,8 @@ pub fn encoded_len<T: Serialize>(value: &T, alloc: Global) -> Result<usize, Erro
     measure(value, &mut measuring_encoder(alloc))
 }
 
-/// Appends the value's canonical text to the buffer, and returns its length in bytes. The room is reserved once
-/// and exactly. It is refused as `to_vec` is, and then leaves the buffer's content as it was.
+/// Appends the value's canonical text to the buffer, and returns the text's length in bytes. The bytes are reserved once and exactly. It
+/// returns the errors of `to_vec`, and then the buffer's content is unchanged.
 pub fn append_to_vec<T: Serialize>(
     value: &T,
     buffer: &mut Vec<u8>,
@@ -127,8 +137,11 @@ pub fn append_to_vec<T: Serialize>(
     }
 }
 
-/// The canonical text of the value that the input begins with, and how many bytes that value takes there.
-/// An error is `Memory`, a fault of an input that begins with no value, or `TooLarge`; never `Limit`.
+/// Returns the canonical text of the value at the start of `input`, and the number of bytes that the value takes there.
+///
+/// # Errors
+///
+/// An error is `Memory`, a fault of an input that begins with no value, or `TooLarge`. It is never `Read` or `Limit`.
 pub fn canonical_text<T: Canonical>(input: &[u8], alloc: Global) -> Result<(Vec<u8>, usize), Error>
     ensures text { IfOk result (λ r. IsRewritten T.reading T.writing.canons input.now r.0.items r.1) }
     ensures read_again { IfOk result (λ r. IsReadAgain T.reading T.follows T.again T.kept input.now r.0.items r.1) }
@@ -148,24 +161,38 @@ pub fn canonical_text<T: Canonical>(input: &[u8], alloc: Global) -> Result<(Vec<
     Ok((text, len))
 }
 
-/// Within limits of the caller, the canonical text of the value that the input begins with, and how many bytes that value takes there. An
-/// error is `Memory`, or a fault of an input that begins with no value within the limits; or it is `TooLarge`, if nothing is read within
-/// them that isn't read without, as is so of every type of terms (`laws::limits_bound_reading`).
+/// Returns the canonical text of the value at the start of `input`, within limits of the caller, and the number of bytes that the value
+/// takes there. The clauses of `canonical_text` about the text hold here, too, if nothing is read within the limits that isn't read without
+/// them. For every one-term type that is so (`laws::limits_bound_reading`).
+///
+/// # Errors
+///
+/// An error is `Memory`, a fault of an input that begins with no value within the limits, or `TooLarge`.
 pub fn canonical_text_within<T: Canonical>(
     input: &[u8],
     limits: &Limits,
     alloc: Global,
 ) -> Result<(Vec<u8>, usize), Error>
     ensures text { IfOk result (λ r. IsRewrittenWithin limits.now T.reading T.writing.canons input.now r.0.items r.1) }
+    ensures read_again { ReadsNoMore limits.now T.reading
+        → IfOk result (λ r. IsReadAgain T.reading T.follows T.again T.kept input.now r.0.items r.1) }
+    ensures one_text { ReadsNoMore limits.now T.reading → IfOk result (λ r. IsOneText T.reading T.writing.canons input.now r.0.items r.1) }
+    ensures no_other { ReadsNoMore limits.now T.reading
+        → IfOk result (λ r. IsOfNoOther T.reading T.writing.canons T.kept input.now r.0.items r.1) }
+    ensures unchanged { ReadsNoMore limits.now T.reading → IfOk result (λ r. IsUnchanged T.reading T.writing.canons r.0.items) }
+    ensures no_shorter { ReadsNoMore limits.now T.reading → T.is_least ≡ true
+        → IfOk result (λ r. IsShortest T.reading T.writing.canons input.now r.0.items r.1) }
     ensures refused { ReadsNoMore limits.now T.reading → IfErr result (λ e. (e ≡ Memory)
         ⊎ (IsUnreadableWithin limits.now T.reading input.now e ⊎ IsUnwrittenWithin limits.now T.reading T.writing.canons input.now e)) }
+    ensures unfailing { IfErr result (λ e. IsReadError e → ⊥) }
+    ensures limited { IfErr result (λ e. e ≡ Limit → IsGreatest limits.now → ⊥) }
 {
     let (value, len) = from_slice_within::<T>(input, limits, alloc)?;
     let written = to_vec(&value, alloc)?;
     Ok((written, len))
 }
 
-// The length of the canonical text, of which the encoder keeps the sizes; or why there is none.
+// The length of the canonical text, whose sizes the encoder keeps; or why there is none.
 #[inline(always)]
 fn measure<T: Serialize>(value: &T, encoder: &mut Encoder) -> Result<usize, Error>
     requires { BeginsMeasuring encoder.old }

@@ -17,10 +17,15 @@ use std::alloc::{AllocError, Global};
 use std::io::ErrorKind;
 use std::marker::{Brand, PhantomData};
 
-/// The value that the reader's bytes begin with, however it gives them. The reader is left behind the value.
-/// An error is `Memory`, only if reading the type takes memory; `Read`, only if the reader has failed; or it names a fault of
-/// bytes that begin with no value. If the reader begins to fail, it is always `Read`. Nothing says how many bytes were
-/// taken then.
+/// Reads the value at the start of the reader's bytes, however the reader splits them. For a one-term type, the reader's next byte is the
+/// one after the value. What this comment says about the reader's bytes is promised for a specified source: one whose contract states its
+/// bytes (`Tells`), as that of a slice does.
+///
+/// # Errors
+///
+/// `Memory` is returned only if reading the type allocates, and `Read` only if the reader has failed. Any other error reports a fault of
+/// bytes that begin with no value. If the reader begins to fail in the call, the error is always `Read`. How many bytes were taken then is
+/// unspecified.
 pub fn from_reader<T: Deserialize, R: ByteSource>(reader: &mut R, alloc: Global) -> Result<T, Error>
     ensures found { Tells R.remaining → IfOk result (λ v. (n : ℕ) × BeginsWith T.reading (known (R.remaining reader.old)) v n) }
     ensures one { Tells R.remaining → IfOk result (λ v. (w : _) (m : ℕ)
@@ -39,9 +44,12 @@ pub fn from_reader<T: Deserialize, R: ByteSource>(reader: &mut R, alloc: Global)
     from_reader_within(reader, &Limits::greatest(), alloc)
 }
 
-/// Within limits of the caller, the value that the reader's bytes begin with, however it gives them. The reader is left behind the value.
-/// It is refused as `from_reader` is, and by `Limit` if it passes a limit. Of a type that is one term no more bytes are taken from a
-/// reader that hasn't failed than the limit says, also if the value is refused.
+/// Reads the value at the start of the reader's bytes, within limits of the caller, however the reader splits them. For a one-term type,
+/// the reader's next byte is the one after the value. For a one-term type, no more bytes are taken from a reader that hasn't failed than
+/// the limit allows, even if the value is refused. As for `from_reader`, this is promised for a specified source.
+/// # Errors
+///
+/// It returns the errors of `from_reader`, or `Limit` if the value is past a limit. `Limit` is returned only if the caller has set a limit.
 pub fn from_reader_within<T: Deserialize, R: ByteSource>(
     reader: &mut R,
     limits: &Limits,
@@ -69,14 +77,14 @@ pub fn from_reader_within<T: Deserialize, R: ByteSource>(
     read
 }
 
-// The name of a source, which a call picks.
+// The name of a source, which a call chooses.
 trait Name {
     ghost name: { ℕ };
 
     // The bytes that it had.
     ghost origin: { List ℕ };
 
-    // So many of the last of them stay in it.
+    // How many of the last of them stay in it.
     ghost reserve: { ℕ };
 }
 
@@ -88,8 +96,8 @@ impl Name for Brand {
     ghost reserve = { 0 };
 }
 
-// A source of that name. So the one that a decoder gives back is the one that it was made of, and unless it has failed, it has the
-// rest of its bytes.
+// A source of that name. So the one that a decoder returns is the one that it was made of, and unless it has failed, it has the rest of its
+// bytes.
 #[derive(Drop)]
 struct Named<S: ByteSource, N: Name> {
     source: S,
@@ -151,7 +159,7 @@ fn decoder_for<T: Deserialize, R: ByteSource>(
     }
 }
 
-// Within the limits, the value that the source's bytes begin with, and the source, which is left behind it.
+// Within the limits, the value at the start of the source's bytes, and the source, whose next byte is the one after it.
 fn read_named<T: Deserialize, S: ByteSource, N: Name>(
     source: S,
     limits: &Limits,

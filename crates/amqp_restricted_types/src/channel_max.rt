@@ -6,7 +6,7 @@ ghost use Rattle.amqp_restricted_types.specs.Transport.{channel_max_type};
 use amqp_codec::{ByteSource, Decoder, DeserializeTerm, Encoder, Error, Serialize, SerializeTerm};
 use std::alloc::Global;
 
-/// The greatest number of a channel that may be used on a connection. The default, 65,535, is the greatest there is.
+/// The greatest channel number that may be used on a connection. The default, 65,535, is the greatest possible.
 #[derive(Clone, Debug, PartialEq, Eq, Drop)]
 pub struct ChannelMax(pub u16);
 

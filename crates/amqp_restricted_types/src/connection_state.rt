@@ -1,6 +1,6 @@
 //! States of a connection (Part 2, section 2.4.6).
 
-/// What an end of a connection has sent and received. It is a name alone, and is neither read nor written.
+/// What an end of a connection has sent and received. It is only a name, and is neither read nor written.
 #[derive(Clone, Debug, Drop)]
 pub enum ConnectionState {
     /// Nothing was exchanged.
@@ -27,7 +27,7 @@ pub enum ConnectionState {
     CloseReceived,
     /// The close was sent.
     CloseSent,
-    /// The close was sent with an error, and what comes in is dropped.
+    /// The close was sent with an error, and incoming frames are dropped.
     Discarding,
     /// It is over.
     End,

@@ -15,5 +15,5 @@ pub const MINOR: u8 = 0;
 /// Its revision.
 pub const REVISION: u8 = 0;
 
-/// The least number of bytes that every peer takes as a frame's greatest size.
+/// The least `max-frame-size`, in bytes, that every peer must accept.
 pub const MIN_MAX_FRAME_SIZE: usize = 512;

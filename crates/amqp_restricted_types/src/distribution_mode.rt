@@ -1,4 +1,4 @@
-//! How a node gives out its messages (Part 3, section 3.5.7).
+//! How a node distributes its messages (Part 3, section 3.5.7).
 ghost use Rattle.std.specs.Prelude.{◌≡◌, IfErr, IfOk, refl, string_bytes};
 ghost use Rattle.amqp_wire.specs.declared.error.Error.TheVariants.{Memory};
 ghost use Rattle.amqp_enums.specs.Restricted.{Converts};
@@ -16,14 +16,14 @@ use std::alloc::Global;
 /// How a node gives its messages to links.
 #[derive(Clone, Debug, PartialEq, Eq, Hash, Drop)]
 pub enum DistributionMode {
-    /// A message that was transferred isn't there for other links: `move`.
+    /// A message that was transferred is no longer available to other links: `move`.
     Move,
-    /// A message that was transferred stays there for other links: `copy`.
+    /// A message that was transferred stays available to other links: `copy`.
     Copy,
 }
 
 impl DistributionMode {
-    /// The text. Takes no memory.
+    /// Returns the text. It doesn't allocate.
     pub fn as_str(&self) -> &'static str
         ensures { result.now ≡ distribution_mode_texts self.now }
     {
@@ -33,7 +33,7 @@ impl DistributionMode {
         }
     }
 
-    /// The text as a symbol. The only error is `Memory`.
+    /// Returns the text as a symbol. The only error is `Memory`.
     pub fn to_symbol(&self, alloc: Global) -> Result<Symbol, Error>
         ensures text { IfOk result (λ symbol. string_bytes symbol.0 ≡ distribution_mode_texts self.now) }
         ensures refused { IfErr result (λ e. e ≡ Memory) }
@@ -42,7 +42,7 @@ impl DistributionMode {
     }
 }
 
-/// Gives any other text back.
+/// Returns any other text as the error.
 impl<'a> TryFrom<&'a str> for DistributionMode {
     type Error = &'a str;
 
@@ -57,7 +57,7 @@ impl<'a> TryFrom<&'a str> for DistributionMode {
     }
 }
 
-/// Gives any other symbol back.
+/// Returns any other symbol as the error.
 impl TryFrom<Symbol> for DistributionMode {
     type Error = Symbol;
 

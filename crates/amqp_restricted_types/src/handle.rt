@@ -6,7 +6,7 @@ ghost use Rattle.amqp_restricted_types.specs.Transport.{handle_type};
 use amqp_codec::{ByteSource, Decoder, DeserializeTerm, Encoder, Error, Serialize, SerializeTerm};
 use std::alloc::Global;
 
-/// The number of a link in a session, and in `handle-max` the greatest that may be used. The default is that of `handle-max`,
+/// The number of a link in a session; in `handle-max`, the greatest number that may be used. The default is that of `handle-max`,
 /// 4,294,967,295 (Part 2, section 2.7.2).
 #[derive(Clone, Debug, PartialEq, Eq, PartialOrd, Ord, Drop)]
 pub struct Handle(pub u32);

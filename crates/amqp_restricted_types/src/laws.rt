@@ -1,4 +1,4 @@
-//! What holds of the types of this crate beyond the laws of every type. The functions do nothing; their contracts are proved.
+//! What holds for the types of this crate in addition to the laws of every type. The functions do nothing; their contracts are proved.
 ghost use Rattle.std.specs.Prelude.{◌≡◌, true, false};
 ghost use Rattle.std.specs.Ordering.{nat_cmp};
 ghost use Rattle.amqp_restricted_types.specs.Orders.{role_place, txn_capability_place};
@@ -10,7 +10,7 @@ use crate::{
 };
 use amqp_codec::{Canonical, Deserialize};
 
-/// Numbers are read without memory, so that `from_slice` returns `Memory` for none of them.
+/// Numbers are read without allocating, so `from_slice` never returns `Memory` for them.
 pub fn reading_takes_no_memory()
     ensures role { ⟦<Role as Deserialize>⟧.reading.takes_memory ≡ false }
     ensures sender_settle_mode { ⟦<SenderSettleMode as Deserialize>⟧.reading.takes_memory ≡ false }
@@ -33,7 +33,7 @@ pub fn defaults()
     ensures channel_max { (v : _) → ⟦<ChannelMax as Default>⟧.is_default v → v.0 ≡ 65535 }
 {}
 
-/// No spelling of a value of these is shorter than its canonical text.
+/// For these types, no encoding of a value is shorter than its canonical text.
 pub fn texts_are_least()
     ensures role { ⟦<Role as Canonical>⟧.is_least ≡ true }
     ensures sender_settle_mode { ⟦<SenderSettleMode as Canonical>⟧.is_least ≡ true }
@@ -48,7 +48,7 @@ pub fn texts_are_least()
     ensures txn_capability { ⟦<TxnCapability as Canonical>⟧.is_least ≡ true }
 {}
 
-/// Roles and the capabilities of transactions are ordered as the standard lists them, handles as their numbers.
+/// Roles and the capabilities of transactions are ordered as the standard lists them, and handles as their numbers.
 pub fn orders()
     ensures role { (a b : _) → ⟦<Role as Ord>⟧.cmp a b ≡ nat_cmp (role_place a) (role_place b) }
     ensures txn_capability { (a b : _) → ⟦<TxnCapability as Ord>⟧.cmp a b ≡ nat_cmp (txn_capability_place a) (txn_capability_place b) }

@@ -1,5 +1,5 @@
-//! Restricted types (Part 2, section 2.8; Part 3, section 3.5; Part 4, section 4.5; Part 5, section 5.3.3): each value is a number or a
-//! text of its own. And the names and constants of Part 2.
+//! Restricted types (Part 2, section 2.8; Part 3, section 3.5; Part 4, section 4.5; Part 5, section 5.3.3): each value has a number or a
+//! text. Also the names and constants of Part 2.
 #![tactic(auto)]
 
 mod channel_max;

@@ -6,7 +6,7 @@ ghost use Rattle.amqp_restricted_types.specs.Transport.{max_frame_size_type};
 use amqp_codec::{ByteSource, Decoder, DeserializeTerm, Encoder, Error, Serialize, SerializeTerm};
 use std::alloc::Global;
 
-/// The most bytes that a frame may have which is sent to a peer. The default, 4,294,967,295, is the greatest there is.
+/// The greatest size, in bytes, of a frame that is sent to a peer. The default, 4,294,967,295, is the greatest possible.
 #[derive(Clone, Debug, PartialEq, Eq, Drop)]
 pub struct MaxFrameSize(pub u32);
 

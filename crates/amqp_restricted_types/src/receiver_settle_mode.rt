@@ -14,7 +14,7 @@ use std::alloc::Global;
 /// How the receiver of a link settles its deliveries.
 #[derive(Clone, Debug, PartialEq, Eq, Hash, Default, Drop)]
 pub enum ReceiverSettleMode {
-    /// It settles each of its own accord; the default: 0.
+    /// It settles each without waiting for the sender; the default: 0.
     #[default]
     First,
     /// It settles each after the sender has: 1.

@@ -16,13 +16,13 @@ use std::alloc::Global;
 pub enum SaslCode {
     /// The peer was authenticated: 0.
     Ok,
-    /// It wasn't, since what it gave was wrong: 1.
+    /// It wasn't, because its credentials were wrong: 1.
     Auth,
-    /// It wasn't, since a system failed: 2.
+    /// It wasn't, because a system failed: 2.
     Sys,
-    /// It wasn't, since a system failed and has to be mended: 3.
+    /// It wasn't, because a system failed and must be repaired: 3.
     SysPerm,
-    /// It wasn't, since a system failed for a while: 4.
+    /// It wasn't, because a system failed temporarily: 4.
     SysTemp,
 }
 

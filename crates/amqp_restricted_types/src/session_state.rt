@@ -1,6 +1,6 @@
 //! States of a session (Part 2, section 2.5.5).
 
-/// What an end of a session has sent and received. It is a name alone, and is neither read nor written.
+/// What an end of a session has sent and received. It is only a name, and is neither read nor written.
 #[derive(Clone, Debug, Drop)]
 pub enum SessionState {
     /// It isn't mapped to a channel.
@@ -15,6 +15,6 @@ pub enum SessionState {
     EndSent,
     /// The peer's end was received.
     EndReceived,
-    /// The end was sent with an error, and what comes in is dropped.
+    /// The end was sent with an error, and incoming frames are dropped.
     Discarding,
 }

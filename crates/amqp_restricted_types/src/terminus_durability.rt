@@ -1,4 +1,4 @@
-//! What of a terminus is durable (Part 3, section 3.5.5).
+//! What part of a terminus is durable (Part 3, section 3.5.5).
 ghost use Rattle.std.specs.Prelude.{refl};
 ghost use Rattle.amqp_codec.specs.Agreement.{one_term, agreement, writing_of};
 ghost use Rattle.amqp_codec.specs.KeyLaws.{key_of, variants_decide};
@@ -11,7 +11,7 @@ use amqp_codec::{
 use amqp_enums::restricted::{RestrictedNumber, read_number, write_number};
 use std::alloc::Global;
 
-/// What of a terminus is kept durably.
+/// What part of a terminus is kept durably.
 #[derive(Clone, Debug, PartialEq, Eq, Hash, Default, Drop)]
 pub enum TerminusDurability {
     /// Nothing; the default: 0.

@@ -29,7 +29,7 @@ pub enum TxnCapability {
 }
 
 impl TxnCapability {
-    /// The text. Takes no memory.
+    /// Returns the text. It doesn't allocate.
     pub fn as_str(&self) -> &'static str
         ensures { result.now ≡ txn_capability_texts self.now }
     {
@@ -42,7 +42,7 @@ impl TxnCapability {
         }
     }
 
-    /// The text as a symbol. The only error is `Memory`.
+    /// Returns the text as a symbol. The only error is `Memory`.
     pub fn to_symbol(&self, alloc: Global) -> Result<Symbol, Error>
         ensures text { IfOk result (λ symbol. string_bytes symbol.0 ≡ txn_capability_texts self.now) }
         ensures refused { IfErr result (λ e. e ≡ Memory) }
@@ -51,7 +51,7 @@ impl TxnCapability {
     }
 }
 
-/// Gives any other text back.
+/// Returns any other text as the error.
 impl<'a> TryFrom<&'a str> for TxnCapability {
     type Error = &'a str;
 
@@ -69,7 +69,7 @@ impl<'a> TryFrom<&'a str> for TxnCapability {
     }
 }
 
-/// Gives any other symbol back.
+/// Returns any other symbol as the error.
 impl TryFrom<Symbol> for TxnCapability {
     type Error = Symbol;
 

@@ -9,5 +9,5 @@ pub const SASL_MINOR: u8 = 0;
 /// Its revision.
 pub const SASL_REVISION: u8 = 0;
 
-/// The mechanism of RFC 4505, by which a client is let in without a name.
+/// The mechanism of RFC 4505, with which a client is admitted without a name.
 pub const ANONYMOUS: &str = "ANONYMOUS";

@@ -1,4 +1,4 @@
-//! What holds of the security layer beyond the laws of every type. The functions do nothing; their contracts are proved.
+//! What holds for the security layer in addition to the laws of every type. The functions do nothing; their contracts are proved.
 ghost use Rattle.std.specs.Prelude.{◌≡◌, true, codes};
 
 use crate::{
@@ -7,7 +7,7 @@ use crate::{
 };
 use amqp_codec::Canonical;
 
-/// No spelling of a value of these is shorter than its canonical text, if it holds no array.
+/// For these types, no encoding of a value is shorter than its canonical text, if it holds no array.
 pub fn texts_are_least()
     ensures sasl_mechanisms { ⟦<SaslMechanisms as Canonical>⟧.is_least ≡ true }
     ensures sasl_init { ⟦<SaslInit as Canonical>⟧.is_least ≡ true }

@@ -1,4 +1,4 @@
-//! What is exchanged in the security layer (Part 5, section 5.3.3). The exchange itself isn't here.
+//! What the peers exchange in the security layer (Part 5, section 5.3.3). The exchange itself isn't here.
 #![tactic(auto)]
 
 mod constants;

@@ -1,4 +1,4 @@
-//! A question of the server's (Part 5, section 5.3.3.3).
+//! A question from the server (Part 5, section 5.3.3.3).
 ghost use Rattle.amqp_enums.specs.Types.{composite, one_term, refl, agreement, writing_of};
 ghost use Rattle.amqp_sasl.specs.Tables.{sasl_challenge};
 
@@ -7,7 +7,7 @@ use amqp_codec::{ByteSource, Decoder, Encoder, Error, Serialize, SerializeTerm};
 use amqp_primitives::Binary;
 use std::alloc::Global;
 
-/// What the server asks, as its mechanism says.
+/// What the server asks, in the terms of the mechanism.
 #[derive(Clone, Debug, PartialEq, Eq, Drop)]
 pub struct SaslChallenge {
     /// The question.

@@ -9,14 +9,14 @@ use amqp_codec::{ByteSource, Decoder, Encoder, Error, Serialize, SerializeTerm, 
 use amqp_primitives::Binary;
 use std::alloc::Global;
 
-/// The client's choice of a mechanism, and what it says first.
+/// The client's choice of a mechanism, and its first response.
 #[derive(Clone, Debug, PartialEq, Eq, Drop)]
 pub struct SaslInit {
     /// The mechanism.
     pub mechanism: Symbol,
     /// What the client says before it is asked.
     pub initial_response: Option<Binary>,
-    /// The name of the host that the client means to reach.
+    /// The name of the host that the client wants to reach.
     pub hostname: Option<String>,
 }
 

@@ -14,8 +14,8 @@ use amqp_containers::multiple::{
 };
 use std::alloc::{AllocError, Global};
 
-/// The SASL mechanisms that a server offers, at least one: a frame without any is refused by `EmptyMultiple`, in reading and in
-/// writing.
+/// The SASL mechanisms that a server offers: the body of a frame. There is at least one. A body without mechanisms is refused with
+/// `EmptyMultiple`, in reading and in writing.
 #[derive(Debug, PartialEq, Eq, Drop)]
 pub struct SaslMechanisms {
     /// The mechanisms, in the order of the server's preference.
@@ -26,7 +26,7 @@ impl SaslMechanisms {
     /// The code and the name of its descriptor.
     pub const DESCRIPTOR: (u64, &'static str) = (0x40, "amqp:sasl-mechanisms:list");
 
-    /// The frame that offers `ANONYMOUS` alone, which stands for the default. The only error is `Memory`.
+    /// Returns the body that offers `ANONYMOUS` alone, in place of a default. The only error is `Memory`.
     pub fn default_in(alloc: Global) -> Result<SaslMechanisms, Error>
         ensures anonymous { IfOk result (λ mechanisms. map (λ symbol. string_bytes symbol.0) mechanisms.sasl_server_mechanisms.0.items
             ≡ codes "ANONYMOUS" ∷ []) }

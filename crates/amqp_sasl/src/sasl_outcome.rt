@@ -15,7 +15,7 @@ use std::alloc::Global;
 pub struct SaslOutcome {
     /// How it ended.
     pub code: SaslCode,
-    /// What the server says at last, as its mechanism says.
+    /// What the server says at the end, in the terms of the mechanism.
     pub additional_data: Option<Binary>,
 }
 

@@ -7,7 +7,7 @@ use amqp_codec::{ByteSource, Decoder, Encoder, Error, Serialize, SerializeTerm};
 use amqp_primitives::Binary;
 use std::alloc::Global;
 
-/// What the client answers, as its mechanism says.
+/// What the client answers, in the terms of the mechanism.
 #[derive(Clone, Debug, PartialEq, Eq, Drop)]
 pub struct SaslResponse {
     /// The answer.

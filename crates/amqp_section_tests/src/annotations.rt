@@ -137,7 +137,7 @@ fn insert(map: &mut Annotations, key: Result<OwnedKey, Error>, number: u32) -> R
     Ok(())
 }
 
-/// A map with a number under each of five symbols, in this order.
+/// Returns a map with a number under each of five symbols, in this order.
 fn five(keys: [&str; 5], alloc: Global) -> Result<Annotations, Error> {
     let mut map = Annotations::new(alloc);
     for key in keys {
@@ -153,7 +153,7 @@ fn is_number(found: Option<&Value>, number: u32) -> bool {
     found == Some(&Value::Uint(number))
 }
 
-/// The value under the key is found, and is removed.
+/// Checks that the value under the key is found, and is removed.
 fn taken<K: AnnotationKey>(
     map: &mut Annotations,
     key: &K,

@@ -1,4 +1,4 @@
-//! Headers, properties and what stands in them (Part 3, sections 3.2.1, 3.2.4 and 3.2.11 to 3.2.14), the fields by their names. The
+//! Headers, properties and the types of their fields (Part 3, sections 3.2.1, 3.2.4 and 3.2.11 to 3.2.14), the fields by their names. The
 //! digits are written out by the standard's tables.
 use crate::parts::rewritten;
 use amqp_codec::{Error, Symbol};

@@ -5,7 +5,7 @@ use std::alloc::Global;
 use std::fmt::Display;
 use std::test::Fail;
 
-/// The bytes with these digits are a value of the type, whose canonical text has the other digits.
+/// Checks that the bytes with these digits are a value of the type, whose canonical text has the other digits.
 pub(crate) fn rewritten<T: DeserializeTerm>(
     digits: &str,
     canonical: &str,
@@ -23,7 +23,7 @@ pub(crate) fn rewritten<T: DeserializeTerm>(
     Ok(())
 }
 
-/// Whether the value is printed as this text.
+/// Returns whether the value is printed as this text.
 pub(crate) fn is_printed<T: Display + Drop>(
     made: Result<T, Error>,
     text: &str,

@@ -11,20 +11,20 @@ use std::alloc::Global;
 // The code and the name of its descriptor.
 const DESCRIPTOR: (u64, &str) = (0x76, "amqp:amqp-sequence:list");
 
-/// A list of values of one type that is the body of a message, or a part of it (Part 3, section 3.2.7). A copy wants memory, and each
-/// of its values is a copy of the one in its place.
+/// A list of values of one type that is the body of a message, or a part of it (Part 3, section 3.2.7). `clone` allocates; its values are
+/// clones of the values, in order.
 #[derive(Clone, Debug, PartialEq, Eq, PartialOrd, Ord, Hash, Drop)]
 pub struct AmqpSequence<T>(pub Vec<T>);
 
 impl<T> AmqpSequence<T> {
-    /// The sequence of these values.
+    /// Returns the sequence of these values.
     pub fn new(values: Vec<T>) -> AmqpSequence<T>
         ensures { result.0 ≡ values }
     {
         AmqpSequence(values)
     }
 
-    /// The sequence without values. Takes no memory.
+    /// Returns the sequence without values. It doesn't allocate.
     pub fn default_in(alloc: Global) -> AmqpSequence<T>
         ensures { result.0.items ≡ [] }
     {

@@ -10,8 +10,8 @@ use std::alloc::Global;
 // The code and the name of its descriptor.
 const DESCRIPTOR: (u64, &str) = (0x77, "amqp:amqp-value:*");
 
-/// A value of one type that is the body of a message (Part 3, section 3.2.8). Where that type keeps the bytes that it read, so
-/// does the section, of what stands behind its descriptor. A copy holds a copy of the value.
+/// A value of one type that is the body of a message (Part 3, section 3.2.8). If that type has kept bytes, so has the section: those after
+/// its descriptor. A clone holds a clone of the value.
 #[derive(Clone, Debug, PartialEq, Eq, PartialOrd, Ord, Hash, Drop)]
 pub struct AmqpValue<T>(pub T);
 

@@ -22,7 +22,7 @@ impl Data {
     /// The code and the name of its descriptor.
     pub const DESCRIPTOR: (u64, &'static str) = (0x75, "amqp:data:binary");
 
-    /// The data of these bytes, which are copied. The only error is `Memory`.
+    /// Returns data with a copy of these bytes. The only error is `Memory`.
     pub fn copy_of(bytes: &[u8], alloc: Global) -> Result<Data, Error>
         ensures bytes { IfOk result (λ copy. copy.0.0.items ≡ bytes.now) }
         ensures refused { IfErr result (λ e. e ≡ Memory) }
@@ -47,7 +47,7 @@ impl From<Vec<u8>> for Data {
     }
 }
 
-/// Gives a value of another kind back.
+/// Returns a value of another kind as the error.
 impl TryFrom<Value> for Data {
     type Error = Value;
 

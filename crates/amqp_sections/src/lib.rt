@@ -1,4 +1,4 @@
-//! The sections of a message's body (Part 3, sections 3.2.6 to 3.2.8), and what is one value behind a descriptor.
+//! The sections of a message's body (Part 3, sections 3.2.6 to 3.2.8), and all that are one value under a descriptor.
 #![tactic(auto)]
 
 mod amqp_sequence;

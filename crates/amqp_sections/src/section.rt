@@ -1,4 +1,4 @@
-//! Sections that are one value behind a descriptor, by one reader and one writer for all (Part 3, section 3.2).
+//! Sections that are one value under a descriptor, with one reader and one writer for all (Part 3, section 3.2).
 ghost use Rattle.std.specs.Prelude.{◌≡◌, [], ◌∷◌};
 ghost use Rattle.amqp_model.specs.Term.{code, described};
 ghost use Rattle.amqp_wire.specs.Sources.{Tells};
@@ -14,7 +14,7 @@ use amqp_encoder::Encoder;
 use amqp_wire::{ByteSource, Descriptor, Error};
 use std::alloc::Global;
 
-/// A section of a message that is one value, of this type, behind a descriptor of its own (Part 3, section 3.2).
+/// A section of a message that is one value, of this type, under a descriptor of its own (Part 3, section 3.2).
 pub trait Section<T>: Sized + Drop {
     ghost use Rattle.amqp_codec.specs.Wrappers.{Holds};
     ghost use Rattle.amqp_sections.specs.SectionType.{Naming};
@@ -25,19 +25,25 @@ pub trait Section<T>: Sized + Drop {
     // The section holds the value.
     ghost holds: { Holds Self T };
 
-    /// The code and the name of the descriptor.
+    /// Returns the code and the name of the descriptor.
     fn descriptor() -> (u64, &'static str)
         ensures code { result.0 ≡ naming.code }
         ensures name { result.1.now ≡ naming.name };
 
-    /// The section of this value.
+    /// Returns the section with this value.
     fn of_content(value: T) -> Self
         ensures { holds.get result ≡ value };
 }
 
-/// Reads a section. Another descriptor is `WrongDescriptor`, one that is neither a symbol nor a ulong `BadDescriptor`, a symbol
-/// that isn't ASCII `NonAscii`, what isn't described `WrongType`, and what is nested more than 128 deep `Depth`. What the value is
-/// refused for comes besides. Memory is taken for the value alone.
+/// Reads a section. It allocates only for the value.
+///
+/// # Errors
+///
+/// - `WrongDescriptor`, for another descriptor.
+/// - `BadDescriptor`, for a descriptor that is neither a symbol nor a ulong, and `NonAscii`, for a symbol that isn't ASCII.
+/// - `WrongType`, if what comes next isn't described.
+/// - `Depth`, if values nest more than 128 deep.
+/// - The errors of the value.
 pub fn read_section<S: Section<T>, T: DeserializeTerm, R: ByteSource>(
     decoder: &mut Decoder<R>,
     alloc: Global,
@@ -53,7 +59,7 @@ pub fn read_section<S: Section<T>, T: DeserializeTerm, R: ByteSource>(
     Ok(S::of_content(value))
 }
 
-/// Writes a section: this value, behind the code of its descriptor. It is refused as the value is, by the encoder's errors.
+/// Writes a section: this value, under the code of its descriptor. It returns the encoder's errors for the value.
 pub fn write_section<T: SerializeTerm>(
     number: u64,
     value: &T,

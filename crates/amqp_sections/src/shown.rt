@@ -5,7 +5,7 @@ ghost use Rattle.std.specs.Fmt.{decimal, ◌++?◌, debug_list};
 use crate::{AmqpSequence, AmqpValue, Data};
 use std::fmt;
 
-/// The number of its bytes.
+/// Prints the number of its bytes.
 impl fmt::Display for Data {
     ghost output = { λ section. Some (codes "Data of length: " ++ decimal (length section.0.0.items)) };
 
@@ -15,7 +15,7 @@ impl fmt::Display for Data {
     }
 }
 
-/// Its values in their order.
+/// Prints its values in order.
 impl<T: fmt::Display> fmt::Display for AmqpSequence<T> {
     ghost output = { λ sequence. Some (codes "AmqpSequence(") ++? (debug_list T.output sequence.0.items ++? Some (codes ")")) };
 
@@ -30,7 +30,7 @@ impl<T: fmt::Display> fmt::Display for AmqpSequence<T> {
     }
 }
 
-/// Its value.
+/// Prints its value.
 impl<T: fmt::Display> fmt::Display for AmqpValue<T> {
     ghost output = { λ value. Some (codes "AmqpValue(") ++? (T.output value.0 ++? Some (codes ")")) };
 

@@ -9,7 +9,7 @@ use amqp_described::Described;
 use amqp_values::Value;
 use std::alloc::AllocError;
 
-// A copy of a value behind its descriptor.
+// A copy of a value under its descriptor.
 fn copy_described(value: &Box<Described<Value>>) -> Result<Box<Described<Value>>, AllocError>
     ensures { IfOk result (λ copy. value_term (DescribedOf copy) ≡ value_term (DescribedOf value.now)) }
 {

@@ -1,4 +1,4 @@
-//! When two simple values are equal: when their terms are.
+//! When two simple values are equal: if their terms are.
 ghost use Rattle.amqp_simple_values.specs.Equality.{simple_eq, simple_per, simple_equiv};
 
 use crate::SimpleValue;

@@ -6,8 +6,8 @@ ghost use Rattle.amqp_simple_values.specs.Simple.{simple_term};
 use crate::SimpleValue;
 
 impl SimpleValue {
-    /// The code of the value's kind, which items of an array have (Part 1, sections 1.2.4 and 1.6): that of the widest data, one for each
-    /// kind. It is 0x40 for null, and 0x00 for a described value. Takes no memory.
+    /// Returns the code of the value's kind, which items of an array have (Part 1, sections 1.2.4 and 1.6). It is the code with the widest
+    /// data of the kind. It is 0x40 for null, and 0x00 for a described value. It doesn't allocate.
     pub fn format_code(&self) -> u8
         ensures { result ≡ format_code (simple_term self.now) }
     {

@@ -1,10 +1,10 @@
-//! What holds of simple values beyond the laws of every type. The functions do nothing; their contracts are proved.
+//! What holds for simple values in addition to the laws of every type. The functions do nothing; their contracts are proved.
 ghost use Rattle.std.specs.Prelude.{◌≡◌, true};
 
 use crate::SimpleValue;
 use amqp_codec::Canonical;
 
-/// No spelling of a simple value is shorter than its canonical text, if it holds no array.
+/// No encoding of a simple value is shorter than its canonical text, if it holds no array.
 pub fn texts_are_least()
     ensures simple_value { ⟦<SimpleValue as Canonical>⟧.is_least ≡ true }
 {}

@@ -1,4 +1,4 @@
-//! Values of any kind but lists, maps and arrays (Part 3, section 3.2.5).
+//! Values of any kind except lists, maps and arrays (Part 3, section 3.2.5).
 #![tactic(auto)]
 
 mod conversions;

@@ -1,4 +1,4 @@
-//! Simple values that are made of what a primitive kind's own type holds (Part 1, section 1.6).
+//! Simple values made of what a primitive kind's own type holds (Part 1, section 1.6).
 ghost use Rattle.std.specs.Prelude.{◌≡◌, IfOk, IfErr};
 ghost use Rattle.amqp_model.specs.Term.{leaf, string};
 ghost use Rattle.amqp_wire.specs.declared.error.Error.TheVariants.{Memory};
@@ -14,7 +14,7 @@ use amqp_wire::{Error, Symbol};
 use std::alloc::Global;
 
 impl SimpleValue {
-    /// A text of the same characters, in memory of its own; `Memory` if there is no memory for it.
+    /// Returns a string with a copy of this text. It returns `Memory` if an allocation fails.
     pub fn from_str_in(text: &str, alloc: Global) -> Result<SimpleValue, Error>
         ensures text { IfOk result (λ v. simple_term v ≡ leaf (string text.now)) }
         ensures memory { IfErr result (λ e. e ≡ Memory) }

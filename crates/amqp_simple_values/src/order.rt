@@ -44,7 +44,7 @@ fn leaf_of<'a>(value: &'a SimpleValue) -> Leaf<'a>
     }
 }
 
-// How a simple value stands to another: first by what they are but for the values that they hold, and then by those.
+// How a simple value compares to another: first without the values that they hold, and then by those.
 fn compare(left: &SimpleValue, right: &SimpleValue) -> Ordering
     ensures { result ≡ simple_cmp left.now right.now }
 {

@@ -1,4 +1,4 @@
-//! How simple values are read: as values of any kind are, but lists, maps and arrays.
+//! How simple values are read: as values of any kind are, except lists, maps and arrays.
 ghost use Rattle.std.specs.Prelude.{◌≡◌};
 ghost use Rattle.amqp_simple_values.specs.Simple.{is_container};
 ghost use Rattle.amqp_simple_values.specs.SimpleType.{simple_type, simple_agreement};

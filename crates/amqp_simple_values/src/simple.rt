@@ -1,13 +1,13 @@
-//! Values of any kind but lists, maps and arrays (Part 3, section 3.2.5).
+//! Values of any kind except lists, maps and arrays (Part 3, section 3.2.5).
 use amqp_described::Described;
 use amqp_primitives::{Binary, Dec32, Dec64, Dec128, Timestamp, Uuid};
 use amqp_values::Value;
 use amqp_wire::Symbol;
 
-/// A value of any kind but a list, a map or an array, floats aside: what application properties hold (Part 3, section 3.2.5). The variants
-/// are those of `Value` in their order. A described value may be of any kind behind its descriptor.
+/// A value of any kind except a list, a map, an array or a float: what application properties hold (Part 3, section 3.2.5). The variants
+/// are those of `Value`, in their order. A described value may be of any kind under its descriptor.
 ///
-/// It is written as its `Value` is, and read as a `Value` is, but that a list, a map or an array is `InvalidValue` at its first code.
+/// It is read and written as its `Value` is; but in reading, a list, a map or an array is refused with `InvalidValue` at its first code.
 #[derive(Debug, Default, Drop)]
 pub enum SimpleValue {
     /// No value (Part 1, section 1.6.1).
@@ -47,8 +47,8 @@ pub enum SimpleValue {
     Binary(Binary),
     /// Text (Part 1, section 1.6.20).
     String(String),
-    /// A symbol, which is ASCII where it is read, and has to be where it is written (Part 1, section 1.6.21).
+    /// A symbol (Part 1, section 1.6.21). One that was read is ASCII, and one that is written must be.
     Symbol(Symbol),
-    /// A value behind a descriptor (Part 1, section 1.2).
+    /// A value under a descriptor (Part 1, section 1.2).
     Described(Box<Described<Value>>),
 }

@@ -1,4 +1,4 @@
-//! What simple values hold, taken out of them. A value of another kind is given back.
+//! What simple values hold, moved out of them. A value of another kind is returned.
 ghost use Rattle.amqp_simple_values.specs.Taken.{TakesOut};
 ghost use Rattle.amqp_simple_values.specs.declared.simple.SimpleValue.TheVariants.{Bool, Ubyte, Ushort, Uint, Ulong, Byte, Short, Int, Long};
 ghost use Rattle.amqp_simple_values.specs.declared.simple.SimpleValue.TheVariants.{Decimal32, Decimal64, Decimal128, Char};

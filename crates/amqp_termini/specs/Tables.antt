@@ -9,7 +9,7 @@ use Rattle.amqp_restricted_types.specs.Defaults.{false_by_default}
 use Rattle.amqp_restricted_types.specs.Termini.{terminus_durability_type, terminus_expiry_policy_type, distribution_mode_type}
 use Rattle.amqp_restricted_types.specs.TerminiDefaults.{not_durable_by_default, session_end_by_default, zero_by_default}
 use Rattle.amqp_restricted_types.specs.Transactions.{txn_capability_type}
-use Rattle.amqp_fields.specs.FieldsType.{fields_type}
+use Rattle.amqp_errors.specs.FieldsType.{fields_type}
 use Rattle.amqp_delivery.specs.Tables.{outcome}
 use Rattle.amqp_termini.specs.declared.source.Source.{Source}
 use Rattle.amqp_termini.specs.declared.target.Target.{Target}

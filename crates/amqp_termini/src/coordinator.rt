@@ -21,7 +21,7 @@ impl Coordinator {
     /// The code and the name of its descriptor.
     pub const DESCRIPTOR: (u64, &'static str) = (0x30, "amqp:coordinator:list");
 
-    /// A coordinator that can do this.
+    /// Returns a coordinator with these capabilities.
     pub fn new(capabilities: Option<Array<TxnCapability>>) -> Coordinator
         ensures { result.capabilities ≡ capabilities }
     {
@@ -29,7 +29,7 @@ impl Coordinator {
     }
 }
 
-/// Of no capabilities.
+/// By default it has no capabilities.
 impl Default for Coordinator {
     ghost is_default = { λ coordinator. coordinator.capabilities ≡ None };
 

@@ -5,7 +5,7 @@ ghost use Rattle.amqp_termini.specs.Tables.{delete_on_close};
 use amqp_codec::kernel::{CompositeTerm, Fieldless, write_composite};
 use amqp_codec::{Encoder, Error, Serialize, SerializeTerm};
 
-/// The node lives until the link that made it is closed.
+/// The node lives until the link for which it was made is closed.
 #[derive(Clone, Debug, PartialEq, Eq, Default, Drop)]
 pub struct DeleteOnClose {}
 
@@ -13,7 +13,7 @@ impl DeleteOnClose {
     /// The code and the name of its descriptor.
     pub const DESCRIPTOR: (u64, &'static str) = (0x2b, "amqp:delete-on-close:list");
 
-    /// It says nothing more.
+    /// Returns the lifetime.
     pub fn new() -> DeleteOnClose {
         DeleteOnClose {}
     }

@@ -13,7 +13,7 @@ impl DeleteOnNoLinks {
     /// The code and the name of its descriptor.
     pub const DESCRIPTOR: (u64, &'static str) = (0x2c, "amqp:delete-on-no-links:list");
 
-    /// It says nothing more.
+    /// Returns the lifetime.
     pub fn new() -> DeleteOnNoLinks {
         DeleteOnNoLinks {}
     }

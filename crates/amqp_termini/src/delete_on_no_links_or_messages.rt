@@ -13,7 +13,7 @@ impl DeleteOnNoLinksOrMessages {
     /// The code and the name of its descriptor.
     pub const DESCRIPTOR: (u64, &'static str) = (0x2e, "amqp:delete-on-no-links-or-messages:list");
 
-    /// It says nothing more.
+    /// Returns the lifetime.
     pub fn new() -> DeleteOnNoLinksOrMessages {
         DeleteOnNoLinksOrMessages {}
     }

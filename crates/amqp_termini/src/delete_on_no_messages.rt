@@ -13,7 +13,7 @@ impl DeleteOnNoMessages {
     /// The code and the name of its descriptor.
     pub const DESCRIPTOR: (u64, &'static str) = (0x2d, "amqp:delete-on-no-messages:list");
 
-    /// It says nothing more.
+    /// Returns the lifetime.
     pub fn new() -> DeleteOnNoMessages {
         DeleteOnNoMessages {}
     }

@@ -1,4 +1,4 @@
-//! What holds of the types of termini beyond the laws of every type. The functions do nothing; their contracts are proved.
+//! What holds for the types of termini in addition to the laws of every type. The functions do nothing; their contracts are proved.
 ghost use Rattle.std.specs.Prelude.{◌≡◌, true, false};
 
 use crate::{
@@ -7,7 +7,7 @@ use crate::{
 };
 use amqp_codec::{Canonical, Deserialize};
 
-/// Lifetimes are read without memory, so that `from_slice` returns `Memory` for none of them.
+/// Lifetimes are read without allocating, so `from_slice` never returns `Memory` for them.
 pub fn reading_takes_no_memory()
     ensures delete_on_close { ⟦<DeleteOnClose as Deserialize>⟧.reading.takes_memory ≡ false }
     ensures delete_on_no_links { ⟦<DeleteOnNoLinks as Deserialize>⟧.reading.takes_memory ≡ false }
@@ -16,7 +16,7 @@ pub fn reading_takes_no_memory()
     ensures lifetime_policy { ⟦<LifetimePolicy as Deserialize>⟧.reading.takes_memory ≡ false }
 {}
 
-/// No spelling of a value of these is shorter than its canonical text, if it holds no array.
+/// For these types, no encoding of a value is shorter than its canonical text, if it holds no array.
 pub fn texts_are_least()
     ensures source { ⟦<Source as Canonical>⟧.is_least ≡ true }
     ensures target { ⟦<Target as Canonical>⟧.is_least ≡ true }

@@ -1,4 +1,4 @@
-//! The ends of links (Part 3, section 3.5), and the coordinator of transactions (Part 4, section 4.5.1), to which a link may go.
+//! The ends of links (Part 3, section 3.5), and the coordinator of transactions (Part 4, section 4.5.1), which can be the target of a link.
 #![tactic(auto)]
 
 mod coordinator;

@@ -8,7 +8,7 @@ use amqp_codec::{ByteSource, Decoder, DeserializeTerm, Encoder, Error, Serialize
 use amqp_enums::{Sum, is_null_sum, read_as, read_sum, write_as};
 use std::alloc::Global;
 
-/// How long a node lives that was made for a link. Any other descriptor is refused by `WrongDescriptor`.
+/// How long a node lives that was made for a link. Any other descriptor is refused with `WrongDescriptor`.
 #[derive(Clone, Debug, PartialEq, Eq, Drop)]
 pub enum LifetimePolicy {
     DeleteOnClose(DeleteOnClose),

@@ -1,4 +1,4 @@
-//! Lifetimes of nodes as values of any kind (Part 3, sections 3.5.10 to 3.5.13), which stand in the properties of a node (section 3.5.9).
+//! Lifetimes of nodes as values of any kind (Part 3, sections 3.5.10 to 3.5.13), which are properties of a node (section 3.5.9).
 ghost use Rattle.std.specs.Prelude.{◌≡◌, None, IfErr, IfOk};
 ghost use Rattle.amqp_wire.specs.declared.error.Error.TheVariants.{Memory};
 ghost use Rattle.amqp_values.specs.Values.{value_term};
@@ -10,11 +10,11 @@ use crate::{
 };
 use amqp_codec::{Descriptor, Error};
 use amqp_described::Described;
-use amqp_fields::Fields;
+use amqp_errors::Fields;
 use amqp_values::Value;
 use std::alloc::Global;
 
-// An empty list behind this code.
+// An empty list under this code.
 fn empty_list(code: u64, alloc: Global) -> Result<Value, Error>
     ensures value { IfOk result (λ value. value_term value ≡ empty_list_of code) }
     ensures refused { IfErr result (λ e. e ≡ Memory) }
@@ -27,7 +27,7 @@ fn empty_list(code: u64, alloc: Global) -> Result<Value, Error>
 }
 
 impl DeleteOnClose {
-    /// An empty list behind the code 0x2b. The only error is `Memory`.
+    /// Returns an empty list under the code 0x2b. The only error is `Memory`.
     pub fn into_value(self, alloc: Global) -> Result<Value, Error>
         ensures value { IfOk result (λ value. value_term value ≡ empty_list_of 0x2b) }
         ensures refused { IfErr result (λ e. e ≡ Memory) }
@@ -37,7 +37,7 @@ impl DeleteOnClose {
 }
 
 impl DeleteOnNoLinks {
-    /// An empty list behind the code 0x2c. The only error is `Memory`.
+    /// Returns an empty list under the code 0x2c. The only error is `Memory`.
     pub fn into_value(self, alloc: Global) -> Result<Value, Error>
         ensures value { IfOk result (λ value. value_term value ≡ empty_list_of 0x2c) }
         ensures refused { IfErr result (λ e. e ≡ Memory) }
@@ -47,7 +47,7 @@ impl DeleteOnNoLinks {
 }
 
 impl DeleteOnNoMessages {
-    /// An empty list behind the code 0x2d. The only error is `Memory`.
+    /// Returns an empty list under the code 0x2d. The only error is `Memory`.
     pub fn into_value(self, alloc: Global) -> Result<Value, Error>
         ensures value { IfOk result (λ value. value_term value ≡ empty_list_of 0x2d) }
         ensures refused { IfErr result (λ e. e ≡ Memory) }
@@ -57,7 +57,7 @@ impl DeleteOnNoMessages {
 }
 
 impl DeleteOnNoLinksOrMessages {
-    /// An empty list behind the code 0x2e. The only error is `Memory`.
+    /// Returns an empty list under the code 0x2e. The only error is `Memory`.
     pub fn into_value(self, alloc: Global) -> Result<Value, Error>
         ensures value { IfOk result (λ value. value_term value ≡ empty_list_of 0x2e) }
         ensures refused { IfErr result (λ e. e ≡ Memory) }
@@ -67,7 +67,7 @@ impl DeleteOnNoLinksOrMessages {
 }
 
 impl LifetimePolicy {
-    /// The lifetime's own value: an empty list behind its code. The only error is `Memory`.
+    /// Returns the lifetime's own value: an empty list under its code. The only error is `Memory`.
     pub fn into_value(self, alloc: Global) -> Result<Value, Error>
         ensures value { IfOk result (λ value. value_term value ≡ lifetime_term self) }
         ensures refused { IfErr result (λ e. e ≡ Memory) }
@@ -80,7 +80,7 @@ impl LifetimePolicy {
         }
     }
 
-    /// A map of the lifetime alone, under `lifetime-policy`. The only error is `Memory`.
+    /// Returns a map with the lifetime alone, under `lifetime-policy`. The only error is `Memory`.
     pub fn into_fields(self, alloc: Global) -> Result<Fields, Error>
         ensures fields { IfOk result (InsertsLifetime None self) }
         ensures refused { IfErr result (λ e. e ≡ Memory) }

@@ -1,5 +1,5 @@
 //! Names that Part 3 gives to other types.
-use amqp_fields::Fields;
+use amqp_errors::Fields;
 
 /// The address of a node (Part 3, section 3.5.3).
 pub type Address = String;

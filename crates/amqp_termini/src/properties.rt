@@ -5,11 +5,11 @@ ghost use Rattle.amqp_termini.specs.Properties.{with_pair, InsertsLifetime, Inse
 
 use crate::{LifetimePolicy, SupportedDistModes};
 use amqp_codec::{Error, Symbol};
-use amqp_fields::Fields;
+use amqp_errors::Fields;
 use amqp_values::Value;
 use std::alloc::Global;
 
-// The fields with this pair, or the pair alone where there are none. The only error is `Memory`.
+// The fields with this pair, or the pair alone if there are no fields. The only error is `Memory`.
 pub(crate) fn inserted(
     fields: Option<Fields>,
     key: Symbol,

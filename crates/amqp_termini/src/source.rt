@@ -19,9 +19,9 @@ use std::alloc::Global;
 /// Where the messages of a link come from.
 #[derive(Clone, Debug, PartialEq, Eq, Drop)]
 pub struct Source {
-    /// The address of the node, or of none.
+    /// The address of the node, if there is one.
     pub address: Option<Address>,
-    /// What of it is kept durably.
+    /// Which part of its state is kept durably.
     pub durable: TerminusDurability,
     /// When it begins to expire.
     pub expiry_policy: TerminusExpiryPolicy,
@@ -33,7 +33,7 @@ pub struct Source {
     pub dynamic_node_properties: Option<NodeProperties>,
     /// How the node gives its messages to links.
     pub distribution_mode: Option<DistributionMode>,
-    /// Which messages go over the link, by filters of these names.
+    /// The filters, by their names, that select the messages for the link.
     pub filter: Option<FilterSet>,
     /// The outcome of deliveries that are settled without one.
     pub default_outcome: Option<Outcome>,
@@ -47,7 +47,7 @@ impl Source {
     /// The code and the name of its descriptor.
     pub const DESCRIPTOR: (u64, &'static str) = (0x28, "amqp:source:list");
 
-    /// A source to be made call by call, in which every field is left out.
+    /// Returns a builder of a source, in which every field is omitted.
     pub fn builder() -> SourceBuilder
         ensures { result ≡ default_source }
     {
@@ -55,7 +55,7 @@ impl Source {
     }
 }
 
-/// Every field is left out.
+/// By default every field is omitted.
 impl Default for Source {
     ghost is_default = { λ source. source ≡ default_source };
 
@@ -76,7 +76,7 @@ impl Default for Source {
     }
 }
 
-/// The source of this address.
+/// Makes the source with this address.
 impl From<String> for Source {
     ghost from_gives = { λ address source. source ≡ source_at address };
 

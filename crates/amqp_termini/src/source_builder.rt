@@ -11,7 +11,7 @@ use amqp_codec::{Error, Symbol};
 use amqp_containers::Array;
 use amqp_delivery::Outcome;
 use amqp_described::Described;
-use amqp_fields::Fields;
+use amqp_errors::Fields;
 use amqp_restricted_types::{DistributionMode, Seconds, TerminusDurability, TerminusExpiryPolicy};
 use amqp_values::Value;
 use std::alloc::Global;
@@ -28,7 +28,7 @@ fn filter_value(value: Option<Described<Value>>, alloc: Global) -> Result<Value,
     }
 }
 
-/// A source that is made call by call. A field that no call sets is left out.
+/// A source that is made call by call. A field that no call sets is omitted.
 #[derive(Clone, Debug, Drop)]
 pub struct SourceBuilder {
     source: Source,
@@ -46,7 +46,7 @@ impl Model for SourceBuilder {
     ghost view = { λ b. b.source };
 }
 
-/// Every field is left out.
+/// By default every field is omitted.
 impl Default for SourceBuilder {
     ghost is_default = { λ builder. builder ≡ default_source };
 
@@ -56,7 +56,7 @@ impl Default for SourceBuilder {
 }
 
 impl SourceBuilder {
-    /// Every field is left out.
+    /// Returns a builder in which every field is omitted.
     pub fn new() -> SourceBuilder
         ensures { result ≡ default_source }
     {
@@ -65,7 +65,7 @@ impl SourceBuilder {
         }
     }
 
-    /// The address of the node.
+    /// Sets the address of the node.
     pub fn address(mut self, address: Address) -> SourceBuilder
         ensures { result ≡ record self { address = Some address } }
     {
@@ -73,7 +73,7 @@ impl SourceBuilder {
         self
     }
 
-    /// What of it is kept durably.
+    /// Sets which part of its state is kept durably.
     pub fn durable(mut self, durability: TerminusDurability) -> SourceBuilder
         ensures { result ≡ record self { durable = durability } }
     {
@@ -81,7 +81,7 @@ impl SourceBuilder {
         self
     }
 
-    /// When it begins to expire.
+    /// Sets when it begins to expire.
     pub fn expiry_policy(mut self, policy: TerminusExpiryPolicy) -> SourceBuilder
         ensures { result ≡ record self { expiry_policy = policy } }
     {
@@ -89,7 +89,7 @@ impl SourceBuilder {
         self
     }
 
-    /// How long it is kept after that, in seconds.
+    /// Sets how long it is kept after that, in seconds.
     pub fn timeout(mut self, seconds: Seconds) -> SourceBuilder
         ensures { result ≡ record self { timeout = seconds } }
     {
@@ -97,7 +97,7 @@ impl SourceBuilder {
         self
     }
 
-    /// Whether the peer is to make a node for it.
+    /// Sets whether the peer is to make a node for it.
     pub fn dynamic(mut self, dynamic: bool) -> SourceBuilder
         ensures { result ≡ record self { dynamic = dynamic } }
     {
@@ -105,7 +105,7 @@ impl SourceBuilder {
         self
     }
 
-    /// The properties of the node that is made, in place of any before.
+    /// Sets the properties of the node that is made, and replaces any before.
     pub fn dynamic_node_properties(mut self, properties: Fields) -> SourceBuilder
         ensures { result ≡ record self { dynamic_node_properties = Some properties } }
     {
@@ -113,7 +113,7 @@ impl SourceBuilder {
         self
     }
 
-    /// How the node gives its messages to links.
+    /// Sets how the node gives its messages to links.
     pub fn distribution_mode(mut self, mode: DistributionMode) -> SourceBuilder
         ensures { result ≡ record self { distribution_mode = Some mode } }
     {
@@ -121,7 +121,7 @@ impl SourceBuilder {
         self
     }
 
-    /// Which messages go over the link, in place of any filters before.
+    /// Sets the filters that select the messages for the link, and replaces any before.
     pub fn filter(mut self, filters: FilterSet) -> SourceBuilder
         ensures { result ≡ record self { filter = Some filters } }
     {
@@ -129,7 +129,7 @@ impl SourceBuilder {
         self
     }
 
-    /// The outcome of deliveries that are settled without one.
+    /// Sets the outcome of deliveries that are settled without one.
     pub fn default_outcome(mut self, outcome: Outcome) -> SourceBuilder
         ensures { result ≡ record self { default_outcome = Some outcome } }
     {
@@ -137,7 +137,7 @@ impl SourceBuilder {
         self
     }
 
-    /// The outcomes that may be chosen for deliveries, by their descriptors.
+    /// Sets the outcomes that may be chosen for deliveries, by their descriptors.
     pub fn outcomes(mut self, outcomes: Array<Symbol>) -> SourceBuilder
         ensures { result ≡ record self { outcomes = Some outcomes } }
     {
@@ -145,7 +145,7 @@ impl SourceBuilder {
         self
     }
 
-    /// What else the source can do.
+    /// Sets what else the source can do.
     pub fn capabilities(mut self, capabilities: Array<Symbol>) -> SourceBuilder
         ensures { result ≡ record self { capabilities = Some capabilities } }
     {
@@ -153,7 +153,7 @@ impl SourceBuilder {
         self
     }
 
-    /// Puts the lifetime into the properties of the node that is made, under `lifetime-policy` (Part 3, section 3.5.9). The only error is
+    /// Adds the lifetime to the properties of the node that is made, under `lifetime-policy` (Part 3, section 3.5.9). The only error is
     /// `Memory`, which drops the builder.
     pub fn add_lifetime_policy(
         mut self,
@@ -170,7 +170,7 @@ impl SourceBuilder {
         Ok(self)
     }
 
-    /// Puts the modes into the properties of the node that is made, under `supported-dist-modes` (Part 3, section 3.5.9). The only error is
+    /// Adds the modes to the properties of the node that is made, under `supported-dist-modes` (Part 3, section 3.5.9). The only error is
     /// `Memory`, which drops the builder.
     pub fn add_supported_dist_modes(
         mut self,
@@ -187,8 +187,8 @@ impl SourceBuilder {
         Ok(self)
     }
 
-    /// Puts a filter under this name, or null under it if there is none (Part 3, section 3.5.8). The only error is `Memory`, which
-    /// drops the builder.
+    /// Adds a filter under this name, or null under it if there is none (Part 3, section 3.5.8). The only error is `Memory`, which drops
+    /// the builder.
     pub fn add_to_filter(
         mut self,
         name: Symbol,
@@ -205,8 +205,8 @@ impl SourceBuilder {
         Ok(self)
     }
 
-    /// Puts a value under this name into the filters, described or not, as peers do that don't follow the standard (Part 3, section 3.5.8,
-    /// has filters described). The only error is `Memory`, which drops the builder.
+    /// Adds a value under this name to the filters, described or not. Peers do so that don't follow the standard, in which filters are
+    /// described (Part 3, section 3.5.8). The only error is `Memory`, which drops the builder.
     pub fn add_to_filter_using_legacy_format(
         mut self,
         name: Symbol,
@@ -221,7 +221,7 @@ impl SourceBuilder {
         Ok(self)
     }
 
-    /// The source.
+    /// Returns the source.
     pub fn build(self) -> Source
         ensures { result ≡ self }
     {

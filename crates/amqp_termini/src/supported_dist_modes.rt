@@ -10,14 +10,14 @@ ghost use Rattle.amqp_termini.specs.Properties.{InsertsModes, mode_term, modes_t
 use crate::properties::with_modes;
 use amqp_codec::{ByteSource, Decoder, DeserializeTerm, Encoder, Error, Serialize, SerializeTerm};
 use amqp_containers::Array;
-use amqp_fields::Fields;
+use amqp_errors::Fields;
 use amqp_restricted_types::DistributionMode;
 use amqp_values::Value;
 use std::alloc::Global;
 use std::marker::Model;
 
-/// The distribution modes that a node supports, in order: at least one if it was made here. It is read and written as the array of
-/// them, so one without modes can be read.
+/// The distribution modes that a node supports, in order. There is at least one if it was made here. It is read and written as the array of
+/// the modes, so one without modes can be read.
 #[derive(Debug, PartialEq, Eq, Drop)]
 pub struct SupportedDistModes {
     modes: Array<DistributionMode>,
@@ -47,7 +47,7 @@ fn symbols_of(modes: &[DistributionMode], alloc: Global) -> Result<Array<Value>,
 }
 
 impl SupportedDistModes {
-    /// This mode alone. The only error is `Memory`.
+    /// Returns this mode alone. The only error is `Memory`.
     pub fn new(mode: DistributionMode, alloc: Global) -> Result<SupportedDistModes, Error>
         ensures modes { IfOk result (λ modes. modes.0.items ≡ mode ∷ []) }
         ensures refused { IfErr result (λ e. e ≡ Memory) }
@@ -57,7 +57,7 @@ impl SupportedDistModes {
         Ok(SupportedDistModes { modes })
     }
 
-    /// This mode alone. The only error is `Memory`.
+    /// Returns this mode alone. The only error is `Memory`.
     pub fn from_mode(mode: DistributionMode, alloc: Global) -> Result<SupportedDistModes, Error>
         ensures modes { IfOk result (λ modes. modes.0.items ≡ mode ∷ []) }
         ensures refused { IfErr result (λ e. e ≡ Memory) }
@@ -65,7 +65,7 @@ impl SupportedDistModes {
         SupportedDistModes::new(mode, alloc)
     }
 
-    /// Adds a mode behind the last. If there is no memory for it, nothing changes, and the result is `Memory`.
+    /// Adds a mode after the last. If an allocation for it fails, nothing changes, and the error is `Memory`.
     pub fn add_mode(&mut self, mode: DistributionMode) -> Result<(), Error>
         ensures added { OnOk result (self.new.0.items ≡ self.old.0.items ++ mode ∷ []) }
         ensures kept { OnErr result (self.new.0.items ≡ self.old.0.items) }
@@ -74,7 +74,7 @@ impl SupportedDistModes {
         self.modes.push(mode)
     }
 
-    /// These modes, or the array again if it has none.
+    /// Returns these modes. An array without modes is returned as the error.
     pub fn try_from_modes(
         modes: Array<DistributionMode>,
     ) -> Result<SupportedDistModes, Array<DistributionMode>>
@@ -88,7 +88,7 @@ impl SupportedDistModes {
         Ok(SupportedDistModes { modes })
     }
 
-    /// The array of the modes' texts, as symbols. The only error is `Memory`.
+    /// Returns the array of the modes' texts, as symbols. The only error is `Memory`.
     pub fn into_value(self, alloc: Global) -> Result<Value, Error>
         ensures value { IfOk result (λ value. value_term value ≡ modes_term self) }
         ensures refused { IfErr result (λ e. e ≡ Memory) }
@@ -96,7 +96,7 @@ impl SupportedDistModes {
         Ok(Value::Array(symbols_of(self.modes.as_slice(), alloc)?))
     }
 
-    /// A map of the modes alone, under `supported-dist-modes`. The only error is `Memory`.
+    /// Returns a map with the modes alone, under `supported-dist-modes`. The only error is `Memory`.
     pub fn into_fields(self, alloc: Global) -> Result<Fields, Error>
         ensures fields { IfOk result (InsertsModes None self) }
         ensures refused { IfErr result (λ e. e ≡ Memory) }

@@ -18,9 +18,9 @@ use std::alloc::Global;
 /// Where the messages of a link go to.
 #[derive(Clone, Debug, PartialEq, Eq, Drop)]
 pub struct Target {
-    /// The address of the node, or of none.
+    /// The address of the node, if there is one.
     pub address: Option<Address>,
-    /// What of it is kept durably.
+    /// Which part of its state is kept durably.
     pub durable: TerminusDurability,
     /// When it begins to expire.
     pub expiry_policy: TerminusExpiryPolicy,
@@ -38,7 +38,7 @@ impl Target {
     /// The code and the name of its descriptor.
     pub const DESCRIPTOR: (u64, &'static str) = (0x29, "amqp:target:list");
 
-    /// A target to be made call by call, in which every field is left out.
+    /// Returns a builder of a target, in which every field is omitted.
     pub fn builder() -> TargetBuilder
         ensures { result.target ≡ default_target }
     {
@@ -46,7 +46,7 @@ impl Target {
     }
 }
 
-/// Every field is left out.
+/// By default every field is omitted.
 impl Default for Target {
     ghost is_default = { λ target. target ≡ default_target };
 
@@ -63,7 +63,7 @@ impl Default for Target {
     }
 }
 
-/// The target of this address.
+/// Makes the target with this address.
 impl From<String> for Target {
     ghost from_gives = { λ address target. target ≡ target_at address };
 

@@ -9,8 +9,7 @@ use amqp_codec::{ByteSource, Decoder, DeserializeTerm, Encoder, Error, Serialize
 use amqp_enums::{Sum, is_null_sum, read_as, read_sum, write_as};
 use std::alloc::Global;
 
-/// What stands in the target of an attach: a target, or a coordinator of transactions. Any other descriptor is refused by
-/// `WrongDescriptor`.
+/// The target in an attach: a target, or a coordinator of transactions. Any other descriptor is refused with `WrongDescriptor`.
 #[derive(Clone, Debug, PartialEq, Eq, Drop)]
 pub enum TargetArchetype {
     Target(Target),
@@ -37,7 +36,7 @@ impl From<Coordinator> for TargetArchetype {
     }
 }
 
-/// The target of this address.
+/// Makes the target with this address.
 impl From<String> for TargetArchetype {
     ghost use Rattle.amqp_termini.specs.declared.target_archetype.TargetArchetype.TheVariants as archetype;
 
@@ -48,7 +47,7 @@ impl From<String> for TargetArchetype {
     }
 }
 
-/// Gives a coordinator back.
+/// Returns a coordinator as the error.
 impl TryFrom<TargetArchetype> for Target {
     type Error = TargetArchetype;
 
@@ -62,7 +61,7 @@ impl TryFrom<TargetArchetype> for Target {
     }
 }
 
-/// Gives a target back.
+/// Returns a target as the error.
 impl TryFrom<TargetArchetype> for Coordinator {
     type Error = TargetArchetype;
 

@@ -8,18 +8,18 @@ use crate::properties::{with_lifetime, with_modes};
 use crate::{Address, LifetimePolicy, SupportedDistModes, Target};
 use amqp_codec::{Error, Symbol};
 use amqp_containers::Array;
-use amqp_fields::Fields;
+use amqp_errors::Fields;
 use amqp_restricted_types::{Seconds, TerminusDurability, TerminusExpiryPolicy};
 use std::alloc::Global;
 
-/// A target that is made call by call. A field that no call sets is left out.
+/// A target that is made call by call. A field that no call sets is omitted.
 #[derive(Clone, Debug, Drop)]
 pub struct TargetBuilder {
-    /// The target as it is so far.
+    /// The target so far.
     pub target: Target,
 }
 
-/// Every field is left out.
+/// By default every field is omitted.
 impl Default for TargetBuilder {
     ghost is_default = { λ builder. builder.target ≡ default_target };
 
@@ -29,7 +29,7 @@ impl Default for TargetBuilder {
 }
 
 impl TargetBuilder {
-    /// Every field is left out.
+    /// Returns a builder in which every field is omitted.
     pub fn new() -> TargetBuilder
         ensures { result.target ≡ default_target }
     {
@@ -38,7 +38,7 @@ impl TargetBuilder {
         }
     }
 
-    /// The address of the node.
+    /// Sets the address of the node.
     pub fn address(mut self, address: Address) -> TargetBuilder
         ensures { result ≡ record self { target = record self.target { address = Some address } } }
     {
@@ -46,7 +46,7 @@ impl TargetBuilder {
         self
     }
 
-    /// What of it is kept durably.
+    /// Sets which part of its state is kept durably.
     pub fn durable(mut self, durability: TerminusDurability) -> TargetBuilder
         ensures { result ≡ record self { target = record self.target { durable = durability } } }
     {
@@ -54,7 +54,7 @@ impl TargetBuilder {
         self
     }
 
-    /// When it begins to expire.
+    /// Sets when it begins to expire.
     pub fn expiry_policy(mut self, policy: TerminusExpiryPolicy) -> TargetBuilder
         ensures { result ≡ record self { target = record self.target { expiry_policy = policy } } }
     {
@@ -62,7 +62,7 @@ impl TargetBuilder {
         self
     }
 
-    /// How long it is kept after that, in seconds.
+    /// Sets how long it is kept after that, in seconds.
     pub fn timeout(mut self, seconds: Seconds) -> TargetBuilder
         ensures { result ≡ record self { target = record self.target { timeout = seconds } } }
     {
@@ -70,7 +70,7 @@ impl TargetBuilder {
         self
     }
 
-    /// Whether the peer is to make a node for it.
+    /// Sets whether the peer is to make a node for it.
     pub fn dynamic(mut self, dynamic: bool) -> TargetBuilder
         ensures { result ≡ record self { target = record self.target { dynamic = dynamic } } }
     {
@@ -78,7 +78,7 @@ impl TargetBuilder {
         self
     }
 
-    /// The properties of the node that is made, in place of any before.
+    /// Sets the properties of the node that is made, and replaces any before.
     pub fn dynamic_node_properties(mut self, properties: Fields) -> TargetBuilder
         ensures { result ≡ record self { target = record self.target { dynamic_node_properties = Some properties } } }
     {
@@ -86,7 +86,7 @@ impl TargetBuilder {
         self
     }
 
-    /// What else the target can do.
+    /// Sets what else the target can do.
     pub fn capabilities(mut self, capabilities: Array<Symbol>) -> TargetBuilder
         ensures { result ≡ record self { target = record self.target { capabilities = Some capabilities } } }
     {
@@ -94,7 +94,7 @@ impl TargetBuilder {
         self
     }
 
-    /// Puts the lifetime into the properties of the node that is made, under `lifetime-policy` (Part 3, section 3.5.9). The only error is
+    /// Adds the lifetime to the properties of the node that is made, under `lifetime-policy` (Part 3, section 3.5.9). The only error is
     /// `Memory`, which drops the builder.
     pub fn add_lifetime_policy(
         mut self,
@@ -111,7 +111,7 @@ impl TargetBuilder {
         Ok(self)
     }
 
-    /// Puts the modes into the properties of the node that is made, under `supported-dist-modes` (Part 3, section 3.5.9). The only error is
+    /// Adds the modes to the properties of the node that is made, under `supported-dist-modes` (Part 3, section 3.5.9). The only error is
     /// `Memory`, which drops the builder.
     pub fn add_supported_dist_modes(
         mut self,
@@ -128,7 +128,7 @@ impl TargetBuilder {
         Ok(self)
     }
 
-    /// The target.
+    /// Returns the target.
     pub fn build(self) -> Target
         ensures { result ≡ self.target }
     {

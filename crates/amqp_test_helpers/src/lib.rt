@@ -1,5 +1,5 @@
-//! What tests ask of calls: whether a value, a text or an error is the one that is wanted. Each takes what was made by value, so that its
-//! drop is proved here once, for all types.
+//! What tests check about calls: whether a value, a text or an error is the expected one. Each helper takes what was made by value, so that
+//! its drop is proved here once, for all types.
 #![tactic(auto)]
 
 mod values;

@@ -1,4 +1,4 @@
-//! Iterators of maps, which a user may name: they are kept in fields and handed to functions.
+//! Iterators of maps, which a user may name: they are kept in fields and passed to functions.
 use fe2o3_amqp_types::codec::{
     Error, OrderedMap, OrderedMapIntoIter, OrderedMapIter, OrderedMapValues, Symbol, Value,
     ValueMap, ValueMapIter, ValueMapValues,

@@ -1,6 +1,6 @@
-//! Limits of the caller over two readers: one that gives one byte a call, and one that fails at its k-th call, which is answered by that
-//! failure for every k. The limit of bytes ends at each place of the input, from its first byte on up to one behind what is read. The digits
-//! are written out by the standard's tables.
+//! Limits of the caller over two readers. One gives one byte a call; the other fails at its k-th call, and the error is that failure for
+//! every k. The limit of bytes ends at each place of the input, from its first byte up to one after what is read. The digits are written
+//! out by the standard's tables.
 use amqp_decoder_tests::Dripping;
 use fe2o3_amqp_types::codec::{Deserialize, Error, Limits, Serialize, from_reader_within, to_vec};
 use fe2o3_amqp_types::messaging::message::decode_message_strict_within;
@@ -20,7 +20,7 @@ fn within(bytes: u64, items: u64) -> Limits {
     }
 }
 
-/// How a read ended: whether it gave the value of a text, or why none; how many bytes the reader gave, and in how many calls.
+/// How a read ended: whether it returned the value of a text, or why none; how many bytes the reader gave, and in how many calls.
 #[derive(Drop)]
 struct Ended {
     answer: Result<bool, Error>,
@@ -30,10 +30,10 @@ struct Ended {
 
 /// What is read within limits.
 trait Limited {
-    /// Whether no byte is taken from the reader that passes the limit.
+    /// Whether no byte past the limit is taken from the reader.
     const IS_BOUNDED: bool;
 
-    /// Whether the value with this text is read.
+    /// Returns whether the value with this text is read.
     fn is_read(
         reader: &mut Dripping<'_>,
         limits: &Limits,

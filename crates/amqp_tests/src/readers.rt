@@ -1,5 +1,5 @@
-//! Worked rows over two readers: one that gives one byte a call, which is answered as a slice is, and one that fails at its k-th call,
-//! which is answered by that failure for every k. The digits are written out by the standard's tables.
+//! Worked rows over two readers. One gives one byte a call, and the answer is as for a slice. The other fails at its k-th call, and the
+//! error is that failure for every k. The digits are written out by the standard's tables.
 use amqp_decoder_tests::Dripping;
 use amqp_test_helpers::{is, is_refused};
 use fe2o3_amqp_types::codec::{Deserialize, Error, from_reader, from_slice_counted};
@@ -15,7 +15,7 @@ use std::alloc::Global;
 use std::io::ErrorKind;
 use std::test::Fail;
 
-/// Bytes in digits; and how many are left behind the value that they begin with, or the number of the error by which they are refused.
+/// Bytes in digits; and how many follow the value at their start, or the number of the error for which they are refused.
 type Rows<'a> = &'a [(&'a str, Result<usize, u8>)];
 
 // Reads from a reader that fails after so many calls: what it is answered, how many bytes it has left, and how many calls.

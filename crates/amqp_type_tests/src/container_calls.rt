@@ -1,4 +1,4 @@
-//! The calls of arrays, and of values that stand one after another.
+//! The calls of arrays, and of values in a row.
 use amqp_batches::TransparentVec;
 use amqp_codec::Error;
 use amqp_containers::Array;

@@ -1,5 +1,5 @@
-//! Values that are read and written again while memory is refused. Each growth is refused in turn by hand:
-//! `rt try --test --fail-alloc N`, for N from 1 on.
+//! Values that are read and written again while an allocation fails. Each allocation fails in turn by hand: `rt try --test --fail-alloc N`,
+//! for N from 1 on.
 use amqp_codec::{Deserialize, Error, Serialize};
 use amqp_containers::Array;
 use amqp_described::Described;

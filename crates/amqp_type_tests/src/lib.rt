@@ -1,5 +1,5 @@
-//! Tests of the types of values and of their containers: their calls and conversions, what is written and what isn't, and refused
-//! growth.
+//! Tests of the types of values and of their containers: their calls and conversions, what is written and what isn't, and failed
+//! allocations.
 #![tactic(auto)]
 
 #[cfg(test)]

@@ -1,4 +1,4 @@
-//! The calls of a map, and what no contract says of it: that a refused growth changes nothing in fact.
+//! The calls of a map, and what no contract states: that a failed allocation changes nothing in fact.
 use amqp_maps::OrderedMap;
 use amqp_test_helpers::{have_equal_hashes, is_copied};
 use amqp_wire::{Error, Symbol};

@@ -4,7 +4,7 @@ use amqp_test_helpers::{check_written, is, read};
 use std::alloc::Global;
 use std::test::Fail;
 
-/// The text is read as the value.
+/// Checks that the text is read as the value.
 pub(crate) fn check_read<T: Deserialize + PartialEq>(
     digits: &str,
     value: T,
@@ -17,7 +17,7 @@ pub(crate) fn check_read<T: Deserialize + PartialEq>(
     }
 }
 
-/// The value is written so, and that is read as the value.
+/// Checks that the value is written so, and that this is read as the value.
 pub(crate) fn check_both_ways<T: Serialize + Deserialize + PartialEq>(
     value: T,
     digits: &str,

@@ -9,7 +9,7 @@ use fe2o3_amqp_types::codec::{
 };
 use std::alloc::Global;
 
-/// An identifier: a number or a name, which its first code tells.
+/// An identifier: a number or a name, as its first code determines.
 #[derive(Clone, Debug, PartialEq, Eq, Drop)]
 pub enum Identifier {
     Number(u64),

@@ -1,5 +1,5 @@
-//! Types of a user's own: an identifier, which is a sum by kind, a composite with fields of several values, a key of maps, and a list of one
-//! field without a descriptor. And tests of them.
+//! Types of a user's own, and tests of them. They are an identifier, which is a sum by kind, and a composite with fields of several values.
+//! There are also a key of maps, and a list of one field without a descriptor.
 #![tactic(auto)]
 
 pub mod identifier;

@@ -1,4 +1,4 @@
-//! A composite that isn't of the standard, with a field of several values before one that must be there, and one behind it.
+//! A composite that isn't of the standard, with a field of several values before a mandatory one, and one after it.
 ghost use Rattle.amqp_enums.specs.Types.{composite, one_term, refl, agreement, writing_of};
 ghost use Rattle.amqp_user_types.specs.Tables.{offer};
 

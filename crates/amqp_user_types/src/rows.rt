@@ -8,7 +8,7 @@ use amqp_read_write::{canonical_text, from_slice, to_vec};
 use std::alloc::Global;
 use std::test::Fail;
 
-/// What stands behind a descriptor, and what canonically does, or the name of the error.
+/// What comes after a descriptor, and what canonically does, or the name of the error.
 type Row = (&'static str, &'static str);
 
 const OFFERS: [Row; 26] = [

@@ -19,8 +19,8 @@ use fe2o3_amqp_types::messaging::{FromBody, Message, Received};
 use fe2o3_amqp_types::performatives::Transfer;
 use std::alloc::Global;
 
-/// One byte more was received: the text of the state that the input begins with, its offset one higher. It is refused if the input begins
-/// with no such state, or if the changed one can't be written.
+/// Returns the text of the state at the start of the input, with its offset one higher: one more byte was received. It returns an error if
+/// the input begins with no such state, or if the changed state can't be written.
 pub fn one_byte_on(input: &[u8], alloc: Global) -> Result<Vec<u8>, Error>
     ensures text { IfOk result (λ text. (state : Received) × (n : ℕ) × BeginsWith ⟦<Received as Deserialize>⟧.reading input.now state n
         × (text.items ≡ written (composite received) (record state { section_offset = min (state.section_offset + 1) (2 ^ 64 - 1) }))) }
@@ -34,8 +34,8 @@ pub fn one_byte_on(input: &[u8], alloc: Global) -> Result<Vec<u8>, Error>
     Ok(text)
 }
 
-/// What a relay sends on for the value that came, and how many bytes that took: the canonical text, which is read as the same value
-/// whatever follows it.
+/// Returns what a relay sends on for the value that came: the canonical text, which is read as the same value whatever follows it. It also
+/// returns how many bytes the value took.
 pub fn relay<T: DeserializeTerm>(input: &[u8], alloc: Global) -> Result<(Vec<u8>, usize), Error>
     ensures text { IfOk result (λ sent. (value : T) × BeginsWith ⟦<T as Deserialize>⟧.reading input.now value sent.1
         × (sent.0.items ≡ written T.term value)) }
@@ -51,7 +51,7 @@ pub fn relay<T: DeserializeTerm>(input: &[u8], alloc: Global) -> Result<(Vec<u8>
     Ok(sent)
 }
 
-/// Whether a transfer says that it is settled. It is found exactly if the input begins with a transfer, unless memory runs out.
+/// Returns whether a transfer says that it is settled. It does so exactly if the input begins with a transfer, unless an allocation fails.
 pub fn settled(input: &[u8], alloc: Global) -> Result<Option<bool>, Error>
     ensures found { IfOk result (λ settled. (sent : Transfer) × (n : ℕ) × IsSpelled (composite transfer) (take n input.now) sent
         × (settled ≡ sent.settled)) }
@@ -64,7 +64,7 @@ pub fn settled(input: &[u8], alloc: Global) -> Result<Option<bool>, Error>
     }
 }
 
-/// Whether two entries of an archive, each the canonical text of a value, are of one value. It reads neither.
+/// Returns whether two entries of an archive, each the canonical text of a value, are of one value. It reads neither.
 pub fn are_of_one_value<T: DeserializeTerm>(first: &[u8], second: &[u8]) -> bool
     ensures same { (v w : T) → first.now ≡ written T.term v → second.now ≡ written T.term w → T.term.same v w → result ≡ true }
     ensures apart { (v w : T) → IsSpelled T.term first.now v → IsSpelled T.term second.now w → IsWritable T.term v → IsWritable T.term w
@@ -74,7 +74,7 @@ pub fn are_of_one_value<T: DeserializeTerm>(first: &[u8], second: &[u8]) -> bool
     first == second
 }
 
-/// The message that a reader gives, within limits. `B` says what is made of its body.
+/// Reads the message at the start of a reader's bytes, within limits. `B` is the type that is made of its body.
 pub fn next_message<B: FromBody, R: ByteSource>(
     reader: &mut R,
     limits: &Limits,

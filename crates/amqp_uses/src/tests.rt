@@ -12,7 +12,7 @@ fn one_byte_more(rt: HostRuntime) -> Result<(), Fail> {
         0, 0x53, 0x23, 0xc0, 12, 2, 0x52, 9, 0x80, 0, 0, 0, 0, 0, 0, 1, 0,
     ];
     assert_eq!(rt; text.as_slice(), want.as_slice());
-    // A front of the input is refused by name.
+    // A prefix of the input is refused by name.
     assert_eq!(rt;
         one_byte_on(&input[..9], rt.alloc()).err(),
         Some(Error::Cut)
@@ -32,7 +32,7 @@ fn relayed(rt: HostRuntime) -> Result<(), Fail> {
 
 #[test]
 fn settled_or_not(rt: HostRuntime) -> Result<(), Fail> {
-    // The handle, three fields that are left out, and true.
+    // The handle, three fields that are omitted, and true.
     let input: &[u8] = &[0, 0x53, 0x14, 0xc0, 6, 5, 0x43, 0x40, 0x40, 0x40, 0x41];
     assert_eq!(rt; settled(input, rt.alloc())?, Some(true));
     // The handle alone.

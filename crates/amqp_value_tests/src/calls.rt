@@ -1,7 +1,8 @@
-//! The calls of maps of values of any kind, copies, and what is taken out of values.
+//! The calls of maps of values of any kind, copies, and what is moved out of values.
 use amqp_codec::Error;
-use amqp_test_helpers::{is, is_given_back, is_made, is_taken};
+use amqp_test_helpers::{is, is_given_back, is_made, is_refused, is_taken, read};
 use amqp_values::{Value, ValueMap};
+use std::alloc::Global;
 use std::test::Fail;
 use std::vec::IntoIter;
 
@@ -76,6 +77,43 @@ fn pairs_in_their_order(rt: HostRuntime) -> Result<(), Fail> {
     let are_lent = lends_pairs(&map);
     let are_moved = moves_pairs(map);
     assert!(rt; are_lent && are_moved);
+    Ok(())
+}
+
+// Two pairs, whose keys are 1 and 2; and ten, whose keys are 1 to 10.
+const TWO_PAIRS: &str = "c10704520140520240";
+
+const TEN_PAIRS: &str = "c11f14520140520240520340520440520540520640520740520840520940520a40";
+
+// The map of the pairs with these digits, of which the first has another key.
+fn with_first_key(
+    digits: &str,
+    key: Value,
+    alloc: Global,
+) -> Result<Result<ValueMap, Error>, Fail> {
+    let map: ValueMap = read(digits, alloc)?;
+    let mut pairs = map.into_inner();
+    if !pairs.is_empty() {
+        pairs[0].0 = key;
+    }
+    Ok(ValueMap::from_pairs(pairs))
+}
+
+// Whether the pairs with these digits, of which the first has the key 1, are made the map that is read from them.
+fn is_made_of_pairs(digits: &str, alloc: Global) -> Result<bool, Fail> {
+    let wanted: ValueMap = read(digits, alloc)?;
+    let made = with_first_key(digits, Value::Uint(1), alloc)?;
+    Ok(is_made(made, wanted)?)
+}
+
+#[test]
+fn maps_of_pairs(rt: HostRuntime) -> Result<(), Fail> {
+    let alloc = rt.alloc();
+    let are_made = is_made_of_pairs(TWO_PAIRS, alloc)? && is_made_of_pairs(TEN_PAIRS, alloc)?;
+    let few = with_first_key(TWO_PAIRS, Value::Uint(2), alloc)?;
+    let few_are_refused = is_refused(few, Error::DuplicateKey);
+    let many = with_first_key(TEN_PAIRS, Value::Uint(10), alloc)?;
+    assert!(rt; are_made && few_are_refused && is_refused(many, Error::DuplicateKey));
     Ok(())
 }
 

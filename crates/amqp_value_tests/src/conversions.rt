@@ -1,4 +1,4 @@
-//! What values of any kind are made of, and what is taken out of them again.
+//! What values of any kind are made of, and what is moved out of them again.
 use crate::parts::{is_kept, is_taken_of};
 use amqp_codec::{Descriptor, Error, Symbol};
 use amqp_containers::Array;

@@ -1,4 +1,4 @@
-//! Values that are kept as their bytes: what they hold, where they aren't written, and how deep they may nest.
+//! Values with kept bytes: what they hold, where they aren't written, and how deep they may nest.
 use crate::nests::nested;
 use amqp_codec::Error;
 use amqp_containers::Array;

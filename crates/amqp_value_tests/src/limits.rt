@@ -6,7 +6,7 @@ use amqp_wire::{Error, Limits};
 use std::alloc::Global;
 use std::test::Fail;
 
-/// A list that holds a list that holds a uint, and a null behind them.
+/// A list that holds a list that holds a uint, and a null after them.
 const LISTS: &[u8] = &[0xc0, 0x05, 0x01, 0xc0, 0x02, 0x01, 0x43, 0x40];
 
 fn within(nesting: u32, bytes: u64) -> Limits {

@@ -16,7 +16,7 @@ pub(crate) fn nested(levels: u8, alloc: Global) -> Result<Vec<u8>, Fail> {
     Ok(text)
 }
 
-/// So many descriptors, one behind another, before a constructor without data.
+/// So many descriptors, one after another, before a constructor without data.
 pub(crate) fn chain(descriptors: usize, code: u8, alloc: Global) -> Result<Vec<u8>, Fail> {
     let mut text: Vec<u8> = Vec::new(alloc);
     for _ in 0..descriptors {

@@ -1,4 +1,4 @@
-//! Simple values: what they are made of and give back.
+//! Simple values: what they are made of and what they return.
 use crate::parts::{is_taken_of, order_of};
 use amqp_codec::{Error, MapKey, Symbol};
 use amqp_containers::Array;

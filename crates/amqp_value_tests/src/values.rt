@@ -1,4 +1,4 @@
-//! Values of any kind: equal spellings, what isn't written, and how deep they may nest.
+//! Values of any kind: equal encodings, what isn't written, and how deep they may nest.
 use crate::nests::{chain, nested};
 use amqp_codec::Error;
 use amqp_containers::Array;

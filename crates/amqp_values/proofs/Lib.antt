@@ -1,9 +1,11 @@
 mod CopiesMade
 mod DistinctKeys
 mod FormatCodes
+mod KeysTwice
 mod MapReads
 mod Ordered
 mod Places
+mod Rising
 pub mod RootsDecide
 pub mod Same
 mod ValuesFed

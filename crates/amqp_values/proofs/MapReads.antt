@@ -54,13 +54,13 @@ map_refused st e new =
 module _ (levels : ℕ) (n : ℕ) where
   fewer_any : (st : State) (ps : List (Value × Value)) (mid : State) → ReadsFewer (value_in levels) (value_in levels) n st ps mid
       → ReadsFewer value_type value_type n st ps mid
-  fewer_any st ps mid h = record { fewer = h.fewer; each = h.each; others = h.others }
+  fewer_any st ps mid h = record { fewer = h.fewer; each = h.each }
 
   fault_any : (st : State) (e : Error) → PairsFault (value_in levels) (value_in levels) n st e → PairsFault value_type value_type n st e
   fault_any st e (at_key ps mid h f) = at_key ps mid (fewer_any st ps mid h) (record { levels = suc levels; named = f })
-  fault_any st e (twice ps mid after k h r known is) = twice ps mid after k (fewer_any st ps mid h) r known is
-  fault_any st e (at_value ps mid after k h r new f) =
-      at_value ps mid after k (fewer_any st ps mid h) r new (record { levels = suc levels; named = f })
+  fault_any st e (twice ps mid after k h o r known is) = twice ps mid after k (fewer_any st ps mid h) o r known is
+  fault_any st e (at_value ps mid after k h r f) =
+      at_value ps mid after k (fewer_any st ps mid h) r (record { levels = suc levels; named = f })
 
   pub row_any : (st : State) (ps : List (Value × Value)) (b : State) → ReadsPairsRow (value_in levels) (value_in levels) n st ps b
       → ReadsPairsRow value_type value_type n st ps b

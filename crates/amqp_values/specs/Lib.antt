@@ -20,3 +20,4 @@ pub mod Labels
 pub mod Order
 pub mod OrderLaws
 pub mod Hashed
+pub mod Digests

@@ -1,4 +1,4 @@
-//! When two values of any kind are equal: when their terms are.
+//! When two values of any kind are equal: if their terms are.
 ghost use Rattle.std.specs.Prelude.{◌≡◌, map};
 ghost use Rattle.amqp_model.specs.Spelling.{descriptor_value};
 ghost use Rattle.amqp_model.specs.Items.{terms_of};

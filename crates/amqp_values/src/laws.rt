@@ -1,10 +1,10 @@
-//! What holds of values beyond the laws of every type. The functions do nothing; their contracts are proved.
+//! What holds for values in addition to the laws of every type. The functions do nothing; their contracts are proved.
 ghost use Rattle.std.specs.Prelude.{◌≡◌, true};
 
 use crate::{Value, ValueMap};
 use amqp_codec::Canonical;
 
-/// No spelling of a value, or of a map of values, is shorter than its canonical text, if it holds no array.
+/// No encoding of a value, or of a map of values, is shorter than its canonical text, if it holds no array.
 pub fn texts_are_least()
     ensures value { ⟦<Value as Canonical>⟧.is_least ≡ true }
     ensures map { ⟦<ValueMap as Canonical>⟧.is_least ≡ true }

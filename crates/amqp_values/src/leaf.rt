@@ -1,4 +1,4 @@
-//! What values of any kind are but for the values that they hold, by which they are ordered and hashed. For types that are ordered and
+//! What values of any kind are without the values that they hold. They are ordered and hashed by it. It is for types that are ordered and
 //! hashed as `Value` is.
 ghost use Rattle.std.specs.Prelude.{◌≡◌};
 ghost use Rattle.amqp_lookahead.specs.Members.{descriptor_of};
@@ -23,7 +23,7 @@ pub struct Leaf<'a> {
     pub bytes: &'a [u8],
 }
 
-/// A value of which its kind says all.
+/// Returns a leaf that its kind alone determines.
 pub fn bare<'a>(place: u8) -> Leaf<'a>
     ensures { label result ≡ bare place }
 {
@@ -36,7 +36,7 @@ pub fn bare<'a>(place: u8) -> Leaf<'a>
     }
 }
 
-/// A value that is an unsigned number.
+/// Returns a leaf that is an unsigned number.
 pub fn with_number<'a>(place: u8, number: u64) -> Leaf<'a>
     ensures { label result ≡ with_number place number }
 {
@@ -46,7 +46,7 @@ pub fn with_number<'a>(place: u8, number: u64) -> Leaf<'a>
     }
 }
 
-/// A value that is a signed number.
+/// Returns a leaf that is a signed number.
 pub fn with_integer<'a>(place: u8, integer: i64) -> Leaf<'a>
     ensures { label result ≡ with_integer place integer }
 {
@@ -56,7 +56,7 @@ pub fn with_integer<'a>(place: u8, integer: i64) -> Leaf<'a>
     }
 }
 
-/// A value that is bytes.
+/// Returns a leaf that is bytes.
 pub fn with_bytes<'a>(place: u8, bytes: &'a [u8]) -> Leaf<'a>
     ensures { label result ≡ with_bytes place bytes.now }
 {
@@ -66,7 +66,7 @@ pub fn with_bytes<'a>(place: u8, bytes: &'a [u8]) -> Leaf<'a>
     }
 }
 
-/// A described value: its descriptor. Names come before codes.
+/// Returns the leaf of a described value: its descriptor. Names come before codes.
 pub fn with_descriptor<'a>(place: u8, descriptor: &'a Descriptor) -> Leaf<'a>
     ensures { label result ≡ descriptor_label place (descriptor_of descriptor.now) }
 {
@@ -79,7 +79,7 @@ pub fn with_descriptor<'a>(place: u8, descriptor: &'a Descriptor) -> Leaf<'a>
     }
 }
 
-/// A value without the values that it holds.
+/// Returns a value without the values that it holds.
 pub fn leaf_of<'a>(value: &'a Value) -> Leaf<'a>
     ensures { label result ≡ label_of (value_term value.now) }
 {

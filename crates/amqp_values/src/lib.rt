@@ -2,6 +2,7 @@
 #![tactic(auto)]
 
 mod copied;
+mod digest;
 mod equality;
 mod format_code;
 mod hashed;
@@ -15,6 +16,7 @@ mod map_calls;
 mod map_iter;
 mod order;
 mod read;
+mod sorted;
 mod taken;
 mod typing;
 mod value;

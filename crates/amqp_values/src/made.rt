@@ -1,4 +1,4 @@
-//! Values of any kind that are made of what a kind's own type holds (Part 1, section 1.6).
+//! Values of any kind made of what a kind's own type holds (Part 1, section 1.6).
 ghost use Rattle.std.specs.Prelude.{◌≡◌};
 ghost use Rattle.amqp_values.specs.declared.value.Value.{Null, Bool, Ubyte, Ushort, Uint, Ulong, Byte, Short, Int, Long, Decimal32};
 ghost use Rattle.amqp_values.specs.declared.value.Value.{Decimal64, Decimal128, Char, Timestamp as TimestampOf, Uuid as UuidOf};

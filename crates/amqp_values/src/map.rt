@@ -1,10 +1,10 @@
 //! Maps of values of any kind to values of any kind (Part 1, section 1.6.23).
 use crate::Value;
 
-/// A map of values of any kind to values of any kind (Part 1, section 1.6.23), as its pairs in their order. Two keys that are equal can be
-/// put in it by hand: such a map can't be written, and is refused by `DuplicateKey`.
+/// A map of values of any kind to values of any kind (Part 1, section 1.6.23), as its pairs in their order. Two equal keys can be put in it
+/// by hand. Such a map can't be written: it is refused with `DuplicateKey`.
 ///
-/// Equality, order and hash are those of the list of its pairs, a pair by its key and then by its value.
+/// Equality, order and hash are those of the list of its pairs; a pair goes by its key and then by its value.
 #[cycle(values)]
 #[derive(Debug, Drop)]
 pub struct ValueMap(pub Vec<(Value, Value)>);

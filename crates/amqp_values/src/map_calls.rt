@@ -1,14 +1,15 @@
-//! The calls of maps of values of any kind. A key is found by a walk, in which the first that is equal counts.
-ghost use Rattle.std.specs.Prelude.{◌≡◌, ◌↔◌, [], length, IsTrue, IsSome, IsOk, IfOk, IfErr, OnOk, OnErr, position};
+//! The calls of maps of values of any kind. A key is found by a walk: the first equal key counts.
+ghost use Rattle.std.specs.Prelude.{◌≡◌, ◌≤◌, ◌↔◌, ◌⊎◌, [], length, IsTrue, IsSome, IsOk, IfOk, IfErr, OnOk, OnErr, position};
 ghost use Rattle.std.specs.Map.{lookup, remove_entry};
 ghost use Rattle.std.specs.Option.{option_copied};
 ghost use Rattle.indexmap.specs.IndexMap.{insert_entry};
-ghost use Rattle.amqp_wire.specs.declared.error.Error.TheVariants.{Memory};
+ghost use Rattle.amqp_wire.specs.declared.error.Error.TheVariants.{Memory, DuplicateKey};
 ghost use Rattle.amqp_values.specs.Equality.{value_eq};
 ghost use Rattle.amqp_values.specs.Maps.{HaveDistinctKeys};
 ghost use Rattle.amqp_values.specs.Values.{pairs_of};
 
 use crate::equality::same_value;
+use crate::keys::has_equal_keys;
 use crate::{Value, ValueMap};
 use amqp_wire::Error;
 use std::alloc::Global;
@@ -22,14 +23,37 @@ fn place_of(key: &Value, pairs: &[(Value, Value)]) -> Option<usize>
 }
 
 impl ValueMap {
-    /// A map without pairs. Takes no memory.
+    /// Returns a map without pairs. It doesn't allocate.
     pub fn new(alloc: Global) -> ValueMap
         ensures { pairs_of result ≡ [] }
     {
         ValueMap(Vec::new(alloc))
     }
 
-    /// The value of a key: that of the first pair whose key is equal.
+    /// Returns the map of these pairs, in their order. Their keys are compared once, in a time that grows no faster than n log n. So for
+    /// many pairs use this call, and not one `insert` after another.
+    ///
+    /// # Errors
+    ///
+    /// - `DuplicateKey`, if two pairs have equal keys.
+    /// - `Memory`, if there are more than eight pairs, and an allocation to compare their keys fails.
+    ///
+    /// After an error the pairs are dropped.
+    pub fn from_pairs(pairs: Vec<(Value, Value)>) -> Result<ValueMap, Error>
+        ensures made { IfOk result (λ map. pairs_of map ≡ pairs.items) }
+        ensures distinct { OnOk result (HaveDistinctKeys pairs.items) }
+        ensures refused { IfErr result (λ e. (e ≡ Memory) ⊎ ((e ≡ DuplicateKey) × (HaveDistinctKeys pairs.items → ⊥))) }
+        ensures few { length pairs.items ≤ 8 → IfErr result (λ e. e ≡ DuplicateKey) }
+    {
+        match has_equal_keys(pairs.as_slice(), *pairs.allocator()) {
+            Ok(false) => Ok(ValueMap(pairs)),
+            Ok(true) => Err(Error::DuplicateKey),
+            Err(_) => Err(Error::Memory),
+        }
+    }
+
+    /// Returns the value of `key`, if there is one: that of the first pair whose key is equal. It is found by a walk over the pairs. For
+    /// many look-ups make an `OrderedMap<Value, Value>` of them.
     pub fn get(&self, key: &Value) -> Option<&Value>
         ensures { option_copied result ≡ lookup (value_eq key.now) (pairs_of self.now) }
     {
@@ -37,25 +61,26 @@ impl ValueMap {
         Some(&self.0[index].1)
     }
 
-    /// The number of pairs.
+    /// Returns the number of pairs.
     pub fn len(&self) -> usize
         ensures { result ≡ length (pairs_of self.now) }
     {
         self.0.len()
     }
 
-    /// Whether there are no pairs.
+    /// Returns whether there are no pairs.
     pub fn is_empty(&self) -> bool
         ensures { IsTrue result ↔ (pairs_of self.now ≡ []) }
     {
         self.0.is_empty()
     }
 
-    /// Inserts a pair. A key that is there keeps its place, and its value is replaced and handed back; a new key goes last.
+    /// Inserts a pair. A key in the map keeps its place, and its old value is replaced and returned. A new key goes last. The key is found
+    /// by a walk over the pairs: for many pairs use `from_pairs`.
     ///
     /// # Errors
     ///
-    /// `Memory`, if a new key needs memory and there is none: the map stays as it was, and the pair is dropped.
+    /// `Memory`, if the key is new and an allocation fails: the map is unchanged, and the pair is dropped.
     pub fn insert(&mut self, key: Value, value: Value) -> Result<Option<Value>, Error>
         ensures replaced { IfOk result (λ old. old ≡ lookup (value_eq key) (pairs_of self.old)) }
         ensures inserted { OnOk result (pairs_of self.new ≡ insert_entry value_eq (pairs_of self.old) key value) }
@@ -75,7 +100,7 @@ impl ValueMap {
         }
     }
 
-    /// Removes a key, by its first pair, and hands back its value. The other pairs keep their order.
+    /// Removes the first pair with this key, and returns its value, if there is one. The other pairs keep their order.
     pub fn shift_remove(&mut self, key: &Value) -> Option<Value>
         ensures value { result ≡ lookup (value_eq key.now) (pairs_of self.old) }
         ensures removed { pairs_of self.new ≡ remove_entry (value_eq key.now) (pairs_of self.old) }
@@ -86,7 +111,7 @@ impl ValueMap {
         Some(value)
     }
 
-    /// The pairs in order, which are moved out of it.
+    /// Moves the pairs out of the map, in order, and returns them.
     pub fn into_inner(self) -> Vec<(Value, Value)>
         ensures { result.items ≡ pairs_of self }
     {

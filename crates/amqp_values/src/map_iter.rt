@@ -1,4 +1,4 @@
-//! What goes through the pairs of a map of values of any kind.
+//! Iterators over the pairs of a map of values of any kind.
 ghost use Rattle.std.specs.Prelude.{◌≡◌, ◌<◌, ◌^◌, length};
 ghost use Rattle.std.specs.Iterator.{item_count, YieldsFirstBy, YieldsFirstRef, YieldsLastBy, YieldsLastRef};
 ghost use Rattle.std.specs.Map.{values_of};
@@ -12,7 +12,7 @@ use std::alloc::Global;
 use std::slice::Iter;
 use std::vec::IntoIter;
 
-/// The pairs of a map in order, each as a key and a value.
+/// An iterator over the pairs of a map in order, each as a key and a value.
 #[derive(Drop)]
 pub struct ValueMapIter<'a> {
     pairs: Iter<'a, (Value, Value)>,
@@ -51,7 +51,7 @@ impl<'a> ExactSizeIterator for ValueMapIter<'a> {
     }
 }
 
-/// The values of a map, in the order of its pairs.
+/// An iterator over the values of a map, in the order of its pairs.
 #[derive(Drop)]
 pub struct ValueMapValues<'a> {
     pairs: ValueMapIter<'a>,
@@ -91,7 +91,7 @@ impl<'a> ExactSizeIterator for ValueMapValues<'a> {
 }
 
 impl ValueMap {
-    /// The pairs in order, each as a key and a value.
+    /// Returns an iterator over the pairs in order, each as a key and a value.
     pub fn iter(&self) -> ValueMapIter<'_>
         ensures pairs { pairs_left result ≡ pairs_of self.now }
         ensures fits { length (pairs_of self.now) < 2 ^ 63 }
@@ -101,7 +101,7 @@ impl ValueMap {
         }
     }
 
-    /// The values in the order of their keys.
+    /// Returns an iterator over the values, in the order of their keys.
     pub fn values(&self) -> ValueMapValues<'_>
         ensures values { values_left result ≡ values_of (pairs_of self.now) }
         ensures fits { length (pairs_of self.now) < 2 ^ 63 }

@@ -1,5 +1,5 @@
-//! The order of values of any kind: by their kinds, in the order of the variants, and within a kind by what they hold. That of maps of
-//! them is by their pairs.
+//! The order of values of any kind: by their kinds, in the order of the variants, and within a kind by what they hold. Maps of such values
+//! are ordered by their pairs.
 ghost use Rattle.std.specs.Prelude.{◌≡◌, map, refl};
 ghost use Rattle.std.specs.Ordering.{as_partial_cmp};
 ghost use Rattle.amqp_model.specs.Items.{terms_of};
@@ -12,7 +12,7 @@ use crate::leaf::leaf_of;
 use crate::{Value, ValueMap};
 use std::cmp::Ordering;
 
-// How a value stands to another: first by what they are but for the values that they hold, and then by those.
+// How a value compares to another: first without the values that they hold, and then by those.
 #[cycle(order)]
 fn compare_values(left: &Value, right: &Value) -> Ordering
     ensures { result ≡ value_cmp left.now right.now }
@@ -31,7 +31,7 @@ fn compare_values(left: &Value, right: &Value) -> Ordering
     }
 }
 
-// How values stand to others: by the first that differ, and a row before a longer one that begins with it.
+// How values compare to others: by the first that differ, and a row before a longer one that begins with it.
 #[cycle(order)]
 fn compare_rows(left: &[Value], right: &[Value]) -> Ordering
     ensures { result ≡ terms_cmp (terms_of (map value_term left.now)) (terms_of (map value_term right.now)) }
@@ -51,7 +51,7 @@ fn compare_rows(left: &[Value], right: &[Value]) -> Ordering
     Ordering::Equal
 }
 
-// How keys and their values stand to others: by the first that differ, and a row before a longer one that begins with it.
+// How keys and their values compare to others: by the first that differ, and a row before a longer one that begins with it.
 #[cycle(order)]
 fn compare_pairs(pairs: &[(Value, Value)], others: &[(Value, Value)]) -> Ordering
     ensures { result ≡ terms_cmp (turn_terms pairs.now) (turn_terms others.now) }

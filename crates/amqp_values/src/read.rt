@@ -1,4 +1,4 @@
-//! How values of any kind are read: as the kind of what stands there is, and those that hold others with what stands in them.
+//! How values of any kind are read: by the kind of what comes next. A value that holds others is read with them.
 ghost use Rattle.std.specs.Prelude.{◌≡◌, suc, true, IfOk, IfErr};
 ghost use Rattle.amqp_model.specs.Term.{list, array};
 ghost use Rattle.amqp_wire.specs.declared.error.Error.TheVariants.{Depth};
@@ -15,7 +15,7 @@ ghost use Rattle.amqp_values.specs.Levels.{faults_of, faults_at, value_in, IsBou
 ghost use Rattle.amqp_values.specs.ValueType.{value_type, value_agreement};
 ghost use Rattle.amqp_values.specs.ValueMapType.{value_map_type, value_map_agreement};
 
-use crate::keys::is_among;
+use crate::keys::has_equal_keys;
 use crate::typing::descriptor_typed;
 use crate::{Value, ValueMap};
 use amqp_codec::DeserializeTerm;
@@ -28,7 +28,7 @@ use amqp_wire::nesting::LEVELS;
 use amqp_wire::{ByteSource, Error, Symbol};
 use std::alloc::Global;
 
-// One level less. None is left only in an array as deep as one may stand, in which no other container opens.
+// One level less. None is left only in an array as deep as an array may be, in which no other container opens.
 fn one_less<R: ByteSource>(decoder: &mut Decoder<R>, levels: usize) -> Result<usize, Error>
     ensures ok { IfOk result (λ inner. (levels ≡ suc inner) × (decoder.new ≡ decoder.old)) }
     ensures err { IfErr result (λ e. (levels ≡ 0) × RefusesBy Depth decoder.old e decoder.new) }
@@ -154,7 +154,7 @@ fn read_map<R: ByteSource>(
     Ok(Value::Map(ValueMap(pairs)))
 }
 
-// Reads so many values one after another. The count reserves nothing: memory is taken as values come.
+// Reads so many values one after another. The count reserves nothing: memory is allocated as values come.
 #[cycle(reading)]
 fn read_row<R: ByteSource>(
     count: u32,
@@ -176,7 +176,7 @@ fn read_row<R: ByteSource>(
     Ok(values)
 }
 
-// Reads so many pairs one after another. A key that is equal to one before it is `DuplicateKey`, before its value is read.
+// Reads so many pairs one after another, and compares their keys after the last: two that are equal are `DuplicateKey`.
 #[cycle(reading)]
 fn read_pairs<R: ByteSource>(
     count: u32,
@@ -191,15 +191,16 @@ fn read_pairs<R: ByteSource>(
     let mut pairs = Vec::new(alloc);
     for _ in 0..count {
         let key = read_any(decoder, levels, alloc)?;
-        if is_among(&key, pairs.as_slice(), 0) {
-            return Err(decoder.refuse(Error::DuplicateKey));
-        }
         let value = read_any(decoder, levels, alloc)?;
         if pairs.push((key, value)).is_err() {
             return Err(decoder.refuse(Error::Memory));
         }
     }
-    Ok(pairs)
+    match has_equal_keys(pairs.as_slice(), alloc) {
+        Ok(false) => Ok(pairs),
+        Ok(true) => Err(decoder.refuse(Error::DuplicateKey)),
+        Err(_) => Err(decoder.refuse(Error::Memory)),
+    }
 }
 
 impl DeserializeTerm for Value {

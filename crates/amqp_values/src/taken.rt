@@ -1,4 +1,4 @@
-//! What values of any kind hold, taken out of them. A value of another kind is given back.
+//! What values of any kind hold, moved out of them. A value of another kind is returned.
 ghost use Rattle.amqp_values.specs.Taken.{TakesOut};
 ghost use Rattle.amqp_values.specs.declared.value.Value.{Bool, Ubyte, Ushort, Uint, Ulong, Byte, Short, Int, Long};
 ghost use Rattle.amqp_values.specs.declared.value.Value.{Decimal32, Decimal64, Decimal128, Char, Timestamp as TimestampOf, Uuid as UuidOf};

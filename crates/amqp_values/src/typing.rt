@@ -22,7 +22,7 @@ pub(crate) fn descriptor_typed(descriptor: &Descriptor)
     }
 }
 
-// A value is of its type. Takes no memory.
+// A value is of its type. It doesn't allocate.
 #[cycle(typing)]
 pub(crate) fn value_typed(value: &Value)
     ensures { IsTyped value.now }
@@ -67,7 +67,7 @@ fn values_typed(values: &[Value])
     }
 }
 
-// A map is of its type. Takes no memory.
+// A map is of its type. It doesn't allocate.
 #[cycle(typing)]
 pub(crate) fn map_typed(map: &ValueMap)
     ensures { IsTyped (MapOf map.now) }

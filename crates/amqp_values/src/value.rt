@@ -5,7 +5,7 @@ use amqp_described::Described;
 use amqp_primitives::{Binary, Dec32, Dec64, Dec128, Timestamp, Uuid};
 use amqp_wire::Symbol;
 
-/// A value of any kind (Part 1, section 1.6), floats aside. The variants are in the order of the standard's kinds, with null first and
+/// A value of any kind (Part 1, section 1.6), except floats. The variants are in the order of the standard's kinds, with null first and
 /// those that hold other values last. A variant of a primitive kind holds that kind's own type.
 #[cycle(values)]
 #[derive(Debug, Default, Drop)]
@@ -47,14 +47,14 @@ pub enum Value {
     Binary(Binary),
     /// Text (section 1.6.20).
     String(String),
-    /// A symbol, which is ASCII where it is read, and has to be where it is written (section 1.6.21).
+    /// A symbol (section 1.6.21). One that was read is ASCII, and one that is written must be.
     Symbol(Symbol),
-    /// A value behind a descriptor (section 1.2).
+    /// A value under a descriptor (section 1.2).
     Described(Box<Described<Value>>),
     /// Values of any kinds (section 1.6.22).
     List(Vec<Value>),
     /// Values under keys, both of any kinds (section 1.6.23).
     Map(ValueMap),
-    /// Values that share one constructor where they are written (section 1.6.24).
+    /// Values that are written under one constructor (section 1.6.24).
     Array(Array<Value>),
 }

@@ -1,12 +1,16 @@
-//! How values of any kind are written: as their kind is, and those that hold others with what stands in them.
-ghost use Rattle.std.specs.Prelude.{◌≡◌, Ok, refl};
+//! How values of any kind are written: as their kind is. A value that holds others is written with them.
+ghost use Rattle.std.specs.Prelude.{◌≡◌, ◌⊎◌, Ok, false, IfOk, refl};
 ghost use Rattle.std.specs.List.{flat_map};
 ghost use Rattle.amqp_encoder.specs.Passes.{answer_of};
+ghost use Rattle.amqp_encoder.specs.Writes.{Fills, pass_of};
 ghost use Rattle.amqp_codec.specs.Agreement.{via_writing};
+ghost use Rattle.amqp_codec.specs.EqualKeys.{has_equal_keys};
 ghost use Rattle.amqp_codec.specs.Written.{WritesTerms};
 ghost use Rattle.amqp_values.specs.declared.value.Value.{Map as MapOf};
 ghost use Rattle.amqp_values.specs.Canon.{value_canons, pair_canon};
+ghost use Rattle.amqp_values.specs.Equality.{turn_terms};
 ghost use Rattle.amqp_values.specs.ValueWriting.{value_writing};
+ghost use Rattle.amqp_values.specs.Values.{pairs_of};
 
 use crate::keys::has_equal_keys;
 use crate::typing::{map_typed, value_typed};
@@ -14,6 +18,7 @@ use crate::{Value, ValueMap};
 use amqp_codec::{Serialize, SerializeTerm};
 use amqp_encoder::Encoder;
 use amqp_wire::Error;
+use std::alloc::AllocError;
 
 // Writes a value.
 #[cycle(writing)]
@@ -71,13 +76,26 @@ fn write_values(values: &[Value], encoder: &mut Encoder) -> Result<(), Error>
     Ok(())
 }
 
-// Writes a map. One with equal keys is refused by `DuplicateKey`.
+// Whether two keys of a map are equal. A map that is filled was measured before, and has none that are.
+fn has_equal_keys_to_write(map: &ValueMap, encoder: &Encoder) -> Result<bool, AllocError>
+    ensures { IfOk result (λ found. (found ≡ has_equal_keys (turn_terms (pairs_of map.now)))
+        ⊎ ((found ≡ false) × Fills (pass_of encoder.now))) }
+{
+    if encoder.fills() {
+        return Ok(false);
+    }
+    has_equal_keys(map.0.as_slice(), *map.0.allocator())
+}
+
+// Writes a map. One with equal keys is refused with `DuplicateKey`.
 #[cycle(writing)]
 fn write_map(map: &ValueMap, encoder: &mut Encoder) -> Result<(), Error>
     ensures { WritesTerms (value_canons (MapOf map.now)) encoder.old result encoder.new }
 {
-    if has_equal_keys(map.0.as_slice()) {
-        return encoder.refuse(Error::DuplicateKey);
+    match has_equal_keys_to_write(map, encoder) {
+        Ok(false) => {}
+        Ok(true) => return encoder.refuse(Error::DuplicateKey),
+        Err(_) => return encoder.refuse(Error::Memory),
     }
     encoder.begin_map()?;
     write_pairs(map.0.as_slice(), encoder)?;

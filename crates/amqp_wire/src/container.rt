@@ -1,4 +1,4 @@
-//! The values that hold any number of others (Part 1, sections 1.6.22 to 1.6.24).
+//! The values that hold any number of other values (Part 1, sections 1.6.22 to 1.6.24).
 
 /// A list, map or array (Part 1, sections 1.6.22 to 1.6.24).
 #[derive(Clone, Copy)]

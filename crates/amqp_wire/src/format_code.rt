@@ -61,7 +61,7 @@ pub const UINT: u8 = 0x70;
 /// An int: a signed integer of 32 bits, in four bytes (section 1.6.9).
 pub const INT: u8 = 0x71;
 
-/// A float (section 1.6.11), which is not supported: it is refused by `Error::FloatCode`.
+/// A float (section 1.6.11), which is not supported: it is refused with `Error::FloatCode`.
 pub const FLOAT: u8 = 0x72;
 
 /// A char: a Unicode character in four bytes, UTF-32BE (section 1.6.16).
@@ -76,7 +76,7 @@ pub const ULONG: u8 = 0x80;
 /// A long: a signed integer of 64 bits, in eight bytes (section 1.6.10).
 pub const LONG: u8 = 0x81;
 
-/// A double (section 1.6.12), which is not supported: it is refused by `Error::FloatCode`.
+/// A double (section 1.6.12), which is not supported: it is refused with `Error::FloatCode`.
 pub const DOUBLE: u8 = 0x82;
 
 /// A timestamp: milliseconds since the Unix epoch, signed, in eight bytes (section 1.6.17).
@@ -91,22 +91,22 @@ pub const DECIMAL_128: u8 = 0x94;
 /// A UUID, in sixteen bytes (section 1.6.18).
 pub const UUID: u8 = 0x98;
 
-/// A binary of at most 255 bytes, behind a size of one byte (section 1.6.19).
+/// A binary of at most 255 bytes, after a size of one byte (section 1.6.19).
 pub const BINARY_8: u8 = 0xa0;
 
-/// A string of at most 255 bytes of UTF-8, behind a size of one byte (section 1.6.20).
+/// A string of at most 255 bytes of UTF-8, after a size of one byte (section 1.6.20).
 pub const STRING_8: u8 = 0xa1;
 
-/// A symbol of at most 255 bytes of ASCII, behind a size of one byte (section 1.6.21).
+/// A symbol of at most 255 bytes of ASCII, after a size of one byte (section 1.6.21).
 pub const SYMBOL_8: u8 = 0xa3;
 
-/// A binary, behind a size of four bytes (section 1.6.19).
+/// A binary, after a size of four bytes (section 1.6.19).
 pub const BINARY_32: u8 = 0xb0;
 
-/// A string in UTF-8, behind a size of four bytes (section 1.6.20).
+/// A string in UTF-8, after a size of four bytes (section 1.6.20).
 pub const STRING_32: u8 = 0xb1;
 
-/// A symbol in ASCII, behind a size of four bytes (section 1.6.21).
+/// A symbol in ASCII, after a size of four bytes (section 1.6.21).
 pub const SYMBOL_32: u8 = 0xb3;
 
 /// A list whose size and count have one byte each (section 1.6.22).
@@ -169,8 +169,8 @@ static KNOWN: [u8; 38] = [
     ARRAY_32,
 ];
 
-/// Why a code is refused where a value of another kind must stand: `FloatCode` of a float's or a double's, `WrongType` of
-/// one that is known, 0x00 too, and `UnknownCode` of any other.
+/// Returns the error for a code where a value of another kind is expected. It is `FloatCode` for the code of a float or a double,
+/// `WrongType` for any other known code, 0x00 too, and otherwise `UnknownCode`.
 #[cold]
 pub fn refusal(code: u8) -> Error
     ensures { result ≡ refusal_of code }
@@ -184,8 +184,8 @@ pub fn refusal(code: u8) -> Error
     }
 }
 
-/// Why no constructor is known that begins with this code, or `None` of one that is: `FloatCode` of a float's or a double's
-/// code, and `UnknownCode` of a code that is none of section 1.6.
+/// Returns the error for a code that begins no known constructor, or `None` if one begins with it. The error is `FloatCode` for the code of
+/// a float or a double, and `UnknownCode` for a code that isn't in section 1.6.
 pub fn unknown(code: u8) -> Option<Error>
     ensures { MatchOption result ((code ≡ 0) ⊎ IsKnown (format code))
         (λ e. (e ≡ refusal_of code) × (IsKnown (format code) → ⊥) × (code ≡ 0 → ⊥)) }
@@ -196,14 +196,14 @@ pub fn unknown(code: u8) -> Option<Error>
     }
 }
 
-/// Whether it is one of the codes 0x40 to 0x45, whose values have no data.
+/// Returns whether it is one of the codes 0x40 to 0x45, whose values have no data.
 pub fn has_width_zero(code: u8) -> bool
     ensures { IsTrue result ↔ ((0x40 ≤ code) × (code ≤ 0x45)) }
 {
     NULL <= code && code <= LIST_0
 }
 
-/// Whether a known code is that of a list, a map or an array.
+/// Returns whether a known code is that of a list, a map or an array.
 pub fn is_compound(code: u8) -> bool
     ensures { IsTrue result ↔ ((code ≡ 0x45) ⊎ (0xc0 ≤ code)) }
 {

@@ -1,5 +1,5 @@
-//! What every layer of the AMQP 1.0 codec speaks of: errors, the sources that bytes are read from, symbols, descriptors, the
-//! format codes of constructors, and how deep values nest (Part 1, sections 1.2 and 1.6).
+//! What every layer of the AMQP 1.0 codec uses: errors, the sources that bytes are read from, symbols and descriptors. Also the format
+//! codes of constructors, and how deep values nest (Part 1, sections 1.2 and 1.6).
 #![tactic(auto)]
 
 pub mod container;

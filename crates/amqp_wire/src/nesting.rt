@@ -1,9 +1,8 @@
 //! How deep values nest. The standard sets no limit (Part 1, section 1.2); this one bounds what is kept of open containers.
 
-/// The greatest number of lists, maps, arrays and described values that are nested in one another and count, and of descriptors in
-/// one constructor. An array counts once an item of it does.
+/// How deep values may nest, and how many descriptors one constructor may have. Lists, maps and described values count in nesting, and an
+/// array counts if one of its items is no primitive.
 pub const NESTING: usize = 128;
 
-/// The greatest number of containers and described values that are open at once: those that count, and an array of primitives in
-/// them.
+/// How many containers and described values may be open at once: those that count in nesting, and an array of primitives in the innermost.
 pub const LEVELS: usize = 129;

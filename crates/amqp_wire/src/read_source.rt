@@ -4,18 +4,18 @@ ghost use Rattle.std.specs.Prelude.{◌≡◌, None, is_some};
 use crate::ByteSource;
 use std::io::{ErrorKind, Read};
 
-/// Any reader as a source of bytes. Each pull is one read of the reader. No kind of failure is tried again, not even
-/// `ErrorKind::Interrupted`: from the first one on every pull fails with its kind.
+/// Any reader as a source of bytes. Each pull is one read of the reader. No failure is retried, not even `ErrorKind::Interrupted`. After
+/// the first one, every pull fails with its kind.
 #[derive(Drop)]
 pub struct ReadSource<R: Read> {
     /// The reader. What a pull takes is gone from it.
     pub reader: R,
-    /// The kind of the first failure, or `None` as long as the reader hasn't failed.
+    /// The kind of the first failure, or `None` if the reader hasn't failed.
     pub failed: Option<ErrorKind>,
 }
 
 impl<R: Read> ReadSource<R> {
-    /// A source of the bytes that the reader gives from here on. It hasn't failed.
+    /// Returns a source of the bytes that the reader gives from here on. The source hasn't failed.
     pub fn new(reader: R) -> Self
         ensures reader { result.reader ≡ reader }
         ensures whole { result.failed ≡ None }

@@ -1,4 +1,4 @@
-//! Sources: where the bytes come from that are read.
+//! Sources: where the bytes that are read come from.
 ghost use Rattle.std.specs.Prelude.{◌≡◌, ℕ, ◌≤◌, ◌<◌, List, [], ◌++◌, length, take, drop, Bool, true, false, Option, Some, IfOk, OnErr, IsErr};
 ghost use Rattle.std.specs.Prelude.{◌⊎◌, Ok, IsOk, MatchOption};
 ghost use Rattle.std.specs.Io.KnownBytes.{Consumes, IsAtEnd};
@@ -7,28 +7,29 @@ ghost use Rattle.amqp_wire.specs.Sources.{known, IsTold, AddsNext};
 use std::alloc::AllocError;
 use std::io::ErrorKind;
 
-/// A source of bytes. It gives them in order and each once, in pieces of any length. Where it has failed, it has failed for good,
-/// and `failed` says so. `&[u8]` is a source that never fails, `&mut R` of a source is one, and `ReadSource` makes one of any reader.
+/// A source of bytes. It gives them in order and each once, in pieces of any length. After its first failure every pull fails, and `failed`
+/// returns true. A source is specified if its contract states its bytes: that of a slice does, that of a file doesn't.
+///
+/// `&[u8]` is a source that never fails, `&mut R` is a source if `R` is, and `ReadSource` makes a source of any reader.
 pub trait ByteSource {
-    // The bytes that it still has, or None where it doesn't tell, as a file doesn't.
+    // The bytes that it still has, or None if its contract doesn't state them, as for a file.
     ghost remaining: { Self → Option (List ℕ) };
 
     // It has failed.
     ghost failed: { Self → Bool };
 
-    // A number that tells one borrowed source from another; 0 of what isn't borrowed.
+    // A number that distinguishes one borrowed source from another; 0 if it isn't borrowed.
     ghost name: { Self → ℕ };
 
     // It keeps all of its bytes at hand, and no pull of it fails.
     ghost is_whole: { Bool } = { false };
 
-    // So many of the last bytes of a source that tells them stay in it while one term is read within limits: none, unless an impl
-    // says more.
+    // How many of the last bytes of a specified source stay in it while one term is read within limits: none, unless an impl says more.
     ghost reserve: { ℕ } = { 0 };
 
-    /// Moves the source's next bytes to the front of the buffer, and returns how many: at most as many as the buffer holds, and at
-    /// least one, unless the source is at its end or the buffer is empty. An `Err` is the kind of a failure; then the source has
-    /// failed, and from there on every pull is an `Err`.
+    /// Moves the source's next bytes to the start of the buffer, and returns how many. They are at most as many as the buffer holds. They
+    /// are at least one, unless the source is at its end or the buffer is empty. An `Err` is the kind of a failure; then the source has
+    /// failed, and every later pull is an `Err`.
     fn pull(&mut self, buffer: &mut [u8]) -> Result<usize, ErrorKind>
         ensures fits { IfOk result (λ n. n ≤ length buffer.old) }
         ensures bytes { IfOk result (λ n. Consumes (remaining self.old) (remaining self.new) (take n buffer.new)) }
@@ -39,13 +40,13 @@ pub trait ByteSource {
         ensures sure { is_whole ≡ true → IsOk result }
         ensures named { name self.new ≡ name self.old };
 
-    /// All the bytes that the source still has, if it keeps them at hand: none of them is taken. It is `None` of a source that doesn't.
+    /// Returns all the bytes that the source still has, if it keeps them at hand, and takes none of them. Otherwise it returns `None`.
     fn at_hand(&self) -> Option<&[u8]>
         ensures { MatchOption result (is_whole ≡ false) (λ s. (is_whole ≡ true) × (remaining self.now ≡ Some s.now)) };
 
-    /// Fills the whole buffer with the source's next bytes, if they are at hand, and returns true; otherwise it takes nothing, and returns
-    /// false, which says nothing of what a pull would give. A source that has failed returns false. It is the quick way to a few
-    /// bytes, behind which `pull` stands; by default none are at hand.
+    /// Fills the whole buffer with the source's next bytes, if they are at hand, and returns true. Otherwise it takes nothing and returns
+    /// false, which says nothing about what a pull would give. A source that has failed returns false. This is the fast way to a few bytes;
+    /// `pull` is the general one. By default no bytes are at hand.
     #[inline]
     fn pull_ready(&mut self, buffer: &mut [u8]) -> bool
         ensures taken { result ≡ true → Consumes (remaining self.old) (remaining self.new) buffer.new }
@@ -57,8 +58,8 @@ pub trait ByteSource {
         false
     }
 
-    /// Adds the source's next `count` bytes, if all of them are at hand, and returns true; otherwise it takes and adds nothing, and
-    /// returns false, as `pull_ready` does. An `Err` is a refused growth; then nothing is taken and nothing added.
+    /// Appends the source's next `count` bytes, if all of them are at hand, and returns true. Otherwise it takes and appends nothing, and
+    /// returns false, as `pull_ready` does. An `Err` is an allocation that failed; then nothing is taken and nothing appended.
     #[inline]
     fn append_ready(&mut self, count: usize, bytes: &mut Vec<u8>) -> Result<bool, AllocError>
         ensures taken { result ≡ Ok true
@@ -71,13 +72,13 @@ pub trait ByteSource {
         Ok(false)
     }
 
-    /// Whether a pull has failed.
+    /// Returns whether a pull has failed.
     fn failed(&self) -> bool
         ensures { result ≡ failed self.now };
 }
 
-/// Fills the buffer with the source's next bytes, however the source cuts them, and returns how many: fewer than the buffer holds
-/// only at the end of the source. An `Err` is the source's, which has failed; how many bytes it gave before isn't said.
+/// Fills the buffer with the source's next bytes, however the source splits them, and returns how many. They are fewer than the buffer
+/// holds only at the end of the source. An `Err` is the source's, which has failed; how many bytes were taken before is unspecified.
 #[inline]
 pub fn pull_full<R: ByteSource>(source: &mut R, buffer: &mut [u8]) -> Result<usize, ErrorKind>
     ensures fits { IfOk result (λ n. n ≤ length buffer.old) }

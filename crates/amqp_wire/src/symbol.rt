@@ -1,20 +1,20 @@
 //! Symbols: values of a constrained domain, written in ASCII (Part 1, section 1.6.21).
 ghost use Rattle.std.specs.Prelude.{◌≡◌, string_bytes};
 
-/// A symbol. What is read is ASCII. A symbol may be made of any text, but one that isn't ASCII is refused in writing, by
+/// A symbol. What is read is ASCII. A symbol can be made of any text, but one that isn't ASCII is refused in writing, with
 /// `Error::NonAscii`.
 #[derive(Clone, Debug, PartialEq, Eq, PartialOrd, Ord, Hash, Drop)]
 pub struct Symbol(pub String);
 
 impl Symbol {
-    /// The text of the symbol, borrowed.
+    /// Returns the text of the symbol.
     pub fn as_str(&self) -> &str
         ensures { result.now ≡ string_bytes self.now.0 }
     {
         self.0.as_str()
     }
 
-    /// The text of the symbol, which is moved out of it.
+    /// Moves the text out of the symbol, and returns it.
     pub fn into_inner(self) -> String
         ensures { result ≡ self.0 }
     {

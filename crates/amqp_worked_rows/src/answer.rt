@@ -1,4 +1,4 @@
-//! Rows, and the answers to what they ask.
+//! Rows, and the answers to their lines.
 use crate::further::further_answer;
 use amqp_lines::run;
 use anyhow::bail;
@@ -13,7 +13,7 @@ pub(crate) struct Row<'a> {
 }
 
 impl<'a> Row<'a> {
-    /// A line `<line> => <answer>` of the file. A line without an arrow is an error.
+    /// Reads a line `<line> => <answer>` of the file. A line without an arrow is an error.
     pub(crate) fn from_line(file: &str, line: &'a str) -> Result<Row<'a>, anyhow::Error> {
         let Some((request, wanted)) = line.split_once(" => ") else {
             bail!("{file}: {line} is no row")
@@ -22,7 +22,7 @@ impl<'a> Row<'a> {
     }
 }
 
-/// What is answered to the rows' lines in one run, line by line.
+/// Returns the answers to the rows' lines in one run, line by line.
 pub(crate) fn answers_to(rows: &[Row<'_>], alloc: Global) -> Result<String, anyhow::Error> {
     let mut input = String::new(alloc);
     for row in rows {
@@ -34,7 +34,7 @@ pub(crate) fn answers_to(rows: &[Row<'_>], alloc: Global) -> Result<String, anyh
     Ok(String::from_utf8(output)?)
 }
 
-/// What is answered to a line that names a further type, without a line feed, or `None` of other lines.
+/// Returns the answer to a line that names a further type, without a line feed, or `None` for other lines.
 pub(crate) fn answer_of_further(request: &str, alloc: Global) -> Result<Option<String>, Error> {
     let Some((type_name, digits)) = request.split_once(' ') else {
         return Ok(None);

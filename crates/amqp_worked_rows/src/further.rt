@@ -1,6 +1,6 @@
-//! Answers for the types that the program `amqp-canon` doesn't name: each primitive type, the restricted types, and lists, arrays,
-//! maps, options and described values of some of them. The words before `-of-` or `described-` say what holds, and those behind them
-//! what is held.
+//! Answers for the types that the program `amqp_canon` doesn't name: each primitive type, and the restricted types. Also lists, arrays,
+//! maps, options and described values of some of them. The words before `-of-` or `described-` name the outer type, and the words after
+//! them the inner one.
 use fe2o3_amqp_types::codec::{Error, MapKey, canonical_text};
 use fe2o3_amqp_types::definitions::{Fields, Handle, ReceiverSettleMode, Role, SenderSettleMode};
 use fe2o3_amqp_types::messaging::{
@@ -20,8 +20,8 @@ use std::rc::Rc;
 /// A canonical text and how many bytes the value takes, or why there is none.
 type Rewritten = Result<(Vec<u8>, usize), Error>;
 
-/// The answer to bytes of the type with this name, without a line feed, or `None` where no type here has it. The only error is want of
-/// memory for the answer.
+/// Returns the answer to bytes of the type with this name, without a line feed, or `None` if no type here has it. The only error is
+/// `Memory`.
 pub(crate) fn further_answer(
     type_name: &str,
     input: &[u8],
@@ -49,7 +49,7 @@ fn printed(rewritten: Rewritten, len: usize, alloc: Global) -> Result<String, Er
     }
 }
 
-// The words before the first `-of-` tell what holds others.
+// The words before the first `-of-` name the outer type.
 fn rewritten(type_name: &str, input: &[u8], alloc: Global) -> Option<Rewritten> {
     if let Some(held) = type_name.strip_prefix("list-of-") {
         return list(held, input, alloc);
@@ -173,7 +173,7 @@ fn array(held: &str, input: &[u8], alloc: Global) -> Option<Rewritten> {
     })
 }
 
-// Values behind a descriptor of their own.
+// Values under a descriptor of their own.
 fn described(held: &str, input: &[u8], alloc: Global) -> Option<Rewritten> {
     Some(match held {
         "boolean" => canonical_text::<Described<Boolean>>(input, alloc),

@@ -1,8 +1,11 @@
-//! The program `amqp-worked-rows`: its arguments name files of worked rows. A row is a line `<line> => <answer>`, as
-//! `released 005326c00000 => ok 00532645 0`: before the arrow stands a line of the program `amqp-canon`, and behind it what that
-//! answers (`amqp_lines::run`). The rows of a file are lines of one run, so that limits that a row sets hold for those behind it. Rows of
-//! types that the program doesn't name are answered apart, without limits. Empty lines are passed over, and lines that begin with `#`. It
-//! prints each row that is answered otherwise, and how many rows each file has, and ends with status 0 if all rows agree, else with 1.
+//! The program `amqp_worked_rows` checks worked rows; its arguments name files of them. A row is a line `<line> => <answer>`, as
+//! `released 005326c00000 => ok 00532645 0`. Before the arrow is a line for the program `amqp_canon`, and after it the answer to that line
+//! (`amqp_lines::run`).
+//!
+//! The rows of a file are lines of one run, so limits that a row sets are those of the rows after it. Rows of types that the program
+//! doesn't name are answered apart, without limits. Empty lines and lines that begin with `#` are ignored.
+//!
+//! It prints each row that has another answer, and how many rows each file has. The status is 0 if all rows agree, else 1.
 #![tactic(auto)]
 
 mod answer;

@@ -29,6 +29,6 @@ pub use Rattle.amqp_errors.specs.Conditions.{amqp_error_type, connection_error_t
 pub use Rattle.amqp_errors.specs.Conditions.{transaction_error_type, condition_type}
 pub use Rattle.amqp_message_headers.specs.Priorities.{priority_type}
 pub use Rattle.amqp_message_headers.specs.MessageIds.{message_id_type}
-pub use Rattle.amqp_fields.specs.FieldsType.{fields_type}
+pub use Rattle.amqp_errors.specs.FieldsType.{fields_type}
 pub use Rattle.amqp_annotations.specs.AnnotationsType.{annotations_type}
 pub use Rattle.amqp_map_sections.specs.SimpleMaps.{simple_map_type}

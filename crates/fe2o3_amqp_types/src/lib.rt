@@ -19,14 +19,14 @@ pub mod codec {
     };
     pub use amqp_primitives::{Binary, ByteBuf, Dec32, Dec64, Dec128, SymbolRef, Timestamp, Uuid};
     pub use amqp_read_write::{
-        Limits, ReadSource, append_to_vec, canonical_text, encoded_len, from_reader,
-        from_reader_within, from_slice, from_slice_counted, from_slice_within, to_vec,
+        Limits, ReadSource, append_to_vec, canonical_text, canonical_text_within, encoded_len,
+        from_reader, from_reader_within, from_slice, from_slice_counted, from_slice_within, to_vec,
     };
     pub use amqp_simple_values::SimpleValue;
     pub use amqp_values::{IntoValue, Value, ValueMap, ValueMapIter, ValueMapValues};
 }
 
-/// The primitive types (Part 1, section 1.6), and the standard's names of those of std.
+/// The primitive types (Part 1, section 1.6), and the standard's names for types of std.
 pub mod primitives {
     pub use amqp_batches::TransparentVec;
     pub use amqp_codec::{Descriptor, Symbol};
@@ -62,9 +62,8 @@ pub mod primitives {
 /// The types of connections, sessions and links (Part 2).
 pub mod definitions {
     pub use amqp_errors::{
-        AmqpError, ConnectionError, Error, ErrorCondition, LinkError, SessionError,
+        AmqpError, ConnectionError, Error, ErrorCondition, Fields, LinkError, SessionError,
     };
-    pub use amqp_fields::Fields;
     pub use amqp_restricted_types::{
         DeliveryNumber, DeliveryTag, Handle, IetfLanguageTag, MAJOR, MIN_MAX_FRAME_SIZE, MINOR,
         MessageFormat, Milliseconds, PORT, REVISION, ReceiverSettleMode, Role, SECURE_PORT,
@@ -72,7 +71,7 @@ pub mod definitions {
     };
 }
 
-/// What is proved of every value. Each law is a function that does nothing: a function that calls it may use its clauses. The modules
+/// What is proved about every value. Each law is a function that does nothing; after a call of it, its clauses may be used. The modules
 /// hold the laws of the types and layers that they are named after.
 pub mod laws {
     pub use amqp_annotations::laws as annotations;
@@ -96,8 +95,8 @@ pub mod laws {
     pub use amqp_read_write::laws::{
         canonical_text_is_least, canonical_text_is_read_again, count_is_bounded, faults_of_a_sum,
         keys_are_compared_by_their_texts, limits_bound_reading, one_term_is_written,
-        one_text_for_one_value, one_value, reading_is_spelling, terms_are_read_again,
-        texts_are_least, texts_of_parts_are_least, what_is_read_is_writable,
+        one_text_for_one_value, one_value, reading_is_spelling, seeds_change_nothing,
+        terms_are_read_again, texts_are_least, texts_of_parts_are_least, what_is_read_is_writable,
     };
     pub use amqp_restricted_types::laws as restricted_types;
     pub use amqp_sasl::laws as sasl;
@@ -106,7 +105,7 @@ pub mod laws {
     pub use amqp_termini::laws as termini;
     pub use amqp_values::laws as values;
 
-    /// The laws of terms and of the bytes that spell them (Part 1, sections 1.2 to 1.6).
+    /// The laws of terms and of the bytes that encode them (Part 1, sections 1.2 to 1.6).
     pub mod model {
         pub use amqp_model::{
             canonical_text_is_least, canonical_text_spells, no_proper_front, nodes_are_bounded,
@@ -145,10 +144,10 @@ pub mod messaging {
         pub use amqp_messages::builder::{Builder, EmptyBody};
         pub use amqp_messages::{
             DecodeIntoMessage, FromMessage, Message, Strict, canonical_text_strict,
-            decode_message_strict, decode_message_strict_within,
+            canonical_text_strict_within, decode_message_strict, decode_message_strict_within,
         };
 
-        /// The wrappers through which a message is written and read.
+        /// The wrappers with which a message is written and read.
         pub mod wrappers {
             pub use amqp_messages::wrappers::{Deserializable, Serializable};
         }
@@ -177,7 +176,7 @@ pub mod messaging {
     }
 }
 
-/// What the frames of connections, sessions and links hold (Part 2, section 2.7).
+/// The performatives of connections, sessions, links and deliveries (Part 2, section 2.7).
 pub mod performatives {
     pub use amqp_attach::{Attach, Performative, Unsettled};
     pub use amqp_performatives::{Begin, Close, Detach, Disposition, End, Flow, Open, Transfer};

@@ -1,14 +1,15 @@
-//! Why a value is not read or not written.
+//! Errors: why a value isn't read or isn't written.
 
 use std::fmt;
 
-/// Why a value is not read or not written. `docs/ERRORS.md` explains each. If an input has several faults, nothing says which of them is named.
+/// Why a value isn't read or isn't written. `docs/ERRORS.md` explains each error. If an input has several faults, which one is reported is
+/// unspecified.
 #[derive(Clone, Copy, Debug, PartialEq, Eq, Hash)]
 #[non_exhaustive]
 pub enum Error {
     /// The input ends within a value.
     Cut,
-    /// A constructor has this format code, which is none of Part 1, section 1.6.
+    /// A constructor has this format code, which isn't in Part 1, section 1.6.
     UnknownCode(u8),
     /// The code of a float or a double, which are not supported.
     FloatCode(u8),
@@ -22,15 +23,15 @@ pub enum Error {
     Surplus,
     /// A mandatory value is missing.
     Missing,
-    /// The descriptor is none of the type's.
+    /// The descriptor isn't one of the type's.
     WrongDescriptor,
-    /// Values are nested more than 128 deep.
+    /// Values nest more than 128 deep.
     Depth,
     /// The items of an array have no bytes.
     ZeroWidthItems,
     /// A boolean's byte is neither 0 nor 1.
     BadBool,
-    /// A char is no Unicode scalar value.
+    /// A char isn't a Unicode scalar value.
     BadChar,
     /// A string is not UTF-8.
     BadUtf8,
@@ -44,7 +45,7 @@ pub enum Error {
     EmptyMultiple,
     /// A message has no body.
     EmptyBody,
-    /// What stands here is no section.
+    /// Bytes follow, but no section begins there.
     NotSection,
     /// Out of memory.
     Memory,
@@ -52,13 +53,13 @@ pub enum Error {
     Read,
     /// The items of an array need different constructors.
     MixedArray,
-    /// A size passes 32 bits.
+    /// A size is above 32 bits.
     TooLarge,
-    /// A value does not stand where it may.
+    /// A value isn't where it may be.
     InvalidValue,
-    /// A lazy value is the item of an array.
+    /// A value with kept bytes is the item of an array.
     LazyInArray,
-    /// The constructor with this code is not the type's.
+    /// The constructor with this code isn't the type's.
     WrongType(u8),
     /// A descriptor is neither a symbol nor a ulong.
     BadDescriptor,
@@ -66,7 +67,7 @@ pub enum Error {
     Custom(u32),
     /// A section is misplaced.
     Misplaced,
-    /// A limit was passed.
+    /// The input is past a limit.
     Limit,
     /// The limits let values nest more than 128 deep.
     NoLimits,
@@ -113,7 +114,7 @@ impl Error {
         }
     }
 
-    /// The error's number.
+    /// Returns the error's number.
     pub fn number(&self) -> u32 {
         match self {
             Error::Cut => 1,
@@ -152,7 +153,7 @@ impl Error {
         }
     }
 
-    /// The error's name, as `"Cut"`, or an empty one of `Other`.
+    /// Returns the error's name, as `"Cut"`, or an empty one for `Other`.
     pub fn name(&self) -> String {
         let mut name = [0; 32];
         // SAFETY: the pointer and the length are those of one slice that nothing else refers to.

@@ -1,6 +1,7 @@
 //! The data types of AMQP 1.0: values are read, measured and rewritten as their canonical text.
 //!
-//! Each call is one call of a static library, `libamqp_types.a`, which is proved; `docs/C.md` says what of it. Nothing is decided here again.
+//! Each call is made of calls of a static library, `libamqp_types.a`, which is proved; `docs/C.md` says what is proved about them. This
+//! crate decides nothing again.
 //!
 //! ```
 //! use amqp_types_canonical::{canonical, Error, Limits, Type};
@@ -17,39 +18,65 @@ mod nodes;
 mod sys;
 mod types;
 
+use std::collections::hash_map::RandomState;
+use std::hash::{BuildHasher, Hasher};
+use std::sync::OnceLock;
+
 pub use error::Error;
 pub use nodes::{Kind, Node, Nodes};
 pub use types::Type;
 
-/// The version of this crate, which is apart from that of `fe2o3-amqp-types`.
+/// The version of this crate, which is independent of that of `fe2o3-amqp-types`.
 pub const VERSION: &str = "0.1.0";
 
-/// The number of the error that the text has more bytes than there is room for.
+/// The number of the error that the text is longer than the room for it.
 const NO_ROOM: u32 = 1000;
 
 /// Limits on what is read.
 #[derive(Clone, Copy, Debug, PartialEq, Eq, Hash)]
 pub struct Limits {
-    /// How many lists, maps, arrays of such values and described values stand in one another at most, up to 128.
+    /// How deep values may nest, up to 128. Lists, maps and described values count, and an array counts if one of its items is no
+    /// primitive.
     pub nesting: u32,
     /// How many bytes are read at most; the greatest number sets no limit.
     pub bytes: u64,
     /// How many values are in them at most; the greatest number sets no limit.
     pub items: u64,
+    /// The seed by which the keys of hashed maps are hashed, which a peer must not know; 0 for none, and a faster hash.
+    pub hash_seed: u64,
 }
 
 impl Limits {
-    /// The limits under which all is read that nests at most 128 deep.
+    /// Returns the limits under which everything is read that nests at most 128 deep, with the seed of this process.
     pub fn greatest() -> Limits {
-        let mut limits = sys::Limits { nesting: 0, bytes: 0, items: 0 };
+        let mut limits = sys::Limits { nesting: 0, bytes: 0, items: 0, hash_seed: 0 };
         // SAFETY: the pointer is that of one value that nothing else refers to.
         unsafe { sys::amqp_c_greatest(&mut limits) };
-        Limits { nesting: limits.nesting, bytes: limits.bytes, items: limits.items }
+        Limits::of(limits)
+    }
+
+    /// Returns limits for input from a peer, of which at most this many bytes are read, with the seed of this process. Values nest at most
+    /// 128 deep, and there are at most as many of them as bytes.
+    pub fn for_peers(bytes: u64) -> Limits {
+        let mut limits = sys::Limits { nesting: 0, bytes: 0, items: 0, hash_seed: 0 };
+        // SAFETY: the pointer is that of one value that nothing else refers to.
+        unsafe { sys::amqp_c_for_peers(&mut limits, bytes) };
+        Limits::of(limits)
+    }
+
+    fn of(limits: sys::Limits) -> Limits {
+        Limits { nesting: limits.nesting, bytes: limits.bytes, items: limits.items, hash_seed: process_seed() }
     }
 
     fn given(&self) -> sys::Limits {
-        sys::Limits { nesting: self.nesting, bytes: self.bytes, items: self.items }
+        sys::Limits { nesting: self.nesting, bytes: self.bytes, items: self.items, hash_seed: self.hash_seed }
     }
+}
+
+// A number that is drawn once in a process, and isn't 0.
+fn process_seed() -> u64 {
+    static SEED: OnceLock<u64> = OnceLock::new();
+    *SEED.get_or_init(|| RandomState::new().build_hasher().finish().max(1))
 }
 
 impl Default for Limits {
@@ -58,7 +85,7 @@ impl Default for Limits {
     }
 }
 
-// What a call told, if it did what it is for.
+// What a call returned, if there is no error.
 fn told<T>(outcome: sys::Outcome, value: T) -> Result<T, Error> {
     match outcome.number {
         0 => Ok(value),
@@ -66,7 +93,7 @@ fn told<T>(outcome: sys::Outcome, value: T) -> Result<T, Error> {
     }
 }
 
-/// How many bytes the value of the type takes that the input begins with, within the limits. What follows it is left.
+/// Returns how many bytes the value of the type at the start of the input takes, within the limits. What follows it is ignored.
 ///
 /// ```
 /// use amqp_types_canonical::{read, Error, Limits, Type};
@@ -81,7 +108,8 @@ pub fn read(of: Type, input: &[u8], limits: &Limits) -> Result<usize, Error> {
     told(outcome, taken)
 }
 
-/// The canonical text of the value of the type that the input begins with, within the limits, and how many bytes the value takes there.
+/// Returns the canonical text of the value of the type at the start of the input, within the limits, and how many bytes the value takes
+/// there.
 ///
 /// ```
 /// use amqp_types_canonical::{canonical, Error, Limits, Type};
@@ -107,7 +135,7 @@ pub fn canonical(of: Type, input: &[u8], limits: &Limits) -> Result<(Vec<u8>, us
     }
 }
 
-/// What became of a text that was to be put into room of the caller's.
+/// The result of `canonical_into`.
 #[derive(Clone, Copy, Debug, PartialEq, Eq)]
 pub enum Text {
     /// The first `written` bytes of the room are the text, and the value takes `taken` bytes of the input.
@@ -117,11 +145,11 @@ pub enum Text {
         /// How many bytes the value takes.
         taken: usize,
     },
-    /// The text has so many bytes, for which there is no room. The room is as it was.
+    /// The text has so many bytes, for which there is no room. The room is unchanged.
     Needs(usize),
 }
 
-/// The same as `canonical`, into room of the caller's, without memory for the text.
+/// Writes what `canonical` returns into room of the caller's, without allocating for the text.
 ///
 /// ```
 /// use amqp_types_canonical::{canonical_into, Error, Limits, Text, Type};
@@ -152,7 +180,7 @@ pub fn canonical_into(of: Type, input: &[u8], limits: &Limits, room: &mut [u8]) 
     }
 }
 
-/// How long the term is, one encoded value of any type, that the input begins with. It takes no memory.
+/// Returns the length of the term at the start of the input: one encoded value, of any type. It doesn't allocate.
 ///
 /// ```
 /// use amqp_types_canonical::{term_len, Error};

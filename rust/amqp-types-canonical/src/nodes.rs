@@ -2,7 +2,7 @@
 
 use crate::{sys, Error};
 
-/// What a node is.
+/// The kind of a node.
 #[derive(Clone, Copy, Debug, PartialEq, Eq, Hash)]
 pub enum Kind {
     /// Null.
@@ -80,23 +80,23 @@ static KINDS: &[Kind] = &[
     Kind::Array,
 ];
 
-/// A value in a term. A described value is a node that holds two, its descriptor and its value.
+/// A value in a term. A described value is a node with two in it, its descriptor and its value.
 #[derive(Clone, Copy, Debug, PartialEq, Eq)]
 pub struct Node<'a> {
-    /// What it is.
+    /// Its kind.
     pub kind: Kind,
-    /// Its format code, 0 of a described value.
+    /// Its format code, or 0 for a described value.
     pub code: u8,
-    /// What it holds, behind its constructor, its size and its count: the bytes of its value, or of the nodes in it. What an array holds begins
-    /// with the constructor of its items.
+    /// Its content, after its constructor, its size and its count: the bytes of its value, or of the nodes in it. The content of an array
+    /// begins with the constructor of its items.
     pub data: &'a [u8],
-    /// How many nodes it stands in.
+    /// How many nodes are around it.
     pub depth: usize,
-    /// How many nodes stand right in it.
+    /// How many nodes are directly in it.
     pub count: usize,
 }
 
-/// The nodes of the term that the bytes begin with, each before those in it. After an error there is none.
+/// An iterator over the nodes of the term at the start of the bytes, each before those in it. After an error there are no more.
 ///
 /// ```
 /// use amqp_types_canonical::{Error, Kind, Nodes};
@@ -110,12 +110,13 @@ pub struct Node<'a> {
 pub struct Nodes<'a> {
     input: &'a [u8],
     at: usize,
-    /// The nodes around the next one, each with how many nodes in it are still to come; at first what is around a whole term, with one.
+    /// The enclosing nodes of the next one, each with how many nodes in it are still to come. At first it is what is around a whole term,
+    /// with one.
     open: Vec<(sys::Node, usize)>,
 }
 
 impl<'a> Nodes<'a> {
-    /// The nodes of the term that the input begins with.
+    /// Returns an iterator over the nodes of the term at the start of the input.
     pub fn new(input: &'a [u8]) -> Nodes<'a> {
         Nodes { input, at: 0, open: vec![(sys::Node::default(), 1)] }
     }

@@ -1,4 +1,4 @@
-//! The calls as `c/amqp_types.h` declares them. Nothing compares these declarations with the library; the tests call each.
+//! The calls as `c/amqp_types.h` declares them. Nothing compares these declarations with the library's; the tests call each.
 
 #[repr(C)]
 #[derive(Clone, Copy)]
@@ -13,6 +13,7 @@ pub(crate) struct Limits {
     pub nesting: u32,
     pub bytes: u64,
     pub items: u64,
+    pub hash_seed: u64,
 }
 
 #[repr(C)]
@@ -45,4 +46,5 @@ extern "C" {
     pub(crate) fn amqp_c_next(input: *const u8, len: usize, at: usize, node: *mut Node) -> Outcome;
     pub(crate) fn amqp_c_error_name(number: u32, out: *mut u8, room: usize) -> usize;
     pub(crate) fn amqp_c_greatest(limits: *mut Limits);
+    pub(crate) fn amqp_c_for_peers(limits: *mut Limits, bytes: u64);
 }

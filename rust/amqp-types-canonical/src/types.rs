@@ -1,6 +1,6 @@
 //! The types.
 
-/// A type, by the name that the program `amqp-canon` has for it.
+/// A type, by its name in the program `amqp_canon`.
 #[repr(u32)]
 #[derive(Clone, Copy, Debug, PartialEq, Eq, Hash)]
 #[non_exhaustive]
@@ -198,12 +198,12 @@ static NAMES: &[(&str, Type)] = &[
 ];
 
 impl Type {
-    /// Every type with its name.
+    /// Returns every type with its name.
     pub fn all() -> impl Iterator<Item = (&'static str, Type)> {
         NAMES.iter().copied()
     }
 
-    /// The type with this name, as `"open"`.
+    /// Returns the type with this name, as `"open"`.
     ///
     /// ```
     /// use amqp_types_canonical::Type;
@@ -218,7 +218,7 @@ impl Type {
         NAMES.get(place).map(|row| row.1)
     }
 
-    /// Its name.
+    /// Returns its name.
     pub fn name(self) -> &'static str {
         NAMES[self as usize - 1].0
     }

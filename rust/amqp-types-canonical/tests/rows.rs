@@ -29,7 +29,7 @@ fn limits_of(line: &str) -> Option<Limits> {
     let words: Vec<&str> = line.strip_prefix("limits ")?.split(' ').collect();
     let [nesting, bytes, items] = words[..] else { return None };
     let nesting = u32::try_from(number_of(nesting)?).ok().filter(|nesting| *nesting <= 128)?;
-    Some(Limits { nesting, bytes: number_of(bytes)?, items: number_of(items)? })
+    Some(Limits { nesting, bytes: number_of(bytes)?, items: number_of(items)?, ..Limits::greatest() })
 }
 
 // What the program answers to a line that sets no limits.
@@ -101,6 +101,22 @@ fn limits_that_are_none() {
     let deep = Limits { nesting: 129, ..Limits::greatest() };
     assert_eq!(read(Type::Boolean, &[0x41], &deep), Err(Error::NoLimits));
     assert_eq!(Error::NoLimits.name(), "NoLimits");
+}
+
+#[test]
+fn limits_for_peers() {
+    let limits = Limits::for_peers(5);
+    assert_eq!((limits.nesting, limits.bytes, limits.items), (128, 5, 5));
+    assert_ne!(limits.hash_seed, 0);
+    assert_eq!(canonical(Type::Accepted, &[0x00, 0x53, 0x24, 0xc0, 0x00, 0x00], &limits), Err(Error::Limit));
+    let properties = [0x00, 0x53, 0x74, 0xc1, 0x0d, 0x04, 0xa1, 0x03, b'o', b'n', b'e', 0x43, 0xa1, 0x02, b'i', b't', 0x52, 0x00];
+    for hash_seed in [0, 1, u64::MAX] {
+        let seeded = Limits { hash_seed, ..Limits::greatest() };
+        assert_eq!(
+            canonical(Type::ApplicationProperties, &properties, &seeded),
+            Ok(([&properties[..4], &[0x0c], &properties[5..16], &[0x43]].concat(), properties.len()))
+        );
+    }
 }
 
 #[test]

@@ -13,7 +13,7 @@ use super::Decoder;
 use crate::frame::{OpenContainer, Place};
 use amqp_wire::{ByteSource, Error, format_code};
 
-/// The most bytes of skipped content that are pulled at once.
+/// How many bytes of skipped content are pulled at once at most.
 const SKIP: usize = 256;
 
 impl<R: ByteSource> Decoder<R> {
@@ -25,7 +25,7 @@ impl<R: ByteSource> Decoder<R> {
         let _alone = &self.alone;
     }
 
-    // How many bytes the size of the open container leaves, where one is open.
+    // How many bytes the size of the open container leaves, if one is open.
     #[inline(always)]
     pub(crate) fn left(&self) -> Option<u32>
         ensures { result ≡ bound_of self.now.top }
@@ -53,7 +53,7 @@ impl<R: ByteSource> Decoder<R> {
         }
     }
 
-    // The limit doesn't leave so many bytes, where no size bounds them.
+    // The limit doesn't leave so many bytes, if no size bounds them.
     #[inline(always)]
     fn passes_limit(&self, count: u32) -> bool
         ensures past { result ≡ true → (bound_of self.now.top ≡ None) × (Has self.now.top.left count → ⊥) }
@@ -66,7 +66,7 @@ impl<R: ByteSource> Decoder<R> {
         }
     }
 
-    // So many bytes of the limit are taken, where there is one.
+    // So many bytes of the limit are taken, if there is one.
     #[inline(always)]
     fn lower_limit(&mut self, count: u32)
         requires unbounded { bound_of self.old.top ≡ None }
@@ -202,8 +202,8 @@ impl<R: ByteSource> Decoder<R> {
         };
     }
 
-    // A size is wrong: all that the outermost size announces has to be there, else the input is cut. Outside
-    // of a container it is the value's own size, of which `own` bytes are left, and these have to be within the limit.
+    // A size is wrong: all bytes must be present that the outermost size announces, else the input is cut. Outside of a container it is the
+    // value's own size, of which `own` bytes are left, and these must be within the limit.
     #[cold]
     pub(crate) fn refuse_size(&mut self, own: u32) -> Error
         ensures refused { Tells R.remaining → RefusesSize own self.old result self.new }
@@ -223,7 +223,7 @@ impl<R: ByteSource> Decoder<R> {
         }
     }
 
-    // A code that is none of the kind that is read.
+    // A code that isn't one of the kind that is read.
     #[cold]
     pub(crate) fn refuse_code(&mut self, code: u8) -> Error
         ensures answer { result ≡ refusal_of code }

@@ -1,4 +1,4 @@
-//! How many values begin, where the caller limits that.
+//! How many values begin, if the caller limits that.
 ghost use Rattle.std.specs.Prelude.{◌≡◌, ◌≤◌, None, Some, IfOk, IfErr, false, true};
 ghost use Rattle.amqp_model.specs.Term.{Term};
 ghost use Rattle.amqp_model.specs.Spelling.{IsSpelling};
@@ -95,7 +95,7 @@ impl<R: ByteSource> Decoder<R> {
         self.count_values(values_begun(code))
     }
 
-    // A value begins by this code, where one may.
+    // A value begins by this code, if one may.
     #[inline(always)]
     pub(super) fn count_begun(&mut self, code: u8)
         requires { Has self.old.quota 1 }

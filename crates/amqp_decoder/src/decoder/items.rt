@@ -69,7 +69,7 @@ impl<R: ByteSource> Decoder<R> {
         self.begin_slowly()
     }
 
-    // The same, whatever stands there, however the source gives it.
+    // The same, whatever comes next, however the source gives it.
     #[inline(never)]
     fn begin_slowly(&mut self) -> Result<u8, Error>
         ensures read { Tells R.remaining → AnswersRead false ReadsCode BeginFault self.old result self.new }
@@ -87,8 +87,8 @@ impl<R: ByteSource> Decoder<R> {
         Ok(code)
     }
 
-    /// The first code of the next value's constructor, 0 for a described value; `Missing` if no value is left.
-    /// Nothing is taken.
+    /// Returns the first code of the next value's constructor, 0 for a described value. Nothing is taken. It returns `Missing` if no value
+    /// is left.
     #[inline]
     pub fn peek_code(&mut self) -> Result<u8, Error>
         ensures read { Tells R.remaining → AnswersRead false PeeksCode BeginFault self.old result self.new }
@@ -104,7 +104,7 @@ impl<R: ByteSource> Decoder<R> {
         self.peek_slowly()
     }
 
-    // The same, whatever stands there, however the source gives it.
+    // The same, whatever comes next, however the source gives it.
     #[inline(never)]
     fn peek_slowly(&mut self) -> Result<u8, Error>
         ensures read { Tells R.remaining → AnswersRead false PeeksCode BeginFault self.old result self.new }

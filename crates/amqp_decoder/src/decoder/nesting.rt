@@ -17,8 +17,8 @@ use amqp_wire::nesting::NESTING;
 use amqp_wire::{ByteSource, Error};
 
 impl<R: ByteSource> Decoder<R> {
-    /// Promises that no more containers and described values are open than may be nested, which is at most 128 deep, but
-    /// where nothing is left in the innermost, or it is an array of primitives.
+    /// Promises that no more containers and described values are open than may nest, which is at most 128 deep. That isn't promised if
+    /// nothing is left in the innermost, or if it is an array of primitives.
     #[inline]
     pub fn room(&self)
         ensures room { HasRoom self.now }
@@ -27,7 +27,7 @@ impl<R: ByteSource> Decoder<R> {
         let _depth = &self.depth;
     }
 
-    /// How many containers and described values are open.
+    /// Returns how many containers and described values are open.
     #[inline]
     pub(crate) fn depth(&self) -> usize
         ensures { result ≡ length self.now.saved }
@@ -35,7 +35,7 @@ impl<R: ByteSource> Decoder<R> {
         self.depth
     }
 
-    /// How deep a value that begins here may nest.
+    /// Returns how deep a value that begins here may nest.
     #[inline]
     pub(crate) fn nesting_left(&self) -> usize
         ensures { result ≡ self.now.nesting - length self.now.saved }
@@ -118,7 +118,7 @@ impl<R: ByteSource> Decoder<R> {
         self.enter(place, items, content)
     }
 
-    // An array's items that hold others, or are described, count in nesting.
+    // An array's items that hold others, or are described, make it count in nesting.
     #[inline]
     pub(crate) fn check_items(&mut self, is_flat: bool) -> Result<(), Error>
         ensures ok { IfOk result (λ _. ((is_flat ≡ true) ⊎ (length self.old.saved ≤ self.old.nesting)) × (self.new ≡ self.old)) }
@@ -135,8 +135,7 @@ impl<R: ByteSource> Decoder<R> {
         Ok(())
     }
 
-    // Opens what a descriptor describes, which has the bytes of what it stands in, and the rest of a constructor
-    // that is shared.
+    // Opens what a descriptor describes, which has the bytes of what it is in, and the rest of a shared constructor.
     #[inline]
     pub(crate) fn enter_described(&mut self) -> Result<(), Error>
         ensures ok { IfOk result (λ _. (length self.old.saved < self.old.nesting) × (self.new ≡ in_described self.old)) }
@@ -219,7 +218,7 @@ impl<R: ByteSource> Decoder<R> {
         self.top = self.frames.get(self.depth);
     }
 
-    // Leaves a described value, whose bytes are those of what it stands in.
+    // Leaves a described value, whose bytes are those of what it is in.
     #[inline]
     pub(crate) fn leave_described(&mut self)
         requires { self.old.top.place ≡ InDescribed }

@@ -43,7 +43,7 @@ impl<R: ByteSource> Decoder<R> {
         self.input.next_at_hand() == Some(code)
     }
 
-    // The next value's first code, which is taken, if it is at hand. Else nothing is taken, which says nothing of the value.
+    // The next value's first code, which is taken, if it is at hand. Else nothing is taken, and that says nothing about the value.
     #[inline(always)]
     pub(super) fn quick_code(&mut self) -> Option<u8>
         ensures none { result ≡ None → self.new ≡ self.old }
@@ -62,7 +62,7 @@ impl<R: ByteSource> Decoder<R> {
         Some(code[0])
     }
 
-    // The N bytes of a value, the first of which is this code, if they are at hand. Else nothing is taken, which says nothing of the
+    // The N bytes of a value, the first of which is this code, if they are at hand. Else nothing is taken, and that says nothing about the
     // value.
     #[inline(always)]
     pub(crate) fn quick<const N: usize>(&mut self, code: u8) -> Option<[u8; N]>

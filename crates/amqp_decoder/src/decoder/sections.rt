@@ -1,4 +1,4 @@
-//! What stands at the top level: the end of the input, or the next section of a message (Part 3, section 3.2).
+//! What comes next at the top level: the end of the input, or the next section of a message (Part 3, section 3.2).
 ghost use Rattle.std.specs.Prelude.{◌≡◌, ℕ, [], Some, IfOk, IfErr, ◌↔◌, IsTrue, false};
 ghost use Rattle.amqp_wire.specs.Sources.{Tells};
 ghost use Rattle.amqp_lookahead.specs.Sections.{IsSectionAhead};
@@ -14,7 +14,7 @@ use crate::frame::Place;
 use amqp_wire::{ByteSource, Error};
 
 impl<R: ByteSource> Decoder<R> {
-    // Nothing is open, and what stands next may be looked at.
+    // Nothing is open, and what comes next may be looked at.
     fn is_top(&self) -> bool
         ensures is { IsTrue result ↔ ((self.now.top.place ≡ Top) × (self.now.saved ≡ []) × (self.now.failed.alone ≡ false)) }
         ensures level { self.now.top.place ≡ Top → self.now.top ≡ top_level self.now.top.left }
@@ -22,7 +22,7 @@ impl<R: ByteSource> Decoder<R> {
         self.top.place == Place::Top && self.depth == 0 && !self.alone
     }
 
-    // The code of the section whose descriptor stands next.
+    // The code of the section whose descriptor comes next.
     fn section_ahead(&mut self) -> Result<Option<u8>, Error>
         requires { self.old.failed.alone ≡ false }
         ensures looks { Tells R.remaining → IfOk result (λ _. LooksOn self.old self.new) }
@@ -48,7 +48,8 @@ impl<R: ByteSource> Decoder<R> {
         Ok(())
     }
 
-    /// Whether the input ends here, at the top level. Nothing is taken; `InvalidValue` in a container.
+    /// Returns whether the input ends here, at the top level. Nothing is taken. It returns `InvalidValue` in a container, or if the decoder reads
+    /// one term alone.
     pub fn at_end(&mut self) -> Result<bool, Error>
         ensures read { Tells R.remaining → AnswersRead false Ends NotTop self.old result self.new }
         ensures tries { Tries false self.old result self.new }
@@ -57,9 +58,8 @@ impl<R: ByteSource> Decoder<R> {
         Ok(self.look_next()?.is_none())
     }
 
-    /// The code of the section whose whole descriptor, in any of its spellings, stands next at the top level within 64
-    /// bytes; `None` if none does. Nothing is taken, and at most 64 bytes are looked at; `InvalidValue` in a
-    /// container.
+    /// Returns the code of the section that comes next at the top level, if its whole descriptor, in any of its encodings, ends within 64
+    /// bytes; otherwise `None`. Nothing is taken, and at most 64 bytes are looked at. It returns `InvalidValue` in a container.
     pub fn peek_section(&mut self) -> Result<Option<u8>, Error>
         ensures read { Tells R.remaining → AnswersRead false PeeksSection NotTop self.old result self.new }
         ensures tries { Tries false self.old result self.new }

@@ -25,21 +25,19 @@ returns-then-is_known-clause-read g c tells =
     c.in_ok-key.key c.loop.map.entries c.if-is_known.true c.is_known.ensures in
     row_refused_in_order key value g.K.Ord.cmp c.args.count _ _ _
     (key_twice key value c.args.count _ _ _ c.in_ok-key.key _ _ _
-    (fewer_so_far key value g.K.Ord.cmp c.loop.invariant.pairs c.args.count c.loop-test.true tells) (c.in_ok-key.ensures.read tells)
-    (known_to_pairs key value g.K.Ord.cmp c.loop.invariant.pairs c.in_ok-key.key known) c.refuse.ensures.first)
+    (fewer_so_far key value g.K.Ord.cmp c.loop.invariant.pairs c.args.count c.loop-test.true tells) c.loop.invariant.pairs.others
+    (c.in_ok-key.ensures.read tells) (known_to_pairs key value g.K.Ord.cmp c.loop.invariant.pairs c.in_ok-key.key known) c.refuse.ensures.first)
 
 pub returns-in_err-value-clause-read : goal.returns-in_err-value-clause-read
 returns-in_err-value-clause-read g c tells =
     let key = g.K.DeserializeTerm.term in
     let value = g.V.DeserializeTerm.term in
     let p = err_from_is_err_and c.from_residual-in_err-value.result c.from_residual-in_err-value.ensures.1 in
-    let new = unfound_new (key_by_order g.met.K.MapKey.is_key g.met.K.Ord.total g.met.K.Ord.matches_eq) c.is_known.result
-    c.in_ok-key.key c.loop.map.entries c.if-is_known.false c.is_known.ensures in
     rw (p.1, p.2)
     (row_refused_in_order key value g.K.Ord.cmp c.args.count _ _ _
     (value_refused key value c.args.count _ _ _ c.in_ok-key.key _ _ _
     (fewer_so_far key value g.K.Ord.cmp c.loop.invariant.pairs c.args.count c.loop-test.true tells) (c.in_ok-key.ensures.read tells)
-    (new_to_pairs key value g.K.Ord.cmp c.loop.invariant.pairs c.in_ok-key.key new) (c.in_err-value.ensures.read tells)))
+    (c.in_err-value.ensures.read tells)))
 
 pub returns-then-is_err-clause-read : goal.returns-then-is_err-clause-read
 returns-then-is_err-clause-read g c tells =

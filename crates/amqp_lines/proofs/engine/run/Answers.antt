@@ -4,7 +4,7 @@ use Rattle.amqp_lines.proofs.engine.run.Goals as goal
 pub loop-answered-init : goal.loop-answered-init
 loop-answered-init g c =
     begun c.greatest-limits.result _ _ _ (c.greatest-limits.ensures.nesting, c.greatest-limits.ensures.bytes, c.greatest-limits.ensures.items)
-    (rw c.new.ensures.reader at c.new-lines.ensures)
+    c.greatest-limits.ensures.seed (rw c.new.ensures.reader at c.new-lines.ensures)
 
 pub returns-in_default-clause-answers : goal.returns-in_default-clause-answers
 returns-in_default-clause-answers g c =

@@ -25,7 +25,8 @@ returns-in-Err-clause-read g c tells =
       | inl is ↦ no_place key value c.args.count _ _ _ c.in_ok-key.key _ _ _ (c.loop.invariant.pairs.each tells) (c.in_ok-key.ensures.read tells)
           (rw is at c.refuse.ensures.first)
       | inr (is, known) ↦ key_twice key value c.args.count _ _ _ c.in_ok-key.key _ _ _
-          (fewer_so_far key value c.loop.invariant.pairs c.args.count c.loop-test.true tells) (c.in_ok-key.ensures.read tells)
+          (fewer_so_far key value c.loop.invariant.pairs c.args.count c.loop-test.true tells) c.loop.invariant.pairs.others
+          (c.in_ok-key.ensures.read tells)
           (present_known g.met.K.MapKey.is_key c.in_ok-key.key c.loop.pairs.entries known)
           (rw is at c.refuse.ensures.first)
     ]
@@ -35,10 +36,9 @@ returns-in_err-value-in-Ok-clause-read g c tells =
     let key = g.K.DeserializeTerm.term in
     let value = g.V.DeserializeTerm.term in
     let p = err_from_is_err_and c.from_residual-in_err-value-in-Ok.result c.from_residual-in_err-value-in-Ok.ensures.1 in
-    let new = absent_new g.met.K.MapKey.is_key c.in_ok-key.key c.loop.pairs.entries c.in-Ok.ensures.new in
     rw (p.1, p.2)
     (value_refused key value c.args.count _ _ _ c.in_ok-key.key _ _ _
-    (fewer_so_far key value c.loop.invariant.pairs c.args.count c.loop-test.true tells) (c.in_ok-key.ensures.read tells) new
+    (fewer_so_far key value c.loop.invariant.pairs c.args.count c.loop-test.true tells) (c.in_ok-key.ensures.read tells)
     (c.in_err-value-in-Ok.ensures.read tells))
 
 pub loop-preserved : goal.loop-preserved

@@ -1,4 +1,4 @@
-use Rattle.std.proofs.Common.{rules, ◌/◌, refl, ap, ◌∙◌, arith, length, length-append, [], ◌∷◌, true, false}
+use Rattle.std.proofs.Common.{rules, ◌/◌, refl, sym, ap, ◌∙◌, arith, length, length-append, [], ◌∷◌, true, false}
 use Rattle.std.proofs.lemmas.Result.{err_from_is_err_and}
 use Rattle.amqp_model.specs.Term.{list, map, array, described}
 use Rattle.amqp_wire.specs.declared.error.Error.TheVariants.{Depth}
@@ -6,9 +6,9 @@ use Rattle.amqp_lookahead.specs.Members.{descriptor_of}
 use Rattle.amqp_codec.specs.VecType.{list_opening}
 use Rattle.amqp_codec.specs.ItemsReadingLaws.{each_more}
 use Rattle.amqp_codec.specs.MapReading.{ReadsFewer}
-use Rattle.amqp_codec.specs.MapReadingLaws.{pairs_more, others_more}
+use Rattle.amqp_codec.specs.MapReadingLaws.{pairs_more}
 use Rattle.amqp_codec.proofs.ItemsSteps.{pushed, value_refused, no_room, open_refused, row_refused, end_refused, all_read}
-use Rattle.amqp_codec.proofs.MapSteps.{by_two, key_refused, key_twice}
+use Rattle.amqp_codec.proofs.MapSteps.{by_two, key_refused}
 use Rattle.amqp_codec.proofs.MapSteps as maps
 use Rattle.amqp_containers.specs.ArrayType.{array_opening}
 use Rattle.amqp_described.specs.declared.described.Described.{Described}
@@ -25,7 +25,7 @@ use Rattle.amqp_values.specs.ValueMembersLaws.{timestamp_member, uuid_member, bi
 use Rattle.amqp_values.specs.Levels.{value_with, value_in, faults_at}
 use Rattle.amqp_values.proofs.ValueSteps.{bounded_peeked, peek_refused, kind_answers, list_deeper, array_deeper, described_deeper}
 use Rattle.amqp_values.proofs.ValueSteps.{bounded_inside, some_left, bounded_behind, bounded_after, bounded_in_pairs, as_member}
-use Rattle.amqp_values.proofs.ValueSteps.{key_new, key_known}
+use Rattle.amqp_values.proofs.KeysTwice.{keys_apart, key_twice, pairs_going}
 use Rattle.amqp_values.proofs.ValueSteps.{less_bounded, less_refused, less_read, less_row_refused, less_row, less_pairs_refused}
 use Rattle.amqp_values.proofs.ValueSteps.{less_pairs}
 use Rattle.amqp_codec.proofs.Tries.{taking_some, began_then, began_passed, passed_then, refused_more, refused_later, refused_behind, refused_by, tries_behind}
@@ -348,25 +348,34 @@ read_pairs-returns-in_err-key-clause-read g t c tells bounded =
     let fewer : ReadsFewer part part c.args.count c.args.decoder.now c.loop.pairs.items c.loop.decoder = record {
       fewer = omega (arith, c.loop-test.true, c.loop.invariant.long);
       each = each;
-      others = c.loop.invariant.others;
     } in
     rw (p.1, p.2)
     (key_refused part part c.args.count _ _ _ _ _ fewer
     (c.in_err-key.ensures.read tells (bounded_in_pairs part part c.args.levels _ _ _ each bounded)))
 
-pub read_pairs-returns-then-is_among-clause-read : goal.read_pairs-returns-then-is_among-clause-read
-read_pairs-returns-then-is_among-clause-read g t c tells bounded =
+pub read_pairs-returns-in-Ok-true-clause-read : goal.read_pairs-returns-in-Ok-true-clause-read
+read_pairs-returns-in-Ok-true-clause-read g t c tells bounded =
+    let part = value_in c.args.levels in
+    maps.row_twice part part c.args.count _ c.loop.pairs.items _ _ _
+    (omega (arith, c.loop.invariant.long, c.loop-test.false, c.loop.auto.counter-end)) (c.loop.invariant.each tells bounded)
+    (key_twice c.args.levels c.loop.pairs.items
+    (sym c.in-Ok-true.field-0-test ∙ rw c.as_slice.ensures.value at c.in-Ok-true.ensures.equal))
+    c.refuse-in-Ok-true.ensures.first
+
+pub read_pairs-returns-in-Ok-false-clause-read : goal.read_pairs-returns-in-Ok-false-clause-read
+read_pairs-returns-in-Ok-false-clause-read g t c tells bounded = record {
+  long = omega (arith, c.loop.invariant.long, c.loop-test.false, c.loop.auto.counter-end);
+  each = c.loop.invariant.each tells bounded;
+  others = keys_apart c.loop.pairs.items
+      (sym c.in-Ok-false.field-0-test ∙ rw c.as_slice.ensures.value at c.in-Ok-false.ensures.equal);
+}
+
+pub read_pairs-returns-in-Err-clause-read : goal.read_pairs-returns-in-Err-clause-read
+read_pairs-returns-in-Err-clause-read g t c tells bounded =
     let part = value_in c.args.levels in
     let each = c.loop.invariant.each tells bounded in
-    let fewer : ReadsFewer part part c.args.count c.args.decoder.now c.loop.pairs.items c.loop.decoder = record {
-      fewer = omega (arith, c.loop-test.true, c.loop.invariant.long);
-      each = each;
-      others = c.loop.invariant.others;
-    } in
-    key_twice part part c.args.count _ _ _ c.in_ok-key.key _ _ _ fewer
-    (c.in_ok-key.ensures.read tells (bounded_in_pairs part part c.args.levels _ _ _ each bounded))
-    (key_known c.in_ok-key.key c.loop.pairs.items c.is_among.result c.if-is_among.true (rw c.as_slice.ensures.value at c.is_among.ensures))
-    c.refuse.ensures.first
+    maps.no_memory part part c.args.count _ c.loop.pairs.items _ _ _ each
+    (pairs_going c.args.levels _ _ _ (rw c.as_slice.ensures.value at c.in-Err.ensures.few) each) c.refuse-in-Err.ensures.first
 
 pub read_pairs-returns-in_err-value-clause-read : goal.read_pairs-returns-in_err-value-clause-read
 read_pairs-returns-in_err-value-clause-read g t c tells bounded =
@@ -376,13 +385,11 @@ read_pairs-returns-in_err-value-clause-read g t c tells bounded =
     let fewer : ReadsFewer part part c.args.count c.args.decoder.now c.loop.pairs.items c.loop.decoder = record {
       fewer = omega (arith, c.loop-test.true, c.loop.invariant.long);
       each = each;
-      others = c.loop.invariant.others;
     } in
     let inside = bounded_in_pairs part part c.args.levels _ _ _ each bounded in
     let key = c.in_ok-key.ensures.read tells inside in
     rw (p.1, p.2)
     (maps.value_refused part part c.args.count _ _ _ c.in_ok-key.key _ _ _ fewer key
-    (key_new c.in_ok-key.key c.loop.pairs.items c.is_among.result c.if-is_among.false (rw c.as_slice.ensures.value at c.is_among.ensures))
     (c.in_err-value.ensures.read tells (bounded_after c.args.levels _ _ _ key inside)))
 
 pub read_pairs-returns-then-is_err-clause-read : goal.read_pairs-returns-then-is_err-clause-read
@@ -392,19 +399,15 @@ read_pairs-returns-then-is_err-clause-read g t c tells bounded =
     let inside = bounded_in_pairs part part c.args.levels _ _ _ each bounded in
     let key = c.in_ok-key.ensures.read tells inside in
     maps.no_room part part c.args.count _ _ _ c.in_ok-key.key _ c.in_ok-value.value _ _ _ each key
-    (c.in_ok-value.ensures.read tells (bounded_after c.args.levels _ _ _ key inside)) c.refuse-then-is_err.ensures.first
+    (c.in_ok-value.ensures.read tells (bounded_after c.args.levels _ _ _ key inside)) c.refuse.ensures.first
 
 pub read_pairs-loop-preserved : goal.read_pairs-loop-preserved
 read_pairs-loop-preserved g t c =
     let part = value_in c.args.levels in
-    let new = key_new c.in_ok-key.key c.loop.pairs.items c.is_among.result c.if-is_among.false
-    (rw c.as_slice.ensures.value at c.is_among.ensures) in
     let e = pushed c.push.result c.is_err.result c.push.new.self.items _ _ c.if-is_err.false c.is_err.ensures.value c.push.ensures.items in
     record {
       long = ap length e ∙ length-append c.loop.pairs.items ((c.in_ok-key.key, c.in_ok-value.value) ∷ [])
           ∙ omega (arith, c.loop.invariant.long);
-      others = rw e
-          (others_more part part c.loop.pairs.items c.in_ok-key.key c.in_ok-value.value c.loop.invariant.others new);
       each = λ tells bounded.
           (let each = c.loop.invariant.each tells bounded in
           let inside = bounded_in_pairs part part c.args.levels _ _ _ each bounded in

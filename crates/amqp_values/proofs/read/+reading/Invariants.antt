@@ -4,10 +4,6 @@ use Rattle.amqp_decoder.specs.Primitives.{ReadsValue}
 use Rattle.amqp_decoder.specs.Steps.{Passed}
 use Rattle.amqp_codec.specs.ItemsReading.{ReadsEach}
 use Rattle.amqp_codec.specs.MapReading.{Pairs}
-use Rattle.amqp_codec.specs.Pairs.{HaveOtherKeys}
-use Rattle.amqp_codec.specs.TreeType.{SameTree}
-use Rattle.amqp_values.specs.Values.{value_term}
-use Rattle.amqp_values.specs.ValuesLaws.{values_are_trees}
 use Rattle.amqp_values.specs.ValueMembers.{ValueMeans}
 use Rattle.amqp_values.specs.Levels.{value_in, IsBounded}
 use Rattle.amqp_values.proofs.read.+reading.Given as goal
@@ -44,7 +40,6 @@ invariant-read_row-loop g l = record {
 abbrev pub invariant-read_pairs-loop : goal.invariant-read_pairs-loop
 invariant-read_pairs-loop g l = record {
   long : length l.pairs.items ≡ l.counter;
-  others : HaveOtherKeys (SameTree value_term values_are_trees) l.pairs.items;
   each : Tells g.R.ByteSource.remaining → IsBounded l.levels l.fn.decoder
       → Pairs (value_in l.levels) (value_in l.levels) l.fn.decoder l.pairs.items l.decoder;
   passed : Passed l.fn.decoder l.decoder;

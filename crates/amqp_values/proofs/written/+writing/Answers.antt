@@ -5,7 +5,7 @@ use Rattle.amqp_model.specs.Term.{list, map, array}
 use Rattle.amqp_lookahead.specs.Members.{descriptor_of}
 use Rattle.amqp_codec.proofs.Joining.{no_terms, container_wraps, described_wraps, open_refused, inner_refused, all_written}
 use Rattle.amqp_codec.proofs.Joining.{terms_join, terms_cut}
-use Rattle.amqp_values.proofs.ValuesWritten.{open_map, shut_map, barred_written, as_read}
+use Rattle.amqp_values.proofs.ValuesWritten.{shut_map, found_equal, map_written, barred_written, gave_up, as_read}
 use Rattle.amqp_codec.proofs.EachWritten.{next_written, next_refused, all_written_so}
 use Rattle.amqp_values.specs.Values.{pairs_of}
 use Rattle.amqp_values.specs.Canon.{value_canon, value_canons, pair_canon}
@@ -134,28 +134,31 @@ pub write_pairs-returns : goal.write_pairs-returns
 write_pairs-returns t c =
     all_written_so pair_canon c.args.pairs.now c.loop-index.index _ _ (omega (arith, c.loop-index-test.false)) c.loop-index.invariant
 
-pub write_map-returns-then-has_equal_keys : goal.write_map-returns-then-has_equal_keys
-write_map-returns-then-has_equal_keys t c =
-    rw (shut_map c.args.map.now (sym (rw c.as_slice.ensures.value at c.has_equal_keys.ensures) ∙ c.if-has_equal_keys.true))
+pub write_map-returns-in-Ok-true : goal.write_map-returns-in-Ok-true
+write_map-returns-in-Ok-true t c =
+    rw (shut_map c.args.map.now (found_equal c.args.map.now _ _ c.in-Ok-true.field-0-test c.in-Ok-true.ensures))
     (barred_written _ _ _ c.refuse.ensures)
+
+pub write_map-returns-in-Err : goal.write_map-returns-in-Err
+write_map-returns-in-Err t c = gave_up _ _ _ _ c.refuse-in-Err.ensures
 
 pub write_map-returns-in_err-begin_map : goal.write_map-returns-in_err-begin_map
 write_map-returns-in_err-begin_map t c =
-    rw (open_map c.args.map.now (sym (rw c.as_slice.ensures.value at c.has_equal_keys.ensures) ∙ c.if-has_equal_keys.false))
+    map_written c.args.map.now _ _ _ (rw c.in-Ok-false.field-0-test at c.in-Ok-false.ensures)
     (open_refused (container_wraps map (flat_map pair_canon (pairs_of c.args.map.now))) _ _ _ _ _ c.in_err-begin_map.was
     (err_from_is_err_and c.from_residual.result c.from_residual.ensures.1) c.begin_map.ensures)
 
 pub write_map-returns-in_err-write_pairs : goal.write_map-returns-in_err-write_pairs
 write_map-returns-in_err-write_pairs t c =
-    rw (open_map c.args.map.now (sym (rw c.as_slice.ensures.value at c.has_equal_keys.ensures) ∙ c.if-has_equal_keys.false))
+    map_written c.args.map.now _ _ _ (rw c.in-Ok-false.field-0-test at c.in-Ok-false.ensures)
     (inner_refused (container_wraps map (flat_map pair_canon (pairs_of c.args.map.now))) _ _ _ _ _ _ _
     c.in_ok-begin_map.was c.in_err-write_pairs.was
     (err_from_is_err_and c.from_residual-in_err-write_pairs.result c.from_residual-in_err-write_pairs.ensures.1)
-    c.begin_map.ensures (rw c.as_slice-2.ensures.value at c.write_pairs.ensures))
+    c.begin_map.ensures (rw c.as_slice.ensures.value at c.write_pairs.ensures))
 
 pub write_map-returns : goal.write_map-returns
 write_map-returns t c =
-    rw (open_map c.args.map.now (sym (rw c.as_slice.ensures.value at c.has_equal_keys.ensures) ∙ c.if-has_equal_keys.false))
+    map_written c.args.map.now _ _ _ (rw c.in-Ok-false.field-0-test at c.in-Ok-false.ensures)
     (all_written (container_wraps map (flat_map pair_canon (pairs_of c.args.map.now))) _ _ _ _ _ _ _
     c.in_ok-begin_map.was c.in_ok-write_pairs.was c.begin_map.ensures
-    (rw c.as_slice-2.ensures.value at c.write_pairs.ensures) c.end_map.ensures)
+    (rw c.as_slice.ensures.value at c.write_pairs.ensures) c.end_map.ensures)

@@ -1,7 +1,7 @@
-//! What calls answer.
+//! What calls return.
 use amqp_codec::Error;
 
-/// Whether two calls returned the same value, and a copy of it is equal to it.
+/// Returns whether two calls returned the same value, and a copy of it is equal to it.
 pub(crate) fn are_equal_and_copied<T: Clone + PartialEq + Drop>(
     made: Result<T, Error>,
     wanted: Result<T, Error>,
@@ -12,7 +12,7 @@ pub(crate) fn are_equal_and_copied<T: Clone + PartialEq + Drop>(
     Ok(made == wanted && copy == made)
 }
 
-/// Whether this was taken out of what was asked.
+/// Returns whether a call that takes a value out returned this one.
 pub(crate) fn is_taken<T: PartialEq + Drop, E: Drop>(
     answer: Result<T, E>,
     wanted: Result<T, Error>,

@@ -1,6 +1,4 @@
-//! Maps from symbols to values of any kind (Part 2, section 2.8.13), which stand in fields of many types.
-#![tactic(auto)]
-
+//! Maps from symbols to values of any kind (Part 2, section 2.8.13), which are fields of many types.
 use amqp_codec::Symbol;
 use amqp_maps::OrderedMap;
 use amqp_values::Value;
