@@ -141,7 +141,8 @@ struct amqp_limits {
     uint32_t nesting; /* how deep values may nest, up to 128: lists, maps and described values count, and an array counts if one of its
                        * items is no primitive */
     uint64_t bytes;   /* how many bytes are read at most */
-    uint64_t items;   /* how many values are in them at most: each primitive, list, map and array is one */
+    uint64_t items;   /* how many items are in them at most: each primitive, list, map and array is one; in an array, each item takes one
+                       * more for each descriptor that it shares, and for each whole 32 bytes of that descriptor's name */
     uint64_t hash_seed; /* the seed by which the keys of hashed maps are hashed, which a peer must not know; 0 for none, and a faster hash */
 };
 

@@ -1,15 +1,15 @@
 -- What is read within limits of the caller is what is read without, as far as its terms are within them.
-use Rattle.std.proofs.Common.{◌≡◌, ◌+◌, ◌↔◌, ℕ, zero, suc, max, Bool, true, List, [], ◌++◌, length, take, drop, Option, Some, None, refl, sym, ap, ap₂, ◌∙◌}
+use Rattle.std.proofs.Common.{◌≡◌, ◌+◌, ◌↔◌, ℕ, zero, suc, max, Bool, true, false, List, [], ◌++◌, length, take, drop, Option, Some, None, refl, sym, ap, ap₂, ◌∙◌}
 use Rattle.std.proofs.Common.{subst, arith, length-append, append_assoc, append-nil}
 use Rattle.std.proofs.lemmas.List.{drop_at, take_at}
 use Rattle.amqp_model.specs.Term.{Term, Terms, none, more}
 use Rattle.amqp_model.specs.Spelling.{IsSpelling, AreItemsOf}
-use Rattle.amqp_model.specs.Measures.{nests, nodes, all_nodes}
+use Rattle.amqp_model.specs.Measures.{nests, weight, weights}
 use Rattle.amqp_model.proofs.Lengths.{spelling_length}
 use Rattle.amqp_model.proofs.Unique.{one_front, one_term}
 use Rattle.amqp_wire.specs.declared.limits.Limits.{Limits}
 use Rattle.amqp_wire.specs.Limits.{limit_of}
-use Rattle.amqp_decoder.specs.State.{State, Open, Has, lower, is_free}
+use Rattle.amqp_decoder.specs.State.{State, Open, Has, lower, is_free, is_shared, weight_at}
 use Rattle.amqp_decoder.specs.Primitives.{SpellsAs, standing}
 use Rattle.amqp_decoder.proofs.ReadPrimitives.{has_add, has_front, has_rest, lower-lower}
 use Rattle.amqp_codec.specs.TermType.{TermType}
@@ -34,9 +34,9 @@ joined_nests : (ts us : Terms) → nests (joined ts us) ≡ max (nests ts) (nest
 joined_nests none us = omega arith
 joined_nests (more t ts) us = omega (arith, joined_nests ts us)
 
-joined_nodes : (ts us : Terms) → all_nodes (joined ts us) ≡ all_nodes ts + all_nodes us
-joined_nodes none us = omega arith
-joined_nodes (more t ts) us = omega (arith, joined_nodes ts us)
+joined_weights : (ts us : Terms) → weights (joined ts us) false ≡ weights ts false + weights us false
+joined_weights none us = omega arith
+joined_weights (more t ts) us = omega (arith, joined_weights ts us)
 
 -- a term by itself is a row
 one_spelled : (t : Term) (b : List ℕ) → IsSpelling b t → AreItemsOf (more t none) b
@@ -89,7 +89,7 @@ pub takes_then : (first second both : State → State → Type 0) (st mid b : St
     → ((s m e : State) → first s m → second m e → both s e) → TakesRow first st mid → TakesRow second mid b → TakesRow both st b
 takes_then first second both st mid b same f h k =
     let long : length (h.bytes ++ k.bytes) ≡ length h.bytes + length k.bytes = length-append h.bytes k.bytes in
-    let many = joined_nodes h.terms k.terms in
+    let many = joined_weights h.terms k.terms in
     let deep = joined_nests h.terms k.terms in
     record {
       bytes = h.bytes ++ k.bytes;
@@ -101,13 +101,13 @@ takes_then first second both st mid b same f h k =
         subst (Has st.top.left) (sym long)
             (has_add st.top.left (length h.bytes) (length k.bytes) h.room.1 (subst (λ o. Has o (length k.bytes)) h.left k.room.1)),
         subst (Has st.quota) (sym many)
-            (has_add st.quota (all_nodes h.terms) (all_nodes k.terms) h.room.2 (subst (λ o. Has o (all_nodes k.terms)) h.quota k.room.2)),
+            (has_add st.quota (weights h.terms false) (weights k.terms false) h.room.2 (subst (λ o. Has o (weights k.terms false)) h.quota k.room.2)),
       );
       left =
           k.left ∙ ap (λ o. lower o (length k.bytes)) h.left ∙ lower-lower st.top.left (length h.bytes) (length k.bytes)
           ∙ ap (lower st.top.left) (sym long);
       quota =
-          k.quota ∙ ap (λ o. lower o (all_nodes k.terms)) h.quota ∙ lower-lower st.quota (all_nodes h.terms) (all_nodes k.terms)
+          k.quota ∙ ap (λ o. lower o (weights k.terms false)) h.quota ∙ lower-lower st.quota (weights h.terms false) (weights k.terms false)
           ∙ ap (lower st.quota) (sym many);
       within = λ free nesting left quota (d, l, q).
           (let front = subst (Has left) long l in
@@ -115,18 +115,18 @@ takes_then first second both st mid b same f h k =
           let one = h.within free nesting left quota (
             omega (arith, d, deep),
             has_front left (length h.bytes) (length k.bytes) front,
-            has_front quota (all_nodes h.terms) (all_nodes k.terms) few,
+            has_front quota (weights h.terms false) (weights k.terms false) few,
           ) in
-          let other = k.within free nesting (lower left (length h.bytes)) (lower quota (all_nodes h.terms)) (
+          let other = k.within free nesting (lower left (length h.bytes)) (lower quota (weights h.terms false)) (
             omega (arith, d, deep),
             has_rest left (length h.bytes) (length k.bytes) front,
-            has_rest quota (all_nodes h.terms) (all_nodes k.terms) few,
+            has_rest quota (weights h.terms false) (weights k.terms false) few,
           ) in
           let bytes_left = lower-lower left (length h.bytes) (length k.bytes) ∙ ap (lower left) (sym long) in
-          let values_left = lower-lower quota (all_nodes h.terms) (all_nodes k.terms) ∙ ap (lower quota) (sym many) in
-          subst (λ o. both (limited_to free nesting left quota st) (limited_to free nesting o (lower quota (all_nodes (joined h.terms k.terms))) b)) bytes_left
+          let items_left = lower-lower quota (weights h.terms false) (weights k.terms false) ∙ ap (lower quota) (sym many) in
+          subst (λ o. both (limited_to free nesting left quota st) (limited_to free nesting o (lower quota (weights (joined h.terms k.terms) false)) b)) bytes_left
           (subst (λ o. both (limited_to free nesting left quota st)
-          (limited_to free nesting (lower (lower left (length h.bytes)) (length k.bytes)) o b)) values_left (f _ _ _ one other)));
+          (limited_to free nesting (lower (lower left (length h.bytes)) (length k.bytes)) o b)) items_left (f _ _ _ one other)));
     }
 
 -- so is what is read by way of it, however far was looked
@@ -141,9 +141,9 @@ takes_so reads reads_so st b s e a c f h = record {
   spelled = h.spelled;
   room = subst (λ (x : State). HasRoom x.nesting x.top.left x.quota (length h.bytes) h.terms) (sym a) h.room;
   left = ap (λ (x : State). x.top.left) c ∙ h.left ∙ ap (λ (x : State). lower x.top.left (length h.bytes)) (sym a);
-  quota = ap (λ (x : State). x.quota) c ∙ h.quota ∙ ap (λ (x : State). lower x.quota (all_nodes h.terms)) (sym a);
+  quota = ap (λ (x : State). x.quota) c ∙ h.quota ∙ ap (λ (x : State). lower x.quota (weights h.terms false)) (sym a);
   within = λ free nesting left quota room.
-      f free nesting left quota (lower left (length h.bytes)) (lower quota (all_nodes h.terms)) (h.within free nesting left quota room);
+      f free nesting left quota (lower left (length h.bytes)) (lower quota (weights h.terms false)) (h.within free nesting left quota room);
 }
 
 -- a term is a row of one
@@ -151,7 +151,8 @@ pub term_bound : {T : Type 0} (u : TermType T) → IsBoundByLimits (reading_of u
 term_bound u st v b fresh h =
     let s = h.stands in
     let alone : st.top.shared ≡ None = ap (λ (o : Open). o.shared) fresh.top in
-    let many : nodes h.term ≡ all_nodes (more h.term none) = omega arith in
+    let one : weight h.term false ≡ weights (more h.term none) false = omega arith in
+    let many : weight_at st h.term ≡ weights (more h.term none) false = ap (λ o. weight h.term (is_shared o)) alone ∙ one in
     let none_open : length st.saved ≡ 0 = ap length fresh.saved in
     let left : b.rest ≡ s.after =
     ap (λ (x : State). x.rest) h.moved ∙ ap (drop (length h.bytes)) s.rest ∙ drop_at h.bytes s.after (length h.bytes) refl in
@@ -280,11 +281,11 @@ module _ {T : Type 0} (r : Reading T) (bound : IsBoundByLimits r) where
       let free : Bool = is_free limits.nesting limits.bytes limits.items in
       let same : allowed.terms ≡ k.terms = one_row allowed.terms k.terms (take n input) allowed.spelled (subst (AreItemsOf k.terms) f.1 k.spelled) in
       record {
-        after = limited_to free limits.nesting (lower (limit_of limits.bytes) (length k.bytes)) (lower (limit_of limits.items) (all_nodes k.terms)) h.after;
+        after = limited_to free limits.nesting (lower (limit_of limits.bytes) (length k.bytes)) (lower (limit_of limits.items) (weights k.terms false)) h.after;
         read = k.within free limits.nesting (limit_of limits.bytes) (limit_of limits.items) (
           (let deep = allowed.nested in omega (arith, deep, ap nests same)),
           subst (Has (limit_of limits.bytes)) (sym f.0) room,
-          subst (λ ts. Has (limit_of limits.items) (all_nodes ts)) same allowed.few,
+          subst (λ ts. Has (limit_of limits.items) (weights ts false)) same allowed.few,
         );
         left = h.left;
       }

@@ -13,7 +13,7 @@ pub struct GivenLimits {
     pub nesting: u32,
     /// How many bytes are read at most; the greatest number sets no limit.
     pub bytes: u64,
-    /// How many values are in them at most; the greatest number sets no limit.
+    /// How many items are in them at most, as `Limits` counts them; the greatest number sets no limit.
     pub items: u64,
     /// The seed by which the keys of hashed maps are hashed; 0 for none.
     pub hash_seed: u64,

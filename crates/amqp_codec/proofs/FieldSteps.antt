@@ -10,8 +10,7 @@ use Rattle.amqp_model.specs.declared.tables.FieldRule.{FieldRule}
 use Rattle.amqp_model.specs.declared.tables.FieldRule.TheVariants.{Mandatory}
 use Rattle.amqp_wire.specs.declared.error.Error.{Error}
 use Rattle.amqp_decoder.specs.declared.frame.Place.TheVariants.{InList}
-use Rattle.amqp_model.specs.Measures.{nodes}
-use Rattle.amqp_decoder.specs.State.{State, after_value}
+use Rattle.amqp_decoder.specs.State.{State, after_value, weight_at}
 use Rattle.amqp_decoder.specs.Items.{Row}
 use Rattle.amqp_decoder.proofs.ContainerTerms.{Together, together, used_up, row_joined, row_of_one}
 use Rattle.amqp_decoder.proofs.OneReading.{stands_same, row_front}
@@ -124,7 +123,7 @@ module _ {V : Type 0} (fs : Fields V) where
   next_fits i terms ts [] mid last z w e l k r f m = absurd (omega (arith, ap length f, length-append terms [], e, l))
   next_fits i terms ts (t ∷ rest) mid last z w e l k (s, others, j, h, hs) f m =
       let at : get_or ts i (leaf null) ≡ t = the_item terms ts t rest i e f in
-      (after_value (length s) (nodes t) mid, record { bytes = s; term = t; stands = h; moved = refl; meant = by_null (is_null t) refl at })
+      (after_value (length s) (weight_at mid t) mid, record { bytes = s; term = t; stands = h; moved = refl; meant = by_null (is_null t) refl at })
     where
       at_required : (r : Bool) → is_required (rule_at fs i) ≡ r → is_null (get_or ts i (leaf null)) ≡ true
           → is_required (rule_at fs i) ≡ false

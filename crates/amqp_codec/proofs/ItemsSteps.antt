@@ -1,5 +1,5 @@
 -- The items of a list or an array are read one after another: what each exit of the readers answers.
-use Rattle.std.proofs.Common.{◌≡◌, inl, ℕ, ◌<◌, Bool, true, false, cond, List, [], ◌∷◌, ◌++◌, length, None, Result, Ok, Err, refl, sym}
+use Rattle.std.proofs.Common.{◌≡◌, inl, ℕ, ◌<◌, Bool, true, false, cond, List, [], ◌∷◌, ◌++◌, length, Some, None, Result, Ok, Err, refl, sym}
 use Rattle.std.proofs.Common.{◌∙◌, subst, arith}
 use Rattle.std.specs.Result.{is_ok, is_err}
 use Rattle.amqp_model.specs.Standing.{Standing}
@@ -14,7 +14,7 @@ use Rattle.amqp_decoder.specs.Primitives.{ReadsValue}
 use Rattle.amqp_decoder.specs.Containers.{place_of, Closes, CloseFault}
 use Rattle.amqp_decoder.proofs.Steps.{answered_later, first_kept}
 use Rattle.amqp_codec.specs.TermType.{TermType}
-use Rattle.amqp_codec.specs.RefusalLaws.{refused_first, refused_later}
+use Rattle.amqp_codec.specs.RefusalLaws.{refused_first, refused_later, unreserved}
 use Rattle.amqp_codec.specs.Each.{MeansItems}
 use Rattle.amqp_codec.specs.ItemsReading.{ReadsEach, ReadsRow, RowFault, Opening, ItemsRead, ItemsFault, unopened, at_item, unclosed}
 use Rattle.amqp_codec.specs.ItemsReadingLaws.{each_next, each_end, each_still, items_value, value_items}
@@ -51,9 +51,19 @@ module _ {T V : Type 0} (n : ℕ) (means : Standing → Term → T → Type 0) (
       (λ f. record { before = v ∷ vs; mid = mid; each = h; fewer = l; named = f })
       (none_behind st mid (v ∷ vs) l h) r
 
+  first_going : (st : State) (vs : List T) (mid : State) → 0 < length vs → ReadsEach (ReadsValue means) st vs mid → st.error ≡ None
+  first_going st [] mid some h = absurd (omega (arith, some))
+  first_going st (v ∷ vs) mid some h = h.1.stands.going
+
   one_going : (st : State) (vs : List T) (v : T) (mid : State) → ReadsEach (ReadsValue means) st (vs ++ v ∷ []) mid → st.error ≡ None
   one_going st [] v mid h = h.1.stands.going
   one_going st (w ∷ ws) v mid h = h.1.stands.going
+
+  -- memory for the values was wanted before the first
+  pub none_reserved : (st : State) (e : Error) (new : State) → 0 < n → RefusesBy Memory st e new
+      → ((d : Error) → st.error ≡ Some d → (e ≡ d) × (new ≡ st)) → RefusesRead true row row_fault st e new
+  none_reserved st e new some refused again =
+      unreserved row row_fault st e new (λ v b r. first_going st (to v) b (omega (arith, some, r.long)) r.each) refused again
 
   -- memory for a value was wanted
   pub no_room : (st : State) (vs : List T) (v : T) (mid : State) (e : Error) (new : State) → RefusesBy Memory mid e new

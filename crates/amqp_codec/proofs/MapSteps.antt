@@ -1,5 +1,5 @@
 -- The pairs of a map are read one after another: what each exit of the readers answers.
-use Rattle.std.proofs.Common.{◌≡◌, inl, inr, ℕ, ◌*◌, ◌/◌, ◌&&◌, Bool, true, List, [], ◌∷◌, ◌++◌, length, length-append, None, refl, sym, ap, ◌∙◌, subst, arith}
+use Rattle.std.proofs.Common.{◌≡◌, inl, inr, ℕ, ◌*◌, ◌/◌, ◌<◌, ◌&&◌, Bool, true, List, [], ◌∷◌, ◌++◌, length, length-append, Some, None, refl, sym, ap, ◌∙◌, subst, arith}
 use Rattle.amqp_model.specs.Term.{map, Term}
 use Rattle.amqp_model.specs.Standing.{Standing}
 use Rattle.amqp_wire.specs.declared.error.Error.{Error}
@@ -14,7 +14,7 @@ use Rattle.amqp_decoder.proofs.Steps.{answered_later, first_kept}
 use Rattle.amqp_decoder.proofs.OneReading.{value_same}
 use Rattle.amqp_decoder.proofs.Opening.{opens_same}
 use Rattle.amqp_codec.specs.TermType.{TermType}
-use Rattle.amqp_codec.specs.RefusalLaws.{NoneStands, refused_first, refused_later, value_going, opened_going, opened_sound}
+use Rattle.amqp_codec.specs.RefusalLaws.{NoneStands, refused_first, refused_later, value_going, opened_going, opened_sound, unreserved}
 use Rattle.amqp_codec.specs.Pairs.{IsNew, HaveOtherKeys, MeansMap}
 use Rattle.amqp_codec.specs.MapReading.{Pairs, ReadsPairsRow, ReadsFewer, PairsFault, at_key, twice, at_value, MapFault}
 use Rattle.amqp_codec.specs.MapReading.{unopened, at_pair, unclosed}
@@ -44,6 +44,16 @@ module _ {K V : Type 0} (key : TermType K) (value : TermType V) where
     -- where something was read, nothing was refused
     was_going : (st : State) (ps : List (K × V)) (mid : State) → Pairs key value st ps mid → mid.error ≡ None → st.error ≡ None
     was_going st ps mid h going = sym (pairs_still key value st ps mid h).0 ∙ going
+
+    first_going : (st : State) (ps : List (K × V)) (b : State) → 0 < length ps → Pairs key value st ps b → st.error ≡ None
+    first_going st [] b some h = absurd (omega (arith, some))
+    first_going st (p ∷ ps) b some h = h.2.stands.going
+
+    -- memory for the pairs was wanted before the first
+    pub none_reserved : (st : State) (e : Error) (new : State) → 0 < n → RefusesBy Memory st e new
+        → ((d : Error) → st.error ≡ Some d → (e ≡ d) × (new ≡ st)) → RefusesRead true row row_fault st e new
+    none_reserved st e new some refused again =
+        unreserved row row_fault st e new (λ ps b r. first_going st ps b (omega (arith, some, r.long)) r.each) refused again
 
     no_key : (st : State) (ps : List (K × V)) (mid : State) → ReadsFewer key value n st ps mid → NoneStands (ReadsValue key.means) mid
         → NoneStands row st

@@ -11,8 +11,7 @@ use Rattle.amqp_wire.specs.declared.error.Error.{Error}
 use Rattle.amqp_wire.specs.declared.error.Error.TheVariants.{Missing, EmptyMultiple}
 use Rattle.amqp_model.specs.declared.tables.FieldRule.TheVariants.{Mandatory, MandatoryMultiple}
 use Rattle.amqp_decoder.specs.declared.frame.Place.TheVariants.{InList}
-use Rattle.amqp_model.specs.Measures.{nodes}
-use Rattle.amqp_decoder.specs.State.{State, after_value}
+use Rattle.amqp_decoder.specs.State.{State, after_value, weight_at}
 use Rattle.amqp_decoder.specs.Reading.{RefusesRead, BeginFault, PeeksCode}
 use Rattle.amqp_decoder.specs.Primitives.{standing, Stands, ReadsValue, Means}
 use Rattle.amqp_decoder.specs.Containers.{Opens, OpenFault, CloseFault}
@@ -78,7 +77,7 @@ pub record ItemRead {V : Type 0} (fs : Fields V) (i : ℕ) (v w : V) (st b : Sta
   pub bytes : List ℕ
   pub term : Term
   pub stands : Stands st bytes term
-  pub moved : b ≡ after_value (length bytes) (nodes term) st
+  pub moved : b ≡ after_value (length bytes) (weight_at st term) st
   pub fits : ((term ≡ leaf null) × (is_required (rule_at fs i) ≡ false) × (w ≡ v))
       ⊎ (MeansAt fs i (standing st.top.shared bytes) term w × KeepsBut fs i v w)
 

@@ -4,8 +4,7 @@ use Rattle.amqp_model.specs.Term.{Term, Terms, container, none, more, count}
 use Rattle.amqp_model.specs.Items.{items_of}
 use Rattle.amqp_model.specs.Standing.{Standing, Parts}
 use Rattle.amqp_wire.specs.declared.error.Error.{Error}
-use Rattle.amqp_model.specs.Measures.{nodes}
-use Rattle.amqp_decoder.specs.State.{State, after_value}
+use Rattle.amqp_decoder.specs.State.{State, after_value, weight_at}
 use Rattle.amqp_decoder.specs.OtherSource.{Setting, under, KeepsError, value, close_fault}
 use Rattle.amqp_decoder.specs.Rooms.{HasRoom}
 use Rattle.amqp_decoder.specs.Misspelled.{IsMisspelling, NothingStands}
@@ -30,7 +29,7 @@ count_items (more t ts) = ap suc (count_items ts)
 pub row_many : (ts : Terms) (st : State) (b : List ℕ) (st' : State) (row : Row st (items_of ts) b st')
     → length (row_standings st (items_of ts) b st' row) ≡ count ts
 row_many none st b st' row = refl
-row_many (more t ts) st b st' (s, o, e, h, row) = ap suc (row_many ts (after_value (length s) (nodes t) st) o st' row)
+row_many (more t ts) st b st' (s, o, e, h, row) = ap suc (row_many ts (after_value (length s) (weight_at st t) st) o st' row)
 
 module _ {T : Type 0} (means : Standing → Term → T → Type 0) where
   -- The terms that were taken, and what they mean.
@@ -44,7 +43,7 @@ module _ {T : Type 0} (means : Standing → Term → T → Type 0) where
   pub each_taken : (st : State) (vs : List T) (b : State) → ReadsEach (ReadsValue means) st vs b → Taken st vs b
   each_taken st [] b h = record { terms = none; bytes = []; row = (refl, h); meant = tt }
   each_taken st (v ∷ vs) b (mid, h, k) =
-      let r = each_taken (after_value (length h.bytes) (nodes h.term) st) vs b
+      let r = each_taken (after_value (length h.bytes) (weight_at st h.term) st) vs b
       (subst (λ (x : State). ReadsEach (ReadsValue means) x vs b) h.moved k) in
       record {
         terms = more h.term r.terms;
@@ -59,9 +58,9 @@ module _ {T : Type 0} (means : Standing → Term → T → Type 0) where
   taken_each none st bytes b row (v ∷ vs) m = absurd m
   taken_each (more t ts) st bytes b (s, r, e, h, k) [] m = absurd m
   taken_each (more t ts) st bytes b (s, r, e, h, k) (v ∷ vs) m = (
-    after_value (length s) (nodes t) st,
+    after_value (length s) (weight_at st t) st,
     record { bytes = s; term = t; stands = h; moved = refl; meant = m.0 },
-    taken_each ts (after_value (length s) (nodes t) st) r b k vs m.1,
+    taken_each ts (after_value (length s) (weight_at st t) st) r b k vs m.1,
   )
 
   pub taken_long : (st : State) (vs : List T) (b : State) (t : Taken st vs b) → length (items_of t.terms) ≡ length vs
@@ -169,7 +168,7 @@ module _ {T : Type 0} (o : Opening) (u : TermType T) where
   -- and those of each term that stands there are read
   next_items : (st : State) (vs : List T) (b : State) (bytes : List ℕ) (ts : Terms) (ss : List Standing) → o.fits st
       → (u.ignores_standing ≡ false → Parts (standing st.top.shared bytes) (container o.kind ts) ss) → EachMeans u.means ss ts vs
-      → Stands st bytes (container o.kind ts) → b ≡ after_value (length bytes) (nodes (container o.kind ts)) st
+      → Stands st bytes (container o.kind ts) → b ≡ after_value (length bytes) (weight_at st (container o.kind ts)) st
       → ItemsRead o u.means st vs b
   next_items st vs b bytes ts ss fits p m stands moved =
       let h = o.held st ts b fits (record { bytes = bytes; stands = stands; moved = moved }) in
@@ -199,5 +198,5 @@ module _ {T : Type 0} (o : Opening) (u : TermType T) where
   pub value_items : (st : State) (vs : List T) (b : State) → o.fits st → ReadsValue Meant st vs b → ItemsRead o u.means st vs b
   value_items st vs b fits h =
       items_cases u.ignores_standing u.means o.kind (standing st.top.shared h.bytes) vs
-      (λ t. Stands st h.bytes t → b ≡ after_value (length h.bytes) (nodes t) st → ItemsRead o u.means st vs b)
+      (λ t. Stands st h.bytes t → b ≡ after_value (length h.bytes) (weight_at st t) st → ItemsRead o u.means st vs b)
       (λ ts ss p m stands moved. next_items st vs b h.bytes ts ss fits p m stands moved) h.term h.meant h.stands h.moved

@@ -6,8 +6,7 @@ use Rattle.amqp_model.specs.Items.{items_of}
 use Rattle.amqp_model.specs.Standing.{Standing, Parts}
 use Rattle.amqp_wire.specs.declared.error.Error.{Error}
 use Rattle.amqp_decoder.specs.declared.frame.Place.TheVariants.{InMap}
-use Rattle.amqp_model.specs.Measures.{nodes}
-use Rattle.amqp_decoder.specs.State.{State, after_value}
+use Rattle.amqp_decoder.specs.State.{State, after_value, weight_at}
 use Rattle.amqp_decoder.specs.OtherSource.{Setting, under, KeepsError, value as value_elsewhere, opens, open_fault, close_fault}
 use Rattle.amqp_decoder.specs.Rooms.{HasRoom}
 use Rattle.amqp_decoder.specs.Misspelled.{IsMisspelling, NothingStands}
@@ -270,7 +269,7 @@ module _ {K V : Type 0} (key : TermType K) (value : TermType V) where
   next_pairs : (st : State) (ps : List (K × V)) (b : State) (bytes : List ℕ) (ts : Terms) (ss : List Standing)
       → (key.ignores_standing && value.ignores_standing ≡ false → Parts (standing st.top.shared bytes) (container map ts) ss)
       → PairsMean key.means value.means ss ts ps → HaveOtherKeys key.same ps → Stands st bytes (container map ts)
-      → b ≡ after_value (length bytes) (nodes (container map ts)) st → MapRead key value st ps b
+      → b ≡ after_value (length bytes) (weight_at st (container map ts)) st → MapRead key value st ps b
   next_pairs st ps b bytes ts ss p m others stands moved =
       let c = parts map tt st ts b (record { bytes = bytes; stands = stands; moved = moved }) in
       let w = whole_with_parts map tt st ts b c in
@@ -300,5 +299,5 @@ module _ {K V : Type 0} (key : TermType K) (value : TermType V) where
   pub value_map : (st : State) (ps : List (K × V)) (b : State) → ReadsValue Meant st ps b → MapRead key value st ps b
   value_map st ps b h =
       items_cases (key.ignores_standing && value.ignores_standing) Turn map (standing st.top.shared h.bytes) (in_turn ps)
-      (λ t. Stands st h.bytes t → b ≡ after_value (length h.bytes) (nodes t) st → MapRead key value st ps b)
+      (λ t. Stands st h.bytes t → b ≡ after_value (length h.bytes) (weight_at st t) st → MapRead key value st ps b)
       (λ ts ss p m stands moved. next_pairs st ps b h.bytes ts ss p m h.meant.1 stands moved) h.term h.meant.0 h.stands h.moved

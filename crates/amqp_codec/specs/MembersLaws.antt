@@ -5,8 +5,7 @@ use Rattle.amqp_model.specs.Term.{Term, described}
 use Rattle.amqp_model.specs.Standing.{Standing}
 use Rattle.amqp_wire.specs.declared.error.Error.{Error}
 use Rattle.amqp_decoder.specs.declared.frame.Place.TheVariants.{InDescribed}
-use Rattle.amqp_model.specs.Measures.{nodes}
-use Rattle.amqp_decoder.specs.State.{State, after_value}
+use Rattle.amqp_decoder.specs.State.{State, after_value, weight_at}
 use Rattle.amqp_decoder.specs.Reading.{RefusesRead}
 use Rattle.amqp_decoder.specs.Primitives.{standing, Stands, ReadsValue}
 use Rattle.amqp_decoder.specs.Containers.{ClosesDescribed, EndFault}
@@ -34,7 +33,7 @@ module _ {V : Type 0} (m : Members V) (means : Standing → Term → V → Type 
   pub to_value : (st : State) (v : V) (b : State) → st.nesting ≤ 128 → MemberRead m st v b → ReadsValue means st v b
   to_value st v b bound h =
       let t = sum.to_term h.place h.inner v h.last h.read in
-      let closes : ClosesDescribed InDescribed (after_value (length t.taken.bytes) (nodes t.term) h.inner) b =
+      let closes : ClosesDescribed InDescribed (after_value (length t.taken.bytes) (weight_at h.inner t.term) h.inner) b =
       subst (λ (x : State). ClosesDescribed InDescribed x b) t.taken.moved h.closes in
       let r = described_term st h.descriptor t.term b (omega (arith, bound))
       (record { inner = h.inner; opens = h.opens; bytes = t.taken.bytes; stands = t.taken.stands; closes = closes }) in
@@ -53,7 +52,7 @@ module _ {V : Type 0} (m : Members V) (means : Standing → Term → V → Type 
       (record {
         bytes = h.bytes;
         stands = subst (λ x. Stands st h.bytes x) t.is h.stands;
-        moved = h.moved ∙ ap (λ x. after_value (length h.bytes) (nodes x) st) t.is;
+        moved = h.moved ∙ ap (λ x. after_value (length h.bytes) (weight_at st x) st) t.is;
       }) in
       record {
         descriptor = t.descriptor;
@@ -61,8 +60,8 @@ module _ {V : Type 0} (m : Members V) (means : Standing → Term → V → Type 
         is = t.named;
         inner = k.inner;
         opens = k.opens;
-        last = after_value (length k.bytes) (nodes t.described_) k.inner;
-        read = t.read k.inner (after_value (length k.bytes) (nodes t.described_) k.inner)
+        last = after_value (length k.bytes) (weight_at k.inner t.described_) k.inner;
+        read = t.read k.inner (after_value (length k.bytes) (weight_at k.inner t.described_) k.inner)
             (record { bytes = k.bytes; stands = k.stands; moved = refl });
         closes = k.closes;
       }

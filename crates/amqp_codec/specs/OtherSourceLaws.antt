@@ -3,8 +3,7 @@
 use Rattle.std.proofs.Common.{ℕ, zero, suc, List, [], ◌∷◌, length, ap, subst}
 use Rattle.amqp_model.specs.Term.{Term}
 use Rattle.amqp_wire.specs.declared.error.Error.{Error}
-use Rattle.amqp_model.specs.Measures.{nodes}
-use Rattle.amqp_decoder.specs.State.{State, after_value}
+use Rattle.amqp_decoder.specs.State.{State, after_value, weight_at}
 use Rattle.amqp_decoder.specs.Items.{Row}
 use Rattle.amqp_decoder.specs.OtherSource.{Setting, under, taken_past, KeepsError, begin_fault, peeked, value, stands, opens, open_fault, end_fault}
 use Rattle.amqp_decoder.specs.OtherSource.{closes, close_fault, opens_described, one_of_fault}
@@ -25,8 +24,8 @@ module _ (c : Setting) where
     others,
     e,
     stands c h,
-    subst (λ x. Row x ts others (at b)) (taken_past c (length first) (nodes t) st)
-        (row ts (after_value (length first) (nodes t) st) others b k),
+    subst (λ x. Row x ts others (at b)) (taken_past c (length first) (weight_at st t) st)
+        (row ts (after_value (length first) (weight_at st t) st) others b k),
   )
 
   pub fields_read : {V : Type 0} (fs : Fields V) (st : State) (v : V) (b : State) → FieldsRead fs st v b → FieldsRead fs (at st) v (at b)

@@ -9,7 +9,7 @@ use Rattle.amqp_model.specs.Items.{is_null}
 use Rattle.amqp_model.specs.ItemLaws.{clash}
 use Rattle.amqp_model.proofs.Lengths.{spelling_length}
 use Rattle.amqp_wire.specs.declared.error.Error.{Error}
-use Rattle.amqp_decoder.specs.State.{State, after_value, counted}
+use Rattle.amqp_decoder.specs.State.{State, after_value, counted_in}
 use Rattle.amqp_decoder.specs.Steps.{IsExcused}
 use Rattle.amqp_decoder.specs.Reading.{ReadsCode, IsFirst, PeeksCode, after_peek}
 use Rattle.amqp_decoder.specs.Primitives.{standing, SpellsAs, Stands, ReadsValue, Means, PrimitiveFault}
@@ -39,7 +39,7 @@ stands_begun st s t h =
     let own = f.1 in
     let whole : st.rest ≡ own ++ (f.2 ++ h.after) = h.rest ∙ ap (λ x. x ++ h.after) f.4 ∙ append_assoc own f.2 h.after in (
       f.0,
-      after_value (length own) (counted f.0) st,
+      after_value (length own) (counted_in st.top.shared f.0) st,
       record {
         going = h.going;
         item = h.item;
@@ -47,7 +47,7 @@ stands_begun st s t h =
         first = f.3;
         room = has_less st.top.left (length own) (length s) (omega (arith, ap length f.4, length-append own f.2)) h.room;
         rest = whole ∙ ap (λ x. own ++ x) (sym (drop_at own (f.2 ++ h.after) (length own) refl) ∙ ap (drop (length own)) (sym whole));
-        few = may_begin st.quota t f.0 h.few;
+        few = may_begin st.quota st.top.shared t s f.0 h.spelled h.few;
         moved = refl;
       },
     )

@@ -2,7 +2,7 @@
 use Rattle.std.proofs.Common.{◌≡◌, ℕ, ◌+◌, ◌≤◌, Bool, true, false, List, [], ◌++◌, length, drop, Option, None, ◌-◌, arith}
 use Rattle.amqp_model.specs.Term.{Term}
 use Rattle.amqp_model.specs.Spelling.{IsSpelling}
-use Rattle.amqp_model.specs.Measures.{nest, nodes}
+use Rattle.amqp_model.specs.Measures.{nest, weight}
 use Rattle.amqp_wire.specs.declared.error.Error.{Error}
 use Rattle.amqp_wire.specs.declared.limits.Limits.{Limits}
 use Rattle.amqp_wire.specs.Limits.{unlimited, limit_of}
@@ -68,12 +68,12 @@ IsGreatest limits = (limits.nesting ≡ 128) × (limits.bytes ≡ unlimited) × 
 abbrev pub start : List ℕ → State
 start input = start_within greatest input
 
--- No front of the input is a term; if the error is a limit's or `Depth`, none that has no more bytes, nests no deeper and has no more
--- values than the limits say.
+-- No front of the input is a term; if the error is a limit's or `Depth`, none that has no more bytes, nests no deeper and weighs no
+-- more than the limits say.
 abbrev pub IsUnspelledWithin : Limits → Error → List ℕ → Type 0
 IsUnspelledWithin limits e input =
     (b more : List ℕ) (t : Term) → input ≡ b ++ more → IsSpelling b t
-    → (IsByDepth e → Has (limit_of limits.bytes) (length b) × (nest t ≤ limits.nesting) × Has (limit_of limits.items) (nodes t)) → ⊥
+    → (IsByDepth e → Has (limit_of limits.bytes) (length b) × (nest t ≤ limits.nesting) × Has (limit_of limits.items) (weight t false)) → ⊥
 
 -- No front of the input is a term; if the error is a limit's or `Depth`, none that nests at most 128 deep.
 abbrev pub IsUnspelled : Error → List ℕ → Type 0

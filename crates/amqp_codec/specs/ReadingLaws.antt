@@ -4,7 +4,7 @@ use Rattle.std.proofs.Common.{length-append}
 use Rattle.std.proofs.lemmas.List.{length-drop}
 use Rattle.amqp_model.specs.Term.{Term}
 use Rattle.amqp_model.specs.Standing.{Standing}
-use Rattle.amqp_model.specs.Measures.{nest, nodes}
+use Rattle.amqp_model.specs.Measures.{nest, weight}
 use Rattle.amqp_model.specs.ItemLaws.{clash}
 use Rattle.amqp_model.proofs.Count.{nodes_bounded}
 use Rattle.amqp_wire.specs.declared.error.Error.{Error}
@@ -156,7 +156,7 @@ term_unspelled u limits input e i f b more t is s bound = by (is_by_depth e) ref
           rest = is;
           spelled = s;
           nested = omega arith;
-          few = free_has (limit_of limits.items) (nodes t);
+          few = free_has (limit_of limits.items) (weight t false);
         })
 
 -- one value at most, and its length

@@ -1,15 +1,16 @@
 -- Refusals of a call that is made of other calls.
-use Rattle.std.proofs.Common.{◌≡◌, inl, inr, ℕ, Bool, true, false, None, ◌⊎◌, ap, ◌∙◌}
+use Rattle.std.proofs.Common.{◌≡◌, ◌≤◌, ◌<◌, arith, zero, suc, inl, inr, ℕ, Bool, true, false, Option, Some, None, ◌⊎◌, refl, sym, ap, ◌∙◌}
 use Rattle.amqp_model.specs.Term.{Container, Descriptor, Term}
 use Rattle.amqp_model.specs.Standing.{Standing}
 use Rattle.amqp_wire.specs.declared.error.Error.{Error}
+use Rattle.amqp_wire.specs.declared.error.Error.TheVariants.{Memory}
 use Rattle.amqp_decoder.specs.State.{State}
-use Rattle.amqp_decoder.specs.Steps.{IsExcused}
+use Rattle.amqp_decoder.specs.Steps.{IsExcused, RefusesBy}
 use Rattle.amqp_decoder.specs.Reading.{RefusesRead}
 use Rattle.amqp_decoder.specs.Primitives.{ReadsValue}
 use Rattle.amqp_decoder.specs.Containers.{Opens}
 use Rattle.amqp_decoder.specs.Described.{OpensDescribed}
-use Rattle.amqp_decoder.proofs.Steps.{answered_later}
+use Rattle.amqp_decoder.proofs.Steps.{answered_later, first_kept}
 
 -- a call that takes memory at most where another does
 pub excused_as : {a b : Bool} (e : Error) (st : State) → (a ≡ true → b ≡ true) → IsExcused a e st → IsExcused b e st
@@ -46,6 +47,31 @@ described_sound o = ap (λ (x : State). x.failed) o.opened ∙ ap (λ (x : State
 -- nothing that could be read stands there, unless the refusal is excused
 abbrev pub NoneStands : {A : Type 0} → (State → A → State → Type 0) → State → Type 0
 NoneStands {A} reads st = (v : A) (b : State) → reads st v b → ⊥
+
+-- memory is wanted for some of the items that are announced
+pub some_reserved : (count n : ℕ) → n ≤ count → (n ≡ 0 → false ≡ true) → 0 < count
+some_reserved zero n few wanted = absurd (let no : false ≡ true = wanted (omega (arith, few)) in cc)
+some_reserved (suc count) n few wanted = omega arith
+
+-- memory was wanted before anything was read
+pub unreserved : {A : Type 0} (reads : State → A → State → Type 0) (fault : State → Error → Type 0) (st : State) (e : Error) (new : State)
+    → ((v : A) (b : State) → reads st v b → st.error ≡ None) → RefusesBy Memory st e new
+    → ((d : Error) → st.error ≡ Some d → (e ≡ d) × (new ≡ st)) → RefusesRead true reads fault st e new
+unreserved {A} reads fault st e new going refused again = by st.error refl
+  where
+    by : (o : Option Error) → st.error ≡ o → RefusesRead true reads fault st e new
+    by None none = record {
+      kept = first_kept none refused;
+      again = λ d x. absurd (cc);
+      named = λ _. inl (inl (refl, (refused none).0));
+      none = inl (inl (refl, (refused none).0));
+    }
+    by (Some d) stood = let k = again d stood in record {
+      kept = record { error = ap (λ (x : State). x.error) k.1 ∙ stood ∙ ap Some (sym k.0); source = inl (ap (λ (x : State). x.failed) k.1) };
+      again = λ f x. (let same = again f x in (sym same.0, same.1));
+      named = λ none. absurd (cc);
+      none = inr (λ v b r. let none = going v b r in absurd (cc));
+    }
 
 pub or_else : {E H F G : Type 0} → (E → H) → (F → G) → E ⊎ F → H ⊎ G
 or_else g f (inl x) = inl (g x)

@@ -1,9 +1,9 @@
 -- What is read from an input is what its front spells.
-use Rattle.std.proofs.Common.{◌≡◌, ℕ, ◌+◌, ◌-◌, ◌≤◌, ◌↔◌, List, [], ◌++◌, length, take, refl, sym, ap, ◌∙◌, subst, arith, length-append}
+use Rattle.std.proofs.Common.{◌≡◌, ℕ, ◌+◌, ◌-◌, ◌≤◌, ◌↔◌, false, List, [], ◌++◌, length, take, refl, sym, ap, ◌∙◌, subst, arith, length-append}
 use Rattle.std.proofs.lemmas.List.{length-drop, take_at}
 use Rattle.amqp_model.specs.Term.{Term}
 use Rattle.amqp_model.specs.Spelling.{IsSpelling}
-use Rattle.amqp_model.specs.Measures.{nest, nodes}
+use Rattle.amqp_model.specs.Measures.{nest, weight}
 use Rattle.amqp_model.proofs.Unique.{one_term}
 use Rattle.amqp_wire.specs.declared.limits.Limits.{Limits}
 use Rattle.amqp_wire.specs.Limits.{limit_of}
@@ -37,7 +37,7 @@ module _ {T : Type 0} (u : TermType T) where
 
   pub spelled_read : (b more : List ℕ) (v : T) → IsSpelled u b v → BeginsWith (reading_of u) (b ++ more) v (length b)
   spelled_read b more v h = record {
-    after = after_value (length b) (nodes h.term) (start (b ++ more));
+    after = after_value (length b) (weight h.term false) (start (b ++ more));
     read = record {
       bytes = b;
       term = h.term;
@@ -63,7 +63,7 @@ module _ {T : Type 0} (u : TermType T) where
       let k = h.read in
       let s = k.stands in
       record {
-        after = after_value (length k.bytes) (nodes k.term) (start input);
+        after = after_value (length k.bytes) (weight k.term false) (start input);
         read = record {
           bytes = k.bytes;
           term = k.term;
@@ -84,14 +84,14 @@ module _ {T : Type 0} (u : TermType T) where
       }
 
   within_limits : (limits : Limits) (input : List ℕ) (v : T) (n : ℕ) → BeginsWith (reading_of u) input v n → Has (limit_of limits.bytes) n
-      → ((t : Term) → IsSpelling (take n input) t → (nest t ≤ limits.nesting) × Has (limit_of limits.items) (nodes t))
+      → ((t : Term) → IsSpelling (take n input) t → (nest t ≤ limits.nesting) × Has (limit_of limits.items) (weight t false))
       → BeginsWithin limits (reading_of u) input v n
   within_limits limits input v n h room deep =
       let k = h.read in
       let s = k.stands in
       let f = read_front greatest input v n h in
       record {
-        after = after_value (length k.bytes) (nodes k.term) (start_within limits input);
+        after = after_value (length k.bytes) (weight k.term false) (start_within limits input);
         read = record {
           bytes = k.bytes;
           term = k.term;
@@ -112,18 +112,18 @@ module _ {T : Type 0} (u : TermType T) where
       }
 
   no_deeper : (limits : Limits) (input : List ℕ) (v : T) (n : ℕ) → BeginsWithin limits (reading_of u) input v n → (t : Term)
-      → IsSpelling (take n input) t → (nest t ≤ limits.nesting) × Has (limit_of limits.items) (nodes t)
+      → IsSpelling (take n input) t → (nest t ≤ limits.nesting) × Has (limit_of limits.items) (weight t false)
   no_deeper limits input v n h t s =
       let k = h.read in
       let f = read_front limits input v n h in
       let deep = k.stands.nested in
       let same : t ≡ k.term = one_term (take n input) k.bytes [] [] t k.term s k.stands.spelled (ap (λ b. b ++ []) (sym f.1)) in
-      (omega (arith, ap nest same, deep), subst (λ x. Has (limit_of limits.items) (nodes x)) (sym same) k.stands.few)
+      (omega (arith, ap nest same, deep), subst (λ x. Has (limit_of limits.items) (weight x false)) (sym same) k.stands.few)
 
   -- within limits is read what is read without, as far as its bytes, how deep it nests and how many values it has are within them
   pub read_within : (limits : Limits) (input : List ℕ) (v : T) (n : ℕ) → BeginsWithin limits (reading_of u) input v n
       ↔ (BeginsWith (reading_of u) input v n × Has (limit_of limits.bytes) n
-      × ((t : Term) → IsSpelling (take n input) t → (nest t ≤ limits.nesting) × Has (limit_of limits.items) (nodes t)))
+      × ((t : Term) → IsSpelling (take n input) t → (nest t ≤ limits.nesting) × Has (limit_of limits.items) (weight t false)))
   read_within limits input v n = (
     λ h. (
       without_limits limits input v n h,

@@ -37,8 +37,8 @@ pub fn each_in_type<T: Serialize>(values: &[T])
     }
 }
 
-/// Reads so many values one after another. The count reserves nothing: memory is allocated as values come, and if that fails, the error is
-/// `Memory`. Any other error is that of the first value that can't be read.
+/// Reads so many values one after another. Memory is reserved for as many as `Decoder::reservable_items` says, and then allocated as values
+/// come; if that fails, the error is `Memory`. Any other error is that of the first value that can't be read.
 pub fn read_each<T: DeserializeTerm, R: ByteSource>(
     count: u32,
     decoder: &mut Decoder<R>,
@@ -48,7 +48,9 @@ pub fn read_each<T: DeserializeTerm, R: ByteSource>(
         (RowFault count T.term.means T.term.faults.fault) decoder.old result decoder.new }
     ensures tries { Passes true decoder.old result decoder.new }
 {
-    let mut values = Vec::new(alloc);
+    let Ok(mut values) = Vec::with_capacity(alloc, decoder.reservable_items(count)) else {
+        return Err(decoder.refuse(Error::Memory));
+    };
     for _ in 0..count {
         let value = T::read_value(decoder, alloc)?;
         if values.push(value).is_err() {

@@ -1,5 +1,5 @@
 -- An array that is opened, whose items are taken, and that is closed, is a whole term; and the other way round.
-use Rattle.std.proofs.Common.{◌≡◌, ◌≤◌, ◌<◌, ℕ, suc, ◌+◌, ◌-◌, ◌⊎◌, inl, inr, max, false, Option, Some, None, List, [], ◌∷◌, ◌++◌, length}
+use Rattle.std.proofs.Common.{◌≡◌, ◌≤◌, ◌<◌, ℕ, suc, ◌+◌, ◌-◌, ◌⊎◌, inl, inr, max, true, false, Option, Some, None, List, [], ◌∷◌, ◌++◌, length}
 use Rattle.std.proofs.Common.{drop, get_or, refl, sym, ap, ap₂, ◌∙◌, subst, arith, append_assoc, drop-drop, length-append}
 use Rattle.std.proofs.lemmas.List.{drop_at}
 use Rattle.std.specs.Int.{bytes_high_first}
@@ -8,14 +8,14 @@ use Rattle.amqp_model.specs.Term.{count, Descriptor}
 use Rattle.amqp_model.specs.Items.{items_of}
 use Rattle.amqp_model.specs.Constructors.{Format, fixed, variable, compound, unknown, format}
 use Rattle.amqp_model.specs.Spelling.{Constructor, PrimitiveData, ContainerData, IsDataOf, AreElementsOf, AreSharedDataOf}
-use Rattle.amqp_model.specs.Measures.{nest, nests, array_nest, all_nodes}
+use Rattle.amqp_model.specs.Measures.{nest, nests, array_nest, weights}
 use Rattle.amqp_model.specs.Standing.{Standing, StandInArray}
 use Rattle.amqp_decoder.specs.declared.frame.Place.TheVariants.{InArray}
-use Rattle.amqp_decoder.specs.State.{Open, State, Has, lower, after_data, after_value, counted, in_container}
+use Rattle.amqp_decoder.specs.State.{Open, State, Has, lower, after_data, after_value, counted_in, is_shared, weight_at, in_container}
 use Rattle.amqp_decoder.specs.Steps.{Takes}
 use Rattle.amqp_decoder.specs.Containers.{ReadsHeader}
 use Rattle.amqp_decoder.specs.Arrays.{TakesConstructor, IsFlat, Shares, no_items, shared_by, Starts, EntersArray, OpensArray}
-use Rattle.amqp_decoder.specs.Items.{Next, row_standings, NextWithParts, ContainsArray}
+use Rattle.amqp_decoder.specs.Items.{Row, Next, row_standings, NextWithParts, ContainsArray}
 use Rattle.amqp_lookahead.proofs.Looks.{front_is}
 use Rattle.amqp_decoder.proofs.ReadPrimitives.{minus-minus, begun_same, has_add, has_rest}
 use Rattle.amqp_decoder.proofs.Counts.{code_counts, may_begin}
@@ -109,6 +109,7 @@ record Started (us : Terms) (n content : ℕ) (at mid : State) : Type 0 where
   pub stands : (ss : List Standing) (b : List ℕ) → StandUnder shared us ss b → StandInArray us ss (own ++ b)
   pub nested : (b : List ℕ) → AllSpelled shared us b → nests us ≤ at.nesting - suc (length at.saved)
       → array_nest us ≤ at.nesting - length at.saved
+  pub weighs : weights us (is_shared shared) ≡ weights us true
 
 on_none : (st : State) (l : ℕ) → st.top.left ≡ Some l → st ≡ after_data 0 st
 on_none st l e =
@@ -127,6 +128,7 @@ started none n content at mid len (inl (e, is)) = record {
   elements = λ b h. inl h;
   stands = λ ss b h. h.1;
   nested = λ b h k. omega arith;
+  weighs = refl;
 }
 started none n content at mid len (inr (some, no_items ds c empty t)) = record {
   own = t.own;
@@ -136,6 +138,7 @@ started none n content at mid len (inr (some, no_items ds c empty t)) = record {
   elements = λ b h. inr (ds, c, t.few, (t.own, b, refl, t.spelled, h));
   stands = λ ss b h. h.1;
   nested = λ b h k. omega arith;
+  weighs = refl;
 }
 started none n content at mid len (inr (some, shared_by ds c m full t wide fits is)) = absurd (full len)
 started (more t us) n content at mid len (inl (e, is)) = absurd (omega (arith, e, len))
@@ -151,6 +154,7 @@ started (more t us) n content at mid len (inr (some, shared_by ds c m full k wid
     | inl flat ↦ let z = flat_rows (more t us) ds c b flat (all_data (more t us) ds c b h) in omega (arith, z.1)
     | inr deep ↦ omega (arith, deep, few, array_nest_most (more t us))
   ];
+  weighs = refl;
 }
 
 pub starts_items : (n content : ℕ) (st mid : State) → st.top.items ≡ Some 0 → Starts n content st mid → mid.top.items ≡ Some n
@@ -202,7 +206,7 @@ whole_array_with_parts st us new c =
     subst (λ n. ReadsHeader false o.width o.mid n d.content d.mid) n_is d.header in
     let head = bytes_high_first o.width h.size ++ bytes_high_first o.width (count us) in
     let code_is = known (format o.code) array o.width o.announced in
-    let one : counted o.code ≡ 1 = code_counts o.code code_is in
+    let one : counted_in st.top.shared o.code ≡ 1 = code_counts st.top.shared o.code own g.first code_is in
     let g_moved : o.mid ≡ after_value (length own) 1 st = g.moved ∙ ap (λ k. after_value (length own) k st) one in
     let at : State = after_data (length head) (after_value (length own) 1 st) in
     let at_is : d.mid ≡ at = h.took.moved ∙ ap (after_data (length head)) g_moved in
@@ -241,14 +245,16 @@ whole_array_with_parts st us new c =
     let levels : length c.mid.saved ≡ suc (length d.mid.saved) = ap (λ (z : State). length z.saved) s.is in
     let limit : c.mid.nesting ≡ d.mid.nesting = ap (λ (z : State). z.nesting) s.is in
     let deep : array_nest us ≤ d.mid.nesting - length d.mid.saved = s.nested b rows (let m = t.nested in omega (arith, m, levels, limit)) in
-    let all_ = all_nodes us in
+    let all_ = weights us true in
+    let moved : c.last ≡ many (count us) (length b) all_ c.mid =
+    t.moved ∙ ap (λ n. many (count us) (length b) n c.mid) (ap (λ o. weights us (is_shared o)) shared ∙ s.weighs) in
     let left : new ≡ record (many (count us) (length b) all_ (within (length x) s.shared c.count d.content d.mid)) {
       top = c.closed.outer;
       saved = c.closed.others;
     } = c.closed.moved ∙ ap (λ (z : State). record z { top = c.closed.outer; saved = c.closed.others })
-    (t.moved ∙ ap (many (count us) (length b) all_) s.is) in
+    (moved ∙ ap (many (count us) (length b) all_) s.is) in
     let saved : (record d.mid.top { left = lower d.mid.top.left d.content }) ∷ d.mid.saved ≡ c.closed.outer ∷ c.closed.others =
-    sym (ap (λ (z : State). z.saved) (t.moved ∙ ap (many (count us) (length b) all_) s.is)) ∙ c.closed.saved in
+    sym (ap (λ (z : State). z.saved) (moved ∙ ap (many (count us) (length b) all_) s.is)) ∙ c.closed.saved in
     let out : new ≡ counting all_ (after_data (length x + length b) d.mid) = left
     ∙ ap₂ (λ (f : Open) (l : List Open). record (many (count us) (length b) all_ (within (length x) s.shared c.count d.content d.mid)) {
       top = f;
@@ -261,7 +267,8 @@ whole_array_with_parts st us new c =
     ∙ array_left (length x) (length b) (count us) all_ d.content s.shared d.mid k_is in
     let begun : Has st.quota 1 = subst (Has st.quota) one g.few in
     let here : c.mid.quota ≡ lower st.quota 1 = ap (λ (z : State). z.quota) s.is ∙ ap (λ (z : State). z.quota) at_is in
-    let inside : Has (lower st.quota 1) all_ = subst (λ q. Has q all_) here t.few in
+    let few_ : Has c.mid.quota all_ = subst (Has c.mid.quota) (ap (λ o. weights us (is_shared o)) shared ∙ s.weighs) t.few in
+    let inside : Has (lower st.quota 1) all_ = subst (λ q. Has q all_) here few_ in
     let sum : 1 + all_ ≡ suc all_ = omega arith in
     record {
       next = record {
@@ -297,6 +304,7 @@ record Beginning (us : Terms) (content : List ℕ) (at : State) : Type 0 where
   pub starts : Starts (count us) (length content) (in_container InArray 0 (length content) at)
       (within (length own) shared (count us) (length content) at)
   pub nested : nests us ≤ at.nesting - suc (length at.saved)
+  pub weighs : weights us (is_shared shared) ≡ weights us true
 
 -- the constructor of the items is there
 constructed : (content own items after : List ℕ) (ds : List Descriptor) (c : ℕ) (at : State) → content ≡ own ++ items
@@ -328,6 +336,7 @@ beginning none content after at (inl e) rest deep = record {
   spelled = refl;
   starts = inl (omega (arith, ap length e), sym (on_none (in_container InArray 0 (length content) at) (length content) refl));
   nested = omega arith;
+  weighs = refl;
 }
 beginning none content after at (inr (ds, c, few, (own, items, e, k, h))) rest deep = record {
   own = own;
@@ -337,6 +346,7 @@ beginning none content after at (inr (ds, c, few, (own, items, e, k, h))) rest d
   spelled = h;
   starts = inr (some_content 0 content own items ds c e k, no_items ds c refl (constructed content own items after ds c at e rest few k));
   nested = omega arith;
+  weighs = refl;
 }
 beginning (more t us) content after at (ds, c, few, (own, items, e, k, (wide, (s, r, f, h, hs)))) rest deep =
     let room : IsFlat ds (format c) ⊎ (suc (length at.saved) ≤ at.nesting) =
@@ -357,6 +367,7 @@ beginning (more t us) content after at (ds, c, few, (own, items, e, k, (wide, (s
         shared_by ds c _ (λ z. absurd (omega (arith, z))) (constructed content own items after ds c at e rest few k) wide room refl,
       );
       nested = few_;
+      weighs = refl;
     }
 
 -- an array that stands there is opened, its items are taken and it is closed
@@ -382,10 +393,11 @@ array_parts st us new few next =
     let one = took_parts st _ own (head ++ content) all in
     let two = took_parts _ _ head content one.1 in
     let code_is = known (format f.code) array y.width y.announced in
-    let one_ : counted f.code ≡ 1 = code_counts f.code code_is in
-    let sum : 1 + all_nodes us ≡ suc (all_nodes us) = omega arith in
-    let few_ : Has st.quota (1 + all_nodes us) = subst (Has st.quota) (sym sum) k.few in
-    let at : State = after_data (length head) (after_value (length own) (counted f.code) st) in
+    let one_ : counted_in st.top.shared f.code ≡ 1 = code_counts st.top.shared f.code own f.first code_is in
+    let all_ = weights us true in
+    let sum : 1 + all_ ≡ suc all_ = omega arith in
+    let few_ : Has st.quota (1 + all_) = subst (Has st.quota) (sym sum) k.few in
+    let at : State = after_data (length head) (after_value (length own) (counted_in st.top.shared f.code) st) in
     let start = beginning us content (drop (length content) at.rest) at y.inner two.1.rest k.nested in
     let x = start.own in
     let b = start.items in
@@ -402,7 +414,7 @@ array_parts st us new few next =
       opened = record {
         code = f.code;
         width = y.width;
-        mid = after_value (length own) (counted f.code) st;
+        mid = after_value (length own) (counted_in st.top.shared f.code) st;
         begun = record {
           going = k.going;
           item = k.item;
@@ -410,7 +422,7 @@ array_parts st us new few next =
           first = f.first;
           room = one.0.room;
           rest = one.0.rest;
-          few = may_begin st.quota (container array us) f.code k.few;
+          few = may_begin st.quota st.top.shared (container array us) next.bytes f.code k.spelled k.few;
           moved = refl;
         };
         announced = y.announced;
@@ -430,10 +442,11 @@ array_parts st us new few next =
         };
       };
       bytes = b;
-      last = many n (length b) (all_nodes us) mid;
-      items = row_of start.shared us mid b (drop (length content) at.rest) k.going refl (omega arith) (omega (arith, long)) behind
-          start.spelled start.nested (subst (λ j. Has (lower st.quota j) (all_nodes us)) (sym one_)
-          (has_rest st.quota 1 (all_nodes us) few_));
+      last = many n (length b) all_ mid;
+      items = subst (λ k. Row mid (items_of us) b (many n (length b) k mid)) start.weighs
+          (row_of start.shared us mid b (drop (length content) at.rest) k.going refl (omega arith) (omega (arith, long)) behind
+          start.spelled start.nested (subst (Has (lower st.quota (counted_in st.top.shared f.code))) (sym start.weighs)
+          (subst (λ j. Has (lower st.quota j) all_) (sym one_) (has_rest st.quota 1 all_ few_))));
       closed = record {
         going = k.going;
         here = refl;
@@ -442,13 +455,13 @@ array_parts st us new few next =
         outer = record at.top { left = lower at.top.left (length content) };
         others = at.saved;
         saved = refl;
-        moved = next.moved ∙ ap (λ l. after_value (length l) (suc (all_nodes us)) st) (s_is ∙ ap (λ l. own ++ (head ++ l)) start.split)
-            ∙ ap (λ m. after_value m (suc (all_nodes us)) st) (four own head x b)
+        moved = next.moved ∙ ap (λ l. after_value (length l) (suc all_) st) (s_is ∙ ap (λ l. own ++ (head ++ l)) start.split)
+            ∙ ap (λ m. after_value m (suc all_) st) (four own head x b)
             ∙ ap (λ j. after_value (length own + length head + (length x + length b)) j st)
-            (sym sum ∙ ap (λ j. j + all_nodes us) (sym one_))
-            ∙ sym (closed_at st (after_value (length own) (counted f.code) st) at (length own) (length head) (length x + length b)
-            (counted f.code) (all_nodes us) refl refl)
-            ∙ sym (array_left (length x) (length b) n (all_nodes us) (length content) start.shared at long);
+            (sym sum ∙ ap (λ j. j + all_) (sym one_))
+            ∙ sym (closed_at st (after_value (length own) (counted_in st.top.shared f.code) st) at (length own) (length head) (length x + length b)
+            (counted_in st.top.shared f.code) all_ refl refl)
+            ∙ sym (array_left (length x) (length b) n all_ (length content) start.shared at long);
       };
     }
 

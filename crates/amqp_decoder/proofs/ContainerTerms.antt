@@ -1,16 +1,17 @@
 -- A list or a map that is opened, whose items are taken, and that is closed, is a whole term; and the other way round.
 use Rattle.std.proofs.Common.{◌≡◌, ◌≤◌, ◌<◌, ℕ, suc, ◌+◌, ◌-◌, ◌^◌, inl, inr, Option, Some, None, List, [], ◌∷◌, ◌++◌, length, drop, get_or}
-use Rattle.std.proofs.Common.{unwrap_or, refl, sym, ap, ◌∙◌, subst, arith, append_assoc, append-nil, drop-drop, length-append}
+use Rattle.std.proofs.Common.{Bool, true, false, unwrap_or, refl, sym, ap, ◌∙◌, subst, arith, append_assoc, append-nil, drop-drop, length-append}
 use Rattle.std.proofs.lemmas.List.{drop_at}
 use Rattle.std.specs.Int.{bytes_high_first}
 use Rattle.amqp_model.specs.Term.{Container, list, map, array, Term, Terms, container, none, more, count, Descriptor}
 use Rattle.amqp_model.specs.Items.{items_of}
 use Rattle.amqp_model.specs.Constructors.{Format, fixed, variable, compound, unknown, format}
 use Rattle.amqp_model.specs.Spelling.{IsSize, ContainerData, IsKnown, Constructor, IsDataOf, IsSpelling, AreItemsOf as items_spelled}
-use Rattle.amqp_model.specs.Measures.{nest, nests, nodes, all_nodes}
+use Rattle.amqp_model.specs.Measures.{nest, nests, is_sharing, weight, weights}
 use Rattle.amqp_model.specs.Standing.{Standing, StandWhole, StandAsData, StandIn, Parts}
 use Rattle.amqp_decoder.specs.declared.frame.Place.{Place}
-use Rattle.amqp_decoder.specs.State.{Open, State, Has, lower, after_data, after_value, counted, in_container, items_of as items_at}
+use Rattle.amqp_decoder.specs.State.{Open, State, Has, lower, after_data, after_value, counted_in, is_shared, weight_at, in_container}
+use Rattle.amqp_decoder.specs.State.{items_of as items_at}
 use Rattle.amqp_decoder.specs.Steps.{Takes}
 use Rattle.amqp_decoder.specs.Reading.{IsFirst}
 use Rattle.amqp_decoder.specs.Primitives.{standing, SpellsAs}
@@ -22,7 +23,7 @@ use Rattle.amqp_decoder.proofs.ReadPrimitives.{has_add, has_front, has_rest, low
 use Rattle.amqp_decoder.proofs.Counts.{code_counts, may_begin}
 use Rattle.amqp_decoder.proofs.Opening.{after_data-after_data, took_both}
 
--- k values of n bytes are taken, in which so many count
+-- k values of n bytes are taken, which weigh so much together
 abbrev pub many : ℕ → ℕ → ℕ → State → State
 many k n all st =
     record st {
@@ -53,14 +54,18 @@ many_none st =
     (sym (lower_none st.top.left))
     ∙ ap (λ x. record (many 0 0 0 st) { quota = x }) (sym (lower_none st.quota))
 
+-- What terms weigh that stand next.
+abbrev pub weights_at : State → Terms → ℕ
+weights_at st us = weights us (is_shared st.top.shared)
+
 -- what some terms in a row are together
 pub record Together (st : State) (us : Terms) (b : List ℕ) (st' : State) : Type 0 where
-  pub moved : st' ≡ many (count us) (length b) (all_nodes us) st
+  pub moved : st' ≡ many (count us) (length b) (weights_at st us) st
   pub rest : st.rest ≡ b ++ drop (length b) st.rest
   pub room : Has st.top.left (length b)
   pub items : Has st.top.items (count us)
   pub nested : nests us ≤ st.nesting - length st.saved
-  pub few : Has st.quota (all_nodes us)
+  pub few : Has st.quota (weights_at st us)
 
 has_one_more : (o : Option ℕ) (k : ℕ) → Has o 1 → Has (lower o 1) k → Has o (suc k)
 has_one_more None k h i = tt
@@ -78,19 +83,19 @@ together none st b st' (e, f) =
       few = has_none st.quota;
     }
 together (more t us) st b st' (s, r, e, k, row) =
-    let i = together us (after_value (length s) (nodes t) st) r st' row in
+    let i = together us (after_value (length s) (weight_at st t) st) r st' row in
     let n : length b ≡ length s + length r = ap length e ∙ length-append s r in
     let behind : drop (length s) st.rest ≡ k.after = ap (drop (length s)) k.rest ∙ drop_at s k.after (length s) refl in
     let here : st.rest ≡ s ++ drop (length s) st.rest = k.rest ∙ ap (λ x. s ++ x) (sym behind) in
     record {
-      moved = i.moved ∙ many-after_value (count us) (length s) (length r) (nodes t) (all_nodes us) st
-          ∙ ap (λ x. many (suc (count us)) x (nodes t + all_nodes us) st) (sym n);
+      moved = i.moved ∙ many-after_value (count us) (length s) (length r) (weight_at st t) (weights_at st us) st
+          ∙ ap (λ x. many (suc (count us)) x (weight_at st t + weights_at st us) st) (sym n);
       rest = front_is b st.rest (drop (length r) (drop (length s) st.rest)) (length b) refl (after_code s r st.rest here i.rest
           ∙ ap (λ x. x ++ drop (length r) (drop (length s) st.rest)) (sym e));
       room = subst (Has st.top.left) (sym n) (has_add st.top.left (length s) (length r) k.room i.room);
       items = has_one_more st.top.items (count us) k.item i.items;
       nested = omega (arith, k.nested, i.nested);
-      few = has_add st.quota (nodes t) (all_nodes us) k.few i.few;
+      few = has_add st.quota (weight_at st t) (weights_at st us) k.few i.few;
     }
 
 -- some terms stand one after another, each so
@@ -102,13 +107,13 @@ pub row_spelled : (o : Option (List Descriptor × ℕ)) (us : Terms) (st : State
     → Row st (items_of us) b st' → AllSpelled o us b
 row_spelled o none st b st' shared row = row.0
 row_spelled o (more t us) st b st' shared (s, r, e, k, row) =
-    (s, r, e, subst (λ x. SpellsAs (standing x s) t) shared k.spelled, row_spelled o us (after_value (length s) (nodes t) st) r st' shared row)
+    (s, r, e, subst (λ x. SpellsAs (standing x s) t) shared k.spelled, row_spelled o us (after_value (length s) (weight_at st t) st) r st' shared row)
 
 -- terms that are spelled there can be taken in a row
 pub row_of : (o : Option (List Descriptor × ℕ)) (us : Terms) (st : State) (b x : List ℕ) → st.error ≡ None → st.top.shared ≡ o
     → Has st.top.items (count us) → Has st.top.left (length b) → st.rest ≡ b ++ x → AllSpelled o us b
-    → nests us ≤ st.nesting - length st.saved → Has st.quota (all_nodes us)
-    → Row st (items_of us) b (many (count us) (length b) (all_nodes us) st)
+    → nests us ≤ st.nesting - length st.saved → Has st.quota (weights_at st us)
+    → Row st (items_of us) b (many (count us) (length b) (weights_at st us) st)
 row_of o none st b x going shared items room rest e nested few = (e, sym (many_none st ∙ ap (λ n. many 0 n 0 st) (sym (ap length e))))
 row_of o (more t us) st b x going shared items room rest (s, r, e, h, hs) nested few =
     let n : length b ≡ length s + length r = ap length e ∙ length-append s r in
@@ -117,8 +122,8 @@ row_of o (more t us) st b x going shared items room rest (s, r, e, h, hs) nested
     let behind : drop (length s) st.rest ≡ r ++ x = ap (drop (length s)) here ∙ drop_at s (r ++ x) (length s) refl in
     let one : 1 + count us ≡ suc (count us) = omega arith in
     let items_ : Has st.top.items (1 + count us) = subst (Has st.top.items) (sym one) items in
-    let i = row_of o us (after_value (length s) (nodes t) st) r x going shared (has_rest st.top.items 1 (count us) items_)
-    (has_rest st.top.left (length s) (length r) room_) behind hs (omega (arith, nested)) (has_rest st.quota (nodes t) (all_nodes us) few) in (
+    let i = row_of o us (after_value (length s) (weight_at st t) st) r x going shared (has_rest st.top.items 1 (count us) items_)
+    (has_rest st.top.left (length s) (length r) room_) behind hs (omega (arith, nested)) (has_rest st.quota (weight_at st t) (weights_at st us) few) in (
       s,
       r,
       e,
@@ -130,11 +135,11 @@ row_of o (more t us) st b x going shared items room rest (s, r, e, h, hs) nested
         rest = here;
         spelled = subst (λ y. SpellsAs (standing y s) t) (sym shared) h;
         nested = omega (arith, nested);
-        few = has_front st.quota (nodes t) (all_nodes us) few;
+        few = has_front st.quota (weight_at st t) (weights_at st us) few;
       },
-      subst (Row (after_value (length s) (nodes t) st) (items_of us) r)
-          (many-after_value (count us) (length s) (length r) (nodes t) (all_nodes us) st
-          ∙ ap (λ k. many (suc (count us)) k (nodes t + all_nodes us) st) (sym n)) i,
+      subst (Row (after_value (length s) (weight_at st t) st) (items_of us) r)
+          (many-after_value (count us) (length s) (length r) (weight_at st t) (weights_at st us) st
+          ∙ ap (λ k. many (suc (count us)) k (weight_at st t + weights_at st us) st) (sym n)) i,
     )
 
 -- some terms stand one after another, and how each does
@@ -147,23 +152,23 @@ pub row_stands : (o : Option (List Descriptor × ℕ)) (us : Terms) (st : State)
 row_stands None none st b st' e row = (row.0, refl)
 row_stands (Some (ds, c)) none st b st' e row = (row.0, refl)
 row_stands None (more t us) st b st' e (s, r, f, k, row) =
-    let others = row_standings (after_value (length s) (nodes t) st) (items_of us) r st' row in (
+    let others = row_standings (after_value (length s) (weight_at st t) st) (items_of us) r st' row in (
       s,
       r,
       others,
       f,
       subst (λ x. SpellsAs (standing x s) t) e k.spelled,
-      row_stands None us (after_value (length s) (nodes t) st) r st' e row,
+      row_stands None us (after_value (length s) (weight_at st t) st) r st' e row,
       ap (λ x. standing x s ∷ others) e,
     )
 row_stands (Some (ds, c)) (more t us) st b st' e (s, r, f, k, row) =
-    let others = row_standings (after_value (length s) (nodes t) st) (items_of us) r st' row in (
+    let others = row_standings (after_value (length s) (weight_at st t) st) (items_of us) r st' row in (
       s,
       r,
       others,
       f,
       subst (λ x. SpellsAs (standing x s) t) e k.spelled,
-      row_stands (Some (ds, c)) us (after_value (length s) (nodes t) st) r st' e row,
+      row_stands (Some (ds, c)) us (after_value (length s) (weight_at st t) st) r st' e row,
       ap (λ x. standing x s ∷ others) e,
     )
 
@@ -183,6 +188,11 @@ abbrev pub IsRow : Container → Type 0
 IsRow list = Unit {0}
 IsRow map = Unit {0}
 IsRow array = ⊥
+
+row_unshared : (kind : Container) → IsRow kind → is_sharing kind ≡ false
+row_unshared list is = refl
+row_unshared map is = refl
+row_unshared array is = absurd is
 
 container_data : (kind : Container) (us : Terms) (c : ℕ) (b : List ℕ) → IsRow kind → IsCount kind (count us)
     → ContainerData (format c) kind (count us) (items_spelled us) b → IsDataOf (container kind us) [] c b
@@ -339,6 +349,12 @@ left_is p n k b all content last at new outer others is saved moved same =
 pub three : (own h b : List ℕ) → length (own ++ (h ++ b)) ≡ length own + length h + length b
 three own h b = length-append own (h ++ b) ∙ ap (λ n. length own + n) (length-append h b) ∙ (omega arith)
 
+-- a list or a map weighs one, and what its items do
+row_weight : (kind : Container) (us : Terms) → IsRow kind → (s : Bool) → 1 + weights us false ≡ weight (container kind us) s
+row_weight kind us is s =
+    let one : 1 + weights us false ≡ suc (weights us false) = omega arith in
+    one ∙ ap (λ z. suc (weights us z)) (sym (row_unshared kind is))
+
 -- the items of a container stand in it as they were taken
 pub whole_with_parts : (kind : Container) → IsRow kind → (st : State) (us : Terms) (new : State) (c : Contains kind st (items_of us) new)
     → NextWithParts st (container kind us) (row_standings c.mid (items_of us) c.bytes c.last c.items) new
@@ -359,7 +375,7 @@ whole_with_parts kind is st us new c =
     subst (λ n. ReadsHeader (is_list kind) o.width o.mid n d.content d.mid) n_is d.header in
     let head = bytes_high_first o.width h.size ++ bytes_high_first o.width (count us) in
     let code_is = known (format o.code) kind o.width o.announced in
-    let one : counted o.code ≡ 1 = code_counts o.code code_is in
+    let one : counted_in st.top.shared o.code ≡ 1 = code_counts st.top.shared o.code own g.first code_is in
     let g_moved : o.mid ≡ after_value (length own) 1 st = g.moved ∙ ap (λ k. after_value (length own) k st) one in
     let at : State = after_data (length head) (after_value (length own) 1 st) in
     let at_is : d.mid ≡ at = h.took.moved ∙ ap (after_data (length head)) g_moved in
@@ -399,8 +415,9 @@ whole_with_parts kind is st us new c =
     let limit : c.mid.nesting ≡ st.nesting = ap (λ (z : State). z.nesting) mid_is in
     let few : suc (length st.saved) ≤ st.nesting = subst (λ (z : State). suc (length z.saved) ≤ z.nesting) g.moved d.few in
     let begun : Has st.quota 1 = subst (Has st.quota) one g.few in
-    let inside : Has (lower st.quota 1) (all_nodes us) = subst (λ (z : State). Has z.quota (all_nodes us)) mid_is t.few in
-    let sum : 1 + all_nodes us ≡ suc (all_nodes us) = omega arith in
+    let all_ = weights us false in
+    let inside : Has (lower st.quota 1) all_ = subst (λ (z : State). Has z.quota (weights_at z us)) mid_is t.few in
+    let sum : 1 + all_ ≡ weight_at st (container kind us) = row_weight kind us is (is_shared st.top.shared) in
     record {
       next = record {
         bytes = own ++ (head ++ b);
@@ -412,12 +429,12 @@ whole_with_parts kind is st us new c =
           rest = all.rest;
           spelled = first_spelled st.top.shared o.code own (head ++ b) (container kind us) g.first code_is data_is;
           nested = omega (arith, t.nested, levels, limit, few, nest_container kind us is);
-          few = subst (Has st.quota) sum (has_add st.quota 1 (all_nodes us) begun inside);
+          few = subst (Has st.quota) sum (has_add st.quota 1 all_ begun inside);
         };
-        moved = left_is (place_of kind) c.count (count us) (length b) (all_nodes us) d.content c.last at new c.closed.outer c.closed.others
-            (t.moved ∙ ap (many (count us) (length b) (all_nodes us)) mid_is) c.closed.saved c.closed.moved k_is
-            ∙ closed_at st (after_value (length own) 1 st) at (length own) (length head) (length b) 1 (all_nodes us) refl refl
-            ∙ ap (λ k. after_value k (1 + all_nodes us) st) (sym (three own head b))
+        moved = left_is (place_of kind) c.count (count us) (length b) all_ d.content c.last at new c.closed.outer c.closed.others
+            (t.moved ∙ ap (λ (z : State). many (count us) (length b) (weights_at z us) z) mid_is) c.closed.saved c.closed.moved k_is
+            ∙ closed_at st (after_value (length own) 1 st) at (length own) (length head) (length b) 1 all_ refl refl
+            ∙ ap (λ k. after_value k (1 + all_) st) (sym (three own head b))
             ∙ ap (λ k. after_value (length (own ++ (head ++ b))) k st) sum;
       };
       parts = first_parts st.top.shared o.code own (head ++ b) kind us ss g.first code_is parts_are;
@@ -467,10 +484,11 @@ parts kind is st us new next =
     let one = took_parts st _ own (head ++ b) all in
     let two = took_parts _ _ head b one.1 in
     let code_is = known (format f.code) kind x.width x.announced in
-    let one_ : counted f.code ≡ 1 = code_counts f.code code_is in
-    let sum : 1 + all_nodes us ≡ suc (all_nodes us) = omega arith in
-    let few_ : Has st.quota (1 + all_nodes us) = subst (Has st.quota) (sym sum) k.few in
-    let at : State = after_data (length head) (after_value (length own) (counted f.code) st) in
+    let one_ : counted_in st.top.shared f.code ≡ 1 = code_counts st.top.shared f.code own f.first code_is in
+    let all_ = weights us false in
+    let sum : 1 + all_ ≡ weight_at st (container kind us) = row_weight kind us is (is_shared st.top.shared) in
+    let few_ : Has st.quota (1 + all_) = subst (Has st.quota) (sym sum) k.few in
+    let at : State = after_data (length head) (after_value (length own) (counted_in st.top.shared f.code) st) in
     let mid : State = in_container (place_of kind) n (length b) at in
     let deep : suc (nests us) ≤ st.nesting - length st.saved =
     subst (λ m. m ≤ st.nesting - length st.saved) (nest_container kind us is) k.nested in
@@ -485,7 +503,7 @@ parts kind is st us new next =
       opened = record {
         code = f.code;
         width = x.width;
-        mid = after_value (length own) (counted f.code) st;
+        mid = after_value (length own) (counted_in st.top.shared f.code) st;
         begun = record {
           going = k.going;
           item = k.item;
@@ -493,7 +511,7 @@ parts kind is st us new next =
           first = f.first;
           room = one.0.room;
           rest = one.0.rest;
-          few = may_begin st.quota (container kind us) f.code k.few;
+          few = may_begin st.quota st.top.shared (container kind us) next.bytes f.code k.spelled k.few;
           moved = refl;
         };
         announced = x.announced;
@@ -514,10 +532,10 @@ parts kind is st us new next =
         };
       };
       bytes = b;
-      last = many n (length b) (all_nodes us) mid;
+      last = many n (length b) all_ mid;
       items = row_of None us mid b _ k.going refl (subst (λ o. Has o n) (sym items_are) whole_count) all_bytes two.1.rest
-          (items_all us b x.inner) (omega (arith, deep)) (subst (λ j. Has (lower st.quota j) (all_nodes us)) (sym one_)
-          (has_rest st.quota 1 (all_nodes us) few_));
+          (items_all us b x.inner) (omega (arith, deep)) (subst (λ j. Has (lower st.quota j) all_) (sym one_)
+          (has_rest st.quota 1 all_ few_));
       closed = record {
         going = k.going;
         here = refl;
@@ -526,11 +544,11 @@ parts kind is st us new next =
         outer = record at.top { left = lower at.top.left (length b) };
         others = at.saved;
         saved = refl;
-        moved = next.moved ∙ ap (λ l. after_value (length l) (nodes (container kind us)) st) s_is
-            ∙ ap (λ m. after_value m (nodes (container kind us)) st) (three own head b)
-            ∙ ap (λ j. after_value (length own + length head + length b) j st) (sym sum ∙ ap (λ j. j + all_nodes us) (sym one_))
-            ∙ sym (closed_at st (after_value (length own) (counted f.code) st) at (length own) (length head) (length b) (counted f.code)
-            (all_nodes us) refl refl);
+        moved = next.moved ∙ ap (λ l. after_value (length l) (weight_at st (container kind us)) st) s_is
+            ∙ ap (λ m. after_value m (weight_at st (container kind us)) st) (three own head b)
+            ∙ ap (λ j. after_value (length own + length head + length b) j st) (sym sum ∙ ap (λ j. j + all_) (sym one_))
+            ∙ sym (closed_at st (after_value (length own) (counted_in st.top.shared f.code) st) at (length own) (length head) (length b) (counted_in st.top.shared f.code)
+            all_ refl refl);
       };
     }
 
@@ -538,7 +556,7 @@ parts kind is st us new next =
 pub row_joined : (ts us : List Term) (a m z : State) (b c : List ℕ) → Row a ts b m → Row m us c z → Row a (ts ++ us) (b ++ c) z
 row_joined [] us a m z b c (e, f) r = subst (λ x. Row a us (x ++ c) z) (sym e) (subst (λ x. Row x us c z) f r)
 row_joined (t ∷ ts) us a m z b c (s, o, e, k, row) r =
-    (s, o ++ c, ap (λ x. x ++ c) e ∙ append_assoc s o c, k, row_joined ts us (after_value (length s) (nodes t) a) m z o c row r)
+    (s, o ++ c, ap (λ x. x ++ c) e ∙ append_assoc s o c, k, row_joined ts us (after_value (length s) (weight_at a t) a) m z o c row r)
 
 pub row_of_one : (t : Term) (a z : State) (h : Next a t z) → Row a (t ∷ []) h.bytes z
 row_of_one t a z h = (h.bytes, [], sym (append-nil h.bytes), h.stands, (refl, h.moved))

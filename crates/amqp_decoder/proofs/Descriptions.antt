@@ -1,21 +1,21 @@
 -- A described value is opened, what is described stands in it, and it is closed; and the other way round (Part 1,
 -- section 1.2).
-use Rattle.std.proofs.Common.{◌≡◌, ℕ, ◌+◌, ◌<◌, ◌≤◌, List, [], ◌∷◌, ◌++◌, length, drop, get_or, Option, Some, None, option_map, refl, sym}
+use Rattle.std.proofs.Common.{true, ◌≡◌, ℕ, ◌+◌, ◌<◌, ◌≤◌, List, [], ◌∷◌, ◌++◌, length, drop, get_or, Option, Some, None, option_map, refl, sym}
 use Rattle.std.proofs.Common.{ap, ap₂, ◌∙◌, subst, arith, append_assoc, length-append, drop-drop}
 use Rattle.std.proofs.lemmas.List.{drop_at}
 use Rattle.amqp_model.specs.Term.{list, map, array, Descriptor, Term, leaf, container, described, kept, barred}
 use Rattle.amqp_model.specs.Spelling.{Names, IsSpelling, IsDataOf}
-use Rattle.amqp_model.specs.Measures.{nest, nodes}
+use Rattle.amqp_model.specs.Measures.{nest, share, weight}
 use Rattle.amqp_model.specs.Standing.{part, Parts}
 use Rattle.amqp_decoder.specs.declared.frame.Place.TheVariants.{InDescribed}
-use Rattle.amqp_decoder.specs.State.{State, Open, Has, lower, after_data, after_value}
+use Rattle.amqp_decoder.specs.State.{State, Open, Has, lower, after_data, after_value, counted_in, is_shared, weight_at}
 use Rattle.amqp_decoder.specs.Steps.{Takes}
 use Rattle.amqp_decoder.specs.Reading.{IsFirst}
 use Rattle.amqp_decoder.specs.Primitives.{standing, SpellsAs, Stands}
 use Rattle.amqp_decoder.specs.Containers.{ClosesDescribed}
 use Rattle.amqp_decoder.specs.Described.{IsDescriptor, behind, in_described}
 use Rattle.amqp_decoder.specs.Items.{Next, NextWithParts, DescribedStands}
-use Rattle.amqp_decoder.proofs.Steps.{has_none, lower_none}
+use Rattle.amqp_decoder.proofs.Steps.{has_none}
 use Rattle.amqp_decoder.proofs.ReadPrimitives.{has_add, has_front, has_rest, lower-lower, minus-minus}
 
 -- a term nests at least as deep as it is described
@@ -60,18 +60,18 @@ sum : (a b c : ℕ) → a + (b + c) ≡ a + b + c
 sum a b c = omega arith
 
 -- the state in which what is described stands
-abbrev inside_described : ℕ → ℕ → State → State
-inside_described first own st = in_described (after_data own (after_value first 0 st))
+abbrev inside_described : ℕ → ℕ → ℕ → State → State
+inside_described first own k st = in_described (after_data own (after_value first k st))
 
 -- the state behind it
-back : (first own s n : ℕ) (st : State)
-    → after_value (first + (own + s)) n st ≡ record (after_value s n (inside_described first own st)) {
-      top = record (after_data own (after_value first 0 st)).top { left = lower (after_data own (after_value first 0 st)).top.left s };
+back : (first own s k n : ℕ) (st : State)
+    → after_value (first + (own + s)) (k + n) st ≡ record (after_value s n (inside_described first own k st)) {
+      top = record (after_data own (after_value first k st)).top { left = lower (after_data own (after_value first k st)).top.left s };
       saved = st.saved;
     }
-back first own s n st = ap (λ z. after_value z n st) (sum first own s)
+back first own s k n st = ap (λ z. after_value z (k + n) st) (sum first own s)
     ∙ sym (rw (
-      lower_none st.quota,
+      lower-lower st.quota k n,
       minus-minus st.ahead first own,
       minus-minus st.ahead (first + own) s,
       drop-drop own first st.rest,
@@ -80,17 +80,28 @@ back first own s n st = ap (λ z. after_value z n st) (sum first own s)
       lower-lower st.top.left (first + own) s,
     ) refl)
 
-left_described : (first own s n : ℕ) (st b : State) → ClosesDescribed InDescribed (after_value s n (inside_described first own st)) b
-    → b ≡ after_value (first + (own + s)) n st
-left_described first own s n st b c =
-    let mid = after_data own (after_value first 0 st) in
+left_described : (first own s k n : ℕ) (st b : State) → ClosesDescribed InDescribed (after_value s n (inside_described first own k st)) b
+    → b ≡ after_value (first + (own + s)) (k + n) st
+left_described first own s k n st b c =
+    let mid = after_data own (after_value first k st) in
     let kept_ = record mid.top { left = option_map (λ l. 0) mid.top.left } in
     let outer : kept_ ≡ c.outer = ap (λ l. get_or l 0 st.top) c.saved in
     let others : st.saved ≡ c.others = ap (λ l. drop 1 l) c.saved in
-    c.moved ∙ ap₂ (λ (t : Open) l. record (after_value s n (inside_described first own st)) {
+    c.moved ∙ ap₂ (λ (t : Open) l. record (after_value s n (inside_described first own k st)) {
       top = record t { left = lower mid.top.left s; sized = mid.top.sized };
       saved = l;
-    }) (sym outer) (sym others) ∙ sym (back first own s n st)
+    }) (sym outer) (sym others) ∙ sym (back first own s k n st)
+
+behind_shared : (o : Option (List Descriptor × ℕ)) → is_shared (behind o) ≡ is_shared o
+behind_shared None = refl
+behind_shared (Some x) = refl
+
+-- a described value weighs what its descriptor does, and what it describes
+described_weight : (o : Option (List Descriptor × ℕ)) (d : Descriptor) (own : List ℕ) (t : Term) → IsDescriptor o d own
+    → counted_in o 0 + weight t (is_shared (behind o)) ≡ weight (described d t) (is_shared o)
+described_weight None d own t n = omega arith
+described_weight (Some ([], k)) d own t n = absurd n
+described_weight (Some (m ∷ ds, k)) d own t n = ap (λ e. share e + weight t true) (sym n.1)
 
 -- What was opened, taken and closed is one term, in which what is described stands as it was taken.
 pub described_with_parts : (st : State) (d : Descriptor) (t : Term) (b : State) → st.nesting ≤ 128 → (h : DescribedStands st d t b)
@@ -99,13 +110,16 @@ described_with_parts st d t b bound h =
     let o = h.opens in
     let first = o.begun.own in
     let own = o.descriptor.own in
-    let took : Takes (after_value (length first) 0 st) own o.named =
+    let k = counted_in st.top.shared 0 in
+    let took : Takes (after_value (length first) k st) own o.named =
     subst (λ (m : State). Takes m own o.named) o.begun.moved o.descriptor.took in
     let descriptor : IsDescriptor st.top.shared d own =
     subst (λ (m : State). IsDescriptor m.top.shared d own) o.begun.moved o.descriptor.descriptor in
-    let inner : h.inner ≡ inside_described (length first) (length own) st = o.opened ∙ ap in_described took.moved in
+    let inner : h.inner ≡ inside_described (length first) (length own) k st = o.opened ∙ ap in_described took.moved in
     let stands = subst (λ (i : State). Stands i h.bytes t) inner h.stands in
-    let closes = subst (λ (i : State). ClosesDescribed InDescribed (after_value (length h.bytes) (nodes t) i) b) inner h.closes in
+    let closes = subst (λ (i : State). ClosesDescribed InDescribed (after_value (length h.bytes) (weight_at i t) i) b) inner h.closes in
+    let inside = weight t (is_shared (behind st.top.shared)) in
+    let weighs : k + inside ≡ weight_at st (described d t) = described_weight st.top.shared d own t descriptor in
     let long : length (first ++ (own ++ h.bytes)) ≡ length first + (length own + length h.bytes) =
     length-append first (own ++ h.bytes) ∙ ap (λ k. length first + k) (length-append own h.bytes) in
     let all : Has st.top.left (length first + (length own + length h.bytes)) =
@@ -124,10 +138,10 @@ described_with_parts st d t b bound h =
           spelled = described_spelled st.top.shared first own h.bytes d t (let x = stands.nested in let y = o.nested in
               omega (arith, x, y, bound)) o.begun.first descriptor stands.spelled;
           nested = let x = stands.nested in let y = o.nested in omega (arith, x, y);
-          few = subst (λ q. Has q (nodes t)) (lower_none st.quota) stands.few;
+          few = subst (Has st.quota) weighs (has_add st.quota k inside o.begun.few stands.few);
         };
-        moved = left_described (length first) (length own) (length h.bytes) (nodes t) st b closes
-            ∙ ap (λ k. after_value k (nodes t) st) (sym long);
+        moved = left_described (length first) (length own) (length h.bytes) k inside st b closes
+            ∙ ap₂ (λ m n. after_value m n st) (sym long) weighs;
       };
       parts = subst (λ (i : State). Parts (standing st.top.shared (first ++ (own ++ h.bytes))) (described d t)
           (standing i.top.shared h.bytes ∷ [])) (sym inner)
@@ -174,11 +188,15 @@ term_described st d t b next =
     ap (drop (length first)) whole ∙ drop_at first (own ++ (s ++ h.after)) (length first) refl in
     let third : drop (length own) (drop (length first) st.rest) ≡ s ++ h.after =
     ap (drop (length own)) second ∙ drop_at own (s ++ h.after) (length own) refl in
-    let mid = after_data (length own) (after_value (length first) 0 st) in
+    let k = counted_in st.top.shared 0 in
+    let mid = after_data (length own) (after_value (length first) k st) in
+    let inside = weight t (is_shared (behind st.top.shared)) in
+    let weighs : k + inside ≡ weight_at st (described d t) = described_weight st.top.shared d own t f.4 in
+    let few : Has st.quota (k + inside) = subst (Has st.quota) (sym weighs) h.few in
     record {
-      inner = inside_described (length first) (length own) st;
+      inner = inside_described (length first) (length own) k st;
       opens = record {
-        coded = after_value (length first) 0 st;
+        coded = after_value (length first) k st;
         named = mid;
         begun = record {
           going = h.going;
@@ -187,7 +205,7 @@ term_described st d t b next =
           first = f.3;
           room = has_front st.top.left (length first) (length own + length s) room;
           rest = whole ∙ ap (λ y. first ++ y) (sym second);
-          few = has_none st.quota;
+          few = has_front st.quota k inside few;
           moved = refl;
         };
         nested = let y = h.nested in omega (arith, y);
@@ -212,7 +230,7 @@ term_described st d t b next =
         rest = third;
         spelled = f.6;
         nested = let y = h.nested in omega (arith, y);
-        few = subst (λ q. Has q (nodes t)) (sym (lower_none st.quota)) h.few;
+        few = has_rest st.quota k inside few;
       };
       closes = record {
         going = h.going;
@@ -221,6 +239,6 @@ term_described st d t b next =
         outer = record mid.top { left = option_map (λ l. 0) mid.top.left };
         others = st.saved;
         saved = refl;
-        moved = next.moved ∙ ap (λ k. after_value k (nodes t) st) long ∙ back (length first) (length own) (length s) (nodes t) st;
+        moved = next.moved ∙ ap₂ (λ m n. after_value m n st) long (sym weighs) ∙ back (length first) (length own) (length s) k inside st;
       };
     }

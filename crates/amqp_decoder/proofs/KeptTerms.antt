@@ -6,7 +6,7 @@ use Rattle.std.specs.Int.{bytes_high_first}
 use Rattle.amqp_model.specs.Term.{Term, Descriptor}
 use Rattle.amqp_model.specs.Constructors.{Format, fixed, variable, compound, unknown, format}
 use Rattle.amqp_model.specs.Spelling.{IsKnown, Constructor, IsSpelling}
-use Rattle.amqp_model.specs.Measures.{nest, nodes}
+use Rattle.amqp_model.specs.Measures.{nest, weight}
 use Rattle.amqp_model.proofs.Bytes.{rest, field, length-bytes}
 use Rattle.amqp_model.proofs.Same.{constructor_same}
 use Rattle.amqp_wire.specs.declared.error.Error.{Error}
@@ -15,7 +15,8 @@ use Rattle.amqp_lengths.specs.Fronts.{IsFront, Refuses}
 use Rattle.amqp_lengths.specs.Lengths.{IsTerm}
 use Rattle.amqp_lengths.specs.Announced.{SizeThen, content_size, IsAnnounced}
 use Rattle.amqp_lengths.proofs.Announced.{announced_data, announced_once}
-use Rattle.amqp_decoder.specs.State.{State, Has, lower, after_data, uncounted}
+use Rattle.amqp_decoder.proofs.Counts.{unshared_weight}
+use Rattle.amqp_decoder.specs.State.{State, Has, lower, after_data, after_value, weight_at, uncounted}
 use Rattle.amqp_decoder.specs.Steps.{Answers, IsExcused, Takes, Lacks, Stops}
 use Rattle.amqp_decoder.specs.Reading.{RefusesRead}
 use Rattle.amqp_decoder.specs.Primitives.{standing, SpellsAs, Stands}
@@ -141,7 +142,7 @@ misspelled_not st e s after t f room is spelled nested = not f
         (subst (IsTerm (st.nesting - length st.saved)) same (t, spelled, nested))
 
 -- more values stand there than may begin
-pub counted_not : (st : State) (s : List ℕ) (m : State) (r : List ℕ) (t : Term) (h : TakesTerm (uncounted st) s m) → (Has st.quota (nodes h.term) → ⊥)
+pub counted_not : (st : State) (s : List ℕ) (m : State) (r : List ℕ) (t : Term) (h : TakesTerm (uncounted st) s m) → (Has st.quota (weight_at st h.term) → ⊥)
     → Stands st r t → ⊥
 counted_not st s m r t h full k =
     let free : Stands (uncounted st) r t = record {
@@ -155,7 +156,7 @@ counted_not st s m r t h full k =
       few = tt;
     } in
     let same = stands_same (uncounted st) s r h.term t h.stands free in
-    full (subst (λ x. Has st.quota (nodes x)) (sym same.1) k.few)
+    full (subst (λ x. Has st.quota (weight_at st x)) (sym same.1) k.few)
 
 fault_not_takes : (st : State) (e : Error) (s : List ℕ) (st' : State) → TermFault st e → TakesTerm st s st' → ⊥
 fault_not_takes st e s st' (missing none is) h = let x : 1 ≤ 0 = subst (λ o. Has o 1) none h.stands.item in omega arith
@@ -234,8 +235,8 @@ no_term_kept c a b l st m m' e new empty h k s =
 
 -- a term was taken, and counts
 pub term_taken : (st m : State) (b : List ℕ) → st.error ≡ None → Has st.top.items 1 → st.top.shared ≡ None → Takes st b m
-    → (h : IsTerm (st.nesting - length st.saved) b) → Has m.quota (nodes h.0)
-    → TakesTerm st b (record m { top = record m.top { items = lower m.top.items 1 }; quota = lower m.quota (nodes h.0) })
+    → (h : IsTerm (st.nesting - length st.saved) b) → Has m.quota (weight h.0 false)
+    → TakesTerm st b (record m { top = record m.top { items = lower m.top.items 1 }; quota = lower m.quota (weight h.0 false) })
 term_taken st m b going item none t h few = record {
   term = h.0;
   stands = record {
@@ -246,10 +247,11 @@ term_taken st m b going item none t h few = record {
     rest = t.rest;
     spelled = subst (λ o. SpellsAs (standing o b) h.0) (sym none) h.1;
     nested = h.2;
-    few = subst (λ (z : State). Has z.quota (nodes h.0)) t.moved few;
+    few = subst (Has st.quota) (sym (unshared_weight st.top.shared h.0 none)) (subst (λ (z : State). Has z.quota (weight h.0 false)) t.moved few);
   };
   unshared = none;
-  moved = ap (λ (z : State). record z { top = record z.top { items = lower z.top.items 1 }; quota = lower z.quota (nodes h.0) }) t.moved;
+  moved = ap (λ (z : State). record z { top = record z.top { items = lower z.top.items 1 }; quota = lower z.quota (weight h.0 false) }) t.moved
+      ∙ ap (λ k. after_value (length b) k st) (sym (unshared_weight st.top.shared h.0 none));
 }
 
 -- what a call that reads terms answers
@@ -273,13 +275,14 @@ term_misspelled items st e new going item none s =
 -- one value more than may begin
 pub term_full : {A : Type 0} (items : A → List ℕ) (st m : State) (b : List ℕ) (e : Error) (new : State) → st.error ≡ None
     → Has st.top.items 1 → st.top.shared ≡ None → Takes st b m → (h : IsTerm (st.nesting - length st.saved) b)
-    → (Has m.quota (nodes h.0) → ⊥) → e ≡ Limit → new ≡ record m { error = Some Limit } → RefusesRead true (Any items) TermFault st e new
+    → (Has m.quota (weight h.0 false) → ⊥) → e ≡ Limit → new ≡ record m { error = Some Limit } → RefusesRead true (Any items) TermFault st e new
 unfolding term_taken
 term_full items st m b e new going item none t h full is kept =
     let free : Takes (uncounted st) b (uncounted m) = record { room = t.room; rest = t.rest; moved = ap uncounted t.moved } in
     let taken = term_taken (uncounted st) (uncounted m) b going item none free h tt in
     term_refused items st e new going (answered_took t (answered m new e Limit kept is))
-    (inr (too_many taken (subst (λ (z : State). Has z.quota (nodes h.0) → ⊥) t.moved full) is))
+    (inr (too_many taken (λ x. subst (λ (z : State). Has z.quota (weight h.0 false) → ⊥) t.moved full
+    (subst (Has st.quota) (unshared_weight st.top.shared h.0 none) x)) is))
 
 pub nests_at_most : (k n saved : ℕ) → k ≤ n - saved → n ≤ 128 → k ≤ 128
 nests_at_most k n saved h most = omega arith

@@ -1,5 +1,5 @@
 -- The bytes that a limit leaves.
-use Rattle.std.proofs.Common.{◌≡◌, ◌≤◌, ◌<◌, ℕ, ◌-◌, Bool, true, false, cond, eqb, nat_lt, Option, Some, None, unwrap_or, IsTrue, ◌↔◌, refl, sym, ap, ◌∙◌, subst}
+use Rattle.std.proofs.Common.{◌≡◌, ◌≤◌, ◌<◌, ℕ, ◌-◌, ◌^◌, Bool, true, false, cond, eqb, nat_lt, Option, Some, None, unwrap_or, IsTrue, ◌↔◌, refl, sym, ap, ◌∙◌, subst}
 use Rattle.std.proofs.Common.{arith}
 use Rattle.std.proofs.lemmas.Bool.{eqb-true, eq-eqb, ne_eqb}
 use Rattle.amqp_wire.specs.Limits.{unlimited, limit_of}
@@ -7,6 +7,10 @@ use Rattle.amqp_decoder.specs.State.{Has, lower, left_in, is_sized, is_free, emp
 
 limited : (n : ℕ) → (n ≡ unlimited → ⊥) → limit_of n ≡ Some n
 limited n some = ap (λ b. cond b None (Some n)) (ne_eqb n unlimited some)
+
+-- a limit is below the number that sets none
+pub limited_most : (n : ℕ) → n < 2 ^ 64 → (n ≡ unlimited → ⊥) → (most : ℕ) × (most < unlimited) × (limit_of n ≡ Some most)
+limited_most n fits some = (n, omega (arith, fits, some), limited n some)
 
 pub unlimited_is : (n : ℕ) → n ≡ unlimited → limit_of n ≡ None
 unlimited_is n e = ap limit_of e

@@ -6,7 +6,6 @@ use Rattle.amqp_model.specs.Term.{Refusal, Primitive, list, map, array, Containe
 use Rattle.amqp_model.specs.Term.{Descriptor}
 use Rattle.amqp_model.specs.Constructors.{Format, fixed, variable, compound, unknown, format}
 use Rattle.amqp_model.specs.Spelling.{PrimitiveData, IsKnown, IsDataOf, IsSpelling}
-use Rattle.amqp_model.specs.Measures.{nodes}
 use Rattle.amqp_model.proofs.Forms.{primitive_known}
 use Rattle.amqp_wire.specs.declared.error.Error.{Error}
 use Rattle.amqp_wire.specs.Codes.{refusal_of}
@@ -14,7 +13,7 @@ use Rattle.amqp_lookahead.specs.Kinds.{kind_of, kind_under, kind_at}
 use Rattle.amqp_lookahead.specs.Members.{Member}
 use Rattle.amqp_lookahead.proofs.KindsOfCodes.{kind_data}
 use Rattle.amqp_decoder.specs.declared.frame.Place.{Place}
-use Rattle.amqp_decoder.specs.State.{State, Has, after_value, counted}
+use Rattle.amqp_decoder.specs.State.{State, Has, after_value, counted_in, weight_at}
 use Rattle.amqp_decoder.specs.Reading.{IsFirst, ReadsCode, BeginFault}
 use Rattle.amqp_decoder.specs.Primitives.{standing, SpellsAs, Stands, ReadsValue, Means, PrimitiveFault, not_begun, wrong_code, no_data}
 use Rattle.amqp_decoder.specs.Primitives.{bad_data}
@@ -113,7 +112,7 @@ stood st s t k =
     ap (drop (length f.own)) here ∙ drop_at f.own (f.others ++ k.after) (length f.own) refl in
     record {
       code = f.code;
-      mid = after_value (length f.own) (counted f.code) st;
+      mid = after_value (length f.own) (counted_in st.top.shared f.code) st;
       begun = record {
         going = k.going;
         item = k.item;
@@ -121,7 +120,7 @@ stood st s t k =
         first = f.first;
         room = has_front st.top.left (length f.own) (length f.others) (subst (Has st.top.left) n k.room);
         rest = here ∙ ap (λ l. f.own ++ l) (sym behind);
-        few = may_begin st.quota t f.code k.few;
+        few = may_begin st.quota st.top.shared t s f.code k.spelled k.few;
         moved = refl;
       };
       under = f.under;
@@ -160,7 +159,7 @@ leaf_under c k (barred r) is h = absurd h
 data_misspelled : (k c : ℕ) (st m : State) (e : Error) → ReadsCode st c m → kind_at c ≡ Some k → PrimitiveFault k st e → NothingStands st
 data_misspelled k c st m e g kind f = λ s t x.
     let y = leaf_under c k t kind (term_under st c m s t g x) in
-    let b = after_value (length s) (nodes t) st in
+    let b = after_value (length s) (weight_at st t) st in
     let v : ReadsValue (Means (λ p. p)) st y.0 b = record { bytes = s; term = t; stands = x; moved = refl; meant = y.1 } in
     fault_not_leaf k st e y.0 b y.2 f (value_leaf (λ p. p) st y.0 b v)
 
@@ -191,16 +190,16 @@ container_there c kind w (kept l) is h = absurd h
 container_there c kind w (barred r) is h = absurd h
 
 -- what stands there is taken
-pub next_of : (st : State) (s : List ℕ) (t u : Term) → Stands st s t → t ≡ u → Next st u (after_value (length s) (nodes t) st)
+pub next_of : (st : State) (s : List ℕ) (t u : Term) → Stands st s t → t ≡ u → Next st u (after_value (length s) (weight_at st t) st)
 next_of st s t u k is =
-    record { bytes = s; stands = subst (Stands st s) is k; moved = ap (λ x. after_value (length s) (nodes x) st) is }
+    record { bytes = s; stands = subst (Stands st s) is k; moved = ap (λ x. after_value (length s) (weight_at st x) st) is }
 
 pub open_misspelled : (kind : Container) → IsRow kind → (st : State) (e : Error) → IsMisspelling e → OpenFault kind st e → NothingStands st
 open_misspelled kind row st e h (containers.not_begun f) = begin_misspelled st e h f
 open_misspelled kind row st e h (containers.wrong_code {c} {m} g never is) = code_misspelled st c m e g h is
 open_misspelled kind row st e h (containers.no_data {c} {width = w} {m} g is f) = λ s t k.
     let x = container_there c kind w t is (term_under st c m s t g k) in
-    let y = parts kind row st x.0 (after_value (length s) (nodes t) st) (next_of st s t (container kind x.0) k x.1) in
+    let y = parts kind row st x.0 (after_value (length s) (weight_at st t) st) (next_of st s t (container kind x.0) k x.1) in
     opens_not_faulty kind st y.count y.mid e (containers.no_data g is f) y.opened
 
 -- the term behind the code 0 is described
@@ -214,7 +213,7 @@ described_there c (barred r) is h = absurd h
 mark_misspelled : (st m : State) (e : Error) → ReadsCode st 0 m → described.OpenFault st e → NothingStands st
 mark_misspelled st m e g f = λ s t k.
     let x = described_there 0 t refl (term_under st 0 m s t g k) in
-    let y = term_described st x.0 x.1 (after_value (length s) (nodes t) st) (next_of st s t (described x.0 x.1) k x.2) in
+    let y = term_described st x.0 x.1 (after_value (length s) (weight_at st t) st) (next_of st s t (described x.0 x.1) k x.2) in
     fault_not_open st e x.0 y.inner f y.opens
 
 pub described_misspelled : (st : State) (e : Error) → IsMisspelling e → described.OpenFault st e → NothingStands st
@@ -247,5 +246,5 @@ array_misspelled st e room h (arrays.wrong_code c m g never is) = code_misspelle
 array_misspelled st e room h (arrays.no_data c w m g is f) = λ s t k.
     let x = container_there c array w t is (term_under st c m s t g k) in
     let few = room_for_array st x.0 s room (subst (Stands st s) x.1 k) in
-    let y = array_parts st x.0 (after_value (length s) (nodes t) st) few (next_of st s t (container array x.0) k x.1) in
+    let y = array_parts st x.0 (after_value (length s) (weight_at st t) st) few (next_of st s t (container array x.0) k x.1) in
     arrays_not st y.count y.mid e (arrays.no_data c w m g is f) y.opened

@@ -3,11 +3,10 @@ use Rattle.std.proofs.Common.{◌≡◌, ◌<◌, ℕ, suc, ◌+◌, Option, Som
 use Rattle.std.proofs.Common.{arith}
 use Rattle.amqp_model.specs.Term.{Container, array, Term, container, described, Descriptor}
 use Rattle.amqp_model.specs.Items.{items_of}
-use Rattle.amqp_model.specs.Measures.{nodes}
 use Rattle.amqp_wire.specs.declared.error.Error.{Error}
 use Rattle.amqp_decoder.specs.declared.frame.Place.{Place}
 use Rattle.amqp_decoder.specs.declared.frame.Place.TheVariants.{InArray}
-use Rattle.amqp_decoder.specs.State.{State, Has, lower, bound_of, after_value}
+use Rattle.amqp_decoder.specs.State.{State, Has, lower, bound_of, after_value, weight_at}
 use Rattle.amqp_decoder.specs.Reading.{after_peek, PeeksCode}
 use Rattle.amqp_decoder.specs.Primitives.{Stands}
 use Rattle.amqp_decoder.specs.Containers.{place_of, Opens, Closes, CloseFault, not_at_end, bytes_left_over}
@@ -37,7 +36,7 @@ counted : (ts : List Term) (st : State) (b : List ℕ) (mid : State) → Row st 
 counted [] st b mid (e, is) =
     record { room = has_none st.top.items; items = ap (λ (z : State). z.top.items) is ∙ sym (lower_none st.top.items) }
 counted (t ∷ ts) st b mid (s, r, e, k, row) =
-    let i = counted ts (after_value (length s) (nodes t) st) r mid row in
+    let i = counted ts (after_value (length s) (weight_at st t) st) r mid row in
     let one : 1 + length ts ≡ suc (length ts) = omega arith in
     record {
       room = subst (Has st.top.items) one (has_add st.top.items 1 (length ts) k.item i.room);
@@ -100,7 +99,7 @@ opens_holding kind is st n first o = record {
   count = ap (λ (z : State). z.top.items) o.data_.entered ∙ place_items kind n;
   held = λ s t k.
       let x = container_there o.code kind o.width t o.announced (term_under st o.code o.mid s t o.begun k) in
-      let y = after_value (length s) (nodes t) st in
+      let y = after_value (length s) (weight_at st t) st in
       let c = parts kind is st x.0 y (next_of st s t (container kind x.0) k x.1) in
       let same = opens_same kind st n c.count first c.mid o c.opened in
       let row = subst (λ z. Row z (items_of x.0) c.bytes c.last) (sym same.1) c.items in
@@ -125,7 +124,7 @@ opens_array_holding st n first room o = record {
   held = λ s t k.
       let x = container_there o.code array o.width t o.announced (term_under st o.code o.mid s t o.begun k) in
       let few = room_for_array st x.0 s room (subst (Stands st s) x.1 k) in
-      let y = after_value (length s) (nodes t) st in
+      let y = after_value (length s) (weight_at st t) st in
       let c = array_parts st x.0 y few (next_of st s t (container array x.0) k x.1) in
       let same = opens_array_same st n c.count first c.mid o c.opened in
       let row = subst (λ z. Row z (items_of x.0) c.bytes c.last) (sym same.1) c.items in
@@ -153,7 +152,7 @@ opens_described_same st d c a b o p =
 pub nothing_described : (st : State) (d : Descriptor) (inner : State) → OpensDescribed st d inner → NothingStands inner → NothingStands st
 nothing_described st d inner o none = λ s t k.
     let x = described_there 0 t refl (term_under st 0 o.coded s t o.begun k) in
-    let y = term_described st x.0 x.1 (after_value (length s) (nodes t) st) (next_of st s t (described x.0 x.1) k x.2) in
+    let y = term_described st x.0 x.1 (after_value (length s) (weight_at st t) st) (next_of st s t (described x.0 x.1) k x.2) in
     none y.bytes x.1 (subst (λ z. Stands z y.bytes x.1) (sym (opens_described_same st d x.0 inner y.inner o y.opens).1) y.stands)
 
 -- a look

@@ -2,11 +2,10 @@
 use Rattle.std.proofs.Common.{◌≡◌, ◌≤◌, ℕ, Option, Some, None, List, [], ◌∷◌, ◌++◌, length, drop, get_or, refl, sym, ap, ap₂, ◌∙◌, subst}
 use Rattle.std.proofs.Common.{arith}
 use Rattle.amqp_model.specs.Term.{Term, Descriptor}
-use Rattle.amqp_model.specs.Measures.{nodes}
 use Rattle.amqp_model.specs.Standing.{Standing}
 use Rattle.amqp_model.proofs.Unique.{fronts, data_same}
 use Rattle.amqp_decoder.specs.declared.frame.Place.{Place}
-use Rattle.amqp_decoder.specs.State.{State, after_value}
+use Rattle.amqp_decoder.specs.State.{State, after_value, weight_at}
 use Rattle.amqp_decoder.specs.Containers.{Closes}
 use Rattle.amqp_decoder.specs.Primitives.{standing, SpellsAs, Stands, ReadsValue}
 use Rattle.amqp_decoder.specs.Items.{Next, Row}
@@ -23,7 +22,7 @@ pub next_same : (st a b : State) (t t' : Term) → Next st t a → Next st t' b 
 next_same st a b t t' h h' =
     let e = stands_same st h.bytes h'.bytes t t' h.stands h'.stands in (
       e.1,
-      h.moved ∙ ap (λ s. after_value (length s) (nodes t) st) e.0 ∙ ap (λ x. after_value (length h'.bytes) (nodes x) st) e.1 ∙ sym h'.moved,
+      h.moved ∙ ap (λ s. after_value (length s) (weight_at st t) st) e.0 ∙ ap (λ x. after_value (length h'.bytes) (weight_at st x) st) e.1 ∙ sym h'.moved,
     )
 
 -- the values that are read at one state are meant by one term, and leave one state
@@ -36,7 +35,7 @@ value_same means st a b v w h h' =
       h.meant,
       subst (λ s. means (standing st.top.shared s) h.term w) (sym e.0)
           (subst (λ t. means (standing st.top.shared h'.bytes) t w) (sym e.1) h'.meant),
-      h.moved ∙ ap (λ s. after_value (length s) (nodes h.term) st) e.0 ∙ ap (λ x. after_value (length h'.bytes) (nodes x) st) e.1
+      h.moved ∙ ap (λ s. after_value (length s) (weight_at st h.term) st) e.0 ∙ ap (λ x. after_value (length h'.bytes) (weight_at st x) st) e.1
           ∙ sym h'.moved,
     )
 
@@ -47,9 +46,9 @@ row_front [] us st m z b c (e, f) row h = (us, c, refl, subst (λ x. Row x us c 
 row_front (t ∷ ts) [] st m z b c r row h = absurd (omega arith)
 row_front (t ∷ ts) (u ∷ us) st m z b c (s, o, e, k, r) (s', o', e', k', r') h =
     let same = stands_same st s s' t u k k' in
-    let i = row_front ts us (after_value (length s) (nodes t) st) m z o o' r
-    (subst (λ x. Row (after_value (length s) (nodes x) st) us o' z) (sym same.1)
-    (subst (λ x. Row (after_value (length x) (nodes u) st) us o' z) (sym same.0) r')) (omega arith) in
+    let i = row_front ts us (after_value (length s) (weight_at st t) st) m z o o' r
+    (subst (λ x. Row (after_value (length s) (weight_at st x) st) us o' z) (sym same.1)
+    (subst (λ x. Row (after_value (length x) (weight_at st u) st) us o' z) (sym same.0) r')) (omega arith) in
     (i.0, i.1, ap₂ (λ (x : Term) (xs : List Term). x ∷ xs) (sym same.1) i.2, i.3)
 
 pub closes_same : (p : Place) (st a b : State) → Closes p st a → Closes p st b → a ≡ b

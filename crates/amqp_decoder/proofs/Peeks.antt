@@ -2,12 +2,11 @@
 use Rattle.std.proofs.Common.{◌≡◌, ◌≤◌, ℕ, ◌-◌, inl, inr, false, Option, Some, None, is_some, MatchOption, List, [], ◌∷◌}
 use Rattle.std.proofs.Common.{Result, Ok, Err, IfOk, IfErr, length, drop, length-append, ◌↔◌, min, max, refl, sym, ap, ◌∙◌, subst, arith}
 use Rattle.amqp_model.specs.Term.{Descriptor, Term}
-use Rattle.amqp_model.specs.Measures.{nodes}
 use Rattle.amqp_model.specs.Spelling.{Constructor, IsSpelling}
 use Rattle.amqp_model.specs.Standing.{Standing}
 use Rattle.amqp_wire.specs.declared.error.Error.{Error}
 use Rattle.amqp_wire.specs.declared.error.Error.TheVariants.{Cut, Limit}
-use Rattle.amqp_decoder.specs.State.{State, Has, after_look, after_bytes, after_data, after_value, counted, uncounted}
+use Rattle.amqp_decoder.specs.State.{State, Has, after_look, after_bytes, after_data, after_value, counted_in, weight_at, uncounted}
 use Rattle.amqp_decoder.specs.Steps.{Answers, Takes, RefusesSize}
 use Rattle.amqp_decoder.specs.Reading.{RefusesRead, AnswersRead, IsFirst, IsFirstShared, ReadsCode, BeginFault, PeeksCode, after_peek}
 use Rattle.amqp_decoder.specs.Primitives.{standing, SpellsAs, Stands, ReadsValue}
@@ -18,7 +17,7 @@ under_shared None c st h = absurd h
 under_shared (Some s) c st h = refl
 
 -- a constructor is shared
-pub peeked_shared : (st : State) (c : ℕ) → st.error ≡ None → Has st.top.items 1 → IsFirstShared st.top.shared c → Has st.quota (counted c)
+pub peeked_shared : (st : State) (c : ℕ) → st.error ≡ None → Has st.top.items 1 → IsFirstShared st.top.shared c → Has st.quota (counted_in st.top.shared c)
     → PeeksCode st c st
 peeked_shared st c going item h few =
     record { after = _; begun = begun_shared st c going item h few; kept = under_shared st.top.shared c st h }
@@ -34,7 +33,7 @@ byte_there (Some b) c r is h = let e : b ≡ c = cc in subst (λ x. r ≡ x ∷ 
 
 -- a byte stands there, and is looked at
 pub peeked_own : (st : State) (c : ℕ) (new : State) → st.error ≡ None → Has st.top.items 1 → st.top.shared ≡ None → Has st.top.left 1
-    → new ≡ after_look (min 1 (length st.rest)) st → st.rest ≡ c ∷ drop 1 st.rest → Has st.quota (counted c) → PeeksCode st c new
+    → new ≡ after_look (min 1 (length st.rest)) st → st.rest ≡ c ∷ drop 1 st.rest → Has st.quota (counted_in st.top.shared c) → PeeksCode st c new
 peeked_own st c new going item none room is byte few =
     let one : min 1 (length st.rest) ≡ 1 = omega (arith, ap length byte) in
     let took : Takes st (c ∷ []) (after_data 1 st) = record { room = room; rest = byte; moved = refl } in
@@ -55,12 +54,12 @@ peek_refused st e new r = record {
 
 -- the code that stands there, if a value may begin by it
 abbrev pub IsCounted : State → ℕ → Result ℕ Error → State → Type 0
-IsCounted seen c (Ok k) new = (k ≡ c) × Has seen.quota (counted c) × (new ≡ seen)
-IsCounted seen c (Err e) new = (Has seen.quota (counted c) → ⊥) × (e ≡ Limit) × (new ≡ record seen { error = Some Limit })
+IsCounted seen c (Ok k) new = (k ≡ c) × Has seen.quota (counted_in seen.top.shared c) × (new ≡ seen)
+IsCounted seen c (Err e) new = (Has seen.quota (counted_in seen.top.shared c) → ⊥) × (e ≡ Limit) × (new ≡ record seen { error = Some Limit })
 
 pub is_counted : (seen : State) (c : ℕ) (r : Result ℕ Error) (new : State)
-    → IfOk r (λ k. (k ≡ c) × Has seen.quota (counted c) × (new ≡ seen))
-    → IfErr r (λ e. (Has seen.quota (counted c) → ⊥) × (e ≡ Limit) × (new ≡ record seen { error = Some Limit })) → IsCounted seen c r new
+    → IfOk r (λ k. (k ≡ c) × Has seen.quota (counted_in seen.top.shared c) × (new ≡ seen))
+    → IfErr r (λ e. (Has seen.quota (counted_in seen.top.shared c) → ⊥) × (e ≡ Limit) × (new ≡ record seen { error = Some Limit })) → IsCounted seen c r new
 is_counted seen c (Ok k) new ok err = ok
 is_counted seen c (Err e) new ok err = err
 
@@ -76,12 +75,12 @@ pub peeked_own_if : (st : State) (c : ℕ) (seen : State) (r : Result ℕ Error)
     → st.top.shared ≡ None → Has st.top.left 1 → seen ≡ after_look (min 1 (length st.rest)) st → st.rest ≡ c ∷ drop 1 st.rest
     → IsCounted seen c r new → AnswersRead false PeeksCode BeginFault st r new
 peeked_own_if st c seen (Ok k) new going item none room looked byte (same, few, is) =
-    let may : Has st.quota (counted c) = subst (λ (x : State). Has x.quota (counted c)) looked few in
+    let may : Has st.quota (counted_in st.top.shared c) = subst (λ (x : State). Has x.quota (counted_in x.top.shared c)) looked few in
     peeked_so st c k seen new same is (peeked_own st c seen going item none room looked byte may)
 peeked_own_if st c seen (Err e) new going item none room looked byte (full, is, kept) =
     let took : Takes (uncounted st) (c ∷ []) (after_data 1 (uncounted st)) = record { room = room; rest = byte; moved = refl } in
     let begun = begun_own (uncounted st) c (after_data 1 (uncounted st)) going item none took tt in
-    peek_refused st e new (begin_full st c _ e new begun (subst (λ (x : State). Has x.quota (counted c) → ⊥) looked full) is
+    peek_refused st e new (begin_full st c _ e new begun (subst (λ (x : State). Has x.quota (counted_in x.top.shared c) → ⊥) looked full) is
     (answered_later (ap (λ (x : State). x.failed) looked) (answered seen new e Limit kept is)))
 
 -- no byte is left
@@ -166,7 +165,7 @@ begun_after st after d None e = (
     room = g.room;
     rest = g.rest;
     few = g.few;
-    moved = g.moved ∙ after_value-after_look 1 (length g.own) (counted d) st (first_some st.top.shared d g.own e g.first);
+    moved = g.moved ∙ after_value-after_look 1 (length g.own) (counted_in st.top.shared d) st (first_some st.top.shared d g.own e g.first);
   },
   λ g. record {
     going = g.going;
@@ -176,7 +175,7 @@ begun_after st after d None e = (
     room = g.room;
     rest = g.rest;
     few = g.few;
-    moved = g.moved ∙ sym (after_value-after_look 1 (length g.own) (counted d) st (first_some st.top.shared d g.own e g.first));
+    moved = g.moved ∙ sym (after_value-after_look 1 (length g.own) (counted_in st.top.shared d) st (first_some st.top.shared d g.own e g.first));
   },
 )
 begun_after st after d (Some s) e = (λ g. g, λ g. g)
@@ -193,14 +192,14 @@ value_after means st after v None e = (
         bytes = x.bytes;
         term = x.term;
         stands = k;
-        moved = x.moved ∙ after_value-after_look 1 (length x.bytes) (nodes x.term) st (stands_some st x.bytes x.term e k);
+        moved = x.moved ∙ after_value-after_look 1 (length x.bytes) (weight_at st x.term) st (stands_some st x.bytes x.term e k);
         meant = x.meant;
       },
   λ x. record {
     bytes = x.bytes;
     term = x.term;
     stands = (stands-looked 1 st x.bytes x.term).1 x.stands;
-    moved = x.moved ∙ sym (after_value-after_look 1 (length x.bytes) (nodes x.term) st (stands_some st x.bytes x.term e x.stands));
+    moved = x.moved ∙ sym (after_value-after_look 1 (length x.bytes) (weight_at st x.term) st (stands_some st x.bytes x.term e x.stands));
     meant = x.meant;
   },
 )

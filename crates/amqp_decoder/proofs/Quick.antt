@@ -3,12 +3,12 @@ use Rattle.std.proofs.Common.{◌≡◌, ◌<◌, ℕ, ◌-◌, ◌+◌, Option,
 use Rattle.std.proofs.Common.{drop-drop}
 use Rattle.std.proofs.lemmas.List.{length-drop, take_all}
 use Rattle.amqp_lookahead.proofs.SectionsAhead.{bytes_at, bytes_are}
-use Rattle.amqp_decoder.specs.State.{State, Has, lower, counted, after_data, after_look}
+use Rattle.amqp_decoder.specs.State.{State, Has, lower, counted, counted_in, after_data, after_look}
 use Rattle.amqp_decoder.specs.Steps.{Takes}
 use Rattle.amqp_decoder.specs.Reading.{ReadsCode, PeeksCode}
 use Rattle.amqp_decoder.specs.Primitives.{ReadsFixed}
 use Rattle.amqp_decoder.specs.Quick.{IsPlain}
-use Rattle.amqp_decoder.proofs.Counts.{one_may_begin}
+use Rattle.amqp_decoder.proofs.Counts.{one_may_begin, unshared_counts}
 use Rattle.amqp_decoder.proofs.Steps.{began, begun_own, has_item}
 use Rattle.amqp_decoder.proofs.Peeks.{peeked_own}
 use Rattle.amqp_decoder.proofs.ReadPrimitives.{took_none, has_front, has_rest, lower-lower}
@@ -30,8 +30,14 @@ parts_same st k r r' a a' o o' er ea eo =
     ∙ ap (λ x. record (taken_quick 0 k st) { rest = r'; ahead = x; top = record st.top { items = lower st.top.items 1; left = o } }) ea
     ∙ ap (λ x. record (taken_quick 0 k st) { rest = r'; ahead = a'; top = record st.top { items = lower st.top.items 1; left = x } }) eo
 
+-- where nothing is shared and a value may begin, one may by any code
+may_begin_plain : (st : State) (code : ℕ) → IsPlain st → Has st.quota (counted_in st.top.shared code)
+may_begin_plain st code plain =
+    subst (Has st.quota) (sym (unshared_counts st.top.shared code plain.own)) (one_may_begin st.quota code plain.few)
+
 quick_parts : (st : State) (code : ℕ) (b : List ℕ) → IsPlain st → Has st.top.left (1 + length b) → st.rest ≡ code ∷ drop 1 st.rest
-    → st.rest ≡ code ∷ (b ++ drop (suc (length b)) st.rest) → ReadsFixed code (length b) st b (taken_quick (1 + length b) (counted code) st)
+    → st.rest ≡ code ∷ (b ++ drop (suc (length b)) st.rest) → ReadsFixed code (length b) st b
+    (taken_quick (1 + length b) (counted_in st.top.shared code) st)
 quick_parts st code b plain fits next rest =
     let n = length b in
     let mid = began code (after_data 1 st) in
@@ -44,11 +50,11 @@ quick_parts st code b plain fits next rest =
     ap (drop 1) rest ∙ ap (λ x. b ++ x) (ap (λ k. drop k st.rest) whole ∙ skip) in
     record {
       mid = mid;
-      begun = begun_own st code (after_data 1 st) plain.going plain.item plain.own took (one_may_begin st.quota code plain.few);
+      begun = begun_own st code (after_data 1 st) plain.going plain.item plain.own took (may_begin_plain st code plain);
       took = record {
         room = has_rest st.top.left 1 n fits;
         rest = behind;
-        moved = parts_same st (counted code) _ _ _ _ _ _ skip past (sym (lower-lower st.top.left 1 n));
+        moved = parts_same st (counted_in st.top.shared code) _ _ _ _ _ _ skip past (sym (lower-lower st.top.left 1 n));
       };
       width = refl;
     }
@@ -61,8 +67,10 @@ quick_reads st code n [] new plain fits some long next rest e = absurd (omega (a
 quick_reads st code n (c ∷ b) new plain fits some long next rest e =
     let same : c ≡ code = ap (λ x. get_or x 0 0) (sym rest ∙ next) in
     let whole : n ≡ 1 + length b = omega (arith, long) in
+    let counts : counted_in st.top.shared code ≡ counted code = unshared_counts st.top.shared code plain.own in
     subst (λ k. ReadsFixed code k st b new) (omega (arith, whole))
-    (subst (ReadsFixed code (length b) st b) (ap (λ k. taken_quick k (counted code) st) (sym whole) ∙ sym e)
+    (subst (ReadsFixed code (length b) st b)
+    (ap (λ k. taken_quick k (counted_in st.top.shared code) st) (sym whole) ∙ ap (λ k. taken_quick n k st) counts ∙ sym e)
     (quick_parts st code b plain (subst (Has st.top.left) whole fits) next
     (rest ∙ ap (λ x. x ∷ (b ++ drop (suc (length b)) st.rest)) same)))
 
@@ -81,7 +89,7 @@ pub quick_peeks : (st : State) (c : ℕ) (new : State) → IsPlain st → (st.to
 quick_peeks st c new plain left (next, is) =
     let one : 1 ≡ min 1 (length st.rest) = omega (arith, ap length next) in
     peeked_own st c new plain.going plain.item plain.own (has_item st.top.left left) (is ∙ ap (λ n. after_look n st) one) next
-    (one_may_begin st.quota c plain.few)
+    (may_begin_plain st c plain)
 
 -- the bytes behind a code, one by one
 pub behind_code : (n : ℕ) (l : List ℕ) → length (drop 1 l) ≡ suc n → drop 1 l ≡ bytes_at (suc n) 1 l

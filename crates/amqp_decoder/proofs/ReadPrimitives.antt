@@ -7,13 +7,12 @@ use Rattle.std.specs.Int.{bytes_high_first}
 use Rattle.std.specs.Char.{IsScalar}
 use Rattle.amqp_model.specs.Term.{Primitive, char, Descriptor, leaf}
 use Rattle.amqp_model.specs.Constructors.{Format, fixed, variable, compound, unknown, format, boolean_byte}
-use Rattle.amqp_model.specs.Measures.{nodes}
 use Rattle.amqp_model.specs.Spelling.{PrimitiveData, IsValid, Constructor, IsDataOf, IsSpelling}
 use Rattle.amqp_model.proofs.Bytes.{front, field, length-bytes}
 use Rattle.amqp_model.proofs.Forms.{primitive_known}
 use Rattle.amqp_wire.specs.declared.error.Error.{Error}
 use Rattle.amqp_wire.specs.Codes.{refusal_of}
-use Rattle.amqp_decoder.specs.State.{State, Has, lower, after_data, after_value, counted}
+use Rattle.amqp_decoder.specs.State.{State, Has, lower, after_data, after_value, counted_in, weight_at}
 use Rattle.amqp_decoder.specs.Steps.{Answers, SourceFailed, IsExcused, Takes, Lacks, FallsShort}
 use Rattle.amqp_decoder.specs.Reading.{RefusesRead, AnswersRead, IsFirst, ReadsCode, BeginFault, missing, no_code, one_too_many}
 use Rattle.amqp_lookahead.specs.Kinds.{kind_of, kind_at, kind_under, codes_of}
@@ -66,7 +65,7 @@ leaf_value make st v st' l =
     let g = l.begun in
     let t = subst (λ m. Takes m l.data_ st') g.moved l.took in
     let own = g.own in
-    let one : counted l.code ≡ 1 = code_counts l.code (primitive_known (format l.code) (make v) l.data_ l.spelled) in
+    let one : counted_in st.top.shared l.code ≡ 1 = code_counts st.top.shared l.code own g.first (primitive_known (format l.code) (make v) l.data_ l.spelled) in
     record {
       bytes = own ++ l.data_;
       term = leaf (make v);
@@ -80,8 +79,8 @@ leaf_value make st v st' l =
         nested = omega arith;
         few = subst (Has st.quota) one g.few;
       };
-      moved = t.moved ∙ after_data-after_value (length own) (counted l.code) (length l.data_) st
-          ∙ ap (λ n. after_value n (counted l.code) st) (sym (length-append own l.data_))
+      moved = t.moved ∙ after_data-after_value (length own) (counted_in st.top.shared l.code) (length l.data_) st
+          ∙ ap (λ n. after_value n (counted_in st.top.shared l.code) st) (sym (length-append own l.data_))
           ∙ ap (λ k. after_value (length (own ++ l.data_)) k st) one;
       meant = refl;
     }
@@ -116,14 +115,14 @@ value_leaf make st v st' h =
     let r : st.rest ≡ x.own ++ (x.data_ ++ k.after) = k.rest ∙ ap (λ l. l ++ k.after) x.whole ∙ append_assoc x.own x.data_ k.after in
     let behind : drop (length x.own) st.rest ≡ x.data_ ++ k.after =
     ap (drop (length x.own)) r ∙ drop_at x.own (x.data_ ++ k.after) (length x.own) refl in
-    let one : counted x.code ≡ 1 = code_counts x.code (primitive_known (format x.code) (make v) x.data_ x.spelled) in
-    let nodes_ : nodes h.term ≡ 1 = ap nodes h.meant in
-    let same : nodes h.term ≡ counted x.code = nodes_ ∙ sym one in
+    let one : counted_in st.top.shared x.code ≡ 1 = code_counts st.top.shared x.code x.own x.first (primitive_known (format x.code) (make v) x.data_ x.spelled) in
+    let weight_ : weight_at st h.term ≡ 1 = ap (weight_at st) h.meant in
+    let same : weight_at st h.term ≡ counted_in st.top.shared x.code = weight_ ∙ sym one in
     let behind_data : drop (length x.data_) (drop (length x.own) st.rest) ≡ k.after =
     ap (drop (length x.data_)) behind ∙ drop_at x.data_ k.after (length x.data_) refl in
     record {
       code = x.code;
-      mid = after_value (length x.own) (counted x.code) st;
+      mid = after_value (length x.own) (counted_in st.top.shared x.code) st;
       data_ = x.data_;
       begun = record {
         going = k.going;
@@ -139,9 +138,9 @@ value_leaf make st v st' h =
       took = record {
         room = has_rest st.top.left (length x.own) (length x.data_) room;
         rest = behind ∙ ap (λ l. x.data_ ++ l) (sym behind_data);
-        moved = h.moved ∙ ap (λ z. after_value z (nodes h.term) st) n
+        moved = h.moved ∙ ap (λ z. after_value z (weight_at st h.term) st) n
             ∙ ap (λ z. after_value (length x.own + length x.data_) z st) same
-            ∙ sym (after_data-after_value (length x.own) (counted x.code) (length x.data_) st);
+            ∙ sym (after_data-after_value (length x.own) (counted_in st.top.shared x.code) (length x.data_) st);
       };
     }
 
@@ -151,7 +150,7 @@ begun_same st c c' m m' h k =
     let s = first_own st.top.shared c c' h.own k.own (drop (length h.own) st.rest) (drop (length k.own) st.rest) h.first k.first
     (sym h.rest ∙ k.rest) in (
       s.0,
-      h.moved ∙ ap (λ l. after_value (length l) (counted c) st) s.1 ∙ ap (λ n. after_value (length k.own) (counted n) st) s.0 ∙ sym k.moved,
+      h.moved ∙ ap (λ l. after_value (length l) (counted_in st.top.shared c) st) s.1 ∙ ap (λ n. after_value (length k.own) (counted_in st.top.shared n) st) s.0 ∙ sym k.moved,
     )
 
 pub fault_not_begun : (st : State) (e : Error) (c : ℕ) (m : State) → BeginFault st e → ReadsCode st c m → ⊥

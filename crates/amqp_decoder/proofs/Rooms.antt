@@ -1,10 +1,9 @@
 -- Where containers have room, and what keeps it.
 use Rattle.std.proofs.Common.{◌≡◌, ◌≤◌, ◌<◌, ℕ, inl, inr, Option, Some, None, List, [], ◌∷◌, length, refl, sym, ap, ◌∙◌, subst, arith}
 use Rattle.amqp_model.specs.Term.{Container, array, Term, Terms, container, Descriptor}
-use Rattle.amqp_model.specs.Measures.{nodes}
 use Rattle.amqp_decoder.specs.declared.frame.Place.{Place}
 use Rattle.amqp_decoder.specs.declared.frame.Place.TheVariants.{InArray}
-use Rattle.amqp_decoder.specs.State.{State, Has, lower, after_look, after_value, in_container}
+use Rattle.amqp_decoder.specs.State.{State, Has, lower, after_look, after_value, weight_at, in_container}
 use Rattle.amqp_decoder.specs.Reading.{after_peek, PeeksCode}
 use Rattle.amqp_decoder.specs.Primitives.{standing, SpellsAs, Stands}
 use Rattle.amqp_decoder.specs.Containers.{Opens}
@@ -54,12 +53,12 @@ room_past n k st (inr (inl none)) = inr (inl (none_past st.top.items none))
 room_past n k st (inr (inr flat)) = inr (inr flat)
 
 pub room_next : (st : State) (t : Term) (st' : State) → Next st t st' → HasRoom st → HasRoom st'
-room_next st t st' h room = subst HasRoom (sym h.moved) (room_past (length h.bytes) (nodes t) st room)
+room_next st t st' h room = subst HasRoom (sym h.moved) (room_past (length h.bytes) (weight_at st t) st room)
 
 pub room_row : (ts : List Term) (st : State) (b : List ℕ) (st' : State) → Row st ts b st' → HasRoom st → HasRoom st'
 room_row [] st b st' (e, is) room = subst HasRoom (sym is) room
 room_row (t ∷ ts) st b st' (first, others, e, k, row) room =
-    room_row ts (after_value (length first) (nodes t) st) others st' row (room_past (length first) (nodes t) st room)
+    room_row ts (after_value (length first) (weight_at st t) st) others st' row (room_past (length first) (weight_at st t) st room)
 
 -- a container or a described value is opened
 one_more : (place : Place) (n content : ℕ) (st : State) → length st.saved < st.nesting → HasRoom (in_container place n content st)

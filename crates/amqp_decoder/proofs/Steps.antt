@@ -6,7 +6,7 @@ use Rattle.std.proofs.Math.Nat.{lt_of_not-le}
 use Rattle.amqp_model.specs.Term.{Descriptor}
 use Rattle.amqp_wire.specs.declared.error.Error.{Error}
 use Rattle.amqp_wire.specs.declared.error.Error.TheVariants.{Cut, Limit}
-use Rattle.amqp_decoder.specs.State.{Open, State, Has, lower, bound_of, after_value, announced, counted, uncounted}
+use Rattle.amqp_decoder.specs.State.{Open, State, Has, lower, bound_of, after_value, announced, counted_in, uncounted}
 use Rattle.amqp_decoder.specs.Steps.{Answers, RefusesBy, SourceFailed, IsExcused, Pulls, Misses, Takes, Lacks, cut_open, past_limit, cut_inside, too_long}
 use Rattle.amqp_decoder.specs.Steps.{Began, Fails, Goes, GoesOn, Refused, Tries, FallsShort, NoRoom, Stops, asked_in, SizeError, cut, wrong, past, RefusesSize}
 use Rattle.amqp_decoder.specs.Reading.{RefusesRead, IsFirst, IsFirstShared, ReadsCode, BeginFault, no_code, one_too_many}
@@ -132,10 +132,10 @@ not_lacking n st e s x (too_long {l} h less there is) few room r =
 
 -- a value begins, by its first byte or by a shared constructor
 abbrev pub began : ℕ → State → State
-began c m = record m { top = record m.top { items = lower m.top.items 1 }; quota = lower m.quota (counted c) }
+began c m = record m { top = record m.top { items = lower m.top.items 1 }; quota = lower m.quota (counted_in m.top.shared c) }
 
 pub begun_own : (st : State) (c : ℕ) (m : State) → st.error ≡ None → Has st.top.items 1 → st.top.shared ≡ None → Takes st (c ∷ []) m
-    → Has m.quota (counted c) → ReadsCode st c (began c m)
+    → Has m.quota (counted_in m.top.shared c) → ReadsCode st c (began c m)
 begun_own st c m going item none t few = record {
   going = going;
   item = item;
@@ -143,7 +143,7 @@ begun_own st c m going item none t few = record {
   first = subst (λ o. IsFirst o c (c ∷ [])) (sym none) refl;
   room = t.room;
   rest = t.rest;
-  few = subst (λ (x : State). Has x.quota (counted c)) t.moved few;
+  few = subst (λ (x : State). Has x.quota (counted_in x.top.shared c)) t.moved few;
   moved = ap (began c) t.moved;
 }
 
@@ -160,14 +160,14 @@ pub lower_none : (o : Option ℕ) → lower o 0 ≡ o
 lower_none None = refl
 lower_none (Some l) = ap Some (omega arith)
 
-past_none : (c : ℕ) (st : State) → began c st ≡ after_value 0 (counted c) st
+past_none : (c : ℕ) (st : State) → began c st ≡ after_value 0 (counted_in st.top.shared c) st
 past_none c st =
     let a : st.ahead ≡ st.ahead - 0 = omega arith in
     ap (λ x. record (began c st) { ahead = x }) a
     ∙ ap (λ x. record (began c st) { ahead = st.ahead - 0; top = record st.top { items = lower st.top.items 1; left = x } })
     (sym (lower_none st.top.left))
 
-pub begun_shared : (st : State) (c : ℕ) → st.error ≡ None → Has st.top.items 1 → IsFirstShared st.top.shared c → Has st.quota (counted c)
+pub begun_shared : (st : State) (c : ℕ) → st.error ≡ None → Has st.top.items 1 → IsFirstShared st.top.shared c → Has st.quota (counted_in st.top.shared c)
     → ReadsCode st c (began c st)
 begun_shared st c going item h few = record {
   going = going;
@@ -202,16 +202,16 @@ first_own None c c' own own' x y f f' e =
 first_own (Some ([], k)) c c' own own' x y (a, f) (b, f') e = (f ∙ sym f', a ∙ sym b)
 first_own (Some (d ∷ ds, k)) c c' own own' x y (a, f) (b, f') e = (f ∙ sym f', a ∙ sym b)
 
-pub not_begun_counted : (st : State) (c d : ℕ) (a b : State) → ReadsCode (uncounted st) c a → (Has st.quota (counted c) → ⊥)
+pub not_begun_counted : (st : State) (c d : ℕ) (a b : State) → ReadsCode (uncounted st) c a → (Has st.quota (counted_in st.top.shared c) → ⊥)
     → ReadsCode st d b → ⊥
 not_begun_counted st c d a b g full h =
     let s = first_own st.top.shared c d g.own h.own (drop (length g.own) st.rest) (drop (length h.own) st.rest) g.first h.first
     (sym g.rest ∙ h.rest) in
-    full (subst (λ k. Has st.quota (counted k)) (sym s.0) h.few)
+    full (subst (λ k. Has st.quota (counted_in st.top.shared k)) (sym s.0) h.few)
 
 -- one value more than may begin
 pub begin_full : (st : State) (c : ℕ) (m : State) (e : Error) (new : State) → ReadsCode (uncounted st) c m
-    → (Has st.quota (counted c) → ⊥) → e ≡ Limit → Answers st e new → RefusesRead false ReadsCode BeginFault st e new
+    → (Has st.quota (counted_in st.top.shared c) → ⊥) → e ≡ Limit → Answers st e new → RefusesRead false ReadsCode BeginFault st e new
 begin_full st c m e new g full is kept = record {
   kept = kept;
   again = λ d x. let going = g.going in absurd (cc);
@@ -221,7 +221,7 @@ begin_full st c m e new g full is kept = record {
 
 -- the code was taken, and counts
 pub full_own : (st : State) (c : ℕ) (m : State) (e : Error) (new : State) → st.error ≡ None → Has st.top.items 1 → st.top.shared ≡ None
-    → Takes st (c ∷ []) m → (Has m.quota (counted c) → ⊥) → e ≡ Limit → new ≡ record m { error = Some Limit }
+    → Takes st (c ∷ []) m → (Has m.quota (counted_in m.top.shared c) → ⊥) → e ≡ Limit → new ≡ record m { error = Some Limit }
     → RefusesRead false ReadsCode BeginFault st e new
 full_own st c m e new going item none t full is kept =
     let u : Takes (uncounted st) (c ∷ []) (record m { quota = None }) = record {
@@ -230,11 +230,11 @@ full_own st c m e new going item none t full is kept =
       moved = ap (λ (x : State). record x { quota = None }) t.moved;
     } in
     begin_full st c _ e new (begun_own (uncounted st) c _ going item none u tt)
-    (subst (λ (x : State). Has x.quota (counted c) → ⊥) t.moved full) is (answered_took t (answered m new e Limit kept is))
+    (subst (λ (x : State). Has x.quota (counted_in x.top.shared c) → ⊥) t.moved full) is (answered_took t (answered m new e Limit kept is))
 
 -- it is shared, and counts
 pub full_shared : (st : State) (c : ℕ) (e : Error) (new : State) → st.error ≡ None → Has st.top.items 1 → IsFirstShared st.top.shared c
-    → (Has st.quota (counted c) → ⊥) → e ≡ Limit → new ≡ record st { error = Some Limit } → RefusesRead false ReadsCode BeginFault st e new
+    → (Has st.quota (counted_in st.top.shared c) → ⊥) → e ≡ Limit → new ≡ record st { error = Some Limit } → RefusesRead false ReadsCode BeginFault st e new
 full_shared st c e new going item h full is kept =
     begin_full st c _ e new (begun_shared (uncounted st) c going item h tt) full is (answered st new e Limit kept is)
 

@@ -1,15 +1,15 @@
 -- What stands within limits of the caller.
 use Rattle.std.proofs.Common.{◌≡◌, ◌≤◌, ◌↔◌, ◌-◌, ℕ, Option, Some, None, List, length, max, sym, subst, arith}
 use Rattle.amqp_model.specs.Term.{Descriptor, Term}
-use Rattle.amqp_model.specs.Measures.{nest, nodes}
-use Rattle.amqp_decoder.specs.State.{State, Has}
+use Rattle.amqp_model.specs.Measures.{nest}
+use Rattle.amqp_decoder.specs.State.{State, Has, weight_at}
 use Rattle.amqp_decoder.specs.Within.{limited}
 use Rattle.amqp_decoder.specs.Reading.{IsFirst, after_peek, PeeksCode}
 use Rattle.amqp_decoder.specs.Primitives.{Stands}
 
 pub stands_within : (nesting : ℕ) (left quota : Option ℕ) (st : State) (s : List ℕ) (t : Term) → nesting ≤ st.nesting → st.top.left ≡ None
     → st.quota ≡ None → Stands (limited nesting left quota st) s t
-    ↔ (Stands st s t × Has left (length s) × (nest t ≤ nesting - length st.saved) × Has quota (nodes t))
+    ↔ (Stands st s t × Has left (length s) × (nest t ≤ nesting - length st.saved) × Has quota (weight_at st t))
 stands_within nesting left quota st s t most none uncounted = (
   λ k. (
     record {
@@ -20,7 +20,7 @@ stands_within nesting left quota st s t most none uncounted = (
       rest = k.rest;
       spelled = k.spelled;
       nested = let n = k.nested in omega (arith, n, most);
-      few = subst (λ o. Has o (nodes t)) (sym uncounted) tt;
+      few = subst (λ o. Has o (weight_at st t)) (sym uncounted) tt;
     },
     k.room,
     k.nested,

@@ -5,14 +5,13 @@ use Rattle.std.proofs.Common.{◌+◌}
 use Rattle.std.proofs.lemmas.List.{length-map}
 use Rattle.amqp_model.specs.Term.{Container, Descriptor, Term}
 use Rattle.amqp_model.specs.Constructors.{Format, fixed, variable, compound, unknown, format}
-use Rattle.amqp_model.specs.Measures.{nodes}
 use Rattle.amqp_model.specs.Standing.{Standing}
 use Rattle.amqp_wire.specs.declared.error.Error.{Error}
 use Rattle.amqp_wire.specs.declared.error.Error.TheVariants.{Size, Depth, Limit}
 use Rattle.amqp_lookahead.specs.Members.{Member}
 use Rattle.amqp_decoder.specs.declared.frame.Place.{Place}
 use Rattle.amqp_decoder.specs.declared.frame.Place.TheVariants.{InArray}
-use Rattle.amqp_decoder.specs.State.{Course, Open, State, Has, lower, emptied, bound_of, bytes_left, announced, after_data, after_value, counted}
+use Rattle.amqp_decoder.specs.State.{Course, Open, State, Has, lower, emptied, bound_of, bytes_left, announced, after_data, after_value, counted_in, weight_at}
 use Rattle.amqp_decoder.specs.State.{depth_error, holding, in_container}
 use Rattle.amqp_decoder.specs.Steps.{Takes, Lacks, cut_open, past_limit, cut_inside, too_long, asked_in, asked, IsWithinLimit}
 use Rattle.amqp_decoder.specs.Steps.{SizeError, cut, wrong, past, NoRoom}
@@ -204,8 +203,8 @@ module _ (c : Setting) where
     first = h.first;
     room = room_left (length h.own) st h.room;
     rest = h.rest;
-    few = freed_has c.free st.quota (counted k) h.few;
-    moved = ap at h.moved ∙ taken_past (length h.own) (counted k) st;
+    few = freed_has c.free st.quota (counted_in st.top.shared k) h.few;
+    moved = ap at h.moved ∙ taken_past (length h.own) (counted_in st.top.shared k) st;
   }
 
   looked_at : (o : Option (List Descriptor × ℕ)) (st : State) → at (after_peek o st) ≡ after_peek o (at st)
@@ -224,7 +223,7 @@ module _ (c : Setting) where
     rest = h.rest;
     spelled = h.spelled;
     nested = let n = h.nested in let g = c.grows st.nesting in let open_ = saved_same st in omega (arith, n, g, open_);
-    few = freed_has c.free st.quota (nodes t) h.few;
+    few = freed_has c.free st.quota (weight_at st t) h.few;
   }
 
   pub value : {A : Type 0} (means : Standing → Term → A → Type 0) {st st' : State} {v : A} → ReadsValue means st v st'
@@ -233,7 +232,7 @@ module _ (c : Setting) where
     bytes = h.bytes;
     term = h.term;
     stands = stands h.stands;
-    moved = ap at h.moved ∙ taken_past (length h.bytes) (nodes h.term) st;
+    moved = ap at h.moved ∙ taken_past (length h.bytes) (weight_at st h.term) st;
     meant = h.meant;
   }
 
@@ -287,7 +286,7 @@ module _ (c : Setting) where
   pub begin_fault : {st : State} {e : Error} → KeepsError c e → BeginFault st e → BeginFault (at st) e
   begin_fault keeps (missing i e) = missing i e
   begin_fault keeps (no_code i s l) = no_code i s (lacks keeps l)
-  begin_fault {st} keeps (one_too_many {c = k} g full is) = one_too_many (begun g) (counted_still keeps is st.quota (counted k) full) is
+  begin_fault {st} keeps (one_too_many {c = k} g full is) = one_too_many (begun g) (counted_still keeps is st.quota (counted_in st.top.shared k) full) is
 
   data_fault : (F : Format) (st : State) (e : Error) → KeepsError c e → LacksData F st e → LacksData F (at st) e
   data_fault (fixed w v) st e keeps h = lacks keeps h
@@ -540,7 +539,7 @@ module _ (c : Setting) where
     term = h.term;
     stands = stands h.stands;
     unshared = h.unshared;
-    moved = ap at h.moved ∙ taken_past (length s) (nodes h.term) st;
+    moved = ap at h.moved ∙ taken_past (length s) (weight_at st h.term) st;
   }
 
   pub term_fault : {st : State} {e : Error} → KeepsError c e → TermFault st e → TermFault (at st) e
@@ -549,4 +548,4 @@ module _ (c : Setting) where
   term_fault keeps (in_array h shared is) = in_array h shared is
   term_fault keeps (misspelled h none f) = misspelled h none (spelling_fault keeps f)
   term_fault {st} keeps (terms.too_many h full is) =
-      terms.too_many (took_term h) (counted_still keeps is st.quota (nodes h.term) full) is
+      terms.too_many (took_term h) (counted_still keeps is st.quota (weight_at st h.term) full) is

@@ -4,12 +4,12 @@ use Rattle.std.specs.Int.{bytes_high_first}
 use Rattle.amqp_model.specs.Term.{Primitive, Descriptor, Term, leaf}
 use Rattle.amqp_model.specs.Constructors.{Format, fixed, variable, compound, unknown, format}
 use Rattle.amqp_model.specs.Spelling.{PrimitiveData, IsDataOf, IsSpelling}
-use Rattle.amqp_model.specs.Measures.{nest, nodes}
+use Rattle.amqp_model.specs.Measures.{nest}
 use Rattle.amqp_model.specs.Standing.{Standing, whole, part}
 use Rattle.amqp_wire.specs.declared.error.Error.{Error}
 use Rattle.amqp_wire.specs.declared.error.Error.TheVariants.{BadBool, BadChar, BadUtf8, NonAscii, InvalidValue}
 use Rattle.amqp_wire.specs.Codes.{refusal_of}
-use Rattle.amqp_decoder.specs.State.{State, Has, lower, after_value}
+use Rattle.amqp_decoder.specs.State.{State, Has, lower, after_value, weight_at}
 use Rattle.amqp_decoder.specs.Steps.{Answers, IsExcused, SourceFailed, Takes, Lacks}
 use Rattle.amqp_decoder.specs.Reading.{ReadsCode, BeginFault}
 use Rattle.amqp_lookahead.specs.Kinds.{kind_at, booleans, chars, strings, symbols}
@@ -32,14 +32,14 @@ pub record Stands (st : State) (s : List ℕ) (t : Term) : Type 0 where
   pub rest : st.rest ≡ s ++ after
   pub spelled : SpellsAs (standing st.top.shared s) t
   pub nested : nest t ≤ st.nesting - length st.saved
-  pub few : Has st.quota (nodes t)
+  pub few : Has st.quota (weight_at st t)
 
 -- A term that means the value stood next, and was taken.
 pub record ReadsValue {A : Type 0} (means : Standing → Term → A → Type 0) (st : State) (v : A) (st' : State) : Type 0 where
   pub bytes : List ℕ
   pub term : Term
   pub stands : Stands st bytes term
-  pub moved : st' ≡ after_value (length bytes) (nodes term) st
+  pub moved : st' ≡ after_value (length bytes) (weight_at st term) st
   pub meant : means (standing st.top.shared bytes) term v
 
 -- The term is the primitive that is made of the value.

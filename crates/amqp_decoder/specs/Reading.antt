@@ -3,7 +3,7 @@ use Rattle.std.specs.Prelude.{◌≡◌, ℕ, ◌⊎◌, Bool, List, [], ◌∷�
 use Rattle.amqp_model.specs.Term.{Descriptor}
 use Rattle.amqp_wire.specs.declared.error.Error.{Error}
 use Rattle.amqp_wire.specs.declared.error.Error.TheVariants.{Missing, Limit}
-use Rattle.amqp_decoder.specs.State.{State, Has, after_look, after_value, counted, uncounted}
+use Rattle.amqp_decoder.specs.State.{State, Has, after_look, after_value, counted_in, uncounted}
 use Rattle.amqp_decoder.specs.Steps.{Answers, IsExcused, Lacks}
 
 -- Nothing that could be read stands there, and the error, which names a fault that does, is kept for each later call.
@@ -46,15 +46,16 @@ pub record ReadsCode (st : State) (c : ℕ) (st' : State) : Type 0 where
   pub first : IsFirst st.top.shared c own
   pub room : Has st.top.left (length own)
   pub rest : st.rest ≡ own ++ drop (length own) st.rest
-  pub few : Has st.quota (counted c)
-  pub moved : st' ≡ after_value (length own) (counted c) st
+  pub few : Has st.quota (counted_in st.top.shared c)
+  pub moved : st' ≡ after_value (length own) (counted_in st.top.shared c) st
 
--- Why no value begins: none is left, or one is, and its first code can't be taken, or is there and one value more than may
--- begin by it.
+-- Why no value begins: none is left, or one is, and its first code can't be taken, or is there, and what begins by it weighs too
+-- much.
 pub data BeginFault (st : State) (e : Error) : Type 0 where
   missing : st.top.items ≡ Some 0 → e ≡ Missing → BeginFault st e
   no_code : Has st.top.items 1 → st.top.shared ≡ None → Lacks 1 st e → BeginFault st e
-  one_too_many : {c : ℕ} {m : State} → ReadsCode (uncounted st) c m → (Has st.quota (counted c) → ⊥) → e ≡ Limit → BeginFault st e
+  one_too_many : {c : ℕ} {m : State} → ReadsCode (uncounted st) c m → (Has st.quota (counted_in st.top.shared c) → ⊥) → e ≡ Limit
+      → BeginFault st e
 
 -- The next value's first code was looked at, where no constructor is shared.
 abbrev pub after_peek : Option (List Descriptor × ℕ) → State → State

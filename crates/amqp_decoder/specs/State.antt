@@ -1,8 +1,9 @@
 -- What a decoder has before it.
 use Rattle.std.specs.Prelude.{◌≡◌, ℕ, zero, suc, ◌+◌, ◌-◌, ◌≤◌, Bool, cond, eqb, nat_lt, true, false, List, [], ◌∷◌, take, drop, map, get_or, max, Option, Some}
 use Rattle.std.specs.Prelude.{None, unwrap_or, option_map}
-use Rattle.amqp_model.specs.Term.{Descriptor}
+use Rattle.amqp_model.specs.Term.{Descriptor, Term}
 use Rattle.amqp_model.specs.Constructors.{Format, unknown, format}
+use Rattle.amqp_model.specs.Measures.{share, weight}
 use Rattle.amqp_wire.specs.declared.error.Error.{Error}
 use Rattle.amqp_wire.specs.declared.error.Error.TheVariants.{Depth, Limit}
 use Rattle.amqp_wire.specs.Limits.{unlimited}
@@ -37,7 +38,7 @@ pub record Course : Type 0 where
 -- top: the open container that values are read from
 -- saved: the containers around it, the nearest first, as they will be once the inner one is closed
 -- nesting: how many containers and described values may be nested, at most 128
--- quota: how many more values may begin, where a limit of the caller says it; a described value is one with its descriptor
+-- quota: what the terms that may still begin weigh together, where a limit of the caller says it
 -- error: what was refused
 -- failed: whether the source has failed, whether one term is read alone, and whether there are no limits of the caller
 pub record State : Type 0 where
@@ -178,7 +179,7 @@ after_bytes n st = record st { rest = drop n st.rest; ahead = st.ahead - n }
 abbrev pub after_data : ℕ → State → State
 after_data n st = record st { rest = drop n st.rest; ahead = st.ahead - n; top = record st.top { left = lower st.top.left n } }
 
--- A value of n bytes is taken, in which k values count.
+-- A value of n bytes that weighs k is taken.
 abbrev pub after_value : ℕ → ℕ → State → State
 after_value n k st =
     record st {
@@ -188,7 +189,7 @@ after_value n k st =
       quota = lower st.quota k;
     }
 
--- How many values begin by a constructor's first code: one, unless that is 0, behind which a descriptor stands, or is unknown.
+-- What begins by a constructor's first code weighs one, unless that is 0, behind which a descriptor stands, or is unknown.
 abbrev pub counted_by : Format → ℕ
 counted_by unknown = 0
 counted_by _ = 1
@@ -196,7 +197,21 @@ counted_by _ = 1
 abbrev pub counted : ℕ → ℕ
 counted c = counted_by (format c)
 
--- As many values may begin as there are.
+-- What begins by a first code under what is shared: a shared descriptor has a weight of its own.
+abbrev pub counted_in : Option (List Descriptor × ℕ) → ℕ → ℕ
+counted_in None c = counted c
+counted_in (Some ([], k)) c = counted c
+counted_in (Some (d ∷ ds, k)) c = share d
+
+abbrev pub is_shared : Option (List Descriptor × ℕ) → Bool
+is_shared None = false
+is_shared (Some c) = true
+
+-- What a term weighs that stands next.
+abbrev pub weight_at : State → Term → ℕ
+weight_at st t = weight t (is_shared st.top.shared)
+
+-- Whatever terms weigh, they may begin.
 abbrev pub uncounted : State → State
 uncounted st = record st { quota = None }
 

@@ -4,7 +4,6 @@ use Rattle.std.specs.Int.{bytes_high_first}
 use Rattle.amqp_model.specs.Term.{Descriptor, Term}
 use Rattle.amqp_model.specs.Constructors.{Format, fixed, variable, compound, format}
 use Rattle.amqp_model.specs.Spelling.{Constructor}
-use Rattle.amqp_model.specs.Measures.{nodes}
 use Rattle.amqp_wire.specs.declared.error.Error.{Error}
 use Rattle.amqp_wire.specs.declared.error.Error.TheVariants.{NonAscii, Missing, Size, LazyInArray, Limit}
 use Rattle.amqp_lengths.specs.Pieces.{IsSized}
@@ -14,7 +13,7 @@ use Rattle.amqp_lengths.specs.Lengths.{IsTerm}
 use Rattle.amqp_lengths.specs.Announced.{content_size, IsAnnounced}
 use Rattle.amqp_decoder.specs.declared.terms.Data.{Data}
 use Rattle.amqp_decoder.specs.declared.terms.Data.TheVariants.{Fixed as of_width, Sized as of_size}
-use Rattle.amqp_decoder.specs.State.{State, depth_error, Has, after_value, uncounted}
+use Rattle.amqp_decoder.specs.State.{State, depth_error, Has, after_value, weight_at, uncounted}
 use Rattle.amqp_decoder.specs.Steps.{Takes, Lacks, SizeError}
 use Rattle.amqp_decoder.specs.Primitives.{Stands, LacksData, LacksSized, ReadsSized}
 use Rattle.amqp_decoder.specs.Containers.{is_list}
@@ -74,11 +73,11 @@ pub record TakesTerm (st : State) (s : List ℕ) (st' : State) : Type 0 where
   pub term : Term
   pub stands : Stands st s term
   pub unshared : st.top.shared ≡ None
-  pub moved : st' ≡ after_value (length s) (nodes term) st
+  pub moved : st' ≡ after_value (length s) (weight_at st term) st
 
 -- Why no term is read.
 pub data TermFault (st : State) (e : Error) : Type 0 where
   missing : st.top.items ≡ Some 0 → e ≡ Missing → TermFault st e
   in_array : Has st.top.items 1 → (st.top.shared ≡ None → ⊥) → e ≡ LazyInArray → TermFault st e
   misspelled : Has st.top.items 1 → st.top.shared ≡ None → SpellingFault st e → TermFault st e
-  too_many : {s : List ℕ} {m : State} (h : TakesTerm (uncounted st) s m) → (Has st.quota (nodes h.term) → ⊥) → e ≡ Limit → TermFault st e
+  too_many : {s : List ℕ} {m : State} (h : TakesTerm (uncounted st) s m) → (Has st.quota (weight_at st h.term) → ⊥) → e ≡ Limit → TermFault st e

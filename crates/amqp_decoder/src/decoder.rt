@@ -1,7 +1,7 @@
 //! The state of a decoder.
-ghost use Rattle.std.specs.Prelude.{◌≡◌, ◌≤◌, [], length, drop, false, true, Some, None, MatchResult};
+ghost use Rattle.std.specs.Prelude.{◌≡◌, ◌≤◌, ℕ, [], length, drop, false, true, Some, None, MatchResult};
 ghost use Rattle.amqp_wire.specs.Sources.{known, Tells};
-ghost use Rattle.amqp_decoder.specs.State.{top_level, is_free};
+ghost use Rattle.amqp_decoder.specs.State.{bound_of, top_level, is_free};
 ghost use Rattle.amqp_wire.specs.Limits.{limit_of};
 ghost use Rattle.amqp_decoder.specs.Reserve.{Leaves};
 ghost use Rattle.amqp_decoder.specs.Rooms.{HasRoom};
@@ -46,6 +46,8 @@ pub struct Decoder<R: ByteSource> {
     bytes: u64,
     items: u64,
     hash_seed: u64,
+    // For how many items memory may still be reserved before they come.
+    reservable: u64,
     // One term is read, and what comes after it isn't looked at.
     alone: bool,
     descriptors: Vec<Descriptor>,
@@ -98,6 +100,21 @@ impl<R: ByteSource> Decoder<R> {
     #[inline(always)]
     pub fn hash_seed(&self) -> u64 {
         self.hash_seed
+    }
+
+    /// Returns for how many of so many items memory may be reserved before they come. They are at most as many as the open container has
+    /// bytes left, since each takes a byte. All calls together return at most as many as the source had bytes at hand at first, which is
+    /// none for a reader. So what is reserved is no more than the input is long, whatever counts it announces.
+    #[inline]
+    pub fn reservable_items(&mut self, count: u32) -> usize
+        ensures few { result ≤ count }
+        ensures fit { (left : ℕ) → bound_of self.old.top ≡ Some left → result ≤ left }
+        ensures kept { self.new ≡ self.old }
+    {
+        let left = self.left().unwrap_or(0);
+        let items = u64::from(count.min(left)).min(self.reservable);
+        self.reservable -= items;
+        items as usize
     }
 
     // Keeps the error of a decoder that hasn't refused.
@@ -184,6 +201,17 @@ pub fn decoder_of_term<R: ByteSource>(source: R, limits: &Limits, alloc: Global)
     decoder_at_top(source, limits, true, alloc)
 }
 
+// How many bytes a source keeps at hand, if it keeps all of them there.
+fn bytes_at_hand<R: ByteSource>(source: &R) -> u64
+    ensures all { R.is_whole ≡ true → result ≡ length (known (R.remaining source.now)) }
+    ensures none { R.is_whole ≡ false → result ≡ 0 }
+{
+    match source.at_hand() {
+        Some(bytes) => bytes.len() as u64,
+        None => 0,
+    }
+}
+
 // The same, which reads one term alone or not.
 fn decoder_at_top<R: ByteSource>(
     source: R,
@@ -209,6 +237,7 @@ fn decoder_at_top<R: ByteSource>(
       };
     } }
 {
+    let reservable = bytes_at_hand(&source);
     Decoder {
         input: Input::new(source),
         top: OpenContainer::TOP,
@@ -218,6 +247,7 @@ fn decoder_at_top<R: ByteSource>(
         bytes: limits.bytes(),
         items: limits.items(),
         hash_seed: limits.hash_seed(),
+        reservable,
         alone,
         descriptors: Vec::new(alloc),
         frames: Row::new(),

@@ -2,11 +2,11 @@
 ghost use Rattle.std.specs.Prelude.{◌≡◌, ◌<◌, ◌≤◌, ◌↔◌, ◌-◌, ℕ, Option, List, [], ◌∷◌, ◌++◌, length, Some, None};
 ghost use Rattle.amqp_model.specs.Term.{Container, Descriptor, Term, Terms, container, described, list, map, array};
 ghost use Rattle.amqp_model.specs.Items.{items_of};
-ghost use Rattle.amqp_model.specs.Measures.{nest, nodes};
+ghost use Rattle.amqp_model.specs.Measures.{nest};
 ghost use Rattle.amqp_model.specs.Standing.{Standing};
 ghost use Rattle.amqp_decoder.specs.declared.frame.Place.{Place};
 ghost use Rattle.amqp_decoder.specs.declared.frame.Place.TheVariants.{InArray};
-ghost use Rattle.amqp_decoder.specs.State.{State, Has, after_look, after_bytes, after_data, after_value};
+ghost use Rattle.amqp_decoder.specs.State.{State, Has, after_look, after_bytes, after_data, after_value, weight_at};
 ghost use Rattle.amqp_decoder.specs.Within.{limited};
 ghost use Rattle.amqp_decoder.specs.Steps.{Takes, IsOutside};
 ghost use Rattle.amqp_decoder.specs.Reading.{ReadsCode, PeeksCode};
@@ -82,12 +82,12 @@ pub fn rooms()
     ensures opened_described { (st after : State) (d : Descriptor) → OpensDescribed st d after → HasRoom after }
 {}
 
-/// At the top level, a term is there within limits exactly if it is there without limits, has no more bytes, nests no deeper and has no
-/// more values. And a look at the next code goes no further than the bytes that are left.
+/// At the top level, a term is there within limits exactly if it is there without limits, has no more bytes, nests no deeper and
+/// weighs no more. And a look at the next code goes no further than the bytes that are left.
 pub fn limits()
     ensures stands { (nesting : ℕ) (left quota : Option ℕ) (st : State) (s : List ℕ) (t : Term) → nesting ≤ st.nesting → st.top.left ≡ None
         → st.quota ≡ None → (Stands (limited nesting left quota st) s t
-        ↔ (Stands st s t × Has left (length s) × (nest t ≤ nesting - length st.saved) × Has quota (nodes t))) }
+        ↔ (Stands st s t × Has left (length s) × (nest t ≤ nesting - length st.saved) × Has quota (weight_at st t))) }
     ensures looked { (st looked : State) (c : ℕ) → PeeksCode st c looked → Has st.top.left st.ahead → Has looked.top.left looked.ahead }
 {}
 

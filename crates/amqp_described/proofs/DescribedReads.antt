@@ -10,8 +10,7 @@ use Rattle.amqp_wire.specs.declared.descriptor.Descriptor.TheVariants.{Name, Cod
 use Rattle.amqp_encoder.specs.Values.{descriptor_of as written_descriptor}
 use Rattle.amqp_lookahead.specs.Members.{descriptor_of}
 use Rattle.amqp_decoder.specs.declared.frame.Place.TheVariants.{InDescribed}
-use Rattle.amqp_model.specs.Measures.{nodes}
-use Rattle.amqp_decoder.specs.State.{State, after_value}
+use Rattle.amqp_decoder.specs.State.{State, after_value, weight_at}
 use Rattle.amqp_decoder.specs.Reading.{RefusesRead}
 use Rattle.amqp_decoder.specs.Primitives.{standing, Stands, ReadsValue}
 use Rattle.amqp_decoder.specs.Containers.{ClosesDescribed, EndFault, other_place, nothing_open, items_left}
@@ -55,7 +54,7 @@ module _ {T : Type 0} (u : TermType T) where
   inside_so : (st : State) (v : Described T) (b : State) (bytes : List ℕ) (d : Descriptor) (x : Term) (z : Standing) → st.nesting ≤ 128
       → d ≡ descriptor_of v.descriptor
       → (u.ignores_standing ≡ false → Parts (standing st.top.shared bytes) (described d x) (z ∷ [])) → u.means z x v.value
-      → Stands st bytes (described d x) → b ≡ after_value (length bytes) (nodes x) st → Inside st v b
+      → Stands st bytes (described d x) → b ≡ after_value (length bytes) (weight_at st (described d x)) st → Inside st v b
   inside_so st v b bytes d x z bound is p m stands moved =
       let k = term_described st d x b (record { bytes = bytes; stands = stands; moved = moved }) in
       let n = described_with_parts st d x b (omega (arith, bound)) k in
@@ -65,7 +64,7 @@ module _ {T : Type 0} (u : TermType T) where
       record {
         inner = k.inner;
         opens = subst (λ g. OpensDescribed st g k.inner) is k.opens;
-        last = after_value (length k.bytes) (nodes x) k.inner;
+        last = after_value (length k.bytes) (weight_at k.inner x) k.inner;
         read = record {
           bytes = k.bytes;
           term = x;
@@ -79,7 +78,7 @@ module _ {T : Type 0} (u : TermType T) where
   inside : (st : State) (v : Described T) (b : State) → st.nesting ≤ 128 → Reads st v b → Inside st v b
   inside st v b bound h =
       pair_cases any_descriptor.means u.ignores_standing u.means (standing st.top.shared h.bytes) (pair_of v)
-      (λ t. Stands st h.bytes t → b ≡ after_value (length h.bytes) (nodes t) st → Inside st v b)
+      (λ t. Stands st h.bytes t → b ≡ after_value (length h.bytes) (weight_at st t) st → Inside st v b)
       (λ d x z q p m stands moved. inside_so st v b h.bytes d x z bound q.0 p m stands moved) h.term h.meant h.stands h.moved
 
   pub whole_read : (st inner last b : State) (v : Described T) → st.nesting ≤ 128 → OpensDescribed st (descriptor_of v.descriptor) inner
@@ -121,7 +120,7 @@ module _ {T : Type 0} (u : TermType T) where
     end_refused w last e new r =
         refused_later (λ st (_ : Unit {0}) b. ClosesDescribed InDescribed st b) (EndFault InDescribed) Reads Fault st last e new (λ _. refl)
         (ap (λ (x : State). x.failed) r.moved ∙ described_sound o) o.begun.going
-        (ap (λ (x : State). x.error) r.moved ∙ described_going o) (λ f. absurd (at_end st inner last d (length r.bytes) (nodes r.term) e o r.moved f))
+        (ap (λ (x : State). x.error) r.moved ∙ described_going o) (λ f. absurd (at_end st inner last d (length r.bytes) (weight_at inner r.term) e o r.moved f))
         (λ none v b h.
         let k = inside st v b bound h in
         let s = opens_described_same st (descriptor_of v.descriptor) d k.inner inner k.opens o in

@@ -8,7 +8,7 @@ use Rattle.amqp_model.specs.Constructors.{Format, fixed, variable, compound, unk
 use Rattle.amqp_model.specs.Spelling.{PrimitiveData, ContainerData, Constructor, IsDataOf, AreItemsOf, AreElementsOf, IsSpelling}
 use Rattle.amqp_lookahead.specs.Kinds.{kind_of, kind_under, kind_at as number_at}
 use Rattle.amqp_lookahead.proofs.KindsOfCodes.{kind_data}
-use Rattle.amqp_decoder.specs.State.{State, after_value, counted}
+use Rattle.amqp_decoder.specs.State.{State, after_value, counted_in}
 use Rattle.amqp_decoder.specs.Reading.{ReadsCode, IsFirst, PeeksCode}
 use Rattle.amqp_decoder.specs.Primitives.{standing, SpellsAs, Stands}
 use Rattle.amqp_decoder.proofs.Counts.{may_begin}
@@ -104,14 +104,14 @@ kind_there st c mid s t p h =
     let f = begins st.top.shared s t h.spelled in
     let own = f.own in
     let whole : st.rest ≡ own ++ (f.others ++ h.after) = h.rest ∙ ap (λ x. x ++ h.after) f.whole ∙ append_assoc own f.others h.after in
-    let b : ReadsCode st f.code (after_value (length own) (counted f.code) st) = record {
+    let b : ReadsCode st f.code (after_value (length own) (counted_in st.top.shared f.code) st) = record {
       going = h.going;
       item = h.item;
       own = own;
       first = f.first;
       room = has_less st.top.left (length own) (length s) (omega (arith, ap length f.whole, length-append own f.others)) h.room;
       rest = whole ∙ ap (λ x. own ++ x) (sym (drop_at own (f.others ++ h.after) (length own) refl) ∙ ap (drop (length own)) (sym whole));
-      few = may_begin st.quota t f.code h.few;
+      few = may_begin st.quota st.top.shared t s f.code h.spelled h.few;
       moved = refl;
     } in
-    ap kind_at (begun_same st c f.code p.after (after_value (length own) (counted f.code) st) p.begun b).0 ∙ f.tells
+    ap kind_at (begun_same st c f.code p.after (after_value (length own) (counted_in st.top.shared f.code) st) p.begun b).0 ∙ f.tells

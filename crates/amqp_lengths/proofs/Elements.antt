@@ -56,17 +56,17 @@ pub elements_some : (k n : ℕ) (b : List ℕ) → b ≡ [] → (n ≡ 0 → ⊥
 elements_some k n b e some (none, l, s, deep) = some (sym l)
 elements_some k n b e some (more t ts, l, s, deep) = spelled_some _ b e s
 
--- what stands behind the constructor that was found
+-- the descriptors of the constructor that was found, and what stands behind it
 pub elements_behind : (n c : ℕ) (a x : List ℕ) (ts : Terms) (b : List ℕ) → (b ≡ [] → ⊥) → Constructs n c a → AreElementsOf ts b → a ++ x ≡ b
-    → (ds : List Descriptor) × (length ds ≡ n) × Shared ts ds c x
+    → (ds : List Descriptor) × (length ds ≡ n) × Constructor ds c a × Shared ts ds c x
 elements_behind n c a x none b some h (inl e) s = absurd (some e)
 elements_behind n c a x none b some h (inr (ds, c', few, (first, second, e, q, d))) s =
-    let (es, r, l, is, v) = behind_constructor (λ ds c d. d ≡ []) n c a x ds c' first second b [] h e q d (s ∙ sym (append-nil b)) in
-    (es, l, is ∙ append-nil r ∙ v)
+    let (es, r, l, k, is, v) = behind_constructor (λ ds c d. d ≡ []) n c a x ds c' first second b [] h e q d (s ∙ sym (append-nil b)) in
+    (es, l, k, is ∙ append-nil r ∙ v)
 elements_behind n c a x (more t ts) b some h (ds, c', few, (first, second, e, q, d)) s =
     let D : List Descriptor → ℕ → List ℕ → Type 0 = λ ds c d. (HasWidthZero (format c) → ⊥) × AreSharedDataOf (more t ts) ds c d in
-    let (es, r, l, is, v) = behind_constructor D n c a x ds c' first second b [] h e q d (s ∙ sym (append-nil b)) in
-    (es, l, (v.0, subst (AreSharedDataOf (more t ts) es c) (sym (is ∙ append-nil r)) v.1))
+    let (es, r, l, k, is, v) = behind_constructor D n c a x ds c' first second b [] h e q d (s ∙ sym (append-nil b)) in
+    (es, l, k, (v.0, subst (AreSharedDataOf (more t ts) es c) (sym (is ∙ append-nil r)) v.1))
 
 -- a constructor of no items
 pub elements_bare : (k n c len : ℕ) (b : List ℕ) → Constructs n c (take len b) → drop len b ≡ [] → HasElements k 0 b
@@ -76,7 +76,7 @@ elements_bare k n c len b (ds, l, few, q) e =
 pub elements_surplus : (k n c len : ℕ) (b : List ℕ) → (b ≡ [] → ⊥) → Constructs n c (take len b)
     → (drop len b ≡ [] → ⊥) → HasElements k 0 b → ⊥
 elements_surplus k n c len b some h more_ (none, l, s, deep) =
-    let (ds, m, v) = elements_behind n c (take len b) (drop len b) none b some h s (take-append-drop len b) in more_ v
+    let (ds, m, _, v) = elements_behind n c (take len b) (drop len b) none b some h s (take-append-drop len b) in more_ v
 elements_surplus k n c len b some h more_ (more t ts, l, s, deep) = absurd (omega arith)
 
 -- items that count as levels of their own
@@ -165,7 +165,7 @@ pub elements_rows : (k n c j len : ℕ) (b : List ℕ) → (b ≡ [] → ⊥) �
     → (HasWidthZero (format c) → ⊥) × (levels_of n c ≤ k) × Row (IsData c (k - levels_of n c)) j (drop len b)
 elements_rows k n c j len b some h more_ (none, l, s, deep) = absurd (more_ (sym l))
 elements_rows k n c j len b some h more_ (more t ts, l, s, deep) =
-    let (ds, m, (wide, v)) = elements_behind n c (take len b) (drop len b) (more t ts) b some h s (take-append-drop len b) in
+    let (ds, m, _, (wide, v)) = elements_behind n c (take len b) (drop len b) (more t ts) b some h s (take-append-drop len b) in
     let e = subst (λ i. IsLevel i c t ts) m (level ds c t ts (drop len b) (container_at c (constructs_known n c (take len b) h)) v) in
     let (few, low) = e.most k deep in (
       wide,

@@ -13,4 +13,5 @@ pub mod Answered
 pub mod Cuts
 pub mod RefusedBytes
 pub mod DeeperFaults
+mod DescriptorShares
 mod Measured

@@ -47,23 +47,29 @@ constructor_known (d ∷ ds) c b (first, second, e, n, k) = constructor_known ds
 pub constructs_known : (n c : ℕ) (b : List ℕ) → Constructs n c b → IsKnown (format c)
 constructs_known n c b (ds, l, few, k) = constructor_known ds c b k
 
--- what is spelled behind a constructor
-abbrev Behind : (List Descriptor → ℕ → List ℕ → Type 0) → ℕ → ℕ → List ℕ → List ℕ → Type 0
-Behind D n c x y = (ds : List Descriptor) × (r : List ℕ) × (length ds ≡ n) × (x ≡ r ++ y) × D ds c r
+-- the descriptors of a constructor, and what is spelled behind it
+abbrev Behind : (List Descriptor → ℕ → List ℕ → Type 0) → ℕ → ℕ → List ℕ → List ℕ → List ℕ → Type 0
+Behind D n c a x y = (ds : List Descriptor) × (r : List ℕ) × (length ds ≡ n) × Constructor ds c a × (x ≡ r ++ y) × D ds c r
 
 pub behind_constructor : (D : List Descriptor → ℕ → List ℕ → Type 0) (n c : ℕ) (a x : List ℕ) (ds : List Descriptor) (c' : ℕ)
     (first second b y : List ℕ) → Constructs n c a
-    → b ≡ first ++ second → Constructor ds c' first → D ds c' second → a ++ x ≡ b ++ y → Behind D n c x y
+    → b ≡ first ++ second → Constructor ds c' first → D ds c' second → a ++ x ≡ b ++ y → Behind D n c a x y
 behind_constructor D n c a x ds c' first second b y (es, l, few, k) s k' h e =
     let all : a ++ x ≡ first ++ (second ++ y) = e ∙ ap (λ z. z ++ y) s ∙ append_assoc first second y in
-    let (same, (one, code)) = constructor_same es ds c c' a first x (second ++ y) k k' all in
-    (ds, second, sym (ap length one) ∙ l, rest a first x (second ++ y) (ap length same) all, subst (λ z. D ds z second) (sym code) h)
+    let (same, (one, code)) = constructor_same es ds c c' a first x (second ++ y) k k' all in (
+      ds,
+      second,
+      sym (ap length one) ∙ l,
+      subst (λ zs. Constructor zs c a) one k,
+      rest a first x (second ++ y) (ap length same) all,
+      subst (λ z. D ds z second) (sym code) h,
+    )
 
 term_behind : (k n c : ℕ) (a x b y : List ℕ) → Constructs n c a → IsTerm k b → a ++ x ≡ b ++ y → (r : List ℕ) × (x ≡ r ++ y) × (u : Term)
     × IsDataOf u [] c r × (n + nest u ≤ k)
 unfolding IsSpelling
 term_behind k n c a x b y h (t, (ds, c', few, (first, second, s, q, d)), deep) e =
-    let (es, r, l, u, v) = behind_constructor (IsDataOf t) n c a x ds c' first second b y h s q d e in
+    let (es, r, l, _, u, v) = behind_constructor (IsDataOf t) n c a x ds c' first second b y h s q d e in
     let (w, f, m) = bare t es c r v in
     (r, u, w, f, omega (arith, l, m, deep))
 

@@ -1,21 +1,28 @@
--- How many values bytes hold, and how deep these nest.
-use Rattle.std.specs.Prelude.{◌≡◌, ℕ, ◌≤◌, ◌<◌, ◌^◌, List, ◌++◌, length}
+-- How many values bytes hold, how deep these nest, and what they weigh.
+use Rattle.std.specs.Prelude.{◌≡◌, ℕ, ◌≤◌, ◌<◌, ◌^◌, ◌-◌, min, Bool, false, List, ◌++◌, length}
 use Rattle.amqp_model.specs.Term.{Container, list, map, array, Term, Terms, container, count}
 use Rattle.amqp_model.specs.Spelling.{AreItemsOf, AreElementsOf, IsSpelling}
-use Rattle.amqp_model.specs.Measures.{nest, nodes, all_nodes}
+use Rattle.amqp_model.specs.Measures.{nest, nodes, all_nodes, weight, weights}
 
 -- The bytes spell a term of so many values, which nests so deep, and at most 128.
 abbrev pub IsMeasured : ℕ → ℕ → List ℕ → Type 0
 IsMeasured n k b = (t : Term) × IsSpelling b t × (nodes t ≡ n) × (nest t ≡ k) × (k ≤ 128)
 
--- The front of the input that is a term is so long, and holds so much.
-abbrev pub Begins : (Term → List ℕ → Type 0) → List ℕ → ℕ → ℕ → ℕ → Type 0
-Begins Is input len n k =
-    (t : Term) (front after : List ℕ) → input ≡ front ++ after → Is t front → (length front ≡ len) × (nodes t ≡ n) × (nest t ≡ k)
+-- A number, but at most the greatest that a u64 holds.
+abbrev pub capped : ℕ → ℕ
+capped n = min n (2 ^ 64 - 1)
 
--- So many terms, of which the bytes are the items, hold so much, and what they stand in nests so deep.
-abbrev pub AllMeasured : (Terms → List ℕ → Type 0) → (Terms → ℕ) → ℕ → List ℕ → ℕ → ℕ → Type 0
-AllMeasured Items depth size b n k = (ts : Terms) → count ts ≡ size → Items ts b → (all_nodes ts ≡ n) × (depth ts ≡ k)
+-- The front of the input that is a term is so long, and holds so much.
+abbrev pub Begins : (Term → List ℕ → Type 0) → List ℕ → ℕ → ℕ → ℕ → ℕ → Type 0
+Begins Is input len n k w =
+    (t : Term) (front after : List ℕ) → input ≡ front ++ after → Is t front
+    → (length front ≡ len) × (nodes t ≡ n) × (nest t ≡ k) × (capped (weight t false) ≡ w)
+
+-- So many terms, of which the bytes are the items, hold so much, and what they stand in nests so deep. The Bool says whether they share
+-- their constructor.
+abbrev pub AllMeasured : (Terms → List ℕ → Type 0) → (Terms → ℕ) → Bool → ℕ → List ℕ → ℕ → ℕ → ℕ → Type 0
+AllMeasured Items depth sharing size b n k w =
+    (ts : Terms) → count ts ≡ size → Items ts b → (all_nodes ts ≡ n) × (depth ts ≡ k) × (capped (weights ts sharing) ≡ w)
 
 -- Numbers of the code hold how much there is.
 abbrev pub Fits : ℕ → ℕ → Type 0

@@ -18,8 +18,8 @@ pub(crate) struct Constructor {
     pub(crate) len: usize,
 }
 
-// The length of a descriptor.
-fn descriptor_len(input: &[u8]) -> Result<usize, Error>
+/// Returns the length of a descriptor.
+pub(crate) fn descriptor_len(input: &[u8]) -> Result<usize, Error>
     ensures found { IfOk result (λ n. IsFront NamesAny input.now n) }
     ensures refused { IfErr result (λ e. Refuses NamesAny input.now e) }
     ensures fault { IfErr result (λ e. DescriptorFault input.now e) }

@@ -7,6 +7,7 @@ pub mod laws;
 mod lengths;
 mod measures;
 mod primitives;
+mod shares;
 mod sizes;
 
 pub use lengths::{len_of_term, term_len};

@@ -37,9 +37,9 @@ fn new_place<K: MapKey, V: DeserializeTerm>(
     }
 }
 
-// Reads so many pairs one after another. The count reserves nothing: memory is allocated as keys come, and if that fails, the error is
-// `Memory`. A key that is equal to one before it is `DuplicateKey`, before its value is read. Any other error is that of the first key or
-// value that can't be read. Each key is hashed once.
+// Reads so many pairs one after another. Memory is reserved for half as many as `Decoder::reservable_items` says of their keys and values,
+// and then allocated as keys come; if that fails, the error is `Memory`. A key that is equal to one before it is `DuplicateKey`, before its
+// value is read. Any other error is that of the first key or value that can't be read. Each key is hashed once.
 fn read_pairs<K: MapKey, V: DeserializeTerm, R: ByteSource>(
     count: u32,
     decoder: &mut Decoder<R>,
@@ -50,7 +50,11 @@ fn read_pairs<K: MapKey, V: DeserializeTerm, R: ByteSource>(
     ensures tries { Passes true decoder.old result decoder.new }
 {
     let seed = decoder.hash_seed();
-    let mut pairs = IndexMap::with_hasher(alloc, KeyHashing { seed });
+    let reserved = decoder.reservable_items(count.saturating_mul(2)) / 2;
+    let hashing = KeyHashing { seed };
+    let Ok(mut pairs) = IndexMap::with_capacity_and_hasher(alloc, reserved, hashing) else {
+        return Err(decoder.refuse(Error::Memory));
+    };
     for _ in 0..count {
         let key = K::read_value(decoder, alloc)?;
         match new_place(&mut pairs, key) {

@@ -134,8 +134,8 @@ pub fn decode_message_strict_within<B: FromBody, R: ByteSource>(
     }
 }
 
-/// Returns the canonical text of the message that the input is, read strictly. The text of every message that can be written is read
-/// strictly as it is read in any order.
+/// Returns the canonical text of the message that the input is, read strictly. The text of a message that can be written is read strictly
+/// as it is read in any order, unless its body is an empty batch.
 ///
 /// # Errors
 ///

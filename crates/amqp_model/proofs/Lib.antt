@@ -3,6 +3,7 @@ pub mod Same
 pub mod Unique
 pub mod Lengths
 pub mod Count
+pub mod Weight
 pub mod Shortest
 pub mod Least
 pub mod Primitives

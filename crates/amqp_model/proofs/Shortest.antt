@@ -14,14 +14,14 @@ use Rattle.amqp_model.proofs.Lengths.{sized_length}
 
 infixr 3 ◌⨾◌
 -- what holds of each row holds of each code's format
-AllRows : (Format → Type 0) → List (ℕ × Format) → Type 0
+unfoldable pub AllRows : (Format → Type 0) → List (ℕ × Format) → Type 0
 AllRows P [] = P unknown
 AllRows P (row ∷ rows) = P row.1 × AllRows P rows
 
-◌⨾◌ : {A B : Type 0} → A → B → A × B
+pub ◌⨾◌ : {A B : Type 0} → A → B → A × B
 first ⨾ others = (first, others)
 
-each_row : (P : Format → Type 0) (rows : List (ℕ × Format)) → AllRows P rows → (c : ℕ) → P (look_up c rows)
+pub each_row : (P : Format → Type 0) (rows : List (ℕ × Format)) → AllRows P rows → (c : ℕ) → P (look_up c rows)
 unfolding AllRows
 each_row P [] h c = h
 each_row P (row ∷ rows) h c = cond_both (eqb c row.0) row.1 (look_up c rows) P (λ _. h.0) (λ _. each_row P rows h.1 c)

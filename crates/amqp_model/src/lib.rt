@@ -2,13 +2,13 @@
 //! functions here carry the laws of both. They do nothing; their contracts are proved.
 #![tactic(auto)]
 
-ghost use Rattle.std.specs.Prelude.{◌≡◌, ℕ, true, pos, negsuc, List, [], ◌∷◌, ◌++◌, ◌^◌, ◌≤◌, length, take};
+ghost use Rattle.std.specs.Prelude.{◌≡◌, ℕ, true, pos, negsuc, List, [], ◌∷◌, ◌++◌, ◌^◌, ◌≤◌, ◌+◌, ◌*◌, Bool, false, length, take};
 ghost use Rattle.amqp_model.specs.Term.{Term, Refusal, depth, zero_width_items, non_ascii, mixed_array, too_large, lazy_in_array, leaf};
 ghost use Rattle.amqp_model.specs.Term.{null, boolean, uint, int, binary, symbol, kept, barred, Descriptor, container, list, map, array};
 ghost use Rattle.amqp_model.specs.Term.{described, code, none, more};
 ghost use Rattle.amqp_model.specs.Spelling.{IsSpelling};
 ghost use Rattle.amqp_model.specs.Text.{text, Alone};
-ghost use Rattle.amqp_model.specs.Measures.{nest, nodes};
+ghost use Rattle.amqp_model.specs.Measures.{nest, nodes, weight, over_descriptors, name_length};
 ghost use Rattle.amqp_model.specs.Ranges.{Everywhere, IsValue, IsNoArray, IsBytes};
 ghost use Rattle.amqp_model.specs.Kept.{ExpandsTo};
 ghost use Rattle.amqp_model.specs.Refusals.{Refuses};
@@ -44,6 +44,15 @@ pub fn canonical_text_is_least()
 /// A term has at most as many values as each of its encodings has bytes, whatever the counts of its arrays (Part 1, section 1.2.4).
 pub fn nodes_are_bounded()
     ensures bounded { (b : List ℕ) (t : Term) → IsSpelling b t → nodes t ≤ length b }
+{}
+
+/// A limit on what terms weigh bounds their values and their descriptors, also those that the items of an array share: a term has at most
+/// as many descriptors as its bytes and its weight together, and their names have at most as many bytes as the term and 32 times its
+/// weight (Part 1, sections 1.2 and 1.2.4).
+pub fn descriptors_are_bounded()
+    ensures values { (t : Term) (shared : Bool) → nodes t ≤ weight t shared }
+    ensures descriptors { (b : List ℕ) (t : Term) → IsSpelling b t → over_descriptors (λ d. 1) t ≤ length b + weight t false }
+    ensures names { (b : List ℕ) (t : Term) → IsSpelling b t → over_descriptors name_length t ≤ length b + 32 * weight t false }
 {}
 
 /// No proper prefix of an encoding encodes a term (Part 1, section 1.2).

@@ -167,7 +167,8 @@ pub fn canonical_text<T: Canonical>(input: &[u8], alloc: Global) -> Result<(Vec<
 ///
 /// # Errors
 ///
-/// An error is `Memory`, a fault of an input that begins with no value within the limits, or `TooLarge`.
+/// An error is never `Read`, and it is `Limit` only if the caller has set a limit. If nothing is read within the limits that isn't read
+/// without them, it is `Memory`, a fault of an input that begins with no value within the limits, or `TooLarge`.
 pub fn canonical_text_within<T: Canonical>(
     input: &[u8],
     limits: &Limits,

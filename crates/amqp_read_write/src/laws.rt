@@ -2,7 +2,7 @@
 ghost use Rattle.std.specs.Prelude.{◌≡◌, ◌≤◌, ◌↔◌, ℕ, Bool, true, false, ◌&&◌, List, ◌++◌, length};
 ghost use Rattle.amqp_model.specs.Term.{Refusal, too_large, Term};
 ghost use Rattle.amqp_model.specs.Spelling.{IsSpelling};
-ghost use Rattle.amqp_model.specs.Measures.{nest, nodes};
+ghost use Rattle.amqp_model.specs.Measures.{nest, weight};
 ghost use Rattle.amqp_model.specs.Ranges.{Everywhere, IsNoArray, IsBytes};
 ghost use Rattle.amqp_model.specs.Refusals.{Refuses};
 ghost use Rattle.amqp_model.specs.FieldType.{normal};
@@ -36,12 +36,13 @@ pub fn reading_is_spelling<T: DeserializeTerm>()
 {}
 
 /// Within limits of the caller, a value is read from the first n bytes exactly if it is read from them without limits, and they keep the
-/// limits. They do if n is at most the limit on bytes, and the term that they encode nests no deeper and has no more values than the limits
-/// allow. A described value is one with its descriptor.
+/// limits. They do if n is at most the limit on bytes, and the term that they encode nests no deeper and takes no more items than the
+/// limits allow. Each value is an item, a described value with its descriptor. In an array, each item takes one more for each descriptor
+/// that it shares, and for each whole 32 bytes of its name.
 pub fn limits_bound_reading<T: DeserializeTerm>()
     ensures { (limits : Limits) (input : List ℕ) (v : T) (n : ℕ) → BeginsWithin limits ⟦<T as Deserialize>⟧.reading input v n
         ↔ (BeginsWith ⟦<T as Deserialize>⟧.reading input v n × Has (limit_of limits.bytes) n
-        × ((t : Term) → IsSpelling (take n input) t → (nest t ≤ limits.nesting) × Has (limit_of limits.items) (nodes t))) }
+        × ((t : Term) → IsSpelling (take n input) t → (nest t ≤ limits.nesting) × Has (limit_of limits.items) (weight t false))) }
 {}
 
 /// The seed by which the keys of maps are hashed changes no result. Within limits that differ only in it, the same values are read, and the
@@ -62,8 +63,8 @@ pub fn one_term_is_written<T: DeserializeTerm>()
     ensures refused { (v : T) (e : Error) → T.writing.is_value v → AreUnwritable (T.writing.canons v) e → TermHasCause (T.term.canon v) e }
 {}
 
-/// For a one-term type, what `canonical_text` promises has no condition. Anything may follow a text, and each text is read, as its value
-/// again. The text is the shortest encoding if the type is shortest (`is_least`).
+/// For a one-term type, the conditions in the contract of `canonical_text` hold. Anything may follow a text, each value is kept, and each
+/// lasts. The type is shortest (`is_least`) if its terms are.
 pub fn terms_are_read_again<T: DeserializeTerm>()
     ensures follows { (more : List ℕ) → ⟦<T as Canonical>⟧.follows more }
     ensures kept { (v : T) → ⟦<T as Canonical>⟧.kept v }
@@ -89,8 +90,8 @@ pub fn canonical_text_is_read_again<T: DeserializeTerm>()
     ensures values { (b : List ℕ) (v : T) → IsSpelled T.term b v → T.term.is_value v }
 {}
 
-/// All encodings of a value have one canonical text, and different values have different canonical texts. What a canonical text is read as
-/// is written as that text again.
+/// Values that are the same have one canonical text. If two values were read and can be written, and have one canonical text, they are the
+/// same. What the canonical text of a value that can be written is read as has that text again.
 pub fn one_text_for_one_value<T: DeserializeTerm>()
     ensures same { (v w : T) → T.term.same v w → written T.term v ≡ written T.term w }
     ensures apart { (b c : List ℕ) (v w : T) → IsSpelled T.term b v → IsSpelled T.term c w → IsWritable T.term v → IsWritable T.term w
@@ -113,7 +114,7 @@ pub fn canonical_text_is_least<T: DeserializeTerm>()
         → length (written T.term v) ≤ length b }
 {}
 
-/// These types are shortest: no encoding of a value is shorter than its canonical text.
+/// These types are shortest (`is_least`), so `canonical_text_is_least` applies to them.
 pub fn texts_are_least()
     ensures null { ⟦<() as Canonical>⟧.is_least ≡ true }
     ensures boolean { ⟦<bool as Canonical>⟧.is_least ≡ true }

@@ -8,8 +8,7 @@ use Rattle.amqp_wire.specs.declared.error.Error.{Error}
 use Rattle.amqp_lookahead.specs.Members.{Member, as_name, is_named, name_place}
 use Rattle.amqp_lookahead.proofs.Members.{place_is}
 use Rattle.amqp_decoder.specs.declared.frame.Place.TheVariants.{InDescribed}
-use Rattle.amqp_model.specs.Measures.{nodes}
-use Rattle.amqp_decoder.specs.State.{State, after_value}
+use Rattle.amqp_decoder.specs.State.{State, after_value, weight_at}
 use Rattle.amqp_decoder.specs.Reading.{RefusesRead}
 use Rattle.amqp_decoder.specs.Primitives.{standing, Stands, ReadsValue}
 use Rattle.amqp_decoder.specs.Containers.{ClosesDescribed, EndFault}
@@ -61,7 +60,7 @@ module _ {V T : Type 0} (h : Holds V T) (c : Naming) (u : TermType T) where
     opens : OpensDescribed st descriptor inner
 
   opened_so : (st b : State) (bytes : List ℕ) (d : Descriptor) (x : Term) → IsCalled c d → Stands st bytes (described d x)
-      → b ≡ after_value (length bytes) (nodes x) st → Opened st b
+      → b ≡ after_value (length bytes) (weight_at st (described d x)) st → Opened st b
   opened_so st b bytes d x q stands moved =
       let k = term_described st d x b (record { bytes = bytes; stands = stands; moved = moved }) in
       record { descriptor = d; is = q; inner = k.inner; opens = k.opens }
@@ -69,7 +68,7 @@ module _ {V T : Type 0} (h : Holds V T) (c : Naming) (u : TermType T) where
   opened : (st : State) (v : V) (b : State) → Reads st v b → Opened st b
   opened st v b r =
       pair_cases (called c).means u.ignores_standing u.means (standing st.top.shared r.bytes) (behind h v)
-      (λ t. Stands st r.bytes t → b ≡ after_value (length r.bytes) (nodes t) st → Opened st b)
+      (λ t. Stands st r.bytes t → b ≡ after_value (length r.bytes) (weight_at st t) st → Opened st b)
       (λ d x z q p m stands moved. opened_so st b r.bytes d x q stands moved) r.term r.meant r.stands r.moved
 
   -- and what it describes is read, and it is closed
@@ -83,7 +82,7 @@ module _ {V T : Type 0} (h : Holds V T) (c : Naming) (u : TermType T) where
 
   inside_so : (st : State) (v : V) (b : State) (bytes : List ℕ) (d : Descriptor) (x : Term) (z : Standing) → st.nesting ≤ 128
       → (u.ignores_standing ≡ false → Parts (standing st.top.shared bytes) (described d x) (z ∷ [])) → u.means z x (h.get v)
-      → Stands st bytes (described d x) → b ≡ after_value (length bytes) (nodes x) st → Inside st v b
+      → Stands st bytes (described d x) → b ≡ after_value (length bytes) (weight_at st (described d x)) st → Inside st v b
   inside_so st v b bytes d x z bound p m stands moved =
       let k = term_described st d x b (record { bytes = bytes; stands = stands; moved = moved }) in
       let n = described_with_parts st d x b (omega (arith, bound)) k in
@@ -94,7 +93,7 @@ module _ {V T : Type 0} (h : Holds V T) (c : Naming) (u : TermType T) where
         descriptor = d;
         inner = k.inner;
         opens = k.opens;
-        last = after_value (length k.bytes) (nodes x) k.inner;
+        last = after_value (length k.bytes) (weight_at k.inner x) k.inner;
         read = record {
           bytes = k.bytes;
           term = x;
@@ -108,7 +107,7 @@ module _ {V T : Type 0} (h : Holds V T) (c : Naming) (u : TermType T) where
   inside : (st : State) (v : V) (b : State) → st.nesting ≤ 128 → Reads st v b → Inside st v b
   inside st v b bound r =
       pair_cases (called c).means u.ignores_standing u.means (standing st.top.shared r.bytes) (behind h v)
-      (λ t. Stands st r.bytes t → b ≡ after_value (length r.bytes) (nodes t) st → Inside st v b)
+      (λ t. Stands st r.bytes t → b ≡ after_value (length r.bytes) (weight_at st t) st → Inside st v b)
       (λ d x z q p m stands moved. inside_so st v b r.bytes d x z bound p m stands moved) r.term r.meant r.stands r.moved
 
   pub begin_refused : (ms : List Member) (st : State) (e : Error) (new : State) → IsOnly c ms

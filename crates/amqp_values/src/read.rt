@@ -154,7 +154,8 @@ fn read_map<R: ByteSource>(
     Ok(Value::Map(ValueMap(pairs)))
 }
 
-// Reads so many values one after another. The count reserves nothing: memory is allocated as values come.
+// Reads so many values one after another. Memory is reserved for as many as `Decoder::reservable_items` says, and then allocated as values
+// come.
 #[cycle(reading)]
 fn read_row<R: ByteSource>(
     count: u32,
@@ -166,7 +167,9 @@ fn read_row<R: ByteSource>(
         (RowFault count ValueMeans (faults_at (suc levels)).fault) decoder.old result decoder.new }
     ensures tries { Passes true decoder.old result decoder.new }
 {
-    let mut values = Vec::new(alloc);
+    let Ok(mut values) = Vec::with_capacity(alloc, decoder.reservable_items(count)) else {
+        return Err(decoder.refuse(Error::Memory));
+    };
     for _ in 0..count {
         let value = read_any(decoder, levels, alloc)?;
         if values.push(value).is_err() {
@@ -176,7 +179,8 @@ fn read_row<R: ByteSource>(
     Ok(values)
 }
 
-// Reads so many pairs one after another, and compares their keys after the last: two that are equal are `DuplicateKey`.
+// Reads so many pairs one after another, and compares their keys after the last: two that are equal are `DuplicateKey`. Memory is reserved
+// for half as many as `Decoder::reservable_items` says of their keys and values.
 #[cycle(reading)]
 fn read_pairs<R: ByteSource>(
     count: u32,
@@ -188,7 +192,10 @@ fn read_pairs<R: ByteSource>(
         (PairsFault (value_in levels) (value_in levels) count) decoder.old result decoder.new }
     ensures tries { Passes true decoder.old result decoder.new }
 {
-    let mut pairs = Vec::new(alloc);
+    let reserved = decoder.reservable_items(count.saturating_mul(2)) / 2;
+    let Ok(mut pairs) = Vec::with_capacity(alloc, reserved) else {
+        return Err(decoder.refuse(Error::Memory));
+    };
     for _ in 0..count {
         let key = read_any(decoder, levels, alloc)?;
         let value = read_any(decoder, levels, alloc)?;

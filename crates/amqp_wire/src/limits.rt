@@ -4,8 +4,8 @@ ghost use Rattle.amqp_wire.specs.Limits.{unlimited};
 
 use crate::nesting::NESTING;
 
-/// Limits on what is read: how deep values nest, how many bytes are taken, and how many values there are in them. Input past the limit on
-/// bytes or on values is refused with `Error::Limit`. Deeper nesting is refused with `Error::Depth` if `nesting` is 128, and with
+/// Limits on what is read: how deep values nest, how many bytes are taken, and how many items there are in them. Input past the limit on
+/// bytes or on items is refused with `Error::Limit`. Deeper nesting is refused with `Error::Depth` if `nesting` is 128, and with
 /// `Error::Limit` if the caller allows less.
 ///
 /// The limits also hold the seed by which the keys of maps are hashed. No value depends on it, only the time that it takes to read one.
@@ -24,8 +24,9 @@ impl Limits {
     /// - `nesting` is how deep values may nest. Lists, maps and described values count, and an array counts if one of its items is no
     ///   primitive.
     /// - `bytes` is how many bytes may be read; `u64::MAX` sets no limit.
-    /// - `items` is how many values may be in them; `u64::MAX` sets no limit. Each primitive, list, map and array is one, also inside of
-    ///   others. A described value is one with its descriptor.
+    /// - `items` is how many items may be in them; `u64::MAX` sets no limit. Each primitive, list, map and array is one, also inside of
+    ///   others. A described value is one with its descriptor. But if the items of an array share descriptors, each item takes one more for
+    ///   each of them, and one more for each whole 32 bytes of their names.
     pub fn new(nesting: u32, bytes: u64, items: u64) -> Option<Limits>
         ensures { MatchOption result (128 < nesting)
             (λ limits. (limits.nesting ≡ nesting) × (limits.bytes ≡ bytes) × (limits.items ≡ items) × (limits.hash_seed ≡ 0)) }
@@ -57,7 +58,8 @@ impl Limits {
     }
 
     /// Returns limits for input from a peer, of which at most this many bytes are read. Values nest at most 128 deep, and there are at most
-    /// as many of them as bytes. The limit on values refuses no value that the limit on bytes doesn't refuse.
+    /// as many items as bytes. The limit on items refuses no value that the limit on bytes doesn't refuse, unless an array in it has items
+    /// that share descriptors.
     pub fn for_peers(bytes: u64) -> Limits
         ensures nesting { result.nesting ≡ 128 }
         ensures bytes { result.bytes ≡ bytes }
@@ -111,7 +113,7 @@ impl Limits {
         self.bytes
     }
 
-    /// Returns how many values may be read; `u64::MAX` sets no limit.
+    /// Returns how many items may be read; `u64::MAX` sets no limit.
     pub fn items(&self) -> u64
         ensures { result ≡ self.now.items }
     {

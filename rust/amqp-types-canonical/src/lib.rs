@@ -40,7 +40,8 @@ pub struct Limits {
     pub nesting: u32,
     /// How many bytes are read at most; the greatest number sets no limit.
     pub bytes: u64,
-    /// How many values are in them at most; the greatest number sets no limit.
+    /// How many items are in them at most; the greatest number sets no limit. Each primitive, list, map and array is one. In an array, each
+    /// item takes one more for each descriptor that it shares, and for each whole 32 bytes of that descriptor's name.
     pub items: u64,
     /// The seed by which the keys of hashed maps are hashed, which a peer must not know; 0 for none, and a faster hash.
     pub hash_seed: u64,

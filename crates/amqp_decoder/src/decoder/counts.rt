@@ -1,18 +1,22 @@
-//! How many values begin, if the caller limits that.
-ghost use Rattle.std.specs.Prelude.{◌≡◌, ◌≤◌, None, Some, IfOk, IfErr, false, true};
+//! What begins weighs, if the caller limits that.
+ghost use Rattle.std.specs.Prelude.{◌≡◌, ◌≤◌, ◌<◌, None, Some, IfOk, IfErr, false, true, ℕ};
 ghost use Rattle.amqp_model.specs.Term.{Term};
 ghost use Rattle.amqp_model.specs.Spelling.{IsSpelling};
-ghost use Rattle.amqp_model.specs.Measures.{nest, nodes};
+ghost use Rattle.amqp_model.specs.Measures.{nest, share, weight};
+ghost use Rattle.amqp_wire.specs.Limits.{unlimited};
 ghost use Rattle.amqp_wire.specs.declared.error.Error.TheVariants.{Limit};
-ghost use Rattle.amqp_decoder.specs.State.{Has, lower, counted};
+ghost use Rattle.amqp_decoder.specs.State.{Has, lower, counted, counted_in, descriptor_of};
 ghost use Rattle.amqp_decoder.specs.Steps.{Goes, GoesOn};
 
 use super::Decoder;
 use amqp_lengths::measures_of;
-use amqp_wire::{ByteSource, Error, format_code};
+use amqp_wire::{ByteSource, Descriptor, Error, format_code};
 
-// How many values begin by a first code that count: a described value is one with its descriptor.
-fn values_begun(code: u8) -> u64
+/// How many bytes of a shared descriptor's name weigh one more.
+const SHARE: usize = 32;
+
+// What begins by a first code weighs one, unless a descriptor follows the code.
+fn weight_of_code(code: u8) -> u64
     ensures { result ≡ counted code }
 {
     if code == format_code::DESCRIBED || format_code::unknown(code).is_some() {
@@ -22,16 +26,38 @@ fn values_begun(code: u8) -> u64
     }
 }
 
+// What a descriptor weighs that the items of an array share.
+fn weight_of_shared(descriptor: &Descriptor) -> u64
+    ensures { result ≡ share (descriptor_of descriptor.now) }
+{
+    match descriptor {
+        Descriptor::Name(name) => 1 + (name.as_str().len() / SHARE) as u64,
+        Descriptor::Code(_) => 1,
+    }
+}
+
 impl<R: ByteSource> Decoder<R> {
-    // As many values may begin as there are.
+    // Whatever terms weigh, they may begin.
     #[inline(always)]
     fn is_unlimited(&self) -> bool
-        ensures { result ≡ true → self.now.quota ≡ None }
+        ensures unlimited { result ≡ true → self.now.quota ≡ None }
+        ensures limited { result ≡ false → (most : ℕ) × (most < unlimited) × (self.now.quota ≡ Some most) }
     {
         self.items == u64::MAX
     }
 
-    // Fewer values may begin.
+    // What begins by this first code weighs.
+    #[inline]
+    fn weight_begun(&self, code: u8) -> u64
+        ensures { result ≡ counted_in self.now.top.shared code }
+    {
+        match self.shared_descriptor() {
+            Some(descriptor) => weight_of_shared(descriptor),
+            None => weight_of_code(code),
+        }
+    }
+
+    // Less may begin.
     #[inline(always)]
     pub(super) fn passes_items(&self, count: u64) -> bool
         ensures past { result ≡ true → Has self.now.quota count → ⊥ }
@@ -41,7 +67,7 @@ impl<R: ByteSource> Decoder<R> {
         count > self.items
     }
 
-    // So many values begin.
+    // What begins weighs so much.
     #[inline]
     fn lower_items(&mut self, count: u64)
         requires { Has self.old.quota count }
@@ -53,8 +79,8 @@ impl<R: ByteSource> Decoder<R> {
         }
     }
 
-    // So many values begin, if they may.
-    fn count_values(&mut self, count: u64) -> Result<(), Error>
+    // What begins weighs so much, if it may begin.
+    fn count_weight(&mut self, count: u64) -> Result<(), Error>
         ensures ok { IfOk result (λ _. Has self.old.quota count × (self.new ≡ record self.old { quota = lower self.old.quota count })) }
         ensures err { IfErr result (λ e. (Has self.old.quota count → ⊥) × (e ≡ Limit) × (self.new ≡ record self.old { error = Some Limit })) }
         ensures goes { Goes false self.old result self.new }
@@ -69,12 +95,12 @@ impl<R: ByteSource> Decoder<R> {
     // The code, if a value may begin by it.
     #[inline(always)]
     pub(super) fn check_count(&mut self, code: u8) -> Result<u8, Error>
-        ensures ok { IfOk result (λ c. (c ≡ code) × Has self.old.quota (counted code) × (self.new ≡ self.old)) }
-        ensures err { IfErr result (λ e. (Has self.old.quota (counted code) → ⊥) × (e ≡ Limit)
+        ensures ok { IfOk result (λ c. (c ≡ code) × Has self.old.quota (counted_in self.old.top.shared code) × (self.new ≡ self.old)) }
+        ensures err { IfErr result (λ e. (Has self.old.quota (counted_in self.old.top.shared code) → ⊥) × (e ≡ Limit)
             × (self.new ≡ record self.old { error = Some Limit })) }
         ensures goes { Goes false self.old result self.new }
     {
-        if !self.is_unlimited() && self.passes_items(values_begun(code)) {
+        if !self.is_unlimited() && self.passes_items(self.weight_begun(code)) {
             return Err(self.stop(Error::Limit));
         }
         Ok(code)
@@ -83,19 +109,20 @@ impl<R: ByteSource> Decoder<R> {
     // A value begins by this code.
     #[inline(always)]
     pub(super) fn count(&mut self, code: u8) -> Result<(), Error>
-        ensures ok { IfOk result (λ _. Has self.old.quota (counted code)
-            × (self.new ≡ record self.old { quota = lower self.old.quota (counted code) })) }
-        ensures err { IfErr result (λ e. (Has self.old.quota (counted code) → ⊥) × (e ≡ Limit)
+        ensures ok { IfOk result (λ _. Has self.old.quota (counted_in self.old.top.shared code)
+            × (self.new ≡ record self.old { quota = lower self.old.quota (counted_in self.old.top.shared code) })) }
+        ensures err { IfErr result (λ e. (Has self.old.quota (counted_in self.old.top.shared code) → ⊥) × (e ≡ Limit)
             × (self.new ≡ record self.old { error = Some Limit })) }
         ensures goes { Goes false self.old result self.new }
     {
         if self.is_unlimited() {
             return Ok(());
         }
-        self.count_values(values_begun(code))
+        let weight = self.weight_begun(code);
+        self.count_weight(weight)
     }
 
-    // A value begins by this code, if one may.
+    // A value that shares no descriptor begins by this code, if one may.
     #[inline(always)]
     pub(super) fn count_begun(&mut self, code: u8)
         requires { Has self.old.quota 1 }
@@ -103,15 +130,16 @@ impl<R: ByteSource> Decoder<R> {
         ensures goes { GoesOn self.old self.new }
     {
         if !self.is_unlimited() {
-            self.lower_items(values_begun(code));
+            self.lower_items(weight_of_code(code));
         }
     }
 
-    // The values of a term begin.
+    // A term of its own constructor begins.
     pub(crate) fn count_term(&mut self, bytes: &[u8]) -> Result<(), Error>
-        ensures ok { (t : Term) → IsSpelling bytes.now t → nest t ≤ 128 → IfOk result (λ _. Has self.old.quota (nodes t)
-            × (self.new ≡ record self.old { quota = lower self.old.quota (nodes t) })) }
-        ensures err { (t : Term) → IsSpelling bytes.now t → nest t ≤ 128 → IfErr result (λ e. (Has self.old.quota (nodes t) → ⊥) × (e ≡ Limit)
+        ensures ok { (t : Term) → IsSpelling bytes.now t → nest t ≤ 128 → IfOk result (λ _. Has self.old.quota (weight t false)
+            × (self.new ≡ record self.old { quota = lower self.old.quota (weight t false) })) }
+        ensures err { (t : Term) → IsSpelling bytes.now t → nest t ≤ 128 → IfErr result (λ e. (Has self.old.quota (weight t false) → ⊥)
+            × (e ≡ Limit)
             × (self.new ≡ record self.old { error = Some Limit })) }
         ensures goes { Goes false self.old result self.new }
     {
@@ -119,7 +147,7 @@ impl<R: ByteSource> Decoder<R> {
             return Ok(());
         }
         match measures_of(bytes) {
-            Some(measures) => self.count_values(measures.nodes as u64),
+            Some(measures) => self.count_weight(measures.weight),
             None => Ok(()),
         }
     }

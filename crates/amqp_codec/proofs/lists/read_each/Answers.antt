@@ -1,7 +1,8 @@
 use Rattle.std.proofs.Common.{true, rules, ap, ◌∙◌, arith, length, length-append, [], ◌∷◌}
 use Rattle.std.proofs.lemmas.Result.{err_from_is_err_and}
 use Rattle.amqp_codec.specs.ItemsReadingLaws.{each_more}
-use Rattle.amqp_codec.proofs.ItemsSteps.{pushed, value_refused, no_room}
+use Rattle.amqp_codec.specs.RefusalLaws.{some_reserved}
+use Rattle.amqp_codec.proofs.ItemsSteps.{pushed, value_refused, none_reserved, no_room}
 use Rattle.amqp_codec.proofs.Tries.{taking_some, refused_later}
 use Rattle.amqp_codec.proofs.lists.read_each.Goals as goal
 
@@ -16,7 +17,7 @@ returns-in_err-value-clause-read g c tells =
 pub returns-then-is_err-clause-read : goal.returns-then-is_err-clause-read
 returns-then-is_err-clause-read g c tells =
     let u = g.T.DeserializeTerm.term in
-    no_room c.args.count u.means u.faults.fault (λ v. v.items) _ _ _ _ _ _ c.refuse.ensures.first
+    no_room c.args.count u.means u.faults.fault (λ v. v.items) _ _ _ _ _ _ c.refuse-then-is_err.ensures.first
     (each_more u.means _ _ _ _ _ (c.loop.invariant.each tells) (c.in_ok-value.ensures.read tells))
 
 pub loop-preserved : goal.loop-preserved
@@ -33,3 +34,10 @@ pub returns-in_err-value-clause-tries : goal.returns-in_err-value-clause-tries
 returns-in_err-value-clause-tries g c =
     let p = err_from_is_err_and c.from_residual.result c.from_residual.ensures.1 in
     rw (p.1, p.2) (refused_later _ true c.args.decoder.now c.loop.decoder _ _ (taking_some _) c.loop.invariant.passed c.in_err-value.ensures.tries)
+
+pub returns-in_default-clause-read : goal.returns-in_default-clause-read
+returns-in_default-clause-read g c tells =
+    let u = g.T.DeserializeTerm.term in
+    let some = some_reserved c.args.count c.reservable_items.result c.reservable_items.ensures.few c.in_default.ensures.succeeds in
+    none_reserved c.args.count u.means u.faults.fault (λ v. v.items) _ _ _ some (rw c.reservable_items.ensures.kept at c.refuse.ensures.first)
+    (rw c.reservable_items.ensures.kept at c.refuse.ensures.again)

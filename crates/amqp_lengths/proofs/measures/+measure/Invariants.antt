@@ -27,9 +27,9 @@ decreases-measure_content l = 8 * length l.content.now + 7
 
 abbrev pub invariant-measure_items-loop-done : goal.invariant-measure_items-loop-done
 invariant-measure_items-loop-done l =
-    (ts : Terms) → count ts ≡ l.count → AreItemsOf ts l.content → Left AreItemsOf ts l.content l.done l.len l.nodes l.nesting
+    (ts : Terms) → count ts ≡ l.count → AreItemsOf ts l.content → Left AreItemsOf ts l.content l.done l.len l.nodes l.nesting l.weight
 
 abbrev pub invariant-measure_shared-loop-done : goal.invariant-measure_shared-loop-done
 invariant-measure_shared-loop-done l =
     (ts : Terms) → count ts ≡ l.count → AreSharedDataOf ts [] l.code l.content
-    → Left (λ us b. AreSharedDataOf us [] l.code b) ts l.content l.done l.len l.nodes l.nesting
+    → Left (λ us b. AreSharedDataOf us [] l.code b) ts l.content l.done l.len l.nodes l.nesting l.weight

@@ -1,8 +1,9 @@
-use Rattle.std.proofs.Common.{true, inl, inr, rules}
+use Rattle.std.proofs.Common.{◌/◌, true, inl, inr, rules, arith}
+use Rattle.amqp_codec.specs.RefusalLaws.{some_reserved}
 use Rattle.std.proofs.lemmas.Result.{err_from_is_err_and}
 use Rattle.indexmap.specs.Entry.{map_with_value}
 use Rattle.indexmap.specs.declared.map.entry.Entry.TheVariants.{Vacant}
-use Rattle.amqp_codec.proofs.MapSteps.{key_refused, key_twice, value_refused, no_place}
+use Rattle.amqp_codec.proofs.MapSteps.{key_refused, key_twice, value_refused, none_reserved, no_place}
 use Rattle.amqp_maps.specs.KeyLaws.{absent_new, present_known}
 use Rattle.amqp_maps.proofs.PairsRead.{fewer_so_far, one_more_so_far}
 use Rattle.amqp_codec.proofs.Tries.{taking_some, passed_then, refused_later}
@@ -23,31 +24,31 @@ returns-in-Err-clause-read g c tells =
     let value = g.V.DeserializeTerm.term in
     elim c.in-Err.ensures.refused [
       | inl is ↦ no_place key value c.args.count _ _ _ c.in_ok-key.key _ _ _ (c.loop.invariant.pairs.each tells) (c.in_ok-key.ensures.read tells)
-          (rw is at c.refuse.ensures.first)
+          (rw is at c.refuse-in-Err.ensures.first)
       | inr (is, known) ↦ key_twice key value c.args.count _ _ _ c.in_ok-key.key _ _ _
           (fewer_so_far key value c.loop.invariant.pairs c.args.count c.loop-test.true tells) c.loop.invariant.pairs.others
           (c.in_ok-key.ensures.read tells)
           (present_known g.met.K.MapKey.is_key c.in_ok-key.key c.loop.pairs.entries known)
-          (rw is at c.refuse.ensures.first)
+          (rw is at c.refuse-in-Err.ensures.first)
     ]
 
-pub returns-in_err-value-in-Ok-clause-read : goal.returns-in_err-value-in-Ok-clause-read
-returns-in_err-value-in-Ok-clause-read g c tells =
+pub returns-in_err-value-in-Ok-new_place-clause-read : goal.returns-in_err-value-in-Ok-new_place-clause-read
+returns-in_err-value-in-Ok-new_place-clause-read g c tells =
     let key = g.K.DeserializeTerm.term in
     let value = g.V.DeserializeTerm.term in
-    let p = err_from_is_err_and c.from_residual-in_err-value-in-Ok.result c.from_residual-in_err-value-in-Ok.ensures.1 in
+    let p = err_from_is_err_and c.from_residual-in_err-value-in-Ok-new_place.result c.from_residual-in_err-value-in-Ok-new_place.ensures.1 in
     rw (p.1, p.2)
     (value_refused key value c.args.count _ _ _ c.in_ok-key.key _ _ _
     (fewer_so_far key value c.loop.invariant.pairs c.args.count c.loop-test.true tells) (c.in_ok-key.ensures.read tells)
-    (c.in_err-value-in-Ok.ensures.read tells))
+    (c.in_err-value-in-Ok-new_place.ensures.read tells))
 
 pub loop-preserved : goal.loop-preserved
 loop-preserved g c =
-    let new = absent_new g.met.K.MapKey.is_key c.in_ok-key.key c.loop.pairs.entries c.in-Ok.ensures.new in
+    let new = absent_new g.met.K.MapKey.is_key c.in_ok-key.key c.loop.pairs.entries c.in-Ok-new_place.ensures.new in
     record {
       pairs = one_more_so_far g.K.DeserializeTerm.term g.V.DeserializeTerm.term c.loop.invariant.pairs g.met.K.MapKey.is_key
-          (map_with_value (Vacant c.in-Ok.place)) c.in_ok-key.key c.in_ok-value-in-Ok.value c.insert.result.now _ _ _ (search rules)
-          c.insert.ensures.value c.in-Ok.ensures.last new c.in_ok-key.ensures.read c.in_ok-value-in-Ok.ensures.read;
+          (map_with_value (Vacant c.in-Ok-new_place.place)) c.in_ok-key.key c.in_ok-value-in-Ok-new_place.value c.insert.result.now _ _ _ (search rules)
+          c.insert.ensures.value c.in-Ok-new_place.ensures.last new c.in_ok-key.ensures.read c.in_ok-value-in-Ok-new_place.ensures.read;
       passed = search rules;
     }
 
@@ -57,9 +58,18 @@ returns-in_err-key-clause-tries g c =
     rw (p.1, p.2)
     (refused_later _ true c.args.decoder.now c.loop.decoder _ _ (taking_some _) c.loop.invariant.passed c.in_err-key.ensures.tries)
 
-pub returns-in_err-value-in-Ok-clause-tries : goal.returns-in_err-value-in-Ok-clause-tries
-returns-in_err-value-in-Ok-clause-tries g c =
-    let p = err_from_is_err_and c.from_residual-in_err-value-in-Ok.result c.from_residual-in_err-value-in-Ok.ensures.1 in
+pub returns-in_err-value-in-Ok-new_place-clause-tries : goal.returns-in_err-value-in-Ok-new_place-clause-tries
+returns-in_err-value-in-Ok-new_place-clause-tries g c =
+    let p = err_from_is_err_and c.from_residual-in_err-value-in-Ok-new_place.result c.from_residual-in_err-value-in-Ok-new_place.ensures.1 in
     rw (p.1, p.2)
     (refused_later _ true c.args.decoder.now c.read_value.new.decoder _ _ (taking_some _)
-    (passed_then c.args.decoder.now c.loop.decoder c.read_value.new.decoder c.loop.invariant.passed c.in_ok-key.ensures.tries) c.in_err-value-in-Ok.ensures.tries)
+    (passed_then c.args.decoder.now c.loop.decoder c.read_value.new.decoder c.loop.invariant.passed c.in_ok-key.ensures.tries) c.in_err-value-in-Ok-new_place.ensures.tries)
+
+pub returns-in_default-clause-read : goal.returns-in_default-clause-read
+returns-in_default-clause-read g c tells =
+    let asked = c.saturating_mul.ensures in
+    let few = c.reservable_items-reserved.ensures.few in
+    let some = some_reserved c.args.count (c.reservable_items-reserved.result / 2) (omega (arith, asked, few)) c.in_default.ensures.succeeds in
+    none_reserved g.K.DeserializeTerm.term g.V.DeserializeTerm.term c.args.count _ _ _ some
+    (rw c.reservable_items-reserved.ensures.kept at c.refuse.ensures.first)
+    (rw c.reservable_items-reserved.ensures.kept at c.refuse.ensures.again)

@@ -3,11 +3,12 @@ use Rattle.std.proofs.lemmas.Result.{err_from_is_err_and}
 use Rattle.amqp_model.specs.Term.{list, map, array, described}
 use Rattle.amqp_wire.specs.declared.error.Error.TheVariants.{Depth}
 use Rattle.amqp_lookahead.specs.Members.{descriptor_of}
+use Rattle.amqp_codec.specs.RefusalLaws.{some_reserved}
 use Rattle.amqp_codec.specs.VecType.{list_opening}
 use Rattle.amqp_codec.specs.ItemsReadingLaws.{each_more}
 use Rattle.amqp_codec.specs.MapReading.{ReadsFewer}
 use Rattle.amqp_codec.specs.MapReadingLaws.{pairs_more}
-use Rattle.amqp_codec.proofs.ItemsSteps.{pushed, value_refused, no_room, open_refused, row_refused, end_refused, all_read}
+use Rattle.amqp_codec.proofs.ItemsSteps.{pushed, value_refused, none_reserved, no_room, open_refused, row_refused, end_refused, all_read}
 use Rattle.amqp_codec.proofs.MapSteps.{by_two, key_refused}
 use Rattle.amqp_codec.proofs.MapSteps as maps
 use Rattle.amqp_containers.specs.ArrayType.{array_opening}
@@ -164,7 +165,7 @@ read_row-returns-in_err-value-clause-read g t c tells bounded =
 pub read_row-returns-then-is_err-clause-read : goal.read_row-returns-then-is_err-clause-read
 read_row-returns-then-is_err-clause-read g t c tells bounded =
     let each = c.loop.invariant.each tells bounded in
-    no_room c.args.count ValueMeans (value_in c.args.levels).faults.fault (λ vs. vs) _ _ _ _ _ _ c.refuse.ensures.first
+    no_room c.args.count ValueMeans (value_in c.args.levels).faults.fault (λ vs. vs) _ _ _ _ _ _ c.refuse-then-is_err.ensures.first
     (each_more ValueMeans _ _ _ _ _ each (c.in_ok-value.ensures.read tells (bounded_behind c.args.levels _ _ _ each bounded)))
 
 pub read_row-loop-preserved : goal.read_row-loop-preserved
@@ -399,7 +400,7 @@ read_pairs-returns-then-is_err-clause-read g t c tells bounded =
     let inside = bounded_in_pairs part part c.args.levels _ _ _ each bounded in
     let key = c.in_ok-key.ensures.read tells inside in
     maps.no_room part part c.args.count _ _ _ c.in_ok-key.key _ c.in_ok-value.value _ _ _ each key
-    (c.in_ok-value.ensures.read tells (bounded_after c.args.levels _ _ _ key inside)) c.refuse.ensures.first
+    (c.in_ok-value.ensures.read tells (bounded_after c.args.levels _ _ _ key inside)) c.refuse-then-is_err.ensures.first
 
 pub read_pairs-loop-preserved : goal.read_pairs-loop-preserved
 read_pairs-loop-preserved g t c =
@@ -692,3 +693,18 @@ read_pairs-returns-in_err-value-clause-tries g t c =
     rw (p.1, p.2)
     (refused_later true true c.args.decoder.now c.read_any.new.decoder _ _ (taking_some _)
     (passed_then c.args.decoder.now c.loop.decoder c.read_any.new.decoder c.loop.invariant.passed c.in_ok-key.ensures.tries) c.in_err-value.ensures.tries)
+
+pub read_row-returns-in_default-clause-read : goal.read_row-returns-in_default-clause-read
+read_row-returns-in_default-clause-read g t c tells bounded =
+    let some = some_reserved c.args.count c.reservable_items.result c.reservable_items.ensures.few c.in_default.ensures.succeeds in
+    none_reserved c.args.count ValueMeans (value_in c.args.levels).faults.fault (λ vs. vs) _ _ _ some
+    (rw c.reservable_items.ensures.kept at c.refuse.ensures.first) (rw c.reservable_items.ensures.kept at c.refuse.ensures.again)
+
+pub read_pairs-returns-in_default-clause-read : goal.read_pairs-returns-in_default-clause-read
+read_pairs-returns-in_default-clause-read g t c tells bounded =
+    let part = value_in c.args.levels in
+    let asked = c.saturating_mul.ensures in
+    let few = c.reservable_items-reserved.ensures.few in
+    let some = some_reserved c.args.count (c.reservable_items-reserved.result / 2) (omega (arith, asked, few)) c.in_default.ensures.succeeds in
+    maps.none_reserved part part c.args.count _ _ _ some (rw c.reservable_items-reserved.ensures.kept at c.refuse.ensures.first)
+    (rw c.reservable_items-reserved.ensures.kept at c.refuse.ensures.again)

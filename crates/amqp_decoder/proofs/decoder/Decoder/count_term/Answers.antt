@@ -1,10 +1,14 @@
-use Rattle.amqp_decoder.proofs.Counts.{measured_nodes}
+use Rattle.std.proofs.Common.{◌≡◌, false}
+use Rattle.amqp_model.specs.Measures.{weight}
+use Rattle.amqp_wire.specs.declared.error.Error.TheVariants.{Limit}
+use Rattle.amqp_decoder.proofs.Counts.{capped_ok, capped_err}
 use Rattle.amqp_decoder.proofs.decoder.Decoder.count_term.Goals as goal
 
 pub returns-in-Some-clause-ok : goal.returns-in-Some-clause-ok
 returns-in-Some-clause-ok g c = λ t spelled deep.
-    rw (measured_nodes _ _ _ t c.in-Some.ensures.measured spelled) c.count_values.ensures.ok
+    let (most, less, is) = c.is_unlimited.ensures.limited c.if-is_unlimited.false in
+    capped_ok _ _ _ most (weight t false) c.in-Some.measures.weight is less (c.in-Some.ensures.weighed t spelled) c.count_weight.ensures.ok
 
 pub returns-in-Some-clause-err : goal.returns-in-Some-clause-err
 returns-in-Some-clause-err g c = λ t spelled deep.
-    rw (measured_nodes _ _ _ t c.in-Some.ensures.measured spelled) c.count_values.ensures.err
+    capped_err _ c.args.self.now _ (weight t false) c.in-Some.measures.weight (c.in-Some.ensures.weighed t spelled) c.count_weight.ensures.err
