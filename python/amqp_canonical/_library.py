@@ -1,35 +1,29 @@
-r"""The data types of AMQP 1.0: values are read, measured and rewritten as their canonical text.
-
-Each call is made of calls of a shared object, `libamqp_types.so`. The shared object is made of a static library that is proved; `docs/C.md`
-says what is proved about it. The environment's `AMQP_TYPES_SO` names the file, if it isn't where the system looks.
-
->>> canonical(Type.ACCEPTED, bytes.fromhex("005324c00000ff"))
-(b'\x00S$E', 6)
->>> read(Type.BOOLEAN, b"\x99")
-Traceback (most recent call last):
-amqp_canonical.AmqpError: UnknownCode: 0x99
-"""
+"""The calls of the shared object `libamqp_types.so`, which `docs/C.md` describes."""
 
 from __future__ import annotations
 
 import ctypes
 import enum
+import functools
 import os
-import uuid
 from collections.abc import Iterator
-from dataclasses import dataclass, field
+from dataclasses import dataclass, field, fields
+from typing import Any, List, Optional, Tuple
 
 __version__ = "0.1.0"
-"""The version of this module, which is independent of that of the Rust crate `fe2o3-amqp-types`."""
+"""The version of this package, which is independent of that of the Rust crate `fe2o3-amqp-types`."""
 
 __license__ = "MIT OR Apache-2.0"
-"""The licenses of this module, of which you may choose one."""
+"""The licenses of this package, of which you may choose one."""
 
 UNLIMITED = 2**64 - 1
 """The number of bytes or of items that sets no limit."""
 
 _NO_ROOM = 1000
 _NAMES_A_CODE = (2, 3, 27)
+
+# The bytes of a buffer that is kept for the next call.
+_KEPT_ROOM = 4096
 
 
 class Type(enum.IntEnum):
@@ -99,7 +93,7 @@ class Type(enum.IntEnum):
     VALUE = 62
 
     @staticmethod
-    def from_name(name: str) -> Type | None:
+    def from_name(name: str) -> Optional[Type]:
         """Returns the type with this name, as `open` or `message-data`, or None if there is none."""
         raw = name.encode()
         number = _library.amqp_c_type(raw, len(raw))
@@ -138,28 +132,48 @@ class Kind(enum.IntEnum):
 _PROCESS_SEED = int.from_bytes(os.urandom(8), "big") or 1
 
 
-@dataclass(frozen=True)
+@dataclass(frozen=True, repr=False)
 class Limits:
     """Limits on what is read: how deep values nest, up to 128, how many bytes are read, and how many values are in them.
 
-    Keys of hashed maps are hashed by the seed, which a peer must not know. If none is given, it is the seed of this process. If it is 0, the
-    hash is faster.
+    Keys of hashed maps are hashed by the seed, which a peer must not know. If none is given, it is the seed of this process. If it is 0,
+    the hash is faster.
     """
 
     nesting: int = 128
     bytes: int = UNLIMITED
     items: int = UNLIMITED
-    hash_seed: int = field(default=_PROCESS_SEED, repr=False)
+    hash_seed: int = field(default_factory=lambda: _PROCESS_SEED, repr=False)
+
+    def __repr__(self) -> str:
+        shown = [(it.name, getattr(self, it.name)) for it in fields(self) if it.repr and getattr(self, it.name) != it.default]
+        return f"Limits({', '.join(f'{name}={number}' for name, number in shown)})"
+
+    def __reduce__(self) -> Tuple[Any, ...]:
+        return Limits, (self.nesting, self.bytes, self.items, self.hash_seed)
+
+    @functools.cached_property
+    def _passed(self) -> Any:
+        """The limits as they are passed to a call, which only reads them."""
+        return ctypes.byref(_Limits(self.nesting, self.bytes, self.items, self.hash_seed))
 
 
 class AmqpError(ValueError):
-    """Why a value isn't read or isn't written: the error's number, its name, and the format code that it reports, if it reports one."""
+    """Why the library doesn't read or write a value.
 
-    def __init__(self, number: int, detail: int = 0):
+    number: The number of the error.
+    name: Its name, as `Cut`.
+    code: The format code that it reports, or None if it reports none.
+    """
+
+    def __init__(self, number: int, detail: int = 0) -> None:
         self.number = number
         self.name = error_name(number)
         self.code = detail if number in _NAMES_A_CODE else None
         super().__init__(self.name if self.code is None else f"{self.name}: 0x{self.code:02x}")
+
+    def __reduce__(self) -> Tuple[Any, ...]:
+        return AmqpError, (self.number, self.code or 0)
 
 
 class _Outcome(ctypes.Structure):
@@ -190,7 +204,11 @@ class _Limits(ctypes.Structure):
 
 def _loaded() -> ctypes.CDLL:
     """Loads the shared object and declares what its calls take and return, as `c/amqp_types.h` does."""
-    library = ctypes.CDLL(os.environ.get("AMQP_TYPES_SO", "libamqp_types.so"))
+    name = os.environ.get("AMQP_TYPES_SO", "libamqp_types.so")
+    try:
+        library = ctypes.CDLL(name)
+    except OSError as error:
+        raise OSError(f"the shared object isn't loaded; set AMQP_TYPES_SO to its path: {error}") from error
     size, place, number = ctypes.c_size_t, ctypes.POINTER(ctypes.c_size_t), ctypes.c_uint32
     data, limits = ctypes.c_char_p, ctypes.POINTER(_Limits)
     signatures = {
@@ -203,13 +221,42 @@ def _loaded() -> ctypes.CDLL:
         "amqp_c_greatest": ([limits], None),
         "amqp_c_for_peers": ([limits, ctypes.c_uint64], None),
     }
-    for name, (takes, gives) in signatures.items():
-        call = getattr(library, name)
+    for call_name, (takes, gives) in signatures.items():
+        call = getattr(library, call_name)
         call.argtypes, call.restype = takes, gives
     return library
 
 
 _library = _loaded()
+
+
+class _Room:
+    """What a call writes to: a buffer for a text, and two numbers. One call has it at a time."""
+
+    __slots__ = ("size", "out", "written", "taken", "written_at", "taken_at")
+
+    def __init__(self, size: int) -> None:
+        self.size = size
+        self.out: Any = ctypes.create_string_buffer(size) if size else None
+        self.written, self.taken = ctypes.c_size_t(), ctypes.c_size_t()
+        self.written_at, self.taken_at = ctypes.byref(self.written), ctypes.byref(self.taken)
+
+    def text(self) -> bytes:
+        """Returns the text that a call has written."""
+        text: bytes = self.out[: self.written.value] if self.size else b""
+        return text
+
+
+# Rooms of the kept size that no call has.
+_rooms: List[_Room] = []
+
+
+def _taken_room() -> _Room:
+    """Returns a room of the kept size, which the caller gives back."""
+    try:
+        return _rooms.pop()
+    except IndexError:
+        return _Room(_KEPT_ROOM)
 
 
 def greatest() -> Limits:
@@ -226,10 +273,6 @@ def for_peers(size: int) -> Limits:
     return Limits(limits.nesting, limits.bytes, limits.items)
 
 
-def _given(limits: Limits) -> _Limits:
-    return _Limits(limits.nesting, limits.bytes, limits.items, limits.hash_seed)
-
-
 def error_name(number: int) -> str:
     """Returns the name of the error with this number, as `Cut`, or an empty text if there is none."""
     room = ctypes.create_string_buffer(32)
@@ -237,50 +280,62 @@ def error_name(number: int) -> str:
     return room.raw[:size].decode()
 
 
-def _check(outcome: _Outcome) -> None:
+def _check(outcome: Any) -> None:
     if outcome.number:
         raise AmqpError(outcome.number, outcome.detail)
 
 
-def read(of: Type, data: bytes, limits: Limits = Limits()) -> int:
+_DEFAULT = Limits()
+
+
+def read(of: Type, data: bytes, limits: Limits = _DEFAULT) -> int:
     """Returns how many bytes the value of the type at the start of the data takes, within the limits.
 
     >>> read(Type.BOOLEAN, b"\x41\x42")
     1
     """
     taken = ctypes.c_size_t()
-    given = _given(limits)
-    _check(_library.amqp_c_read(of, data, len(data), ctypes.byref(given), ctypes.byref(taken)))
+    _check(_library.amqp_c_read(of, data, len(data), limits._passed, ctypes.byref(taken)))
     return taken.value
 
 
-def canonical(of: Type, data: bytes, limits: Limits = Limits()) -> tuple[bytes, int]:
-    """Returns the canonical text of the value of the type at the start of the data, within the limits, and how many bytes the value takes."""
-    room = len(data)
-    while True:
-        text, needed, taken = canonical_into(of, data, room, limits)
-        if text is not None:
-            return text, taken
-        room = needed
+def canonical(of: Type, data: bytes, limits: Limits = _DEFAULT) -> Tuple[bytes, int]:
+    r"""Returns the canonical text of the value of the type at the start of the data, within the limits, and how many bytes the value takes.
+
+    >>> canonical(Type.ACCEPTED, bytes.fromhex("005324c00000ff"))
+    (b'\x00S$E', 6)
+    """
+    kept = _taken_room()
+    try:
+        room = kept if len(data) <= _KEPT_ROOM else _Room(len(data))
+        while not _is_written(of, data, limits, room):
+            room = _Room(room.written.value)
+        return room.text(), room.taken.value
+    finally:
+        _rooms.append(kept)
 
 
-def canonical_into(of: Type, data: bytes, room: int, limits: Limits = Limits()) -> tuple[bytes | None, int, int]:
+def canonical_into(of: Type, data: bytes, room: int, limits: Limits = _DEFAULT) -> Tuple[Optional[bytes], int, int]:
     """Returns the same with so many bytes of room: the text, its length, and how many bytes the value takes. A longer text is None.
 
     >>> canonical_into(Type.BOOLEAN, b"\x56\x01", 0)
     (None, 1, 2)
     """
-    written, taken = ctypes.c_size_t(), ctypes.c_size_t()
-    given = _given(limits)
-    out = ctypes.create_string_buffer(room) if room else None
+    to = _Room(room)
+    text = to.text() if _is_written(of, data, limits, to) else None
+    return text, to.written.value, to.taken.value
+
+
+def _is_written(of: Type, data: bytes, limits: Limits, room: _Room) -> bool:
+    """Writes the canonical text to the room. If the text is longer than the room, only its length is written."""
     outcome = _library.amqp_c_canonical(
-        of, data, len(data), ctypes.byref(given), out, room, ctypes.byref(written), ctypes.byref(taken)
+        of, data, len(data), limits._passed, room.out, room.size, room.written_at, room.taken_at
     )
     if outcome.number == _NO_ROOM:
-        return None, written.value, taken.value
-    _check(outcome)
-    text = out.raw[: written.value] if out is not None else b""
-    return text, written.value, taken.value
+        return False
+    if outcome.number:
+        raise AmqpError(outcome.number, outcome.detail)
+    return True
 
 
 def term_len(data: bytes) -> int:
@@ -308,17 +363,16 @@ class Node:
     next: int
 
 
-_NONE = Node(0, 0, 0, 0, 0, 0, 0, 0)  # what is around a whole term
-
-
-def node_at(data: bytes, at: int = 0, around: Node = _NONE) -> Node:
+def node_at(data: bytes, at: int = 0, around: Optional[Node] = None) -> Node:
     """Returns the node that begins at the offset, in the enclosing node. The items of an array have no constructor of their own."""
-    node = _Node(around.kind, around.depth, around.code, around.item_code, around.count, around.start, around.end, around.next)
+    node = _Node()
+    if around:
+        node = _Node(around.kind, around.depth, around.code, around.item_code, around.count, around.start, around.end, around.next)
     _check(_library.amqp_c_next(data, len(data), at, ctypes.byref(node)))
     return Node(Kind(node.kind), node.depth, node.code, node.item_code, node.count, node.start, node.end, node.next)
 
 
-def nodes(data: bytes, at: int = 0, around: Node = _NONE) -> Iterator[Node]:
+def nodes(data: bytes, at: int = 0, around: Optional[Node] = None) -> Iterator[Node]:
     """Returns the nodes of the term at the start of the data, each before those in it.
 
     >>> [(node.kind.name, node.depth) for node in nodes(bytes.fromhex("005323c005025209530d"))]
@@ -332,103 +386,3 @@ def nodes(data: bytes, at: int = 0, around: Node = _NONE) -> Iterator[Node]:
             yield inner
             if inner.depth == node.depth + 1:
                 place = inner.end
-
-
-class Symbol(str):
-    """A symbol."""
-
-    __slots__ = ()
-
-
-@dataclass(frozen=True)
-class Described:
-    """A value under a descriptor, which is a number or a symbol."""
-
-    descriptor: int | Symbol
-    value: object
-
-
-@dataclass(frozen=True)
-class DecimalBytes:
-    """A decimal number of 32, 64 or 128 bits, as its bytes."""
-
-    raw: bytes
-
-
-def decode(data: bytes) -> tuple[object, int]:
-    """Returns the term at the start of the data as a value of Python, and how many bytes the term takes.
-
-    Null is None, a boolean a bool, and a whole number an int. A char and a string are a str, a symbol is a `Symbol`, and a binary is bytes. A uuid
-    is a `UUID`, a timestamp its milliseconds, and a decimal number `DecimalBytes`. A list and an array are a list, and a described value is
-    `Described`.
-
-    A map is a dict. It is a list of its pairs if one of its keys can't be a key in Python, or if two of them would be one, as true and 1.
-
-    >>> decode(bytes.fromhex("005323c005025209530dff"))
-    (Described(descriptor=35, value=[9, 13]), 10)
-    >>> decode(bytes.fromhex("c10904a1016141a1016240"))
-    ({'a': True, 'b': None}, 11)
-    """
-    top = node_at(data)
-    return _value(data, top), top.end
-
-
-_ZEROS = {0x40: None, 0x41: True, 0x42: False, 0x43: 0, 0x44: 0}
-_SIGNED = (Kind.BYTE, Kind.SHORT, Kind.INT, Kind.LONG, Kind.TIMESTAMP)
-_UNSIGNED = (Kind.UBYTE, Kind.USHORT, Kind.UINT, Kind.ULONG)
-
-
-def _value(data: bytes, node: Node) -> object:
-    """Returns the value of a node."""
-    if node.kind is Kind.ARRAY:
-        return _array(data, node)
-    if node.kind in (Kind.DESCRIBED, Kind.LIST, Kind.MAP):
-        items = [_value(data, inner) for inner in _children(data, node)]
-        if node.kind is Kind.DESCRIBED:
-            return Described(*items)
-        return items if node.kind is Kind.LIST else _mapping(items)
-    if node.code in _ZEROS:
-        return _ZEROS[node.code]
-    raw = data[node.start : node.end]
-    if node.kind in _UNSIGNED or node.kind in _SIGNED:
-        return int.from_bytes(raw, "big", signed=node.kind in _SIGNED)
-    return {
-        Kind.BOOL: lambda: raw == b"\x01",
-        Kind.CHAR: lambda: chr(int.from_bytes(raw, "big")),
-        Kind.UUID: lambda: uuid.UUID(bytes=raw),
-        Kind.BINARY: lambda: raw,
-        Kind.STRING: lambda: raw.decode(),
-        Kind.SYMBOL: lambda: Symbol(raw.decode("ascii")),
-    }.get(node.kind, lambda: DecimalBytes(raw))()
-
-
-def _children(data: bytes, node: Node) -> Iterator[Node]:
-    """Returns the nodes that are directly in a node."""
-    place = node.next
-    for _ in range(node.count):
-        inner = node_at(data, place, node)
-        yield inner
-        place = inner.end
-
-
-def _array(data: bytes, node: Node) -> list[object]:
-    """Returns the items of an array, each under the descriptors of their constructor."""
-    descriptors, place = [], node.start
-    while node.count and data[place] == 0:
-        mark = node_at(data, place + 1)
-        descriptors.append(_value(data, mark))
-        place = mark.end
-    items = [_value(data, inner) for inner in _children(data, node)]
-    for descriptor in reversed(descriptors):
-        items = [Described(descriptor, item) for item in items]
-    return items
-
-
-def _mapping(items: list[object]) -> dict | list[tuple[object, object]]:
-    """Returns a dict of the keys and values in turn, or their pairs if it can't be a dict."""
-    pairs = list(zip(items[::2], items[1::2]))
-    try:
-        made = dict(pairs)
-    except TypeError:
-        return pairs
-    return made if len(made) == len(pairs) else pairs
