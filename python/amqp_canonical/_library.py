@@ -134,7 +134,10 @@ _PROCESS_SEED = int.from_bytes(os.urandom(8), "big") or 1
 
 @dataclass(frozen=True, repr=False)
 class Limits:
-    """Limits on what is read: how deep values nest, up to 128, how many bytes are read, and how many values are in them.
+    """Limits on what is read: how deep values nest, up to 128, how many bytes are read, and how many items are in them.
+
+    Each primitive, list, map and array is an item. In an array, each item takes one more for each descriptor that it shares, and for each
+    whole 32 bytes of that descriptor's name.
 
     Keys of hashed maps are hashed by the seed, which a peer must not know. If none is given, it is the seed of this process. If it is 0,
     the hash is faster.

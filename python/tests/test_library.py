@@ -3,6 +3,7 @@
 from __future__ import annotations
 
 import copy
+import ctypes
 import pickle
 import threading
 import uuid
@@ -129,6 +130,13 @@ def test_limits_for_peers() -> None:
     for seed in (0, 1, 2**64 - 1):
         found = amqp.canonical(Type.APPLICATION_PROPERTIES, properties, amqp.Limits(hash_seed=seed))
         assert found == (bytes.fromhex("005374c10c04a1036f6e6543a102697443"), len(properties))
+
+
+def test_only_bytes_are_read() -> None:
+    data: Any
+    for data in (bytearray(b"\x41"), "41"):
+        with pytest.raises(ctypes.ArgumentError):
+            amqp.read(Type.BOOLEAN, data)
 
 
 def test_limits_bound_what_is_decoded() -> None:
