@@ -1,4 +1,4 @@
-/* The data types of AMQP 1.0 (OASIS, Parts 1 to 5): values are read, measured and rewritten as their canonical text.
+/* The data types of AMQP 1.0 (OASIS, Parts 1 to 5): values are checked, measured, rewritten as their canonical text, and walked.
  *
  * Link with libamqp_types.a. No call keeps state, returns a pointer or gives the caller memory to free. So any number of threads may call them
  * at once, if no two calls write to the same place. Calls free what they allocate, with the program's malloc, realloc and free. If an

@@ -2,17 +2,17 @@
 use Rattle.std.proofs.Common.{List, refl}
 use Rattle.std.specs.List.{IsDistinct}
 use Rattle.amqp_codec.specs.Agreement.{Agreement, writing_of, agreement}
-use Rattle.amqp_codec.specs.KeyLaws.{key_of}
-use Rattle.amqp_codec.specs.MapReadingLaws.{map_of, map_faults}
+use Rattle.amqp_codec.specs.laws.Key.{key_of}
+use Rattle.amqp_codec.specs.laws.MapReading.{map_of, map_faults}
 use Rattle.amqp_codec.specs.MapWriting.{map_writing, map_agreement}
 use Rattle.amqp_codec.specs.TermType.{TermType}
-use Rattle.amqp_kind_sums.specs.KindSumType.{kind_sum_type}
+use Rattle.amqp_kinds.specs.KindSumType.{kind_sum_type}
 use Rattle.amqp_values.specs.declared.value.Value.{Value}
 use Rattle.amqp_values.specs.ValueWriting.{value_writing}
 use Rattle.amqp_values.specs.ValueType.{value_type, value_agreement}
 use Rattle.amqp_annotations.specs.contracts.owned_key.OwnedKeyPartialEq.TheImpl.{ghosts}
 use Rattle.amqp_annotations.specs.declared.owned_key.OwnedKey.{OwnedKey}
-use Rattle.amqp_annotations.specs.KeyLaws.{owned_decide}
+use Rattle.amqp_annotations.specs.laws.Key.{owned_decide}
 use Rattle.amqp_annotations.specs.OwnedKeys.{owned_keys}
 
 abbrev pub annotations_type : TermType (List (OwnedKey × Value))

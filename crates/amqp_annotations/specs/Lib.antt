@@ -1,5 +1,4 @@
 pub mod AnnotationsType
-pub mod BorrowedKeyLaws
 pub mod BorrowedKeys
-pub mod KeyLaws
 pub mod OwnedKeys
+pub mod laws

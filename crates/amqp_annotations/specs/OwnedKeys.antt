@@ -5,8 +5,8 @@ use Rattle.amqp_model.specs.Items.{is_null_primitive}
 use Rattle.amqp_kinds.specs.declared.kind.Kind.{Kind}
 use Rattle.amqp_kinds.specs.declared.kind.Kind.TheVariants as kind
 use Rattle.amqp_kinds.specs.Kinds.{term_kind}
-use Rattle.amqp_kind_sums.specs.KindMembers.{KindMembers, no_more, member, IsAt, KindSumOf}
-use Rattle.amqp_kind_sums.specs.PrimitiveMembers.{ulong_member, symbol_member}
+use Rattle.amqp_kinds.specs.KindMembers.{KindMembers, no_more, member, IsAt, KindSumOf}
+use Rattle.amqp_kinds.specs.PrimitiveMembers.{ulong_member, symbol_member}
 use Rattle.amqp_annotations.specs.declared.owned_key.OwnedKey.{OwnedKey}
 use Rattle.amqp_annotations.specs.declared.owned_key.OwnedKey.TheVariants as key
 

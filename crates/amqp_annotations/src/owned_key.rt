@@ -3,16 +3,16 @@ ghost use Rattle.std.specs.Prelude.{◌≡◌, [], IfErr, IfOk, refl, string_byt
 ghost use Rattle.amqp_model.specs.Term.{symbol};
 ghost use Rattle.amqp_wire.specs.declared.error.Error.TheVariants.{Memory};
 ghost use Rattle.amqp_codec.specs.Agreement.{one_term, agreement, writing_of};
-ghost use Rattle.amqp_codec.specs.KeyLaws.{key_of};
-ghost use Rattle.amqp_kind_sums.specs.KindSumType.{kind_sum_type};
+ghost use Rattle.amqp_codec.specs.laws.Key.{key_of};
+ghost use Rattle.amqp_kinds.specs.KindSumType.{kind_sum_type};
 ghost use Rattle.amqp_annotations.specs.declared.owned_key.OwnedKey.TheVariants as key;
-ghost use Rattle.amqp_annotations.specs.KeyLaws.{owned_decide};
+ghost use Rattle.amqp_annotations.specs.laws.Key.{owned_decide};
 ghost use Rattle.amqp_annotations.specs.OwnedKeys.{owned_primitive, owned_keys};
 
 use amqp_codec::{
     ByteSource, Decoder, DeserializeTerm, Encoder, Error, MapKey, Serialize, SerializeTerm, Symbol,
 };
-use amqp_kind_sums::{Kind, KindSum, read_as, read_kind_sum};
+use amqp_kinds::{Kind, KindSum, read_as, read_kind_sum};
 use amqp_primitives::SymbolRef;
 use std::alloc::Global;
 

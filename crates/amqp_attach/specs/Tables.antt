@@ -1,10 +1,10 @@
 -- The table of `Attach` (Part 2, section 2.7.3), and the performatives as one type (Part 2, section 2.7).
 use Rattle.std.specs.Prelude.{List, Option, option_map}
 use Rattle.amqp_model.specs.FieldType.{normal}
-use Rattle.amqp_enums.specs.Types.{inl, inr, codes, refl, by_norm, TermType, boolean_type, uint_type, ulong_type, string_type, symbol_type}
-use Rattle.amqp_enums.specs.Types.{boxed, option_of, composite, mandatory, optional, default, none, field, ◌▸◌, Table}
-use Rattle.amqp_enums.specs.Types.{Choices, no_more, member, Chosen, SumOf, sum_of}
-use Rattle.amqp_codec.specs.MapReadingLaws.{map_of}
+use Rattle.amqp_sums.specs.Types.{inl, inr, codes, refl, by_norm, TermType, boolean_type, uint_type, ulong_type, string_type, symbol_type}
+use Rattle.amqp_sums.specs.Types.{boxed, option_of, composite, mandatory, optional, default, none, field, ◌▸◌, Table}
+use Rattle.amqp_sums.specs.Types.{Choices, no_more, member, Chosen, SumOf, sum_of}
+use Rattle.amqp_codec.specs.laws.MapReading.{map_of}
 use Rattle.amqp_containers.specs.MultipleFields.{multiple, normal_multiple}
 use Rattle.amqp_primitives.specs.Types.{binary_type}
 use Rattle.amqp_primitives.specs.declared.binary.Binary.{Binary}

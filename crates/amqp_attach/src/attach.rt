@@ -1,13 +1,10 @@
 //! The begin of a link (Part 2, section 2.7.3).
-ghost use Rattle.amqp_enums.specs.Types.{composite, one_term, refl, agreement, writing_of};
+ghost use Rattle.amqp_sums.specs.Types.{composite, one_term, refl, agreement, writing_of};
 ghost use Rattle.amqp_attach.specs.Tables.{attach};
 
 use crate::Unsettled;
-use amqp_codec::kernel::{
-    Composite, CompositeTerm, FieldRule, Table, read_into, read_some, value_in_type,
-    write_composite, write_value,
-};
-use amqp_codec::{ByteSource, Decoder, Encoder, Error, Serialize, SerializeTerm, Symbol};
+use amqp_codec::kernel::{Composite, CompositeTerm, Table, write_composite};
+use amqp_codec::{ByteSource, Decoder, Encoder, Error, Serialize, SerializeTerm, Symbol, fields};
 use amqp_containers::Array;
 use amqp_containers::multiple::{is_null_multiple, read_multiple, write_multiple};
 use amqp_errors::Fields;
@@ -48,9 +45,34 @@ pub struct Attach {
     pub properties: Option<Fields>,
 }
 
+// The fields, in order.
+macro_rules! attach_fields {
+    ($($part:tt)*) => {
+        fields! { [$($part)*]
+            0 name "name" mandatory,
+            1 handle "handle" mandatory,
+            2 role "role" mandatory,
+            3 snd_settle_mode "snd-settle-mode" default(SenderSettleMode::Mixed),
+            4 rcv_settle_mode "rcv-settle-mode" default(ReceiverSettleMode::First),
+            5 source "source" optional,
+            6 target "target" optional,
+            7 unsettled "unsettled" optional,
+            8 incomplete_unsettled "incomplete-unsettled" default(false),
+            9 initial_delivery_count "initial-delivery-count" optional,
+            10 max_message_size "max-message-size" optional,
+            11 offered_capabilities "offered-capabilities" multiple,
+            12 desired_capabilities "desired-capabilities" multiple,
+            13 properties "properties" optional,
+        }
+    };
+}
+
 impl Attach {
     /// The code and the name of its descriptor.
     pub const DESCRIPTOR: (u64, &'static str) = (0x12, "amqp:attach:list");
+
+    /// The standard's names of the fields, in order.
+    pub const FIELD_NAMES: &'static [&'static str] = attach_fields!(names);
 }
 
 impl Composite for Attach {
@@ -59,22 +81,7 @@ impl Composite for Attach {
     fn table() -> Table {
         Table {
             descriptor: Attach::DESCRIPTOR,
-            fields: &[
-                FieldRule::Mandatory,
-                FieldRule::Mandatory,
-                FieldRule::Mandatory,
-                FieldRule::Default,
-                FieldRule::Default,
-                FieldRule::Optional,
-                FieldRule::Optional,
-                FieldRule::Optional,
-                FieldRule::Default,
-                FieldRule::Optional,
-                FieldRule::Optional,
-                FieldRule::Multiple,
-                FieldRule::Multiple,
-                FieldRule::Optional,
-            ],
+            fields: attach_fields!(rules),
         }
     }
 
@@ -103,63 +110,15 @@ impl Composite for Attach {
         decoder: &mut Decoder<R>,
         alloc: Global,
     ) -> Result<(), Error> {
-        match index {
-            0 => read_into(&mut self.name, decoder, alloc),
-            1 => read_into(&mut self.handle, decoder, alloc),
-            2 => read_into(&mut self.role, decoder, alloc),
-            3 => read_into(&mut self.snd_settle_mode, decoder, alloc),
-            4 => read_into(&mut self.rcv_settle_mode, decoder, alloc),
-            5 => read_some(&mut self.source, decoder, alloc),
-            6 => read_some(&mut self.target, decoder, alloc),
-            7 => read_some(&mut self.unsettled, decoder, alloc),
-            8 => read_into(&mut self.incomplete_unsettled, decoder, alloc),
-            9 => read_some(&mut self.initial_delivery_count, decoder, alloc),
-            10 => read_some(&mut self.max_message_size, decoder, alloc),
-            11 => read_multiple(&mut self.offered_capabilities, decoder, alloc),
-            12 => read_multiple(&mut self.desired_capabilities, decoder, alloc),
-            13 => read_some(&mut self.properties, decoder, alloc),
-            _ => unreachable!(),
-        }
+        attach_fields!(fill(self, index, decoder, alloc))
     }
 
     fn is_null_field(&self, index: usize) -> bool {
-        match index {
-            0 => false,
-            1 => false,
-            2 => false,
-            3 => matches!(self.snd_settle_mode, SenderSettleMode::Mixed),
-            4 => matches!(self.rcv_settle_mode, ReceiverSettleMode::First),
-            5 => self.source.is_none(),
-            6 => self.target.is_none(),
-            7 => self.unsettled.is_none(),
-            8 => !self.incomplete_unsettled,
-            9 => self.initial_delivery_count.is_none(),
-            10 => self.max_message_size.is_none(),
-            11 => is_null_multiple(&self.offered_capabilities),
-            12 => is_null_multiple(&self.desired_capabilities),
-            13 => self.properties.is_none(),
-            _ => unreachable!(),
-        }
+        attach_fields!(is_null(self, index))
     }
 
     fn write_field(&self, index: usize, encoder: &mut Encoder) -> Result<(), Error> {
-        match index {
-            0 => self.name.serialize(encoder),
-            1 => self.handle.serialize(encoder),
-            2 => self.role.serialize(encoder),
-            3 => self.snd_settle_mode.serialize(encoder),
-            4 => self.rcv_settle_mode.serialize(encoder),
-            5 => self.source.serialize(encoder),
-            6 => self.target.serialize(encoder),
-            7 => write_value(&self.unsettled, encoder),
-            8 => self.incomplete_unsettled.serialize(encoder),
-            9 => self.initial_delivery_count.serialize(encoder),
-            10 => self.max_message_size.serialize(encoder),
-            11 => write_multiple(&self.offered_capabilities, encoder),
-            12 => write_multiple(&self.desired_capabilities, encoder),
-            13 => self.properties.serialize(encoder),
-            _ => unreachable!(),
-        }
+        attach_fields!(write(self, index, encoder))
     }
 }
 
@@ -171,20 +130,7 @@ impl Serialize for Attach {
     }
 
     fn in_type(&self) {
-        self.name.in_type();
-        self.handle.in_type();
-        self.role.in_type();
-        self.snd_settle_mode.in_type();
-        self.rcv_settle_mode.in_type();
-        value_in_type(&self.source);
-        value_in_type(&self.target);
-        value_in_type(&self.unsettled);
-        self.incomplete_unsettled.in_type();
-        self.initial_delivery_count.in_type();
-        self.max_message_size.in_type();
-        self.offered_capabilities.in_type();
-        self.desired_capabilities.in_type();
-        value_in_type(&self.properties);
+        attach_fields!(in_type(self));
     }
 }
 

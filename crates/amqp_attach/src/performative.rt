@@ -1,12 +1,12 @@
 //! The performatives as one type (Part 2, section 2.7).
 ghost use Rattle.std.specs.Prelude.{◌≡◌};
-ghost use Rattle.amqp_enums.specs.Choices.{sum_one, sum_agreement, sum_writing};
+ghost use Rattle.amqp_sums.specs.Choices.{sum_one, sum_agreement, sum_writing};
 ghost use Rattle.amqp_attach.specs.Tables.{performative, performatives};
 
 use crate::Attach;
 use amqp_codec::{ByteSource, Decoder, DeserializeTerm, Encoder, Error, Serialize, SerializeTerm};
-use amqp_enums::{Sum, is_null_sum, read_as, read_sum, write_as};
 use amqp_performatives::{Begin, Close, Detach, Disposition, End, Flow, Open, Transfer};
+use amqp_sums::{Sum, is_null_sum, read_as, read_sum, write_as};
 use std::alloc::Global;
 
 /// The performative of an AMQP frame. Any other descriptor is refused with `WrongDescriptor`.

@@ -9,8 +9,8 @@ use Rattle.amqp_decoder.specs.Reading.{RefusesRead, BeginFault, PeeksCode, after
 use Rattle.amqp_decoder.specs.Described.{OpensDescribed, OpenFault}
 use Rattle.amqp_decoder.proofs.Steps.{answered_later, first_kept}
 use Rattle.amqp_codec.specs.Reading.{AreAlike}
-use Rattle.amqp_codec.specs.PeekLaws.{peeked_failed, peeked_going}
-use Rattle.amqp_codec.specs.RefusalLaws.{refused_first, refused_later, described_going, described_sound}
+use Rattle.amqp_codec.specs.laws.Peek.{peeked_failed, peeked_going}
+use Rattle.amqp_codec.specs.laws.Refusal.{refused_first, refused_later, described_going, described_sound}
 use Rattle.amqp_batches.specs.NoSections.{NoSection, no_code, other_value, no_descriptor, other_descriptor}
 
 abbrev pub Nothing : State → Unit {0} → State → Type 0

@@ -10,7 +10,7 @@ use Rattle.amqp_decoder.specs.Steps.{RefusesBy}
 use Rattle.amqp_decoder.specs.Reading.{RefusesRead}
 use Rattle.amqp_decoder.specs.Sections.{PeeksSection}
 use Rattle.amqp_codec.specs.Reading.{Reading}
-use Rattle.amqp_batches.specs.StateLaws.{still_among, stays_then, alike_stays, alike_rest}
+use Rattle.amqp_batches.specs.laws.State.{still_among, stays_then, alike_stays, alike_rest}
 use Rattle.amqp_batches.specs.Walk.{IsAtTop, Walk, Walked, WalkFault}
 use Rattle.amqp_batches.specs.Runs.{run_walk}
 use Rattle.amqp_batches.proofs.WalkSteps.{SoFar, peeked_top, peeked_alike, step_made, finished, step_refused, ran_out}

@@ -8,10 +8,10 @@ use Rattle.amqp_decoder.specs.Reading.{RefusesRead}
 use Rattle.amqp_decoder.specs.Sections.{NotTop, PeeksSection}
 use Rattle.amqp_decoder.proofs.Steps.{answered_later, first_kept}
 use Rattle.amqp_codec.specs.Reading.{Stays, looking, AreAlike}
-use Rattle.amqp_codec.specs.RefusalLaws.{NoneStands, excused_as, no_memory, or_else}
-use Rattle.amqp_batches.specs.StateLaws.{still_among, stays_then, alike_stays, alike_rest, alike_sym, alike_trans}
+use Rattle.amqp_codec.specs.laws.Refusal.{NoneStands, excused_as, no_memory, or_else}
+use Rattle.amqp_batches.specs.laws.State.{still_among, stays_then, alike_stays, alike_rest, alike_sym, alike_trans}
 use Rattle.amqp_batches.specs.Walk.{IsAtTop, Walk, Steps, Walked, WalkFault, not_top, in_step, not_made}
-use Rattle.amqp_batches.specs.WalkLaws.{GoesOn, goes_on, steps_leave, steps_top, one_step_more}
+use Rattle.amqp_batches.specs.laws.Walk.{GoesOn, goes_on, steps_leave, steps_top, one_step_more}
 
 -- So much was read so far, and the decoder stands there.
 pub record SoFar {M V : Type 0} (w : Walk M V) (st : State) (m : M) (mid : State) : Type 0 where

@@ -19,11 +19,11 @@ use Rattle.amqp_batches.specs.WalkReading.{walk_reading, reading_via}
 use Rattle.amqp_batches.specs.Runs.{run_walk}
 use Rattle.amqp_batches.specs.Sections.{IsSection}
 use Rattle.amqp_batches.specs.Bounds.{IsBoundByLimits}
-use Rattle.amqp_batches.specs.BoundLaws.{term_bound, run_bound}
-use Rattle.amqp_batches.specs.Resuming.{IsRead}
-use Rattle.amqp_batches.specs.RowLaws.{each_proper}
-use Rattle.amqp_batches.specs.RunRewriting.{run_again, run_was_read, all_same_canons, all_texts_again}
-use Rattle.amqp_batches.specs.RunRewriting.{all_own, all_values, all_large}
+use Rattle.amqp_batches.specs.laws.Bound.{term_bound, run_bound}
+use Rattle.amqp_batches.specs.laws.Resuming.{IsRead}
+use Rattle.amqp_batches.specs.laws.Row.{each_proper}
+use Rattle.amqp_batches.specs.laws.RunRewriting.{run_again, run_was_read, all_same_canons, all_texts_again}
+use Rattle.amqp_batches.specs.laws.RunRewriting.{all_own, all_values, all_large}
 
 abbrev pub in_batch : {T : Type 0} → Holds (TransparentVec T) (Vec T Global)
 in_batch = record { get = λ b. b.0; put = λ v b. record b { 0 = v }; is_put = λ v b. refl }

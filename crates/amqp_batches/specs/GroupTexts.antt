@@ -8,7 +8,7 @@ use Rattle.amqp_codec.specs.Reading.{Reading}
 use Rattle.amqp_codec.specs.Rewriting.{Rewriting}
 use Rattle.amqp_codec.specs.Written.{AreUnwritable, Writing}
 use Rattle.amqp_batches.specs.Bounds.{IsBoundByLimits}
-use Rattle.amqp_batches.specs.Resuming.{IsRead}
+use Rattle.amqp_batches.specs.laws.Resuming.{IsRead}
 
 -- Its text begins as one of its sections, whose codes these are.
 pub record GroupText {G : Type 0} (reading : Reading G) (is_code : ℕ → Type 0) : Type 1 where

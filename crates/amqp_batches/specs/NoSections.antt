@@ -7,7 +7,8 @@ use Rattle.amqp_decoder.specs.State.{State}
 use Rattle.amqp_decoder.specs.Steps.{IsOutside}
 use Rattle.amqp_decoder.specs.Reading.{ReadsCode, BeginFault}
 use Rattle.amqp_decoder.specs.Described.{OpensDescribed, OpenFault}
-use Rattle.amqp_decoder.specs.OtherSource.{another, under, keeps_another, elsewhere, begun, begin_fault, opens_described, open_described_fault}
+use Rattle.amqp_decoder.specs.OtherSource.{another, under, elsewhere}
+use Rattle.amqp_decoder.specs.laws.OtherSource.{keeps_another, begun, begin_fault, opens_described, open_described_fault}
 use Rattle.amqp_decoder.proofs.NotOutside.{begin_not_outside, open_described_not_outside}
 use Rattle.amqp_codec.specs.Reading.{AreAlike}
 use Rattle.amqp_codec.specs.TermReading.{another_is}

@@ -6,9 +6,9 @@ use Rattle.amqp_lookahead.specs.Sections.{IsSectionAhead}
 use Rattle.amqp_decoder.specs.State.{State}
 use Rattle.amqp_codec.specs.Each.{count_all}
 use Rattle.amqp_codec.specs.Reading.{Reading, looking, AreAlike}
-use Rattle.amqp_batches.specs.StateLaws.{any_taken}
+use Rattle.amqp_batches.specs.laws.State.{any_taken}
 use Rattle.amqp_batches.specs.Walk.{IsAtTop, Leaves, Walk}
-use Rattle.amqp_batches.specs.RunLaws.{zip_sym, zip_trans, zip_more, count_more}
+use Rattle.amqp_batches.specs.laws.Run.{zip_sym, zip_trans, zip_more, count_more}
 
 module _ {T : Type 0} (c : ℕ) (r : Reading T) where
   -- A section of this code comes next, and it was read behind the others.

@@ -19,13 +19,13 @@ use Rattle.amqp_codec.specs.Agreement.{Agreement}
 use Rattle.amqp_codec.specs.Reading.{Reading, BeginsWith}
 use Rattle.amqp_codec.specs.Rewriting.{Rewriting, rewrites}
 use Rattle.amqp_batches.specs.declared.transparent_vec.TransparentVec.{TransparentVec}
-use Rattle.amqp_batches.specs.StateLaws.{any_taken}
+use Rattle.amqp_batches.specs.laws.State.{any_taken}
 use Rattle.amqp_batches.specs.Bounds.{IsBoundByLimits}
-use Rattle.amqp_batches.specs.BoundLaws.{term_bound, takes_so}
+use Rattle.amqp_batches.specs.laws.Bound.{term_bound, takes_so}
 use Rattle.amqp_batches.specs.Walk.{Steps, Walked}
-use Rattle.amqp_batches.specs.WalkLaws.{no_term}
+use Rattle.amqp_batches.specs.laws.Walk.{no_term}
 use Rattle.amqp_batches.specs.Runs.{run_walk}
-use Rattle.amqp_batches.specs.RowLaws.{row_text_joined}
+use Rattle.amqp_batches.specs.laws.Row.{row_text_joined}
 use Rattle.amqp_batches.specs.Sections.{IsSection, begins_as_section}
 use Rattle.amqp_batches.specs.Batches.{sections_in, batch_writing, batch_reading, batch_bound, batch_again, batch_rewrites}
 use Rattle.amqp_batches.specs.GroupTexts.{GroupText}

@@ -2,8 +2,8 @@
 use Rattle.std.proofs.Common.{true, false}
 use Rattle.amqp_codec.specs.Reading.{Reading}
 use Rattle.amqp_batches.specs.Walk.{Walk, Walked, WalkFault}
-use Rattle.amqp_batches.specs.WalkLaws.{walked_one, walked_counted, walked_taken, walked_stays, walked_looked, walked_elsewhere}
-use Rattle.amqp_batches.specs.WalkLaws.{walk_fault_elsewhere, walk_not_outside, no_term}
+use Rattle.amqp_batches.specs.laws.Walk.{walked_one, walked_counted, walked_taken, walked_stays, walked_looked, walked_elsewhere}
+use Rattle.amqp_batches.specs.laws.Walk.{walk_fault_elsewhere, walk_not_outside, no_term}
 
 -- What follows it may have been looked at; and it isn't one term.
 abbrev pub walk_reading : {M V : Type 0} → Walk M V → Reading V

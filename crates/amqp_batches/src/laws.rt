@@ -35,7 +35,7 @@ pub fn orders<T: Ord>()
 {}
 
 /// Within limits of the caller, a batch is read from the first n bytes exactly if it is read from them without limits, and they keep the
-/// limits. They do if n is at most the limit on bytes, and their sections nest no deeper and have together no more values than the limits
+/// limits. They do if n is at most the limit on bytes, and their sections nest no deeper and have together no more items than the limits
 /// allow. A described value is one with its descriptor.
 pub fn limits_bound_batches<T: BatchItem + DeserializeTerm>()
     ensures within { (limits : Limits) (input : List ℕ) (run : TransparentVec T) (n : ℕ)

@@ -4,7 +4,7 @@ use Rattle.amqp_lookahead.specs.Sections.{IsSectionAhead}
 use Rattle.amqp_lookahead.proofs.SectionsAhead.{one_ahead}
 use Rattle.amqp_decoder.specs.State.{State}
 use Rattle.amqp_codec.specs.Reading.{Reading}
-use Rattle.amqp_codec.specs.RefusalLaws.{NoneStands}
+use Rattle.amqp_codec.specs.laws.Refusal.{NoneStands}
 use Rattle.amqp_sections.specs.declared.data.Data.{Data as DataSection}
 use Rattle.amqp_sections.specs.declared.amqp_sequence.AmqpSequence.{AmqpSequence}
 use Rattle.amqp_sections.specs.declared.amqp_value.AmqpValue.{AmqpValue}

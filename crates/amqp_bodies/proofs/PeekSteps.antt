@@ -8,8 +8,8 @@ use Rattle.amqp_decoder.specs.Reading.{RefusesRead, AnswersRead}
 use Rattle.amqp_decoder.specs.Sections.{NotTop, PeeksSection}
 use Rattle.amqp_decoder.proofs.Steps.{answered_later, first_kept}
 use Rattle.amqp_codec.specs.Reading.{Reading, looking}
-use Rattle.amqp_codec.specs.RefusalLaws.{NoneStands, excused_as, no_memory, or_else}
-use Rattle.amqp_batches.specs.StateLaws.{still_among, alike_stays, alike_rest}
+use Rattle.amqp_codec.specs.laws.Refusal.{NoneStands, excused_as, no_memory, or_else}
+use Rattle.amqp_batches.specs.laws.State.{still_among, alike_stays, alike_rest}
 use Rattle.amqp_batches.specs.Walk.{IsAtTop}
 use Rattle.amqp_batches.proofs.WalkSteps.{peeked_alike}
 use Rattle.amqp_bodies.specs.SeenReading.{SeenReads, SeenFault, read_behind, seen_reading}

@@ -4,7 +4,7 @@ use Rattle.amqp_codec.specs.TermType.{TermType}
 use Rattle.amqp_codec.specs.TermReading.{reading_of}
 use Rattle.amqp_codec.specs.Reading.{Reading}
 use Rattle.amqp_batches.specs.Bounds.{IsBoundByLimits}
-use Rattle.amqp_batches.specs.BoundLaws.{term_bound}
+use Rattle.amqp_batches.specs.laws.Bound.{term_bound}
 
 -- The values that take the place of a body that isn't there, and a test that each of them passes.
 pub record Empties (B : Type 0) : Type 1 where

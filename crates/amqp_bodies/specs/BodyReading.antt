@@ -1,7 +1,7 @@
 -- How a body of any kind is read: as one group of sections (Part 3, section 3.2).
 use Rattle.std.proofs.Common.{◌≡◌, ℕ, ◌+◌, ◌≤◌, Bool, true, false, length, Option, Some, None, refl, subst, arith}
 use Rattle.amqp_model.specs.FieldRules.{SameOption}
-use Rattle.amqp_model.specs.OptionLaws.{option_sym, option_trans}
+use Rattle.amqp_model.specs.laws.Option.{option_sym, option_trans}
 use Rattle.amqp_wire.specs.declared.error.Error.{Error}
 use Rattle.amqp_wire.specs.declared.error.Error.TheVariants.{WrongDescriptor, InvalidValue}
 use Rattle.amqp_lookahead.specs.Sections.{IsSectionAhead}
@@ -15,12 +15,12 @@ use Rattle.amqp_sections.specs.declared.data.Data.{Data as DataSection}
 use Rattle.amqp_sections.specs.declared.amqp_sequence.AmqpSequence.{AmqpSequence}
 use Rattle.amqp_sections.specs.declared.amqp_value.AmqpValue.{AmqpValue}
 use Rattle.amqp_batches.specs.declared.transparent_vec.TransparentVec.{TransparentVec}
-use Rattle.amqp_batches.specs.StateLaws.{any_taken}
+use Rattle.amqp_batches.specs.laws.State.{any_taken}
 use Rattle.amqp_batches.specs.Bounds.{IsBoundByLimits}
-use Rattle.amqp_batches.specs.BoundLaws.{takes_so}
+use Rattle.amqp_batches.specs.laws.Bound.{takes_so}
 use Rattle.amqp_batches.specs.Walk.{IsAtTop}
 use Rattle.amqp_batches.specs.NoSections.{NoSection, no_section_elsewhere, no_section_not_outside}
-use Rattle.amqp_batches.specs.WalkLaws.{no_term}
+use Rattle.amqp_batches.specs.laws.Walk.{no_term}
 use Rattle.amqp_batches.specs.SectionGroups.{RunReads, run_reading}
 use Rattle.amqp_bodies.specs.declared.body.Body.{Body}
 use Rattle.amqp_bodies.specs.declared.body.Body.TheVariants.{Value, Data, Sequence, Empty}

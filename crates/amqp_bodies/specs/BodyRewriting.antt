@@ -12,7 +12,7 @@ use Rattle.amqp_sections.specs.declared.data.Data.{Data as DataSection}
 use Rattle.amqp_sections.specs.declared.amqp_sequence.AmqpSequence.{AmqpSequence}
 use Rattle.amqp_sections.specs.declared.amqp_value.AmqpValue.{AmqpValue}
 use Rattle.amqp_batches.specs.declared.transparent_vec.TransparentVec.{TransparentVec}
-use Rattle.amqp_batches.specs.WalkLaws.{no_term}
+use Rattle.amqp_batches.specs.laws.Walk.{no_term}
 use Rattle.amqp_batches.specs.Sections.{IsSectionCode, begins_as_section}
 use Rattle.amqp_batches.specs.GroupTexts.{GroupText}
 use Rattle.amqp_batches.specs.SectionGroups.{run_reading}

@@ -14,7 +14,7 @@ use Rattle.amqp_sections.specs.declared.data.Data.{Data as DataSection}
 use Rattle.amqp_sections.specs.declared.amqp_sequence.AmqpSequence.{AmqpSequence}
 use Rattle.amqp_sections.specs.declared.amqp_value.AmqpValue.{AmqpValue}
 use Rattle.amqp_batches.specs.Bounds.{IsBoundByLimits}
-use Rattle.amqp_batches.specs.BoundLaws.{term_bound}
+use Rattle.amqp_batches.specs.laws.Bound.{term_bound}
 use Rattle.amqp_batches.specs.Sections.{IsSection}
 use Rattle.amqp_batches.specs.Batches.{sections_in, batch_reading, batch_writing, batch_again}
 use Rattle.amqp_batches.specs.SectionGroups.{group_bound, section_text, batch_text}

@@ -10,11 +10,11 @@ use Rattle.amqp_codec.specs.Reading.{Reading}
 use Rattle.amqp_codec.specs.Rewriting.{Rewriting}
 use Rattle.amqp_codec.specs.Written.{Writing}
 use Rattle.amqp_batches.specs.Bounds.{IsBoundByLimits}
-use Rattle.amqp_batches.specs.BoundLaws.{term_bound}
+use Rattle.amqp_batches.specs.laws.Bound.{term_bound}
 use Rattle.amqp_batches.specs.Sections.{IsSection}
 use Rattle.amqp_batches.specs.Batches.{sections_in, batch_reading, batch_writing, batch_again}
 use Rattle.amqp_batches.specs.SectionGroups.{run_reading, group_bound, section_text, batch_text}
-use Rattle.amqp_batches.specs.WalkLaws.{no_term}
+use Rattle.amqp_batches.specs.laws.Walk.{no_term}
 use Rattle.amqp_batches.specs.GroupTexts.{GroupText, IsSound, widened}
 use Rattle.amqp_bodies.specs.Bodies.{Made, Empties, itself, section_made, AreLinked, alike, both_empty, by_way_of, itself_or_empty}
 use Rattle.amqp_bodies.specs.SeenReading.{seen_reading, seen_bound, seen_text}

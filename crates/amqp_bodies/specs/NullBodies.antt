@@ -9,14 +9,14 @@ use Rattle.amqp_codec.specs.TermReading.{reading_of}
 use Rattle.amqp_codec.specs.Written.{Writing}
 use Rattle.amqp_codec.specs.Agreement.{Agreement}
 use Rattle.amqp_codec.specs.Spelled.{IsSpelled}
-use Rattle.amqp_codec.specs.SpellingLaws.{spelled_read}
+use Rattle.amqp_codec.specs.laws.Spelling.{spelled_read}
 use Rattle.amqp_codec.specs.Reading.{BeginsWith, greatest}
-use Rattle.amqp_codec.specs.ReadingLaws.{read_one}
+use Rattle.amqp_codec.specs.laws.Reading.{read_one}
 use Rattle.amqp_sections.specs.SectionType.{section_of, section_writing, section_agreement}
 use Rattle.amqp_sections.specs.Sections.{in_value, value_naming}
 use Rattle.amqp_sections.specs.declared.amqp_value.AmqpValue.{AmqpValue}
-use Rattle.amqp_batches.specs.BoundLaws.{term_bound}
-use Rattle.amqp_batches.specs.Resuming.{IsRead}
+use Rattle.amqp_batches.specs.laws.Bound.{term_bound}
+use Rattle.amqp_batches.specs.laws.Resuming.{IsRead}
 use Rattle.amqp_batches.specs.GroupTexts.{GroupText, read_sound, widened}
 use Rattle.amqp_batches.specs.SectionGroups.{section_text}
 use Rattle.amqp_bodies.specs.Bodies.{Empties}

@@ -7,9 +7,9 @@ use Rattle.amqp_decoder.specs.OtherSource.{elsewhere}
 use Rattle.amqp_codec.specs.Reading.{Reading, Taken, looking, AreAlike, start, BeginsWith}
 use Rattle.amqp_codec.specs.Rewriting.{Rewriting}
 use Rattle.amqp_batches.specs.Bounds.{limited_to, IsBoundByLimits}
-use Rattle.amqp_batches.specs.BoundLaws.{still_fresh, takes_so}
-use Rattle.amqp_batches.specs.StateLaws.{stays_then, alike_stays, alike_rest, alike_sym, alike_trans, any_taken}
-use Rattle.amqp_batches.specs.WalkLaws.{no_term}
+use Rattle.amqp_batches.specs.laws.Bound.{still_fresh, takes_so}
+use Rattle.amqp_batches.specs.laws.State.{stays_then, alike_stays, alike_rest, alike_sym, alike_trans, any_taken}
+use Rattle.amqp_batches.specs.laws.Walk.{no_term}
 use Rattle.amqp_batches.specs.GroupTexts.{GroupText}
 
 module _ {V : Type 0} (r : Reading V) where

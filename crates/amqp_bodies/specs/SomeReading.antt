@@ -1,7 +1,7 @@
 -- What may be absent, where it is there: it is read as what it holds.
 use Rattle.std.proofs.Common.{◌≡◌, ℕ, ◌+◌, ◌≤◌, Bool, true, length, Option, Some, None}
 use Rattle.amqp_model.specs.FieldRules.{SameOption}
-use Rattle.amqp_model.specs.OptionLaws.{option_sym, option_trans}
+use Rattle.amqp_model.specs.laws.Option.{option_sym, option_trans}
 use Rattle.amqp_decoder.specs.State.{State}
 use Rattle.amqp_decoder.specs.OtherSource.{elsewhere}
 use Rattle.amqp_codec.specs.Reading.{Reading, Taken, Stays, apart, looking, AreAlike}

@@ -1,7 +1,7 @@
 -- Bodies in which there may be nothing (Part 3, sections 3.2.6 to 3.2.8).
 use Rattle.std.proofs.Common.{◌≡◌, ◌≤◌, ℕ, Option, Some, None, MatchOption, refl, sym, ap, subst, arith}
 use Rattle.amqp_model.specs.FieldRules.{SameOption}
-use Rattle.amqp_model.specs.OptionLaws.{option_sym, option_trans}
+use Rattle.amqp_model.specs.laws.Option.{option_sym, option_trans}
 use Rattle.amqp_codec.specs.Reading.{Reading}
 use Rattle.amqp_batches.specs.Bounds.{IsBoundByLimits}
 use Rattle.amqp_batches.specs.SectionGroups.{run_reading}

@@ -24,7 +24,7 @@ use amqp_codec::{Canonical, Deserialize, DeserializeTerm, Serialize, SerializeTe
 use amqp_decoder::Decoder;
 use amqp_encoder::Encoder;
 use amqp_sections::{AmqpSequence, AmqpValue, Data};
-use amqp_wire::{ByteSource, Error};
+use amqp_wire::{ByteSource, Error, section_code};
 use std::alloc::Global;
 
 /// The body of a message, of any kind (Part 3, section 3.2). `clone` allocates; the clone is of the same kind, and holds a clone of what
@@ -78,9 +78,13 @@ impl<T: DeserializeTerm> Deserialize for Body<T> {
         alloc: Global,
     ) -> Result<Body<T>, Error> {
         match decoder.peek_section()? {
-            Some(0x75) => Ok(Body::Data(Batch::deserialize(decoder, alloc)?)),
-            Some(0x76) => Ok(Body::Sequence(Batch::deserialize(decoder, alloc)?)),
-            Some(0x77) => Ok(Body::Value(AmqpValue::read_value(decoder, alloc)?)),
+            Some(section_code::DATA) => Ok(Body::Data(Batch::deserialize(decoder, alloc)?)),
+            Some(section_code::AMQP_SEQUENCE) => Ok(Body::Sequence(Batch::deserialize(
+                decoder, alloc,
+            )?)),
+            Some(section_code::AMQP_VALUE) => Ok(Body::Value(AmqpValue::read_value(
+                decoder, alloc,
+            )?)),
             Some(_code) => Err(decoder.refuse(Error::WrongDescriptor)),
             None => Err(no_section(decoder, alloc)),
         }

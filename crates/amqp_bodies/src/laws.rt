@@ -14,7 +14,7 @@ use amqp_batches::Batch;
 use amqp_sections::{AmqpSequence, AmqpValue, Data};
 
 /// Within limits of the caller, a body is read from the first n bytes exactly if it is read from them without limits, and they keep the
-/// limits. They do if n is at most the limit on bytes, and their sections nest no deeper and have together no more values than the limits
+/// limits. They do if n is at most the limit on bytes, and their sections nest no deeper and have together no more items than the limits
 /// allow. A described value is one with its descriptor.
 pub fn limits_bound_bodies<B: FromBody>()
     ensures within { (limits : Limits) (input : List ℕ) (body : B.Body) (n : ℕ) → BeginsWithin limits B.made.group input body n

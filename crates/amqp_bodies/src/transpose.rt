@@ -2,7 +2,7 @@
 ghost use Rattle.std.specs.Prelude.{◌≡◌, [], None, IfOk, IfErr, MatchOption};
 ghost use Rattle.std.specs.List.{AllZip, Any};
 ghost use Rattle.amqp_wire.specs.declared.error.Error.TheVariants.{Memory};
-ghost use Rattle.amqp_batches.specs.BoundLaws.{term_bound};
+ghost use Rattle.amqp_batches.specs.laws.Bound.{term_bound};
 ghost use Rattle.amqp_batches.specs.Batches.{sections_in};
 ghost use Rattle.amqp_batches.specs.SectionGroups.{group_bound};
 ghost use Rattle.amqp_bodies.specs.Bodies.{section_made};

@@ -29,13 +29,6 @@ fn a_batch_is_the_longest_run(rt: HostRuntime) -> Result<(), Fail> {
 }
 
 #[test]
-fn a_section_that_has_begun_is_whole(rt: HostRuntime) -> Result<(), Fail> {
-    let alloc = rt.alloc();
-    check_refused::<Batch<Data>>("005375a00161005375a00561", Error::Cut, alloc)?;
-    check_refused::<Batch<Data>>("00537545", Error::WrongType(0x45), alloc)
-}
-
-#[test]
 fn a_body_is_one_group(rt: HostRuntime) -> Result<(), Fail> {
     let alloc = rt.alloc();
     read_and_written::<Body<Value>>("0053774100537742", "00537741", 4, alloc)?;

@@ -19,7 +19,7 @@ use Rattle.amqp_kinds.specs.Kinds.{kind_at}
 use Rattle.amqp_c.specs.Nodes.{kind_number, head_of, Announces, HoldsNone, HoldsTerms, HoldsItems, IsDataNode, IsBareNode}
 use Rattle.amqp_c.specs.Nodes.{IsTermNode, BeginsWithTerm, BeginsWithItem}
 use Rattle.amqp_c.specs.declared.nodes.Node.{Node}
-use Rattle.amqp_kinds.specs.KindLaws.{data_kind}
+use Rattle.amqp_kinds.specs.laws.Kind.{data_kind}
 use Rattle.amqp_c.proofs.Shared.{heads}
 
 -- What is known of a node that is made of data: where it stands, and how much its code announces. first: from the data's begin to the next node

@@ -4,7 +4,7 @@ use Rattle.std.proofs.Common.{◌∙◌, subst, arith, length-append, Ordering}
 use Rattle.std.specs.BTreeMap.{BTreeMap, insert_entry}
 use Rattle.std.specs.Result.{is_err, OnOk}
 use Rattle.amqp_model.specs.Term.{map, Term}
-use Rattle.amqp_model.specs.ItemLaws.{clash}
+use Rattle.amqp_model.specs.laws.Item.{clash}
 use Rattle.amqp_model.specs.Standing.{Standing}
 use Rattle.amqp_wire.specs.declared.error.Error.{Error}
 use Rattle.amqp_decoder.specs.declared.frame.Place.TheVariants.{InMap}
@@ -13,12 +13,12 @@ use Rattle.amqp_decoder.specs.Reading.{RefusesRead}
 use Rattle.amqp_decoder.specs.Primitives.{ReadsValue}
 use Rattle.amqp_decoder.specs.Containers.{Opens, Closes}
 use Rattle.amqp_codec.specs.TermType.{TermType}
-use Rattle.amqp_codec.specs.RefusalLaws.{refused_first, refused_later, opened_going, opened_sound}
+use Rattle.amqp_codec.specs.laws.Refusal.{refused_first, refused_later, opened_going, opened_sound}
 use Rattle.amqp_codec.specs.Pairs.{IsNew, HaveOtherKeys, MeansMap}
 use Rattle.amqp_codec.specs.KeyOrder.{place, in_order, IsOrderOf}
-use Rattle.amqp_codec.specs.KeyOrderLaws.{new_in_order, new_before, one_more_in_order, inserted_in_place}
+use Rattle.amqp_codec.specs.laws.KeyOrder.{new_in_order, new_before, one_more_in_order, inserted_in_place}
 use Rattle.amqp_codec.specs.MapReading.{Pairs, ReadsPairsRow, ReadsFewer, PairsFault, MapFault, at_pair}
-use Rattle.amqp_codec.specs.MapReadingLaws.{pairs_more, others_more}
+use Rattle.amqp_codec.specs.laws.MapReading.{pairs_more, others_more}
 use Rattle.amqp_codec.specs.BTreeMapMeaning.{MeansInOrder}
 use Rattle.amqp_codec.specs.BTreeMaps.{ReadsInOrder}
 use Rattle.amqp_codec.proofs.MapSteps.{others_in, all_read}

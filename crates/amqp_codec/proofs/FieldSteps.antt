@@ -3,7 +3,7 @@ use Rattle.std.proofs.Common.{◌≡◌, inl, inr, ℕ, zero, suc, ◌<◌, ◌�
 use Rattle.std.proofs.Common.{Ok, Err, IfOk, IfErr, refl, sym, ap, ◌∙◌, subst, arith, length-append, Some}
 use Rattle.amqp_model.specs.Term.{null, list, Term, leaf, count}
 use Rattle.amqp_model.specs.Items.{is_null, terms_of}
-use Rattle.amqp_model.specs.ItemLaws.{clash, items_of-terms_of}
+use Rattle.amqp_model.specs.laws.Item.{clash, items_of-terms_of}
 use Rattle.amqp_model.specs.Slot.{is_required}
 use Rattle.amqp_model.specs.Fields.{Fits, rules_of}
 use Rattle.amqp_model.specs.declared.tables.FieldRule.{FieldRule}
@@ -26,10 +26,10 @@ use Rattle.amqp_codec.specs.Fields.{Fields, slots, take_memory}
 use Rattle.amqp_codec.specs.FieldReading.{absence, MeansAt, FaultAt, FitsFront, KeepsBut, FitsAt, ItemRead, ItemFault, no_item, null_item}
 use Rattle.amqp_codec.specs.FieldReading.{in_item, FieldsSoFar, FieldsRead, FieldsFault, FillsField, ReadsItem, no_list, at_item, left_out}
 use Rattle.amqp_codec.specs.FieldReading.{not_ended, rule_at, IsBlank}
-use Rattle.amqp_codec.specs.FieldReadingLaws.{not_absent, absent, filled_at, unfilled_at, front_null, front_filled, front_missing, front_end}
-use Rattle.amqp_codec.specs.FieldReadingLaws.{front_start, fits_value, fits_null, fits_few}
-use Rattle.amqp_codec.specs.RefusalLaws.{no_memory, opened_going, opened_sound, refused_first, refused_later, value_going}
-use Rattle.amqp_codec.specs.PeekLaws.{peeked_failed, peeked_going, not_null, value_peeked}
+use Rattle.amqp_codec.specs.laws.FieldReading.{not_absent, absent, filled_at, unfilled_at, front_null, front_filled, front_missing, front_end}
+use Rattle.amqp_codec.specs.laws.FieldReading.{front_start, fits_value, fits_null, fits_few}
+use Rattle.amqp_codec.specs.laws.Refusal.{no_memory, opened_going, opened_sound, refused_first, refused_later, value_going}
+use Rattle.amqp_codec.specs.laws.Peek.{peeked_failed, peeked_going, not_null, value_peeked}
 
 the_item : (ts us : List Term) (t : Term) (rest : List Term) (n : ℕ) → length ts ≡ n → us ≡ ts ++ t ∷ rest → get_or us n (leaf null) ≡ t
 the_item [] us t rest n e f = ap (λ l. get_or l n (leaf null)) f ∙ ap (λ k. get_or (t ∷ rest) k (leaf null)) (sym e)

@@ -6,7 +6,7 @@ use Rattle.amqp_decoder.specs.Reading.{RefusesRead}
 use Rattle.amqp_decoder.specs.Primitives.{ReadsValue}
 use Rattle.amqp_codec.specs.TermType.{TermType}
 use Rattle.amqp_codec.specs.Wrappers.{Holds, held}
-use Rattle.amqp_codec.specs.RefusalLaws.{refused_first}
+use Rattle.amqp_codec.specs.laws.Refusal.{refused_first}
 
 pub held_refused : {W T : Type 0} (h : Holds W T) (u : TermType T) {takes : Bool} (st : State) (e : Error) (new : State)
     → RefusesRead takes (ReadsValue u.means) u.faults.fault st e new

@@ -4,7 +4,7 @@ use Rattle.std.proofs.Common.{◌∙◌, subst, arith}
 use Rattle.std.specs.Result.{is_ok, is_err}
 use Rattle.amqp_model.specs.Standing.{Standing}
 use Rattle.amqp_model.specs.Term.{Term}
-use Rattle.amqp_model.specs.ItemLaws.{clash}
+use Rattle.amqp_model.specs.laws.Item.{clash}
 use Rattle.amqp_wire.specs.declared.error.Error.{Error}
 use Rattle.amqp_wire.specs.declared.error.Error.TheVariants.{Memory}
 use Rattle.amqp_decoder.specs.State.{State}
@@ -14,10 +14,10 @@ use Rattle.amqp_decoder.specs.Primitives.{ReadsValue}
 use Rattle.amqp_decoder.specs.Containers.{place_of, Closes, CloseFault}
 use Rattle.amqp_decoder.proofs.Steps.{answered_later, first_kept}
 use Rattle.amqp_codec.specs.TermType.{TermType}
-use Rattle.amqp_codec.specs.RefusalLaws.{refused_first, refused_later, unreserved}
+use Rattle.amqp_codec.specs.laws.Refusal.{refused_first, refused_later, unreserved}
 use Rattle.amqp_codec.specs.Each.{MeansItems}
 use Rattle.amqp_codec.specs.ItemsReading.{ReadsEach, ReadsRow, RowFault, Opening, ItemsRead, ItemsFault, unopened, at_item, unclosed}
-use Rattle.amqp_codec.specs.ItemsReadingLaws.{each_next, each_end, each_still, items_value, value_items}
+use Rattle.amqp_codec.specs.laws.ItemsReading.{each_next, each_end, each_still, items_value, value_items}
 
 -- a push that isn't refused
 pub pushed : {A B E : Type 0} (r : Result A E) (t : Bool) (xs ys zs : List B) → t ≡ false → t ≡ is_err r → xs ≡ cond (is_ok r) ys zs

@@ -7,8 +7,8 @@ use Rattle.amqp_decoder.specs.Reading.{AnswersRead}
 use Rattle.amqp_decoder.specs.Primitives.{ReadsValue}
 use Rattle.amqp_codec.specs.Fields.{Fields, slots, take_memory}
 use Rattle.amqp_codec.specs.FieldReading.{FieldsRead, FieldsFault}
-use Rattle.amqp_codec.specs.ListTypeLaws.{fields_value, value_fields}
-use Rattle.amqp_codec.specs.RefusalLaws.{refused_first}
+use Rattle.amqp_codec.specs.laws.ListType.{fields_value, value_fields}
+use Rattle.amqp_codec.specs.laws.Refusal.{refused_first}
 
 pub list_reads : {V : Type 0} (fs : Fields V) (old : State) (r : Result V Error) (new : State)
     → AnswersRead (take_memory fs) (FieldsRead fs) (FieldsFault fs) old r new

@@ -14,11 +14,11 @@ use Rattle.amqp_decoder.proofs.Steps.{answered_later, first_kept}
 use Rattle.amqp_decoder.proofs.OneReading.{value_same}
 use Rattle.amqp_decoder.proofs.Opening.{opens_same}
 use Rattle.amqp_codec.specs.TermType.{TermType}
-use Rattle.amqp_codec.specs.RefusalLaws.{NoneStands, refused_first, refused_later, value_going, opened_going, opened_sound, unreserved}
+use Rattle.amqp_codec.specs.laws.Refusal.{NoneStands, refused_first, refused_later, value_going, opened_going, opened_sound, unreserved}
 use Rattle.amqp_codec.specs.Pairs.{IsNew, HaveOtherKeys, MeansMap}
 use Rattle.amqp_codec.specs.MapReading.{Pairs, ReadsPairsRow, ReadsFewer, PairsFault, at_key, twice, at_value, MapFault}
 use Rattle.amqp_codec.specs.MapReading.{unopened, at_pair, unclosed}
-use Rattle.amqp_codec.specs.MapReadingLaws.{pairs_still, pairs_split, pairs_behind, pairs_end, map_value, value_map}
+use Rattle.amqp_codec.specs.laws.MapReading.{pairs_still, pairs_split, pairs_behind, pairs_end, map_value, value_map}
 
 -- the count of a map that was opened is twice that of its pairs
 pub by_two : {st : State} {n : ℕ} {first : State} → Opens map st n first → Opens map st (2 * (n / 2)) first

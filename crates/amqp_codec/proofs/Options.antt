@@ -2,7 +2,7 @@
 use Rattle.std.proofs.Common.{Bool, false, ◌≡◌, inl, inr, ℕ, Some, None, ap, subst}
 use Rattle.amqp_model.specs.Term.{null}
 use Rattle.amqp_model.specs.Items.{is_null}
-use Rattle.amqp_model.specs.ItemLaws.{clash}
+use Rattle.amqp_model.specs.laws.Item.{clash}
 use Rattle.amqp_wire.specs.declared.error.Error.{Error}
 use Rattle.amqp_decoder.specs.State.{State}
 use Rattle.amqp_decoder.specs.Reading.{RefusesRead, PeeksCode}
@@ -11,8 +11,8 @@ use Rattle.amqp_decoder.proofs.Steps.{answered_later}
 use Rattle.amqp_decoder.proofs.Peeks.{value-peeked}
 use Rattle.amqp_codec.specs.TermType.{TermType}
 use Rattle.amqp_codec.specs.OptionMeaning.{MeansOption, OptionFault}
-use Rattle.amqp_codec.specs.RefusalLaws.{excused_as, no_memory, NoneStands, refused_later}
-use Rattle.amqp_codec.specs.PeekLaws.{peeked_failed, peeked_going, null_there, not_null}
+use Rattle.amqp_codec.specs.laws.Refusal.{excused_as, no_memory, NoneStands, refused_later}
+use Rattle.amqp_codec.specs.laws.Peek.{peeked_failed, peeked_going, null_there, not_null}
 
 -- a null that was looked at can't be refused but for the source
 pub null_refused : {B : Type 0} {takes : Bool} (q : State → B → State → Type 0) (g : State → Error → Type 0) (st : State) (c : ℕ)

@@ -7,7 +7,7 @@ use Rattle.amqp_decoder.specs.Reading.{AnswersRead}
 use Rattle.amqp_decoder.specs.Primitives.{ReadsValue, Means, PrimitiveFault}
 use Rattle.amqp_codec.specs.ExactType.{MeansExactly}
 use Rattle.amqp_codec.specs.PrimitiveTypes.{Base, IsOf}
-use Rattle.amqp_codec.specs.RefusalLaws.{refused_first}
+use Rattle.amqp_codec.specs.laws.Refusal.{refused_first}
 
 pub kind_read : {V : Type 0} (takes : Bool) (make : V → Primitive) (range : V → Type 0) (kind : ℕ) (old : State) (r : Result V Error)
     (new : State) → IfOk r range → AnswersRead takes (ReadsValue (Means make)) (PrimitiveFault kind) old r new

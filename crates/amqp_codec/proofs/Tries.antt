@@ -8,10 +8,10 @@ use Rattle.amqp_decoder.specs.Misspelled.{IsMisspelling}
 use Rattle.amqp_decoder.proofs.NotOutside.{read_is_outside}
 use Rattle.amqp_model.specs.declared.tables.FieldRule.{FieldRule}
 use Rattle.amqp_codec.specs.FieldReading.{absence}
-use Rattle.amqp_codec.specs.FieldReadingLaws.{absence_not_outside}
-use Rattle.amqp_codec.specs.MisspellingLaws.{absence_spelled}
+use Rattle.amqp_codec.specs.laws.FieldReading.{absence_not_outside}
+use Rattle.amqp_codec.specs.laws.Misspelling.{absence_spelled}
 use Rattle.amqp_codec.specs.Fields.{Fields, none, field, take_memory, takes_at}
-use Rattle.amqp_codec.specs.FieldsLaws.{either_first, either_second}
+use Rattle.amqp_codec.specs.laws.Fields.{either_first, either_second}
 
 -- what takes no memory is of what takes some, and of what takes none
 pub taking_none : (more : Bool) → false ≡ true → more ≡ true

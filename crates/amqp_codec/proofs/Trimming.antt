@@ -8,8 +8,8 @@ use Rattle.amqp_encoder.specs.declared.encoder.Encoder.{Encoder}
 use Rattle.amqp_encoder.specs.Tokens.{put}
 use Rattle.amqp_encoder.specs.Writes.{Writes}
 use Rattle.amqp_codec.specs.TermType.{KeepsNoBytes}
-use Rattle.amqp_codec.specs.NullLaws.{nulls_alike-null}
-use Rattle.amqp_codec.specs.KeptBytesLaws.{nulls_alike-none_kept}
+use Rattle.amqp_codec.specs.laws.Null.{nulls_alike-null}
+use Rattle.amqp_codec.specs.laws.KeptBytes.{nulls_alike-none_kept}
 use Rattle.amqp_codec.specs.Written.{WritesTerms}
 use Rattle.amqp_codec.proofs.Joining.{terms_join, terms_cut}
 use Rattle.amqp_model.specs.Items.{is_null, before_nulls, without_last_nulls}

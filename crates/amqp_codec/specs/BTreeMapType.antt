@@ -4,10 +4,10 @@ use Rattle.std.specs.BTreeMap.{BTreeMap}
 use Rattle.amqp_model.specs.Term.{map, container}
 use Rattle.amqp_codec.specs.TermType.{TermType}
 use Rattle.amqp_codec.specs.Pairs.{pair_canons, count_pairs, SamePairs}
-use Rattle.amqp_codec.specs.PairLaws.{pairs_refl, pairs_sym, pairs_trans}
-use Rattle.amqp_codec.specs.MapReadingLaws.{map_faults}
+use Rattle.amqp_codec.specs.laws.Pair.{pairs_refl, pairs_sym, pairs_trans}
+use Rattle.amqp_codec.specs.laws.MapReading.{map_faults}
 use Rattle.amqp_codec.specs.BTreeMapMeaning.{norm_entries, MeansInOrder, AreInOrder}
-use Rattle.amqp_codec.specs.BTreeMapTypeLaws.{map_agrees, map_one, map_rewrites, map_ignores, map_norm_norm, map_own, map_meant, map_least}
+use Rattle.amqp_codec.specs.laws.BTreeMapType.{map_agrees, map_one, map_rewrites, map_ignores, map_norm_norm, map_own, map_meant, map_least}
 
 module _ {K V : Type 0} (key : TermType K) (value : TermType V) (cmp : K → K → Ordering) where
   -- The type of maps in the order of their keys.

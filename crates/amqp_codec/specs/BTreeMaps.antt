@@ -13,7 +13,7 @@ use Rattle.amqp_codec.specs.KeyOrder.{in_order, IsOrderOf}
 use Rattle.amqp_codec.specs.BTreeMapType.{btree_map_of}
 use Rattle.amqp_codec.specs.MapReading.{ReadsPairsRow}
 use Rattle.amqp_codec.specs.MapWriting.{map_writing}
-use Rattle.amqp_codec.specs.MapWritingLaws.{canons_agree, pairs_to, pairs_from, own_keys, any_keys}
+use Rattle.amqp_codec.specs.laws.MapWriting.{canons_agree, pairs_to, pairs_from, own_keys, any_keys}
 use Rattle.amqp_codec.specs.Written.{Writing}
 use Rattle.amqp_codec.specs.Agreement.{Agreement, via_writing}
 

@@ -10,11 +10,11 @@ use Rattle.amqp_codec.specs.ListType.{ListTable, list_of}
 use Rattle.amqp_codec.specs.DescribedType.{described_by}
 use Rattle.amqp_codec.specs.Descriptors.{Descriptors}
 use Rattle.amqp_codec.specs.OtherSource.{fields_faults, member_faults}
-use Rattle.amqp_codec.specs.OtherSourceLaws.{fields_read}
+use Rattle.amqp_codec.specs.laws.OtherSource.{fields_read}
 use Rattle.amqp_codec.specs.FieldReading.{FieldsRead}
 use Rattle.amqp_codec.specs.Members.{Members}
 use Rattle.amqp_codec.specs.Fields.{Fields, slots, take_memory}
-use Rattle.amqp_codec.specs.DescriptorLaws.{descriptor_short}
+use Rattle.amqp_codec.specs.laws.Descriptor.{descriptor_short}
 
 -- The table of a composite: the code and the name that describe it, and its fields.
 pub record Table (V : Type 0) : Type 1 where

@@ -5,8 +5,8 @@ use Rattle.amqp_model.specs.Term.{described}
 use Rattle.amqp_codec.specs.Faults.{Faults}
 use Rattle.amqp_codec.specs.TermType.{TermType}
 use Rattle.amqp_codec.specs.DescribedPairMeaning.{DescriptorType, MeansPair, norm_second}
-use Rattle.amqp_codec.specs.DescribedPairTypeLaws.{pair_sameness, pair_rewrites, pair_meant, pair_formed, pair_ignores, pair_norm_norm}
-use Rattle.amqp_codec.specs.DescribedPairTypeLaws.{pair_own, pair_least}
+use Rattle.amqp_codec.specs.laws.DescribedPairType.{pair_sameness, pair_rewrites, pair_meant, pair_formed, pair_ignores, pair_norm_norm}
+use Rattle.amqp_codec.specs.laws.DescribedPairType.{pair_own, pair_least}
 
 module _ {D T : Type 0} (k : DescriptorType D) (u : TermType T) where
   -- The type of such pairs; why none is read is said where their reading is.

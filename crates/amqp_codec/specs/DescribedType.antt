@@ -4,10 +4,10 @@ use Rattle.amqp_model.specs.Term.{code, described}
 use Rattle.amqp_model.specs.Composite.{MeansDescribed}
 use Rattle.amqp_codec.specs.Faults.{Faults}
 use Rattle.amqp_codec.specs.TermType.{TermType}
-use Rattle.amqp_codec.specs.MeaningLaws.{meaning_sameness, meaning_ignores, meaning_rewrites}
+use Rattle.amqp_codec.specs.laws.Meaning.{meaning_sameness, meaning_ignores, meaning_rewrites}
 use Rattle.amqp_codec.specs.FieldTypes.{anywhere, field_keeps_no_bytes}
 use Rattle.amqp_codec.specs.Descriptors.{Descriptors}
-use Rattle.amqp_codec.specs.DescribedTypeLaws.{described_meaning, described_meant, described_formed, described_least}
+use Rattle.amqp_codec.specs.laws.DescribedType.{described_meaning, described_meant, described_formed, described_least}
 
 module _ {T : Type 0} (k : Descriptors) (u : TermType T) (ignores_standing : u.ignores_standing ≡ true) where
   -- The type of what is described so.

@@ -3,9 +3,9 @@ use Rattle.std.proofs.Common.{◌⊎◌, ℕ, Bool, ◌&&◌, ◌||◌}
 use Rattle.amqp_codec.specs.Faults.{Faults}
 use Rattle.amqp_codec.specs.TermType.{TermType}
 use Rattle.amqp_codec.specs.EitherMeaning.{either, IsEither, SameEither, norm_either, FormsApart, EitherFault}
-use Rattle.amqp_codec.specs.EitherTypeLaws.{either_refl, either_sym, either_trans, either_agrees, either_one, either_rewrites}
-use Rattle.amqp_codec.specs.EitherTypeLaws.{either_norm_norm, either_meant, either_own, either_never_null, either_formed, either_ignores}
-use Rattle.amqp_codec.specs.EitherTypeLaws.{either_least, either_not_outside, either_elsewhere, either_misspelled}
+use Rattle.amqp_codec.specs.laws.EitherType.{either_refl, either_sym, either_trans, either_agrees, either_one, either_rewrites}
+use Rattle.amqp_codec.specs.laws.EitherType.{either_norm_norm, either_meant, either_own, either_never_null, either_formed, either_ignores}
+use Rattle.amqp_codec.specs.laws.EitherType.{either_least, either_not_outside, either_elsewhere, either_misspelled}
 
 module _ (is_first : ℕ → Bool) (f g : Faults) where
   abbrev pub either_faults : Faults

@@ -11,7 +11,7 @@ use Rattle.amqp_model.specs.Items.{is_null, IsFree}
 use Rattle.amqp_model.specs.FieldType.{unchanged}
 use Rattle.amqp_model.proofs.Least.{text_is_least}
 use Rattle.amqp_codec.specs.Faults.{Faults}
-use Rattle.amqp_codec.specs.KeptBytesLaws.{plain_reads, plain_core, rewrites_plainly, null_core}
+use Rattle.amqp_codec.specs.laws.KeptBytes.{plain_reads, plain_core, rewrites_plainly, null_core}
 use Rattle.amqp_codec.specs.TermType.{TermType, Spells, IsLeaf, KeepsNoBytes, view_of, IsRefusedForSize, Sameness, IgnoresStanding, Meant}
 
 abbrev pub MeansExactly : {V : Type 0} → (V → Type 0) → (V → Term) → Standing → Term → V → Type 0

@@ -6,10 +6,10 @@ use Rattle.amqp_model.specs.Standing.{Standing, whole}
 use Rattle.amqp_model.specs.Measures.{nest, nodes}
 use Rattle.amqp_model.specs.Ranges.{Everywhere, IsValue}
 use Rattle.amqp_model.specs.Items.{is_null}
-use Rattle.amqp_model.specs.ItemLaws.{clash}
+use Rattle.amqp_model.specs.laws.Item.{clash}
 use Rattle.amqp_model.specs.FieldType.{normal, Meaning, FieldType}
 use Rattle.amqp_codec.specs.TermType.{TermType, KeepsNoBytes, IsNoShorter, IsRefusedForSize}
-use Rattle.amqp_codec.specs.KeptBytesLaws.{reads_itself, nulls_alike-none_kept}
+use Rattle.amqp_codec.specs.laws.KeptBytes.{reads_itself, nulls_alike-none_kept}
 
 -- the one standing that serves for all
 abbrev pub anywhere : Standing

@@ -5,9 +5,9 @@ use Rattle.amqp_model.specs.Term.{Container, container}
 use Rattle.amqp_codec.specs.Faults.{Faults}
 use Rattle.amqp_codec.specs.TermType.{TermType}
 use Rattle.amqp_codec.specs.Each.{canons_of, count_all, norm_items, IsListOrArray, MeansItems}
-use Rattle.amqp_codec.specs.EachLaws.{each_refl, each_sym, each_trans}
-use Rattle.amqp_codec.specs.ItemsTypeLaws.{items_agree, items_one, items_rewrites, items_ignore, items_norm_norm, items_own, items_meant}
-use Rattle.amqp_codec.specs.ItemsTypeLaws.{items_least}
+use Rattle.amqp_codec.specs.laws.Each.{each_refl, each_sym, each_trans}
+use Rattle.amqp_codec.specs.laws.ItemsType.{items_agree, items_one, items_rewrites, items_ignore, items_norm_norm, items_own, items_meant}
+use Rattle.amqp_codec.specs.laws.ItemsType.{items_least}
 
 module _ {T : Type 0} (u : TermType T) (k : Container) (q : IsListOrArray k) where
   -- The type of such values; why none is read is said where their reading is.

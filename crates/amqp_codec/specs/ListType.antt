@@ -4,11 +4,11 @@ use Rattle.amqp_model.specs.FieldType.{Norm, normal}
 use Rattle.amqp_model.specs.Fields.{AreValues, IsNormal, Same}
 use Rattle.amqp_model.specs.Composite.{MeansList, canonical_list}
 use Rattle.amqp_codec.specs.TermType.{TermType}
-use Rattle.amqp_codec.specs.MeaningLaws.{meaning_sameness, meaning_ignores, meaning_rewrites}
+use Rattle.amqp_codec.specs.laws.Meaning.{meaning_sameness, meaning_ignores, meaning_rewrites}
 use Rattle.amqp_codec.specs.OtherSource.{fields_faults}
 use Rattle.amqp_codec.specs.Fields.{Fields, slots, count_of, are_least, take_memory}
-use Rattle.amqp_codec.specs.FieldsLaws.{items_keeps_no_bytes, items_valued}
-use Rattle.amqp_codec.specs.ListTypeLaws.{list_meaning, list_meant, list_least}
+use Rattle.amqp_codec.specs.laws.Fields.{items_keeps_no_bytes, items_valued}
+use Rattle.amqp_codec.specs.laws.ListType.{list_meaning, list_meant, list_least}
 
 module _ {V : Type 0} (fs : Fields V) (norm : Norm V) (norm_is : (v : V) → IsNormal (slots fs) v (normal norm v)) where
   -- The type of the list of these fields.

@@ -5,8 +5,8 @@ use Rattle.amqp_codec.specs.Faults.{Faults}
 use Rattle.amqp_codec.specs.TermType.{TermType}
 use Rattle.amqp_codec.specs.Keys.{IsOwnKey}
 use Rattle.amqp_codec.specs.Pairs.{pair_canons, count_pairs, HaveOtherKeys, OfPairs, SamePairs, norm_values, MeansMap}
-use Rattle.amqp_codec.specs.PairLaws.{pairs_refl, pairs_sym, pairs_trans}
-use Rattle.amqp_codec.specs.MapTypeLaws.{map_agrees, map_one, map_rewrites, map_ignores, map_norm_norm, map_own, map_meant, map_least}
+use Rattle.amqp_codec.specs.laws.Pair.{pairs_refl, pairs_sym, pairs_trans}
+use Rattle.amqp_codec.specs.laws.MapType.{map_agrees, map_one, map_rewrites, map_ignores, map_norm_norm, map_own, map_meant, map_least}
 
 module _ {K V : Type 0} (key : TermType K) (value : TermType V) where
   -- The type of maps; why none is read is said where their reading is.

@@ -11,8 +11,8 @@ use Rattle.amqp_codec.specs.MapType.{map_type}
 use Rattle.amqp_codec.specs.Keys.{IsKey}
 use Rattle.amqp_codec.specs.Written.{Writing, canon_of}
 use Rattle.amqp_codec.specs.Agreement.{Agreement}
-use Rattle.amqp_codec.specs.MapWritingLaws.{map_proper, distinct_others, others_distinct, own_keys, any_keys, canons_agree, pairs_to}
-use Rattle.amqp_codec.specs.MapWritingLaws.{pairs_from}
+use Rattle.amqp_codec.specs.laws.MapWriting.{map_proper, distinct_others, others_distinct, own_keys, any_keys, canons_agree, pairs_to}
+use Rattle.amqp_codec.specs.laws.MapWriting.{pairs_from}
 
 module _ {K V : Type 0} (key : Writing K) (value : Writing V) where
   -- The canonical terms of the keys and values in turn.

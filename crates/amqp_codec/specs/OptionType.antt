@@ -1,14 +1,14 @@
 -- The type of optional values: null is none.
 use Rattle.std.proofs.Common.{false, Option, IfSome, refl}
-use Rattle.amqp_model.specs.ItemLaws.{clash}
+use Rattle.amqp_model.specs.laws.Item.{clash}
 use Rattle.amqp_model.specs.FieldRules.{option_canon, SameOption}
-use Rattle.amqp_model.specs.OptionLaws.{option_refl, option_sym, option_trans}
+use Rattle.amqp_model.specs.laws.Option.{option_refl, option_sym, option_trans}
 use Rattle.amqp_codec.specs.Faults.{Faults}
 use Rattle.amqp_codec.specs.TermType.{TermType}
 use Rattle.amqp_codec.specs.OptionMeaning.{MeansOption, OptionFault, norm_option, count_option}
-use Rattle.amqp_codec.specs.OptionTypeLaws.{option_not_outside, option_elsewhere, option_misspelled, option_agrees, option_one}
-use Rattle.amqp_codec.specs.OptionTypeLaws.{option_rewrites, option_norm_norm, option_own, option_meant, option_formed, option_ignores}
-use Rattle.amqp_codec.specs.OptionTypeLaws.{option_least}
+use Rattle.amqp_codec.specs.laws.OptionType.{option_not_outside, option_elsewhere, option_misspelled, option_agrees, option_one}
+use Rattle.amqp_codec.specs.laws.OptionType.{option_rewrites, option_norm_norm, option_own, option_meant, option_formed, option_ignores}
+use Rattle.amqp_codec.specs.laws.OptionType.{option_least}
 
 abbrev pub option_faults : Faults → Faults
 option_faults f = record {

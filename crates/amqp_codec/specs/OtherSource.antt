@@ -1,12 +1,12 @@
 -- The faults of the fields and of the members of composites, as records.
 use Rattle.amqp_codec.specs.Faults.{Faults}
-use Rattle.amqp_codec.specs.MisspellingLaws.{fields_misspelled, member_misspelled}
+use Rattle.amqp_codec.specs.laws.Misspelling.{fields_misspelled, member_misspelled}
 use Rattle.amqp_codec.specs.Fields.{Fields}
 use Rattle.amqp_codec.specs.FieldReading.{FieldsFault}
-use Rattle.amqp_codec.specs.FieldReadingLaws.{fields_not_outside}
+use Rattle.amqp_codec.specs.laws.FieldReading.{fields_not_outside}
 use Rattle.amqp_codec.specs.Members.{Members, MemberFault}
-use Rattle.amqp_codec.specs.MembersLaws.{member_not_outside}
-use Rattle.amqp_codec.specs.OtherSourceLaws.{fields_fault, member_fault}
+use Rattle.amqp_codec.specs.laws.Members.{member_not_outside}
+use Rattle.amqp_codec.specs.laws.OtherSource.{fields_fault, member_fault}
 
 -- Why the fields of a table aren't read.
 abbrev pub fields_faults : {V : Type 0} → Fields V → Faults

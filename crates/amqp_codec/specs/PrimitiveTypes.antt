@@ -9,10 +9,10 @@ use Rattle.amqp_lookahead.specs.Kinds.{decimals128, chars, timestamps, uuids, bi
 use Rattle.amqp_decoder.specs.Primitives.{PrimitiveFault}
 use Rattle.amqp_decoder.proofs.NotOutside.{primitive_not_outside}
 use Rattle.amqp_decoder.proofs.Misspelled.{primitive_misspelled}
-use Rattle.amqp_decoder.specs.OtherSource.{primitive_fault}
+use Rattle.amqp_decoder.specs.laws.OtherSource.{primitive_fault}
 use Rattle.amqp_codec.specs.ExactType.{MeansExactly, IsExact, exact}
 use Rattle.amqp_codec.specs.Faults.{Faults}
-use Rattle.amqp_codec.specs.PrimitiveTermLaws.{leaf_injective, leaf_writable}
+use Rattle.amqp_codec.specs.laws.PrimitiveTerm.{leaf_injective, leaf_writable}
 use Rattle.amqp_codec.specs.TermType.{TermType, view_of, equality}
 
 -- The values of A in the range are the primitives of one kind, which are null or not.

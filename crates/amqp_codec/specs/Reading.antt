@@ -1,12 +1,13 @@
 -- What it is to read a value of a type: from which state of a decoder, and what state is left.
-use Rattle.std.proofs.Common.{◌≡◌, ℕ, ◌+◌, ◌≤◌, Bool, true, false, List, [], ◌++◌, length, drop, Option, None, ◌-◌, arith}
+use Rattle.std.proofs.Common.{◌≡◌, ℕ, ◌+◌, ◌≤◌, Bool, true, false, List, [], ◌++◌, length, drop, Option, None, ◌-◌}
 use Rattle.amqp_model.specs.Term.{Term}
 use Rattle.amqp_model.specs.Spelling.{IsSpelling}
 use Rattle.amqp_model.specs.Measures.{nest, weight}
 use Rattle.amqp_wire.specs.declared.error.Error.{Error}
 use Rattle.amqp_wire.specs.declared.limits.Limits.{Limits}
 use Rattle.amqp_wire.specs.Limits.{unlimited, limit_of}
-use Rattle.amqp_decoder.specs.State.{State, Has, top_level, is_free}
+use Rattle.amqp_decoder.specs.State.{State, Has, top_level, started}
+pub use Rattle.amqp_decoder.specs.State.{greatest}
 use Rattle.amqp_decoder.specs.OtherSource.{elsewhere, IsByDepth}
 use Rattle.amqp_decoder.specs.Misspelled.{IsMisspelling}
 use Rattle.amqp_decoder.specs.Steps.{IsOutside}
@@ -44,21 +45,7 @@ AreAlike a b = b ≡ looking b.ahead a
 
 -- A decoder at the start of an input, within limits on how deep values nest, how many bytes they have and how many they are.
 abbrev pub start_within : Limits → List ℕ → State
-start_within limits input = record {
-  rest = input;
-  ahead = 0;
-  source = 0;
-  top = top_level (limit_of limits.bytes);
-  saved = [];
-  nesting = limits.nesting;
-  quota = limit_of limits.items;
-  error = None;
-  failed = record { broken = false; alone = false; free = is_free limits.nesting limits.bytes limits.items };
-}
-
--- The limits under which all is read that nests at most 128 deep, without a seed for hashes.
-abbrev pub greatest : Limits
-greatest = record { nesting = 128; bytes = unlimited; items = unlimited; hash_seed = 0; nests = omega arith }
+start_within limits input = started input 0 false false limits
 
 -- They are these three numbers, whatever their seed.
 abbrev pub IsGreatest : Limits → Type 0

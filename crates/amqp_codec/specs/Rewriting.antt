@@ -16,9 +16,9 @@ use Rattle.amqp_codec.specs.Reading.{Reading, BeginsWith}
 use Rattle.amqp_codec.specs.TermReading.{reading_of}
 use Rattle.amqp_codec.specs.Written.{AreWritable, AreUnwritable, Writing}
 use Rattle.amqp_codec.specs.Spelled.{written}
-use Rattle.amqp_codec.specs.SpellingLaws.{read_spelled, spelled_read}
-use Rattle.amqp_codec.specs.TermLaws.{spelled_again, spelled_value, spelled_own, spelled_writable, text_unchanged, text_least}
-use Rattle.amqp_codec.specs.ReasonLaws.{agreed_text, agreed_writable, agreed_refused}
+use Rattle.amqp_codec.specs.laws.Spelling.{read_spelled, spelled_read}
+use Rattle.amqp_codec.specs.laws.Term.{spelled_again, spelled_value, spelled_own, spelled_writable, text_unchanged, text_least}
+use Rattle.amqp_codec.specs.laws.Reason.{agreed_text, agreed_writable, agreed_refused}
 use Rattle.amqp_codec.specs.Agreement.{Agreement}
 
 -- no array stands in the terms

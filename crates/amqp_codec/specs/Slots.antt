@@ -4,17 +4,17 @@ use Rattle.amqp_model.specs.Term.{null, Term, leaf}
 use Rattle.amqp_model.specs.Standing.{Standing}
 use Rattle.amqp_model.specs.Items.{is_null}
 use Rattle.amqp_model.specs.Ranges.{Everywhere, IsValue}
-use Rattle.amqp_model.specs.ItemLaws.{clash}
+use Rattle.amqp_model.specs.laws.Item.{clash}
 use Rattle.amqp_model.specs.FieldType.{Meaning, NeverNull}
 use Rattle.amqp_model.specs.FieldRules.{OptionMeans, option_canon, DefaultValue, DefaultMeans, default_canon}
 use Rattle.amqp_model.specs.Slot.{Slot}
 use Rattle.amqp_model.specs.Slot as slot
-use Rattle.amqp_model.specs.OptionLaws.{option_meaning}
-use Rattle.amqp_model.specs.DefaultLaws.{default_meaning}
+use Rattle.amqp_model.specs.laws.Option.{option_meaning}
+use Rattle.amqp_model.specs.laws.Default.{default_meaning}
 use Rattle.amqp_codec.specs.Faults.{Faults}
 use Rattle.amqp_codec.specs.TermType.{TermType, KeepsNoBytes, IsNoShorter}
-use Rattle.amqp_codec.specs.PrimitiveTermLaws.{null_writable}
-use Rattle.amqp_codec.specs.NullLaws.{null_least}
+use Rattle.amqp_codec.specs.laws.PrimitiveTerm.{null_writable}
+use Rattle.amqp_codec.specs.laws.Null.{null_least}
 use Rattle.amqp_codec.specs.FieldTypes.{anywhere, FieldMeant, FieldLaws, field_type, type_laws, standing_so}
 
 pub record Field (T : Type 0) : Type 1 where

@@ -8,8 +8,9 @@ use Rattle.amqp_model.specs.Items.{IsFree}
 use Rattle.amqp_codec.specs.Faults.{Faults}
 use Rattle.amqp_codec.specs.TermType.{TermType, Sameness, view_of}
 use Rattle.amqp_codec.specs.ExactType.{MeansExactly, IsExact, exact}
-use Rattle.amqp_codec.specs.TreeLaws.{IsTree, spelled_for_size}
-use Rattle.amqp_codec.specs.EqualKeys.{barred_maps, maps_plain, maps_valued, maps_free}
+use Rattle.amqp_codec.specs.laws.Tree.{IsTree, spelled_for_size}
+use Rattle.amqp_codec.specs.EqualKeys.{barred_maps}
+use Rattle.amqp_codec.specs.laws.EqualKeys.{maps_plain, maps_valued, maps_free}
 
 module _ {V : Type 0} (term : V → Term) (are : (v : V) → IsTree (term v)) where
   -- A value's numbers and texts are of their types.

@@ -6,7 +6,7 @@ use Rattle.amqp_model.specs.Term.{list}
 use Rattle.amqp_model.specs.FieldType.{Norm, normal, unchanged, by_norm}
 use Rattle.amqp_decoder.specs.declared.frame.Place.TheVariants.{InList}
 use Rattle.amqp_decoder.specs.Containers.{Opens, OpenFault}
-use Rattle.amqp_decoder.specs.OtherSource.{opens, open_fault}
+use Rattle.amqp_decoder.specs.laws.OtherSource.{opens, open_fault}
 use Rattle.amqp_decoder.proofs.Misspelled.{open_misspelled}
 use Rattle.amqp_decoder.proofs.NothingInside.{nothing_in_container, nothing_at_end}
 use Rattle.amqp_decoder.proofs.Rooms.{room_inside}
@@ -14,7 +14,7 @@ use Rattle.amqp_decoder.proofs.NotOutside.{open_not_outside}
 use Rattle.amqp_decoder.proofs.Opening.{opens_same}
 use Rattle.amqp_decoder.proofs.ContainerTerms.{whole_with_parts, parts}
 use Rattle.amqp_codec.specs.TermType.{TermType}
-use Rattle.amqp_codec.specs.RefusalLaws.{opened_going, opened_sound}
+use Rattle.amqp_codec.specs.laws.Refusal.{opened_going, opened_sound}
 use Rattle.amqp_codec.specs.Each.{norm_items}
 use Rattle.amqp_codec.specs.ItemsReading.{Opening}
 use Rattle.amqp_codec.specs.ListOrArrayType.{items_faults, items_of}

@@ -90,6 +90,7 @@ pub fn read_some<T: DeserializeTerm, R: ByteSource>(
 }
 
 /// Writes a value as its type says.
+#[inline(always)]
 pub fn write_value<T: DeserializeTerm>(value: &T, encoder: &mut Encoder) -> Result<(), Error>
     ensures { WritesTerms (T.term.canon value.now ∷ []) encoder.old result encoder.new }
 {

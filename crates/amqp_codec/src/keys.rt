@@ -3,7 +3,7 @@ ghost use Rattle.std.specs.Prelude.{refl, string_bytes};
 ghost use Rattle.std.specs.Cmp.{booleans_Decides, signed_Decides, unsigned_Decides};
 ghost use Rattle.std.proofs.lemmas.Slice.Eq.{bytes_eq-Decides};
 ghost use Rattle.amqp_codec.specs.Keys.{IsKey};
-ghost use Rattle.amqp_codec.specs.KeyLaws.{key_of};
+ghost use Rattle.amqp_codec.specs.laws.Key.{key_of};
 
 use crate::DeserializeTerm;
 use amqp_wire::Symbol;

@@ -4,6 +4,7 @@
 mod btree_maps;
 mod composite;
 mod containers;
+mod field_macro;
 mod fieldless;
 mod fields;
 mod integers;

@@ -49,8 +49,9 @@ pub trait Deserialize: Sized + Drop {
         ensures tries { Tries reading.takes_memory decoder.old result decoder.new };
 }
 
-/// What can be both read and written, so that each value has one canonical text, which is read as that value again. A one-term type has
-/// this by `DeserializeTerm`; any other type implements it by hand.
+/// What can be both read and written. A value that was read has one canonical text, however it was encoded. If the value is kept (`kept`),
+/// and what follows the text may follow it (`follows`), the text is read as that value. A one-term type has this by `DeserializeTerm`; any
+/// other type implements it by hand.
 pub trait Canonical: Deserialize + Serialize {
     // What may come after a text: anything, unless an impl says less.
     ghost follows: { List ℕ → Type 0 } = { λ _. Unit {0} };

@@ -18,11 +18,11 @@ use Rattle.amqp_decoder.proofs.Misspelled.{term_under, container_there}
 use Rattle.amqp_decoder.proofs.Peeks.{value-peeked}
 use Rattle.amqp_decoder.proofs.OneReading.{value_same}
 use Rattle.amqp_codec.specs.TermType.{TermType}
-use Rattle.amqp_codec.specs.RefusalLaws.{NoneStands, refused_first, refused_later, value_going}
-use Rattle.amqp_codec.specs.PeekLaws.{peeked_failed, peeked_going}
+use Rattle.amqp_codec.specs.laws.Refusal.{NoneStands, refused_first, refused_later, value_going}
+use Rattle.amqp_codec.specs.laws.Peek.{peeked_failed, peeked_going}
 use Rattle.amqp_codec.specs.EitherMeaning.{in_first, in_second}
 use Rattle.amqp_codec.specs.Each.{EachMeans, MeansItems}
-use Rattle.amqp_codec.specs.ItemsTypeLaws.{items_cases}
+use Rattle.amqp_codec.specs.laws.ItemsType.{items_cases}
 use Rattle.amqp_containers.specs.declared.array.Array.{Array}
 use Rattle.amqp_containers.specs.ArrayType.{array_of}
 use Rattle.amqp_containers.specs.Several.{is_array_code, MeansOne, MeansSeveral, MeansAtLeastOne, MeansMultiple, multiple_faults}

@@ -6,7 +6,7 @@ use Rattle.amqp_decoder.specs.declared.frame.Place.TheVariants.{InArray}
 use Rattle.amqp_decoder.specs.State.{State}
 use Rattle.amqp_decoder.specs.Arrays.{no_items, shared_by, Starts, OpensArray, ArrayFault}
 use Rattle.amqp_decoder.specs.Rooms.{HasRoom}
-use Rattle.amqp_decoder.specs.OtherSource.{opens_array, array_fault}
+use Rattle.amqp_decoder.specs.laws.OtherSource.{opens_array, array_fault}
 use Rattle.amqp_decoder.proofs.ArrayTerms.{whole_array_with_parts, array_parts, opens_array_same, opened_items}
 use Rattle.amqp_decoder.proofs.Misspelled.{array_misspelled}
 use Rattle.amqp_decoder.proofs.NothingInside.{nothing_in_array, nothing_at_array_end}

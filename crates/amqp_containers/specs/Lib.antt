@@ -1,4 +1,4 @@
 pub mod ArrayType
 pub mod Several
-pub mod SeveralLaws
 pub mod MultipleFields
+pub mod laws

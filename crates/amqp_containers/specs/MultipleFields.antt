@@ -8,19 +8,19 @@ use Rattle.amqp_model.specs.Items.{is_null, several, IsFree}
 use Rattle.amqp_model.specs.FieldRules.{ArrayOf, SomeMean}
 use Rattle.amqp_model.specs.Slot.{Slot}
 use Rattle.amqp_model.specs.Slot as slot
-use Rattle.amqp_model.specs.MultipleLaws.{multiple_meaning, mandatory_multiple_meaning}
+use Rattle.amqp_model.specs.laws.Multiple.{multiple_meaning, mandatory_multiple_meaning}
 use Rattle.amqp_codec.specs.TermType.{TermType, KeepsNoBytes, IsNoShorter}
-use Rattle.amqp_codec.specs.PrimitiveTermLaws.{null_writable}
-use Rattle.amqp_codec.specs.NullLaws.{null_least}
+use Rattle.amqp_codec.specs.laws.PrimitiveTerm.{null_writable}
+use Rattle.amqp_codec.specs.laws.Null.{null_least}
 use Rattle.amqp_codec.specs.FieldTypes.{anywhere, FieldMeant, FieldLaws, meaning_of, field_type}
 use Rattle.amqp_codec.specs.Each.{count_all}
-use Rattle.amqp_codec.specs.EachLaws.{items_normal}
+use Rattle.amqp_codec.specs.laws.Each.{items_normal}
 use Rattle.amqp_codec.specs.Slots.{Field}
 use Rattle.amqp_containers.specs.declared.array.Array.{Array}
 use Rattle.amqp_containers.specs.ArrayType.{norm_array, array_normal}
 use Rattle.amqp_containers.specs.Several.{AreLeaves, MeansAtLeastOne, MeansMultiple, multiple_canon, multiple_faults, mandatory_faults}
-use Rattle.amqp_containers.specs.SeveralLaws.{several_meant, several_valued, several_plain, several_least, several_fits}
-use Rattle.amqp_containers.specs.SeveralLaws.{none_fits, several_read, none_read}
+use Rattle.amqp_containers.specs.laws.Several.{several_meant, several_valued, several_plain, several_least, several_fits}
+use Rattle.amqp_containers.specs.laws.Several.{none_fits, several_read, none_read}
 
 -- an array holds its items
 abbrev pub array_items : {T : Type 0} (u : TermType T) (ignores_standing : u.ignores_standing ≡ true)

@@ -7,7 +7,8 @@ use Rattle.amqp_model.specs.Ranges.{IsNoArray}
 use Rattle.amqp_wire.specs.declared.error.Error.{Error}
 use Rattle.amqp_wire.specs.declared.error.Error.TheVariants.{EmptyMultiple}
 use Rattle.amqp_decoder.specs.State.{State}
-use Rattle.amqp_decoder.specs.OtherSource.{Setting, under, KeepsError, value}
+use Rattle.amqp_decoder.specs.OtherSource.{Setting, under, KeepsError}
+use Rattle.amqp_decoder.specs.laws.OtherSource.{value}
 use Rattle.amqp_decoder.specs.Rooms.{HasRoom}
 use Rattle.amqp_decoder.specs.Misspelled.{IsMisspelling, NothingStands}
 use Rattle.amqp_decoder.specs.Primitives.{ReadsValue}

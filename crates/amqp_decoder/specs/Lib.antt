@@ -15,3 +15,4 @@ pub mod Misspelled
 pub mod Sections
 pub mod OtherSource
 pub mod Within
+pub mod laws

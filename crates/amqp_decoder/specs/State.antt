@@ -1,12 +1,14 @@
 -- What a decoder has before it.
 use Rattle.std.specs.Prelude.{◌≡◌, ℕ, zero, suc, ◌+◌, ◌-◌, ◌≤◌, Bool, cond, eqb, nat_lt, true, false, List, [], ◌∷◌, take, drop, map, get_or, max, Option, Some}
 use Rattle.std.specs.Prelude.{None, unwrap_or, option_map}
+use Rattle.std.proofs.Common.{arith}
 use Rattle.amqp_model.specs.Term.{Descriptor, Term}
 use Rattle.amqp_model.specs.Constructors.{Format, unknown, format}
 use Rattle.amqp_model.specs.Measures.{share, weight}
 use Rattle.amqp_wire.specs.declared.error.Error.{Error}
 use Rattle.amqp_wire.specs.declared.error.Error.TheVariants.{Depth, Limit}
-use Rattle.amqp_wire.specs.Limits.{unlimited}
+use Rattle.amqp_wire.specs.declared.limits.Limits.{Limits}
+use Rattle.amqp_wire.specs.Limits.{unlimited, limit_of}
 use Rattle.amqp_wire.specs.declared.descriptor.Descriptor.{Descriptor as DescriptorValue}
 pub use Rattle.amqp_lookahead.specs.Members.{descriptor_of}
 use Rattle.amqp_decoder.specs.declared.frame.OpenContainer.{OpenContainer}
@@ -63,6 +65,25 @@ is_free nesting bytes items = cond (nat_lt nesting 128) false (cond (eqb bytes u
 -- The top level, where the limit leaves so many bytes.
 abbrev pub top_level : Option ℕ → Open
 top_level limit = record { place = Top; items = None; left = limit; sized = false; shared = None }
+
+-- A decoder at the start of a source, within limits: the source's bytes and what it is called, whether it has failed, and whether one term
+-- is read alone.
+abbrev pub started : List ℕ → ℕ → Bool → Bool → Limits → State
+started rest source broken alone limits = record {
+  rest = rest;
+  ahead = 0;
+  source = source;
+  top = top_level (limit_of limits.bytes);
+  saved = [];
+  nesting = limits.nesting;
+  quota = limit_of limits.items;
+  error = None;
+  failed = record { broken = broken; alone = alone; free = is_free limits.nesting limits.bytes limits.items };
+}
+
+-- The limits under which all is read that nests at most 128 deep, without a seed for hashes.
+abbrev pub greatest : Limits
+greatest = record { nesting = 128; bytes = unlimited; items = unlimited; hash_seed = 0; nests = omega arith }
 
 -- The bytes that the size of a container leaves, where something stands in one.
 abbrev pub bound_of : Open → Option ℕ

@@ -1,7 +1,7 @@
 //! The state of a decoder.
-ghost use Rattle.std.specs.Prelude.{◌≡◌, ◌≤◌, ℕ, [], length, drop, false, true, Some, None, MatchResult};
+ghost use Rattle.std.specs.Prelude.{◌≡◌, ◌≤◌, ℕ, length, drop, false, true, Some, None, MatchResult};
 ghost use Rattle.amqp_wire.specs.Sources.{known, Tells};
-ghost use Rattle.amqp_decoder.specs.State.{bound_of, top_level, is_free};
+ghost use Rattle.amqp_decoder.specs.State.{bound_of, started, greatest};
 ghost use Rattle.amqp_wire.specs.Limits.{limit_of};
 ghost use Rattle.amqp_decoder.specs.Reserve.{Leaves};
 ghost use Rattle.amqp_decoder.specs.Rooms.{HasRoom};
@@ -142,38 +142,14 @@ impl<R: ByteSource> Decoder<R> {
 
 /// Returns a decoder of the source's bytes, at the top level, which reads everything that nests at most 128 deep.
 pub fn decoder_of<R: ByteSource>(source: R, alloc: Global) -> Decoder<R>
-    ensures { result ≡ record {
-      rest = known (R.remaining source);
-      ahead = 0;
-      source = R.name source;
-      top = top_level None;
-      saved = [];
-      nesting = 128;
-      quota = None;
-      error = None;
-      failed = record { broken = R.failed source; alone = false; free = true };
-    } }
+    ensures { result ≡ started (known (R.remaining source)) (R.name source) (R.failed source) false greatest }
 {
     decoder_within(source, &Limits::greatest(), alloc)
 }
 
 /// Returns a decoder of the source's bytes, at the top level, within these limits.
 pub fn decoder_within<R: ByteSource>(source: R, limits: &Limits, alloc: Global) -> Decoder<R>
-    ensures { result ≡ record {
-      rest = known (R.remaining source);
-      ahead = 0;
-      source = R.name source;
-      top = top_level (limit_of limits.now.bytes);
-      saved = [];
-      nesting = limits.now.nesting;
-      quota = limit_of limits.now.items;
-      error = None;
-      failed = record {
-        broken = R.failed source;
-        alone = false;
-        free = is_free limits.now.nesting limits.now.bytes limits.now.items;
-      };
-    } }
+    ensures { result ≡ started (known (R.remaining source)) (R.name source) (R.failed source) false limits.now }
 {
     decoder_at_top(source, limits, false, alloc)
 }
@@ -182,21 +158,7 @@ pub fn decoder_within<R: ByteSource>(source: R, limits: &Limits, alloc: Global) 
 /// takes no more bytes than the limit allows, even if it refuses.
 pub fn decoder_of_term<R: ByteSource>(source: R, limits: &Limits, alloc: Global) -> Decoder<R>
     requires { Tells R.remaining → Leaves R.reserve (limit_of limits.now.bytes) (length (known (R.remaining source))) }
-    ensures { result ≡ record {
-      rest = known (R.remaining source);
-      ahead = 0;
-      source = R.name source;
-      top = top_level (limit_of limits.now.bytes);
-      saved = [];
-      nesting = limits.now.nesting;
-      quota = limit_of limits.now.items;
-      error = None;
-      failed = record {
-        broken = R.failed source;
-        alone = true;
-        free = is_free limits.now.nesting limits.now.bytes limits.now.items;
-      };
-    } }
+    ensures { result ≡ started (known (R.remaining source)) (R.name source) (R.failed source) true limits.now }
 {
     decoder_at_top(source, limits, true, alloc)
 }
@@ -221,21 +183,7 @@ fn decoder_at_top<R: ByteSource>(
 ) -> Decoder<R>
     requires { Tells R.remaining → alone ≡ true
         → Leaves R.reserve (limit_of limits.now.bytes) (length (known (R.remaining source))) }
-    ensures { result ≡ record {
-      rest = known (R.remaining source);
-      ahead = 0;
-      source = R.name source;
-      top = top_level (limit_of limits.now.bytes);
-      saved = [];
-      nesting = limits.now.nesting;
-      quota = limit_of limits.now.items;
-      error = None;
-      failed = record {
-        broken = R.failed source;
-        alone = alone;
-        free = is_free limits.now.nesting limits.now.bytes limits.now.items;
-      };
-    } }
+    ensures { result ≡ started (known (R.remaining source)) (R.name source) (R.failed source) alone limits.now }
 {
     let reservable = bytes_at_hand(&source);
     Decoder {

@@ -1,8 +1,8 @@
 -- The tables of the delivery states (Part 3, section 3.4) and of transactions (Part 4, section 4.5).
 use Rattle.std.specs.Prelude.{option_map}
 use Rattle.amqp_model.specs.FieldType.{normal}
-use Rattle.amqp_enums.specs.Types.{inl, inr, codes, refl, by_norm, TermType, boolean_type, uint_type, ulong_type, mandatory, optional}
-use Rattle.amqp_enums.specs.Types.{composite, none, field, ◌▸◌, plain, Table, fieldless, Choices, no_more, member, Chosen, SumOf, sum_of}
+use Rattle.amqp_sums.specs.Types.{inl, inr, codes, refl, by_norm, TermType, boolean_type, uint_type, ulong_type, mandatory, optional}
+use Rattle.amqp_sums.specs.Types.{composite, none, field, ◌▸◌, plain, Table, fieldless, Choices, no_more, member, Chosen, SumOf, sum_of}
 use Rattle.amqp_primitives.specs.Types.{binary_type}
 use Rattle.amqp_errors.specs.FieldsType.{fields_type}
 use Rattle.amqp_errors.specs.Tables.{error, norm_error}

@@ -1,5 +1,5 @@
 //! The accepted outcome (Part 3, section 3.4.2).
-ghost use Rattle.amqp_enums.specs.Types.{composite, has_none, one_term, refl, agreement, writing_of};
+ghost use Rattle.amqp_sums.specs.Types.{composite, has_none, one_term, refl, agreement, writing_of};
 ghost use Rattle.amqp_delivery.specs.Tables.{accepted};
 
 use amqp_codec::kernel::{CompositeTerm, Fieldless, write_composite};

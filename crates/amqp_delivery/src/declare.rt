@@ -1,11 +1,11 @@
 //! The request for a transaction (Part 4, section 4.5.2).
 ghost use Rattle.std.specs.Prelude.{◌≡◌};
-ghost use Rattle.amqp_enums.specs.Types.{composite, one_term, refl, agreement, writing_of};
+ghost use Rattle.amqp_sums.specs.Types.{composite, one_term, refl, agreement, writing_of};
 ghost use Rattle.amqp_delivery.specs.Tables.{declare};
 
 use crate::TransactionId;
-use amqp_codec::kernel::{Composite, CompositeTerm, FieldRule, Table, read_some, write_composite};
-use amqp_codec::{ByteSource, Decoder, Encoder, Error, Serialize, SerializeTerm};
+use amqp_codec::kernel::{Composite, CompositeTerm, Table, write_composite};
+use amqp_codec::{ByteSource, Decoder, Encoder, Error, Serialize, SerializeTerm, fields};
 use std::alloc::Global;
 
 /// Asks the coordinator for a transaction.
@@ -15,9 +15,21 @@ pub struct Declare {
     pub global_id: Option<TransactionId>,
 }
 
+// The fields, in order.
+macro_rules! declare_fields {
+    ($($part:tt)*) => {
+        fields! { [$($part)*]
+            0 global_id "global-id" optional,
+        }
+    };
+}
+
 impl Declare {
     /// The code and the name of its descriptor.
     pub const DESCRIPTOR: (u64, &'static str) = (0x31, "amqp:declare:list");
+
+    /// The standard's names of the fields, in order.
+    pub const FIELD_NAMES: &'static [&'static str] = declare_fields!(names);
 
     /// Returns a request with this identifier.
     pub fn new(global_id: Option<TransactionId>) -> Declare
@@ -33,7 +45,7 @@ impl Composite for Declare {
     fn table() -> Table {
         Table {
             descriptor: Declare::DESCRIPTOR,
-            fields: &[FieldRule::Optional],
+            fields: declare_fields!(rules),
         }
     }
 
@@ -47,24 +59,15 @@ impl Composite for Declare {
         decoder: &mut Decoder<R>,
         alloc: Global,
     ) -> Result<(), Error> {
-        match index {
-            0 => read_some(&mut self.global_id, decoder, alloc),
-            _ => unreachable!(),
-        }
+        declare_fields!(fill(self, index, decoder, alloc))
     }
 
     fn is_null_field(&self, index: usize) -> bool {
-        match index {
-            0 => self.global_id.is_none(),
-            _ => unreachable!(),
-        }
+        declare_fields!(is_null(self, index))
     }
 
     fn write_field(&self, index: usize, encoder: &mut Encoder) -> Result<(), Error> {
-        match index {
-            0 => self.global_id.serialize(encoder),
-            _ => unreachable!(),
-        }
+        declare_fields!(write(self, index, encoder))
     }
 }
 
@@ -76,7 +79,7 @@ impl Serialize for Declare {
     }
 
     fn in_type(&self) {
-        self.global_id.in_type();
+        declare_fields!(in_type(self));
     }
 }
 

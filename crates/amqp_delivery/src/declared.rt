@@ -1,10 +1,10 @@
 //! The outcome of a declared transaction (Part 4, section 4.5.5).
-ghost use Rattle.amqp_enums.specs.Types.{composite, one_term, refl, agreement, writing_of};
+ghost use Rattle.amqp_sums.specs.Types.{composite, one_term, refl, agreement, writing_of};
 ghost use Rattle.amqp_delivery.specs.Tables.{declared};
 
 use crate::TransactionId;
-use amqp_codec::kernel::{Composite, CompositeTerm, FieldRule, Table, read_into, write_composite};
-use amqp_codec::{ByteSource, Decoder, Encoder, Error, Serialize, SerializeTerm};
+use amqp_codec::kernel::{Composite, CompositeTerm, Table, write_composite};
+use amqp_codec::{ByteSource, Decoder, Encoder, Error, Serialize, SerializeTerm, fields};
 use amqp_primitives::Binary;
 use std::alloc::Global;
 
@@ -15,9 +15,21 @@ pub struct Declared {
     pub txn_id: TransactionId,
 }
 
+// The fields, in order.
+macro_rules! declared_fields {
+    ($($part:tt)*) => {
+        fields! { [$($part)*]
+            0 txn_id "txn-id" mandatory,
+        }
+    };
+}
+
 impl Declared {
     /// The code and the name of its descriptor.
     pub const DESCRIPTOR: (u64, &'static str) = (0x33, "amqp:declared:list");
+
+    /// The standard's names of the fields, in order.
+    pub const FIELD_NAMES: &'static [&'static str] = declared_fields!(names);
 }
 
 impl Composite for Declared {
@@ -26,7 +38,7 @@ impl Composite for Declared {
     fn table() -> Table {
         Table {
             descriptor: Declared::DESCRIPTOR,
-            fields: &[FieldRule::Mandatory],
+            fields: declared_fields!(rules),
         }
     }
 
@@ -42,24 +54,15 @@ impl Composite for Declared {
         decoder: &mut Decoder<R>,
         alloc: Global,
     ) -> Result<(), Error> {
-        match index {
-            0 => read_into(&mut self.txn_id, decoder, alloc),
-            _ => unreachable!(),
-        }
+        declared_fields!(fill(self, index, decoder, alloc))
     }
 
     fn is_null_field(&self, index: usize) -> bool {
-        match index {
-            0 => false,
-            _ => unreachable!(),
-        }
+        declared_fields!(is_null(self, index))
     }
 
     fn write_field(&self, index: usize, encoder: &mut Encoder) -> Result<(), Error> {
-        match index {
-            0 => self.txn_id.serialize(encoder),
-            _ => unreachable!(),
-        }
+        declared_fields!(write(self, index, encoder))
     }
 }
 
@@ -71,7 +74,7 @@ impl Serialize for Declared {
     }
 
     fn in_type(&self) {
-        self.txn_id.in_type();
+        declared_fields!(in_type(self));
     }
 }
 

@@ -1,12 +1,10 @@
 //! The end of a transaction (Part 4, section 4.5.3).
-ghost use Rattle.amqp_enums.specs.Types.{composite, one_term, refl, agreement, writing_of};
+ghost use Rattle.amqp_sums.specs.Types.{composite, one_term, refl, agreement, writing_of};
 ghost use Rattle.amqp_delivery.specs.Tables.{discharge};
 
 use crate::TransactionId;
-use amqp_codec::kernel::{
-    Composite, CompositeTerm, FieldRule, Table, read_into, read_some, write_composite,
-};
-use amqp_codec::{ByteSource, Decoder, Encoder, Error, Serialize, SerializeTerm};
+use amqp_codec::kernel::{Composite, CompositeTerm, Table, write_composite};
+use amqp_codec::{ByteSource, Decoder, Encoder, Error, Serialize, SerializeTerm, fields};
 use amqp_primitives::Binary;
 use std::alloc::Global;
 
@@ -19,9 +17,22 @@ pub struct Discharge {
     pub fail: Option<bool>,
 }
 
+// The fields, in order.
+macro_rules! discharge_fields {
+    ($($part:tt)*) => {
+        fields! { [$($part)*]
+            0 txn_id "txn-id" mandatory,
+            1 fail "fail" optional,
+        }
+    };
+}
+
 impl Discharge {
     /// The code and the name of its descriptor.
     pub const DESCRIPTOR: (u64, &'static str) = (0x32, "amqp:discharge:list");
+
+    /// The standard's names of the fields, in order.
+    pub const FIELD_NAMES: &'static [&'static str] = discharge_fields!(names);
 }
 
 impl Composite for Discharge {
@@ -30,7 +41,7 @@ impl Composite for Discharge {
     fn table() -> Table {
         Table {
             descriptor: Discharge::DESCRIPTOR,
-            fields: &[FieldRule::Mandatory, FieldRule::Optional],
+            fields: discharge_fields!(rules),
         }
     }
 
@@ -47,27 +58,15 @@ impl Composite for Discharge {
         decoder: &mut Decoder<R>,
         alloc: Global,
     ) -> Result<(), Error> {
-        match index {
-            0 => read_into(&mut self.txn_id, decoder, alloc),
-            1 => read_some(&mut self.fail, decoder, alloc),
-            _ => unreachable!(),
-        }
+        discharge_fields!(fill(self, index, decoder, alloc))
     }
 
     fn is_null_field(&self, index: usize) -> bool {
-        match index {
-            0 => false,
-            1 => self.fail.is_none(),
-            _ => unreachable!(),
-        }
+        discharge_fields!(is_null(self, index))
     }
 
     fn write_field(&self, index: usize, encoder: &mut Encoder) -> Result<(), Error> {
-        match index {
-            0 => self.txn_id.serialize(encoder),
-            1 => self.fail.serialize(encoder),
-            _ => unreachable!(),
-        }
+        discharge_fields!(write(self, index, encoder))
     }
 }
 
@@ -79,8 +78,7 @@ impl Serialize for Discharge {
     }
 
     fn in_type(&self) {
-        self.txn_id.in_type();
-        self.fail.in_type();
+        discharge_fields!(in_type(self));
     }
 }
 

@@ -1,11 +1,9 @@
 //! The modified outcome (Part 3, section 3.4.5).
-ghost use Rattle.amqp_enums.specs.Types.{composite, one_term, refl, agreement, writing_of};
+ghost use Rattle.amqp_sums.specs.Types.{composite, one_term, refl, agreement, writing_of};
 ghost use Rattle.amqp_delivery.specs.Tables.{modified};
 
-use amqp_codec::kernel::{
-    Composite, CompositeTerm, FieldRule, Table, read_some, value_in_type, write_composite,
-};
-use amqp_codec::{ByteSource, Decoder, Encoder, Error, Serialize, SerializeTerm};
+use amqp_codec::kernel::{Composite, CompositeTerm, Table, write_composite};
+use amqp_codec::{ByteSource, Decoder, Encoder, Error, Serialize, SerializeTerm, fields};
 use amqp_errors::Fields;
 use std::alloc::Global;
 
@@ -20,9 +18,23 @@ pub struct Modified {
     pub message_annotations: Option<Fields>,
 }
 
+// The fields, in order.
+macro_rules! modified_fields {
+    ($($part:tt)*) => {
+        fields! { [$($part)*]
+            0 delivery_failed "delivery-failed" optional,
+            1 undeliverable_here "undeliverable-here" optional,
+            2 message_annotations "message-annotations" optional,
+        }
+    };
+}
+
 impl Modified {
     /// The code and the name of its descriptor.
     pub const DESCRIPTOR: (u64, &'static str) = (0x27, "amqp:modified:list");
+
+    /// The standard's names of the fields, in order.
+    pub const FIELD_NAMES: &'static [&'static str] = modified_fields!(names);
 }
 
 impl Composite for Modified {
@@ -31,11 +43,7 @@ impl Composite for Modified {
     fn table() -> Table {
         Table {
             descriptor: Modified::DESCRIPTOR,
-            fields: &[
-                FieldRule::Optional,
-                FieldRule::Optional,
-                FieldRule::Optional,
-            ],
+            fields: modified_fields!(rules),
         }
     }
 
@@ -53,30 +61,15 @@ impl Composite for Modified {
         decoder: &mut Decoder<R>,
         alloc: Global,
     ) -> Result<(), Error> {
-        match index {
-            0 => read_some(&mut self.delivery_failed, decoder, alloc),
-            1 => read_some(&mut self.undeliverable_here, decoder, alloc),
-            2 => read_some(&mut self.message_annotations, decoder, alloc),
-            _ => unreachable!(),
-        }
+        modified_fields!(fill(self, index, decoder, alloc))
     }
 
     fn is_null_field(&self, index: usize) -> bool {
-        match index {
-            0 => self.delivery_failed.is_none(),
-            1 => self.undeliverable_here.is_none(),
-            2 => self.message_annotations.is_none(),
-            _ => unreachable!(),
-        }
+        modified_fields!(is_null(self, index))
     }
 
     fn write_field(&self, index: usize, encoder: &mut Encoder) -> Result<(), Error> {
-        match index {
-            0 => self.delivery_failed.serialize(encoder),
-            1 => self.undeliverable_here.serialize(encoder),
-            2 => self.message_annotations.serialize(encoder),
-            _ => unreachable!(),
-        }
+        modified_fields!(write(self, index, encoder))
     }
 }
 
@@ -88,9 +81,7 @@ impl Serialize for Modified {
     }
 
     fn in_type(&self) {
-        self.delivery_failed.in_type();
-        self.undeliverable_here.in_type();
-        value_in_type(&self.message_annotations);
+        modified_fields!(in_type(self));
     }
 }
 

@@ -1,12 +1,12 @@
 //! The outcome of a delivery (Part 3, section 3.4).
 ghost use Rattle.std.specs.Prelude.{◌≡◌};
-ghost use Rattle.amqp_enums.specs.Choices.{sum_one, sum_agreement, sum_writing};
+ghost use Rattle.amqp_sums.specs.Choices.{sum_one, sum_agreement, sum_writing};
 ghost use Rattle.amqp_delivery.specs.Members.{as_state};
 ghost use Rattle.amqp_delivery.specs.Tables.{outcome, outcomes};
 
 use crate::{Accepted, Declared, DeliveryState, Modified, Rejected, Released};
 use amqp_codec::{ByteSource, Decoder, DeserializeTerm, Encoder, Error, Serialize, SerializeTerm};
-use amqp_enums::{Sum, is_null_sum, read_as, read_sum, write_as};
+use amqp_sums::{Sum, is_null_sum, read_as, read_sum, write_as};
 use std::alloc::Global;
 
 /// The outcome of a delivery: a state in which it ends. Any other descriptor is refused with `WrongDescriptor`.

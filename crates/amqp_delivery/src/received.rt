@@ -1,9 +1,9 @@
 //! The received state (Part 3, section 3.4.1).
-ghost use Rattle.amqp_enums.specs.Types.{composite, one_term, refl, agreement, writing_of};
+ghost use Rattle.amqp_sums.specs.Types.{composite, one_term, refl, agreement, writing_of};
 ghost use Rattle.amqp_delivery.specs.Tables.{received};
 
-use amqp_codec::kernel::{Composite, CompositeTerm, FieldRule, Table, read_into, write_composite};
-use amqp_codec::{ByteSource, Decoder, Encoder, Error, Serialize, SerializeTerm};
+use amqp_codec::kernel::{Composite, CompositeTerm, Table, write_composite};
+use amqp_codec::{ByteSource, Decoder, Encoder, Error, Serialize, SerializeTerm, fields};
 use std::alloc::Global;
 
 /// How far a message was received: the section, and the byte in it, from which the sender may continue.
@@ -15,9 +15,22 @@ pub struct Received {
     pub section_offset: u64,
 }
 
+// The fields, in order.
+macro_rules! received_fields {
+    ($($part:tt)*) => {
+        fields! { [$($part)*]
+            0 section_number "section-number" mandatory,
+            1 section_offset "section-offset" mandatory,
+        }
+    };
+}
+
 impl Received {
     /// The code and the name of its descriptor.
     pub const DESCRIPTOR: (u64, &'static str) = (0x23, "amqp:received:list");
+
+    /// The standard's names of the fields, in order.
+    pub const FIELD_NAMES: &'static [&'static str] = received_fields!(names);
 }
 
 impl Composite for Received {
@@ -26,7 +39,7 @@ impl Composite for Received {
     fn table() -> Table {
         Table {
             descriptor: Received::DESCRIPTOR,
-            fields: &[FieldRule::Mandatory, FieldRule::Mandatory],
+            fields: received_fields!(rules),
         }
     }
 
@@ -43,26 +56,15 @@ impl Composite for Received {
         decoder: &mut Decoder<R>,
         alloc: Global,
     ) -> Result<(), Error> {
-        match index {
-            0 => read_into(&mut self.section_number, decoder, alloc),
-            1 => read_into(&mut self.section_offset, decoder, alloc),
-            _ => unreachable!(),
-        }
+        received_fields!(fill(self, index, decoder, alloc))
     }
 
     fn is_null_field(&self, index: usize) -> bool {
-        match index {
-            0 | 1 => false,
-            _ => unreachable!(),
-        }
+        received_fields!(is_null(self, index))
     }
 
     fn write_field(&self, index: usize, encoder: &mut Encoder) -> Result<(), Error> {
-        match index {
-            0 => self.section_number.serialize(encoder),
-            1 => self.section_offset.serialize(encoder),
-            _ => unreachable!(),
-        }
+        received_fields!(write(self, index, encoder))
     }
 }
 
@@ -74,8 +76,7 @@ impl Serialize for Received {
     }
 
     fn in_type(&self) {
-        self.section_number.in_type();
-        self.section_offset.in_type();
+        received_fields!(in_type(self));
     }
 }
 

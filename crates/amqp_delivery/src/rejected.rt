@@ -1,11 +1,11 @@
 //! The rejected outcome (Part 3, section 3.4.3).
-ghost use Rattle.amqp_enums.specs.Types.{composite, one_term, refl, agreement, writing_of};
+ghost use Rattle.amqp_sums.specs.Types.{composite, one_term, refl, agreement, writing_of};
 ghost use Rattle.amqp_delivery.specs.Tables.{rejected};
 
-use amqp_codec::kernel::{
-    Composite, CompositeTerm, FieldRule, Table, read_some, value_in_type, write_composite,
+use amqp_codec::kernel::{Composite, CompositeTerm, Table, write_composite};
+use amqp_codec::{
+    ByteSource, Decoder, Encoder, Error as CodecError, Serialize, SerializeTerm, fields,
 };
-use amqp_codec::{ByteSource, Decoder, Encoder, Error as CodecError, Serialize, SerializeTerm};
 use amqp_errors::Error;
 use std::alloc::Global;
 
@@ -16,9 +16,21 @@ pub struct Rejected {
     pub error: Option<Error>,
 }
 
+// The fields, in order.
+macro_rules! rejected_fields {
+    ($($part:tt)*) => {
+        fields! { [$($part)*]
+            0 error "error" optional,
+        }
+    };
+}
+
 impl Rejected {
     /// The code and the name of its descriptor.
     pub const DESCRIPTOR: (u64, &'static str) = (0x25, "amqp:rejected:list");
+
+    /// The standard's names of the fields, in order.
+    pub const FIELD_NAMES: &'static [&'static str] = rejected_fields!(names);
 }
 
 impl Composite for Rejected {
@@ -27,7 +39,7 @@ impl Composite for Rejected {
     fn table() -> Table {
         Table {
             descriptor: Rejected::DESCRIPTOR,
-            fields: &[FieldRule::Optional],
+            fields: rejected_fields!(rules),
         }
     }
 
@@ -41,24 +53,15 @@ impl Composite for Rejected {
         decoder: &mut Decoder<R>,
         alloc: Global,
     ) -> Result<(), CodecError> {
-        match index {
-            0 => read_some(&mut self.error, decoder, alloc),
-            _ => unreachable!(),
-        }
+        rejected_fields!(fill(self, index, decoder, alloc))
     }
 
     fn is_null_field(&self, index: usize) -> bool {
-        match index {
-            0 => self.error.is_none(),
-            _ => unreachable!(),
-        }
+        rejected_fields!(is_null(self, index))
     }
 
     fn write_field(&self, index: usize, encoder: &mut Encoder) -> Result<(), CodecError> {
-        match index {
-            0 => self.error.serialize(encoder),
-            _ => unreachable!(),
-        }
+        rejected_fields!(write(self, index, encoder))
     }
 }
 
@@ -70,7 +73,7 @@ impl Serialize for Rejected {
     }
 
     fn in_type(&self) {
-        value_in_type(&self.error);
+        rejected_fields!(in_type(self));
     }
 }
 

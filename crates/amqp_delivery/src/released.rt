@@ -1,5 +1,5 @@
 //! The released outcome (Part 3, section 3.4.4).
-ghost use Rattle.amqp_enums.specs.Types.{composite, has_none, one_term, refl, agreement, writing_of};
+ghost use Rattle.amqp_sums.specs.Types.{composite, has_none, one_term, refl, agreement, writing_of};
 ghost use Rattle.amqp_delivery.specs.Tables.{released};
 
 use amqp_codec::kernel::{CompositeTerm, Fieldless, write_composite};

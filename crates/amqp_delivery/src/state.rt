@@ -1,11 +1,11 @@
 //! The state of a delivery (Part 3, section 3.4).
 ghost use Rattle.std.specs.Prelude.{◌≡◌};
-ghost use Rattle.amqp_enums.specs.Choices.{sum_one, sum_agreement, sum_writing};
+ghost use Rattle.amqp_sums.specs.Choices.{sum_one, sum_agreement, sum_writing};
 ghost use Rattle.amqp_delivery.specs.Tables.{delivery_state, delivery_states};
 
 use crate::{Accepted, Declared, Modified, Received, Rejected, Released, TransactionalState};
 use amqp_codec::{ByteSource, Decoder, DeserializeTerm, Encoder, Error, Serialize, SerializeTerm};
-use amqp_enums::{Sum, is_null_sum, read_as, read_sum, write_as};
+use amqp_sums::{Sum, is_null_sum, read_as, read_sum, write_as};
 use std::alloc::Global;
 
 /// The state of a delivery. Any other descriptor is refused with `WrongDescriptor`.

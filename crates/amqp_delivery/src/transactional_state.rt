@@ -1,13 +1,10 @@
 //! The state of a delivery in a transaction (Part 4, section 4.5.6).
-ghost use Rattle.amqp_enums.specs.Types.{composite, one_term, refl, agreement, writing_of};
+ghost use Rattle.amqp_sums.specs.Types.{composite, one_term, refl, agreement, writing_of};
 ghost use Rattle.amqp_delivery.specs.Tables.{transactional_state};
 
 use crate::{Outcome, TransactionId};
-use amqp_codec::kernel::{
-    Composite, CompositeTerm, FieldRule, Table, read_into, read_some, value_in_type,
-    write_composite,
-};
-use amqp_codec::{ByteSource, Decoder, Encoder, Error, Serialize, SerializeTerm};
+use amqp_codec::kernel::{Composite, CompositeTerm, Table, write_composite};
+use amqp_codec::{ByteSource, Decoder, Encoder, Error, Serialize, SerializeTerm, fields};
 use amqp_primitives::Binary;
 use std::alloc::Global;
 
@@ -20,9 +17,22 @@ pub struct TransactionalState {
     pub outcome: Option<Outcome>,
 }
 
+// The fields, in order.
+macro_rules! transactional_state_fields {
+    ($($part:tt)*) => {
+        fields! { [$($part)*]
+            0 txn_id "txn-id" mandatory,
+            1 outcome "outcome" optional,
+        }
+    };
+}
+
 impl TransactionalState {
     /// The code and the name of its descriptor.
     pub const DESCRIPTOR: (u64, &'static str) = (0x34, "amqp:transactional-state:list");
+
+    /// The standard's names of the fields, in order.
+    pub const FIELD_NAMES: &'static [&'static str] = transactional_state_fields!(names);
 }
 
 impl Composite for TransactionalState {
@@ -31,7 +41,7 @@ impl Composite for TransactionalState {
     fn table() -> Table {
         Table {
             descriptor: TransactionalState::DESCRIPTOR,
-            fields: &[FieldRule::Mandatory, FieldRule::Optional],
+            fields: transactional_state_fields!(rules),
         }
     }
 
@@ -48,27 +58,15 @@ impl Composite for TransactionalState {
         decoder: &mut Decoder<R>,
         alloc: Global,
     ) -> Result<(), Error> {
-        match index {
-            0 => read_into(&mut self.txn_id, decoder, alloc),
-            1 => read_some(&mut self.outcome, decoder, alloc),
-            _ => unreachable!(),
-        }
+        transactional_state_fields!(fill(self, index, decoder, alloc))
     }
 
     fn is_null_field(&self, index: usize) -> bool {
-        match index {
-            0 => false,
-            1 => self.outcome.is_none(),
-            _ => unreachable!(),
-        }
+        transactional_state_fields!(is_null(self, index))
     }
 
     fn write_field(&self, index: usize, encoder: &mut Encoder) -> Result<(), Error> {
-        match index {
-            0 => self.txn_id.serialize(encoder),
-            1 => self.outcome.serialize(encoder),
-            _ => unreachable!(),
-        }
+        transactional_state_fields!(write(self, index, encoder))
     }
 }
 
@@ -80,8 +78,7 @@ impl Serialize for TransactionalState {
     }
 
     fn in_type(&self) {
-        self.txn_id.in_type();
-        value_in_type(&self.outcome);
+        transactional_state_fields!(in_type(self));
     }
 }
 

@@ -19,9 +19,9 @@ use Rattle.amqp_decoder.proofs.Descriptions.{described_with_parts, term_describe
 use Rattle.amqp_decoder.proofs.NothingInside.{opens_described_same}
 use Rattle.amqp_decoder.proofs.OneReading.{stands_same, value_same}
 use Rattle.amqp_codec.specs.TermType.{TermType}
-use Rattle.amqp_codec.specs.RefusalLaws.{described_going, described_sound, refused_first, refused_later}
+use Rattle.amqp_codec.specs.laws.Refusal.{described_going, described_sound, refused_first, refused_later}
 use Rattle.amqp_codec.specs.DescribedPairMeaning.{any_descriptor}
-use Rattle.amqp_codec.specs.DescribedPairTypeLaws.{pair_cases, means_as}
+use Rattle.amqp_codec.specs.laws.DescribedPairType.{pair_cases, means_as}
 use Rattle.amqp_described.specs.declared.described.Described.{Described}
 use Rattle.amqp_described.specs.DescribedReading.{DescribedValueFault, unopened, in_value}
 use Rattle.amqp_described.specs.DescribedType.{pair_of, described_of}

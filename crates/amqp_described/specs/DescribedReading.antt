@@ -5,7 +5,8 @@ use Rattle.amqp_decoder.specs.State.{State}
 use Rattle.amqp_decoder.specs.Rooms.{HasRoom}
 use Rattle.amqp_decoder.specs.Misspelled.{IsMisspelling, NothingStands}
 use Rattle.amqp_decoder.specs.Described.{OpensDescribed, OpenFault}
-use Rattle.amqp_decoder.specs.OtherSource.{Setting, under, KeepsError, opens_described, open_described_fault}
+use Rattle.amqp_decoder.specs.OtherSource.{Setting, under, KeepsError}
+use Rattle.amqp_decoder.specs.laws.OtherSource.{opens_described, open_described_fault}
 use Rattle.amqp_decoder.proofs.Misspelled.{described_misspelled}
 use Rattle.amqp_decoder.proofs.NothingInside.{nothing_described}
 use Rattle.amqp_decoder.proofs.NotOutside.{open_described_not_outside}

@@ -4,7 +4,7 @@ use Rattle.std.proofs.lemmas.Bool.{not-true}
 use Rattle.amqp_wire.specs.declared.symbol.Symbol.{Symbol}
 use Rattle.amqp_codec.specs.TermType.{TermType}
 use Rattle.amqp_codec.specs.PrimitiveTypes.{symbol_bytes_type}
-use Rattle.amqp_enums.specs.Restricted.{IsUnknown, IsDistinct, restricted_text}
+use Rattle.amqp_sums.specs.Restricted.{IsUnknown, IsDistinct, restricted_text}
 use Rattle.amqp_errors.specs.TextTable.{find_text, found_has_text, found_passes, AreFound, made_apart, not_found_unknown}
 use Rattle.amqp_errors.specs.NormalType.{Normalises, normal_type}
 use Rattle.amqp_errors.specs.Texts.{amqp_error_texts, connection_error_texts, session_error_texts, link_error_texts}

@@ -3,7 +3,7 @@ use Rattle.std.specs.Prelude.{List}
 use Rattle.amqp_wire.specs.declared.symbol.Symbol.{Symbol}
 use Rattle.amqp_codec.specs.TermType.{TermType}
 use Rattle.amqp_codec.specs.Wrappers.{symbol_type}
-use Rattle.amqp_codec.specs.MapReadingLaws.{map_of}
+use Rattle.amqp_codec.specs.laws.MapReading.{map_of}
 use Rattle.amqp_values.specs.declared.value.Value.{Value}
 use Rattle.amqp_values.specs.ValueType.{value_type}
 

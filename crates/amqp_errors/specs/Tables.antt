@@ -1,6 +1,6 @@
 -- The table of errors (Part 2, section 2.8.14).
 use Rattle.std.specs.Prelude.{None}
-use Rattle.amqp_enums.specs.Types.{codes, refl, by_norm, string_type, boxed, mandatory, optional, none, field, ◌▸◌, Table}
+use Rattle.amqp_sums.specs.Types.{codes, refl, by_norm, string_type, boxed, mandatory, optional, none, field, ◌▸◌, Table}
 use Rattle.amqp_errors.specs.FieldsType.{fields_type}
 use Rattle.amqp_errors.specs.Conditions.{condition_type, norm_condition}
 use Rattle.amqp_errors.specs.declared.error_condition.ErrorCondition.{ErrorCondition}

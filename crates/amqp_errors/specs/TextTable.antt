@@ -2,7 +2,7 @@
 use Rattle.std.proofs.Common.{◌≡◌, ℕ, Bool, true, false, cond, ◌&&◌, List, [], ◌∷◌, Option, Some, None, bytes_eq, refl, ap, ◌∙◌}
 use Rattle.std.specs.Cmp.{first_so, second_so}
 use Rattle.std.proofs.lemmas.Slice.Eq.{bytes_eq-Decides}
-use Rattle.amqp_enums.specs.Restricted.{IsUnknown}
+use Rattle.amqp_sums.specs.Restricted.{IsUnknown}
 
 module _ {V : Type 0} (texts : V → List ℕ) where
   -- the first of them, if any

@@ -1,17 +1,16 @@
 //! What went wrong (Part 2, section 2.8.14).
 ghost use Rattle.std.specs.Prelude.{◌≡◌, IfErr, IfOk, option_map};
 ghost use Rattle.amqp_wire.specs.declared.error.Error.TheVariants.{Memory};
-ghost use Rattle.amqp_enums.specs.Types.{composite, one_term, refl, agreement, writing_of};
+ghost use Rattle.amqp_sums.specs.Types.{composite, one_term, refl, agreement, writing_of};
 ghost use Rattle.amqp_errors.specs.Tables.{alone, error};
 
 use crate::{
     AmqpError, ConnectionError, ErrorCondition, Fields, LinkError, SessionError, TransactionError,
 };
-use amqp_codec::kernel::{
-    Composite, CompositeTerm, FieldRule, Table, read_into, read_some, value_in_type,
-    write_composite,
+use amqp_codec::kernel::{Composite, CompositeTerm, Table, write_composite};
+use amqp_codec::{
+    ByteSource, Decoder, Encoder, Error as CodecError, Serialize, SerializeTerm, fields,
 };
-use amqp_codec::{ByteSource, Decoder, Encoder, Error as CodecError, Serialize, SerializeTerm};
 use std::alloc::Global;
 
 /// What went wrong.
@@ -25,9 +24,23 @@ pub struct Error {
     pub info: Option<Box<Fields>>,
 }
 
+// The fields, in order.
+macro_rules! error_fields {
+    ($($part:tt)*) => {
+        fields! { [$($part)*]
+            0 condition "condition" mandatory,
+            1 description "description" optional,
+            2 info "info" optional,
+        }
+    };
+}
+
 impl Error {
     /// The code and the name of its descriptor.
     pub const DESCRIPTOR: (u64, &'static str) = (0x1d, "amqp:error:list");
+
+    /// The standard's names of the fields, in order.
+    pub const FIELD_NAMES: &'static [&'static str] = error_fields!(names);
 
     /// Returns an error with this condition, this description and this information. The only error of the call is `Memory`: the information
     /// is boxed.
@@ -123,11 +136,7 @@ impl Composite for Error {
     fn table() -> Table {
         Table {
             descriptor: Error::DESCRIPTOR,
-            fields: &[
-                FieldRule::Mandatory,
-                FieldRule::Optional,
-                FieldRule::Optional,
-            ],
+            fields: error_fields!(rules),
         }
     }
 
@@ -145,30 +154,15 @@ impl Composite for Error {
         decoder: &mut Decoder<R>,
         alloc: Global,
     ) -> Result<(), CodecError> {
-        match index {
-            0 => read_into(&mut self.condition, decoder, alloc),
-            1 => read_some(&mut self.description, decoder, alloc),
-            2 => read_some(&mut self.info, decoder, alloc),
-            _ => unreachable!(),
-        }
+        error_fields!(fill(self, index, decoder, alloc))
     }
 
     fn is_null_field(&self, index: usize) -> bool {
-        match index {
-            0 => false,
-            1 => self.description.is_none(),
-            2 => self.info.is_none(),
-            _ => unreachable!(),
-        }
+        error_fields!(is_null(self, index))
     }
 
     fn write_field(&self, index: usize, encoder: &mut Encoder) -> Result<(), CodecError> {
-        match index {
-            0 => self.condition.serialize(encoder),
-            1 => self.description.serialize(encoder),
-            2 => self.info.serialize(encoder),
-            _ => unreachable!(),
-        }
+        error_fields!(write(self, index, encoder))
     }
 }
 
@@ -180,9 +174,7 @@ impl Serialize for Error {
     }
 
     fn in_type(&self) {
-        self.condition.in_type();
-        self.description.in_type();
-        value_in_type(&self.info);
+        error_fields!(in_type(self));
     }
 }
 

@@ -1,9 +1,9 @@
 //! Errors of links (Part 2, section 2.8.18).
 ghost use Rattle.std.specs.Prelude.{◌≡◌, IfErr, IfOk, refl, string_bytes};
 ghost use Rattle.amqp_wire.specs.declared.error.Error.TheVariants.{Memory};
-ghost use Rattle.amqp_enums.specs.Restricted.{Converts};
+ghost use Rattle.amqp_sums.specs.Restricted.{Converts};
 ghost use Rattle.amqp_codec.specs.Agreement.{one_term, agreement, writing_of};
-ghost use Rattle.amqp_codec.specs.KeyLaws.{key_of, variants_decide};
+ghost use Rattle.amqp_codec.specs.laws.Key.{key_of, variants_decide};
 ghost use Rattle.amqp_errors.specs.Texts.{link_error_texts};
 ghost use Rattle.amqp_errors.specs.Conditions.{link_error_type};
 ghost use Rattle.amqp_errors.specs.contracts.link_error.LinkError.{the_type};
@@ -11,7 +11,7 @@ ghost use Rattle.amqp_errors.specs.contracts.link_error.LinkError.{the_type};
 use amqp_codec::{
     ByteSource, Decoder, DeserializeTerm, Encoder, Error, MapKey, Serialize, SerializeTerm, Symbol,
 };
-use amqp_enums::restricted::{RestrictedText, from_symbol, read_text, symbol_of, write_text};
+use amqp_sums::restricted::{RestrictedText, from_symbol, read_text, symbol_of, write_text};
 use std::alloc::Global;
 
 /// An error of a link.

@@ -8,7 +8,8 @@ use Rattle.amqp_decoder.specs.Reading.{BeginFault, PeeksCode, AnswersRead, Refus
 use Rattle.amqp_decoder.specs.Primitives.{standing, ReadsValue}
 use Rattle.amqp_decoder.specs.Rooms.{HasRoom}
 use Rattle.amqp_decoder.specs.Misspelled.{IsMisspelling, NothingStands}
-use Rattle.amqp_decoder.specs.OtherSource.{Setting, under, KeepsError, begin_fault, peeked}
+use Rattle.amqp_decoder.specs.OtherSource.{Setting, under, KeepsError}
+use Rattle.amqp_decoder.specs.laws.OtherSource.{begin_fault, peeked}
 use Rattle.amqp_decoder.proofs.Misspelled.{begin_misspelled}
 use Rattle.amqp_decoder.proofs.NothingInside.{nothing_peeked}
 use Rattle.amqp_decoder.proofs.Rooms.{room_peeked}
@@ -16,13 +17,13 @@ use Rattle.amqp_decoder.proofs.NotOutside.{begin_not_outside}
 use Rattle.amqp_decoder.proofs.Peeks.{value-peeked}
 use Rattle.amqp_decoder.specs.Steps.{IsOutside}
 use Rattle.amqp_codec.specs.Faults.{Faults}
-use Rattle.amqp_codec.specs.TreeLaws.{IsTree}
+use Rattle.amqp_codec.specs.laws.Tree.{IsTree}
 use Rattle.amqp_codec.specs.TreeType.{MeansTree, tree_term}
-use Rattle.amqp_codec.specs.RefusalLaws.{refused_later}
-use Rattle.amqp_codec.specs.PeekLaws.{peeked_going, peeked_failed}
+use Rattle.amqp_codec.specs.laws.Refusal.{refused_later}
+use Rattle.amqp_codec.specs.laws.Peek.{peeked_going, peeked_failed}
 use Rattle.amqp_kinds.specs.declared.kind.Kind.{Kind}
 use Rattle.amqp_kinds.specs.Kinds.{term_kind, kind_at}
-use Rattle.amqp_kinds.specs.KindLaws.{kind_there}
+use Rattle.amqp_kinds.specs.laws.Kind.{kind_there}
 
 -- Why none is read: none begins, or what begins by a code has a fault of the kind that the code tells.
 pub data KindFault (faults : Kind → Faults) (st : State) (e : Error) : Type 0 where

@@ -1,4 +1,6 @@
 pub mod Kinds
-pub mod KindLaws
-pub mod TreeMeanings
 pub mod KindReading
+pub mod KindMembers
+pub mod KindSumType
+pub mod PrimitiveMembers
+pub mod laws

@@ -6,7 +6,7 @@ use Rattle.amqp_decoder.specs.State.{State}
 use Rattle.amqp_decoder.specs.Reading.{RefusesRead}
 use Rattle.amqp_decoder.specs.Primitives.{standing, SpellsAs, ReadsValue}
 use Rattle.amqp_decoder.specs.Terms.{TakesTerm, TermFault}
-use Rattle.amqp_codec.specs.RefusalLaws.{refused_first}
+use Rattle.amqp_codec.specs.laws.Refusal.{refused_first}
 use Rattle.amqp_model.specs.Measures.{nodes}
 use Rattle.amqp_lengths.specs.Measured.{IsMeasured}
 use Rattle.amqp_lazy.specs.LazyType.{Counted, Lazy, lazy_counted, MeansBytes, one_spelled, lazy_type}

@@ -11,17 +11,17 @@ use Rattle.amqp_model.specs.Measures.{nodes}
 use Rattle.amqp_model.specs.Refusals.{IsRefused}
 use Rattle.amqp_model.specs.Kept.{ExpandsTo}
 use Rattle.amqp_model.specs.Items.{is_null}
-use Rattle.amqp_model.specs.ItemLaws.{clash}
+use Rattle.amqp_model.specs.laws.Item.{clash}
 use Rattle.amqp_model.specs.FieldType.{unchanged}
 use Rattle.amqp_model.proofs.Unique.{one_term}
 use Rattle.amqp_lookahead.proofs.KindsOfCodes.{kind_data, one_code}
 use Rattle.amqp_decoder.specs.Terms.{TermFault}
 use Rattle.amqp_decoder.proofs.NotOutside.{term_not_outside}
 use Rattle.amqp_decoder.proofs.Misspelled.{term_misspelled}
-use Rattle.amqp_decoder.specs.OtherSource.{term_fault}
+use Rattle.amqp_decoder.specs.laws.OtherSource.{term_fault}
 use Rattle.amqp_codec.specs.Faults.{Faults}
-use Rattle.amqp_codec.specs.NullLaws.{null_primitive}
-use Rattle.amqp_codec.specs.OnlySizeLaws.{size_alone}
+use Rattle.amqp_codec.specs.laws.Null.{null_primitive}
+use Rattle.amqp_codec.specs.laws.OnlySize.{size_alone}
 use Rattle.amqp_codec.specs.TermType.{TermType, IsLeaf, StandsCanonically, view_of, equality, Meant, Rewrites, IsNoShorter}
 use Rattle.amqp_codec.specs.Agreement.{Agreement, via_writing, via_agreement}
 use Rattle.amqp_codec.specs.Wrappers.{via}

@@ -21,7 +21,7 @@ use Rattle.amqp_map_sections.specs.MapSections.{delivery_annotations_naming, in_
 use Rattle.amqp_map_sections.specs.MapSections.{in_message_annotations, footer_naming, in_footer, application_properties_naming}
 use Rattle.amqp_map_sections.specs.MapSections.{in_application_properties}
 use Rattle.amqp_map_sections.specs.SimpleMaps.{simple_map_type}
-use Rattle.amqp_kind_sums.specs.KindSumType.{kind_sum_type}
+use Rattle.amqp_kinds.specs.KindSumType.{kind_sum_type}
 use Rattle.amqp_message_headers.specs.MessageIds.{message_ids}
 use Rattle.amqp_message_headers.specs.Tables.{header, properties}
 use Rattle.amqp_delivery.specs.Tables.{accepted, declare, declared, delivery_state, discharge, modified, outcome, received}

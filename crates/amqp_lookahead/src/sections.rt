@@ -9,20 +9,32 @@ ghost use Rattle.amqp_lookahead.specs.Sections.{LooksOn, sections, IsOfSection, 
 use crate::Input;
 use crate::input::LOOK;
 use crate::names::{Members, place_of_code, place_of_name};
-use amqp_wire::{ByteSource, format_code};
+use amqp_wire::{ByteSource, format_code, section_code};
 use std::io::ErrorKind;
 
-/// The sections by the codes and names of their descriptors, from the code 0x70 on.
+/// The sections by the codes and names of their descriptors, from the header on.
 const SECTIONS: Members<'static> = &[
-    (0x70, "amqp:header:list"),
-    (0x71, "amqp:delivery-annotations:map"),
-    (0x72, "amqp:message-annotations:map"),
-    (0x73, "amqp:properties:list"),
-    (0x74, "amqp:application-properties:map"),
-    (0x75, "amqp:data:binary"),
-    (0x76, "amqp:amqp-sequence:list"),
-    (0x77, "amqp:amqp-value:*"),
-    (0x78, "amqp:footer:map"),
+    (section_code::HEADER as u64, "amqp:header:list"),
+    (
+        section_code::DELIVERY_ANNOTATIONS as u64,
+        "amqp:delivery-annotations:map",
+    ),
+    (
+        section_code::MESSAGE_ANNOTATIONS as u64,
+        "amqp:message-annotations:map",
+    ),
+    (section_code::PROPERTIES as u64, "amqp:properties:list"),
+    (
+        section_code::APPLICATION_PROPERTIES as u64,
+        "amqp:application-properties:map",
+    ),
+    (section_code::DATA as u64, "amqp:data:binary"),
+    (
+        section_code::AMQP_SEQUENCE as u64,
+        "amqp:amqp-sequence:list",
+    ),
+    (section_code::AMQP_VALUE as u64, "amqp:amqp-value:*"),
+    (section_code::FOOTER as u64, "amqp:footer:map"),
 ];
 
 /// Returns the members that a section may be.
@@ -32,16 +44,13 @@ fn section_members() -> Members<'static>
     SECTIONS
 }
 
-/// The code of the first section.
-const FIRST: u8 = 0x70;
-
 /// Returns the code of the section at a place.
 fn section_at(place: Option<usize>) -> Option<u8>
     requires { IfSome place (λ i. i < 9) }
     ensures { result ≡ option_map (λ i. 0x70 + i) place }
 {
     match place {
-        Some(place) => Some(FIRST + place as u8),
+        Some(place) => Some(section_code::HEADER + place as u8),
         None => None,
     }
 }

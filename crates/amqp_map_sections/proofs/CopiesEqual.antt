@@ -5,7 +5,7 @@ use Rattle.amqp_simple_values.specs.Order.{simple_decide}
 use Rattle.amqp_simple_values.specs.Simple.{simple_term}
 use Rattle.amqp_simple_values.specs.declared.simple.SimpleValue.{SimpleValue}
 use Rattle.amqp_values.specs.Equality.{value_eq}
-use Rattle.amqp_values.specs.EqualityLaws.{values_decide}
+use Rattle.amqp_values.specs.laws.Equality.{values_decide}
 use Rattle.amqp_values.specs.Values.{value_term}
 use Rattle.amqp_values.specs.declared.value.Value.{Value}
 

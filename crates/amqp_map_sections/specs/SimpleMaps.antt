@@ -5,8 +5,8 @@ use Rattle.std.specs.List.{IsDistinct}
 use Rattle.std.specs.Str.{bytes_eq}
 use Rattle.std.proofs.lemmas.Slice.Eq.{bytes_eq-Decides}
 use Rattle.amqp_codec.specs.Agreement.{Agreement, writing_of, agreement}
-use Rattle.amqp_codec.specs.KeyLaws.{key_of}
-use Rattle.amqp_codec.specs.MapReadingLaws.{map_of, map_faults}
+use Rattle.amqp_codec.specs.laws.Key.{key_of}
+use Rattle.amqp_codec.specs.laws.MapReading.{map_of, map_faults}
 use Rattle.amqp_codec.specs.MapWriting.{map_writing, map_agreement}
 use Rattle.amqp_codec.specs.TermType.{TermType}
 use Rattle.amqp_codec.specs.Wrappers.{string_type}

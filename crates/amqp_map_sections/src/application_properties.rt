@@ -9,6 +9,7 @@ use amqp_codec::{ByteSource, Decoder, DeserializeTerm, Encoder, Error, Serialize
 use amqp_maps::OrderedMap;
 use amqp_sections::{Section, read_section, write_section};
 use amqp_simple_values::SimpleValue;
+use amqp_wire::section_code;
 use std::alloc::Global;
 use std::ops::{Deref, DerefMut};
 
@@ -18,7 +19,10 @@ pub struct ApplicationProperties(pub OrderedMap<String, SimpleValue>);
 
 impl ApplicationProperties {
     /// The code and the name of its descriptor.
-    pub const DESCRIPTOR: (u64, &'static str) = (0x74, "amqp:application-properties:map");
+    pub const DESCRIPTOR: (u64, &'static str) = (
+        section_code::APPLICATION_PROPERTIES as u64,
+        "amqp:application-properties:map",
+    );
 
     /// Returns the section without pairs. It doesn't allocate.
     pub fn new(alloc: Global) -> ApplicationProperties

@@ -10,6 +10,7 @@ use amqp_codec::{ByteSource, Decoder, DeserializeTerm, Encoder, Error, Serialize
 use amqp_maps::OrderedMap;
 use amqp_sections::{Section, read_section, write_section};
 use amqp_values::Value;
+use amqp_wire::section_code;
 use std::alloc::Global;
 use std::ops::{Deref, DerefMut};
 
@@ -19,7 +20,10 @@ pub struct DeliveryAnnotations(pub Annotations);
 
 impl DeliveryAnnotations {
     /// The code and the name of its descriptor.
-    pub const DESCRIPTOR: (u64, &'static str) = (0x71, "amqp:delivery-annotations:map");
+    pub const DESCRIPTOR: (u64, &'static str) = (
+        section_code::DELIVERY_ANNOTATIONS as u64,
+        "amqp:delivery-annotations:map",
+    );
 
     /// Returns the section without pairs. It doesn't allocate.
     pub fn new(alloc: Global) -> DeliveryAnnotations

@@ -1,2 +1,3 @@
 pub mod PairsRead
 pub mod CopiesEqual
+mod KeyLaws

@@ -7,8 +7,8 @@ use Rattle.amqp_codec.specs.TermType.{TermType}
 use Rattle.amqp_codec.specs.Keys.{IsKey}
 use Rattle.amqp_codec.specs.Pairs.{IsNew, HaveOtherKeys}
 use Rattle.amqp_codec.specs.MapReading.{Pairs, ReadsFewer}
-use Rattle.amqp_codec.specs.MapReadingLaws.{pairs_more, others_more}
-use Rattle.amqp_maps.specs.KeyLaws.{inserted_last}
+use Rattle.amqp_codec.specs.laws.MapReading.{pairs_more, others_more}
+use Rattle.amqp_maps.proofs.KeyLaws.{inserted_last}
 
 module _ {K V : Type 0} (key : TermType K) (value : TermType V) where
   -- So many pairs were read, where the source tells what is read.

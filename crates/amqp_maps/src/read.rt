@@ -8,7 +8,7 @@ ghost use Rattle.amqp_wire.specs.Sources.{Tells};
 ghost use Rattle.amqp_decoder.specs.Reading.{AnswersRead};
 ghost use Rattle.amqp_decoder.specs.Steps.{Passes};
 ghost use Rattle.amqp_codec.specs.MapReading.{ReadsPairsRow, PairsFault};
-ghost use Rattle.amqp_codec.specs.MapReadingLaws.{map_of, map_faults};
+ghost use Rattle.amqp_codec.specs.laws.MapReading.{map_of, map_faults};
 ghost use Rattle.amqp_codec.specs.MapWriting.{map_agreement};
 
 use crate::{KeyHashing, OrderedMap};

@@ -1,5 +1,5 @@
 pub mod Made
-pub mod MessageIdKeyLaws
 pub mod MessageIds
 pub mod Priorities
 pub mod Tables
+pub mod laws

@@ -6,9 +6,9 @@ use Rattle.amqp_codec.specs.TermType.{TermType}
 use Rattle.amqp_kinds.specs.declared.kind.Kind.{Kind}
 use Rattle.amqp_kinds.specs.declared.kind.Kind.TheVariants as kind
 use Rattle.amqp_kinds.specs.Kinds.{term_kind}
-use Rattle.amqp_kind_sums.specs.KindMembers.{KindMembers, no_more, member, IsAt, KindSumOf}
-use Rattle.amqp_kind_sums.specs.KindSumType.{kind_sum_type}
-use Rattle.amqp_kind_sums.specs.PrimitiveMembers.{ulong_member, uuid_member, binary_member, string_member}
+use Rattle.amqp_kinds.specs.KindMembers.{KindMembers, no_more, member, IsAt, KindSumOf}
+use Rattle.amqp_kinds.specs.KindSumType.{kind_sum_type}
+use Rattle.amqp_kinds.specs.PrimitiveMembers.{ulong_member, uuid_member, binary_member, string_member}
 use Rattle.amqp_message_headers.specs.declared.message_id.MessageId.{MessageId}
 use Rattle.amqp_message_headers.specs.declared.message_id.MessageId.TheVariants as id
 

@@ -2,7 +2,7 @@
 use Rattle.std.proofs.Common.{◌<◌, ◌^◌, refl, arith}
 use Rattle.amqp_model.specs.FieldRules.{DefaultValue}
 use Rattle.amqp_codec.specs.FieldTypes.{field_type}
-use Rattle.amqp_enums.specs.Types.{TermType, ubyte_type, via, unchanged}
+use Rattle.amqp_sums.specs.Types.{TermType, ubyte_type, via, unchanged}
 use Rattle.amqp_restricted_types.specs.ToldByDefault.{numbered_default}
 use Rattle.amqp_message_headers.specs.declared.priority.Priority.{Priority}
 

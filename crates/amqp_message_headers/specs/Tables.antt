@@ -1,6 +1,6 @@
 -- The tables of headers and of properties (Part 3, sections 3.2.1 and 3.2.4).
-use Rattle.amqp_enums.specs.Types.{codes, refl, boolean_type, uint_type, string_type, symbol_type, optional, default, none, field, ◌▸◌, plain}
-use Rattle.amqp_enums.specs.Types.{Table}
+use Rattle.amqp_sums.specs.Types.{codes, refl, boolean_type, uint_type, string_type, symbol_type, optional, default, none, field, ◌▸◌, plain}
+use Rattle.amqp_sums.specs.Types.{Table}
 use Rattle.amqp_primitives.specs.Types.{binary_type, timestamp_type}
 use Rattle.amqp_restricted_types.specs.Defaults.{false_by_default}
 use Rattle.amqp_restricted_types.specs.TerminiDefaults.{zero_by_default}

@@ -1,14 +1,13 @@
 //! Headers (Part 3, section 3.2.1).
 ghost use Rattle.std.specs.Prelude.{◌≡◌, Some};
-ghost use Rattle.amqp_enums.specs.Types.{composite, one_term, refl, agreement, writing_of};
+ghost use Rattle.amqp_sums.specs.Types.{composite, one_term, refl, agreement, writing_of};
 ghost use Rattle.amqp_message_headers.specs.Made.{default_header};
 ghost use Rattle.amqp_message_headers.specs.Tables.{header};
 
 use crate::Priority;
-use amqp_codec::kernel::{
-    Composite, CompositeTerm, FieldRule, Table, read_into, read_some, write_composite,
-};
-use amqp_codec::{ByteSource, Decoder, Encoder, Error, Serialize, SerializeTerm};
+use amqp_codec::kernel::{Composite, CompositeTerm, Table, write_composite};
+use amqp_codec::{ByteSource, Decoder, Encoder, Error, Serialize, SerializeTerm, fields};
+use amqp_wire::section_code;
 use std::alloc::Global;
 use std::marker::Model;
 
@@ -27,9 +26,25 @@ pub struct Header {
     pub delivery_count: u32,
 }
 
+// The fields, in order.
+macro_rules! header_fields {
+    ($($part:tt)*) => {
+        fields! { [$($part)*]
+            0 durable "durable" default(false),
+            1 priority "priority" default(Priority(4)),
+            2 ttl "ttl" optional,
+            3 first_acquirer "first-acquirer" default(false),
+            4 delivery_count "delivery-count" default(0),
+        }
+    };
+}
+
 impl Header {
     /// The code and the name of its descriptor.
-    pub const DESCRIPTOR: (u64, &'static str) = (0x70, "amqp:header:list");
+    pub const DESCRIPTOR: (u64, &'static str) = (section_code::HEADER as u64, "amqp:header:list");
+
+    /// The standard's names of the fields, in order.
+    pub const FIELD_NAMES: &'static [&'static str] = header_fields!(names);
 
     /// Returns a builder of a header, in which every field is omitted.
     pub fn builder() -> Builder
@@ -60,13 +75,7 @@ impl Composite for Header {
     fn table() -> Table {
         Table {
             descriptor: Header::DESCRIPTOR,
-            fields: &[
-                FieldRule::Default,
-                FieldRule::Default,
-                FieldRule::Optional,
-                FieldRule::Default,
-                FieldRule::Default,
-            ],
+            fields: header_fields!(rules),
         }
     }
 
@@ -80,36 +89,15 @@ impl Composite for Header {
         decoder: &mut Decoder<R>,
         alloc: Global,
     ) -> Result<(), Error> {
-        match index {
-            0 => read_into(&mut self.durable, decoder, alloc),
-            1 => read_into(&mut self.priority, decoder, alloc),
-            2 => read_some(&mut self.ttl, decoder, alloc),
-            3 => read_into(&mut self.first_acquirer, decoder, alloc),
-            4 => read_into(&mut self.delivery_count, decoder, alloc),
-            _ => unreachable!(),
-        }
+        header_fields!(fill(self, index, decoder, alloc))
     }
 
     fn is_null_field(&self, index: usize) -> bool {
-        match index {
-            0 => !self.durable,
-            1 => self.priority.0 == 4,
-            2 => self.ttl.is_none(),
-            3 => !self.first_acquirer,
-            4 => self.delivery_count == 0,
-            _ => unreachable!(),
-        }
+        header_fields!(is_null(self, index))
     }
 
     fn write_field(&self, index: usize, encoder: &mut Encoder) -> Result<(), Error> {
-        match index {
-            0 => self.durable.serialize(encoder),
-            1 => self.priority.serialize(encoder),
-            2 => self.ttl.serialize(encoder),
-            3 => self.first_acquirer.serialize(encoder),
-            4 => self.delivery_count.serialize(encoder),
-            _ => unreachable!(),
-        }
+        header_fields!(write(self, index, encoder))
     }
 }
 
@@ -121,11 +109,7 @@ impl Serialize for Header {
     }
 
     fn in_type(&self) {
-        self.durable.in_type();
-        self.priority.in_type();
-        self.ttl.in_type();
-        self.first_acquirer.in_type();
-        self.delivery_count.in_type();
+        header_fields!(in_type(self));
     }
 }
 

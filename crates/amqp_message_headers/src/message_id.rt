@@ -1,16 +1,16 @@
 //! Identifiers of messages (Part 3, sections 3.2.11 to 3.2.14).
 ghost use Rattle.std.specs.Prelude.{◌≡◌, refl};
 ghost use Rattle.amqp_codec.specs.Agreement.{one_term, agreement, writing_of};
-ghost use Rattle.amqp_codec.specs.KeyLaws.{key_of};
-ghost use Rattle.amqp_kind_sums.specs.KindSumType.{kind_sum_type};
+ghost use Rattle.amqp_codec.specs.laws.Key.{key_of};
+ghost use Rattle.amqp_kinds.specs.KindSumType.{kind_sum_type};
 ghost use Rattle.amqp_message_headers.specs.declared.message_id.MessageId.TheVariants as id;
-ghost use Rattle.amqp_message_headers.specs.MessageIdKeyLaws.{ids_decide};
+ghost use Rattle.amqp_message_headers.specs.laws.MessageIdKey.{ids_decide};
 ghost use Rattle.amqp_message_headers.specs.MessageIds.{message_ids};
 
 use amqp_codec::{
     ByteSource, Decoder, DeserializeTerm, Encoder, Error, MapKey, Serialize, SerializeTerm,
 };
-use amqp_kind_sums::{Kind, KindSum, read_as, read_kind_sum};
+use amqp_kinds::{Kind, KindSum, read_as, read_kind_sum};
 use amqp_primitives::{Binary, Uuid};
 use std::alloc::Global;
 

@@ -1,15 +1,14 @@
 //! Properties (Part 3, section 3.2.4).
 ghost use Rattle.std.specs.Prelude.{◌≡◌, Some};
-ghost use Rattle.amqp_enums.specs.Types.{composite, one_term, refl, agreement, writing_of};
+ghost use Rattle.amqp_sums.specs.Types.{composite, one_term, refl, agreement, writing_of};
 ghost use Rattle.amqp_message_headers.specs.Made.{no_properties};
 ghost use Rattle.amqp_message_headers.specs.Tables.{properties};
 
 use crate::MessageId;
-use amqp_codec::kernel::{
-    Composite, CompositeTerm, FieldRule, Table, read_some, value_in_type, write_composite,
-};
-use amqp_codec::{ByteSource, Decoder, Encoder, Error, Serialize, SerializeTerm, Symbol};
+use amqp_codec::kernel::{Composite, CompositeTerm, Table, write_composite};
+use amqp_codec::{ByteSource, Decoder, Encoder, Error, Serialize, SerializeTerm, Symbol, fields};
 use amqp_primitives::{Binary, Timestamp};
+use amqp_wire::section_code;
 use std::alloc::Global;
 use std::marker::Model;
 
@@ -45,9 +44,36 @@ pub struct Properties {
     pub reply_to_group_id: Option<String>,
 }
 
+// The fields, in order.
+macro_rules! properties_fields {
+    ($($part:tt)*) => {
+        fields! { [$($part)*]
+            0 message_id "message-id" optional,
+            1 user_id "user-id" optional,
+            2 to "to" optional,
+            3 subject "subject" optional,
+            4 reply_to "reply-to" optional,
+            5 correlation_id "correlation-id" optional,
+            6 content_type "content-type" optional,
+            7 content_encoding "content-encoding" optional,
+            8 absolute_expiry_time "absolute-expiry-time" optional,
+            9 creation_time "creation-time" optional,
+            10 group_id "group-id" optional,
+            11 group_sequence "group-sequence" optional,
+            12 reply_to_group_id "reply-to-group-id" optional,
+        }
+    };
+}
+
 impl Properties {
     /// The code and the name of its descriptor.
-    pub const DESCRIPTOR: (u64, &'static str) = (0x73, "amqp:properties:list");
+    pub const DESCRIPTOR: (u64, &'static str) = (
+        section_code::PROPERTIES as u64,
+        "amqp:properties:list",
+    );
+
+    /// The standard's names of the fields, in order.
+    pub const FIELD_NAMES: &'static [&'static str] = properties_fields!(names);
 
     /// Returns properties in which every field is omitted.
     pub fn new() -> Properties
@@ -93,21 +119,7 @@ impl Composite for Properties {
     fn table() -> Table {
         Table {
             descriptor: Properties::DESCRIPTOR,
-            fields: &[
-                FieldRule::Optional,
-                FieldRule::Optional,
-                FieldRule::Optional,
-                FieldRule::Optional,
-                FieldRule::Optional,
-                FieldRule::Optional,
-                FieldRule::Optional,
-                FieldRule::Optional,
-                FieldRule::Optional,
-                FieldRule::Optional,
-                FieldRule::Optional,
-                FieldRule::Optional,
-                FieldRule::Optional,
-            ],
+            fields: properties_fields!(rules),
         }
     }
 
@@ -121,60 +133,15 @@ impl Composite for Properties {
         decoder: &mut Decoder<R>,
         alloc: Global,
     ) -> Result<(), Error> {
-        match index {
-            0 => read_some(&mut self.message_id, decoder, alloc),
-            1 => read_some(&mut self.user_id, decoder, alloc),
-            2 => read_some(&mut self.to, decoder, alloc),
-            3 => read_some(&mut self.subject, decoder, alloc),
-            4 => read_some(&mut self.reply_to, decoder, alloc),
-            5 => read_some(&mut self.correlation_id, decoder, alloc),
-            6 => read_some(&mut self.content_type, decoder, alloc),
-            7 => read_some(&mut self.content_encoding, decoder, alloc),
-            8 => read_some(&mut self.absolute_expiry_time, decoder, alloc),
-            9 => read_some(&mut self.creation_time, decoder, alloc),
-            10 => read_some(&mut self.group_id, decoder, alloc),
-            11 => read_some(&mut self.group_sequence, decoder, alloc),
-            12 => read_some(&mut self.reply_to_group_id, decoder, alloc),
-            _ => unreachable!(),
-        }
+        properties_fields!(fill(self, index, decoder, alloc))
     }
 
     fn is_null_field(&self, index: usize) -> bool {
-        match index {
-            0 => self.message_id.is_none(),
-            1 => self.user_id.is_none(),
-            2 => self.to.is_none(),
-            3 => self.subject.is_none(),
-            4 => self.reply_to.is_none(),
-            5 => self.correlation_id.is_none(),
-            6 => self.content_type.is_none(),
-            7 => self.content_encoding.is_none(),
-            8 => self.absolute_expiry_time.is_none(),
-            9 => self.creation_time.is_none(),
-            10 => self.group_id.is_none(),
-            11 => self.group_sequence.is_none(),
-            12 => self.reply_to_group_id.is_none(),
-            _ => unreachable!(),
-        }
+        properties_fields!(is_null(self, index))
     }
 
     fn write_field(&self, index: usize, encoder: &mut Encoder) -> Result<(), Error> {
-        match index {
-            0 => self.message_id.serialize(encoder),
-            1 => self.user_id.serialize(encoder),
-            2 => self.to.serialize(encoder),
-            3 => self.subject.serialize(encoder),
-            4 => self.reply_to.serialize(encoder),
-            5 => self.correlation_id.serialize(encoder),
-            6 => self.content_type.serialize(encoder),
-            7 => self.content_encoding.serialize(encoder),
-            8 => self.absolute_expiry_time.serialize(encoder),
-            9 => self.creation_time.serialize(encoder),
-            10 => self.group_id.serialize(encoder),
-            11 => self.group_sequence.serialize(encoder),
-            12 => self.reply_to_group_id.serialize(encoder),
-            _ => unreachable!(),
-        }
+        properties_fields!(write(self, index, encoder))
     }
 }
 
@@ -186,19 +153,7 @@ impl Serialize for Properties {
     }
 
     fn in_type(&self) {
-        value_in_type(&self.message_id);
-        self.user_id.in_type();
-        self.to.in_type();
-        self.subject.in_type();
-        self.reply_to.in_type();
-        value_in_type(&self.correlation_id);
-        self.content_type.in_type();
-        self.content_encoding.in_type();
-        self.absolute_expiry_time.in_type();
-        self.creation_time.in_type();
-        self.group_id.in_type();
-        self.group_sequence.in_type();
-        self.reply_to_group_id.in_type();
+        properties_fields!(in_type(self));
     }
 }
 

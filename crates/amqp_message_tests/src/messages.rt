@@ -12,25 +12,6 @@ use std::alloc::Global;
 use std::test::Fail;
 
 #[test]
-fn a_message_without_a_body(rt: HostRuntime) -> Result<(), Fail> {
-    let alloc = rt.alloc();
-    read_and_written::<Message<Body<Value>>>(
-        "0053704500537345",
-        "005370450053734500537740",
-        0,
-        alloc,
-    )?;
-    read_and_written::<Message<Body<Value>>>(
-        "0053734500537045",
-        "005370450053734500537740",
-        0,
-        alloc,
-    )?;
-    read_and_written::<Message<Body<Value>>>("", "00537740", 0, alloc)?;
-    check_refused::<Message<Data>>("0053704500537345", Error::EmptyBody, alloc)
-}
-
-#[test]
 fn a_run_is_one_group(rt: HostRuntime) -> Result<(), Fail> {
     let alloc = rt.alloc();
     let text =
@@ -60,33 +41,6 @@ fn a_run_of_seven_is_one_group(rt: HostRuntime) -> Result<(), Fail> {
     read_and_written::<Message<Batch<Data>>>(SEVEN_DATA, SEVEN_DATA, 0, alloc)?;
     // as single data each is a group of its own, so that reading stops behind the sixth
     read_and_written::<Message<Data>>(SEVEN_DATA, "00537045005375a00161", 12, alloc)
-}
-
-#[test]
-fn the_last_of_a_kind_counts_and_seven_groups_are_read(rt: HostRuntime) -> Result<(), Fail> {
-    let alloc = rt.alloc();
-    read_and_written::<Message<Body<Value>>>(
-        "005370450053704500537045005370450053704500537045005370c0020141ff",
-        "005370c002014100537740",
-        1,
-        alloc,
-    )?;
-    check_refused::<Message<Body<Value>>>(
-        "005370450053704500537045005370450053704500537045ff",
-        Error::NotSection,
-        alloc,
-    )?;
-    check_refused::<Message<Body<Value>>>("0053704500532445", Error::NotSection, alloc)?;
-    check_refused::<Message<Body<Value>>>("005370450053", Error::Cut, alloc)?;
-    check_refused::<Message<Data>>("00537741", Error::WrongDescriptor, alloc)
-}
-
-#[test]
-fn all_seven_sections(rt: HostRuntime) -> Result<(), Fail> {
-    let alloc = rt.alloc();
-    let text =
-        "005370c0020141005371c10802a3036b65795201005372c10a02a3046b657932a10176005373c003015301005374c10702a102736e540100537741005378c10100";
-    read_and_written::<Message<Body<Value>>>(text, text, 0, alloc)
 }
 
 // The 65 bytes of a message that has each section.
@@ -134,10 +88,6 @@ fn check_behind_whole(digits: &str, wanted: Error, alloc: Global) -> Result<(), 
 #[test]
 fn what_is_misplaced(rt: HostRuntime) -> Result<(), Fail> {
     let alloc = rt.alloc();
-    check_refused::<Strict<Body<Value>>>("0053734500537045", Error::Misplaced, alloc)?;
-    check_refused::<Strict<Body<Value>>>("0053704500537045", Error::Misplaced, alloc)?;
-    check_refused::<Strict<Body<Value>>>("00537045ff", Error::NotSection, alloc)?;
-    check_refused::<Strict<Data>>("005375a00161005375a00162", Error::Misplaced, alloc)?;
     check_refused::<Strict<Body<Value>>>("00537741005375a00161", Error::Misplaced, alloc)?;
     check_behind_whole("00", Error::Cut, alloc)?;
     check_behind_whole("ff", Error::NotSection, alloc)

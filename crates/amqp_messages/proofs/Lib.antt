@@ -4,3 +4,4 @@ pub mod GroupSteps
 pub mod WriteSteps
 pub mod StrictSteps
 pub mod Limits
+mod OrderLaws

@@ -5,7 +5,7 @@ use Rattle.amqp_wire.specs.Limits.{limit_of}
 use Rattle.amqp_decoder.specs.State.{Has}
 use Rattle.amqp_codec.specs.Reading.{BeginsWithin, BeginsWith}
 use Rattle.amqp_batches.specs.Bounds.{AreAllowed, IsBoundByLimits}
-use Rattle.amqp_batches.specs.BoundLaws.{bounded}
+use Rattle.amqp_batches.specs.laws.Bound.{bounded}
 use Rattle.amqp_batches.specs.WalkReading.{walk_reading, reading_via}
 use Rattle.amqp_bodies.specs.Bodies.{Made}
 use Rattle.amqp_messages.specs.declared.order.Order.{Order}
@@ -14,8 +14,8 @@ use Rattle.amqp_messages.specs.declared.message.Message.{Message}
 use Rattle.amqp_messages.specs.declared.strict.Strict.{Strict}
 use Rattle.amqp_messages.specs.MessageWalk.{message_walk}
 use Rattle.amqp_messages.specs.MessageTypes.{message_of, message_in}
-use Rattle.amqp_messages.specs.MessageLimits.{message_bound}
-use Rattle.amqp_messages.specs.KindLimits.{shape_bound}
+use Rattle.amqp_messages.specs.laws.MessageLimits.{message_bound}
+use Rattle.amqp_messages.specs.laws.KindLimits.{shape_bound}
 
 module _ {S B : Type 0} (made : Made S B) where
   bound : (o : Order) → IsBoundByLimits (walk_reading (message_walk o (message_of made)))

@@ -11,10 +11,10 @@ use Rattle.amqp_decoder.specs.Reading.{RefusesRead}
 use Rattle.amqp_decoder.proofs.Steps.{answered_later}
 use Rattle.amqp_codec.specs.Reading.{AreAlike}
 use Rattle.amqp_codec.proofs.Tries.{began_passed}
-use Rattle.amqp_codec.specs.RefusalLaws.{NoneStands, or_else}
-use Rattle.amqp_batches.specs.StateLaws.{still_among, alike_stays, alike_rest, alike_trans}
+use Rattle.amqp_codec.specs.laws.Refusal.{NoneStands, or_else}
+use Rattle.amqp_batches.specs.laws.State.{still_among, alike_stays, alike_rest, alike_trans}
 use Rattle.amqp_batches.specs.Walk.{IsAtTop, Walk, Steps, Walked, WalkFault, not_top, in_step}
-use Rattle.amqp_batches.specs.WalkLaws.{steps_top}
+use Rattle.amqp_batches.specs.laws.Walk.{steps_top}
 use Rattle.amqp_batches.proofs.WalkSteps.{SoFar, so_far_stays, none_walked, step_made, step_refused, finished, ran_out, unmade}
 use Rattle.amqp_messages.specs.declared.order.Order.{Order}
 use Rattle.amqp_messages.specs.declared.order.Order.TheVariants.{Any, Written}

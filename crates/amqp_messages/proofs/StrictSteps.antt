@@ -10,7 +10,7 @@ use Rattle.amqp_messages.specs.declared.order.Order.TheVariants.{Any, Written}
 use Rattle.amqp_messages.specs.declared.strict.Strict.{Strict}
 use Rattle.amqp_messages.specs.MessageWalk.{message_walk}
 use Rattle.amqp_messages.specs.MessageTypes.{message_of, message_in}
-use Rattle.amqp_messages.specs.OrderLaws.{strict_begins, strict_whole}
+use Rattle.amqp_messages.proofs.OrderLaws.{strict_begins, strict_whole}
 
 module _ {S B : Type 0} (made : Made S B) where
   abbrev strict : Reading (Strict B)

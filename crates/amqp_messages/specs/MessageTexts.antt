@@ -14,7 +14,7 @@ use Rattle.amqp_map_sections.specs.declared.message_annotations.MessageAnnotatio
 use Rattle.amqp_message_headers.specs.declared.header.Header.{Header}
 use Rattle.amqp_message_headers.specs.declared.properties.Properties.{Properties}
 use Rattle.amqp_batches.specs.WalkReading.{walk_reading}
-use Rattle.amqp_batches.specs.Resuming.{IsRead}
+use Rattle.amqp_batches.specs.laws.Resuming.{IsRead}
 use Rattle.amqp_batches.specs.Sections.{IsSection}
 use Rattle.amqp_batches.specs.SectionGroups.{section_text}
 use Rattle.amqp_batches.specs.GroupTexts.{GroupText, IsSound, read_sound}
@@ -32,9 +32,9 @@ use Rattle.amqp_messages.specs.Messages as messages
 use Rattle.amqp_messages.specs.MessageTypes.{readings_of, shape_of}
 use Rattle.amqp_messages.specs.MessageWriting.{message_writing}
 use Rattle.amqp_messages.specs.Entries.{Entry, Entries, no_more, entry, AreSound}
-use Rattle.amqp_messages.specs.MessageRewriting.{Keeps, Layout, rewrites_rows}
-use Rattle.amqp_messages.specs.MessageLimits.{AreBoundByLimits}
-use Rattle.amqp_messages.specs.KindLimits.{pick_both, shape_bound}
+use Rattle.amqp_messages.specs.laws.MessageRewriting.{Keeps, Layout, rewrites_rows}
+use Rattle.amqp_messages.specs.laws.MessageLimits.{AreBoundByLimits}
+use Rattle.amqp_messages.specs.laws.KindLimits.{pick_both, shape_bound}
 
 -- A section of this code, by its record and how it is written.
 pub record SectionLaws {T : Type 0} (c : ℕ) (u : TermType T) (w : Writing T) : Type 0 where

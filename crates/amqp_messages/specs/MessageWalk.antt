@@ -7,7 +7,7 @@ use Rattle.amqp_decoder.specs.State.{State}
 use Rattle.amqp_decoder.specs.Steps.{IsOutside}
 use Rattle.amqp_decoder.specs.OtherSource.{elsewhere}
 use Rattle.amqp_codec.specs.Reading.{looking, AreAlike}
-use Rattle.amqp_batches.specs.StateLaws.{any_taken}
+use Rattle.amqp_batches.specs.laws.State.{any_taken}
 use Rattle.amqp_batches.specs.Walk.{Leaves, Walk}
 use Rattle.amqp_batches.specs.NoSections.{no_section_not_outside, no_section_elsewhere}
 use Rattle.amqp_messages.specs.declared.order.Order.{Order}

@@ -8,7 +8,7 @@ use Rattle.amqp_map_sections.specs.declared.footer.Footer.{Footer}
 use Rattle.amqp_map_sections.specs.declared.message_annotations.MessageAnnotations.{MessageAnnotations}
 use Rattle.amqp_message_headers.specs.declared.header.Header.{Header}
 use Rattle.amqp_message_headers.specs.declared.properties.Properties.{Properties}
-use Rattle.amqp_batches.specs.RowLaws.{both_proper}
+use Rattle.amqp_batches.specs.laws.Row.{both_proper}
 use Rattle.amqp_messages.specs.declared.message.Message.{Message}
 use Rattle.amqp_messages.specs.Entries.{optional}
 

@@ -1,7 +1,7 @@
 -- What a message is made of: its seven kinds of groups (Part 3, section 3.2).
 use Rattle.std.proofs.Common.{◌≡◌, ℕ, ◌+◌, ◌≤◌, Bool, true, false, eqb, Option, Some, None, refl, sym, ap, subst, arith}
 use Rattle.amqp_model.specs.FieldRules.{SameOption}
-use Rattle.amqp_model.specs.OptionLaws.{option_sym, option_trans}
+use Rattle.amqp_model.specs.laws.Option.{option_sym, option_trans}
 use Rattle.amqp_wire.specs.declared.error.Error.{Error}
 use Rattle.amqp_wire.specs.declared.error.Error.TheVariants.{EmptyBody}
 use Rattle.amqp_decoder.specs.Steps.{IsOutside}

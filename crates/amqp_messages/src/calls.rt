@@ -3,6 +3,7 @@ ghost use Rattle.std.specs.Prelude.{◌≡◌, ◌≤◌};
 ghost use Rattle.amqp_messages.specs.MessageCalls.{one_if_there, sections_of, last_code_of, HasSectionsOf};
 
 use crate::message::Message;
+use amqp_wire::section_code;
 
 // One for a section that is present.
 fn count<T>(section: &Option<T>) -> usize
@@ -30,8 +31,8 @@ impl<B> Message<B> {
         ensures { result ≡ last_code_of self.now }
     {
         match self.footer {
-            Some(_) => 0x78,
-            None => 0x77,
+            Some(_) => section_code::FOOTER,
+            None => section_code::AMQP_VALUE,
         }
     }
 

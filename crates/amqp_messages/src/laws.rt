@@ -20,7 +20,7 @@ use amqp_message_headers::laws::copies_of_options_are_equal;
 use amqp_message_headers::{Header, Properties};
 
 /// Within limits of the caller, a message is read from the first n bytes exactly if it is read from them without limits, and they keep the
-/// limits. They do if n is at most the limit on bytes, and their sections nest no deeper and have together no more values than the limits
+/// limits. They do if n is at most the limit on bytes, and their sections nest no deeper and have together no more items than the limits
 /// allow. A described value is one with its descriptor. That is so for sections in any order, and for strict messages.
 pub fn limits_bound_messages<B: FromBody>()
     ensures any { (limits : Limits) (input : List ℕ) (message : _) (n : ℕ)

@@ -9,7 +9,7 @@ ghost use Rattle.amqp_messages.specs.Orders.{behind, further, IsFull};
 use crate::order::Order;
 use amqp_batches::no_section;
 use amqp_decoder::Decoder;
-use amqp_wire::{ByteSource, Error};
+use amqp_wire::{ByteSource, Error, section_code};
 use std::alloc::Global;
 
 // How many kinds of sections come after that with this code in the standard's order.
@@ -17,8 +17,8 @@ fn behind(code: u8) -> u8
     ensures { result ≡ behind code }
 {
     match code {
-        0x00..=0x74 => 0x76 - code,
-        0x75..=0x77 => 1,
+        0x00..=section_code::APPLICATION_PROPERTIES => section_code::DATA + 1 - code,
+        section_code::DATA..=section_code::AMQP_VALUE => 1,
         _ => 0,
     }
 }

@@ -19,7 +19,7 @@ use amqp_codec::{Deserialize, DeserializeTerm};
 use amqp_decoder::Decoder;
 use amqp_map_sections::{ApplicationProperties, DeliveryAnnotations, Footer, MessageAnnotations};
 use amqp_message_headers::{Header, Properties};
-use amqp_wire::{ByteSource, Error};
+use amqp_wire::{ByteSource, Error, section_code};
 use std::alloc::Global;
 
 // Reads a section, which replaces an earlier one.
@@ -75,12 +75,24 @@ impl<S: Drop> Groups<S> {
         ensures tries { Tries true decoder.old result decoder.new }
     {
         match code {
-            0x70 => put_section(&mut self.header, decoder, alloc),
-            0x71 => put_section(&mut self.delivery_annotations, decoder, alloc),
-            0x72 => put_section(&mut self.message_annotations, decoder, alloc),
-            0x73 => put_section(&mut self.properties, decoder, alloc),
-            0x74 => put_section(&mut self.application_properties, decoder, alloc),
-            0x78 => put_section(&mut self.footer, decoder, alloc),
+            section_code::HEADER => put_section(&mut self.header, decoder, alloc),
+            section_code::DELIVERY_ANNOTATIONS => put_section(
+                &mut self.delivery_annotations,
+                decoder,
+                alloc,
+            ),
+            section_code::MESSAGE_ANNOTATIONS => put_section(
+                &mut self.message_annotations,
+                decoder,
+                alloc,
+            ),
+            section_code::PROPERTIES => put_section(&mut self.properties, decoder, alloc),
+            section_code::APPLICATION_PROPERTIES => put_section(
+                &mut self.application_properties,
+                decoder,
+                alloc,
+            ),
+            section_code::FOOTER => put_section(&mut self.footer, decoder, alloc),
             _ => put_body::<B, R>(&mut self.body, decoder, alloc),
         }
     }

@@ -15,7 +15,7 @@ ghost use Rattle.amqp_messages.specs.declared.order.Order.TheVariants.{Written};
 ghost use Rattle.amqp_messages.specs.MessageAgain.{message_again};
 ghost use Rattle.amqp_messages.specs.MessageTypes.{message_of, message_in, as_strict};
 ghost use Rattle.amqp_messages.specs.MessageWalk.{message_walk};
-ghost use Rattle.amqp_messages.specs.StrictAgain.{strict_is_rewritten};
+ghost use Rattle.amqp_messages.specs.laws.StrictAgain.{strict_is_rewritten};
 
 use crate::laws::limits_bound_messages;
 use crate::message::Message;

@@ -2,7 +2,7 @@
 use Rattle.std.proofs.Common.{◌≡◌, ℕ, zero, suc, ◌≤◌, ◌<◌, ◌++◌, Bool, true, false, cond, List, [], ◌∷◌, length, get_or, refl, arith}
 use Rattle.amqp_model.specs.Term.{null, Term, leaf}
 use Rattle.amqp_model.specs.Items.{is_null, is_left_out, before_nulls}
-use Rattle.amqp_model.specs.ItemLaws.{clash}
+use Rattle.amqp_model.specs.laws.Item.{clash}
 use Rattle.amqp_model.specs.declared.tables.FieldRule.TheVariants.{Optional}
 use Rattle.amqp_model.specs.Slot.{Slot, is_required}
 use Rattle.amqp_model.specs.Fields.{Fields, none, field, rules_of, Fits, canonical_items}

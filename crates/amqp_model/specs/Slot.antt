@@ -2,14 +2,14 @@
 use Rattle.std.specs.Prelude.{◌≡◌, Bool, true, false, Option, refl}
 use Rattle.amqp_model.specs.Term.{null, Term, leaf}
 use Rattle.amqp_model.specs.Items.{is_null}
-use Rattle.amqp_model.specs.ItemLaws.{clash}
+use Rattle.amqp_model.specs.laws.Item.{clash}
 use Rattle.amqp_model.specs.FieldType.{Meaning, FieldType}
 use Rattle.amqp_model.specs.declared.tables.FieldRule.{FieldRule}
 use Rattle.amqp_model.specs.declared.tables.FieldRule.TheVariants.{Mandatory, Optional, Default, Multiple, MandatoryMultiple}
 use Rattle.amqp_model.specs.FieldRules.{DefaultValue, ArrayOf}
-use Rattle.amqp_model.specs.OptionLaws.{option_meaning, option_null_alike, option_null_canon}
-use Rattle.amqp_model.specs.DefaultLaws.{default_meaning, default_null_alike, default_null_canon}
-use Rattle.amqp_model.specs.MultipleLaws.{multiple_meaning, multiple_null_alike, multiple_null_canon, mandatory_multiple_meaning, some_null}
+use Rattle.amqp_model.specs.laws.Option.{option_meaning, option_null_alike, option_null_canon}
+use Rattle.amqp_model.specs.laws.Default.{default_meaning, default_null_alike, default_null_canon}
+use Rattle.amqp_model.specs.laws.Multiple.{multiple_meaning, multiple_null_alike, multiple_null_canon, mandatory_multiple_meaning, some_null}
 
 -- Null doesn't fit a field of the rule.
 abbrev pub is_required : FieldRule → Bool

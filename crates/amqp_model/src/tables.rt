@@ -4,7 +4,7 @@ ghost use Rattle.std.specs.List.{AllZip};
 ghost use Rattle.amqp_model.specs.Term.{null, code, name, list, array, empty_multiple, Term, leaf, described, container, barred, Terms};
 ghost use Rattle.amqp_model.specs.Term.{none, more};
 ghost use Rattle.amqp_model.specs.Items.{items_of, is_null, IsFree};
-ghost use Rattle.amqp_model.specs.ItemLaws.{AreFree};
+ghost use Rattle.amqp_model.specs.laws.Item.{AreFree};
 ghost use Rattle.amqp_model.specs.Ranges.{IsNoArray};
 ghost use Rattle.amqp_model.specs.FieldType.{normal};
 ghost use Rattle.amqp_model.specs.Slot.{is_required, mandatory, optional, default, multiple, mandatory_multiple};

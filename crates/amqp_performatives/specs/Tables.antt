@@ -1,8 +1,8 @@
 -- The tables of performatives but `Attach` (Part 2, section 2.7).
 use Rattle.std.specs.Prelude.{option_map}
 use Rattle.amqp_model.specs.FieldType.{normal}
-use Rattle.amqp_enums.specs.Types.{codes, refl, by_norm, boolean_type, ushort_type, uint_type, string_type, symbol_type}
-use Rattle.amqp_enums.specs.Types.{composite, mandatory, optional, default, none, field, ◌▸◌, plain, Table}
+use Rattle.amqp_sums.specs.Types.{codes, refl, by_norm, boolean_type, ushort_type, uint_type, string_type, symbol_type}
+use Rattle.amqp_sums.specs.Types.{composite, mandatory, optional, default, none, field, ◌▸◌, plain, Table}
 use Rattle.amqp_containers.specs.MultipleFields.{multiple, normal_multiple}
 use Rattle.amqp_primitives.specs.Types.{binary_type}
 use Rattle.amqp_restricted_types.specs.Defaults.{false_by_default}

@@ -1,12 +1,9 @@
 //! The begin of a session (Part 2, section 2.7.2).
-ghost use Rattle.amqp_enums.specs.Types.{composite, one_term, refl, agreement, writing_of};
+ghost use Rattle.amqp_sums.specs.Types.{composite, one_term, refl, agreement, writing_of};
 ghost use Rattle.amqp_performatives.specs.Tables.{begin};
 
-use amqp_codec::kernel::{
-    Composite, CompositeTerm, FieldRule, Table, read_into, read_some, value_in_type,
-    write_composite,
-};
-use amqp_codec::{ByteSource, Decoder, Encoder, Error, Serialize, SerializeTerm, Symbol};
+use amqp_codec::kernel::{Composite, CompositeTerm, Table, write_composite};
+use amqp_codec::{ByteSource, Decoder, Encoder, Error, Serialize, SerializeTerm, Symbol, fields};
 use amqp_containers::Array;
 use amqp_containers::multiple::{is_null_multiple, read_multiple, write_multiple};
 use amqp_errors::Fields;
@@ -34,9 +31,28 @@ pub struct Begin {
     pub properties: Option<Fields>,
 }
 
+// The fields, in order.
+macro_rules! begin_fields {
+    ($($part:tt)*) => {
+        fields! { [$($part)*]
+            0 remote_channel "remote-channel" optional,
+            1 next_outgoing_id "next-outgoing-id" mandatory,
+            2 incoming_window "incoming-window" mandatory,
+            3 outgoing_window "outgoing-window" mandatory,
+            4 handle_max "handle-max" default(Handle(u32::MAX)),
+            5 offered_capabilities "offered-capabilities" multiple,
+            6 desired_capabilities "desired-capabilities" multiple,
+            7 properties "properties" optional,
+        }
+    };
+}
+
 impl Begin {
     /// The code and the name of its descriptor.
     pub const DESCRIPTOR: (u64, &'static str) = (0x11, "amqp:begin:list");
+
+    /// The standard's names of the fields, in order.
+    pub const FIELD_NAMES: &'static [&'static str] = begin_fields!(names);
 }
 
 impl Composite for Begin {
@@ -45,16 +61,7 @@ impl Composite for Begin {
     fn table() -> Table {
         Table {
             descriptor: Begin::DESCRIPTOR,
-            fields: &[
-                FieldRule::Optional,
-                FieldRule::Mandatory,
-                FieldRule::Mandatory,
-                FieldRule::Mandatory,
-                FieldRule::Default,
-                FieldRule::Multiple,
-                FieldRule::Multiple,
-                FieldRule::Optional,
-            ],
+            fields: begin_fields!(rules),
         }
     }
 
@@ -77,45 +84,15 @@ impl Composite for Begin {
         decoder: &mut Decoder<R>,
         alloc: Global,
     ) -> Result<(), Error> {
-        match index {
-            0 => read_some(&mut self.remote_channel, decoder, alloc),
-            1 => read_into(&mut self.next_outgoing_id, decoder, alloc),
-            2 => read_into(&mut self.incoming_window, decoder, alloc),
-            3 => read_into(&mut self.outgoing_window, decoder, alloc),
-            4 => read_into(&mut self.handle_max, decoder, alloc),
-            5 => read_multiple(&mut self.offered_capabilities, decoder, alloc),
-            6 => read_multiple(&mut self.desired_capabilities, decoder, alloc),
-            7 => read_some(&mut self.properties, decoder, alloc),
-            _ => unreachable!(),
-        }
+        begin_fields!(fill(self, index, decoder, alloc))
     }
 
     fn is_null_field(&self, index: usize) -> bool {
-        match index {
-            0 => self.remote_channel.is_none(),
-            1 => false,
-            2 => false,
-            3 => false,
-            4 => self.handle_max.0 == u32::MAX,
-            5 => is_null_multiple(&self.offered_capabilities),
-            6 => is_null_multiple(&self.desired_capabilities),
-            7 => self.properties.is_none(),
-            _ => unreachable!(),
-        }
+        begin_fields!(is_null(self, index))
     }
 
     fn write_field(&self, index: usize, encoder: &mut Encoder) -> Result<(), Error> {
-        match index {
-            0 => self.remote_channel.serialize(encoder),
-            1 => self.next_outgoing_id.serialize(encoder),
-            2 => self.incoming_window.serialize(encoder),
-            3 => self.outgoing_window.serialize(encoder),
-            4 => self.handle_max.serialize(encoder),
-            5 => write_multiple(&self.offered_capabilities, encoder),
-            6 => write_multiple(&self.desired_capabilities, encoder),
-            7 => self.properties.serialize(encoder),
-            _ => unreachable!(),
-        }
+        begin_fields!(write(self, index, encoder))
     }
 }
 
@@ -127,14 +104,7 @@ impl Serialize for Begin {
     }
 
     fn in_type(&self) {
-        self.remote_channel.in_type();
-        self.next_outgoing_id.in_type();
-        self.incoming_window.in_type();
-        self.outgoing_window.in_type();
-        self.handle_max.in_type();
-        self.offered_capabilities.in_type();
-        self.desired_capabilities.in_type();
-        value_in_type(&self.properties);
+        begin_fields!(in_type(self));
     }
 }
 

@@ -1,12 +1,12 @@
 //! The end of a connection (Part 2, section 2.7.9).
 ghost use Rattle.std.specs.Prelude.{◌≡◌};
-ghost use Rattle.amqp_enums.specs.Types.{composite, one_term, refl, agreement, writing_of};
+ghost use Rattle.amqp_sums.specs.Types.{composite, one_term, refl, agreement, writing_of};
 ghost use Rattle.amqp_performatives.specs.Tables.{close};
 
-use amqp_codec::kernel::{
-    Composite, CompositeTerm, FieldRule, Table, read_some, value_in_type, write_composite,
+use amqp_codec::kernel::{Composite, CompositeTerm, Table, write_composite};
+use amqp_codec::{
+    ByteSource, Decoder, Encoder, Error as CodecError, Serialize, SerializeTerm, fields,
 };
-use amqp_codec::{ByteSource, Decoder, Encoder, Error as CodecError, Serialize, SerializeTerm};
 use amqp_errors::Error;
 use std::alloc::Global;
 
@@ -17,9 +17,21 @@ pub struct Close {
     pub error: Option<Error>,
 }
 
+// The fields, in order.
+macro_rules! close_fields {
+    ($($part:tt)*) => {
+        fields! { [$($part)*]
+            0 error "error" optional,
+        }
+    };
+}
+
 impl Close {
     /// The code and the name of its descriptor.
     pub const DESCRIPTOR: (u64, &'static str) = (0x18, "amqp:close:list");
+
+    /// The standard's names of the fields, in order.
+    pub const FIELD_NAMES: &'static [&'static str] = close_fields!(names);
 
     /// Returns a close of the connection, for this error or without one.
     pub fn new(error: Option<Error>) -> Close
@@ -35,7 +47,7 @@ impl Composite for Close {
     fn table() -> Table {
         Table {
             descriptor: Close::DESCRIPTOR,
-            fields: &[FieldRule::Optional],
+            fields: close_fields!(rules),
         }
     }
 
@@ -49,24 +61,15 @@ impl Composite for Close {
         decoder: &mut Decoder<R>,
         alloc: Global,
     ) -> Result<(), CodecError> {
-        match index {
-            0 => read_some(&mut self.error, decoder, alloc),
-            _ => unreachable!(),
-        }
+        close_fields!(fill(self, index, decoder, alloc))
     }
 
     fn is_null_field(&self, index: usize) -> bool {
-        match index {
-            0 => self.error.is_none(),
-            _ => unreachable!(),
-        }
+        close_fields!(is_null(self, index))
     }
 
     fn write_field(&self, index: usize, encoder: &mut Encoder) -> Result<(), CodecError> {
-        match index {
-            0 => self.error.serialize(encoder),
-            _ => unreachable!(),
-        }
+        close_fields!(write(self, index, encoder))
     }
 }
 
@@ -78,7 +81,7 @@ impl Serialize for Close {
     }
 
     fn in_type(&self) {
-        value_in_type(&self.error);
+        close_fields!(in_type(self));
     }
 }
 

@@ -1,12 +1,11 @@
 //! The end of a link (Part 2, section 2.7.7).
-ghost use Rattle.amqp_enums.specs.Types.{composite, one_term, refl, agreement, writing_of};
+ghost use Rattle.amqp_sums.specs.Types.{composite, one_term, refl, agreement, writing_of};
 ghost use Rattle.amqp_performatives.specs.Tables.{detach};
 
-use amqp_codec::kernel::{
-    Composite, CompositeTerm, FieldRule, Table, read_into, read_some, value_in_type,
-    write_composite,
+use amqp_codec::kernel::{Composite, CompositeTerm, Table, write_composite};
+use amqp_codec::{
+    ByteSource, Decoder, Encoder, Error as CodecError, Serialize, SerializeTerm, fields,
 };
-use amqp_codec::{ByteSource, Decoder, Encoder, Error as CodecError, Serialize, SerializeTerm};
 use amqp_errors::Error;
 use amqp_restricted_types::Handle;
 use std::alloc::Global;
@@ -22,9 +21,23 @@ pub struct Detach {
     pub error: Option<Error>,
 }
 
+// The fields, in order.
+macro_rules! detach_fields {
+    ($($part:tt)*) => {
+        fields! { [$($part)*]
+            0 handle "handle" mandatory,
+            1 closed "closed" default(false),
+            2 error "error" optional,
+        }
+    };
+}
+
 impl Detach {
     /// The code and the name of its descriptor.
     pub const DESCRIPTOR: (u64, &'static str) = (0x16, "amqp:detach:list");
+
+    /// The standard's names of the fields, in order.
+    pub const FIELD_NAMES: &'static [&'static str] = detach_fields!(names);
 }
 
 impl Composite for Detach {
@@ -33,11 +46,7 @@ impl Composite for Detach {
     fn table() -> Table {
         Table {
             descriptor: Detach::DESCRIPTOR,
-            fields: &[
-                FieldRule::Mandatory,
-                FieldRule::Default,
-                FieldRule::Optional,
-            ],
+            fields: detach_fields!(rules),
         }
     }
 
@@ -55,30 +64,15 @@ impl Composite for Detach {
         decoder: &mut Decoder<R>,
         alloc: Global,
     ) -> Result<(), CodecError> {
-        match index {
-            0 => read_into(&mut self.handle, decoder, alloc),
-            1 => read_into(&mut self.closed, decoder, alloc),
-            2 => read_some(&mut self.error, decoder, alloc),
-            _ => unreachable!(),
-        }
+        detach_fields!(fill(self, index, decoder, alloc))
     }
 
     fn is_null_field(&self, index: usize) -> bool {
-        match index {
-            0 => false,
-            1 => !self.closed,
-            2 => self.error.is_none(),
-            _ => unreachable!(),
-        }
+        detach_fields!(is_null(self, index))
     }
 
     fn write_field(&self, index: usize, encoder: &mut Encoder) -> Result<(), CodecError> {
-        match index {
-            0 => self.handle.serialize(encoder),
-            1 => self.closed.serialize(encoder),
-            2 => self.error.serialize(encoder),
-            _ => unreachable!(),
-        }
+        detach_fields!(write(self, index, encoder))
     }
 }
 
@@ -90,9 +84,7 @@ impl Serialize for Detach {
     }
 
     fn in_type(&self) {
-        self.handle.in_type();
-        self.closed.in_type();
-        value_in_type(&self.error);
+        detach_fields!(in_type(self));
     }
 }
 

@@ -1,12 +1,9 @@
 //! A change of the state of deliveries (Part 2, section 2.7.6).
-ghost use Rattle.amqp_enums.specs.Types.{composite, one_term, refl, agreement, writing_of};
+ghost use Rattle.amqp_sums.specs.Types.{composite, one_term, refl, agreement, writing_of};
 ghost use Rattle.amqp_performatives.specs.Tables.{disposition};
 
-use amqp_codec::kernel::{
-    Composite, CompositeTerm, FieldRule, Table, read_into, read_some, value_in_type,
-    write_composite,
-};
-use amqp_codec::{ByteSource, Decoder, Encoder, Error, Serialize, SerializeTerm};
+use amqp_codec::kernel::{Composite, CompositeTerm, Table, write_composite};
+use amqp_codec::{ByteSource, Decoder, Encoder, Error, Serialize, SerializeTerm, fields};
 use amqp_delivery::DeliveryState;
 use amqp_restricted_types::{DeliveryNumber, Role};
 use std::alloc::Global;
@@ -28,9 +25,26 @@ pub struct Disposition {
     pub batchable: bool,
 }
 
+// The fields, in order.
+macro_rules! disposition_fields {
+    ($($part:tt)*) => {
+        fields! { [$($part)*]
+            0 role "role" mandatory,
+            1 first "first" mandatory,
+            2 last "last" optional,
+            3 settled "settled" default(false),
+            4 state "state" optional,
+            5 batchable "batchable" default(false),
+        }
+    };
+}
+
 impl Disposition {
     /// The code and the name of its descriptor.
     pub const DESCRIPTOR: (u64, &'static str) = (0x15, "amqp:disposition:list");
+
+    /// The standard's names of the fields, in order.
+    pub const FIELD_NAMES: &'static [&'static str] = disposition_fields!(names);
 }
 
 impl Composite for Disposition {
@@ -39,14 +53,7 @@ impl Composite for Disposition {
     fn table() -> Table {
         Table {
             descriptor: Disposition::DESCRIPTOR,
-            fields: &[
-                FieldRule::Mandatory,
-                FieldRule::Mandatory,
-                FieldRule::Optional,
-                FieldRule::Default,
-                FieldRule::Optional,
-                FieldRule::Default,
-            ],
+            fields: disposition_fields!(rules),
         }
     }
 
@@ -67,39 +74,15 @@ impl Composite for Disposition {
         decoder: &mut Decoder<R>,
         alloc: Global,
     ) -> Result<(), Error> {
-        match index {
-            0 => read_into(&mut self.role, decoder, alloc),
-            1 => read_into(&mut self.first, decoder, alloc),
-            2 => read_some(&mut self.last, decoder, alloc),
-            3 => read_into(&mut self.settled, decoder, alloc),
-            4 => read_some(&mut self.state, decoder, alloc),
-            5 => read_into(&mut self.batchable, decoder, alloc),
-            _ => unreachable!(),
-        }
+        disposition_fields!(fill(self, index, decoder, alloc))
     }
 
     fn is_null_field(&self, index: usize) -> bool {
-        match index {
-            0 => false,
-            1 => false,
-            2 => self.last.is_none(),
-            3 => !self.settled,
-            4 => self.state.is_none(),
-            5 => !self.batchable,
-            _ => unreachable!(),
-        }
+        disposition_fields!(is_null(self, index))
     }
 
     fn write_field(&self, index: usize, encoder: &mut Encoder) -> Result<(), Error> {
-        match index {
-            0 => self.role.serialize(encoder),
-            1 => self.first.serialize(encoder),
-            2 => self.last.serialize(encoder),
-            3 => self.settled.serialize(encoder),
-            4 => self.state.serialize(encoder),
-            5 => self.batchable.serialize(encoder),
-            _ => unreachable!(),
-        }
+        disposition_fields!(write(self, index, encoder))
     }
 }
 
@@ -111,12 +94,7 @@ impl Serialize for Disposition {
     }
 
     fn in_type(&self) {
-        self.role.in_type();
-        self.first.in_type();
-        self.last.in_type();
-        self.settled.in_type();
-        value_in_type(&self.state);
-        self.batchable.in_type();
+        disposition_fields!(in_type(self));
     }
 }
 

@@ -1,12 +1,9 @@
 //! The flow of a session or of a link (Part 2, section 2.7.4).
-ghost use Rattle.amqp_enums.specs.Types.{composite, one_term, refl, agreement, writing_of};
+ghost use Rattle.amqp_sums.specs.Types.{composite, one_term, refl, agreement, writing_of};
 ghost use Rattle.amqp_performatives.specs.Tables.{flow};
 
-use amqp_codec::kernel::{
-    Composite, CompositeTerm, FieldRule, Table, read_into, read_some, value_in_type,
-    write_composite,
-};
-use amqp_codec::{ByteSource, Decoder, Encoder, Error, Serialize, SerializeTerm};
+use amqp_codec::kernel::{Composite, CompositeTerm, Table, write_composite};
+use amqp_codec::{ByteSource, Decoder, Encoder, Error, Serialize, SerializeTerm, fields};
 use amqp_errors::Fields;
 use amqp_restricted_types::{Handle, SequenceNo, TransferNumber};
 use std::alloc::Global;
@@ -38,9 +35,31 @@ pub struct Flow {
     pub properties: Option<Fields>,
 }
 
+// The fields, in order.
+macro_rules! flow_fields {
+    ($($part:tt)*) => {
+        fields! { [$($part)*]
+            0 next_incoming_id "next-incoming-id" optional,
+            1 incoming_window "incoming-window" mandatory,
+            2 next_outgoing_id "next-outgoing-id" mandatory,
+            3 outgoing_window "outgoing-window" mandatory,
+            4 handle "handle" optional,
+            5 delivery_count "delivery-count" optional,
+            6 link_credit "link-credit" optional,
+            7 available "available" optional,
+            8 drain "drain" default(false),
+            9 echo "echo" default(false),
+            10 properties "properties" optional,
+        }
+    };
+}
+
 impl Flow {
     /// The code and the name of its descriptor.
     pub const DESCRIPTOR: (u64, &'static str) = (0x13, "amqp:flow:list");
+
+    /// The standard's names of the fields, in order.
+    pub const FIELD_NAMES: &'static [&'static str] = flow_fields!(names);
 }
 
 impl Composite for Flow {
@@ -49,19 +68,7 @@ impl Composite for Flow {
     fn table() -> Table {
         Table {
             descriptor: Flow::DESCRIPTOR,
-            fields: &[
-                FieldRule::Optional,
-                FieldRule::Mandatory,
-                FieldRule::Mandatory,
-                FieldRule::Mandatory,
-                FieldRule::Optional,
-                FieldRule::Optional,
-                FieldRule::Optional,
-                FieldRule::Optional,
-                FieldRule::Default,
-                FieldRule::Default,
-                FieldRule::Optional,
-            ],
+            fields: flow_fields!(rules),
         }
     }
 
@@ -87,54 +94,15 @@ impl Composite for Flow {
         decoder: &mut Decoder<R>,
         alloc: Global,
     ) -> Result<(), Error> {
-        match index {
-            0 => read_some(&mut self.next_incoming_id, decoder, alloc),
-            1 => read_into(&mut self.incoming_window, decoder, alloc),
-            2 => read_into(&mut self.next_outgoing_id, decoder, alloc),
-            3 => read_into(&mut self.outgoing_window, decoder, alloc),
-            4 => read_some(&mut self.handle, decoder, alloc),
-            5 => read_some(&mut self.delivery_count, decoder, alloc),
-            6 => read_some(&mut self.link_credit, decoder, alloc),
-            7 => read_some(&mut self.available, decoder, alloc),
-            8 => read_into(&mut self.drain, decoder, alloc),
-            9 => read_into(&mut self.echo, decoder, alloc),
-            10 => read_some(&mut self.properties, decoder, alloc),
-            _ => unreachable!(),
-        }
+        flow_fields!(fill(self, index, decoder, alloc))
     }
 
     fn is_null_field(&self, index: usize) -> bool {
-        match index {
-            0 => self.next_incoming_id.is_none(),
-            1 => false,
-            2 => false,
-            3 => false,
-            4 => self.handle.is_none(),
-            5 => self.delivery_count.is_none(),
-            6 => self.link_credit.is_none(),
-            7 => self.available.is_none(),
-            8 => !self.drain,
-            9 => !self.echo,
-            10 => self.properties.is_none(),
-            _ => unreachable!(),
-        }
+        flow_fields!(is_null(self, index))
     }
 
     fn write_field(&self, index: usize, encoder: &mut Encoder) -> Result<(), Error> {
-        match index {
-            0 => self.next_incoming_id.serialize(encoder),
-            1 => self.incoming_window.serialize(encoder),
-            2 => self.next_outgoing_id.serialize(encoder),
-            3 => self.outgoing_window.serialize(encoder),
-            4 => self.handle.serialize(encoder),
-            5 => self.delivery_count.serialize(encoder),
-            6 => self.link_credit.serialize(encoder),
-            7 => self.available.serialize(encoder),
-            8 => self.drain.serialize(encoder),
-            9 => self.echo.serialize(encoder),
-            10 => self.properties.serialize(encoder),
-            _ => unreachable!(),
-        }
+        flow_fields!(write(self, index, encoder))
     }
 }
 
@@ -146,17 +114,7 @@ impl Serialize for Flow {
     }
 
     fn in_type(&self) {
-        self.next_incoming_id.in_type();
-        self.incoming_window.in_type();
-        self.next_outgoing_id.in_type();
-        self.outgoing_window.in_type();
-        self.handle.in_type();
-        self.delivery_count.in_type();
-        self.link_credit.in_type();
-        self.available.in_type();
-        self.drain.in_type();
-        self.echo.in_type();
-        value_in_type(&self.properties);
+        flow_fields!(in_type(self));
     }
 }
 

@@ -1,12 +1,9 @@
 //! The begin of a connection (Part 2, section 2.7.1).
-ghost use Rattle.amqp_enums.specs.Types.{composite, one_term, refl, agreement, writing_of};
+ghost use Rattle.amqp_sums.specs.Types.{composite, one_term, refl, agreement, writing_of};
 ghost use Rattle.amqp_performatives.specs.Tables.{opening};
 
-use amqp_codec::kernel::{
-    Composite, CompositeTerm, FieldRule, Table, read_into, read_some, value_in_type,
-    write_composite,
-};
-use amqp_codec::{ByteSource, Decoder, Encoder, Error, Serialize, SerializeTerm, Symbol};
+use amqp_codec::kernel::{Composite, CompositeTerm, Table, write_composite};
+use amqp_codec::{ByteSource, Decoder, Encoder, Error, Serialize, SerializeTerm, Symbol, fields};
 use amqp_containers::Array;
 use amqp_containers::multiple::{is_null_multiple, read_multiple, write_multiple};
 use amqp_errors::Fields;
@@ -38,9 +35,30 @@ pub struct Open {
     pub properties: Option<Fields>,
 }
 
+// The fields, in order.
+macro_rules! open_fields {
+    ($($part:tt)*) => {
+        fields! { [$($part)*]
+            0 container_id "container-id" mandatory,
+            1 hostname "hostname" optional,
+            2 max_frame_size "max-frame-size" default(MaxFrameSize(u32::MAX)),
+            3 channel_max "channel-max" default(ChannelMax(u16::MAX)),
+            4 idle_time_out "idle-time-out" optional,
+            5 outgoing_locales "outgoing-locales" multiple,
+            6 incoming_locales "incoming-locales" multiple,
+            7 offered_capabilities "offered-capabilities" multiple,
+            8 desired_capabilities "desired-capabilities" multiple,
+            9 properties "properties" optional,
+        }
+    };
+}
+
 impl Open {
     /// The code and the name of its descriptor.
     pub const DESCRIPTOR: (u64, &'static str) = (0x10, "amqp:open:list");
+
+    /// The standard's names of the fields, in order.
+    pub const FIELD_NAMES: &'static [&'static str] = open_fields!(names);
 }
 
 impl Composite for Open {
@@ -49,18 +67,7 @@ impl Composite for Open {
     fn table() -> Table {
         Table {
             descriptor: Open::DESCRIPTOR,
-            fields: &[
-                FieldRule::Mandatory,
-                FieldRule::Optional,
-                FieldRule::Default,
-                FieldRule::Default,
-                FieldRule::Optional,
-                FieldRule::Multiple,
-                FieldRule::Multiple,
-                FieldRule::Multiple,
-                FieldRule::Multiple,
-                FieldRule::Optional,
-            ],
+            fields: open_fields!(rules),
         }
     }
 
@@ -85,51 +92,15 @@ impl Composite for Open {
         decoder: &mut Decoder<R>,
         alloc: Global,
     ) -> Result<(), Error> {
-        match index {
-            0 => read_into(&mut self.container_id, decoder, alloc),
-            1 => read_some(&mut self.hostname, decoder, alloc),
-            2 => read_into(&mut self.max_frame_size, decoder, alloc),
-            3 => read_into(&mut self.channel_max, decoder, alloc),
-            4 => read_some(&mut self.idle_time_out, decoder, alloc),
-            5 => read_multiple(&mut self.outgoing_locales, decoder, alloc),
-            6 => read_multiple(&mut self.incoming_locales, decoder, alloc),
-            7 => read_multiple(&mut self.offered_capabilities, decoder, alloc),
-            8 => read_multiple(&mut self.desired_capabilities, decoder, alloc),
-            9 => read_some(&mut self.properties, decoder, alloc),
-            _ => unreachable!(),
-        }
+        open_fields!(fill(self, index, decoder, alloc))
     }
 
     fn is_null_field(&self, index: usize) -> bool {
-        match index {
-            0 => false,
-            1 => self.hostname.is_none(),
-            2 => self.max_frame_size.0 == u32::MAX,
-            3 => self.channel_max.0 == u16::MAX,
-            4 => self.idle_time_out.is_none(),
-            5 => is_null_multiple(&self.outgoing_locales),
-            6 => is_null_multiple(&self.incoming_locales),
-            7 => is_null_multiple(&self.offered_capabilities),
-            8 => is_null_multiple(&self.desired_capabilities),
-            9 => self.properties.is_none(),
-            _ => unreachable!(),
-        }
+        open_fields!(is_null(self, index))
     }
 
     fn write_field(&self, index: usize, encoder: &mut Encoder) -> Result<(), Error> {
-        match index {
-            0 => self.container_id.serialize(encoder),
-            1 => self.hostname.serialize(encoder),
-            2 => self.max_frame_size.serialize(encoder),
-            3 => self.channel_max.serialize(encoder),
-            4 => self.idle_time_out.serialize(encoder),
-            5 => write_multiple(&self.outgoing_locales, encoder),
-            6 => write_multiple(&self.incoming_locales, encoder),
-            7 => write_multiple(&self.offered_capabilities, encoder),
-            8 => write_multiple(&self.desired_capabilities, encoder),
-            9 => self.properties.serialize(encoder),
-            _ => unreachable!(),
-        }
+        open_fields!(write(self, index, encoder))
     }
 }
 
@@ -141,16 +112,7 @@ impl Serialize for Open {
     }
 
     fn in_type(&self) {
-        self.container_id.in_type();
-        self.hostname.in_type();
-        self.max_frame_size.in_type();
-        self.channel_max.in_type();
-        self.idle_time_out.in_type();
-        self.outgoing_locales.in_type();
-        self.incoming_locales.in_type();
-        self.offered_capabilities.in_type();
-        self.desired_capabilities.in_type();
-        value_in_type(&self.properties);
+        open_fields!(in_type(self));
     }
 }
 

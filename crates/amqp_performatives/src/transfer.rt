@@ -1,12 +1,9 @@
 //! A transfer of a message (Part 2, section 2.7.5).
-ghost use Rattle.amqp_enums.specs.Types.{composite, one_term, refl, agreement, writing_of};
+ghost use Rattle.amqp_sums.specs.Types.{composite, one_term, refl, agreement, writing_of};
 ghost use Rattle.amqp_performatives.specs.Tables.{transfer};
 
-use amqp_codec::kernel::{
-    Composite, CompositeTerm, FieldRule, Table, read_into, read_some, value_in_type,
-    write_composite,
-};
-use amqp_codec::{ByteSource, Decoder, Encoder, Error, Serialize, SerializeTerm};
+use amqp_codec::kernel::{Composite, CompositeTerm, Table, write_composite};
+use amqp_codec::{ByteSource, Decoder, Encoder, Error, Serialize, SerializeTerm, fields};
 use amqp_delivery::DeliveryState;
 use amqp_restricted_types::{
     DeliveryNumber, DeliveryTag, Handle, MessageFormat, ReceiverSettleMode,
@@ -41,9 +38,31 @@ pub struct Transfer {
     pub batchable: bool,
 }
 
+// The fields, in order.
+macro_rules! transfer_fields {
+    ($($part:tt)*) => {
+        fields! { [$($part)*]
+            0 handle "handle" mandatory,
+            1 delivery_id "delivery-id" optional,
+            2 delivery_tag "delivery-tag" optional,
+            3 message_format "message-format" optional,
+            4 settled "settled" optional,
+            5 more "more" default(false),
+            6 rcv_settle_mode "rcv-settle-mode" optional,
+            7 state "state" optional,
+            8 resume "resume" default(false),
+            9 aborted "aborted" default(false),
+            10 batchable "batchable" default(false),
+        }
+    };
+}
+
 impl Transfer {
     /// The code and the name of its descriptor.
     pub const DESCRIPTOR: (u64, &'static str) = (0x14, "amqp:transfer:list");
+
+    /// The standard's names of the fields, in order.
+    pub const FIELD_NAMES: &'static [&'static str] = transfer_fields!(names);
 }
 
 impl Composite for Transfer {
@@ -52,19 +71,7 @@ impl Composite for Transfer {
     fn table() -> Table {
         Table {
             descriptor: Transfer::DESCRIPTOR,
-            fields: &[
-                FieldRule::Mandatory,
-                FieldRule::Optional,
-                FieldRule::Optional,
-                FieldRule::Optional,
-                FieldRule::Optional,
-                FieldRule::Default,
-                FieldRule::Optional,
-                FieldRule::Optional,
-                FieldRule::Default,
-                FieldRule::Default,
-                FieldRule::Default,
-            ],
+            fields: transfer_fields!(rules),
         }
     }
 
@@ -90,54 +97,15 @@ impl Composite for Transfer {
         decoder: &mut Decoder<R>,
         alloc: Global,
     ) -> Result<(), Error> {
-        match index {
-            0 => read_into(&mut self.handle, decoder, alloc),
-            1 => read_some(&mut self.delivery_id, decoder, alloc),
-            2 => read_some(&mut self.delivery_tag, decoder, alloc),
-            3 => read_some(&mut self.message_format, decoder, alloc),
-            4 => read_some(&mut self.settled, decoder, alloc),
-            5 => read_into(&mut self.more, decoder, alloc),
-            6 => read_some(&mut self.rcv_settle_mode, decoder, alloc),
-            7 => read_some(&mut self.state, decoder, alloc),
-            8 => read_into(&mut self.resume, decoder, alloc),
-            9 => read_into(&mut self.aborted, decoder, alloc),
-            10 => read_into(&mut self.batchable, decoder, alloc),
-            _ => unreachable!(),
-        }
+        transfer_fields!(fill(self, index, decoder, alloc))
     }
 
     fn is_null_field(&self, index: usize) -> bool {
-        match index {
-            0 => false,
-            1 => self.delivery_id.is_none(),
-            2 => self.delivery_tag.is_none(),
-            3 => self.message_format.is_none(),
-            4 => self.settled.is_none(),
-            5 => !self.more,
-            6 => self.rcv_settle_mode.is_none(),
-            7 => self.state.is_none(),
-            8 => !self.resume,
-            9 => !self.aborted,
-            10 => !self.batchable,
-            _ => unreachable!(),
-        }
+        transfer_fields!(is_null(self, index))
     }
 
     fn write_field(&self, index: usize, encoder: &mut Encoder) -> Result<(), Error> {
-        match index {
-            0 => self.handle.serialize(encoder),
-            1 => self.delivery_id.serialize(encoder),
-            2 => self.delivery_tag.serialize(encoder),
-            3 => self.message_format.serialize(encoder),
-            4 => self.settled.serialize(encoder),
-            5 => self.more.serialize(encoder),
-            6 => self.rcv_settle_mode.serialize(encoder),
-            7 => self.state.serialize(encoder),
-            8 => self.resume.serialize(encoder),
-            9 => self.aborted.serialize(encoder),
-            10 => self.batchable.serialize(encoder),
-            _ => unreachable!(),
-        }
+        transfer_fields!(write(self, index, encoder))
     }
 }
 
@@ -149,17 +117,7 @@ impl Serialize for Transfer {
     }
 
     fn in_type(&self) {
-        self.handle.in_type();
-        self.delivery_id.in_type();
-        self.delivery_tag.in_type();
-        self.message_format.in_type();
-        self.settled.in_type();
-        self.more.in_type();
-        self.rcv_settle_mode.in_type();
-        value_in_type(&self.state);
-        self.resume.in_type();
-        self.aborted.in_type();
-        self.batchable.in_type();
+        transfer_fields!(in_type(self));
     }
 }
 

@@ -7,7 +7,7 @@ use Rattle.amqp_decoder.specs.Reading.{RefusesRead}
 use Rattle.amqp_decoder.specs.Primitives.{ReadsValue, Means, PrimitiveFault}
 use Rattle.amqp_codec.specs.ExactType.{MeansExactly}
 use Rattle.amqp_codec.specs.PrimitiveTypes.{Base, IsOf}
-use Rattle.amqp_codec.specs.RefusalLaws.{refused_first}
+use Rattle.amqp_codec.specs.laws.Refusal.{refused_first}
 
 -- X: what is read, of which V is made; A: that as the model has it
 module _ {A X V : Type 0} (base : Base A) (of : X → A) (content : V → X) where

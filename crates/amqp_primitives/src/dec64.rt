@@ -2,7 +2,7 @@
 ghost use Rattle.std.specs.Prelude.{◌≡◌, refl};
 ghost use Rattle.std.proofs.lemmas.Slice.Eq.{bytes_eq-Decides};
 ghost use Rattle.amqp_codec.specs.Agreement.{one_term, agreement, writing_of};
-ghost use Rattle.amqp_codec.specs.KeyLaws.{key_of};
+ghost use Rattle.amqp_codec.specs.laws.Key.{key_of};
 ghost use Rattle.amqp_primitives.specs.Types.{decimal64_type};
 
 use amqp_codec::{

@@ -2,7 +2,7 @@
 ghost use Rattle.std.specs.Prelude.{◌≡◌, refl};
 ghost use Rattle.std.specs.Cmp.{signed_Decides};
 ghost use Rattle.amqp_codec.specs.Agreement.{one_term, agreement, writing_of};
-ghost use Rattle.amqp_codec.specs.KeyLaws.{key_of};
+ghost use Rattle.amqp_codec.specs.laws.Key.{key_of};
 ghost use Rattle.amqp_primitives.specs.Types.{timestamp_type};
 
 use amqp_codec::{

@@ -18,7 +18,7 @@ use Rattle.amqp_encoder.specs.Refused.{KnowsDepth, KnowDepths}
 use Rattle.amqp_encoder.proofs.Rows.{somewhere_in_as}
 use Rattle.amqp_encoder.proofs.Refused.{none_deeper, all_as_deep}
 use Rattle.amqp_codec.specs.Written.{IsProper, AreProper, AreUnwritable, AreWritable}
-use Rattle.amqp_codec.specs.ProperLaws.{everywhere_as, everywhere_in_as, proper_reads_each}
+use Rattle.amqp_codec.specs.laws.Proper.{everywhere_as, everywhere_in_as, proper_reads_each}
 
 -- no depth is too great
 abbrev IsSafe : (List ℕ → ℕ) → Type 0

@@ -10,7 +10,7 @@ use Rattle.amqp_decoder.specs.OtherSource.{elsewhere}
 use Rattle.amqp_decoder.specs.Steps.{IsExcused, IsReadError, Refused, Tries}
 use Rattle.amqp_decoder.specs.Reading.{RefusesRead, AnswersRead}
 use Rattle.amqp_codec.specs.Reading.{Reading, apart, start_within, IsGreatest, BeginsWithin, IsUnreadableWithin, BeginsWith, IsUnreadable}
-use Rattle.amqp_codec.specs.ReadingLaws.{is_read, read_one, begins_greatest, greatest_begins, unreadable_greatest}
+use Rattle.amqp_codec.specs.laws.Reading.{is_read, read_one, begins_greatest, greatest_begins, unreadable_greatest}
 
 module _ {T : Type 0} (limits : Limits) (r : Reading T) (input : List ℕ) (source : ℕ) (failed : Bool) where
   abbrev begin : State

@@ -16,7 +16,7 @@ use Rattle.amqp_encoder.proofs.Rows.{HasFound, HasFilled, filled_bytes}
 use Rattle.amqp_encoder.proofs.Rows as rows
 use Rattle.amqp_encoder.specs.Refused.{KnowDepths}
 use Rattle.amqp_codec.specs.Written.{GivesUp, AreFreeIfFilled, WritesTerms, AreProper, AreUnwritable, AreWritable, AreMeasured}
-use Rattle.amqp_codec.specs.ProperLaws.{proper_values}
+use Rattle.amqp_codec.specs.laws.Proper.{proper_values}
 use Rattle.amqp_read_write.proofs.Depths.{depths, unwritable}
 use Rattle.amqp_read_write.proofs.Depths as depth
 

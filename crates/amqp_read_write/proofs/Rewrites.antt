@@ -9,7 +9,7 @@ use Rattle.amqp_encoder.specs.Passes.{row_text}
 use Rattle.amqp_decoder.specs.Steps.{IsReadError}
 use Rattle.amqp_decoder.proofs.NotOutside.{read_is_outside}
 use Rattle.amqp_codec.specs.Reading.{Reading, BeginsWith, BeginsWithin, IsUnreadable, IsUnreadableWithin, greatest, start}
-use Rattle.amqp_codec.specs.ReadingLaws.{read_one}
+use Rattle.amqp_codec.specs.laws.Reading.{read_one}
 use Rattle.amqp_codec.specs.Rewriting.{Rewriting}
 use Rattle.amqp_read_write.specs.Rewritten.{IsRewritten, IsReadAgain, AreReadAgain, IsOneText, IsOfNoOther, IsUnchanged, IsShortest, AreShortest, IsUnwritten}
 use Rattle.amqp_read_write.specs.Rewritten.{IsRewrittenWithin, IsUnwrittenWithin, ReadsNoMore}

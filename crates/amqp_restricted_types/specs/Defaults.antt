@@ -2,7 +2,7 @@
 use Rattle.std.proofs.Common.{◌≡◌, Bool, true, false, not, refl}
 use Rattle.amqp_model.specs.FieldRules.{DefaultValue}
 use Rattle.amqp_codec.specs.FieldTypes.{field_type}
-use Rattle.amqp_enums.specs.Types.{boolean_type}
+use Rattle.amqp_sums.specs.Types.{boolean_type}
 
 pub not_sound : (v : Bool) → not v ≡ true → v ≡ false
 not_sound true e = cc

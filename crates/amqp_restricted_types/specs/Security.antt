@@ -1,6 +1,6 @@
 -- The restricted type of the security layer (Part 5, section 5.3.3): the number of each value.
 use Rattle.std.proofs.Common.{ℕ, ◌<◌, ◌^◌, rules}
-use Rattle.amqp_enums.specs.Types.{TermType, IsDistinct, ubyte_base, restricted_number}
+use Rattle.amqp_sums.specs.Types.{TermType, IsDistinct, ubyte_base, restricted_number}
 use Rattle.amqp_restricted_types.specs.declared.sasl_code.SaslCode.{SaslCode}
 use Rattle.amqp_restricted_types.specs.declared.sasl_code.SaslCode.TheVariants as code
 

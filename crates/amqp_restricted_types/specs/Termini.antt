@@ -1,6 +1,6 @@
 -- The restricted types of termini (Part 3, section 3.5): the number or the text of each value.
 use Rattle.std.proofs.Common.{ℕ, ◌<◌, ◌^◌, List, codes, rules}
-use Rattle.amqp_enums.specs.Types.{TermType, IsDistinct, uint_base, restricted_number, restricted_text}
+use Rattle.amqp_sums.specs.Types.{TermType, IsDistinct, uint_base, restricted_number, restricted_text}
 use Rattle.amqp_restricted_types.specs.declared.distribution_mode.DistributionMode.{DistributionMode}
 use Rattle.amqp_restricted_types.specs.declared.distribution_mode.DistributionMode.TheVariants as mode
 use Rattle.amqp_restricted_types.specs.declared.terminus_durability.TerminusDurability.{TerminusDurability}

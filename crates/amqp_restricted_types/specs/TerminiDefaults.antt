@@ -2,7 +2,7 @@
 use Rattle.std.proofs.Common.{◌≡◌, ◌<◌, ◌^◌, Bool, true, false, refl, arith}
 use Rattle.amqp_model.specs.FieldRules.{DefaultValue}
 use Rattle.amqp_codec.specs.FieldTypes.{field_type}
-use Rattle.amqp_enums.specs.Types.{uint_type}
+use Rattle.amqp_sums.specs.Types.{uint_type}
 use Rattle.amqp_restricted_types.specs.ToldByDefault.{numbered_default}
 use Rattle.amqp_restricted_types.specs.Termini.{terminus_durability_type, terminus_expiry_policy_type}
 use Rattle.amqp_restricted_types.specs.declared.terminus_durability.TerminusDurability.{TerminusDurability}

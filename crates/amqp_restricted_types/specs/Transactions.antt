@@ -1,6 +1,6 @@
 -- The restricted types of transactions (Part 4, section 4.5): the text of each value.
 use Rattle.std.proofs.Common.{ℕ, List, codes, rules}
-use Rattle.amqp_enums.specs.Types.{TermType, IsDistinct, restricted_text}
+use Rattle.amqp_sums.specs.Types.{TermType, IsDistinct, restricted_text}
 use Rattle.amqp_restricted_types.specs.declared.txn_capability.TxnCapability.{TxnCapability}
 use Rattle.amqp_restricted_types.specs.declared.txn_capability.TxnCapability.TheVariants as capability
 

@@ -1,6 +1,6 @@
 -- The types of connections, links and deliveries (Part 2, sections 2.7.1 and 2.8): the number of each value.
 use Rattle.std.proofs.Common.{ℕ, ◌<◌, ◌^◌, Bool, true, false, refl, rules}
-use Rattle.amqp_enums.specs.Types.{TermType, IsDistinct, boolean_base, ubyte_base, restricted_number, ushort_type, uint_type, via, unchanged}
+use Rattle.amqp_sums.specs.Types.{TermType, IsDistinct, boolean_base, ubyte_base, restricted_number, ushort_type, uint_type, via, unchanged}
 use Rattle.amqp_restricted_types.specs.declared.channel_max.ChannelMax.{ChannelMax}
 use Rattle.amqp_restricted_types.specs.declared.handle.Handle.{Handle}
 use Rattle.amqp_restricted_types.specs.declared.max_frame_size.MaxFrameSize.{MaxFrameSize}

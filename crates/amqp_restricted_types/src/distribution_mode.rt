@@ -1,16 +1,16 @@
 //! How a node distributes its messages (Part 3, section 3.5.7).
 ghost use Rattle.std.specs.Prelude.{◌≡◌, IfErr, IfOk, refl, string_bytes};
 ghost use Rattle.amqp_wire.specs.declared.error.Error.TheVariants.{Memory};
-ghost use Rattle.amqp_enums.specs.Restricted.{Converts};
+ghost use Rattle.amqp_sums.specs.Restricted.{Converts};
 ghost use Rattle.amqp_codec.specs.Agreement.{one_term, agreement, writing_of};
-ghost use Rattle.amqp_codec.specs.KeyLaws.{key_of, variants_decide};
+ghost use Rattle.amqp_codec.specs.laws.Key.{key_of, variants_decide};
 ghost use Rattle.amqp_restricted_types.specs.Termini.{distribution_mode_texts, distribution_mode_type};
 ghost use Rattle.amqp_restricted_types.specs.contracts.distribution_mode.DistributionMode.{the_type};
 
 use amqp_codec::{
     ByteSource, Decoder, DeserializeTerm, Encoder, Error, MapKey, Serialize, SerializeTerm, Symbol,
 };
-use amqp_enums::restricted::{RestrictedText, from_symbol, read_text, symbol_of, write_text};
+use amqp_sums::restricted::{RestrictedText, from_symbol, read_text, symbol_of, write_text};
 use std::alloc::Global;
 
 /// How a node gives its messages to links.

@@ -1,14 +1,14 @@
 //! Roles (Part 2, section 2.8.1).
 ghost use Rattle.std.specs.Prelude.{◌≡◌, refl};
 ghost use Rattle.amqp_codec.specs.Agreement.{one_term, agreement, writing_of};
-ghost use Rattle.amqp_codec.specs.KeyLaws.{key_of, variants_decide};
+ghost use Rattle.amqp_codec.specs.laws.Key.{key_of, variants_decide};
 ghost use Rattle.amqp_restricted_types.specs.Transport.{role_numbers, role_type};
 ghost use Rattle.amqp_restricted_types.specs.contracts.role.Role.{the_type};
 
 use amqp_codec::{
     ByteSource, Decoder, DeserializeTerm, Encoder, Error, MapKey, Serialize, SerializeTerm,
 };
-use amqp_enums::restricted::{RestrictedNumber, read_number, write_number};
+use amqp_sums::restricted::{RestrictedNumber, read_number, write_number};
 use std::alloc::Global;
 
 /// Which end of a link a peer is.

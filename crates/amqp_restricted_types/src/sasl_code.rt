@@ -1,14 +1,14 @@
 //! How a SASL exchange ended (Part 5, section 5.3.3.6).
 ghost use Rattle.std.specs.Prelude.{◌≡◌, refl};
 ghost use Rattle.amqp_codec.specs.Agreement.{one_term, agreement, writing_of};
-ghost use Rattle.amqp_codec.specs.KeyLaws.{key_of, variants_decide};
+ghost use Rattle.amqp_codec.specs.laws.Key.{key_of, variants_decide};
 ghost use Rattle.amqp_restricted_types.specs.Security.{sasl_code_numbers, sasl_code_type};
 ghost use Rattle.amqp_restricted_types.specs.contracts.sasl_code.SaslCode.{the_type};
 
 use amqp_codec::{
     ByteSource, Decoder, DeserializeTerm, Encoder, Error, MapKey, Serialize, SerializeTerm,
 };
-use amqp_enums::restricted::{RestrictedNumber, read_number, write_number};
+use amqp_sums::restricted::{RestrictedNumber, read_number, write_number};
 use std::alloc::Global;
 
 /// How a SASL exchange ended.

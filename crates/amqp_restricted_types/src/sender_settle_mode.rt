@@ -1,14 +1,14 @@
 //! How a sender settles deliveries (Part 2, section 2.8.2).
 ghost use Rattle.std.specs.Prelude.{◌≡◌, refl};
 ghost use Rattle.amqp_codec.specs.Agreement.{one_term, agreement, writing_of};
-ghost use Rattle.amqp_codec.specs.KeyLaws.{key_of, variants_decide};
+ghost use Rattle.amqp_codec.specs.laws.Key.{key_of, variants_decide};
 ghost use Rattle.amqp_restricted_types.specs.Transport.{sender_settle_mode_numbers, sender_settle_mode_type};
 ghost use Rattle.amqp_restricted_types.specs.contracts.sender_settle_mode.SenderSettleMode.{the_type};
 
 use amqp_codec::{
     ByteSource, Decoder, DeserializeTerm, Encoder, Error, MapKey, Serialize, SerializeTerm,
 };
-use amqp_enums::restricted::{RestrictedNumber, read_number, write_number};
+use amqp_sums::restricted::{RestrictedNumber, read_number, write_number};
 use std::alloc::Global;
 
 /// How the sender of a link settles its deliveries.

@@ -1,14 +1,14 @@
 //! What part of a terminus is durable (Part 3, section 3.5.5).
 ghost use Rattle.std.specs.Prelude.{refl};
 ghost use Rattle.amqp_codec.specs.Agreement.{one_term, agreement, writing_of};
-ghost use Rattle.amqp_codec.specs.KeyLaws.{key_of, variants_decide};
+ghost use Rattle.amqp_codec.specs.laws.Key.{key_of, variants_decide};
 ghost use Rattle.amqp_restricted_types.specs.Termini.{terminus_durability_numbers, terminus_durability_type};
 ghost use Rattle.amqp_restricted_types.specs.contracts.terminus_durability.TerminusDurability.{the_type};
 
 use amqp_codec::{
     ByteSource, Decoder, DeserializeTerm, Encoder, Error, MapKey, Serialize, SerializeTerm,
 };
-use amqp_enums::restricted::{RestrictedNumber, read_number, write_number};
+use amqp_sums::restricted::{RestrictedNumber, read_number, write_number};
 use std::alloc::Global;
 
 /// What part of a terminus is kept durably.

@@ -1,16 +1,16 @@
 //! When a terminus begins to expire (Part 3, section 3.5.6).
 ghost use Rattle.std.specs.Prelude.{◌≡◌, IfErr, IfOk, refl, string_bytes};
 ghost use Rattle.amqp_wire.specs.declared.error.Error.TheVariants.{Memory};
-ghost use Rattle.amqp_enums.specs.Restricted.{Converts};
+ghost use Rattle.amqp_sums.specs.Restricted.{Converts};
 ghost use Rattle.amqp_codec.specs.Agreement.{one_term, agreement, writing_of};
-ghost use Rattle.amqp_codec.specs.KeyLaws.{key_of, variants_decide};
+ghost use Rattle.amqp_codec.specs.laws.Key.{key_of, variants_decide};
 ghost use Rattle.amqp_restricted_types.specs.Termini.{terminus_expiry_policy_texts, terminus_expiry_policy_type};
 ghost use Rattle.amqp_restricted_types.specs.contracts.terminus_expiry_policy.TerminusExpiryPolicy.{the_type};
 
 use amqp_codec::{
     ByteSource, Decoder, DeserializeTerm, Encoder, Error, MapKey, Serialize, SerializeTerm, Symbol,
 };
-use amqp_enums::restricted::{RestrictedText, from_symbol, read_text, symbol_of, write_text};
+use amqp_sums::restricted::{RestrictedText, from_symbol, read_text, symbol_of, write_text};
 use std::alloc::Global;
 
 /// When a terminus begins to expire.

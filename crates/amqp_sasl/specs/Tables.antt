@@ -1,5 +1,5 @@
 -- The tables of the security layer (Part 5, section 5.3.3).
-use Rattle.amqp_enums.specs.Types.{codes, refl, string_type, symbol_type, mandatory, optional, none, field, ◌▸◌, plain, Table}
+use Rattle.amqp_sums.specs.Types.{codes, refl, string_type, symbol_type, mandatory, optional, none, field, ◌▸◌, plain, Table}
 use Rattle.amqp_containers.specs.MultipleFields.{mandatory_multiple}
 use Rattle.amqp_primitives.specs.Types.{binary_type}
 use Rattle.amqp_restricted_types.specs.Security.{sasl_code_type}

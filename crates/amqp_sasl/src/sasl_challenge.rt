@@ -1,9 +1,9 @@
 //! A question from the server (Part 5, section 5.3.3.3).
-ghost use Rattle.amqp_enums.specs.Types.{composite, one_term, refl, agreement, writing_of};
+ghost use Rattle.amqp_sums.specs.Types.{composite, one_term, refl, agreement, writing_of};
 ghost use Rattle.amqp_sasl.specs.Tables.{sasl_challenge};
 
-use amqp_codec::kernel::{Composite, CompositeTerm, FieldRule, Table, read_into, write_composite};
-use amqp_codec::{ByteSource, Decoder, Encoder, Error, Serialize, SerializeTerm};
+use amqp_codec::kernel::{Composite, CompositeTerm, Table, write_composite};
+use amqp_codec::{ByteSource, Decoder, Encoder, Error, Serialize, SerializeTerm, fields};
 use amqp_primitives::Binary;
 use std::alloc::Global;
 
@@ -14,9 +14,21 @@ pub struct SaslChallenge {
     pub challenge: Binary,
 }
 
+// The fields, in order.
+macro_rules! sasl_challenge_fields {
+    ($($part:tt)*) => {
+        fields! { [$($part)*]
+            0 challenge "challenge" mandatory,
+        }
+    };
+}
+
 impl SaslChallenge {
     /// The code and the name of its descriptor.
     pub const DESCRIPTOR: (u64, &'static str) = (0x42, "amqp:sasl-challenge:list");
+
+    /// The standard's names of the fields, in order.
+    pub const FIELD_NAMES: &'static [&'static str] = sasl_challenge_fields!(names);
 }
 
 impl Composite for SaslChallenge {
@@ -25,7 +37,7 @@ impl Composite for SaslChallenge {
     fn table() -> Table {
         Table {
             descriptor: SaslChallenge::DESCRIPTOR,
-            fields: &[FieldRule::Mandatory],
+            fields: sasl_challenge_fields!(rules),
         }
     }
 
@@ -41,24 +53,15 @@ impl Composite for SaslChallenge {
         decoder: &mut Decoder<R>,
         alloc: Global,
     ) -> Result<(), Error> {
-        match index {
-            0 => read_into(&mut self.challenge, decoder, alloc),
-            _ => unreachable!(),
-        }
+        sasl_challenge_fields!(fill(self, index, decoder, alloc))
     }
 
     fn is_null_field(&self, index: usize) -> bool {
-        match index {
-            0 => false,
-            _ => unreachable!(),
-        }
+        sasl_challenge_fields!(is_null(self, index))
     }
 
     fn write_field(&self, index: usize, encoder: &mut Encoder) -> Result<(), Error> {
-        match index {
-            0 => self.challenge.serialize(encoder),
-            _ => unreachable!(),
-        }
+        sasl_challenge_fields!(write(self, index, encoder))
     }
 }
 
@@ -70,7 +73,7 @@ impl Serialize for SaslChallenge {
     }
 
     fn in_type(&self) {
-        self.challenge.in_type();
+        sasl_challenge_fields!(in_type(self));
     }
 }
 

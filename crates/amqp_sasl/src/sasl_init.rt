@@ -1,11 +1,9 @@
 //! The client's choice of a mechanism (Part 5, section 5.3.3.2).
-ghost use Rattle.amqp_enums.specs.Types.{composite, one_term, refl, agreement, writing_of};
+ghost use Rattle.amqp_sums.specs.Types.{composite, one_term, refl, agreement, writing_of};
 ghost use Rattle.amqp_sasl.specs.Tables.{sasl_init};
 
-use amqp_codec::kernel::{
-    Composite, CompositeTerm, FieldRule, Table, read_into, read_some, write_composite,
-};
-use amqp_codec::{ByteSource, Decoder, Encoder, Error, Serialize, SerializeTerm, Symbol};
+use amqp_codec::kernel::{Composite, CompositeTerm, Table, write_composite};
+use amqp_codec::{ByteSource, Decoder, Encoder, Error, Serialize, SerializeTerm, Symbol, fields};
 use amqp_primitives::Binary;
 use std::alloc::Global;
 
@@ -20,9 +18,23 @@ pub struct SaslInit {
     pub hostname: Option<String>,
 }
 
+// The fields, in order.
+macro_rules! sasl_init_fields {
+    ($($part:tt)*) => {
+        fields! { [$($part)*]
+            0 mechanism "mechanism" mandatory,
+            1 initial_response "initial-response" optional,
+            2 hostname "hostname" optional,
+        }
+    };
+}
+
 impl SaslInit {
     /// The code and the name of its descriptor.
     pub const DESCRIPTOR: (u64, &'static str) = (0x41, "amqp:sasl-init:list");
+
+    /// The standard's names of the fields, in order.
+    pub const FIELD_NAMES: &'static [&'static str] = sasl_init_fields!(names);
 }
 
 impl Composite for SaslInit {
@@ -31,11 +43,7 @@ impl Composite for SaslInit {
     fn table() -> Table {
         Table {
             descriptor: SaslInit::DESCRIPTOR,
-            fields: &[
-                FieldRule::Mandatory,
-                FieldRule::Optional,
-                FieldRule::Optional,
-            ],
+            fields: sasl_init_fields!(rules),
         }
     }
 
@@ -53,30 +61,15 @@ impl Composite for SaslInit {
         decoder: &mut Decoder<R>,
         alloc: Global,
     ) -> Result<(), Error> {
-        match index {
-            0 => read_into(&mut self.mechanism, decoder, alloc),
-            1 => read_some(&mut self.initial_response, decoder, alloc),
-            2 => read_some(&mut self.hostname, decoder, alloc),
-            _ => unreachable!(),
-        }
+        sasl_init_fields!(fill(self, index, decoder, alloc))
     }
 
     fn is_null_field(&self, index: usize) -> bool {
-        match index {
-            0 => false,
-            1 => self.initial_response.is_none(),
-            2 => self.hostname.is_none(),
-            _ => unreachable!(),
-        }
+        sasl_init_fields!(is_null(self, index))
     }
 
     fn write_field(&self, index: usize, encoder: &mut Encoder) -> Result<(), Error> {
-        match index {
-            0 => self.mechanism.serialize(encoder),
-            1 => self.initial_response.serialize(encoder),
-            2 => self.hostname.serialize(encoder),
-            _ => unreachable!(),
-        }
+        sasl_init_fields!(write(self, index, encoder))
     }
 }
 
@@ -88,9 +81,7 @@ impl Serialize for SaslInit {
     }
 
     fn in_type(&self) {
-        self.mechanism.in_type();
-        self.initial_response.in_type();
-        self.hostname.in_type();
+        sasl_init_fields!(in_type(self));
     }
 }
 

@@ -2,12 +2,12 @@
 ghost use Rattle.std.specs.Prelude.{◌≡◌, ◌∷◌, [], IfErr, IfOk, codes, map, string_bytes};
 ghost use Rattle.std.specs.List.{AllZip};
 ghost use Rattle.amqp_wire.specs.declared.error.Error.TheVariants.{Memory};
-ghost use Rattle.amqp_enums.specs.Types.{composite, one_term, refl, agreement, writing_of};
+ghost use Rattle.amqp_sums.specs.Types.{composite, one_term, refl, agreement, writing_of};
 ghost use Rattle.amqp_sasl.specs.Tables.{sasl_mechanisms};
 
 use crate::constants::ANONYMOUS;
-use amqp_codec::kernel::{Composite, CompositeTerm, FieldRule, Table, write_composite};
-use amqp_codec::{ByteSource, Decoder, Encoder, Error, Serialize, SerializeTerm, Symbol};
+use amqp_codec::kernel::{Composite, CompositeTerm, Table, write_composite};
+use amqp_codec::{ByteSource, Decoder, Encoder, Error, Serialize, SerializeTerm, Symbol, fields};
 use amqp_containers::Array;
 use amqp_containers::multiple::{
     is_null_mandatory_multiple, read_mandatory_multiple, write_mandatory_multiple,
@@ -22,9 +22,21 @@ pub struct SaslMechanisms {
     pub sasl_server_mechanisms: Array<Symbol>,
 }
 
+// The fields, in order.
+macro_rules! sasl_mechanisms_fields {
+    ($($part:tt)*) => {
+        fields! { [$($part)*]
+            0 sasl_server_mechanisms "sasl-server-mechanisms" mandatory_multiple,
+        }
+    };
+}
+
 impl SaslMechanisms {
     /// The code and the name of its descriptor.
     pub const DESCRIPTOR: (u64, &'static str) = (0x40, "amqp:sasl-mechanisms:list");
+
+    /// The standard's names of the fields, in order.
+    pub const FIELD_NAMES: &'static [&'static str] = sasl_mechanisms_fields!(names);
 
     /// Returns the body that offers `ANONYMOUS` alone, in place of a default. The only error is `Memory`.
     pub fn default_in(alloc: Global) -> Result<SaslMechanisms, Error>
@@ -57,7 +69,7 @@ impl Composite for SaslMechanisms {
     fn table() -> Table {
         Table {
             descriptor: SaslMechanisms::DESCRIPTOR,
-            fields: &[FieldRule::MandatoryMultiple],
+            fields: sasl_mechanisms_fields!(rules),
         }
     }
 
@@ -73,24 +85,15 @@ impl Composite for SaslMechanisms {
         decoder: &mut Decoder<R>,
         alloc: Global,
     ) -> Result<(), Error> {
-        match index {
-            0 => read_mandatory_multiple(&mut self.sasl_server_mechanisms, decoder, alloc),
-            _ => unreachable!(),
-        }
+        sasl_mechanisms_fields!(fill(self, index, decoder, alloc))
     }
 
     fn is_null_field(&self, index: usize) -> bool {
-        match index {
-            0 => is_null_mandatory_multiple(&self.sasl_server_mechanisms),
-            _ => unreachable!(),
-        }
+        sasl_mechanisms_fields!(is_null(self, index))
     }
 
     fn write_field(&self, index: usize, encoder: &mut Encoder) -> Result<(), Error> {
-        match index {
-            0 => write_mandatory_multiple(&self.sasl_server_mechanisms, encoder),
-            _ => unreachable!(),
-        }
+        sasl_mechanisms_fields!(write(self, index, encoder))
     }
 }
 
@@ -102,7 +105,7 @@ impl Serialize for SaslMechanisms {
     }
 
     fn in_type(&self) {
-        self.sasl_server_mechanisms.in_type();
+        sasl_mechanisms_fields!(in_type(self));
     }
 }
 

@@ -1,11 +1,9 @@
 //! The end of the exchange (Part 5, section 5.3.3.5).
-ghost use Rattle.amqp_enums.specs.Types.{composite, one_term, refl, agreement, writing_of};
+ghost use Rattle.amqp_sums.specs.Types.{composite, one_term, refl, agreement, writing_of};
 ghost use Rattle.amqp_sasl.specs.Tables.{sasl_outcome};
 
-use amqp_codec::kernel::{
-    Composite, CompositeTerm, FieldRule, Table, read_into, read_some, write_composite,
-};
-use amqp_codec::{ByteSource, Decoder, Encoder, Error, Serialize, SerializeTerm};
+use amqp_codec::kernel::{Composite, CompositeTerm, Table, write_composite};
+use amqp_codec::{ByteSource, Decoder, Encoder, Error, Serialize, SerializeTerm, fields};
 use amqp_primitives::Binary;
 use amqp_restricted_types::SaslCode;
 use std::alloc::Global;
@@ -19,9 +17,22 @@ pub struct SaslOutcome {
     pub additional_data: Option<Binary>,
 }
 
+// The fields, in order.
+macro_rules! sasl_outcome_fields {
+    ($($part:tt)*) => {
+        fields! { [$($part)*]
+            0 code "code" mandatory,
+            1 additional_data "additional-data" optional,
+        }
+    };
+}
+
 impl SaslOutcome {
     /// The code and the name of its descriptor.
     pub const DESCRIPTOR: (u64, &'static str) = (0x44, "amqp:sasl-outcome:list");
+
+    /// The standard's names of the fields, in order.
+    pub const FIELD_NAMES: &'static [&'static str] = sasl_outcome_fields!(names);
 }
 
 impl Composite for SaslOutcome {
@@ -30,7 +41,7 @@ impl Composite for SaslOutcome {
     fn table() -> Table {
         Table {
             descriptor: SaslOutcome::DESCRIPTOR,
-            fields: &[FieldRule::Mandatory, FieldRule::Optional],
+            fields: sasl_outcome_fields!(rules),
         }
     }
 
@@ -47,27 +58,15 @@ impl Composite for SaslOutcome {
         decoder: &mut Decoder<R>,
         alloc: Global,
     ) -> Result<(), Error> {
-        match index {
-            0 => read_into(&mut self.code, decoder, alloc),
-            1 => read_some(&mut self.additional_data, decoder, alloc),
-            _ => unreachable!(),
-        }
+        sasl_outcome_fields!(fill(self, index, decoder, alloc))
     }
 
     fn is_null_field(&self, index: usize) -> bool {
-        match index {
-            0 => false,
-            1 => self.additional_data.is_none(),
-            _ => unreachable!(),
-        }
+        sasl_outcome_fields!(is_null(self, index))
     }
 
     fn write_field(&self, index: usize, encoder: &mut Encoder) -> Result<(), Error> {
-        match index {
-            0 => self.code.serialize(encoder),
-            1 => self.additional_data.serialize(encoder),
-            _ => unreachable!(),
-        }
+        sasl_outcome_fields!(write(self, index, encoder))
     }
 }
 
@@ -79,8 +78,7 @@ impl Serialize for SaslOutcome {
     }
 
     fn in_type(&self) {
-        self.code.in_type();
-        self.additional_data.in_type();
+        sasl_outcome_fields!(in_type(self));
     }
 }
 

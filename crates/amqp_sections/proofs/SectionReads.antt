@@ -18,10 +18,10 @@ use Rattle.amqp_decoder.proofs.NothingInside.{opens_described_same}
 use Rattle.amqp_decoder.proofs.OneReading.{stands_same, value_same}
 use Rattle.amqp_codec.specs.TermType.{TermType}
 use Rattle.amqp_codec.specs.Wrappers.{Holds}
-use Rattle.amqp_codec.specs.CompositeLaws.{only_place, first_place}
+use Rattle.amqp_codec.specs.laws.Composite.{only_place, first_place}
 use Rattle.amqp_codec.specs.Members.{MemberFault, no_member, in_member, not_ended}
-use Rattle.amqp_codec.specs.RefusalLaws.{no_memory, described_going, described_sound, refused_first, refused_later}
-use Rattle.amqp_codec.specs.DescribedPairTypeLaws.{pair_cases, means_as}
+use Rattle.amqp_codec.specs.laws.Refusal.{no_memory, described_going, described_sound, refused_first, refused_later}
+use Rattle.amqp_codec.specs.laws.DescribedPairType.{pair_cases, means_as}
 use Rattle.amqp_sections.specs.SectionType.{Naming, IsCalled, called, content_of, behind, section_of}
 
 named_called : (c : Naming) (d : Descriptor) → is_named d (c.code, c.name) ≡ true → IsCalled c d

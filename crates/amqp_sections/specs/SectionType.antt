@@ -4,13 +4,13 @@ use Rattle.std.proofs.lemmas.Bool.{ltb-true}
 use Rattle.amqp_model.specs.Term.{Descriptor, name, code}
 use Rattle.amqp_model.specs.Composite.{Table, Describes}
 use Rattle.amqp_model.specs.FieldType.{Norm, normal, unchanged, by_norm}
-use Rattle.amqp_decoder.specs.OtherSource.{value}
+use Rattle.amqp_decoder.specs.laws.OtherSource.{value}
 use Rattle.amqp_decoder.specs.Primitives.{ReadsValue}
 use Rattle.amqp_codec.specs.TermType.{TermType}
 use Rattle.amqp_codec.specs.Wrappers.{Holds, norm_held, via}
 use Rattle.amqp_codec.specs.Fieldless.{fieldless}
 use Rattle.amqp_codec.specs.Composite.{table_of}
-use Rattle.amqp_codec.specs.DescriptorLaws.{descriptor_short}
+use Rattle.amqp_codec.specs.laws.Descriptor.{descriptor_short}
 use Rattle.amqp_codec.specs.DescribedPairMeaning.{DescriptorType, norm_second}
 use Rattle.amqp_codec.specs.DescribedPairType.{described_pair}
 use Rattle.amqp_codec.specs.DescribedPairWriting.{pair_writing, pair_agreement}

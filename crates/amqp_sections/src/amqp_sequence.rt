@@ -6,10 +6,14 @@ ghost use Rattle.amqp_sections.specs.Sections.{sequence_naming, in_sequence};
 
 use crate::section::{Section, read_section, write_section};
 use amqp_codec::{ByteSource, Decoder, DeserializeTerm, Encoder, Error, Serialize, SerializeTerm};
+use amqp_wire::section_code;
 use std::alloc::Global;
 
 // The code and the name of its descriptor.
-const DESCRIPTOR: (u64, &str) = (0x76, "amqp:amqp-sequence:list");
+const DESCRIPTOR: (u64, &str) = (
+    section_code::AMQP_SEQUENCE as u64,
+    "amqp:amqp-sequence:list",
+);
 
 /// A list of values of one type that is the body of a message, or a part of it (Part 3, section 3.2.7). `clone` allocates; its values are
 /// clones of the values, in order.

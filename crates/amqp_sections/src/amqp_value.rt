@@ -5,10 +5,11 @@ ghost use Rattle.amqp_sections.specs.Sections.{value_naming, in_value};
 
 use crate::section::{Section, read_section, write_section};
 use amqp_codec::{ByteSource, Decoder, DeserializeTerm, Encoder, Error, Serialize, SerializeTerm};
+use amqp_wire::section_code;
 use std::alloc::Global;
 
 // The code and the name of its descriptor.
-const DESCRIPTOR: (u64, &str) = (0x77, "amqp:amqp-value:*");
+const DESCRIPTOR: (u64, &str) = (section_code::AMQP_VALUE as u64, "amqp:amqp-value:*");
 
 /// A value of one type that is the body of a message (Part 3, section 3.2.8). If that type has kept bytes, so has the section: those after
 /// its descriptor. A clone holds a clone of the value.

@@ -12,6 +12,7 @@ use crate::section::{Section, read_section, write_section};
 use amqp_codec::{ByteSource, Decoder, DeserializeTerm, Encoder, Error, Serialize, SerializeTerm};
 use amqp_primitives::Binary;
 use amqp_values::Value;
+use amqp_wire::section_code;
 use std::alloc::Global;
 
 /// Bytes that are the body of a message, or a part of it (Part 3, section 3.2.6).
@@ -20,7 +21,7 @@ pub struct Data(pub Binary);
 
 impl Data {
     /// The code and the name of its descriptor.
-    pub const DESCRIPTOR: (u64, &'static str) = (0x75, "amqp:data:binary");
+    pub const DESCRIPTOR: (u64, &'static str) = (section_code::DATA as u64, "amqp:data:binary");
 
     /// Returns data with a copy of these bytes. The only error is `Memory`.
     pub fn copy_of(bytes: &[u8], alloc: Global) -> Result<Data, Error>

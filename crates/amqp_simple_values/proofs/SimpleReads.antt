@@ -1,6 +1,6 @@
 -- A simple value is read: its first code is looked at, and then a value of any kind is read that is no list, map or array.
 use Rattle.std.proofs.Common.{◌≡◌, inr, ℕ, true, false, refl, sym, ap, ◌∙◌, subst}
-use Rattle.amqp_model.specs.ItemLaws.{clash}
+use Rattle.amqp_model.specs.laws.Item.{clash}
 use Rattle.amqp_wire.specs.declared.error.Error.{Error}
 use Rattle.amqp_wire.specs.declared.error.Error.TheVariants.{InvalidValue}
 use Rattle.amqp_decoder.specs.State.{State}
@@ -10,14 +10,14 @@ use Rattle.amqp_decoder.specs.Primitives.{standing, ReadsValue}
 use Rattle.amqp_decoder.proofs.Steps.{answered_later, first_kept}
 use Rattle.amqp_decoder.proofs.Peeks.{value-peeked}
 use Rattle.amqp_codec.specs.TreeType.{tree_term}
-use Rattle.amqp_codec.specs.RefusalLaws.{NoneStands, refused_later}
-use Rattle.amqp_codec.specs.PeekLaws.{peeked_failed, peeked_going}
+use Rattle.amqp_codec.specs.laws.Refusal.{NoneStands, refused_later}
+use Rattle.amqp_codec.specs.laws.Peek.{peeked_failed, peeked_going}
 use Rattle.amqp_codec.specs.EitherMeaning.{in_first, in_second}
 use Rattle.amqp_kinds.specs.Kinds.{term_kind, kind_at}
-use Rattle.amqp_kinds.specs.KindLaws.{kind_there}
+use Rattle.amqp_kinds.specs.laws.Kind.{kind_there}
 use Rattle.amqp_values.specs.declared.value.Value.{Value}
 use Rattle.amqp_values.specs.Values.{value_term}
-use Rattle.amqp_values.specs.ValuesLaws.{values_are_trees}
+use Rattle.amqp_values.specs.laws.Values.{values_are_trees}
 use Rattle.amqp_values.specs.ValueMembers.{ValueMeans}
 use Rattle.amqp_values.specs.ValueType.{value_type}
 use Rattle.amqp_simple_values.specs.declared.simple.SimpleValue.{SimpleValue}

@@ -2,7 +2,7 @@
 use Rattle.std.specs.Prelude.{Bool}
 use Rattle.std.specs.Cmp.{IsPartialEquivalence, IsEquivalence}
 use Rattle.amqp_values.specs.Equality.{value_eq}
-use Rattle.amqp_values.specs.EqualityLaws.{values_per, values_equiv}
+use Rattle.amqp_values.specs.laws.Equality.{values_per, values_equiv}
 use Rattle.amqp_simple_values.specs.declared.simple.SimpleValue.{SimpleValue}
 use Rattle.amqp_simple_values.specs.Simple.{as_value}
 

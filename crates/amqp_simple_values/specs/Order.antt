@@ -5,9 +5,9 @@ use Rattle.std.specs.Hash as fed
 use Rattle.std.specs.declared.cmp.Ordering.{Ordering}
 use Rattle.std.specs.Ordering.{as_partial_cmp, eq_by_cmp}
 use Rattle.std.specs.Cmp.{IsTotalOrder, IsPartialOrder, on_total, on_po}
-use Rattle.amqp_values.specs.EqualityLaws.{values_decide}
+use Rattle.amqp_values.specs.laws.Equality.{values_decide}
 use Rattle.amqp_values.specs.Order.{value_cmp}
-use Rattle.amqp_values.specs.OrderLaws.{values_po, values_total, values_tied}
+use Rattle.amqp_values.specs.laws.Order.{values_po, values_total, values_tied}
 use Rattle.amqp_values.specs.Hashed.{value_fed, values_alike}
 use Rattle.amqp_simple_values.specs.declared.simple.SimpleValue.{SimpleValue}
 use Rattle.amqp_simple_values.specs.Simple.{as_value, simple_term}

@@ -4,6 +4,7 @@ ghost use Rattle.amqp_values.specs.FormatCodes.{format_code};
 ghost use Rattle.amqp_simple_values.specs.Simple.{simple_term};
 
 use crate::SimpleValue;
+use amqp_wire::format_code as code;
 
 impl SimpleValue {
     /// Returns the code of the value's kind, which items of an array have (Part 1, sections 1.2.4 and 1.6). It is the code with the widest
@@ -12,26 +13,26 @@ impl SimpleValue {
         ensures { result ≡ format_code (simple_term self.now) }
     {
         match self {
-            SimpleValue::Null => 0x40,
-            SimpleValue::Bool(_) => 0x56,
-            SimpleValue::Ubyte(_) => 0x50,
-            SimpleValue::Ushort(_) => 0x60,
-            SimpleValue::Uint(_) => 0x70,
-            SimpleValue::Ulong(_) => 0x80,
-            SimpleValue::Byte(_) => 0x51,
-            SimpleValue::Short(_) => 0x61,
-            SimpleValue::Int(_) => 0x71,
-            SimpleValue::Long(_) => 0x81,
-            SimpleValue::Decimal32(_) => 0x74,
-            SimpleValue::Decimal64(_) => 0x84,
-            SimpleValue::Decimal128(_) => 0x94,
-            SimpleValue::Char(_) => 0x73,
-            SimpleValue::Timestamp(_) => 0x83,
-            SimpleValue::Uuid(_) => 0x98,
-            SimpleValue::Binary(_) => 0xb0,
-            SimpleValue::String(_) => 0xb1,
-            SimpleValue::Symbol(_) => 0xb3,
-            SimpleValue::Described(_) => 0x00,
+            SimpleValue::Null => code::NULL,
+            SimpleValue::Bool(_) => code::BOOLEAN,
+            SimpleValue::Ubyte(_) => code::UBYTE,
+            SimpleValue::Ushort(_) => code::USHORT,
+            SimpleValue::Uint(_) => code::UINT,
+            SimpleValue::Ulong(_) => code::ULONG,
+            SimpleValue::Byte(_) => code::BYTE,
+            SimpleValue::Short(_) => code::SHORT,
+            SimpleValue::Int(_) => code::INT,
+            SimpleValue::Long(_) => code::LONG,
+            SimpleValue::Decimal32(_) => code::DECIMAL_32,
+            SimpleValue::Decimal64(_) => code::DECIMAL_64,
+            SimpleValue::Decimal128(_) => code::DECIMAL_128,
+            SimpleValue::Char(_) => code::CHAR,
+            SimpleValue::Timestamp(_) => code::TIMESTAMP,
+            SimpleValue::Uuid(_) => code::UUID,
+            SimpleValue::Binary(_) => code::BINARY_32,
+            SimpleValue::String(_) => code::STRING_32,
+            SimpleValue::Symbol(_) => code::SYMBOL_32,
+            SimpleValue::Described(_) => code::DESCRIBED,
         }
     }
 }

@@ -1,7 +1,7 @@
 //! The order and the hash of simple values, which are those of the values that they are.
 ghost use Rattle.std.specs.Prelude.{◌≡◌, refl};
 ghost use Rattle.std.specs.Ordering.{as_partial_cmp};
-ghost use Rattle.amqp_codec.specs.KeyLaws.{key_of};
+ghost use Rattle.amqp_codec.specs.laws.Key.{key_of};
 ghost use Rattle.amqp_values.specs.Labels.{label, label_of};
 ghost use Rattle.amqp_simple_values.specs.Simple.{simple_term};
 ghost use Rattle.amqp_simple_values.specs.Order.{simple_cmp, simple_po, simple_total, simple_tied};

@@ -1,9 +1,9 @@
 -- The tables of sources, targets and lifetimes (Part 3, section 3.5) and of coordinators (Part 4, section 4.5.1).
 use Rattle.std.specs.Prelude.{option_map}
 use Rattle.amqp_model.specs.FieldType.{normal}
-use Rattle.amqp_enums.specs.Types.{inl, inr, codes, refl, by_norm, TermType, boolean_type, uint_type, string_type, symbol_type}
-use Rattle.amqp_enums.specs.Types.{optional, default, none, field, ◌▸◌, Table, fieldless}
-use Rattle.amqp_enums.specs.Types.{Choices, no_more, member, Chosen, SumOf, sum_of}
+use Rattle.amqp_sums.specs.Types.{inl, inr, codes, refl, by_norm, TermType, boolean_type, uint_type, string_type, symbol_type}
+use Rattle.amqp_sums.specs.Types.{optional, default, none, field, ◌▸◌, Table, fieldless}
+use Rattle.amqp_sums.specs.Types.{Choices, no_more, member, Chosen, SumOf, sum_of}
 use Rattle.amqp_containers.specs.MultipleFields.{multiple, normal_multiple}
 use Rattle.amqp_restricted_types.specs.Defaults.{false_by_default}
 use Rattle.amqp_restricted_types.specs.Termini.{terminus_durability_type, terminus_expiry_policy_type, distribution_mode_type}

@@ -1,10 +1,10 @@
 //! Coordinators of transactions (Part 4, section 4.5.1).
 ghost use Rattle.std.specs.Prelude.{◌≡◌, None};
-ghost use Rattle.amqp_enums.specs.Types.{composite, one_term, refl, agreement, writing_of};
+ghost use Rattle.amqp_sums.specs.Types.{composite, one_term, refl, agreement, writing_of};
 ghost use Rattle.amqp_termini.specs.Tables.{coordinator};
 
-use amqp_codec::kernel::{Composite, CompositeTerm, FieldRule, Table, write_composite};
-use amqp_codec::{ByteSource, Decoder, Encoder, Error, Serialize, SerializeTerm};
+use amqp_codec::kernel::{Composite, CompositeTerm, Table, write_composite};
+use amqp_codec::{ByteSource, Decoder, Encoder, Error, Serialize, SerializeTerm, fields};
 use amqp_containers::Array;
 use amqp_containers::multiple::{is_null_multiple, read_multiple, write_multiple};
 use amqp_restricted_types::TxnCapability;
@@ -17,9 +17,21 @@ pub struct Coordinator {
     pub capabilities: Option<Array<TxnCapability>>,
 }
 
+// The fields, in order.
+macro_rules! coordinator_fields {
+    ($($part:tt)*) => {
+        fields! { [$($part)*]
+            0 capabilities "capabilities" multiple,
+        }
+    };
+}
+
 impl Coordinator {
     /// The code and the name of its descriptor.
     pub const DESCRIPTOR: (u64, &'static str) = (0x30, "amqp:coordinator:list");
+
+    /// The standard's names of the fields, in order.
+    pub const FIELD_NAMES: &'static [&'static str] = coordinator_fields!(names);
 
     /// Returns a coordinator with these capabilities.
     pub fn new(capabilities: Option<Array<TxnCapability>>) -> Coordinator
@@ -44,7 +56,7 @@ impl Composite for Coordinator {
     fn table() -> Table {
         Table {
             descriptor: Coordinator::DESCRIPTOR,
-            fields: &[FieldRule::Multiple],
+            fields: coordinator_fields!(rules),
         }
     }
 
@@ -58,24 +70,15 @@ impl Composite for Coordinator {
         decoder: &mut Decoder<R>,
         alloc: Global,
     ) -> Result<(), Error> {
-        match index {
-            0 => read_multiple(&mut self.capabilities, decoder, alloc),
-            _ => unreachable!(),
-        }
+        coordinator_fields!(fill(self, index, decoder, alloc))
     }
 
     fn is_null_field(&self, index: usize) -> bool {
-        match index {
-            0 => is_null_multiple(&self.capabilities),
-            _ => unreachable!(),
-        }
+        coordinator_fields!(is_null(self, index))
     }
 
     fn write_field(&self, index: usize, encoder: &mut Encoder) -> Result<(), Error> {
-        match index {
-            0 => write_multiple(&self.capabilities, encoder),
-            _ => unreachable!(),
-        }
+        coordinator_fields!(write(self, index, encoder))
     }
 }
 
@@ -87,7 +90,7 @@ impl Serialize for Coordinator {
     }
 
     fn in_type(&self) {
-        self.capabilities.in_type();
+        coordinator_fields!(in_type(self));
     }
 }
 

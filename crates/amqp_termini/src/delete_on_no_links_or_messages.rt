@@ -1,5 +1,5 @@
 //! Lifetime of a node: delete on no links or messages (Part 3, section 3.5.13).
-ghost use Rattle.amqp_enums.specs.Types.{composite, has_none, one_term, refl, agreement, writing_of};
+ghost use Rattle.amqp_sums.specs.Types.{composite, has_none, one_term, refl, agreement, writing_of};
 ghost use Rattle.amqp_termini.specs.Tables.{delete_on_no_links_or_messages};
 
 use amqp_codec::kernel::{CompositeTerm, Fieldless, write_composite};

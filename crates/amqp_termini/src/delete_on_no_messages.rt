@@ -1,5 +1,5 @@
 //! Lifetime of a node: delete on no messages (Part 3, section 3.5.12).
-ghost use Rattle.amqp_enums.specs.Types.{composite, has_none, one_term, refl, agreement, writing_of};
+ghost use Rattle.amqp_sums.specs.Types.{composite, has_none, one_term, refl, agreement, writing_of};
 ghost use Rattle.amqp_termini.specs.Tables.{delete_on_no_messages};
 
 use amqp_codec::kernel::{CompositeTerm, Fieldless, write_composite};

@@ -1,11 +1,11 @@
 //! How long a node lives that was made for a link (Part 3, sections 3.5.10 to 3.5.13).
 ghost use Rattle.std.specs.Prelude.{◌≡◌};
-ghost use Rattle.amqp_enums.specs.Choices.{sum_one, sum_agreement, sum_writing};
+ghost use Rattle.amqp_sums.specs.Choices.{sum_one, sum_agreement, sum_writing};
 ghost use Rattle.amqp_termini.specs.Tables.{lifetime_policy, lifetime_policies};
 
 use crate::{DeleteOnClose, DeleteOnNoLinks, DeleteOnNoLinksOrMessages, DeleteOnNoMessages};
 use amqp_codec::{ByteSource, Decoder, DeserializeTerm, Encoder, Error, Serialize, SerializeTerm};
-use amqp_enums::{Sum, is_null_sum, read_as, read_sum, write_as};
+use amqp_sums::{Sum, is_null_sum, read_as, read_sum, write_as};
 use std::alloc::Global;
 
 /// How long a node lives that was made for a link. Any other descriptor is refused with `WrongDescriptor`.

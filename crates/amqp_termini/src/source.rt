@@ -1,15 +1,12 @@
 //! Sources (Part 3, section 3.5.3).
 ghost use Rattle.std.specs.Prelude.{◌≡◌};
-ghost use Rattle.amqp_enums.specs.Types.{composite, one_term, refl, agreement, writing_of};
+ghost use Rattle.amqp_sums.specs.Types.{composite, one_term, refl, agreement, writing_of};
 ghost use Rattle.amqp_termini.specs.Made.{default_source, source_at};
 ghost use Rattle.amqp_termini.specs.Tables.{source};
 
 use crate::{Address, FilterSet, NodeProperties, SourceBuilder};
-use amqp_codec::kernel::{
-    Composite, CompositeTerm, FieldRule, Table, read_into, read_some, value_in_type,
-    write_composite,
-};
-use amqp_codec::{ByteSource, Decoder, Encoder, Error, Serialize, SerializeTerm, Symbol};
+use amqp_codec::kernel::{Composite, CompositeTerm, Table, write_composite};
+use amqp_codec::{ByteSource, Decoder, Encoder, Error, Serialize, SerializeTerm, Symbol, fields};
 use amqp_containers::Array;
 use amqp_containers::multiple::{is_null_multiple, read_multiple, write_multiple};
 use amqp_delivery::Outcome;
@@ -43,9 +40,31 @@ pub struct Source {
     pub capabilities: Option<Array<Symbol>>,
 }
 
+// The fields, in order.
+macro_rules! source_fields {
+    ($($part:tt)*) => {
+        fields! { [$($part)*]
+            0 address "address" optional,
+            1 durable "durable" default(TerminusDurability::None),
+            2 expiry_policy "expiry-policy" default(TerminusExpiryPolicy::SessionEnd),
+            3 timeout "timeout" default(0),
+            4 dynamic "dynamic" default(false),
+            5 dynamic_node_properties "dynamic-node-properties" optional,
+            6 distribution_mode "distribution-mode" optional,
+            7 filter "filter" optional,
+            8 default_outcome "default-outcome" optional,
+            9 outcomes "outcomes" multiple,
+            10 capabilities "capabilities" multiple,
+        }
+    };
+}
+
 impl Source {
     /// The code and the name of its descriptor.
     pub const DESCRIPTOR: (u64, &'static str) = (0x28, "amqp:source:list");
+
+    /// The standard's names of the fields, in order.
+    pub const FIELD_NAMES: &'static [&'static str] = source_fields!(names);
 
     /// Returns a builder of a source, in which every field is omitted.
     pub fn builder() -> SourceBuilder
@@ -94,19 +113,7 @@ impl Composite for Source {
     fn table() -> Table {
         Table {
             descriptor: Source::DESCRIPTOR,
-            fields: &[
-                FieldRule::Optional,
-                FieldRule::Default,
-                FieldRule::Default,
-                FieldRule::Default,
-                FieldRule::Default,
-                FieldRule::Optional,
-                FieldRule::Optional,
-                FieldRule::Optional,
-                FieldRule::Optional,
-                FieldRule::Multiple,
-                FieldRule::Multiple,
-            ],
+            fields: source_fields!(rules),
         }
     }
 
@@ -120,54 +127,15 @@ impl Composite for Source {
         decoder: &mut Decoder<R>,
         alloc: Global,
     ) -> Result<(), Error> {
-        match index {
-            0 => read_some(&mut self.address, decoder, alloc),
-            1 => read_into(&mut self.durable, decoder, alloc),
-            2 => read_into(&mut self.expiry_policy, decoder, alloc),
-            3 => read_into(&mut self.timeout, decoder, alloc),
-            4 => read_into(&mut self.dynamic, decoder, alloc),
-            5 => read_some(&mut self.dynamic_node_properties, decoder, alloc),
-            6 => read_some(&mut self.distribution_mode, decoder, alloc),
-            7 => read_some(&mut self.filter, decoder, alloc),
-            8 => read_some(&mut self.default_outcome, decoder, alloc),
-            9 => read_multiple(&mut self.outcomes, decoder, alloc),
-            10 => read_multiple(&mut self.capabilities, decoder, alloc),
-            _ => unreachable!(),
-        }
+        source_fields!(fill(self, index, decoder, alloc))
     }
 
     fn is_null_field(&self, index: usize) -> bool {
-        match index {
-            0 => self.address.is_none(),
-            1 => matches!(self.durable, TerminusDurability::None),
-            2 => matches!(self.expiry_policy, TerminusExpiryPolicy::SessionEnd),
-            3 => self.timeout == 0,
-            4 => !self.dynamic,
-            5 => self.dynamic_node_properties.is_none(),
-            6 => self.distribution_mode.is_none(),
-            7 => self.filter.is_none(),
-            8 => self.default_outcome.is_none(),
-            9 => is_null_multiple(&self.outcomes),
-            10 => is_null_multiple(&self.capabilities),
-            _ => unreachable!(),
-        }
+        source_fields!(is_null(self, index))
     }
 
     fn write_field(&self, index: usize, encoder: &mut Encoder) -> Result<(), Error> {
-        match index {
-            0 => self.address.serialize(encoder),
-            1 => self.durable.serialize(encoder),
-            2 => self.expiry_policy.serialize(encoder),
-            3 => self.timeout.serialize(encoder),
-            4 => self.dynamic.serialize(encoder),
-            5 => self.dynamic_node_properties.serialize(encoder),
-            6 => self.distribution_mode.serialize(encoder),
-            7 => self.filter.serialize(encoder),
-            8 => self.default_outcome.serialize(encoder),
-            9 => write_multiple(&self.outcomes, encoder),
-            10 => write_multiple(&self.capabilities, encoder),
-            _ => unreachable!(),
-        }
+        source_fields!(write(self, index, encoder))
     }
 }
 
@@ -179,17 +147,7 @@ impl Serialize for Source {
     }
 
     fn in_type(&self) {
-        self.address.in_type();
-        self.durable.in_type();
-        self.expiry_policy.in_type();
-        self.timeout.in_type();
-        self.dynamic.in_type();
-        value_in_type(&self.dynamic_node_properties);
-        self.distribution_mode.in_type();
-        value_in_type(&self.filter);
-        value_in_type(&self.default_outcome);
-        self.outcomes.in_type();
-        self.capabilities.in_type();
+        source_fields!(in_type(self));
     }
 }
 

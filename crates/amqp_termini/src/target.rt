@@ -1,15 +1,12 @@
 //! Targets (Part 3, section 3.5.4).
 ghost use Rattle.std.specs.Prelude.{◌≡◌};
-ghost use Rattle.amqp_enums.specs.Types.{composite, one_term, refl, agreement, writing_of};
+ghost use Rattle.amqp_sums.specs.Types.{composite, one_term, refl, agreement, writing_of};
 ghost use Rattle.amqp_termini.specs.Made.{default_target, target_at};
 ghost use Rattle.amqp_termini.specs.Tables.{target};
 
 use crate::{Address, NodeProperties, TargetBuilder};
-use amqp_codec::kernel::{
-    Composite, CompositeTerm, FieldRule, Table, read_into, read_some, value_in_type,
-    write_composite,
-};
-use amqp_codec::{ByteSource, Decoder, Encoder, Error, Serialize, SerializeTerm, Symbol};
+use amqp_codec::kernel::{Composite, CompositeTerm, Table, write_composite};
+use amqp_codec::{ByteSource, Decoder, Encoder, Error, Serialize, SerializeTerm, Symbol, fields};
 use amqp_containers::Array;
 use amqp_containers::multiple::{is_null_multiple, read_multiple, write_multiple};
 use amqp_restricted_types::{Seconds, TerminusDurability, TerminusExpiryPolicy};
@@ -34,9 +31,27 @@ pub struct Target {
     pub capabilities: Option<Array<Symbol>>,
 }
 
+// The fields, in order.
+macro_rules! target_fields {
+    ($($part:tt)*) => {
+        fields! { [$($part)*]
+            0 address "address" optional,
+            1 durable "durable" default(TerminusDurability::None),
+            2 expiry_policy "expiry-policy" default(TerminusExpiryPolicy::SessionEnd),
+            3 timeout "timeout" default(0),
+            4 dynamic "dynamic" default(false),
+            5 dynamic_node_properties "dynamic-node-properties" optional,
+            6 capabilities "capabilities" multiple,
+        }
+    };
+}
+
 impl Target {
     /// The code and the name of its descriptor.
     pub const DESCRIPTOR: (u64, &'static str) = (0x29, "amqp:target:list");
+
+    /// The standard's names of the fields, in order.
+    pub const FIELD_NAMES: &'static [&'static str] = target_fields!(names);
 
     /// Returns a builder of a target, in which every field is omitted.
     pub fn builder() -> TargetBuilder
@@ -81,15 +96,7 @@ impl Composite for Target {
     fn table() -> Table {
         Table {
             descriptor: Target::DESCRIPTOR,
-            fields: &[
-                FieldRule::Optional,
-                FieldRule::Default,
-                FieldRule::Default,
-                FieldRule::Default,
-                FieldRule::Default,
-                FieldRule::Optional,
-                FieldRule::Multiple,
-            ],
+            fields: target_fields!(rules),
         }
     }
 
@@ -103,42 +110,15 @@ impl Composite for Target {
         decoder: &mut Decoder<R>,
         alloc: Global,
     ) -> Result<(), Error> {
-        match index {
-            0 => read_some(&mut self.address, decoder, alloc),
-            1 => read_into(&mut self.durable, decoder, alloc),
-            2 => read_into(&mut self.expiry_policy, decoder, alloc),
-            3 => read_into(&mut self.timeout, decoder, alloc),
-            4 => read_into(&mut self.dynamic, decoder, alloc),
-            5 => read_some(&mut self.dynamic_node_properties, decoder, alloc),
-            6 => read_multiple(&mut self.capabilities, decoder, alloc),
-            _ => unreachable!(),
-        }
+        target_fields!(fill(self, index, decoder, alloc))
     }
 
     fn is_null_field(&self, index: usize) -> bool {
-        match index {
-            0 => self.address.is_none(),
-            1 => matches!(self.durable, TerminusDurability::None),
-            2 => matches!(self.expiry_policy, TerminusExpiryPolicy::SessionEnd),
-            3 => self.timeout == 0,
-            4 => !self.dynamic,
-            5 => self.dynamic_node_properties.is_none(),
-            6 => is_null_multiple(&self.capabilities),
-            _ => unreachable!(),
-        }
+        target_fields!(is_null(self, index))
     }
 
     fn write_field(&self, index: usize, encoder: &mut Encoder) -> Result<(), Error> {
-        match index {
-            0 => self.address.serialize(encoder),
-            1 => self.durable.serialize(encoder),
-            2 => self.expiry_policy.serialize(encoder),
-            3 => self.timeout.serialize(encoder),
-            4 => self.dynamic.serialize(encoder),
-            5 => self.dynamic_node_properties.serialize(encoder),
-            6 => write_multiple(&self.capabilities, encoder),
-            _ => unreachable!(),
-        }
+        target_fields!(write(self, index, encoder))
     }
 }
 
@@ -150,13 +130,7 @@ impl Serialize for Target {
     }
 
     fn in_type(&self) {
-        self.address.in_type();
-        self.durable.in_type();
-        self.expiry_policy.in_type();
-        self.timeout.in_type();
-        self.dynamic.in_type();
-        value_in_type(&self.dynamic_node_properties);
-        self.capabilities.in_type();
+        target_fields!(in_type(self));
     }
 }
 

@@ -1,12 +1,12 @@
 //! The targets of links (Part 2, section 2.7.3; Part 4, section 4.5.1).
 ghost use Rattle.std.specs.Prelude.{◌≡◌, ok_or};
-ghost use Rattle.amqp_enums.specs.Choices.{sum_one, sum_agreement, sum_writing};
+ghost use Rattle.amqp_sums.specs.Choices.{sum_one, sum_agreement, sum_writing};
 ghost use Rattle.amqp_termini.specs.Made.{target_at, archetype_target, archetype_coordinator};
 ghost use Rattle.amqp_termini.specs.Tables.{target_archetype, target_archetypes};
 
 use crate::{Coordinator, Target};
 use amqp_codec::{ByteSource, Decoder, DeserializeTerm, Encoder, Error, Serialize, SerializeTerm};
-use amqp_enums::{Sum, is_null_sum, read_as, read_sum, write_as};
+use amqp_sums::{Sum, is_null_sum, read_as, read_sum, write_as};
 use std::alloc::Global;
 
 /// The target in an attach: a target, or a coordinator of transactions. Any other descriptor is refused with `WrongDescriptor`.

@@ -1,5 +1,5 @@
 //! The texts of error conditions, both ways (Part 2, sections 2.8.14 to 2.8.18; Part 4, section 4.5.8).
-use amqp_enums::restricted::{RestrictedText, from_symbol, symbol_of};
+use amqp_sums::restricted::{RestrictedText, from_symbol, symbol_of};
 use amqp_test_helpers::{are_equal, check_made, is_refused};
 use fe2o3_amqp_types::codec::{Error, Symbol, from_slice, to_vec};
 use fe2o3_amqp_types::definitions::{

@@ -2,7 +2,7 @@
 use Rattle.std.proofs.Common.{◌≡◌, ◌⊎◌, inl, inr, ℕ, Bool, true, false, List, [], ◌∷◌, Some, string_bytes, refl, ap, ◌∙◌}
 use Rattle.std.proofs.lemmas.Bool.{ne_eqb}
 use Rattle.amqp_model.specs.Term.{Primitive, ulong, symbol}
-use Rattle.amqp_model.specs.ItemLaws.{clash}
+use Rattle.amqp_model.specs.laws.Item.{clash}
 use Rattle.amqp_wire.specs.declared.error.Error.{Error}
 use Rattle.amqp_wire.specs.declared.symbol.Symbol.{Symbol}
 use Rattle.amqp_lookahead.specs.Kinds.{kind_of, kind_at, codes_of, ulongs, symbols}
@@ -15,8 +15,8 @@ use Rattle.amqp_decoder.proofs.Peeks.{value-peeked}
 use Rattle.amqp_codec.specs.PrimitiveTypes.{ulong_type}
 use Rattle.amqp_codec.specs.Wrappers.{symbol_type}
 use Rattle.amqp_codec.specs.EitherMeaning.{in_first, in_second}
-use Rattle.amqp_codec.specs.RefusalLaws.{no_memory, NoneStands, refused_later}
-use Rattle.amqp_codec.specs.PeekLaws.{peeked_failed, peeked_going}
+use Rattle.amqp_codec.specs.laws.Refusal.{no_memory, NoneStands, refused_later}
+use Rattle.amqp_codec.specs.laws.Peek.{peeked_failed, peeked_going}
 use Rattle.amqp_user_types.specs.declared.identifier.Identifier.{Identifier}
 use Rattle.amqp_user_types.specs.declared.identifier.Identifier.TheVariants as identifier
 use Rattle.amqp_user_types.specs.IdentifierType.{is_number, identifier_type}

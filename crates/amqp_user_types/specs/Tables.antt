@@ -1,5 +1,5 @@
 -- The table of a composite with fields of several values.
-use Rattle.amqp_enums.specs.Types.{codes, refl, by_norm, uint_type, ushort_type, symbol_type, mandatory, none, field, ◌▸◌, Table}
+use Rattle.amqp_sums.specs.Types.{codes, refl, by_norm, uint_type, ushort_type, symbol_type, mandatory, none, field, ◌▸◌, Table}
 use Rattle.amqp_containers.specs.MultipleFields.{multiple, normal_multiple}
 use Rattle.amqp_user_types.specs.declared.offer.Offer.{Offer}
 

@@ -1,5 +1,5 @@
 //! A composite that isn't of the standard, with a field of several values before a mandatory one, and one after it.
-ghost use Rattle.amqp_enums.specs.Types.{composite, one_term, refl, agreement, writing_of};
+ghost use Rattle.amqp_sums.specs.Types.{composite, one_term, refl, agreement, writing_of};
 ghost use Rattle.amqp_user_types.specs.Tables.{offer};
 
 use amqp_codec::kernel::{Composite, CompositeTerm, FieldRule, Table, read_into, write_composite};

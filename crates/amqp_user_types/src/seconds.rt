@@ -1,5 +1,5 @@
 //! A type of a user's own: a duration, which is written as a list of one uint.
-ghost use Rattle.amqp_enums.specs.Types.{field, list_of, mandatory, none, one_term, unchanged, refl, agreement, uint_type, writing_of};
+ghost use Rattle.amqp_sums.specs.Types.{field, list_of, mandatory, none, one_term, unchanged, refl, agreement, uint_type, writing_of};
 
 use fe2o3_amqp_types::codec::kernel::{FieldList, FieldRule, read_into, read_list, write_list};
 use fe2o3_amqp_types::codec::{

@@ -51,7 +51,8 @@ pub fn relay<T: DeserializeTerm>(input: &[u8], alloc: Global) -> Result<(Vec<u8>
     Ok(sent)
 }
 
-/// Returns whether a transfer says that it is settled. It does so exactly if the input begins with a transfer, unless an allocation fails.
+/// Returns whether a transfer says that it is settled. It does so exactly if the input begins with a transfer that nests at
+/// most 128 deep, unless an allocation fails.
 pub fn settled(input: &[u8], alloc: Global) -> Result<Option<bool>, Error>
     ensures found { IfOk result (λ settled. (sent : Transfer) × (n : ℕ) × IsSpelled (composite transfer) (take n input.now) sent
         × (settled ≡ sent.settled)) }

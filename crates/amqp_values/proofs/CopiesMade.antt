@@ -8,7 +8,7 @@ use Rattle.amqp_values.specs.declared.value.Value.{Value, List as ListOf, Map as
 use Rattle.amqp_values.specs.Copies.{terms_of_pair}
 use Rattle.amqp_values.specs.Equality.{turn_terms}
 use Rattle.amqp_values.specs.Values.{value_term, pairs_of}
-use Rattle.amqp_values.specs.ValuesLaws.{list_is, array_is, map_is}
+use Rattle.amqp_values.specs.laws.Values.{list_is, array_is, map_is}
 
 -- the terms of keys and values in turn
 abbrev in_turn : List (Term × Term) → Terms

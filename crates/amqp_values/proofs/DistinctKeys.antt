@@ -9,9 +9,9 @@ use Rattle.amqp_codec.specs.EqualKeys.{is_among_keys, has_equal_keys}
 use Rattle.amqp_values.specs.declared.value.Value.{Value}
 use Rattle.amqp_values.specs.Digests.{value_digest, digests_alike}
 use Rattle.amqp_values.specs.Equality.{value_eq, turn_terms}
-use Rattle.amqp_values.specs.EqualityLaws.{values_equiv}
+use Rattle.amqp_values.specs.laws.Equality.{values_equiv}
 use Rattle.amqp_values.specs.Order.{value_cmp}
-use Rattle.amqp_values.specs.OrderLaws.{values_tied}
+use Rattle.amqp_values.specs.laws.Order.{values_tied}
 use Rattle.amqp_values.specs.Maps.{HaveDistinctKeys}
 use Rattle.amqp_values.specs.Values.{value_term}
 

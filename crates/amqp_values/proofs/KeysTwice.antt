@@ -4,16 +4,16 @@ use Rattle.std.proofs.lemmas.List.{append-nil, append_assoc}
 use Rattle.amqp_codec.specs.EqualKeys.{is_among_keys, has_equal_keys}
 use Rattle.amqp_decoder.specs.State.{State}
 use Rattle.amqp_codec.specs.MapReading.{Pairs}
-use Rattle.amqp_codec.specs.MapReadingLaws.{others_more, pairs_still}
+use Rattle.amqp_codec.specs.laws.MapReading.{others_more, pairs_still}
 use Rattle.amqp_codec.specs.Pairs.{HaveOtherKeys}
 use Rattle.amqp_codec.specs.TreeType.{SameTree}
 use Rattle.amqp_codec.proofs.MapSteps.{KeyTwice}
-use Rattle.amqp_kinds.specs.TreeMeanings.{keys_differ, differ_keys, turns_canons}
+use Rattle.amqp_kinds.specs.laws.TreeMeanings.{keys_differ, differ_keys, turns_canons}
 use Rattle.amqp_values.specs.declared.value.Value.{Value}
 use Rattle.amqp_values.specs.Equality.{turn_terms}
 use Rattle.amqp_values.specs.Levels.{value_in}
 use Rattle.amqp_values.specs.Values.{value_term}
-use Rattle.amqp_values.specs.ValuesLaws.{values_are_trees}
+use Rattle.amqp_values.specs.laws.Values.{values_are_trees}
 use Rattle.amqp_values.proofs.ValueSteps.{key_new, key_known}
 
 abbrev Others : List (Value × Value) → Type 0

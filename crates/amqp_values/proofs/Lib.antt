@@ -11,3 +11,4 @@ pub mod Same
 mod ValuesFed
 pub mod ValuesWritten
 pub mod ValueSteps
+mod ValueMembersLaws

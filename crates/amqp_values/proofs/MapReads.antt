@@ -7,13 +7,13 @@ use Rattle.amqp_decoder.specs.State.{State}
 use Rattle.amqp_decoder.specs.Reading.{RefusesRead}
 use Rattle.amqp_decoder.specs.Primitives.{ReadsValue}
 use Rattle.amqp_decoder.specs.Containers.{Opens}
-use Rattle.amqp_codec.specs.RefusalLaws.{refused_first}
+use Rattle.amqp_codec.specs.laws.Refusal.{refused_first}
 use Rattle.amqp_codec.specs.MapReading.{ReadsPairsRow, ReadsFewer, PairsFault, MapFault, at_key, twice, at_value}
-use Rattle.amqp_kinds.specs.TreeMeanings.{map_means, means_map}
+use Rattle.amqp_kinds.specs.laws.TreeMeanings.{map_means, means_map}
 use Rattle.amqp_values.specs.declared.map.ValueMap.{ValueMap}
 use Rattle.amqp_values.specs.declared.value.Value.{Value, Map as MapOf}
 use Rattle.amqp_values.specs.Values.{value_term, pairs_of}
-use Rattle.amqp_values.specs.ValuesLaws.{values_are_trees, map_is}
+use Rattle.amqp_values.specs.laws.Values.{values_are_trees, map_is}
 use Rattle.amqp_values.specs.ValueMembers.{MeansPairs}
 use Rattle.amqp_values.specs.Levels.{value_in, IsBounded}
 use Rattle.amqp_values.specs.ValueType.{value_type}

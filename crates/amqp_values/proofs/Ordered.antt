@@ -17,7 +17,7 @@ use Rattle.amqp_values.specs.Values.{value_term}
 use Rattle.amqp_values.specs.Equality.{turn_terms}
 use Rattle.amqp_values.proofs.RootsDecide.{held, roots_decide}
 use Rattle.amqp_values.specs.Labels.{Label, label_of, label_cmp}
-use Rattle.amqp_values.specs.OrderLaws.{label_tied}
+use Rattle.amqp_values.specs.laws.Order.{label_tied}
 use Rattle.amqp_values.specs.Order.{no_tree, trees_cmp, terms_cmp, value_cmp}
 
 -- where labels differ, they decide

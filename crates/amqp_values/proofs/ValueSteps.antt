@@ -3,7 +3,7 @@ use Rattle.std.proofs.Common.{◌≡◌, inl, inr, ℕ, suc, ◌≤◌, Bool, tr
 use Rattle.std.proofs.Common.{Result, Ok, Err, refl, sym, ap, ◌∙◌, subst, arith}
 use Rattle.amqp_model.specs.Term.{Container, Descriptor, Term}
 use Rattle.amqp_model.specs.Standing.{Standing}
-use Rattle.amqp_model.specs.ItemLaws.{clash}
+use Rattle.amqp_model.specs.laws.Item.{clash}
 use Rattle.amqp_wire.specs.declared.error.Error.{Error}
 use Rattle.amqp_decoder.specs.declared.frame.Place.TheVariants.{InArray}
 use Rattle.amqp_decoder.specs.State.{State, in_container}
@@ -14,8 +14,8 @@ use Rattle.amqp_decoder.specs.Arrays.{no_items, shared_by, Starts, OpensArray}
 use Rattle.amqp_decoder.specs.Described.{OpensDescribed}
 use Rattle.amqp_codec.specs.Faults.{Faults}
 use Rattle.amqp_codec.specs.TermType.{TermType}
-use Rattle.amqp_codec.specs.RefusalLaws.{refused_first, no_memory}
-use Rattle.amqp_codec.specs.PeekLaws.{value_peeked}
+use Rattle.amqp_codec.specs.laws.Refusal.{refused_first, no_memory}
+use Rattle.amqp_codec.specs.laws.Peek.{value_peeked}
 use Rattle.amqp_codec.specs.ItemsReading.{ReadsEach, ReadsRow, RowFault}
 use Rattle.amqp_codec.specs.MapReading.{Pairs, ReadsPairsRow, PairsFault}
 use Rattle.amqp_codec.specs.Pairs.{IsNew}
@@ -24,10 +24,10 @@ use Rattle.amqp_codec.specs.TreeType.{SameTree}
 use Rattle.amqp_kinds.specs.declared.kind.Kind.{Kind}
 use Rattle.amqp_kinds.specs.Kinds.{kind_at}
 use Rattle.amqp_kinds.specs.KindReading.{IsMember, ReadsMember, KindFault, no_value, LevelFault, member_answers}
-use Rattle.amqp_kinds.specs.TreeMeanings.{turns_canons, not_among, among_not}
+use Rattle.amqp_kinds.specs.laws.TreeMeanings.{turns_canons, not_among, among_not}
 use Rattle.amqp_values.specs.declared.value.Value.{Value}
 use Rattle.amqp_values.specs.Values.{value_term}
-use Rattle.amqp_values.specs.ValuesLaws.{values_are_trees}
+use Rattle.amqp_values.specs.laws.Values.{values_are_trees}
 use Rattle.amqp_values.specs.Equality.{turn_terms}
 use Rattle.amqp_values.specs.ValueMembers.{ValueMeans}
 use Rattle.amqp_values.specs.Levels.{faults_of, faults_at, value_with, value_in, IsBounded}

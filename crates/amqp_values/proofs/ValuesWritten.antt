@@ -22,7 +22,7 @@ use Rattle.amqp_values.specs.declared.map.ValueMap.{ValueMap}
 use Rattle.amqp_values.specs.declared.value.Value.{Map as MapOf}
 use Rattle.amqp_values.specs.Values.{pairs_of}
 use Rattle.amqp_values.specs.Canon.{value_canon, pair_canon}
-use Rattle.amqp_values.specs.CanonLaws.{map_canon}
+use Rattle.amqp_values.specs.laws.Canon.{map_canon}
 use Rattle.amqp_values.specs.Equality.{turn_terms}
 
 -- a map without equal keys

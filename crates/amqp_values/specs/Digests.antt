@@ -6,7 +6,7 @@ use Rattle.std.specs.Hash.FoldHasher as folding
 use Rattle.amqp_model.specs.Term.{Container, list, map, array, Term, Terms, leaf, container, described, kept, barred, none, more}
 use Rattle.amqp_values.specs.declared.value.Value.{Value}
 use Rattle.amqp_values.specs.Equality.{value_eq}
-use Rattle.amqp_values.specs.EqualityLaws.{values_decide}
+use Rattle.amqp_values.specs.laws.Equality.{values_decide}
 use Rattle.amqp_values.specs.Labels.{Label, label_of}
 use Rattle.amqp_values.specs.Values.{value_term}
 

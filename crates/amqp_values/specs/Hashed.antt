@@ -6,7 +6,7 @@ use Rattle.amqp_values.specs.declared.map.ValueMap.{ValueMap}
 use Rattle.amqp_values.specs.declared.value.Value.{Value}
 use Rattle.amqp_values.specs.Values.{value_term, pairs_of}
 use Rattle.amqp_values.specs.Equality.{value_eq, turn_terms, map_eq}
-use Rattle.amqp_values.specs.EqualityLaws.{values_decide, maps_decide}
+use Rattle.amqp_values.specs.laws.Equality.{values_decide, maps_decide}
 use Rattle.amqp_values.specs.Labels.{label_of, label_fed}
 
 -- A term's label, and then the terms that it holds: those of a container one after another, and then a byte that is the place of no kind.

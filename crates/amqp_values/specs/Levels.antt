@@ -11,7 +11,7 @@ use Rattle.amqp_codec.specs.TreeType.{tree}
 use Rattle.amqp_codec.specs.PrimitiveTypes.{primitive_faults}
 use Rattle.amqp_codec.specs.ListOrArrayType.{items_faults}
 use Rattle.amqp_codec.specs.VecType.{list_opening}
-use Rattle.amqp_codec.specs.MapReadingLaws.{map_faults}
+use Rattle.amqp_codec.specs.laws.MapReading.{map_faults}
 use Rattle.amqp_containers.specs.ArrayType.{array_opening}
 use Rattle.amqp_described.specs.DescribedReading.{described_faults}
 use Rattle.amqp_kinds.specs.declared.kind.Kind.{Kind}
@@ -19,7 +19,7 @@ use Rattle.amqp_kinds.specs.declared.kind.Kind.TheVariants as kind
 use Rattle.amqp_kinds.specs.KindReading.{kind_faults}
 use Rattle.amqp_values.specs.declared.value.Value.{Value}
 use Rattle.amqp_values.specs.Values.{value_term}
-use Rattle.amqp_values.specs.ValuesLaws.{values_are_trees}
+use Rattle.amqp_values.specs.laws.Values.{values_are_trees}
 use Rattle.amqp_values.specs.ValueMembers.{ValueMeans}
 
 -- The type of values, with why none is read.

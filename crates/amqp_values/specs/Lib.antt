@@ -1,10 +1,7 @@
 pub mod Values
-pub mod ValuesLaws
 pub mod Equality
-pub mod EqualityLaws
 pub mod Typing
 pub mod Canon
-pub mod CanonLaws
 pub mod ValueWriting
 pub mod Maps
 pub mod Copies
@@ -12,12 +9,11 @@ pub mod FormatCodes
 pub mod Taken
 pub mod Boxed
 pub mod ValueMembers
-pub mod ValueMembersLaws
 pub mod Levels
 pub mod ValueType
 pub mod ValueMapType
 pub mod Labels
 pub mod Order
-pub mod OrderLaws
 pub mod Hashed
 pub mod Digests
+pub mod laws

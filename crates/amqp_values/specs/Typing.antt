@@ -3,13 +3,13 @@ use Rattle.std.proofs.Common.{List, [], ◌∷◌, map as map_list, All, sym, su
 use Rattle.std.proofs.lemmas.List.Elements.{All-head, All-tail}
 use Rattle.amqp_model.specs.Items.{terms_of}
 use Rattle.amqp_model.specs.Ranges.{Everywhere, EverywhereIn, IsValue}
-use Rattle.amqp_codec.specs.PairLaws.{pairs_even}
+use Rattle.amqp_codec.specs.laws.Pair.{pairs_even}
 use Rattle.amqp_containers.specs.declared.array.Array.{Array}
 use Rattle.amqp_values.specs.declared.map.ValueMap.{ValueMap}
 use Rattle.amqp_values.specs.declared.value.Value.{Value, List as ListOf, Map as MapOf, Array as ArrayOf}
 use Rattle.amqp_values.specs.Equality.{turn_terms}
 use Rattle.amqp_values.specs.Values.{value_term, pairs_of}
-use Rattle.amqp_values.specs.ValuesLaws.{list_is, array_is, map_is}
+use Rattle.amqp_values.specs.laws.Values.{list_is, array_is, map_is}
 
 -- Everything in the value is of its type.
 abbrev pub IsTyped : Value → Type 0

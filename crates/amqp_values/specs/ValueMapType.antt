@@ -2,13 +2,13 @@
 use Rattle.std.proofs.Common.{true, refl}
 use Rattle.amqp_model.specs.FieldType.{unchanged}
 use Rattle.amqp_codec.specs.Agreement.{Agreement, via_writing}
-use Rattle.amqp_codec.specs.MapReadingLaws.{map_faults}
+use Rattle.amqp_codec.specs.laws.MapReading.{map_faults}
 use Rattle.amqp_codec.specs.TermType.{TermType}
 use Rattle.amqp_codec.specs.Wrappers.{via}
 use Rattle.amqp_values.specs.declared.map.ValueMap.{ValueMap}
 use Rattle.amqp_values.specs.declared.value.Value.{Map as MapOf}
 use Rattle.amqp_values.specs.ValueWriting.{value_writing}
-use Rattle.amqp_values.specs.CanonLaws.{map_not_null}
+use Rattle.amqp_values.specs.laws.Canon.{map_not_null}
 use Rattle.amqp_values.specs.ValueType.{value_type}
 
 -- A map is as its value of any kind, and its faults are those of a map of values.

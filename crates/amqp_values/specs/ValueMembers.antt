@@ -11,7 +11,7 @@ use Rattle.amqp_described.specs.declared.described.Described.{Described}
 use Rattle.amqp_described.specs.DescribedType.{pair_of}
 use Rattle.amqp_values.specs.declared.value.Value.{Value}
 use Rattle.amqp_values.specs.Values.{value_term}
-use Rattle.amqp_values.specs.ValuesLaws.{values_are_trees}
+use Rattle.amqp_values.specs.laws.Values.{values_are_trees}
 
 -- The term means the value.
 abbrev pub ValueMeans : Standing → Term → Value → Type 0

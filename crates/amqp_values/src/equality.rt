@@ -6,7 +6,7 @@ ghost use Rattle.amqp_lookahead.specs.Members.{descriptor_of};
 ghost use Rattle.amqp_codec.specs.EqualKeys.{same_primitive, same_term, same_terms};
 ghost use Rattle.amqp_values.specs.Values.{value_term};
 ghost use Rattle.amqp_values.specs.Equality.{value_eq, map_eq, turn_terms};
-ghost use Rattle.amqp_values.specs.EqualityLaws.{values_per, values_equiv, maps_per, maps_equiv};
+ghost use Rattle.amqp_values.specs.laws.Equality.{values_per, values_equiv, maps_per, maps_equiv};
 
 use crate::{Value, ValueMap};
 use amqp_wire::Descriptor;

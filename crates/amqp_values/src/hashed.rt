@@ -2,10 +2,10 @@
 ghost use Rattle.std.specs.Prelude.{◌≡◌, map, refl};
 ghost use Rattle.std.specs.List.{fold};
 ghost use Rattle.amqp_model.specs.Items.{terms_of};
-ghost use Rattle.amqp_codec.specs.KeyLaws.{key_of};
+ghost use Rattle.amqp_codec.specs.laws.Key.{key_of};
 ghost use Rattle.amqp_values.specs.Values.{value_term};
 ghost use Rattle.amqp_values.specs.Equality.{turn_terms};
-ghost use Rattle.amqp_values.specs.EqualityLaws.{values_decide, maps_decide_values};
+ghost use Rattle.amqp_values.specs.laws.Equality.{values_decide, maps_decide_values};
 ghost use Rattle.amqp_values.specs.Hashed.{fed_term, fed_terms, value_fed, values_alike, map_fed, maps_alike};
 
 use crate::leaf::leaf_of;

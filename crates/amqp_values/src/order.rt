@@ -6,7 +6,7 @@ ghost use Rattle.amqp_model.specs.Items.{terms_of};
 ghost use Rattle.amqp_values.specs.Values.{value_term};
 ghost use Rattle.amqp_values.specs.Equality.{turn_terms};
 ghost use Rattle.amqp_values.specs.Order.{value_cmp, terms_cmp, map_cmp};
-ghost use Rattle.amqp_values.specs.OrderLaws.{values_po, values_total, values_tied, maps_po, maps_total, maps_tied};
+ghost use Rattle.amqp_values.specs.laws.Order.{values_po, values_total, values_tied, maps_po, maps_total, maps_tied};
 
 use crate::leaf::leaf_of;
 use crate::{Value, ValueMap};

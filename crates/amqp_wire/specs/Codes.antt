@@ -8,6 +8,10 @@ abbrev pub is_known : Format → Bool
 is_known unknown = false
 is_known _ = true
 
+-- 0 begins a described value, and any other code that is known a constructor.
+abbrev pub is_defined : ℕ → Bool
+is_defined c = cond (eqb c 0) true (is_known (format c))
+
 -- Part 1, sections 1.2, 1.6.11 and 1.6.12: 0x72 and 0x82 are a float's and a double's; 0 begins a described value.
 abbrev pub refusal_of : ℕ → Error
 refusal_of c =

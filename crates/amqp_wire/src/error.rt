@@ -108,82 +108,58 @@ pub enum Error {
 }
 
 impl Error {
+    // The number and the name.
+    fn row(&self) -> (u8, &'static str)
+        ensures number { result.0 ≡ number_of self.now }
+        ensures name { result.1.now ≡ name_of self.now }
+    {
+        match self {
+            Error::Cut => (1, "Cut"),
+            Error::UnknownCode(_) => (2, "UnknownCode"),
+            Error::FloatCode(_) => (3, "FloatCode"),
+            Error::Size => (4, "Size"),
+            Error::OddCount => (5, "OddCount"),
+            Error::DuplicateKey => (6, "DuplicateKey"),
+            Error::Surplus => (7, "Surplus"),
+            Error::Missing => (8, "Missing"),
+            Error::WrongDescriptor => (9, "WrongDescriptor"),
+            Error::Depth => (10, "Depth"),
+            Error::ZeroWidthItems => (11, "ZeroWidthItems"),
+            Error::BadBool => (12, "BadBool"),
+            Error::BadChar => (13, "BadChar"),
+            Error::BadUtf8 => (14, "BadUtf8"),
+            Error::NonAscii => (15, "NonAscii"),
+            Error::UnknownText => (16, "UnknownText"),
+            Error::UnknownNumber => (17, "UnknownNumber"),
+            Error::EmptyMultiple => (18, "EmptyMultiple"),
+            Error::EmptyBody => (19, "EmptyBody"),
+            Error::NotSection => (20, "NotSection"),
+            Error::Memory => (21, "Memory"),
+            Error::Read(_) => (22, "Read"),
+            Error::MixedArray => (23, "MixedArray"),
+            Error::TooLarge => (24, "TooLarge"),
+            Error::InvalidValue => (25, "InvalidValue"),
+            Error::LazyInArray => (26, "LazyInArray"),
+            Error::WrongType(_) => (27, "WrongType"),
+            Error::BadDescriptor => (28, "BadDescriptor"),
+            Error::Custom(_) => (29, "Custom"),
+            Error::Misplaced => (30, "Misplaced"),
+            Error::Limit => (31, "Limit"),
+        }
+    }
+
     /// Returns the number of the error, from 1 to 31, in the order of the variants.
     pub fn number(&self) -> u8
         ensures { result ≡ number_of self.now }
     {
-        match self {
-            Error::Cut => 1,
-            Error::UnknownCode(_) => 2,
-            Error::FloatCode(_) => 3,
-            Error::Size => 4,
-            Error::OddCount => 5,
-            Error::DuplicateKey => 6,
-            Error::Surplus => 7,
-            Error::Missing => 8,
-            Error::WrongDescriptor => 9,
-            Error::Depth => 10,
-            Error::ZeroWidthItems => 11,
-            Error::BadBool => 12,
-            Error::BadChar => 13,
-            Error::BadUtf8 => 14,
-            Error::NonAscii => 15,
-            Error::UnknownText => 16,
-            Error::UnknownNumber => 17,
-            Error::EmptyMultiple => 18,
-            Error::EmptyBody => 19,
-            Error::NotSection => 20,
-            Error::Memory => 21,
-            Error::Read(_) => 22,
-            Error::MixedArray => 23,
-            Error::TooLarge => 24,
-            Error::InvalidValue => 25,
-            Error::LazyInArray => 26,
-            Error::WrongType(_) => 27,
-            Error::BadDescriptor => 28,
-            Error::Custom(_) => 29,
-            Error::Misplaced => 30,
-            Error::Limit => 31,
-        }
+        self.row().0
     }
 
     /// Returns the name of the error, which is the name of its variant.
     pub fn name(&self) -> &'static str
         ensures { result.now ≡ name_of self.now }
     {
-        match self {
-            Error::Cut => "Cut",
-            Error::UnknownCode(_) => "UnknownCode",
-            Error::FloatCode(_) => "FloatCode",
-            Error::Size => "Size",
-            Error::OddCount => "OddCount",
-            Error::DuplicateKey => "DuplicateKey",
-            Error::Surplus => "Surplus",
-            Error::Missing => "Missing",
-            Error::WrongDescriptor => "WrongDescriptor",
-            Error::Depth => "Depth",
-            Error::ZeroWidthItems => "ZeroWidthItems",
-            Error::BadBool => "BadBool",
-            Error::BadChar => "BadChar",
-            Error::BadUtf8 => "BadUtf8",
-            Error::NonAscii => "NonAscii",
-            Error::UnknownText => "UnknownText",
-            Error::UnknownNumber => "UnknownNumber",
-            Error::EmptyMultiple => "EmptyMultiple",
-            Error::EmptyBody => "EmptyBody",
-            Error::NotSection => "NotSection",
-            Error::Memory => "Memory",
-            Error::Read(_) => "Read",
-            Error::MixedArray => "MixedArray",
-            Error::TooLarge => "TooLarge",
-            Error::InvalidValue => "InvalidValue",
-            Error::LazyInArray => "LazyInArray",
-            Error::WrongType(_) => "WrongType",
-            Error::BadDescriptor => "BadDescriptor",
-            Error::Custom(_) => "Custom",
-            Error::Misplaced => "Misplaced",
-            Error::Limit => "Limit",
-        }
+        self.row().1
     }
 }
 

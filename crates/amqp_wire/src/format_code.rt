@@ -3,7 +3,7 @@
 ghost use Rattle.std.specs.Prelude.{◌≡◌, ◌≤◌, ◌⊎◌, ◌↔◌, IsTrue, MatchOption};
 ghost use Rattle.amqp_model.specs.Constructors.{format};
 ghost use Rattle.amqp_model.specs.Spelling.{IsKnown};
-ghost use Rattle.amqp_wire.specs.Codes.{refusal_of};
+ghost use Rattle.amqp_wire.specs.Codes.{is_defined, refusal_of};
 
 use crate::Error;
 
@@ -127,47 +127,52 @@ pub const ARRAY_8: u8 = 0xe0;
 /// An array whose size and count have four bytes each (section 1.6.24).
 pub const ARRAY_32: u8 = 0xf0;
 
-// The codes of section 1.6 but those of floats and doubles, and the code that begins a described value.
-static KNOWN: [u8; 38] = [
-    DESCRIBED,
-    NULL,
-    BOOLEAN_TRUE,
-    BOOLEAN_FALSE,
-    UINT_0,
-    ULONG_0,
-    LIST_0,
-    UBYTE,
-    BYTE,
-    SMALL_UINT,
-    SMALL_ULONG,
-    SMALL_INT,
-    SMALL_LONG,
-    BOOLEAN,
-    USHORT,
-    SHORT,
-    UINT,
-    INT,
-    CHAR,
-    DECIMAL_32,
-    ULONG,
-    LONG,
-    TIMESTAMP,
-    DECIMAL_64,
-    DECIMAL_128,
-    UUID,
-    BINARY_8,
-    STRING_8,
-    SYMBOL_8,
-    BINARY_32,
-    STRING_32,
-    SYMBOL_32,
-    LIST_8,
-    MAP_8,
-    LIST_32,
-    MAP_32,
-    ARRAY_8,
-    ARRAY_32,
-];
+// Whether the code begins a described value, or a constructor of section 1.6 but that of a float or a double.
+fn is_defined(code: u8) -> bool
+    ensures { result ≡ is_defined code }
+{
+    match code {
+        DESCRIBED
+        | NULL
+        | BOOLEAN_TRUE
+        | BOOLEAN_FALSE
+        | UINT_0
+        | ULONG_0
+        | LIST_0
+        | UBYTE
+        | BYTE
+        | SMALL_UINT
+        | SMALL_ULONG
+        | SMALL_INT
+        | SMALL_LONG
+        | BOOLEAN
+        | USHORT
+        | SHORT
+        | UINT
+        | INT
+        | CHAR
+        | DECIMAL_32
+        | ULONG
+        | LONG
+        | TIMESTAMP
+        | DECIMAL_64
+        | DECIMAL_128
+        | UUID
+        | BINARY_8
+        | STRING_8
+        | SYMBOL_8
+        | BINARY_32
+        | STRING_32
+        | SYMBOL_32
+        | LIST_8
+        | MAP_8
+        | LIST_32
+        | MAP_32
+        | ARRAY_8
+        | ARRAY_32 => true,
+        _ => false,
+    }
+}
 
 /// Returns the error for a code where a value of another kind is expected. It is `FloatCode` for the code of a float or a double,
 /// `WrongType` for any other known code, 0x00 too, and otherwise `UnknownCode`.
@@ -177,7 +182,7 @@ pub fn refusal(code: u8) -> Error
 {
     if code == FLOAT || code == DOUBLE {
         Error::FloatCode(code)
-    } else if KNOWN.contains(&code) {
+    } else if is_defined(code) {
         Error::WrongType(code)
     } else {
         Error::UnknownCode(code)
@@ -190,10 +195,10 @@ pub fn unknown(code: u8) -> Option<Error>
     ensures { MatchOption result ((code ≡ 0) ⊎ IsKnown (format code))
         (λ e. (e ≡ refusal_of code) × (IsKnown (format code) → ⊥) × (code ≡ 0 → ⊥)) }
 {
-    match refusal(code) {
-        Error::WrongType(_) => None,
-        error => Some(error),
+    if is_defined(code) {
+        return None;
     }
+    Some(refusal(code))
 }
 
 /// Returns whether it is one of the codes 0x40 to 0x45, whose values have no data.

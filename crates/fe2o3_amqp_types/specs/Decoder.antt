@@ -15,4 +15,4 @@ pub use Rattle.amqp_decoder.specs.Row
 pub use Rattle.amqp_decoder.specs.Sections
 pub use Rattle.amqp_decoder.specs.Terms
 pub use Rattle.amqp_decoder.specs.Misspelled
-pub use Rattle.amqp_decoder.specs.OtherSource
+pub use Rattle.fe2o3_amqp_types.specs.OtherSource

@@ -7,5 +7,6 @@ pub mod Values
 pub mod Messages
 pub mod Lengths
 pub mod Errors
+pub mod OtherSource
 pub mod Decoder
 pub mod Encoder

@@ -6,8 +6,8 @@ pub use Rattle.amqp_containers.specs.Several.{AreLeaves}
 pub use Rattle.amqp_codec.specs.ListType.{ListTable, list_of}
 pub use Rattle.amqp_codec.specs.Composite.{Table, composite}
 pub use Rattle.amqp_codec.specs.Fieldless.{fieldless, has_none}
-pub use Rattle.amqp_enums.specs.Choices.{Choices, no_more, member, Chosen, SumOf, sum_of, sum_writing, sum_one, sum_agreement}
-pub use Rattle.amqp_enums.specs.Restricted.{IsDistinct, restricted_number, restricted_text}
+pub use Rattle.amqp_sums.specs.Choices.{Choices, no_more, member, Chosen, SumOf, sum_of, sum_writing, sum_one, sum_agreement}
+pub use Rattle.amqp_sums.specs.Restricted.{IsDistinct, restricted_number, restricted_text}
 -- Part 2, section 2.7
 pub use Rattle.amqp_performatives.specs.Tables.{opening, begin, flow, transfer, disposition, detach, ending, close}
 pub use Rattle.amqp_attach.specs.Tables.{attach, performatives, performative}

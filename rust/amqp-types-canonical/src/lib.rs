@@ -1,4 +1,4 @@
-//! The data types of AMQP 1.0: values are read, measured and rewritten as their canonical text.
+//! The data types of AMQP 1.0: values are checked, measured, rewritten as their canonical text, and walked.
 //!
 //! Each call is made of calls of a static library, `libamqp_types.a`, which is proved; `docs/C.md` says what is proved about them. This
 //! crate decides nothing again.

@@ -1,4 +1,4 @@
-use Rattle.amqp_annotations.specs.BorrowedKeyLaws.{equal_alike, ordered_alike}
+use Rattle.amqp_annotations.proofs.BorrowedKeyLaws.{equal_alike, ordered_alike}
 use Rattle.amqp_annotations.proofs.laws.borrowed_keys_compare_as_owned.Goals as goal
 
 pub returns-clause-equality : goal.returns-clause-equality

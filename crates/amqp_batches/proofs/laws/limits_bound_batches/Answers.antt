@@ -1,5 +1,5 @@
 use Rattle.amqp_codec.specs.TermReading.{reading_of}
-use Rattle.amqp_batches.specs.BoundLaws.{bounded, term_bound}
+use Rattle.amqp_batches.specs.laws.Bound.{bounded, term_bound}
 use Rattle.amqp_batches.specs.Batches.{batch_reading, batch_bound}
 use Rattle.amqp_batches.proofs.laws.limits_bound_batches.Goals as goal
 

@@ -1,4 +1,4 @@
-use Rattle.amqp_batches.specs.BoundLaws.{bounded}
+use Rattle.amqp_batches.specs.laws.Bound.{bounded}
 use Rattle.amqp_bodies.proofs.laws.limits_bound_bodies.Goals as goal
 
 pub returns : goal.returns

@@ -2,8 +2,8 @@ use Rattle.std.proofs.Common.{false, [], ◌∷◌, ap₂}
 use Rattle.std.proofs.lemmas.Result.{err_from_is_err_and}
 use Rattle.amqp_model.specs.Composite.{MeansComposite}
 use Rattle.amqp_codec.specs.Composite.{table_of, composite_members}
-use Rattle.amqp_codec.specs.CompositeLaws.{composite_is_sum}
-use Rattle.amqp_codec.specs.MembersLaws.{unopened, unread, unended, read_whole}
+use Rattle.amqp_codec.specs.laws.Composite.{composite_is_sum}
+use Rattle.amqp_codec.specs.laws.Members.{unopened, unread, unended, read_whole}
 use Rattle.amqp_codec.proofs.Tries.{taking_none, taking_so, began_then, refused_more, refused_behind}
 use Rattle.amqp_codec.proofs.composite.read_composite.Goals as goal
 

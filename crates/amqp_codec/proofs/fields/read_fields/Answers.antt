@@ -4,7 +4,7 @@ use Rattle.amqp_model.specs.Fields.{rules_of}
 use Rattle.amqp_model.specs.declared.tables.FieldRule.TheVariants.{Mandatory}
 use Rattle.amqp_codec.specs.Fields.{slots}
 use Rattle.amqp_codec.specs.FieldReading.{absence, rule_at}
-use Rattle.amqp_codec.specs.FieldReadingLaws.{not_absent}
+use Rattle.amqp_codec.specs.laws.FieldReading.{not_absent}
 use Rattle.amqp_codec.proofs.FieldSteps.{open_refused, none_so_far, item_refused, left_out_refused, one_more, one_less, end_refused}
 use Rattle.amqp_codec.proofs.FieldSteps.{all_read, so_far_still}
 use Rattle.amqp_codec.proofs.Tries.{taking_none, taking_at, refused_behind, absent_refused}

@@ -7,7 +7,7 @@ use Rattle.amqp_decoder.specs.State.{State}
 use Rattle.amqp_decoder.specs.Reading.{RefusesRead}
 use Rattle.amqp_decoder.specs.Primitives.{ReadsValue}
 use Rattle.amqp_codec.specs.Slots.{MeansSome}
-use Rattle.amqp_codec.specs.RefusalLaws.{NoneStands, refused_first}
+use Rattle.amqp_codec.specs.laws.Refusal.{NoneStands, refused_first}
 use Rattle.amqp_codec.proofs.fields.read_some.Goals as goal
 
 module _ {T : Type 0} (means : Standing → Term → T → Type 0) where

@@ -1,7 +1,7 @@
 use Rattle.std.proofs.Common.{true, rules, ap, ◌∙◌, arith, length, length-append, [], ◌∷◌}
 use Rattle.std.proofs.lemmas.Result.{err_from_is_err_and}
-use Rattle.amqp_codec.specs.ItemsReadingLaws.{each_more}
-use Rattle.amqp_codec.specs.RefusalLaws.{some_reserved}
+use Rattle.amqp_codec.specs.laws.ItemsReading.{each_more}
+use Rattle.amqp_codec.specs.laws.Refusal.{some_reserved}
 use Rattle.amqp_codec.proofs.ItemsSteps.{pushed, value_refused, none_reserved, no_room}
 use Rattle.amqp_codec.proofs.Tries.{taking_some, refused_later}
 use Rattle.amqp_codec.proofs.lists.read_each.Goals as goal

@@ -2,8 +2,8 @@ use Rattle.std.proofs.Common.{false, true, rules}
 use Rattle.std.proofs.lemmas.List.{nil_from_length}
 use Rattle.std.proofs.lemmas.Result.{err_from_is_err_and}
 use Rattle.amqp_decoder.specs.Reading.{PeeksCode, BeginFault}
-use Rattle.amqp_codec.specs.RefusalLaws.{no_memory, refused_first}
-use Rattle.amqp_codec.specs.PeekLaws.{value_peeked}
+use Rattle.amqp_codec.specs.laws.Refusal.{no_memory, refused_first}
+use Rattle.amqp_codec.specs.laws.Peek.{value_peeked}
 use Rattle.amqp_codec.specs.EitherMeaning.{no_value}
 use Rattle.amqp_containers.proofs.MultipleReads.{array_refused, items_read, no_items_read, item_refused, item_read}
 use Rattle.amqp_codec.proofs.Tries.{taking_some, refused_more, refused_behind}

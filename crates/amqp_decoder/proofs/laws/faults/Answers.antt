@@ -1,4 +1,4 @@
-use Rattle.amqp_decoder.specs.OtherSource.{array_fault, open_described_fault, term_fault}
+use Rattle.amqp_decoder.specs.laws.OtherSource.{array_fault, open_described_fault, term_fault}
 use Rattle.amqp_decoder.proofs.NotOutside.{array_not_outside, open_described_not_outside, term_not_outside}
 use Rattle.amqp_decoder.proofs.laws.faults.Goals as goal
 

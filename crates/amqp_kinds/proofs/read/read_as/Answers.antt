@@ -1,6 +1,6 @@
 use Rattle.std.proofs.lemmas.Result.{err_from_is_err_and}
 use Rattle.amqp_decoder.specs.Primitives.{ReadsValue}
-use Rattle.amqp_codec.specs.RefusalLaws.{refused_first}
+use Rattle.amqp_codec.specs.laws.Refusal.{refused_first}
 use Rattle.amqp_kinds.specs.KindReading.{ReadsMember}
 use Rattle.amqp_kinds.proofs.read.read_as.Goals as goal
 

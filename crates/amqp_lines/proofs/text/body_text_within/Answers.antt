@@ -1,4 +1,4 @@
-use Rattle.amqp_batches.specs.BoundLaws.{begins_without_limits}
+use Rattle.amqp_batches.specs.laws.Bound.{begins_without_limits}
 use Rattle.amqp_lines.specs.Messages.{any_body, of_any_body}
 use Rattle.amqp_lines.proofs.Texts.{taken_within}
 use Rattle.amqp_lines.proofs.text.body_text_within.Goals as goal

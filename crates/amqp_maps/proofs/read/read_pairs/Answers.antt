@@ -1,10 +1,10 @@
 use Rattle.std.proofs.Common.{◌/◌, true, inl, inr, rules, arith}
-use Rattle.amqp_codec.specs.RefusalLaws.{some_reserved}
+use Rattle.amqp_codec.specs.laws.Refusal.{some_reserved}
 use Rattle.std.proofs.lemmas.Result.{err_from_is_err_and}
 use Rattle.indexmap.specs.Entry.{map_with_value}
 use Rattle.indexmap.specs.declared.map.entry.Entry.TheVariants.{Vacant}
 use Rattle.amqp_codec.proofs.MapSteps.{key_refused, key_twice, value_refused, none_reserved, no_place}
-use Rattle.amqp_maps.specs.KeyLaws.{absent_new, present_known}
+use Rattle.amqp_maps.proofs.KeyLaws.{absent_new, present_known}
 use Rattle.amqp_maps.proofs.PairsRead.{fewer_so_far, one_more_so_far}
 use Rattle.amqp_codec.proofs.Tries.{taking_some, passed_then, refused_later}
 use Rattle.amqp_maps.proofs.read.read_pairs.Goals as goal

@@ -1,4 +1,4 @@
-use Rattle.amqp_model.specs.FieldLaws.{canonical_fit}
+use Rattle.amqp_model.specs.laws.Field.{canonical_fit}
 use Rattle.amqp_model.specs.FieldType.{normal}
 use Rattle.amqp_model.proofs.tables.canonical_items_fit.Goals as goal
 

@@ -1,5 +1,5 @@
 use Rattle.std.specs.Prelude.{refl}
-use Rattle.amqp_model.specs.CompositeLaws.{composite}
+use Rattle.amqp_model.specs.laws.Composite.{composite}
 use Rattle.amqp_model.proofs.tables.composite_terms.Goals as goal
 
 pub returns : goal.returns

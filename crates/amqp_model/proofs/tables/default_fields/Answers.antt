@@ -1,7 +1,7 @@
 use Rattle.std.proofs.Common.{◌≡◌, true, false, inl, inr, refl}
 use Rattle.amqp_model.specs.Term.{Term, null, leaf}
 use Rattle.amqp_model.specs.Items.{is_null}
-use Rattle.amqp_model.specs.ItemLaws.{clash}
+use Rattle.amqp_model.specs.laws.Item.{clash}
 use Rattle.amqp_model.specs.FieldType.{Meaning, NeverNull}
 use Rattle.amqp_model.specs.FieldRules.{DefaultValue, DefaultMeans, default_canon}
 use Rattle.amqp_model.proofs.tables.default_fields.Goals as goal

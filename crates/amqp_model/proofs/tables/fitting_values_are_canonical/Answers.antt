@@ -1,6 +1,6 @@
 use Rattle.amqp_model.specs.FieldType.{normal}
 use Rattle.amqp_model.specs.Fields.{canonical_items}
-use Rattle.amqp_model.specs.FieldLaws.{canonical_fit, same_fit, fitting_values, fitting_own, fitting_free}
+use Rattle.amqp_model.specs.laws.Field.{canonical_fit, same_fit, fitting_values, fitting_own, fitting_free}
 use Rattle.amqp_model.proofs.tables.fitting_values_are_canonical.Goals as goal
 
 pub returns : goal.returns

@@ -1,7 +1,7 @@
 use Rattle.std.proofs.Common.{map, ap}
 use Rattle.amqp_model.specs.Term.{empty_multiple, barred}
 use Rattle.amqp_model.specs.FieldRules.{array_or}
-use Rattle.amqp_model.specs.MultipleLaws.{some_null}
+use Rattle.amqp_model.specs.laws.Multiple.{some_null}
 use Rattle.amqp_model.proofs.tables.mandatory_multiple_fields.Goals as goal
 
 pub returns : goal.returns

@@ -1,6 +1,6 @@
 use Rattle.std.proofs.Common.{map, refl, ap, subst, sym}
 use Rattle.amqp_model.specs.Term.{null, leaf}
-use Rattle.amqp_model.specs.ItemLaws.{several_null}
+use Rattle.amqp_model.specs.laws.Item.{several_null}
 use Rattle.amqp_model.proofs.OneItem.{several_alone}
 use Rattle.amqp_model.specs.FieldRules.{SomeMean, array_or}
 use Rattle.amqp_model.proofs.tables.multiple_fields.Goals as goal

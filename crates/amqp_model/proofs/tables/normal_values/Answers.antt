@@ -1,6 +1,6 @@
 use Rattle.amqp_model.specs.FieldType.{normal}
-use Rattle.amqp_model.specs.FieldLaws.{normal_canonical_items}
-use Rattle.amqp_model.specs.CompositeLaws.{composite}
+use Rattle.amqp_model.specs.laws.Field.{normal_canonical_items}
+use Rattle.amqp_model.specs.laws.Composite.{composite}
 use Rattle.amqp_model.proofs.tables.normal_values.Goals as goal
 
 pub returns : goal.returns

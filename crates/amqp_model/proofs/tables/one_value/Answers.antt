@@ -1,4 +1,4 @@
-use Rattle.amqp_model.specs.FieldLaws.{fits_one}
+use Rattle.amqp_model.specs.laws.Field.{fits_one}
 use Rattle.amqp_model.proofs.tables.one_value.Goals as goal
 
 pub returns : goal.returns

@@ -1,4 +1,4 @@
-use Rattle.amqp_model.specs.FieldLaws.{same_fields_refl, same_fields_sym, same_fields_trans, same_canonical_items, same_fit}
+use Rattle.amqp_model.specs.laws.Field.{same_fields_refl, same_fields_sym, same_fields_trans, same_canonical_items, same_fit}
 use Rattle.amqp_model.proofs.tables.same_values.Goals as goal
 
 pub returns : goal.returns

@@ -1,6 +1,6 @@
 use Rattle.std.proofs.Common.{arith}
 use Rattle.amqp_codec.specs.Reading.{greatest, IsGreatest}
-use Rattle.amqp_codec.specs.ReadingLaws.{read_one, read_bounded}
+use Rattle.amqp_codec.specs.laws.Reading.{read_one, read_bounded}
 use Rattle.amqp_read_write.proofs.FromReader.{never_limited, counted_greatest, refused_whole_greatest}
 use Rattle.amqp_read_write.proofs.calls.from_slice_counted.Goals as goal
 

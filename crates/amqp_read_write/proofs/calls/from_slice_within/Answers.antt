@@ -1,7 +1,7 @@
 use Rattle.std.proofs.Common.{arith, refl, ap}
 use Rattle.std.proofs.lemmas.Result.{err_from_is_err_and}
 use Rattle.amqp_decoder.specs.State.{State}
-use Rattle.amqp_codec.specs.ReadingLaws.{read_one, read_bounded, is_read, memory_wanted, never_failing}
+use Rattle.amqp_codec.specs.laws.Reading.{read_one, read_bounded, is_read, memory_wanted, never_failing}
 use Rattle.amqp_read_write.proofs.FromReader.{limited_refused, refused_whole}
 use Rattle.amqp_read_write.proofs.calls.from_slice_within.Goals as goal
 

@@ -1,4 +1,4 @@
-use Rattle.amqp_codec.specs.TermLaws.{spelled_again, spelled_own, spelled_value}
+use Rattle.amqp_codec.specs.laws.Term.{spelled_again, spelled_own, spelled_value}
 use Rattle.amqp_read_write.proofs.laws.canonical_text_is_read_again.Goals as goal
 
 pub returns-clause-again : goal.returns-clause-again

@@ -1,4 +1,4 @@
-use Rattle.amqp_codec.specs.TermLaws.{count_bounded}
+use Rattle.amqp_codec.specs.laws.Term.{count_bounded}
 use Rattle.amqp_read_write.proofs.laws.count_is_bounded.Goals as goal
 
 pub returns : goal.returns

@@ -1,4 +1,4 @@
-use Rattle.amqp_codec.specs.EitherTypeLaws.{first_fault, second_fault}
+use Rattle.amqp_codec.specs.laws.EitherType.{first_fault, second_fault}
 use Rattle.amqp_read_write.proofs.laws.faults_of_a_sum.Goals as goal
 
 pub returns-clause-first : goal.returns-clause-first

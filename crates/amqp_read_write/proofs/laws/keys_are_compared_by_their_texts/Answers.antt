@@ -1,4 +1,4 @@
-use Rattle.amqp_codec.specs.KeyLaws.{texts_compared}
+use Rattle.amqp_codec.specs.laws.Key.{texts_compared}
 use Rattle.amqp_read_write.proofs.laws.keys_are_compared_by_their_texts.Goals as goal
 
 pub returns-clause-values : goal.returns-clause-values

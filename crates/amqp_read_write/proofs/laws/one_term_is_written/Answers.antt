@@ -1,4 +1,4 @@
-use Rattle.amqp_codec.specs.ReasonLaws.{agreed_text, agreed_writable, agreed_refused}
+use Rattle.amqp_codec.specs.laws.Reason.{agreed_text, agreed_writable, agreed_refused}
 use Rattle.amqp_read_write.proofs.laws.one_term_is_written.Goals as goal
 
 pub returns-clause-is_value : goal.returns-clause-is_value

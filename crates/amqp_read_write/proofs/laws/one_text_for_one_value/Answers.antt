@@ -1,5 +1,5 @@
-use Rattle.amqp_codec.specs.TermLaws.{text_unchanged}
-use Rattle.amqp_codec.specs.TermLaws as laws
+use Rattle.amqp_codec.specs.laws.Term.{text_unchanged}
+use Rattle.amqp_codec.specs.laws.Term as laws
 use Rattle.amqp_read_write.proofs.laws.one_text_for_one_value.Goals as goal
 
 pub returns-clause-apart : goal.returns-clause-apart

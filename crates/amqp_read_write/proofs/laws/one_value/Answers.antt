@@ -1,4 +1,4 @@
-use Rattle.amqp_codec.specs.TermLaws.{one_value}
+use Rattle.amqp_codec.specs.laws.Term.{one_value}
 use Rattle.amqp_read_write.proofs.laws.one_value.Goals as goal
 
 pub returns-clause-value : goal.returns-clause-value

@@ -1,5 +1,5 @@
 use Rattle.std.proofs.Common.{refl}
-use Rattle.amqp_codec.specs.SpellingLaws.{read_spelled, spelled_read}
+use Rattle.amqp_codec.specs.laws.Spelling.{read_spelled, spelled_read}
 use Rattle.amqp_read_write.proofs.laws.reading_is_spelling.Goals as goal
 
 pub returns-clause-spelled : goal.returns-clause-spelled

@@ -1,4 +1,4 @@
-use Rattle.amqp_codec.specs.TermLaws.{spelled_writable}
+use Rattle.amqp_codec.specs.laws.Term.{spelled_writable}
 use Rattle.amqp_read_write.proofs.laws.what_is_read_is_writable.Goals as goal
 
 pub returns : goal.returns

@@ -3,7 +3,7 @@ use Rattle.amqp_model.specs.Term.{list, code, container, described}
 use Rattle.amqp_model.specs.Items.{terms_of}
 use Rattle.amqp_lookahead.specs.Members.{descriptor_of}
 use Rattle.amqp_values.specs.Values.{value_term}
-use Rattle.amqp_values.specs.ValuesLaws.{list_is}
+use Rattle.amqp_values.specs.laws.Values.{list_is}
 use Rattle.amqp_termini.proofs.lifetime_values.empty_list.Goals as goal
 
 pub returns-clause-value : goal.returns-clause-value

@@ -2,7 +2,7 @@ use Rattle.std.proofs.Common.{ap, ◌∙◌}
 use Rattle.amqp_model.specs.Term.{list, map, array}
 use Rattle.amqp_model.specs.Items.{terms_of}
 use Rattle.amqp_values.specs.Values.{value_term}
-use Rattle.amqp_values.specs.ValuesLaws.{list_is, array_is, map_is}
+use Rattle.amqp_values.specs.laws.Values.{list_is, array_is, map_is}
 use Rattle.amqp_values.specs.Labels.{label}
 use Rattle.amqp_values.proofs.ValuesFed.{seen_fed, first_values, first_pairs}
 use Rattle.amqp_values.proofs.digest.feed_value.Goals as goal

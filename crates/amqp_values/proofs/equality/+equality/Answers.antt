@@ -1,7 +1,7 @@
 use Rattle.std.proofs.Common.{sym, ap, ap₂, ◌∙◌}
 use Rattle.amqp_codec.specs.EqualKeys.{same_term}
 use Rattle.amqp_values.specs.Values.{value_term}
-use Rattle.amqp_values.specs.ValuesLaws.{list_is, array_is, map_is}
+use Rattle.amqp_values.specs.laws.Values.{list_is, array_is, map_is}
 use Rattle.amqp_values.proofs.Same.{other_length, values_compared, pairs_compared}
 use Rattle.amqp_values.proofs.equality.+equality.Goals as goal
 

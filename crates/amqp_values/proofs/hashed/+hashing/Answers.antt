@@ -1,7 +1,7 @@
 use Rattle.std.proofs.Common.{ap, ◌∙◌}
 use Rattle.amqp_model.specs.Term.{list, map, array}
 use Rattle.amqp_values.specs.Values.{value_term}
-use Rattle.amqp_values.specs.ValuesLaws.{list_is, array_is, map_is}
+use Rattle.amqp_values.specs.laws.Values.{list_is, array_is, map_is}
 use Rattle.amqp_values.specs.Labels.{label}
 use Rattle.amqp_values.proofs.ValuesFed.{container_fed}
 use Rattle.amqp_values.proofs.hashed.+hashing.Goals as goal

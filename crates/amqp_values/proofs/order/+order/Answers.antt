@@ -1,7 +1,7 @@
 use Rattle.std.proofs.Common.{sym, ap, ap₂, ◌∙◌, arith, drop}
 use Rattle.std.proofs.lemmas.List.{length-drop}
 use Rattle.amqp_values.specs.Values.{value_term}
-use Rattle.amqp_values.specs.ValuesLaws.{list_is, array_is, map_is}
+use Rattle.amqp_values.specs.laws.Values.{list_is, array_is, map_is}
 use Rattle.amqp_values.specs.Labels.{label}
 use Rattle.amqp_values.specs.Order.{term_cmp}
 use Rattle.amqp_values.proofs.Ordered.{differs, level, values_longer, values_shorter, pairs_longer, pairs_shorter}

@@ -3,11 +3,11 @@ use Rattle.std.proofs.lemmas.Result.{err_from_is_err_and}
 use Rattle.amqp_model.specs.Term.{list, map, array, described}
 use Rattle.amqp_wire.specs.declared.error.Error.TheVariants.{Depth}
 use Rattle.amqp_lookahead.specs.Members.{descriptor_of}
-use Rattle.amqp_codec.specs.RefusalLaws.{some_reserved}
+use Rattle.amqp_codec.specs.laws.Refusal.{some_reserved}
 use Rattle.amqp_codec.specs.VecType.{list_opening}
-use Rattle.amqp_codec.specs.ItemsReadingLaws.{each_more}
+use Rattle.amqp_codec.specs.laws.ItemsReading.{each_more}
 use Rattle.amqp_codec.specs.MapReading.{ReadsFewer}
-use Rattle.amqp_codec.specs.MapReadingLaws.{pairs_more}
+use Rattle.amqp_codec.specs.laws.MapReading.{pairs_more}
 use Rattle.amqp_codec.proofs.ItemsSteps.{pushed, value_refused, none_reserved, no_room, open_refused, row_refused, end_refused, all_read}
 use Rattle.amqp_codec.proofs.MapSteps.{by_two, key_refused}
 use Rattle.amqp_codec.proofs.MapSteps as maps
@@ -17,12 +17,12 @@ use Rattle.amqp_described.proofs.DescribedReads as reads
 use Rattle.amqp_kinds.specs.declared.kind.Kind.TheVariants as kind
 use Rattle.amqp_values.specs.declared.value.Value.{Value}
 use Rattle.amqp_values.specs.Values.{value_term}
-use Rattle.amqp_values.specs.ValuesLaws.{list_is, array_is, map_is, described_is}
+use Rattle.amqp_values.specs.laws.Values.{list_is, array_is, map_is, described_is}
 use Rattle.amqp_values.specs.ValueMembers.{ValueMeans, IsOfItems, IsDescribed, IsOfPairs}
-use Rattle.amqp_values.specs.ValueMembersLaws.{described_member, list_member, array_member, map_member, null_member, bool_member}
-use Rattle.amqp_values.specs.ValueMembersLaws.{ubyte_member, ushort_member, uint_member, ulong_member, byte_member, short_member}
-use Rattle.amqp_values.specs.ValueMembersLaws.{int_member, long_member, decimal32_member, decimal64_member, decimal128_member, char_member}
-use Rattle.amqp_values.specs.ValueMembersLaws.{timestamp_member, uuid_member, binary_member, string_member, symbol_member}
+use Rattle.amqp_values.proofs.ValueMembersLaws.{described_member, list_member, array_member, map_member, null_member, bool_member}
+use Rattle.amqp_values.proofs.ValueMembersLaws.{ubyte_member, ushort_member, uint_member, ulong_member, byte_member, short_member}
+use Rattle.amqp_values.proofs.ValueMembersLaws.{int_member, long_member, decimal32_member, decimal64_member, decimal128_member, char_member}
+use Rattle.amqp_values.proofs.ValueMembersLaws.{timestamp_member, uuid_member, binary_member, string_member, symbol_member}
 use Rattle.amqp_values.specs.Levels.{value_with, value_in, faults_at}
 use Rattle.amqp_values.proofs.ValueSteps.{bounded_peeked, peek_refused, kind_answers, list_deeper, array_deeper, described_deeper}
 use Rattle.amqp_values.proofs.ValueSteps.{bounded_inside, some_left, bounded_behind, bounded_after, bounded_in_pairs, as_member}

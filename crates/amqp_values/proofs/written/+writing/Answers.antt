@@ -9,7 +9,7 @@ use Rattle.amqp_values.proofs.ValuesWritten.{shut_map, found_equal, map_written,
 use Rattle.amqp_codec.proofs.EachWritten.{next_written, next_refused, all_written_so}
 use Rattle.amqp_values.specs.Values.{pairs_of}
 use Rattle.amqp_values.specs.Canon.{value_canon, value_canons, pair_canon}
-use Rattle.amqp_values.specs.CanonLaws.{list_canon, array_canon, described_canon}
+use Rattle.amqp_values.specs.laws.Canon.{list_canon, array_canon, described_canon}
 use Rattle.amqp_values.proofs.written.+writing.Goals as goal
 
 pub write_value-returns-in_err-begin_list-in-List : goal.write_value-returns-in_err-begin_list-in-List

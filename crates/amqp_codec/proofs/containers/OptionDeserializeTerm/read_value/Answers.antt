@@ -1,8 +1,8 @@
 use Rattle.std.proofs.Common.{inl}
 use Rattle.std.proofs.lemmas.Result.{err_from_is_err_and}
 use Rattle.amqp_decoder.specs.Reading.{PeeksCode, BeginFault}
-use Rattle.amqp_codec.specs.RefusalLaws.{no_memory, refused_first}
-use Rattle.amqp_codec.specs.PeekLaws.{value_peeked}
+use Rattle.amqp_codec.specs.laws.Refusal.{no_memory, refused_first}
+use Rattle.amqp_codec.specs.laws.Peek.{value_peeked}
 use Rattle.amqp_codec.proofs.Options.{null_refused, none_read, some_read, some_refused}
 use Rattle.amqp_codec.proofs.containers.OptionDeserializeTerm.read_value.Goals as goal
 

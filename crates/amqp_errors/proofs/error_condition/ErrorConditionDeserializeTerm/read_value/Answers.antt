@@ -6,8 +6,8 @@ use Rattle.amqp_lookahead.specs.Kinds.{symbols}
 use Rattle.amqp_decoder.specs.State.{State}
 use Rattle.amqp_decoder.specs.Reading.{RefusesRead}
 use Rattle.amqp_decoder.specs.Primitives.{ReadsValue, Means, PrimitiveFault}
-use Rattle.amqp_codec.specs.RefusalLaws.{refused_first}
-use Rattle.amqp_enums.proofs.RestrictedReads.{symbol_refused}
+use Rattle.amqp_codec.specs.laws.Refusal.{refused_first}
+use Rattle.amqp_sums.proofs.RestrictedReads.{symbol_refused}
 use Rattle.amqp_errors.specs.Conditions.{condition_texts, condition_type}
 use Rattle.amqp_errors.proofs.error_condition.ErrorConditionDeserializeTerm.read_value.Goals as goal
 

@@ -1,8 +1,8 @@
 use Rattle.std.proofs.Common.{false, true, ◌∙◌, sym, ap}
 use Rattle.std.proofs.lemmas.Result.{err_from_is_err_and}
 use Rattle.amqp_decoder.specs.Reading.{PeeksCode, BeginFault}
-use Rattle.amqp_codec.specs.RefusalLaws.{no_memory, refused_first}
-use Rattle.amqp_codec.specs.PeekLaws.{value_peeked}
+use Rattle.amqp_codec.specs.laws.Refusal.{no_memory, refused_first}
+use Rattle.amqp_codec.specs.laws.Peek.{value_peeked}
 use Rattle.amqp_codec.specs.EitherMeaning.{no_value}
 use Rattle.amqp_simple_values.specs.Simple.{is_container}
 use Rattle.amqp_simple_values.proofs.SimpleReads.{container_refused, value_refused, value_read, other_read}

@@ -1,8 +1,8 @@
 use Rattle.std.proofs.Common.{rules}
 use Rattle.std.proofs.lemmas.Result.{err_from_is_err_and}
 use Rattle.amqp_decoder.specs.Reading.{PeeksCode, BeginFault}
-use Rattle.amqp_codec.specs.RefusalLaws.{no_memory, refused_first}
-use Rattle.amqp_codec.specs.PeekLaws.{value_peeked}
+use Rattle.amqp_codec.specs.laws.Refusal.{no_memory, refused_first}
+use Rattle.amqp_codec.specs.laws.Peek.{value_peeked}
 use Rattle.amqp_codec.specs.EitherMeaning.{no_value}
 use Rattle.amqp_user_types.proofs.IdentifierReads.{number_read, name_read, number_refused, name_refused, tests_number, tests_name}
 use Rattle.amqp_user_types.proofs.identifier.IdentifierDeserializeTerm.read_value.Goals as goal

@@ -1,5 +1,5 @@
 use Rattle.std.proofs.Common.{sym}
-use Rattle.amqp_values.specs.CanonLaws.{not_null}
+use Rattle.amqp_values.specs.laws.Canon.{not_null}
 use Rattle.amqp_values.proofs.written.ValueSerializeTerm.is_null.Goals as goal
 
 pub returns-in_default : goal.returns-in_default

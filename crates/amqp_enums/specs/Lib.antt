@@ -1,5 +1,0 @@
-pub mod Restricted
-pub mod DistinctDescriptorLaws
-pub mod NeverType
-pub mod Choices
-pub mod Types

@@ -1,4 +1,0 @@
-pub mod KindMembers
-pub mod KindSumType
-pub mod PrimitiveMembers
-pub mod SumKeyLaws

@@ -1,0 +1,4 @@
+pub mod MessageLimits
+pub mod MessageRewriting
+pub mod KindLimits
+pub mod StrictAgain

@@ -1,0 +1,9 @@
+pub mod Item
+pub mod Option
+pub mod Default
+pub mod Array
+pub mod Multiple
+pub mod Field
+pub mod List
+pub mod Described
+pub mod Composite

@@ -1,0 +1,4 @@
+pub mod Restricted
+pub mod Choices
+pub mod Types
+pub mod laws

@@ -1,0 +1,2 @@
+pub mod DistinctDescriptor
+pub mod NeverType

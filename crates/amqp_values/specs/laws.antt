@@ -1,0 +1,4 @@
+pub mod Values
+pub mod Equality
+pub mod Canon
+pub mod Order
