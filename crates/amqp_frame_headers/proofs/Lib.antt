@@ -1,0 +1,4 @@
+pub mod FrameLemmas
+pub mod AnswerLemmas
+pub mod WrittenLemmas
+pub mod HeaderLemmas
