@@ -1,9 +1,9 @@
 //! The begin of a link (Part 2, section 2.7.3).
-ghost use Rattle.amqp_sums.specs.Types.{composite, one_term, refl, agreement, writing_of};
+ghost use Rattle.amqp_sums.specs.Types.{composite, fields_of, names_of, one_term, refl, agreement, writing_of};
 ghost use Rattle.amqp_attach.specs.Tables.{attach};
 
 use crate::Unsettled;
-use amqp_codec::kernel::{Composite, CompositeTerm, Table, write_composite};
+use amqp_codec::kernel::{Composite, FieldList, FieldRule, write_composite};
 use amqp_codec::{ByteSource, Decoder, Encoder, Error, Serialize, SerializeTerm, Symbol, fields};
 use amqp_containers::Array;
 use amqp_containers::multiple::{is_null_multiple, read_multiple, write_multiple};
@@ -75,14 +75,11 @@ impl Attach {
     pub const FIELD_NAMES: &'static [&'static str] = attach_fields!(names);
 }
 
-impl Composite for Attach {
-    ghost table = { attach };
+impl FieldList for Attach {
+    ghost list = { fields_of attach };
 
-    fn table() -> Table {
-        Table {
-            descriptor: Attach::DESCRIPTOR,
-            fields: attach_fields!(rules),
-        }
+    fn field_rules() -> &'static [FieldRule] {
+        attach_fields!(rules)
     }
 
     fn blank(alloc: Global) -> Attach {
@@ -126,7 +123,7 @@ impl Serialize for Attach {
     ghost writing = { writing_of (composite attach) refl };
 
     fn serialize(&self, encoder: &mut Encoder) -> Result<(), Error> {
-        write_composite(self, encoder)
+        write_composite(self, Attach::DESCRIPTOR.0, encoder)
     }
 
     fn in_type(&self) {
@@ -142,6 +139,12 @@ impl SerializeTerm for Attach {
     ghost is_term = { one_term (composite attach) refl };
 }
 
-impl CompositeTerm for Attach {
+impl Composite for Attach {
+    ghost names = { names_of attach };
+
+    fn descriptor() -> (u64, &'static str) {
+        Attach::DESCRIPTOR
+    }
+
     ghost agrees = { agreement (composite attach) refl };
 }

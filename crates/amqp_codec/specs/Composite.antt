@@ -16,6 +16,12 @@ use Rattle.amqp_codec.specs.Members.{Members}
 use Rattle.amqp_codec.specs.Fields.{Fields, slots, take_memory}
 use Rattle.amqp_codec.specs.laws.Descriptor.{descriptor_short}
 
+-- What describes a composite: a code, which takes two bytes at most, and a name.
+pub record Names : Type 0 where
+  pub code : ℕ
+  pub name : List ℕ
+  pub is_small : ltb code 256 ≡ true
+
 -- The table of a composite: the code and the name that describe it, and its fields.
 pub record Table (V : Type 0) : Type 1 where
   pub code : ℕ
@@ -34,6 +40,14 @@ table_of c = record { code = c.code; name = c.name; fields = slots c.fields; nor
 -- the list of its fields
 abbrev pub fields_of : {V : Type 0} → Table V → ListTable V
 fields_of c = record { fields = c.fields; norm = c.norm; norm_is = c.norm_is }
+
+-- what describes it
+abbrev pub names_of : {V : Type 0} → Table V → Names
+names_of c = record { code = c.code; name = c.name; is_small = c.is_small }
+
+-- the table of which they are the parts
+abbrev pub table_with : {V : Type 0} → Names → ListTable V → Table V
+table_with d l = record { code = d.code; name = d.name; fields = l.fields; norm = l.norm; norm_is = l.norm_is; is_small = d.is_small }
 
 -- The descriptors of a composite, by its table.
 abbrev pub descriptors : {V : Type 0} → Table V → Descriptors

@@ -19,7 +19,7 @@
 /// in scope.
 ///
 /// The parts are `rules` and `names`, which are slices, `fill(self, index, decoder, alloc)`, `is_null(self, index)` and
-/// `write(self, index, encoder)`, which are the bodies of the calls of `Composite`, and `in_type(self)`, which is that of
+/// `write(self, index, encoder)`, which are the bodies of the calls of `FieldList`, and `in_type(self)`, which is that of
 /// `Serialize::in_type`.
 #[macro_export]
 macro_rules! fields {

@@ -1,14 +1,12 @@
 //! Composites without fields (Part 1, section 1.4).
-use crate::composite::{Composite, Table};
-use crate::fields::FieldRule;
+use crate::fields::{FieldList, FieldRule};
 use amqp_decoder::Decoder;
 use amqp_encoder::Encoder;
 use amqp_wire::{ByteSource, Error};
 use std::alloc::Global;
 
-/// A composite type that has no fields: its descriptor, and its value.
+/// A composite type that has no fields: its value.
 pub trait Fieldless: Sized + Drop {
-    ghost use Rattle.std.specs.Prelude.{◌≡◌};
     ghost use Rattle.amqp_codec.specs.Composite.{Table};
     ghost use Rattle.amqp_codec.specs.Fieldless.{HasNoFields};
 
@@ -16,26 +14,19 @@ pub trait Fieldless: Sized + Drop {
 
     ghost no_fields: { HasNoFields table.fields };
 
-    /// Returns the code and the name of its descriptor.
-    fn descriptor() -> (u64, &'static str)
-        ensures code { result.0 ≡ table.code }
-        ensures name { result.1.now ≡ table.name };
-
     /// Returns the value.
     fn value() -> Self;
 }
 
 // No field is read or written.
-impl<F: Fieldless> Composite for F {
-    ghost table = { F.table };
+impl<F: Fieldless> FieldList for F {
+    ghost use Rattle.amqp_codec.specs.Composite.{fields_of};
+
+    ghost list = { fields_of F.table };
 
     #[tactic(auto, using(crate::proofs::NoFields::no_rules))]
-    fn table() -> Table {
-        let fields: &'static [FieldRule] = &[];
-        Table {
-            descriptor: F::descriptor(),
-            fields,
-        }
+    fn field_rules() -> &'static [FieldRule] {
+        &[]
     }
 
     #[tactic(auto, using(crate::proofs::NoFields::blank))]

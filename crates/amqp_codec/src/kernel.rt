@@ -1,6 +1,6 @@
 //! The kernel: one reader and one writer for all lists of fields, for all composites, for the items of all lists and arrays, and for the
 //! pairs of maps.
-pub use crate::composite::{Composite, CompositeTerm, Table, read_composite, write_composite};
+pub use crate::composite::{Composite, read_composite, write_composite};
 pub use crate::fieldless::Fieldless;
 pub use crate::fields::{
     FieldList, FieldRule, read_fields, read_into, read_list, read_some, value_in_type, write_list,

@@ -1,8 +1,8 @@
 //! The accepted outcome (Part 3, section 3.4.2).
-ghost use Rattle.amqp_sums.specs.Types.{composite, has_none, one_term, refl, agreement, writing_of};
+ghost use Rattle.amqp_sums.specs.Types.{composite, has_none, names_of, one_term, refl, agreement, writing_of};
 ghost use Rattle.amqp_delivery.specs.Tables.{accepted};
 
-use amqp_codec::kernel::{CompositeTerm, Fieldless, write_composite};
+use amqp_codec::kernel::{Composite, Fieldless, write_composite};
 use amqp_codec::{Encoder, Error, Serialize, SerializeTerm};
 
 /// The delivery was processed successfully.
@@ -19,10 +19,6 @@ impl Fieldless for Accepted {
 
     ghost no_fields = { has_none _ };
 
-    fn descriptor() -> (u64, &'static str) {
-        Accepted::DESCRIPTOR
-    }
-
     fn value() -> Accepted {
         Accepted {}
     }
@@ -32,7 +28,7 @@ impl Serialize for Accepted {
     ghost writing = { writing_of (composite accepted) refl };
 
     fn serialize(&self, encoder: &mut Encoder) -> Result<(), Error> {
-        write_composite(self, encoder)
+        write_composite(self, Accepted::DESCRIPTOR.0, encoder)
     }
 
     fn in_type(&self) {}
@@ -46,6 +42,12 @@ impl SerializeTerm for Accepted {
     ghost is_term = { one_term (composite accepted) refl };
 }
 
-impl CompositeTerm for Accepted {
+impl Composite for Accepted {
+    ghost names = { names_of accepted };
+
+    fn descriptor() -> (u64, &'static str) {
+        Accepted::DESCRIPTOR
+    }
+
     ghost agrees = { agreement (composite accepted) refl };
 }

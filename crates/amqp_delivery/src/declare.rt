@@ -1,10 +1,10 @@
 //! The request for a transaction (Part 4, section 4.5.2).
 ghost use Rattle.std.specs.Prelude.{◌≡◌};
-ghost use Rattle.amqp_sums.specs.Types.{composite, one_term, refl, agreement, writing_of};
+ghost use Rattle.amqp_sums.specs.Types.{composite, fields_of, names_of, one_term, refl, agreement, writing_of};
 ghost use Rattle.amqp_delivery.specs.Tables.{declare};
 
 use crate::TransactionId;
-use amqp_codec::kernel::{Composite, CompositeTerm, Table, write_composite};
+use amqp_codec::kernel::{Composite, FieldList, FieldRule, write_composite};
 use amqp_codec::{ByteSource, Decoder, Encoder, Error, Serialize, SerializeTerm, fields};
 use std::alloc::Global;
 
@@ -39,14 +39,11 @@ impl Declare {
     }
 }
 
-impl Composite for Declare {
-    ghost table = { declare };
+impl FieldList for Declare {
+    ghost list = { fields_of declare };
 
-    fn table() -> Table {
-        Table {
-            descriptor: Declare::DESCRIPTOR,
-            fields: declare_fields!(rules),
-        }
+    fn field_rules() -> &'static [FieldRule] {
+        declare_fields!(rules)
     }
 
     fn blank(_alloc: Global) -> Declare {
@@ -75,7 +72,7 @@ impl Serialize for Declare {
     ghost writing = { writing_of (composite declare) refl };
 
     fn serialize(&self, encoder: &mut Encoder) -> Result<(), Error> {
-        write_composite(self, encoder)
+        write_composite(self, Declare::DESCRIPTOR.0, encoder)
     }
 
     fn in_type(&self) {
@@ -91,6 +88,12 @@ impl SerializeTerm for Declare {
     ghost is_term = { one_term (composite declare) refl };
 }
 
-impl CompositeTerm for Declare {
+impl Composite for Declare {
+    ghost names = { names_of declare };
+
+    fn descriptor() -> (u64, &'static str) {
+        Declare::DESCRIPTOR
+    }
+
     ghost agrees = { agreement (composite declare) refl };
 }

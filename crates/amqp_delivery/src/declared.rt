@@ -1,9 +1,9 @@
 //! The outcome of a declared transaction (Part 4, section 4.5.5).
-ghost use Rattle.amqp_sums.specs.Types.{composite, one_term, refl, agreement, writing_of};
+ghost use Rattle.amqp_sums.specs.Types.{composite, fields_of, names_of, one_term, refl, agreement, writing_of};
 ghost use Rattle.amqp_delivery.specs.Tables.{declared};
 
 use crate::TransactionId;
-use amqp_codec::kernel::{Composite, CompositeTerm, Table, write_composite};
+use amqp_codec::kernel::{Composite, FieldList, FieldRule, write_composite};
 use amqp_codec::{ByteSource, Decoder, Encoder, Error, Serialize, SerializeTerm, fields};
 use amqp_primitives::Binary;
 use std::alloc::Global;
@@ -32,14 +32,11 @@ impl Declared {
     pub const FIELD_NAMES: &'static [&'static str] = declared_fields!(names);
 }
 
-impl Composite for Declared {
-    ghost table = { declared };
+impl FieldList for Declared {
+    ghost list = { fields_of declared };
 
-    fn table() -> Table {
-        Table {
-            descriptor: Declared::DESCRIPTOR,
-            fields: declared_fields!(rules),
-        }
+    fn field_rules() -> &'static [FieldRule] {
+        declared_fields!(rules)
     }
 
     fn blank(alloc: Global) -> Declared {
@@ -70,7 +67,7 @@ impl Serialize for Declared {
     ghost writing = { writing_of (composite declared) refl };
 
     fn serialize(&self, encoder: &mut Encoder) -> Result<(), Error> {
-        write_composite(self, encoder)
+        write_composite(self, Declared::DESCRIPTOR.0, encoder)
     }
 
     fn in_type(&self) {
@@ -86,6 +83,12 @@ impl SerializeTerm for Declared {
     ghost is_term = { one_term (composite declared) refl };
 }
 
-impl CompositeTerm for Declared {
+impl Composite for Declared {
+    ghost names = { names_of declared };
+
+    fn descriptor() -> (u64, &'static str) {
+        Declared::DESCRIPTOR
+    }
+
     ghost agrees = { agreement (composite declared) refl };
 }

@@ -1,9 +1,9 @@
 //! The end of a transaction (Part 4, section 4.5.3).
-ghost use Rattle.amqp_sums.specs.Types.{composite, one_term, refl, agreement, writing_of};
+ghost use Rattle.amqp_sums.specs.Types.{composite, fields_of, names_of, one_term, refl, agreement, writing_of};
 ghost use Rattle.amqp_delivery.specs.Tables.{discharge};
 
 use crate::TransactionId;
-use amqp_codec::kernel::{Composite, CompositeTerm, Table, write_composite};
+use amqp_codec::kernel::{Composite, FieldList, FieldRule, write_composite};
 use amqp_codec::{ByteSource, Decoder, Encoder, Error, Serialize, SerializeTerm, fields};
 use amqp_primitives::Binary;
 use std::alloc::Global;
@@ -35,14 +35,11 @@ impl Discharge {
     pub const FIELD_NAMES: &'static [&'static str] = discharge_fields!(names);
 }
 
-impl Composite for Discharge {
-    ghost table = { discharge };
+impl FieldList for Discharge {
+    ghost list = { fields_of discharge };
 
-    fn table() -> Table {
-        Table {
-            descriptor: Discharge::DESCRIPTOR,
-            fields: discharge_fields!(rules),
-        }
+    fn field_rules() -> &'static [FieldRule] {
+        discharge_fields!(rules)
     }
 
     fn blank(alloc: Global) -> Discharge {
@@ -74,7 +71,7 @@ impl Serialize for Discharge {
     ghost writing = { writing_of (composite discharge) refl };
 
     fn serialize(&self, encoder: &mut Encoder) -> Result<(), Error> {
-        write_composite(self, encoder)
+        write_composite(self, Discharge::DESCRIPTOR.0, encoder)
     }
 
     fn in_type(&self) {
@@ -90,6 +87,12 @@ impl SerializeTerm for Discharge {
     ghost is_term = { one_term (composite discharge) refl };
 }
 
-impl CompositeTerm for Discharge {
+impl Composite for Discharge {
+    ghost names = { names_of discharge };
+
+    fn descriptor() -> (u64, &'static str) {
+        Discharge::DESCRIPTOR
+    }
+
     ghost agrees = { agreement (composite discharge) refl };
 }

@@ -1,8 +1,8 @@
 //! The modified outcome (Part 3, section 3.4.5).
-ghost use Rattle.amqp_sums.specs.Types.{composite, one_term, refl, agreement, writing_of};
+ghost use Rattle.amqp_sums.specs.Types.{composite, fields_of, names_of, one_term, refl, agreement, writing_of};
 ghost use Rattle.amqp_delivery.specs.Tables.{modified};
 
-use amqp_codec::kernel::{Composite, CompositeTerm, Table, write_composite};
+use amqp_codec::kernel::{Composite, FieldList, FieldRule, write_composite};
 use amqp_codec::{ByteSource, Decoder, Encoder, Error, Serialize, SerializeTerm, fields};
 use amqp_errors::Fields;
 use std::alloc::Global;
@@ -37,14 +37,11 @@ impl Modified {
     pub const FIELD_NAMES: &'static [&'static str] = modified_fields!(names);
 }
 
-impl Composite for Modified {
-    ghost table = { modified };
+impl FieldList for Modified {
+    ghost list = { fields_of modified };
 
-    fn table() -> Table {
-        Table {
-            descriptor: Modified::DESCRIPTOR,
-            fields: modified_fields!(rules),
-        }
+    fn field_rules() -> &'static [FieldRule] {
+        modified_fields!(rules)
     }
 
     fn blank(_alloc: Global) -> Modified {
@@ -77,7 +74,7 @@ impl Serialize for Modified {
     ghost writing = { writing_of (composite modified) refl };
 
     fn serialize(&self, encoder: &mut Encoder) -> Result<(), Error> {
-        write_composite(self, encoder)
+        write_composite(self, Modified::DESCRIPTOR.0, encoder)
     }
 
     fn in_type(&self) {
@@ -93,6 +90,12 @@ impl SerializeTerm for Modified {
     ghost is_term = { one_term (composite modified) refl };
 }
 
-impl CompositeTerm for Modified {
+impl Composite for Modified {
+    ghost names = { names_of modified };
+
+    fn descriptor() -> (u64, &'static str) {
+        Modified::DESCRIPTOR
+    }
+
     ghost agrees = { agreement (composite modified) refl };
 }

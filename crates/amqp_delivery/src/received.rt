@@ -1,8 +1,8 @@
 //! The received state (Part 3, section 3.4.1).
-ghost use Rattle.amqp_sums.specs.Types.{composite, one_term, refl, agreement, writing_of};
+ghost use Rattle.amqp_sums.specs.Types.{composite, fields_of, names_of, one_term, refl, agreement, writing_of};
 ghost use Rattle.amqp_delivery.specs.Tables.{received};
 
-use amqp_codec::kernel::{Composite, CompositeTerm, Table, write_composite};
+use amqp_codec::kernel::{Composite, FieldList, FieldRule, write_composite};
 use amqp_codec::{ByteSource, Decoder, Encoder, Error, Serialize, SerializeTerm, fields};
 use std::alloc::Global;
 
@@ -33,14 +33,11 @@ impl Received {
     pub const FIELD_NAMES: &'static [&'static str] = received_fields!(names);
 }
 
-impl Composite for Received {
-    ghost table = { received };
+impl FieldList for Received {
+    ghost list = { fields_of received };
 
-    fn table() -> Table {
-        Table {
-            descriptor: Received::DESCRIPTOR,
-            fields: received_fields!(rules),
-        }
+    fn field_rules() -> &'static [FieldRule] {
+        received_fields!(rules)
     }
 
     fn blank(_alloc: Global) -> Received {
@@ -72,7 +69,7 @@ impl Serialize for Received {
     ghost writing = { writing_of (composite received) refl };
 
     fn serialize(&self, encoder: &mut Encoder) -> Result<(), Error> {
-        write_composite(self, encoder)
+        write_composite(self, Received::DESCRIPTOR.0, encoder)
     }
 
     fn in_type(&self) {
@@ -88,6 +85,12 @@ impl SerializeTerm for Received {
     ghost is_term = { one_term (composite received) refl };
 }
 
-impl CompositeTerm for Received {
+impl Composite for Received {
+    ghost names = { names_of received };
+
+    fn descriptor() -> (u64, &'static str) {
+        Received::DESCRIPTOR
+    }
+
     ghost agrees = { agreement (composite received) refl };
 }

@@ -1,8 +1,8 @@
 //! The rejected outcome (Part 3, section 3.4.3).
-ghost use Rattle.amqp_sums.specs.Types.{composite, one_term, refl, agreement, writing_of};
+ghost use Rattle.amqp_sums.specs.Types.{composite, fields_of, names_of, one_term, refl, agreement, writing_of};
 ghost use Rattle.amqp_delivery.specs.Tables.{rejected};
 
-use amqp_codec::kernel::{Composite, CompositeTerm, Table, write_composite};
+use amqp_codec::kernel::{Composite, FieldList, FieldRule, write_composite};
 use amqp_codec::{
     ByteSource, Decoder, Encoder, Error as CodecError, Serialize, SerializeTerm, fields,
 };
@@ -33,14 +33,11 @@ impl Rejected {
     pub const FIELD_NAMES: &'static [&'static str] = rejected_fields!(names);
 }
 
-impl Composite for Rejected {
-    ghost table = { rejected };
+impl FieldList for Rejected {
+    ghost list = { fields_of rejected };
 
-    fn table() -> Table {
-        Table {
-            descriptor: Rejected::DESCRIPTOR,
-            fields: rejected_fields!(rules),
-        }
+    fn field_rules() -> &'static [FieldRule] {
+        rejected_fields!(rules)
     }
 
     fn blank(_alloc: Global) -> Rejected {
@@ -69,7 +66,7 @@ impl Serialize for Rejected {
     ghost writing = { writing_of (composite rejected) refl };
 
     fn serialize(&self, encoder: &mut Encoder) -> Result<(), CodecError> {
-        write_composite(self, encoder)
+        write_composite(self, Rejected::DESCRIPTOR.0, encoder)
     }
 
     fn in_type(&self) {
@@ -85,6 +82,12 @@ impl SerializeTerm for Rejected {
     ghost is_term = { one_term (composite rejected) refl };
 }
 
-impl CompositeTerm for Rejected {
+impl Composite for Rejected {
+    ghost names = { names_of rejected };
+
+    fn descriptor() -> (u64, &'static str) {
+        Rejected::DESCRIPTOR
+    }
+
     ghost agrees = { agreement (composite rejected) refl };
 }

@@ -1,8 +1,8 @@
 //! The released outcome (Part 3, section 3.4.4).
-ghost use Rattle.amqp_sums.specs.Types.{composite, has_none, one_term, refl, agreement, writing_of};
+ghost use Rattle.amqp_sums.specs.Types.{composite, has_none, names_of, one_term, refl, agreement, writing_of};
 ghost use Rattle.amqp_delivery.specs.Tables.{released};
 
-use amqp_codec::kernel::{CompositeTerm, Fieldless, write_composite};
+use amqp_codec::kernel::{Composite, Fieldless, write_composite};
 use amqp_codec::{Encoder, Error, Serialize, SerializeTerm};
 
 /// The delivery was not and will not be processed. Its message may be delivered again.
@@ -19,10 +19,6 @@ impl Fieldless for Released {
 
     ghost no_fields = { has_none _ };
 
-    fn descriptor() -> (u64, &'static str) {
-        Released::DESCRIPTOR
-    }
-
     fn value() -> Released {
         Released {}
     }
@@ -32,7 +28,7 @@ impl Serialize for Released {
     ghost writing = { writing_of (composite released) refl };
 
     fn serialize(&self, encoder: &mut Encoder) -> Result<(), Error> {
-        write_composite(self, encoder)
+        write_composite(self, Released::DESCRIPTOR.0, encoder)
     }
 
     fn in_type(&self) {}
@@ -46,6 +42,12 @@ impl SerializeTerm for Released {
     ghost is_term = { one_term (composite released) refl };
 }
 
-impl CompositeTerm for Released {
+impl Composite for Released {
+    ghost names = { names_of released };
+
+    fn descriptor() -> (u64, &'static str) {
+        Released::DESCRIPTOR
+    }
+
     ghost agrees = { agreement (composite released) refl };
 }

@@ -1,9 +1,9 @@
 //! The state of a delivery in a transaction (Part 4, section 4.5.6).
-ghost use Rattle.amqp_sums.specs.Types.{composite, one_term, refl, agreement, writing_of};
+ghost use Rattle.amqp_sums.specs.Types.{composite, fields_of, names_of, one_term, refl, agreement, writing_of};
 ghost use Rattle.amqp_delivery.specs.Tables.{transactional_state};
 
 use crate::{Outcome, TransactionId};
-use amqp_codec::kernel::{Composite, CompositeTerm, Table, write_composite};
+use amqp_codec::kernel::{Composite, FieldList, FieldRule, write_composite};
 use amqp_codec::{ByteSource, Decoder, Encoder, Error, Serialize, SerializeTerm, fields};
 use amqp_primitives::Binary;
 use std::alloc::Global;
@@ -35,14 +35,11 @@ impl TransactionalState {
     pub const FIELD_NAMES: &'static [&'static str] = transactional_state_fields!(names);
 }
 
-impl Composite for TransactionalState {
-    ghost table = { transactional_state };
+impl FieldList for TransactionalState {
+    ghost list = { fields_of transactional_state };
 
-    fn table() -> Table {
-        Table {
-            descriptor: TransactionalState::DESCRIPTOR,
-            fields: transactional_state_fields!(rules),
-        }
+    fn field_rules() -> &'static [FieldRule] {
+        transactional_state_fields!(rules)
     }
 
     fn blank(alloc: Global) -> TransactionalState {
@@ -74,7 +71,7 @@ impl Serialize for TransactionalState {
     ghost writing = { writing_of (composite transactional_state) refl };
 
     fn serialize(&self, encoder: &mut Encoder) -> Result<(), Error> {
-        write_composite(self, encoder)
+        write_composite(self, TransactionalState::DESCRIPTOR.0, encoder)
     }
 
     fn in_type(&self) {
@@ -90,6 +87,12 @@ impl SerializeTerm for TransactionalState {
     ghost is_term = { one_term (composite transactional_state) refl };
 }
 
-impl CompositeTerm for TransactionalState {
+impl Composite for TransactionalState {
+    ghost names = { names_of transactional_state };
+
+    fn descriptor() -> (u64, &'static str) {
+        TransactionalState::DESCRIPTOR
+    }
+
     ghost agrees = { agreement (composite transactional_state) refl };
 }

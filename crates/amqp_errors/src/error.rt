@@ -1,13 +1,13 @@
 //! What went wrong (Part 2, section 2.8.14).
 ghost use Rattle.std.specs.Prelude.{◌≡◌, IfErr, IfOk, option_map};
 ghost use Rattle.amqp_wire.specs.declared.error.Error.TheVariants.{Memory};
-ghost use Rattle.amqp_sums.specs.Types.{composite, one_term, refl, agreement, writing_of};
+ghost use Rattle.amqp_sums.specs.Types.{composite, fields_of, names_of, one_term, refl, agreement, writing_of};
 ghost use Rattle.amqp_errors.specs.Tables.{alone, error};
 
 use crate::{
     AmqpError, ConnectionError, ErrorCondition, Fields, LinkError, SessionError, TransactionError,
 };
-use amqp_codec::kernel::{Composite, CompositeTerm, Table, write_composite};
+use amqp_codec::kernel::{Composite, FieldList, FieldRule, write_composite};
 use amqp_codec::{
     ByteSource, Decoder, Encoder, Error as CodecError, Serialize, SerializeTerm, fields,
 };
@@ -130,14 +130,11 @@ impl From<TransactionError> for Error {
     }
 }
 
-impl Composite for Error {
-    ghost table = { error };
+impl FieldList for Error {
+    ghost list = { fields_of error };
 
-    fn table() -> Table {
-        Table {
-            descriptor: Error::DESCRIPTOR,
-            fields: error_fields!(rules),
-        }
+    fn field_rules() -> &'static [FieldRule] {
+        error_fields!(rules)
     }
 
     fn blank(_alloc: Global) -> Error {
@@ -170,7 +167,7 @@ impl Serialize for Error {
     ghost writing = { writing_of (composite error) refl };
 
     fn serialize(&self, encoder: &mut Encoder) -> Result<(), CodecError> {
-        write_composite(self, encoder)
+        write_composite(self, Error::DESCRIPTOR.0, encoder)
     }
 
     fn in_type(&self) {
@@ -186,6 +183,12 @@ impl SerializeTerm for Error {
     ghost is_term = { one_term (composite error) refl };
 }
 
-impl CompositeTerm for Error {
+impl Composite for Error {
+    ghost names = { names_of error };
+
+    fn descriptor() -> (u64, &'static str) {
+        Error::DESCRIPTOR
+    }
+
     ghost agrees = { agreement (composite error) refl };
 }

@@ -1,11 +1,11 @@
 //! Headers (Part 3, section 3.2.1).
 ghost use Rattle.std.specs.Prelude.{◌≡◌, Some};
-ghost use Rattle.amqp_sums.specs.Types.{composite, one_term, refl, agreement, writing_of};
+ghost use Rattle.amqp_sums.specs.Types.{composite, fields_of, names_of, one_term, refl, agreement, writing_of};
 ghost use Rattle.amqp_message_headers.specs.Made.{default_header};
 ghost use Rattle.amqp_message_headers.specs.Tables.{header};
 
 use crate::Priority;
-use amqp_codec::kernel::{Composite, CompositeTerm, Table, write_composite};
+use amqp_codec::kernel::{Composite, FieldList, FieldRule, write_composite};
 use amqp_codec::{ByteSource, Decoder, Encoder, Error, Serialize, SerializeTerm, fields};
 use amqp_wire::section_code;
 use std::alloc::Global;
@@ -69,14 +69,11 @@ impl Default for Header {
     }
 }
 
-impl Composite for Header {
-    ghost table = { header };
+impl FieldList for Header {
+    ghost list = { fields_of header };
 
-    fn table() -> Table {
-        Table {
-            descriptor: Header::DESCRIPTOR,
-            fields: header_fields!(rules),
-        }
+    fn field_rules() -> &'static [FieldRule] {
+        header_fields!(rules)
     }
 
     fn blank(_alloc: Global) -> Header {
@@ -105,7 +102,7 @@ impl Serialize for Header {
     ghost writing = { writing_of (composite header) refl };
 
     fn serialize(&self, encoder: &mut Encoder) -> Result<(), Error> {
-        write_composite(self, encoder)
+        write_composite(self, Header::DESCRIPTOR.0, encoder)
     }
 
     fn in_type(&self) {
@@ -121,7 +118,13 @@ impl SerializeTerm for Header {
     ghost is_term = { one_term (composite header) refl };
 }
 
-impl CompositeTerm for Header {
+impl Composite for Header {
+    ghost names = { names_of header };
+
+    fn descriptor() -> (u64, &'static str) {
+        Header::DESCRIPTOR
+    }
+
     ghost agrees = { agreement (composite header) refl };
 }
 

@@ -1,11 +1,11 @@
 //! Properties (Part 3, section 3.2.4).
 ghost use Rattle.std.specs.Prelude.{◌≡◌, Some};
-ghost use Rattle.amqp_sums.specs.Types.{composite, one_term, refl, agreement, writing_of};
+ghost use Rattle.amqp_sums.specs.Types.{composite, fields_of, names_of, one_term, refl, agreement, writing_of};
 ghost use Rattle.amqp_message_headers.specs.Made.{no_properties};
 ghost use Rattle.amqp_message_headers.specs.Tables.{properties};
 
 use crate::MessageId;
-use amqp_codec::kernel::{Composite, CompositeTerm, Table, write_composite};
+use amqp_codec::kernel::{Composite, FieldList, FieldRule, write_composite};
 use amqp_codec::{ByteSource, Decoder, Encoder, Error, Serialize, SerializeTerm, Symbol, fields};
 use amqp_primitives::{Binary, Timestamp};
 use amqp_wire::section_code;
@@ -113,14 +113,11 @@ impl Default for Properties {
     }
 }
 
-impl Composite for Properties {
-    ghost table = { properties };
+impl FieldList for Properties {
+    ghost list = { fields_of properties };
 
-    fn table() -> Table {
-        Table {
-            descriptor: Properties::DESCRIPTOR,
-            fields: properties_fields!(rules),
-        }
+    fn field_rules() -> &'static [FieldRule] {
+        properties_fields!(rules)
     }
 
     fn blank(_alloc: Global) -> Properties {
@@ -149,7 +146,7 @@ impl Serialize for Properties {
     ghost writing = { writing_of (composite properties) refl };
 
     fn serialize(&self, encoder: &mut Encoder) -> Result<(), Error> {
-        write_composite(self, encoder)
+        write_composite(self, Properties::DESCRIPTOR.0, encoder)
     }
 
     fn in_type(&self) {
@@ -165,7 +162,13 @@ impl SerializeTerm for Properties {
     ghost is_term = { one_term (composite properties) refl };
 }
 
-impl CompositeTerm for Properties {
+impl Composite for Properties {
+    ghost names = { names_of properties };
+
+    fn descriptor() -> (u64, &'static str) {
+        Properties::DESCRIPTOR
+    }
+
     ghost agrees = { agreement (composite properties) refl };
 }
 

@@ -1,8 +1,8 @@
 //! The begin of a session (Part 2, section 2.7.2).
-ghost use Rattle.amqp_sums.specs.Types.{composite, one_term, refl, agreement, writing_of};
+ghost use Rattle.amqp_sums.specs.Types.{composite, fields_of, names_of, one_term, refl, agreement, writing_of};
 ghost use Rattle.amqp_performatives.specs.Tables.{begin};
 
-use amqp_codec::kernel::{Composite, CompositeTerm, Table, write_composite};
+use amqp_codec::kernel::{Composite, FieldList, FieldRule, write_composite};
 use amqp_codec::{ByteSource, Decoder, Encoder, Error, Serialize, SerializeTerm, Symbol, fields};
 use amqp_containers::Array;
 use amqp_containers::multiple::{is_null_multiple, read_multiple, write_multiple};
@@ -55,14 +55,11 @@ impl Begin {
     pub const FIELD_NAMES: &'static [&'static str] = begin_fields!(names);
 }
 
-impl Composite for Begin {
-    ghost table = { begin };
+impl FieldList for Begin {
+    ghost list = { fields_of begin };
 
-    fn table() -> Table {
-        Table {
-            descriptor: Begin::DESCRIPTOR,
-            fields: begin_fields!(rules),
-        }
+    fn field_rules() -> &'static [FieldRule] {
+        begin_fields!(rules)
     }
 
     fn blank(_alloc: Global) -> Begin {
@@ -100,7 +97,7 @@ impl Serialize for Begin {
     ghost writing = { writing_of (composite begin) refl };
 
     fn serialize(&self, encoder: &mut Encoder) -> Result<(), Error> {
-        write_composite(self, encoder)
+        write_composite(self, Begin::DESCRIPTOR.0, encoder)
     }
 
     fn in_type(&self) {
@@ -116,6 +113,12 @@ impl SerializeTerm for Begin {
     ghost is_term = { one_term (composite begin) refl };
 }
 
-impl CompositeTerm for Begin {
+impl Composite for Begin {
+    ghost names = { names_of begin };
+
+    fn descriptor() -> (u64, &'static str) {
+        Begin::DESCRIPTOR
+    }
+
     ghost agrees = { agreement (composite begin) refl };
 }

@@ -1,9 +1,9 @@
 //! The end of a connection (Part 2, section 2.7.9).
 ghost use Rattle.std.specs.Prelude.{◌≡◌};
-ghost use Rattle.amqp_sums.specs.Types.{composite, one_term, refl, agreement, writing_of};
+ghost use Rattle.amqp_sums.specs.Types.{composite, fields_of, names_of, one_term, refl, agreement, writing_of};
 ghost use Rattle.amqp_performatives.specs.Tables.{close};
 
-use amqp_codec::kernel::{Composite, CompositeTerm, Table, write_composite};
+use amqp_codec::kernel::{Composite, FieldList, FieldRule, write_composite};
 use amqp_codec::{
     ByteSource, Decoder, Encoder, Error as CodecError, Serialize, SerializeTerm, fields,
 };
@@ -41,14 +41,11 @@ impl Close {
     }
 }
 
-impl Composite for Close {
-    ghost table = { close };
+impl FieldList for Close {
+    ghost list = { fields_of close };
 
-    fn table() -> Table {
-        Table {
-            descriptor: Close::DESCRIPTOR,
-            fields: close_fields!(rules),
-        }
+    fn field_rules() -> &'static [FieldRule] {
+        close_fields!(rules)
     }
 
     fn blank(_alloc: Global) -> Close {
@@ -77,7 +74,7 @@ impl Serialize for Close {
     ghost writing = { writing_of (composite close) refl };
 
     fn serialize(&self, encoder: &mut Encoder) -> Result<(), CodecError> {
-        write_composite(self, encoder)
+        write_composite(self, Close::DESCRIPTOR.0, encoder)
     }
 
     fn in_type(&self) {
@@ -93,6 +90,12 @@ impl SerializeTerm for Close {
     ghost is_term = { one_term (composite close) refl };
 }
 
-impl CompositeTerm for Close {
+impl Composite for Close {
+    ghost names = { names_of close };
+
+    fn descriptor() -> (u64, &'static str) {
+        Close::DESCRIPTOR
+    }
+
     ghost agrees = { agreement (composite close) refl };
 }

@@ -1,8 +1,8 @@
 //! The end of a link (Part 2, section 2.7.7).
-ghost use Rattle.amqp_sums.specs.Types.{composite, one_term, refl, agreement, writing_of};
+ghost use Rattle.amqp_sums.specs.Types.{composite, fields_of, names_of, one_term, refl, agreement, writing_of};
 ghost use Rattle.amqp_performatives.specs.Tables.{detach};
 
-use amqp_codec::kernel::{Composite, CompositeTerm, Table, write_composite};
+use amqp_codec::kernel::{Composite, FieldList, FieldRule, write_composite};
 use amqp_codec::{
     ByteSource, Decoder, Encoder, Error as CodecError, Serialize, SerializeTerm, fields,
 };
@@ -40,14 +40,11 @@ impl Detach {
     pub const FIELD_NAMES: &'static [&'static str] = detach_fields!(names);
 }
 
-impl Composite for Detach {
-    ghost table = { detach };
+impl FieldList for Detach {
+    ghost list = { fields_of detach };
 
-    fn table() -> Table {
-        Table {
-            descriptor: Detach::DESCRIPTOR,
-            fields: detach_fields!(rules),
-        }
+    fn field_rules() -> &'static [FieldRule] {
+        detach_fields!(rules)
     }
 
     fn blank(_alloc: Global) -> Detach {
@@ -80,7 +77,7 @@ impl Serialize for Detach {
     ghost writing = { writing_of (composite detach) refl };
 
     fn serialize(&self, encoder: &mut Encoder) -> Result<(), CodecError> {
-        write_composite(self, encoder)
+        write_composite(self, Detach::DESCRIPTOR.0, encoder)
     }
 
     fn in_type(&self) {
@@ -96,6 +93,12 @@ impl SerializeTerm for Detach {
     ghost is_term = { one_term (composite detach) refl };
 }
 
-impl CompositeTerm for Detach {
+impl Composite for Detach {
+    ghost names = { names_of detach };
+
+    fn descriptor() -> (u64, &'static str) {
+        Detach::DESCRIPTOR
+    }
+
     ghost agrees = { agreement (composite detach) refl };
 }

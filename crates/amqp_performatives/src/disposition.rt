@@ -1,8 +1,8 @@
 //! A change of the state of deliveries (Part 2, section 2.7.6).
-ghost use Rattle.amqp_sums.specs.Types.{composite, one_term, refl, agreement, writing_of};
+ghost use Rattle.amqp_sums.specs.Types.{composite, fields_of, names_of, one_term, refl, agreement, writing_of};
 ghost use Rattle.amqp_performatives.specs.Tables.{disposition};
 
-use amqp_codec::kernel::{Composite, CompositeTerm, Table, write_composite};
+use amqp_codec::kernel::{Composite, FieldList, FieldRule, write_composite};
 use amqp_codec::{ByteSource, Decoder, Encoder, Error, Serialize, SerializeTerm, fields};
 use amqp_delivery::DeliveryState;
 use amqp_restricted_types::{DeliveryNumber, Role};
@@ -47,14 +47,11 @@ impl Disposition {
     pub const FIELD_NAMES: &'static [&'static str] = disposition_fields!(names);
 }
 
-impl Composite for Disposition {
-    ghost table = { disposition };
+impl FieldList for Disposition {
+    ghost list = { fields_of disposition };
 
-    fn table() -> Table {
-        Table {
-            descriptor: Disposition::DESCRIPTOR,
-            fields: disposition_fields!(rules),
-        }
+    fn field_rules() -> &'static [FieldRule] {
+        disposition_fields!(rules)
     }
 
     fn blank(_alloc: Global) -> Disposition {
@@ -90,7 +87,7 @@ impl Serialize for Disposition {
     ghost writing = { writing_of (composite disposition) refl };
 
     fn serialize(&self, encoder: &mut Encoder) -> Result<(), Error> {
-        write_composite(self, encoder)
+        write_composite(self, Disposition::DESCRIPTOR.0, encoder)
     }
 
     fn in_type(&self) {
@@ -106,6 +103,12 @@ impl SerializeTerm for Disposition {
     ghost is_term = { one_term (composite disposition) refl };
 }
 
-impl CompositeTerm for Disposition {
+impl Composite for Disposition {
+    ghost names = { names_of disposition };
+
+    fn descriptor() -> (u64, &'static str) {
+        Disposition::DESCRIPTOR
+    }
+
     ghost agrees = { agreement (composite disposition) refl };
 }

@@ -1,8 +1,8 @@
 //! The end of a session (Part 2, section 2.7.8).
-ghost use Rattle.amqp_sums.specs.Types.{composite, one_term, refl, agreement, writing_of};
+ghost use Rattle.amqp_sums.specs.Types.{composite, fields_of, names_of, one_term, refl, agreement, writing_of};
 ghost use Rattle.amqp_performatives.specs.Tables.{ending};
 
-use amqp_codec::kernel::{Composite, CompositeTerm, Table, write_composite};
+use amqp_codec::kernel::{Composite, FieldList, FieldRule, write_composite};
 use amqp_codec::{
     ByteSource, Decoder, Encoder, Error as CodecError, Serialize, SerializeTerm, fields,
 };
@@ -33,14 +33,11 @@ impl End {
     pub const FIELD_NAMES: &'static [&'static str] = end_fields!(names);
 }
 
-impl Composite for End {
-    ghost table = { ending };
+impl FieldList for End {
+    ghost list = { fields_of ending };
 
-    fn table() -> Table {
-        Table {
-            descriptor: End::DESCRIPTOR,
-            fields: end_fields!(rules),
-        }
+    fn field_rules() -> &'static [FieldRule] {
+        end_fields!(rules)
     }
 
     fn blank(_alloc: Global) -> End {
@@ -69,7 +66,7 @@ impl Serialize for End {
     ghost writing = { writing_of (composite ending) refl };
 
     fn serialize(&self, encoder: &mut Encoder) -> Result<(), CodecError> {
-        write_composite(self, encoder)
+        write_composite(self, End::DESCRIPTOR.0, encoder)
     }
 
     fn in_type(&self) {
@@ -85,6 +82,12 @@ impl SerializeTerm for End {
     ghost is_term = { one_term (composite ending) refl };
 }
 
-impl CompositeTerm for End {
+impl Composite for End {
+    ghost names = { names_of ending };
+
+    fn descriptor() -> (u64, &'static str) {
+        End::DESCRIPTOR
+    }
+
     ghost agrees = { agreement (composite ending) refl };
 }

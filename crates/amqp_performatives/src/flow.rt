@@ -1,8 +1,8 @@
 //! The flow of a session or of a link (Part 2, section 2.7.4).
-ghost use Rattle.amqp_sums.specs.Types.{composite, one_term, refl, agreement, writing_of};
+ghost use Rattle.amqp_sums.specs.Types.{composite, fields_of, names_of, one_term, refl, agreement, writing_of};
 ghost use Rattle.amqp_performatives.specs.Tables.{flow};
 
-use amqp_codec::kernel::{Composite, CompositeTerm, Table, write_composite};
+use amqp_codec::kernel::{Composite, FieldList, FieldRule, write_composite};
 use amqp_codec::{ByteSource, Decoder, Encoder, Error, Serialize, SerializeTerm, fields};
 use amqp_errors::Fields;
 use amqp_restricted_types::{Handle, SequenceNo, TransferNumber};
@@ -62,14 +62,11 @@ impl Flow {
     pub const FIELD_NAMES: &'static [&'static str] = flow_fields!(names);
 }
 
-impl Composite for Flow {
-    ghost table = { flow };
+impl FieldList for Flow {
+    ghost list = { fields_of flow };
 
-    fn table() -> Table {
-        Table {
-            descriptor: Flow::DESCRIPTOR,
-            fields: flow_fields!(rules),
-        }
+    fn field_rules() -> &'static [FieldRule] {
+        flow_fields!(rules)
     }
 
     fn blank(_alloc: Global) -> Flow {
@@ -110,7 +107,7 @@ impl Serialize for Flow {
     ghost writing = { writing_of (composite flow) refl };
 
     fn serialize(&self, encoder: &mut Encoder) -> Result<(), Error> {
-        write_composite(self, encoder)
+        write_composite(self, Flow::DESCRIPTOR.0, encoder)
     }
 
     fn in_type(&self) {
@@ -126,6 +123,12 @@ impl SerializeTerm for Flow {
     ghost is_term = { one_term (composite flow) refl };
 }
 
-impl CompositeTerm for Flow {
+impl Composite for Flow {
+    ghost names = { names_of flow };
+
+    fn descriptor() -> (u64, &'static str) {
+        Flow::DESCRIPTOR
+    }
+
     ghost agrees = { agreement (composite flow) refl };
 }

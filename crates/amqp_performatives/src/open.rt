@@ -1,8 +1,8 @@
 //! The begin of a connection (Part 2, section 2.7.1).
-ghost use Rattle.amqp_sums.specs.Types.{composite, one_term, refl, agreement, writing_of};
+ghost use Rattle.amqp_sums.specs.Types.{composite, fields_of, names_of, one_term, refl, agreement, writing_of};
 ghost use Rattle.amqp_performatives.specs.Tables.{opening};
 
-use amqp_codec::kernel::{Composite, CompositeTerm, Table, write_composite};
+use amqp_codec::kernel::{Composite, FieldList, FieldRule, write_composite};
 use amqp_codec::{ByteSource, Decoder, Encoder, Error, Serialize, SerializeTerm, Symbol, fields};
 use amqp_containers::Array;
 use amqp_containers::multiple::{is_null_multiple, read_multiple, write_multiple};
@@ -61,14 +61,11 @@ impl Open {
     pub const FIELD_NAMES: &'static [&'static str] = open_fields!(names);
 }
 
-impl Composite for Open {
-    ghost table = { opening };
+impl FieldList for Open {
+    ghost list = { fields_of opening };
 
-    fn table() -> Table {
-        Table {
-            descriptor: Open::DESCRIPTOR,
-            fields: open_fields!(rules),
-        }
+    fn field_rules() -> &'static [FieldRule] {
+        open_fields!(rules)
     }
 
     fn blank(alloc: Global) -> Open {
@@ -108,7 +105,7 @@ impl Serialize for Open {
     ghost writing = { writing_of (composite opening) refl };
 
     fn serialize(&self, encoder: &mut Encoder) -> Result<(), Error> {
-        write_composite(self, encoder)
+        write_composite(self, Open::DESCRIPTOR.0, encoder)
     }
 
     fn in_type(&self) {
@@ -124,6 +121,12 @@ impl SerializeTerm for Open {
     ghost is_term = { one_term (composite opening) refl };
 }
 
-impl CompositeTerm for Open {
+impl Composite for Open {
+    ghost names = { names_of opening };
+
+    fn descriptor() -> (u64, &'static str) {
+        Open::DESCRIPTOR
+    }
+
     ghost agrees = { agreement (composite opening) refl };
 }

@@ -1,8 +1,8 @@
 //! A transfer of a message (Part 2, section 2.7.5).
-ghost use Rattle.amqp_sums.specs.Types.{composite, one_term, refl, agreement, writing_of};
+ghost use Rattle.amqp_sums.specs.Types.{composite, fields_of, names_of, one_term, refl, agreement, writing_of};
 ghost use Rattle.amqp_performatives.specs.Tables.{transfer};
 
-use amqp_codec::kernel::{Composite, CompositeTerm, Table, write_composite};
+use amqp_codec::kernel::{Composite, FieldList, FieldRule, write_composite};
 use amqp_codec::{ByteSource, Decoder, Encoder, Error, Serialize, SerializeTerm, fields};
 use amqp_delivery::DeliveryState;
 use amqp_restricted_types::{
@@ -65,14 +65,11 @@ impl Transfer {
     pub const FIELD_NAMES: &'static [&'static str] = transfer_fields!(names);
 }
 
-impl Composite for Transfer {
-    ghost table = { transfer };
+impl FieldList for Transfer {
+    ghost list = { fields_of transfer };
 
-    fn table() -> Table {
-        Table {
-            descriptor: Transfer::DESCRIPTOR,
-            fields: transfer_fields!(rules),
-        }
+    fn field_rules() -> &'static [FieldRule] {
+        transfer_fields!(rules)
     }
 
     fn blank(_alloc: Global) -> Transfer {
@@ -113,7 +110,7 @@ impl Serialize for Transfer {
     ghost writing = { writing_of (composite transfer) refl };
 
     fn serialize(&self, encoder: &mut Encoder) -> Result<(), Error> {
-        write_composite(self, encoder)
+        write_composite(self, Transfer::DESCRIPTOR.0, encoder)
     }
 
     fn in_type(&self) {
@@ -129,6 +126,12 @@ impl SerializeTerm for Transfer {
     ghost is_term = { one_term (composite transfer) refl };
 }
 
-impl CompositeTerm for Transfer {
+impl Composite for Transfer {
+    ghost names = { names_of transfer };
+
+    fn descriptor() -> (u64, &'static str) {
+        Transfer::DESCRIPTOR
+    }
+
     ghost agrees = { agreement (composite transfer) refl };
 }

@@ -1,8 +1,8 @@
 //! A question from the server (Part 5, section 5.3.3.3).
-ghost use Rattle.amqp_sums.specs.Types.{composite, one_term, refl, agreement, writing_of};
+ghost use Rattle.amqp_sums.specs.Types.{composite, fields_of, names_of, one_term, refl, agreement, writing_of};
 ghost use Rattle.amqp_sasl.specs.Tables.{sasl_challenge};
 
-use amqp_codec::kernel::{Composite, CompositeTerm, Table, write_composite};
+use amqp_codec::kernel::{Composite, FieldList, FieldRule, write_composite};
 use amqp_codec::{ByteSource, Decoder, Encoder, Error, Serialize, SerializeTerm, fields};
 use amqp_primitives::Binary;
 use std::alloc::Global;
@@ -31,14 +31,11 @@ impl SaslChallenge {
     pub const FIELD_NAMES: &'static [&'static str] = sasl_challenge_fields!(names);
 }
 
-impl Composite for SaslChallenge {
-    ghost table = { sasl_challenge };
+impl FieldList for SaslChallenge {
+    ghost list = { fields_of sasl_challenge };
 
-    fn table() -> Table {
-        Table {
-            descriptor: SaslChallenge::DESCRIPTOR,
-            fields: sasl_challenge_fields!(rules),
-        }
+    fn field_rules() -> &'static [FieldRule] {
+        sasl_challenge_fields!(rules)
     }
 
     fn blank(alloc: Global) -> SaslChallenge {
@@ -69,7 +66,7 @@ impl Serialize for SaslChallenge {
     ghost writing = { writing_of (composite sasl_challenge) refl };
 
     fn serialize(&self, encoder: &mut Encoder) -> Result<(), Error> {
-        write_composite(self, encoder)
+        write_composite(self, SaslChallenge::DESCRIPTOR.0, encoder)
     }
 
     fn in_type(&self) {
@@ -85,6 +82,12 @@ impl SerializeTerm for SaslChallenge {
     ghost is_term = { one_term (composite sasl_challenge) refl };
 }
 
-impl CompositeTerm for SaslChallenge {
+impl Composite for SaslChallenge {
+    ghost names = { names_of sasl_challenge };
+
+    fn descriptor() -> (u64, &'static str) {
+        SaslChallenge::DESCRIPTOR
+    }
+
     ghost agrees = { agreement (composite sasl_challenge) refl };
 }

@@ -1,8 +1,8 @@
 //! The client's choice of a mechanism (Part 5, section 5.3.3.2).
-ghost use Rattle.amqp_sums.specs.Types.{composite, one_term, refl, agreement, writing_of};
+ghost use Rattle.amqp_sums.specs.Types.{composite, fields_of, names_of, one_term, refl, agreement, writing_of};
 ghost use Rattle.amqp_sasl.specs.Tables.{sasl_init};
 
-use amqp_codec::kernel::{Composite, CompositeTerm, Table, write_composite};
+use amqp_codec::kernel::{Composite, FieldList, FieldRule, write_composite};
 use amqp_codec::{ByteSource, Decoder, Encoder, Error, Serialize, SerializeTerm, Symbol, fields};
 use amqp_primitives::Binary;
 use std::alloc::Global;
@@ -37,14 +37,11 @@ impl SaslInit {
     pub const FIELD_NAMES: &'static [&'static str] = sasl_init_fields!(names);
 }
 
-impl Composite for SaslInit {
-    ghost table = { sasl_init };
+impl FieldList for SaslInit {
+    ghost list = { fields_of sasl_init };
 
-    fn table() -> Table {
-        Table {
-            descriptor: SaslInit::DESCRIPTOR,
-            fields: sasl_init_fields!(rules),
-        }
+    fn field_rules() -> &'static [FieldRule] {
+        sasl_init_fields!(rules)
     }
 
     fn blank(alloc: Global) -> SaslInit {
@@ -77,7 +74,7 @@ impl Serialize for SaslInit {
     ghost writing = { writing_of (composite sasl_init) refl };
 
     fn serialize(&self, encoder: &mut Encoder) -> Result<(), Error> {
-        write_composite(self, encoder)
+        write_composite(self, SaslInit::DESCRIPTOR.0, encoder)
     }
 
     fn in_type(&self) {
@@ -93,6 +90,12 @@ impl SerializeTerm for SaslInit {
     ghost is_term = { one_term (composite sasl_init) refl };
 }
 
-impl CompositeTerm for SaslInit {
+impl Composite for SaslInit {
+    ghost names = { names_of sasl_init };
+
+    fn descriptor() -> (u64, &'static str) {
+        SaslInit::DESCRIPTOR
+    }
+
     ghost agrees = { agreement (composite sasl_init) refl };
 }

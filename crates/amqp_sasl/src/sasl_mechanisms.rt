@@ -2,11 +2,11 @@
 ghost use Rattle.std.specs.Prelude.{◌≡◌, ◌∷◌, [], IfErr, IfOk, codes, map, string_bytes};
 ghost use Rattle.std.specs.List.{AllZip};
 ghost use Rattle.amqp_wire.specs.declared.error.Error.TheVariants.{Memory};
-ghost use Rattle.amqp_sums.specs.Types.{composite, one_term, refl, agreement, writing_of};
+ghost use Rattle.amqp_sums.specs.Types.{composite, fields_of, names_of, one_term, refl, agreement, writing_of};
 ghost use Rattle.amqp_sasl.specs.Tables.{sasl_mechanisms};
 
 use crate::constants::ANONYMOUS;
-use amqp_codec::kernel::{Composite, CompositeTerm, Table, write_composite};
+use amqp_codec::kernel::{Composite, FieldList, FieldRule, write_composite};
 use amqp_codec::{ByteSource, Decoder, Encoder, Error, Serialize, SerializeTerm, Symbol, fields};
 use amqp_containers::Array;
 use amqp_containers::multiple::{
@@ -63,14 +63,11 @@ impl Clone for SaslMechanisms {
     }
 }
 
-impl Composite for SaslMechanisms {
-    ghost table = { sasl_mechanisms };
+impl FieldList for SaslMechanisms {
+    ghost list = { fields_of sasl_mechanisms };
 
-    fn table() -> Table {
-        Table {
-            descriptor: SaslMechanisms::DESCRIPTOR,
-            fields: sasl_mechanisms_fields!(rules),
-        }
+    fn field_rules() -> &'static [FieldRule] {
+        sasl_mechanisms_fields!(rules)
     }
 
     fn blank(alloc: Global) -> SaslMechanisms {
@@ -101,7 +98,7 @@ impl Serialize for SaslMechanisms {
     ghost writing = { writing_of (composite sasl_mechanisms) refl };
 
     fn serialize(&self, encoder: &mut Encoder) -> Result<(), Error> {
-        write_composite(self, encoder)
+        write_composite(self, SaslMechanisms::DESCRIPTOR.0, encoder)
     }
 
     fn in_type(&self) {
@@ -117,6 +114,12 @@ impl SerializeTerm for SaslMechanisms {
     ghost is_term = { one_term (composite sasl_mechanisms) refl };
 }
 
-impl CompositeTerm for SaslMechanisms {
+impl Composite for SaslMechanisms {
+    ghost names = { names_of sasl_mechanisms };
+
+    fn descriptor() -> (u64, &'static str) {
+        SaslMechanisms::DESCRIPTOR
+    }
+
     ghost agrees = { agreement (composite sasl_mechanisms) refl };
 }

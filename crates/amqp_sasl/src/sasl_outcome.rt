@@ -1,8 +1,8 @@
 //! The end of the exchange (Part 5, section 5.3.3.5).
-ghost use Rattle.amqp_sums.specs.Types.{composite, one_term, refl, agreement, writing_of};
+ghost use Rattle.amqp_sums.specs.Types.{composite, fields_of, names_of, one_term, refl, agreement, writing_of};
 ghost use Rattle.amqp_sasl.specs.Tables.{sasl_outcome};
 
-use amqp_codec::kernel::{Composite, CompositeTerm, Table, write_composite};
+use amqp_codec::kernel::{Composite, FieldList, FieldRule, write_composite};
 use amqp_codec::{ByteSource, Decoder, Encoder, Error, Serialize, SerializeTerm, fields};
 use amqp_primitives::Binary;
 use amqp_restricted_types::SaslCode;
@@ -35,14 +35,11 @@ impl SaslOutcome {
     pub const FIELD_NAMES: &'static [&'static str] = sasl_outcome_fields!(names);
 }
 
-impl Composite for SaslOutcome {
-    ghost table = { sasl_outcome };
+impl FieldList for SaslOutcome {
+    ghost list = { fields_of sasl_outcome };
 
-    fn table() -> Table {
-        Table {
-            descriptor: SaslOutcome::DESCRIPTOR,
-            fields: sasl_outcome_fields!(rules),
-        }
+    fn field_rules() -> &'static [FieldRule] {
+        sasl_outcome_fields!(rules)
     }
 
     fn blank(_alloc: Global) -> SaslOutcome {
@@ -74,7 +71,7 @@ impl Serialize for SaslOutcome {
     ghost writing = { writing_of (composite sasl_outcome) refl };
 
     fn serialize(&self, encoder: &mut Encoder) -> Result<(), Error> {
-        write_composite(self, encoder)
+        write_composite(self, SaslOutcome::DESCRIPTOR.0, encoder)
     }
 
     fn in_type(&self) {
@@ -90,6 +87,12 @@ impl SerializeTerm for SaslOutcome {
     ghost is_term = { one_term (composite sasl_outcome) refl };
 }
 
-impl CompositeTerm for SaslOutcome {
+impl Composite for SaslOutcome {
+    ghost names = { names_of sasl_outcome };
+
+    fn descriptor() -> (u64, &'static str) {
+        SaslOutcome::DESCRIPTOR
+    }
+
     ghost agrees = { agreement (composite sasl_outcome) refl };
 }

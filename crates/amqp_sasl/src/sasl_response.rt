@@ -1,8 +1,8 @@
 //! The client's answer to a question (Part 5, section 5.3.3.4).
-ghost use Rattle.amqp_sums.specs.Types.{composite, one_term, refl, agreement, writing_of};
+ghost use Rattle.amqp_sums.specs.Types.{composite, fields_of, names_of, one_term, refl, agreement, writing_of};
 ghost use Rattle.amqp_sasl.specs.Tables.{sasl_response};
 
-use amqp_codec::kernel::{Composite, CompositeTerm, Table, write_composite};
+use amqp_codec::kernel::{Composite, FieldList, FieldRule, write_composite};
 use amqp_codec::{ByteSource, Decoder, Encoder, Error, Serialize, SerializeTerm, fields};
 use amqp_primitives::Binary;
 use std::alloc::Global;
@@ -31,14 +31,11 @@ impl SaslResponse {
     pub const FIELD_NAMES: &'static [&'static str] = sasl_response_fields!(names);
 }
 
-impl Composite for SaslResponse {
-    ghost table = { sasl_response };
+impl FieldList for SaslResponse {
+    ghost list = { fields_of sasl_response };
 
-    fn table() -> Table {
-        Table {
-            descriptor: SaslResponse::DESCRIPTOR,
-            fields: sasl_response_fields!(rules),
-        }
+    fn field_rules() -> &'static [FieldRule] {
+        sasl_response_fields!(rules)
     }
 
     fn blank(alloc: Global) -> SaslResponse {
@@ -69,7 +66,7 @@ impl Serialize for SaslResponse {
     ghost writing = { writing_of (composite sasl_response) refl };
 
     fn serialize(&self, encoder: &mut Encoder) -> Result<(), Error> {
-        write_composite(self, encoder)
+        write_composite(self, SaslResponse::DESCRIPTOR.0, encoder)
     }
 
     fn in_type(&self) {
@@ -85,6 +82,12 @@ impl SerializeTerm for SaslResponse {
     ghost is_term = { one_term (composite sasl_response) refl };
 }
 
-impl CompositeTerm for SaslResponse {
+impl Composite for SaslResponse {
+    ghost names = { names_of sasl_response };
+
+    fn descriptor() -> (u64, &'static str) {
+        SaslResponse::DESCRIPTOR
+    }
+
     ghost agrees = { agreement (composite sasl_response) refl };
 }

@@ -9,7 +9,7 @@ pub use Rattle.amqp_codec.specs.OptionType.{option_of}
 pub use Rattle.amqp_codec.specs.Slots.{mandatory, optional, default}
 pub use Rattle.amqp_codec.specs.Fields.{Fields, none, field, ◌▸◌}
 pub use Rattle.amqp_codec.specs.ListType.{ListTable, list_of}
-pub use Rattle.amqp_codec.specs.Composite.{Table, composite}
+pub use Rattle.amqp_codec.specs.Composite.{Table, fields_of, names_of, composite}
 pub use Rattle.amqp_codec.specs.Fieldless.{fieldless, has_none}
 pub use Rattle.amqp_codec.specs.PlainTable.{plain}
 pub use Rattle.amqp_sums.specs.Choices.{Choices, no_more, member, Chosen, SumOf, sum_of, sum_writing, sum_one, sum_agreement}

@@ -7,6 +7,7 @@ ghost use Rattle.amqp_lookahead.specs.Members.{as_name};
 ghost use Rattle.amqp_decoder.specs.Reading.{AnswersRead};
 ghost use Rattle.amqp_decoder.specs.Primitives.{ReadsValue};
 ghost use Rattle.amqp_decoder.specs.Steps.{Tries};
+ghost use Rattle.amqp_codec.specs.Composite.{table_with};
 ghost use Rattle.amqp_codec.specs.Fields.{take_memory};
 ghost use Rattle.amqp_codec.specs.FieldReading.{FieldsFault};
 ghost use Rattle.amqp_codec.specs.Written.{WritesTerms, canon_of};
@@ -60,9 +61,9 @@ pub fn read_as<C: Composite, S: From<C> + Drop, R: ByteSource>(
     alloc: Global,
 ) -> Result<S, Error>
     ensures read { Tells R.remaining →
-        AnswersRead (take_memory C.table.fields) (ChoiceRead C.table S.from_gives) (FieldsFault C.table.fields)
+        AnswersRead (take_memory C.list.fields) (ChoiceRead (table_with C.names C.list) S.from_gives) (FieldsFault C.list.fields)
         decoder.old result decoder.new }
-    ensures tries { Tries (take_memory C.table.fields) decoder.old result decoder.new }
+    ensures tries { Tries (take_memory C.list.fields) decoder.old result decoder.new }
 {
     let member: C = read_fields(decoder, alloc)?;
     Ok(S::from(member))

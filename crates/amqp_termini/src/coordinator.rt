@@ -1,9 +1,9 @@
 //! Coordinators of transactions (Part 4, section 4.5.1).
 ghost use Rattle.std.specs.Prelude.{◌≡◌, None};
-ghost use Rattle.amqp_sums.specs.Types.{composite, one_term, refl, agreement, writing_of};
+ghost use Rattle.amqp_sums.specs.Types.{composite, fields_of, names_of, one_term, refl, agreement, writing_of};
 ghost use Rattle.amqp_termini.specs.Tables.{coordinator};
 
-use amqp_codec::kernel::{Composite, CompositeTerm, Table, write_composite};
+use amqp_codec::kernel::{Composite, FieldList, FieldRule, write_composite};
 use amqp_codec::{ByteSource, Decoder, Encoder, Error, Serialize, SerializeTerm, fields};
 use amqp_containers::Array;
 use amqp_containers::multiple::{is_null_multiple, read_multiple, write_multiple};
@@ -50,14 +50,11 @@ impl Default for Coordinator {
     }
 }
 
-impl Composite for Coordinator {
-    ghost table = { coordinator };
+impl FieldList for Coordinator {
+    ghost list = { fields_of coordinator };
 
-    fn table() -> Table {
-        Table {
-            descriptor: Coordinator::DESCRIPTOR,
-            fields: coordinator_fields!(rules),
-        }
+    fn field_rules() -> &'static [FieldRule] {
+        coordinator_fields!(rules)
     }
 
     fn blank(_alloc: Global) -> Coordinator {
@@ -86,7 +83,7 @@ impl Serialize for Coordinator {
     ghost writing = { writing_of (composite coordinator) refl };
 
     fn serialize(&self, encoder: &mut Encoder) -> Result<(), Error> {
-        write_composite(self, encoder)
+        write_composite(self, Coordinator::DESCRIPTOR.0, encoder)
     }
 
     fn in_type(&self) {
@@ -102,6 +99,12 @@ impl SerializeTerm for Coordinator {
     ghost is_term = { one_term (composite coordinator) refl };
 }
 
-impl CompositeTerm for Coordinator {
+impl Composite for Coordinator {
+    ghost names = { names_of coordinator };
+
+    fn descriptor() -> (u64, &'static str) {
+        Coordinator::DESCRIPTOR
+    }
+
     ghost agrees = { agreement (composite coordinator) refl };
 }

@@ -1,8 +1,8 @@
 //! Lifetime of a node: delete on close (Part 3, section 3.5.10).
-ghost use Rattle.amqp_sums.specs.Types.{composite, has_none, one_term, refl, agreement, writing_of};
+ghost use Rattle.amqp_sums.specs.Types.{composite, has_none, names_of, one_term, refl, agreement, writing_of};
 ghost use Rattle.amqp_termini.specs.Tables.{delete_on_close};
 
-use amqp_codec::kernel::{CompositeTerm, Fieldless, write_composite};
+use amqp_codec::kernel::{Composite, Fieldless, write_composite};
 use amqp_codec::{Encoder, Error, Serialize, SerializeTerm};
 
 /// The node lives until the link for which it was made is closed.
@@ -24,10 +24,6 @@ impl Fieldless for DeleteOnClose {
 
     ghost no_fields = { has_none _ };
 
-    fn descriptor() -> (u64, &'static str) {
-        DeleteOnClose::DESCRIPTOR
-    }
-
     fn value() -> DeleteOnClose {
         DeleteOnClose {}
     }
@@ -37,7 +33,7 @@ impl Serialize for DeleteOnClose {
     ghost writing = { writing_of (composite delete_on_close) refl };
 
     fn serialize(&self, encoder: &mut Encoder) -> Result<(), Error> {
-        write_composite(self, encoder)
+        write_composite(self, DeleteOnClose::DESCRIPTOR.0, encoder)
     }
 
     fn in_type(&self) {}
@@ -51,6 +47,12 @@ impl SerializeTerm for DeleteOnClose {
     ghost is_term = { one_term (composite delete_on_close) refl };
 }
 
-impl CompositeTerm for DeleteOnClose {
+impl Composite for DeleteOnClose {
+    ghost names = { names_of delete_on_close };
+
+    fn descriptor() -> (u64, &'static str) {
+        DeleteOnClose::DESCRIPTOR
+    }
+
     ghost agrees = { agreement (composite delete_on_close) refl };
 }

@@ -1,8 +1,8 @@
 //! Lifetime of a node: delete on no links (Part 3, section 3.5.11).
-ghost use Rattle.amqp_sums.specs.Types.{composite, has_none, one_term, refl, agreement, writing_of};
+ghost use Rattle.amqp_sums.specs.Types.{composite, has_none, names_of, one_term, refl, agreement, writing_of};
 ghost use Rattle.amqp_termini.specs.Tables.{delete_on_no_links};
 
-use amqp_codec::kernel::{CompositeTerm, Fieldless, write_composite};
+use amqp_codec::kernel::{Composite, Fieldless, write_composite};
 use amqp_codec::{Encoder, Error, Serialize, SerializeTerm};
 
 /// The node lives until there is no link to it.
@@ -24,10 +24,6 @@ impl Fieldless for DeleteOnNoLinks {
 
     ghost no_fields = { has_none _ };
 
-    fn descriptor() -> (u64, &'static str) {
-        DeleteOnNoLinks::DESCRIPTOR
-    }
-
     fn value() -> DeleteOnNoLinks {
         DeleteOnNoLinks {}
     }
@@ -37,7 +33,7 @@ impl Serialize for DeleteOnNoLinks {
     ghost writing = { writing_of (composite delete_on_no_links) refl };
 
     fn serialize(&self, encoder: &mut Encoder) -> Result<(), Error> {
-        write_composite(self, encoder)
+        write_composite(self, DeleteOnNoLinks::DESCRIPTOR.0, encoder)
     }
 
     fn in_type(&self) {}
@@ -51,6 +47,12 @@ impl SerializeTerm for DeleteOnNoLinks {
     ghost is_term = { one_term (composite delete_on_no_links) refl };
 }
 
-impl CompositeTerm for DeleteOnNoLinks {
+impl Composite for DeleteOnNoLinks {
+    ghost names = { names_of delete_on_no_links };
+
+    fn descriptor() -> (u64, &'static str) {
+        DeleteOnNoLinks::DESCRIPTOR
+    }
+
     ghost agrees = { agreement (composite delete_on_no_links) refl };
 }

@@ -1,8 +1,8 @@
 //! Lifetime of a node: delete on no links or messages (Part 3, section 3.5.13).
-ghost use Rattle.amqp_sums.specs.Types.{composite, has_none, one_term, refl, agreement, writing_of};
+ghost use Rattle.amqp_sums.specs.Types.{composite, has_none, names_of, one_term, refl, agreement, writing_of};
 ghost use Rattle.amqp_termini.specs.Tables.{delete_on_no_links_or_messages};
 
-use amqp_codec::kernel::{CompositeTerm, Fieldless, write_composite};
+use amqp_codec::kernel::{Composite, Fieldless, write_composite};
 use amqp_codec::{Encoder, Error, Serialize, SerializeTerm};
 
 /// The node lives until there is neither a link to it nor a message on it.
@@ -24,10 +24,6 @@ impl Fieldless for DeleteOnNoLinksOrMessages {
 
     ghost no_fields = { has_none _ };
 
-    fn descriptor() -> (u64, &'static str) {
-        DeleteOnNoLinksOrMessages::DESCRIPTOR
-    }
-
     fn value() -> DeleteOnNoLinksOrMessages {
         DeleteOnNoLinksOrMessages {}
     }
@@ -37,7 +33,7 @@ impl Serialize for DeleteOnNoLinksOrMessages {
     ghost writing = { writing_of (composite delete_on_no_links_or_messages) refl };
 
     fn serialize(&self, encoder: &mut Encoder) -> Result<(), Error> {
-        write_composite(self, encoder)
+        write_composite(self, DeleteOnNoLinksOrMessages::DESCRIPTOR.0, encoder)
     }
 
     fn in_type(&self) {}
@@ -51,6 +47,12 @@ impl SerializeTerm for DeleteOnNoLinksOrMessages {
     ghost is_term = { one_term (composite delete_on_no_links_or_messages) refl };
 }
 
-impl CompositeTerm for DeleteOnNoLinksOrMessages {
+impl Composite for DeleteOnNoLinksOrMessages {
+    ghost names = { names_of delete_on_no_links_or_messages };
+
+    fn descriptor() -> (u64, &'static str) {
+        DeleteOnNoLinksOrMessages::DESCRIPTOR
+    }
+
     ghost agrees = { agreement (composite delete_on_no_links_or_messages) refl };
 }

@@ -1,8 +1,8 @@
 //! Lifetime of a node: delete on no messages (Part 3, section 3.5.12).
-ghost use Rattle.amqp_sums.specs.Types.{composite, has_none, one_term, refl, agreement, writing_of};
+ghost use Rattle.amqp_sums.specs.Types.{composite, has_none, names_of, one_term, refl, agreement, writing_of};
 ghost use Rattle.amqp_termini.specs.Tables.{delete_on_no_messages};
 
-use amqp_codec::kernel::{CompositeTerm, Fieldless, write_composite};
+use amqp_codec::kernel::{Composite, Fieldless, write_composite};
 use amqp_codec::{Encoder, Error, Serialize, SerializeTerm};
 
 /// The node lives until there is no message on it.
@@ -24,10 +24,6 @@ impl Fieldless for DeleteOnNoMessages {
 
     ghost no_fields = { has_none _ };
 
-    fn descriptor() -> (u64, &'static str) {
-        DeleteOnNoMessages::DESCRIPTOR
-    }
-
     fn value() -> DeleteOnNoMessages {
         DeleteOnNoMessages {}
     }
@@ -37,7 +33,7 @@ impl Serialize for DeleteOnNoMessages {
     ghost writing = { writing_of (composite delete_on_no_messages) refl };
 
     fn serialize(&self, encoder: &mut Encoder) -> Result<(), Error> {
-        write_composite(self, encoder)
+        write_composite(self, DeleteOnNoMessages::DESCRIPTOR.0, encoder)
     }
 
     fn in_type(&self) {}
@@ -51,6 +47,12 @@ impl SerializeTerm for DeleteOnNoMessages {
     ghost is_term = { one_term (composite delete_on_no_messages) refl };
 }
 
-impl CompositeTerm for DeleteOnNoMessages {
+impl Composite for DeleteOnNoMessages {
+    ghost names = { names_of delete_on_no_messages };
+
+    fn descriptor() -> (u64, &'static str) {
+        DeleteOnNoMessages::DESCRIPTOR
+    }
+
     ghost agrees = { agreement (composite delete_on_no_messages) refl };
 }

@@ -1,11 +1,11 @@
 //! Sources (Part 3, section 3.5.3).
 ghost use Rattle.std.specs.Prelude.{◌≡◌};
-ghost use Rattle.amqp_sums.specs.Types.{composite, one_term, refl, agreement, writing_of};
+ghost use Rattle.amqp_sums.specs.Types.{composite, fields_of, names_of, one_term, refl, agreement, writing_of};
 ghost use Rattle.amqp_termini.specs.Made.{default_source, source_at};
 ghost use Rattle.amqp_termini.specs.Tables.{source};
 
 use crate::{Address, FilterSet, NodeProperties, SourceBuilder};
-use amqp_codec::kernel::{Composite, CompositeTerm, Table, write_composite};
+use amqp_codec::kernel::{Composite, FieldList, FieldRule, write_composite};
 use amqp_codec::{ByteSource, Decoder, Encoder, Error, Serialize, SerializeTerm, Symbol, fields};
 use amqp_containers::Array;
 use amqp_containers::multiple::{is_null_multiple, read_multiple, write_multiple};
@@ -107,14 +107,11 @@ impl From<String> for Source {
     }
 }
 
-impl Composite for Source {
-    ghost table = { source };
+impl FieldList for Source {
+    ghost list = { fields_of source };
 
-    fn table() -> Table {
-        Table {
-            descriptor: Source::DESCRIPTOR,
-            fields: source_fields!(rules),
-        }
+    fn field_rules() -> &'static [FieldRule] {
+        source_fields!(rules)
     }
 
     fn blank(_alloc: Global) -> Source {
@@ -143,7 +140,7 @@ impl Serialize for Source {
     ghost writing = { writing_of (composite source) refl };
 
     fn serialize(&self, encoder: &mut Encoder) -> Result<(), Error> {
-        write_composite(self, encoder)
+        write_composite(self, Source::DESCRIPTOR.0, encoder)
     }
 
     fn in_type(&self) {
@@ -159,6 +156,12 @@ impl SerializeTerm for Source {
     ghost is_term = { one_term (composite source) refl };
 }
 
-impl CompositeTerm for Source {
+impl Composite for Source {
+    ghost names = { names_of source };
+
+    fn descriptor() -> (u64, &'static str) {
+        Source::DESCRIPTOR
+    }
+
     ghost agrees = { agreement (composite source) refl };
 }

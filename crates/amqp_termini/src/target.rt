@@ -1,11 +1,11 @@
 //! Targets (Part 3, section 3.5.4).
 ghost use Rattle.std.specs.Prelude.{◌≡◌};
-ghost use Rattle.amqp_sums.specs.Types.{composite, one_term, refl, agreement, writing_of};
+ghost use Rattle.amqp_sums.specs.Types.{composite, fields_of, names_of, one_term, refl, agreement, writing_of};
 ghost use Rattle.amqp_termini.specs.Made.{default_target, target_at};
 ghost use Rattle.amqp_termini.specs.Tables.{target};
 
 use crate::{Address, NodeProperties, TargetBuilder};
-use amqp_codec::kernel::{Composite, CompositeTerm, Table, write_composite};
+use amqp_codec::kernel::{Composite, FieldList, FieldRule, write_composite};
 use amqp_codec::{ByteSource, Decoder, Encoder, Error, Serialize, SerializeTerm, Symbol, fields};
 use amqp_containers::Array;
 use amqp_containers::multiple::{is_null_multiple, read_multiple, write_multiple};
@@ -90,14 +90,11 @@ impl From<String> for Target {
     }
 }
 
-impl Composite for Target {
-    ghost table = { target };
+impl FieldList for Target {
+    ghost list = { fields_of target };
 
-    fn table() -> Table {
-        Table {
-            descriptor: Target::DESCRIPTOR,
-            fields: target_fields!(rules),
-        }
+    fn field_rules() -> &'static [FieldRule] {
+        target_fields!(rules)
     }
 
     fn blank(_alloc: Global) -> Target {
@@ -126,7 +123,7 @@ impl Serialize for Target {
     ghost writing = { writing_of (composite target) refl };
 
     fn serialize(&self, encoder: &mut Encoder) -> Result<(), Error> {
-        write_composite(self, encoder)
+        write_composite(self, Target::DESCRIPTOR.0, encoder)
     }
 
     fn in_type(&self) {
@@ -142,6 +139,12 @@ impl SerializeTerm for Target {
     ghost is_term = { one_term (composite target) refl };
 }
 
-impl CompositeTerm for Target {
+impl Composite for Target {
+    ghost names = { names_of target };
+
+    fn descriptor() -> (u64, &'static str) {
+        Target::DESCRIPTOR
+    }
+
     ghost agrees = { agreement (composite target) refl };
 }

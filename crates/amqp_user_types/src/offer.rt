@@ -1,8 +1,8 @@
 //! A composite that isn't of the standard, with a field of several values before a mandatory one, and one after it.
-ghost use Rattle.amqp_sums.specs.Types.{composite, one_term, refl, agreement, writing_of};
+ghost use Rattle.amqp_sums.specs.Types.{composite, fields_of, names_of, one_term, refl, agreement, writing_of};
 ghost use Rattle.amqp_user_types.specs.Tables.{offer};
 
-use amqp_codec::kernel::{Composite, CompositeTerm, FieldRule, Table, read_into, write_composite};
+use amqp_codec::kernel::{Composite, FieldList, FieldRule, read_into, write_composite};
 use amqp_codec::{ByteSource, Decoder, Encoder, Error, Serialize, SerializeTerm, Symbol};
 use amqp_containers::Array;
 use amqp_containers::multiple::{is_null_multiple, read_multiple, write_multiple};
@@ -24,18 +24,15 @@ impl Offer {
     pub const DESCRIPTOR: (u64, &'static str) = (0x99, "test:offer:list");
 }
 
-impl Composite for Offer {
-    ghost table = { offer };
+impl FieldList for Offer {
+    ghost list = { fields_of offer };
 
-    fn table() -> Table {
-        Table {
-            descriptor: Offer::DESCRIPTOR,
-            fields: &[
-                FieldRule::Multiple,
-                FieldRule::Mandatory,
-                FieldRule::Multiple,
-            ],
-        }
+    fn field_rules() -> &'static [FieldRule] {
+        &[
+            FieldRule::Multiple,
+            FieldRule::Mandatory,
+            FieldRule::Multiple,
+        ]
     }
 
     fn blank(_alloc: Global) -> Offer {
@@ -83,7 +80,7 @@ impl Serialize for Offer {
     ghost writing = { writing_of (composite offer) refl };
 
     fn serialize(&self, encoder: &mut Encoder) -> Result<(), Error> {
-        write_composite(self, encoder)
+        write_composite(self, Offer::DESCRIPTOR.0, encoder)
     }
 
     fn in_type(&self) {
@@ -101,6 +98,12 @@ impl SerializeTerm for Offer {
     ghost is_term = { one_term (composite offer) refl };
 }
 
-impl CompositeTerm for Offer {
+impl Composite for Offer {
+    ghost names = { names_of offer };
+
+    fn descriptor() -> (u64, &'static str) {
+        Offer::DESCRIPTOR
+    }
+
     ghost agrees = { agreement (composite offer) refl };
 }

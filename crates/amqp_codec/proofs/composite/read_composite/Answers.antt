@@ -1,7 +1,7 @@
 use Rattle.std.proofs.Common.{false, [], ◌∷◌, ap₂}
 use Rattle.std.proofs.lemmas.Result.{err_from_is_err_and}
 use Rattle.amqp_model.specs.Composite.{MeansComposite}
-use Rattle.amqp_codec.specs.Composite.{table_of, composite_members}
+use Rattle.amqp_codec.specs.Composite.{table_of, table_with, composite_members}
 use Rattle.amqp_codec.specs.laws.Composite.{composite_is_sum}
 use Rattle.amqp_codec.specs.laws.Members.{unopened, unread, unended, read_whole}
 use Rattle.amqp_codec.proofs.Tries.{taking_none, taking_so, began_then, refused_more, refused_behind}
@@ -9,33 +9,33 @@ use Rattle.amqp_codec.proofs.composite.read_composite.Goals as goal
 
 pub returns-in_err-begin_one_of-clause-read : goal.returns-in_err-begin_one_of-clause-read
 returns-in_err-begin_one_of-clause-read g c tells =
-    let t = g.C.Composite.table in
-    let names = ap₂ (λ a b. (a, b) ∷ []) c.table.ensures.code c.table.ensures.name in
+    let t = table_with g.C.Composite.names g.C.FieldList.list in
+    let names = ap₂ (λ a b. (a, b) ∷ []) c.descriptor.ensures.code c.descriptor.ensures.name in
     let p = err_from_is_err_and c.from_residual.result c.from_residual.ensures.1 in
-    rw (p.1, p.2) (unopened (composite_members t) (λ s. MeansComposite (table_of t)) (composite_is_sum t) (c.table.result.descriptor ∷ []) _
+    rw (p.1, p.2) (unopened (composite_members t) (λ s. MeansComposite (table_of t)) (composite_is_sum t) (c.descriptor.result ∷ []) _
     _ _ names (c.in_err-begin_one_of.ensures.opened tells))
 
 pub returns-in_err-value-clause-read : goal.returns-in_err-value-clause-read
 returns-in_err-value-clause-read g c tells =
-    let t = g.C.Composite.table in
-    let names = ap₂ (λ a b. (a, b) ∷ []) c.table.ensures.code c.table.ensures.name in
+    let t = table_with g.C.Composite.names g.C.FieldList.list in
+    let names = ap₂ (λ a b. (a, b) ∷ []) c.descriptor.ensures.code c.descriptor.ensures.name in
     let p = err_from_is_err_and c.from_residual-in_err-value.result c.from_residual-in_err-value.ensures.1 in
-    rw (p.1, p.2) (unread (composite_members t) (λ s. MeansComposite (table_of t)) (composite_is_sum t) (c.table.result.descriptor ∷ []) _ _
+    rw (p.1, p.2) (unread (composite_members t) (λ s. MeansComposite (table_of t)) (composite_is_sum t) (c.descriptor.result ∷ []) _ _
     _ _ _ names (c.in_ok-begin_one_of.ensures.opened tells) (c.in_err-value.ensures.read tells))
 
 pub returns-in_err-end_described-clause-read : goal.returns-in_err-end_described-clause-read
 returns-in_err-end_described-clause-read g c tells =
-    let t = g.C.Composite.table in
-    let names = ap₂ (λ a b. (a, b) ∷ []) c.table.ensures.code c.table.ensures.name in
+    let t = table_with g.C.Composite.names g.C.FieldList.list in
+    let names = ap₂ (λ a b. (a, b) ∷ []) c.descriptor.ensures.code c.descriptor.ensures.name in
     let p = err_from_is_err_and c.from_residual-in_err-end_described.result c.from_residual-in_err-end_described.ensures.1 in
-    rw (p.1, p.2) (unended (composite_members t) (λ s. MeansComposite (table_of t)) (composite_is_sum t) (c.table.result.descriptor ∷ []) _
+    rw (p.1, p.2) (unended (composite_members t) (λ s. MeansComposite (table_of t)) (composite_is_sum t) (c.descriptor.result ∷ []) _
     _ _ _ _ _ _ names (c.in_ok-begin_one_of.ensures.opened tells) (c.in_ok-value.ensures.read tells) c.in_err-end_described.ensures.read)
 
 pub returns-clause-read : goal.returns-clause-read
 returns-clause-read g c tells =
-    let t = g.C.Composite.table in
-    let names = ap₂ (λ a b. (a, b) ∷ []) c.table.ensures.code c.table.ensures.name in
-    read_whole (composite_members t) (λ s. MeansComposite (table_of t)) (composite_is_sum t) (c.table.result.descriptor ∷ []) _ _ _ _ _ _
+    let t = table_with g.C.Composite.names g.C.FieldList.list in
+    let names = ap₂ (λ a b. (a, b) ∷ []) c.descriptor.ensures.code c.descriptor.ensures.name in
+    read_whole (composite_members t) (λ s. MeansComposite (table_of t)) (composite_is_sum t) (c.descriptor.result ∷ []) _ _ _ _ _ _
     names (c.in_ok-begin_one_of.ensures.nesting tells) (c.in_ok-begin_one_of.ensures.opened tells) (c.in_ok-value.ensures.read tells)
     c.in_ok-end_described.ensures.read
 

@@ -6,19 +6,19 @@ use Rattle.amqp_codec.proofs.composite.write_composite.Goals as goal
 
 pub returns-in_err-begin_described : goal.returns-in_err-begin_described
 returns-in_err-begin_described g c =
-    open_refused (described_wraps (code g.C.Composite.table.code) (container list (items g.C.Composite.table.fields c.args.value.now))) _ _
+    open_refused (described_wraps (code c.args.code) (container list (items g.L.FieldList.list.fields c.args.value.now))) _ _
     _ _ _ c.in_err-begin_described.was
-    (err_from_is_err_and c.from_residual.result c.from_residual.ensures.1) (rw c.table.ensures.code at c.begin_described.ensures)
+    (err_from_is_err_and c.from_residual.result c.from_residual.ensures.1) c.begin_described.ensures
 
 pub returns-in_err-write_list : goal.returns-in_err-write_list
 returns-in_err-write_list g c =
-    inner_refused (described_wraps (code g.C.Composite.table.code) (container list (items g.C.Composite.table.fields c.args.value.now))) _ _
+    inner_refused (described_wraps (code c.args.code) (container list (items g.L.FieldList.list.fields c.args.value.now))) _ _
     _ _ _ _ _ c.in_ok-begin_described.was c.in_err-write_list.was
     (err_from_is_err_and c.from_residual-in_err-write_list.result c.from_residual-in_err-write_list.ensures.1)
-    (rw c.table.ensures.code at c.begin_described.ensures) c.write_list.ensures
+    c.begin_described.ensures c.write_list.ensures
 
 pub returns : goal.returns
 returns g c =
-    all_written (described_wraps (code g.C.Composite.table.code) (container list (items g.C.Composite.table.fields c.args.value.now))) _ _ _
+    all_written (described_wraps (code c.args.code) (container list (items g.L.FieldList.list.fields c.args.value.now))) _ _ _
     _ _ _ _ c.in_ok-begin_described.was c.in_ok-write_list.was
-    (rw c.table.ensures.code at c.begin_described.ensures) c.write_list.ensures c.end_described.ensures
+    c.begin_described.ensures c.write_list.ensures c.end_described.ensures
