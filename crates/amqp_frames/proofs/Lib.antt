@@ -1,4 +1,5 @@
-pub mod FrameLemmas
 pub mod AnswerLemmas
-pub mod WrittenLemmas
+pub mod DeliveryLemmas
+pub mod FrameLemmas
 pub mod HeaderLemmas
+pub mod WrittenLemmas

@@ -1,4 +1,6 @@
+pub mod Deliveries
 pub mod FrameErrors
 pub mod Frames
 pub mod Headers
+pub mod Joined
 pub mod Steps

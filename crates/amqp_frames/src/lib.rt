@@ -2,6 +2,8 @@
 //! The calls work on bytes that are in memory. They don't allocate, and they neither read nor write anything else.
 #![tactic(auto)]
 
+mod deliveries;
+mod delivery_error;
 mod frame_error;
 mod frame_header;
 mod frames;
@@ -10,6 +12,8 @@ mod protocol_header;
 #[cfg(test)]
 mod tests;
 
+pub use deliveries::{Deliveries, Delivery, Joined};
+pub use delivery_error::DeliveryError;
 pub use frame_error::FrameError;
 pub use frame_header::{FrameHeader, FrameKind, MIN_MAX_FRAME_SIZE};
 pub use frames::{Frame, Step, next_frame};
