@@ -8,7 +8,9 @@ mod frame_error;
 mod frame_header;
 mod frames;
 pub mod laws;
+mod pieces;
 mod protocol_header;
+mod split_error;
 #[cfg(test)]
 mod tests;
 
@@ -17,4 +19,6 @@ pub use delivery_error::DeliveryError;
 pub use frame_error::FrameError;
 pub use frame_header::{FrameHeader, FrameKind, MIN_MAX_FRAME_SIZE};
 pub use frames::{Frame, Step, next_frame};
+pub use pieces::{Piece, split};
 pub use protocol_header::{HeaderStep, ProtocolHeader, ProtocolId, next_protocol_header};
+pub use split_error::SplitError;
