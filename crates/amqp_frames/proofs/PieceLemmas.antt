@@ -97,7 +97,7 @@ module _ {t : Transfer} {message : List ℕ} {max : ℕ} {pieces : List Piece} {
       let p = added.0 in
       let fits : FitsFrame max p = rw (added.2, added.3) fit in
       let so_far : SoFar t message max (pieces ++ p ∷ []) (later_of p.transfer) back =
-          one_more p back (added.2 ∙ is) (ap (λ b. b ++ back) added.3 ∙ cut) fits in
+      one_more p back (added.2 ∙ is) (ap (λ b. b ++ back) added.3 ∙ cut) fits in
       rw (added.1, later ∙ ap later_of (sym added.2)) so_far
 
   pub rest_added : (measured : Transfer) (new : List Piece)

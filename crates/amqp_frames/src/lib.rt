@@ -4,6 +4,8 @@
 
 mod deliveries;
 mod delivery_error;
+#[cfg(test)]
+mod delivery_tests;
 mod frame_error;
 mod frame_header;
 mod frames;
