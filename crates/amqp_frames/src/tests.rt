@@ -1,8 +1,13 @@
 //! Tests: bytes of the standard's layout for each outcome, and printed text.
 use crate::{
-    Frame, FrameError, FrameHeader, FrameKind, HeaderStep, ProtocolHeader, ProtocolId, Step,
-    next_frame, next_protocol_header,
+    AmqpBody, BodyError, BodyFault, Frame, FrameError, FrameHeader, FrameKind, HeaderStep,
+    ProtocolHeader, ProtocolId, SaslFrame, Step, WriteError, next_frame, next_protocol_header,
+    write_empty_frame, write_frame, write_sasl_frame,
 };
+use amqp_attach::Performative;
+use amqp_read_write::from_slice;
+use amqp_wire::{Error, Limits};
+use std::alloc::Global;
 use std::test::Fail;
 
 // Bytes, the maximum, and how many more bytes the frame needs.
@@ -116,5 +121,197 @@ fn printed(rt: HostRuntime) -> Result<(), Fail> {
     assert_eq!(rt; header.as_str(), "AMQP 0 1.0.0");
     let error = format!(in rt.alloc(); "{}", FrameError::UnknownType(2))?;
     assert_eq!(rt; error.as_str(), "no frame has the type 0x02");
+    let left = BodyError {
+        fault: BodyFault::BytesLeft,
+        at: 17,
+    };
+    let error = format!(in rt.alloc(); "{left}")?;
+    assert_eq!(rt;
+        error.as_str(),
+        "bytes follow the value of a SASL frame, at byte 17 of the frame"
+    );
+    let error = format!(in rt.alloc(); "{}", WriteError::Value(Error::Memory))?;
+    assert_eq!(rt; error.as_str(), "out of memory");
     Ok(())
+}
+
+// An AMQP frame on channel 0x0102: an `open` whose container id is "c", and a payload of one byte (Part 2, section 2.7.1).
+const OPEN_FRAME: [u8; 18] = [
+    0, 0, 0, 18, 2, 0, 1, 2, 0, 0x53, 0x10, 0xc0, 4, 1, 0xa1, 1, b'c', 7,
+];
+
+// A SASL frame: a `sasl-response` of two bytes (Part 5, section 5.3.3.4).
+const RESPONSE_FRAME: [u8; 18] = [
+    0, 0, 0, 18, 2, 1, 0, 0, 0, 0x53, 0x43, 0xc0, 5, 1, 0xa0, 2, 8, 9,
+];
+
+// Frames, the fault of each one's body that is read as AMQP, and its place.
+const AMQP_FAULTS: [(&[u8], BodyFault, usize); 3] = [
+    (&RESPONSE_FRAME, BodyFault::OtherType, 5),
+    (
+        &[0, 0, 0, 15, 3, 0, 0, 0, 0, 0, 0, 0, 0, 0x53, 0x10],
+        BodyFault::Value(Error::Cut),
+        12,
+    ),
+    (
+        &[0, 0, 0, 12, 2, 0, 0, 0, 0, 0x53, 0x43, 0x45],
+        BodyFault::Value(Error::WrongDescriptor),
+        8,
+    ),
+];
+
+// The same, read as SASL.
+const SASL_FAULTS: [(&[u8], BodyFault, usize); 4] = [
+    (&OPEN_FRAME, BodyFault::OtherType, 5),
+    (&[0, 0, 0, 8, 2, 1, 0, 0], BodyFault::EmptySasl, 8),
+    (
+        &[0, 0, 0, 12, 2, 1, 0, 0, 0, 0x53, 0x10, 0x45],
+        BodyFault::Value(Error::WrongDescriptor),
+        8,
+    ),
+    (
+        &[
+            0, 0, 0, 18, 2, 1, 0, 0, 0, 0x53, 0x43, 0xc0, 4, 1, 0xa0, 1, 8, 9,
+        ],
+        BodyFault::BytesLeft,
+        17,
+    ),
+];
+
+// Faults, and the condition that a peer is told.
+const CONDITIONS: [(BodyFault, &str); 4] = [
+    (BodyFault::OtherType, "amqp:connection:framing-error"),
+    (BodyFault::Value(Error::Memory), "amqp:internal-error"),
+    (
+        BodyFault::Value(Error::Limit),
+        "amqp:resource-limit-exceeded",
+    ),
+    (BodyFault::BytesLeft, "amqp:decode-error"),
+];
+
+// The frame that the bytes are.
+fn frame(bytes: &[u8]) -> Option<Frame<'_>> {
+    match next_frame(bytes, 1024) {
+        Ok(Step::Frame(frame)) => Some(frame),
+        _ => None,
+    }
+}
+
+// Whether the bytes are a frame with this performative and this payload.
+fn has_body(bytes: &[u8], performative: Performative, payload: &[u8], alloc: Global) -> bool {
+    match frame(bytes) {
+        Some(frame) => {
+            let body = AmqpBody {
+                performative,
+                payload,
+            };
+            frame.amqp(&Limits::greatest(), alloc) == Ok(Some(body))
+        }
+        None => false,
+    }
+}
+
+// Whether the bytes are a frame that is refused so, if its body is read as AMQP.
+fn is_no_amqp(bytes: &[u8], fault: BodyFault, at: usize, alloc: Global) -> bool {
+    match frame(bytes) {
+        Some(frame) => { frame.amqp(&Limits::greatest(), alloc) == Err(BodyError { fault, at }) }
+        None => false,
+    }
+}
+
+// The same, if it is read as SASL.
+fn is_no_sasl(bytes: &[u8], fault: BodyFault, at: usize, alloc: Global) -> bool {
+    match frame(bytes) {
+        Some(frame) => { frame.sasl(&Limits::greatest(), alloc) == Err(BodyError { fault, at }) }
+        None => false,
+    }
+}
+
+// Whether the frame is written as these bytes, and read as the same value.
+fn is_amqp_frame(
+    performative: Performative,
+    bytes: &[u8],
+    alloc: Global,
+) -> Result<bool, WriteError> {
+    let mut buffer = Vec::new(alloc);
+    let len = write_frame(&mut buffer, 0x0102, &performative, &[7], 18, alloc)?;
+    let equal = buffer.as_slice() == bytes && len == bytes.len();
+    Ok(equal && has_body(bytes, performative, &[7], alloc))
+}
+
+// Whether the frame is written as these bytes, and read as the same value.
+fn is_sasl_frame(value: SaslFrame, bytes: &[u8], alloc: Global) -> Result<bool, WriteError> {
+    let mut buffer = Vec::new(alloc);
+    let len = write_sasl_frame(&mut buffer, &value, alloc)?;
+    let equal = buffer.as_slice() == bytes && len == bytes.len();
+    match frame(bytes) {
+        Some(frame) => Ok(equal && frame.sasl(&Limits::greatest(), alloc) == Ok(value)),
+        None => Ok(false),
+    }
+}
+
+#[test]
+fn frames_with_bodies(rt: HostRuntime) -> Result<(), Fail> {
+    let alloc = rt.alloc();
+    let opening = from_slice::<Performative>(&OPEN_FRAME[8..17], alloc)?;
+    assert!(rt; is_amqp_frame(opening, &OPEN_FRAME, alloc)?);
+    let response = from_slice::<SaslFrame>(&RESPONSE_FRAME[8..], alloc)?;
+    assert!(rt; is_sasl_frame(response, &RESPONSE_FRAME, alloc)?);
+    Ok(())
+}
+
+#[test]
+fn empty_frames(rt: HostRuntime) -> Result<(), Fail> {
+    let alloc = rt.alloc();
+    let mut buffer = vec![in alloc; 255]?;
+    assert_eq!(rt; write_empty_frame(&mut buffer, 3)?, 8);
+    assert_eq!(rt; buffer.as_slice(), [255, 0, 0, 0, 8, 2, 0, 0, 3].as_slice());
+    let frame = frame(&buffer[1..]).ok_or(BodyFault::EmptySasl)?;
+    assert_eq!(rt; frame.amqp(&Limits::greatest(), alloc), Ok(None));
+    Ok(())
+}
+
+#[test]
+fn refused_bodies(rt: HostRuntime) {
+    let alloc = rt.alloc();
+    for (bytes, fault, at) in AMQP_FAULTS {
+        assert!(rt; is_no_amqp(bytes, fault, at, alloc), "{bytes:?}");
+    }
+    for (bytes, fault, at) in SASL_FAULTS {
+        assert!(rt; is_no_sasl(bytes, fault, at, alloc), "{bytes:?}");
+    }
+}
+
+// A frame of one byte more than the maximum, and a SASL frame of 513 bytes.
+#[test]
+fn large_frames(rt: HostRuntime) -> Result<(), Fail> {
+    let alloc = rt.alloc();
+    let mut buffer = vec![in alloc; 255]?;
+    let opening = from_slice::<Performative>(&OPEN_FRAME[8..17], alloc)?;
+    assert_eq!(rt;
+        write_frame(&mut buffer, 0, &opening, &[7], 17, alloc),
+        Err(WriteError::Frame(FrameError::SizeAboveMaximum))
+    );
+    let mut body = Vec::from_array(
+        alloc,
+        [
+            0, 0x53, 0x43, 0xd0, 0, 0, 1, 0xf1, 0, 0, 0, 1, 0xb0, 0, 0, 1, 0xe8,
+        ],
+    )?;
+    body.resize(505, 9)?;
+    let response = from_slice::<SaslFrame>(&body, alloc)?;
+    assert_eq!(rt;
+        write_sasl_frame(&mut buffer, &response, alloc),
+        Err(WriteError::Frame(FrameError::SaslAboveLimit))
+    );
+    assert_eq!(rt; buffer.as_slice(), [255].as_slice());
+    Ok(())
+}
+
+#[test]
+fn conditions(rt: HostRuntime) {
+    for (fault, condition) in CONDITIONS {
+        let error = BodyError { fault, at: 8 };
+        assert_eq!(rt; error.condition(), condition);
+    }
 }
