@@ -1,6 +1,7 @@
 //! The bodies of frames (Part 2, section 2.3.2; Part 5, section 5.3.1).
 ghost use Rattle.std.specs.Prelude.{◌≡◌, ◌+◌, ◌*◌, ◌≤◌, ℕ, List, [], length, Ok, None, IfOk, IfErr};
-ghost use Rattle.amqp_frames.specs.Bodies.{IsAmqp, IsSasl, IsAmqpBody, IsSaslBody, AmqpFault, SaslFault, IfBody, IfNoBody, ReturnsBody, ReturnsSasl};
+ghost use Rattle.amqp_frames.specs.Bodies.{IsAmqp, IsSasl, IsAmqpBody, IsSaslBody, AmqpFault, SaslFault};
+ghost use Rattle.amqp_frames.specs.Bodies.{IfBody, IfNoBody, ReturnsBody, ReturnsSasl};
 ghost use Rattle.amqp_attach.specs.declared.performative.Performative.{Performative};
 ghost use Rattle.amqp_frames.specs.declared.sasl_frame.SaslFrame.{SaslFrame};
 

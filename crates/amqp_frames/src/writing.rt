@@ -103,7 +103,8 @@ fn append_frame<T: DeserializeTerm>(
     payload: &[u8],
     alloc: Global,
 ) -> Result<usize, Error>
-    ensures text { OnOk result (buffer.new.items ≡ buffer.old.items ++ (frame_header_bytes header ++ (written T.term value.now ++ payload.now))) }
+    ensures text { OnOk result (buffer.new.items
+        ≡ buffer.old.items ++ (frame_header_bytes header ++ (written T.term value.now ++ payload.now))) }
     ensures len { IfOk result (λ n. n ≡ header.size) }
     ensures writable { OnOk result (IsWritable T.term value.now) }
     ensures refused { IfErr result (IsUnwritable T.term value.now) }
