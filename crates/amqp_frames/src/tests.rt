@@ -145,6 +145,11 @@ const RESPONSE_FRAME: [u8; 18] = [
     0, 0, 0, 18, 2, 1, 0, 0, 0, 0x53, 0x43, 0xc0, 5, 1, 0xa0, 2, 8, 9,
 ];
 
+// The first bytes of a `sasl-response` of 488 bytes, which has 505 in all.
+const LONG_RESPONSE: [u8; 17] = [
+    0, 0x53, 0x43, 0xd0, 0, 0, 1, 0xf1, 0, 0, 0, 1, 0xb0, 0, 0, 1, 0xe8,
+];
+
 // Frames, the fault of each one's body that is read as AMQP, and its place.
 const AMQP_FAULTS: [(&[u8], BodyFault, usize); 3] = [
     (&RESPONSE_FRAME, BodyFault::OtherType, 5),
@@ -197,114 +202,137 @@ fn frame(bytes: &[u8]) -> Option<Frame<'_>> {
     }
 }
 
-// Whether the bytes are a frame with this performative and this payload.
-fn has_body(bytes: &[u8], performative: Performative, payload: &[u8], alloc: Global) -> bool {
-    match frame(bytes) {
-        Some(frame) => {
-            let body = AmqpBody {
-                performative,
-                payload,
-            };
-            frame.amqp(&Limits::greatest(), alloc) == Ok(Some(body))
-        }
-        None => false,
-    }
+// Whether the two are equal. They are dropped here.
+fn are_equal<T: PartialEq + Drop>(made: T, wanted: T) -> bool {
+    made == wanted
 }
 
-// Whether the bytes are a frame that is refused so, if its body is read as AMQP.
-fn is_no_amqp(bytes: &[u8], fault: BodyFault, at: usize, alloc: Global) -> bool {
-    match frame(bytes) {
-        Some(frame) => { frame.amqp(&Limits::greatest(), alloc) == Err(BodyError { fault, at }) }
-        None => false,
-    }
+// Whether this frame is refused so, if its body is read as AMQP.
+fn is_no_amqp(frame: Frame<'_>, error: BodyError, alloc: Global) -> bool {
+    are_equal(frame.amqp(&Limits::greatest(), alloc), Err(error))
 }
 
 // The same, if it is read as SASL.
-fn is_no_sasl(bytes: &[u8], fault: BodyFault, at: usize, alloc: Global) -> bool {
-    match frame(bytes) {
-        Some(frame) => { frame.sasl(&Limits::greatest(), alloc) == Err(BodyError { fault, at }) }
-        None => false,
+fn is_no_sasl(frame: Frame<'_>, error: BodyError, alloc: Global) -> bool {
+    are_equal(frame.sasl(&Limits::greatest(), alloc), Err(error))
+}
+
+// Whether the body of the frame is the `open` of `OPEN_FRAME`, and its payload.
+fn has_opening(frame: Frame<'_>, alloc: Global) -> bool {
+    match from_slice::<Performative>(&OPEN_FRAME[8..17], alloc) {
+        Ok(performative) => are_equal(
+            frame.amqp(&Limits::greatest(), alloc),
+            Ok(Some(AmqpBody {
+                performative,
+                payload: &[7],
+            })),
+        ),
+        Err(_) => false,
     }
 }
 
-// Whether the frame is written as these bytes, and read as the same value.
-fn is_amqp_frame(
-    performative: Performative,
-    bytes: &[u8],
-    alloc: Global,
-) -> Result<bool, WriteError> {
-    let mut buffer = Vec::new(alloc);
-    let len = write_frame(&mut buffer, 0x0102, &performative, &[7], 18, alloc)?;
-    let equal = buffer.as_slice() == bytes && len == bytes.len();
-    Ok(equal && has_body(bytes, performative, &[7], alloc))
+// Whether the body of the frame is the response of `RESPONSE_FRAME`.
+fn has_response(frame: Frame<'_>, alloc: Global) -> bool {
+    match from_slice::<SaslFrame>(&RESPONSE_FRAME[8..], alloc) {
+        Ok(response) => are_equal(frame.sasl(&Limits::greatest(), alloc), Ok(response)),
+        Err(_) => false,
+    }
 }
 
-// Whether the frame is written as these bytes, and read as the same value.
-fn is_sasl_frame(value: SaslFrame, bytes: &[u8], alloc: Global) -> Result<bool, WriteError> {
-    let mut buffer = Vec::new(alloc);
-    let len = write_sasl_frame(&mut buffer, &value, alloc)?;
-    let equal = buffer.as_slice() == bytes && len == bytes.len();
-    match frame(bytes) {
-        Some(frame) => Ok(equal && frame.sasl(&Limits::greatest(), alloc) == Ok(value)),
-        None => Ok(false),
+// Appends a frame with the performative that these bytes are, and a payload of one byte.
+fn write_amqp(
+    buffer: &mut Vec<u8>,
+    bytes: &[u8],
+    max: u32,
+    alloc: Global,
+) -> Result<usize, WriteError> {
+    match from_slice::<Performative>(bytes, alloc) {
+        Ok(performative) => {
+            let written = write_frame(buffer, 0x0102, &performative, &[7], max, alloc);
+            drop(performative);
+            written
+        }
+        Err(error) => Err(WriteError::Value(error)),
+    }
+}
+
+// Appends a frame with the SASL type that these bytes are.
+fn write_sasl(buffer: &mut Vec<u8>, bytes: &[u8], alloc: Global) -> Result<usize, WriteError> {
+    match from_slice::<SaslFrame>(bytes, alloc) {
+        Ok(value) => {
+            let written = write_sasl_frame(buffer, &value, alloc);
+            drop(value);
+            written
+        }
+        Err(error) => Err(WriteError::Value(error)),
     }
 }
 
 #[test]
 fn frames_with_bodies(rt: HostRuntime) -> Result<(), Fail> {
     let alloc = rt.alloc();
-    let opening = from_slice::<Performative>(&OPEN_FRAME[8..17], alloc)?;
-    assert!(rt; is_amqp_frame(opening, &OPEN_FRAME, alloc)?);
-    let response = from_slice::<SaslFrame>(&RESPONSE_FRAME[8..], alloc)?;
-    assert!(rt; is_sasl_frame(response, &RESPONSE_FRAME, alloc)?);
+    let mut buffer = Vec::new(alloc);
+    let len = write_amqp(&mut buffer, &OPEN_FRAME[8..17], 18, alloc)?;
+    assert!(rt; len == 18 && buffer.as_slice() == OPEN_FRAME.as_slice());
+    let len = write_sasl(&mut buffer, &RESPONSE_FRAME[8..], alloc)?;
+    assert!(rt; len == 18 && buffer[18..] == RESPONSE_FRAME[..]);
     Ok(())
 }
 
+// An empty frame keeps a connection alive.
 #[test]
-fn empty_frames(rt: HostRuntime) -> Result<(), Fail> {
+fn bodies(rt: HostRuntime) {
     let alloc = rt.alloc();
-    let mut buffer = vec![in alloc; 255]?;
-    assert_eq!(rt; write_empty_frame(&mut buffer, 3)?, 8);
-    assert_eq!(rt; buffer.as_slice(), [255, 0, 0, 0, 8, 2, 0, 0, 3].as_slice());
-    let frame = frame(&buffer[1..]).ok_or(BodyFault::EmptySasl)?;
-    assert_eq!(rt; frame.amqp(&Limits::greatest(), alloc), Ok(None));
-    Ok(())
+    let empty = [0, 0, 0, 8, 2, 0, 0, 3];
+    match (frame(&OPEN_FRAME), frame(&RESPONSE_FRAME), frame(&empty)) {
+        (Some(opening), Some(response), Some(empty)) => {
+            assert!(rt; has_opening(opening, alloc));
+            assert!(rt; has_response(response, alloc));
+            assert!(rt; are_equal(empty.amqp(&Limits::greatest(), alloc), Ok(None)));
+        }
+        _ => assert!(rt; false),
+    }
 }
 
 #[test]
 fn refused_bodies(rt: HostRuntime) {
     let alloc = rt.alloc();
     for (bytes, fault, at) in AMQP_FAULTS {
-        assert!(rt; is_no_amqp(bytes, fault, at, alloc), "{bytes:?}");
+        let error = BodyError { fault, at };
+        match frame(bytes) {
+            Some(frame) => assert!(rt; is_no_amqp(frame, error, alloc), "{bytes:?}"),
+            None => assert!(rt; false, "{bytes:?}"),
+        }
     }
     for (bytes, fault, at) in SASL_FAULTS {
-        assert!(rt; is_no_sasl(bytes, fault, at, alloc), "{bytes:?}");
+        let error = BodyError { fault, at };
+        match frame(bytes) {
+            Some(frame) => assert!(rt; is_no_sasl(frame, error, alloc), "{bytes:?}"),
+            None => assert!(rt; false, "{bytes:?}"),
+        }
     }
 }
 
-// A frame of one byte more than the maximum, and a SASL frame of 513 bytes.
+#[test]
+fn empty_frames(rt: HostRuntime) -> Result<(), Fail> {
+    let mut buffer = vec![in rt.alloc(); 255]?;
+    let len = write_empty_frame(&mut buffer, 3)?;
+    assert!(rt; len == 8 && buffer.as_slice() == [255, 0, 0, 0, 8, 2, 0, 0, 3].as_slice());
+    Ok(())
+}
+
+// A frame of one byte more than the maximum, and a SASL frame of 513 bytes. The buffer is unchanged.
 #[test]
 fn large_frames(rt: HostRuntime) -> Result<(), Fail> {
     let alloc = rt.alloc();
     let mut buffer = vec![in alloc; 255]?;
-    let opening = from_slice::<Performative>(&OPEN_FRAME[8..17], alloc)?;
-    assert_eq!(rt;
-        write_frame(&mut buffer, 0, &opening, &[7], 17, alloc),
-        Err(WriteError::Frame(FrameError::SizeAboveMaximum))
-    );
-    let mut body = Vec::from_array(
-        alloc,
-        [
-            0, 0x53, 0x43, 0xd0, 0, 0, 1, 0xf1, 0, 0, 0, 1, 0xb0, 0, 0, 1, 0xe8,
-        ],
-    )?;
-    body.resize(505, 9)?;
-    let response = from_slice::<SaslFrame>(&body, alloc)?;
-    assert_eq!(rt;
-        write_sasl_frame(&mut buffer, &response, alloc),
-        Err(WriteError::Frame(FrameError::SaslAboveLimit))
-    );
-    assert_eq!(rt; buffer.as_slice(), [255].as_slice());
+    let written = write_amqp(&mut buffer, &OPEN_FRAME[8..17], 17, alloc);
+    assert!(rt; written == Err(WriteError::Frame(FrameError::SizeAboveMaximum)));
+    let mut body = [9; 505];
+    body[..17].copy_from_slice(&LONG_RESPONSE);
+    let written = write_sasl(&mut buffer, &body, alloc);
+    assert!(rt; written == Err(WriteError::Frame(FrameError::SaslAboveLimit)));
+    assert!(rt; buffer.as_slice() == [255].as_slice());
     Ok(())
 }
 
