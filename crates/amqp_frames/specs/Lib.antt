@@ -1,3 +1,5 @@
+pub mod Bodies
+pub mod BodyErrors
 pub mod Deliveries
 pub mod FrameErrors
 pub mod Frames
@@ -5,3 +7,5 @@ pub mod Headers
 pub mod Joined
 pub mod Splitting
 pub mod Steps
+pub mod Tables
+pub mod Writing
