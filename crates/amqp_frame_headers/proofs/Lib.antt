@@ -1,4 +1,0 @@
-pub mod FrameLemmas
-pub mod AnswerLemmas
-pub mod WrittenLemmas
-pub mod HeaderLemmas

@@ -1,4 +1,0 @@
-pub mod FrameErrors
-pub mod Frames
-pub mod Headers
-pub mod Steps

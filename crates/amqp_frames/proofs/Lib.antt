@@ -1,0 +1,9 @@
+pub mod AgainLemmas
+pub mod AnswerLemmas
+pub mod BodyLemmas
+pub mod DeliveryLemmas
+pub mod FrameLemmas
+pub mod HeaderLemmas
+pub mod PieceLemmas
+pub mod WriteLemmas
+pub mod WrittenLemmas

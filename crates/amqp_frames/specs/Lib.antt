@@ -1,0 +1,11 @@
+pub mod Bodies
+pub mod BodyErrors
+pub mod Deliveries
+pub mod FrameErrors
+pub mod Frames
+pub mod Headers
+pub mod Joined
+pub mod Splitting
+pub mod Steps
+pub mod Tables
+pub mod Writing

@@ -1,0 +1,38 @@
+-- Frames that are written whole (Part 2, section 2.3; Part 5, section 5.3.1).
+use Rattle.std.specs.Prelude.{◌≡◌, ℕ, ◌+◌, ◌<◌, ◌⊎◌, List, ◌++◌, length}
+use Rattle.amqp_wire.specs.declared.error.Error.{Error}
+use Rattle.amqp_wire.specs.declared.error.Error.TheVariants.{Memory}
+use Rattle.amqp_encoder.specs.Refused.{TermHasCause}
+use Rattle.amqp_codec.specs.TermType.{TermType}
+use Rattle.amqp_codec.specs.Spelled.{written}
+use Rattle.amqp_attach.specs.Tables.{performative}
+use Rattle.amqp_attach.specs.declared.performative.Performative.{Performative}
+use Rattle.amqp_frames.specs.Tables.{sasl_frame}
+use Rattle.amqp_frames.specs.Frames.{frame_header_bytes, header_of_body}
+use Rattle.amqp_frames.specs.declared.sasl_frame.SaslFrame.{SaslFrame}
+use Rattle.amqp_frames.specs.declared.frame_header.FrameKind.{FrameKind}
+use Rattle.amqp_frames.specs.declared.frame_error.FrameError.TheVariants.{SizeAboveMaximum, SaslAboveLimit}
+use Rattle.amqp_frames.specs.declared.write_error.WriteError.{WriteError}
+use Rattle.amqp_frames.specs.declared.write_error.WriteError.TheVariants.{Frame, Value}
+
+-- a frame without an extended header: the bytes of its header, and its body
+abbrev pub frame_text : FrameKind → List ℕ → List ℕ
+frame_text kind body = frame_header_bytes (header_of_body kind (length body)) ++ body
+
+-- the body of an AMQP frame: the canonical text of the performative, and the payload
+abbrev pub amqp_body : Performative → List ℕ → List ℕ
+amqp_body p payload = written performative p ++ payload
+
+-- An allocation failed, or the model refuses the value's canonical term for this reason.
+abbrev pub IsUnwritable : {T : Type 0} → TermType T → T → Error → Type 0
+IsUnwritable u v e = (e ≡ Memory) ⊎ TermHasCause (u.canon v) e
+
+-- For each error, why no AMQP frame of at most this size is written.
+abbrev pub AmqpWriteFault : ℕ → Performative → List ℕ → WriteError → Type 0
+AmqpWriteFault max p payload (Frame e) = (e ≡ SizeAboveMaximum) × (max < 8 + length (amqp_body p payload))
+AmqpWriteFault max p payload (Value e) = IsUnwritable performative p e
+
+-- For each error, why no SASL frame is written.
+abbrev pub SaslWriteFault : SaslFrame → WriteError → Type 0
+SaslWriteFault v (Frame e) = (e ≡ SaslAboveLimit) × (512 < 8 + length (written sasl_frame v))
+SaslWriteFault v (Value e) = IsUnwritable sasl_frame v e
