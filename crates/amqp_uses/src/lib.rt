@@ -1,4 +1,4 @@
-//! Five uses of `fe2o3_amqp_types`, as a caller writes them. Each is proved, and run by a test.
+//! Six uses of `fe2o3_amqp_types`, as a caller writes them. Each is proved, and run by a test. The sixth is the module `connection`.
 #![tactic(auto)]
 
 ghost use Rattle.std.specs.Prelude.{◌≡◌, ◌⊎◌, ◌+◌, ◌-◌, ◌^◌, ◌++◌, ℕ, List, length, take, min, true, IfOk, IfErr};
@@ -91,5 +91,6 @@ pub fn next_message<B: FromBody, R: ByteSource>(
     from_reader_within(reader, limits, alloc)
 }
 
+pub mod connection;
 #[cfg(test)]
 mod tests;

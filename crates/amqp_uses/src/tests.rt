@@ -1,5 +1,7 @@
 use super::*;
+use crate::connection::{Fault, Passed, next_performative};
 use fe2o3_amqp_types::messaging::{Accepted, Data};
+use fe2o3_amqp_types::performatives::Performative;
 use std::test::Fail;
 
 #[test]
@@ -73,5 +75,64 @@ fn message_within_limits(rt: HostRuntime) -> Result<(), Fail> {
         next_message::<Data, _>(&mut reader, &limits, rt.alloc()).err(),
         Some(Error::Limit)
     );
+    Ok(())
+}
+
+// An empty frame on channel 1, a close, and a frame with an `end` that is cut within its list.
+const CONNECTION: [u8; 33] = [
+    0, 0, 0, 8, 2, 0, 0, 1, 0, 0, 0, 12, 2, 0, 0, 0, 0, 0x53, 0x18, 0x45, 0, 0, 0, 13, 2, 0, 0, 0,
+    0, 0x53, 0x17, 0xc0, 1,
+];
+
+// What the bytes of the connection begin with at a place, up to another one.
+fn passed(from: usize, to: usize, alloc: Global) -> Result<Passed<'static>, Fault> {
+    let limits = Limits::for_peers(512);
+    next_performative(&CONNECTION[from..to], 512, &limits, alloc)
+}
+
+fn needs(passed: Result<Passed<'_>, Fault>, wanted: usize) -> bool {
+    match passed {
+        Ok(Passed::Needs(count)) => count == wanted,
+        _ => false,
+    }
+}
+
+fn is_empty(passed: Result<Passed<'_>, Fault>, wanted: usize) -> bool {
+    match passed {
+        Ok(Passed::Empty(len)) => len == wanted,
+        _ => false,
+    }
+}
+
+fn is_close(passed: Result<Passed<'_>, Fault>, wanted: usize) -> bool {
+    match passed {
+        Ok(Passed::Performative(body, len)) => {
+            body.payload.is_empty() && is_close_performative(&body.performative) && len == wanted
+        }
+        _ => false,
+    }
+}
+
+fn is_close_performative(performative: &Performative) -> bool {
+    match performative {
+        Performative::Close(_) => true,
+        _ => false,
+    }
+}
+
+fn is_fault(passed: Result<Passed<'_>, Fault>, at: usize, condition: &str) -> bool {
+    match passed {
+        Err(fault) => fault.at == at && fault.condition == condition,
+        Ok(_) => false,
+    }
+}
+
+#[test]
+fn frames_of_a_connection(rt: HostRuntime) -> Result<(), Fail> {
+    assert!(rt; needs(passed(0, 3, rt.alloc()), 5));
+    assert!(rt; needs(passed(8, 17, rt.alloc()), 3));
+    assert!(rt; is_empty(passed(0, 33, rt.alloc()), 8));
+    assert!(rt; is_close(passed(8, 33, rt.alloc()), 12));
+    assert!(rt; is_fault(passed(20, 33, rt.alloc()), 8, "amqp:decode-error"));
     Ok(())
 }
