@@ -27,8 +27,8 @@ pub enum BodyFault {
 pub struct BodyError {
     /// What is wrong.
     pub fault: BodyFault,
-    /// Where, in bytes from the start of the frame: 5, the place of the type, for `OtherType`, where the body begins for `Value` and
-    /// `EmptySasl`, and the first byte after the value for `BytesLeft`.
+    /// Where, in bytes from the start of the frame. It is 5 for `OtherType`, the place of the type. It is where the body begins for `Value`
+    /// and `EmptySasl`, and the first byte after the value for `BytesLeft`.
     pub at: usize,
 }
 
