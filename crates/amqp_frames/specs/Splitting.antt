@@ -1,9 +1,8 @@
 -- The transfers of a message that is split (Part 2, sections 2.6.14 and 2.7.5).
-use Rattle.std.specs.Prelude.{◌≡◌, ℕ, zero, suc, ◌+◌, ◌≤◌, ◌⊎◌, Bool, true, false, List, [], ◌∷◌, length, map, flat_map, codes, Option, None}
+use Rattle.std.specs.Prelude.{◌≡◌, ℕ, zero, suc, ◌+◌, ◌≤◌, ◌⊎◌, Bool, true, false, List, [], ◌∷◌, length, map, flat_map, codes, None}
 use Rattle.std.specs.List.{All}
 use Rattle.amqp_model.specs.Term.{Term}
 use Rattle.amqp_model.specs.Composite.{canonical_term}
-use Rattle.amqp_wire.specs.declared.error.Error.{Error}
 use Rattle.amqp_wire.specs.declared.error.Error.TheVariants.{Memory}
 use Rattle.amqp_encoder.specs.Passes.{row_text}
 use Rattle.amqp_codec.specs.Composite.{table_of}
