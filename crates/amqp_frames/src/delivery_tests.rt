@@ -37,35 +37,59 @@ fn one_byte(byte: u8, alloc: Global) -> Result<DeliveryTag, AllocError> {
     Ok(DeliveryTag::from(bytes))
 }
 
-// What a transfer with this id and tag makes of the delivery.
-fn join(
+// What is expected of a transfer.
+#[derive(Clone, Copy)]
+enum Wanted {
+    More,
+    Whole(u32, &'static [u8]),
+    Refused(DeliveryError),
+}
+
+// The id and the tag of a transfer, whether more follow, its payload, and what is expected.
+type Row = (Option<u32>, Option<u8>, bool, &'static [u8], Wanted);
+
+fn are_joined(deliveries: &mut Deliveries, rows: &[Row], alloc: Global) -> bool {
+    for (delivery_id, tag, more, payload, wanted) in rows {
+        if !is_joined(
+            deliveries,
+            transfer(*delivery_id, *tag, *more, alloc),
+            payload,
+            *wanted,
+            alloc,
+        ) {
+            return false;
+        }
+    }
+    true
+}
+
+fn is_joined(
     deliveries: &mut Deliveries,
-    head: (Option<u32>, Option<u8>, bool),
+    sent: Result<Transfer, AllocError>,
     payload: &[u8],
+    wanted: Wanted,
     alloc: Global,
-) -> Result<Result<Joined, DeliveryError>, AllocError> {
-    let (delivery_id, tag, more) = head;
-    let sent = transfer(delivery_id, tag, more, alloc)?;
-    Ok(deliveries.join(sent, payload, alloc))
-}
-
-fn is_more(joined: Result<Joined, DeliveryError>) -> bool {
-    match joined {
-        Ok(Joined::More) => true,
-        _ => false,
+) -> bool {
+    match sent {
+        Ok(sent) => is_wanted(deliveries.join(sent, payload, alloc), wanted),
+        Err(_) => false,
     }
 }
 
-fn is_error(joined: Result<Joined, DeliveryError>, wanted: DeliveryError) -> bool {
-    match joined {
-        Err(error) => error == wanted,
-        _ => false,
+fn is_wanted(joined: Result<Joined, DeliveryError>, wanted: Wanted) -> bool {
+    match (joined, wanted) {
+        (Ok(joined), wanted) => is_result(&joined, wanted),
+        (Err(error), Wanted::Refused(refused)) => error == refused,
+        (Err(_), _) => false,
     }
 }
 
-fn is_whole(joined: Result<Joined, DeliveryError>, id: u32, message: &[u8]) -> bool {
-    match joined {
-        Ok(Joined::Whole(delivery)) => is_delivery(&delivery, id, message),
+fn is_result(joined: &Joined, wanted: Wanted) -> bool {
+    match (joined, wanted) {
+        (Joined::More, Wanted::More) => true,
+        (Joined::Whole(delivery), Wanted::Whole(id, message)) => {
+            is_delivery(delivery, id, message)
+        }
         _ => false,
     }
 }
@@ -76,68 +100,94 @@ fn is_delivery(delivery: &Delivery, id: u32, message: &[u8]) -> bool {
         && delivery.message.as_slice() == message
 }
 
-fn check(holds: bool, what: &str) -> Result<(), Fail> {
+// The rows hold of the transfers of a link whose messages have at most so many bytes.
+fn check_rows(most: usize, rows: &[Row], alloc: Global) -> Result<(), Fail> {
+    let mut deliveries = Deliveries::new(most);
+    let holds = are_joined(&mut deliveries, rows, alloc);
+    drop(deliveries);
+    check(holds)
+}
+
+fn check(holds: bool) -> Result<(), Fail> {
     if holds {
         Ok(())
     } else {
-        Err(Fail::new(format_args!("{what}")))
+        Err(Fail::new(format_args!("another result")))
     }
 }
 
 #[test]
 fn transfers_are_joined(rt: HostRuntime) -> Result<(), Fail> {
-    let mut deliveries = Deliveries::new(6);
-    let first = join(&mut deliveries, (Some(7), Some(1), true), b"ab", rt.alloc())?;
-    check(is_more(first), "first")?;
-    let second = join(&mut deliveries, (None, Some(1), true), b"cd", rt.alloc())?;
-    check(is_more(second), "second")?;
-    let last = join(&mut deliveries, (Some(7), None, false), b"ef", rt.alloc())?;
-    check(is_whole(last, 7, b"abcdef"), "last")?;
-    let next = join(&mut deliveries, (Some(8), Some(2), false), b"", rt.alloc())?;
-    check(is_whole(next, 8, b""), "next")
+    let rows: &[Row] = &[
+        (Some(7), Some(1), true, b"ab", Wanted::More),
+        (None, Some(1), true, b"cd", Wanted::More),
+        (Some(7), None, false, b"ef", Wanted::Whole(7, b"abcdef")),
+        (Some(8), Some(2), false, b"", Wanted::Whole(8, b"")),
+    ];
+    check_rows(6, rows, rt.alloc())
 }
 
 #[test]
 fn transfers_are_refused(rt: HostRuntime) -> Result<(), Fail> {
-    let mut deliveries = Deliveries::new(3);
-    let no_id = join(&mut deliveries, (None, Some(1), true), b"ab", rt.alloc())?;
-    check(is_error(no_id, DeliveryError::NoDeliveryId), "no id")?;
-    let no_tag = join(&mut deliveries, (Some(7), None, true), b"ab", rt.alloc())?;
-    check(is_error(no_tag, DeliveryError::NoDeliveryTag), "no tag")?;
-    let first = join(&mut deliveries, (Some(7), Some(1), true), b"ab", rt.alloc())?;
-    check(is_more(first), "first")?;
-    let other_id = join(&mut deliveries, (Some(8), None, true), b"c", rt.alloc())?;
-    check(
-        is_error(other_id, DeliveryError::OtherDeliveryId),
-        "another id",
-    )?;
-    let other_tag = join(&mut deliveries, (None, Some(2), true), b"c", rt.alloc())?;
-    check(
-        is_error(other_tag, DeliveryError::OtherDeliveryTag),
-        "another tag",
-    )?;
-    let long = join(&mut deliveries, (None, None, false), b"cd", rt.alloc())?;
-    check(is_error(long, DeliveryError::AboveLimit), "above the limit")?;
-    let last = join(&mut deliveries, (None, None, false), b"c", rt.alloc())?;
-    check(is_whole(last, 7, b"abc"), "last")
+    let rows: &[Row] = &[
+        (
+            None,
+            Some(1),
+            true,
+            b"ab",
+            Wanted::Refused(DeliveryError::NoDeliveryId),
+        ),
+        (
+            Some(7),
+            None,
+            true,
+            b"ab",
+            Wanted::Refused(DeliveryError::NoDeliveryTag),
+        ),
+        (Some(7), Some(1), true, b"ab", Wanted::More),
+        (
+            Some(8),
+            None,
+            true,
+            b"c",
+            Wanted::Refused(DeliveryError::OtherDeliveryId),
+        ),
+        (
+            None,
+            Some(2),
+            true,
+            b"c",
+            Wanted::Refused(DeliveryError::OtherDeliveryTag),
+        ),
+        (
+            None,
+            None,
+            false,
+            b"cd",
+            Wanted::Refused(DeliveryError::AboveLimit),
+        ),
+        (None, None, false, b"c", Wanted::Whole(7, b"abc")),
+    ];
+    check_rows(3, rows, rt.alloc())
 }
 
 // With its id and tag, the transfer takes 13 bytes, `00 53 14 c0 08 03 52 01 52 07 a0 01 01`, and `40 40 41` for `more`. A later one takes 8,
 // `00 53 14 c0 03 01 52 01`, and `40 40 40 40 41` for `more`. A frame's header takes 8.
-fn has_lengths(
-    message: &[u8],
-    max_frame_size: u32,
-    wanted: &[usize],
-    alloc: Global,
-) -> Result<bool, AllocError> {
-    let sent = transfer(Some(7), Some(1), true, alloc)?;
-    match split(sent, message, max_frame_size, alloc) {
-        Ok(pieces) => Ok(are_lengths(pieces.as_slice(), wanted)),
-        Err(_) => Ok(false),
+fn has_lengths(message: &[u8], max_frame_size: u32, wanted: &[usize], alloc: Global) -> bool {
+    match transfer(Some(7), Some(1), true, alloc) {
+        Ok(sent) => are_lengths(split(sent, message, max_frame_size, alloc), wanted),
+        Err(_) => false,
     }
 }
 
-fn are_lengths(pieces: &[Piece<'_>], wanted: &[usize]) -> bool {
+fn are_lengths(pieces: Result<Vec<Piece<'_>>, SplitError>, wanted: &[usize]) -> bool {
+    match pieces {
+        Ok(pieces) => have_lengths(pieces.as_slice(), wanted),
+        Err(_) => false,
+    }
+}
+
+fn have_lengths(pieces: &[Piece<'_>], wanted: &[usize]) -> bool {
     for (piece, len) in pieces.iter().zip(wanted) {
         if piece.payload.len() != *len {
             return false;
@@ -146,21 +196,26 @@ fn are_lengths(pieces: &[Piece<'_>], wanted: &[usize]) -> bool {
     pieces.len() == wanted.len()
 }
 
-#[test]
-fn messages_are_split(rt: HostRuntime) -> Result<(), Fail> {
-    let message = b"abcdefghijklmnopqrstuvwxyz";
-    check(has_lengths(message, 512, &[26], rt.alloc())?, "one")?;
-    check(has_lengths(b"", 512, &[0], rt.alloc())?, "none")?;
-    check(has_lengths(message, 34, &[10, 16], rt.alloc())?, "two")?;
-    check(has_lengths(message, 30, &[6, 9, 11], rt.alloc())?, "three")
+fn is_too_small(message: &[u8], max_frame_size: u32, alloc: Global) -> bool {
+    match transfer(Some(7), Some(1), true, alloc) {
+        Ok(sent) => is_refused(split(sent, message, max_frame_size, alloc)),
+        Err(_) => false,
+    }
+}
+
+fn is_refused(pieces: Result<Vec<Piece<'_>>, SplitError>) -> bool {
+    match pieces {
+        Ok(_) => false,
+        Err(error) => error == SplitError::FrameTooSmall,
+    }
 }
 
 #[test]
-fn frames_may_be_too_small(rt: HostRuntime) -> Result<(), Fail> {
-    let sent = transfer(Some(7), Some(1), true, rt.alloc())?;
-    let refused = match split(sent, b"ab", 22, rt.alloc()) {
-        Ok(_) => false,
-        Err(error) => error == SplitError::FrameTooSmall,
-    };
-    check(refused, "too small")
+fn messages_are_split(rt: HostRuntime) -> Result<(), Fail> {
+    let message = b"abcdefghijklmnopqrstuvwxyz";
+    check(has_lengths(message, 512, &[26], rt.alloc()))?;
+    check(has_lengths(b"", 512, &[0], rt.alloc()))?;
+    check(has_lengths(message, 34, &[10, 16], rt.alloc()))?;
+    check(has_lengths(message, 30, &[6, 9, 11], rt.alloc()))?;
+    check(is_too_small(b"ab", 22, rt.alloc()))
 }
