@@ -78,61 +78,56 @@ fn message_within_limits(rt: HostRuntime) -> Result<(), Fail> {
     Ok(())
 }
 
-// An empty frame on channel 1, a close, and a frame with an `end` that is cut within its list.
-const CONNECTION: [u8; 33] = [
-    0, 0, 0, 8, 2, 0, 0, 1, 0, 0, 0, 12, 2, 0, 0, 0, 0, 0x53, 0x18, 0x45, 0, 0, 0, 13, 2, 0, 0, 0,
-    0, 0x53, 0x17, 0xc0, 1,
-];
+// An empty frame on channel 1, one with a close, and one with an end whose list is cut.
+const EMPTY: [u8; 8] = [0, 0, 0, 8, 2, 0, 0, 1];
 
-// What the bytes of the connection begin with at a place, up to another one.
-fn passed(from: usize, to: usize, alloc: Global) -> Result<Passed<'static>, Fault> {
-    let limits = Limits::for_peers(512);
-    next_performative(&CONNECTION[from..to], 512, &limits, alloc)
+const CLOSE: [u8; 12] = [0, 0, 0, 12, 2, 0, 0, 0, 0, 0x53, 0x18, 0x45];
+
+const CUT_END: [u8; 13] = [0, 0, 0, 13, 2, 0, 0, 0, 0, 0x53, 0x17, 0xc0, 1];
+
+// What is expected of bytes.
+#[derive(Clone, Copy)]
+enum Wanted {
+    Needs(usize),
+    Empty(usize),
+    Close(usize),
+    Fault(usize, &'static str),
 }
 
-fn needs(passed: Result<Passed<'_>, Fault>, wanted: usize) -> bool {
-    match passed {
-        Ok(Passed::Needs(count)) => count == wanted,
-        _ => false,
-    }
+fn is_passed(input: &[u8], wanted: Wanted, alloc: Global) -> bool {
+    let found = next_performative(input, 512, &Limits::for_peers(512), alloc);
+    let holds = is_wanted(&found, wanted);
+    drop(found);
+    holds
 }
 
-fn is_empty(passed: Result<Passed<'_>, Fault>, wanted: usize) -> bool {
-    match passed {
-        Ok(Passed::Empty(len)) => len == wanted,
-        _ => false,
-    }
-}
-
-fn is_close(passed: Result<Passed<'_>, Fault>, wanted: usize) -> bool {
-    match passed {
-        Ok(Passed::Performative(body, len)) => {
-            body.payload.is_empty() && is_close_performative(&body.performative) && len == wanted
+fn is_wanted(found: &Result<Passed<'_>, Fault>, wanted: Wanted) -> bool {
+    match (found, wanted) {
+        (Ok(Passed::Needs(count)), Wanted::Needs(other)) => *count == other,
+        (Ok(Passed::Empty(len)), Wanted::Empty(other)) => *len == other,
+        (Ok(Passed::Performative(body, len)), Wanted::Close(other)) => {
+            *len == other && is_close(&body.performative)
+        }
+        (Err(fault), Wanted::Fault(at, condition)) => {
+            fault.at == at && fault.condition == condition
         }
         _ => false,
     }
 }
 
-fn is_close_performative(performative: &Performative) -> bool {
+fn is_close(performative: &Performative) -> bool {
     match performative {
         Performative::Close(_) => true,
         _ => false,
     }
 }
 
-fn is_fault(passed: Result<Passed<'_>, Fault>, at: usize, condition: &str) -> bool {
-    match passed {
-        Err(fault) => fault.at == at && fault.condition == condition,
-        Ok(_) => false,
-    }
-}
-
 #[test]
 fn frames_of_a_connection(rt: HostRuntime) -> Result<(), Fail> {
-    assert!(rt; needs(passed(0, 3, rt.alloc()), 5));
-    assert!(rt; needs(passed(8, 17, rt.alloc()), 3));
-    assert!(rt; is_empty(passed(0, 33, rt.alloc()), 8));
-    assert!(rt; is_close(passed(8, 33, rt.alloc()), 12));
-    assert!(rt; is_fault(passed(20, 33, rt.alloc()), 8, "amqp:decode-error"));
+    assert!(rt; is_passed(&EMPTY[..3], Wanted::Needs(5), rt.alloc()));
+    assert!(rt; is_passed(&EMPTY, Wanted::Empty(8), rt.alloc()));
+    assert!(rt; is_passed(&CLOSE[..9], Wanted::Needs(3), rt.alloc()));
+    assert!(rt; is_passed(&CLOSE, Wanted::Close(12), rt.alloc()));
+    assert!(rt; is_passed(&CUT_END, Wanted::Fault(8, "amqp:decode-error"), rt.alloc()));
     Ok(())
 }
