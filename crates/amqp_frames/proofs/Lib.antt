@@ -4,6 +4,8 @@ pub mod BodyLemmas
 pub mod DeliveryLemmas
 pub mod FrameLemmas
 pub mod HeaderLemmas
+pub mod LengthLemmas
 pub mod PieceLemmas
+pub mod TransferLemmas
 pub mod WriteLemmas
 pub mod WrittenLemmas

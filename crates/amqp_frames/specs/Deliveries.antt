@@ -1,5 +1,5 @@
 -- Deliveries: the transfers of one link, joined (Part 2, sections 2.6.14 and 2.7.5).
-use Rattle.std.specs.Prelude.{◌≡◌, ℕ, ◌+◌, ◌<◌, Bool, true, false, List, ◌++◌, length, codes, Option, None, Some, IfSome, IsSome, if◌then◌else◌}
+use Rattle.std.specs.Prelude.{◌≡◌, ℕ, ◌+◌, ◌<◌, ◌≤◌, Bool, true, false, List, ◌++◌, length, codes, Option, None, Some, IfSome, IsSome, if◌then◌else◌}
 use Rattle.std.specs.Option.{unwrap_or}
 use Rattle.amqp_delivery.specs.Members.{is_terminal}
 use Rattle.amqp_delivery.specs.declared.state.DeliveryState.{DeliveryState}
@@ -64,11 +64,21 @@ pub record MayBegin (t : Transfer) : Type 0 where
   pub id : IsSome t.delivery_id
   pub tag : IsSome t.delivery_tag
 
+-- A later transfer omits the id, or has that of its delivery. So for its tag and its format.
+abbrev pub SameId : Delivery → Transfer → Type 0
+SameId before t = IfSome t.delivery_id (λ id. id ≡ before.delivery_id)
+
+abbrev pub SameTag : Delivery → Transfer → Type 0
+SameTag before t = IfSome t.delivery_tag (λ tag. tag.0.items ≡ before.delivery_tag.0.items)
+
+abbrev pub SameFormat : Delivery → Transfer → Type 0
+SameFormat before t = IfSome t.message_format (λ format. format ≡ before.message_format)
+
 -- A later one repeats what it doesn't omit of id, tag and format.
 pub record MayContinue (before : Delivery) (t : Transfer) : Type 0 where
-  pub id : IfSome t.delivery_id (λ id. id ≡ before.delivery_id)
-  pub tag : IfSome t.delivery_tag (λ tag. tag.0.items ≡ before.delivery_tag.0.items)
-  pub format : IfSome t.message_format (λ format. format ≡ before.message_format)
+  pub id : SameId before t
+  pub tag : SameTag before t
+  pub format : SameFormat before t
 
 abbrev pub MayCome : Option Delivery → Transfer → Type 0
 MayCome None = MayBegin
@@ -76,14 +86,15 @@ MayCome (Some before) = MayContinue before
 
 -- ---- why a transfer is refused
 
+-- For each error, the rule that is broken, and that no rule before it is.
 abbrev pub DeliveryFault : ℕ → Option Delivery → Transfer → List ℕ → DeliveryError → Type 0
 DeliveryFault most before t payload AboveLimit = MayCome before t × (t.aborted ≡ false) × (most < length_of before + length payload)
-DeliveryFault most before t payload Memory = MayCome before t × (t.aborted ≡ false)
+DeliveryFault most before t payload Memory = MayCome before t × (t.aborted ≡ false) × (length_of before + length payload ≤ most)
 DeliveryFault most None t payload NoDeliveryId = t.delivery_id ≡ None
-DeliveryFault most None t payload NoDeliveryTag = t.delivery_tag ≡ None
-DeliveryFault most (Some before) t payload OtherDeliveryId = IfSome t.delivery_id (λ id. id ≡ before.delivery_id) → ⊥
-DeliveryFault most (Some before) t payload OtherDeliveryTag = IfSome t.delivery_tag (λ tag. tag.0.items ≡ before.delivery_tag.0.items) → ⊥
-DeliveryFault most (Some before) t payload OtherMessageFormat = IfSome t.message_format (λ format. format ≡ before.message_format) → ⊥
+DeliveryFault most None t payload NoDeliveryTag = IsSome t.delivery_id × (t.delivery_tag ≡ None)
+DeliveryFault most (Some before) t payload OtherDeliveryId = SameId before t → ⊥
+DeliveryFault most (Some before) t payload OtherDeliveryTag = SameId before t × (SameTag before t → ⊥)
+DeliveryFault most (Some before) t payload OtherMessageFormat = SameId before t × SameTag before t × (SameFormat before t → ⊥)
 DeliveryFault most before t payload _ = ⊥
 
 -- the error condition of the standard (Part 2, sections 2.8.15 and 2.8.18)

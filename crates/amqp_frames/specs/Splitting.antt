@@ -1,5 +1,5 @@
 -- The transfers of a message that is split (Part 2, sections 2.6.14 and 2.7.5).
-use Rattle.std.specs.Prelude.{◌≡◌, ℕ, zero, suc, ◌+◌, ◌≤◌, ◌⊎◌, Bool, true, false, List, [], ◌∷◌, length, map, flat_map, codes, None}
+use Rattle.std.specs.Prelude.{◌≡◌, ℕ, zero, suc, ◌+◌, ◌<◌, ◌≤◌, ◌⊎◌, Bool, true, false, List, [], ◌∷◌, ◌++◌, length, map, flat_map, codes, None}
 use Rattle.std.specs.List.{All}
 use Rattle.amqp_model.specs.Term.{Term}
 use Rattle.amqp_model.specs.Composite.{canonical_term}
@@ -61,24 +61,54 @@ payloads_of = flat_map (λ p. p.payload.now)
 abbrev pub FitsFrame : ℕ → Piece → Type 0
 FitsFrame max p = 8 + length (transfer_text p.transfer) + length p.payload.now ≤ max
 
+-- So many bytes don't fit one frame with this transfer.
+abbrev pub PassesOne : ℕ → Transfer → ℕ → Type 0
+PassesOne max t left = max < 8 + length (transfer_text (with_more false t)) + left
+
+-- If others follow this transfer, its frame has no byte for a payload.
+abbrev pub LeavesNone : ℕ → Transfer → Type 0
+LeavesNone max t = max ≤ 8 + length (transfer_text (with_more true t))
+
+-- The piece fills its frame. What is left of the message, with this piece, doesn't fit one frame.
+pub record IsFull (max : ℕ) (p : Piece) (left : ℕ) : Type 0 where
+  pub full : 8 + length (transfer_text p.transfer) + length p.payload.now ≡ max
+  pub some : 0 < length p.payload.now
+  pub needed : PassesOne max p.transfer left
+
+-- Each of the pieces is full, where so many bytes of the message follow them.
+abbrev pub AreFull : ℕ → List Piece → ℕ → Type 0
+AreFull max [] rest = Unit {0}
+AreFull max (p ∷ ps) rest = IsFull max p (length (payloads_of (p ∷ ps)) + rest) × AreFull max ps rest
+
+-- All pieces but the last are full. The last one has a byte, if the message has one.
+pub record AreFilled (max : ℕ) (message : List ℕ) (pieces : List Piece) : Type 0 where
+  pub front : List Piece
+  pub last : Piece
+  pub parts : pieces ≡ front ++ last ∷ []
+  pub full : AreFull max front (length last.payload.now)
+  pub some : 0 < length message → 0 < length last.payload.now
+
 -- A transfer of the delivery, whether others follow it or not.
 abbrev pub Carries : Transfer → Transfer → Type 0
 Carries t u = (n : ℕ) × (more : Bool) × (u ≡ with_more more (after t n))
 
--- Why a message isn't split: a transfer leaves no room for its payload, or can't be written.
-abbrev pub SplitFault : Transfer → ℕ → SplitError → Type 0
-SplitFault t max FrameTooSmall = (u : Transfer) × Carries t u × (max ≤ 8 + length (transfer_text u))
-SplitFault t max (Value e) = (e ≡ Memory) ⊎ ((u : Transfer) × Carries t u × AreUnwritable (transfer_terms u) e)
+-- Why a message isn't split: it doesn't fit one frame, and the first of several transfers leaves no byte for its payload; or a transfer
+-- can't be written.
+abbrev pub SplitFault : Transfer → List ℕ → ℕ → SplitError → Type 0
+SplitFault t message max FrameTooSmall = PassesOne max t (length message) × LeavesNone max t
+SplitFault t message max (Value e) = (e ≡ Memory) ⊎ ((u : Transfer) × Carries t u × AreUnwritable (transfer_terms u) e)
 
 -- the error condition of the standard (Part 2, section 2.8.15)
 abbrev pub split_condition_of : SplitError → List ℕ
 split_condition_of FrameTooSmall = codes "amqp:frame-size-too-small"
 split_condition_of (Value _) = codes "amqp:internal-error"
 
--- The pieces of a message: their bytes are its bytes, each fits its frame, and their transfers are those of one delivery.
+-- The pieces of a message: their bytes are its bytes, each fits its frame, all but the last fill it, and their transfers are those of one
+-- delivery.
 pub record IsSplit (t : Transfer) (message : List ℕ) (max : ℕ) (pieces : List Piece) : Type 0 where
   pub joined : payloads_of pieces ≡ message
   pub fits : All (FitsFrame max) pieces
+  pub filled : AreFilled max message pieces
   pub count : ℕ
   pub transfers : map (λ p. p.transfer) pieces ≡ transfers_of t count
 
@@ -87,7 +117,7 @@ abbrev pub IsUnwritten : List Term → SplitError → Type 0
 IsUnwritten terms FrameTooSmall = ⊥
 IsUnwritten terms (Value e) = (e ≡ Memory) ⊎ AreUnwritable terms e
 
--- why no part of a message goes with this transfer, whether others follow it or not
-abbrev pub PartFault : Transfer → ℕ → SplitError → Type 0
-PartFault t max FrameTooSmall = (more : Bool) × (max ≤ 8 + length (transfer_text (with_more more t)))
-PartFault t max (Value e) = (e ≡ Memory) ⊎ ((more : Bool) × AreUnwritable (transfer_terms (with_more more t)) e)
+-- Why no part of so many bytes of a message goes with this transfer, whether others follow it or not.
+abbrev pub PartFault : Transfer → ℕ → ℕ → SplitError → Type 0
+PartFault t left max FrameTooSmall = PassesOne max t left × LeavesNone max t
+PartFault t left max (Value e) = (e ≡ Memory) ⊎ ((more : Bool) × AreUnwritable (transfer_terms (with_more more t)) e)

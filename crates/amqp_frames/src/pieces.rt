@@ -2,7 +2,7 @@
 ghost use Rattle.std.specs.Prelude.{◌≡◌, ◌+◌, ◌<◌, ◌≤◌, ◌++◌, [], ◌∷◌, ℕ, List, length, map, true, false, OnOk, IfOk, IfErr, IfSome, None, MatchOption};
 ghost use Rattle.std.specs.List.{All};
 ghost use Rattle.amqp_frames.specs.Splitting.{later_of, with_more, transfers_of, transfer_text};
-ghost use Rattle.amqp_frames.specs.Splitting.{payloads_of, transfer_terms, FitsFrame, SplitFault, IsSplit, IsUnwritten, PartFault};
+ghost use Rattle.amqp_frames.specs.Splitting.{payloads_of, transfer_terms, FitsFrame, PassesOne, AreFilled, SplitFault, IsSplit, IsUnwritten, PartFault};
 ghost use Rattle.amqp_performatives.specs.declared.transfer.Transfer.{Transfer};
 
 use crate::SplitError;
@@ -11,7 +11,6 @@ use amqp_performatives::Transfer;
 use amqp_read_write::encoded_len;
 use amqp_restricted_types::Handle;
 use std::alloc::{AllocError, Global};
-use std::cmp::min;
 use std::mem::replace;
 
 /// A part of a message, with the transfer that carries it.
@@ -25,11 +24,12 @@ pub struct Piece<'a> {
 
 /// Splits a message into the payloads of transfers, so that each frame has at most `max_frame_size` bytes. The first transfer is
 /// `transfer`. Each later one has its handle and its `settled`, and omits the rest. `more` is true in all but the last, whatever it is in
-/// `transfer`. An empty message has one transfer, with an empty payload.
+/// `transfer`. The frames of all but the last are full. A message that fits one frame has one transfer.
 ///
 /// # Errors
 ///
-/// `FrameTooSmall` if the maximum leaves no byte for a payload; `Value` if a transfer can't be written, or an allocation fails.
+/// `FrameTooSmall` if the message doesn't fit one frame, and the first of several transfers leaves no byte for its payload; `Value` if a
+/// transfer can't be written, or an allocation fails.
 pub fn split<'a>(
     transfer: Transfer,
     message: &'a [u8],
@@ -39,7 +39,8 @@ pub fn split<'a>(
     ensures message { IfOk result (λ pieces. payloads_of pieces.items ≡ message.now) }
     ensures fits { IfOk result (λ pieces. All (FitsFrame max_frame_size) pieces.items) }
     ensures transfers { IfOk result (λ pieces. (n : ℕ) × (map (λ p. p.transfer) pieces.items ≡ transfers_of transfer n)) }
-    ensures refused { IfErr result (SplitFault transfer max_frame_size) }
+    ensures filled { IfOk result (λ pieces. AreFilled max_frame_size message.now pieces.items) }
+    ensures refused { IfErr result (SplitFault transfer message.now max_frame_size) }
 {
     let mut pieces = Vec::new(alloc);
     let mut next = transfer;
@@ -61,7 +62,7 @@ fn fill<'a>(
 ) -> Result<(), SplitError>
     requires { pieces.old.items ≡ [] }
     ensures ok { OnOk result (IsSplit next.old message.now max_frame_size pieces.new.items) }
-    ensures err { IfErr result (SplitFault next.old max_frame_size) }
+    ensures err { IfErr result (SplitFault next.old message.now max_frame_size) }
 {
     let mut rest = message;
     'parts: while let Some(len) = part_len(next, rest.len(), max_frame_size, alloc)? {
@@ -82,22 +83,35 @@ fn part_len(
 ) -> Result<Option<usize>, SplitError>
     ensures last { IfOk result (λ len. len ≡ None → (next.new ≡ with_more false next.old)
         × (8 + length (transfer_text next.new) + left ≤ max_frame_size)) }
-    ensures part { IfOk result (λ len. IfSome len (λ n. (next.new ≡ with_more true next.old) × (0 < n) × (n ≤ left)
-        × (8 + length (transfer_text next.new) + n ≤ max_frame_size))) }
-    ensures err { IfErr result (PartFault next.old max_frame_size) }
+    ensures part { IfOk result (λ len. IfSome len (λ n. (next.new ≡ with_more true next.old) × (0 < n) × (n < left)
+        × (8 + length (transfer_text next.new) + n ≡ max_frame_size) × PassesOne max_frame_size next.old left)) }
+    ensures err { IfErr result (PartFault next.old left max_frame_size) }
 {
     next.more = false;
-    let room = room_after(next, max_frame_size, alloc)?;
-    if room.is_some_and(|room| left <= room) {
+    if fits_one(next, left, max_frame_size, alloc)? {
         return Ok(None);
-    }
-    if left == 0 {
-        return Err(SplitError::FrameTooSmall);
     }
     next.more = true;
     match room_after(next, max_frame_size, alloc)? {
-        Some(room) if room > 0 => Ok(Some(min(room, left))),
+        Some(room) if room > 0 => Ok(Some(room)),
         _ => Err(SplitError::FrameTooSmall),
+    }
+}
+
+// Whether a frame with this transfer has room for so many bytes of payload.
+fn fits_one(
+    transfer: &Transfer,
+    left: usize,
+    max_frame_size: u32,
+    alloc: Global,
+) -> Result<bool, SplitError>
+    ensures fits { IfOk result (λ fits. fits ≡ true → 8 + length (transfer_text transfer.now) + left ≤ max_frame_size) }
+    ensures passes { IfOk result (λ fits. fits ≡ false → max_frame_size < 8 + length (transfer_text transfer.now) + left) }
+    ensures err { IfErr result (λ e. IsUnwritten (transfer_terms transfer.now) e) }
+{
+    match room_after(transfer, max_frame_size, alloc)? {
+        Some(room) => Ok(left <= room),
+        None => Ok(false),
     }
 }
 

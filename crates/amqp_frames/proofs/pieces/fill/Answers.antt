@@ -20,7 +20,8 @@ parts-preserved c =
       so_far =
           part_added c.parts.invariant.so_far c.part_len.new.next _ c.split_at.result.0.now c.split_at.result.1.now _
           c.in_ok-push_piece.ensures.pushed c.in_ok-push_piece.ensures.next part.0
-          (rw (c.split_at.ensures.front, c.split_at.ensures.back) (take-append-drop _ _)) (rw front part.3);
+          (rw (c.split_at.ensures.front, c.split_at.ensures.back) (take-append-drop _ _)) (rw front part.1) (rw front part.2)
+          (rw front part.3) part.4;
     }
 
 pub returns-clause-ok : goal.returns-clause-ok
