@@ -1,6 +1,7 @@
 -- What a filter of frames finds at the start of the bytes of a connection (Part 2, section 2.3).
-use Rattle.std.specs.Prelude.{◌≡◌, ℕ, ◌⊎◌, List, []}
+use Rattle.std.specs.Prelude.{◌≡◌, ℕ, ◌⊎◌, List, [], codes}
 use Rattle.amqp_wire.specs.declared.limits.Limits.{Limits}
+use Rattle.amqp_frames.specs.BodyErrors.{condition_of}
 use Rattle.amqp_frames.specs.FrameErrors.{place_of}
 use Rattle.amqp_frames.specs.Frames.{BeginsWithFrame, FrameFault, NeedsMore}
 use Rattle.amqp_frames.specs.Bodies.{IsAmqp, IsAmqpBody, AmqpFault}
@@ -22,9 +23,9 @@ IsPassed limits max input (Performative b len) =
     (header : FrameHeader) × (body : List ℕ) × BeginsWithBody max input header body × IsAmqp header.kind
     × IsAmqpBody limits body b.performative b.payload.now × (len ≡ header.size)
 
--- A fault at this place: of the frame, or of its body.
-abbrev pub IsFaultAt : Limits → ℕ → List ℕ → ℕ → Type 0
-IsFaultAt limits max input at =
-    ((e : FrameError) × FrameFault max input e × (at ≡ place_of e))
+-- A fault at this place, and the error condition for it: of the frame, or of its body.
+abbrev pub IsFault : Limits → ℕ → List ℕ → ℕ → List ℕ → Type 0
+IsFault limits max input at condition =
+    ((e : FrameError) × FrameFault max input e × (at ≡ place_of e) × (condition ≡ codes "amqp:connection:framing-error"))
     ⊎ ((header : FrameHeader) × (body : List ℕ) × (fault : BodyFault) × BeginsWithBody max input header body
-    × AmqpFault limits header body fault at)
+    × AmqpFault limits header body fault at × (condition ≡ condition_of fault))

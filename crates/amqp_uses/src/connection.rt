@@ -1,13 +1,13 @@
 //! A filter of the bytes that one side of a connection sends: it finds each frame's performative, or where the bytes are wrong.
 ghost use Rattle.std.specs.Prelude.{◌≡◌, IfOk, IfErr};
-ghost use Rattle.amqp_uses.specs.Passing.{IsPassed, IsFaultAt};
+ghost use Rattle.amqp_uses.specs.Passing.{IsPassed, IsFault};
 
 use amqp_frames::{AmqpBody, Step, next_frame};
 use fe2o3_amqp_types::codec::Limits;
 use std::alloc::Global;
 
 /// What the bytes begin with.
-#[derive(Debug, PartialEq, Eq, Drop)]
+#[derive(Drop)]
 pub enum Passed<'a> {
     /// No whole frame: at least so many more bytes are needed.
     Needs(usize),
@@ -35,7 +35,7 @@ pub fn next_performative<'a>(
     alloc: Global,
 ) -> Result<Passed<'a>, Fault>
     ensures passed { IfOk result (IsPassed limits.now max_frame_size input.now) }
-    ensures refused { IfErr result (λ fault. IsFaultAt limits.now max_frame_size input.now fault.at) }
+    ensures refused { IfErr result (λ fault. IsFault limits.now max_frame_size input.now fault.at fault.condition.now) }
 {
     let frame = match next_frame(input, max_frame_size) {
         Ok(Step::Frame(frame)) => frame,
@@ -51,9 +51,9 @@ pub fn next_performative<'a>(
     match frame.amqp(limits, alloc) {
         Ok(Some(body)) => Ok(Passed::Performative(body, len)),
         Ok(None) => Ok(Passed::Empty(len)),
-        Err(error) => Err(Fault {
-            at: error.at,
-            condition: error.condition(),
+        Err(fault) => Err(Fault {
+            at: fault.at,
+            condition: fault.condition(),
         }),
     }
 }
