@@ -227,6 +227,14 @@ struct amqp_node {
  * the offset isn't in the enclosing node; other errors are those of reading. */
 struct amqp_outcome amqp_c_next(const uint8_t *in, size_t len, size_t at, struct amqp_node *node);
 
+/* Finds the field with this number, counted from 0, of the composite whose node this is. docs/TYPES.md says which numbers its fields have.
+ * The call doesn't allocate. It reads the fields up to this one.
+ * 0: *field is the field's node, or all zeros if the composite omits the field: the list is shorter, or the field is null.
+ * AMQP_ERROR_WRONG_TYPE: the node isn't a described list; the detail is the format code of the node, or of what its descriptor describes.
+ * Other errors are those of amqp_c_next. After any error *field is unchanged. */
+struct amqp_outcome amqp_c_field(const uint8_t *in, size_t len, const struct amqp_node *composite, size_t index,
+                                 struct amqp_node *field);
+
 #ifdef __cplusplus
 }
 #endif

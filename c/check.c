@@ -285,6 +285,29 @@ static void check_edges(void) {
     }
 }
 
+/* The fields of an attach: its name, an initial-delivery-count that is omitted, and its source with an address. */
+static void check_fields(void) {
+    static const uint8_t attach[] = "\x00\x53\x12\xc0\x1a\x06\xa1\x06orders\x43\x41\x40\x40\x00\x53\x28\xc0\x08\x01\xa1\x05queue";
+    static const struct amqp_node none;
+    size_t len = sizeof attach - 1;
+    struct amqp_node link = none, source = none, address = none, field;
+    require(amqp_c_next(attach, len, 0, &link).number == 0, "an attach");
+    require(amqp_c_field(attach, len, &link, 5, &source).number == 0 && source.kind == AMQP_KIND_DESCRIBED, "its source");
+    require(amqp_c_field(attach, len, &source, 0, &address).number == 0 && address.kind == AMQP_KIND_STRING, "the source's address");
+    require(address.end - address.start == 5 && memcmp(attach + address.start, "queue", 5) == 0, "the text of the address");
+    for (size_t index = 3; index <= 4; index++) {
+        field = link;
+        require(amqp_c_field(attach, len, &link, index, &field).number == 0 && field.kind == AMQP_KIND_NONE && field.end == 0,
+                "a field that is null");
+    }
+    field = link;
+    require(amqp_c_field(attach, len, &link, 6, &field).number == 0 && field.kind == AMQP_KIND_NONE, "a field past the end of the list");
+    field = link;
+    require(amqp_c_field(attach, len, &address, 0, &field).number == AMQP_ERROR_WRONG_TYPE && field.kind == link.kind && field.end == link.end,
+            "a field of a string");
+    require(amqp_c_field(NULL, 0, &link, 0, &field).number == AMQP_ERROR_CUT, "a field of no input");
+}
+
 /* One thread of eight: every call, over an input of its own. */
 static void *run_thread(void *given) {
     uint8_t own = *(uint8_t *)given, input[] = {0x00, 0x53, 0x23, 0xc0, 0x08, 0x02, 0x70, 0, 0, 0, own, 0x53, 0x0d, own};
@@ -323,9 +346,10 @@ static void check_threads(void) {
 }
 
 int main(int argc, char **argv) {
-    if (argc == 2 && strcmp(argv[1], "edges") == 0)
+    if (argc == 2 && strcmp(argv[1], "edges") == 0) {
         check_edges();
-    else if (argc == 3 && strcmp(argv[1], "random") == 0)
+        check_fields();
+    } else if (argc == 3 && strcmp(argv[1], "random") == 0)
         check_random(atol(argv[2]));
     else if (argc == 2 && strcmp(argv[1], "threads") == 0)
         check_threads();

@@ -44,6 +44,7 @@ from ._library import __version__ as __version__
 from ._library import canonical as canonical
 from ._library import canonical_into as canonical_into
 from ._library import error_name as error_name
+from ._library import field_at as field_at
 from ._library import for_peers as for_peers
 from ._library import greatest as greatest
 from ._library import node_at as node_at
@@ -75,6 +76,6 @@ for _public in (AmqpError, EncodeError, Limits, Node):
     _public.__module__ = __name__
 for _call in (decode, decode_message, decode_term, encode, canonical, canonical_into, error_name, for_peers, greatest):
     _call.__module__ = __name__
-for _call in (node_at, nodes, read, term_len):
+for _call in (field_at, node_at, nodes, read, term_len):
     _call.__module__ = __name__
 del _public, _call

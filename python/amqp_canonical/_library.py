@@ -220,6 +220,7 @@ def _loaded() -> ctypes.CDLL:
         "amqp_c_canonical": ([number, data, size, limits, ctypes.c_void_p, size, place, place], _Outcome),
         "amqp_c_term_len": ([data, size, place], _Outcome),
         "amqp_c_next": ([data, size, size, ctypes.POINTER(_Node)], _Outcome),
+        "amqp_c_field": ([data, size, ctypes.POINTER(_Node), size, ctypes.POINTER(_Node)], _Outcome),
         "amqp_c_error_name": ([number, ctypes.c_void_p, size], size),
         "amqp_c_greatest": ([limits], None),
         "amqp_c_for_peers": ([limits, ctypes.c_uint64], None),
@@ -366,13 +367,31 @@ class Node:
     next: int
 
 
+def _passed(node: Node) -> _Node:
+    return _Node(node.kind, node.depth, node.code, node.item_code, node.count, node.start, node.end, node.next)
+
+
+def _returned(node: _Node) -> Node:
+    return Node(Kind(node.kind), node.depth, node.code, node.item_code, node.count, node.start, node.end, node.next)
+
+
 def node_at(data: bytes, at: int = 0, around: Optional[Node] = None) -> Node:
     """Returns the node that begins at the offset, in the enclosing node. The items of an array have no constructor of their own."""
-    node = _Node()
-    if around:
-        node = _Node(around.kind, around.depth, around.code, around.item_code, around.count, around.start, around.end, around.next)
+    node = _passed(around) if around else _Node()
     _check(_library.amqp_c_next(data, len(data), at, ctypes.byref(node)))
-    return Node(Kind(node.kind), node.depth, node.code, node.item_code, node.count, node.start, node.end, node.next)
+    return _returned(node)
+
+
+def field_at(data: bytes, composite: Node, index: int) -> Optional[Node]:
+    """Returns the node of a composite's field, by the field's number from 0 on, or `None` if the composite omits the field.
+
+    >>> received = bytes.fromhex("005323c005025209530d")
+    >>> field_at(received, node_at(received), 1).end
+    10
+    """
+    field = _Node()
+    _check(_library.amqp_c_field(data, len(data), ctypes.byref(_passed(composite)), index, ctypes.byref(field)))
+    return _returned(field) if field.kind else None
 
 
 def nodes(data: bytes, at: int = 0, around: Optional[Node] = None) -> Iterator[Node]:

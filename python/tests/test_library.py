@@ -201,3 +201,17 @@ def test_eight_threads() -> None:
     for thread in threads:
         thread.join()
     assert wrong == []
+
+
+def test_fields_by_number() -> None:
+    # A transfer: handle 1, three fields that are null, and settled.
+    data = bytes.fromhex("005314c00705520140404041")
+    transfer = amqp.node_at(data)
+    handle = amqp.field_at(data, transfer, 0)
+    assert handle is not None
+    assert handle.kind == amqp.Kind.UINT
+    assert data[handle.start : handle.end] == b"\x01"
+    assert [amqp.field_at(data, transfer, index) for index in (1, 2, 3, 6)] == [None] * 4
+    with pytest.raises(amqp.AmqpError) as refused:
+        amqp.field_at(data, handle, 0)
+    assert refused.value.name == "WrongType"

@@ -3,3 +3,4 @@ mod Announced
 mod Shared
 mod Told
 mod Walking
+mod FieldsMet

@@ -234,7 +234,7 @@ term_parts (described d t) bytes at node told deep =
       stand = (first, second, e, own, (second, [], sym (append-nil second), value, refl));
     }
 
-is_same : (n m : ℕ) → (n ≡ m) ⊎ (n ≡ m → ⊥)
+pub is_same : (n m : ℕ) → (n ≡ m) ⊎ (n ≡ m → ⊥)
 is_same n m = by_test (eqb n m) refl
   where
     by_test : (t : Bool) → eqb n m ≡ t → (n ≡ m) ⊎ (n ≡ m → ⊥)

@@ -7,3 +7,4 @@ pub mod Items
 pub mod Nodes
 pub mod Rewriting
 pub mod Walks
+pub mod Fields

@@ -4,9 +4,11 @@ ghost use Rattle.amqp_c.specs.Limits.{greatest_given, peers_given};
 ghost use Rattle.amqp_c.specs.Errors.{TellsName};
 ghost use Rattle.amqp_c.specs.Terms.{TellsLength};
 ghost use Rattle.amqp_c.specs.Nodes.{TellsNode};
+ghost use Rattle.amqp_c.specs.Fields.{TellsField};
 ghost use Rattle.amqp_c.specs.Rewriting.{IsNumberOf, Reads, Rewrites, Written};
 
 use crate::errors::name_of_number;
+use crate::fields::field_node;
 use crate::limits::GivenLimits;
 use crate::nodes::{Node, next_node};
 use crate::outcome::{DONE, FULL, Outcome};
@@ -94,6 +96,25 @@ pub extern "C" fn amqp_c_next(input: &[u8], at: usize, node: &mut Node) -> Outco
     match next_node(input, at, node) {
         Ok(next) => {
             *node = next;
+            DONE
+        }
+        Err(error) => Outcome::of_error(error),
+    }
+}
+
+/// Writes the node of the field with this number, counted from 0, in the composite to `field`. The node of an omitted field is all zeros.
+#[unsafe(no_mangle)]
+pub extern "C" fn amqp_c_field(
+    input: &[u8],
+    composite: &Node,
+    index: usize,
+    field: &mut Node,
+) -> Outcome
+    ensures { TellsField input.now composite.now index field.old field.new result }
+{
+    match field_node(input, composite, index) {
+        Ok(found) => {
+            *field = found.unwrap_or(Node::NOTHING);
             DONE
         }
         Err(error) => Outcome::of_error(error),

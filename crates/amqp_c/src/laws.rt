@@ -1,4 +1,4 @@
-//! The laws of walks. The function does nothing; its contract is proved.
+//! The laws of walks and of fields. The functions do nothing; their contracts are proved.
 ghost use Rattle.std.specs.Prelude.{◌≡◌, ◌≤◌, ℕ, List, [], ◌∷◌, ◌++◌, length};
 ghost use Rattle.amqp_model.specs.Term.{Term};
 ghost use Rattle.amqp_model.specs.Spelling.{IsSpelling};
@@ -6,6 +6,7 @@ ghost use Rattle.amqp_model.specs.Measures.{nest};
 ghost use Rattle.amqp_wire.specs.declared.error.Error.{Error};
 ghost use Rattle.amqp_c.specs.declared.nodes.Node.{Node};
 ghost use Rattle.amqp_c.specs.Nodes.{IsWithin, IsNode, IsNoNode, bytes_at, reach_of};
+ghost use Rattle.amqp_c.specs.Fields.{IsCompositeOf, IsNth, IsPlaced, EndsBefore, IsField, IsOmitted, HasNoField};
 ghost use Rattle.amqp_c.specs.Walks.{nothing, parts_of, StandsIn, StandIn, IsNodeOf, Walks, AreOf};
 
 /// A walk of a term meets each value in it once. The parts of a node's term are in the node, from its `next` on. If terms come next in a
@@ -23,4 +24,15 @@ pub fn walks()
         → at ≡ reach_of input around }
     ensures once { (input front after : List ℕ) (t : Term) (told : List Node) → input ≡ front ++ after → IsSpelling front t → nest t ≤ 128
         → Walks input nothing 0 1 told → AreOf input (t ∷ []) told }
+{}
+
+/// A composite's term is a described list of its fields' terms. The node that `amqp_c_field` returns is that of the term with the number. A
+/// field is omitted only if the list has no such term, or the term's node is null's. No composite is refused.
+pub fn composite_fields()
+    ensures found { (input : List ℕ) (around composite node : Node) (ts : List Term) (index : ℕ) → IsCompositeOf input around ts composite
+        → IsField input composite index node → (fields : Node) × (t : Term) × IsNth ts index t × IsPlaced input fields t node }
+    ensures omitted { (input : List ℕ) (around composite : Node) (ts : List Term) (index : ℕ) → IsCompositeOf input around ts composite
+        → IsOmitted input composite index → EndsBefore input ts index }
+    ensures told { (input : List ℕ) (around composite : Node) (ts : List Term) (index : ℕ) (e : Error)
+        → IsCompositeOf input around ts composite → HasNoField input composite index e → ⊥ }
 {}

@@ -5,6 +5,7 @@
 
 mod errors;
 mod exports;
+mod fields;
 mod laws;
 mod limits;
 mod nodes;
@@ -15,10 +16,10 @@ mod room;
 mod tests;
 
 pub use exports::{
-    amqp_c_canonical, amqp_c_error_name, amqp_c_greatest, amqp_c_next, amqp_c_read,
+    amqp_c_canonical, amqp_c_error_name, amqp_c_field, amqp_c_greatest, amqp_c_next, amqp_c_read,
     amqp_c_term_len, amqp_c_type,
 };
-pub use laws::walks;
+pub use laws::{composite_fields, walks};
 pub use limits::GivenLimits;
 pub use nodes::Node;
 pub use outcome::Outcome;

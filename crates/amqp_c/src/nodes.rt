@@ -195,6 +195,18 @@ fn first_item(code: u8, count: usize, bytes: &[u8]) -> (u8, usize)
 }
 
 impl Node {
+    /// What is around a whole term, and the node of a field that is omitted.
+    pub const NOTHING: Node = Node {
+        kind: 0,
+        depth: 0,
+        code: 0,
+        item_code: 0,
+        count: 0,
+        start: 0,
+        end: 0,
+        next: 0,
+    };
+
     // The node of data of the code, which begins at the place.
     fn of_data(code: u8, bytes: &[u8], at: usize, depth: u32) -> Node
         requires { at + length bytes.now < 2 ^ 63 }

@@ -1,6 +1,6 @@
 //! Tests of each call, once without an error and once with one.
 use crate::exports::{
-    amqp_c_canonical, amqp_c_error_name, amqp_c_greatest, amqp_c_next, amqp_c_read,
+    amqp_c_canonical, amqp_c_error_name, amqp_c_field, amqp_c_greatest, amqp_c_next, amqp_c_read,
     amqp_c_term_len, amqp_c_type,
 };
 use crate::limits::GivenLimits;
@@ -128,16 +128,7 @@ fn names_of_errors(rt: HostRuntime) -> Result<(), Fail> {
 }
 
 // What is around a whole term.
-const NONE: Node = Node {
-    kind: 0,
-    depth: 0,
-    code: 0,
-    item_code: 0,
-    count: 0,
-    start: 0,
-    end: 0,
-    next: 0,
-};
+const NONE: Node = Node::NOTHING;
 
 // (a described list, Part 1, sections 1.2.3 and 1.3)
 #[test]
@@ -184,6 +175,38 @@ fn nodes_of_a_described_list(_rt: HostRuntime) -> Result<(), Fail> {
     check_node(&TEXT, 6, &list, &number)
 }
 
+// (fields of a composite, Part 1, section 1.4)
+#[test]
+fn fields_by_number(_rt: HostRuntime) -> Result<(), Fail> {
+    // A list of null and a ubyte, under a descriptor.
+    let bytes = [0x00, 0x53, 0x24, 0xc0, 0x04, 0x02, 0x40, 0x50, 0x07];
+    let mut composite = NONE;
+    check(amqp_c_next(&bytes, 0, &mut composite), 0, 0)?;
+    let number = Node {
+        kind: 3,
+        depth: 2,
+        code: 0x50,
+        start: 8,
+        end: 9,
+        next: 9,
+        ..NONE
+    };
+    check_field(&bytes, &composite, 0, &NONE)?;
+    check_field(&bytes, &composite, 1, &number)?;
+    check_field(&bytes, &composite, 2, &NONE)?;
+    // The ubyte has no fields: `WrongType`.
+    let mut field = composite;
+    check(amqp_c_field(&bytes, &number, 0, &mut field), 27, 0x50)?;
+    is_node(&field, &composite)
+}
+
+// The node of the field of a composite.
+fn check_field(input: &[u8], composite: &Node, index: usize, wanted: &Node) -> Result<(), Fail> {
+    let mut field = *composite;
+    check(amqp_c_field(input, composite, index, &mut field), 0, 0)?;
+    is_node(&field, wanted)
+}
+
 // (an array of two described strings, Part 1, section 1.2.4)
 #[test]
 fn nodes_of_an_array(_rt: HostRuntime) -> Result<(), Fail> {
@@ -220,7 +243,11 @@ fn nodes_of_an_array(_rt: HostRuntime) -> Result<(), Fail> {
 fn check_node(input: &[u8], at: usize, around: &Node, wanted: &Node) -> Result<(), Fail> {
     let mut node = *around;
     check(amqp_c_next(input, at, &mut node), 0, 0)?;
-    if node != *wanted {
+    is_node(&node, wanted)
+}
+
+fn is_node(node: &Node, wanted: &Node) -> Result<(), Fail> {
+    if node != wanted {
         return Err(Fail::new(format_args!("{node:?} stands for {wanted:?}")));
     }
     Ok(())

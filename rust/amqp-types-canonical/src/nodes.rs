@@ -110,6 +110,8 @@ pub struct Node<'a> {
 pub struct Nodes<'a> {
     input: &'a [u8],
     at: usize,
+    /// The node that comes first, if it is known.
+    first: Option<sys::Node>,
     /// The enclosing nodes of the next one, each with how many nodes in it are still to come. At first it is what is around a whole term,
     /// with one.
     open: Vec<(sys::Node, usize)>,
@@ -118,7 +120,61 @@ pub struct Nodes<'a> {
 impl<'a> Nodes<'a> {
     /// Returns an iterator over the nodes of the term at the start of the input.
     pub fn new(input: &'a [u8]) -> Nodes<'a> {
-        Nodes { input, at: 0, open: vec![(sys::Node::default(), 1)] }
+        Nodes { input, at: 0, first: None, open: vec![(sys::Node::default(), 1)] }
+    }
+
+    /// Returns the nodes of a field of a composite, or `None` if the composite omits the field. The composite is the node that comes next,
+    /// and its fields are counted from 0.
+    ///
+    /// # Errors
+    ///
+    /// `WrongType` if the node is no described list, or the error of the node.
+    ///
+    /// ```
+    /// use amqp_types_canonical::{Error, Nodes};
+    ///
+    /// let error = [0x00, 0x53, 0x1d, 0xc0, 0x05, 0x02, 0xa3, 0x01, 0x61, 0x40];
+    /// let condition = Nodes::new(&error).field(0)?.and_then(|mut nodes| nodes.next());
+    /// assert_eq!(condition.transpose()?.map(|node| node.data), Some(&b"a"[..]));
+    /// assert!(Nodes::new(&error).field(1)?.is_none());
+    /// # Ok::<(), Error>(())
+    /// ```
+    pub fn field(&self, index: usize) -> Result<Option<Nodes<'a>>, Error> {
+        let composite = self.clone().next_node().ok_or(Error::Cut)??;
+        let mut field = sys::Node::default();
+        // SAFETY: the pointer and the length are those of one slice, and the nodes are values of their own.
+        let outcome = unsafe { sys::amqp_c_field(self.input.as_ptr(), self.input.len(), &composite, index, &mut field) };
+        if outcome.number != 0 {
+            return Err(Error::from_outcome(outcome.number, outcome.detail));
+        }
+        if field.kind == 0 {
+            return Ok(None);
+        }
+        Ok(Some(Nodes { input: self.input, at: field.next, first: Some(field), open: vec![(sys::Node::default(), 1)] }))
+    }
+
+    /// The node that comes next. After an error there are no more.
+    fn next_node(&mut self) -> Option<Result<sys::Node, Error>> {
+        while self.open.last()?.1 == 0 {
+            self.open.pop();
+        }
+        let (around, left) = self.open.last_mut()?;
+        *left -= 1;
+        let mut node = *around;
+        match self.first.take() {
+            Some(first) => node = first,
+            None => {
+                // SAFETY: the pointer and the length are those of one slice, and the node is a value of its own.
+                let outcome = unsafe { sys::amqp_c_next(self.input.as_ptr(), self.input.len(), self.at, &mut node) };
+                if outcome.number != 0 {
+                    self.open.clear();
+                    return Some(Err(Error::from_outcome(outcome.number, outcome.detail)));
+                }
+            }
+        }
+        self.at = node.next;
+        self.open.push((node, node.count));
+        Some(Ok(node))
     }
 }
 
@@ -126,26 +182,15 @@ impl<'a> Iterator for Nodes<'a> {
     type Item = Result<Node<'a>, Error>;
 
     fn next(&mut self) -> Option<Result<Node<'a>, Error>> {
-        while self.open.last()?.1 == 0 {
-            self.open.pop();
-        }
-        let (around, left) = self.open.last_mut()?;
-        *left -= 1;
-        let mut node = *around;
-        // SAFETY: the pointer and the length are those of one slice, and the node is a value of its own.
-        let outcome = unsafe { sys::amqp_c_next(self.input.as_ptr(), self.input.len(), self.at, &mut node) };
-        if outcome.number != 0 {
-            self.open.clear();
-            return Some(Err(Error::from_outcome(outcome.number, outcome.detail)));
-        }
-        self.at = node.next;
-        let depth = self.open.len() - 1;
-        self.open.push((node, node.count));
+        let node = match self.next_node()? {
+            Ok(node) => node,
+            Err(error) => return Some(Err(error)),
+        };
         Some(Ok(Node {
             kind: KINDS[node.kind as usize - 1],
             code: node.code,
             data: &self.input[node.start..node.end],
-            depth,
+            depth: self.open.len() - 2,
             count: node.count,
         }))
     }
