@@ -156,6 +156,15 @@ void amqp_c_for_peers(struct amqp_limits *limits, uint64_t bytes);
 /* Returns the number of the type with this name, as "open" or "message-data", without a 0 at the end; or 0 if no type has it. */
 uint32_t amqp_c_type(const uint8_t *name, size_t len);
 
+/* Returns the number of the type whose values have the descriptor with this code, as AMQP_TYPE_OPEN for 0x10; or 0 if there is none. A sum of
+ * types has none, nor has a message, since their values have several descriptors. */
+uint32_t amqp_c_type_of_descriptor(uint64_t code);
+
+/* Writes the standard's name of the field with this number, counted from 0, of the type, as "container-id", if there is room for it, without
+ * a 0 at the end. Returns the length of the name, or 0 if the type has no such field. If the name is longer than the room, the room is
+ * unchanged. */
+size_t amqp_c_field_name(uint32_t type, size_t index, uint8_t *out, size_t room);
+
 /* Reads the value of the type at the start of the input, within the limits. What follows it is ignored.
  * 0: *taken is how many bytes the value takes. The input begins with no value of the type that takes another number of bytes.
  * 1 to 31: the input begins with no such value, and the error reports a fault of it; or an allocation failed (AMQP_ERROR_MEMORY).
@@ -227,7 +236,7 @@ struct amqp_node {
  * the offset isn't in the enclosing node; other errors are those of reading. */
 struct amqp_outcome amqp_c_next(const uint8_t *in, size_t len, size_t at, struct amqp_node *node);
 
-/* Finds the field with this number, counted from 0, of the composite whose node this is. docs/TYPES.md says which numbers its fields have.
+/* Finds the field with this number, counted from 0, of the composite whose node this is. amqp_c_field_name has the names.
  * The call doesn't allocate. It reads the fields up to this one.
  * 0: *field is the field's node, or all zeros if the composite omits the field: the list is shorter, or the field is null.
  * AMQP_ERROR_WRONG_TYPE: the node isn't a described list; the detail is the format code of the node, or of what its descriptor describes.

@@ -285,6 +285,35 @@ static void check_edges(void) {
     }
 }
 
+/* Which types have a descriptor, and which names their fields have. */
+static void check_descriptors(void) {
+    size_t types = 0, fields = 0;
+    for (uint64_t code = 0; code <= 0x1000; code++) {
+        uint32_t type = amqp_c_type_of_descriptor(code);
+        require(type <= TYPES, "the type of a descriptor");
+        types += type > 0;
+    }
+    require(types == 40 && amqp_c_type_of_descriptor(UINT64_MAX) == 0, "how many types have one descriptor");
+    require(amqp_c_type_of_descriptor(0x12) == AMQP_TYPE_ATTACH && amqp_c_type_of_descriptor(0x75) == AMQP_TYPE_DATA, "the type of a descriptor");
+    for (uint32_t type = 0; type <= TYPES + 1; type++) {
+        uint8_t name[32];
+        size_t index = 0;
+        while (amqp_c_field_name(type, index, name, sizeof name) > 0) {
+            index++;
+        }
+        require(amqp_c_field_name(type, SIZE_MAX, name, sizeof name) == 0, "a field past the last");
+        fields += index;
+    }
+    require(fields == 125, "how many fields all types have");
+    struct places at = places();
+    for (size_t room = 0; room <= 13; room++) {
+        uint8_t *out = room_of(at.out, room);
+        require(amqp_c_field_name(AMQP_TYPE_OPEN, 0, out, room) == 12, "the length of a field's name");
+        require(room < 12 ? is_untouched(out, room) : memcmp(out, "container-id", 12) == 0, "room for a field's name");
+        require(out[-1] == CANARY && (room <= 12 || out[12] == CANARY), "what is around a field's name");
+    }
+}
+
 /* The fields of an attach: its name, an initial-delivery-count that is omitted, and its source with an address. */
 static void check_fields(void) {
     static const uint8_t attach[] = "\x00\x53\x12\xc0\x1a\x06\xa1\x06orders\x43\x41\x40\x40\x00\x53\x28\xc0\x08\x01\xa1\x05queue";
@@ -348,6 +377,7 @@ static void check_threads(void) {
 int main(int argc, char **argv) {
     if (argc == 2 && strcmp(argv[1], "edges") == 0) {
         check_edges();
+        check_descriptors();
         check_fields();
     } else if (argc == 3 && strcmp(argv[1], "random") == 0)
         check_random(atol(argv[2]));

@@ -45,12 +45,14 @@ from ._library import canonical as canonical
 from ._library import canonical_into as canonical_into
 from ._library import error_name as error_name
 from ._library import field_at as field_at
+from ._library import field_name as field_name
 from ._library import for_peers as for_peers
 from ._library import greatest as greatest
 from ._library import node_at as node_at
 from ._library import nodes as nodes
 from ._library import read as read
 from ._library import term_len as term_len
+from ._library import type_of_descriptor as type_of_descriptor
 from ._values import Array as Array
 from ._values import Byte as Byte
 from ._values import Char as Char
@@ -76,6 +78,6 @@ for _public in (AmqpError, EncodeError, Limits, Node):
     _public.__module__ = __name__
 for _call in (decode, decode_message, decode_term, encode, canonical, canonical_into, error_name, for_peers, greatest):
     _call.__module__ = __name__
-for _call in (field_at, node_at, nodes, read, term_len):
+for _call in (field_at, field_name, node_at, nodes, read, term_len, type_of_descriptor):
     _call.__module__ = __name__
 del _public, _call

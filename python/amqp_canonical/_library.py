@@ -221,6 +221,8 @@ def _loaded() -> ctypes.CDLL:
         "amqp_c_term_len": ([data, size, place], _Outcome),
         "amqp_c_next": ([data, size, size, ctypes.POINTER(_Node)], _Outcome),
         "amqp_c_field": ([data, size, ctypes.POINTER(_Node), size, ctypes.POINTER(_Node)], _Outcome),
+        "amqp_c_type_of_descriptor": ([ctypes.c_uint64], number),
+        "amqp_c_field_name": ([number, size, ctypes.c_void_p, size], size),
         "amqp_c_error_name": ([number, ctypes.c_void_p, size], size),
         "amqp_c_greatest": ([limits], None),
         "amqp_c_for_peers": ([limits, ctypes.c_uint64], None),
@@ -282,6 +284,27 @@ def error_name(number: int) -> str:
     room = ctypes.create_string_buffer(32)
     size = _library.amqp_c_error_name(number, room, len(room))
     return room.raw[:size].decode()
+
+
+def type_of_descriptor(code: int) -> Optional[Type]:
+    """Returns the type whose values have the descriptor with this code, or `None`. A sum of types has none, nor has a message.
+
+    >>> type_of_descriptor(0x12)
+    <Type.ATTACH: 6>
+    """
+    number = _library.amqp_c_type_of_descriptor(code) if 0 <= code < 2**64 else 0
+    return Type(number) if number else None
+
+
+def field_name(of: Type, index: int) -> Optional[str]:
+    """Returns the standard's name of the field with this number, counted from 0, of a composite's type, or `None` if it has no such field.
+
+    >>> field_name(Type.ATTACH, 5)
+    'source'
+    """
+    room = ctypes.create_string_buffer(32)
+    size = _library.amqp_c_field_name(of, index, room, len(room)) if index >= 0 else 0
+    return room.raw[:size].decode() if size else None
 
 
 def _check(outcome: Any) -> None:

@@ -2,9 +2,10 @@
 ghost use Rattle.std.specs.Prelude.{◌≤◌};
 
 use crate::bare::Bare;
+use crate::framed::Framed;
 use crate::frames::{ATTACH, FLOW, MESSAGE, PROPERTIES, TRANSFER};
 use crate::values::{Typed, application_properties, message_of_data, message_of_properties};
-use amqp_attach::Attach;
+use amqp_attach::{Attach, Performative};
 use amqp_codec::{Deserialize, Serialize};
 use amqp_containers::Array;
 use amqp_map_sections::ApplicationProperties;
@@ -44,6 +45,8 @@ pub(crate) enum Case {
     Attach,
     Transfer,
     Flow,
+    Performative,
+    Frame,
     Properties,
     ApplicationProperties,
     Message,
@@ -51,7 +54,7 @@ pub(crate) enum Case {
     MessageOfData,
 }
 
-pub(crate) const CASES: [Case; 21] = [
+pub(crate) const CASES: [Case; 23] = [
     Case::Uints,
     Case::Ulongs,
     Case::Strings,
@@ -68,6 +71,8 @@ pub(crate) const CASES: [Case; 21] = [
     Case::Attach,
     Case::Transfer,
     Case::Flow,
+    Case::Performative,
+    Case::Frame,
     Case::Properties,
     Case::ApplicationProperties,
     Case::Message,
@@ -76,13 +81,14 @@ pub(crate) const CASES: [Case; 21] = [
 ];
 
 /// Cases whose times are compared. A type's is compared with that of the bare calls for the same bytes, which for a map keep its entries or
-/// don't. A map's is compared with that of a map with a sixteenth of its entries.
-pub(crate) const COMPARED: [(Case, Case); 5] = [
+/// don't. A map's is compared with that of a map with a sixteenth of its entries, and a frame's with that of its performative.
+pub(crate) const COMPARED: [(Case, Case); 6] = [
     (Case::UintVec, Case::Uints),
     (Case::UlongArray, Case::Ulongs),
     (Case::SymbolMap, Case::Symbols),
     (Case::SymbolMap, Case::KeptSymbols),
     (Case::LargeMap, Case::SymbolMap),
+    (Case::Frame, Case::Performative),
 ];
 
 #[derive(Clone, Copy)]
@@ -122,6 +128,8 @@ impl Case {
             Case::Attach => "an attach of 14 fields",
             Case::Transfer => "a transfer",
             Case::Flow => "a flow of 11 fields",
+            Case::Performative => "that flow as a performative",
+            Case::Frame => "a frame with that performative",
             Case::Properties => "properties of 13 fields",
             Case::ApplicationProperties => "application properties of 20 entries",
             Case::Message => "a message of 316 bytes",
@@ -149,6 +157,8 @@ impl Case {
             Case::Attach => "attach",
             Case::Transfer => "transfer",
             Case::Flow => "flow",
+            Case::Performative => "performative",
+            Case::Frame => "frame",
             Case::Properties => "properties",
             Case::ApplicationProperties => "application",
             Case::Message => "message",
@@ -184,6 +194,8 @@ impl Case {
             | Case::Attach
             | Case::Transfer
             | Case::Flow
+            | Case::Performative
+            | Case::Frame
             | Case::Properties
             | Case::ApplicationProperties
             | Case::Message => 1000,
@@ -205,7 +217,7 @@ impl Case {
         match self {
             Case::Attach => Ok(Vec::from_slice(alloc, ATTACH)?),
             Case::Transfer => Ok(Vec::from_slice(alloc, TRANSFER)?),
-            Case::Flow => Ok(Vec::from_slice(alloc, FLOW)?),
+            Case::Flow | Case::Performative | Case::Frame => Ok(Vec::from_slice(alloc, FLOW)?),
             Case::Properties => Ok(Vec::from_slice(alloc, PROPERTIES)?),
             Case::ApplicationProperties => application_properties(20, alloc),
             Case::Message => Ok(Vec::from_slice(alloc, MESSAGE)?),
@@ -232,6 +244,11 @@ impl Case {
             Case::Attach => self.best_of::<Attach>(rt, way, rounds),
             Case::Transfer => self.best_of::<Transfer>(rt, way, rounds),
             Case::Flow => self.best_of::<Flow>(rt, way, rounds),
+            Case::Performative => self.best_of::<Performative>(rt, way, rounds),
+            Case::Frame => {
+                let work = Framed::new(way, FLOW, rt.alloc())?;
+                best_round(rt, &work, self.times(), rounds)
+            }
             Case::Properties => self.best_of::<Properties>(rt, way, rounds),
             Case::ApplicationProperties => {
                 self.best_of::<ApplicationProperties>(rt, way, rounds)

@@ -5,6 +5,7 @@
 
 mod bare;
 mod cases;
+mod framed;
 mod frames;
 mod values;
 

@@ -8,3 +8,4 @@ pub mod Nodes
 pub mod Rewriting
 pub mod Walks
 pub mod Fields
+pub mod Descriptors

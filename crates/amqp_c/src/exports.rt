@@ -2,11 +2,13 @@
 ghost use Rattle.std.specs.Prelude.{◌≡◌};
 ghost use Rattle.amqp_c.specs.Limits.{greatest_given, peers_given};
 ghost use Rattle.amqp_c.specs.Errors.{TellsName};
+ghost use Rattle.amqp_c.specs.Descriptors.{IsTypeOfCode, TellsFieldName};
 ghost use Rattle.amqp_c.specs.Terms.{TellsLength};
 ghost use Rattle.amqp_c.specs.Nodes.{TellsNode};
 ghost use Rattle.amqp_c.specs.Fields.{TellsField};
 ghost use Rattle.amqp_c.specs.Rewriting.{IsNumberOf, Reads, Rewrites, Written};
 
+use crate::descriptors::{field_name, type_of_code};
 use crate::errors::name_of_number;
 use crate::fields::field_node;
 use crate::limits::GivenLimits;
@@ -27,6 +29,32 @@ pub extern "C" fn amqp_c_type(name: &[u8]) -> u32
         Some(named) => named.number(),
         None => 0,
     }
+}
+
+/// Returns the number of the type whose values have the descriptor with this code, or 0 if there is none. Sums and messages have none, since
+/// their values have several.
+#[unsafe(no_mangle)]
+pub extern "C" fn amqp_c_type_of_descriptor(code: u64) -> u32
+    ensures { IsTypeOfCode code result }
+{
+    let Some(named) = type_of_code(code) else {
+        return 0;
+    };
+    named.number()
+}
+
+/// Writes the standard's name of the field with this number, counted from 0, of the numbered type to `out`, if there is room for it.
+/// Returns the name's length in bytes, or 0 if the type has no such field.
+#[unsafe(no_mangle)]
+pub extern "C" fn amqp_c_field_name(number: u32, index: usize, out: &mut [u8]) -> usize
+    ensures { TellsFieldName number index result out.old out.new }
+{
+    let Some(name) = field_name(number, index) else {
+        return 0;
+    };
+    let bytes = name.as_bytes();
+    put(bytes, out);
+    bytes.len()
 }
 
 /// Reads the value of the numbered type at the start of the input, within the limits, and writes its length to `taken`.

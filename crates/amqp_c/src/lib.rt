@@ -3,6 +3,7 @@
 //! pointer or allocates for its caller.
 #![tactic(auto)]
 
+mod descriptors;
 mod errors;
 mod exports;
 mod fields;
@@ -16,8 +17,8 @@ mod room;
 mod tests;
 
 pub use exports::{
-    amqp_c_canonical, amqp_c_error_name, amqp_c_field, amqp_c_greatest, amqp_c_next, amqp_c_read,
-    amqp_c_term_len, amqp_c_type,
+    amqp_c_canonical, amqp_c_error_name, amqp_c_field, amqp_c_field_name, amqp_c_greatest,
+    amqp_c_next, amqp_c_read, amqp_c_term_len, amqp_c_type, amqp_c_type_of_descriptor,
 };
 pub use laws::{composite_fields, walks};
 pub use limits::GivenLimits;

@@ -1,7 +1,7 @@
 //! Tests of each call, once without an error and once with one.
 use crate::exports::{
-    amqp_c_canonical, amqp_c_error_name, amqp_c_field, amqp_c_greatest, amqp_c_next, amqp_c_read,
-    amqp_c_term_len, amqp_c_type,
+    amqp_c_canonical, amqp_c_error_name, amqp_c_field, amqp_c_field_name, amqp_c_greatest,
+    amqp_c_next, amqp_c_read, amqp_c_term_len, amqp_c_type, amqp_c_type_of_descriptor,
 };
 use crate::limits::GivenLimits;
 use crate::nodes::Node;
@@ -124,6 +124,24 @@ fn names_of_errors(rt: HostRuntime) -> Result<(), Fail> {
     assert_eq!(rt; amqp_c_error_name(0, &mut out), 0);
     assert_eq!(rt; amqp_c_error_name(32, &mut out), 0);
     assert_eq!(rt; out, *b"Limit");
+    Ok(())
+}
+
+// (the codes and the fields of types, Part 2, section 2.7, and Part 3, section 3.2)
+#[test]
+fn descriptors_and_names_of_fields(rt: HostRuntime) -> Result<(), Fail> {
+    let attach = amqp_c_type(b"attach");
+    assert_eq!(rt; amqp_c_type_of_descriptor(0x12), attach);
+    assert_eq!(rt; amqp_c_type_of_descriptor(0x78), amqp_c_type(b"footer"));
+    assert_eq!(rt; amqp_c_type_of_descriptor(0x19), 0);
+    let mut out = [0; 6];
+    assert_eq!(rt; amqp_c_field_name(attach, 5, &mut out), 6);
+    assert_eq!(rt; out, *b"source");
+    assert_eq!(rt; amqp_c_field_name(attach, 3, &mut out), 15);
+    assert_eq!(rt; amqp_c_field_name(attach, 14, &mut out), 0);
+    assert_eq!(rt; amqp_c_field_name(amqp_c_type(b"footer"), 0, &mut out), 0);
+    assert_eq!(rt; amqp_c_field_name(0, 0, &mut out), 0);
+    assert_eq!(rt; out, *b"source");
     Ok(())
 }
 

@@ -2,7 +2,12 @@
 use Rattle.std.specs.Prelude.{◌≡◌, ℕ, ◌+◌, ◌<◌, ◌⊎◌, List, ◌++◌, length}
 use Rattle.amqp_wire.specs.declared.error.Error.{Error}
 use Rattle.amqp_wire.specs.declared.error.Error.TheVariants.{Memory}
+use Rattle.amqp_model.specs.Term.{Term}
+use Rattle.amqp_encoder.specs.declared.size.Size.{Size}
+use Rattle.amqp_encoder.specs.declared.encoder.Encoder.{Encoder}
+use Rattle.amqp_encoder.specs.Passes.{Finds}
 use Rattle.amqp_encoder.specs.Refused.{TermHasCause}
+use Rattle.amqp_codec.specs.Written.{AreMeasured}
 use Rattle.amqp_codec.specs.TermType.{TermType}
 use Rattle.amqp_codec.specs.Spelled.{written}
 use Rattle.amqp_attach.specs.Tables.{performative}
@@ -22,6 +27,10 @@ frame_text kind body = frame_header_bytes (header_of_body kind (length body)) ++
 -- the body of an AMQP frame: the canonical text of the performative, and the payload
 abbrev pub amqp_body : Performative → List ℕ → List ℕ
 amqp_body p payload = written performative p ++ payload
+
+-- The encoder has measured the terms, which take so many bytes, and has their sizes.
+abbrev pub IsMeasuredBy : List Term → ℕ → Encoder → Type 0
+IsMeasuredBy ts len encoder = (sizes : List Size) × AreMeasured ts len sizes × Finds encoder len sizes
 
 -- An allocation failed, or the model refuses the value's canonical term for this reason.
 abbrev pub IsUnwritable : {T : Type 0} → TermType T → T → Error → Type 0

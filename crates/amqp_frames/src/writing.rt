@@ -1,19 +1,22 @@
 //! Frames that are written whole (Part 2, section 2.3; Part 5, section 5.3.1).
-ghost use Rattle.std.specs.Prelude.{◌≡◌, ◌+◌, ◌≤◌, ◌++◌, [], length, take, IfOk, IfErr, OnOk, OnErr};
+ghost use Rattle.std.specs.Prelude.{◌≡◌, ◌+◌, ◌≤◌, ◌++◌, [], length, take, vec_len, IfOk, IfErr, OnOk, OnErr};
+ghost use Rattle.std.specs.Vec.{vec_capacity};
 ghost use Rattle.amqp_wire.specs.declared.error.Error.TheVariants.{Memory};
+ghost use Rattle.amqp_encoder.specs.Passes.{BeginsMeasuring};
 ghost use Rattle.amqp_codec.specs.Spelled.{written, IsWritable};
 ghost use Rattle.amqp_attach.specs.Tables.{performative as performative_type};
 ghost use Rattle.amqp_frames.specs.Tables.{sasl_frame};
 ghost use Rattle.amqp_frames.specs.Frames.{frame_header_bytes};
-ghost use Rattle.amqp_frames.specs.Writing.{frame_text, amqp_body, IsUnwritable, AmqpWriteFault, SaslWriteFault};
+ghost use Rattle.amqp_frames.specs.Writing.{frame_text, amqp_body, IsMeasuredBy, IsUnwritable, AmqpWriteFault, SaslWriteFault};
 
 use crate::frame_header::{HEADER_LEN, LEAST_DATA_OFFSET};
 use crate::{FrameHeader, FrameKind, SaslFrame, WriteError};
 use amqp_attach::Performative;
-use amqp_codec::{DeserializeTerm, Error};
+use amqp_codec::{DeserializeTerm, Encoder, Error, Serialize};
+use amqp_encoder::{begin_filling, buffer_of, measured_len, measuring_encoder};
 use amqp_read_write::laws::one_term_is_written;
-use amqp_read_write::{append_to_vec, encoded_len};
 use std::alloc::Global;
+use std::mem::replace;
 
 /// Appends an AMQP frame to the buffer, and returns its length in bytes. The frame has the canonical text of the performative, the payload
 /// after it, and no extended header. Its bytes are reserved once and exactly, before any of them is written.
@@ -39,11 +42,19 @@ pub fn write_frame(
     ensures refused { IfErr result (AmqpWriteFault max_frame_size performative.now payload.now) }
     ensures kept { OnErr result (buffer.new.items ≡ buffer.old.items) }
 {
-    one_term_is_written::<Performative>();
-    let text_len = encoded_len(performative, alloc)?;
+    let mut encoder = measuring_encoder(alloc);
+    let text_len = measure(performative, &mut encoder)?;
     let body_len = text_len.saturating_add(payload.len());
     let header = FrameHeader::amqp(channel, body_len, max_frame_size)?;
-    let len = append_frame(buffer, header, performative, payload, alloc)?;
+    let len = append_frame(
+        buffer,
+        header,
+        performative,
+        encoder,
+        text_len,
+        payload,
+        alloc,
+    )?;
     Ok(len)
 }
 
@@ -67,10 +78,10 @@ pub fn write_sasl_frame(
     ensures refused { IfErr result (SaslWriteFault value.now) }
     ensures kept { OnErr result (buffer.new.items ≡ buffer.old.items) }
 {
-    one_term_is_written::<SaslFrame>();
-    let body_len = encoded_len(value, alloc)?;
-    let header = FrameHeader::sasl(body_len)?;
-    let len = append_frame(buffer, header, value, &[], alloc)?;
+    let mut encoder = measuring_encoder(alloc);
+    let text_len = measure(value, &mut encoder)?;
+    let header = FrameHeader::sasl(text_len)?;
+    let len = append_frame(buffer, header, value, encoder, text_len, &[], alloc)?;
     Ok(len)
 }
 
@@ -95,25 +106,46 @@ pub fn write_empty_frame(buffer: &mut Vec<u8>, channel: u16) -> Result<usize, Wr
     Ok(HEADER_LEN)
 }
 
-// Appends a frame with this header, and returns the size that the header has.
+// The length of the value's canonical text, whose sizes the encoder keeps.
+#[inline(always)]
+fn measure<T: DeserializeTerm>(value: &T, encoder: &mut Encoder) -> Result<usize, Error>
+    requires { BeginsMeasuring encoder.old }
+    ensures len { IfOk result (λ len. len ≡ length (written T.term value.now)) }
+    ensures sizes { IfOk result (λ len. IsMeasuredBy (T.writing.canons value.now) len encoder.new) }
+    ensures is_value { T.writing.is_value value.now }
+    ensures writable { OnOk result (IsWritable T.term value.now) }
+    ensures refused { IfErr result (IsUnwritable T.term value.now) }
+{
+    one_term_is_written::<T>();
+    value.in_type();
+    value.serialize(encoder)?;
+    measured_len(encoder)
+}
+
+// Appends a frame with this header, and returns the size that the header has. The encoder has measured the value's text.
+#[inline(always)]
 fn append_frame<T: DeserializeTerm>(
     buffer: &mut Vec<u8>,
     header: FrameHeader,
     value: &T,
+    encoder: Encoder,
+    text_len: usize,
     payload: &[u8],
     alloc: Global,
 ) -> Result<usize, Error>
+    requires sizes { IsMeasuredBy (T.writing.canons value.now) text_len encoder }
+    requires room { 8 + text_len ≤ header.size }
+    requires is_value { T.writing.is_value value.now }
     ensures text { OnOk result (buffer.new.items
         ≡ buffer.old.items ++ (frame_header_bytes header ++ (written T.term value.now ++ payload.now))) }
     ensures len { IfOk result (λ n. n ≡ header.size) }
-    ensures writable { OnOk result (IsWritable T.term value.now) }
-    ensures refused { IfErr result (IsUnwritable T.term value.now) }
+    ensures refused { IfErr result (λ e. e ≡ Memory) }
     ensures kept { OnErr result (buffer.new.items ≡ buffer.old.items) }
 {
     let before = buffer.len();
     let size = header.size as usize;
     append_header(buffer, header, size)?;
-    match append_body(buffer, value, payload, alloc) {
+    match append_body(buffer, value, encoder, text_len, payload, alloc) {
         Ok(()) => Ok(size),
         Err(error) => {
             buffer.truncate(before);
@@ -125,6 +157,7 @@ fn append_frame<T: DeserializeTerm>(
 // Reserves the bytes of a frame of this size, and appends its header.
 fn append_header(buffer: &mut Vec<u8>, header: FrameHeader, size: usize) -> Result<(), Error>
     ensures text { OnOk result (buffer.new.items ≡ buffer.old.items ++ frame_header_bytes header) }
+    ensures room { OnOk result (vec_len buffer.old + size ≤ vec_capacity buffer.new) }
     ensures refused { IfErr result (λ e. e ≡ Memory) }
     ensures kept { OnErr result (buffer.new.items ≡ buffer.old.items) }
 {
@@ -133,20 +166,31 @@ fn append_header(buffer: &mut Vec<u8>, header: FrameHeader, size: usize) -> Resu
     Ok(())
 }
 
-// Appends the canonical text and the payload. On an error, the first bytes of the buffer are those that it had.
+// Appends the canonical text, for which there is room, and the payload. On an error, the first bytes of the buffer are those that it had.
+#[inline(always)]
 fn append_body<T: DeserializeTerm>(
     buffer: &mut Vec<u8>,
     value: &T,
+    encoder: Encoder,
+    text_len: usize,
     payload: &[u8],
     alloc: Global,
 ) -> Result<(), Error>
+    requires sizes { IsMeasuredBy (T.writing.canons value.now) text_len encoder }
+    requires room { vec_len buffer.old + text_len ≤ vec_capacity buffer.old }
+    requires is_value { T.writing.is_value value.now }
     ensures text { OnOk result (buffer.new.items ≡ buffer.old.items ++ (written T.term value.now ++ payload.now)) }
-    ensures writable { OnOk result (IsWritable T.term value.now) }
-    ensures refused { IfErr result (IsUnwritable T.term value.now) }
+    ensures refused { IfErr result (λ e. e ≡ Memory) }
     ensures front { OnErr result (take (length buffer.old.items) buffer.new.items ≡ buffer.old.items) }
 {
     one_term_is_written::<T>();
-    append_to_vec(value, buffer, alloc)?;
+    let mut encoder = encoder;
+    let limit = buffer.len() + text_len;
+    let room = replace(buffer, Vec::new(alloc));
+    begin_filling(&mut encoder, alloc, room, limit);
+    let outcome = value.serialize(&mut encoder);
+    *buffer = buffer_of(encoder);
+    outcome?;
     buffer.extend_from_slice(payload)?;
     Ok(())
 }

@@ -45,6 +45,8 @@ extern "C" {
     pub(crate) fn amqp_c_term_len(input: *const u8, len: usize, taken: *mut usize) -> Outcome;
     pub(crate) fn amqp_c_next(input: *const u8, len: usize, at: usize, node: *mut Node) -> Outcome;
     pub(crate) fn amqp_c_field(input: *const u8, len: usize, composite: *const Node, index: usize, field: *mut Node) -> Outcome;
+    pub(crate) fn amqp_c_type_of_descriptor(code: u64) -> u32;
+    pub(crate) fn amqp_c_field_name(number: u32, index: usize, out: *mut u8, room: usize) -> usize;
     pub(crate) fn amqp_c_error_name(number: u32, out: *mut u8, room: usize) -> usize;
     pub(crate) fn amqp_c_greatest(limits: *mut Limits);
     pub(crate) fn amqp_c_for_peers(limits: *mut Limits, bytes: u64);

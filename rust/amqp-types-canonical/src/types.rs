@@ -222,4 +222,36 @@ impl Type {
     pub fn name(self) -> &'static str {
         NAMES[self as usize - 1].0
     }
+
+    /// Returns the type whose values have the descriptor with this code (Part 1, section 1.5). A sum of types has none, nor has a message.
+    ///
+    /// ```
+    /// use amqp_types_canonical::Type;
+    ///
+    /// assert_eq!(Type::of_descriptor(0x12), Some(Type::Attach));
+    /// assert_eq!(Type::of_descriptor(0), None);
+    /// ```
+    pub fn of_descriptor(code: u64) -> Option<Type> {
+        // SAFETY: the call takes and returns numbers alone.
+        let number = unsafe { crate::sys::amqp_c_type_of_descriptor(code) };
+        NAMES.get((number as usize).wrapping_sub(1)).map(|row| row.1)
+    }
+
+    /// Returns the standard's name of the field with this number, counted from 0, of a composite's type.
+    ///
+    /// ```
+    /// use amqp_types_canonical::Type;
+    ///
+    /// assert_eq!(Type::Attach.field_name(5).as_deref(), Some("source"));
+    /// assert_eq!(Type::Attach.field_name(14), None);
+    /// ```
+    pub fn field_name(self, index: usize) -> Option<String> {
+        let mut name = [0; 32];
+        // SAFETY: the pointer and the length are those of one slice that nothing else refers to.
+        let len = unsafe { crate::sys::amqp_c_field_name(self as u32, index, name.as_mut_ptr(), name.len()) };
+        if len == 0 {
+            return None;
+        }
+        Some(String::from_utf8_lossy(&name[..len.min(name.len())]).into_owned())
+    }
 }
