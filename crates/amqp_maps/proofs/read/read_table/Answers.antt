@@ -1,4 +1,4 @@
-use Rattle.std.proofs.Common.{◌/◌, true, inl, inr, rules, arith}
+use Rattle.std.proofs.Common.{true, inl, inr, rules}
 use Rattle.amqp_codec.specs.laws.Refusal.{some_reserved}
 use Rattle.std.proofs.lemmas.Result.{err_from_is_err_and}
 use Rattle.indexmap.specs.Entry.{map_with_value}
@@ -7,7 +7,7 @@ use Rattle.amqp_codec.proofs.MapSteps.{key_refused, key_twice, value_refused, no
 use Rattle.amqp_maps.proofs.KeyLaws.{absent_new, present_known}
 use Rattle.amqp_maps.proofs.PairsRead.{fewer_so_far, one_more_so_far}
 use Rattle.amqp_codec.proofs.Tries.{taking_some, passed_then, refused_later}
-use Rattle.amqp_maps.proofs.read.read_pairs.Goals as goal
+use Rattle.amqp_maps.proofs.read.read_table.Goals as goal
 
 pub returns-in_err-key-clause-read : goal.returns-in_err-key-clause-read
 returns-in_err-key-clause-read g c tells =
@@ -28,7 +28,7 @@ returns-in-Err-clause-read g c tells =
       | inr (is, known) ↦ key_twice key value c.args.count _ _ _ c.in_ok-key.key _ _ _
           (fewer_so_far key value c.loop.invariant.pairs c.args.count c.loop-test.true tells) c.loop.invariant.pairs.others
           (c.in_ok-key.ensures.read tells)
-          (present_known g.met.K.MapKey.is_key c.in_ok-key.key c.loop.pairs.entries known)
+          (present_known g.met.K.MapKey.is_key c.in_ok-key.key c.loop.table.entries known)
           (rw is at c.refuse-in-Err.ensures.first)
     ]
 
@@ -44,7 +44,7 @@ returns-in_err-value-in-Ok-new_place-clause-read g c tells =
 
 pub loop-preserved : goal.loop-preserved
 loop-preserved g c =
-    let new = absent_new g.met.K.MapKey.is_key c.in_ok-key.key c.loop.pairs.entries c.in-Ok-new_place.ensures.new in
+    let new = absent_new g.met.K.MapKey.is_key c.in_ok-key.key c.loop.table.entries c.in-Ok-new_place.ensures.new in
     record {
       pairs = one_more_so_far g.K.DeserializeTerm.term g.V.DeserializeTerm.term c.loop.invariant.pairs g.met.K.MapKey.is_key
           (map_with_value (Vacant c.in-Ok-new_place.place)) c.in_ok-key.key c.in_ok-value-in-Ok-new_place.value c.insert.result.now _ _ _ (search rules)
@@ -67,9 +67,7 @@ returns-in_err-value-in-Ok-new_place-clause-tries g c =
 
 pub returns-in_default-clause-read : goal.returns-in_default-clause-read
 returns-in_default-clause-read g c tells =
-    let asked = c.saturating_mul.ensures in
-    let few = c.reservable_items-reserved.ensures.few in
-    let some = some_reserved c.args.count (c.reservable_items-reserved.result / 2) (omega (arith, asked, few)) c.in_default.ensures.succeeds in
+    let some = some_reserved c.args.count c.reservable_pairs-reserved.result c.reservable_pairs-reserved.ensures.few c.in_default.ensures.succeeds in
     none_reserved g.K.DeserializeTerm.term g.V.DeserializeTerm.term c.args.count _ _ _ some
-    (rw c.reservable_items-reserved.ensures.kept at c.refuse.ensures.first)
-    (rw c.reservable_items-reserved.ensures.kept at c.refuse.ensures.again)
+    (rw c.reservable_pairs-reserved.ensures.kept at c.refuse.ensures.first)
+    (rw c.reservable_pairs-reserved.ensures.kept at c.refuse.ensures.again)
