@@ -102,6 +102,10 @@ equal_long e [] (y ∷ ys) h = absurd (cc)
 equal_long e (x ∷ xs) [] h = absurd (cc)
 equal_long e (x ∷ xs) (y ∷ ys) h = ap suc (equal_long e xs ys (and_parts (e x y) (pointwise e xs ys) h).1)
 
+-- an item was put behind others that had been kept
+pub put_behind : {X : Type 0} (new kept old : List X) (x : X) → new ≡ kept ++ x ∷ [] → kept ≡ old → new ≡ old ++ x ∷ []
+put_behind new kept old x put same = put ∙ ap (λ xs. xs ++ x ∷ []) same
+
 -- a pair is removed at most
 pub fewer_removed : {K V : Type 0} (test : K → Bool) (ps : List (K × V)) → length (remove_entry test ps) ≤ length ps
 fewer_removed test [] = omega arith

@@ -17,6 +17,13 @@ module _ {K V : Type 0} (key : TermType K) (value : TermType V) where
     pub others : HaveOtherKeys key.same ps
     pub each : Told → Pairs key value st ps mid
 
+  pub none_so_far : {Told : Type 0} (st : State) (ps : List (K × V)) (mid : State) → ps ≡ [] → mid ≡ st → PairsSoFar Told 0 st ps mid
+  none_so_far st ps mid none same = record {
+    long = ap length none;
+    others = subst (HaveOtherKeys key.same) (sym none) tt;
+    each = λ _. subst (λ z. Pairs key value st z mid) (sym none) same;
+  }
+
   module _ {Told : Type 0} {n : ℕ} {st : State} {ps : List (K × V)} {mid : State} (h : PairsSoFar Told n st ps mid) where
     pub fewer_so_far : (count : ℕ) → n < count → Told → ReadsFewer key value count st ps mid
     fewer_so_far count l told = let long = h.long in

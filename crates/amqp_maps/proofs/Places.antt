@@ -1,5 +1,5 @@
 -- What the place of the pair with a key says of the calls of a row.
-use Rattle.std.proofs.Common.{◌≡◌, ℕ, zero, suc, ◌+◌, ◌<◌, Bool, cond, not, nat_lt, if◌then◌else◌, List, [], ◌∷◌, ◌++◌, Some, None, length}
+use Rattle.std.proofs.Common.{◌≡◌, ℕ, zero, suc, ◌+◌, ◌<◌, Bool, true, false, cond, not, nat_lt, if◌then◌else◌, List, [], ◌∷◌, ◌++◌, Some, None, length}
 use Rattle.std.proofs.Common.{Option, IsSome, is_some, true≢false, position, remove, slice_set, get_or, ap, ap₂, ◌∙◌, sym, refl, arith}
 use Rattle.std.specs.List.{position_or_len}
 use Rattle.std.specs.Map.{keys_of, values_of, lookup, remove_entry}
@@ -8,7 +8,7 @@ use Rattle.std.proofs.lemmas.Map.Entries.{length-keys_of, length-values_of}
 use Rattle.std.proofs.lemmas.Option.{slice_get-get_or}
 use Rattle.std.proofs.Math.ListN.{get_or-map}
 use Rattle.indexmap.specs.IndexMap.{insert_entry, set_value_at}
-use Rattle.indexmap.proofs.MapLemmas.{Found, Found-position, Missing, Missing-position, remove_entry-first}
+use Rattle.indexmap.proofs.MapLemmas.{Found, Found-position, Missing, Missing-position, some_index, remove_entry-first}
 use Rattle.indexmap.proofs.MapLemmas.{insert_entry-first, insert_entry-absent}
 
 -- what isn't there is none
@@ -43,6 +43,14 @@ module _ {K V : Type 0} (t : K → Bool) where
 
   pub not_known : (ps : List (K × V)) → position (λ p. t p.0) ps ≡ None → IsSome (lookup t ps) → ⊥
   not_known ps e h = true≢false (sym h ∙ ap is_some (missing ps e).value)
+
+  -- whether a key was found. o: its place
+  pub known_there : (ps : List (K × V)) (o : Option ℕ) → o ≡ position (λ p. t p.0) ps → is_some o ≡ true → IsSome (lookup t ps)
+  known_there ps o e f = sym (some_index t ps) ∙ ap is_some (sym (place_is ps) ∙ sym e) ∙ f
+
+  pub unknown_there : (ps : List (K × V)) (o : Option ℕ) → o ≡ position (λ p. t p.0) ps → is_some o ≡ false → lookup t ps ≡ None
+  unknown_there ps None e f = (missing ps (sym e)).value
+  unknown_there ps (Some i) e f = absurd (true≢false f)
 
   pub removed_at : (ps : List (K × V)) (i : ℕ) → position (λ p. t p.0) ps ≡ Some i → remove ps i ≡ remove_entry t ps
   removed_at ps i e = sym (remove_entry-first t ps i (found ps i e).first)

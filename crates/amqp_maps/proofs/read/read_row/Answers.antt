@@ -1,12 +1,24 @@
-use Rattle.std.proofs.Common.{◌≡◌, ◌∙◌, true, inl, inr, [], ◌∷◌, ◌++◌, ap, rules}
+use Rattle.std.proofs.Common.{◌≡◌, true, inl, inr, [], ◌∷◌, ◌++◌, ap, sym, subst, rules}
 use Rattle.amqp_codec.specs.laws.Refusal.{some_reserved}
 use Rattle.std.proofs.lemmas.Result.{err_from_is_err_and}
 use Rattle.amqp_codec.proofs.MapSteps.{key_refused, key_twice, value_refused, none_reserved, no_place}
 use Rattle.amqp_maps.proofs.KeyLaws.{absent_new, present_known}
-use Rattle.amqp_maps.proofs.KeysApart.{added_distinct}
-use Rattle.amqp_maps.proofs.PairsRead.{fewer_so_far, put_so_far}
+use Rattle.amqp_decoder.specs.State.{State}
+use Rattle.amqp_maps.specs.Pairs.{HaveDistinctKeys}
+use Rattle.amqp_maps.proofs.KeysApart.{added_distinct, none_distinct, put_behind}
+use Rattle.amqp_maps.proofs.PairsRead.{none_so_far, fewer_so_far, put_so_far}
 use Rattle.amqp_codec.proofs.Tries.{taking_some, passed_then, refused_later}
 use Rattle.amqp_maps.proofs.read.read_row.Goals as goal
+
+pub loop-init : goal.loop-init
+loop-init g c =
+    let kept = c.reservable_pairs-reserved.ensures.kept in
+    record {
+      pairs = none_so_far g.K.DeserializeTerm.term g.V.DeserializeTerm.term c.args.decoder.now c.in-Ok.row.items
+          c.reservable_pairs-reserved.new.decoder c.in-Ok.ensures.items kept;
+      passed = ((ap (λ (st : State). st.error) kept, ap (λ (st : State). st.failed) kept), λ d x. kept);
+      distinct = subst (HaveDistinctKeys g.K.PartialEq.eq) (sym c.in-Ok.ensures.items) (none_distinct g.row.V.Denot g.K.PartialEq.eq);
+    }
 
 pub returns-in_err-key-clause-read : goal.returns-in_err-key-clause-read
 returns-in_err-key-clause-read g c tells =
@@ -47,7 +59,8 @@ loop-preserved g c =
     let k = c.in_ok-key.key in
     let v = c.in_ok-value-in-Ok-make_room.value in
     let put : c.push_reserved.new.self.items ≡ ps ++ (k, v) ∷ [] =
-    c.push_reserved.ensures.items ∙ ap (λ qs. qs ++ (k, v) ∷ []) c.make_room.ensures.same_pairs in
+        put_behind c.push_reserved.new.self.items c.make_room.new.row.items ps (k, v) c.push_reserved.ensures.items
+        c.make_room.ensures.same_pairs in
     record {
       pairs = put_so_far g.K.DeserializeTerm.term g.V.DeserializeTerm.term c.loop.invariant.pairs k v _ _ _ put
           (absent_new g.met.K.MapKey.is_key k ps c.in-Ok-make_room.ensures.new) c.in_ok-key.ensures.read

@@ -1,11 +1,11 @@
-use Rattle.std.proofs.Common.{true, inl, inr, rules}
+use Rattle.std.proofs.Common.{◌<◌, true, inl, inr, rules, arith}
 use Rattle.amqp_codec.specs.laws.Refusal.{some_reserved}
 use Rattle.std.proofs.lemmas.Result.{err_from_is_err_and}
 use Rattle.indexmap.specs.Entry.{map_with_value}
 use Rattle.indexmap.specs.declared.map.entry.Entry.TheVariants.{Vacant}
-use Rattle.amqp_codec.proofs.MapSteps.{key_refused, key_twice, value_refused, none_reserved, no_place}
+use Rattle.amqp_codec.proofs.MapSteps.{key_refused, key_twice, value_refused, none_reserved, no_place, no_memory}
 use Rattle.amqp_maps.proofs.KeyLaws.{absent_new, present_known}
-use Rattle.amqp_maps.proofs.PairsRead.{fewer_so_far, one_more_so_far}
+use Rattle.amqp_maps.proofs.PairsRead.{fewer_so_far, one_more_so_far, going_so_far}
 use Rattle.amqp_codec.proofs.Tries.{taking_some, passed_then, refused_later}
 use Rattle.amqp_maps.proofs.read.read_table.Goals as goal
 
@@ -71,3 +71,11 @@ returns-in_default-clause-read g c tells =
     none_reserved g.K.DeserializeTerm.term g.V.DeserializeTerm.term c.args.count _ _ _ some
     (rw c.reservable_pairs-reserved.ensures.kept at c.refuse.ensures.first)
     (rw c.reservable_pairs-reserved.ensures.kept at c.refuse.ensures.again)
+
+pub returns-in-Err-of_table-clause-read : goal.returns-in-Err-of_table-clause-read
+returns-in-Err-of_table-clause-read g c tells =
+    let key = g.K.DeserializeTerm.term in
+    let value = g.V.DeserializeTerm.term in
+    let some : 0 < c.loop.counter = omega (arith, c.requires, c.loop-test.false) in
+    no_memory key value c.args.count c.args.decoder.now c.loop.table.entries c.loop.decoder _ _ (c.loop.invariant.pairs.each tells)
+    (going_so_far key value c.loop.invariant.pairs some tells).1 c.refuse-in-Err-of_table.ensures.first
