@@ -59,8 +59,8 @@ loop-preserved g c =
     let k = c.in_ok-key.key in
     let v = c.in_ok-value-in-Ok-make_room.value in
     let put : c.push_reserved.new.self.items ≡ ps ++ (k, v) ∷ [] =
-        put_behind c.push_reserved.new.self.items c.make_room.new.row.items ps (k, v) c.push_reserved.ensures.items
-        c.make_room.ensures.same_pairs in
+    put_behind c.push_reserved.new.self.items c.make_room.new.row.items ps (k, v) c.push_reserved.ensures.items
+    c.make_room.ensures.same_pairs in
     record {
       pairs = put_so_far g.K.DeserializeTerm.term g.V.DeserializeTerm.term c.loop.invariant.pairs k v _ _ _ put
           (absent_new g.met.K.MapKey.is_key k ps c.in-Ok-make_room.ensures.new) c.in_ok-key.ensures.read

@@ -13,7 +13,7 @@ greater_first by x y xs ys ps qs e f h =
 pub returns-in-Some-Greater : goal.returns-in-Some-Greater
 returns-in-Some-Greater g c =
     let by : g.row.K.Denot × g.row.V.Denot → g.row.K.Denot × g.row.V.Denot → Option Ordering =
-        λ p q. partial_ordering_then (g.K.PartialOrd.partial_cmp p.0 q.0) (g.V.PartialOrd.partial_cmp p.1 q.1) in
+    λ p q. partial_ordering_then (g.K.PartialOrd.partial_cmp p.0 q.0) (g.V.PartialOrd.partial_cmp p.1 q.1) in
     sym (greater_first by (deref_pair c.in-Some.pair) (deref_pair c.in-Some-next.other_pair) c.next.new.self c.next-in-Some.new.self
     c.loop-pair.left c.loop-pair.right c.in-Some.ensures.steps c.in-Some-next.ensures.steps
     (sym c.partial_cmp.ensures ∙ c.in-Some-Greater.is ∙ ap Some c.in-Some-Greater.field-0-is))

@@ -13,7 +13,7 @@ returns-else-not-have_equal_keys-clause-sound g c =
     let left : c.of_row.result ≡ row = c.of_row.ensures ∙ c.as_slice.ensures.value in
     let right : c.of_row-in-Row.result ≡ copy = c.of_row-in-Row.ensures ∙ c.as_slice-in-Row.ensures.value in
     let same : pointwise (λ p q. g.K.PartialEq.eq p.0 q.0) row copy ≡ true =
-        sym (rw (left, right) at c.have_equal_keys.ensures) ∙ c.if-not-have_equal_keys.false in
+    sym (rw (left, right) at c.have_equal_keys.ensures) ∙ c.if-not-have_equal_keys.false in
     record {
       distinct = copied_distinct g.K.PartialEq.eq g.met.K.Eq.laws row copy same was.distinct;
       few = omega (arith, equal_long (λ p q. g.K.PartialEq.eq p.0 q.0) row copy same, few);

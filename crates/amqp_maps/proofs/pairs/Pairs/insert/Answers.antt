@@ -26,10 +26,10 @@ returns-in-Some-clause-sound g c =
     let was = subst (IsSound g.K.PartialEq.eq) c.in-Row.is c.requires in
     let few = was.few in
     let put : slice_set row c.in-Some.place (c.index_mut.result.now.0, c.replace.new.dest)
-            ≡ insert_entry g.K.PartialEq.eq row c.args.key c.args.value =
-        rw c.replace.ensures.after
-        (set_at g.K.PartialEq.eq c.args.key c.args.value row c.in-Some.place c.index_mut.result.now
-        (sym (rw c.as_slice.ensures.value at c.place_in.ensures) ∙ c.in-Some.is) c.index_mut.ensures.value) in
+    ≡ insert_entry g.K.PartialEq.eq row c.args.key c.args.value =
+    rw c.replace.ensures.after
+    (set_at g.K.PartialEq.eq c.args.key c.args.value row c.in-Some.place c.index_mut.result.now
+    (sym (rw c.as_slice.ensures.value at c.place_in.ensures) ∙ c.in-Some.is) c.index_mut.ensures.value) in
     record {
       distinct = subst (HaveDistinctKeys g.K.PartialEq.eq) (sym put)
           (inserted_distinct g.K.PartialEq.eq g.met.K.Eq.laws c.args.key c.args.value row was.distinct);
@@ -62,9 +62,9 @@ returns-then-len-lt-FEW-clause-sound g c =
     let was = subst (IsSound g.K.PartialEq.eq) c.in-Row.is c.requires in
     let pushed : c.push.new.self.items ≡ row ++ (c.args.key, c.args.value) ∷ [] = c.in_ok-push-in-Row.ensures.items in
     let put : c.push.new.self.items ≡ insert_entry g.K.PartialEq.eq row c.args.key c.args.value =
-        pushed
-        ∙ put_last g.K.PartialEq.eq c.args.key c.args.value row
-        (sym (rw c.as_slice.ensures.value at c.place_in.ensures) ∙ none_of c.place_in.result c.in_default.not-Some) in
+    pushed
+    ∙ put_last g.K.PartialEq.eq c.args.key c.args.value row
+    (sym (rw c.as_slice.ensures.value at c.place_in.ensures) ∙ none_of c.place_in.result c.in_default.not-Some) in
     record {
       distinct = subst (HaveDistinctKeys g.K.PartialEq.eq) (sym put)
           (inserted_distinct g.K.PartialEq.eq g.met.K.Eq.laws c.args.key c.args.value row was.distinct);

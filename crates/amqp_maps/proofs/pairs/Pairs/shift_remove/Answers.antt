@@ -39,9 +39,9 @@ returns-in_ok-place-in-Row-clause-sound g c sound =
     let was = subst (IsSound g.K.PartialEq.eq) c.in-Row.is sound in
     let few = was.few in
     let removed : c.remove-value.new.self.items ≡ remove_entry test row =
-        c.remove-value.ensures.items
-        ∙ removed_at test row c.in_ok-place-in-Row.place
-        (sym (rw c.as_slice.ensures.value at c.place_in.ensures) ∙ c.in_ok-place-in-Row.was) in
+    c.remove-value.ensures.items
+    ∙ removed_at test row c.in_ok-place-in-Row.place
+    (sym (rw c.as_slice.ensures.value at c.place_in.ensures) ∙ c.in_ok-place-in-Row.was) in
     record {
       distinct = subst (HaveDistinctKeys g.K.PartialEq.eq) (sym removed) (removed_distinct g.K.PartialEq.eq test row was.distinct);
       few = omega (arith, ap length removed, fewer_removed test row, few);
