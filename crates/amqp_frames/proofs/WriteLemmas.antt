@@ -1,5 +1,5 @@
 -- Why values aren't written.
-use Rattle.std.proofs.Common.{◌≡◌, ◌⊎◌, ◌++◌, ℕ, List, length, take, drop, inl, inr, ap, sym, ◌∙◌, append_assoc}
+use Rattle.std.proofs.Common.{◌≡◌, ◌⊎◌, ◌++◌, ◌<◌, ◌^◌, ℕ, List, length, take, drop, inl, inr, ap, sym, ◌∙◌, append_assoc, arith}
 use Rattle.std.specs.Prelude.{Result, Ok, Err, OnOk}
 use Rattle.std.proofs.Math.Seq.{take-append_seam}
 use Rattle.std.proofs.lemmas.List.{take-append-drop}
@@ -8,6 +8,10 @@ use Rattle.amqp_wire.specs.declared.error.Error.TheVariants.{Memory}
 use Rattle.amqp_encoder.specs.Refused.{TermHasCause}
 use Rattle.amqp_codec.specs.TermType.{TermType}
 use Rattle.amqp_codec.specs.Written.{Writing, AreUnwritable}
+use Rattle.amqp_frames.specs.declared.frame_header.FrameKind.{FrameKind}
+use Rattle.amqp_frames.specs.declared.frame_header.FrameKind.TheVariants.{Amqp, Sasl}
+use Rattle.amqp_frames.specs.declared.frame_header.FrameHeader.{FrameHeader}
+use Rattle.amqp_frames.specs.Frames.{greatest_size, header_of_body}
 use Rattle.amqp_frames.specs.Writing.{IsUnwritable}
 
 -- What refuses a value's canonical terms refuses its one term.
@@ -29,3 +33,21 @@ kept_front n front more ys e kept =
 pub on_ok : {X Y : Type 0} (P Q : Type 0) (r : Result X Y) → (P → Q) → OnOk r P → OnOk r Q
 on_ok P Q (Ok x) f h = f h
 on_ok P Q (Err y) f h = tt
+
+-- No frame has more bytes than a number of 32 bits says.
+pub greatest_below : (kind : FrameKind) (max : ℕ) → max < 2 ^ 32 → greatest_size kind max < 2 ^ 32
+greatest_below (Amqp channel) max small = small
+greatest_below Sasl max small = omega arith
+
+-- A header is that of a body as long as another.
+pub sized : (kind : FrameKind) (n m : ℕ) (header : FrameHeader) → header ≡ header_of_body kind n → n ≡ m → header ≡ header_of_body kind m
+sized kind n m header is same = is ∙ ap (header_of_body kind) same
+
+-- What was written in four pieces is what stood there, a head, and a body.
+pub framed : (front head row payload items whole body : List ℕ) → items ≡ (front ++ head) ++ row → whole ≡ items ++ payload
+    → row ++ payload ≡ body → whole ≡ front ++ (head ++ body)
+framed front head row payload items whole body e f g =
+    f
+    ∙ (ap (λ xs. xs ++ payload) e
+    ∙ (append_assoc (front ++ head) row payload
+    ∙ (append_assoc front head (row ++ payload) ∙ ap (λ xs. front ++ (head ++ xs)) g)))

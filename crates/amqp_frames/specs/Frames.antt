@@ -116,3 +116,13 @@ header_of_body kind body_len = record { size = 8 + body_len; data_offset = 2; ki
 abbrev pub MayHave : FrameKind → ℕ → Type 0
 MayHave (Amqp channel) size = channel < 2 ^ 16
 MayHave Sasl size = size ≤ 512
+
+-- how many bytes a frame of this kind may have, where the caller's maximum is max
+abbrev pub greatest_size : FrameKind → ℕ → ℕ
+greatest_size (Amqp channel) max = max
+greatest_size Sasl max = 512
+
+-- the error of a frame of this kind that would have more
+abbrev pub too_large : FrameKind → FrameError
+too_large (Amqp channel) = SizeAboveMaximum
+too_large Sasl = SaslAboveLimit

@@ -16,6 +16,7 @@ use Rattle.amqp_frames.specs.Tables.{sasl_frame}
 use Rattle.amqp_frames.specs.Frames.{frame_header_bytes, header_of_body}
 use Rattle.amqp_frames.specs.declared.sasl_frame.SaslFrame.{SaslFrame}
 use Rattle.amqp_frames.specs.declared.frame_header.FrameKind.{FrameKind}
+use Rattle.amqp_frames.specs.declared.frame_error.FrameError.{FrameError}
 use Rattle.amqp_frames.specs.declared.frame_error.FrameError.TheVariants.{SizeAboveMaximum, SaslAboveLimit}
 use Rattle.amqp_frames.specs.declared.write_error.WriteError.{WriteError}
 use Rattle.amqp_frames.specs.declared.write_error.WriteError.TheVariants.{Frame, Value}
@@ -36,12 +37,16 @@ IsMeasuredBy ts len encoder = (sizes : List Size) × AreMeasured ts len sizes ×
 abbrev pub IsUnwritable : {T : Type 0} → TermType T → T → Error → Type 0
 IsUnwritable u v e = (e ≡ Memory) ⊎ TermHasCause (u.canon v) e
 
+-- For each error, why no frame is written whose body is this one, of a value and what follows it: it would have more bytes than it may, or the
+-- value isn't written.
+abbrev pub WriteFault : {T : Type 0} → TermType T → FrameError → ℕ → T → List ℕ → WriteError → Type 0
+WriteFault u large max v body (Frame e) = (e ≡ large) × (max < 8 + length body)
+WriteFault u large max v body (Value e) = IsUnwritable u v e
+
 -- For each error, why no AMQP frame of at most this size is written.
 abbrev pub AmqpWriteFault : ℕ → Performative → List ℕ → WriteError → Type 0
-AmqpWriteFault max p payload (Frame e) = (e ≡ SizeAboveMaximum) × (max < 8 + length (amqp_body p payload))
-AmqpWriteFault max p payload (Value e) = IsUnwritable performative p e
+AmqpWriteFault max p payload = WriteFault performative SizeAboveMaximum max p (amqp_body p payload)
 
 -- For each error, why no SASL frame is written.
 abbrev pub SaslWriteFault : SaslFrame → WriteError → Type 0
-SaslWriteFault v (Frame e) = (e ≡ SaslAboveLimit) × (512 < 8 + length (written sasl_frame v))
-SaslWriteFault v (Value e) = IsUnwritable sasl_frame v e
+SaslWriteFault v = WriteFault sasl_frame SaslAboveLimit 512 v (written sasl_frame v)

@@ -1,7 +1,7 @@
 //! The first eight bytes of a frame (Part 2, section 2.3.1; Part 5, section 5.3.1).
 ghost use Rattle.std.specs.Prelude.{◌≡◌, ◌+◌, ◌<◌, ◌≤◌, MatchResult};
 ghost use Rattle.std.specs.Option.{SomeIff};
-ghost use Rattle.amqp_frames.specs.Frames.{frame_header_bytes, header_of_body};
+ghost use Rattle.amqp_frames.specs.Frames.{frame_header_bytes, header_of_body, greatest_size, too_large};
 
 use crate::FrameError;
 
@@ -31,6 +31,24 @@ pub enum FrameKind {
     },
     /// A SASL frame (Part 5, section 5.3.1). Its bytes 6 and 7 are ignored, and are written as 0.
     Sasl,
+}
+
+impl FrameKind {
+    // The header of a frame of this kind without an extended header, whose body has `body_len` bytes. A SASL frame has a maximum of its own.
+    pub(crate) fn header(
+        self,
+        body_len: usize,
+        max_frame_size: u32,
+    ) -> Result<FrameHeader, FrameError>
+        ensures { MatchResult result
+            (λ header. (header ≡ header_of_body self body_len) × (8 + body_len ≤ greatest_size self max_frame_size))
+            (λ e. (e ≡ too_large self) × (greatest_size self max_frame_size < 8 + body_len)) }
+    {
+        match self {
+            FrameKind::Amqp { channel } => FrameHeader::amqp(channel, body_len, max_frame_size),
+            FrameKind::Sasl => FrameHeader::sasl(body_len),
+        }
+    }
 }
 
 /// The header of a frame.

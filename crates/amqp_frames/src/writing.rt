@@ -1,16 +1,16 @@
 //! Frames that are written whole (Part 2, section 2.3; Part 5, section 5.3.1).
-ghost use Rattle.std.specs.Prelude.{◌≡◌, ◌+◌, ◌≤◌, ◌++◌, [], length, take, vec_len, IfOk, IfErr, OnOk, OnErr};
+ghost use Rattle.std.specs.Prelude.{◌≡◌, ◌+◌, ◌≤◌, ◌⊎◌, ◌++◌, [], length, vec_len, Ok, Err, IfOk, IfErr, OnOk, OnErr};
 ghost use Rattle.std.specs.Vec.{vec_capacity};
 ghost use Rattle.amqp_wire.specs.declared.error.Error.TheVariants.{Memory};
 ghost use Rattle.amqp_encoder.specs.Passes.{BeginsMeasuring};
 ghost use Rattle.amqp_codec.specs.Spelled.{written, IsWritable};
 ghost use Rattle.amqp_attach.specs.Tables.{performative as performative_type};
 ghost use Rattle.amqp_frames.specs.Tables.{sasl_frame};
-ghost use Rattle.amqp_frames.specs.Frames.{frame_header_bytes};
-ghost use Rattle.amqp_frames.specs.Writing.{frame_text, amqp_body, IsMeasuredBy, IsUnwritable, AmqpWriteFault, SaslWriteFault};
+ghost use Rattle.amqp_frames.specs.Frames.{frame_header_bytes, greatest_size, too_large};
+ghost use Rattle.amqp_frames.specs.Writing.{frame_text, amqp_body, IsMeasuredBy, IsUnwritable, WriteFault, AmqpWriteFault, SaslWriteFault};
 
 use crate::frame_header::{HEADER_LEN, LEAST_DATA_OFFSET};
-use crate::{FrameHeader, FrameKind, SaslFrame, WriteError};
+use crate::{FrameHeader, FrameKind, MIN_MAX_FRAME_SIZE, SaslFrame, WriteError};
 use amqp_attach::Performative;
 use amqp_codec::{DeserializeTerm, Encoder, Error, Serialize};
 use amqp_encoder::{begin_filling, buffer_of, measured_len, measuring_encoder};
@@ -42,20 +42,8 @@ pub fn write_frame(
     ensures refused { IfErr result (AmqpWriteFault max_frame_size performative.now payload.now) }
     ensures kept { OnErr result (buffer.new.items ≡ buffer.old.items) }
 {
-    let mut encoder = measuring_encoder(alloc);
-    let text_len = measure(performative, &mut encoder)?;
-    let body_len = text_len.saturating_add(payload.len());
-    let header = FrameHeader::amqp(channel, body_len, max_frame_size)?;
-    let len = append_frame(
-        buffer,
-        header,
-        performative,
-        encoder,
-        text_len,
-        payload,
-        alloc,
-    )?;
-    Ok(len)
+    let kind = FrameKind::Amqp { channel };
+    append_frame(buffer, kind, performative, payload, max_frame_size, alloc)
 }
 
 /// Appends a SASL frame to the buffer, and returns its length in bytes. The body is the canonical text of the value, and there is no
@@ -78,11 +66,14 @@ pub fn write_sasl_frame(
     ensures refused { IfErr result (SaslWriteFault value.now) }
     ensures kept { OnErr result (buffer.new.items ≡ buffer.old.items) }
 {
-    let mut encoder = measuring_encoder(alloc);
-    let text_len = measure(value, &mut encoder)?;
-    let header = FrameHeader::sasl(text_len)?;
-    let len = append_frame(buffer, header, value, encoder, text_len, &[], alloc)?;
-    Ok(len)
+    append_frame(
+        buffer,
+        FrameKind::Sasl,
+        value,
+        &[],
+        MIN_MAX_FRAME_SIZE,
+        alloc,
+    )
 }
 
 /// Appends an AMQP frame with an empty body to the buffer, and returns its length, which is 8. Such a frame keeps the connection alive
@@ -122,34 +113,42 @@ fn measure<T: DeserializeTerm>(value: &T, encoder: &mut Encoder) -> Result<usize
     measured_len(encoder)
 }
 
-// Appends a frame with this header, and returns the size that the header has. The encoder has measured the value's text.
-#[inline(always)]
+// Appends a frame of this kind, whose body is the canonical text of the value and the payload, and returns the frame's length. The encoder
+// is a local of this function alone: it is large, and would be copied if it were passed on.
 fn append_frame<T: DeserializeTerm>(
     buffer: &mut Vec<u8>,
-    header: FrameHeader,
+    kind: FrameKind,
     value: &T,
-    encoder: Encoder,
-    text_len: usize,
     payload: &[u8],
+    max_frame_size: u32,
     alloc: Global,
-) -> Result<usize, Error>
-    requires sizes { IsMeasuredBy (T.writing.canons value.now) text_len encoder }
-    requires room { 8 + text_len ≤ header.size }
-    requires is_value { T.writing.is_value value.now }
-    ensures text { OnOk result (buffer.new.items
-        ≡ buffer.old.items ++ (frame_header_bytes header ++ (written T.term value.now ++ payload.now))) }
-    ensures len { IfOk result (λ n. n ≡ header.size) }
-    ensures refused { IfErr result (λ e. e ≡ Memory) }
+) -> Result<usize, WriteError>
+    ensures text { OnOk result (buffer.new.items ≡ buffer.old.items ++ frame_text kind (written T.term value.now ++ payload.now)) }
+    ensures len { IfOk result (λ n. n ≡ 8 + length (written T.term value.now ++ payload.now)) }
+    ensures fits { IfOk result (λ n. n ≤ greatest_size kind max_frame_size) }
+    ensures is_value { T.writing.is_value value.now }
+    ensures writable { OnOk result (IsWritable T.term value.now) }
+    ensures refused { IfErr result (WriteFault T.term (too_large kind) (greatest_size kind max_frame_size) value.now
+        (written T.term value.now ++ payload.now)) }
     ensures kept { OnErr result (buffer.new.items ≡ buffer.old.items) }
 {
+    one_term_is_written::<T>();
+    let mut encoder = measuring_encoder(alloc);
+    let text_len = measure(value, &mut encoder)?;
+    let header = kind.header(text_len.saturating_add(payload.len()), max_frame_size)?;
     let before = buffer.len();
     let size = header.size as usize;
     append_header(buffer, header, size)?;
-    match append_body(buffer, value, encoder, text_len, payload, alloc) {
+    let limit = buffer.len() + text_len;
+    let room = replace(buffer, Vec::new(alloc));
+    begin_filling(&mut encoder, alloc, room, limit);
+    let outcome = value.serialize(&mut encoder);
+    *buffer = buffer_of(encoder);
+    match append_payload(buffer, payload, outcome) {
         Ok(()) => Ok(size),
         Err(error) => {
             buffer.truncate(before);
-            Err(error)
+            Err(WriteError::Value(error))
         }
     }
 }
@@ -166,30 +165,17 @@ fn append_header(buffer: &mut Vec<u8>, header: FrameHeader, size: usize) -> Resu
     Ok(())
 }
 
-// Appends the canonical text, for which there is room, and the payload. On an error, the first bytes of the buffer are those that it had.
-#[inline(always)]
-fn append_body<T: DeserializeTerm>(
+// Appends the payload, if what stands before it was written.
+fn append_payload(
     buffer: &mut Vec<u8>,
-    value: &T,
-    encoder: Encoder,
-    text_len: usize,
     payload: &[u8],
-    alloc: Global,
+    outcome: Result<(), Error>,
 ) -> Result<(), Error>
-    requires sizes { IsMeasuredBy (T.writing.canons value.now) text_len encoder }
-    requires room { vec_len buffer.old + text_len ≤ vec_capacity buffer.old }
-    requires is_value { T.writing.is_value value.now }
-    ensures text { OnOk result (buffer.new.items ≡ buffer.old.items ++ (written T.term value.now ++ payload.now)) }
-    ensures refused { IfErr result (λ e. e ≡ Memory) }
-    ensures front { OnErr result (take (length buffer.old.items) buffer.new.items ≡ buffer.old.items) }
+    ensures text { OnOk result (buffer.new.items ≡ buffer.old.items ++ payload.now) }
+    ensures written { OnOk result (outcome ≡ Ok tt) }
+    ensures refused { IfErr result (λ e. (e ≡ Memory) ⊎ (outcome ≡ Err e)) }
+    ensures kept { OnErr result (buffer.new.items ≡ buffer.old.items) }
 {
-    one_term_is_written::<T>();
-    let mut encoder = encoder;
-    let limit = buffer.len() + text_len;
-    let room = replace(buffer, Vec::new(alloc));
-    begin_filling(&mut encoder, alloc, room, limit);
-    let outcome = value.serialize(&mut encoder);
-    *buffer = buffer_of(encoder);
     outcome?;
     buffer.extend_from_slice(payload)?;
     Ok(())
