@@ -25,7 +25,7 @@ Traceback (most recent call last):
 amqp_canonical.AmqpError: UnknownCode: 0x99
 
 A shared object, `libamqp_types.so`, decides what is read and writes the text; its calls are proved. The environment's `AMQP_TYPES_SO` names
-the file, if it isn't where the system looks. In the repository, `docs/PYTHON.md` says more.
+the file, if it is neither in this package nor where the system looks. In the repository, `docs/PYTHON.md` says more.
 """
 
 from . import types as types

@@ -6,13 +6,13 @@ import struct
 from typing import TYPE_CHECKING, Any, Optional, Tuple, cast
 
 from . import _reading, _writing, types
-from ._library import Limits, Type, canonical, term_len
+from ._library import _DEFAULT, Limits, Type, canonical, term_len
 from ._writing import EncodeError
 
 if TYPE_CHECKING:
     from .types import Decode
 
-_DEFAULT = Limits()
+_MESSAGE, _STRICT = Type.MESSAGE, Type.STRICT_MESSAGE
 
 
 def _as_declared(call: Any) -> Decode:
@@ -43,8 +43,8 @@ def decode_message(data: bytes, strict: bool = False, limits: Limits = _DEFAULT)
     >>> decode_message(bytes.fromhex("005375a0026869")).body
     Data(value=b'hi')
     """
-    text, _ = canonical(Type.STRICT_MESSAGE if strict else Type.MESSAGE, data, limits)
-    return cast(types.Message, _reading.TYPES[Type.MESSAGE](text))
+    text, _ = canonical(_STRICT if strict else _MESSAGE, data, limits)
+    return _reading.message(text)
 
 
 def decode_term(data: bytes) -> Tuple[Any, int]:

@@ -8,7 +8,7 @@ import functools
 import os
 from collections.abc import Iterator
 from dataclasses import dataclass, field, fields
-from typing import Any, List, Optional, Tuple
+from typing import Any, Dict, List, Optional, Tuple
 
 __version__ = "0.1.0"
 """The version of this package, which is independent of that of the Rust crate `fe2o3-amqp-types`."""
@@ -205,11 +205,16 @@ class _Limits(ctypes.Structure):
     ]
 
 
+def _shared_object() -> str:
+    """Returns what AMQP_TYPES_SO names, or else the object in this package, which a release has, or else the name that the system knows."""
+    inside = os.path.join(os.path.dirname(os.path.abspath(__file__)), "libamqp_types.so")
+    return os.environ.get("AMQP_TYPES_SO") or (inside if os.path.exists(inside) else "libamqp_types.so.0")
+
+
 def _loaded() -> ctypes.CDLL:
     """Loads the shared object and declares what its calls take and return, as `c/amqp_types.h` does."""
-    name = os.environ.get("AMQP_TYPES_SO", "libamqp_types.so")
     try:
-        library = ctypes.CDLL(name)
+        library = ctypes.CDLL(_shared_object())
     except OSError as error:
         raise OSError(f"the shared object isn't loaded; set AMQP_TYPES_SO to its path: {error}") from error
     size, place, number = ctypes.c_size_t, ctypes.POINTER(ctypes.c_size_t), ctypes.c_uint32
@@ -253,16 +258,31 @@ class _Room:
         return text
 
 
-# Rooms of the kept size that no call has.
-_rooms: List[_Room] = []
+# The same call for short data. Without declared types, ctypes passes what it is given as it is, in a third of the time. So it may only be
+# given a `Type`, bytes, and what `byref` and `from_param` return. Other threads of Python don't run meanwhile: to wait for the next turn
+# could take longer than the call. On x86-64 an outcome is returned in one register, with the error's number in the lower half.
+_quick_canonical = ctypes.PyDLL(_library._name, handle=_library._handle).amqp_c_canonical
+_quick_canonical.restype = ctypes.c_uint64
 
 
-def _taken_room() -> _Room:
-    """Returns a room of the kept size, which the caller gives back."""
-    try:
-        return _rooms.pop()
-    except IndexError:
-        return _Room(_KEPT_ROOM)
+class _Sizes(Dict[int, Any]):
+    """Sizes as they are passed to the quick call. Each is made when it is first needed."""
+
+    def __missing__(self, size: int) -> Any:
+        return self.setdefault(size, ctypes.c_size_t.from_param(size))
+
+
+def _quick_room() -> Tuple[Any, ...]:
+    """Returns what the quick call writes to: a buffer of the kept size and two numbers. After them comes what passes these three."""
+    out, written, taken = ctypes.create_string_buffer(_KEPT_ROOM), ctypes.c_size_t(), ctypes.c_size_t()
+    return out, written, taken, ctypes.byref(out), ctypes.byref(written), ctypes.byref(taken)
+
+
+_sizes = _Sizes()
+_kept_size = _sizes[_KEPT_ROOM]
+
+# The rooms that no quick call has now.
+_rooms: List[Tuple[Any, ...]] = []
 
 
 def greatest() -> Limits:
@@ -313,6 +333,7 @@ def _check(outcome: Any) -> None:
 
 
 _DEFAULT = Limits()
+_default_passed = _DEFAULT._passed
 
 
 def read(of: Type, data: bytes, limits: Limits = _DEFAULT) -> int:
@@ -332,14 +353,32 @@ def canonical(of: Type, data: bytes, limits: Limits = _DEFAULT) -> Tuple[bytes, 
     >>> canonical(Type.ACCEPTED, bytes.fromhex("005324c00000ff"))
     (b'\x00S$E', 6)
     """
-    kept = _taken_room()
-    try:
-        room = kept if len(data) <= _KEPT_ROOM else _Room(len(data))
-        while not _is_written(of, data, limits, room):
-            room = _Room(room.written.value)
-        return room.text(), room.taken.value
-    finally:
-        _rooms.append(kept)
+    size = len(data)
+    if size <= _KEPT_ROOM and type(data) is bytes and type(of) is Type:
+        passed = _default_passed if limits is _DEFAULT else limits._passed
+        try:
+            room = _rooms.pop()
+        except IndexError:
+            room = _quick_room()
+        try:
+            out, written, taken, out_at, written_at, taken_at = room
+            outcome = _quick_canonical(of, data, _sizes[size], passed, out_at, _kept_size, written_at, taken_at)
+            if outcome == 0:
+                return out[: written.value], taken.value
+            size = written.value
+        finally:
+            _rooms.append(room)
+        detail, number = divmod(outcome, 2**32)
+        if number != _NO_ROOM:
+            raise AmqpError(number, detail)
+    return _canonical(of, data, limits, _Room(size))
+
+
+def _canonical(of: Type, data: bytes, limits: Limits, room: _Room) -> Tuple[bytes, int]:
+    """Does the same with a room, or with a larger one if the text is longer."""
+    while not _is_written(of, data, limits, room):
+        room = _Room(room.written.value)
+    return room.text(), room.taken.value
 
 
 def canonical_into(of: Type, data: bytes, room: int, limits: Limits = _DEFAULT) -> Tuple[Optional[bytes], int, int]:

@@ -7,13 +7,16 @@ that code, because the items of an array share one.
 from __future__ import annotations
 
 import dataclasses
+import functools
 import struct
 import uuid
+from collections.abc import Iterable
 from typing import Any, Callable, Dict, List, Tuple, Union, get_args, get_origin
 
 from . import types
+from ._generated import function
 from ._library import Type
-from ._tables import MESSAGES, Field, Rule
+from ._tables import MESSAGES, Field
 from ._values import (
     Array,
     Byte,
@@ -37,6 +40,10 @@ from ._values import (
 Reader = Callable[[bytes, int], Tuple[Any, int]]
 
 _size = struct.Struct(">I").unpack_from
+_new: Any = object.__new__
+
+# The numbers that the bytes from 0 to 255 are.
+_UNSIGNED, _SIGNED = range(256), (*range(128), *range(-128, 0))
 
 
 # Primitives.
@@ -46,15 +53,22 @@ def _constant(value: Any) -> Reader:
     return lambda data, at: (value, at + 1)
 
 
-def _byte(of: Any) -> Reader:
-    """Returns the reader of an unsigned number of one byte, as an instance of the class."""
-    return lambda data, at: (of(data[at + 1]), at + 2)
+def _byte(of: Any, numbers: Iterable[int]) -> Reader:
+    """Returns the reader of a number of one byte, as an instance of the class. The instance for each byte is made once."""
+    made = [of(number) for number in numbers]
+    return lambda data, at: (made[data[at + 1]], at + 2)
 
 
 def _number(of: Any, layout: str) -> Reader:
     """Returns the reader of a number, as an instance of the class."""
     unpack, width = struct.Struct(">" + layout).unpack_from, 1 + struct.calcsize(layout)
     return lambda data, at: (of(unpack(data, at + 1)[0]), at + width)
+
+
+def _plain_number(layout: str) -> Reader:
+    """Returns the reader of a number, as an int."""
+    unpack, width = struct.Struct(">" + layout).unpack_from, 1 + struct.calcsize(layout)
+    return lambda data, at: (unpack(data, at + 1)[0], at + width)
 
 
 def _fixed(width: int, of: Callable[[bytes], Any]) -> Reader:
@@ -78,6 +92,10 @@ def _sized(width: int, of: Callable[[bytes], Any]) -> Reader:
 
 def _symbol(raw: bytes) -> Symbol:
     return Symbol(raw, "ascii")
+
+
+# The same, of which the last results are kept: the same few symbols are read again and again. It is passed at most 255 bytes.
+_short_symbol = functools.lru_cache(maxsize=1024)(_symbol)
 
 
 # Containers.
@@ -170,13 +188,13 @@ _BY_CODE: Dict[int, Reader] = {
     0x42: _constant(False),
     0x43: _constant(Uint(0)),
     0x44: _constant(Ulong(0)),
-    0x50: _byte(Ubyte),
-    0x51: _number(Byte, "b"),
-    0x52: _byte(Uint),
-    0x53: _byte(Ulong),
-    0x54: _number(Int, "b"),
-    0x55: _number(Long, "b"),
-    0x56: _byte(bool),
+    0x50: _byte(Ubyte, _UNSIGNED),
+    0x51: _byte(Byte, _SIGNED),
+    0x52: _byte(Uint, _UNSIGNED),
+    0x53: _byte(Ulong, _UNSIGNED),
+    0x54: _byte(Int, _SIGNED),
+    0x55: _byte(Long, _SIGNED),
+    0x56: _byte(bool, _UNSIGNED),
     0x60: _number(Ushort, "H"),
     0x61: _number(Short, "h"),
     0x70: _number(Uint, "I"),
@@ -191,7 +209,7 @@ _BY_CODE: Dict[int, Reader] = {
     0x98: _fixed(16, lambda raw: uuid.UUID(bytes=raw)),
     0xA0: _sized(1, bytes),
     0xA1: _sized(1, bytes.decode),
-    0xA3: _sized(1, _symbol),
+    0xA3: _sized(1, _short_symbol),
     0xB0: _sized(4, bytes),
     0xB1: _sized(4, bytes.decode),
     0xB3: _sized(4, _symbol),
@@ -212,7 +230,7 @@ _READERS: List[Any] = [_BY_CODE.get(code) for code in range(256)]
 _PLAIN: List[Any] = list(_READERS)
 _PLAIN[0x43] = _PLAIN[0x44] = _constant(0)
 _PLAIN[0x50] = _PLAIN[0x52] = _PLAIN[0x53] = lambda data, at: (data[at + 1], at + 2)
-_PLAIN[0x60], _PLAIN[0x70], _PLAIN[0x80] = _number(int, "H"), _number(int, "I"), _number(int, "Q")
+_PLAIN[0x60], _PLAIN[0x70], _PLAIN[0x80] = _plain_number("H"), _plain_number("I"), _plain_number("Q")
 
 
 def term(data: bytes, at: int = 0) -> Tuple[Any, int]:
@@ -261,7 +279,7 @@ def _unsettled(data: bytes, at: int) -> Tuple[Dict[bytes, Any], int]:
     found = {}
     for _ in range(count // 2):
         tag, at = term(data, at)
-        found[tag], at = (None, at + 1) if data[at] == 0x40 else composite(data, at)
+        found[tag], at = (None, at + 1) if data[at] == 0x40 else described(data, at)
     return found, at
 
 
@@ -275,60 +293,89 @@ _FIELDS: Dict[Any, Reader] = {
 
 def _field_reader(field: Field) -> Any:
     """Returns the reader of a field that isn't null, or None if its code alone says how it is read."""
-    if field.rule in (Rule.MULTIPLE, Rule.MANDATORY_MULTIPLE):
+    if field.is_several:
         return _several(field.type)
     if field.type in _FIELDS:
         return _FIELDS[field.type]
     is_sum = get_origin(field.type) is Union
-    return composite if is_sum or field.type in types.COMPOSITES else None
+    return described if is_sum or field.type in types.COMPOSITES else None
 
 
-class _Plan:
-    """How a composite is read: its class, the reader and the default value of each field, and the order in which the class takes them."""
+# Composites. The reader of a class is generated when the first composite of the class is read.
 
-    __slots__ = ("of", "fields", "order")
+_SIZED = ("start = at + 2", "at = start + data[at + 1]")
+_TEXT: Dict[int, Tuple[str, ...]] = {0xA1: (*_SIZED, "{it} = data[start:at].decode()")}
 
-    def __init__(self, of: Any) -> None:
-        attributes = [field.name for field in dataclasses.fields(of)]
-        defaults = [getattr(of, field.attribute, None) for field in of.FIELDS]
-        self.of = of
-        self.fields = tuple(zip(map(_field_reader, of.FIELDS), defaults))
-        in_order = [field.attribute for field in of.FIELDS]
-        self.order = [in_order.index(name) for name in attributes] if in_order != attributes else None
+# The lines that read a field of a type in its likeliest encodings, by their codes. They set `at` to the offset after the field.
+_LINES: Dict[Any, Dict[int, Tuple[str, ...]]] = {
+    str: _TEXT,
+    types.MessageId: _TEXT,
+    Symbol: {0xA3: (*_SIZED, "{it} = short_symbol(data[start:at])")},
+    bytes: {0xA0: (*_SIZED, "{it} = data[start:at]")},
+    Ubyte: {0x50: ("{it} = data[at + 1]", "at += 2")},
+    Uint: {0x52: ("{it} = data[at + 1]", "at += 2")},
+    Timestamp: {0x83: ("{it} = Timestamp(milliseconds(data, at + 1)[0])", "at += 9")},
+    bool: {0x41: ("{it} = True", "at += 1"), 0x42: ("{it} = False", "at += 1")},
+}
 
+# The lines that set `at` to the offset of the first field, and `end` to that after the last.
+_FIRST_LINES = (
+    "code = data[at]",
+    "if code == 0xC0:",
+    "    end = at + 2 + data[at + 1]",
+    "    at += 3",
+    "elif code == 0x45:",
+    "    return made, at + 1",
+    "else:",
+    "    end = at + 5 + size(data, at + 1)[0]",
+    "    at += 9",
+)
 
-def composite(data: bytes, at: int) -> Tuple[Any, int]:
-    """Reads a composite of a canonical text, whose descriptor is a number of one byte."""
-    plan = _PLANS[data[at + 2]]
-    code = data[at + 3]
-    if code == 0xC0:
-        count, at = data[at + 5], at + 6
-    elif code == 0x45:
-        return plan.of(), at + 4
-    else:
-        count, at = _size(data, at + 8)[0], at + 12
-    values: List[Any] = []
-    for reader, default in plan.fields[:count]:
-        code = data[at]
-        if code == 0x40:
-            values.append(default)
-            at += 1
-        elif reader is not None:
-            value, at = reader(data, at)
-            values.append(value)
-        elif code == 0xA1:
-            end = at + 2 + data[at + 1]
-            values.append(data[at + 2 : end].decode())
-            at = end
-        else:
-            value, at = _PLAIN[code](data, at)
-            values.append(value)
-    if plan.order is not None:
-        values = [values[place] for place in plan.order if place < count]
-    return plan.of(*values), at
+# What the lines know, besides the class, its default values and the readers of its fields.
+_KNOWN: Dict[str, Any] = {
+    "new": _new,
+    "size": _size,
+    "milliseconds": struct.Struct(">q").unpack_from,
+    "Timestamp": Timestamp,
+    "short_symbol": _short_symbol,
+    "plain": _PLAIN,
+}
 
 
-_PLANS: Dict[int, _Plan] = {of.DESCRIPTOR[0]: _Plan(of) for of in types.COMPOSITES}
+def _field_lines(field: Field, otherwise: str) -> List[str]:
+    """Returns the lines that read a field. If it isn't in one of its likeliest encodings, this call reads it."""
+    cases = {} if field.is_several else dict(_LINES.get(field.type, {}))
+    lines = ["code = data[at]"]
+    if not field.is_mandatory:
+        lines = ["if at == end:", "    return made, at", *lines]
+        cases[0x40] = ("at += 1",)
+    for number, (code, inner) in enumerate(cases.items()):
+        lines += [f"{'elif' if number else 'if'} code == 0x{code:02X}:", *(f"    {line}" for line in inner)]
+    lines += ["else:", f"    {{it}}, at = {otherwise}"] if cases else [f"{{it}}, at = {otherwise}"]
+    return [line.format(it=f"made.{field.attribute}") for line in lines]
+
+
+def _composite_reader(of: Any) -> Reader:
+    """Generates the reader of a composite of the class, after its descriptor."""
+    lines, known = ["made = new(of)"], {**_KNOWN, "of": of}
+    for attribute in dataclasses.fields(of):
+        lines.append(f"made.{attribute.name} = default_{attribute.name}")
+        known[f"default_{attribute.name}"] = getattr(of, attribute.name, None)
+    lines += _FIRST_LINES
+    for field in of.FIELDS:
+        known[f"read_{field.attribute}"] = reader = _field_reader(field)
+        lines += _field_lines(field, f"read_{field.attribute}(data, at)" if reader else "plain[code](data, at)")
+    return function(of, "def read(data, at):", [*lines, "return made, at"], known)
+
+
+def _first_reader(of: Any) -> Reader:
+    """Returns what generates the reader of the class, puts it in the place of this one, and calls it."""
+
+    def read(data: bytes, at: int) -> Tuple[Any, int]:
+        reader = _DESCRIBED[of.DESCRIPTOR[0]] = _composite_reader(of)
+        return reader(data, at)
+
+    return read
 
 
 # Sections and messages.
@@ -338,16 +385,26 @@ def _map_section(of: Any) -> Reader:
     """Returns the reader of a section that is a map, after its descriptor."""
 
     def read(data: bytes, at: int) -> Tuple[Any, int]:
-        count, at = (data[at + 2], at + 3) if data[at] == 0xC1 else (_size(data, at + 5)[0], at + 9)
+        if data[at] == 0xC1:
+            end, at = at + 2 + data[at + 1], at + 3
+        else:
+            end, at = at + 5 + _size(data, at + 1)[0], at + 9
         made = of()
-        for _ in range(count // 2):
+        while at < end:
             code = data[at]
             if code == 0xA1:
-                end = at + 2 + data[at + 1]
-                key = data[at + 2 : end].decode()
+                start = at + 2
+                at = start + data[at + 1]
+                key = data[start:at].decode()
             else:
-                key, end = _READERS[code](data, at)
-            made[key], at = _READERS[data[end]](data, end)
+                key, at = _READERS[code](data, at)
+            code = data[at]
+            if code == 0xA1:
+                start = at + 2
+                at = start + data[at + 1]
+                made[key] = data[start:at].decode()
+            else:
+                made[key], at = _READERS[code](data, at)
         return made, at
 
     return read
@@ -357,28 +414,31 @@ def _value_section(of: Any) -> Reader:
     """Returns the reader of any other section, after its descriptor."""
 
     def read(data: bytes, at: int) -> Tuple[Any, int]:
-        value, at = _READERS[data[at]](data, at)
-        return of(value), at
+        made = _new(of)
+        made.value, at = _READERS[data[at]](data, at)
+        return made, at
 
     return read
 
 
-_SECTIONS: Dict[int, Reader] = {
-    of.DESCRIPTOR[0]: _map_section(of) if issubclass(of, dict) else _value_section(of) for of in types.SECTIONS
-}
+# The readers of composites and of sections after their descriptors, by these.
+_DESCRIBED: List[Any] = [None] * 256
+for _of in types.COMPOSITES:
+    _DESCRIBED[_of.DESCRIPTOR[0]] = _first_reader(_of)
+for _of in types.SECTIONS:
+    _DESCRIBED[_of.DESCRIPTOR[0]] = _map_section(_of) if issubclass(_of, dict) else _value_section(_of)
 
 
-def _section(data: bytes, at: int) -> Tuple[Any, int]:
-    """Reads a section of a canonical text."""
-    reader = _SECTIONS.get(data[at + 2])
-    return composite(data, at) if reader is None else reader(data, at + 3)
+def described(data: bytes, at: int) -> Tuple[Any, int]:
+    """Reads a composite or a section of a canonical text, whose descriptor is a number of one byte."""
+    return _DESCRIBED[data[at + 2]](data, at + 3)  # type: ignore[no-any-return]
 
 
 def _sections(data: bytes) -> List[Any]:
     """Reads sections to the end of the bytes."""
     at, found = 0, []
     while at < len(data):
-        section, at = _section(data, at)
+        section, at = described(data, at)
         found.append(section)
     return found
 
@@ -388,24 +448,33 @@ def _body(found: List[Any]) -> Any:
     return found[0] if len(found) == 1 else found
 
 
-_BODY_CODES = (0x75, 0x76, 0x77)
-_PLACES = {0x70: 0, 0x71: 1, 0x72: 2, 0x73: 3, 0x74: 4, 0x78: 6}
-
-
-def _message(data: bytes, body: Callable[[List[Any]], Any] = _body) -> types.Message:
-    """Reads a message of a canonical text."""
-    at, end = 0, len(data)
-    parts: List[Any] = [None] * 7
-    bodies: List[Any] = []
+def message(data: bytes, body: Callable[[List[Any]], Any] = _body) -> types.Message:
+    """Reads a message of a canonical text: its sections are in the standard's order, and it has a body."""
+    made, at, code = types.Message(body=None), 0, data[2]  # type: ignore[arg-type]
+    if code == 0x70:
+        made.header, at = _DESCRIBED[code](data, at + 3)
+        code = data[at + 2]
+    if code == 0x71:
+        made.delivery_annotations, at = _DESCRIBED[code](data, at + 3)
+        code = data[at + 2]
+    if code == 0x72:
+        made.message_annotations, at = _DESCRIBED[code](data, at + 3)
+        code = data[at + 2]
+    if code == 0x73:
+        made.properties, at = _DESCRIBED[code](data, at + 3)
+        code = data[at + 2]
+    if code == 0x74:
+        made.application_properties, at = _DESCRIBED[code](data, at + 3)
+    bodies, end = [], len(data)
     while at < end:
         code = data[at + 2]
-        section, at = _section(data, at)
-        if code in _BODY_CODES:
-            bodies.append(section)
+        section, at = _DESCRIBED[code](data, at + 3)
+        if code == 0x78:
+            made.footer = section
         else:
-            parts[_PLACES[code]] = section
-    parts[5] = body(bodies)
-    return types.Message(*parts)
+            bodies.append(section)
+    made.body = body(bodies)
+    return made
 
 
 # Types.
@@ -418,18 +487,16 @@ def _first(reader: Reader) -> Callable[[bytes], Any]:
 def _reader_of(of: Type) -> Callable[[bytes], Any]:
     """Returns what reads the canonical text of a value of the type."""
     if of in (Type.MESSAGE_BATCH, Type.STRICT_MESSAGE_BATCH):
-        return lambda data: _message(data, list)
+        return lambda data: message(data, list)
     if of in MESSAGES:
-        return _message
+        return message
     if of in (Type.BATCH_DATA, Type.BATCH_SEQUENCE):
         return _sections
     if of is Type.BODY:
         return lambda data: _body(_sections(data))
-    if any(section.TYPE is of for section in types.SECTIONS):
-        return _first(_section)
     if of in (Type.ANNOTATIONS, Type.BOOLEAN, Type.MESSAGE_ID, Type.SIMPLE_VALUE, Type.VALUE):
         return _first(term)
-    return _first(_condition if of is Type.ERROR_CONDITION else composite)
+    return _first(_condition if of is Type.ERROR_CONDITION else described)
 
 
 TYPES: Dict[int, Callable[[bytes], Any]] = {of: _reader_of(of) for of in Type}

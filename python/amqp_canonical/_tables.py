@@ -53,6 +53,16 @@ class Field(NamedTuple):
         """The name of the attribute that has the field's value."""
         return self.name.replace("-", "_")
 
+    @property
+    def is_mandatory(self) -> bool:
+        """Whether the field is in each composite."""
+        return self.rule in (Rule.MANDATORY, Rule.MANDATORY_MULTIPLE)
+
+    @property
+    def is_several(self) -> bool:
+        """Whether the field has several values."""
+        return self.rule in (Rule.MULTIPLE, Rule.MANDATORY_MULTIPLE)
+
 
 class Composite:
     """A described list of fields (Part 1, section 1.4). A field that is omitted reads as its default, or as None if it has none."""

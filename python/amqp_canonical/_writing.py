@@ -3,16 +3,16 @@
 from __future__ import annotations
 
 import datetime
-import operator
 import reprlib
 import struct
 import uuid
 from collections.abc import Iterable, Mapping
-from typing import Any, Callable, Dict, List, NoReturn, Tuple, Union, get_args, get_origin
+from typing import Any, Callable, Dict, List, NamedTuple, NoReturn, Tuple, Union, get_args, get_origin
 
 from . import types
+from ._generated import function
 from ._library import Type
-from ._tables import MESSAGES, Composite, Field, MapSection, Rule, Section
+from ._tables import MESSAGES, Composite, Field, MapSection, Section
 from ._values import (
     Array,
     Byte,
@@ -71,30 +71,37 @@ _text_bytes: Callable[[Any], bytes] = str.encode
 _binary_bytes: Callable[[Any], bytes] = b"".__add__
 
 
-def _sized(name: str, code: int, bytes_of: Callable[[Any], bytes]) -> Writer:
-    """Returns the writer of bytes after their number, which itself takes one byte if it can."""
-    heads, write_long = [bytes([code, size]) for size in range(256)], _long(name, code + 0x10, bytes_of)
+def _heads(code: int, start: bytes = b"") -> List[bytes]:
+    """Returns the start, the format code and the size of bytes, by their number of at most 255."""
+    return [start + bytes([code, size]) for size in range(256)]
+
+
+def _sized(name: str, code: int, bytes_of: Callable[[Any], bytes], start: bytes = b"") -> Writer:
+    """Returns the writer of bytes after a start and their number, which itself takes one byte if it can."""
+    heads, write_long = _heads(code, start), _long(name, code + 0x10, bytes_of, start)
 
     def write_sized(value: Any) -> bytes:
         try:
             raw = bytes_of(value)
         except (TypeError, UnicodeEncodeError):
             raise _unfit(value, name) from None
-        size = len(raw)
-        return heads[size] + raw if size < 256 else write_long(value)
+        try:
+            return heads[len(raw)] + raw
+        except IndexError:
+            return write_long(value)
 
     return write_sized
 
 
-def _long(name: str, code: int, bytes_of: Callable[[Any], bytes]) -> Writer:
-    """Returns the writer of bytes after their number, which itself takes four bytes."""
+def _long(name: str, code: int, bytes_of: Callable[[Any], bytes], start: bytes = b"") -> Writer:
+    """Returns the writer of bytes after a start and their number, which itself takes four bytes."""
 
     def write_long(value: Any) -> bytes:
         try:
             raw = bytes_of(value)
         except (TypeError, UnicodeEncodeError):
             raise _unfit(value, name) from None
-        return b"%c%b%b" % (code, _size(len(raw)), raw)
+        return b"%b%c%b%b" % (start, code, _size(len(raw)), raw)
 
     return write_long
 
@@ -144,7 +151,7 @@ def _row(code: int, count: int, content: bytes) -> bytes:
 
 
 def _list(value: Iterable[Any]) -> bytes:
-    parts = [write(item) for item in value]
+    parts = [_WRITERS[type(item)](item) for item in value]
     return _row(0xD0, len(parts), b"".join(parts))
 
 
@@ -156,15 +163,32 @@ def _pairs_of(value: Any) -> Iterable[Tuple[Any, Any]]:
     raise _unfit(value, "map")
 
 
-def _map_of(write_key: Writer, write_item: Writer) -> Writer:
-    """Returns the writer of a map, from a dict or from pairs."""
+class _Keys(Dict[str, bytes]):
+    """The texts of the last keys of maps, and what they were written as: the same few keys are written again and again."""
+
+    def __init__(self, write_key: Writer) -> None:
+        self.write_key = write_key
+
+    def __missing__(self, key: str) -> bytes:
+        written = self.write_key(key)
+        if len(self) >= 1024:
+            self.clear()
+        if len(written) < 256:
+            self[key] = written
+        return written
+
+
+def _map_of(write_key: Writer, start: bytes = b"", pairs_of: Callable[[Any], Iterable[Tuple[Any, Any]]] = _pairs_of) -> Writer:
+    """Returns the writer of a map, from a dict or from pairs, after a start."""
+    keys, start, head = _Keys(write_key), start + b"\xd1", struct.Struct(f">{len(start) + 1}sII").pack
 
     def write_map(value: Any) -> bytes:
         parts: List[bytes] = []
-        for key, item in _pairs_of(value):
-            parts.append(write_key(key))
-            parts.append(write_item(item))
-        return _row(0xD1, len(parts), b"".join(parts))
+        for key, item in value.items() if isinstance(value, dict) else pairs_of(value):
+            parts.append(keys[key] if type(key) is str else write_key(key))
+            parts.append(_WRITERS[type(item)](item))
+        content = b"".join(parts)
+        return head(start, len(content) + 4, len(parts)) + content
 
     return write_map
 
@@ -221,27 +245,39 @@ def _refused_section(value: Any) -> NoReturn:
 
 def write(value: Any) -> bytes:
     """Returns a term of any type."""
-    return (_WRITERS.get(type(value)) or _inherited(value))(value)
+    return _WRITERS[type(value)](value)
 
 
-def _inherited(value: Any) -> Writer:
-    """Returns the writer of the nearest class above that of the value, and keeps it for that class."""
-    for of in type(value).__mro__:
-        if of in _WRITERS:
-            return _WRITERS.setdefault(type(value), _WRITERS[of])
+def _refused(value: Any) -> NoReturn:
     raise _unfit(value, "value of AMQP")
 
 
+class _Writers(Dict[type, Writer]):
+    """Writers by the classes of values."""
+
+    def __missing__(self, of: type) -> Writer:
+        """Returns the writer of the nearest class above the class, and keeps it for the class."""
+        above = next((it for it in of.__mro__ if it in self), None)
+        return _refused if above is None else self.setdefault(of, self[above])
+
+
+class _Composites(Dict[type, Writer]):
+    """The writers of composites by their classes. Each is generated when the first composite of its class is written."""
+
+    def __missing__(self, of: Any) -> Writer:
+        return self.setdefault(of, _composite_writer(of))
+
+
+_COMPOSITES = _Composites()
+
+
 def _composite(value: Composite) -> bytes:
-    plan = _PLANS[type(value)]
-    parts = _parts(value, plan, _NULL)
-    content = b"".join(parts)
-    return _composite_head(plan.head, len(content) + 4, len(parts)) + content
+    return _COMPOSITES[type(value)](value)
 
 
-_any_map = _map_of(write, write)
+_any_map = _map_of(write)
 
-_WRITERS: Dict[type, Writer] = {
+_WRITERS = _Writers({
     type(None): _null,
     bool: _boolean,
     int: _long_number,
@@ -274,7 +310,7 @@ _WRITERS: Dict[type, Writer] = {
     Section: _refused_section,
     MapSection: _refused_section,
     types.Role: lambda value: _boolean(value.value),
-}
+})
 
 # The writers of texts and binaries in arrays, where each of one type has the same code.
 _ITEM_WRITERS: Dict[type, Writer] = {
@@ -314,13 +350,22 @@ def _member_of(*members: type) -> Writer:
     def write_member(value: Any) -> bytes:
         if not isinstance(value, members):
             raise _unfit(value, name)
-        return _composite(value)
+        return _COMPOSITES[type(value)](value)
 
     return write_member
 
 
 _state = _member_of(*get_args(types.DeliveryState))
-_annotations = _map_of(_annotation_key, write)
+_annotations = _map_of(_annotation_key)
+
+
+def _unsettled(value: Any) -> bytes:
+    """Returns a map of states by their tags."""
+    parts: List[bytes] = []
+    for tag, state in _pairs_of(value):
+        parts += (_binary(tag), _NULL if state is None else _state(state))
+    return _row(0xD1, len(parts), b"".join(parts))
+
 
 _FIELDS: Dict[Any, Writer] = {
     bool: _boolean,
@@ -335,8 +380,8 @@ _FIELDS: Dict[Any, Writer] = {
     types.Role: _role,
     types.MessageId: _message_id,
     types.ErrorCondition: _symbol,
-    types.Fields: _map_of(_symbol, write),
-    types.Unsettled: _map_of(_binary, lambda value: _NULL if value is None else _state(value)),
+    types.Fields: _map_of(_symbol),
+    types.Unsettled: _unsettled,
 }
 
 
@@ -361,58 +406,144 @@ def _several(of: Any) -> Writer:
 
 
 def _field_writer(field: Field) -> Writer:
-    is_several = field.rule in (Rule.MULTIPLE, Rule.MANDATORY_MULTIPLE)
-    return _several(field.type) if is_several else _type_writer(field.type)
+    return _several(field.type) if field.is_several else _type_writer(field.type)
 
 
-class _Plan:
-    """How a class is written: the bytes before the size, and the names, the values and the writers of its attributes."""
-
-    __slots__ = ("head", "names", "values_of", "writers")
-
-    def __init__(self, head: bytes, writers: Dict[str, Writer]) -> None:
-        self.head, self.names, self.writers = head, list(writers), list(writers.values())
-        self.values_of: Callable[[Any], Iterable[Any]] = lambda value: [getattr(value, name) for name in self.names]
-        if len(writers) > 1:
-            self.values_of = operator.attrgetter(*writers)
+# Composites. The writer of a class is generated when the first composite of the class is written.
 
 
-def _composite_plan(of: Any) -> _Plan:
-    """Returns how a composite is written: under its descriptor's number, as a list with a size of four bytes."""
-    return _Plan(b"\x00\x53%c\xd0" % of.DESCRIPTOR[0], {field.attribute: _field_writer(field) for field in of.FIELDS})
+def _sized_lines(raw: str, heads: str) -> Tuple[str, ...]:
+    """Returns the lines that write bytes after their number. If it doesn't fit in one byte, the attribute's own writer is called."""
+    return (f"raw = {raw}", "try:", f"    {{it}} = {heads}[len(raw)] + raw", "except IndexError:", "    {it} = {write}({it})")
 
 
-_PLANS: Dict[type, _Plan] = {of: _composite_plan(of) for of in types.COMPOSITES}
+def _class_lines(of: str, lines: Iterable[str]) -> Tuple[str, ...]:
+    """Returns the lines, which are for a value of the class. For any other, the attribute's own writer is called."""
+    return (f"if type({{it}}) is {of}:", *(f"    {line}" for line in lines), "else:", "    {it} = {write}({it})")
 
 
-def _parts(value: Any, plan: _Plan, none: bytes) -> List[bytes]:
-    """Returns what the attributes are written as, and for None these bytes."""
-    parts: List[bytes] = []
-    try:
-        for item, writer in zip(plan.values_of(value), plan.writers):
-            parts.append(none if item is None else writer(item))
-    except (EncodeError, TypeError) as error:
-        raise EncodeError(f"{type(value).__name__}.{plan.names[len(parts)]}: {error}") from None
-    return parts
+_TEXT = _sized_lines("text_bytes({it})", "text_heads")
+
+# The lines that write the variable of an attribute of a type, if it isn't None.
+_LINES: Dict[Any, Iterable[str]] = {
+    str: _TEXT,
+    Symbol: _sized_lines("text_bytes({it})", "symbol_heads"),
+    bytes: _sized_lines("binary_bytes({it})", "binary_heads"),
+    bool: ["{it} = true if {it} is True else false if {it} is False else {write}({it})"],
+    Ubyte: ["{it} = pack_ubyte(0x50, {it})"],
+    Ushort: ["{it} = pack_ushort(0x60, {it})"],
+    Uint: ["{it} = pack_uint(0x70, {it})"],
+    Timestamp: ["{it} = pack_long(0x83, {it})"],
+    types.MessageId: _class_lines("str", _TEXT),
+    types.Body: _class_lines("Data", _sized_lines("binary_bytes({it}.value)", "data_heads")),
+    **{of: _class_lines(of.__name__, [f"{{it}} = write_{of.__name__}({{it}})"]) for of in types.COMPOSITES},
+}
+
+# What the lines know, besides composites and the writers of these and of attributes.
+_KNOWN: Dict[str, Any] = {
+    "true": b"\x41",
+    "false": b"\x42",
+    "text_bytes": _text_bytes,
+    "binary_bytes": _binary_bytes,
+    "text_heads": _heads(0xA1),
+    "symbol_heads": _heads(0xA3),
+    "binary_heads": _heads(0xA0),
+    "data_heads": _heads(0xA0, b"\x00\x53\x75"),
+    "pack_ubyte": struct.Struct(">BB").pack,
+    "pack_ushort": struct.Struct(">BH").pack,
+    "pack_uint": struct.Struct(">BI").pack,
+    "pack_long": struct.Struct(">Bq").pack,
+    "join": b"".join,
+    "head": _composite_head,
+    "faults": (EncodeError, TypeError, UnicodeEncodeError, struct.error),
+    "unfit": _unfit,
+    "Data": types.Data,
+    "Message": types.Message,
+}
+
+
+class _Attribute(NamedTuple):
+    """An attribute that is written: its name, its own writer, and its type, by which it may have lines that write it faster."""
+
+    name: str
+    writer: Writer
+    type: Any = None
+
+    def lines(self, it: str, none: bytes) -> List[str]:
+        """Returns the lines that write the attribute to the variable, and None as these bytes."""
+        lines = _LINES.get(self.type, ["{it} = {write}({it})"])
+        inner = [f"    {line.format(it=it, write=f'write_{it}')}" for line in lines]
+        return [f"{it} = value.{self.name}", f"if {it} is None:", f"    {it} = {none!r}", "else:", *inner]
+
+    def known(self, it: str) -> Dict[str, Any]:
+        """Returns what these lines know of the attribute."""
+        found: Dict[str, Any] = {f"write_{it}": self.writer}
+        if self.type in types.COMPOSITES:
+            found.update({self.type.__name__: self.type, f"write_{self.type.__name__}": _COMPOSITES[self.type]})
+        return found
+
+    def fault(self, value: Any, error: Exception) -> EncodeError:
+        """Returns the error that the attribute of the value can't be written, because of this error. Its own writer knows why."""
+        if not isinstance(error, EncodeError):
+            try:
+                self.writer(getattr(value, self.name))
+            except (EncodeError, TypeError) as found:
+                error = found
+        return EncodeError(f"{type(value).__name__}.{self.name}: {error}")
+
+
+def _generated(of: Any, attributes: List[_Attribute], none: bytes, first: str, last: str) -> Writer:
+    """Generates the writer of a class: it has the first line, writes each attribute, joins these bytes as `content`, and has the last line.
+
+    The attribute that can't be written is the last whose variable is set.
+    """
+    by_variable = {f"field_{number}": attribute for number, attribute in enumerate(attributes)}
+    lines, known = [first, "try:", "    pass"], dict(_KNOWN)
+    for it, attribute in by_variable.items():
+        lines += [f"    {line}" for line in attribute.lines(it, none)]
+        known.update(attribute.known(it))
+    lines += ["except faults as error:", "    raise fault(value, locals(), error) from None"]
+    lines += [f"content = join(({''.join(f'{it}, ' for it in by_variable)}))", last]
+    known["fault"] = lambda value, names, error: attributes[sum(it in names for it in by_variable) - 1].fault(value, error)
+    return function(of, "def write(value):", lines, known)
+
+
+def _composite_writer(of: Any) -> Writer:
+    """Generates the writer of a composite: under its descriptor's number, as a list with a size of four bytes."""
+    attributes = [_Attribute(field.attribute, _field_writer(field), None if field.is_several else field.type) for field in of.FIELDS]
+    start = b"\x00\x53%c\xd0" % of.DESCRIPTOR[0]
+    return _generated(of, attributes, _NULL, "pass", f"return head({start!r}, len(content) + 4, {len(attributes)}) + content")
 
 
 # Sections and messages.
 
-_CONTENTS: Dict[Type, Writer] = {
-    Type.DATA: _binary,
-    Type.AMQP_SEQUENCE: _list,
-    Type.AMQP_VALUE: write,
-    Type.APPLICATION_PROPERTIES: _map_of(_string, write),
-    Type.DELIVERY_ANNOTATIONS: _annotations,
-    Type.MESSAGE_ANNOTATIONS: _annotations,
-    Type.FOOTER: _annotations,
+_KEYS: Dict[Type, Writer] = {
+    Type.APPLICATION_PROPERTIES: _string,
+    Type.DELIVERY_ANNOTATIONS: _annotation_key,
+    Type.MESSAGE_ANNOTATIONS: _annotation_key,
+    Type.FOOTER: _annotation_key,
 }
+
+
+def _section_pairs(value: Any) -> Iterable[Tuple[Any, Any]]:
+    return _pairs_of(_content(value))
+
+
+def _content(value: Any) -> Any:
+    """Returns what is in a section, or the value itself if it is none."""
+    return value.value if isinstance(value, Section) else value
 
 
 def _section_writer(of: Any) -> Writer:
     """Returns the writer of a section of the class, from a section or from what is in one."""
-    head, write_content = b"\x00\x53%c" % of.DESCRIPTOR[0], _CONTENTS[of.TYPE]
-    return lambda value: head + write_content(value.value if isinstance(value, Section) else value)
+    start = b"\x00\x53%c" % of.DESCRIPTOR[0]
+    if of.TYPE in _KEYS:
+        return _map_of(_KEYS[of.TYPE], start, _section_pairs)
+    if of is types.Data:
+        write_data = _sized("binary", 0xA0, _binary_bytes, start)
+        return lambda value: write_data(_content(value))
+    write_content = _list if of is types.AmqpSequence else write
+    return lambda value: start + write_content(_content(value))
 
 
 _SECTIONS: Dict[type, Writer] = {of: _section_writer(of) for of in types.SECTIONS}
@@ -441,31 +572,35 @@ def _body(value: Any) -> bytes:
     raise _unfit(value, "body of a message")
 
 
-_MESSAGE = _Plan(
-    b"",
-    {
-        "header": _member_of(types.Header),
-        "delivery_annotations": _SECTIONS[types.DeliveryAnnotations],
-        "message_annotations": _SECTIONS[types.MessageAnnotations],
-        "properties": _member_of(types.Properties),
-        "application_properties": _SECTIONS[types.ApplicationProperties],
-        "body": _body,
-        "footer": _SECTIONS[types.Footer],
-    },
-)
+_MESSAGE = [
+    _Attribute("header", _member_of(types.Header), types.Header),
+    _Attribute("delivery_annotations", _SECTIONS[types.DeliveryAnnotations]),
+    _Attribute("message_annotations", _SECTIONS[types.MessageAnnotations]),
+    _Attribute("properties", _member_of(types.Properties), types.Properties),
+    _Attribute("application_properties", _SECTIONS[types.ApplicationProperties]),
+    _Attribute("body", _body, types.Body),
+    _Attribute("footer", _SECTIONS[types.Footer]),
+]
 
 
 def _message(value: Any) -> bytes:
-    if not isinstance(value, types.Message):
-        raise _unfit(value, "message")
-    return b"".join(_parts(value, _MESSAGE, b""))
+    """Generates the writer of messages, puts it in the place of this one, and calls it."""
+    check = "if not isinstance(value, Message): raise unfit(value, 'message')"
+    writer = _generated(types.Message, _MESSAGE, b"", check, "return content")
+    TYPES.update({of: writer for of in MESSAGES})
+    return writer(value)
 
 
 # Types.
 
+_OWN_TYPES: Dict[type, Type] = {**{of: of.TYPE for of in (*types.COMPOSITES, *types.SECTIONS)}, types.Message: Type.MESSAGE}
+
 
 def type_of(value: Any) -> Type:
     """Returns the type that a value is written as if none is named."""
+    own = _OWN_TYPES.get(type(value))
+    if own is not None:
+        return own
     if isinstance(value, (Composite, Section, MapSection)):
         return value.TYPE
     return Type.MESSAGE if isinstance(value, types.Message) else Type.VALUE

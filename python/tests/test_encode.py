@@ -42,6 +42,20 @@ class Color(str, enum.Enum):
     RED = "red"
 
 
+class Name(str):
+    """A text that is equal to any other."""
+
+    def __eq__(self, other: object) -> bool:
+        return True
+
+    def __hash__(self) -> int:
+        return hash("a")
+
+
+class Sender(types.SaslInit):
+    """A composite of a program's own."""
+
+
 def read_again(value: Any, of: Any = None) -> Any:
     """Returns what is read of what a value is written as."""
     text = encode(value, of)
@@ -56,7 +70,14 @@ FORMS: Dict[str, Any] = {
     "an ordered dict": (OrderedDict([("a", None)]), {"a": None}),
     "an enum of texts": (Color.RED, "red"),
     "pairs that could be a dict": (Pairs([("a", 1)]), {"a": Long(1)}),
+    "keys that are equal in Python": (
+        [{"a": 1}, {Name("b"): 2}, {Symbol("a"): 3}],
+        [{"a": Long(1)}, {"b": Long(2)}, {Symbol("a"): Long(3)}],
+    ),
+    "many keys": ({f"{number}": None for number in range(3000)}, {f"{number}": None for number in range(3000)}),
+    "long keys": ({"k" * 255: "v" * 255, "k" * 256: "v" * 256}, {"k" * 255: "v" * 255, "k" * 256: "v" * 256}),
     "a composite in a value": ([types.Accepted()], [Described(0x24, [])]),
+    "a composite of another class": ([Sender("a", b"", "h")], [Described(0x41, [Symbol("a"), b"", "h"])]),
     "an array of composites": (Array([types.Declared(b"a")] * 2), Array([Described(0x33, [b"a"])] * 2)),
     "an array of roles": (Array([types.Role.SENDER, types.Role.RECEIVER]), Array([False, True])),
     "an array of bytes": (Array([b"a", bytearray(b"b")]), Array([b"a", b"b"])),
@@ -119,6 +140,11 @@ WRONG: Dict[str, Callable[[], bytes]] = {
     "Attach.source: Source.timeout: 'x' is no uint": lambda: encode(
         types.Attach(name="n", handle=0, role=types.Role.SENDER, source=types.Source(timeout="x"))  # type: ignore[arg-type]
     ),
+    "Error.info: Error.info: Error.condition: 5 is no symbol": lambda: encode(
+        types.Error("a", info={"b": [types.Error("c", info={"d": types.Error(5)})]})  # type: ignore[arg-type]
+    ),
+    "SaslInit.hostname: '\\ud800' is no string": lambda: encode(types.SaslInit("a", hostname="\ud800")),
+    "Properties.group_sequence: 4294967296 is no uint": lambda: encode(types.Properties(group_sequence=2**32)),
     "Rejected.error: 5 is no Error": lambda: encode(types.Rejected(error=5)),  # type: ignore[arg-type]
     "Transfer.state: Open": lambda: encode(types.Transfer(handle=0, state=types.Open("c"))),  # type: ignore[arg-type]
     "Attach.target: Source": lambda: encode(types.Attach("n", 0, types.Role.SENDER, target=types.Source())),  # type: ignore[arg-type]

@@ -132,11 +132,26 @@ def test_limits_for_peers() -> None:
         assert found == (bytes.fromhex("005374c10c04a1036f6e6543a102697443"), len(properties))
 
 
+class Raw(bytes):
+    """Bytes of a program's own."""
+
+
 def test_only_bytes_are_read() -> None:
     data: Any
-    for data in (bytearray(b"\x41"), "41"):
+    for data in (bytearray(b"\x41"), "41", memoryview(b"\x41")):
+        for call in (amqp.read, amqp.canonical, amqp.decode):
+            with pytest.raises(ctypes.ArgumentError):
+                call(Type.BOOLEAN, data)
+    assert amqp.decode(Type.BOOLEAN, Raw(b"\x41")) == (True, 1)
+
+
+def test_types_by_their_numbers() -> None:
+    number: Any
+    for number in (11, Type.BOOLEAN):
+        assert amqp.canonical(number, b"\x56\x01") == (b"\x41", 2)
+    for number in ("boolean", None, b"\x0b"):
         with pytest.raises(ctypes.ArgumentError):
-            amqp.read(Type.BOOLEAN, data)
+            amqp.canonical(number, b"\x41")
 
 
 def test_limits_bound_what_is_decoded() -> None:
