@@ -27,7 +27,7 @@ pub use nodes::{Kind, Node, Nodes};
 pub use types::Type;
 
 /// The version of this crate, which is independent of that of `fe2o3-amqp-types`.
-pub const VERSION: &str = "0.1.0";
+pub const VERSION: &str = env!("CARGO_PKG_VERSION");
 
 /// The number of the error that the text is longer than the room for it.
 const NO_ROOM: u32 = 1000;
