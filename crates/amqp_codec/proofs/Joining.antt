@@ -8,7 +8,7 @@ use Rattle.amqp_model.specs.Items.{terms_of}
 use Rattle.amqp_model.specs.Refusals.{SomewhereIn, IsRefused}
 use Rattle.amqp_wire.specs.declared.error.Error.{Error}
 use Rattle.amqp_wire.specs.declared.error.Error.TheVariants.{Memory}
-use Rattle.amqp_encoder.specs.declared.encoder.Encoder.{Encoder}
+use Rattle.amqp_encoder.specs.State.{Encoder}
 use Rattle.amqp_encoder.specs.Tokens.{Token, tokens, all_tokens, begin, end, begin_described, end_described}
 use Rattle.amqp_encoder.specs.Passes.{row_tokens}
 use Rattle.amqp_encoder.specs.Writes.{Writes, Fills, outcome, pass_of, bytes_of}

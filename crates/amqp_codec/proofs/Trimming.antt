@@ -4,7 +4,7 @@ use Rattle.std.proofs.Common.{arith, add-one, inl}
 use Rattle.std.specs.Prelude.{Result, Ok, Err}
 use Rattle.amqp_model.specs.Term.{null, Term, leaf}
 use Rattle.amqp_wire.specs.declared.error.Error.{Error}
-use Rattle.amqp_encoder.specs.declared.encoder.Encoder.{Encoder}
+use Rattle.amqp_encoder.specs.State.{Encoder}
 use Rattle.amqp_encoder.specs.Tokens.{put}
 use Rattle.amqp_encoder.specs.Writes.{Writes}
 use Rattle.amqp_codec.specs.TermType.{KeepsNoBytes}

@@ -5,7 +5,7 @@ ghost use Rattle.amqp_codec.specs.Agreement.{option_one, option_agreement, optio
 
 use crate::{DeserializeTerm, Serialize, SerializeTerm};
 use amqp_decoder::Decoder;
-use amqp_encoder::Encoder;
+use amqp_encoder::{Encoder, Pass};
 use amqp_wire::{ByteSource, Error, format_code};
 use std::alloc::Global;
 use std::rc::Rc;
@@ -14,7 +14,7 @@ impl<T: SerializeTerm> Serialize for Option<T> {
     ghost writing = { option_writing T.writing };
 
     #[inline(always)]
-    fn serialize(&self, encoder: &mut Encoder) -> Result<(), Error> {
+    fn serialize<P: Pass>(&self, encoder: &mut Encoder<P>) -> Result<(), Error> {
         match self {
             Some(value) => value.serialize(encoder),
             None => encoder.write_null(),
@@ -60,7 +60,7 @@ impl<T: DeserializeTerm> DeserializeTerm for Option<T> {
 impl<T: Serialize> Serialize for Box<T> {
     ghost writing = { via_writing (λ v. v.value) T.writing };
 
-    fn serialize(&self, encoder: &mut Encoder) -> Result<(), Error> {
+    fn serialize<P: Pass>(&self, encoder: &mut Encoder<P>) -> Result<(), Error> {
         (**self).serialize(encoder)
     }
 
@@ -94,7 +94,7 @@ impl<T: DeserializeTerm> DeserializeTerm for Box<T> {
 impl<T: Serialize> Serialize for Rc<T> {
     ghost writing = { via_writing (λ v. v.value) T.writing };
 
-    fn serialize(&self, encoder: &mut Encoder) -> Result<(), Error> {
+    fn serialize<P: Pass>(&self, encoder: &mut Encoder<P>) -> Result<(), Error> {
         self.as_ref().serialize(encoder)
     }
 
@@ -128,7 +128,7 @@ impl<T: DeserializeTerm> DeserializeTerm for Rc<T> {
 impl<T: Serialize> Serialize for &T {
     ghost writing = { via_writing (λ v. v.now) T.writing };
 
-    fn serialize(&self, encoder: &mut Encoder) -> Result<(), Error> {
+    fn serialize<P: Pass>(&self, encoder: &mut Encoder<P>) -> Result<(), Error> {
         Serialize::serialize(*self, encoder)
     }
 
@@ -148,7 +148,7 @@ impl<T: SerializeTerm> SerializeTerm for &T {
 impl<T: Serialize> Serialize for &mut T {
     ghost writing = { via_writing (λ v. v.now) T.writing };
 
-    fn serialize(&self, encoder: &mut Encoder) -> Result<(), Error> {
+    fn serialize<P: Pass>(&self, encoder: &mut Encoder<P>) -> Result<(), Error> {
         (**self).serialize(encoder)
     }
 

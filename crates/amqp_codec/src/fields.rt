@@ -16,7 +16,7 @@ ghost use Rattle.amqp_codec.specs.FieldReading.{FieldsRead, FieldsFault, Fills, 
 
 use crate::DeserializeTerm;
 use amqp_decoder::Decoder;
-use amqp_encoder::Encoder;
+use amqp_encoder::{Encoder, Pass};
 pub use amqp_model::tables::FieldRule;
 use amqp_wire::{ByteSource, Error, format_code};
 use std::alloc::Global;
@@ -54,7 +54,7 @@ pub trait FieldList: Sized + Drop {
         ensures { result ≡ is_null (canon_at list.fields index self.now) };
 
     /// Writes the field of this number, from 0 on, which isn't null.
-    fn write_field(&self, index: usize, encoder: &mut Encoder) -> Result<(), Error>
+    fn write_field<P: Pass>(&self, index: usize, encoder: &mut Encoder<P>) -> Result<(), Error>
         requires within { index < length (rules_of (slots list.fields)) }
         ensures { is_null (canon_at list.fields index self.now) ≡ false
             → WritesTerms (canon_at list.fields index self.now ∷ []) encoder.old result encoder.new };
@@ -91,7 +91,10 @@ pub fn read_some<T: DeserializeTerm, R: ByteSource>(
 
 /// Writes a value as its type says.
 #[inline(always)]
-pub fn write_value<T: DeserializeTerm>(value: &T, encoder: &mut Encoder) -> Result<(), Error>
+pub fn write_value<T: DeserializeTerm, P: Pass>(
+    value: &T,
+    encoder: &mut Encoder<P>,
+) -> Result<(), Error>
     ensures { WritesTerms (T.term.canon value.now ∷ []) encoder.old result encoder.new }
 {
     value.serialize(encoder)
@@ -210,45 +213,99 @@ fn read_any_item<L: FieldList, R: ByteSource>(
 
 /// Writes a value as the list of its fields, without the nulls at its end. It returns the errors of its fields.
 #[inline(always)]
-pub fn write_list<L: FieldList>(value: &L, encoder: &mut Encoder) -> Result<(), Error>
+pub fn write_list<L: FieldList, P: Pass>(value: &L, encoder: &mut Encoder<P>) -> Result<(), Error>
     ensures { WritesTerms (canonical_list (slots L.list.fields) value.now ∷ []) encoder.old result encoder.new }
 {
-    let count = count_items(value);
     encoder.begin_list()?;
-    write_items(value, count, encoder)?;
+    write_fields(value, encoder)?;
     encoder.end_list()
 }
 
-// How many fields there are without the nulls at the end.
+/// Writes the fields of a list that was begun, without the nulls at its end. It returns the errors of the fields.
 #[inline(always)]
-fn count_items<L: FieldList>(value: &L) -> usize
-    ensures within { result ≤ length (rules_of (slots L.list.fields)) }
-    ensures trimmed { take result (canonical_terms (slots L.list.fields) value.now) ≡ canonical_items (slots L.list.fields) value.now }
-{
-    let mut count = L::field_rules().len();
-    while count > 0 && value.is_null_field(count - 1) {
-        count -= 1;
-    }
-    count
-}
-
-// Writes the first fields, so many of them.
-#[inline(always)]
-fn write_items<L: FieldList>(value: &L, count: usize, encoder: &mut Encoder) -> Result<(), Error>
-    requires within { count ≤ length (rules_of (slots L.list.fields)) }
+pub(crate) fn write_fields<L: FieldList, P: Pass>(
+    value: &L,
+    encoder: &mut Encoder<P>,
+) -> Result<(), Error>
     requires going { answer_of encoder.now ≡ Ok tt }
-    ensures { WritesTerms (take count (canonical_terms (slots L.list.fields) value.now)) encoder.old result encoder.new }
+    ensures { WritesTerms (canonical_items (slots L.list.fields) value.now) encoder.old result encoder.new }
 {
-    for index in 0..count {
-        write_item(value, index, encoder)?;
+    let mut nulls = 0;
+    if L::field_rules().len() > 16 {
+        for index in 0..L::field_rules().len() {
+            write_one(value, index, &mut nulls, encoder)?;
+        }
+        return Ok(());
+    }
+    write_eight(value, 0, &mut nulls, encoder)?;
+    if L::field_rules().len() > 8 {
+        return write_eight(value, 8, &mut nulls, encoder);
     }
     Ok(())
+}
+
+#[inline(always)]
+fn write_eight<L: FieldList, P: Pass>(
+    value: &L,
+    index: usize,
+    nulls: &mut usize,
+    encoder: &mut Encoder<P>,
+) -> Result<(), Error> {
+    write_four(value, index, nulls, encoder)?;
+    write_four(value, index + 4, nulls, encoder)
+}
+
+#[inline(always)]
+fn write_four<L: FieldList, P: Pass>(
+    value: &L,
+    index: usize,
+    nulls: &mut usize,
+    encoder: &mut Encoder<P>,
+) -> Result<(), Error> {
+    write_two(value, index, nulls, encoder)?;
+    write_two(value, index + 2, nulls, encoder)
+}
+
+#[inline(always)]
+fn write_two<L: FieldList, P: Pass>(
+    value: &L,
+    index: usize,
+    nulls: &mut usize,
+    encoder: &mut Encoder<P>,
+) -> Result<(), Error> {
+    write_one(value, index, nulls, encoder)?;
+    write_one(value, index + 1, nulls, encoder)
+}
+
+#[inline(always)]
+fn write_one<L: FieldList, P: Pass>(
+    value: &L,
+    index: usize,
+    nulls: &mut usize,
+    encoder: &mut Encoder<P>,
+) -> Result<(), Error> {
+    if index >= L::field_rules().len() {
+        return Ok(());
+    }
+    if value.is_null_field(index) {
+        *nulls += 1;
+        return Ok(());
+    }
+    if *nulls != 0 {
+        encoder.write_nulls(*nulls)?;
+        *nulls = 0;
+    }
+    value.write_field(index, encoder)
 }
 
 // Writes a field.
 #[inline(always)]
 #[tactic(auto, using(crate::proofs::Trimming::null_written))]
-fn write_item<L: FieldList>(value: &L, index: usize, encoder: &mut Encoder) -> Result<(), Error>
+fn write_item<L: FieldList, P: Pass>(
+    value: &L,
+    index: usize,
+    encoder: &mut Encoder<P>,
+) -> Result<(), Error>
     requires within { index < length (rules_of (slots L.list.fields)) }
     ensures { WritesTerms (canon_at L.list.fields index value.now ∷ []) encoder.old result encoder.new }
 {

@@ -1,15 +1,16 @@
 -- What a call of one pass did, and the bytes and lengths that its parts speak of.
-use Rattle.std.specs.Prelude.{◌≡◌, ℕ, ◌+◌, List, [], ◌∷◌, length, drop, ltb, cond, if◌then◌else◌, Result, Ok, Err, IsOk, ◌⊎◌}
-use Rattle.amqp_model.specs.Term.{Descriptor, name, code, symbol}
+use Rattle.std.specs.Prelude.{◌≡◌, ◌<◌, ℕ, ◌+◌, List, [], ◌∷◌, length, drop, ltb, cond, if◌then◌else◌, Result, Ok, Err, IsOk, ◌⊎◌}
+use Rattle.amqp_model.specs.Term.{Container, Descriptor, name, code, symbol}
 use Rattle.amqp_model.specs.Spelling.{descriptor_value}
 use Rattle.amqp_model.specs.Text.{Place, Alone, First, Later, spell, with_size}
 use Rattle.amqp_wire.specs.declared.error.Error.{Error}
 use Rattle.amqp_wire.specs.declared.error.Error.TheVariants.{Memory, TooLarge, InvalidValue}
 use Rattle.amqp_encoder.specs.declared.places.Shortest.{Shortest}
+use Rattle.amqp_encoder.specs.declared.size.Size.{Size}
 use Rattle.amqp_encoder.specs.declared.frame.MeasuredContainer.{MeasuredContainer}
 use Rattle.amqp_encoder.specs.Values.{shortest_text}
 use Rattle.amqp_encoder.specs.State.{Open, Measured, Filled, seen}
-use Rattle.amqp_encoder.specs.Measuring.{◌>>=◌, short_enough, checked, measure_value, descriptor_bytes}
+use Rattle.amqp_encoder.specs.Measuring.{◌>>=◌, short_enough, checked, measure_value, descriptor_bytes, end_in, leave_in}
 use Rattle.amqp_encoder.specs.Filling.{sized, fill_value, fill_open}
 
 -- What its function says; or memory ran out where the call takes memory, and that says Ok.
@@ -63,3 +64,14 @@ Closes old [] r new = r ≡ Err InvalidValue
 Closes old (f ∷ fs) (Ok inner) new =
     (seen inner ≡ old.frame) × (new ≡ record { frame = f; outer = fs; sizes = old.sizes; descriptors = old.descriptors })
 Closes old (f ∷ fs) (Err e) new = ⊥
+
+-- The same of a container, which may be refused: then so is its end. Else it fits, and its size is returned.
+abbrev pub ClosesContainer : Container → Measured → List Open → Result (MeasuredContainer × Size) Error → Measured → Type 0
+ClosesContainer k old [] r new = r ≡ Err InvalidValue
+ClosesContainer k old (f ∷ fs) (Err e) new = end_in (f ∷ fs) k old ≡ Err e
+ClosesContainer k old (f ∷ fs) (Ok r) new =
+    (seen r.0 ≡ old.frame)
+    × (r.0.index < length old.sizes)
+    × (r.0.content < 0xffff_fffc)
+    × (end_in (f ∷ fs) k old ≡ leave_in k new r.0.index r.0.form r.0.content r.1)
+    × (new ≡ record { frame = f; outer = fs; sizes = old.sizes; descriptors = old.descriptors })

@@ -88,6 +88,7 @@ impl MeasuredContainer {
 }
 
 /// Returns whether it is an array without items, which holds the constructor of null (Part 1, section 1.2.4).
+#[inline(always)]
 pub(crate) fn is_filled_up(container: Container, size: Size) -> bool
     ensures filled { OnTrue result ((container_of container ≡ array) × (size.count ≡ 0)) }
     ensures unfilled { OnFalse result (filler (container_of container) size.count ≡ []) }
@@ -100,6 +101,7 @@ pub(crate) fn is_filled_up(container: Container, size: Size) -> bool
 }
 
 /// Returns how many bytes come before a container's items, in its place.
+#[inline(always)]
 pub(crate) fn opening_len(place: Place, container: Container, size: Size) -> usize
     ensures same { result ≡ length (opening (place_of place) (container_of container) size.count size.content) }
     ensures short { result ≤ 10 }

@@ -10,7 +10,7 @@ ghost use Rattle.amqp_sections.specs.SectionType.{section_of};
 
 use amqp_codec::{DeserializeTerm, SerializeTerm};
 use amqp_decoder::Decoder;
-use amqp_encoder::Encoder;
+use amqp_encoder::{Encoder, Pass};
 use amqp_wire::{ByteSource, Descriptor, Error};
 use std::alloc::Global;
 
@@ -60,10 +60,10 @@ pub fn read_section<S: Section<T>, T: DeserializeTerm, R: ByteSource>(
 }
 
 /// Writes a section: this value, under the code of its descriptor. It returns the encoder's errors for the value.
-pub fn write_section<T: SerializeTerm>(
+pub fn write_section<T: SerializeTerm, P: Pass>(
     number: u64,
     value: &T,
-    encoder: &mut Encoder,
+    encoder: &mut Encoder<P>,
 ) -> Result<(), Error>
     ensures { WritesTerms (described (code number) (canon_of T.writing value.now) ∷ []) encoder.old result encoder.new }
 {

@@ -16,7 +16,7 @@ ghost use Rattle.amqp_sums.specs.Choices.{ChoiceRead, sum_of, sum_writing};
 use amqp_codec::SerializeTerm;
 use amqp_codec::kernel::{Composite, read_fields};
 use amqp_decoder::Decoder;
-use amqp_encoder::Encoder;
+use amqp_encoder::{Encoder, Pass};
 use amqp_wire::{ByteSource, Error};
 use std::alloc::Global;
 
@@ -70,10 +70,10 @@ pub fn read_as<C: Composite, S: From<C> + Drop, R: ByteSource>(
 }
 
 /// Writes the member that a sum of composites holds, which is how the sum is written. It returns the encoder's errors for the member.
-pub fn write_as<S: Sum, C: SerializeTerm>(
+pub fn write_as<S: Sum, C: SerializeTerm, P: Pass>(
     _sum: &S,
     member: &C,
-    encoder: &mut Encoder,
+    encoder: &mut Encoder<P>,
 ) -> Result<(), Error>
     ensures written { (held : S) → _sum.now ≡ held → canon_of (sum_writing S.sum) held ≡ canon_of C.writing member.now
         → WritesTerms ((sum_writing S.sum).canons _sum.now) encoder.old result encoder.new }
