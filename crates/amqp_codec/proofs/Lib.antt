@@ -1,6 +1,7 @@
 pub mod Joining
 pub mod Tries
 pub mod Trimming
+pub mod Pending
 pub mod PrimitiveReads
 pub mod Options
 pub mod NoFields

@@ -1,10 +1,14 @@
 //! Lists of fields (Part 1, section 1.4): one reader and one writer for all. Only they handle omitted ends, surplus items, defaults and
 //! trailing nulls.
-ghost use Rattle.std.specs.Prelude.{◌≡◌, ◌<◌, ◌≤◌, false, [], ◌∷◌, length, take, None, Ok, Some, IfOk, IfErr};
+ghost use Rattle.std.specs.Prelude.{◌≡◌, ◌<◌, ◌≤◌, ◌+◌, false, [], ◌∷◌, length, None, Ok, Some, IfOk, IfErr};
 ghost use Rattle.amqp_model.specs.Items.{is_null};
-ghost use Rattle.amqp_model.specs.Fields.{rules_of, canonical_terms, canonical_items};
+ghost use Rattle.amqp_model.specs.Fields.{rules_of, canonical_items};
 ghost use Rattle.amqp_model.specs.Composite.{MeansList, canonical_list};
+ghost use Rattle.amqp_encoder.specs.State.{Encoder as EncoderState};
 ghost use Rattle.amqp_encoder.specs.Passes.{answer_of};
+ghost use Rattle.amqp_encoder.specs.Tokens.{nulls as nulls_of};
+ghost use Rattle.amqp_encoder.specs.Writes.{Writes};
+ghost use Rattle.amqp_codec.specs.FieldWriting.{IsPending, WritesUpTo};
 ghost use Rattle.amqp_codec.specs.Slots.{MeansSome};
 ghost use Rattle.amqp_codec.specs.Fields.{slots, canon_at, take_memory, takes_at};
 ghost use Rattle.amqp_codec.specs.Written.{WritesTerms};
@@ -20,6 +24,7 @@ use amqp_encoder::{Encoder, Pass};
 pub use amqp_model::tables::FieldRule;
 use amqp_wire::{ByteSource, Error, format_code};
 use std::alloc::Global;
+use std::mem::replace;
 
 /// A value that is a list of fields. It gives its fields by their numbers, and `read_list` and `write_list` do the rest. Each composite is
 /// one, after its descriptor; a user's own type may be one by itself.
@@ -221,7 +226,7 @@ pub fn write_list<L: FieldList, P: Pass>(value: &L, encoder: &mut Encoder<P>) ->
     encoder.end_list()
 }
 
-/// Writes the fields of a list that was begun, without the nulls at its end. It returns the errors of the fields.
+/// Writes the fields of a value into a list that was begun, without the nulls at its end. It returns the errors of the fields.
 #[inline(always)]
 pub(crate) fn write_fields<L: FieldList, P: Pass>(
     value: &L,
@@ -231,28 +236,67 @@ pub(crate) fn write_fields<L: FieldList, P: Pass>(
     ensures { WritesTerms (canonical_items (slots L.list.fields) value.now) encoder.old result encoder.new }
 {
     let mut nulls = 0;
-    if L::field_rules().len() > 16 {
-        for index in 0..L::field_rules().len() {
-            write_one(value, index, &mut nulls, encoder)?;
-        }
-        return Ok(());
+    match write_sixteen(value, &mut nulls, encoder) {
+        Ok(()) => write_others(value, &mut nulls, encoder),
+        Err(error) => Err(error),
     }
-    write_eight(value, 0, &mut nulls, encoder)?;
-    if L::field_rules().len() > 8 {
-        return write_eight(value, 8, &mut nulls, encoder);
+}
+
+// Writes the fields after the first sixteen.
+#[inline(always)]
+fn write_others<L: FieldList, P: Pass>(
+    value: &L,
+    nulls: &mut usize,
+    encoder: &mut Encoder<P>,
+) -> Result<(), Error>
+    requires nulls { nulls.old ≤ 16 }
+    ensures { (start : EncoderState) → IsPending L.list.fields value.now 16 nulls.old start encoder.old
+        → WritesTerms (canonical_items (slots L.list.fields) value.now) start result encoder.new }
+{
+    for index in 16..L::field_rules().len() {
+        if let Err(error) = write_one(value, index, nulls, encoder) {
+            return Err(error);
+        }
     }
     Ok(())
 }
 
+// Writes the first sixteen fields, as far as there are so many, in a straight line.
+#[inline(always)]
+fn write_sixteen<L: FieldList, P: Pass>(
+    value: &L,
+    nulls: &mut usize,
+    encoder: &mut Encoder<P>,
+) -> Result<(), Error>
+    requires nulls { nulls.old ≡ 0 }
+    ensures written { (start : EncoderState) → IsPending L.list.fields value.now 0 0 start encoder.old
+        → WritesUpTo L.list.fields value.now 16 start result nulls.new encoder.new }
+    ensures nulls { nulls.new ≤ 16 }
+{
+    match write_eight(value, 0, nulls, encoder) {
+        Ok(()) => write_eight(value, 8, nulls, encoder),
+        Err(error) => Err(error),
+    }
+}
+
+// Writes eight fields, as far as there are so many.
 #[inline(always)]
 fn write_eight<L: FieldList, P: Pass>(
     value: &L,
     index: usize,
     nulls: &mut usize,
     encoder: &mut Encoder<P>,
-) -> Result<(), Error> {
-    write_four(value, index, nulls, encoder)?;
-    write_four(value, index + 4, nulls, encoder)
+) -> Result<(), Error>
+    requires index { index ≤ 8 }
+    requires nulls { nulls.old ≤ index }
+    ensures written { (start : EncoderState) → IsPending L.list.fields value.now index nulls.old start encoder.old
+        → WritesUpTo L.list.fields value.now (index + 8) start result nulls.new encoder.new }
+    ensures nulls { nulls.new ≤ index + 8 }
+{
+    match write_four(value, index, nulls, encoder) {
+        Ok(()) => write_four(value, index + 4, nulls, encoder),
+        Err(error) => Err(error),
+    }
 }
 
 #[inline(always)]
@@ -261,9 +305,17 @@ fn write_four<L: FieldList, P: Pass>(
     index: usize,
     nulls: &mut usize,
     encoder: &mut Encoder<P>,
-) -> Result<(), Error> {
-    write_two(value, index, nulls, encoder)?;
-    write_two(value, index + 2, nulls, encoder)
+) -> Result<(), Error>
+    requires index { index ≤ 12 }
+    requires nulls { nulls.old ≤ index }
+    ensures written { (start : EncoderState) → IsPending L.list.fields value.now index nulls.old start encoder.old
+        → WritesUpTo L.list.fields value.now (index + 4) start result nulls.new encoder.new }
+    ensures nulls { nulls.new ≤ index + 4 }
+{
+    match write_two(value, index, nulls, encoder) {
+        Ok(()) => write_two(value, index + 2, nulls, encoder),
+        Err(error) => Err(error),
+    }
 }
 
 #[inline(always)]
@@ -272,18 +324,32 @@ fn write_two<L: FieldList, P: Pass>(
     index: usize,
     nulls: &mut usize,
     encoder: &mut Encoder<P>,
-) -> Result<(), Error> {
-    write_one(value, index, nulls, encoder)?;
-    write_one(value, index + 1, nulls, encoder)
+) -> Result<(), Error>
+    requires index { index ≤ 14 }
+    requires nulls { nulls.old ≤ index }
+    ensures written { (start : EncoderState) → IsPending L.list.fields value.now index nulls.old start encoder.old
+        → WritesUpTo L.list.fields value.now (index + 2) start result nulls.new encoder.new }
+    ensures nulls { nulls.new ≤ index + 2 }
+{
+    match write_one(value, index, nulls, encoder) {
+        Ok(()) => write_one(value, index + 1, nulls, encoder),
+        Err(error) => Err(error),
+    }
 }
 
+// Writes a field and the nulls before it, or counts one more null.
 #[inline(always)]
 fn write_one<L: FieldList, P: Pass>(
     value: &L,
     index: usize,
     nulls: &mut usize,
     encoder: &mut Encoder<P>,
-) -> Result<(), Error> {
+) -> Result<(), Error>
+    requires nulls { nulls.old ≤ index }
+    ensures written { (start : EncoderState) → IsPending L.list.fields value.now index nulls.old start encoder.old
+        → WritesUpTo L.list.fields value.now (index + 1) start result nulls.new encoder.new }
+    ensures nulls { nulls.new ≤ index + 1 }
+{
     if index >= L::field_rules().len() {
         return Ok(());
     }
@@ -291,27 +357,21 @@ fn write_one<L: FieldList, P: Pass>(
         *nulls += 1;
         return Ok(());
     }
-    if *nulls != 0 {
-        encoder.write_nulls(*nulls)?;
-        *nulls = 0;
+    match write_pending(nulls, encoder) {
+        Ok(()) => value.write_field(index, encoder),
+        Err(error) => Err(error),
     }
-    value.write_field(index, encoder)
 }
 
-// Writes a field.
+// Writes the nulls that were counted.
 #[inline(always)]
-#[tactic(auto, using(crate::proofs::Trimming::null_written))]
-fn write_item<L: FieldList, P: Pass>(
-    value: &L,
-    index: usize,
-    encoder: &mut Encoder<P>,
-) -> Result<(), Error>
-    requires within { index < length (rules_of (slots L.list.fields)) }
-    ensures { WritesTerms (canon_at L.list.fields index value.now ∷ []) encoder.old result encoder.new }
+fn write_pending<P: Pass>(nulls: &mut usize, encoder: &mut Encoder<P>) -> Result<(), Error>
+    ensures none { nulls.old ≡ 0 → (encoder.new ≡ encoder.old) × (result ≡ Ok tt) }
+    ensures written { 0 < nulls.old → Writes encoder.old (nulls_of nulls.old) result encoder.new }
+    ensures counted { nulls.new ≡ 0 }
 {
-    if value.is_null_field(index) {
-        encoder.write_null()
-    } else {
-        value.write_field(index, encoder)
+    if *nulls == 0 {
+        return Ok(());
     }
+    encoder.write_nulls(replace(nulls, 0))
 }
