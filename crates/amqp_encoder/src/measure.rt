@@ -138,14 +138,14 @@ impl Measure {
     /// Measures values that are by themselves, and take so many bytes in all. It returns false, and does nothing, if the machine can't
     /// count them.
     #[inline(always)]
-    fn count_plain(&mut self, len: usize, count: usize) -> bool
+    fn count_plain(&mut self, bytes: usize, count: usize) -> bool
         requires { IsPlain (Measuring self.old) }
-        ensures counted { OnTrue result (self.new ≡ counted len count self.old) }
-        ensures content { OnTrue result (self.old.frame.content + len ≤ MAX) }
+        ensures counted { OnTrue result (self.new ≡ counted bytes count self.old) }
+        ensures content { OnTrue result (self.old.frame.content + bytes ≤ MAX) }
         ensures count { OnTrue result (self.old.frame.count + count ≤ MAX) }
         ensures left { OnFalse result (self.new ≡ self.old) }
     {
-        let Some(content) = self.top.content.checked_add(len) else {
+        let Some(content) = self.top.content.checked_add(bytes) else {
             return false;
         };
         let Some(count) = self.top.count.checked_add(count) else {
