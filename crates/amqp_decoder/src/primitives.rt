@@ -71,13 +71,21 @@ impl<R: ByteSource> Decoder<R> {
         ensures read { Tells R.remaining → AnswersRead false (ReadsValue (Means boolean)) (PrimitiveFault booleans) self.old result self.new }
         ensures tries { Tries false self.old result self.new }
     {
-        if let Some(_) = self.quick::<1>(format_code::BOOLEAN_TRUE) {
-            return Ok(true);
+        match self.plain_code() {
+            Some(format_code::BOOLEAN_TRUE) => {
+                match self.take_plain::<1>(format_code::BOOLEAN_TRUE) {
+                    Some(_) => Ok(true),
+                    None => self.read_any_bool(),
+                }
+            }
+            Some(format_code::BOOLEAN_FALSE) => {
+                match self.take_plain::<1>(format_code::BOOLEAN_FALSE) {
+                    Some(_) => Ok(false),
+                    None => self.read_any_bool(),
+                }
+            }
+            _ => self.read_any_bool(),
         }
-        if let Some(_) = self.quick::<1>(format_code::BOOLEAN_FALSE) {
-            return Ok(false);
-        }
-        self.read_any_bool()
     }
 
     // The same, however the source gives it.
@@ -122,17 +130,24 @@ impl<R: ByteSource> Decoder<R> {
         ensures read { Tells R.remaining → AnswersRead false (ReadsValue (Means uint)) (PrimitiveFault uints) self.old result self.new }
         ensures tries { Tries false self.old result self.new }
     {
-        if let Some(bytes) = self.quick::<5>(format_code::UINT) {
-            let [_, a, b, c, d] = bytes;
-            return Ok(u32::from_be_bytes([a, b, c, d]));
+        match self.plain_code() {
+            Some(format_code::UINT) => match self.take_plain::<5>(format_code::UINT) {
+                Some(bytes) => {
+                    let [_, a, b, c, d] = bytes;
+                    Ok(u32::from_be_bytes([a, b, c, d]))
+                }
+                None => self.read_any_uint(),
+            },
+            Some(format_code::SMALL_UINT) => match self.take_plain::<2>(format_code::SMALL_UINT) {
+                Some(bytes) => Ok(u32::from(bytes[1])),
+                None => self.read_any_uint(),
+            },
+            Some(format_code::UINT_0) => match self.take_plain::<1>(format_code::UINT_0) {
+                Some(_) => Ok(0),
+                None => self.read_any_uint(),
+            },
+            _ => self.read_any_uint(),
         }
-        if let Some(bytes) = self.quick::<2>(format_code::SMALL_UINT) {
-            return Ok(u32::from(bytes[1]));
-        }
-        if let Some(_) = self.quick::<1>(format_code::UINT_0) {
-            return Ok(0);
-        }
-        self.read_any_uint()
     }
 
     // The same, however the source gives it.
@@ -173,17 +188,24 @@ impl<R: ByteSource> Decoder<R> {
         ensures read { Tells R.remaining → AnswersRead false (ReadsValue (Means ulong)) (PrimitiveFault ulongs) self.old result self.new }
         ensures tries { Tries false self.old result self.new }
     {
-        if let Some(bytes) = self.quick::<2>(format_code::SMALL_ULONG) {
-            return Ok(u64::from(bytes[1]));
+        match self.plain_code() {
+            Some(format_code::SMALL_ULONG) => match self.take_plain::<2>(format_code::SMALL_ULONG) {
+                Some(bytes) => Ok(u64::from(bytes[1])),
+                None => self.read_any_ulong(),
+            },
+            Some(format_code::ULONG_0) => match self.take_plain::<1>(format_code::ULONG_0) {
+                Some(_) => Ok(0),
+                None => self.read_any_ulong(),
+            },
+            Some(format_code::ULONG) => match self.take_plain::<9>(format_code::ULONG) {
+                Some(bytes) => {
+                    let [_, a, b, c, d, e, f, g, h] = bytes;
+                    Ok(u64::from_be_bytes([a, b, c, d, e, f, g, h]))
+                }
+                None => self.read_any_ulong(),
+            },
+            _ => self.read_any_ulong(),
         }
-        if let Some(_) = self.quick::<1>(format_code::ULONG_0) {
-            return Ok(0);
-        }
-        if let Some(bytes) = self.quick::<9>(format_code::ULONG) {
-            let [_, a, b, c, d, e, f, g, h] = bytes;
-            return Ok(u64::from_be_bytes([a, b, c, d, e, f, g, h]));
-        }
-        self.read_any_ulong()
     }
 
     // The same, however the source gives it.

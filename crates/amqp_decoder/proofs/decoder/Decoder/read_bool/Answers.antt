@@ -7,6 +7,6 @@ pub returns-in-Some-clause-read : goal.returns-in-Some-clause-read
 returns-in-Some-clause-read g c = λ told.
     let f = c.in-Some.ensures.read told in fixed_value boolean 65 0 _ _ _ _ (f.width, refl, tt) f
 
-pub returns-in-Some-quick-clause-read : goal.returns-in-Some-quick-clause-read
-returns-in-Some-quick-clause-read g c = λ told.
-    let f = rw (c.in_default.ensures.none refl) at (c.in-Some-quick.ensures.read told) in fixed_value boolean 66 0 _ _ _ _ (f.width, refl, tt) f
+pub returns-in-Some-take_plain-clause-read : goal.returns-in-Some-take_plain-clause-read
+returns-in-Some-take_plain-clause-read g c = λ told.
+    let f = c.in-Some-take_plain.ensures.read told in fixed_value boolean 66 0 _ _ _ _ (f.width, refl, tt) f

@@ -1,4 +1,4 @@
-use Rattle.std.proofs.Common.{◌≡◌, refl, ap, sym, Some, ◌∙◌, subst}
+use Rattle.std.proofs.Common.{refl, ap, sym, Some, subst}
 use Rattle.amqp_model.specs.Term.{ulong}
 use Rattle.amqp_lookahead.proofs.SectionsAhead.{bytes_at}
 use Rattle.amqp_decoder.specs.Primitives.{ReadsFixed}
@@ -11,16 +11,16 @@ returns-in-Some-clause-read g c = λ told.
     let f = c.in-Some.ensures.read told in
     let e = behind_code 0 c.in-Some.bytes f.width in
     fixed_value ulong 83 1 _ (bytes_at 1 1 c.in-Some.bytes) _ _ (refl, ap (λ n. Some (ulong n)) (sym c.from.ensures), tt)
-    (subst (λ b. ReadsFixed 83 1 c.args.self.now b c.quick.new.self) e f)
+    (subst (λ b. ReadsFixed 83 1 c.args.self.now b c.take_plain.new.self) e f)
 
-pub returns-in-Some-quick-clause-read : goal.returns-in-Some-quick-clause-read
-returns-in-Some-quick-clause-read g c = λ told.
-    let f = rw (c.in_default.ensures.none refl) at (c.in-Some-quick.ensures.read told) in fixed_value ulong 68 0 _ _ _ _ (f.width, refl, tt) f
+pub returns-in-Some-take_plain-clause-read : goal.returns-in-Some-take_plain-clause-read
+returns-in-Some-take_plain-clause-read g c = λ told.
+    let f = c.in-Some-take_plain.ensures.read told in fixed_value ulong 68 0 _ _ _ _ (f.width, refl, tt) f
 
-pub returns-in-Some-quick-2-clause-read : goal.returns-in-Some-quick-2-clause-read
-returns-in-Some-quick-2-clause-read g c = λ told.
-    let same : c.quick-2.new.self ≡ c.args.self.now = c.in_default-quick.ensures.none refl ∙ c.in_default.ensures.none refl in
-    let f = rw same at (c.in-Some-quick-2.ensures.read told) in
-    let e = behind_code 7 c.in-Some-quick-2.bytes f.width in
-    fixed_value ulong 128 8 _ (bytes_at 8 1 c.in-Some-quick-2.bytes) _ _ (refl, ap (λ n. Some (ulong n)) (sym c.from_be_bytes.ensures), tt)
-    (subst (λ b. ReadsFixed 128 8 c.args.self.now b c.quick-3.new.self) e f)
+pub returns-in-Some-take_plain-2-clause-read : goal.returns-in-Some-take_plain-2-clause-read
+returns-in-Some-take_plain-2-clause-read g c = λ told.
+    let f = c.in-Some-take_plain-2.ensures.read told in
+    let e = behind_code 7 c.in-Some-take_plain-2.bytes f.width in
+    fixed_value ulong 128 8 _ (bytes_at 8 1 c.in-Some-take_plain-2.bytes) _ _
+    (refl, ap (λ n. Some (ulong n)) (sym c.from_be_bytes.ensures), tt)
+    (subst (λ b. ReadsFixed 128 8 c.args.self.now b c.take_plain-in-Some-eq128.new.self) e f)
