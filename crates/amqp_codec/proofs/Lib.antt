@@ -4,6 +4,7 @@ pub mod Trimming
 pub mod PrimitiveReads
 pub mod Options
 pub mod NoFields
+mod NullSteps
 pub mod FieldSteps
 mod HeldReads
 mod ListReads

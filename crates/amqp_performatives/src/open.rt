@@ -83,6 +83,7 @@ impl FieldList for Open {
         }
     }
 
+    #[inline(always)]
     fn fill_field<R: ByteSource>(
         &mut self,
         index: usize,

@@ -118,6 +118,7 @@ impl FieldList for Source {
         Source::default()
     }
 
+    #[inline(always)]
     fn fill_field<R: ByteSource>(
         &mut self,
         index: usize,

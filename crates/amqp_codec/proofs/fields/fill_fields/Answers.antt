@@ -5,11 +5,11 @@ use Rattle.amqp_model.specs.declared.tables.FieldRule.TheVariants.{Mandatory}
 use Rattle.amqp_codec.specs.Fields.{slots}
 use Rattle.amqp_codec.specs.FieldReading.{absence, rule_at}
 use Rattle.amqp_codec.specs.laws.FieldReading.{not_absent}
-use Rattle.amqp_codec.proofs.FieldSteps.{open_refused, none_so_far, item_refused, left_out_refused, one_more, one_less, end_refused}
-use Rattle.amqp_codec.proofs.FieldSteps.{all_read, so_far_still}
-use Rattle.amqp_codec.proofs.Tries.{taking_none, taking_at, refused_behind, absent_refused}
-use Rattle.amqp_codec.proofs.fields.read_fields.Goals as goal
-use Rattle.amqp_codec.proofs.fields.read_fields.Goals.{then-index-count+in_ok-read_item, else-index-count+in_default}
+use Rattle.amqp_codec.proofs.FieldSteps.{open_refused, none_so_far, item_refused, left_out_refused, one_more, one_less}
+use Rattle.amqp_codec.proofs.FieldSteps.{all_filled, so_far_still}
+use Rattle.amqp_codec.proofs.Tries.{taking_none, taking_at, refused_behind, tries_behind, absent_refused}
+use Rattle.amqp_codec.proofs.fields.fill_fields.Goals as goal
+use Rattle.amqp_codec.proofs.fields.fill_fields.Goals.{then-index-count+in_ok-read_item, else-index-count+in_default}
 
 pub returns-in_err-count-clause-read : goal.returns-in_err-count-clause-read
 returns-in_err-count-clause-read g c tells =
@@ -18,7 +18,7 @@ returns-in_err-count-clause-read g c tells =
 
 pub loop-index-init : goal.loop-index-init
 loop-index-init g c = record {
-  fields = λ tells. none_so_far g.L.FieldList.list.fields _ _ _ _ (c.in_ok-count.ensures.read tells) c.blank-value.ensures;
+  fields = λ tells. none_so_far g.L.FieldList.list.fields _ _ _ _ (c.in_ok-count.ensures.read tells) c.requires.blank;
   began = search rules;
 }
 
@@ -68,21 +68,12 @@ loop-index-preserved g c =
       }
     ]
 
-pub returns-in_err-end_list-clause-read : goal.returns-in_err-end_list-clause-read
-returns-in_err-end_list-clause-read g c tells =
-    let fs = g.L.FieldList.list.fields in
-    let all : c.loop-index.index ≡ length (rules_of (slots fs)) =
-    omega (arith, ap length c.field_rules-rule-items.ensures, c.loop-index-test.false, c.loop-index.auto.index-end) in
-    let h = c.loop-index.invariant.fields tells in
-    let p = err_from_is_err_and c.from_residual-in_err-end_list.result c.from_residual-in_err-end_list.ensures.1 in
-    rw (p.1, p.2) (end_refused fs _ _ _ _ _ _ _ all (so_far_still fs _ _ _ _ _ h) h (c.in_err-end_list.ensures.read tells))
-
 pub returns-clause-read : goal.returns-clause-read
 returns-clause-read g c tells =
     let fs = g.L.FieldList.list.fields in
     let all : c.loop-index.index ≡ length (rules_of (slots fs)) =
     omega (arith, ap length c.field_rules-rule-items.ensures, c.loop-index-test.false, c.loop-index.auto.index-end) in
-    all_read fs _ _ _ _ _ _ all (c.loop-index.invariant.fields tells) (c.in_ok-end_list.ensures.read tells)
+    all_filled fs _ _ _ _ _ _ _ all (c.loop-index.invariant.fields tells) (c.end_list.ensures.read tells)
 
 pub returns-in_err-read_item-clause-tries : goal.returns-in_err-read_item-clause-tries
 returns-in_err-read_item-clause-tries g c =
@@ -90,7 +81,6 @@ returns-in_err-read_item-clause-tries g c =
     rw (p.1, p.2) (refused_behind _ _ c.args.decoder.now c.loop-index.decoder _ _ (taking_at g.L.FieldList.list.fields c.loop-index.index) c.loop-index.invariant.began
     c.in_err-read_item.ensures.tries)
 
-pub returns-in_err-end_list-clause-tries : goal.returns-in_err-end_list-clause-tries
-returns-in_err-end_list-clause-tries g c =
-    let p = err_from_is_err_and c.from_residual-in_err-end_list.result c.from_residual-in_err-end_list.ensures.1 in
-    rw (p.1, p.2) (refused_behind false _ c.args.decoder.now c.loop-index.decoder _ _ (taking_none _) c.loop-index.invariant.began c.in_err-end_list.ensures.tries)
+pub returns-clause-tries : goal.returns-clause-tries
+returns-clause-tries g c =
+    tries_behind false _ c.args.decoder.now c.loop-index.decoder _ _ (taking_none _) c.loop-index.invariant.began c.end_list.ensures.tries

@@ -1,7 +1,7 @@
 use Rattle.amqp_wire.specs.Sources.{Tells}
 use Rattle.amqp_decoder.specs.Steps.{Began}
 use Rattle.amqp_codec.specs.FieldReading.{FieldsSoFar}
-use Rattle.amqp_codec.proofs.fields.read_fields.Given as goal
+use Rattle.amqp_codec.proofs.fields.fill_fields.Given as goal
 
 abbrev pub invariant-loop-index : goal.invariant-loop-index
 invariant-loop-index g l = record {
