@@ -3,7 +3,7 @@ use Rattle.std.proofs.lemmas.Result.{err_from_is_err_and}
 use Rattle.amqp_sums.specs.Choices.{members_of, sum_of, takes_there}
 use Rattle.amqp_codec.specs.laws.Members.{unopened, unread, unended, read_whole, within}
 use Rattle.amqp_sums.proofs.SumMembers.{are_members}
-use Rattle.amqp_codec.proofs.Tries.{taking_none, began_then, refused_more, refused_behind}
+use Rattle.amqp_codec.proofs.Tries.{taking_none, refused_more, refused_behind}
 use Rattle.amqp_sums.proofs.sums.read_sum.Goals as goal
 
 pub returns-in_err-place-clause-read : goal.returns-in_err-place-clause-read
@@ -27,8 +27,8 @@ returns-in-Ok-end_described-clause-read g c tells =
     let ended = c.in-Ok-end_described.ensures.read in
     read_whole (members_of s.choices) (sum_of s).means (are_members s) ms _ _ _ _ _ _ names nesting opened read ended
 
-pub returns-in-Ok-clause-read : goal.returns-in-Ok-clause-read
-returns-in-Ok-clause-read g c tells =
+pub returns-in-Err-end_described-clause-read : goal.returns-in-Err-end_described-clause-read
+returns-in-Err-end_described-clause-read g c tells =
     let s = g.S.Sum.sum in
     let ms = c.descriptors.result.now in
     let names = c.descriptors.ensures in
@@ -37,8 +37,8 @@ returns-in-Ok-clause-read g c tells =
     let read = c.in-Ok.ensures.read few tells in
     unended (members_of s.choices) (sum_of s).means (are_members s) ms _ _ _ _ _ _ _ names opened read c.in-Err-end_described.ensures.read
 
-pub returns-clause-read : goal.returns-clause-read
-returns-clause-read g c tells =
+pub returns-in-Err-clause-read : goal.returns-in-Err-clause-read
+returns-in-Err-clause-read g c tells =
     let s = g.S.Sum.sum in
     let ms = c.descriptors.result.now in
     let names = c.descriptors.ensures in
@@ -52,13 +52,7 @@ returns-in_err-place-clause-tries g c =
     rw (p.1, p.2)
     (refused_more false _ c.args.decoder.now _ _ (taking_none _) c.in_err-place.ensures.tries)
 
-pub returns-in-Ok-clause-tries : goal.returns-in-Ok-clause-tries
-returns-in-Ok-clause-tries g c =
-    refused_behind false _ c.args.decoder.now c.read_member.new.decoder _ _ (taking_none _)
-    (began_then c.args.decoder.now c.begin_one_of.new.self c.read_member.new.decoder c.in_ok-place.ensures.tries c.in-Ok.ensures.tries)
-    c.in-Err-end_described.ensures.tries
-
-pub returns-clause-tries : goal.returns-clause-tries
-returns-clause-tries g c =
+pub returns-in-Err-clause-tries : goal.returns-in-Err-clause-tries
+returns-in-Err-clause-tries g c =
     refused_behind _ _ c.args.decoder.now c.begin_one_of.new.self _ _ (takes_there g.S.Sum.sum.choices c.in_ok-place.place)
     c.in_ok-place.ensures.tries c.in-Err.ensures.tries
