@@ -1,5 +1,5 @@
 //! The calls that read primitives whose data has a known width (Part 1, section 1.6).
-ghost use Rattle.std.specs.Prelude.{◌<◌, ◌≡◌, Some, MatchOption, IfOk, IfErr, false, true};
+ghost use Rattle.std.specs.Prelude.{◌<◌, ◌≡◌, Some, None, MatchOption, IfSome, IfOk, IfErr, false, true};
 ghost use Rattle.amqp_model.specs.Term.{null, boolean, ubyte, ushort, uint, ulong, byte, short, int, long, char, timestamp, decimal32};
 ghost use Rattle.amqp_model.specs.Term.{decimal64, decimal128, uuid};
 ghost use Rattle.amqp_wire.specs.Sources.{Tells};
@@ -65,26 +65,35 @@ impl<R: ByteSource> Decoder<R> {
         }
     }
 
+    // A boolean of one byte that is at hand. `None` takes nothing, and says nothing about what comes next.
+    #[inline(always)]
+    fn quick_bool(&mut self) -> Option<bool>
+        ensures none { result ≡ None → self.new ≡ self.old }
+        ensures read { IfSome result (λ v. Tells R.remaining → ReadsValue (Means boolean) self.old v self.new) }
+        ensures began { IfSome result (λ _. Began self.old self.new) }
+    {
+        match self.plain_code()? {
+            format_code::BOOLEAN_TRUE => {
+                let _code = self.take_plain::<1>(format_code::BOOLEAN_TRUE)?;
+                Some(true)
+            }
+            format_code::BOOLEAN_FALSE => {
+                let _code = self.take_plain::<1>(format_code::BOOLEAN_FALSE)?;
+                Some(false)
+            }
+            _ => None,
+        }
+    }
+
     /// Reads a boolean (Part 1, section 1.6.2). It returns `BadBool` if the boolean's byte is above 1.
     #[inline]
     pub fn read_bool(&mut self) -> Result<bool, Error>
         ensures read { Tells R.remaining → AnswersRead false (ReadsValue (Means boolean)) (PrimitiveFault booleans) self.old result self.new }
         ensures tries { Tries false self.old result self.new }
     {
-        match self.plain_code() {
-            Some(format_code::BOOLEAN_TRUE) => {
-                match self.take_plain::<1>(format_code::BOOLEAN_TRUE) {
-                    Some(_) => Ok(true),
-                    None => self.read_any_bool(),
-                }
-            }
-            Some(format_code::BOOLEAN_FALSE) => {
-                match self.take_plain::<1>(format_code::BOOLEAN_FALSE) {
-                    Some(_) => Ok(false),
-                    None => self.read_any_bool(),
-                }
-            }
-            _ => self.read_any_bool(),
+        match self.quick_bool() {
+            Some(value) => Ok(value),
+            None => self.read_any_bool(),
         }
     }
 
@@ -124,29 +133,40 @@ impl<R: ByteSource> Decoder<R> {
         Ok(u16::from_be_bytes(self.fixed(format_code::USHORT)?))
     }
 
+    // An unsigned integer of 32 bits whose bytes are at hand. `None` takes nothing, and says nothing about what comes next.
+    #[inline(always)]
+    fn quick_uint(&mut self) -> Option<u32>
+        ensures none { result ≡ None → self.new ≡ self.old }
+        ensures read { IfSome result (λ v. Tells R.remaining → ReadsValue (Means uint) self.old v self.new) }
+        ensures began { IfSome result (λ _. Began self.old self.new) }
+    {
+        match self.plain_code()? {
+            format_code::UINT => {
+                let bytes = self.take_plain::<5>(format_code::UINT)?;
+                let [_, a, b, c, d] = bytes;
+                Some(u32::from_be_bytes([a, b, c, d]))
+            }
+            format_code::SMALL_UINT => {
+                let bytes = self.take_plain::<2>(format_code::SMALL_UINT)?;
+                Some(u32::from(bytes[1]))
+            }
+            format_code::UINT_0 => {
+                let _code = self.take_plain::<1>(format_code::UINT_0)?;
+                Some(0)
+            }
+            _ => None,
+        }
+    }
+
     /// Reads an unsigned integer of 32 bits (Part 1, section 1.6.5).
     #[inline]
     pub fn read_uint(&mut self) -> Result<u32, Error>
         ensures read { Tells R.remaining → AnswersRead false (ReadsValue (Means uint)) (PrimitiveFault uints) self.old result self.new }
         ensures tries { Tries false self.old result self.new }
     {
-        match self.plain_code() {
-            Some(format_code::UINT) => match self.take_plain::<5>(format_code::UINT) {
-                Some(bytes) => {
-                    let [_, a, b, c, d] = bytes;
-                    Ok(u32::from_be_bytes([a, b, c, d]))
-                }
-                None => self.read_any_uint(),
-            },
-            Some(format_code::SMALL_UINT) => match self.take_plain::<2>(format_code::SMALL_UINT) {
-                Some(bytes) => Ok(u32::from(bytes[1])),
-                None => self.read_any_uint(),
-            },
-            Some(format_code::UINT_0) => match self.take_plain::<1>(format_code::UINT_0) {
-                Some(_) => Ok(0),
-                None => self.read_any_uint(),
-            },
-            _ => self.read_any_uint(),
+        match self.quick_uint() {
+            Some(value) => Ok(value),
+            None => self.read_any_uint(),
         }
     }
 
@@ -182,29 +202,40 @@ impl<R: ByteSource> Decoder<R> {
         }
     }
 
+    // An unsigned integer of 64 bits whose bytes are at hand. `None` takes nothing, and says nothing about what comes next.
+    #[inline(always)]
+    fn quick_ulong(&mut self) -> Option<u64>
+        ensures none { result ≡ None → self.new ≡ self.old }
+        ensures read { IfSome result (λ v. Tells R.remaining → ReadsValue (Means ulong) self.old v self.new) }
+        ensures began { IfSome result (λ _. Began self.old self.new) }
+    {
+        match self.plain_code()? {
+            format_code::SMALL_ULONG => {
+                let bytes = self.take_plain::<2>(format_code::SMALL_ULONG)?;
+                Some(u64::from(bytes[1]))
+            }
+            format_code::ULONG_0 => {
+                let _code = self.take_plain::<1>(format_code::ULONG_0)?;
+                Some(0)
+            }
+            format_code::ULONG => {
+                let bytes = self.take_plain::<9>(format_code::ULONG)?;
+                let [_, a, b, c, d, e, f, g, h] = bytes;
+                Some(u64::from_be_bytes([a, b, c, d, e, f, g, h]))
+            }
+            _ => None,
+        }
+    }
+
     /// Reads an unsigned integer of 64 bits (Part 1, section 1.6.6).
     #[inline]
     pub fn read_ulong(&mut self) -> Result<u64, Error>
         ensures read { Tells R.remaining → AnswersRead false (ReadsValue (Means ulong)) (PrimitiveFault ulongs) self.old result self.new }
         ensures tries { Tries false self.old result self.new }
     {
-        match self.plain_code() {
-            Some(format_code::SMALL_ULONG) => match self.take_plain::<2>(format_code::SMALL_ULONG) {
-                Some(bytes) => Ok(u64::from(bytes[1])),
-                None => self.read_any_ulong(),
-            },
-            Some(format_code::ULONG_0) => match self.take_plain::<1>(format_code::ULONG_0) {
-                Some(_) => Ok(0),
-                None => self.read_any_ulong(),
-            },
-            Some(format_code::ULONG) => match self.take_plain::<9>(format_code::ULONG) {
-                Some(bytes) => {
-                    let [_, a, b, c, d, e, f, g, h] = bytes;
-                    Ok(u64::from_be_bytes([a, b, c, d, e, f, g, h]))
-                }
-                None => self.read_any_ulong(),
-            },
-            _ => self.read_any_ulong(),
+        match self.quick_ulong() {
+            Some(value) => Ok(value),
+            None => self.read_any_ulong(),
         }
     }
 
