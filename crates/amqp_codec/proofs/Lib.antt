@@ -5,6 +5,7 @@ pub mod Pending
 pub mod PrimitiveReads
 pub mod Options
 pub mod NoFields
+mod NullSteps
 pub mod FieldSteps
 mod HeldReads
 mod ListReads

@@ -12,7 +12,7 @@ ghost use Rattle.amqp_decoder.specs.Primitives.{ReadsValue};
 ghost use Rattle.amqp_decoder.specs.Steps.{Tries};
 ghost use Rattle.amqp_codec.specs.Members.{MemberFault};
 
-use crate::fields::{FieldList, read_fields, write_fields};
+use crate::fields::{FieldList, fill_fields, write_fields};
 use crate::{DeserializeTerm, SerializeTerm};
 use amqp_decoder::Decoder;
 use amqp_encoder::{Encoder, Pass};
@@ -61,7 +61,8 @@ pub fn read_composite<C: Composite, R: ByteSource>(
     ensures tries { Tries (take_memory C.list.fields) decoder.old result decoder.new }
 {
     decoder.begin_one_of(&[C::descriptor()])?;
-    let value = read_fields(decoder, alloc)?;
+    let mut value = <C as FieldList>::blank(alloc);
+    fill_fields(&mut value, decoder, alloc)?;
     decoder.end_described()?;
     Ok(value)
 }

@@ -51,7 +51,10 @@ impl<T: DeserializeTerm> DeserializeTerm for Option<T> {
             decoder.read_null()?;
             return Ok(None);
         }
-        Ok(Some(T::read_value(decoder, alloc)?))
+        match T::read_value(decoder, alloc) {
+            Ok(value) => Ok(Some(value)),
+            Err(error) => Err(error),
+        }
     }
 
     ghost agreement = { option_agreement T.agreement };
@@ -81,10 +84,12 @@ impl<T: DeserializeTerm> DeserializeTerm for Box<T> {
     ghost term = { boxed T.term };
 
     fn read_value<R: ByteSource>(decoder: &mut Decoder<R>, alloc: Global) -> Result<Box<T>, Error> {
-        let value = T::read_value(decoder, alloc)?;
-        match Box::new(alloc, value) {
-            Ok(boxed) => Ok(boxed),
-            Err(_) => Err(decoder.refuse(Error::Memory)),
+        match T::read_value(decoder, alloc) {
+            Ok(value) => match Box::new(alloc, value) {
+                Ok(boxed) => Ok(boxed),
+                Err(_) => Err(decoder.refuse(Error::Memory)),
+            },
+            Err(error) => Err(error),
         }
     }
 

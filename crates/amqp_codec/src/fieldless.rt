@@ -34,6 +34,7 @@ impl<F: Fieldless> FieldList for F {
         F::value()
     }
 
+    #[inline(always)]
     fn fill_field<R: ByteSource>(
         &mut self,
         _index: usize,

@@ -13,10 +13,10 @@ ghost use Rattle.amqp_codec.specs.Slots.{MeansSome};
 ghost use Rattle.amqp_codec.specs.Fields.{slots, canon_at, take_memory, takes_at};
 ghost use Rattle.amqp_codec.specs.Written.{WritesTerms};
 ghost use Rattle.amqp_wire.specs.Sources.{Tells};
-ghost use Rattle.amqp_decoder.specs.Reading.{AnswersRead};
+ghost use Rattle.amqp_decoder.specs.Reading.{AnswersRead, BeginFault};
 ghost use Rattle.amqp_decoder.specs.Primitives.{ReadsValue};
 ghost use Rattle.amqp_decoder.specs.Steps.{RefusesBy, Tries};
-ghost use Rattle.amqp_codec.specs.FieldReading.{FieldsRead, FieldsFault, Fills, FillsField, IsBlank, ReadsItem, absence, rule_at};
+ghost use Rattle.amqp_codec.specs.FieldReading.{FieldsFault, Fills, FillsAll, FillsField, IsBlank, ReadsItem, TakesNull, absence, rule_at};
 
 use crate::DeserializeTerm;
 use amqp_decoder::Decoder;
@@ -75,8 +75,13 @@ pub fn read_into<T: DeserializeTerm, R: ByteSource>(
     ensures read { Tells R.remaining → Fills T.term.takes_memory T.term.means T.term.faults.fault decoder.old place.new result decoder.new }
     ensures tries { Tries T.term.takes_memory decoder.old result decoder.new }
 {
-    *place = T::read_value(decoder, alloc)?;
-    Ok(())
+    match T::read_value(decoder, alloc) {
+        Ok(value) => {
+            *place = value;
+            Ok(())
+        }
+        Err(error) => Err(error),
+    }
 }
 
 /// Reads a value into the place of an optional one. It returns the errors of the value's type.
@@ -90,8 +95,13 @@ pub fn read_some<T: DeserializeTerm, R: ByteSource>(
         decoder.old place.new result decoder.new }
     ensures tries { Tries T.term.takes_memory decoder.old result decoder.new }
 {
-    *place = Some(T::read_value(decoder, alloc)?);
-    Ok(())
+    match T::read_value(decoder, alloc) {
+        Ok(value) => {
+            *place = Some(value);
+            Ok(())
+        }
+        Err(error) => Err(error),
+    }
 }
 
 /// Writes a value as its type says.
@@ -135,27 +145,27 @@ fn check_absent<R: ByteSource>(rule: FieldRule, decoder: &mut Decoder<R>) -> Res
     }
 }
 
-/// Reads a list of fields, which may come after a descriptor that was read.
+/// Reads a list of fields, which may come after a descriptor that was read, into a blank value. It returns the errors of `read_list`, and
+/// then some of the fields may hold what was read.
 #[inline(always)]
-pub fn read_fields<L: FieldList, R: ByteSource>(
+pub fn fill_fields<L: FieldList, R: ByteSource>(
+    value: &mut L,
     decoder: &mut Decoder<R>,
     alloc: Global,
-) -> Result<L, Error>
-    ensures read { Tells R.remaining → AnswersRead (take_memory L.list.fields) (FieldsRead L.list.fields) (FieldsFault L.list.fields)
-        decoder.old result decoder.new }
+) -> Result<(), Error>
+    requires blank { IsBlank L.list.fields value.old }
+    ensures read { Tells R.remaining → FillsAll L.list.fields value.new decoder.old result decoder.new }
     ensures tries { Tries (take_memory L.list.fields) decoder.old result decoder.new }
 {
     let count = decoder.begin_list()? as usize;
-    let mut value = L::blank(alloc);
     for (index, rule) in L::field_rules().iter().enumerate() {
         if index < count {
-            read_item(&mut value, index, *rule, decoder, alloc)?;
+            read_item(value, index, *rule, decoder, alloc)?;
         } else if let Some(error) = absence(*rule) {
             return Err(decoder.refuse(error));
         }
     }
-    decoder.end_list()?;
-    Ok(value)
+    decoder.end_list()
 }
 
 /// Reads a value that is a list of fields by itself, without a descriptor.
@@ -172,10 +182,43 @@ pub fn read_list<L: FieldList, R: ByteSource>(
         (FieldsFault L.list.fields) decoder.old result decoder.new }
     ensures tries { Tries (take_memory L.list.fields) decoder.old result decoder.new }
 {
-    read_fields(decoder, alloc)
+    let mut value = L::blank(alloc);
+    match fill_fields(&mut value, decoder, alloc) {
+        Ok(()) => Ok(value),
+        Err(error) => Err(error),
+    }
 }
 
-// Reads an item into its field. A null at hand is taken in one step.
+// Takes a null if one comes next, and returns whether it did. Otherwise it takes nothing.
+#[inline(always)]
+fn takes_null<R: ByteSource>(decoder: &mut Decoder<R>) -> Result<bool, Error>
+    ensures read { Tells R.remaining → AnswersRead false TakesNull BeginFault decoder.old result decoder.new }
+    ensures tries { Tries false decoder.old result decoder.new }
+{
+    match decoder.peek_value() {
+        Some(format_code::NULL) => match decoder.read_null() {
+            Ok(()) => Ok(true),
+            Err(error) => Err(error),
+        },
+        Some(_) => Ok(false),
+        None => takes_any_null(decoder),
+    }
+}
+
+// The same, however the source gives it.
+#[inline(never)]
+fn takes_any_null<R: ByteSource>(decoder: &mut Decoder<R>) -> Result<bool, Error>
+    ensures read { Tells R.remaining → AnswersRead false TakesNull BeginFault decoder.old result decoder.new }
+    ensures tries { Tries false decoder.old result decoder.new }
+{
+    if decoder.peek_code()? != format_code::NULL {
+        return Ok(false);
+    }
+    decoder.read_null()?;
+    Ok(true)
+}
+
+// Reads an item into its field.
 #[inline(always)]
 fn read_item<L: FieldList, R: ByteSource>(
     value: &mut L,
@@ -189,31 +232,11 @@ fn read_item<L: FieldList, R: ByteSource>(
     ensures read { Tells R.remaining → ReadsItem L.list.fields index value.old value.new decoder.old result decoder.new }
     ensures tries { Tries (takes_at L.list.fields index) decoder.old result decoder.new }
 {
-    if decoder.take_null() {
-        return check_absent(rule, decoder);
+    match takes_null(decoder) {
+        Ok(true) => check_absent(rule, decoder),
+        Ok(false) => value.fill_field(index, decoder, alloc),
+        Err(error) => Err(error),
     }
-    read_any_item(value, index, rule, decoder, alloc)
-}
-
-// The same, whatever comes next.
-#[inline(always)]
-fn read_any_item<L: FieldList, R: ByteSource>(
-    value: &mut L,
-    index: usize,
-    rule: FieldRule,
-    decoder: &mut Decoder<R>,
-    alloc: Global,
-) -> Result<(), Error>
-    requires within { index < length (rules_of (slots L.list.fields)) }
-    requires its_rule { rule ≡ rule_at L.list.fields index }
-    ensures read { Tells R.remaining → ReadsItem L.list.fields index value.old value.new decoder.old result decoder.new }
-    ensures tries { Tries (takes_at L.list.fields index) decoder.old result decoder.new }
-{
-    if decoder.peek_code()? != format_code::NULL {
-        return value.fill_field(index, decoder, alloc);
-    }
-    decoder.read_null()?;
-    check_absent(rule, decoder)
 }
 
 /// Writes a value as the list of its fields, without the nulls at its end. It returns the errors of its fields.

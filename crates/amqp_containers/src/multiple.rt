@@ -57,8 +57,13 @@ pub fn read_multiple<T: DeserializeTerm, R: ByteSource>(
         decoder.old place.new result decoder.new }
     ensures tries { Tries true decoder.old result decoder.new }
 {
-    *place = read_several(decoder, alloc)?;
-    Ok(())
+    match read_several(decoder, alloc) {
+        Ok(found) => {
+            *place = found;
+            Ok(())
+        }
+        Err(error) => Err(error),
+    }
 }
 
 /// Reads a field that has at least one value into its place. It returns the errors of `read_multiple`, or `EmptyMultiple` if an array

@@ -50,6 +50,7 @@ impl FieldList for Declare {
         Declare { global_id: None }
     }
 
+    #[inline(always)]
     fn fill_field<R: ByteSource>(
         &mut self,
         index: usize,

@@ -45,6 +45,7 @@ impl FieldList for Declared {
         }
     }
 
+    #[inline(always)]
     fn fill_field<R: ByteSource>(
         &mut self,
         index: usize,

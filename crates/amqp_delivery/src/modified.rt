@@ -52,6 +52,7 @@ impl FieldList for Modified {
         }
     }
 
+    #[inline(always)]
     fn fill_field<R: ByteSource>(
         &mut self,
         index: usize,

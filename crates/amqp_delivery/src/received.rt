@@ -47,6 +47,7 @@ impl FieldList for Received {
         }
     }
 
+    #[inline(always)]
     fn fill_field<R: ByteSource>(
         &mut self,
         index: usize,

@@ -49,6 +49,7 @@ impl FieldList for TransactionalState {
         }
     }
 
+    #[inline(always)]
     fn fill_field<R: ByteSource>(
         &mut self,
         index: usize,

@@ -145,6 +145,7 @@ impl FieldList for Error {
         }
     }
 
+    #[inline(always)]
     fn fill_field<R: ByteSource>(
         &mut self,
         index: usize,

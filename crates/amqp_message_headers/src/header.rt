@@ -80,6 +80,7 @@ impl FieldList for Header {
         Header::default()
     }
 
+    #[inline(always)]
     fn fill_field<R: ByteSource>(
         &mut self,
         index: usize,

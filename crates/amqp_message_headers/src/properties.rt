@@ -126,6 +126,7 @@ impl FieldList for Properties {
         Properties::new()
     }
 
+    #[inline(always)]
     fn fill_field<R: ByteSource>(
         &mut self,
         index: usize,

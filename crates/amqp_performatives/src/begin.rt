@@ -77,6 +77,7 @@ impl FieldList for Begin {
         }
     }
 
+    #[inline(always)]
     fn fill_field<R: ByteSource>(
         &mut self,
         index: usize,

@@ -55,6 +55,7 @@ impl FieldList for Detach {
         }
     }
 
+    #[inline(always)]
     fn fill_field<R: ByteSource>(
         &mut self,
         index: usize,

@@ -65,6 +65,7 @@ impl FieldList for Disposition {
         }
     }
 
+    #[inline(always)]
     fn fill_field<R: ByteSource>(
         &mut self,
         index: usize,

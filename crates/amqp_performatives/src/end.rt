@@ -44,6 +44,7 @@ impl FieldList for End {
         End { error: None }
     }
 
+    #[inline(always)]
     fn fill_field<R: ByteSource>(
         &mut self,
         index: usize,

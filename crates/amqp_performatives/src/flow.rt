@@ -85,6 +85,7 @@ impl FieldList for Flow {
         }
     }
 
+    #[inline(always)]
     fn fill_field<R: ByteSource>(
         &mut self,
         index: usize,

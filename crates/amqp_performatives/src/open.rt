@@ -85,6 +85,7 @@ impl FieldList for Open {
         }
     }
 
+    #[inline(always)]
     fn fill_field<R: ByteSource>(
         &mut self,
         index: usize,

@@ -88,6 +88,7 @@ impl FieldList for Transfer {
         }
     }
 
+    #[inline(always)]
     fn fill_field<R: ByteSource>(
         &mut self,
         index: usize,

@@ -72,8 +72,10 @@ pub fn from_slice_within<T: Deserialize>(
     let mut decoder = decoder_within(input, limits, alloc);
     let read = T::deserialize(&mut decoder, alloc);
     let left = unread(&decoder);
-    let value = read?;
-    Ok((value, input.len().saturating_sub(left)))
+    match read {
+        Ok(value) => Ok((value, input.len().saturating_sub(left))),
+        Err(error) => Err(error),
+    }
 }
 
 /// Returns the canonical text of the value: that of each of its canonical terms, one after another (Part 1, section 1.6). The text is

@@ -54,6 +54,7 @@ impl FieldList for SaslInit {
         }
     }
 
+    #[inline(always)]
     fn fill_field<R: ByteSource>(
         &mut self,
         index: usize,

@@ -78,6 +78,7 @@ impl FieldList for SaslMechanisms {
         }
     }
 
+    #[inline(always)]
     fn fill_field<R: ByteSource>(
         &mut self,
         index: usize,

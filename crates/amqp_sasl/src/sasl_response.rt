@@ -44,6 +44,7 @@ impl FieldList for SaslResponse {
         }
     }
 
+    #[inline(always)]
     fn fill_field<R: ByteSource>(
         &mut self,
         index: usize,

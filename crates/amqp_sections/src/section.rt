@@ -54,9 +54,13 @@ pub fn read_section<S: Section<T>, T: DeserializeTerm, R: ByteSource>(
     ensures tries { Tries T.term.takes_memory decoder.old result decoder.new }
 {
     decoder.begin_one_of(&[S::descriptor()])?;
-    let value = T::read_value(decoder, alloc)?;
-    decoder.end_described()?;
-    Ok(S::of_content(value))
+    match T::read_value(decoder, alloc) {
+        Ok(value) => match decoder.end_described() {
+            Ok(()) => Ok(S::of_content(value)),
+            Err(error) => Err(error),
+        },
+        Err(error) => Err(error),
+    }
 }
 
 /// Writes a section: this value, under the code of its descriptor. It returns the encoder's errors for the value.

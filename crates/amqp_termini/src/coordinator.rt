@@ -61,6 +61,7 @@ impl FieldList for Coordinator {
         Coordinator { capabilities: None }
     }
 
+    #[inline(always)]
     fn fill_field<R: ByteSource>(
         &mut self,
         index: usize,

@@ -120,6 +120,7 @@ impl FieldList for Source {
         Source::default()
     }
 
+    #[inline(always)]
     fn fill_field<R: ByteSource>(
         &mut self,
         index: usize,

@@ -103,6 +103,7 @@ impl FieldList for Target {
         Target::default()
     }
 
+    #[inline(always)]
     fn fill_field<R: ByteSource>(
         &mut self,
         index: usize,

@@ -43,6 +43,7 @@ impl FieldList for Offer {
         }
     }
 
+    #[inline(always)]
     fn fill_field<R: ByteSource>(
         &mut self,
         index: usize,

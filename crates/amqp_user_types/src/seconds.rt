@@ -28,6 +28,7 @@ impl FieldList for Seconds {
         Seconds { count: 0 }
     }
 
+    #[inline(always)]
     fn fill_field<R: ByteSource>(
         &mut self,
         _index: usize,
