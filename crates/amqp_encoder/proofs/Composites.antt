@@ -1,20 +1,19 @@
 -- Composites, which are described lists, in the measuring pass.
-use Rattle.std.proofs.Common.{◌≡◌, ℕ, ◌<◌, ◌≤◌, List, [], ◌∷◌, length, refl, sym, ◌∙◌, ap, inl, inr, arith, false}
-use Rattle.std.specs.Prelude.{Result, Ok, Err, OnOk, IfErr, eqb}
+use Rattle.std.proofs.Common.{◌≡◌, ℕ, ◌<◌, ◌≤◌, List, [], ◌∷◌, length, refl, sym, ◌∙◌, ap, inl, inr, arith, Bool, true, false}
+use Rattle.std.specs.Prelude.{Result, Ok, Err, OnOk, IfErr, eqb, if◌then◌else◌}
 use Rattle.std.proofs.lemmas.Bool.{le-ltb, lt-ltb, ne_eqb}
-use Rattle.amqp_model.specs.Term.{Container, list, code}
+use Rattle.amqp_model.specs.Term.{list, code}
 use Rattle.amqp_model.specs.Text.{Alone, descriptor_text}
 use Rattle.amqp_wire.specs.declared.error.Error.{Error}
-use Rattle.amqp_wire.specs.declared.error.Error.TheVariants.{Memory, InvalidValue}
+use Rattle.amqp_wire.specs.declared.error.Error.TheVariants.{Memory, TooLarge}
 use Rattle.amqp_encoder.specs.declared.size.Size.{Size}
-use Rattle.amqp_encoder.specs.declared.frame.MeasuredContainer.{MeasuredContainer}
 use Rattle.amqp_encoder.specs.State.{Open, Measured, Measuring, Stopped}
 use Rattle.amqp_encoder.specs.Tokens.{Token, begin, end, begin_described, end_described}
-use Rattle.amqp_encoder.specs.Measuring.{◌>>=◌, opened, describe, describe_at, descriptor_bytes, leave_in, end_list_in, end_in, measure_begin}
+use Rattle.amqp_encoder.specs.Measuring.{◌>>=◌, opened, describe, describe_at, descriptor_bytes, closed, holds, end_list_in, end_composite_in}
+use Rattle.amqp_encoder.specs.Measuring.{measure_begin, measure_end_described}
 use Rattle.amqp_encoder.specs.Measuring.{measure_begin_described}
-use Rattle.amqp_encoder.specs.Gives.{Does, ClosesContainer}
+use Rattle.amqp_encoder.specs.Gives.{Does}
 use Rattle.amqp_encoder.specs.Writes.{IsPlain, Passes, AnyMayRunOut, measure, measuring, outcome, step, steps}
-use Rattle.amqp_encoder.proofs.Settled.{measured, passes_no_more}
 
 -- two calls that take no memory
 
@@ -30,34 +29,19 @@ measured_two m n s t (Err e) h = record { answer = refl; state = inl (sym (then_
 
 -- the end
 
-pub container_ended : (k : Container) (old mid new : Measured) (outer : List Open) (inner : MeasuredContainer) (size : Size)
-    (r : Result (Unit {0}) Error) → ClosesContainer k old outer (Ok (inner, size)) mid
-    → Does (leave_in k mid inner.index inner.form inner.content size) r new → Does (end_in outer k old) r new
-container_ended k old mid new [] inner size r h d = cc
-container_ended k old mid new (f ∷ fs) inner size r h d = rw (h.3) d
+sized_end : (t : Bool) (old : Measured) (d f : Open) (fs : List Open) (s : Size) → s ≡ record { content = old.frame.content; count = old.frame.count }
+    → (((if t then Err TooLarge else Ok s) >>= closed list old d (f ∷ fs)) >>= measure_end_described)
+    ≡ ((if t then Err TooLarge else Ok s) >>= end_list_in old.frame d (record { frame = f; outer = fs; sizes = old.sizes; descriptors = old.descriptors }))
+sized_end true old d f fs s e = refl
+sized_end false old d f fs s e = rw e refl
 
-pub container_refused : (k : Container) (old mid : Measured) (outer : List Open) (e : Error)
-    → ClosesContainer k old outer (Err e) mid → end_in outer k old ≡ Err e
-container_refused k old mid [] e h = let i : e ≡ InvalidValue = cc in ap Err (sym i)
-container_refused k old mid (f ∷ fs) e h = h
-
-ends : (k : Container) (old mid : Measured) (outer : List Open) (inner : MeasuredContainer) (size : Size)
-    → ClosesContainer k old outer (Ok (inner, size)) mid → end_in outer k old ≡ leave_in k mid inner.index inner.form inner.content size
-ends k old mid [] inner size h = cc
-ends k old mid (f ∷ fs) inner size h = h.3
-
-pub composite_ended : (old mid new : Measured) (inner : MeasuredContainer) (size : Size) (r : Result (Unit {0}) Error)
-    → ClosesContainer list old old.outer (Ok (inner, size)) mid
-    → Does (end_list_in mid inner.index inner.form inner.content size) r new
+pub composite_ended : (old new : Measured) (d f : Open) (fs : List Open) (r : Result (Unit {0}) Error) → old.outer ≡ d ∷ f ∷ fs
+    → holds old.frame.container list ≡ true → old.frame.index < length old.sizes
+    → Does (end_composite_in old.frame d (record { frame = f; outer = fs; sizes = old.sizes; descriptors = old.descriptors })) r new
     → Passes (Measuring old) (end list ∷ end_described ∷ []) r (Measuring new)
-composite_ended old mid new inner size r h d =
-    measured_two old new (end list) end_described r (rw (ends list old mid old.outer inner size h) d)
-
-pub composite_unended : (old mid : Measured) (e : Error) → ClosesContainer list old old.outer (Err e) mid
-    → Passes (Measuring old) (end list ∷ end_described ∷ []) (Err e) (Measuring mid)
-composite_unended old mid e h =
-    passes_no_more (Measuring old) (Measuring mid) (end list ∷ []) (end_described ∷ []) e
-    (measured old mid (Err e) (end list) (inl (container_refused list old mid old.outer e h)))
+composite_ended old new d f fs r o h k e =
+    measured_two old new (end list) end_described r
+    (rw (o, h, lt-ltb old.frame.index (length old.sizes) k, sized_end _ old d f fs _ refl) e)
 
 -- the beginning
 

@@ -40,6 +40,10 @@ pub at_most : {X : Type 0} (takes : Type 0) (r : Result X Error) (o : Result (Un
 at_most takes r (Ok u) new h = h
 at_most takes r (Err e) new h = inl h
 
+pub measured_only : (m n : Measured) (r : Result (Unit {0}) Error) (t : Token) → Does (measure t m) r n
+    → Passes (Measuring m) (t ∷ []) r (Measuring n)
+measured_only m n r t h = measured m n r t (at_most (TakesMemory m.frame.place t) (measure t m) r n h)
+
 -- the same call by another name
 pub instead : {X : Type 0} (r s : Result X Error) (o : Result (Unit {0}) Error) (new : X) → r ≡ s → Does r o new → Does s o new
 instead r s o new e h = rw (← e) h

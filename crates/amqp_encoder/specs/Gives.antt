@@ -64,14 +64,3 @@ Closes old [] r new = r ≡ Err InvalidValue
 Closes old (f ∷ fs) (Ok inner) new =
     (seen inner ≡ old.frame) × (new ≡ record { frame = f; outer = fs; sizes = old.sizes; descriptors = old.descriptors })
 Closes old (f ∷ fs) (Err e) new = ⊥
-
--- The same of a container, which may be refused: then so is its end. Else it fits, and its size is returned.
-abbrev pub ClosesContainer : Container → Measured → List Open → Result (MeasuredContainer × Size) Error → Measured → Type 0
-ClosesContainer k old [] r new = r ≡ Err InvalidValue
-ClosesContainer k old (f ∷ fs) (Err e) new = end_in (f ∷ fs) k old ≡ Err e
-ClosesContainer k old (f ∷ fs) (Ok r) new =
-    (seen r.0 ≡ old.frame)
-    × (r.0.index < length old.sizes)
-    × (r.0.content < 0xffff_fffc)
-    × (end_in (f ∷ fs) k old ≡ leave_in k new r.0.index r.0.form r.0.content r.1)
-    × (new ≡ record { frame = f; outer = fs; sizes = old.sizes; descriptors = old.descriptors })

@@ -183,6 +183,11 @@ end_described_in (f ∷ fs) m =
 abbrev pub measure_end_described : Measured → Result Measured Error
 measure_end_described m = end_described_in m.outer m
 
--- A list ends in a described value, and so does that.
-abbrev pub end_list_in : Measured → ℕ → ℕ → ℕ → Size → Result Measured Error
-end_list_in m index form content s = leave_in list m index form content s >>= measure_end_described
+-- A list ends in a described value, and that ends in what is open here.
+abbrev pub end_list_in : Open → Open → Measured → Size → Result Measured Error
+end_list_in inner described m s =
+    leave_in list (record { frame = described; outer = m.frame ∷ m.outer; sizes = m.sizes; descriptors = m.descriptors }) inner.index
+    inner.form inner.content s >>= measure_end_described
+
+abbrev pub end_composite_in : Open → Open → Measured → Result Measured Error
+end_composite_in inner described m = size_of inner >>= end_list_in inner described m

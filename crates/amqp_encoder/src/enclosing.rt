@@ -1,7 +1,8 @@
 //! The values that are open around the innermost one.
-ghost use Rattle.std.specs.Prelude.{◌≡◌, ◌≤◌, ◌<◌, ◌⊎◌, ◌∷◌, [], length, OnOk, OnErr, MatchOption};
+ghost use Rattle.std.specs.Prelude.{◌≡◌, ◌≤◌, ◌<◌, ◌⊎◌, ◌∷◌, [], length, OnOk, OnErr, IfSome, IfNone, OnSome, MatchOption};
 ghost use Rattle.std.specs.Bool.{OnTrue, OnFalse};
 ghost use Rattle.amqp_encoder.specs.State.{seen};
+ghost use Rattle.amqp_encoder.specs.Measuring.{IsUnfilled};
 ghost use Rattle.amqp_encoder.specs.Enclosed.{CanBeBrief, IsBrief, MayBeKept, HasRoom, brief_open, none_around};
 
 use crate::frame::MeasuredContainer;
@@ -57,6 +58,35 @@ impl Outermost {
     {
         self.frames[self.len] = frame;
         self.len += 1;
+    }
+
+    #[inline(always)]
+    fn push_two(&mut self, outer: MeasuredContainer, inner: MeasuredContainer)
+        requires { length self.old ≤ 6 }
+        ensures { self.new ≡ seen inner ∷ seen outer ∷ self.old }
+    {
+        self.frames[self.len] = outer;
+        self.frames[self.len + 1] = inner;
+        self.len += 2;
+    }
+
+    #[inline(always)]
+    fn pop_unfilled(&mut self, place: &mut MeasuredContainer) -> Option<MeasuredContainer>
+        ensures some { IfSome result (λ described. self.old ≡ seen described ∷ seen place.new ∷ self.new) }
+        ensures unfilled { IfSome result (λ described. IsUnfilled (seen described)) }
+        ensures left { IfNone result (self.new ≡ self.old) }
+        ensures unchanged { IfNone result (place.new ≡ place.old) }
+    {
+        if self.len < 2 {
+            return None;
+        }
+        let described = self.frames[self.len - 1];
+        if !described.is_unfilled() {
+            return None;
+        }
+        *place = self.frames[self.len - 2];
+        self.len -= 2;
+        Some(described)
     }
 
     #[inline(always)]
@@ -285,6 +315,36 @@ impl Enclosing {
         ensures { OnTrue result (length self.now.items ≤ 5) }
     {
         self.outermost.len() < OUTERMOST - 2
+    }
+
+    /// Adds two more among the outermost ones.
+    #[inline(always)]
+    pub(crate) fn push_two(&mut self, outer: MeasuredContainer, inner: MeasuredContainer)
+        requires places { length self.old.items ≤ 5 }
+        ensures items { self.new.items ≡ seen inner ∷ seen outer ∷ self.old.items }
+        ensures room { self.new.room ≡ self.old.room }
+    {
+        self.outermost.push_two(outer, inner)
+    }
+
+    /// Removes the innermost one, if it is a described value by itself that has no value yet and both it and the next one are kept among the
+    /// outermost. The next one goes to a place.
+    #[inline(always)]
+    pub(crate) fn pop_unfilled(
+        &mut self,
+        place: &mut MeasuredContainer,
+    ) -> Option<MeasuredContainer>
+        ensures some { IfSome result (λ described. self.old.items ≡ seen described ∷ seen place.new ∷ self.new.items) }
+        ensures unfilled { IfSome result (λ described. IsUnfilled (seen described)) }
+        ensures kept { OnSome result (MayBeKept self.new (seen place.new)) }
+        ensures left { IfNone result (self.new ≡ self.old) }
+        ensures unchanged { IfNone result (place.new ≡ place.old) }
+    {
+        if self.outermost.len() < OUTERMOST {
+            self.outermost.pop_unfilled(place)
+        } else {
+            None
+        }
     }
 
     /// Removes the innermost one into a place, and returns true. It returns false if there is none.

@@ -317,10 +317,6 @@ impl Fill {
         ensures does { Does (open_composite code size self.old) result self.new }
         ensures kept { take (length self.old.out) self.new.out ≡ self.old.out }
     {
-        self.places[self.depth] = self.place;
-        self.places[self.depth + 1] = Place::Alone;
-        self.depth += 2;
-        self.place = Place::Alone;
         self.emit_each(&[
             0,
             format_code::SMALL_ULONG,
@@ -328,7 +324,12 @@ impl Fill {
             format_code::LIST_8,
             size.content as u8 + 1,
             size.count as u8,
-        ])
+        ])?;
+        self.places[self.depth] = self.place;
+        self.places[self.depth + 1] = Place::Alone;
+        self.depth += 2;
+        self.place = Place::Alone;
+        Ok(())
     }
 
     #[inline(never)]

@@ -6,7 +6,7 @@ ghost use Rattle.amqp_wire.specs.Containers.{container_of};
 ghost use Rattle.amqp_encoder.specs.Values.{place_of};
 ghost use Rattle.amqp_encoder.specs.Opening.{opening, filler, content_length};
 ghost use Rattle.amqp_encoder.specs.State.{seen, holding, describing};
-ghost use Rattle.amqp_encoder.specs.Measuring.{is_full, size_of};
+ghost use Rattle.amqp_encoder.specs.Measuring.{is_full, size_of, IsUnfilled};
 
 use crate::places::{Opened, Place, first_place};
 use crate::size::{MAX_CONTENT, Size};
@@ -71,6 +71,17 @@ impl MeasuredContainer {
         ensures { result ≡ is_full (seen self) }
     {
         self.opened.is_described() && self.count != 0
+    }
+
+    /// Returns whether it is a described value by itself that has no value yet.
+    #[inline(always)]
+    pub(crate) fn is_unfilled(self) -> bool
+        ensures { OnTrue result (IsUnfilled (seen self)) }
+    {
+        match self.place {
+            Place::Alone => self.opened.is_described() && self.count == 0,
+            Place::First | Place::Later => false,
+        }
     }
 
     /// Returns its size. It is refused if the size doesn't fit in four bytes.

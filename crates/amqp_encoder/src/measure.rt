@@ -6,18 +6,18 @@ ghost use Rattle.std.specs.Bool.{OnTrue, OnFalse};
 ghost use Rattle.amqp_wire.specs.declared.error.Error.TheVariants.{InvalidValue, Memory};
 ghost use Rattle.amqp_wire.specs.Containers.{container_of};
 ghost use Rattle.amqp_encoder.specs.Values.{descriptor_of};
-ghost use Rattle.amqp_encoder.specs.Tokens.{TakesMemory, begin, begin_described};
+ghost use Rattle.amqp_encoder.specs.Tokens.{TakesMemory, begin, end, begin_described, end_described};
 ghost use Rattle.amqp_encoder.specs.Writes.{Passes, IsPlain};
 ghost use Rattle.amqp_model.specs.Term.{list};
 ghost use Rattle.amqp_model.specs.Term.{code as code_descriptor};
 ghost use Rattle.amqp_encoder.specs.State.{Measuring, at_start, seen};
 ghost use Rattle.amqp_encoder.specs.Opening.{opening};
 ghost use Rattle.amqp_encoder.specs.Measuring.{enter, leave, measure_value, measure_null_at, measure_keep, measure_begin, measure_end};
-ghost use Rattle.amqp_encoder.specs.Measuring.{measure_begin_described, measure_end_described, form_after, describe, describe_at, is_full, opened, leave_in, end_list_in, IsUnfilled};
+ghost use Rattle.amqp_encoder.specs.Measuring.{measure_begin_described, measure_end_described, form_after, describe, describe_at, is_full, opened, leave_in, end_composite_in, IsUnfilled};
 ghost use Rattle.amqp_encoder.specs.Measuring.{MAX, counted, descriptor_bytes, descriptor_length};
 ghost use Rattle.amqp_model.specs.Text.{Alone, First, Later};
 ghost use Rattle.amqp_encoder.specs.Enclosed.{IsShort};
-ghost use Rattle.amqp_encoder.specs.Gives.{Gives, Does, tail_of, fixed_text, variable_length, measure_bytes, measure_symbol, Closes, ClosesContainer};
+ghost use Rattle.amqp_encoder.specs.Gives.{Gives, Does, tail_of, fixed_text, variable_length, measure_bytes, measure_symbol, Closes};
 
 use crate::descriptors::{check_symbol, head_of, len_of, text_of};
 use crate::enclosing::Enclosing;
@@ -317,15 +317,6 @@ impl Measure {
     fn measure_end(&mut self, container: Container) -> Result<(), Error>
         ensures { Does (measure_end (container_of container) self.old) result self.new }
     {
-        let (inner, size) = self.close_container(container)?;
-        self.leave_container(container, inner, size)
-    }
-
-    /// Leaves a container for what is around it, and returns what was kept of it, and its size.
-    #[inline(always)]
-    fn close_container(&mut self, container: Container) -> Result<(MeasuredContainer, Size), Error>
-        ensures { ClosesContainer (container_of container) self.old self.old.outer result self.new }
-    {
         let inner = self.close()?;
         if !inner.opened.is_container(container) || inner.index >= self.sizes.len() {
             return Err(Error::InvalidValue);
@@ -334,7 +325,7 @@ impl Measure {
             return Err(Error::OddCount);
         }
         let size = inner.size()?;
-        Ok((inner, size))
+        self.leave_container(container, inner, size)
     }
 
     /// Keeps the size of a container that was open, which is the next value.
@@ -390,8 +381,8 @@ impl Measure {
             count: 0,
         })?;
         let form = self.descriptors.len();
-        self.enclosing.push(self.top);
-        self.enclosing.push(self.top.of_described(3, 0));
+        self.enclosing
+            .push_two(self.top, self.top.of_described(3, 0));
         self.top = MeasuredContainer::of_container(Container::List, index, form);
         Ok(())
     }
@@ -406,49 +397,35 @@ impl Measure {
         }
     }
 
-    /// Leaves a list, and the described value that it is, which was open without a value.
+    /// Leaves a list, and the described value by itself that it is, which had no value yet. What is around both is the open one again.
     #[inline(always)]
-    fn leave_composite(&mut self, inner: MeasuredContainer, size: Size) -> Result<(), Error>
+    fn leave_composite(
+        &mut self,
+        inner: MeasuredContainer,
+        described: MeasuredContainer,
+    ) -> Result<(), Error>
         requires known { inner.index < length self.old.sizes }
-        requires fits { inner.content < 2 ^ 32 }
-        requires unfilled { IsUnfilled self.old.frame }
-        ensures { Does (end_list_in self.old inner.index inner.form inner.content size) result self.new }
+        requires unfilled { IsUnfilled (seen described) }
+        ensures { Does (end_composite_in (seen inner) (seen described) self.old) result self.new }
     {
+        let size = inner.size()?;
         self.sizes.set(inner.index, size);
         self.descriptors.truncate(inner.form);
+        self.top.code = described.code;
         let len = opening_len(Place::Alone, Container::List, size) + inner.content;
-        let Some(len) = self.top.content.checked_add(len) else {
+        let Some(len) = described.content.checked_add(len) else {
             return Err(Error::TooLarge);
         };
-        match self.close() {
-            Ok(described) => {
-                self.top.code = described.code;
-                self.leave(len)
-            }
-            Err(error) => Err(error),
-        }
+        self.leave(len)
     }
 
     #[inline(never)]
-    fn leave_any_composite(&mut self, inner: MeasuredContainer, size: Size) -> Result<(), Error>
-        requires known { inner.index < length self.old.sizes }
-        requires fits { inner.content < 2 ^ 32 }
-        ensures { Does (end_list_in self.old inner.index inner.form inner.content size) result self.new }
+    fn end_any_composite(&mut self) -> Result<(), Error>
+        ensures { Passes (Measuring self.old) (end list ∷ end_described ∷ []) result (Measuring self.new) }
     {
-        match self.leave_container(Container::List, inner, size) {
+        match self.measure_end(Container::List) {
             Ok(()) => self.measure_end_described(),
             Err(error) => Err(error),
-        }
-    }
-
-    /// Returns whether it is a described value by itself that has no value yet.
-    #[inline(always)]
-    fn is_unfilled(&self) -> bool
-        ensures { OnTrue result (IsUnfilled self.now.frame) }
-    {
-        match self.top.place {
-            Place::Alone => self.top.opened.is_described() && self.top.count == 0,
-            Place::First | Place::Later => false,
         }
     }
 
@@ -593,11 +570,14 @@ impl Pass for Measure {
 
     #[inline(always)]
     fn end_composite(&mut self) -> Result<(), Error> {
-        match self.close_container(Container::List) {
-            Ok((inner, size)) if self.is_unfilled() => self.leave_composite(inner, size),
-            Ok((inner, size)) => self.leave_any_composite(inner, size),
-            Err(error) => Err(error),
+        let inner = self.top;
+        if inner.opened.is_container(Container::List)
+            && inner.index < self.sizes.len()
+            && let Some(described) = self.enclosing.pop_unfilled(&mut self.top)
+        {
+            return self.leave_composite(inner, described);
         }
+        self.end_any_composite()
     }
 
     ghost going = { λ m. refl };
