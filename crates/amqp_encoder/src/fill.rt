@@ -418,6 +418,10 @@ impl Fill {
         ensures does { Does (fill_described (descriptor_of descriptor.now) self.old) result self.new }
         ensures kept { take (length self.old.out) self.new.out ≡ self.old.out }
     {
+        if let Descriptor::Code(0) = descriptor {
+            let place = self.place;
+            return self.open(&[0, format_code::ULONG_0], &[], place);
+        }
         let text = text_of(descriptor);
         if text.len() > 0xffff_ffff {
             return Err(Error::TooLarge);
