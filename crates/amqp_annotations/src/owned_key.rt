@@ -10,7 +10,8 @@ ghost use Rattle.amqp_annotations.specs.laws.Key.{owned_decide};
 ghost use Rattle.amqp_annotations.specs.OwnedKeys.{owned_primitive, owned_keys};
 
 use amqp_codec::{
-    ByteSource, Decoder, DeserializeTerm, Encoder, Error, MapKey, Serialize, SerializeTerm, Symbol,
+    ByteSource, Decoder, DeserializeTerm, Encoder, Error, MapKey, Pass, Serialize, SerializeTerm,
+    Symbol,
 };
 use amqp_kinds::{Kind, KindSum, read_as, read_kind_sum};
 use amqp_primitives::SymbolRef;
@@ -94,7 +95,7 @@ impl KindSum for OwnedKey {
 impl Serialize for OwnedKey {
     ghost writing = { writing_of (kind_sum_type owned_keys) refl };
 
-    fn serialize(&self, encoder: &mut Encoder) -> Result<(), Error> {
+    fn serialize<P: Pass>(&self, encoder: &mut Encoder<P>) -> Result<(), Error> {
         match self {
             OwnedKey::Symbol(text) => text.serialize(encoder),
             OwnedKey::Ulong(number) => number.serialize(encoder),

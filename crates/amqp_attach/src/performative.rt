@@ -4,7 +4,9 @@ ghost use Rattle.amqp_sums.specs.Choices.{sum_one, sum_agreement, sum_writing};
 ghost use Rattle.amqp_attach.specs.Tables.{performative, performatives};
 
 use crate::Attach;
-use amqp_codec::{ByteSource, Decoder, DeserializeTerm, Encoder, Error, Serialize, SerializeTerm};
+use amqp_codec::{
+    ByteSource, Decoder, DeserializeTerm, Encoder, Error, Pass, Serialize, SerializeTerm,
+};
 use amqp_performatives::{Begin, Close, Detach, Disposition, End, Flow, Open, Transfer};
 use amqp_sums::{Sum, is_null_sum, read_as, read_sum, write_as};
 use std::alloc::Global;
@@ -153,7 +155,7 @@ impl Sum for Performative {
 impl Serialize for Performative {
     ghost writing = { sum_writing performatives };
 
-    fn serialize(&self, encoder: &mut Encoder) -> Result<(), Error> {
+    fn serialize<P: Pass>(&self, encoder: &mut Encoder<P>) -> Result<(), Error> {
         match self {
             Performative::Open(opening) => write_as(self, opening, encoder),
             Performative::Begin(begin) => write_as(self, begin, encoder),

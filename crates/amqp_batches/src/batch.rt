@@ -9,7 +9,7 @@ use crate::transparent_vec::TransparentVec;
 use amqp_codec::kernel::{each_in_type, write_each};
 use amqp_codec::{Canonical, Deserialize, DeserializeTerm, Serialize};
 use amqp_decoder::Decoder;
-use amqp_encoder::Encoder;
+use amqp_encoder::{Encoder, Pass};
 use amqp_wire::{ByteSource, Error};
 use std::alloc::Global;
 
@@ -19,7 +19,7 @@ pub type Batch<T> = TransparentVec<T>;
 impl<T: BatchItem> Serialize for TransparentVec<T> {
     ghost writing = { batch_writing T.writing };
 
-    fn serialize(&self, encoder: &mut Encoder) -> Result<(), Error> {
+    fn serialize<P: Pass>(&self, encoder: &mut Encoder<P>) -> Result<(), Error> {
         write_each(self.as_slice(), encoder)
     }
 

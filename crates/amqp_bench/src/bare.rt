@@ -1,7 +1,7 @@
 //! Lists, an array, maps and binaries that are written and read by the bare calls of an encoder and a decoder.
 use crate::cases::{Case, Way, Work};
 use amqp_decoder::{Decoder, decoder_of};
-use amqp_encoder::{Encoder, begin_filling, buffer_of, measured_len, measuring_encoder};
+use amqp_encoder::{Encoder, Pass, buffer_of, filling_encoder, measured_len, measuring_encoder};
 use amqp_wire::{Error, Symbol};
 use std::alloc::Global;
 
@@ -77,12 +77,16 @@ fn write(case: Case, content: &Content, alloc: Global) -> Result<Vec<u8>, Error>
     serialize(case, content, &mut encoder)?;
     let len = measured_len(&encoder)?;
     let buffer = Vec::with_capacity(alloc, len)?;
-    begin_filling(&mut encoder, alloc, buffer, len);
-    serialize(case, content, &mut encoder)?;
-    Ok(buffer_of(encoder))
+    let mut filling = filling_encoder(&mut encoder, alloc, buffer, len);
+    serialize(case, content, &mut filling)?;
+    Ok(buffer_of(filling))
 }
 
-fn serialize(case: Case, content: &Content, encoder: &mut Encoder) -> Result<(), Error> {
+fn serialize<P: Pass>(
+    case: Case,
+    content: &Content,
+    encoder: &mut Encoder<P>,
+) -> Result<(), Error> {
     match case {
         Case::Uints | Case::UintVec => write_uints(&content.numbers, encoder),
         Case::Ulongs | Case::UlongArray => write_ulongs(&content.numbers, encoder),
@@ -108,7 +112,7 @@ fn read(case: Case, text: &[u8], alloc: Global) -> Result<u64, Error> {
     }
 }
 
-fn write_uints(numbers: &[u32], encoder: &mut Encoder) -> Result<(), Error> {
+fn write_uints<P: Pass>(numbers: &[u32], encoder: &mut Encoder<P>) -> Result<(), Error> {
     encoder.begin_list()?;
     for number in numbers {
         encoder.write_uint(*number)?;
@@ -116,7 +120,7 @@ fn write_uints(numbers: &[u32], encoder: &mut Encoder) -> Result<(), Error> {
     encoder.end_list()
 }
 
-fn write_ulongs(numbers: &[u32], encoder: &mut Encoder) -> Result<(), Error> {
+fn write_ulongs<P: Pass>(numbers: &[u32], encoder: &mut Encoder<P>) -> Result<(), Error> {
     encoder.begin_array()?;
     for number in numbers {
         encoder.write_ulong(u64::from(*number))?;
@@ -124,7 +128,7 @@ fn write_ulongs(numbers: &[u32], encoder: &mut Encoder) -> Result<(), Error> {
     encoder.end_array()
 }
 
-fn write_strings(texts: &[String], encoder: &mut Encoder) -> Result<(), Error> {
+fn write_strings<P: Pass>(texts: &[String], encoder: &mut Encoder<P>) -> Result<(), Error> {
     encoder.begin_list()?;
     for text in texts {
         encoder.write_string(text.as_str())?;
@@ -132,7 +136,7 @@ fn write_strings(texts: &[String], encoder: &mut Encoder) -> Result<(), Error> {
     encoder.end_list()
 }
 
-fn write_map(content: &Content, encoder: &mut Encoder) -> Result<(), Error> {
+fn write_map<P: Pass>(content: &Content, encoder: &mut Encoder<P>) -> Result<(), Error> {
     encoder.begin_map()?;
     for (text, number) in content.texts.iter().zip(&content.numbers) {
         encoder.write_string(text.as_str())?;
@@ -141,7 +145,10 @@ fn write_map(content: &Content, encoder: &mut Encoder) -> Result<(), Error> {
     encoder.end_map()
 }
 
-fn write_symbols(entries: &[(Symbol, u32)], encoder: &mut Encoder) -> Result<(), Error> {
+fn write_symbols<P: Pass>(
+    entries: &[(Symbol, u32)],
+    encoder: &mut Encoder<P>,
+) -> Result<(), Error> {
     encoder.begin_map()?;
     for (name, number) in entries {
         encoder.write_symbol(name.as_str())?;

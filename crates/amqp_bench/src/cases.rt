@@ -3,7 +3,9 @@ ghost use Rattle.std.specs.Prelude.{◌≤◌};
 
 use crate::bare::Bare;
 use crate::framed::Framed;
-use crate::frames::{ATTACH, FLOW, MESSAGE, PROPERTIES, TRANSFER};
+use crate::frames::{
+    ATTACH, FLOW, MESSAGE, NESTED, OPEN, PROPERTIES, SOURCE, TRANSFER, WIDE_ATTACH,
+};
 use crate::values::{Typed, application_properties, message_of_data, message_of_properties};
 use amqp_attach::{Attach, Performative};
 use amqp_codec::{Deserialize, Serialize};
@@ -12,8 +14,9 @@ use amqp_map_sections::ApplicationProperties;
 use amqp_maps::OrderedMap;
 use amqp_message_headers::Properties;
 use amqp_messages::Message;
-use amqp_performatives::{Flow, Transfer};
-use amqp_sections::Data;
+use amqp_performatives::{Flow, Open, Transfer};
+use amqp_sections::{AmqpValue, Data};
+use amqp_termini::Source;
 use amqp_values::Value;
 use amqp_wire::{Error, Symbol};
 use std::alloc::Global;
@@ -42,7 +45,10 @@ pub(crate) enum Case {
     SymbolMap,
     LargeMap,
     ValueMap,
+    Open,
     Attach,
+    WideAttach,
+    Source,
     Transfer,
     Flow,
     Performative,
@@ -50,11 +56,12 @@ pub(crate) enum Case {
     Properties,
     ApplicationProperties,
     Message,
+    NestedDescriptors,
     MessageOfProperties,
     MessageOfData,
 }
 
-pub(crate) const CASES: [Case; 23] = [
+pub(crate) const CASES: [Case; 27] = [
     Case::Uints,
     Case::Ulongs,
     Case::Strings,
@@ -68,7 +75,10 @@ pub(crate) const CASES: [Case; 23] = [
     Case::SymbolMap,
     Case::LargeMap,
     Case::ValueMap,
+    Case::Open,
     Case::Attach,
+    Case::WideAttach,
+    Case::Source,
     Case::Transfer,
     Case::Flow,
     Case::Performative,
@@ -76,6 +86,7 @@ pub(crate) const CASES: [Case; 23] = [
     Case::Properties,
     Case::ApplicationProperties,
     Case::Message,
+    Case::NestedDescriptors,
     Case::MessageOfProperties,
     Case::MessageOfData,
 ];
@@ -125,7 +136,10 @@ impl Case {
             Case::SymbolMap => "an OrderedMap<Symbol, u32> of 1,000",
             Case::LargeMap => "an OrderedMap<Symbol, u32> of 16,000",
             Case::ValueMap => "an OrderedMap<Symbol, Value> of 1,000",
+            Case::Open => "an open of 10 fields",
             Case::Attach => "an attach of 14 fields",
+            Case::WideAttach => "an attach of 14 fields, read from long forms",
+            Case::Source => "a source of 11 fields",
             Case::Transfer => "a transfer",
             Case::Flow => "a flow of 11 fields",
             Case::Performative => "that flow as a performative",
@@ -133,6 +147,7 @@ impl Case {
             Case::Properties => "properties of 13 fields",
             Case::ApplicationProperties => "application properties of 20 entries",
             Case::Message => "a message of 316 bytes",
+            Case::NestedDescriptors => "null under 125 descriptors",
             Case::MessageOfProperties => "a message of 1,000 application properties",
             Case::MessageOfData => "a message of 1 MiB of data",
         }
@@ -154,7 +169,10 @@ impl Case {
             Case::SymbolMap => "ordered",
             Case::LargeMap => "large",
             Case::ValueMap => "values",
+            Case::Open => "open",
             Case::Attach => "attach",
+            Case::WideAttach => "wide",
+            Case::Source => "source",
             Case::Transfer => "transfer",
             Case::Flow => "flow",
             Case::Performative => "performative",
@@ -162,6 +180,7 @@ impl Case {
             Case::Properties => "properties",
             Case::ApplicationProperties => "application",
             Case::Message => "message",
+            Case::NestedDescriptors => "nested",
             Case::MessageOfProperties => "entries",
             Case::MessageOfData => "data",
         }
@@ -191,14 +210,18 @@ impl Case {
     {
         match self {
             Case::Tiny
+            | Case::Open
             | Case::Attach
+            | Case::WideAttach
+            | Case::Source
             | Case::Transfer
             | Case::Flow
             | Case::Performative
             | Case::Frame
             | Case::Properties
             | Case::ApplicationProperties
-            | Case::Message => 1000,
+            | Case::Message
+            | Case::NestedDescriptors => 1000,
             _ => 1,
         }
     }
@@ -212,15 +235,19 @@ impl Case {
         }
     }
 
-    // The canonical text.
+    // A text: for an open, a wide attach and a source it isn't the canonical one.
     fn text(self, alloc: Global) -> Result<Vec<u8>, Error> {
         match self {
+            Case::Open => Ok(Vec::from_slice(alloc, OPEN)?),
             Case::Attach => Ok(Vec::from_slice(alloc, ATTACH)?),
+            Case::WideAttach => Ok(Vec::from_slice(alloc, WIDE_ATTACH)?),
+            Case::Source => Ok(Vec::from_slice(alloc, SOURCE)?),
             Case::Transfer => Ok(Vec::from_slice(alloc, TRANSFER)?),
             Case::Flow | Case::Performative | Case::Frame => Ok(Vec::from_slice(alloc, FLOW)?),
             Case::Properties => Ok(Vec::from_slice(alloc, PROPERTIES)?),
             Case::ApplicationProperties => application_properties(20, alloc),
             Case::Message => Ok(Vec::from_slice(alloc, MESSAGE)?),
+            Case::NestedDescriptors => Ok(Vec::from_slice(alloc, NESTED)?),
             Case::MessageOfProperties => message_of_properties(1000, alloc),
             Case::MessageOfData => message_of_data(self.length(), alloc),
             _ => Ok(Bare::new(self, Way::Writing, alloc)?.into_text()),
@@ -241,7 +268,9 @@ impl Case {
                 self.best_of::<OrderedMap<Symbol, u32>>(rt, way, rounds)
             }
             Case::ValueMap => self.best_of::<OrderedMap<Symbol, Value>>(rt, way, rounds),
-            Case::Attach => self.best_of::<Attach>(rt, way, rounds),
+            Case::Open => self.best_of::<Open>(rt, way, rounds),
+            Case::Attach | Case::WideAttach => self.best_of::<Attach>(rt, way, rounds),
+            Case::Source => self.best_of::<Source>(rt, way, rounds),
             Case::Transfer => self.best_of::<Transfer>(rt, way, rounds),
             Case::Flow => self.best_of::<Flow>(rt, way, rounds),
             Case::Performative => self.best_of::<Performative>(rt, way, rounds),
@@ -255,6 +284,9 @@ impl Case {
             }
             Case::Message | Case::MessageOfProperties | Case::MessageOfData => {
                 self.best_of::<Message<Data>>(rt, way, rounds)
+            }
+            Case::NestedDescriptors => {
+                self.best_of::<Message<AmqpValue<Value>>>(rt, way, rounds)
             }
             _ => {
                 let work = Bare::new(self, way, rt.alloc())?;

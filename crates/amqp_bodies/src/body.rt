@@ -22,7 +22,7 @@ use crate::traits::{
 use amqp_batches::{Batch, no_section};
 use amqp_codec::{Canonical, Deserialize, DeserializeTerm, Serialize, SerializeTerm};
 use amqp_decoder::Decoder;
-use amqp_encoder::Encoder;
+use amqp_encoder::{Encoder, Pass};
 use amqp_sections::{AmqpSequence, AmqpValue, Data};
 use amqp_wire::{ByteSource, Error, section_code};
 use std::alloc::Global;
@@ -45,7 +45,7 @@ impl<T: SerializeTerm> Serialize for Body<T> {
     ghost writing = { body_writing ⟦<AmqpValue<T> as Serialize>⟧.writing ⟦<Batch<Data> as Serialize>⟧.writing
         ⟦<Batch<AmqpSequence<T>> as Serialize>⟧.writing };
 
-    fn serialize(&self, encoder: &mut Encoder) -> Result<(), Error> {
+    fn serialize<P: Pass>(&self, encoder: &mut Encoder<P>) -> Result<(), Error> {
         match self {
             Body::Value(value) => value.serialize(encoder),
             Body::Data(batch) => batch.serialize(encoder),

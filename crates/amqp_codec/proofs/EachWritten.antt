@@ -6,7 +6,7 @@ use Rattle.std.proofs.lemmas.List.{take_more, take_all, take-append-drop, flat_m
 use Rattle.std.proofs.lemmas.Grind.{flat_map-append}
 use Rattle.amqp_model.specs.Term.{Term}
 use Rattle.amqp_wire.specs.declared.error.Error.{Error}
-use Rattle.amqp_encoder.specs.declared.encoder.Encoder.{Encoder}
+use Rattle.amqp_encoder.specs.State.{Encoder}
 use Rattle.amqp_codec.specs.Written.{WritesTerms}
 use Rattle.amqp_codec.proofs.Joining.{terms_join, terms_cut}
 

@@ -16,7 +16,7 @@ use Rattle.amqp_decoder.proofs.ContainerTerms.{Together, together, used_up, row_
 use Rattle.amqp_decoder.proofs.OneReading.{stands_same, row_front}
 use Rattle.amqp_decoder.proofs.Opening.{opens_same}
 use Rattle.amqp_decoder.proofs.Peeks.{value-peeked}
-use Rattle.amqp_decoder.specs.Reading.{RefusesRead, BeginFault, PeeksCode}
+use Rattle.amqp_decoder.specs.Reading.{RefusesRead, AnswersRead, BeginFault, PeeksCode}
 use Rattle.amqp_decoder.specs.Primitives.{standing, ReadsValue, Means}
 use Rattle.amqp_decoder.specs.Containers.{Opens, OpenFault, Closes, CloseFault}
 use Rattle.amqp_decoder.proofs.Steps.{answered_later, first_kept}
@@ -25,11 +25,12 @@ use Rattle.amqp_encoder.proofs.Refused.{count_of}
 use Rattle.amqp_codec.specs.Fields.{Fields, slots, take_memory}
 use Rattle.amqp_codec.specs.FieldReading.{absence, MeansAt, FaultAt, FitsFront, KeepsBut, FitsAt, ItemRead, ItemFault, no_item, null_item}
 use Rattle.amqp_codec.specs.FieldReading.{in_item, FieldsSoFar, FieldsRead, FieldsFault, FillsField, ReadsItem, no_list, at_item, left_out}
-use Rattle.amqp_codec.specs.FieldReading.{not_ended, rule_at, IsBlank}
+use Rattle.amqp_codec.specs.FieldReading.{not_ended, rule_at, IsBlank, TakesNull, FillsAll}
 use Rattle.amqp_codec.specs.laws.FieldReading.{not_absent, absent, filled_at, unfilled_at, front_null, front_filled, front_missing, front_end}
 use Rattle.amqp_codec.specs.laws.FieldReading.{front_start, fits_value, fits_null, fits_few}
 use Rattle.amqp_codec.specs.laws.Refusal.{no_memory, opened_going, opened_sound, refused_first, refused_later, value_going}
-use Rattle.amqp_codec.specs.laws.Peek.{peeked_failed, peeked_going, not_null, value_peeked}
+use Rattle.amqp_codec.specs.laws.Peek.{peeked_failed, peeked_going, not_null}
+use Rattle.amqp_codec.proofs.NullSteps.{value_untaken}
 
 the_item : (ts us : List Term) (t : Term) (rest : List Term) (n : ℕ) → length ts ≡ n → us ≡ ts ++ t ∷ rest → get_or us n (leaf null) ≡ t
 the_item [] us t rest n e f = ap (λ l. get_or l n (leaf null)) f ∙ ap (λ k. get_or (t ∷ rest) k (leaf null)) (sym e)
@@ -176,7 +177,7 @@ module _ {V : Type 0} (fs : Fields V) where
   nothing_taken (t ∷ ts) mid last s l h = absurd (omega arith)
 
   -- the list couldn't be closed
-  pub end_refused : (st : State) (n i : ℕ) (v : V) (mid : State) (e : Error) (new : State) → i ≡ length (rules_of (slots fs))
+  end_refused : (st : State) (n i : ℕ) (v : V) (mid : State) (e : Error) (new : State) → i ≡ length (rules_of (slots fs))
       → mid.error ≡ None → FieldsSoFar fs st n i v mid
       → RefusesRead false (λ st (_ : Unit {0}) b. Closes InList st b) (CloseFault InList) mid e new
       → RefusesRead (take_memory fs) (FieldsRead fs) (FieldsFault fs) st e new
@@ -193,13 +194,20 @@ module _ {V : Type 0} (fs : Fields V) where
       r
 
   -- the list was closed: these are the fields
-  pub all_read : (st : State) (n i : ℕ) (v : V) (mid b : State) → i ≡ length (rules_of (slots fs)) → FieldsSoFar fs st n i v mid
+  all_read : (st : State) (n i : ℕ) (v : V) (mid b : State) → i ≡ length (rules_of (slots fs)) → FieldsSoFar fs st n i v mid
       → Closes InList mid b → FieldsRead fs st v b
   all_read st n i v mid b all h c = record {
     terms = h.terms;
     stand = record { count = n; mid = h.first; opened = h.opens; bytes = h.bytes; last = mid; items = h.each; closed = c };
     fits = front_end fs i h.terms v all (omega (arith, h.long)) h.front;
   }
+
+  -- the list was closed, or couldn't be
+  pub all_filled : (st : State) (n i : ℕ) (v : V) (mid : State) (r : Result (Unit {0}) Error) (b : State) → i ≡ length (rules_of (slots fs))
+      → FieldsSoFar fs st n i v mid → AnswersRead false (λ st (_ : Unit {0}) b. Closes InList st b) (CloseFault InList) mid r b
+      → FillsAll fs v st r b
+  all_filled st n i v mid (Ok u) b all h c = all_read st n i v mid b all h c
+  all_filled st n i v mid (Err e) b all h c = end_refused st n i v mid e b all (so_far_still st n i v mid h) h c
 
   -- the list couldn't be opened
   pub open_refused : (st : State) (e : Error) (new : State) → RefusesRead false (Opens list) (OpenFault list) st e new
@@ -214,11 +222,11 @@ module _ {V : Type 0} (fs : Fields V) where
 
 -- Steps of one item.
 module _ {V : Type 0} (fs : Fields V) (i : ℕ) where
-  pub item_unbegun : (st : State) (e : Error) (new : State) → RefusesRead false PeeksCode BeginFault st e new
+  pub item_unbegun : (st : State) (e : Error) (new : State) → RefusesRead false TakesNull BeginFault st e new
       → RefusesRead (take_memory fs) (ReadsValue (FitsAt fs i)) (ItemFault fs i) st e new
   item_unbegun st e new r =
-      refused_first PeeksCode BeginFault (ReadsValue (FitsAt fs i)) (ItemFault fs i) st e new no_memory no_item
-      (value_peeked (FitsAt fs i) st) r
+      refused_first TakesNull BeginFault (ReadsValue (FitsAt fs i)) (ItemFault fs i) st e new no_memory no_item
+      (value_untaken (FitsAt fs i) st) r
 
   -- null was taken, and fits
   pub null_read : (v : V) (st b : State) → is_required (rule_at fs i) ≡ false → ReadsValue (Means (λ (_ : Unit {0}). null)) st tt b

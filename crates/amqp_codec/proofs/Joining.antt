@@ -1,15 +1,15 @@
 -- Terms that are written one after another, and terms that hold others.
-use Rattle.std.proofs.Common.{◌≡◌, ℕ, List, [], ◌∷◌, ◌++◌, sym, ap, ◌∙◌, ◌⊎◌, inl, inr}
+use Rattle.std.proofs.Common.{◌≡◌, ℕ, zero, suc, List, [], ◌∷◌, ◌++◌, replicate, append_assoc, refl, sym, ap, ◌∙◌, ◌⊎◌, inl, inr}
 use Rattle.std.specs.Prelude.{Result, Ok, Err}
 use Rattle.std.proofs.lemmas.List.{append-nil}
 use Rattle.std.proofs.lemmas.Grind.{flat_map-append}
-use Rattle.amqp_model.specs.Term.{Container, Term, Refusal, container, described, Descriptor}
+use Rattle.amqp_model.specs.Term.{null, Container, Term, Refusal, leaf, container, described, Descriptor}
 use Rattle.amqp_model.specs.Items.{terms_of}
 use Rattle.amqp_model.specs.Refusals.{SomewhereIn, IsRefused}
 use Rattle.amqp_wire.specs.declared.error.Error.{Error}
 use Rattle.amqp_wire.specs.declared.error.Error.TheVariants.{Memory}
-use Rattle.amqp_encoder.specs.declared.encoder.Encoder.{Encoder}
-use Rattle.amqp_encoder.specs.Tokens.{Token, tokens, all_tokens, begin, end, begin_described, end_described}
+use Rattle.amqp_encoder.specs.State.{Encoder}
+use Rattle.amqp_encoder.specs.Tokens.{Token, tokens, all_tokens, put, nulls, begin, end, begin_described, end_described}
 use Rattle.amqp_encoder.specs.Passes.{row_tokens}
 use Rattle.amqp_encoder.specs.Writes.{Writes, Fills, outcome, pass_of, bytes_of}
 use Rattle.amqp_encoder.proofs.Rows.{row_calls}
@@ -90,13 +90,13 @@ terms_cut ts us a b q r e o p w = record {
       (w.calls deep (known_first deep ts us k) (first_free a ts us f))));
 }
 
--- The calls for a term are one that opens it, those for the terms in it, and one that closes it.
-pub record Wraps (t : Term) (x : Token) (ts : List Term) (y : Token) : Type 0 where
-  pub is : (deep : List ℕ → ℕ) → row_tokens deep (t ∷ []) ≡ x ∷ (row_tokens deep ts ++ y ∷ [])
+-- The calls for a term are those that open it, those for the terms in it, and those that close it.
+pub record Wraps (t : Term) (xs : List Token) (ts : List Term) (ys : List Token) : Type 0 where
+  pub is : (deep : List ℕ → ℕ) → row_tokens deep (t ∷ []) ≡ xs ++ (row_tokens deep ts ++ ys)
   pub knows : (deep : List ℕ → ℕ) → KnowDepths deep (t ∷ []) → KnowDepths deep ts
   pub holds : (r : Refusal) → SomewhereIn (IsRefused r) (terms_of ts) → SomewhereIn (IsRefused r) (terms_of (t ∷ []))
 
-pub container_wraps : (k : Container) (ts : List Term) → Wraps (container k (terms_of ts)) (begin k) ts (end k)
+pub container_wraps : (k : Container) (ts : List Term) → Wraps (container k (terms_of ts)) (begin k ∷ []) ts (end k ∷ [])
 container_wraps k ts = record {
   is = λ deep. ap (λ r. begin k ∷ r) (append-nil (all_tokens deep (terms_of ts) ++ end k ∷ [])
       ∙ ap (λ r. r ++ end k ∷ []) (sym (row_calls deep ts)));
@@ -104,7 +104,7 @@ container_wraps k ts = record {
   holds = λ r h. inl (inr h);
 }
 
-pub described_wraps : (d : Descriptor) (t : Term) → Wraps (described d t) (begin_described d) (t ∷ []) end_described
+pub described_wraps : (d : Descriptor) (t : Term) → Wraps (described d t) (begin_described d ∷ []) (t ∷ []) (end_described ∷ [])
 described_wraps d t = record {
   is = λ deep. ap (λ r. begin_described d ∷ r) (append-nil (tokens deep t ++ end_described ∷ [])
       ∙ ap (λ r. r ++ end_described ∷ []) (sym (append-nil (tokens deep t))));
@@ -112,28 +112,53 @@ described_wraps d t = record {
   holds = λ r h. elim h [ inl x ↦ inl (inr x) | inr x ↦ absurd x ];
 }
 
-module _ {t : Term} {x y : Token} {ts : List Term} (wraps : Wraps t x ts y) where
-  free_inside : (a b : Encoder) (q : Result (Unit {0}) Error) → Writes a (x ∷ []) q b → AreFreeIfFilled a (t ∷ []) → AreFreeIfFilled b ts
-  free_inside a b q w f fills r h = f (fills_from a (x ∷ []) q b w fills) r (wraps.holds r h)
+-- a described container, which is begun and ended in one call
+pub composite_wraps : (d : Descriptor) (k : Container) (ts : List Term)
+    → Wraps (described d (container k (terms_of ts))) (begin_described d ∷ begin k ∷ []) ts (end k ∷ end_described ∷ [])
+composite_wraps d k ts = record {
+  is = λ deep. ap (λ r. begin_described d ∷ begin k ∷ r)
+      (append-nil ((all_tokens deep (terms_of ts) ++ end k ∷ []) ++ end_described ∷ [])
+      ∙ (append_assoc (all_tokens deep (terms_of ts)) (end k ∷ []) (end_described ∷ [])
+      ∙ ap (λ r. r ++ end k ∷ end_described ∷ []) (sym (row_calls deep ts))));
+  knows = λ deep h. h.0.1.1;
+  holds = λ r h. inl (inr (inr h));
+}
+
+module _ {t : Term} {xs ys : List Token} {ts : List Term} (wraps : Wraps t xs ts ys) where
+  calls_of : (deep : List ℕ → ℕ) → row_tokens deep (t ∷ []) ≡ (xs ++ row_tokens deep ts) ++ ys
+  calls_of deep = wraps.is deep ∙ sym (append_assoc xs (row_tokens deep ts) ys)
+
+  free_inside : (a b : Encoder) (q : Result (Unit {0}) Error) → Writes a xs q b → AreFreeIfFilled a (t ∷ []) → AreFreeIfFilled b ts
+  free_inside a b q w f fills r h = f (fills_from a xs q b w fills) r (wraps.holds r h)
 
   pub open_refused : (a b : Encoder) (q r : Result (Unit {0}) Error) (e : Error) → q ≡ Err e → (z : Error) × (r ≡ Err z) × (z ≡ e)
-      → Writes a (x ∷ []) q b → WritesTerms (t ∷ []) a r b
+      → Writes a xs q b → WritesTerms (t ∷ []) a r b
   open_refused a b q r e o p w = record {
-    calls = λ deep k f. (rw (wraps.is deep) (cut_up a (x ∷ []) q b (row_tokens deep ts ++ y ∷ []) r e p.0 o p.1 p.2 (inl w)));
+    calls = λ deep k f. (rw (wraps.is deep) (cut_up a xs q b (row_tokens deep ts ++ ys) r e p.0 o p.1 p.2 (inl w)));
   }
 
   pub inner_refused : (a b c : Encoder) (q r s : Result (Unit {0}) Error) (e : Error) → q ≡ Ok tt → r ≡ Err e → (z : Error) × (s ≡ Err z)
-      × (z ≡ e) → Writes a (x ∷ []) q b → WritesTerms ts b r c → WritesTerms (t ∷ []) a s c
+      × (z ≡ e) → Writes a xs q b → WritesTerms ts b r c → WritesTerms (t ∷ []) a s c
   inner_refused a b c q r s e o i p w h = record {
-    calls = λ deep k f. (rw (wraps.is deep)
-        (cut_up a (x ∷ row_tokens deep ts) r c (y ∷ []) s e p.0 i p.1 p.2
-        (join_up a (x ∷ []) q b (row_tokens deep ts) r c o (inl w) (h.calls deep (wraps.knows deep k) (free_inside a b q w f)))));
+    calls = λ deep k f. (rw (calls_of deep)
+        (cut_up a (xs ++ row_tokens deep ts) r c ys s e p.0 i p.1 p.2
+        (join_up a xs q b (row_tokens deep ts) r c o (inl w) (h.calls deep (wraps.knows deep k) (free_inside a b q w f)))));
   }
 
-  pub all_written : (a b c d : Encoder) (q r s : Result (Unit {0}) Error) → q ≡ Ok tt → r ≡ Ok tt → Writes a (x ∷ []) q b
-      → WritesTerms ts b r c → Writes c (y ∷ []) s d → WritesTerms (t ∷ []) a s d
+  pub all_written : (a b c d : Encoder) (q r s : Result (Unit {0}) Error) → q ≡ Ok tt → r ≡ Ok tt → Writes a xs q b
+      → WritesTerms ts b r c → Writes c ys s d → WritesTerms (t ∷ []) a s d
   all_written a b c d q r s o i w h l = record {
-    calls = λ deep k f. (rw (wraps.is deep)
-        (join_up a (x ∷ row_tokens deep ts) r c (y ∷ []) s d i
-        (join_up a (x ∷ []) q b (row_tokens deep ts) r c o (inl w) (h.calls deep (wraps.knows deep k) (free_inside a b q w f))) (inl l)));
+    calls = λ deep k f. (rw (calls_of deep)
+        (join_up a (xs ++ row_tokens deep ts) r c ys s d i
+        (join_up a xs q b (row_tokens deep ts) r c o (inl w) (h.calls deep (wraps.knows deep k) (free_inside a b q w f))) (inl l)));
   }
+
+-- so many nulls
+
+nulls_called : (deep : List ℕ → ℕ) (n : ℕ) → row_tokens deep (replicate n (leaf null)) ≡ nulls n
+nulls_called deep zero = refl
+nulls_called deep (suc n) = ap (λ ts. put null ∷ ts) (nulls_called deep n)
+
+pub nulls_written : (n : ℕ) (a b : Encoder) (r : Result (Unit {0}) Error) → Writes a (nulls n) r b
+    → WritesTerms (replicate n (leaf null)) a r b
+nulls_written n a b r w = record { calls = λ deep k f. inl (rw (nulls_called deep n) w) }

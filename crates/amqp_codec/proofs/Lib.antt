@@ -1,9 +1,11 @@
 pub mod Joining
 pub mod Tries
 pub mod Trimming
+pub mod Pending
 pub mod PrimitiveReads
 pub mod Options
 pub mod NoFields
+mod NullSteps
 pub mod FieldSteps
 mod HeldReads
 mod ListReads

@@ -3,7 +3,7 @@ use Rattle.std.proofs.Common.{◌≡◌, List, [], ◌∷◌, ◌++◌, refl, sy
 use Rattle.std.specs.Prelude.{Result, Ok, Err}
 use Rattle.std.proofs.lemmas.List.{append-nil}
 use Rattle.amqp_wire.specs.declared.error.Error.{Error}
-use Rattle.amqp_encoder.specs.declared.encoder.Encoder.{Encoder}
+use Rattle.amqp_encoder.specs.State.{Encoder}
 use Rattle.amqp_codec.specs.Pairs.{OfPairs}
 use Rattle.amqp_codec.specs.Written.{WritesTerms, Writing, IsOneTerm, canon_of}
 use Rattle.amqp_codec.specs.MapWriting.{turn_terms}

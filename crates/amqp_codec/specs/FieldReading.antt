@@ -98,6 +98,11 @@ abbrev pub ReadsItem : {V : Type 0} → Fields V → ℕ → V → V → State �
 ReadsItem fs i v w st (Ok u) b = ItemRead fs i v w st b
 ReadsItem fs i v w st (Err e) b = RefusesRead (take_memory fs) (ReadsValue (FitsAt fs i)) (ItemFault fs i) st e b
 
+-- A null stood next and was taken, or what stands next begins by another code, and nothing is taken.
+abbrev pub TakesNull : State → Bool → State → Type 0
+TakesNull st true b = ReadsValue (Means (λ (_ : Unit {0}). null)) st tt b
+TakesNull st false b = (c : ℕ) × PeeksCode st c b × (c ≡ 0x40 → ⊥)
+
 -- The fields up to number i were read from a list of n items.
 pub record FieldsSoFar {V : Type 0} (fs : Fields V) (st : State) (n i : ℕ) (v : V) (now_ : State) : Type 0 where
   pub first : State
@@ -123,3 +128,8 @@ pub data FieldsFault {V : Type 0} (fs : Fields V) (st : State) (e : Error) : Typ
       → absence (rule_at fs i) ≡ Some e → FieldsFault fs st e
   not_ended : {n : ℕ} {v : V} {mid : State} → FieldsSoFar fs st n (length (rules_of (slots fs))) v mid
       → CloseFault InList mid e → FieldsFault fs st e
+
+-- All fields were read into their places.
+abbrev pub FillsAll : {V : Type 0} → Fields V → V → State → Result (Unit {0}) Error → State → Type 0
+FillsAll fs w st (Ok u) b = FieldsRead fs st w b
+FillsAll fs w st (Err e) b = RefusesRead (take_memory fs) (FieldsRead fs) (FieldsFault fs) st e b

@@ -24,6 +24,7 @@ pub mod Agreement
 pub mod Reading
 pub mod TermReading
 pub mod FieldReading
+pub mod FieldWriting
 pub mod Members
 pub mod Rewriting
 pub mod Keys

@@ -9,7 +9,7 @@ use Rattle.amqp_model.specs.Kept.{EachExpandsTo}
 use Rattle.amqp_model.specs.Items.{terms_of}
 use Rattle.amqp_wire.specs.declared.error.Error.{Error}
 use Rattle.amqp_wire.specs.declared.error.Error.TheVariants.{Memory, Depth, TooLarge}
-use Rattle.amqp_encoder.specs.declared.encoder.Encoder.{Encoder}
+use Rattle.amqp_encoder.specs.State.{Encoder}
 use Rattle.amqp_encoder.specs.State.{Stopped}
 use Rattle.amqp_encoder.specs.declared.size.Size.{Size}
 use Rattle.amqp_encoder.specs.Measuring.{MAX}

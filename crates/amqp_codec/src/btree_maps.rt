@@ -17,15 +17,15 @@ ghost use Rattle.amqp_codec.specs.BTreeMaps.{ReadsInOrder, btree_map_agreement};
 use crate::kernel::{pair_in_type, write_pair};
 use crate::{DeserializeTerm, MapKey, Serialize, SerializeTerm};
 use amqp_decoder::Decoder;
-use amqp_encoder::Encoder;
+use amqp_encoder::{Encoder, Pass};
 use amqp_wire::{ByteSource, Error};
 use std::alloc::Global;
 use std::collections::BTreeMap;
 
 // Writes the pairs in the order of their keys, to an encoder that has refused nothing.
-fn write_in_order<K: SerializeTerm + Ord, V: SerializeTerm>(
+fn write_in_order<K: SerializeTerm + Ord, V: SerializeTerm, P: Pass>(
     map: &BTreeMap<K, V>,
-    encoder: &mut Encoder,
+    encoder: &mut Encoder<P>,
 ) -> Result<(), Error>
     requires going { answer_of encoder.now ≡ Ok tt }
     ensures { WritesTerms (turn_terms K.writing V.writing map.now.entries) encoder.old result encoder.new }
@@ -48,7 +48,7 @@ fn entries_in_type<K: SerializeTerm + Ord, V: SerializeTerm>(entries: &BTreeMap<
 impl<K: SerializeTerm + Ord, V: SerializeTerm> Serialize for BTreeMap<K, V> {
     ghost writing = { via_writing (λ m. m.entries) (map_writing K.writing V.writing (IsStrictlySortedBy K.cmp)) };
 
-    fn serialize(&self, encoder: &mut Encoder) -> Result<(), Error> {
+    fn serialize<P: Pass>(&self, encoder: &mut Encoder<P>) -> Result<(), Error> {
         encoder.begin_map()?;
         write_in_order(self, encoder)?;
         encoder.end_map()

@@ -12,11 +12,11 @@ ghost use Rattle.amqp_decoder.specs.Primitives.{ReadsValue};
 ghost use Rattle.amqp_decoder.specs.Steps.{Tries};
 ghost use Rattle.amqp_codec.specs.Members.{MemberFault};
 
-use crate::fields::{FieldList, read_fields, write_list};
+use crate::fields::{FieldList, fill_fields, write_fields};
 use crate::{DeserializeTerm, SerializeTerm};
 use amqp_decoder::Decoder;
-use amqp_encoder::Encoder;
-use amqp_wire::{ByteSource, Descriptor, Error};
+use amqp_encoder::{Encoder, Pass};
+use amqp_wire::{ByteSource, Error};
 use std::alloc::Global;
 
 /// A composite type: a list of fields after a descriptor, which is read and written as its table says, as one term.
@@ -61,21 +61,22 @@ pub fn read_composite<C: Composite, R: ByteSource>(
     ensures tries { Tries (take_memory C.list.fields) decoder.old result decoder.new }
 {
     decoder.begin_one_of(&[C::descriptor()])?;
-    let value = read_fields(decoder, alloc)?;
+    let mut value = <C as FieldList>::blank(alloc);
+    fill_fields(&mut value, decoder, alloc)?;
     decoder.end_described()?;
     Ok(value)
 }
 
 /// Writes a composite under its descriptor's code. It returns the encoder's errors for its fields.
 #[inline(always)]
-pub fn write_composite<L: FieldList>(
+pub fn write_composite<L: FieldList, P: Pass>(
     value: &L,
     code: u64,
-    encoder: &mut Encoder,
+    encoder: &mut Encoder<P>,
 ) -> Result<(), Error>
     ensures { WritesTerms (described (code_of code) (canonical_list (slots L.list.fields) value.now) ∷ []) encoder.old result encoder.new }
 {
-    encoder.begin_described(&Descriptor::Code(code))?;
-    write_list(value, encoder)?;
-    encoder.end_described()
+    encoder.begin_composite(code)?;
+    write_fields(value, encoder)?;
+    encoder.end_composite()
 }

@@ -5,7 +5,7 @@ ghost use Rattle.amqp_codec.specs.Agreement.{option_one, option_agreement, optio
 
 use crate::{DeserializeTerm, Serialize, SerializeTerm};
 use amqp_decoder::Decoder;
-use amqp_encoder::Encoder;
+use amqp_encoder::{Encoder, Pass};
 use amqp_wire::{ByteSource, Error, format_code};
 use std::alloc::Global;
 use std::rc::Rc;
@@ -14,7 +14,7 @@ impl<T: SerializeTerm> Serialize for Option<T> {
     ghost writing = { option_writing T.writing };
 
     #[inline(always)]
-    fn serialize(&self, encoder: &mut Encoder) -> Result<(), Error> {
+    fn serialize<P: Pass>(&self, encoder: &mut Encoder<P>) -> Result<(), Error> {
         match self {
             Some(value) => value.serialize(encoder),
             None => encoder.write_null(),
@@ -51,7 +51,10 @@ impl<T: DeserializeTerm> DeserializeTerm for Option<T> {
             decoder.read_null()?;
             return Ok(None);
         }
-        Ok(Some(T::read_value(decoder, alloc)?))
+        match T::read_value(decoder, alloc) {
+            Ok(value) => Ok(Some(value)),
+            Err(error) => Err(error),
+        }
     }
 
     ghost agreement = { option_agreement T.agreement };
@@ -60,7 +63,7 @@ impl<T: DeserializeTerm> DeserializeTerm for Option<T> {
 impl<T: Serialize> Serialize for Box<T> {
     ghost writing = { via_writing (λ v. v.value) T.writing };
 
-    fn serialize(&self, encoder: &mut Encoder) -> Result<(), Error> {
+    fn serialize<P: Pass>(&self, encoder: &mut Encoder<P>) -> Result<(), Error> {
         (**self).serialize(encoder)
     }
 
@@ -81,10 +84,12 @@ impl<T: DeserializeTerm> DeserializeTerm for Box<T> {
     ghost term = { boxed T.term };
 
     fn read_value<R: ByteSource>(decoder: &mut Decoder<R>, alloc: Global) -> Result<Box<T>, Error> {
-        let value = T::read_value(decoder, alloc)?;
-        match Box::new(alloc, value) {
-            Ok(boxed) => Ok(boxed),
-            Err(_) => Err(decoder.refuse(Error::Memory)),
+        match T::read_value(decoder, alloc) {
+            Ok(value) => match Box::new(alloc, value) {
+                Ok(boxed) => Ok(boxed),
+                Err(_) => Err(decoder.refuse(Error::Memory)),
+            },
+            Err(error) => Err(error),
         }
     }
 
@@ -94,7 +99,7 @@ impl<T: DeserializeTerm> DeserializeTerm for Box<T> {
 impl<T: Serialize> Serialize for Rc<T> {
     ghost writing = { via_writing (λ v. v.value) T.writing };
 
-    fn serialize(&self, encoder: &mut Encoder) -> Result<(), Error> {
+    fn serialize<P: Pass>(&self, encoder: &mut Encoder<P>) -> Result<(), Error> {
         self.as_ref().serialize(encoder)
     }
 
@@ -128,7 +133,7 @@ impl<T: DeserializeTerm> DeserializeTerm for Rc<T> {
 impl<T: Serialize> Serialize for &T {
     ghost writing = { via_writing (λ v. v.now) T.writing };
 
-    fn serialize(&self, encoder: &mut Encoder) -> Result<(), Error> {
+    fn serialize<P: Pass>(&self, encoder: &mut Encoder<P>) -> Result<(), Error> {
         Serialize::serialize(*self, encoder)
     }
 
@@ -148,7 +153,7 @@ impl<T: SerializeTerm> SerializeTerm for &T {
 impl<T: Serialize> Serialize for &mut T {
     ghost writing = { via_writing (λ v. v.now) T.writing };
 
-    fn serialize(&self, encoder: &mut Encoder) -> Result<(), Error> {
+    fn serialize<P: Pass>(&self, encoder: &mut Encoder<P>) -> Result<(), Error> {
         (**self).serialize(encoder)
     }
 

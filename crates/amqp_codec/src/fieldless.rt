@@ -1,7 +1,7 @@
 //! Composites without fields (Part 1, section 1.4).
 use crate::fields::{FieldList, FieldRule};
 use amqp_decoder::Decoder;
-use amqp_encoder::Encoder;
+use amqp_encoder::{Encoder, Pass};
 use amqp_wire::{ByteSource, Error};
 use std::alloc::Global;
 
@@ -34,6 +34,7 @@ impl<F: Fieldless> FieldList for F {
         F::value()
     }
 
+    #[inline(always)]
     fn fill_field<R: ByteSource>(
         &mut self,
         _index: usize,
@@ -47,7 +48,7 @@ impl<F: Fieldless> FieldList for F {
         unreachable!()
     }
 
-    fn write_field(&self, _index: usize, _encoder: &mut Encoder) -> Result<(), Error> {
+    fn write_field<P: Pass>(&self, _index: usize, _encoder: &mut Encoder<P>) -> Result<(), Error> {
         unreachable!()
     }
 }

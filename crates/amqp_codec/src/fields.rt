@@ -1,25 +1,30 @@
 //! Lists of fields (Part 1, section 1.4): one reader and one writer for all. Only they handle omitted ends, surplus items, defaults and
 //! trailing nulls.
-ghost use Rattle.std.specs.Prelude.{◌≡◌, ◌<◌, ◌≤◌, false, [], ◌∷◌, length, take, None, Ok, Some, IfOk, IfErr};
+ghost use Rattle.std.specs.Prelude.{◌≡◌, ◌<◌, ◌≤◌, ◌+◌, false, [], ◌∷◌, length, None, Ok, Some, IfOk, IfErr};
 ghost use Rattle.amqp_model.specs.Items.{is_null};
-ghost use Rattle.amqp_model.specs.Fields.{rules_of, canonical_terms, canonical_items};
+ghost use Rattle.amqp_model.specs.Fields.{rules_of, canonical_items};
 ghost use Rattle.amqp_model.specs.Composite.{MeansList, canonical_list};
+ghost use Rattle.amqp_encoder.specs.State.{Encoder as EncoderState};
 ghost use Rattle.amqp_encoder.specs.Passes.{answer_of};
+ghost use Rattle.amqp_encoder.specs.Tokens.{nulls as nulls_of};
+ghost use Rattle.amqp_encoder.specs.Writes.{Writes};
+ghost use Rattle.amqp_codec.specs.FieldWriting.{IsPending, WritesUpTo};
 ghost use Rattle.amqp_codec.specs.Slots.{MeansSome};
 ghost use Rattle.amqp_codec.specs.Fields.{slots, canon_at, take_memory, takes_at};
 ghost use Rattle.amqp_codec.specs.Written.{WritesTerms};
 ghost use Rattle.amqp_wire.specs.Sources.{Tells};
-ghost use Rattle.amqp_decoder.specs.Reading.{AnswersRead};
+ghost use Rattle.amqp_decoder.specs.Reading.{AnswersRead, BeginFault};
 ghost use Rattle.amqp_decoder.specs.Primitives.{ReadsValue};
 ghost use Rattle.amqp_decoder.specs.Steps.{RefusesBy, Tries};
-ghost use Rattle.amqp_codec.specs.FieldReading.{FieldsRead, FieldsFault, Fills, FillsField, IsBlank, ReadsItem, absence, rule_at};
+ghost use Rattle.amqp_codec.specs.FieldReading.{FieldsFault, Fills, FillsAll, FillsField, IsBlank, ReadsItem, TakesNull, absence, rule_at};
 
 use crate::DeserializeTerm;
 use amqp_decoder::Decoder;
-use amqp_encoder::Encoder;
+use amqp_encoder::{Encoder, Pass};
 pub use amqp_model::tables::FieldRule;
 use amqp_wire::{ByteSource, Error, format_code};
 use std::alloc::Global;
+use std::mem::replace;
 
 /// A value that is a list of fields. It gives its fields by their numbers, and `read_list` and `write_list` do the rest. Each composite is
 /// one, after its descriptor; a user's own type may be one by itself.
@@ -54,7 +59,7 @@ pub trait FieldList: Sized + Drop {
         ensures { result ≡ is_null (canon_at list.fields index self.now) };
 
     /// Writes the field of this number, from 0 on, which isn't null.
-    fn write_field(&self, index: usize, encoder: &mut Encoder) -> Result<(), Error>
+    fn write_field<P: Pass>(&self, index: usize, encoder: &mut Encoder<P>) -> Result<(), Error>
         requires within { index < length (rules_of (slots list.fields)) }
         ensures { is_null (canon_at list.fields index self.now) ≡ false
             → WritesTerms (canon_at list.fields index self.now ∷ []) encoder.old result encoder.new };
@@ -70,8 +75,13 @@ pub fn read_into<T: DeserializeTerm, R: ByteSource>(
     ensures read { Tells R.remaining → Fills T.term.takes_memory T.term.means T.term.faults.fault decoder.old place.new result decoder.new }
     ensures tries { Tries T.term.takes_memory decoder.old result decoder.new }
 {
-    *place = T::read_value(decoder, alloc)?;
-    Ok(())
+    match T::read_value(decoder, alloc) {
+        Ok(value) => {
+            *place = value;
+            Ok(())
+        }
+        Err(error) => Err(error),
+    }
 }
 
 /// Reads a value into the place of an optional one. It returns the errors of the value's type.
@@ -85,13 +95,21 @@ pub fn read_some<T: DeserializeTerm, R: ByteSource>(
         decoder.old place.new result decoder.new }
     ensures tries { Tries T.term.takes_memory decoder.old result decoder.new }
 {
-    *place = Some(T::read_value(decoder, alloc)?);
-    Ok(())
+    match T::read_value(decoder, alloc) {
+        Ok(value) => {
+            *place = Some(value);
+            Ok(())
+        }
+        Err(error) => Err(error),
+    }
 }
 
 /// Writes a value as its type says.
 #[inline(always)]
-pub fn write_value<T: DeserializeTerm>(value: &T, encoder: &mut Encoder) -> Result<(), Error>
+pub fn write_value<T: DeserializeTerm, P: Pass>(
+    value: &T,
+    encoder: &mut Encoder<P>,
+) -> Result<(), Error>
     ensures { WritesTerms (T.term.canon value.now ∷ []) encoder.old result encoder.new }
 {
     value.serialize(encoder)
@@ -127,27 +145,27 @@ fn check_absent<R: ByteSource>(rule: FieldRule, decoder: &mut Decoder<R>) -> Res
     }
 }
 
-/// Reads a list of fields, which may come after a descriptor that was read.
+/// Reads a list of fields, which may come after a descriptor that was read, into a blank value. It returns the errors of `read_list`, and
+/// then some of the fields may hold what was read.
 #[inline(always)]
-pub fn read_fields<L: FieldList, R: ByteSource>(
+pub fn fill_fields<L: FieldList, R: ByteSource>(
+    value: &mut L,
     decoder: &mut Decoder<R>,
     alloc: Global,
-) -> Result<L, Error>
-    ensures read { Tells R.remaining → AnswersRead (take_memory L.list.fields) (FieldsRead L.list.fields) (FieldsFault L.list.fields)
-        decoder.old result decoder.new }
+) -> Result<(), Error>
+    requires blank { IsBlank L.list.fields value.old }
+    ensures read { Tells R.remaining → FillsAll L.list.fields value.new decoder.old result decoder.new }
     ensures tries { Tries (take_memory L.list.fields) decoder.old result decoder.new }
 {
     let count = decoder.begin_list()? as usize;
-    let mut value = L::blank(alloc);
     for (index, rule) in L::field_rules().iter().enumerate() {
         if index < count {
-            read_item(&mut value, index, *rule, decoder, alloc)?;
+            read_item(value, index, *rule, decoder, alloc)?;
         } else if let Some(error) = absence(*rule) {
             return Err(decoder.refuse(error));
         }
     }
-    decoder.end_list()?;
-    Ok(value)
+    decoder.end_list()
 }
 
 /// Reads a value that is a list of fields by itself, without a descriptor.
@@ -164,10 +182,43 @@ pub fn read_list<L: FieldList, R: ByteSource>(
         (FieldsFault L.list.fields) decoder.old result decoder.new }
     ensures tries { Tries (take_memory L.list.fields) decoder.old result decoder.new }
 {
-    read_fields(decoder, alloc)
+    let mut value = L::blank(alloc);
+    match fill_fields(&mut value, decoder, alloc) {
+        Ok(()) => Ok(value),
+        Err(error) => Err(error),
+    }
 }
 
-// Reads an item into its field. A null at hand is taken in one step.
+// Takes a null if one comes next, and returns whether it did. Otherwise it takes nothing.
+#[inline(always)]
+fn takes_null<R: ByteSource>(decoder: &mut Decoder<R>) -> Result<bool, Error>
+    ensures read { Tells R.remaining → AnswersRead false TakesNull BeginFault decoder.old result decoder.new }
+    ensures tries { Tries false decoder.old result decoder.new }
+{
+    match decoder.peek_value() {
+        Some(format_code::NULL) => match decoder.read_null() {
+            Ok(()) => Ok(true),
+            Err(error) => Err(error),
+        },
+        Some(_) => Ok(false),
+        None => takes_any_null(decoder),
+    }
+}
+
+// The same, however the source gives it.
+#[inline(never)]
+fn takes_any_null<R: ByteSource>(decoder: &mut Decoder<R>) -> Result<bool, Error>
+    ensures read { Tells R.remaining → AnswersRead false TakesNull BeginFault decoder.old result decoder.new }
+    ensures tries { Tries false decoder.old result decoder.new }
+{
+    if decoder.peek_code()? != format_code::NULL {
+        return Ok(false);
+    }
+    decoder.read_null()?;
+    Ok(true)
+}
+
+// Reads an item into its field.
 #[inline(always)]
 fn read_item<L: FieldList, R: ByteSource>(
     value: &mut L,
@@ -181,80 +232,169 @@ fn read_item<L: FieldList, R: ByteSource>(
     ensures read { Tells R.remaining → ReadsItem L.list.fields index value.old value.new decoder.old result decoder.new }
     ensures tries { Tries (takes_at L.list.fields index) decoder.old result decoder.new }
 {
-    if decoder.take_null() {
-        return check_absent(rule, decoder);
+    match takes_null(decoder) {
+        Ok(true) => check_absent(rule, decoder),
+        Ok(false) => value.fill_field(index, decoder, alloc),
+        Err(error) => Err(error),
     }
-    read_any_item(value, index, rule, decoder, alloc)
-}
-
-// The same, whatever comes next.
-#[inline(always)]
-fn read_any_item<L: FieldList, R: ByteSource>(
-    value: &mut L,
-    index: usize,
-    rule: FieldRule,
-    decoder: &mut Decoder<R>,
-    alloc: Global,
-) -> Result<(), Error>
-    requires within { index < length (rules_of (slots L.list.fields)) }
-    requires its_rule { rule ≡ rule_at L.list.fields index }
-    ensures read { Tells R.remaining → ReadsItem L.list.fields index value.old value.new decoder.old result decoder.new }
-    ensures tries { Tries (takes_at L.list.fields index) decoder.old result decoder.new }
-{
-    if decoder.peek_code()? != format_code::NULL {
-        return value.fill_field(index, decoder, alloc);
-    }
-    decoder.read_null()?;
-    check_absent(rule, decoder)
 }
 
 /// Writes a value as the list of its fields, without the nulls at its end. It returns the errors of its fields.
 #[inline(always)]
-pub fn write_list<L: FieldList>(value: &L, encoder: &mut Encoder) -> Result<(), Error>
+pub fn write_list<L: FieldList, P: Pass>(value: &L, encoder: &mut Encoder<P>) -> Result<(), Error>
     ensures { WritesTerms (canonical_list (slots L.list.fields) value.now ∷ []) encoder.old result encoder.new }
 {
-    let count = count_items(value);
     encoder.begin_list()?;
-    write_items(value, count, encoder)?;
+    write_fields(value, encoder)?;
     encoder.end_list()
 }
 
-// How many fields there are without the nulls at the end.
+/// Writes the fields of a value into a list that was begun, without the nulls at its end. It returns the errors of the fields.
 #[inline(always)]
-fn count_items<L: FieldList>(value: &L) -> usize
-    ensures within { result ≤ length (rules_of (slots L.list.fields)) }
-    ensures trimmed { take result (canonical_terms (slots L.list.fields) value.now) ≡ canonical_items (slots L.list.fields) value.now }
+pub(crate) fn write_fields<L: FieldList, P: Pass>(
+    value: &L,
+    encoder: &mut Encoder<P>,
+) -> Result<(), Error>
+    requires going { answer_of encoder.now ≡ Ok tt }
+    ensures { WritesTerms (canonical_items (slots L.list.fields) value.now) encoder.old result encoder.new }
 {
-    let mut count = L::field_rules().len();
-    while count > 0 && value.is_null_field(count - 1) {
-        count -= 1;
+    let mut nulls = 0;
+    match write_sixteen(value, &mut nulls, encoder) {
+        Ok(()) => write_others(value, &mut nulls, encoder),
+        Err(error) => Err(error),
     }
-    count
 }
 
-// Writes the first fields, so many of them.
+// Writes the fields after the first sixteen.
 #[inline(always)]
-fn write_items<L: FieldList>(value: &L, count: usize, encoder: &mut Encoder) -> Result<(), Error>
-    requires within { count ≤ length (rules_of (slots L.list.fields)) }
-    requires going { answer_of encoder.now ≡ Ok tt }
-    ensures { WritesTerms (take count (canonical_terms (slots L.list.fields) value.now)) encoder.old result encoder.new }
+fn write_others<L: FieldList, P: Pass>(
+    value: &L,
+    nulls: &mut usize,
+    encoder: &mut Encoder<P>,
+) -> Result<(), Error>
+    requires nulls { nulls.old ≤ 16 }
+    ensures { (start : EncoderState) → IsPending L.list.fields value.now 16 nulls.old start encoder.old
+        → WritesTerms (canonical_items (slots L.list.fields) value.now) start result encoder.new }
 {
-    for index in 0..count {
-        write_item(value, index, encoder)?;
+    for index in 16..L::field_rules().len() {
+        if let Err(error) = write_one(value, index, nulls, encoder) {
+            return Err(error);
+        }
     }
     Ok(())
 }
 
-// Writes a field.
+// Writes the first sixteen fields, as far as there are so many, in a straight line.
 #[inline(always)]
-#[tactic(auto, using(crate::proofs::Trimming::null_written))]
-fn write_item<L: FieldList>(value: &L, index: usize, encoder: &mut Encoder) -> Result<(), Error>
-    requires within { index < length (rules_of (slots L.list.fields)) }
-    ensures { WritesTerms (canon_at L.list.fields index value.now ∷ []) encoder.old result encoder.new }
+fn write_sixteen<L: FieldList, P: Pass>(
+    value: &L,
+    nulls: &mut usize,
+    encoder: &mut Encoder<P>,
+) -> Result<(), Error>
+    requires nulls { nulls.old ≡ 0 }
+    ensures written { (start : EncoderState) → IsPending L.list.fields value.now 0 0 start encoder.old
+        → WritesUpTo L.list.fields value.now 16 start result nulls.new encoder.new }
+    ensures nulls { nulls.new ≤ 16 }
 {
-    if value.is_null_field(index) {
-        encoder.write_null()
-    } else {
-        value.write_field(index, encoder)
+    match write_eight(value, 0, nulls, encoder) {
+        Ok(()) => write_eight(value, 8, nulls, encoder),
+        Err(error) => Err(error),
     }
+}
+
+// Writes eight fields, as far as there are so many.
+#[inline(always)]
+fn write_eight<L: FieldList, P: Pass>(
+    value: &L,
+    index: usize,
+    nulls: &mut usize,
+    encoder: &mut Encoder<P>,
+) -> Result<(), Error>
+    requires index { index ≤ 8 }
+    requires nulls { nulls.old ≤ index }
+    ensures written { (start : EncoderState) → IsPending L.list.fields value.now index nulls.old start encoder.old
+        → WritesUpTo L.list.fields value.now (index + 8) start result nulls.new encoder.new }
+    ensures nulls { nulls.new ≤ index + 8 }
+{
+    match write_four(value, index, nulls, encoder) {
+        Ok(()) => write_four(value, index + 4, nulls, encoder),
+        Err(error) => Err(error),
+    }
+}
+
+#[inline(always)]
+fn write_four<L: FieldList, P: Pass>(
+    value: &L,
+    index: usize,
+    nulls: &mut usize,
+    encoder: &mut Encoder<P>,
+) -> Result<(), Error>
+    requires index { index ≤ 12 }
+    requires nulls { nulls.old ≤ index }
+    ensures written { (start : EncoderState) → IsPending L.list.fields value.now index nulls.old start encoder.old
+        → WritesUpTo L.list.fields value.now (index + 4) start result nulls.new encoder.new }
+    ensures nulls { nulls.new ≤ index + 4 }
+{
+    match write_two(value, index, nulls, encoder) {
+        Ok(()) => write_two(value, index + 2, nulls, encoder),
+        Err(error) => Err(error),
+    }
+}
+
+#[inline(always)]
+fn write_two<L: FieldList, P: Pass>(
+    value: &L,
+    index: usize,
+    nulls: &mut usize,
+    encoder: &mut Encoder<P>,
+) -> Result<(), Error>
+    requires index { index ≤ 14 }
+    requires nulls { nulls.old ≤ index }
+    ensures written { (start : EncoderState) → IsPending L.list.fields value.now index nulls.old start encoder.old
+        → WritesUpTo L.list.fields value.now (index + 2) start result nulls.new encoder.new }
+    ensures nulls { nulls.new ≤ index + 2 }
+{
+    match write_one(value, index, nulls, encoder) {
+        Ok(()) => write_one(value, index + 1, nulls, encoder),
+        Err(error) => Err(error),
+    }
+}
+
+// Writes a field and the nulls before it, or counts one more null.
+#[inline(always)]
+fn write_one<L: FieldList, P: Pass>(
+    value: &L,
+    index: usize,
+    nulls: &mut usize,
+    encoder: &mut Encoder<P>,
+) -> Result<(), Error>
+    requires nulls { nulls.old ≤ index }
+    ensures written { (start : EncoderState) → IsPending L.list.fields value.now index nulls.old start encoder.old
+        → WritesUpTo L.list.fields value.now (index + 1) start result nulls.new encoder.new }
+    ensures nulls { nulls.new ≤ index + 1 }
+{
+    if index >= L::field_rules().len() {
+        return Ok(());
+    }
+    if value.is_null_field(index) {
+        *nulls += 1;
+        return Ok(());
+    }
+    match write_pending(nulls, encoder) {
+        Ok(()) => value.write_field(index, encoder),
+        Err(error) => Err(error),
+    }
+}
+
+// Writes the nulls that were counted.
+#[inline(always)]
+fn write_pending<P: Pass>(nulls: &mut usize, encoder: &mut Encoder<P>) -> Result<(), Error>
+    ensures none { nulls.old ≡ 0 → (encoder.new ≡ encoder.old) × (result ≡ Ok tt) }
+    ensures written { 0 < nulls.old → Writes encoder.old (nulls_of nulls.old) result encoder.new }
+    ensures counted { nulls.new ≡ 0 }
+{
+    if *nulls == 0 {
+        return Ok(());
+    }
+    encoder.write_nulls(replace(nulls, 0))
 }

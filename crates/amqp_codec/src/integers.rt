@@ -6,7 +6,7 @@ ghost use Rattle.amqp_codec.specs.Agreement.{one_term, agreement, writing_of};
 
 use crate::{DeserializeTerm, Serialize, SerializeTerm};
 use amqp_decoder::Decoder;
-use amqp_encoder::Encoder;
+use amqp_encoder::{Encoder, Pass};
 use amqp_wire::{ByteSource, Error};
 use std::alloc::Global;
 
@@ -14,7 +14,7 @@ impl Serialize for u8 {
     ghost writing = { writing_of ubyte_type refl };
 
     #[inline(always)]
-    fn serialize(&self, encoder: &mut Encoder) -> Result<(), Error> {
+    fn serialize<P: Pass>(&self, encoder: &mut Encoder<P>) -> Result<(), Error> {
         encoder.write_ubyte(*self)
     }
 
@@ -45,7 +45,7 @@ impl Serialize for u16 {
     ghost writing = { writing_of ushort_type refl };
 
     #[inline(always)]
-    fn serialize(&self, encoder: &mut Encoder) -> Result<(), Error> {
+    fn serialize<P: Pass>(&self, encoder: &mut Encoder<P>) -> Result<(), Error> {
         encoder.write_ushort(*self)
     }
 
@@ -76,7 +76,7 @@ impl Serialize for u32 {
     ghost writing = { writing_of uint_type refl };
 
     #[inline(always)]
-    fn serialize(&self, encoder: &mut Encoder) -> Result<(), Error> {
+    fn serialize<P: Pass>(&self, encoder: &mut Encoder<P>) -> Result<(), Error> {
         encoder.write_uint(*self)
     }
 
@@ -107,7 +107,7 @@ impl Serialize for u64 {
     ghost writing = { writing_of ulong_type refl };
 
     #[inline(always)]
-    fn serialize(&self, encoder: &mut Encoder) -> Result<(), Error> {
+    fn serialize<P: Pass>(&self, encoder: &mut Encoder<P>) -> Result<(), Error> {
         encoder.write_ulong(*self)
     }
 
@@ -138,7 +138,7 @@ impl Serialize for i8 {
     ghost writing = { writing_of byte_type refl };
 
     #[inline(always)]
-    fn serialize(&self, encoder: &mut Encoder) -> Result<(), Error> {
+    fn serialize<P: Pass>(&self, encoder: &mut Encoder<P>) -> Result<(), Error> {
         encoder.write_byte(*self)
     }
 
@@ -169,7 +169,7 @@ impl Serialize for i16 {
     ghost writing = { writing_of short_type refl };
 
     #[inline(always)]
-    fn serialize(&self, encoder: &mut Encoder) -> Result<(), Error> {
+    fn serialize<P: Pass>(&self, encoder: &mut Encoder<P>) -> Result<(), Error> {
         encoder.write_short(*self)
     }
 
@@ -200,7 +200,7 @@ impl Serialize for i32 {
     ghost writing = { writing_of int_type refl };
 
     #[inline(always)]
-    fn serialize(&self, encoder: &mut Encoder) -> Result<(), Error> {
+    fn serialize<P: Pass>(&self, encoder: &mut Encoder<P>) -> Result<(), Error> {
         encoder.write_int(*self)
     }
 
@@ -231,7 +231,7 @@ impl Serialize for i64 {
     ghost writing = { writing_of long_type refl };
 
     #[inline(always)]
-    fn serialize(&self, encoder: &mut Encoder) -> Result<(), Error> {
+    fn serialize<P: Pass>(&self, encoder: &mut Encoder<P>) -> Result<(), Error> {
         encoder.write_long(*self)
     }
 

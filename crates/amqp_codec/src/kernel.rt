@@ -3,7 +3,7 @@
 pub use crate::composite::{Composite, read_composite, write_composite};
 pub use crate::fieldless::Fieldless;
 pub use crate::fields::{
-    FieldList, FieldRule, read_fields, read_into, read_list, read_some, value_in_type, write_list,
+    FieldList, FieldRule, fill_fields, read_into, read_list, read_some, value_in_type, write_list,
     write_value,
 };
 pub use crate::lists::{each_in_type, read_each, write_each};

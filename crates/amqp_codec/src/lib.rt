@@ -17,7 +17,7 @@ mod texts;
 mod traits;
 
 pub use amqp_decoder::Decoder;
-pub use amqp_encoder::Encoder;
+pub use amqp_encoder::{Encoder, Pass};
 pub use amqp_wire::{ByteSource, Descriptor, Error, Symbol};
 pub use keys::MapKey;
 pub use traits::{Canonical, Deserialize, DeserializeTerm, Serialize, SerializeTerm};

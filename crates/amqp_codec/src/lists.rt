@@ -13,12 +13,15 @@ ghost use Rattle.amqp_codec.specs.VecType.{vec_of, vec_agreement};
 
 use crate::{DeserializeTerm, Serialize, SerializeTerm};
 use amqp_decoder::Decoder;
-use amqp_encoder::Encoder;
+use amqp_encoder::{Encoder, Pass};
 use amqp_wire::{ByteSource, Error};
 use std::alloc::Global;
 
 /// Writes the values one after another. It returns the errors of the values, or the error of an encoder that has refused before.
-pub fn write_each<T: Serialize>(values: &[T], encoder: &mut Encoder) -> Result<(), Error>
+pub fn write_each<T: Serialize, P: Pass>(
+    values: &[T],
+    encoder: &mut Encoder<P>,
+) -> Result<(), Error>
     ensures { WritesTerms (flat_map T.writing.canons values.now) encoder.old result encoder.new }
 {
     encoder.check()?;
@@ -63,7 +66,7 @@ pub fn read_each<T: DeserializeTerm, R: ByteSource>(
 impl<T: SerializeTerm> Serialize for Vec<T> {
     ghost writing = { via_writing (λ v. v.items) (items_writing list tt T.writing) };
 
-    fn serialize(&self, encoder: &mut Encoder) -> Result<(), Error> {
+    fn serialize<P: Pass>(&self, encoder: &mut Encoder<P>) -> Result<(), Error> {
         encoder.begin_list()?;
         write_each(self.as_slice(), encoder)?;
         encoder.end_list()

@@ -3,14 +3,14 @@ ghost use Rattle.std.specs.Prelude.{[], ◌∷◌};
 ghost use Rattle.amqp_codec.specs.Written.{WritesTerms, canon_of};
 
 use crate::SerializeTerm;
-use amqp_encoder::Encoder;
+use amqp_encoder::{Encoder, Pass};
 use amqp_wire::Error;
 
 /// Writes a key and then its value, into a map that is open. It returns the errors of the key and of the value.
-pub fn write_pair<K: SerializeTerm, V: SerializeTerm>(
+pub fn write_pair<K: SerializeTerm, V: SerializeTerm, P: Pass>(
     key: &K,
     value: &V,
-    encoder: &mut Encoder,
+    encoder: &mut Encoder<P>,
 ) -> Result<(), Error>
     ensures { WritesTerms (canon_of K.writing key.now ∷ canon_of V.writing value.now ∷ []) encoder.old result encoder.new }
 {

@@ -5,14 +5,14 @@ ghost use Rattle.amqp_codec.specs.Agreement.{one_term, agreement, writing_of};
 
 use crate::{DeserializeTerm, Serialize, SerializeTerm};
 use amqp_decoder::Decoder;
-use amqp_encoder::Encoder;
+use amqp_encoder::{Encoder, Pass};
 use amqp_wire::{ByteSource, Error};
 use std::alloc::Global;
 
 impl Serialize for () {
     ghost writing = { writing_of null_type refl };
 
-    fn serialize(&self, encoder: &mut Encoder) -> Result<(), Error> {
+    fn serialize<P: Pass>(&self, encoder: &mut Encoder<P>) -> Result<(), Error> {
         encoder.write_null()
     }
 
@@ -41,7 +41,7 @@ impl Serialize for bool {
     ghost writing = { writing_of boolean_type refl };
 
     #[inline(always)]
-    fn serialize(&self, encoder: &mut Encoder) -> Result<(), Error> {
+    fn serialize<P: Pass>(&self, encoder: &mut Encoder<P>) -> Result<(), Error> {
         encoder.write_bool(*self)
     }
 
@@ -69,7 +69,7 @@ impl DeserializeTerm for bool {
 impl Serialize for char {
     ghost writing = { writing_of char_type refl };
 
-    fn serialize(&self, encoder: &mut Encoder) -> Result<(), Error> {
+    fn serialize<P: Pass>(&self, encoder: &mut Encoder<P>) -> Result<(), Error> {
         encoder.write_char(*self)
     }
 

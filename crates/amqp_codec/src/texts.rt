@@ -7,7 +7,7 @@ ghost use Rattle.amqp_codec.specs.Agreement.{one_term, agreement, writing_of, vi
 
 use crate::{DeserializeTerm, Serialize, SerializeTerm};
 use amqp_decoder::Decoder;
-use amqp_encoder::Encoder;
+use amqp_encoder::{Encoder, Pass};
 use amqp_wire::{ByteSource, Error, Symbol};
 use std::alloc::Global;
 use std::borrow::CowStr;
@@ -15,7 +15,7 @@ use std::borrow::CowStr;
 impl Serialize for String {
     ghost writing = { writing_of string_type refl };
 
-    fn serialize(&self, encoder: &mut Encoder) -> Result<(), Error> {
+    fn serialize<P: Pass>(&self, encoder: &mut Encoder<P>) -> Result<(), Error> {
         encoder.write_string(self.as_str())
     }
 
@@ -45,7 +45,7 @@ impl DeserializeTerm for String {
 impl Serialize for Symbol {
     ghost writing = { writing_of symbol_type refl };
 
-    fn serialize(&self, encoder: &mut Encoder) -> Result<(), Error> {
+    fn serialize<P: Pass>(&self, encoder: &mut Encoder<P>) -> Result<(), Error> {
         encoder.write_symbol(self.as_str())
     }
 
@@ -73,7 +73,7 @@ impl DeserializeTerm for Symbol {
 impl Serialize for &str {
     ghost writing = { via_writing (λ v. v.now) (writing_of string_bytes_type refl) };
 
-    fn serialize(&self, encoder: &mut Encoder) -> Result<(), Error> {
+    fn serialize<P: Pass>(&self, encoder: &mut Encoder<P>) -> Result<(), Error> {
         encoder.write_string(*self)
     }
 
@@ -93,7 +93,7 @@ impl SerializeTerm for &str {
 impl Serialize for CowStr<'_> {
     ghost writing = { via_writing cow_str_bytes (writing_of string_bytes_type refl) };
 
-    fn serialize(&self, encoder: &mut Encoder) -> Result<(), Error> {
+    fn serialize<P: Pass>(&self, encoder: &mut Encoder<P>) -> Result<(), Error> {
         encoder.write_string(self.as_str())
     }
 

@@ -14,7 +14,7 @@ ghost use Rattle.amqp_codec.specs.TermReading.{reading_of};
 ghost use Rattle.amqp_codec.specs.Rewriting.{Rewriting, rewrites};
 
 use amqp_decoder::Decoder;
-use amqp_encoder::Encoder;
+use amqp_encoder::{Encoder, Pass};
 use amqp_wire::{ByteSource, Error};
 use std::alloc::Global;
 
@@ -25,7 +25,7 @@ pub trait Serialize {
 
     /// Writes the value to an encoder that measures, and again to one that fills. A type that allocates here may fail, by
     /// `Encoder::refuse`.
-    fn serialize(&self, encoder: &mut Encoder) -> Result<(), Error>
+    fn serialize<P: Pass>(&self, encoder: &mut Encoder<P>) -> Result<(), Error>
         ensures { WritesTerms (writing.canons self.now) encoder.old result encoder.new };
 
     /// Promises that the value is one of its type. It doesn't allocate.

@@ -3,7 +3,7 @@ use Rattle.std.proofs.Common.{◌≡◌, List, [], ◌∷◌, map, Result, refl,
 use Rattle.amqp_model.specs.Term.{array, Term}
 use Rattle.amqp_model.specs.FieldRules.{array_or}
 use Rattle.amqp_wire.specs.declared.error.Error.{Error}
-use Rattle.amqp_encoder.specs.declared.encoder.Encoder.{Encoder}
+use Rattle.amqp_encoder.specs.State.{Encoder}
 use Rattle.amqp_codec.specs.TermType.{TermType}
 use Rattle.amqp_codec.specs.Written.{WritesTerms, Writing}
 use Rattle.amqp_codec.specs.Agreement.{Agreement}

@@ -11,7 +11,7 @@ ghost use Rattle.amqp_containers.specs.ArrayType.{array_of, array_agreement};
 use amqp_codec::kernel::{each_in_type, read_each, write_each};
 use amqp_codec::{DeserializeTerm, Serialize, SerializeTerm};
 use amqp_decoder::Decoder;
-use amqp_encoder::Encoder;
+use amqp_encoder::{Encoder, Pass};
 use amqp_wire::{ByteSource, Error};
 use std::alloc::Global;
 use std::ops::Deref;
@@ -95,7 +95,7 @@ impl<'a, T> IntoIterator for &'a Array<T> {
 impl<T: SerializeTerm> Serialize for Array<T> {
     ghost writing = { via_writing (λ v. v.0.items) (items_writing array tt T.writing) };
 
-    fn serialize(&self, encoder: &mut Encoder) -> Result<(), Error> {
+    fn serialize<P: Pass>(&self, encoder: &mut Encoder<P>) -> Result<(), Error> {
         encoder.begin_array()?;
         write_each(self.0.as_slice(), encoder)?;
         encoder.end_array()

@@ -14,7 +14,7 @@ ghost use Rattle.amqp_containers.specs.Several.{multiple_canon, mandatory_multip
 use crate::Array;
 use amqp_codec::{DeserializeTerm, Serialize};
 use amqp_decoder::Decoder;
-use amqp_encoder::Encoder;
+use amqp_encoder::{Encoder, Pass};
 use amqp_wire::{ByteSource, Error, format_code};
 use std::alloc::Global;
 
@@ -57,8 +57,13 @@ pub fn read_multiple<T: DeserializeTerm, R: ByteSource>(
         decoder.old place.new result decoder.new }
     ensures tries { Tries true decoder.old result decoder.new }
 {
-    *place = read_several(decoder, alloc)?;
-    Ok(())
+    match read_several(decoder, alloc) {
+        Ok(found) => {
+            *place = found;
+            Ok(())
+        }
+        Err(error) => Err(error),
+    }
 }
 
 /// Reads a field that has at least one value into its place. It returns the errors of `read_multiple`, or `EmptyMultiple` if an array
@@ -92,9 +97,9 @@ pub fn is_null_multiple<T: DeserializeTerm>(field: &Option<Array<T>>) -> bool
 }
 
 /// Writes a field that may have no values: an array of them, also for one, and null for none. It returns the errors of the array.
-pub fn write_multiple<T: DeserializeTerm>(
+pub fn write_multiple<T: DeserializeTerm, P: Pass>(
     field: &Option<Array<T>>,
-    encoder: &mut Encoder,
+    encoder: &mut Encoder<P>,
 ) -> Result<(), Error>
     ensures { WritesTerms (multiple_canon T.term.canon field.now ∷ []) encoder.old result encoder.new }
 {
@@ -113,9 +118,9 @@ pub fn is_null_mandatory_multiple<T: DeserializeTerm>(_field: &Array<T>) -> bool
 
 /// Writes a field that has at least one value, as an array of the values, also for one. It returns the errors of the array, or
 /// `EmptyMultiple` if the field has no value.
-pub fn write_mandatory_multiple<T: DeserializeTerm>(
+pub fn write_mandatory_multiple<T: DeserializeTerm, P: Pass>(
     field: &Array<T>,
-    encoder: &mut Encoder,
+    encoder: &mut Encoder<P>,
 ) -> Result<(), Error>
     ensures { WritesTerms (mandatory_multiple_canon T.term.canon field.now ∷ []) encoder.old result encoder.new }
 {

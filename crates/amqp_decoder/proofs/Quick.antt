@@ -1,6 +1,6 @@
 -- A value that is read the quick way is one that is read by its parts.
 use Rattle.std.proofs.Common.{◌≡◌, ◌<◌, ℕ, ◌-◌, ◌+◌, Option, Some, List, [], ◌∷◌, ◌++◌, length, drop, get_or, min, refl, sym, ap, ◌∙◌, subst, arith, suc}
-use Rattle.std.proofs.Common.{drop-drop}
+use Rattle.std.proofs.Common.{drop-drop, None, IfSome, MatchOption}
 use Rattle.std.proofs.lemmas.List.{length-drop, take_all}
 use Rattle.amqp_lookahead.proofs.SectionsAhead.{bytes_at, bytes_are}
 use Rattle.amqp_decoder.specs.State.{State, Has, lower, counted, counted_in, after_data, after_look}
@@ -90,6 +90,12 @@ quick_peeks st c new plain left (next, is) =
     let one : 1 ≡ min 1 (length st.rest) = omega (arith, ap length next) in
     peeked_own st c new plain.going plain.item plain.own (has_item st.top.left left) (is ∙ ap (λ n. after_look n st) one) next
     (may_begin_plain st c plain)
+
+-- a look the quick way, which finds a code or none
+pub quick_looks : (st : State) (o : Option ℕ) (new : State) → IsPlain st → (st.top.left ≡ Some 0 → ⊥)
+    → MatchOption o (new ≡ st) (λ b. (st.rest ≡ b ∷ drop 1 st.rest) × (new ≡ after_look 1 st)) → IfSome o (λ c. PeeksCode st c new)
+quick_looks st None new plain left h = tt
+quick_looks st (Some c) new plain left h = quick_peeks st c new plain left h
 
 -- the bytes behind a code, one by one
 pub behind_code : (n : ℕ) (l : List ℕ) → length (drop 1 l) ≡ suc n → drop 1 l ≡ bytes_at (suc n) 1 l

@@ -1,5 +1,5 @@
 //! The calls that read primitives whose data has a known width (Part 1, section 1.6).
-ghost use Rattle.std.specs.Prelude.{◌<◌, ◌≡◌, Some, MatchOption, IfOk, IfErr, false, true};
+ghost use Rattle.std.specs.Prelude.{◌<◌, ◌≡◌, Some, None, MatchOption, IfSome, IfOk, IfErr, false};
 ghost use Rattle.amqp_model.specs.Term.{null, boolean, ubyte, ushort, uint, ulong, byte, short, int, long, char, timestamp, decimal32};
 ghost use Rattle.amqp_model.specs.Term.{decimal64, decimal128, uuid};
 ghost use Rattle.amqp_wire.specs.Sources.{Tells};
@@ -51,17 +51,23 @@ impl<R: ByteSource> Decoder<R> {
         Ok(())
     }
 
-    /// Takes a null that comes next, if it is at hand, and returns whether it did. Otherwise it takes nothing, and says nothing about what
-    /// comes next.
-    #[inline]
-    pub fn take_null(&mut self) -> bool
-        ensures taken { Tells R.remaining → result ≡ true → ReadsValue (Means (λ (_ : Unit {0}). null)) self.old tt self.new }
-        ensures left { result ≡ false → self.new ≡ self.old }
-        ensures began { result ≡ true → Began self.old self.new }
+    // A boolean of one byte that is at hand. `None` takes nothing, and says nothing about what comes next.
+    #[inline(always)]
+    fn quick_bool(&mut self) -> Option<bool>
+        ensures none { result ≡ None → self.new ≡ self.old }
+        ensures read { IfSome result (λ v. Tells R.remaining → ReadsValue (Means boolean) self.old v self.new) }
+        ensures began { IfSome result (λ _. Began self.old self.new) }
     {
-        match self.quick::<1>(format_code::NULL) {
-            Some(_) => true,
-            None => false,
+        match self.plain_code()? {
+            format_code::BOOLEAN_TRUE => {
+                let _code = self.take_plain::<1>(format_code::BOOLEAN_TRUE)?;
+                Some(true)
+            }
+            format_code::BOOLEAN_FALSE => {
+                let _code = self.take_plain::<1>(format_code::BOOLEAN_FALSE)?;
+                Some(false)
+            }
+            _ => None,
         }
     }
 
@@ -71,13 +77,10 @@ impl<R: ByteSource> Decoder<R> {
         ensures read { Tells R.remaining → AnswersRead false (ReadsValue (Means boolean)) (PrimitiveFault booleans) self.old result self.new }
         ensures tries { Tries false self.old result self.new }
     {
-        if let Some(_) = self.quick::<1>(format_code::BOOLEAN_TRUE) {
-            return Ok(true);
+        match self.quick_bool() {
+            Some(value) => Ok(value),
+            None => self.read_any_bool(),
         }
-        if let Some(_) = self.quick::<1>(format_code::BOOLEAN_FALSE) {
-            return Ok(false);
-        }
-        self.read_any_bool()
     }
 
     // The same, however the source gives it.
@@ -116,23 +119,41 @@ impl<R: ByteSource> Decoder<R> {
         Ok(u16::from_be_bytes(self.fixed(format_code::USHORT)?))
     }
 
+    // An unsigned integer of 32 bits whose bytes are at hand. `None` takes nothing, and says nothing about what comes next.
+    #[inline(always)]
+    fn quick_uint(&mut self) -> Option<u32>
+        ensures none { result ≡ None → self.new ≡ self.old }
+        ensures read { IfSome result (λ v. Tells R.remaining → ReadsValue (Means uint) self.old v self.new) }
+        ensures began { IfSome result (λ _. Began self.old self.new) }
+    {
+        match self.plain_code()? {
+            format_code::UINT => {
+                let bytes = self.take_plain::<5>(format_code::UINT)?;
+                let [_, a, b, c, d] = bytes;
+                Some(u32::from_be_bytes([a, b, c, d]))
+            }
+            format_code::SMALL_UINT => {
+                let bytes = self.take_plain::<2>(format_code::SMALL_UINT)?;
+                Some(u32::from(bytes[1]))
+            }
+            format_code::UINT_0 => {
+                let _code = self.take_plain::<1>(format_code::UINT_0)?;
+                Some(0)
+            }
+            _ => None,
+        }
+    }
+
     /// Reads an unsigned integer of 32 bits (Part 1, section 1.6.5).
     #[inline]
     pub fn read_uint(&mut self) -> Result<u32, Error>
         ensures read { Tells R.remaining → AnswersRead false (ReadsValue (Means uint)) (PrimitiveFault uints) self.old result self.new }
         ensures tries { Tries false self.old result self.new }
     {
-        if let Some(bytes) = self.quick::<5>(format_code::UINT) {
-            let [_, a, b, c, d] = bytes;
-            return Ok(u32::from_be_bytes([a, b, c, d]));
+        match self.quick_uint() {
+            Some(value) => Ok(value),
+            None => self.read_any_uint(),
         }
-        if let Some(bytes) = self.quick::<2>(format_code::SMALL_UINT) {
-            return Ok(u32::from(bytes[1]));
-        }
-        if let Some(_) = self.quick::<1>(format_code::UINT_0) {
-            return Ok(0);
-        }
-        self.read_any_uint()
     }
 
     // The same, however the source gives it.
@@ -167,23 +188,41 @@ impl<R: ByteSource> Decoder<R> {
         }
     }
 
+    // An unsigned integer of 64 bits whose bytes are at hand. `None` takes nothing, and says nothing about what comes next.
+    #[inline(always)]
+    fn quick_ulong(&mut self) -> Option<u64>
+        ensures none { result ≡ None → self.new ≡ self.old }
+        ensures read { IfSome result (λ v. Tells R.remaining → ReadsValue (Means ulong) self.old v self.new) }
+        ensures began { IfSome result (λ _. Began self.old self.new) }
+    {
+        match self.plain_code()? {
+            format_code::SMALL_ULONG => {
+                let bytes = self.take_plain::<2>(format_code::SMALL_ULONG)?;
+                Some(u64::from(bytes[1]))
+            }
+            format_code::ULONG_0 => {
+                let _code = self.take_plain::<1>(format_code::ULONG_0)?;
+                Some(0)
+            }
+            format_code::ULONG => {
+                let bytes = self.take_plain::<9>(format_code::ULONG)?;
+                let [_, a, b, c, d, e, f, g, h] = bytes;
+                Some(u64::from_be_bytes([a, b, c, d, e, f, g, h]))
+            }
+            _ => None,
+        }
+    }
+
     /// Reads an unsigned integer of 64 bits (Part 1, section 1.6.6).
     #[inline]
     pub fn read_ulong(&mut self) -> Result<u64, Error>
         ensures read { Tells R.remaining → AnswersRead false (ReadsValue (Means ulong)) (PrimitiveFault ulongs) self.old result self.new }
         ensures tries { Tries false self.old result self.new }
     {
-        if let Some(bytes) = self.quick::<2>(format_code::SMALL_ULONG) {
-            return Ok(u64::from(bytes[1]));
+        match self.quick_ulong() {
+            Some(value) => Ok(value),
+            None => self.read_any_ulong(),
         }
-        if let Some(_) = self.quick::<1>(format_code::ULONG_0) {
-            return Ok(0);
-        }
-        if let Some(bytes) = self.quick::<9>(format_code::ULONG) {
-            let [_, a, b, c, d, e, f, g, h] = bytes;
-            return Ok(u64::from_be_bytes([a, b, c, d, e, f, g, h]));
-        }
-        self.read_any_ulong()
     }
 
     // The same, however the source gives it.

@@ -3,7 +3,7 @@ ghost use Rattle.amqp_sums.specs.Types.{composite, has_none, names_of, one_term,
 ghost use Rattle.amqp_delivery.specs.Tables.{accepted};
 
 use amqp_codec::kernel::{Composite, Fieldless, write_composite};
-use amqp_codec::{Encoder, Error, Serialize, SerializeTerm};
+use amqp_codec::{Encoder, Error, Pass, Serialize, SerializeTerm};
 
 /// The delivery was processed successfully.
 #[derive(Clone, Debug, PartialEq, Eq, Drop)]
@@ -27,7 +27,7 @@ impl Fieldless for Accepted {
 impl Serialize for Accepted {
     ghost writing = { writing_of (composite accepted) refl };
 
-    fn serialize(&self, encoder: &mut Encoder) -> Result<(), Error> {
+    fn serialize<P: Pass>(&self, encoder: &mut Encoder<P>) -> Result<(), Error> {
         write_composite(self, Accepted::DESCRIPTOR.0, encoder)
     }
 

@@ -5,7 +5,7 @@ ghost use Rattle.amqp_delivery.specs.Tables.{declare};
 
 use crate::TransactionId;
 use amqp_codec::kernel::{Composite, FieldList, FieldRule, write_composite};
-use amqp_codec::{ByteSource, Decoder, Encoder, Error, Serialize, SerializeTerm, fields};
+use amqp_codec::{ByteSource, Decoder, Encoder, Error, Pass, Serialize, SerializeTerm, fields};
 use std::alloc::Global;
 
 /// Asks the coordinator for a transaction.
@@ -50,6 +50,7 @@ impl FieldList for Declare {
         Declare { global_id: None }
     }
 
+    #[inline(always)]
     fn fill_field<R: ByteSource>(
         &mut self,
         index: usize,
@@ -59,11 +60,13 @@ impl FieldList for Declare {
         declare_fields!(fill(self, index, decoder, alloc))
     }
 
+    #[inline(always)]
     fn is_null_field(&self, index: usize) -> bool {
         declare_fields!(is_null(self, index))
     }
 
-    fn write_field(&self, index: usize, encoder: &mut Encoder) -> Result<(), Error> {
+    #[inline(always)]
+    fn write_field<P: Pass>(&self, index: usize, encoder: &mut Encoder<P>) -> Result<(), Error> {
         declare_fields!(write(self, index, encoder))
     }
 }
@@ -71,7 +74,7 @@ impl FieldList for Declare {
 impl Serialize for Declare {
     ghost writing = { writing_of (composite declare) refl };
 
-    fn serialize(&self, encoder: &mut Encoder) -> Result<(), Error> {
+    fn serialize<P: Pass>(&self, encoder: &mut Encoder<P>) -> Result<(), Error> {
         write_composite(self, Declare::DESCRIPTOR.0, encoder)
     }
 

@@ -4,7 +4,7 @@ ghost use Rattle.amqp_delivery.specs.Tables.{declared};
 
 use crate::TransactionId;
 use amqp_codec::kernel::{Composite, FieldList, FieldRule, write_composite};
-use amqp_codec::{ByteSource, Decoder, Encoder, Error, Serialize, SerializeTerm, fields};
+use amqp_codec::{ByteSource, Decoder, Encoder, Error, Pass, Serialize, SerializeTerm, fields};
 use amqp_primitives::Binary;
 use std::alloc::Global;
 
@@ -45,6 +45,7 @@ impl FieldList for Declared {
         }
     }
 
+    #[inline(always)]
     fn fill_field<R: ByteSource>(
         &mut self,
         index: usize,
@@ -54,11 +55,13 @@ impl FieldList for Declared {
         declared_fields!(fill(self, index, decoder, alloc))
     }
 
+    #[inline(always)]
     fn is_null_field(&self, index: usize) -> bool {
         declared_fields!(is_null(self, index))
     }
 
-    fn write_field(&self, index: usize, encoder: &mut Encoder) -> Result<(), Error> {
+    #[inline(always)]
+    fn write_field<P: Pass>(&self, index: usize, encoder: &mut Encoder<P>) -> Result<(), Error> {
         declared_fields!(write(self, index, encoder))
     }
 }
@@ -66,7 +69,7 @@ impl FieldList for Declared {
 impl Serialize for Declared {
     ghost writing = { writing_of (composite declared) refl };
 
-    fn serialize(&self, encoder: &mut Encoder) -> Result<(), Error> {
+    fn serialize<P: Pass>(&self, encoder: &mut Encoder<P>) -> Result<(), Error> {
         write_composite(self, Declared::DESCRIPTOR.0, encoder)
     }
 

@@ -5,7 +5,9 @@ ghost use Rattle.amqp_delivery.specs.Members.{as_state};
 ghost use Rattle.amqp_delivery.specs.Tables.{outcome, outcomes};
 
 use crate::{Accepted, Declared, DeliveryState, Modified, Rejected, Released};
-use amqp_codec::{ByteSource, Decoder, DeserializeTerm, Encoder, Error, Serialize, SerializeTerm};
+use amqp_codec::{
+    ByteSource, Decoder, DeserializeTerm, Encoder, Error, Pass, Serialize, SerializeTerm,
+};
 use amqp_sums::{Sum, is_null_sum, read_as, read_sum, write_as};
 use std::alloc::Global;
 
@@ -115,7 +117,7 @@ impl Sum for Outcome {
 impl Serialize for Outcome {
     ghost writing = { sum_writing outcomes };
 
-    fn serialize(&self, encoder: &mut Encoder) -> Result<(), Error> {
+    fn serialize<P: Pass>(&self, encoder: &mut Encoder<P>) -> Result<(), Error> {
         match self {
             Outcome::Accepted(accepted) => write_as(self, accepted, encoder),
             Outcome::Rejected(rejected) => write_as(self, rejected, encoder),

@@ -4,7 +4,7 @@ ghost use Rattle.amqp_delivery.specs.Tables.{rejected};
 
 use amqp_codec::kernel::{Composite, FieldList, FieldRule, write_composite};
 use amqp_codec::{
-    ByteSource, Decoder, Encoder, Error as CodecError, Serialize, SerializeTerm, fields,
+    ByteSource, Decoder, Encoder, Error as CodecError, Pass, Serialize, SerializeTerm, fields,
 };
 use amqp_errors::Error;
 use std::alloc::Global;
@@ -44,6 +44,7 @@ impl FieldList for Rejected {
         Rejected { error: None }
     }
 
+    #[inline(always)]
     fn fill_field<R: ByteSource>(
         &mut self,
         index: usize,
@@ -53,11 +54,17 @@ impl FieldList for Rejected {
         rejected_fields!(fill(self, index, decoder, alloc))
     }
 
+    #[inline(always)]
     fn is_null_field(&self, index: usize) -> bool {
         rejected_fields!(is_null(self, index))
     }
 
-    fn write_field(&self, index: usize, encoder: &mut Encoder) -> Result<(), CodecError> {
+    #[inline(always)]
+    fn write_field<P: Pass>(
+        &self,
+        index: usize,
+        encoder: &mut Encoder<P>,
+    ) -> Result<(), CodecError> {
         rejected_fields!(write(self, index, encoder))
     }
 }
@@ -65,7 +72,7 @@ impl FieldList for Rejected {
 impl Serialize for Rejected {
     ghost writing = { writing_of (composite rejected) refl };
 
-    fn serialize(&self, encoder: &mut Encoder) -> Result<(), CodecError> {
+    fn serialize<P: Pass>(&self, encoder: &mut Encoder<P>) -> Result<(), CodecError> {
         write_composite(self, Rejected::DESCRIPTOR.0, encoder)
     }
 

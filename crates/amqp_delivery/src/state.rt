@@ -4,7 +4,9 @@ ghost use Rattle.amqp_sums.specs.Choices.{sum_one, sum_agreement, sum_writing};
 ghost use Rattle.amqp_delivery.specs.Tables.{delivery_state, delivery_states};
 
 use crate::{Accepted, Declared, Modified, Received, Rejected, Released, TransactionalState};
-use amqp_codec::{ByteSource, Decoder, DeserializeTerm, Encoder, Error, Serialize, SerializeTerm};
+use amqp_codec::{
+    ByteSource, Decoder, DeserializeTerm, Encoder, Error, Pass, Serialize, SerializeTerm,
+};
 use amqp_sums::{Sum, is_null_sum, read_as, read_sum, write_as};
 use std::alloc::Global;
 
@@ -126,7 +128,7 @@ impl Sum for DeliveryState {
 impl Serialize for DeliveryState {
     ghost writing = { sum_writing delivery_states };
 
-    fn serialize(&self, encoder: &mut Encoder) -> Result<(), Error> {
+    fn serialize<P: Pass>(&self, encoder: &mut Encoder<P>) -> Result<(), Error> {
         match self {
             DeliveryState::Received(received) => write_as(self, received, encoder),
             DeliveryState::Accepted(accepted) => write_as(self, accepted, encoder),

@@ -11,7 +11,7 @@ ghost use Rattle.amqp_described.specs.DescribedType.{pair_of, described_of, desc
 
 use amqp_codec::{DeserializeTerm, Serialize, SerializeTerm};
 use amqp_decoder::Decoder;
-use amqp_encoder::Encoder;
+use amqp_encoder::{Encoder, Pass};
 use amqp_wire::{ByteSource, Descriptor, Error};
 use std::alloc::Global;
 
@@ -60,7 +60,7 @@ fn in_range(descriptor: &Descriptor)
 impl<T: SerializeTerm> Serialize for Described<T> {
     ghost writing = { via_writing pair_of (pair_writing any_descriptor T.writing) };
 
-    fn serialize(&self, encoder: &mut Encoder) -> Result<(), Error> {
+    fn serialize<P: Pass>(&self, encoder: &mut Encoder<P>) -> Result<(), Error> {
         encoder.begin_described(&self.descriptor)?;
         self.value.serialize(encoder)?;
         encoder.end_described()

@@ -9,7 +9,7 @@ use Rattle.amqp_model.specs.Refusals.{Refuses}
 use Rattle.amqp_wire.specs.Refusals.{error_of}
 use Rattle.amqp_wire.specs.declared.error.Error.{Error}
 use Rattle.amqp_wire.specs.declared.error.Error.TheVariants.{Memory, TooLarge, LazyInArray}
-use Rattle.amqp_encoder.specs.declared.encoder.Encoder.{Encoder}
+use Rattle.amqp_encoder.specs.State.{Encoder}
 use Rattle.amqp_encoder.specs.Measuring.{MAX}
 use Rattle.amqp_encoder.specs.Tokens.{tokens}
 use Rattle.amqp_encoder.specs.Writes.{Writes}

@@ -30,11 +30,11 @@ abbrev pub last : Terms → Place → Place
 last none p = p
 last (more t ts) p = last ts (next p)
 
-emits : (bs : List ℕ) (p : Place) (outer : List Place) (sizes : List Size) (out : List ℕ) (limit : ℕ) → length out + length bs ≤ limit →
+pub emits : (bs : List ℕ) (p : Place) (outer : List Place) (sizes : List Size) (out : List ℕ) (limit : ℕ) → length out + length bs ≤ limit →
     emit bs (filled p outer sizes out limit) ≡ Ok (filled p outer sizes (out ++ bs) limit)
 emits bs p outer sizes out limit h = rw (le-ltb limit (length out + length bs) h) refl
 
-opens : (bs : List ℕ) (q p : Place) (outer : List Place) (sizes : List Size) (out : List ℕ) (limit : ℕ) → length outer + 1 ≤ 129
+pub opens : (bs : List ℕ) (q p : Place) (outer : List Place) (sizes : List Size) (out : List ℕ) (limit : ℕ) → length outer + 1 ≤ 129
     → length out + length bs ≤ limit →
     fill_open bs q (filled p outer sizes out limit) ≡ Ok (filled q (p ∷ outer) sizes (out ++ bs) limit)
 opens bs q p outer sizes out limit low h =
@@ -86,7 +86,7 @@ around inner begin_ end_ p q r outer sizes within rest out head body limit other
     ∙ (first_step _ _ end_ others (e (filled r (p ∷ outer) rest ((out ++ head) ++ body) limit))
     ∙ ap (λ o. steps (Filling (filled (next p) outer rest o limit)) others) (append_assoc out head body)))
 
-begins : (k : Container) (items n : ℕ) (p : Place) (outer : List Place) (rest : List Size) (out : List ℕ) (limit : ℕ) → items + 4 < 2 ^ 32
+pub begins : (k : Container) (items n : ℕ) (p : Place) (outer : List Place) (rest : List Size) (out : List ℕ) (limit : ℕ) → items + 4 < 2 ^ 32
     → length outer + 1 ≤ 129 →
     length out + length (opening p k n items) ≤ limit →
     fill_begin k (filled p outer (record { content = items; count = n } ∷ rest) out limit)
@@ -94,7 +94,7 @@ begins : (k : Container) (items n : ℕ) (p : Place) (outer : List Place) (rest 
 begins k items n p outer rest out limit s low h =
     rw (le-ltb 0xffff_fffb items (omega arith)) (opens (opening p k n items) (first_place k) p outer rest out limit low h)
 
-describes : (d : Descriptor) (p : Place) (outer : List Place) (sizes : List Size) (out : List ℕ) (limit : ℕ)
+pub describes : (d : Descriptor) (p : Place) (outer : List Place) (sizes : List Size) (out : List ℕ) (limit : ℕ)
     → sized (descriptor_value d) ≡ Ok tt → length outer + 1 ≤ 129 →
     length out + length (descriptor_text p d) ≤ limit →
     fill_begin_described d (filled p outer sizes out limit) ≡ Ok (filled p (p ∷ outer) sizes (out ++ descriptor_text p d) limit)

@@ -8,7 +8,7 @@ use Rattle.amqp_encoder.specs.Tokens.{Token}
 use Rattle.amqp_encoder.specs.State.{Measured, Filled}
 use Rattle.amqp_encoder.specs.Writes.{Fills, step, steps, measure, measuring, fill, filling, outcome, Runs, Writes, Follows, MayRunOut, AnyMayRunOut}
 use Rattle.amqp_encoder.specs.Writes.{RunsOut, IsGoing, pass_of, bytes_of}
-use Rattle.amqp_encoder.specs.declared.encoder.Encoder.{Encoder}
+use Rattle.amqp_encoder.specs.State.{Encoder}
 use Rattle.amqp_encoder.specs.State.{Pass, Measuring, Filling, Stopped}
 
 pub steps-append : (s : Pass) (xs ys : List Token) → steps s (xs ++ ys) ≡ steps (steps s xs) ys
@@ -75,7 +75,7 @@ fills_from a ts r b w h =
 pub filling_never : (f : Filled) (ts : List Token) → AnyMayRunOut (Filling f) ts → ⊥
 filling_never f ts h = only_measuring (Filling f) ts (λ n. n) h
 
-stopped_of : (s : Pass) (e : Error) → Err e ≡ outcome s → s ≡ Stopped e
+pub stopped_of : (s : Pass) (e : Error) → Err e ≡ outcome s → s ≡ Stopped e
 stopped_of (Measuring m) e h = cc
 stopped_of (Filling f) e h = cc
 stopped_of (Stopped d) e h = let i : d ≡ e = cc in ap Stopped i
@@ -102,7 +102,7 @@ joined_state a b c xs ys g (inl h) (inl k) = inl (rw (steps-append, ← h) k)
 joined_state a b c xs ys g (inl h) (inr k) = inr (later_may a xs ys (rw h at k.0), k.1)
 joined_state a b c xs ys g (inr h) k = let e : Err Memory ≡ Ok tt = sym (ap outcome h.1) ∙ g in cc
 
-join_runs : (a : Pass) (xs : List Token) (r : Result (Unit {0}) Error) (b : Pass) (ys : List Token)
+pub join_runs : (a : Pass) (xs : List Token) (r : Result (Unit {0}) Error) (b : Pass) (ys : List Token)
     (s : Result (Unit {0}) Error) (c : Pass) →
     r ≡ Ok tt → Runs a xs r b → Runs b ys s c → Runs a (xs ++ ys) s c
 join_runs a xs r b ys s c ok h k = record {
@@ -115,7 +115,7 @@ cut_state : (a b : Pass) (e : Error) (xs ys : List Token) → b ≡ Stopped e �
 cut_state a b e xs ys i (inl h) = inl (rw (steps-append, ← h, i) (sym (steps_stopped e ys)))
 cut_state a b e xs ys i (inr h) = inr (first_may a xs ys h.0, h.1)
 
-cut_runs : (a : Pass) (xs : List Token) (r : Result (Unit {0}) Error) (b : Pass) (ys : List Token)
+pub cut_runs : (a : Pass) (xs : List Token) (r : Result (Unit {0}) Error) (b : Pass) (ys : List Token)
     (s : Result (Unit {0}) Error) (e y : Error) →
     r ≡ Err e → s ≡ Err y → y ≡ e → Runs a xs r b → Runs a (xs ++ ys) s b
 cut_runs a xs r b ys s e y i j k h = record {
@@ -123,7 +123,18 @@ cut_runs a xs r b ys s e y i j k h = record {
   state = cut_state a b e xs ys (stopped_of b e (sym i ∙ h.answer)) h.state;
 }
 
-stays : (a : List ℕ) → Follows a a
+-- what has refused takes no memory
+pub only_stopped : (s : Pass) (e : Error) (ts : List Token) → s ≡ Stopped e → AnyMayRunOut s ts → ⊥
+only_stopped s e ts i h = only_measuring s ts (rw i (λ m. m)) h
+
+-- the calls behind a refusal leave it
+pub cut_runs_to : (a : Pass) (xs : List Token) (r : Result (Unit {0}) Error) (b : Pass) (ys : List Token) (c : Pass) (e : Error) →
+    r ≡ Err e → c ≡ Stopped e → Runs a xs r b → Runs a (xs ++ ys) (outcome c) c
+cut_runs_to a xs r b ys c e i j h =
+    let k : b ≡ Stopped e = stopped_of b e (sym i ∙ h.answer) in
+    record { answer = refl; state = rw (j, ← k) (cut_state a b e xs ys k h.state) }
+
+pub stays : (a : List ℕ) → Follows a a
 stays a = ([], sym (append-nil a))
 
 pub on : (a b c : List ℕ) → Follows a b → Follows b c → Follows a c

@@ -2,14 +2,17 @@ pub mod Constructors
 pub mod Enclosed
 pub mod Exactly
 pub mod Filled
+pub mod FilledPlain
 pub mod FirstSizes
 pub mod ContainerTerms
+pub mod Composites
 pub mod Joined
 pub mod Lifted
 pub mod Measured
 pub mod MeasuredTerms
 pub mod Measuring
 pub mod Openings
+pub mod Plain
 pub mod Refused
 pub mod Rows
 pub mod Settled

@@ -10,15 +10,13 @@ use Rattle.amqp_wire.specs.Refusals.{error_of}
 use Rattle.amqp_wire.specs.declared.error.Error.{Error}
 use Rattle.amqp_wire.specs.declared.error.Error.TheVariants.{Memory}
 use Rattle.amqp_encoder.specs.declared.size.Size.{Size}
-use Rattle.amqp_encoder.specs.declared.encoder.Encoder.{Encoder}
+use Rattle.amqp_encoder.specs.State.{Encoder}
 use Rattle.amqp_encoder.specs.State.{Pass, Measuring, Filling, Stopped}
 use Rattle.amqp_encoder.specs.Tokens.{Token, tokens, all_tokens}
-use Rattle.amqp_encoder.specs.State.{Measured, Filled, at_start, to_fill}
-use Rattle.amqp_encoder.specs.declared.encoder.Mode.{Mode}
-use Rattle.amqp_encoder.specs.declared.encoder.Mode.TheVariants as mode
+use Rattle.amqp_encoder.specs.State.{Filled, at_start, to_fill}
 use Rattle.amqp_encoder.specs.Sound.{levels, all_levels}
 use Rattle.amqp_encoder.specs.Reasons.{HasReason, nest_by, nests_by, array_nest_by, RowRefused}
-use Rattle.amqp_encoder.specs.Writes.{steps, outcome, Runs, Writes, pass_in, pass_of, bytes_of, Found}
+use Rattle.amqp_encoder.specs.Writes.{steps, outcome, Runs, Writes, bytes_in, pass_of, bytes_of, Found}
 use Rattle.amqp_encoder.specs.Passes.{row_text, row_tokens, AreValues, HoldOthers, AreRefused, as_size, IsMeasured, BeginsMeasuring}
 use Rattle.amqp_encoder.specs.Passes.{BeginsFilling}
 use Rattle.amqp_encoder.proofs.ContainerTerms.{holds}
@@ -38,14 +36,9 @@ steps_none : (s : Pass) → steps s [] ≡ s
 unfolding steps
 steps_none s = refl
 
-in_filling : (k : Mode) (m : Measured) (f g : Filled) → pass_in k m f ≡ Filling g → f ≡ g
-in_filling mode.Measuring m f g h = cc
-in_filling mode.Filling m f g h = cc
-in_filling (mode.Stopped e) m f g h = cc
-
 -- the buffer of an encoder that fills
 pub filled_bytes : (e : Encoder) (f : Filled) → pass_of e ≡ Filling f → bytes_of e ≡ f.out
-filled_bytes e f h = ap (λ g. g.out) (in_filling e.mode e.measure e.fill f h)
+filled_bytes e f h = ap (λ s. bytes_in s e.buffer) h
 
 -- what holds somewhere for one reason holds for another
 mutual

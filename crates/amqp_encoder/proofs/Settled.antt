@@ -1,46 +1,38 @@
--- What an encoder's call does, from what the pass did.
-use Rattle.std.proofs.Common.{◌≡◌, ℕ, List, [], ◌∷◌, length, take, drop, refl, sym, ◌∙◌, ap, inl, inr}
-use Rattle.std.specs.Prelude.{Result, Ok, Err, OnOk, IfErr, IsOk}
-use Rattle.std.proofs.lemmas.List.{append-nil, take-append-drop}
+-- What an encoder's call does, from what its pass did.
+use Rattle.std.proofs.Common.{◌≡◌, ℕ, zero, suc, ◌+◌, add-one, List, [], ◌∷◌, ◌++◌, length, take, drop, refl, sym, ◌∙◌, ap, inl, inr}
+use Rattle.std.specs.Prelude.{Result, Ok, Err, IsOk}
+use Rattle.std.proofs.lemmas.List.{take-append-drop}
+use Rattle.amqp_model.specs.Term.{null}
 use Rattle.amqp_wire.specs.declared.error.Error.{Error}
-use Rattle.amqp_encoder.specs.Tokens.{Token, TakesMemory}
-use Rattle.amqp_encoder.specs.State.{Measured, Filled, Pass, Measuring, Filling, Stopped}
+use Rattle.amqp_encoder.specs.declared.encoder.Standing.{Standing}
+use Rattle.amqp_encoder.specs.declared.encoder.Standing.TheVariants as standing
+use Rattle.amqp_encoder.specs.Tokens.{Token, put, nulls, refuse, TakesMemory}
+use Rattle.amqp_encoder.specs.State.{Measured, Filled, Pass, Measuring, Filling, Stopped, Encoder}
 use Rattle.amqp_encoder.specs.Gives.{Gives, Does}
-use Rattle.amqp_encoder.specs.Writes.{measure, fill, steps, measuring, filling, outcome, IsGoing, AnyMayRunOut, Runs, Writes, Follows}
-use Rattle.amqp_encoder.specs.Writes.{pass_in, pass_of, bytes_of}
-use Rattle.amqp_encoder.specs.declared.encoder.Encoder.{Encoder}
-use Rattle.amqp_encoder.specs.declared.encoder.Mode.TheVariants as mode
+use Rattle.amqp_encoder.specs.Writes.{measure, fill, steps, measuring, filling, IsGoing, AnyMayRunOut, Runs, Writes, Follows}
+use Rattle.amqp_encoder.specs.Writes.{Passes, settled, pass_of, bytes_of, bytes_in}
+use Rattle.amqp_encoder.specs.Standings.{pass_under, encoder_of}
+use Rattle.amqp_encoder.specs.Passes.{answer_of}
+use Rattle.amqp_encoder.proofs.Joined.{join_runs, cut_runs, cut_runs_to, stopped_of, only_stopped, steps_stopped, stays, join, on}
+
+-- one call of a pass
 
 going : (r : Result Measured Error) → IsOk r → IsGoing (measuring r)
 going (Ok m) h = refl
 going (Err e) h = cc
 
-measured : (m n : Measured) (o : Result (Unit {0}) Error) (new : Pass) (t : Token) → Gives (TakesMemory m.frame.place t) (measure t m) o n
-    → OnOk o (new ≡ Measuring n) → IfErr o (λ e. new ≡ Stopped e) → Runs (Measuring m) (t ∷ []) o new
+pub measured : (m n : Measured) (r : Result (Unit {0}) Error) (t : Token) → Gives (TakesMemory m.frame.place t) (measure t m) r n
+    → Passes (Measuring m) (t ∷ []) r (Measuring n)
 unfolding steps AnyMayRunOut
-measured m n (Ok u) new t h e f = record { answer = sym (ap outcome e); state = inl (e ∙ sym (ap measuring h)) }
-measured m n (Err x) new t (inl h) e f = record { answer = sym (ap outcome f); state = inl (f ∙ sym (ap measuring h)) }
-measured m n (Err x) new t (inr h) e f =
-    record { answer = sym (ap outcome f); state = inr (inl (h.1, going (measure t m) h.2), f ∙ ap Stopped h.0) }
+measured m n (Ok u) t h = record { answer = refl; state = inl (sym (ap measuring h)) }
+measured m n (Err e) t (inl h) = record { answer = refl; state = inl (sym (ap measuring h)) }
+measured m n (Err e) t (inr h) = record { answer = refl; state = inr (inl (h.1, going (measure t m) h.2), ap Stopped h.0) }
 
-filled : (m n : Filled) (o : Result (Unit {0}) Error) (new : Pass) (t : Token) → Does (fill t m) o n
-    → OnOk o (new ≡ Filling n) → IfErr o (λ e. new ≡ Stopped e) → Runs (Filling m) (t ∷ []) o new
+pub filled : (f g : Filled) (r : Result (Unit {0}) Error) (t : Token) → Does (fill t f) r g
+    → Passes (Filling f) (t ∷ []) r (Filling g)
 unfolding steps
-filled m n (Ok u) new t h e f = record { answer = sym (ap outcome e); state = inl (e ∙ sym (ap filling h)) }
-filled m n (Err x) new t h e f = record { answer = sym (ap outcome f); state = inl (f ∙ sym (ap filling h)) }
-
-from_take : (a b : List ℕ) → take (length a) b ≡ a → Follows a b
-from_take a b h = (drop (length a) b, sym (rw h at (take-append-drop (length a) b)))
-
-weaken : (n : Pass) (new mid : Encoder) (o : Result (Unit {0}) Error) → OnOk o (new ≡ mid) → pass_of mid ≡ n → OnOk o (pass_of new ≡ n)
-weaken n new mid (Ok u) e x = ap pass_of e ∙ x
-weaken n new mid (Err y) e x = tt
-
-pub measures : (e : Encoder) → e.mode ≡ mode.Measuring → pass_of e ≡ Measuring e.measure
-measures e i = ap (λ k. pass_in k e.measure e.fill) i
-
-fills : (e : Encoder) → e.mode ≡ mode.Filling → pass_of e ≡ Filling e.fill
-fills e i = ap (λ k. pass_in k e.measure e.fill) i
+filled f g (Ok u) t h = record { answer = refl; state = inl (sym (ap filling h)) }
+filled f g (Err e) t h = record { answer = refl; state = inl (sym (ap filling h)) }
 
 -- a call that takes no memory is one that might
 pub at_most : {X : Type 0} (takes : Type 0) (r : Result X Error) (o : Result (Unit {0}) Error) (new : X)
@@ -48,32 +40,103 @@ pub at_most : {X : Type 0} (takes : Type 0) (r : Result X Error) (o : Result (Un
 at_most takes r (Ok u) new h = h
 at_most takes r (Err e) new h = inl h
 
-pub settled_measuring : (old mid new : Encoder) (o r : Result (Unit {0}) Error) (t : Token) → old.mode ≡ mode.Measuring
-    → Gives (TakesMemory old.measure.frame.place t) (measure t old.measure) o mid.measure → mid.mode ≡ old.mode → mid.fill ≡ old.fill
-    → r ≡ o → OnOk o (new ≡ mid) → IfErr o (λ e. pass_of new ≡ Stopped e) → bytes_of new ≡ bytes_of mid → Writes old (t ∷ []) r new
-settled_measuring old mid new o r t i h j x q e f k = record {
-  runs = rw (measures old i, q) (measured old.measure mid.measure o (pass_of new) t h (weaken _ new mid o e (measures mid (j ∙ i))) f);
-  kept = ([], k ∙ ap (λ g. g.out) x ∙ sym (append-nil (bytes_of old)));
-}
-
-pub settled_filling : (old mid new : Encoder) (o r : Result (Unit {0}) Error) (t : Token) → old.mode ≡ mode.Filling
-    → Does (fill t old.fill) o mid.fill → take (length old.fill.out) mid.fill.out ≡ old.fill.out → mid.mode ≡ old.mode
-    → r ≡ o → OnOk o (new ≡ mid) → IfErr o (λ e. pass_of new ≡ Stopped e) → bytes_of new ≡ bytes_of mid → Writes old (t ∷ []) r new
-settled_filling old mid new o r t i h w j q e f k = record {
-  runs = rw (fills old i, q) (filled old.fill mid.fill o (pass_of new) t h (weaken _ new mid o e (fills mid (j ∙ i))) f);
-  kept = rw k (from_take old.fill.out mid.fill.out w);
-}
-
-stopped_runs : (s : Pass) (x : Error) (t : Token) → s ≡ Stopped x → Runs s (t ∷ []) (Err x) s
-unfolding steps
-stopped_runs s x t i = rw i (record { answer = refl; state = inl refl })
-
-pub stopped : (s : Encoder) (x : Error) (t : Token) → s.mode ≡ mode.Stopped x → Writes s (t ∷ []) (Err x) s
-stopped s x t i = record {
-  runs = stopped_runs (pass_of s) x t (ap (λ k. pass_in k s.measure s.fill) i);
-  kept = ([], sym (append-nil (bytes_of s)));
-}
+pub measured_only : (m n : Measured) (r : Result (Unit {0}) Error) (t : Token) → Does (measure t m) r n
+    → Passes (Measuring m) (t ∷ []) r (Measuring n)
+measured_only m n r t h = measured m n r t (at_most (TakesMemory m.frame.place t) (measure t m) r n h)
 
 -- the same call by another name
 pub instead : {X : Type 0} (r s : Result X Error) (o : Result (Unit {0}) Error) (new : X) → r ≡ s → Does r o new → Does s o new
 instead r s o new e h = rw (← e) h
+
+-- calls of a pass in a row
+
+pub passes_on : (a b c : Pass) (xs ys : List Token) (r : Result (Unit {0}) Error) → Passes a xs (Ok tt) b → Passes b ys r c
+    → Passes a (xs ++ ys) r c
+passes_on a b c xs ys r h k = join_runs a xs (Ok tt) b ys r (settled r c) refl h k
+
+pub passes_no_more : (a b : Pass) (xs ys : List Token) (e : Error) → Passes a xs (Err e) b → Passes a (xs ++ ys) (Err e) b
+passes_no_more a b xs ys e h = cut_runs a xs (Err e) (Stopped e) ys (Err e) e e refl refl refl h
+
+pub from_take : (a b : List ℕ) → take (length a) b ≡ a → Follows a b
+from_take a b h = (drop (length a) b, sym (rw h at (take-append-drop (length a) b)))
+
+-- one call of an encoder
+
+-- what is seen of an encoder that has refused nothing
+pub going_pass : (k : Standing) (e : Error) (s : Pass) → IsGoing (pass_under k e s) → pass_under k e s ≡ s
+going_pass standing.Plain e s h = refl
+going_pass standing.Going e s h = refl
+going_pass standing.Refused e s h = cc
+
+settled_buffer : (r : Result (Unit {0}) Error) (s : Pass) (out : List ℕ) → bytes_in s out ≡ out → bytes_in (settled r s) out ≡ out
+settled_buffer (Ok u) s out h = h
+settled_buffer (Err e) s out h = refl
+
+under_buffer : (k : Standing) (e : Error) (s : Pass) (out : List ℕ) → bytes_in s out ≡ out → bytes_in (pass_under k e s) out ≡ out
+under_buffer standing.Plain e s out h = h
+under_buffer standing.Going e s out h = h
+under_buffer standing.Refused e s out h = refl
+
+refused : (s : Pass) (e : Error) → IsGoing s → Stopped e ≡ steps s (refuse e ∷ [])
+unfolding steps
+refused (Measuring m) e h = refl
+refused (Filling f) e h = refl
+refused (Stopped d) e h = cc
+
+pub refuses : (old new : Encoder) (e : Error) → IsGoing (pass_of old) → new ≡ record { pass = Stopped e; buffer = old.buffer }
+    → bytes_of new ≡ bytes_of old → Writes old (refuse e ∷ []) (Err e) new
+refuses old new e g n b = record {
+  runs = rw n (record { answer = refl; state = inl (refused (pass_of old) e g) });
+  kept = rw b (stays (bytes_of old));
+}
+
+-- The encoder stood so before the call, and was left so by it.
+pub writes : (old new : Encoder) (k : Standing) (e : Error) (s t : Pass) (before after : List ℕ) (ts : List Token)
+    (r : Result (Unit {0}) Error) → encoder_of k e s before ≡ old → IsGoing (pass_of old) → Passes s ts r t → Follows before after
+    → bytes_in s before ≡ before → bytes_in t after ≡ after → new ≡ record { pass = settled r t; buffer = after }
+    → Writes old ts (answer_of new) new
+writes old new k e s t before after ts r i g p f b c n =
+    let same : pass_of old ≡ s = (ap pass_of (sym i) ∙ going_pass k e s (rw (← i) at g)) in
+    let out : bytes_of old ≡ before = (ap bytes_of (sym i) ∙ under_buffer k e s before b) in
+    rw n (record {
+      runs = rw same (record { answer = refl; state = p.state });
+      kept = rw (out, settled_buffer r t after c) f;
+    })
+
+-- One that had refused stays as it is.
+pub refused_before : (s : Encoder) (e : Error) (ts : List Token) → pass_of s ≡ Stopped e → Writes s ts (answer_of s) s
+refused_before s e ts i = record {
+  runs = record { answer = refl; state = inl (rw i (sym (steps_stopped e ts))) };
+  kept = stays (bytes_of s);
+}
+
+-- calls in a row, whatever the first ones were answered
+
+still_stopped : (s c : Pass) (e : Error) (ts : List Token) (r : Result (Unit {0}) Error) → s ≡ Stopped e → Runs s ts r c → c ≡ Stopped e
+still_stopped s c e ts r i w = elim w.state [
+  | inl h ↦ h ∙ (ap (λ p. steps p ts) i ∙ steps_stopped e ts)
+  | inr h ↦ absurd (only_stopped s e ts i h.0)
+]
+
+pub after : (a b c : Encoder) (xs ys : List Token) → Writes a xs (answer_of b) b → Writes b ys (answer_of c) c
+    → Writes a (xs ++ ys) (answer_of c) c
+after a b c xs ys h k = by_answer (answer_of b) refl where
+  by_answer : (r : Result (Unit {0}) Error) → answer_of b ≡ r → Writes a (xs ++ ys) (answer_of c) c
+  by_answer (Ok u) i = join a xs (answer_of b) b ys (answer_of c) c i h k
+  by_answer (Err e) i =
+      let s : pass_of c ≡ Stopped e = still_stopped (pass_of b) (pass_of c) e ys (answer_of c) (stopped_of (pass_of b) e (sym i)) k.runs in
+      record {
+        runs = cut_runs_to (pass_of a) xs (answer_of b) (pass_of b) ys (pass_of c) e i s h.runs;
+        kept = on (bytes_of a) (bytes_of b) (bytes_of c) h.kept k.kept;
+      }
+
+-- so many nulls, and one more
+
+one_more : (n : ℕ) → nulls (suc n) ≡ nulls n ++ nulls 1
+one_more zero = refl
+one_more (suc n) = ap (λ ts. put null ∷ ts) (one_more n)
+
+-- One more call, whatever the calls before it were answered.
+pub one_null_more : (a b c : Encoder) (n : ℕ) → Writes a (nulls n) (answer_of b) b → Writes b (nulls 1) (answer_of c) c
+    → Writes a (nulls (n + 1)) (answer_of c) c
+one_null_more a b c n h k = rw (add-one n, one_more n) (after a b c (nulls n) (nulls 1) h k)

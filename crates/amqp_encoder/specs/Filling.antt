@@ -1,6 +1,6 @@
 -- What each call does to what is seen of an encoder that fills.
 use Rattle.std.specs.Prelude.{ℕ, ◌+◌, List, [], ◌∷◌, ◌++◌, length, ltb, if◌then◌else◌, Result, Ok, Err}
-use Rattle.amqp_model.specs.Term.{Primitive, null, binary, string, symbol, Container, Descriptor}
+use Rattle.amqp_model.specs.Term.{Primitive, null, binary, string, symbol, Container, list, Descriptor, code}
 use Rattle.amqp_model.specs.Spelling.{descriptor_value}
 use Rattle.amqp_model.specs.Text.{Place, Alone, First, Later, next, first_place, primitive_text, descriptor_text}
 use Rattle.amqp_wire.specs.declared.error.Error.{Error}
@@ -69,3 +69,8 @@ fill_end_in (p ∷ ps) f = Ok (record f { place = next p; outer = ps })
 
 abbrev pub fill_end : Filled → Result Filled Error
 fill_end f = fill_end_in f.outer f
+
+-- A list that is described by a code begins, where both are by themselves.
+abbrev pub open_composite : ℕ → Size → Filled → Result Filled Error
+open_composite c s f = emit (descriptor_text Alone (code c) ++ opening Alone list s.count s.content) f
+    >>= λ g. Ok (record g { place = Alone; outer = Alone ∷ g.place ∷ g.outer })

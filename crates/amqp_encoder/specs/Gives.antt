@@ -1,15 +1,16 @@
 -- What a call of one pass did, and the bytes and lengths that its parts speak of.
-use Rattle.std.specs.Prelude.{◌≡◌, ℕ, ◌+◌, List, [], ◌∷◌, length, drop, ltb, cond, if◌then◌else◌, Result, Ok, Err, IsOk, ◌⊎◌}
-use Rattle.amqp_model.specs.Term.{Descriptor, name, code, symbol}
+use Rattle.std.specs.Prelude.{◌≡◌, ◌<◌, ℕ, ◌+◌, List, [], ◌∷◌, length, drop, ltb, cond, if◌then◌else◌, Result, Ok, Err, IsOk, ◌⊎◌}
+use Rattle.amqp_model.specs.Term.{Container, Descriptor, name, code, symbol}
 use Rattle.amqp_model.specs.Spelling.{descriptor_value}
 use Rattle.amqp_model.specs.Text.{Place, Alone, First, Later, spell, with_size}
 use Rattle.amqp_wire.specs.declared.error.Error.{Error}
 use Rattle.amqp_wire.specs.declared.error.Error.TheVariants.{Memory, TooLarge, InvalidValue}
 use Rattle.amqp_encoder.specs.declared.places.Shortest.{Shortest}
+use Rattle.amqp_encoder.specs.declared.size.Size.{Size}
 use Rattle.amqp_encoder.specs.declared.frame.MeasuredContainer.{MeasuredContainer}
 use Rattle.amqp_encoder.specs.Values.{shortest_text}
 use Rattle.amqp_encoder.specs.State.{Open, Measured, Filled, seen}
-use Rattle.amqp_encoder.specs.Measuring.{◌>>=◌, short_enough, checked, measure_value, descriptor_bytes}
+use Rattle.amqp_encoder.specs.Measuring.{◌>>=◌, short_enough, checked, measure_value, descriptor_bytes, end_in, leave_in}
 use Rattle.amqp_encoder.specs.Filling.{sized, fill_value, fill_open}
 
 -- What its function says; or memory ran out where the call takes memory, and that says Ok.

@@ -8,6 +8,7 @@ pub mod Filling
 pub mod Gives
 pub mod Spelled
 pub mod Writes
+pub mod Standings
 pub mod Passes
 pub mod Sound
 pub mod Reasons

@@ -1,5 +1,5 @@
 -- What each call does to what is seen of an encoder that measures.
-use Rattle.std.specs.Prelude.{ℕ, ◌+◌, ◌-◌, ◌%◌, Bool, true, false, ◌&&◌, ◌||◌, not, List, [], ◌∷◌, ◌++◌, length, set, take, drop, ltb, eqb}
+use Rattle.std.specs.Prelude.{◌≡◌, ℕ, ◌+◌, ◌-◌, ◌%◌, Bool, true, false, ◌&&◌, ◌||◌, not, List, [], ◌∷◌, ◌++◌, length, set, take, drop, ltb, eqb}
 use Rattle.std.specs.Prelude.{nat_eq, if◌then◌else◌, Option, Some, None, Result, Ok, Err}
 use Rattle.std.specs.Char.{is_ascii}
 use Rattle.std.specs.Cmp.Lexicographic.{pointwise}
@@ -29,6 +29,10 @@ is_none (Some x) = false
 abbrev pub is_full : Open → Bool
 is_full o = is_none o.container && not (eqb o.count 0)
 
+-- a described value by itself that has no value yet
+abbrev pub IsUnfilled : Open → Type 0
+IsUnfilled o = (o.container ≡ None) × (o.place ≡ Alone) × (o.count ≡ 0)
+
 -- the items of an array share one constructor, of which this code is the end
 abbrev pub take_form : Place → ℕ → Measured → Result Measured Error
 take_form Alone code m = Ok m
@@ -43,6 +47,10 @@ enter code m = if is_full m.frame then Err InvalidValue else take_form m.frame.p
 abbrev pub leave : ℕ → Measured → Result Measured Error
 leave n m = if ltb MAX (m.frame.content + n) || ltb MAX (m.frame.count + 1) then Err TooLarge
     else Ok (record m { frame = record m.frame { content = m.frame.content + n; count = m.frame.count + 1; place = next m.frame.place } })
+
+-- Values that are by themselves, k of them, and take n bytes in all.
+abbrev pub counted : ℕ → ℕ → Measured → Measured
+counted n k m = record m { frame = record m.frame { content = m.frame.content + n; count = m.frame.count + k } }
 
 abbrev pub all_ascii : List ℕ → Bool
 all_ascii [] = true
@@ -118,6 +126,11 @@ abbrev pub size_of : Open → Result Size Error
 size_of o = if ltb 0xffff_fffb o.content || ltb 0xffff_ffff o.count then Err TooLarge else Ok
     (record { content = o.content; count = o.count })
 
+-- A container of this content and size ends in what is around it.
+abbrev pub leave_in : Container → Measured → ℕ → ℕ → ℕ → Size → Result Measured Error
+leave_in k m index form content s = leave (length (opening m.frame.place k s.count s.content) + content)
+    (record { frame = m.frame; outer = m.outer; sizes = set m.sizes index s; descriptors = take form m.descriptors })
+
 abbrev pub closed : Container → Measured → Open → List Open → Size → Result Measured Error
 closed k m f fs s = leave (length (opening f.place k m.frame.count m.frame.content) + m.frame.content)
     (record { frame = f; outer = fs; sizes = set m.sizes m.frame.index s; descriptors = take m.frame.form m.descriptors })
@@ -169,3 +182,12 @@ end_described_in (f ∷ fs) m =
 
 abbrev pub measure_end_described : Measured → Result Measured Error
 measure_end_described m = end_described_in m.outer m
+
+-- A list ends in a described value, and that ends in what is open here.
+abbrev pub end_list_in : Open → Open → Measured → Size → Result Measured Error
+end_list_in inner described m s =
+    leave_in list (record { frame = described; outer = m.frame ∷ m.outer; sizes = m.sizes; descriptors = m.descriptors }) inner.index
+    inner.form inner.content s >>= measure_end_described
+
+abbrev pub end_composite_in : Open → Open → Measured → Result Measured Error
+end_composite_in inner described m = size_of inner >>= end_list_in inner described m

@@ -8,8 +8,7 @@ use Rattle.amqp_model.specs.Refusals.{SomewhereIn, IsRefused}
 use Rattle.amqp_wire.specs.declared.error.Error.{Error}
 use Rattle.amqp_wire.specs.declared.error.Error.TheVariants.{InvalidValue}
 use Rattle.amqp_encoder.specs.declared.size.Size.{Size}
-use Rattle.amqp_encoder.specs.declared.encoder.Encoder.{Encoder}
-use Rattle.amqp_encoder.specs.State.{Measuring, Filling}
+use Rattle.amqp_encoder.specs.State.{Measuring, Filling, Encoder}
 use Rattle.amqp_encoder.specs.Tokens.{Token, tokens}
 use Rattle.amqp_encoder.specs.State.{at_start, to_fill}
 use Rattle.amqp_encoder.specs.Sound.{AreSound, all_levels}

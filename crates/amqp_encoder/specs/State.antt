@@ -58,6 +58,11 @@ pub data Pass : Type 0 where
   Filling : Filled → Pass
   Stopped : Error → Pass
 
+-- An encoder's value: what is seen of it, and the buffer's bytes, which are also those of the pass as long as it fills.
+pub record Encoder : Type 0 where
+  pub pass : Pass
+  pub buffer : List ℕ
+
 abbrev pub at_start : Measured
 at_start = record { frame = holding list 0 0; outer = []; sizes = []; descriptors = [] }
 

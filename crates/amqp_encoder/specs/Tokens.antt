@@ -1,6 +1,6 @@
 -- The calls that write a term.
-use Rattle.std.specs.Prelude.{ℕ, List, [], ◌∷◌, ◌++◌}
-use Rattle.amqp_model.specs.Term.{Primitive, Container, Descriptor, Term, Terms, leaf, container, described, kept, barred, none, more}
+use Rattle.std.specs.Prelude.{ℕ, zero, suc, List, [], ◌∷◌, ◌++◌}
+use Rattle.amqp_model.specs.Term.{Primitive, null, Container, Descriptor, Term, Terms, leaf, container, described, kept, barred, none, more}
 use Rattle.amqp_model.specs.Text.{Place, First}
 use Rattle.amqp_wire.specs.Refusals.{error_of}
 use Rattle.amqp_wire.specs.declared.error.Error.{Error}
@@ -14,6 +14,11 @@ pub data Token : Type 0 where
   begin_described : Descriptor → Token
   end_described : Token
   refuse : Error → Token
+
+-- Null, so many times.
+abbrev pub nulls : ℕ → List Token
+nulls zero = []
+nulls (suc n) = put null ∷ nulls n
 
 -- A call that takes memory while it measures: for the size of a container that begins, and for a descriptor of an array's
 -- first item.

@@ -1,17 +1,15 @@
 -- What the calls of an encoder do, in a row.
-use Rattle.std.specs.Prelude.{◌≡◌, ℕ, List, [], ◌∷◌, ◌++◌, Result, Ok, Err, ◌⊎◌}
+use Rattle.std.specs.Prelude.{◌≡◌, ℕ, false, List, [], ◌∷◌, ◌++◌, Result, Ok, Err, ◌⊎◌}
+use Rattle.amqp_model.specs.Text.{Alone}
 use Rattle.amqp_wire.specs.declared.error.Error.{Error}
 use Rattle.amqp_wire.specs.declared.error.Error.TheVariants.{Memory}
 use Rattle.amqp_encoder.specs.Tokens.{Token, put, keep, begin, end, begin_described, end_described, refuse, TakesMemory}
-use Rattle.amqp_encoder.specs.State.{Measured, Filled, Pass, Measuring, Filling, Stopped}
+use Rattle.amqp_encoder.specs.State.{Measured, Filled, Pass, Measuring, Filling, Stopped, Encoder}
 use Rattle.amqp_encoder.specs.Measuring.{measure_put, measure_keep, measure_begin, measure_end, measure_begin_described}
-use Rattle.amqp_encoder.specs.Measuring.{measure_end_described}
+use Rattle.amqp_encoder.specs.Measuring.{measure_end_described, is_none}
 use Rattle.std.specs.Prelude.{length}
 use Rattle.amqp_encoder.specs.Filling.{fill_put, fill_keep, fill_begin, fill_begin_described, fill_end}
 use Rattle.amqp_encoder.specs.declared.size.Size.{Size}
-use Rattle.amqp_encoder.specs.declared.encoder.Encoder.{Encoder}
-use Rattle.amqp_encoder.specs.declared.encoder.Mode.{Mode}
-use Rattle.amqp_encoder.specs.declared.encoder.Mode.TheVariants as mode
 
 abbrev pub measure : Token → Measured → Result Measured Error
 measure (put p) m = measure_put p m
@@ -76,14 +74,23 @@ pub record Runs (old : Pass) (ts : List Token) (result : Result (Unit {0}) Error
   pub answer : result ≡ outcome new
   pub state : (new ≡ steps old ts) ⊎ RunsOut old ts new
 
--- the pass that runs, of the two whose states are kept
-abbrev pub pass_in : Mode → Measured → Filled → Pass
-pass_in mode.Measuring m f = Measuring m
-pass_in mode.Filling m f = Filling f
-pass_in (mode.Stopped e) m f = Stopped e
+-- what a pass leaves whose call was answered so
+abbrev pub settled : Result (Unit {0}) Error → Pass → Pass
+settled (Ok u) s = s
+settled (Err e) s = Stopped e
+
+-- The calls of a pass that has refused nothing. What it leaves counts if they were answered Ok.
+abbrev pub Passes : Pass → List Token → Result (Unit {0}) Error → Pass → Type 0
+Passes old ts result new = Runs old ts result (settled result new)
+
+-- The next value is by itself, and is not the only one of a described value.
+abbrev pub IsPlain : Pass → Type 0
+IsPlain (Measuring m) = (m.frame.place ≡ Alone) × (is_none m.frame.container ≡ false)
+IsPlain (Filling f) = f.place ≡ Alone
+IsPlain (Stopped e) = ⊥
 
 abbrev pub pass_of : Encoder → Pass
-pass_of e = pass_in e.mode e.measure e.fill
+pass_of e = e.pass
 
 -- it fills
 abbrev pub Fills : Pass → Type 0
@@ -91,8 +98,12 @@ Fills (Filling f) = Unit {0}
 Fills _ = ⊥
 
 -- the buffer's bytes: those that a filling pass has written behind what was there
+abbrev pub bytes_in : Pass → List ℕ → List ℕ
+bytes_in (Filling f) buffer = f.out
+bytes_in s buffer = buffer
+
 abbrev pub bytes_of : Encoder → List ℕ
-bytes_of e = e.fill.out
+bytes_of e = bytes_in e.pass e.buffer
 
 abbrev pub Follows : List ℕ → List ℕ → Type 0
 Follows a b = (rest : List ℕ) × (b ≡ a ++ rest)

@@ -1,6 +1,8 @@
 //! The values that are open around the innermost one.
-ghost use Rattle.std.specs.Prelude.{◌≡◌, ◌≤◌, ◌<◌, ◌⊎◌, ◌∷◌, [], length, OnOk, OnErr, MatchOption};
+ghost use Rattle.std.specs.Prelude.{◌≡◌, ◌≤◌, ◌<◌, ◌⊎◌, ◌∷◌, [], length, OnOk, OnErr, IfSome, IfNone, OnSome, MatchOption};
+ghost use Rattle.std.specs.Bool.{OnTrue, OnFalse};
 ghost use Rattle.amqp_encoder.specs.State.{seen};
+ghost use Rattle.amqp_encoder.specs.Measuring.{IsUnfilled};
 ghost use Rattle.amqp_encoder.specs.Enclosed.{CanBeBrief, IsBrief, MayBeKept, HasRoom, brief_open, none_around};
 
 use crate::frame::MeasuredContainer;
@@ -59,14 +61,47 @@ impl Outermost {
     }
 
     #[inline(always)]
-    fn pop(&mut self) -> Option<MeasuredContainer>
-        ensures { MatchOption result ((self.old ≡ []) × (self.new ≡ [])) (λ frame. self.old ≡ seen frame ∷ self.new) }
+    fn push_two(&mut self, outer: MeasuredContainer, inner: MeasuredContainer)
+        requires { length self.old ≤ 6 }
+        ensures { self.new ≡ seen inner ∷ seen outer ∷ self.old }
     {
-        if self.len == 0 {
+        self.frames[self.len] = outer;
+        self.frames[self.len + 1] = inner;
+        self.len += 2;
+    }
+
+    #[inline(always)]
+    fn pop_unfilled(&mut self, place: &mut MeasuredContainer) -> Option<MeasuredContainer>
+        ensures some { IfSome result (λ described. self.old ≡ seen described ∷ seen place.new ∷ self.new) }
+        ensures unfilled { IfSome result (λ described. IsUnfilled (seen described)) }
+        ensures left { IfNone result (self.new ≡ self.old) }
+        ensures unchanged { IfNone result (place.new ≡ place.old) }
+    {
+        if self.len < 2 {
             return None;
         }
+        let described = self.frames[self.len - 1];
+        if !described.is_unfilled() {
+            return None;
+        }
+        *place = self.frames[self.len - 2];
+        self.len -= 2;
+        Some(described)
+    }
+
+    #[inline(always)]
+    fn pop_into(&mut self, place: &mut MeasuredContainer) -> bool
+        ensures popped { OnTrue result (self.old ≡ seen place.new ∷ self.new) }
+        ensures none { OnFalse result (self.old ≡ []) }
+        ensures left { OnFalse result (self.new ≡ []) }
+        ensures unchanged { OnFalse result (place.new ≡ place.old) }
+    {
+        if self.len == 0 {
+            return false;
+        }
         self.len -= 1;
-        Some(self.frames[self.len])
+        *place = self.frames[self.len];
+        true
     }
 }
 
@@ -274,28 +309,75 @@ impl Enclosing {
         }
     }
 
-    /// Removes the innermost one, and returns it.
+    /// Returns whether two more are kept among the outermost ones.
     #[inline(always)]
-    pub(crate) fn pop(&mut self) -> Option<MeasuredContainer>
-        ensures { MatchOption result ((self.old.items ≡ []) × (self.new ≡ self.old)) (λ frame. (self.old.items ≡ seen frame ∷ self.new.items)
-            × MayBeKept self.new (seen frame)) }
+    pub(crate) fn has_two_places(&self) -> bool
+        ensures { OnTrue result (length self.now.items ≤ 5) }
     {
-        if self.outermost.len() < OUTERMOST {
-            return self.outermost.pop();
-        }
-        self.pop_inner()
+        self.outermost.len() < OUTERMOST - 2
     }
 
-    fn pop_inner(&mut self) -> Option<MeasuredContainer>
-        ensures { MatchOption result ((self.old.items ≡ []) × (self.new ≡ self.old)) (λ frame. (self.old.items ≡ seen frame ∷ self.new.items)
-            × MayBeKept self.new (seen frame)) }
+    /// Adds two more among the outermost ones.
+    #[inline(always)]
+    pub(crate) fn push_two(&mut self, outer: MeasuredContainer, inner: MeasuredContainer)
+        requires places { length self.old.items ≤ 5 }
+        ensures items { self.new.items ≡ seen inner ∷ seen outer ∷ self.old.items }
+        ensures room { self.new.room ≡ self.old.room }
+    {
+        self.outermost.push_two(outer, inner)
+    }
+
+    /// Removes the innermost one, if it is a described value by itself that has no value yet and both it and the next one are kept among the
+    /// outermost. The next one goes to a place.
+    #[inline(always)]
+    pub(crate) fn pop_unfilled(
+        &mut self,
+        place: &mut MeasuredContainer,
+    ) -> Option<MeasuredContainer>
+        ensures some { IfSome result (λ described. self.old.items ≡ seen described ∷ seen place.new ∷ self.new.items) }
+        ensures unfilled { IfSome result (λ described. IsUnfilled (seen described)) }
+        ensures kept { OnSome result (MayBeKept self.new (seen place.new)) }
+        ensures left { IfNone result (self.new ≡ self.old) }
+        ensures unchanged { IfNone result (place.new ≡ place.old) }
+    {
+        if self.outermost.len() < OUTERMOST {
+            self.outermost.pop_unfilled(place)
+        } else {
+            None
+        }
+    }
+
+    /// Removes the innermost one into a place, and returns true. It returns false if there is none.
+    #[inline(always)]
+    pub(crate) fn pop_into(&mut self, place: &mut MeasuredContainer) -> bool
+        ensures popped { OnTrue result (self.old.items ≡ seen place.new ∷ self.new.items) }
+        ensures kept { OnTrue result (MayBeKept self.new (seen place.new)) }
+        ensures none { OnFalse result (self.old.items ≡ []) }
+        ensures left { OnFalse result (self.new ≡ self.old) }
+        ensures unchanged { OnFalse result (place.new ≡ place.old) }
+    {
+        if self.outermost.len() < OUTERMOST {
+            return self.outermost.pop_into(place);
+        }
+        self.pop_inner(place)
+    }
+
+    #[inline(never)]
+    fn pop_inner(&mut self, place: &mut MeasuredContainer) -> bool
+        ensures popped { OnTrue result (self.old.items ≡ seen place.new ∷ self.new.items) }
+        ensures kept { OnTrue result (MayBeKept self.new (seen place.new)) }
+        ensures none { OnFalse result (self.old.items ≡ []) }
+        ensures left { OnFalse result (self.new ≡ self.old) }
+        ensures unchanged { OnFalse result (place.new ≡ place.old) }
     {
         if let Some(frame) = self.inner.pop() {
-            return Some(frame);
+            *place = frame;
+            return true;
         }
         if let Some(frame) = self.described.pop() {
-            return Some(frame);
+            *place = frame;
+            return true;
         }
-        self.outermost.pop()
+        self.outermost.pop_into(place)
     }
 }

@@ -1,28 +1,37 @@
 //! The filling pass: it writes into a buffer whose size was measured before, and never grows it.
-ghost use Rattle.std.specs.Prelude.{◌≡◌, ◌≤◌, ◌<◌, ◌+◌, ◌++◌, [], length, take, drop};
+ghost use Rattle.std.specs.Prelude.{◌≡◌, ◌≤◌, ◌<◌, ◌+◌, ◌++◌, [], ◌∷◌, List, length, take, drop, replicate, Ok, OnErr};
+ghost use Rattle.std.specs.Bool.{OnTrue, OnFalse};
 ghost use Rattle.std.specs.Vec.{vec_capacity, vec_len};
-ghost use Rattle.amqp_model.specs.Term.{array};
+ghost use Rattle.amqp_model.specs.Term.{list, array};
+ghost use Rattle.amqp_model.specs.Term.{code as code_descriptor};
 ghost use Rattle.amqp_model.specs.Text.{Alone, head, first_place};
 ghost use Rattle.amqp_encoder.specs.Opening.{opening};
 ghost use Rattle.amqp_wire.specs.Containers.{container_of};
-ghost use Rattle.amqp_encoder.specs.Values.{place_of, descriptor_of};
-ghost use Rattle.amqp_encoder.specs.State.{to_fill};
+ghost use Rattle.amqp_encoder.specs.Values.{place_of, descriptor_of, shortest_text};
+ghost use Rattle.amqp_encoder.specs.State.{Filling, to_fill};
+ghost use Rattle.amqp_encoder.specs.Tokens.{begin, begin_described};
+ghost use Rattle.amqp_encoder.specs.Writes.{Passes};
 ghost use Rattle.amqp_encoder.specs.declared.places.Shortest.TheVariants.{Wide};
 ghost use Rattle.amqp_encoder.specs.Filling.{emit, fill_value, fill_null_at, fill_keep, fill_open, fill_begin, fill_begin_described};
-ghost use Rattle.amqp_encoder.specs.Filling.{fill_end};
+ghost use Rattle.amqp_encoder.specs.Filling.{fill_end, open_composite};
 ghost use Rattle.amqp_encoder.specs.Gives.{Does, fixed_text, fill_bytes, fill_described};
 
 use crate::descriptors::{head_of, text_of};
 use crate::frame::is_filled_up;
+use crate::pass::Pass;
 use crate::places::{Place, Shortest, first_place, is_list, short_code, wide_code};
 use crate::size::{MAX_CONTENT, Size, Sizes};
-use amqp_wire::nesting::LEVELS;
+use amqp_wire::nesting::{LEVELS, NESTING};
 use amqp_wire::{Container, Descriptor, Error, format_code};
-use std::alloc::Global;
 use std::marker::Model;
+use std::mem::{forget, replace};
 
+/// How many bytes are written without a call that copies them.
+const SHORT: usize = 8;
+
+/// The filling pass: it writes the canonical text of what was measured.
 #[derive(Drop)]
-pub(crate) struct Fill {
+pub struct Fill {
     place: Place,
     places: [Place; LEVELS],
     depth: usize,
@@ -52,33 +61,21 @@ impl Model for Fill {
 }
 
 impl Fill {
-    /// Returns a pass without a buffer to fill yet.
-    pub(crate) fn new(alloc: Global) -> Fill
-        ensures { result ≡ to_fill [] [] 0 }
+    /// Returns a pass that fills the spare capacity of a buffer.
+    #[inline(always)]
+    pub(crate) fn new(sizes: Sizes, out: Vec<u8>, limit: usize) -> Fill
+        requires { limit ≤ vec_capacity out }
+        ensures { result ≡ to_fill sizes out.items limit }
     {
         Fill {
             place: Place::Alone,
             places: [Place::Alone; LEVELS],
             depth: 0,
-            sizes: Sizes::new(alloc),
+            sizes,
             next: 0,
-            limit: 0,
-            out: Vec::new(alloc),
+            limit,
+            out,
         }
-    }
-
-    /// Begins to fill the spare capacity of a buffer. What is left in the row is not seen.
-    #[inline(always)]
-    pub(crate) fn start(&mut self, sizes: Sizes, out: Vec<u8>, limit: usize)
-        requires { limit ≤ vec_capacity out }
-        ensures { self.new ≡ to_fill sizes out.items limit }
-    {
-        self.place = Place::Alone;
-        self.depth = 0;
-        self.sizes = sizes;
-        self.next = 0;
-        self.limit = limit;
-        self.out = out;
     }
 
     #[inline(always)]
@@ -110,27 +107,33 @@ impl Fill {
         if self.limit - self.out.len() < len {
             return Err(Error::InvalidValue);
         }
+        if body.len() <= SHORT {
+            let mut out = taken(&mut self.out);
+            push_each(&mut out, head);
+            push_each(&mut out, body);
+            put_back(&mut self.out, out);
+            return Ok(());
+        }
         push_each(&mut self.out, head);
-        if !body.is_empty() && self.out.extend_from_slice(body).is_err() {
+        if self.out.extend_from_slice(body).is_err() {
             unreachable!();
         }
         Ok(())
     }
 
-    /// Writes a few bytes. It writes them one by one, which is faster than a call that copies them. It writes into a buffer that is taken
-    /// out of the encoder, so that no byte can be a part of the encoder.
+    /// Writes a few bytes.
     #[inline(always)]
     fn emit_each(&mut self, bytes: &[u8]) -> Result<(), Error>
         ensures does { Does (emit bytes.now self.old) result self.new }
         ensures kept { take (length self.old.out) self.new.out ≡ self.old.out }
+        ensures left { OnErr result (self.new ≡ self.old) }
     {
         if self.out.len() + bytes.len() > self.limit {
             return Err(Error::InvalidValue);
         }
-        let empty = Vec::new(*self.out.allocator());
-        let mut out = std::mem::replace(&mut self.out, empty);
+        let mut out = taken(&mut self.out);
         push_each(&mut out, bytes);
-        std::mem::forget(std::mem::replace(&mut self.out, out));
+        put_back(&mut self.out, out);
         Ok(())
     }
 
@@ -147,51 +150,46 @@ impl Fill {
 
     /// Writes a primitive, with its code and its data as the first item of an array.
     #[inline(always)]
-    pub(crate) fn put<const N: usize>(
-        &mut self,
-        shortest: Shortest,
-        wide: [u8; N],
-    ) -> Result<(), Error>
-        requires { 1 ≤ N }
-        ensures does { Does (fill_value (fixed_text self.old.place shortest wide.entry) self.old) result self.new }
+    fn fill_fixed(&mut self, shortest: Shortest, wide: &[u8]) -> Result<(), Error>
+        requires { 1 ≤ length wide.now }
+        ensures does { Does (fill_value (fixed_text self.old.place shortest wide.now) self.old) result self.new }
         ensures kept { take (length self.old.out) self.new.out ≡ self.old.out }
     {
         match self.place {
-            Place::Alone => match shortest {
-                Shortest::Code(code) => self.emit_each(&[code]),
-                Shortest::Byte(code, byte) => self.emit_each(&[code, byte]),
-                Shortest::Wide => self.emit_each(&wide),
-            },
-            Place::First | Place::Later => self.put_item(wide),
+            Place::Alone => self.fill_plain(shortest, wide),
+            Place::First | Place::Later => self.fill_item(wide),
+        }
+    }
+
+    /// Writes a primitive by itself.
+    #[inline(always)]
+    fn fill_plain(&mut self, shortest: Shortest, wide: &[u8]) -> Result<(), Error>
+        ensures does { Does (emit (shortest_text shortest wide.now) self.old) result self.new }
+        ensures kept { take (length self.old.out) self.new.out ≡ self.old.out }
+        ensures left { OnErr result (self.new ≡ self.old) }
+    {
+        match shortest {
+            Shortest::Code(code) => self.emit_each(&[code]),
+            Shortest::Byte(code, byte) => self.emit_each(&[code, byte]),
+            Shortest::Wide => self.emit_each(wide),
         }
     }
 
     #[inline(always)]
-    fn put_item<const N: usize>(&mut self, wide: [u8; N]) -> Result<(), Error>
-        requires { 1 ≤ N }
-        ensures does { Does (fill_value (fixed_text self.old.place Wide wide.entry) self.old) result self.new }
+    fn fill_item(&mut self, wide: &[u8]) -> Result<(), Error>
+        requires { 1 ≤ length wide.now }
+        ensures does { Does (fill_value (fixed_text self.old.place Wide wide.now) self.old) result self.new }
         ensures kept { take (length self.old.out) self.new.out ≡ self.old.out }
     {
-        self.put_in_array(wide)
-    }
-
-    // It is separate, so that what `put` inlines stays small.
-    #[inline(never)]
-    fn put_in_array<const N: usize>(&mut self, wide: [u8; N]) -> Result<(), Error>
-        requires { 1 ≤ N }
-        ensures does { Does (fill_value (fixed_text self.old.place Wide wide.entry) self.old) result self.new }
-        ensures kept { take (length self.old.out) self.new.out ≡ self.old.out }
-    {
-        let bytes = &wide[..];
         match self.place {
-            Place::Alone | Place::First => self.emit_value(bytes, &[]),
-            Place::Later => self.emit_value(&bytes[1..], &[]),
+            Place::Alone | Place::First => self.emit_value(wide, &[]),
+            Place::Later => self.emit_value(&wide[1..], &[]),
         }
     }
 
     /// Writes a binary, a string or a symbol, with its codes.
     #[inline(always)]
-    pub(crate) fn put_bytes(&mut self, short: u8, wide: u8, bytes: &[u8]) -> Result<(), Error>
+    fn fill_bytes(&mut self, short: u8, wide: u8, bytes: &[u8]) -> Result<(), Error>
         ensures does { Does (fill_bytes short wide bytes.now self.old) result self.new }
         ensures kept { take (length self.old.out) self.new.out ≡ self.old.out }
     {
@@ -211,7 +209,8 @@ impl Fill {
         }
     }
 
-    pub(crate) fn put_null(&mut self) -> Result<(), Error>
+    #[inline(always)]
+    fn fill_null(&mut self) -> Result<(), Error>
         ensures does { Does (fill_null_at self.old.place self.old) result self.new }
         ensures kept { take (length self.old.out) self.new.out ≡ self.old.out }
     {
@@ -221,7 +220,24 @@ impl Fill {
         }
     }
 
-    pub(crate) fn keep(&mut self, bytes: &[u8]) -> Result<(), Error>
+    /// Writes nulls by themselves. It returns false, and does nothing, if there is no room for them.
+    #[inline(always)]
+    fn fill_nulls(&mut self, count: usize) -> bool
+        ensures written { OnTrue result (Ok self.new ≡ emit (replicate count 0x40) self.old) }
+        ensures kept { take (length self.old.out) self.new.out ≡ self.old.out }
+        ensures left { OnFalse result (self.new ≡ self.old) }
+    {
+        if self.out.len() > self.limit || self.limit - self.out.len() < count {
+            return false;
+        }
+        let mut out = taken(&mut self.out);
+        push_nulls(&mut out, count);
+        put_back(&mut self.out, out);
+        true
+    }
+
+    #[inline(always)]
+    fn fill_keep(&mut self, bytes: &[u8]) -> Result<(), Error>
         ensures does { Does (fill_keep bytes.now self.old) result self.new }
         ensures kept { take (length self.old.out) self.new.out ≡ self.old.out }
     {
@@ -232,6 +248,7 @@ impl Fill {
     }
 
     /// Writes what comes before the values of a container, whose first value is at this place.
+    #[inline(always)]
     fn open(&mut self, head: &[u8], body: &[u8], place: Place) -> Result<(), Error>
         ensures does { Does (fill_open (head.now ++ body.now) (place_of place) self.old) result self.new }
         ensures kept { take (length self.old.out) self.new.out ≡ self.old.out }
@@ -246,7 +263,8 @@ impl Fill {
         Ok(())
     }
 
-    pub(crate) fn begin(&mut self, container: Container) -> Result<(), Error>
+    #[inline(always)]
+    fn fill_begin(&mut self, container: Container) -> Result<(), Error>
         ensures does { Does (fill_begin (container_of container) self.old) result self.new }
         ensures kept { take (length self.old.out) self.new.out ≡ self.old.out }
     {
@@ -261,6 +279,7 @@ impl Fill {
         self.open_container(container, size)
     }
 
+    #[inline(always)]
     fn open_container(&mut self, container: Container, size: Size) -> Result<(), Error>
         requires { size.content < 0xffff_fffc }
         ensures does { Does (fill_open (opening self.old.place (container_of container) size.count size.content)
@@ -286,6 +305,45 @@ impl Fill {
         }
     }
 
+    /// Writes what comes before the values of a list that is described by a code of one byte, where both are by themselves, and the list
+    /// has values and is short.
+    #[inline(always)]
+    fn open_composite(&mut self, code: u8, size: Size) -> Result<(), Error>
+        requires levels { length self.old.outer < 128 }
+        requires described { 0 < code }
+        requires content { size.content < 255 }
+        requires some { 0 < size.count }
+        requires count { size.count < 256 }
+        ensures does { Does (open_composite code size self.old) result self.new }
+        ensures kept { take (length self.old.out) self.new.out ≡ self.old.out }
+    {
+        self.emit_each(&[
+            0,
+            format_code::SMALL_ULONG,
+            code,
+            format_code::LIST_8,
+            size.content as u8 + 1,
+            size.count as u8,
+        ])?;
+        self.places[self.depth] = self.place;
+        self.places[self.depth + 1] = Place::Alone;
+        self.depth += 2;
+        self.place = Place::Alone;
+        Ok(())
+    }
+
+    #[inline(never)]
+    fn begin_any_composite(&mut self, code: u64) -> Result<(), Error>
+        ensures passes { Passes (Filling self.old) (begin_described (code_descriptor code) ∷ begin list ∷ []) result (Filling self.new) }
+        ensures kept { take (length self.old.out) self.new.out ≡ self.old.out }
+    {
+        match self.fill_begin_described(&Descriptor::Code(code)) {
+            Ok(()) => self.fill_begin(Container::List),
+            Err(error) => Err(error),
+        }
+    }
+
+    #[inline(always)]
     fn open_alone(&mut self, container: Container, size: Size) -> Result<(), Error>
         requires fits { size.content < 0xffff_fffc }
         ensures does { Does (fill_open (head Alone (container_of container) size.count size.content) (first_place (container_of container))
@@ -310,6 +368,7 @@ impl Fill {
     }
 
     /// Opens an array without items, which holds the constructor of null.
+    #[inline(never)]
     fn open_empty_array(&mut self, first: Place) -> Result<(), Error>
         ensures does { Does (fill_open (opening self.old.place array 0 0) (place_of first) self.old) result self.new }
         ensures kept { take (length self.old.out) self.new.out ≡ self.old.out }
@@ -336,7 +395,8 @@ impl Fill {
         }
     }
 
-    pub(crate) fn begin_described(&mut self, descriptor: &Descriptor) -> Result<(), Error>
+    #[inline(always)]
+    fn fill_begin_described(&mut self, descriptor: &Descriptor) -> Result<(), Error>
         ensures does { Does (fill_begin_described (descriptor_of descriptor.now) self.old) result self.new }
         ensures kept { take (length self.old.out) self.new.out ≡ self.old.out }
     {
@@ -358,6 +418,10 @@ impl Fill {
         ensures does { Does (fill_described (descriptor_of descriptor.now) self.old) result self.new }
         ensures kept { take (length self.old.out) self.new.out ≡ self.old.out }
     {
+        if let Descriptor::Code(0) = descriptor {
+            let place = self.place;
+            return self.open(&[0, format_code::ULONG_0], &[], place);
+        }
         let text = text_of(descriptor);
         if text.len() > 0xffff_ffff {
             return Err(Error::TooLarge);
@@ -366,7 +430,8 @@ impl Fill {
     }
 
     /// Ends a container or a described value.
-    pub(crate) fn end(&mut self) -> Result<(), Error>
+    #[inline(always)]
+    fn fill_end(&mut self) -> Result<(), Error>
         ensures does { Does (fill_end self.old) result self.new }
         ensures kept { take (length self.old.out) self.new.out ≡ self.old.out }
     {
@@ -379,7 +444,146 @@ impl Fill {
     }
 }
 
-// Bytes for which there is room.
+impl Pass for Fill {
+    ghost use Rattle.std.specs.Prelude.{refl};
+    ghost use Rattle.amqp_encoder.specs.State.{Filling};
+
+    ghost seen = { λ f. Filling f };
+
+    ghost out = { λ f. f.out };
+
+    #[inline(always)]
+    fn fills(&self) -> bool {
+        true
+    }
+
+    #[inline(always)]
+    fn is_plain(&self) -> bool {
+        matches!(self.place, Place::Alone)
+    }
+
+    #[inline(always)]
+    fn put_plain(&mut self, shortest: Shortest, wide: &[u8]) -> bool {
+        self.fill_plain(shortest, wide).is_ok()
+    }
+
+    #[inline(always)]
+    fn put_plain_nulls(&mut self, count: usize) -> bool {
+        self.fill_nulls(count)
+    }
+
+    #[inline(always)]
+    fn put(&mut self, shortest: Shortest, wide: &[u8]) -> Result<(), Error> {
+        self.fill_fixed(shortest, wide)
+    }
+
+    #[inline(always)]
+    fn put_bytes(&mut self, short: u8, wide: u8, bytes: &[u8]) -> Result<(), Error> {
+        self.fill_bytes(short, wide, bytes)
+    }
+
+    #[inline(always)]
+    fn put_symbol(&mut self, text: &str) -> Result<(), Error> {
+        self.fill_bytes(
+            format_code::SYMBOL_8,
+            format_code::SYMBOL_32,
+            text.as_bytes(),
+        )
+    }
+
+    #[inline(always)]
+    fn put_null(&mut self) -> Result<(), Error> {
+        self.fill_null()
+    }
+
+    #[inline(always)]
+    fn keep(&mut self, bytes: &[u8], _nesting: usize) -> Result<(), Error> {
+        self.fill_keep(bytes)
+    }
+
+    #[inline(always)]
+    fn begin(&mut self, container: Container) -> Result<(), Error> {
+        self.fill_begin(container)
+    }
+
+    #[inline(always)]
+    fn end(&mut self, _container: Container) -> Result<(), Error> {
+        self.fill_end()
+    }
+
+    #[inline(always)]
+    fn begin_described(&mut self, descriptor: &Descriptor) -> Result<(), Error> {
+        self.fill_begin_described(descriptor)
+    }
+
+    #[inline(always)]
+    fn end_described(&mut self) -> Result<(), Error> {
+        self.fill_end()
+    }
+
+    #[inline(always)]
+    fn begin_composite(&mut self, code: u64) -> Result<(), Error> {
+        if let Place::Alone = self.place
+            && 0 < code
+            && code < 256
+            && self.depth < NESTING
+            && self.next < self.sizes.len()
+        {
+            let size = self.sizes.get(self.next);
+            if size.content < 255 && size.count != 0 && size.count < 256 {
+                self.next += 1;
+                return self.open_composite(code as u8, size);
+            }
+        }
+        self.begin_any_composite(code)
+    }
+
+    #[inline(always)]
+    fn end_composite(&mut self) -> Result<(), Error> {
+        match self.fill_end() {
+            Ok(()) => self.fill_end(),
+            Err(error) => Err(error),
+        }
+    }
+
+    ghost going = { λ f. refl };
+
+    ghost same_bytes = { λ f. refl };
+}
+
+// Takes the buffer out of its place for a few writes, so that no byte that is written can be a part of the encoder.
+#[inline(always)]
+fn taken(place: &mut Vec<u8>) -> Vec<u8>
+    ensures items { result.items ≡ place.old.items }
+    ensures capacity { vec_capacity result ≡ vec_capacity place.old }
+    ensures empty { place.new.items ≡ [] }
+{
+    let empty = Vec::new(*place.allocator());
+    replace(place, empty)
+}
+
+// Puts it back into its place, which is empty, so that nothing is freed there.
+#[inline(always)]
+fn put_back(place: &mut Vec<u8>, out: Vec<u8>)
+    ensures items { place.new.items ≡ out.items }
+    ensures capacity { vec_capacity place.new ≡ vec_capacity out }
+{
+    forget(replace(place, out));
+}
+
+// So many nulls, for which there is room.
+#[inline(always)]
+fn push_nulls(out: &mut Vec<u8>, count: usize)
+    requires { vec_len out.old + count ≤ vec_capacity out.old }
+    ensures items { out.new.items ≡ out.old.items ++ replicate count 0x40 }
+    ensures capacity { vec_capacity out.new ≡ vec_capacity out.old }
+{
+    for _ in 0..count {
+        out.push_reserved(format_code::NULL);
+    }
+}
+
+// Bytes for which there is room. One by one is faster than a call that copies a few.
 #[inline(always)]
 fn push_each(out: &mut Vec<u8>, bytes: &[u8])
     requires { vec_len out.old + length bytes.now ≤ vec_capacity out.old }

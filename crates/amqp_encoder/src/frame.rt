@@ -6,7 +6,7 @@ ghost use Rattle.amqp_wire.specs.Containers.{container_of};
 ghost use Rattle.amqp_encoder.specs.Values.{place_of};
 ghost use Rattle.amqp_encoder.specs.Opening.{opening, filler, content_length};
 ghost use Rattle.amqp_encoder.specs.State.{seen, holding, describing};
-ghost use Rattle.amqp_encoder.specs.Measuring.{is_full, size_of};
+ghost use Rattle.amqp_encoder.specs.Measuring.{is_full, size_of, IsUnfilled};
 
 use crate::places::{Opened, Place, first_place};
 use crate::size::{MAX_CONTENT, Size};
@@ -73,6 +73,17 @@ impl MeasuredContainer {
         self.opened.is_described() && self.count != 0
     }
 
+    /// Returns whether it is a described value by itself that has no value yet.
+    #[inline(always)]
+    pub(crate) fn is_unfilled(self) -> bool
+        ensures { OnTrue result (IsUnfilled (seen self)) }
+    {
+        match self.place {
+            Place::Alone => self.opened.is_described() && self.count == 0,
+            Place::First | Place::Later => false,
+        }
+    }
+
     /// Returns its size. It is refused if the size doesn't fit in four bytes.
     pub(crate) fn size(self) -> Result<Size, Error>
         ensures { result ≡ size_of (seen self) }
@@ -88,6 +99,7 @@ impl MeasuredContainer {
 }
 
 /// Returns whether it is an array without items, which holds the constructor of null (Part 1, section 1.2.4).
+#[inline(always)]
 pub(crate) fn is_filled_up(container: Container, size: Size) -> bool
     ensures filled { OnTrue result ((container_of container ≡ array) × (size.count ≡ 0)) }
     ensures unfilled { OnFalse result (filler (container_of container) size.count ≡ []) }
@@ -100,6 +112,7 @@ pub(crate) fn is_filled_up(container: Container, size: Size) -> bool
 }
 
 /// Returns how many bytes come before a container's items, in its place.
+#[inline(always)]
 pub(crate) fn opening_len(place: Place, container: Container, size: Size) -> usize
     ensures same { result ≡ length (opening (place_of place) (container_of container) size.count size.content) }
     ensures short { result ≤ 10 }

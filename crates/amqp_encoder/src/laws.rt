@@ -8,7 +8,7 @@ ghost use Rattle.amqp_model.specs.Refusals.{Refuses};
 ghost use Rattle.amqp_wire.specs.Refusals.{error_of};
 ghost use Rattle.amqp_wire.specs.declared.error.Error.{Error};
 ghost use Rattle.amqp_wire.specs.declared.error.Error.TheVariants.{Memory, LazyInArray};
-ghost use Rattle.amqp_encoder.specs.declared.encoder.Encoder.{Encoder};
+ghost use Rattle.amqp_encoder.specs.State.{Encoder};
 ghost use Rattle.amqp_encoder.specs.declared.size.Size.{Size};
 ghost use Rattle.amqp_encoder.specs.Tokens.{Token, tokens};
 ghost use Rattle.amqp_encoder.specs.Measuring.{MAX};

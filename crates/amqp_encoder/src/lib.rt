@@ -8,8 +8,12 @@ mod fill;
 mod frame;
 pub mod laws;
 mod measure;
+mod pass;
 mod places;
 mod primitives;
 mod size;
 
-pub use encoder::{Encoder, begin_filling, buffer_of, measured_len, measuring_encoder};
+pub use encoder::{Encoder, buffer_of, filling_encoder, measured_len, measuring_encoder};
+pub use fill::Fill;
+pub use measure::Measure;
+pub use pass::Pass;

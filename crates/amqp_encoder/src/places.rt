@@ -125,7 +125,7 @@ impl Opened {
 
 /// How a primitive is written by itself: a code alone, a code and a byte, or as in an array.
 #[derive(Clone, Copy)]
-pub(crate) enum Shortest {
+pub enum Shortest {
     Code(u8),
     Byte(u8, u8),
     Wide,

@@ -4,12 +4,13 @@ ghost use Rattle.amqp_model.specs.Term.{boolean, ubyte, ushort, uint, ulong, byt
 ghost use Rattle.amqp_model.specs.Term.{decimal128, uuid, binary, string};
 ghost use Rattle.amqp_encoder.specs.Tokens.{put};
 ghost use Rattle.amqp_encoder.specs.Writes.{Writes};
+ghost use Rattle.amqp_encoder.specs.Passes.{answer_of};
 
-use crate::Encoder;
 use crate::places::Shortest;
+use crate::{Encoder, Pass};
 use amqp_wire::{Error, format_code};
 
-impl Encoder {
+impl<P: Pass> Encoder<P> {
     /// Writes a boolean (Part 1, section 1.6.2).
     #[inline(always)]
     pub fn write_bool(&mut self, value: bool) -> Result<(), Error>
@@ -51,8 +52,19 @@ impl Encoder {
         ensures { Writes self.old (put (uint value) ∷ []) result self.new }
     {
         let [a, b, c, d] = value.to_be_bytes();
-        let shortest = Shortest::of_uint(value);
-        self.put(shortest, [format_code::UINT, a, b, c, d])
+        if self.puts_plain(Shortest::of_uint(value), [format_code::UINT, a, b, c, d]) {
+            return Ok(());
+        }
+        self.write_uint_apart(value);
+        self.check()
+    }
+
+    #[inline(never)]
+    fn write_uint_apart(&mut self, value: u32)
+        ensures { Writes self.old (put (uint value) ∷ []) (answer_of self.new) self.new }
+    {
+        let [a, b, c, d] = value.to_be_bytes();
+        self.put_any(Shortest::of_uint(value), [format_code::UINT, a, b, c, d])
     }
 
     /// Writes an unsigned integer of 64 bits (Part 1, section 1.6.6).
@@ -61,8 +73,25 @@ impl Encoder {
         ensures { Writes self.old (put (ulong value) ∷ []) result self.new }
     {
         let [a, b, c, d, e, f, g, h] = value.to_be_bytes();
-        let shortest = Shortest::of_ulong(value);
-        self.put(shortest, [format_code::ULONG, a, b, c, d, e, f, g, h])
+        if self.puts_plain(
+            Shortest::of_ulong(value),
+            [format_code::ULONG, a, b, c, d, e, f, g, h],
+        ) {
+            return Ok(());
+        }
+        self.write_ulong_apart(value);
+        self.check()
+    }
+
+    #[inline(never)]
+    fn write_ulong_apart(&mut self, value: u64)
+        ensures { Writes self.old (put (ulong value) ∷ []) (answer_of self.new) self.new }
+    {
+        let [a, b, c, d, e, f, g, h] = value.to_be_bytes();
+        self.put_any(
+            Shortest::of_ulong(value),
+            [format_code::ULONG, a, b, c, d, e, f, g, h],
+        )
     }
 
     /// Writes a signed integer of 8 bits (Part 1, section 1.6.7).
@@ -89,8 +118,19 @@ impl Encoder {
         ensures { Writes self.old (put (int value) ∷ []) result self.new }
     {
         let [a, b, c, d] = value.to_be_bytes();
-        let shortest = Shortest::of_int(value);
-        self.put(shortest, [format_code::INT, a, b, c, d])
+        if self.puts_plain(Shortest::of_int(value), [format_code::INT, a, b, c, d]) {
+            return Ok(());
+        }
+        self.write_int_apart(value);
+        self.check()
+    }
+
+    #[inline(never)]
+    fn write_int_apart(&mut self, value: i32)
+        ensures { Writes self.old (put (int value) ∷ []) (answer_of self.new) self.new }
+    {
+        let [a, b, c, d] = value.to_be_bytes();
+        self.put_any(Shortest::of_int(value), [format_code::INT, a, b, c, d])
     }
 
     /// Writes a signed integer of 64 bits (Part 1, section 1.6.10).
@@ -99,8 +139,25 @@ impl Encoder {
         ensures { Writes self.old (put (long value) ∷ []) result self.new }
     {
         let [a, b, c, d, e, f, g, h] = value.to_be_bytes();
-        let shortest = Shortest::of_long(value);
-        self.put(shortest, [format_code::LONG, a, b, c, d, e, f, g, h])
+        if self.puts_plain(
+            Shortest::of_long(value),
+            [format_code::LONG, a, b, c, d, e, f, g, h],
+        ) {
+            return Ok(());
+        }
+        self.write_long_apart(value);
+        self.check()
+    }
+
+    #[inline(never)]
+    fn write_long_apart(&mut self, value: i64)
+        ensures { Writes self.old (put (long value) ∷ []) (answer_of self.new) self.new }
+    {
+        let [a, b, c, d, e, f, g, h] = value.to_be_bytes();
+        self.put_any(
+            Shortest::of_long(value),
+            [format_code::LONG, a, b, c, d, e, f, g, h],
+        )
     }
 
     /// Writes a decimal number of 32 bits, as its bytes (Part 1, section 1.6.13).

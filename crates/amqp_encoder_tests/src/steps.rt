@@ -1,5 +1,7 @@
 //! The calls of an encoder as steps.
-use amqp_encoder::{Encoder, begin_filling, buffer_of, measured_len, measuring_encoder};
+use amqp_encoder::{
+    Encoder, Measure, Pass, buffer_of, filling_encoder, measured_len, measuring_encoder,
+};
 use amqp_wire::{Descriptor, Error};
 use std::alloc::Global;
 
@@ -40,18 +42,22 @@ pub(crate) enum Step<'a> {
     Refuse(Error),
 }
 
-fn begin_named(name: &str, encoder: &mut Encoder, alloc: Global) -> Result<(), Error> {
+fn begin_named<P: Pass>(name: &str, encoder: &mut Encoder<P>, alloc: Global) -> Result<(), Error> {
     let name = String::from_str(alloc, name)?;
     encoder.begin_described(&Descriptor::Name(name.into()))
 }
 
-fn write_binary(len: u32, encoder: &mut Encoder, alloc: Global) -> Result<(), Error> {
+fn write_binary<P: Pass>(len: u32, encoder: &mut Encoder<P>, alloc: Global) -> Result<(), Error> {
     let mut bytes: Vec<u8> = Vec::new(alloc);
     bytes.resize(len as usize, 0x61)?;
     encoder.write_binary(&bytes)
 }
 
-fn write_primitive(step: Step<'_>, encoder: &mut Encoder, alloc: Global) -> Result<(), Error> {
+fn write_primitive<P: Pass>(
+    step: Step<'_>,
+    encoder: &mut Encoder<P>,
+    alloc: Global,
+) -> Result<(), Error> {
     match step {
         Step::Bool(value) => encoder.write_bool(value),
         Step::Ubyte(value) => encoder.write_ubyte(value),
@@ -77,7 +83,11 @@ fn write_primitive(step: Step<'_>, encoder: &mut Encoder, alloc: Global) -> Resu
 }
 
 /// Makes one call.
-pub(crate) fn take_step(step: Step<'_>, encoder: &mut Encoder, alloc: Global) -> Result<(), Error> {
+pub(crate) fn take_step<P: Pass>(
+    step: Step<'_>,
+    encoder: &mut Encoder<P>,
+    alloc: Global,
+) -> Result<(), Error> {
     match step {
         Step::BeginList => encoder.begin_list(),
         Step::EndList => encoder.end_list(),
@@ -94,7 +104,11 @@ pub(crate) fn take_step(step: Step<'_>, encoder: &mut Encoder, alloc: Global) ->
 }
 
 /// Takes the steps in turn, up to one that is refused.
-pub(crate) fn write(steps: &[Step<'_>], encoder: &mut Encoder, alloc: Global) -> Result<(), Error> {
+pub(crate) fn write<P: Pass>(
+    steps: &[Step<'_>],
+    encoder: &mut Encoder<P>,
+    alloc: Global,
+) -> Result<(), Error> {
     for step in steps {
         take_step(*step, encoder, alloc)?;
     }
@@ -104,7 +118,7 @@ pub(crate) fn write(steps: &[Step<'_>], encoder: &mut Encoder, alloc: Global) ->
 /// Returns what a measuring pass over the steps returns.
 pub(crate) fn measure(
     steps: &[Step<'_>],
-    encoder: &mut Encoder,
+    encoder: &mut Encoder<Measure>,
     alloc: Global,
 ) -> Result<usize, Error> {
     write(steps, encoder, alloc)?;
@@ -121,9 +135,9 @@ pub(crate) fn append(steps: &[Step<'_>], buffer: &mut Vec<u8>, alloc: Global) ->
     };
     buffer.reserve_exact(len)?;
     let room = std::mem::replace(buffer, Vec::new(alloc));
-    begin_filling(&mut encoder, alloc, room, limit);
-    let outcome = write(steps, &mut encoder, alloc);
-    *buffer = buffer_of(encoder);
+    let mut filling = filling_encoder(&mut encoder, alloc, room, limit);
+    let outcome = write(steps, &mut filling, alloc);
+    *buffer = buffer_of(filling);
     if outcome.is_err() {
         buffer.truncate(before);
         return outcome;

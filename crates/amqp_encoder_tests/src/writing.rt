@@ -1,6 +1,8 @@
 //! Rows of canonical text and refusals, written by the calls of an encoder.
 use crate::steps::{Step, append, measure, take_step};
-use amqp_encoder::{Encoder, begin_filling, buffer_of, measured_len, measuring_encoder};
+use amqp_encoder::{
+    Encoder, Measure, Pass, buffer_of, filling_encoder, measured_len, measuring_encoder,
+};
 use amqp_wire::Error;
 use std::alloc::Global;
 use std::test::Fail;
@@ -381,7 +383,12 @@ fn nesting(rt: HostRuntime) -> Result<(), Fail> {
 }
 
 /// Returns whether the encoder returns this error for each step.
-fn is_refused(steps: &[Step<'_>], error: Error, encoder: &mut Encoder, alloc: Global) -> bool {
+fn is_refused<P: Pass>(
+    steps: &[Step<'_>],
+    error: Error,
+    encoder: &mut Encoder<P>,
+    alloc: Global,
+) -> bool {
     for step in steps {
         if take_step(*step, encoder, alloc) != Err(error) {
             return false;
@@ -428,10 +435,9 @@ fn a_room_that_is_too_small(rt: HostRuntime) -> Result<(), Fail> {
     let buffer = [0xaa, 0xbb].to_vec(rt.alloc())?;
     let limit = buffer.len();
     let mut encoder = measuring_encoder(rt.alloc());
-    begin_filling(&mut encoder, rt.alloc(), buffer, limit);
-    assert_eq!(rt; measured_len(&encoder), Err(Error::InvalidValue));
-    assert_eq!(rt; encoder.write_uint(1), Err(Error::InvalidValue));
-    let buffer = buffer_of(encoder);
+    let mut filling = filling_encoder(&mut encoder, rt.alloc(), buffer, limit);
+    assert_eq!(rt; filling.write_uint(1), Err(Error::InvalidValue));
+    let buffer = buffer_of(filling);
     assert_eq!(rt; buffer.as_slice(), [0xaa, 0xbb].as_slice());
     Ok(())
 }

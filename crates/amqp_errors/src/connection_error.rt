@@ -9,7 +9,8 @@ ghost use Rattle.amqp_errors.specs.Conditions.{connection_error_type};
 ghost use Rattle.amqp_errors.specs.contracts.connection_error.ConnectionError.{the_type};
 
 use amqp_codec::{
-    ByteSource, Decoder, DeserializeTerm, Encoder, Error, MapKey, Serialize, SerializeTerm, Symbol,
+    ByteSource, Decoder, DeserializeTerm, Encoder, Error, MapKey, Pass, Serialize, SerializeTerm,
+    Symbol,
 };
 use amqp_sums::restricted::{RestrictedText, from_symbol, read_text, symbol_of, write_text};
 use std::alloc::Global;
@@ -88,7 +89,7 @@ impl RestrictedText for ConnectionError {
 impl Serialize for ConnectionError {
     ghost writing = { writing_of connection_error_type refl };
 
-    fn serialize(&self, encoder: &mut Encoder) -> Result<(), Error> {
+    fn serialize<P: Pass>(&self, encoder: &mut Encoder<P>) -> Result<(), Error> {
         write_text(self, encoder)
     }
 

@@ -9,7 +9,7 @@ use crate::{
 };
 use amqp_codec::kernel::{Composite, FieldList, FieldRule, write_composite};
 use amqp_codec::{
-    ByteSource, Decoder, Encoder, Error as CodecError, Serialize, SerializeTerm, fields,
+    ByteSource, Decoder, Encoder, Error as CodecError, Pass, Serialize, SerializeTerm, fields,
 };
 use std::alloc::Global;
 
@@ -145,6 +145,7 @@ impl FieldList for Error {
         }
     }
 
+    #[inline(always)]
     fn fill_field<R: ByteSource>(
         &mut self,
         index: usize,
@@ -154,11 +155,17 @@ impl FieldList for Error {
         error_fields!(fill(self, index, decoder, alloc))
     }
 
+    #[inline(always)]
     fn is_null_field(&self, index: usize) -> bool {
         error_fields!(is_null(self, index))
     }
 
-    fn write_field(&self, index: usize, encoder: &mut Encoder) -> Result<(), CodecError> {
+    #[inline(always)]
+    fn write_field<P: Pass>(
+        &self,
+        index: usize,
+        encoder: &mut Encoder<P>,
+    ) -> Result<(), CodecError> {
         error_fields!(write(self, index, encoder))
     }
 }
@@ -166,7 +173,7 @@ impl FieldList for Error {
 impl Serialize for Error {
     ghost writing = { writing_of (composite error) refl };
 
-    fn serialize(&self, encoder: &mut Encoder) -> Result<(), CodecError> {
+    fn serialize<P: Pass>(&self, encoder: &mut Encoder<P>) -> Result<(), CodecError> {
         write_composite(self, Error::DESCRIPTOR.0, encoder)
     }
 

@@ -5,7 +5,7 @@ ghost use Rattle.amqp_errors.specs.Conditions.{condition_texts, condition_type, 
 
 use crate::{AmqpError, ConnectionError, LinkError, SessionError, TransactionError};
 use amqp_codec::{
-    ByteSource, Decoder, DeserializeTerm, Encoder, Error, Serialize, SerializeTerm, Symbol,
+    ByteSource, Decoder, DeserializeTerm, Encoder, Error, Pass, Serialize, SerializeTerm, Symbol,
 };
 use std::alloc::Global;
 
@@ -129,7 +129,7 @@ impl ErrorCondition {
 impl Serialize for ErrorCondition {
     ghost writing = { writing_of condition_type refl };
 
-    fn serialize(&self, encoder: &mut Encoder) -> Result<(), Error> {
+    fn serialize<P: Pass>(&self, encoder: &mut Encoder<P>) -> Result<(), Error> {
         encoder.write_symbol(self.text())
     }
 

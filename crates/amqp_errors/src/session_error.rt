@@ -9,7 +9,8 @@ ghost use Rattle.amqp_errors.specs.Conditions.{session_error_type};
 ghost use Rattle.amqp_errors.specs.contracts.session_error.SessionError.{the_type};
 
 use amqp_codec::{
-    ByteSource, Decoder, DeserializeTerm, Encoder, Error, MapKey, Serialize, SerializeTerm, Symbol,
+    ByteSource, Decoder, DeserializeTerm, Encoder, Error, MapKey, Pass, Serialize, SerializeTerm,
+    Symbol,
 };
 use amqp_sums::restricted::{RestrictedText, from_symbol, read_text, symbol_of, write_text};
 use std::alloc::Global;
@@ -92,7 +93,7 @@ impl RestrictedText for SessionError {
 impl Serialize for SessionError {
     ghost writing = { writing_of session_error_type refl };
 
-    fn serialize(&self, encoder: &mut Encoder) -> Result<(), Error> {
+    fn serialize<P: Pass>(&self, encoder: &mut Encoder<P>) -> Result<(), Error> {
         write_text(self, encoder)
     }
 

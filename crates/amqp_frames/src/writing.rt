@@ -13,7 +13,7 @@ use crate::frame_header::{HEADER_LEN, LEAST_DATA_OFFSET};
 use crate::{FrameHeader, FrameKind, MIN_MAX_FRAME_SIZE, SaslFrame, WriteError};
 use amqp_attach::Performative;
 use amqp_codec::{DeserializeTerm, Encoder, Error, Serialize};
-use amqp_encoder::{begin_filling, buffer_of, measured_len, measuring_encoder};
+use amqp_encoder::{Measure, buffer_of, filling_encoder, measured_len, measuring_encoder};
 use amqp_read_write::laws::one_term_is_written;
 use std::alloc::Global;
 use std::mem::replace;
@@ -99,7 +99,7 @@ pub fn write_empty_frame(buffer: &mut Vec<u8>, channel: u16) -> Result<usize, Wr
 
 // The length of the value's canonical text, whose sizes the encoder keeps.
 #[inline(always)]
-fn measure<T: DeserializeTerm>(value: &T, encoder: &mut Encoder) -> Result<usize, Error>
+fn measure<T: DeserializeTerm>(value: &T, encoder: &mut Encoder<Measure>) -> Result<usize, Error>
     requires { BeginsMeasuring encoder.old }
     ensures len { IfOk result (λ len. len ≡ length (written T.term value.now)) }
     ensures sizes { IfOk result (λ len. IsMeasuredBy (T.writing.canons value.now) len encoder.new) }
@@ -141,9 +141,9 @@ fn append_frame<T: DeserializeTerm>(
     append_header(buffer, header, size)?;
     let limit = buffer.len() + text_len;
     let room = replace(buffer, Vec::new(alloc));
-    begin_filling(&mut encoder, alloc, room, limit);
-    let outcome = value.serialize(&mut encoder);
-    *buffer = buffer_of(encoder);
+    let mut filling = filling_encoder(&mut encoder, alloc, room, limit);
+    let outcome = value.serialize(&mut filling);
+    *buffer = buffer_of(filling);
     match append_payload(buffer, payload, outcome) {
         Ok(()) => Ok(size),
         Err(error) => {

@@ -9,7 +9,7 @@ ghost use Rattle.amqp_lazy.specs.LazyType.{lazy_type, lazy_writing, lazy_agreeme
 
 use amqp_codec::{DeserializeTerm, Serialize, SerializeTerm};
 use amqp_decoder::Decoder;
-use amqp_encoder::Encoder;
+use amqp_encoder::{Encoder, Pass};
 use amqp_lengths::measures_of;
 use amqp_wire::{ByteSource, Error, format_code};
 use std::alloc::{AllocError, Global};
@@ -83,7 +83,7 @@ impl Clone for LazyValue {
 impl Serialize for LazyValue {
     ghost writing = { lazy_writing };
 
-    fn serialize(&self, encoder: &mut Encoder) -> Result<(), Error> {
+    fn serialize<P: Pass>(&self, encoder: &mut Encoder<P>) -> Result<(), Error> {
         encoder.write_term(self.bytes.as_slice(), self.nesting)
     }
 

@@ -5,7 +5,9 @@ ghost use Rattle.amqp_map_sections.specs.SimpleMaps.{simple_map_type, simple_map
 ghost use Rattle.amqp_map_sections.specs.MapSections.{application_properties_naming, in_application_properties};
 
 use crate::MapBuilder;
-use amqp_codec::{ByteSource, Decoder, DeserializeTerm, Encoder, Error, Serialize, SerializeTerm};
+use amqp_codec::{
+    ByteSource, Decoder, DeserializeTerm, Encoder, Error, Pass, Serialize, SerializeTerm,
+};
 use amqp_maps::OrderedMap;
 use amqp_sections::{Section, read_section, write_section};
 use amqp_simple_values::SimpleValue;
@@ -95,7 +97,7 @@ impl Section<OrderedMap<String, SimpleValue>> for ApplicationProperties {
 impl Serialize for ApplicationProperties {
     ghost writing = { section_writing in_application_properties application_properties_naming ⟦<OrderedMap<String, SimpleValue> as Serialize>⟧.writing };
 
-    fn serialize(&self, encoder: &mut Encoder) -> Result<(), Error> {
+    fn serialize<P: Pass>(&self, encoder: &mut Encoder<P>) -> Result<(), Error> {
         write_section(ApplicationProperties::DESCRIPTOR.0, &self.0, encoder)
     }
 

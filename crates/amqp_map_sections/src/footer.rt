@@ -6,7 +6,9 @@ ghost use Rattle.amqp_map_sections.specs.MapSections.{footer_naming, in_footer};
 
 use crate::MapBuilder;
 use amqp_annotations::{Annotations, OwnedKey};
-use amqp_codec::{ByteSource, Decoder, DeserializeTerm, Encoder, Error, Serialize, SerializeTerm};
+use amqp_codec::{
+    ByteSource, Decoder, DeserializeTerm, Encoder, Error, Pass, Serialize, SerializeTerm,
+};
 use amqp_maps::OrderedMap;
 use amqp_sections::{Section, read_section, write_section};
 use amqp_values::Value;
@@ -88,7 +90,7 @@ impl Section<Annotations> for Footer {
 impl Serialize for Footer {
     ghost writing = { section_writing in_footer footer_naming ⟦<Annotations as Serialize>⟧.writing };
 
-    fn serialize(&self, encoder: &mut Encoder) -> Result<(), Error> {
+    fn serialize<P: Pass>(&self, encoder: &mut Encoder<P>) -> Result<(), Error> {
         write_section(Footer::DESCRIPTOR.0, &self.0, encoder)
     }
 

@@ -2,12 +2,14 @@
 #![tactic(auto)]
 
 mod compared;
+mod iterators;
 mod key_hashing;
 pub mod laws;
 mod ordered_map;
+mod pairs;
 mod read;
 mod written;
 
-pub use indexmap::map::{IntoIter, Iter, Values};
+pub use iterators::{IntoIter, Iter, Values};
 pub use key_hashing::{KeyHasher, KeyHashing};
 pub use ordered_map::OrderedMap;

@@ -8,15 +8,16 @@ ghost use Rattle.indexmap.specs.IndexMap.{insert_entry};
 ghost use Rattle.amqp_wire.specs.declared.error.Error.TheVariants.{Memory};
 ghost use Rattle.amqp_maps.specs.Pairs.{HaveDistinctKeys};
 
-use crate::KeyHashing;
+use crate::iterators::{IntoIter, Iter, Values};
+use crate::pairs::Pairs;
 use amqp_wire::Error;
-use indexmap::IndexMap;
-use indexmap::map::{IntoIter, Iter, Values};
 use std::alloc::{AllocError, Global};
 use std::hash::Hash;
 use std::marker::Model;
 
-/// A map whose pairs are in the order in which their keys were first inserted. No two of its keys are equal. A key is found by its hash.
+/// A map whose pairs are in the order in which their keys were first inserted. No two of its keys are equal.
+///
+/// Up to eight pairs are in a row, in which a key is found by a walk. More are in a table, in which a key is found by its hash.
 ///
 /// Equality, order and hash are those of the list of its pairs; a pair goes by its key and then by its value. Two maps with the same pairs
 /// in another order aren't equal, since in the standard the order of a map's pairs counts.
@@ -26,35 +27,38 @@ use std::marker::Model;
 /// reserves no memory.
 #[derive(Debug, Drop)]
 pub struct OrderedMap<K: Eq + Hash, V> {
-    pairs: IndexMap<K, V, KeyHashing>,
+    pairs: Pairs<K, V>,
 }
 
 impl<K: Eq + Hash, V> Model for OrderedMap<K, V> {
     ghost use Rattle.std.specs.Prelude.{List};
-    ghost use Rattle.amqp_maps.specs.Pairs.{HaveDistinctKeys};
 
     ghost Value = { List (K × V) };
 
-    ghost view = { λ m. m.pairs.entries };
+    ghost use Rattle.amqp_maps.specs.Kept.{pairs_of, IsSound};
 
-    ghost invariant = { λ m. HaveDistinctKeys K.eq m.pairs.entries };
+    ghost view = { λ m. pairs_of m.pairs };
+
+    ghost invariant = { λ m. IsSound K.eq m.pairs };
 }
 
 impl<K: Eq + Hash, V> OrderedMap<K, V> {
+    ghost use Rattle.amqp_maps.specs.Kept.{pairs_of, IsSound};
+
     /// Returns a map without pairs. It doesn't allocate.
     pub fn new(alloc: Global) -> OrderedMap<K, V>
         ensures { result ≡ [] }
     {
         OrderedMap {
-            pairs: IndexMap::with_hasher(alloc, KeyHashing { seed: 0 }),
+            pairs: Pairs::new(alloc),
         }
     }
 
     // The map of these pairs.
-    pub(crate) fn of_pairs(pairs: IndexMap<K, V, KeyHashing>) -> OrderedMap<K, V>
-        ensures { result ≡ pairs.entries }
+    pub(crate) fn of_pairs(pairs: Pairs<K, V>) -> OrderedMap<K, V>
+        requires { IsSound K.eq pairs }
+        ensures { result ≡ pairs_of pairs }
     {
-        let _distinct = pairs.len();
         OrderedMap { pairs }
     }
 
@@ -77,7 +81,7 @@ impl<K: Eq + Hash, V> OrderedMap<K, V> {
     pub fn is_empty(&self) -> bool
         ensures { IsTrue result ↔ (self.now ≡ []) }
     {
-        self.pairs.is_empty()
+        self.len() == 0
     }
 
     /// Returns an iterator over the pairs in order, each as a key and a value.
@@ -98,7 +102,7 @@ impl<K: Eq + Hash, V> OrderedMap<K, V> {
         ensures in_reverse { ShowsInReverse (deref {X = V}) }
         ensures fits { length self.now < 2 ^ 63 }
     {
-        self.pairs.values()
+        Values::of_pairs(self.iter())
     }
 }
 
@@ -132,10 +136,10 @@ impl<K: Eq + Hash + Drop, V> OrderedMap<K, V> {
 impl<K: Eq + Hash + Clone, V: Clone> Clone for OrderedMap<K, V> {
     ghost is_clone = { AllZip (λ p q. K.is_clone p.0 q.0 × V.is_clone p.1 q.1) };
 
-    // It allocates, and fails too if a key's clone isn't equal to the key, or has another hash.
+    // It allocates, and fails too if a key's clone isn't equal to the key, or has another hash in a table.
     fn clone(&self) -> Result<OrderedMap<K, V>, AllocError> {
         Ok(OrderedMap {
-            pairs: self.pairs.clone()?,
+            pairs: self.pairs.copied()?,
         })
     }
 }
@@ -149,7 +153,7 @@ impl<K: Eq + Hash + Drop, V: Drop> IntoIterator for OrderedMap<K, V> {
         × HaveDistinctKeys K.eq m };
 
     fn into_iter(self) -> IntoIter<K, V> {
-        self.pairs.into_iter()
+        self.pairs.into_pairs()
     }
 }
 

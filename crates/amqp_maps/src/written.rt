@@ -8,13 +8,13 @@ ghost use Rattle.amqp_codec.specs.Written.{WritesTerms};
 
 use crate::OrderedMap;
 use amqp_codec::kernel::{pair_in_type, write_pair};
-use amqp_codec::{Encoder, Error, Serialize, SerializeTerm};
+use amqp_codec::{Encoder, Error, Pass, Serialize, SerializeTerm};
 use std::hash::Hash;
 
 // Writes the pairs in order, to an encoder that has refused nothing.
-fn write_pairs<K: SerializeTerm + Eq + Hash, V: SerializeTerm>(
+fn write_pairs<K: SerializeTerm + Eq + Hash, V: SerializeTerm, P: Pass>(
     map: &OrderedMap<K, V>,
-    encoder: &mut Encoder,
+    encoder: &mut Encoder<P>,
 ) -> Result<(), Error>
     requires going { answer_of encoder.now ≡ Ok tt }
     ensures { WritesTerms (turn_terms K.writing V.writing map.now) encoder.old result encoder.new }
@@ -37,7 +37,7 @@ fn pairs_in_type<K: SerializeTerm + Eq + Hash, V: SerializeTerm>(map: &OrderedMa
 impl<K: SerializeTerm + Eq + Hash, V: SerializeTerm> Serialize for OrderedMap<K, V> {
     ghost writing = { map_writing K.writing V.writing (IsDistinct K.eq) };
 
-    fn serialize(&self, encoder: &mut Encoder) -> Result<(), Error> {
+    fn serialize<P: Pass>(&self, encoder: &mut Encoder<P>) -> Result<(), Error> {
         encoder.begin_map()?;
         write_pairs(self, encoder)?;
         encoder.end_map()

@@ -6,7 +6,7 @@ ghost use Rattle.amqp_message_headers.specs.Tables.{header};
 
 use crate::Priority;
 use amqp_codec::kernel::{Composite, FieldList, FieldRule, write_composite};
-use amqp_codec::{ByteSource, Decoder, Encoder, Error, Serialize, SerializeTerm, fields};
+use amqp_codec::{ByteSource, Decoder, Encoder, Error, Pass, Serialize, SerializeTerm, fields};
 use amqp_wire::section_code;
 use std::alloc::Global;
 use std::marker::Model;
@@ -80,6 +80,7 @@ impl FieldList for Header {
         Header::default()
     }
 
+    #[inline(always)]
     fn fill_field<R: ByteSource>(
         &mut self,
         index: usize,
@@ -89,11 +90,13 @@ impl FieldList for Header {
         header_fields!(fill(self, index, decoder, alloc))
     }
 
+    #[inline(always)]
     fn is_null_field(&self, index: usize) -> bool {
         header_fields!(is_null(self, index))
     }
 
-    fn write_field(&self, index: usize, encoder: &mut Encoder) -> Result<(), Error> {
+    #[inline(always)]
+    fn write_field<P: Pass>(&self, index: usize, encoder: &mut Encoder<P>) -> Result<(), Error> {
         header_fields!(write(self, index, encoder))
     }
 }
@@ -101,7 +104,7 @@ impl FieldList for Header {
 impl Serialize for Header {
     ghost writing = { writing_of (composite header) refl };
 
-    fn serialize(&self, encoder: &mut Encoder) -> Result<(), Error> {
+    fn serialize<P: Pass>(&self, encoder: &mut Encoder<P>) -> Result<(), Error> {
         write_composite(self, Header::DESCRIPTOR.0, encoder)
     }
 

@@ -8,7 +8,7 @@ ghost use Rattle.amqp_message_headers.specs.laws.MessageIdKey.{ids_decide};
 ghost use Rattle.amqp_message_headers.specs.MessageIds.{message_ids};
 
 use amqp_codec::{
-    ByteSource, Decoder, DeserializeTerm, Encoder, Error, MapKey, Serialize, SerializeTerm,
+    ByteSource, Decoder, DeserializeTerm, Encoder, Error, MapKey, Pass, Serialize, SerializeTerm,
 };
 use amqp_kinds::{Kind, KindSum, read_as, read_kind_sum};
 use amqp_primitives::{Binary, Uuid};
@@ -79,7 +79,7 @@ impl KindSum for MessageId {
 impl Serialize for MessageId {
     ghost writing = { writing_of (kind_sum_type message_ids) refl };
 
-    fn serialize(&self, encoder: &mut Encoder) -> Result<(), Error> {
+    fn serialize<P: Pass>(&self, encoder: &mut Encoder<P>) -> Result<(), Error> {
         match self {
             MessageId::Ulong(number) => number.serialize(encoder),
             MessageId::Uuid(identifier) => identifier.serialize(encoder),

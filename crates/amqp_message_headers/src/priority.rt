@@ -3,7 +3,9 @@ ghost use Rattle.std.specs.Prelude.{◌≡◌, refl};
 ghost use Rattle.amqp_codec.specs.Agreement.{one_term, agreement, writing_of};
 ghost use Rattle.amqp_message_headers.specs.Priorities.{priority_type};
 
-use amqp_codec::{ByteSource, Decoder, DeserializeTerm, Encoder, Error, Serialize, SerializeTerm};
+use amqp_codec::{
+    ByteSource, Decoder, DeserializeTerm, Encoder, Error, Pass, Serialize, SerializeTerm,
+};
 use std::alloc::Global;
 
 /// How urgent a message is, compared with others: a greater number is more urgent. The default is 4 (Part 3, section 3.2.1).
@@ -37,7 +39,7 @@ impl From<Priority> for u8 {
 impl Serialize for Priority {
     ghost writing = { writing_of priority_type refl };
 
-    fn serialize(&self, encoder: &mut Encoder) -> Result<(), Error> {
+    fn serialize<P: Pass>(&self, encoder: &mut Encoder<P>) -> Result<(), Error> {
         encoder.write_ubyte(self.0)
     }
 

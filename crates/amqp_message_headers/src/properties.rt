@@ -6,7 +6,9 @@ ghost use Rattle.amqp_message_headers.specs.Tables.{properties};
 
 use crate::MessageId;
 use amqp_codec::kernel::{Composite, FieldList, FieldRule, write_composite};
-use amqp_codec::{ByteSource, Decoder, Encoder, Error, Serialize, SerializeTerm, Symbol, fields};
+use amqp_codec::{
+    ByteSource, Decoder, Encoder, Error, Pass, Serialize, SerializeTerm, Symbol, fields,
+};
 use amqp_primitives::{Binary, Timestamp};
 use amqp_wire::section_code;
 use std::alloc::Global;
@@ -124,6 +126,7 @@ impl FieldList for Properties {
         Properties::new()
     }
 
+    #[inline(always)]
     fn fill_field<R: ByteSource>(
         &mut self,
         index: usize,
@@ -133,11 +136,13 @@ impl FieldList for Properties {
         properties_fields!(fill(self, index, decoder, alloc))
     }
 
+    #[inline(always)]
     fn is_null_field(&self, index: usize) -> bool {
         properties_fields!(is_null(self, index))
     }
 
-    fn write_field(&self, index: usize, encoder: &mut Encoder) -> Result<(), Error> {
+    #[inline(always)]
+    fn write_field<P: Pass>(&self, index: usize, encoder: &mut Encoder<P>) -> Result<(), Error> {
         properties_fields!(write(self, index, encoder))
     }
 }
@@ -145,7 +150,7 @@ impl FieldList for Properties {
 impl Serialize for Properties {
     ghost writing = { writing_of (composite properties) refl };
 
-    fn serialize(&self, encoder: &mut Encoder) -> Result<(), Error> {
+    fn serialize<P: Pass>(&self, encoder: &mut Encoder<P>) -> Result<(), Error> {
         write_composite(self, Properties::DESCRIPTOR.0, encoder)
     }
 

@@ -3,7 +3,7 @@ use Rattle.std.proofs.Common.{List, [], ◌++◌, Result, sym, subst}
 use Rattle.std.proofs.lemmas.List.{append-nil}
 use Rattle.amqp_model.specs.Term.{Term}
 use Rattle.amqp_wire.specs.declared.error.Error.{Error}
-use Rattle.amqp_encoder.specs.declared.encoder.Encoder.{Encoder}
+use Rattle.amqp_encoder.specs.State.{Encoder}
 use Rattle.amqp_codec.specs.Written.{WritesTerms}
 
 -- nothing follows the last

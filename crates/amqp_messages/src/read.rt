@@ -23,6 +23,7 @@ use amqp_wire::{ByteSource, Error, section_code};
 use std::alloc::Global;
 
 // Reads a section, which replaces an earlier one.
+#[inline(never)]
 fn put_section<T: DeserializeTerm, R: ByteSource>(
     place: &mut Option<T>,
     decoder: &mut Decoder<R>,
@@ -31,11 +32,17 @@ fn put_section<T: DeserializeTerm, R: ByteSource>(
     ensures read { Tells R.remaining → AnswersPut (reading_of T.term) place.new decoder.old result decoder.new }
     ensures tries { Tries true decoder.old result decoder.new }
 {
-    *place = Some(T::read_value(decoder, alloc)?);
-    Ok(())
+    match T::read_value(decoder, alloc) {
+        Ok(section) => {
+            *place = Some(section);
+            Ok(())
+        }
+        Err(error) => Err(error),
+    }
 }
 
 // Reads a group of the body's sections, which replaces an earlier one.
+#[inline(never)]
 fn put_body<B: FromBody, R: ByteSource>(
     place: &mut Option<B::Body>,
     decoder: &mut Decoder<R>,
@@ -44,8 +51,13 @@ fn put_body<B: FromBody, R: ByteSource>(
     ensures read { Tells R.remaining → AnswersPut B.made.group place.new decoder.old result decoder.new }
     ensures tries { Tries true decoder.old result decoder.new }
 {
-    *place = Some(B::read_body(decoder, alloc)?);
-    Ok(())
+    match B::read_body(decoder, alloc) {
+        Ok(body) => {
+            *place = Some(body);
+            Ok(())
+        }
+        Err(error) => Err(error),
+    }
 }
 
 impl<S: Drop> Groups<S> {

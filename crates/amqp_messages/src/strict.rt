@@ -22,7 +22,7 @@ use crate::message::Message;
 use crate::order::Order;
 use crate::read::read_message;
 use amqp_bodies::{CanonicalBody, FromBody, SerializableBody};
-use amqp_codec::{Canonical, Deserialize, Encoder, Serialize};
+use amqp_codec::{Canonical, Deserialize, Encoder, Pass, Serialize};
 use amqp_decoder::Decoder;
 use amqp_read_write::{canonical_text, canonical_text_within, from_reader, from_reader_within};
 use amqp_wire::{ByteSource, Error, Limits};
@@ -51,7 +51,7 @@ impl<B: FromBody> Deserialize for Strict<B> {
 impl<B: SerializableBody> Serialize for Strict<B> {
     ghost writing = { via_writing message_in ⟦<Message<B> as Serialize>⟧.writing };
 
-    fn serialize(&self, encoder: &mut Encoder) -> Result<(), Error> {
+    fn serialize<P: Pass>(&self, encoder: &mut Encoder<P>) -> Result<(), Error> {
         self.0.serialize(encoder)
     }
 

@@ -3,7 +3,7 @@ ghost use Rattle.amqp_codec.specs.Agreement.{via_writing};
 ghost use Rattle.amqp_batches.specs.WalkReading.{reading_via};
 ghost use Rattle.amqp_messages.specs.Wrappers.{written_in, read_in};
 
-use amqp_codec::{Deserialize, Encoder, Serialize};
+use amqp_codec::{Deserialize, Encoder, Pass, Serialize};
 use amqp_decoder::Decoder;
 use amqp_wire::{ByteSource, Error};
 use std::alloc::Global;
@@ -15,7 +15,7 @@ pub struct Serializable<T>(pub T);
 impl<T: Serialize> Serialize for Serializable<T> {
     ghost writing = { via_writing written_in T.writing };
 
-    fn serialize(&self, encoder: &mut Encoder) -> Result<(), Error> {
+    fn serialize<P: Pass>(&self, encoder: &mut Encoder<P>) -> Result<(), Error> {
         self.0.serialize(encoder)
     }
 

@@ -6,12 +6,15 @@ ghost use Rattle.amqp_messages.specs.MessageWriting.{message_writing};
 
 use crate::message::Message;
 use amqp_bodies::SerializableBody;
-use amqp_codec::{Encoder, Error, Serialize};
+use amqp_codec::{Encoder, Error, Pass, Serialize};
 use amqp_map_sections::{ApplicationProperties, DeliveryAnnotations, Footer, MessageAnnotations};
 use amqp_message_headers::{Header, Properties};
 
 // Writes a section that may be absent; then nothing is written.
-fn write_some<T: Serialize>(section: &Option<T>, encoder: &mut Encoder) -> Result<(), Error>
+fn write_some<T: Serialize, P: Pass>(
+    section: &Option<T>,
+    encoder: &mut Encoder<P>,
+) -> Result<(), Error>
     ensures { WritesTerms (optional T.writing.canons section.now) encoder.old result encoder.new }
 {
     match section {
@@ -36,7 +39,7 @@ impl<B: SerializableBody> Serialize for Message<B> {
         ⟦<MessageAnnotations as Serialize>⟧.writing ⟦<Properties as Serialize>⟧.writing
         ⟦<ApplicationProperties as Serialize>⟧.writing ⟦<Footer as Serialize>⟧.writing B.writing };
 
-    fn serialize(&self, encoder: &mut Encoder) -> Result<(), Error> {
+    fn serialize<P: Pass>(&self, encoder: &mut Encoder<P>) -> Result<(), Error> {
         write_some(&self.header, encoder)?;
         write_some(&self.delivery_annotations, encoder)?;
         write_some(&self.message_annotations, encoder)?;

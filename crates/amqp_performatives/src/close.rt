@@ -5,7 +5,7 @@ ghost use Rattle.amqp_performatives.specs.Tables.{close};
 
 use amqp_codec::kernel::{Composite, FieldList, FieldRule, write_composite};
 use amqp_codec::{
-    ByteSource, Decoder, Encoder, Error as CodecError, Serialize, SerializeTerm, fields,
+    ByteSource, Decoder, Encoder, Error as CodecError, Pass, Serialize, SerializeTerm, fields,
 };
 use amqp_errors::Error;
 use std::alloc::Global;
@@ -52,6 +52,7 @@ impl FieldList for Close {
         Close { error: None }
     }
 
+    #[inline(always)]
     fn fill_field<R: ByteSource>(
         &mut self,
         index: usize,
@@ -61,11 +62,17 @@ impl FieldList for Close {
         close_fields!(fill(self, index, decoder, alloc))
     }
 
+    #[inline(always)]
     fn is_null_field(&self, index: usize) -> bool {
         close_fields!(is_null(self, index))
     }
 
-    fn write_field(&self, index: usize, encoder: &mut Encoder) -> Result<(), CodecError> {
+    #[inline(always)]
+    fn write_field<P: Pass>(
+        &self,
+        index: usize,
+        encoder: &mut Encoder<P>,
+    ) -> Result<(), CodecError> {
         close_fields!(write(self, index, encoder))
     }
 }
@@ -73,7 +80,7 @@ impl FieldList for Close {
 impl Serialize for Close {
     ghost writing = { writing_of (composite close) refl };
 
-    fn serialize(&self, encoder: &mut Encoder) -> Result<(), CodecError> {
+    fn serialize<P: Pass>(&self, encoder: &mut Encoder<P>) -> Result<(), CodecError> {
         write_composite(self, Close::DESCRIPTOR.0, encoder)
     }
 

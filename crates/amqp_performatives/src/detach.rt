@@ -4,7 +4,7 @@ ghost use Rattle.amqp_performatives.specs.Tables.{detach};
 
 use amqp_codec::kernel::{Composite, FieldList, FieldRule, write_composite};
 use amqp_codec::{
-    ByteSource, Decoder, Encoder, Error as CodecError, Serialize, SerializeTerm, fields,
+    ByteSource, Decoder, Encoder, Error as CodecError, Pass, Serialize, SerializeTerm, fields,
 };
 use amqp_errors::Error;
 use amqp_restricted_types::Handle;
@@ -55,6 +55,7 @@ impl FieldList for Detach {
         }
     }
 
+    #[inline(always)]
     fn fill_field<R: ByteSource>(
         &mut self,
         index: usize,
@@ -64,11 +65,17 @@ impl FieldList for Detach {
         detach_fields!(fill(self, index, decoder, alloc))
     }
 
+    #[inline(always)]
     fn is_null_field(&self, index: usize) -> bool {
         detach_fields!(is_null(self, index))
     }
 
-    fn write_field(&self, index: usize, encoder: &mut Encoder) -> Result<(), CodecError> {
+    #[inline(always)]
+    fn write_field<P: Pass>(
+        &self,
+        index: usize,
+        encoder: &mut Encoder<P>,
+    ) -> Result<(), CodecError> {
         detach_fields!(write(self, index, encoder))
     }
 }
@@ -76,7 +83,7 @@ impl FieldList for Detach {
 impl Serialize for Detach {
     ghost writing = { writing_of (composite detach) refl };
 
-    fn serialize(&self, encoder: &mut Encoder) -> Result<(), CodecError> {
+    fn serialize<P: Pass>(&self, encoder: &mut Encoder<P>) -> Result<(), CodecError> {
         write_composite(self, Detach::DESCRIPTOR.0, encoder)
     }
 

@@ -3,7 +3,7 @@ ghost use Rattle.amqp_sums.specs.Types.{composite, fields_of, names_of, one_term
 ghost use Rattle.amqp_performatives.specs.Tables.{disposition};
 
 use amqp_codec::kernel::{Composite, FieldList, FieldRule, write_composite};
-use amqp_codec::{ByteSource, Decoder, Encoder, Error, Serialize, SerializeTerm, fields};
+use amqp_codec::{ByteSource, Decoder, Encoder, Error, Pass, Serialize, SerializeTerm, fields};
 use amqp_delivery::DeliveryState;
 use amqp_restricted_types::{DeliveryNumber, Role};
 use std::alloc::Global;
@@ -65,6 +65,7 @@ impl FieldList for Disposition {
         }
     }
 
+    #[inline(always)]
     fn fill_field<R: ByteSource>(
         &mut self,
         index: usize,
@@ -74,11 +75,13 @@ impl FieldList for Disposition {
         disposition_fields!(fill(self, index, decoder, alloc))
     }
 
+    #[inline(always)]
     fn is_null_field(&self, index: usize) -> bool {
         disposition_fields!(is_null(self, index))
     }
 
-    fn write_field(&self, index: usize, encoder: &mut Encoder) -> Result<(), Error> {
+    #[inline(always)]
+    fn write_field<P: Pass>(&self, index: usize, encoder: &mut Encoder<P>) -> Result<(), Error> {
         disposition_fields!(write(self, index, encoder))
     }
 }
@@ -86,7 +89,7 @@ impl FieldList for Disposition {
 impl Serialize for Disposition {
     ghost writing = { writing_of (composite disposition) refl };
 
-    fn serialize(&self, encoder: &mut Encoder) -> Result<(), Error> {
+    fn serialize<P: Pass>(&self, encoder: &mut Encoder<P>) -> Result<(), Error> {
         write_composite(self, Disposition::DESCRIPTOR.0, encoder)
     }
 

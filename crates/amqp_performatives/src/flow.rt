@@ -3,7 +3,7 @@ ghost use Rattle.amqp_sums.specs.Types.{composite, fields_of, names_of, one_term
 ghost use Rattle.amqp_performatives.specs.Tables.{flow};
 
 use amqp_codec::kernel::{Composite, FieldList, FieldRule, write_composite};
-use amqp_codec::{ByteSource, Decoder, Encoder, Error, Serialize, SerializeTerm, fields};
+use amqp_codec::{ByteSource, Decoder, Encoder, Error, Pass, Serialize, SerializeTerm, fields};
 use amqp_errors::Fields;
 use amqp_restricted_types::{Handle, SequenceNo, TransferNumber};
 use std::alloc::Global;
@@ -85,6 +85,7 @@ impl FieldList for Flow {
         }
     }
 
+    #[inline(always)]
     fn fill_field<R: ByteSource>(
         &mut self,
         index: usize,
@@ -94,11 +95,13 @@ impl FieldList for Flow {
         flow_fields!(fill(self, index, decoder, alloc))
     }
 
+    #[inline(always)]
     fn is_null_field(&self, index: usize) -> bool {
         flow_fields!(is_null(self, index))
     }
 
-    fn write_field(&self, index: usize, encoder: &mut Encoder) -> Result<(), Error> {
+    #[inline(always)]
+    fn write_field<P: Pass>(&self, index: usize, encoder: &mut Encoder<P>) -> Result<(), Error> {
         flow_fields!(write(self, index, encoder))
     }
 }
@@ -106,7 +109,7 @@ impl FieldList for Flow {
 impl Serialize for Flow {
     ghost writing = { writing_of (composite flow) refl };
 
-    fn serialize(&self, encoder: &mut Encoder) -> Result<(), Error> {
+    fn serialize<P: Pass>(&self, encoder: &mut Encoder<P>) -> Result<(), Error> {
         write_composite(self, Flow::DESCRIPTOR.0, encoder)
     }
 

@@ -3,7 +3,9 @@ ghost use Rattle.amqp_sums.specs.Types.{composite, fields_of, names_of, one_term
 ghost use Rattle.amqp_performatives.specs.Tables.{opening};
 
 use amqp_codec::kernel::{Composite, FieldList, FieldRule, write_composite};
-use amqp_codec::{ByteSource, Decoder, Encoder, Error, Serialize, SerializeTerm, Symbol, fields};
+use amqp_codec::{
+    ByteSource, Decoder, Encoder, Error, Pass, Serialize, SerializeTerm, Symbol, fields,
+};
 use amqp_containers::Array;
 use amqp_containers::multiple::{is_null_multiple, read_multiple, write_multiple};
 use amqp_errors::Fields;
@@ -83,6 +85,7 @@ impl FieldList for Open {
         }
     }
 
+    #[inline(always)]
     fn fill_field<R: ByteSource>(
         &mut self,
         index: usize,
@@ -92,11 +95,13 @@ impl FieldList for Open {
         open_fields!(fill(self, index, decoder, alloc))
     }
 
+    #[inline(always)]
     fn is_null_field(&self, index: usize) -> bool {
         open_fields!(is_null(self, index))
     }
 
-    fn write_field(&self, index: usize, encoder: &mut Encoder) -> Result<(), Error> {
+    #[inline(always)]
+    fn write_field<P: Pass>(&self, index: usize, encoder: &mut Encoder<P>) -> Result<(), Error> {
         open_fields!(write(self, index, encoder))
     }
 }
@@ -104,7 +109,7 @@ impl FieldList for Open {
 impl Serialize for Open {
     ghost writing = { writing_of (composite opening) refl };
 
-    fn serialize(&self, encoder: &mut Encoder) -> Result<(), Error> {
+    fn serialize<P: Pass>(&self, encoder: &mut Encoder<P>) -> Result<(), Error> {
         write_composite(self, Open::DESCRIPTOR.0, encoder)
     }
 

@@ -3,7 +3,7 @@ ghost use Rattle.amqp_sums.specs.Types.{composite, fields_of, names_of, one_term
 ghost use Rattle.amqp_performatives.specs.Tables.{transfer};
 
 use amqp_codec::kernel::{Composite, FieldList, FieldRule, write_composite};
-use amqp_codec::{ByteSource, Decoder, Encoder, Error, Serialize, SerializeTerm, fields};
+use amqp_codec::{ByteSource, Decoder, Encoder, Error, Pass, Serialize, SerializeTerm, fields};
 use amqp_delivery::DeliveryState;
 use amqp_restricted_types::{
     DeliveryNumber, DeliveryTag, Handle, MessageFormat, ReceiverSettleMode,
@@ -88,6 +88,7 @@ impl FieldList for Transfer {
         }
     }
 
+    #[inline(always)]
     fn fill_field<R: ByteSource>(
         &mut self,
         index: usize,
@@ -97,11 +98,13 @@ impl FieldList for Transfer {
         transfer_fields!(fill(self, index, decoder, alloc))
     }
 
+    #[inline(always)]
     fn is_null_field(&self, index: usize) -> bool {
         transfer_fields!(is_null(self, index))
     }
 
-    fn write_field(&self, index: usize, encoder: &mut Encoder) -> Result<(), Error> {
+    #[inline(always)]
+    fn write_field<P: Pass>(&self, index: usize, encoder: &mut Encoder<P>) -> Result<(), Error> {
         transfer_fields!(write(self, index, encoder))
     }
 }
@@ -109,7 +112,7 @@ impl FieldList for Transfer {
 impl Serialize for Transfer {
     ghost writing = { writing_of (composite transfer) refl };
 
-    fn serialize(&self, encoder: &mut Encoder) -> Result<(), Error> {
+    fn serialize<P: Pass>(&self, encoder: &mut Encoder<P>) -> Result<(), Error> {
         write_composite(self, Transfer::DESCRIPTOR.0, encoder)
     }
 

@@ -6,7 +6,7 @@ ghost use Rattle.amqp_codec.specs.laws.Key.{key_of};
 ghost use Rattle.amqp_primitives.specs.Types.{binary_type};
 
 use amqp_codec::{
-    ByteSource, Decoder, DeserializeTerm, Encoder, Error, MapKey, Serialize, SerializeTerm,
+    ByteSource, Decoder, DeserializeTerm, Encoder, Error, MapKey, Pass, Serialize, SerializeTerm,
 };
 use std::alloc::Global;
 
@@ -46,7 +46,7 @@ impl From<Vec<u8>> for Binary {
 impl Serialize for Binary {
     ghost writing = { writing_of binary_type refl };
 
-    fn serialize(&self, encoder: &mut Encoder) -> Result<(), Error> {
+    fn serialize<P: Pass>(&self, encoder: &mut Encoder<P>) -> Result<(), Error> {
         encoder.write_binary(self.as_slice())
     }
 

@@ -6,7 +6,7 @@ ghost use Rattle.amqp_codec.specs.laws.Key.{key_of};
 ghost use Rattle.amqp_primitives.specs.Types.{decimal128_type};
 
 use amqp_codec::{
-    ByteSource, Decoder, DeserializeTerm, Encoder, Error, MapKey, Serialize, SerializeTerm,
+    ByteSource, Decoder, DeserializeTerm, Encoder, Error, MapKey, Pass, Serialize, SerializeTerm,
 };
 use std::alloc::Global;
 
@@ -43,7 +43,7 @@ impl From<[u8; 16]> for Dec128 {
 impl Serialize for Dec128 {
     ghost writing = { writing_of decimal128_type refl };
 
-    fn serialize(&self, encoder: &mut Encoder) -> Result<(), Error> {
+    fn serialize<P: Pass>(&self, encoder: &mut Encoder<P>) -> Result<(), Error> {
         encoder.write_dec128(self.0)
     }
 

@@ -3,7 +3,7 @@ ghost use Rattle.std.specs.Prelude.{◌≡◌, refl};
 ghost use Rattle.amqp_codec.specs.Agreement.{writing_of, via_writing};
 ghost use Rattle.amqp_codec.specs.PrimitiveTypes.{symbol_bytes_type};
 
-use amqp_codec::{Encoder, Error, Serialize, SerializeTerm};
+use amqp_codec::{Encoder, Error, Pass, Serialize, SerializeTerm};
 
 /// A symbol whose text is borrowed, only for writing. One that isn't ASCII is refused in writing, with `Error::NonAscii`.
 #[derive(Clone, Debug, PartialEq, Eq, PartialOrd, Ord, Hash, Drop)]
@@ -37,7 +37,7 @@ impl<'a> From<&'a str> for SymbolRef<'a> {
 impl Serialize for SymbolRef<'_> {
     ghost writing = { via_writing (λ v. v.0.now) (writing_of symbol_bytes_type refl) };
 
-    fn serialize(&self, encoder: &mut Encoder) -> Result<(), Error> {
+    fn serialize<P: Pass>(&self, encoder: &mut Encoder<P>) -> Result<(), Error> {
         encoder.write_symbol(self.as_str())
     }
 

@@ -6,7 +6,7 @@ ghost use Rattle.amqp_codec.specs.laws.Key.{key_of};
 ghost use Rattle.amqp_primitives.specs.Types.{timestamp_type};
 
 use amqp_codec::{
-    ByteSource, Decoder, DeserializeTerm, Encoder, Error, MapKey, Serialize, SerializeTerm,
+    ByteSource, Decoder, DeserializeTerm, Encoder, Error, MapKey, Pass, Serialize, SerializeTerm,
 };
 use std::alloc::Global;
 
@@ -34,7 +34,7 @@ impl From<i64> for Timestamp {
 impl Serialize for Timestamp {
     ghost writing = { writing_of timestamp_type refl };
 
-    fn serialize(&self, encoder: &mut Encoder) -> Result<(), Error> {
+    fn serialize<P: Pass>(&self, encoder: &mut Encoder<P>) -> Result<(), Error> {
         encoder.write_timestamp(self.0)
     }
 

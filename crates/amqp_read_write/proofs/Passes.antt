@@ -8,7 +8,7 @@ use Rattle.amqp_model.specs.Text.{all_sizes}
 use Rattle.amqp_wire.specs.declared.error.Error.{Error}
 use Rattle.amqp_wire.specs.declared.error.Error.TheVariants.{Memory}
 use Rattle.amqp_encoder.specs.declared.size.Size.{Size}
-use Rattle.amqp_encoder.specs.declared.encoder.Encoder.{Encoder}
+use Rattle.amqp_encoder.specs.State.{Encoder}
 use Rattle.amqp_encoder.specs.State.{Pass, Measuring, Filling, Stopped}
 use Rattle.amqp_encoder.specs.Writes.{Found, Follows, pass_of, bytes_of}
 use Rattle.amqp_encoder.specs.Passes.{row_text, as_size, BeginsMeasuring, BeginsFilling, Finds, FindsNone}

@@ -11,7 +11,7 @@ ghost use Rattle.amqp_codec.specs.Written.{AreMeasured, AreUnwritable, AreWritab
 
 use amqp_codec::{Canonical, Deserialize, Serialize};
 use amqp_decoder::{decoder_within, unread};
-use amqp_encoder::{Encoder, begin_filling, buffer_of, measured_len, measuring_encoder};
+use amqp_encoder::{Encoder, Measure, buffer_of, filling_encoder, measured_len, measuring_encoder};
 use amqp_wire::{Error, Limits};
 use std::alloc::Global;
 
@@ -72,8 +72,10 @@ pub fn from_slice_within<T: Deserialize>(
     let mut decoder = decoder_within(input, limits, alloc);
     let read = T::deserialize(&mut decoder, alloc);
     let left = unread(&decoder);
-    let value = read?;
-    Ok((value, input.len().saturating_sub(left)))
+    match read {
+        Ok(value) => Ok((value, input.len().saturating_sub(left))),
+        Err(error) => Err(error),
+    }
 }
 
 /// Returns the canonical text of the value: that of each of its canonical terms, one after another (Part 1, section 1.6). The text is
@@ -91,9 +93,9 @@ pub fn to_vec<T: Serialize>(value: &T, alloc: Global) -> Result<Vec<u8>, Error>
     let mut encoder = measuring_encoder(alloc);
     let len = measure(value, &mut encoder)?;
     let buffer = Vec::with_capacity(alloc, len)?;
-    begin_filling(&mut encoder, alloc, buffer, len);
-    value.serialize(&mut encoder)?;
-    Ok(buffer_of(encoder))
+    let mut filling = filling_encoder(&mut encoder, alloc, buffer, len);
+    value.serialize(&mut filling)?;
+    Ok(buffer_of(filling))
 }
 
 /// Returns the length in bytes of the value's canonical text. It returns the errors of `to_vec`.
@@ -125,9 +127,9 @@ pub fn append_to_vec<T: Serialize>(
     let before = buffer.len();
     buffer.reserve_exact(len)?;
     let room = std::mem::replace(buffer, Vec::new(alloc));
-    begin_filling(&mut encoder, alloc, room, before + len);
-    let outcome = value.serialize(&mut encoder);
-    *buffer = buffer_of(encoder);
+    let mut filling = filling_encoder(&mut encoder, alloc, room, before + len);
+    let outcome = value.serialize(&mut filling);
+    *buffer = buffer_of(filling);
     match outcome {
         Ok(()) => Ok(len),
         Err(error) => {
@@ -195,7 +197,7 @@ pub fn canonical_text_within<T: Canonical>(
 
 // The length of the canonical text, whose sizes the encoder keeps; or why there is none.
 #[inline(always)]
-fn measure<T: Serialize>(value: &T, encoder: &mut Encoder) -> Result<usize, Error>
+fn measure<T: Serialize>(value: &T, encoder: &mut Encoder<Measure>) -> Result<usize, Error>
     requires { BeginsMeasuring encoder.old }
     ensures is_value { T.writing.is_value value.now }
     ensures measured { IfOk result (λ len.

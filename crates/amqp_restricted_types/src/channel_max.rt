@@ -3,7 +3,9 @@ ghost use Rattle.std.specs.Prelude.{◌≡◌, refl};
 ghost use Rattle.amqp_codec.specs.Agreement.{one_term, agreement, writing_of};
 ghost use Rattle.amqp_restricted_types.specs.Transport.{channel_max_type};
 
-use amqp_codec::{ByteSource, Decoder, DeserializeTerm, Encoder, Error, Serialize, SerializeTerm};
+use amqp_codec::{
+    ByteSource, Decoder, DeserializeTerm, Encoder, Error, Pass, Serialize, SerializeTerm,
+};
 use std::alloc::Global;
 
 /// The greatest channel number that may be used on a connection. The default, 65,535, is the greatest possible.
@@ -37,7 +39,7 @@ impl From<ChannelMax> for u16 {
 impl Serialize for ChannelMax {
     ghost writing = { writing_of channel_max_type refl };
 
-    fn serialize(&self, encoder: &mut Encoder) -> Result<(), Error> {
+    fn serialize<P: Pass>(&self, encoder: &mut Encoder<P>) -> Result<(), Error> {
         encoder.write_ushort(self.0)
     }
 

@@ -8,7 +8,8 @@ ghost use Rattle.amqp_restricted_types.specs.Termini.{distribution_mode_texts, d
 ghost use Rattle.amqp_restricted_types.specs.contracts.distribution_mode.DistributionMode.{the_type};
 
 use amqp_codec::{
-    ByteSource, Decoder, DeserializeTerm, Encoder, Error, MapKey, Serialize, SerializeTerm, Symbol,
+    ByteSource, Decoder, DeserializeTerm, Encoder, Error, MapKey, Pass, Serialize, SerializeTerm,
+    Symbol,
 };
 use amqp_sums::restricted::{RestrictedText, from_symbol, read_text, symbol_of, write_text};
 use std::alloc::Global;
@@ -83,7 +84,7 @@ impl RestrictedText for DistributionMode {
 impl Serialize for DistributionMode {
     ghost writing = { writing_of distribution_mode_type refl };
 
-    fn serialize(&self, encoder: &mut Encoder) -> Result<(), Error> {
+    fn serialize<P: Pass>(&self, encoder: &mut Encoder<P>) -> Result<(), Error> {
         write_text(self, encoder)
     }
 

@@ -3,7 +3,9 @@ ghost use Rattle.std.specs.Prelude.{◌≡◌, refl};
 ghost use Rattle.amqp_codec.specs.Agreement.{one_term, agreement, writing_of};
 ghost use Rattle.amqp_restricted_types.specs.Transport.{handle_type};
 
-use amqp_codec::{ByteSource, Decoder, DeserializeTerm, Encoder, Error, Serialize, SerializeTerm};
+use amqp_codec::{
+    ByteSource, Decoder, DeserializeTerm, Encoder, Error, Pass, Serialize, SerializeTerm,
+};
 use std::alloc::Global;
 
 /// The number of a link in a session; in `handle-max`, the greatest number that may be used. The default is that of `handle-max`,
@@ -39,7 +41,7 @@ impl Serialize for Handle {
     ghost writing = { writing_of handle_type refl };
 
     #[inline(always)]
-    fn serialize(&self, encoder: &mut Encoder) -> Result<(), Error> {
+    fn serialize<P: Pass>(&self, encoder: &mut Encoder<P>) -> Result<(), Error> {
         encoder.write_uint(self.0)
     }
 

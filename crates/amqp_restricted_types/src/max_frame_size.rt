@@ -3,7 +3,9 @@ ghost use Rattle.std.specs.Prelude.{◌≡◌, refl};
 ghost use Rattle.amqp_codec.specs.Agreement.{one_term, agreement, writing_of};
 ghost use Rattle.amqp_restricted_types.specs.Transport.{max_frame_size_type};
 
-use amqp_codec::{ByteSource, Decoder, DeserializeTerm, Encoder, Error, Serialize, SerializeTerm};
+use amqp_codec::{
+    ByteSource, Decoder, DeserializeTerm, Encoder, Error, Pass, Serialize, SerializeTerm,
+};
 use std::alloc::Global;
 
 /// The greatest size, in bytes, of a frame that is sent to a peer. The default, 4,294,967,295, is the greatest possible.
@@ -45,7 +47,7 @@ impl From<MaxFrameSize> for usize {
 impl Serialize for MaxFrameSize {
     ghost writing = { writing_of max_frame_size_type refl };
 
-    fn serialize(&self, encoder: &mut Encoder) -> Result<(), Error> {
+    fn serialize<P: Pass>(&self, encoder: &mut Encoder<P>) -> Result<(), Error> {
         encoder.write_uint(self.0)
     }
 

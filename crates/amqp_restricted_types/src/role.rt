@@ -6,7 +6,7 @@ ghost use Rattle.amqp_restricted_types.specs.Transport.{role_numbers, role_type}
 ghost use Rattle.amqp_restricted_types.specs.contracts.role.Role.{the_type};
 
 use amqp_codec::{
-    ByteSource, Decoder, DeserializeTerm, Encoder, Error, MapKey, Serialize, SerializeTerm,
+    ByteSource, Decoder, DeserializeTerm, Encoder, Error, MapKey, Pass, Serialize, SerializeTerm,
 };
 use amqp_sums::restricted::{RestrictedNumber, read_number, write_number};
 use std::alloc::Global;
@@ -68,7 +68,7 @@ impl Serialize for Role {
     ghost writing = { writing_of role_type refl };
 
     #[inline(always)]
-    fn serialize(&self, encoder: &mut Encoder) -> Result<(), Error> {
+    fn serialize<P: Pass>(&self, encoder: &mut Encoder<P>) -> Result<(), Error> {
         write_number(self, encoder)
     }
 

@@ -6,7 +6,7 @@ ghost use Rattle.amqp_restricted_types.specs.Security.{sasl_code_numbers, sasl_c
 ghost use Rattle.amqp_restricted_types.specs.contracts.sasl_code.SaslCode.{the_type};
 
 use amqp_codec::{
-    ByteSource, Decoder, DeserializeTerm, Encoder, Error, MapKey, Serialize, SerializeTerm,
+    ByteSource, Decoder, DeserializeTerm, Encoder, Error, MapKey, Pass, Serialize, SerializeTerm,
 };
 use amqp_sums::restricted::{RestrictedNumber, read_number, write_number};
 use std::alloc::Global;
@@ -72,7 +72,7 @@ impl RestrictedNumber for SaslCode {
 impl Serialize for SaslCode {
     ghost writing = { writing_of sasl_code_type refl };
 
-    fn serialize(&self, encoder: &mut Encoder) -> Result<(), Error> {
+    fn serialize<P: Pass>(&self, encoder: &mut Encoder<P>) -> Result<(), Error> {
         write_number(self, encoder)
     }
 

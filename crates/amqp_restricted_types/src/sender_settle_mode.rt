@@ -6,7 +6,7 @@ ghost use Rattle.amqp_restricted_types.specs.Transport.{sender_settle_mode_numbe
 ghost use Rattle.amqp_restricted_types.specs.contracts.sender_settle_mode.SenderSettleMode.{the_type};
 
 use amqp_codec::{
-    ByteSource, Decoder, DeserializeTerm, Encoder, Error, MapKey, Serialize, SerializeTerm,
+    ByteSource, Decoder, DeserializeTerm, Encoder, Error, MapKey, Pass, Serialize, SerializeTerm,
 };
 use amqp_sums::restricted::{RestrictedNumber, read_number, write_number};
 use std::alloc::Global;
@@ -66,7 +66,7 @@ impl Serialize for SenderSettleMode {
     ghost writing = { writing_of sender_settle_mode_type refl };
 
     #[inline(always)]
-    fn serialize(&self, encoder: &mut Encoder) -> Result<(), Error> {
+    fn serialize<P: Pass>(&self, encoder: &mut Encoder<P>) -> Result<(), Error> {
         write_number(self, encoder)
     }
 

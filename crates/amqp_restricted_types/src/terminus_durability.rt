@@ -6,7 +6,7 @@ ghost use Rattle.amqp_restricted_types.specs.Termini.{terminus_durability_number
 ghost use Rattle.amqp_restricted_types.specs.contracts.terminus_durability.TerminusDurability.{the_type};
 
 use amqp_codec::{
-    ByteSource, Decoder, DeserializeTerm, Encoder, Error, MapKey, Serialize, SerializeTerm,
+    ByteSource, Decoder, DeserializeTerm, Encoder, Error, MapKey, Pass, Serialize, SerializeTerm,
 };
 use amqp_sums::restricted::{RestrictedNumber, read_number, write_number};
 use std::alloc::Global;
@@ -49,7 +49,7 @@ impl RestrictedNumber for TerminusDurability {
 impl Serialize for TerminusDurability {
     ghost writing = { writing_of terminus_durability_type refl };
 
-    fn serialize(&self, encoder: &mut Encoder) -> Result<(), Error> {
+    fn serialize<P: Pass>(&self, encoder: &mut Encoder<P>) -> Result<(), Error> {
         write_number(self, encoder)
     }
 

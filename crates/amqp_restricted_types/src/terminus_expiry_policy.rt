@@ -8,7 +8,8 @@ ghost use Rattle.amqp_restricted_types.specs.Termini.{terminus_expiry_policy_tex
 ghost use Rattle.amqp_restricted_types.specs.contracts.terminus_expiry_policy.TerminusExpiryPolicy.{the_type};
 
 use amqp_codec::{
-    ByteSource, Decoder, DeserializeTerm, Encoder, Error, MapKey, Serialize, SerializeTerm, Symbol,
+    ByteSource, Decoder, DeserializeTerm, Encoder, Error, MapKey, Pass, Serialize, SerializeTerm,
+    Symbol,
 };
 use amqp_sums::restricted::{RestrictedText, from_symbol, read_text, symbol_of, write_text};
 use std::alloc::Global;
@@ -92,7 +93,7 @@ impl RestrictedText for TerminusExpiryPolicy {
 impl Serialize for TerminusExpiryPolicy {
     ghost writing = { writing_of terminus_expiry_policy_type refl };
 
-    fn serialize(&self, encoder: &mut Encoder) -> Result<(), Error> {
+    fn serialize<P: Pass>(&self, encoder: &mut Encoder<P>) -> Result<(), Error> {
         write_text(self, encoder)
     }
 

@@ -8,7 +8,8 @@ ghost use Rattle.amqp_restricted_types.specs.Transactions.{txn_capability_texts,
 ghost use Rattle.amqp_restricted_types.specs.contracts.txn_capability.TxnCapability.{the_type};
 
 use amqp_codec::{
-    ByteSource, Decoder, DeserializeTerm, Encoder, Error, MapKey, Serialize, SerializeTerm, Symbol,
+    ByteSource, Decoder, DeserializeTerm, Encoder, Error, MapKey, Pass, Serialize, SerializeTerm,
+    Symbol,
 };
 use amqp_sums::restricted::{RestrictedText, from_symbol, read_text, symbol_of, write_text};
 use std::alloc::Global;
@@ -95,7 +96,7 @@ impl RestrictedText for TxnCapability {
 impl Serialize for TxnCapability {
     ghost writing = { writing_of txn_capability_type refl };
 
-    fn serialize(&self, encoder: &mut Encoder) -> Result<(), Error> {
+    fn serialize<P: Pass>(&self, encoder: &mut Encoder<P>) -> Result<(), Error> {
         write_text(self, encoder)
     }
 

@@ -3,7 +3,9 @@ ghost use Rattle.amqp_sums.specs.Types.{composite, fields_of, names_of, one_term
 ghost use Rattle.amqp_sasl.specs.Tables.{sasl_init};
 
 use amqp_codec::kernel::{Composite, FieldList, FieldRule, write_composite};
-use amqp_codec::{ByteSource, Decoder, Encoder, Error, Serialize, SerializeTerm, Symbol, fields};
+use amqp_codec::{
+    ByteSource, Decoder, Encoder, Error, Pass, Serialize, SerializeTerm, Symbol, fields,
+};
 use amqp_primitives::Binary;
 use std::alloc::Global;
 
@@ -52,6 +54,7 @@ impl FieldList for SaslInit {
         }
     }
 
+    #[inline(always)]
     fn fill_field<R: ByteSource>(
         &mut self,
         index: usize,
@@ -61,11 +64,13 @@ impl FieldList for SaslInit {
         sasl_init_fields!(fill(self, index, decoder, alloc))
     }
 
+    #[inline(always)]
     fn is_null_field(&self, index: usize) -> bool {
         sasl_init_fields!(is_null(self, index))
     }
 
-    fn write_field(&self, index: usize, encoder: &mut Encoder) -> Result<(), Error> {
+    #[inline(always)]
+    fn write_field<P: Pass>(&self, index: usize, encoder: &mut Encoder<P>) -> Result<(), Error> {
         sasl_init_fields!(write(self, index, encoder))
     }
 }
@@ -73,7 +78,7 @@ impl FieldList for SaslInit {
 impl Serialize for SaslInit {
     ghost writing = { writing_of (composite sasl_init) refl };
 
-    fn serialize(&self, encoder: &mut Encoder) -> Result<(), Error> {
+    fn serialize<P: Pass>(&self, encoder: &mut Encoder<P>) -> Result<(), Error> {
         write_composite(self, SaslInit::DESCRIPTOR.0, encoder)
     }
 

@@ -7,7 +7,9 @@ ghost use Rattle.amqp_sasl.specs.Tables.{sasl_mechanisms};
 
 use crate::constants::ANONYMOUS;
 use amqp_codec::kernel::{Composite, FieldList, FieldRule, write_composite};
-use amqp_codec::{ByteSource, Decoder, Encoder, Error, Serialize, SerializeTerm, Symbol, fields};
+use amqp_codec::{
+    ByteSource, Decoder, Encoder, Error, Pass, Serialize, SerializeTerm, Symbol, fields,
+};
 use amqp_containers::Array;
 use amqp_containers::multiple::{
     is_null_mandatory_multiple, read_mandatory_multiple, write_mandatory_multiple,
@@ -76,6 +78,7 @@ impl FieldList for SaslMechanisms {
         }
     }
 
+    #[inline(always)]
     fn fill_field<R: ByteSource>(
         &mut self,
         index: usize,
@@ -85,11 +88,13 @@ impl FieldList for SaslMechanisms {
         sasl_mechanisms_fields!(fill(self, index, decoder, alloc))
     }
 
+    #[inline(always)]
     fn is_null_field(&self, index: usize) -> bool {
         sasl_mechanisms_fields!(is_null(self, index))
     }
 
-    fn write_field(&self, index: usize, encoder: &mut Encoder) -> Result<(), Error> {
+    #[inline(always)]
+    fn write_field<P: Pass>(&self, index: usize, encoder: &mut Encoder<P>) -> Result<(), Error> {
         sasl_mechanisms_fields!(write(self, index, encoder))
     }
 }
@@ -97,7 +102,7 @@ impl FieldList for SaslMechanisms {
 impl Serialize for SaslMechanisms {
     ghost writing = { writing_of (composite sasl_mechanisms) refl };
 
-    fn serialize(&self, encoder: &mut Encoder) -> Result<(), Error> {
+    fn serialize<P: Pass>(&self, encoder: &mut Encoder<P>) -> Result<(), Error> {
         write_composite(self, SaslMechanisms::DESCRIPTOR.0, encoder)
     }
 

@@ -3,7 +3,7 @@ ghost use Rattle.amqp_sums.specs.Types.{composite, fields_of, names_of, one_term
 ghost use Rattle.amqp_sasl.specs.Tables.{sasl_outcome};
 
 use amqp_codec::kernel::{Composite, FieldList, FieldRule, write_composite};
-use amqp_codec::{ByteSource, Decoder, Encoder, Error, Serialize, SerializeTerm, fields};
+use amqp_codec::{ByteSource, Decoder, Encoder, Error, Pass, Serialize, SerializeTerm, fields};
 use amqp_primitives::Binary;
 use amqp_restricted_types::SaslCode;
 use std::alloc::Global;
@@ -49,6 +49,7 @@ impl FieldList for SaslOutcome {
         }
     }
 
+    #[inline(always)]
     fn fill_field<R: ByteSource>(
         &mut self,
         index: usize,
@@ -58,11 +59,13 @@ impl FieldList for SaslOutcome {
         sasl_outcome_fields!(fill(self, index, decoder, alloc))
     }
 
+    #[inline(always)]
     fn is_null_field(&self, index: usize) -> bool {
         sasl_outcome_fields!(is_null(self, index))
     }
 
-    fn write_field(&self, index: usize, encoder: &mut Encoder) -> Result<(), Error> {
+    #[inline(always)]
+    fn write_field<P: Pass>(&self, index: usize, encoder: &mut Encoder<P>) -> Result<(), Error> {
         sasl_outcome_fields!(write(self, index, encoder))
     }
 }
@@ -70,7 +73,7 @@ impl FieldList for SaslOutcome {
 impl Serialize for SaslOutcome {
     ghost writing = { writing_of (composite sasl_outcome) refl };
 
-    fn serialize(&self, encoder: &mut Encoder) -> Result<(), Error> {
+    fn serialize<P: Pass>(&self, encoder: &mut Encoder<P>) -> Result<(), Error> {
         write_composite(self, SaslOutcome::DESCRIPTOR.0, encoder)
     }
 

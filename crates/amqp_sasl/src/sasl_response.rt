@@ -3,7 +3,7 @@ ghost use Rattle.amqp_sums.specs.Types.{composite, fields_of, names_of, one_term
 ghost use Rattle.amqp_sasl.specs.Tables.{sasl_response};
 
 use amqp_codec::kernel::{Composite, FieldList, FieldRule, write_composite};
-use amqp_codec::{ByteSource, Decoder, Encoder, Error, Serialize, SerializeTerm, fields};
+use amqp_codec::{ByteSource, Decoder, Encoder, Error, Pass, Serialize, SerializeTerm, fields};
 use amqp_primitives::Binary;
 use std::alloc::Global;
 
@@ -44,6 +44,7 @@ impl FieldList for SaslResponse {
         }
     }
 
+    #[inline(always)]
     fn fill_field<R: ByteSource>(
         &mut self,
         index: usize,
@@ -53,11 +54,13 @@ impl FieldList for SaslResponse {
         sasl_response_fields!(fill(self, index, decoder, alloc))
     }
 
+    #[inline(always)]
     fn is_null_field(&self, index: usize) -> bool {
         sasl_response_fields!(is_null(self, index))
     }
 
-    fn write_field(&self, index: usize, encoder: &mut Encoder) -> Result<(), Error> {
+    #[inline(always)]
+    fn write_field<P: Pass>(&self, index: usize, encoder: &mut Encoder<P>) -> Result<(), Error> {
         sasl_response_fields!(write(self, index, encoder))
     }
 }
@@ -65,7 +68,7 @@ impl FieldList for SaslResponse {
 impl Serialize for SaslResponse {
     ghost writing = { writing_of (composite sasl_response) refl };
 
-    fn serialize(&self, encoder: &mut Encoder) -> Result<(), Error> {
+    fn serialize<P: Pass>(&self, encoder: &mut Encoder<P>) -> Result<(), Error> {
         write_composite(self, SaslResponse::DESCRIPTOR.0, encoder)
     }
 

@@ -5,7 +5,9 @@ ghost use Rattle.amqp_sections.specs.SectionType.{section_of, section_writing, s
 ghost use Rattle.amqp_sections.specs.Sections.{sequence_naming, in_sequence};
 
 use crate::section::{Section, read_section, write_section};
-use amqp_codec::{ByteSource, Decoder, DeserializeTerm, Encoder, Error, Serialize, SerializeTerm};
+use amqp_codec::{
+    ByteSource, Decoder, DeserializeTerm, Encoder, Error, Pass, Serialize, SerializeTerm,
+};
 use amqp_wire::section_code;
 use std::alloc::Global;
 
@@ -61,7 +63,7 @@ impl<T: DeserializeTerm> Section<Vec<T>> for AmqpSequence<T> {
 impl<T: SerializeTerm> Serialize for AmqpSequence<T> {
     ghost writing = { section_writing in_sequence sequence_naming ⟦<Vec<T> as Serialize>⟧.writing };
 
-    fn serialize(&self, encoder: &mut Encoder) -> Result<(), Error> {
+    fn serialize<P: Pass>(&self, encoder: &mut Encoder<P>) -> Result<(), Error> {
         write_section(DESCRIPTOR.0, &self.0, encoder)
     }
 

@@ -4,7 +4,9 @@ ghost use Rattle.amqp_sections.specs.SectionType.{section_of, section_writing, s
 ghost use Rattle.amqp_sections.specs.Sections.{value_naming, in_value};
 
 use crate::section::{Section, read_section, write_section};
-use amqp_codec::{ByteSource, Decoder, DeserializeTerm, Encoder, Error, Serialize, SerializeTerm};
+use amqp_codec::{
+    ByteSource, Decoder, DeserializeTerm, Encoder, Error, Pass, Serialize, SerializeTerm,
+};
 use amqp_wire::section_code;
 use std::alloc::Global;
 
@@ -33,7 +35,7 @@ impl<T: DeserializeTerm> Section<T> for AmqpValue<T> {
 impl<T: SerializeTerm> Serialize for AmqpValue<T> {
     ghost writing = { section_writing in_value value_naming T.writing };
 
-    fn serialize(&self, encoder: &mut Encoder) -> Result<(), Error> {
+    fn serialize<P: Pass>(&self, encoder: &mut Encoder<P>) -> Result<(), Error> {
         write_section(DESCRIPTOR.0, &self.0, encoder)
     }
 

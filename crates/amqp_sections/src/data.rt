@@ -9,7 +9,9 @@ ghost use Rattle.amqp_values.specs.Taken.{TakesOut};
 ghost use Rattle.amqp_values.specs.declared.value.Value.{Binary as BinaryOf};
 
 use crate::section::{Section, read_section, write_section};
-use amqp_codec::{ByteSource, Decoder, DeserializeTerm, Encoder, Error, Serialize, SerializeTerm};
+use amqp_codec::{
+    ByteSource, Decoder, DeserializeTerm, Encoder, Error, Pass, Serialize, SerializeTerm,
+};
 use amqp_primitives::Binary;
 use amqp_values::Value;
 use amqp_wire::section_code;
@@ -79,7 +81,7 @@ impl Section<Binary> for Data {
 impl Serialize for Data {
     ghost writing = { section_writing in_data data_naming (writing_of binary_type refl) };
 
-    fn serialize(&self, encoder: &mut Encoder) -> Result<(), Error> {
+    fn serialize<P: Pass>(&self, encoder: &mut Encoder<P>) -> Result<(), Error> {
         write_section(Data::DESCRIPTOR.0, &self.0, encoder)
     }
 

@@ -10,7 +10,7 @@ ghost use Rattle.amqp_sections.specs.SectionType.{section_of};
 
 use amqp_codec::{DeserializeTerm, SerializeTerm};
 use amqp_decoder::Decoder;
-use amqp_encoder::Encoder;
+use amqp_encoder::{Encoder, Pass};
 use amqp_wire::{ByteSource, Descriptor, Error};
 use std::alloc::Global;
 
@@ -54,16 +54,20 @@ pub fn read_section<S: Section<T>, T: DeserializeTerm, R: ByteSource>(
     ensures tries { Tries T.term.takes_memory decoder.old result decoder.new }
 {
     decoder.begin_one_of(&[S::descriptor()])?;
-    let value = T::read_value(decoder, alloc)?;
-    decoder.end_described()?;
-    Ok(S::of_content(value))
+    match T::read_value(decoder, alloc) {
+        Ok(value) => match decoder.end_described() {
+            Ok(()) => Ok(S::of_content(value)),
+            Err(error) => Err(error),
+        },
+        Err(error) => Err(error),
+    }
 }
 
 /// Writes a section: this value, under the code of its descriptor. It returns the encoder's errors for the value.
-pub fn write_section<T: SerializeTerm>(
+pub fn write_section<T: SerializeTerm, P: Pass>(
     number: u64,
     value: &T,
-    encoder: &mut Encoder,
+    encoder: &mut Encoder<P>,
 ) -> Result<(), Error>
     ensures { WritesTerms (described (code number) (canon_of T.writing value.now) ∷ []) encoder.old result encoder.new }
 {

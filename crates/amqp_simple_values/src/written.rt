@@ -4,13 +4,13 @@ ghost use Rattle.amqp_simple_values.specs.SimpleType.{simple_writing};
 
 use crate::SimpleValue;
 use amqp_codec::{Serialize, SerializeTerm};
-use amqp_encoder::Encoder;
+use amqp_encoder::{Encoder, Pass};
 use amqp_wire::Error;
 
 impl Serialize for SimpleValue {
     ghost writing = { simple_writing };
 
-    fn serialize(&self, encoder: &mut Encoder) -> Result<(), Error> {
+    fn serialize<P: Pass>(&self, encoder: &mut Encoder<P>) -> Result<(), Error> {
         match self {
             SimpleValue::Null => encoder.write_null(),
             SimpleValue::Bool(own) => own.serialize(encoder),

@@ -11,7 +11,7 @@ ghost use Rattle.amqp_codec.specs.PrimitiveTypes.{boolean_base, ubyte_base, usho
 ghost use Rattle.amqp_sums.specs.Restricted.{ReadsRestricted, IsUnknown, Converts};
 
 use amqp_decoder::Decoder;
-use amqp_encoder::Encoder;
+use amqp_encoder::{Encoder, Pass};
 use amqp_wire::{ByteSource, Error, Symbol};
 use std::alloc::Global;
 
@@ -28,7 +28,7 @@ pub trait Base: Sized + Drop {
         ensures tries { Tries false decoder.old result decoder.new };
 
     /// Writes the number.
-    fn write(self, encoder: &mut Encoder) -> Result<(), Error>
+    fn write<P: Pass>(self, encoder: &mut Encoder<P>) -> Result<(), Error>
         ensures { WritesTerms (leaf (base.make self) ∷ []) encoder.old result encoder.new };
 }
 
@@ -39,7 +39,7 @@ impl Base for bool {
         decoder.read_bool()
     }
 
-    fn write(self, encoder: &mut Encoder) -> Result<(), Error> {
+    fn write<P: Pass>(self, encoder: &mut Encoder<P>) -> Result<(), Error> {
         encoder.write_bool(self)
     }
 }
@@ -51,7 +51,7 @@ impl Base for u8 {
         decoder.read_ubyte()
     }
 
-    fn write(self, encoder: &mut Encoder) -> Result<(), Error> {
+    fn write<P: Pass>(self, encoder: &mut Encoder<P>) -> Result<(), Error> {
         encoder.write_ubyte(self)
     }
 }
@@ -63,7 +63,7 @@ impl Base for u16 {
         decoder.read_ushort()
     }
 
-    fn write(self, encoder: &mut Encoder) -> Result<(), Error> {
+    fn write<P: Pass>(self, encoder: &mut Encoder<P>) -> Result<(), Error> {
         encoder.write_ushort(self)
     }
 }
@@ -75,7 +75,7 @@ impl Base for u32 {
         decoder.read_uint()
     }
 
-    fn write(self, encoder: &mut Encoder) -> Result<(), Error> {
+    fn write<P: Pass>(self, encoder: &mut Encoder<P>) -> Result<(), Error> {
         encoder.write_uint(self)
     }
 }
@@ -112,7 +112,10 @@ pub fn read_number<T: RestrictedNumber, R: ByteSource>(decoder: &mut Decoder<R>)
 }
 
 /// Writes the value's number.
-pub fn write_number<T: RestrictedNumber>(value: &T, encoder: &mut Encoder) -> Result<(), Error>
+pub fn write_number<T: RestrictedNumber, P: Pass>(
+    value: &T,
+    encoder: &mut Encoder<P>,
+) -> Result<(), Error>
     ensures { WritesTerms (leaf (T.Number.base.make (T.numbers value.now)) ∷ []) encoder.old result encoder.new }
 {
     value.number().write(encoder)
@@ -150,7 +153,10 @@ pub fn read_text<T: RestrictedText, R: ByteSource>(
 }
 
 /// Writes the value's text.
-pub fn write_text<T: RestrictedText>(value: &T, encoder: &mut Encoder) -> Result<(), Error>
+pub fn write_text<T: RestrictedText, P: Pass>(
+    value: &T,
+    encoder: &mut Encoder<P>,
+) -> Result<(), Error>
     ensures { WritesTerms (leaf (symbol_base.make (T.texts value.now)) ∷ []) encoder.old result encoder.new }
 {
     encoder.write_symbol(value.text())

@@ -14,9 +14,9 @@ ghost use Rattle.amqp_codec.specs.Written.{WritesTerms, canon_of};
 ghost use Rattle.amqp_sums.specs.Choices.{ChoiceRead, sum_of, sum_writing};
 
 use amqp_codec::SerializeTerm;
-use amqp_codec::kernel::{Composite, read_fields};
+use amqp_codec::kernel::{Composite, FieldList, fill_fields};
 use amqp_decoder::Decoder;
-use amqp_encoder::Encoder;
+use amqp_encoder::{Encoder, Pass};
 use amqp_wire::{ByteSource, Error};
 use std::alloc::Global;
 
@@ -50,9 +50,13 @@ pub fn read_sum<S: Sum, R: ByteSource>(decoder: &mut Decoder<R>, alloc: Global) 
     ensures tries { Tries (sum_of S.sum).takes_memory decoder.old result decoder.new }
 {
     let place = decoder.begin_one_of(S::descriptors())?;
-    let value = S::read_member(place, decoder, alloc)?;
-    decoder.end_described()?;
-    Ok(value)
+    match S::read_member(place, decoder, alloc) {
+        Ok(value) => match decoder.end_described() {
+            Ok(()) => Ok(value),
+            Err(error) => Err(error),
+        },
+        Err(error) => Err(error),
+    }
 }
 
 /// Reads the fields of a member of a sum, and converts it to the sum.
@@ -65,15 +69,18 @@ pub fn read_as<C: Composite, S: From<C> + Drop, R: ByteSource>(
         decoder.old result decoder.new }
     ensures tries { Tries (take_memory C.list.fields) decoder.old result decoder.new }
 {
-    let member: C = read_fields(decoder, alloc)?;
-    Ok(S::from(member))
+    let mut member = <C as FieldList>::blank(alloc);
+    match fill_fields(&mut member, decoder, alloc) {
+        Ok(()) => Ok(S::from(member)),
+        Err(error) => Err(error),
+    }
 }
 
 /// Writes the member that a sum of composites holds, which is how the sum is written. It returns the encoder's errors for the member.
-pub fn write_as<S: Sum, C: SerializeTerm>(
+pub fn write_as<S: Sum, C: SerializeTerm, P: Pass>(
     _sum: &S,
     member: &C,
-    encoder: &mut Encoder,
+    encoder: &mut Encoder<P>,
 ) -> Result<(), Error>
     ensures written { (held : S) → _sum.now ≡ held → canon_of (sum_writing S.sum) held ≡ canon_of C.writing member.now
         → WritesTerms ((sum_writing S.sum).canons _sum.now) encoder.old result encoder.new }

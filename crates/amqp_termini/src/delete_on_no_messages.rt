@@ -3,7 +3,7 @@ ghost use Rattle.amqp_sums.specs.Types.{composite, has_none, names_of, one_term,
 ghost use Rattle.amqp_termini.specs.Tables.{delete_on_no_messages};
 
 use amqp_codec::kernel::{Composite, Fieldless, write_composite};
-use amqp_codec::{Encoder, Error, Serialize, SerializeTerm};
+use amqp_codec::{Encoder, Error, Pass, Serialize, SerializeTerm};
 
 /// The node lives until there is no message on it.
 #[derive(Clone, Debug, PartialEq, Eq, Default, Drop)]
@@ -32,7 +32,7 @@ impl Fieldless for DeleteOnNoMessages {
 impl Serialize for DeleteOnNoMessages {
     ghost writing = { writing_of (composite delete_on_no_messages) refl };
 
-    fn serialize(&self, encoder: &mut Encoder) -> Result<(), Error> {
+    fn serialize<P: Pass>(&self, encoder: &mut Encoder<P>) -> Result<(), Error> {
         write_composite(self, DeleteOnNoMessages::DESCRIPTOR.0, encoder)
     }
 

@@ -4,7 +4,9 @@ ghost use Rattle.amqp_sums.specs.Choices.{sum_one, sum_agreement, sum_writing};
 ghost use Rattle.amqp_termini.specs.Tables.{lifetime_policy, lifetime_policies};
 
 use crate::{DeleteOnClose, DeleteOnNoLinks, DeleteOnNoLinksOrMessages, DeleteOnNoMessages};
-use amqp_codec::{ByteSource, Decoder, DeserializeTerm, Encoder, Error, Serialize, SerializeTerm};
+use amqp_codec::{
+    ByteSource, Decoder, DeserializeTerm, Encoder, Error, Pass, Serialize, SerializeTerm,
+};
 use amqp_sums::{Sum, is_null_sum, read_as, read_sum, write_as};
 use std::alloc::Global;
 
@@ -87,7 +89,7 @@ impl Sum for LifetimePolicy {
 impl Serialize for LifetimePolicy {
     ghost writing = { sum_writing lifetime_policies };
 
-    fn serialize(&self, encoder: &mut Encoder) -> Result<(), Error> {
+    fn serialize<P: Pass>(&self, encoder: &mut Encoder<P>) -> Result<(), Error> {
         match self {
             LifetimePolicy::DeleteOnClose(lifetime) => write_as(self, lifetime, encoder),
             LifetimePolicy::DeleteOnNoLinks(lifetime) => write_as(self, lifetime, encoder),

@@ -6,7 +6,9 @@ ghost use Rattle.amqp_termini.specs.Tables.{source};
 
 use crate::{Address, FilterSet, NodeProperties, SourceBuilder};
 use amqp_codec::kernel::{Composite, FieldList, FieldRule, write_composite};
-use amqp_codec::{ByteSource, Decoder, Encoder, Error, Serialize, SerializeTerm, Symbol, fields};
+use amqp_codec::{
+    ByteSource, Decoder, Encoder, Error, Pass, Serialize, SerializeTerm, Symbol, fields,
+};
 use amqp_containers::Array;
 use amqp_containers::multiple::{is_null_multiple, read_multiple, write_multiple};
 use amqp_delivery::Outcome;
@@ -118,6 +120,7 @@ impl FieldList for Source {
         Source::default()
     }
 
+    #[inline(always)]
     fn fill_field<R: ByteSource>(
         &mut self,
         index: usize,
@@ -127,11 +130,13 @@ impl FieldList for Source {
         source_fields!(fill(self, index, decoder, alloc))
     }
 
+    #[inline(always)]
     fn is_null_field(&self, index: usize) -> bool {
         source_fields!(is_null(self, index))
     }
 
-    fn write_field(&self, index: usize, encoder: &mut Encoder) -> Result<(), Error> {
+    #[inline(always)]
+    fn write_field<P: Pass>(&self, index: usize, encoder: &mut Encoder<P>) -> Result<(), Error> {
         source_fields!(write(self, index, encoder))
     }
 }
@@ -139,7 +144,7 @@ impl FieldList for Source {
 impl Serialize for Source {
     ghost writing = { writing_of (composite source) refl };
 
-    fn serialize(&self, encoder: &mut Encoder) -> Result<(), Error> {
+    fn serialize<P: Pass>(&self, encoder: &mut Encoder<P>) -> Result<(), Error> {
         write_composite(self, Source::DESCRIPTOR.0, encoder)
     }
 

@@ -8,7 +8,9 @@ ghost use Rattle.amqp_restricted_types.specs.Termini.{distribution_mode_type};
 ghost use Rattle.amqp_termini.specs.Properties.{InsertsModes, mode_term, modes_term};
 
 use crate::properties::with_modes;
-use amqp_codec::{ByteSource, Decoder, DeserializeTerm, Encoder, Error, Serialize, SerializeTerm};
+use amqp_codec::{
+    ByteSource, Decoder, DeserializeTerm, Encoder, Error, Pass, Serialize, SerializeTerm,
+};
 use amqp_containers::Array;
 use amqp_errors::Fields;
 use amqp_restricted_types::DistributionMode;
@@ -108,7 +110,7 @@ impl SupportedDistModes {
 impl Serialize for SupportedDistModes {
     ghost writing = { ⟦<Array<DistributionMode> as Serialize>⟧.writing };
 
-    fn serialize(&self, encoder: &mut Encoder) -> Result<(), Error> {
+    fn serialize<P: Pass>(&self, encoder: &mut Encoder<P>) -> Result<(), Error> {
         self.modes.serialize(encoder)
     }
 

@@ -6,7 +6,9 @@ ghost use Rattle.amqp_termini.specs.Tables.{target};
 
 use crate::{Address, NodeProperties, TargetBuilder};
 use amqp_codec::kernel::{Composite, FieldList, FieldRule, write_composite};
-use amqp_codec::{ByteSource, Decoder, Encoder, Error, Serialize, SerializeTerm, Symbol, fields};
+use amqp_codec::{
+    ByteSource, Decoder, Encoder, Error, Pass, Serialize, SerializeTerm, Symbol, fields,
+};
 use amqp_containers::Array;
 use amqp_containers::multiple::{is_null_multiple, read_multiple, write_multiple};
 use amqp_restricted_types::{Seconds, TerminusDurability, TerminusExpiryPolicy};
@@ -101,6 +103,7 @@ impl FieldList for Target {
         Target::default()
     }
 
+    #[inline(always)]
     fn fill_field<R: ByteSource>(
         &mut self,
         index: usize,
@@ -110,11 +113,13 @@ impl FieldList for Target {
         target_fields!(fill(self, index, decoder, alloc))
     }
 
+    #[inline(always)]
     fn is_null_field(&self, index: usize) -> bool {
         target_fields!(is_null(self, index))
     }
 
-    fn write_field(&self, index: usize, encoder: &mut Encoder) -> Result<(), Error> {
+    #[inline(always)]
+    fn write_field<P: Pass>(&self, index: usize, encoder: &mut Encoder<P>) -> Result<(), Error> {
         target_fields!(write(self, index, encoder))
     }
 }
@@ -122,7 +127,7 @@ impl FieldList for Target {
 impl Serialize for Target {
     ghost writing = { writing_of (composite target) refl };
 
-    fn serialize(&self, encoder: &mut Encoder) -> Result<(), Error> {
+    fn serialize<P: Pass>(&self, encoder: &mut Encoder<P>) -> Result<(), Error> {
         write_composite(self, Target::DESCRIPTOR.0, encoder)
     }
 

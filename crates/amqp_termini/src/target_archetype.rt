@@ -5,7 +5,9 @@ ghost use Rattle.amqp_termini.specs.Made.{target_at, archetype_target, archetype
 ghost use Rattle.amqp_termini.specs.Tables.{target_archetype, target_archetypes};
 
 use crate::{Coordinator, Target};
-use amqp_codec::{ByteSource, Decoder, DeserializeTerm, Encoder, Error, Serialize, SerializeTerm};
+use amqp_codec::{
+    ByteSource, Decoder, DeserializeTerm, Encoder, Error, Pass, Serialize, SerializeTerm,
+};
 use amqp_sums::{Sum, is_null_sum, read_as, read_sum, write_as};
 use std::alloc::Global;
 
@@ -98,7 +100,7 @@ impl Sum for TargetArchetype {
 impl Serialize for TargetArchetype {
     ghost writing = { sum_writing target_archetypes };
 
-    fn serialize(&self, encoder: &mut Encoder) -> Result<(), Error> {
+    fn serialize<P: Pass>(&self, encoder: &mut Encoder<P>) -> Result<(), Error> {
         match self {
             TargetArchetype::Target(target) => write_as(self, target, encoder),
             TargetArchetype::Coordinator(coordinator) => write_as(self, coordinator, encoder),

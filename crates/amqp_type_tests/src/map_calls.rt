@@ -56,6 +56,37 @@ fn keys_keep_their_places(rt: HostRuntime) -> Result<(), Fail> {
     Ok(())
 }
 
+// Whether a ninth key goes last.
+fn is_ninth_put(map: &mut OrderedMap<u32, u32>) -> bool {
+    map.insert(1, 9) == Ok(None)
+        && map.len() == 9
+        && map.get(&1) == Some(&9)
+        && map.get(&9) == Some(&1)
+        && map.get(&0).is_none()
+}
+
+// Eight keys are looked up one by one, and more by their hashes. A map that has had more is equal to one that hasn't.
+#[test]
+fn many_keys_keep_their_places(rt: HostRuntime) -> Result<(), Fail> {
+    let alloc = rt.alloc();
+    let pairs = &[
+        (9, 1),
+        (8, 2),
+        (7, 3),
+        (6, 4),
+        (5, 5),
+        (4, 6),
+        (3, 7),
+        (2, 8),
+    ];
+    let mut map = made(pairs, alloc)?;
+    let well = is_ninth_put(&mut map) && map.shift_remove(&1) == Some(9) && is_row(&map, pairs);
+    assert!(rt; well);
+    assert!(rt; made(pairs, alloc)? == map);
+    assert!(rt; have_equal_hashes(made(pairs, alloc), Ok(map))?);
+    Ok(())
+}
+
 // Whether the map of two pairs, 1 to 2 and 3 to 4, compares so with the map of these.
 fn compares(pairs: &[(u32, u32)], order: Ordering, alloc: Global) -> Result<bool, Error> {
     let other = made(pairs, alloc)?;
@@ -138,8 +169,8 @@ fn is_put(map: &mut OrderedMap<u32, u32>, key: u32) -> bool {
     }
 }
 
-// Twenty keys take three growths, of four allocations each. Each is refused in turn by hand: `rt try --test --fail-alloc N`, for N from 1
-// to 12.
+// Twenty keys take eleven allocations: two for a row, five for a table and four for its growth. Each is refused in turn by hand:
+// `rt try --test --fail-alloc N`, for N from 1 to 11.
 #[test]
 fn refused_growth(rt: HostRuntime) {
     let mut map = OrderedMap::new(rt.alloc());

@@ -5,7 +5,7 @@ ghost use Rattle.amqp_user_types.specs.IdentifierType.{identifier_type};
 
 use amqp_wire::format_code;
 use fe2o3_amqp_types::codec::{
-    ByteSource, Decoder, DeserializeTerm, Encoder, Error, Serialize, SerializeTerm, Symbol,
+    ByteSource, Decoder, DeserializeTerm, Encoder, Error, Pass, Serialize, SerializeTerm, Symbol,
 };
 use std::alloc::Global;
 
@@ -19,7 +19,7 @@ pub enum Identifier {
 impl Serialize for Identifier {
     ghost writing = { writing_of identifier_type refl };
 
-    fn serialize(&self, encoder: &mut Encoder) -> Result<(), Error> {
+    fn serialize<P: Pass>(&self, encoder: &mut Encoder<P>) -> Result<(), Error> {
         match self {
             Identifier::Number(number) => number.serialize(encoder),
             Identifier::Name(name) => name.serialize(encoder),

@@ -3,7 +3,7 @@ ghost use Rattle.amqp_sums.specs.Types.{composite, fields_of, names_of, one_term
 ghost use Rattle.amqp_user_types.specs.Tables.{offer};
 
 use amqp_codec::kernel::{Composite, FieldList, FieldRule, read_into, write_composite};
-use amqp_codec::{ByteSource, Decoder, Encoder, Error, Serialize, SerializeTerm, Symbol};
+use amqp_codec::{ByteSource, Decoder, Encoder, Error, Pass, Serialize, SerializeTerm, Symbol};
 use amqp_containers::Array;
 use amqp_containers::multiple::{is_null_multiple, read_multiple, write_multiple};
 use std::alloc::Global;
@@ -43,6 +43,7 @@ impl FieldList for Offer {
         }
     }
 
+    #[inline(always)]
     fn fill_field<R: ByteSource>(
         &mut self,
         index: usize,
@@ -57,6 +58,7 @@ impl FieldList for Offer {
         }
     }
 
+    #[inline(always)]
     fn is_null_field(&self, index: usize) -> bool {
         match index {
             0 => is_null_multiple(&self.capabilities),
@@ -66,7 +68,8 @@ impl FieldList for Offer {
         }
     }
 
-    fn write_field(&self, index: usize, encoder: &mut Encoder) -> Result<(), Error> {
+    #[inline(always)]
+    fn write_field<P: Pass>(&self, index: usize, encoder: &mut Encoder<P>) -> Result<(), Error> {
         match index {
             0 => write_multiple(&self.capabilities, encoder),
             1 => self.number.serialize(encoder),
@@ -79,7 +82,7 @@ impl FieldList for Offer {
 impl Serialize for Offer {
     ghost writing = { writing_of (composite offer) refl };
 
-    fn serialize(&self, encoder: &mut Encoder) -> Result<(), Error> {
+    fn serialize<P: Pass>(&self, encoder: &mut Encoder<P>) -> Result<(), Error> {
         write_composite(self, Offer::DESCRIPTOR.0, encoder)
     }
 

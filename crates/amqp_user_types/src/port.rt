@@ -6,7 +6,7 @@ ghost use Rattle.amqp_codec.specs.laws.Key.{key_of};
 ghost use Rattle.amqp_user_types.specs.PortType.{port_type};
 
 use amqp_codec::{
-    ByteSource, Decoder, DeserializeTerm, Encoder, Error, MapKey, Serialize, SerializeTerm,
+    ByteSource, Decoder, DeserializeTerm, Encoder, Error, MapKey, Pass, Serialize, SerializeTerm,
 };
 use std::alloc::Global;
 
@@ -17,7 +17,7 @@ pub struct Port(pub u32);
 impl Serialize for Port {
     ghost writing = { writing_of port_type refl };
 
-    fn serialize(&self, encoder: &mut Encoder) -> Result<(), Error> {
+    fn serialize<P: Pass>(&self, encoder: &mut Encoder<P>) -> Result<(), Error> {
         encoder.write_uint(self.0)
     }
 

@@ -3,7 +3,7 @@ ghost use Rattle.amqp_sums.specs.Types.{field, list_of, mandatory, none, one_ter
 
 use fe2o3_amqp_types::codec::kernel::{FieldList, FieldRule, read_into, read_list, write_list};
 use fe2o3_amqp_types::codec::{
-    ByteSource, Decoder, DeserializeTerm, Encoder, Error, Serialize, SerializeTerm,
+    ByteSource, Decoder, DeserializeTerm, Encoder, Error, Pass, Serialize, SerializeTerm,
 };
 use std::alloc::Global;
 
@@ -28,6 +28,7 @@ impl FieldList for Seconds {
         Seconds { count: 0 }
     }
 
+    #[inline(always)]
     fn fill_field<R: ByteSource>(
         &mut self,
         _index: usize,
@@ -37,11 +38,13 @@ impl FieldList for Seconds {
         read_into(&mut self.count, decoder, alloc)
     }
 
+    #[inline(always)]
     fn is_null_field(&self, _index: usize) -> bool {
         false
     }
 
-    fn write_field(&self, _index: usize, encoder: &mut Encoder) -> Result<(), Error> {
+    #[inline(always)]
+    fn write_field<P: Pass>(&self, _index: usize, encoder: &mut Encoder<P>) -> Result<(), Error> {
         self.count.serialize(encoder)
     }
 }
@@ -49,7 +52,7 @@ impl FieldList for Seconds {
 impl Serialize for Seconds {
     ghost writing = { writing_of (list_of ⟦<Seconds as FieldList>⟧.list) refl };
 
-    fn serialize(&self, encoder: &mut Encoder) -> Result<(), Error> {
+    fn serialize<P: Pass>(&self, encoder: &mut Encoder<P>) -> Result<(), Error> {
         write_list(self, encoder)
     }
 

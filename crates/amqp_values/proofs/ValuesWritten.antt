@@ -6,7 +6,7 @@ use Rattle.amqp_model.specs.Term.{duplicate_key, map, Term, container, barred}
 use Rattle.amqp_model.specs.Items.{terms_of}
 use Rattle.amqp_wire.specs.declared.error.Error.{Error}
 use Rattle.amqp_wire.specs.declared.error.Error.TheVariants.{DuplicateKey, Memory}
-use Rattle.amqp_encoder.specs.declared.encoder.Encoder.{Encoder}
+use Rattle.amqp_encoder.specs.State.{Encoder}
 use Rattle.amqp_encoder.specs.Passes.{row_tokens}
 use Rattle.amqp_encoder.specs.State.{Pass, Measuring, Filling, Stopped}
 use Rattle.amqp_encoder.specs.Tokens.{Token, refuse}

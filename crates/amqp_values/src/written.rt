@@ -16,13 +16,13 @@ use crate::keys::has_equal_keys;
 use crate::typing::{map_typed, value_typed};
 use crate::{Value, ValueMap};
 use amqp_codec::{Serialize, SerializeTerm};
-use amqp_encoder::Encoder;
+use amqp_encoder::{Encoder, Pass};
 use amqp_wire::Error;
 use std::alloc::AllocError;
 
 // Writes a value.
 #[cycle(writing)]
-pub(crate) fn write_value(value: &Value, encoder: &mut Encoder) -> Result<(), Error>
+pub(crate) fn write_value<P: Pass>(value: &Value, encoder: &mut Encoder<P>) -> Result<(), Error>
     ensures { WritesTerms (value_canons value.now) encoder.old result encoder.new }
 {
     match value {
@@ -66,7 +66,7 @@ pub(crate) fn write_value(value: &Value, encoder: &mut Encoder) -> Result<(), Er
 
 // Writes values one after another, to an encoder that has refused nothing.
 #[cycle(writing)]
-fn write_values(values: &[Value], encoder: &mut Encoder) -> Result<(), Error>
+fn write_values<P: Pass>(values: &[Value], encoder: &mut Encoder<P>) -> Result<(), Error>
     requires going { answer_of encoder.now ≡ Ok tt }
     ensures { WritesTerms (flat_map value_canons values.now) encoder.old result encoder.new }
 {
@@ -77,7 +77,10 @@ fn write_values(values: &[Value], encoder: &mut Encoder) -> Result<(), Error>
 }
 
 // Whether two keys of a map are equal. A map that is filled was measured before, and has none that are.
-fn has_equal_keys_to_write(map: &ValueMap, encoder: &Encoder) -> Result<bool, AllocError>
+fn has_equal_keys_to_write<P: Pass>(
+    map: &ValueMap,
+    encoder: &Encoder<P>,
+) -> Result<bool, AllocError>
     ensures { IfOk result (λ found. (found ≡ has_equal_keys (turn_terms (pairs_of map.now)))
         ⊎ ((found ≡ false) × Fills (pass_of encoder.now))) }
 {
@@ -89,7 +92,7 @@ fn has_equal_keys_to_write(map: &ValueMap, encoder: &Encoder) -> Result<bool, Al
 
 // Writes a map. One with equal keys is refused with `DuplicateKey`.
 #[cycle(writing)]
-fn write_map(map: &ValueMap, encoder: &mut Encoder) -> Result<(), Error>
+fn write_map<P: Pass>(map: &ValueMap, encoder: &mut Encoder<P>) -> Result<(), Error>
     ensures { WritesTerms (value_canons (MapOf map.now)) encoder.old result encoder.new }
 {
     match has_equal_keys_to_write(map, encoder) {
@@ -104,7 +107,7 @@ fn write_map(map: &ValueMap, encoder: &mut Encoder) -> Result<(), Error>
 
 // Writes keys and values in turn, to an encoder that has refused nothing.
 #[cycle(writing)]
-fn write_pairs(pairs: &[(Value, Value)], encoder: &mut Encoder) -> Result<(), Error>
+fn write_pairs<P: Pass>(pairs: &[(Value, Value)], encoder: &mut Encoder<P>) -> Result<(), Error>
     requires going { answer_of encoder.now ≡ Ok tt }
     ensures { WritesTerms (flat_map pair_canon pairs.now) encoder.old result encoder.new }
 {
@@ -119,7 +122,7 @@ fn write_pairs(pairs: &[(Value, Value)], encoder: &mut Encoder) -> Result<(), Er
 impl Serialize for Value {
     ghost writing = { value_writing };
 
-    fn serialize(&self, encoder: &mut Encoder) -> Result<(), Error> {
+    fn serialize<P: Pass>(&self, encoder: &mut Encoder<P>) -> Result<(), Error> {
         write_value(self, encoder)
     }
 
@@ -139,7 +142,7 @@ impl SerializeTerm for Value {
 impl Serialize for ValueMap {
     ghost writing = { via_writing MapOf value_writing };
 
-    fn serialize(&self, encoder: &mut Encoder) -> Result<(), Error> {
+    fn serialize<P: Pass>(&self, encoder: &mut Encoder<P>) -> Result<(), Error> {
         write_map(self, encoder)
     }
 

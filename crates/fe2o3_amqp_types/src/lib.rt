@@ -7,7 +7,7 @@ pub mod codec {
     pub use amqp_batches::TransparentVec;
     pub use amqp_codec::{
         ByteSource, Canonical, Decoder, Descriptor, Deserialize, DeserializeTerm, Encoder, Error,
-        MapKey, Serialize, SerializeTerm, Symbol, kernel,
+        MapKey, Pass, Serialize, SerializeTerm, Symbol, kernel,
     };
     pub use amqp_containers::Array;
     pub use amqp_described::Described;

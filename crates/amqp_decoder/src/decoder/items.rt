@@ -1,10 +1,10 @@
 //! The items of the open container, and the code that the next one begins with.
-ghost use Rattle.std.specs.Prelude.{◌≡◌, [], ◌∷◌, length, drop, min, false, Some, IfOk, IfErr, ◌↔◌, IsTrue, MatchOption};
+ghost use Rattle.std.specs.Prelude.{◌≡◌, [], ◌∷◌, length, drop, min, false, Some, IfOk, IfErr, IfSome, None, ◌↔◌, IsTrue, MatchOption};
 ghost use Rattle.amqp_wire.specs.Sources.{Tells};
 ghost use Rattle.amqp_decoder.specs.State.{after_look, lower};
 ghost use Rattle.amqp_decoder.specs.Reserve.{Shows};
 ghost use Rattle.amqp_decoder.specs.Reading.{AnswersRead, ReadsCode, BeginFault, PeeksCode, IsLeft};
-ghost use Rattle.amqp_decoder.specs.Steps.{Answers, SourceFailed, Goes, Tries};
+ghost use Rattle.amqp_decoder.specs.Steps.{Answers, SourceFailed, Began, Goes, Tries};
 
 use super::Decoder;
 use amqp_wire::{ByteSource, Error};
@@ -87,6 +87,21 @@ impl<R: ByteSource> Decoder<R> {
         Ok(code)
     }
 
+    /// Returns the first code of the next value's constructor, 0 for a described value, if a value is left and the code is at hand. Nothing
+    /// is taken. `None` says nothing about what comes next.
+    #[inline(always)]
+    pub fn peek_value(&mut self) -> Option<u8>
+        ensures left { result ≡ None → self.new ≡ self.old }
+        ensures read { IfSome result (λ code. PeeksCode self.old code self.new) }
+        ensures began { IfSome result (λ _. Began self.old self.new) }
+    {
+        self.spares();
+        if !self.is_plain() || self.is_spent() {
+            return None;
+        }
+        self.look_at_hand()
+    }
+
     /// Returns the first code of the next value's constructor, 0 for a described value. Nothing is taken. It returns `Missing` if no value
     /// is left.
     #[inline]
@@ -94,14 +109,10 @@ impl<R: ByteSource> Decoder<R> {
         ensures read { Tells R.remaining → AnswersRead false PeeksCode BeginFault self.old result self.new }
         ensures tries { Tries false self.old result self.new }
     {
-        self.spares();
-        if self.is_plain()
-            && !self.is_spent()
-            && let Some(code) = self.look_at_hand()
-        {
-            return Ok(code);
+        match self.peek_value() {
+            Some(code) => Ok(code),
+            None => self.peek_slowly(),
         }
-        self.peek_slowly()
     }
 
     // The same, whatever comes next, however the source gives it.

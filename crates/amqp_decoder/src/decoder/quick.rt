@@ -35,12 +35,16 @@ impl<R: ByteSource> Decoder<R> {
         self.input.look_at_hand()
     }
 
-    // The next byte is at hand, and is this code.
+    // The next value's first code, which isn't taken, if the value is plain and the code is at hand. `None` says nothing about the value.
     #[inline(always)]
-    fn is_at_hand(&self, code: u8) -> bool
-        ensures { result ≡ true → self.now.rest ≡ code ∷ drop 1 self.now.rest }
+    pub(crate) fn plain_code(&self) -> Option<u8>
+        ensures plain { IfSome result (λ _. IsPlain self.now) }
+        ensures next { IfSome result (λ code. self.now.rest ≡ code ∷ drop 1 self.now.rest) }
     {
-        self.input.next_at_hand() == Some(code)
+        if !self.is_plain() {
+            return None;
+        }
+        self.input.next_at_hand()
     }
 
     // The next value's first code, which is taken, if it is at hand. Else nothing is taken, and that says nothing about the value.
@@ -72,7 +76,25 @@ impl<R: ByteSource> Decoder<R> {
         ensures read { IfSome result (λ bytes. Tells R.remaining → ReadsFixed code (N - 1) self.old (drop 1 bytes) self.new) }
         ensures began { IfSome result (λ _. Began self.old self.new) }
     {
-        if !self.is_plain() || !self.is_at_hand(code) || !self.has_left(N as u32) {
+        match self.plain_code() {
+            Some(next) if next == code => self.take_plain(code),
+            _ => None,
+        }
+    }
+
+    // The N bytes of a plain value, whose first code is this one and was seen, if they are at hand. Else nothing is taken, and that says
+    // nothing about the value.
+    #[inline(always)]
+    pub(crate) fn take_plain<const N: usize>(&mut self, code: u8) -> Option<[u8; N]>
+        requires some { 0 < N }
+        requires few { N < 256 }
+        requires plain { IsPlain self.old }
+        requires next { self.old.rest ≡ code ∷ drop 1 self.old.rest }
+        ensures none { result ≡ None → self.new ≡ self.old }
+        ensures read { IfSome result (λ bytes. Tells R.remaining → ReadsFixed code (N - 1) self.old (drop 1 bytes) self.new) }
+        ensures began { IfSome result (λ _. Began self.old self.new) }
+    {
+        if !self.has_left(N as u32) {
             return None;
         }
         let mut bytes = [0; N];

@@ -3,7 +3,7 @@ use Rattle.std.proofs.lemmas.Result.{err_from_is_err_and}
 use Rattle.amqp_codec.specs.laws.FoundKeys.{unfound_new, found_known}
 use Rattle.amqp_codec.specs.BTreeMaps.{key_by_order, order_of_keys}
 use Rattle.amqp_codec.proofs.MapSteps.{key_refused, key_twice, value_refused, no_room}
-use Rattle.amqp_codec.proofs.BTreeMapSteps.{fewer_so_far, known_to_pairs, new_to_pairs, one_more_so_far, row_refused_in_order}
+use Rattle.amqp_codec.proofs.BTreeMapSteps.{fewer_so_far, known_to_pairs, one_more_so_far, row_refused_in_order}
 use Rattle.amqp_codec.proofs.Tries.{taking_some, passed_then, refused_later}
 use Rattle.amqp_codec.proofs.btree_maps.read_in_order.Goals as goal
 

@@ -1,5 +1,4 @@
 use Rattle.std.proofs.Common.{Bool, Some, None}
-use Rattle.std.proofs.lemmas.Result.{err_from_is_err_and}
 use Rattle.amqp_model.specs.Term.{Term}
 use Rattle.amqp_model.specs.Standing.{Standing}
 use Rattle.amqp_wire.specs.declared.error.Error.{Error}
@@ -23,7 +22,6 @@ module _ {T : Type 0} (means : Standing → Term → T → Type 0) where
   some_refused {fault = fault} st e new =
       refused_first (ReadsValue means) fault (ReadsValue (λ s t. MeansSome (means s t))) fault st e new (λ t. t) (λ x. x) (none_there st)
 
-pub returns-in_err-read_value-clause-read : goal.returns-in_err-read_value-clause-read
-returns-in_err-read_value-clause-read g c tells =
-    let p = err_from_is_err_and c.from_residual.result c.from_residual.ensures.1 in
-    rw (p.1, p.2) (some_refused g.T.DeserializeTerm.term.means _ _ _ (c.in_err-read_value.ensures.read tells))
+pub returns-in-Err-clause-read : goal.returns-in-Err-clause-read
+returns-in-Err-clause-read g c tells =
+    some_refused g.T.DeserializeTerm.term.means _ _ _ (c.in-Err.ensures.read tells)

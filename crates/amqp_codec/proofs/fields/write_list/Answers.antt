@@ -11,15 +11,15 @@ returns-in_err-begin_list g c =
     _ c.in_err-begin_list.was
     (err_from_is_err_and c.from_residual.result c.from_residual.ensures.1) c.begin_list.ensures
 
-pub returns-in_err-write_items : goal.returns-in_err-write_items
-returns-in_err-write_items g c =
+pub returns-in_err-write_fields : goal.returns-in_err-write_fields
+returns-in_err-write_fields g c =
     inner_refused (container_wraps list (canonical_items (slots g.L.FieldList.list.fields) c.args.value.now)) _ _ _ _ _ _ _
-    c.in_ok-begin_list.was c.in_err-write_items.was
-    (err_from_is_err_and c.from_residual-in_err-write_items.result c.from_residual-in_err-write_items.ensures.1) c.begin_list.ensures
-    (rw c.count_items-count.ensures.trimmed at c.write_items.ensures)
+    c.in_ok-begin_list.was c.in_err-write_fields.was
+    (err_from_is_err_and c.from_residual-in_err-write_fields.result c.from_residual-in_err-write_fields.ensures.1) c.begin_list.ensures
+    c.write_fields.ensures
 
 pub returns : goal.returns
 returns g c =
     all_written (container_wraps list (canonical_items (slots g.L.FieldList.list.fields) c.args.value.now)) _ _ _ _ _ _ _
-    c.in_ok-begin_list.was c.in_ok-write_items.was
-    c.begin_list.ensures (rw c.count_items-count.ensures.trimmed at c.write_items.ensures) c.end_list.ensures
+    c.in_ok-begin_list.was c.in_ok-write_fields.was
+    c.begin_list.ensures c.write_fields.ensures c.end_list.ensures

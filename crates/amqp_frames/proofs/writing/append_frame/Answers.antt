@@ -32,7 +32,7 @@ returns-in-Ok-clause-text g c =
     let room : c.replace-room.result.items ≡ c.append_header.new.buffer.items = ap (λ b. b.items) c.replace-room.ensures.value in
     framed front (frame_header_bytes c.in_ok-header.header) (row_text ts) payload _ _ (text ++ payload)
     (c.buffer_of.ensures
-    ∙ (filled ts proper _ _ _ _ _ _ _ m.1 (omega (arith, ap length room)) (c.begin_filling.ensures.begun _ m.0 m.2)
+    ∙ (filled ts proper _ _ _ _ _ _ _ m.1 (omega (arith, ap length room)) (c.filling_encoder-filling.ensures.begun _ m.0 m.2)
     c.serialize-outcome.ensures c.in-Ok.ensures.written
     ∙ ap (λ bs. bs ++ row_text ts) (room ∙ c.in_ok-append_header.ensures.text)))
     c.in-Ok.ensures.text
@@ -41,8 +41,8 @@ returns-in-Ok-clause-text g c =
     (sized c.args.kind _ (length (text ++ payload)) _ c.in_ok-header.ensures.0
     (omega (arith, length-append text payload, c.in_ok-text_len.ensures.len, c.in_ok-header.ensures.1, greatest_below c.args.kind c.args.max_frame_size (omega arith))))
 
-pub returns-in-Err-clause-refused : goal.returns-in-Err-clause-refused
-returns-in-Err-clause-refused g c =
+pub returns-clause-refused : goal.returns-clause-refused
+returns-clause-refused g c =
     let m = c.in_ok-text_len.ensures.sizes in
     let ts = g.T.Serialize.writing.canons c.args.value.now in
     let proper = g.T.Serialize.writing.proper _ c.measure.ensures.is_value in
@@ -50,12 +50,12 @@ returns-in-Err-clause-refused g c =
     elim c.in-Err.ensures.refused [
       | inl memory ↦ inl memory
       | inr is ↦
-          inl (filling_refused ts proper _ _ _ _ _ _ _ m.1 (omega (arith, ap length room)) (c.begin_filling.ensures.begun _ m.0 m.2)
+          inl (filling_refused ts proper _ _ _ _ _ _ _ m.1 (omega (arith, ap length room)) (c.filling_encoder-filling.ensures.begun _ m.0 m.2)
           c.serialize-outcome.ensures _ is)
     ]
 
-pub returns-in-Err-clause-kept : goal.returns-in-Err-clause-kept
-returns-in-Err-clause-kept g c =
+pub returns-clause-kept : goal.returns-clause-kept
+returns-clause-kept g c =
     let m = c.in_ok-text_len.ensures.sizes in
     let ts = g.T.Serialize.writing.canons c.args.value.now in
     let proper = g.T.Serialize.writing.proper _ c.measure.ensures.is_value in
@@ -66,6 +66,6 @@ returns-in-Err-clause-kept g c =
     c.truncate.ensures.items
     ∙ (ap (take c.len-before.result) (c.in-Err.ensures.kept ∙ c.buffer_of.ensures)
     ∙ kept_front c.len-before.result front head _ (omega arith)
-    (front_kept ts proper _ _ _ _ _ _ _ m.1 (omega (arith, ap length room)) (c.begin_filling.ensures.begun _ m.0 m.2)
+    (front_kept ts proper _ _ _ _ _ _ _ m.1 (omega (arith, ap length room)) (c.filling_encoder-filling.ensures.begun _ m.0 m.2)
     c.serialize-outcome.ensures _ (sym (ap length b))
     ∙ b))

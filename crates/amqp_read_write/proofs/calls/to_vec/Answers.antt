@@ -11,7 +11,7 @@ returns-clause-text g c =
     let proper = g.T.Serialize.writing.proper _ c.measure.ensures.is_value in
     let b : c.in_ok-buffer.buffer.items ≡ [] = c.in_ok-buffer.ensures.items in
     c.buffer_of.ensures
-    ∙ (filled ts proper _ _ _ _ _ _ _ m.1 (omega (arith, ap length b)) (c.begin_filling.ensures.begun _ m.0 m.2)
+    ∙ (filled ts proper _ _ _ _ _ _ _ m.1 (omega (arith, ap length b)) (c.filling_encoder-filling.ensures.begun _ m.0 m.2)
     c.serialize.ensures c.in_ok-serialize.was
     ∙ ap (λ bs. bs ++ row_text ts) b)
 
@@ -23,5 +23,5 @@ returns-in_err-serialize-clause-refused g c =
     let b : c.in_ok-buffer.buffer.items ≡ [] = c.in_ok-buffer.ensures.items in
     let p = err_from_is_err_and c.from_residual-in_err-serialize.result c.from_residual-in_err-serialize.ensures.1 in
     rw (p.1, p.2)
-    (inl (filling_refused ts proper _ _ _ _ _ _ _ m.1 (omega (arith, ap length b)) (c.begin_filling.ensures.begun _ m.0 m.2)
+    (inl (filling_refused ts proper _ _ _ _ _ _ _ m.1 (omega (arith, ap length b)) (c.filling_encoder-filling.ensures.begun _ m.0 m.2)
     c.serialize.ensures _ c.in_err-serialize.was))

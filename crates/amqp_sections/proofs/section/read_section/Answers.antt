@@ -12,29 +12,25 @@ returns-in_err-begin_one_of-clause-read g c tells =
     (begin_refused g.S.Section.holds g.S.Section.naming g.T.DeserializeTerm.term (c.descriptor.result ∷ []) _ _ _ names
     (c.in_err-begin_one_of.ensures.opened tells))
 
-pub returns-in_err-value-clause-read : goal.returns-in_err-value-clause-read
-returns-in_err-value-clause-read g c tells =
-    let names = ap₂ (λ a b. (a, b) ∷ []) c.descriptor.ensures.code c.descriptor.ensures.name in
-    let p = err_from_is_err_and c.from_residual-in_err-value.result c.from_residual-in_err-value.ensures.1 in
-    rw (p.1, p.2)
-    (value_refused g.S.Section.holds g.S.Section.naming g.T.DeserializeTerm.term (c.descriptor.result ∷ []) _ _ _ names
-    (c.in_ok-begin_one_of.ensures.nesting tells) (c.in_ok-begin_one_of.ensures.opened tells) _ _ (c.in_err-value.ensures.read tells))
-
-pub returns-in_err-end_described-clause-read : goal.returns-in_err-end_described-clause-read
-returns-in_err-end_described-clause-read g c tells =
-    let names = ap₂ (λ a b. (a, b) ∷ []) c.descriptor.ensures.code c.descriptor.ensures.name in
-    let p = err_from_is_err_and c.from_residual-in_err-end_described.result c.from_residual-in_err-end_described.ensures.1 in
-    rw (p.1, p.2)
-    (end_refused g.S.Section.holds g.S.Section.naming g.T.DeserializeTerm.term (c.descriptor.result ∷ []) _ _ _ names
-    (c.in_ok-begin_one_of.ensures.nesting tells) (c.in_ok-begin_one_of.ensures.opened tells) _ _ _ _ (c.in_ok-value.ensures.read tells)
-    c.in_err-end_described.ensures.read)
-
-pub returns-clause-read : goal.returns-clause-read
-returns-clause-read g c tells =
+pub returns-in-Ok-end_described-clause-read : goal.returns-in-Ok-end_described-clause-read
+returns-in-Ok-end_described-clause-read g c tells =
     let names = ap₂ (λ a b. (a, b) ∷ []) c.descriptor.ensures.code c.descriptor.ensures.name in
     whole_read g.S.Section.holds g.S.Section.naming g.T.DeserializeTerm.term (c.descriptor.result ∷ []) _ _ _ names
     (c.in_ok-begin_one_of.ensures.nesting tells) (c.in_ok-begin_one_of.ensures.opened tells) _ _ _ _ c.of_content.ensures
-    (c.in_ok-value.ensures.read tells) c.in_ok-end_described.ensures.read
+    (c.in-Ok.ensures.read tells) c.in-Ok-end_described.ensures.read
+
+pub returns-in-Err-end_described-clause-read : goal.returns-in-Err-end_described-clause-read
+returns-in-Err-end_described-clause-read g c tells =
+    let names = ap₂ (λ a b. (a, b) ∷ []) c.descriptor.ensures.code c.descriptor.ensures.name in
+    end_refused g.S.Section.holds g.S.Section.naming g.T.DeserializeTerm.term (c.descriptor.result ∷ []) _ _ _ names
+    (c.in_ok-begin_one_of.ensures.nesting tells) (c.in_ok-begin_one_of.ensures.opened tells) _ _ _ _ (c.in-Ok.ensures.read tells)
+    c.in-Err-end_described.ensures.read
+
+pub returns-in-Err-clause-read : goal.returns-in-Err-clause-read
+returns-in-Err-clause-read g c tells =
+    let names = ap₂ (λ a b. (a, b) ∷ []) c.descriptor.ensures.code c.descriptor.ensures.name in
+    value_refused g.S.Section.holds g.S.Section.naming g.T.DeserializeTerm.term (c.descriptor.result ∷ []) _ _ _ names
+    (c.in_ok-begin_one_of.ensures.nesting tells) (c.in_ok-begin_one_of.ensures.opened tells) _ _ (c.in-Err.ensures.read tells)
 
 pub returns-in_err-begin_one_of-clause-tries : goal.returns-in_err-begin_one_of-clause-tries
 returns-in_err-begin_one_of-clause-tries g c =
@@ -42,15 +38,6 @@ returns-in_err-begin_one_of-clause-tries g c =
     rw (p.1, p.2)
     (refused_more false _ c.args.decoder.now _ _ (taking_none _) c.in_err-begin_one_of.ensures.tries)
 
-pub returns-in_err-value-clause-tries : goal.returns-in_err-value-clause-tries
-returns-in_err-value-clause-tries g c =
-    let p = err_from_is_err_and c.from_residual-in_err-value.result c.from_residual-in_err-value.ensures.1 in
-    rw (p.1, p.2)
-    (refused_behind _ _ c.args.decoder.now c.begin_one_of.new.self _ _ (taking_so _) c.in_ok-begin_one_of.ensures.tries c.in_err-value.ensures.tries)
-
-pub returns-in_err-end_described-clause-tries : goal.returns-in_err-end_described-clause-tries
-returns-in_err-end_described-clause-tries g c =
-    let p = err_from_is_err_and c.from_residual-in_err-end_described.result c.from_residual-in_err-end_described.ensures.1 in
-    rw (p.1, p.2)
-    (refused_behind false _ c.args.decoder.now c.read_value.new.decoder _ _ (taking_none _)
-    (began_then c.args.decoder.now c.begin_one_of.new.self c.read_value.new.decoder c.in_ok-begin_one_of.ensures.tries c.in_ok-value.ensures.tries) c.in_err-end_described.ensures.tries)
+pub returns-in-Err-clause-tries : goal.returns-in-Err-clause-tries
+returns-in-Err-clause-tries g c =
+    refused_behind _ _ c.args.decoder.now c.begin_one_of.new.self _ _ (taking_so _) c.in_ok-begin_one_of.ensures.tries c.in-Err.ensures.tries

@@ -3,7 +3,7 @@ use Rattle.std.proofs.lemmas.Result.{err_from_is_err_and}
 use Rattle.amqp_sums.specs.Choices.{members_of, sum_of, takes_there}
 use Rattle.amqp_codec.specs.laws.Members.{unopened, unread, unended, read_whole, within}
 use Rattle.amqp_sums.proofs.SumMembers.{are_members}
-use Rattle.amqp_codec.proofs.Tries.{taking_none, began_then, refused_more, refused_behind}
+use Rattle.amqp_codec.proofs.Tries.{taking_none, refused_more, refused_behind}
 use Rattle.amqp_sums.proofs.sums.read_sum.Goals as goal
 
 pub returns-in_err-place-clause-read : goal.returns-in_err-place-clause-read
@@ -15,40 +15,36 @@ returns-in_err-place-clause-read g c tells =
     rw (p.1, p.2)
     (unopened (members_of s.choices) (sum_of s).means (are_members s) ms _ _ _ names (c.in_err-place.ensures.opened tells))
 
-pub returns-in_err-value-clause-read : goal.returns-in_err-value-clause-read
-returns-in_err-value-clause-read g c tells =
+pub returns-in-Ok-end_described-clause-read : goal.returns-in-Ok-end_described-clause-read
+returns-in-Ok-end_described-clause-read g c tells =
     let s = g.S.Sum.sum in
     let ms = c.descriptors.result.now in
     let names = c.descriptors.ensures in
     let opened = c.in_ok-place.ensures.opened tells in
     let few = within (members_of s.choices) (sum_of s).means (are_members s) ms _ _ _ names opened in
-    let p = err_from_is_err_and c.from_residual-in_err-value.result c.from_residual-in_err-value.ensures.1 in
-    rw (p.1, p.2)
-    (unread (members_of s.choices) (sum_of s).means (are_members s) ms _ _ _ _ _ names opened (c.in_err-value.ensures.read few tells))
-
-pub returns-in_err-end_described-clause-read : goal.returns-in_err-end_described-clause-read
-returns-in_err-end_described-clause-read g c tells =
-    let s = g.S.Sum.sum in
-    let ms = c.descriptors.result.now in
-    let names = c.descriptors.ensures in
-    let opened = c.in_ok-place.ensures.opened tells in
-    let few = within (members_of s.choices) (sum_of s).means (are_members s) ms _ _ _ names opened in
-    let read = c.in_ok-value.ensures.read few tells in
-    let p = err_from_is_err_and c.from_residual-in_err-end_described.result c.from_residual-in_err-end_described.ensures.1 in
-    rw (p.1, p.2)
-    (unended (members_of s.choices) (sum_of s).means (are_members s) ms _ _ _ _ _ _ _ names opened read c.in_err-end_described.ensures.read)
-
-pub returns-clause-read : goal.returns-clause-read
-returns-clause-read g c tells =
-    let s = g.S.Sum.sum in
-    let ms = c.descriptors.result.now in
-    let names = c.descriptors.ensures in
-    let opened = c.in_ok-place.ensures.opened tells in
-    let few = within (members_of s.choices) (sum_of s).means (are_members s) ms _ _ _ names opened in
-    let read = c.in_ok-value.ensures.read few tells in
+    let read = c.in-Ok.ensures.read few tells in
     let nesting = c.in_ok-place.ensures.nesting tells in
-    let ended = c.in_ok-end_described.ensures.read in
+    let ended = c.in-Ok-end_described.ensures.read in
     read_whole (members_of s.choices) (sum_of s).means (are_members s) ms _ _ _ _ _ _ names nesting opened read ended
+
+pub returns-in-Err-end_described-clause-read : goal.returns-in-Err-end_described-clause-read
+returns-in-Err-end_described-clause-read g c tells =
+    let s = g.S.Sum.sum in
+    let ms = c.descriptors.result.now in
+    let names = c.descriptors.ensures in
+    let opened = c.in_ok-place.ensures.opened tells in
+    let few = within (members_of s.choices) (sum_of s).means (are_members s) ms _ _ _ names opened in
+    let read = c.in-Ok.ensures.read few tells in
+    unended (members_of s.choices) (sum_of s).means (are_members s) ms _ _ _ _ _ _ _ names opened read c.in-Err-end_described.ensures.read
+
+pub returns-in-Err-clause-read : goal.returns-in-Err-clause-read
+returns-in-Err-clause-read g c tells =
+    let s = g.S.Sum.sum in
+    let ms = c.descriptors.result.now in
+    let names = c.descriptors.ensures in
+    let opened = c.in_ok-place.ensures.opened tells in
+    let few = within (members_of s.choices) (sum_of s).means (are_members s) ms _ _ _ names opened in
+    unread (members_of s.choices) (sum_of s).means (are_members s) ms _ _ _ _ _ names opened (c.in-Err.ensures.read few tells)
 
 pub returns-in_err-place-clause-tries : goal.returns-in_err-place-clause-tries
 returns-in_err-place-clause-tries g c =
@@ -56,16 +52,7 @@ returns-in_err-place-clause-tries g c =
     rw (p.1, p.2)
     (refused_more false _ c.args.decoder.now _ _ (taking_none _) c.in_err-place.ensures.tries)
 
-pub returns-in_err-value-clause-tries : goal.returns-in_err-value-clause-tries
-returns-in_err-value-clause-tries g c =
-    let p = err_from_is_err_and c.from_residual-in_err-value.result c.from_residual-in_err-value.ensures.1 in
-    rw (p.1, p.2)
-    (refused_behind _ _ c.args.decoder.now c.begin_one_of.new.self _ _ (takes_there g.S.Sum.sum.choices c.in_ok-place.place)
-    c.in_ok-place.ensures.tries c.in_err-value.ensures.tries)
-
-pub returns-in_err-end_described-clause-tries : goal.returns-in_err-end_described-clause-tries
-returns-in_err-end_described-clause-tries g c =
-    let p = err_from_is_err_and c.from_residual-in_err-end_described.result c.from_residual-in_err-end_described.ensures.1 in
-    rw (p.1, p.2)
-    (refused_behind false _ c.args.decoder.now c.read_member.new.decoder _ _ (taking_none _)
-    (began_then c.args.decoder.now c.begin_one_of.new.self c.read_member.new.decoder c.in_ok-place.ensures.tries c.in_ok-value.ensures.tries) c.in_err-end_described.ensures.tries)
+pub returns-in-Err-clause-tries : goal.returns-in-Err-clause-tries
+returns-in-Err-clause-tries g c =
+    refused_behind _ _ c.args.decoder.now c.begin_one_of.new.self _ _ (takes_there g.S.Sum.sum.choices c.in_ok-place.place)
+    c.in_ok-place.ensures.tries c.in-Err.ensures.tries

@@ -20,14 +20,11 @@ pub returns-then-branch-eq-NULL-clause-read : goal.returns-then-branch-eq-NULL-c
 returns-then-branch-eq-NULL-clause-read g c tells =
     none_read g.T.DeserializeTerm.term _ _ _ _ (c.in_ok-peek_code.ensures.read tells) (c.in_ok-read_null.ensures.read tells)
 
-pub returns-in_err-read_value-clause-read : goal.returns-in_err-read_value-clause-read
-returns-in_err-read_value-clause-read g c tells =
-    let p = err_from_is_err_and c.from_residual-in_err-read_value.result c.from_residual-in_err-read_value.ensures.1 in
-    rw (p.1, p.2)
-    (some_refused g.T.DeserializeTerm.term _ _ _ _ _ (c.in_ok-peek_code.ensures.read tells) c.if-branch-eq-NULL.false
-    (c.in_err-read_value.ensures.read tells))
+pub returns-in-Ok-clause-read : goal.returns-in-Ok-clause-read
+returns-in-Ok-clause-read g c tells =
+    some_read g.T.DeserializeTerm.term _ _ _ _ _ (c.in_ok-peek_code.ensures.read tells) c.if-branch-eq-NULL.false (c.in-Ok.ensures.read tells)
 
-pub returns-clause-read : goal.returns-clause-read
-returns-clause-read g c tells =
-    some_read g.T.DeserializeTerm.term _ _ _ _ _ (c.in_ok-peek_code.ensures.read tells) c.if-branch-eq-NULL.false
-    (c.in_ok-read_value.ensures.read tells)
+pub returns-in-Err-clause-read : goal.returns-in-Err-clause-read
+returns-in-Err-clause-read g c tells =
+    some_refused g.T.DeserializeTerm.term _ _ _ _ _ (c.in_ok-peek_code.ensures.read tells) c.if-branch-eq-NULL.false
+    (c.in-Err.ensures.read tells)

@@ -3,5 +3,5 @@ use Rattle.amqp_model.specs.Term.{timestamp}
 use Rattle.amqp_encoder.proofs.encoder.Encoder.write_timestamp.Goals as goal
 
 pub returns : goal.returns
-returns c = c.put.ensures (timestamp c.args.value)
+returns g c = c.put.ensures (timestamp c.args.value)
     (record { alone = search rules; in_array = search rules; measured = (λ m. refl); filled = (λ f. refl) })

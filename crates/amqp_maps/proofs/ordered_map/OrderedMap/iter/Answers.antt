@@ -1,0 +1,9 @@
+use Rattle.std.specs.Map.Iter.{deref_pair}
+use Rattle.amqp_maps.proofs.Runs.{shows_in_order, shows_in_reverse}
+use Rattle.amqp_maps.proofs.ordered_map.OrderedMap.iter.Goals as goal
+
+pub returns-clause-in_order : goal.returns-clause-in_order
+returns-clause-in_order g c = shows_in_order deref_pair
+
+pub returns-clause-in_reverse : goal.returns-clause-in_reverse
+returns-clause-in_reverse g c = shows_in_reverse deref_pair
