@@ -153,8 +153,8 @@ pub fn fill_fields<L: FieldList, R: ByteSource>(
     decoder: &mut Decoder<R>,
     alloc: Global,
 ) -> Result<(), Error>
-    requires blank { IsBlank L.list.fields value.old }
-    ensures read { Tells R.remaining → FillsAll L.list.fields value.new decoder.old result decoder.new }
+    ensures read { IsBlank L.list.fields value.old → Tells R.remaining →
+        FillsAll L.list.fields value.new decoder.old result decoder.new }
     ensures tries { Tries (take_memory L.list.fields) decoder.old result decoder.new }
 {
     let count = decoder.begin_list()? as usize;

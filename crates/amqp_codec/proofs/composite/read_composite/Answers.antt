@@ -21,7 +21,7 @@ returns-in_err-fill_fields-clause-read g c tells =
     let names = ap₂ (λ a b. (a, b) ∷ []) c.descriptor.ensures.code c.descriptor.ensures.name in
     let p = err_from_is_err_and c.from_residual-in_err-fill_fields.result c.from_residual-in_err-fill_fields.ensures.1 in
     rw (p.1, p.2) (unread (composite_members t) (λ s. MeansComposite (table_of t)) (composite_is_sum t) (c.descriptor.result ∷ []) _ _
-    _ _ _ names (c.in_ok-begin_one_of.ensures.opened tells) (c.in_err-fill_fields.ensures.read tells))
+    _ _ _ names (c.in_ok-begin_one_of.ensures.opened tells) (c.in_err-fill_fields.ensures.read c.blank-value.ensures tells))
 
 pub returns-in_err-end_described-clause-read : goal.returns-in_err-end_described-clause-read
 returns-in_err-end_described-clause-read g c tells =
@@ -29,14 +29,14 @@ returns-in_err-end_described-clause-read g c tells =
     let names = ap₂ (λ a b. (a, b) ∷ []) c.descriptor.ensures.code c.descriptor.ensures.name in
     let p = err_from_is_err_and c.from_residual-in_err-end_described.result c.from_residual-in_err-end_described.ensures.1 in
     rw (p.1, p.2) (unended (composite_members t) (λ s. MeansComposite (table_of t)) (composite_is_sum t) (c.descriptor.result ∷ []) _
-    _ _ _ _ _ _ names (c.in_ok-begin_one_of.ensures.opened tells) (c.in_ok-fill_fields.ensures.read tells) c.in_err-end_described.ensures.read)
+    _ _ _ _ _ _ names (c.in_ok-begin_one_of.ensures.opened tells) (c.in_ok-fill_fields.ensures.read c.blank-value.ensures tells) c.in_err-end_described.ensures.read)
 
 pub returns-clause-read : goal.returns-clause-read
 returns-clause-read g c tells =
     let t = table_with g.C.Composite.names g.C.FieldList.list in
     let names = ap₂ (λ a b. (a, b) ∷ []) c.descriptor.ensures.code c.descriptor.ensures.name in
     read_whole (composite_members t) (λ s. MeansComposite (table_of t)) (composite_is_sum t) (c.descriptor.result ∷ []) _ _ _ _ _ _
-    names (c.in_ok-begin_one_of.ensures.nesting tells) (c.in_ok-begin_one_of.ensures.opened tells) (c.in_ok-fill_fields.ensures.read tells)
+    names (c.in_ok-begin_one_of.ensures.nesting tells) (c.in_ok-begin_one_of.ensures.opened tells) (c.in_ok-fill_fields.ensures.read c.blank-value.ensures tells)
     c.in_ok-end_described.ensures.read
 
 pub returns-in_err-begin_one_of-clause-tries : goal.returns-in_err-begin_one_of-clause-tries
