@@ -7,6 +7,7 @@ pub mod Descriptors
 pub mod Terms
 pub mod Rows
 pub mod Faults
+pub mod Places
 pub mod Containers
 pub mod Elements
 pub mod Answered
