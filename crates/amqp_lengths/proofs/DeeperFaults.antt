@@ -10,11 +10,11 @@ use Rattle.amqp_lengths.specs.Faults.{container_unpaired, container_items, Items
 use Rattle.amqp_lengths.specs.Faults.{array_elements, ElementsFault, elements_missing, elements_constructor, elements_over, elements_empty}
 use Rattle.amqp_lengths.specs.Faults.{elements_deep, elements_data, SharedFault, shared_fault, shared_over}
 
-row_part : (P Q : List ℕ → Type 0) → ((b : List ℕ) → P b → Q b) → (n : ℕ) (b : List ℕ) → Row P n b → Row Q n b
+pub row_part : (P Q : List ℕ → Type 0) → ((b : List ℕ) → P b → Q b) → (n : ℕ) (b : List ℕ) → Row P n b → Row Q n b
 row_part P Q f zero b r = r
 row_part P Q f (suc n) b (first, second, e, p, r) = (first, second, e, f first p, row_part P Q f n second r)
 
-behind_part : (P Q : List ℕ → Type 0) (input after : List ℕ) → ((b : List ℕ) → P b → Q b) → Behind P input after → Behind Q input after
+pub behind_part : (P Q : List ℕ → Type 0) (input after : List ℕ) → ((b : List ℕ) → P b → Q b) → Behind P input after → Behind Q input after
 behind_part P Q input after f h = record { front = h.front; is = h.is; spelled = f h.front h.spelled }
 
 terms_deeper : (k l n : ℕ) (input after : List ℕ) → k ≤ l → Behind (Row (IsTerm k) n) input after → Behind (Row (IsTerm l) n) input after

@@ -14,5 +14,6 @@ pub mod Answered
 pub mod Cuts
 pub mod RefusedBytes
 pub mod DeeperFaults
+pub mod Stands
 mod DescriptorShares
 mod Measured

@@ -1,10 +1,9 @@
 -- Where a fault is, there are no more bytes than there are in all.
-use Rattle.std.proofs.Common.{◌≡◌, ℕ, suc, ◌+◌, ◌^◌, ◌<◌, ◌≤◌, Result, Ok, Err, IfErr, List, [], ◌∷◌, ◌++◌, length, ap, ◌∙◌, arith}
+use Rattle.std.proofs.Common.{◌≡◌, ℕ, ◌+◌, ◌^◌, ◌<◌, ◌≤◌, Result, Ok, Err, IfErr, List, [], ◌∷◌, ◌++◌, length, ap, ◌∙◌, arith}
 use Rattle.std.specs.Int.{bytes_high_first}
 use Rattle.std.proofs.lemmas.List.{length-append}
 use Rattle.amqp_wire.specs.declared.error.Error.{Error}
 use Rattle.amqp_model.specs.Term.{Container, array}
-use Rattle.amqp_model.specs.Constructors.{compound}
 use Rattle.amqp_lengths.specs.Fronts.{Behind}
 use Rattle.amqp_lengths.specs.Contents.{IsContent}
 use Rattle.amqp_lengths.specs.Lengths.{Constructs}

@@ -1,5 +1,5 @@
 //! How long the term at the start of the input is (Part 1, sections 1.2 and 1.6).
-ghost use Rattle.std.specs.Prelude.{◌≤◌, ◌<◌, ◌+◌, ◌^◌, ◌≡◌, ℕ, List, ◌++◌, length, IfOk, IfErr, IsTrue, ◌↔◌, MatchOption};
+ghost use Rattle.std.specs.Prelude.{◌≤◌, ◌<◌, ◌+◌, ◌-◌, ◌^◌, ◌≡◌, ℕ, List, ◌++◌, length, IfOk, IfErr, IsErr, IsTrue, ◌↔◌, MatchOption};
 ghost use Rattle.amqp_model.specs.Constructors.{format};
 ghost use Rattle.amqp_model.specs.Spelling.{IsKnown, IsSpelling};
 ghost use Rattle.amqp_model.specs.Term.{Term};
@@ -11,13 +11,14 @@ ghost use Rattle.amqp_lengths.specs.Lengths.{levels_of, Row, IsTerm, IsData, IsC
 ghost use Rattle.amqp_wire.specs.declared.error.Error.{Error};
 ghost use Rattle.amqp_lengths.specs.Faults.{inside, HasFault, TermFault, DataFault, ContainerFault, ItemsFault, ArrayFault};
 ghost use Rattle.amqp_lengths.specs.Faults.{ElementsFault, SharedFault, AsksMore};
+ghost use Rattle.amqp_lengths.specs.Stands.{StandsAt};
 
 use crate::constructors::{Constructor, read_constructor, refuse};
 use crate::contents::read_content;
 use crate::primitives::primitive_len;
 use amqp_wire::format_code::{has_width_zero, is_compound};
 use amqp_wire::nesting::NESTING;
-use amqp_wire::{Container, Error, format_code};
+use amqp_wire::{Container, Error, Refusal, format_code};
 
 /// Returns the length in bytes of the AMQP term at the start of `input`: one encoded value, of any type (Part 1, section 1.2). The length
 /// is from the first byte of the term's constructor to the last byte of its data. Bytes after the term are ignored. No input starts with
@@ -55,6 +56,35 @@ pub fn term_len(input: &[u8]) -> Result<usize, Error>
         → IsSpelling s t → IsSpelling r u → t ≡ u }
 {
     len_of_term(input, NESTING, Error::Depth)
+}
+
+/// Returns what `term_len` does, and beside its error the place of the fault: how many bytes of the input are before it. That is where the
+/// term, the constructor or the descriptor begins that has the fault (Part 1, section 1.2).
+///
+/// # Errors
+///
+/// - `Cut` at the outermost value that is cut, or at the end of the input, if a code or a descriptor is missing there.
+/// - `Size` at the container whose size doesn't hold its count, at the value that extends past the container's end, or at the first byte
+///   that is left in the container after its items.
+/// - `UnknownCode` and `FloatCode` at the code, and `BadDescriptor` at the descriptor.
+/// - `ZeroWidthItems` at the constructor that the items of the array share. So is `Depth`, if the items nest too deep.
+/// - Any other error at the value that has the fault. An item of an array begins with its data.
+pub fn term_len_located(input: &[u8]) -> Result<usize, Refusal>
+    ensures found { IfOk result (λ n. IsFront (IsTerm NESTING) input.now n) }
+    ensures none { IfErr result (λ _. NoFront (IsTerm NESTING) input.now) }
+    ensures cut { IsCutTerm NESTING input.now → IfErr result (λ r. r.error ≡ Cut) × IsErr result }
+    ensures fault { IfErr result (λ r. TermFault Depth NESTING input.now r.error (length input.now - r.at)) }
+    ensures within { IfErr result (λ r. r.at ≤ length input.now) }
+    ensures stands { IfErr result (λ r. StandsAt input.now r.error r.at) }
+{
+    let mut left = 0;
+    match walk_term(input, NESTING, Error::Depth, &mut left) {
+        Ok(len) => Ok(len),
+        Err(error) => Err(Refusal {
+            error,
+            at: input.len().saturating_sub(left),
+        }),
+    }
 }
 
 // In a container, what is announced is present, so a value that needs more bytes is too long.

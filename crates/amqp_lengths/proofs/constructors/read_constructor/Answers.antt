@@ -1,4 +1,4 @@
-use Rattle.std.proofs.Common.{rules, add-one, ◌≡◌, ◌<◌, ◌-◌, [], ◌∷◌, length, take, drop, refl, sym, ap, ◌∙◌, subst, arith}
+use Rattle.std.proofs.Common.{rules, add-one, ◌≡◌, ◌-◌, [], ◌∷◌, length, take, drop, sym, ap, ◌∙◌, subst, arith}
 use Rattle.std.proofs.lemmas.List.{length-drop}
 use Rattle.amqp_lengths.proofs.Fronts.{tail_is, tail_all}
 use Rattle.amqp_lengths.proofs.Descriptors.{one_more, ended}

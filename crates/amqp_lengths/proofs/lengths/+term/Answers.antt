@@ -1,23 +1,23 @@
-use Rattle.std.proofs.Common.{rules, ◌≡◌, ◌<◌, ◌≤◌, ◌-◌, [], take, drop, length, sym, ap, ◌∙◌, subst, arith}
+use Rattle.std.proofs.Common.{rules, ◌≡◌, ◌<◌, ◌≤◌, ◌-◌, drop, length, sym, ap, subst, arith}
 use Rattle.std.proofs.lemmas.List.{length-drop, length-take-le}
 use Rattle.std.proofs.lemmas.Result.{err_from_is_err_and}
 use Rattle.amqp_model.specs.Term.{list, map, array}
 use Rattle.amqp_model.specs.Constructors.{format}
 use Rattle.amqp_model.specs.Spelling.{HasWidthZero}
-use Rattle.amqp_lengths.specs.Fronts.{IsFront, Refuses}
+use Rattle.amqp_lengths.specs.Fronts.{IsFront}
 use Rattle.amqp_lengths.specs.Pieces.{width_of, PrimitiveOf}
 use Rattle.amqp_lengths.specs.declared.constructors.Constructor.{Constructor}
 use Rattle.amqp_wire.specs.Containers.{container_of}
 use Rattle.amqp_lengths.specs.Lengths.{levels_of, Constructs, Row, IsTerm, IsData, IsContainer, IsArray, HasElements}
 use Rattle.amqp_lengths.proofs.Fronts.{tail_all}
-use Rattle.amqp_lengths.proofs.Codes.{IsNoContainer, primitive_at, zero_at}
-use Rattle.amqp_lengths.proofs.Terms.{constructs_known, term_unbegun, term_deep, term_short, term_found, term_once, data_once}
-use Rattle.amqp_lengths.proofs.Rows.{begins_none, piece_more, piece_not, begins_all, begins_less, no_bytes}
-use Rattle.amqp_lengths.proofs.Containers.{found_part, ok_part, err_part, any_err, ok_at, content_length, width_some, refused_part}
-use Rattle.amqp_lengths.proofs.Containers.{container_unbegun, container_odd, container_bad, container_found, array_unbegun, array_bad}
-use Rattle.amqp_lengths.proofs.Containers.{array_found, list_data, data_list, map_data, data_map, array_data, data_array, primitive_data}
-use Rattle.amqp_lengths.proofs.Containers.{data_primitive, empty_data}
-use Rattle.amqp_lengths.proofs.Elements.{elements_unread, elements_none, elements_bare, elements_surplus, elements_rows, elements_found}
+use Rattle.amqp_lengths.proofs.Codes.{zero_at}
+use Rattle.amqp_lengths.proofs.Terms.{constructs_known, term_found, term_once, data_once}
+use Rattle.amqp_lengths.proofs.Rows.{begins_none, piece_more, begins_all, no_bytes}
+use Rattle.amqp_lengths.proofs.Containers.{found_part, ok_part, ok_at, content_length, width_some}
+use Rattle.amqp_lengths.proofs.Containers.{container_found}
+use Rattle.amqp_lengths.proofs.Containers.{array_found, list_data, map_data, array_data, primitive_data}
+use Rattle.amqp_lengths.proofs.Containers.{empty_data}
+use Rattle.amqp_lengths.proofs.Elements.{elements_none, elements_bare, elements_found}
 use Rattle.amqp_wire.specs.declared.error.Error.TheVariants.{Size, OddCount, ZeroWidthItems}
 use Rattle.amqp_lengths.specs.Faults.{TermFault, DataFault, ContainerFault, ItemsFault, ArrayFault, ElementsFault, SharedFault}
 use Rattle.amqp_lengths.specs.Faults.{term_constructor, term_nests, term_data, data_of_primitive, data_of_container, data_of_array, container_content}
