@@ -4,7 +4,7 @@ use Rattle.amqp_wire.specs.declared.error.Error.{Error}
 use Rattle.amqp_model.specs.Term.{Container}
 use Rattle.amqp_lengths.specs.Fronts.{Behind}
 use Rattle.amqp_lengths.specs.Lengths.{IsTerm, IsData, Row}
-use Rattle.amqp_lengths.specs.Faults.{inside, TermFault, term_constructor, term_nests, term_data, DataFault, data_of_primitive}
+use Rattle.amqp_lengths.specs.Faults.{inside, HasFault, TermFault, term_constructor, term_nests, term_data, DataFault, data_of_primitive}
 use Rattle.amqp_lengths.specs.Faults.{data_of_container, data_of_array, ContainerFault, container_content, container_deep}
 use Rattle.amqp_lengths.specs.Faults.{container_unpaired, container_items, ItemsFault, items_fault, items_over, ArrayFault, array_content}
 use Rattle.amqp_lengths.specs.Faults.{array_elements, ElementsFault, elements_missing, elements_constructor, elements_over, elements_empty}
@@ -99,3 +99,8 @@ module _ (deep other : Error) (keeps : inside deep ≡ deep) where
   pub fault_deeper : (nesting more : ℕ) (b : List ℕ) (e : Error) (at : ℕ) → nesting ≤ more → (e ≡ deep → (nesting ≡ more) × (deep ≡ other))
       → TermFault deep nesting b e at → TermFault other more b e at
   fault_deeper nesting more b e at least same h = term_deeper nesting more b e at least same h
+
+  -- likewise, wherever it stands
+  pub has_deeper : (nesting more : ℕ) (b : List ℕ) (e : Error) → nesting ≤ more → (e ≡ deep → (nesting ≡ more) × (deep ≡ other))
+      → HasFault deep nesting b e → HasFault other more b e
+  has_deeper nesting more b e least same h = (h.0, term_deeper nesting more b e h.0 least same h.1)

@@ -12,7 +12,7 @@ pub mod codec {
     pub use amqp_containers::Array;
     pub use amqp_described::Described;
     pub use amqp_lazy::LazyValue;
-    pub use amqp_lengths::term_len;
+    pub use amqp_lengths::{term_len, term_len_located};
     pub use amqp_maps::{
         IntoIter as OrderedMapIntoIter, Iter as OrderedMapIter, OrderedMap,
         Values as OrderedMapValues,
