@@ -1,5 +1,5 @@
 -- The kinds of sections (Part 3, section 3.2).
-use Rattle.std.specs.Prelude.{◌≡◌, ◌⊎◌, ℕ}
+use Rattle.std.specs.Prelude.{◌≡◌, ◌⊎◌, ℕ, List, codes}
 use Rattle.amqp_section_slices.specs.declared.section_kind.SectionKind.{SectionKind}
 use Rattle.amqp_section_slices.specs.declared.section_kind.SectionKind.TheVariants.{Header, DeliveryAnnotations, MessageAnnotations}
 use Rattle.amqp_section_slices.specs.declared.section_kind.SectionKind.TheVariants.{Properties, ApplicationProperties, Data, AmqpSequence}
@@ -24,3 +24,15 @@ IsBody kind = (kind ≡ Data) ⊎ ((kind ≡ AmqpSequence) ⊎ (kind ≡ AmqpVal
 -- A part of the bare message.
 abbrev pub IsBare : SectionKind → Type 0
 IsBare kind = (kind ≡ Properties) ⊎ ((kind ≡ ApplicationProperties) ⊎ IsBody kind)
+
+-- The standard's name of it.
+abbrev pub name_of : SectionKind → List ℕ
+name_of Header = codes "header"
+name_of DeliveryAnnotations = codes "delivery-annotations"
+name_of MessageAnnotations = codes "message-annotations"
+name_of Properties = codes "properties"
+name_of ApplicationProperties = codes "application-properties"
+name_of Data = codes "data"
+name_of AmqpSequence = codes "amqp-sequence"
+name_of AmqpValue = codes "amqp-value"
+name_of Footer = codes "footer"

@@ -1,6 +1,6 @@
 //! The kinds of sections (Part 3, section 3.2).
 ghost use Rattle.std.specs.Prelude.{◌≡◌, ◌+◌, ◌<◌, ◌≤◌, true, MatchOption};
-ghost use Rattle.amqp_section_slices.specs.Kinds.{code_of, IsBare, IsBody};
+ghost use Rattle.amqp_section_slices.specs.Kinds.{code_of, name_of, IsBare, IsBody};
 ghost use Rattle.std.specs.Bool.{Decides};
 
 use amqp_wire::section_code;
@@ -87,7 +87,9 @@ impl SectionKind {
     }
 
     // The standard's name.
-    fn name(self) -> &'static str {
+    fn name(self) -> &'static str
+        ensures { result.now ≡ name_of self }
+    {
         match self {
             SectionKind::Header => "header",
             SectionKind::DeliveryAnnotations => "delivery-annotations",
@@ -102,9 +104,14 @@ impl SectionKind {
     }
 }
 
-/// Prints the standard's name of the section.
+/// Prints the standard's name of the section, as `delivery-annotations`.
 impl fmt::Display for SectionKind {
-    fn fmt(&self, f: &mut fmt::Formatter<'_>) -> fmt::Result {
+    ghost use Rattle.std.specs.Prelude.{Some};
+    ghost use Rattle.amqp_section_slices.specs.Kinds.{name_of};
+
+    ghost output = { λ kind. Some (name_of kind) };
+
+    fn fmt<W: fmt::Write>(&self, f: &mut fmt::Formatter<W>) -> fmt::Result {
         f.write_str(self.name())
     }
 }

@@ -1,5 +1,5 @@
 //! Sections as bytes.
-ghost use Rattle.std.specs.Prelude.{◌≡◌, ◌-◌, ◌≤◌, ◌<◌, ℕ, [], length, IfOk, IfErr, IfSome, MatchOption};
+ghost use Rattle.std.specs.Prelude.{◌≡◌, ◌-◌, ◌≤◌, ◌<◌, ℕ, [], length, None, IfOk, IfErr, IfSome, MatchOption};
 ghost use Rattle.std.specs.Iterator.{at_most};
 ghost use Rattle.amqp_lookahead.specs.Sections.{IsSectionAhead};
 ghost use Rattle.amqp_section_slices.specs.Kinds.{code_of};
@@ -33,6 +33,7 @@ pub fn split_section(input: &[u8]) -> Result<Option<(Section<'_>, &[u8])>, Refus
     ensures shorter { IfOk result (λ next. IfSome next (λ s. length s.1.now < length input.now)) }
     ensures refused { IfErr result (λ r. IsNoSection input.now r.error (length input.now - r.at)) }
     ensures within { IfErr result (λ r. r.at ≤ length input.now) }
+    ensures some { IfErr result (λ _. 0 < length input.now) }
 {
     if input.is_empty() {
         return Ok(None);
@@ -52,16 +53,30 @@ pub fn split_section(input: &[u8]) -> Result<Option<(Section<'_>, &[u8])>, Refus
 fn kind_ahead(input: &[u8]) -> Option<SectionKind>
     ensures { MatchOption result ((c : ℕ) → IsSectionAhead input.now c → ⊥) (λ kind. IsSectionAhead input.now (code_of kind)) }
 {
-    match Input::new(input).section_ahead() {
-        Ok(Some(code)) => SectionKind::of_code(code),
-        Ok(None) => None,
-        Err(_) => unreachable!(),
+    let mut ahead = Input::new(input);
+    match ahead.section_ahead() {
+        Ok(code) => kind_of(code),
+        Err(_) => {
+            let _left = ahead.unread();
+            unreachable!()
+        }
+    }
+}
+
+// The kind of the section with this code, if there is one.
+fn kind_of(code: Option<u8>) -> Option<SectionKind>
+    ensures some { IfSome code (λ c. MatchOption result (0x70 ≤ c → c ≤ 0x78 → ⊥) (λ kind. code_of kind ≡ c)) }
+    ensures none { code ≡ None → result ≡ None }
+{
+    match code {
+        Some(code) => SectionKind::of_code(code),
+        None => None,
     }
 }
 
 /// The sections of a message one after another, each as its bytes. If no section comes next, the last item is the error of `split_section`,
 /// with its place from the start of the message.
-#[derive(Clone, Copy, Debug)]
+#[derive(Drop)]
 pub struct Sections<'a> {
     rest: &'a [u8],
     // How many bytes of the message are before them.
