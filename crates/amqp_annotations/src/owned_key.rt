@@ -33,7 +33,7 @@ impl OwnedKey {
         ensures symbol { IfOk result (λ made. owned_primitive made ≡ symbol text.now) }
         ensures refused { IfErr result (λ e. e ≡ Memory) }
     {
-        Ok(OwnedKey::Symbol(Symbol(String::from_str(alloc, text)?)))
+        Ok(OwnedKey::Symbol(Symbol::from_str_in(text, alloc)?))
     }
 
     /// Returns the symbol with a copy of this symbol's text. The only error is `Memory`.

@@ -178,7 +178,7 @@ announced_not_outside e out (compound k w) st (inr (n, m, fits, t, l)) = lacks_n
 announced_not_outside e out unknown st l = l
 
 -- what is named of the bytes of a term
-length_not_outside : {e : Error} → IsOutside e → (n nesting : ℕ) (b : List ℕ) → lengths.TermFault (depth_error n) nesting b e → ⊥
+length_not_outside : {e : Error} → IsOutside e → (n nesting : ℕ) (b : List ℕ) → lengths.HasFault (depth_error n) nesting b e → ⊥
 length_not_outside out n nesting b f = elim (term_error (depth_error n) (depth_misspelled n) nesting b _ f) [ inl is ↦ subst IsOutside is out | inr said ↦ misspelling_inside _ said.0 out ]
 
 no_term_not_outside : {e : Error} → IsOutside e → (nesting : ℕ) (b : List ℕ) (st : State) → NoTerm nesting b st e → ⊥

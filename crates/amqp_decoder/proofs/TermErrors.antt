@@ -11,7 +11,7 @@ use Rattle.amqp_lengths.specs.Pieces.{value_of}
 use Rattle.amqp_lengths.specs.Faults.{ValueFault, PrimitiveFault, primitive_wanting, primitive_no_value, DescriptorFault}
 use Rattle.amqp_lengths.specs.Faults.{descriptor_missing, descriptor_other, descriptor_unknown, descriptor_data, ConstructorFault}
 use Rattle.amqp_lengths.specs.Faults.{constructor_ends, constructor_unknown, constructor_long, constructor_descriptor, ContentFault}
-use Rattle.amqp_lengths.specs.Faults.{content_wanting, content_small, content_counted, inside, TermFault, term_constructor, term_nests}
+use Rattle.amqp_lengths.specs.Faults.{content_wanting, content_small, content_counted, inside, HasFault, TermFault, term_constructor, term_nests}
 use Rattle.amqp_lengths.specs.Faults.{term_data, DataFault, data_of_primitive, data_of_container, data_of_array, ContainerFault}
 use Rattle.amqp_lengths.specs.Faults.{container_content, container_deep, container_unpaired, container_items, ItemsFault, items_fault}
 use Rattle.amqp_lengths.specs.Faults.{items_over, ArrayFault, array_content, array_elements, ElementsFault, elements_missing}
@@ -106,11 +106,11 @@ module _ (deep : Error) (said : IsMisspelling deep) where
   of_descriptor input e (descriptor_unknown c after is some none) = inr (misspelled_refusal c some none)
   of_descriptor input e (descriptor_data c after x is code h) = of_primitive (format c) after x h
 
-  of_constructor : (input : List ℕ) (e : Error) → ConstructorFault input e → IsOfTerms e
-  of_constructor input e (constructor_ends n few b) = inl refl
-  of_constructor input e (constructor_unknown n c after few b some none) = inr (misspelled_refusal c some none)
-  of_constructor input e (constructor_long after b) = inr (tt, λ l. absurd (cc))
-  of_constructor input e (constructor_descriptor n after x few b h) = of_descriptor after x h
+  of_constructor : (input : List ℕ) (e : Error) (at : ℕ) → ConstructorFault input e at → IsOfTerms e
+  of_constructor input e at (constructor_ends n few b) = inl refl
+  of_constructor input e at (constructor_unknown n c after few b some none) = inr (misspelled_refusal c some none)
+  of_constructor input e at (constructor_long after b) = inr (tt, λ l. absurd (cc))
+  of_constructor input e at (constructor_descriptor n after x few b h) = of_descriptor after x h
 
   of_content : (kind : Container) (w : ℕ) (input : List ℕ) (e : Error) → ContentFault kind w input e → IsOfTerms e
   of_content kind w input e (content_wanting h) = inl refl
@@ -118,43 +118,45 @@ module _ (deep : Error) (said : IsMisspelling deep) where
   of_content kind w input e (content_counted k h) = inr (tt, λ l. absurd (cc))
 
   mutual
-    of_term : (nesting : ℕ) (input : List ℕ) (e : Error) → TermFault deep nesting input e → IsOfTerms e
-    of_term nesting input e (term_constructor k b x h) = of_constructor b x h
-    of_term nesting input e (term_nests k b n c after there more) = inr (said, λ l. l)
-    of_term nesting input e (term_data k b x n c left after there is h) = of_data c left after x h
+    of_term : (nesting : ℕ) (input : List ℕ) (e : Error) (at : ℕ) → TermFault deep nesting input e at → IsOfTerms e
+    of_term nesting input e at (term_constructor k b x l h) = of_constructor b x l h
+    of_term nesting input e at (term_nests k b n c after there more) = inr (said, λ l. l)
+    of_term nesting input e at (term_data k b x n c inner l after there is h) = of_data 1 c inner after x l h
 
-    of_data : (code nesting : ℕ) (input : List ℕ) (e : Error) → DataFault deep code nesting input e → IsOfTerms e
-    of_data code nesting input e (data_of_primitive c k b x h) = of_primitive (format c) b x h
-    of_data code nesting input e (data_of_container c k b x kind w is some h) = of_container kind w k b x h
-    of_data code nesting input e (data_of_array c k b x w is h) = of_array w k b x h
+    of_data : (own code nesting : ℕ) (input : List ℕ) (e : Error) (at : ℕ) → DataFault deep own code nesting input e at → IsOfTerms e
+    of_data own code nesting input e at (data_of_primitive o c k b x h) = of_primitive (format c) b x h
+    of_data own code nesting input e at (data_of_container o c k b x l kind w is some h) = of_container o kind w k b x l h
+    of_data own code nesting input e at (data_of_array o c k b x l w is h) = of_array o w k b x l h
 
-    of_container : (kind : Container) (w nesting : ℕ) (input : List ℕ) (e : Error) → ContainerFault deep kind w nesting input e → IsOfTerms e
-    of_container kind w nesting input e (container_content k v m b x h) = of_content k v b x h
-    of_container kind w nesting input e (container_deep k v m b after there is) = inr (said, λ l. l)
-    of_container kind w nesting input e (container_unpaired k v m b n items after there odd) = inr (tt, λ l. absurd (cc))
-    of_container kind w nesting input e (container_items k v m b x n left items after there is h) = inr (of_items left n items x h)
+    of_container : (own : ℕ) (kind : Container) (w nesting : ℕ) (input : List ℕ) (e : Error) (at : ℕ)
+        → ContainerFault deep own kind w nesting input e at → IsOfTerms e
+    of_container own kind w nesting input e at (container_content o k v m b x h) = of_content k v b x h
+    of_container own kind w nesting input e at (container_deep o k v m b after there is) = inr (said, λ l. l)
+    of_container own kind w nesting input e at (container_unpaired o k v m b n items after there odd) = inr (tt, λ l. absurd (cc))
+    of_container own kind w nesting input e at (container_items o k v m b x n inner l items after there is h) =
+        inr (of_items inner n items x l h)
 
-    of_items : (nesting n : ℕ) (content : List ℕ) (e : Error) → ItemsFault deep nesting n content e → Says e
-    of_items nesting n content e (items_fault k m b x done after less there h) = of_inside x (of_term k after x h)
-    of_items nesting n content e (items_over k m b after there some) = (tt, λ l. absurd (cc))
+    of_items : (nesting n : ℕ) (content : List ℕ) (e : Error) (at : ℕ) → ItemsFault deep nesting n content e at → Says e
+    of_items nesting n content e at (items_fault k m b x done l after less there h) = of_inside x (of_term k after x l h)
+    of_items nesting n content e at (items_over k m b after there some) = (tt, λ l. absurd (cc))
 
-    of_array : (w nesting : ℕ) (input : List ℕ) (e : Error) → ArrayFault deep w nesting input e → IsOfTerms e
-    of_array w nesting input e (array_content v m b x h) = of_content array v b x h
-    of_array w nesting input e (array_elements v m b x n items after there h) = inr (of_elements m n items x h)
+    of_array : (own w nesting : ℕ) (input : List ℕ) (e : Error) (at : ℕ) → ArrayFault deep own w nesting input e at → IsOfTerms e
+    of_array own w nesting input e at (array_content o v m b x h) = of_content array v b x h
+    of_array own w nesting input e at (array_elements o v m b x n l items after there h) = inr (of_elements m n items x l h)
 
-    of_elements : (nesting n : ℕ) (content : List ℕ) (e : Error) → ElementsFault deep nesting n content e → Says e
-    of_elements nesting n content e (elements_missing k j b is some) = (tt, λ l. absurd (cc))
-    of_elements nesting n content e (elements_constructor k j b x some h) = of_inside x (of_constructor b x h)
-    of_elements nesting n content e (elements_over k j b m c after there is some) = (tt, λ l. absurd (cc))
-    of_elements nesting n content e (elements_empty k j b m c after there some h) = (tt, λ l. absurd (cc))
-    of_elements nesting n content e (elements_deep k j b m c after there some h) = (said, λ l. l)
-    of_elements nesting n content e (elements_data k j b x m c left after there some is h) = of_shared c left j after x h
+    of_elements : (nesting n : ℕ) (content : List ℕ) (e : Error) (at : ℕ) → ElementsFault deep nesting n content e at → Says e
+    of_elements nesting n content e at (elements_missing k j b is some) = (tt, λ l. absurd (cc))
+    of_elements nesting n content e at (elements_constructor k j b x l some h) = of_inside x (of_constructor b x l h)
+    of_elements nesting n content e at (elements_over k j b m c after there is some) = (tt, λ l. absurd (cc))
+    of_elements nesting n content e at (elements_empty k j b m c after there some h) = (tt, λ l. absurd (cc))
+    of_elements nesting n content e at (elements_deep k j b m c after there some h) = (said, λ l. l)
+    of_elements nesting n content e at (elements_data k j b x m c inner l after there some is h) = of_shared c inner j after x l h
 
-    of_shared : (code nesting n : ℕ) (content : List ℕ) (e : Error) → SharedFault deep code nesting n content e → Says e
-    of_shared code nesting n content e (shared_fault c k m b x done after less there h) = of_inside x (of_data c k after x h)
-    of_shared code nesting n content e (shared_over c k m b after there some) = (tt, λ l. absurd (cc))
+    of_shared : (code nesting n : ℕ) (content : List ℕ) (e : Error) (at : ℕ) → SharedFault deep code nesting n content e at → Says e
+    of_shared code nesting n content e at (shared_fault c k m b x done l after less there h) = of_inside x (of_data 0 c k after x l h)
+    of_shared code nesting n content e at (shared_over c k m b after there some) = (tt, λ l. absurd (cc))
 
   -- bytes that are no term are refused since they end, or as such
-  pub term_error : (nesting : ℕ) (input : List ℕ) (e : Error) → TermFault deep nesting input e
+  pub term_error : (nesting : ℕ) (input : List ℕ) (e : Error) → HasFault deep nesting input e
       → (e ≡ Cut) ⊎ (IsMisspelling e × (e ≡ Limit → deep ≡ Limit))
-  term_error nesting input e h = of_term nesting input e h
+  term_error nesting input e h = of_term nesting input e h.0 h.1

@@ -8,7 +8,7 @@ use Rattle.amqp_wire.specs.declared.error.Error.{Error}
 use Rattle.amqp_wire.specs.declared.error.Error.TheVariants.{NonAscii, Missing, Size, LazyInArray, Limit}
 use Rattle.amqp_lengths.specs.Pieces.{IsSized}
 use Rattle.amqp_lengths.specs.Fronts.{Refuses}
-use Rattle.amqp_lengths.specs.Faults.{TermFault as FaultIn}
+use Rattle.amqp_lengths.specs.Faults.{HasFault as FaultIn}
 use Rattle.amqp_lengths.specs.Lengths.{IsTerm}
 use Rattle.amqp_lengths.specs.Announced.{content_size, IsAnnounced}
 use Rattle.amqp_decoder.specs.declared.terms.Data.{Data}

@@ -15,7 +15,7 @@ pub fn binary_of(bytes: &[u8], alloc: Global) -> Result<Binary, CodecError> {
 }
 
 pub fn symbol_of(text: &str, alloc: Global) -> Result<Symbol, CodecError> {
-    Ok(Symbol::from(String::from_str(alloc, text)?))
+    Ok(Symbol::from_str_in(text, alloc)?)
 }
 
 /// Returns an array of one symbol.

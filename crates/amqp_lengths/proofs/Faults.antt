@@ -1,23 +1,24 @@
 -- The faults that the errors of each function name.
 use Rattle.std.proofs.Common.{◌≡◌, ℕ, zero, suc, ◌+◌, ◌-◌, ◌<◌, ◌≤◌, ◌⊎◌, inl, inr, Result, Ok, Err, IfErr, List, [], ◌∷◌, ◌++◌, length}
-use Rattle.std.proofs.Common.{take, drop, Option, Some, None, unwrap_or, refl, sym, ap, ◌∙◌, subst, arith, append_assoc}
+use Rattle.std.proofs.Common.{take, drop, Option, Some, None, unwrap_or, refl, sym, ap, ◌∙◌, subst, subst₂, arith, append_assoc}
 use Rattle.std.proofs.lemmas.List.{take-append-drop, length-drop, length-append, length-take-le}
 use Rattle.std.specs.Option.{MatchOption}
 use Rattle.std.specs.Int.{bytes_high_first}
 use Rattle.amqp_wire.specs.declared.error.Error.{Error}
 use Rattle.amqp_wire.specs.declared.error.Error.TheVariants.{Cut, Size, BadDescriptor}
 use Rattle.amqp_wire.specs.Codes.{refusal_of}
-use Rattle.amqp_model.specs.Term.{Primitive, Container, list}
+use Rattle.amqp_model.specs.Term.{Primitive, Container, list, array}
 use Rattle.amqp_model.specs.Constructors.{Format, fixed, variable, compound, format}
 use Rattle.amqp_model.specs.Spelling.{IsKnown}
 use Rattle.amqp_lengths.specs.Fronts.{IsFront, Behind}
 use Rattle.amqp_lengths.specs.Pieces.{IsNumber, IsSized, IsPrimitive, value_of, HoldsBytes, IsDescriptorCode}
 use Rattle.amqp_lengths.specs.Announced.{SizeThen, content_size, WantsSized, Wants}
-use Rattle.amqp_lengths.specs.Lengths.{IsTerm, IsData, Row}
+use Rattle.amqp_lengths.specs.Lengths.{IsTerm, IsData, Row, Constructs}
 use Rattle.amqp_lengths.specs.Faults.{ValueFault, PrimitiveFault, primitive_wanting, primitive_no_value, DescriptorFault, descriptor_other}
 use Rattle.amqp_lengths.specs.Faults.{descriptor_unknown, ContentFault, content_wanting, content_small, content_counted, inside, TermFault}
 use Rattle.amqp_lengths.specs.Faults.{DataFault, ItemsFault, items_fault, items_over, SharedFault, shared_fault, shared_over}
-use Rattle.amqp_lengths.specs.Faults.{ConstructorFault, ElementsFault, elements_constructor}
+use Rattle.amqp_lengths.specs.Faults.{ConstructorFault, ElementsFault, elements_constructor, elements_over, ContainerFault, container_items, ArrayFault}
+use Rattle.amqp_lengths.specs.Faults.{array_elements}
 use Rattle.amqp_lengths.specs.Contents.{IsContent, HasContent}
 use Rattle.amqp_lengths.proofs.Fronts.{tail_all}
 use Rattle.amqp_lengths.proofs.Rows.{Begins, no_bytes}
@@ -139,47 +140,82 @@ Inside r e = (cause : Error) × (r ≡ Err cause) × (e ≡ inside cause)
 err_at : {T : Type 0} (P : Error → Type 0) (r : Result T Error) (e : Error) → IfErr r P → r ≡ Err e → P e
 err_at P r e h is = subst (λ z. IfErr z P) is h
 
-pub items_bad : {deep : Error} (k n : ℕ) (content : List ℕ) (i len : ℕ) (r : Result ℕ Error) (e : Error) → i < n → Begins (IsTerm k) n content i len
-    → IfErr r (λ x. TermFault deep k (take (length content - len) (drop len content)) x) → Inside r e → ItemsFault deep k n content e
-items_bad {deep = deep} k n content i len r e less h f (cause, is, mapped) =
-    let fault : TermFault deep k (drop len content) cause = subst (λ l. TermFault deep k l cause) (tail_all len content) (err_at _ r cause f is) in
-    subst (ItemsFault deep k n content) (sym mapped)
-    (items_fault k n content cause i (drop len content) less (behind_taken (Row (IsTerm k) i) content len h.pieces) fault)
+pub items_bad : {deep : Error} (k n : ℕ) (content : List ℕ) (i len at : ℕ) (r : Result ℕ Error) (e : Error) → i < n → Begins (IsTerm k) n content i len
+    → IfErr r (λ x. TermFault deep k (take (length content - len) (drop len content)) x at) → Inside r e → ItemsFault deep k n content e at
+items_bad {deep = deep} k n content i len at r e less h f (cause, is, mapped) =
+    let fault : TermFault deep k (drop len content) cause at =
+    subst (λ l. TermFault deep k l cause at) (tail_all len content) (err_at _ r cause f is) in
+    subst (λ x. ItemsFault deep k n content x at) (sym mapped)
+    (items_fault k n content cause i at (drop len content) less (behind_taken (Row (IsTerm k) i) content len h.pieces) fault)
 
-pub shared_bad : {deep : Error} (c k n : ℕ) (content : List ℕ) (i len : ℕ) (r : Result ℕ Error) (e : Error) → i < n → Begins (IsData c k) n content i len
-    → IfErr r (λ x. DataFault deep c k (take (length content - len) (drop len content)) x) → Inside r e → SharedFault deep c k n content e
-shared_bad {deep = deep} c k n content i len r e less h f (cause, is, mapped) =
-    let fault : DataFault deep c k (drop len content) cause =
-    subst (λ l. DataFault deep c k l cause) (tail_all len content) (err_at _ r cause f is) in
-    subst (SharedFault deep c k n content) (sym mapped)
-    (shared_fault c k n content cause i (drop len content) less (behind_taken (Row (IsData c k) i) content len h.pieces) fault)
+pub shared_bad : {deep : Error} (c k n : ℕ) (content : List ℕ) (i len at : ℕ) (r : Result ℕ Error) (e : Error) → i < n → Begins (IsData c k) n content i len
+    → IfErr r (λ x. DataFault deep 0 c k (take (length content - len) (drop len content)) x at) → Inside r e → SharedFault deep c k n content e at
+shared_bad {deep = deep} c k n content i len at r e less h f (cause, is, mapped) =
+    let fault : DataFault deep 0 c k (drop len content) cause at =
+    subst (λ l. DataFault deep 0 c k l cause at) (tail_all len content) (err_at _ r cause f is) in
+    subst (λ x. SharedFault deep c k n content x at) (sym mapped)
+    (shared_fault c k n content cause i at (drop len content) less (behind_taken (Row (IsData c k) i) content len h.pieces) fault)
 
-left_over : (len : ℕ) (content : List ℕ) → len ≤ length content → (len ≡ length content → ⊥) → 0 < length (drop len content)
-left_over len content few some = omega (arith, length-drop len content)
+-- bytes are left over
+abbrev pub IsOver : List ℕ → ℕ → ℕ → Error → Type 0
+IsOver content len at e = (e ≡ Size) × (0 < at) × (len + at ≡ length content)
 
-pub items_left : {deep : Error} (k n : ℕ) (content : List ℕ) (i len : ℕ) → i ≡ n → Begins (IsTerm k) n content i len → (len ≡ length content → ⊥)
-    → ItemsFault deep k n content Size
-items_left k n content i len all h some =
-    items_over k n content (drop len content)
+over : (len at : ℕ) (content : List ℕ) → len + at ≡ length content → length (drop len content) ≡ at
+over len at content all = omega (arith, length-drop len content)
+
+pub items_left : {deep : Error} (k n : ℕ) (content : List ℕ) (i len at : ℕ) (e : Error) → i ≡ n → Begins (IsTerm k) n content i len
+    → IsOver content len at e → ItemsFault deep k n content e at
+items_left {deep = deep} k n content i len at e all h (is, some, end) =
+    subst₂ (ItemsFault deep k n content) (sym is) (over len at content end)
+    (items_over k n content (drop len content)
     (behind_taken (Row (IsTerm k) n) content len (subst (λ j. Row (IsTerm k) j (take len content)) all h.pieces))
-    (left_over len content h.within some)
+    (omega (arith, over len at content end, some)))
 
-pub shared_left : {deep : Error} (c k n : ℕ) (content : List ℕ) (i len : ℕ) → i ≡ n → Begins (IsData c k) n content i len → (len ≡ length content → ⊥)
-    → SharedFault deep c k n content Size
-shared_left c k n content i len all h some =
-    shared_over c k n content (drop len content)
+pub shared_left : {deep : Error} (c k n : ℕ) (content : List ℕ) (i len at : ℕ) (e : Error) → i ≡ n → Begins (IsData c k) n content i len
+    → IsOver content len at e → SharedFault deep c k n content e at
+shared_left {deep = deep} c k n content i len at e all h (is, some, end) =
+    subst₂ (SharedFault deep c k n content) (sym is) (over len at content end)
+    (shared_over c k n content (drop len content)
     (behind_taken (Row (IsData c k) n) content len (subst (λ j. Row (IsData c k) j (take len content)) all h.pieces))
-    (left_over len content h.within some)
+    (omega (arith, over len at content end, some)))
+
+pub elements_left : {deep : Error} (k n m c len at : ℕ) (content : List ℕ) (e : Error) → IsFront (Constructs m c) content len → n ≡ 0
+    → IsOver content len at e → ElementsFault deep k n content e at
+elements_left {deep = deep} k n m c len at content e h none (is, some, end) =
+    subst₂ (ElementsFault deep k n content) (sym is) (over len at content end)
+    (elements_over k n content m c (drop len content) (behind_front (Constructs m c) content len h) none
+    (omega (arith, over len at content end, some)))
 
 pub err_map : {T : Type 0} (P Q : Error → Type 0) (r : Result T Error) → ((e : Error) → P e → Q e) → IfErr r P → IfErr r Q
 err_map P Q (Ok x) f h = tt
 err_map P Q (Err e) f h = f e h
 
+-- a fault and its place, as a call answers them
+pub placed : (P : Error → ℕ → Type 0) {e x : Error} {n m : ℕ} → x ≡ e → m ≡ n → P e n → P x m
+placed P is place h = subst₂ P (sym is) (sym place) h
+
+-- what is behind a container is counted with what is left in it
+pub container_left : {deep : Error} (own : ℕ) (kind : Container) (w k inner n len : ℕ) (items input : List ℕ) (at place : ℕ) (r : Result Unit Error) (e : Error)
+    → IsFront (IsContent kind w n items) input len → k ≡ suc inner → IfErr r (λ x. ItemsFault deep inner n items x at)
+    → (r ≡ Err e) × (place ≡ at + (length input - len)) → ContainerFault deep own kind w k input e place
+container_left {deep = deep} own kind w k inner n len items input at place r e h deeper f (is, past) =
+    let all : at + length (drop len input) ≡ at + (length input - len) = ap (λ z. at + z) (length-drop len input) in
+    subst (ContainerFault deep own kind w k input e) (all ∙ sym past)
+    (container_items own kind w k input e n inner at items (drop len input) (behind_front _ input len h) deeper (err_at _ r e f is))
+
+pub array_left : {deep : Error} (own w k n len : ℕ) (items input : List ℕ) (at place : ℕ) (r : Result Unit Error) (e : Error)
+    → IsFront (IsContent array w n items) input len → IfErr r (λ x. ElementsFault deep k n items x at)
+    → (r ≡ Err e) × (place ≡ at + (length input - len)) → ArrayFault deep own w k input e place
+array_left {deep = deep} own w k n len items input at place r e h f (is, past) =
+    let all : at + length (drop len input) ≡ at + (length input - len) = ap (λ z. at + z) (length-drop len input) in
+    subst (ArrayFault deep own w k input e) (all ∙ sym past)
+    (array_elements own w k input e n at items (drop len input) (behind_front _ input len h) (err_at _ r e f is))
+
 -- the constructor of an array's items
-pub elements_unreadable : {deep : Error} {T : Type 0} (k n : ℕ) (content : List ℕ) (r : Result T Error) (e : Error) → 0 < length content
-    → IfErr r (λ x. ConstructorFault content x) → Inside r e → ElementsFault deep k n content e
-elements_unreadable {deep = deep} k n content r e some f (cause, is, mapped) =
-    subst (ElementsFault deep k n content) (sym mapped) (elements_constructor k n content cause some (err_at _ r cause f is))
+pub elements_unreadable : {deep : Error} {T : Type 0} (k n : ℕ) (content : List ℕ) (at : ℕ) (r : Result T Error) (e : Error) → 0 < length content
+    → IfErr r (λ x. ConstructorFault content x at) → Inside r e → ElementsFault deep k n content e at
+elements_unreadable {deep = deep} k n content at r e some f (cause, is, mapped) =
+    subst (λ x. ElementsFault deep k n content x at) (sym mapped) (elements_constructor k n content cause at some (err_at _ r cause f is))
 
 pub behind_content : (kind : Container) (w n len : ℕ) (items input : List ℕ) → IsFront (IsContent kind w n items) input len
     → Behind (HasContent kind w) input (drop len input)

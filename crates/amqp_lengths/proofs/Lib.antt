@@ -7,11 +7,13 @@ pub mod Descriptors
 pub mod Terms
 pub mod Rows
 pub mod Faults
+pub mod Places
 pub mod Containers
 pub mod Elements
 pub mod Answered
 pub mod Cuts
 pub mod RefusedBytes
 pub mod DeeperFaults
+pub mod Stands
 mod DescriptorShares
 mod Measured

@@ -16,7 +16,7 @@ use Rattle.amqp_lengths.specs.Lengths.{levels_of}
 use Rattle.amqp_lengths.specs.Faults.{ValueFault, PrimitiveFault, primitive_wanting, primitive_no_value, DescriptorFault}
 use Rattle.amqp_lengths.specs.Faults.{descriptor_missing, descriptor_other, descriptor_unknown, descriptor_data, ConstructorFault}
 use Rattle.amqp_lengths.specs.Faults.{constructor_ends, constructor_unknown, constructor_long, constructor_descriptor, ContentFault}
-use Rattle.amqp_lengths.specs.Faults.{content_wanting, content_small, content_counted, TermFault, term_constructor, term_nests, term_data}
+use Rattle.amqp_lengths.specs.Faults.{content_wanting, content_small, content_counted, HasFault, TermFault, term_constructor, term_nests, term_data}
 use Rattle.amqp_lengths.specs.Faults.{DataFault, data_of_primitive, data_of_container, data_of_array, ContainerFault, container_content}
 use Rattle.amqp_lengths.specs.Faults.{container_deep, container_unpaired, container_items, ItemsFault, items_fault, items_over, ArrayFault}
 use Rattle.amqp_lengths.specs.Faults.{array_content, array_elements, ElementsFault, elements_missing, elements_constructor, elements_over}
@@ -100,17 +100,17 @@ descriptor_refuses input e (descriptor_unknown c after is some none) =
 descriptor_refuses input e (descriptor_data c after x is code h) =
     subst (λ l. Refuses NamesAny l x) (sym is) (mark_short c after x (primitive_refuses (format c) after x h))
 
-constructor_refuses : (input : List ℕ) (e : Error) → ConstructorFault input e → Refuses HasConstructor input e
-constructor_refuses input e (constructor_ends n few h) =
+pub constructor_refuses : (input : List ℕ) (e : Error) (at : ℕ) → ConstructorFault input e at → Refuses HasConstructor input e
+constructor_refuses input e at (constructor_ends n few h) =
     let t = taken (HasMarks n) input [] h in
     marks_refuse n t.len input [] e t.spelled t.behind (no_end n [] (omega arith))
-constructor_refuses input e (constructor_unknown n c after few h some none) =
+constructor_refuses input e at (constructor_unknown n c after few h some none) =
     let t = taken (HasMarks n) input (c ∷ after) h in
     marks_refuse n t.len input (c ∷ after) e t.spelled t.behind (no_code n c after e some none)
-constructor_refuses input e (constructor_long after h) =
+constructor_refuses input e at (constructor_long after h) =
     let t = taken (HasMarks 128) input (0 ∷ after) h in
     marks_refuse 128 t.len input (0 ∷ after) e t.spelled t.behind (too_many 128 after e refl)
-constructor_refuses input e (constructor_descriptor n after x few h f) =
+constructor_refuses input e at (constructor_descriptor n after x few h f) =
     let t = taken (HasMarks n) input (0 ∷ after) h in
     marks_refuse n t.len input (0 ∷ after) x t.spelled t.behind (no_name n after x (descriptor_refuses after x f))
 
@@ -202,75 +202,75 @@ some_content : (n c : ℕ) (b after : List ℕ) → Behind (Constructs n c) b af
 some_content n c b after h none = constructs_some n c h.front h.spelled (no_bytes h.front after (sym h.is ∙ none))
 
 mutual
-  term_refuses : {deep : Error} (k : ℕ) (input : List ℕ) (e : Error) → TermFault deep k input e → Refuses (IsTerm k) input e
-  term_refuses k input e (term_constructor k' b x h) = term_unbegun k' b x (constructor_refuses b x h)
-  term_refuses k input e (term_nests k' b n c after h deep) =
+  term_refuses : {deep : Error} (k : ℕ) (input : List ℕ) (e : Error) (at : ℕ) → TermFault deep k input e at → Refuses (IsTerm k) input e
+  term_refuses k input e at (term_constructor k' b x y h) = term_unbegun k' b x (constructor_refuses b x y h)
+  term_refuses k input e at (term_nests k' b n c after h deep) =
       let t = taken (Constructs n c) b after h in
       term_deep k' n c t.len b e t.spelled deep
-  term_refuses k input e (term_data k' b x n c left after h is f) =
+  term_refuses k input e at (term_data k' b x n c left y after h is f) =
       let t = taken (Constructs n c) b after h in
       term_short k' n left c t.len b x t.spelled is
-      (subst (λ l. Refuses (IsData c left) l x) (sym t.behind) (data_refuses c left after x f))
+      (subst (λ l. Refuses (IsData c left) l x) (sym t.behind) (data_refuses 1 c left after x y f))
 
-  data_refuses : {deep : Error} (c k : ℕ) (input : List ℕ) (e : Error) → DataFault deep c k input e → Refuses (IsData c k) input e
-  data_refuses c k input e (data_of_primitive c' k' b x h) =
+  data_refuses : {deep : Error} (own c k : ℕ) (input : List ℕ) (e : Error) (at : ℕ) → DataFault deep own c k input e at → Refuses (IsData c k) input e
+  data_refuses own c k input e at (data_of_primitive o c' k' b x h) =
       refuses_part (IsData c' k') (PrimitiveOf c') b x (λ l d. data_primitive c' k' l (fault_primitive (format c') b x h) d)
       (primitive_refuses (format c') b x h)
-  data_refuses c k input e (data_of_container c' k' b x kind w is other h) =
+  data_refuses own c k input e at (data_of_container o c' k' b x y kind w is other h) =
       refuses_part (IsData c' k') (IsContainer kind w k') b x (λ l d. data_container kind c' w k' l other is d)
-      (container_refuses kind w k' b x h)
-  data_refuses c k input e (data_of_array c' k' b x w is h) =
-      refuses_part (IsData c' k') (IsArray w k') b x (λ l d. data_array c' w k' l is d) (array_refuses w k' b x h)
+      (container_refuses o kind w k' b x y h)
+  data_refuses own c k input e at (data_of_array o c' k' b x y w is h) =
+      refuses_part (IsData c' k') (IsArray w k') b x (λ l d. data_array c' w k' l is d) (array_refuses o w k' b x y h)
 
-  container_refuses : {deep : Error} (kind : Container) (w k : ℕ) (input : List ℕ) (e : Error) → ContainerFault deep kind w k input e
-      → Refuses (IsContainer kind w k) input e
-  container_refuses kind w k input e (container_content j v m b x h) = container_unbegun j v m b x (content_refuses j v b x h)
-  container_refuses kind w k input e (container_deep j v m b after h none) =
+  container_refuses : {deep : Error} (own : ℕ) (kind : Container) (w k : ℕ) (input : List ℕ) (e : Error) (at : ℕ)
+      → ContainerFault deep own kind w k input e at → Refuses (IsContainer kind w k) input e
+  container_refuses own kind w k input e at (container_content o j v m b x h) = container_unbegun j v m b x (content_refuses j v b x h)
+  container_refuses own kind w k input e at (container_deep o j v m b after h none) =
       record { none = λ more f l y is (ts, deep, pairs, d). omega (arith, deep, none) }
-  container_refuses kind w k input e (container_unpaired j v m b n items after h odd) =
+  container_refuses own kind w k input e at (container_unpaired o j v m b n items after h odd) =
       let t = taken (IsContent j v n items) b after h in
       container_odd j v m n t.len items b e t.spelled odd
-  container_refuses kind w k input e (container_items j v m b x n left items after h is f) =
+  container_refuses own kind w k input e at (container_items o j v m b x n left y items after h is f) =
       let t = taken (IsContent j v n items) b after h in
-      container_bad j v m left n t.len items b x t.spelled is (items_refused left n items x f)
+      container_bad j v m left n t.len items b x t.spelled is (items_refused left n items x y f)
 
-  items_refused : {deep : Error} (k n : ℕ) (content : List ℕ) (e : Error) → ItemsFault deep k n content e → Row (IsTerm k) n content → ⊥
-  items_refused k n content e (items_fault k' m b x done after less h f) r =
-      row_refused (IsTerm k') (term_once k') done m b after x less h (term_refuses k' after x f) r
-  items_refused k n content e (items_over k' m b after h some) r = row_over (IsTerm k') (term_once k') m b after h some r
+  items_refused : {deep : Error} (k n : ℕ) (content : List ℕ) (e : Error) (at : ℕ) → ItemsFault deep k n content e at → Row (IsTerm k) n content → ⊥
+  items_refused k n content e at (items_fault k' m b x done y after less h f) r =
+      row_refused (IsTerm k') (term_once k') done m b after x less h (term_refuses k' after x y f) r
+  items_refused k n content e at (items_over k' m b after h some) r = row_over (IsTerm k') (term_once k') m b after h some r
 
-  array_refuses : {deep : Error} (w k : ℕ) (input : List ℕ) (e : Error) → ArrayFault deep w k input e → Refuses (IsArray w k) input e
-  array_refuses w k input e (array_content v m b x h) = array_unbegun v m b x (content_refuses array v b x h)
-  array_refuses w k input e (array_elements v m b x n items after h f) =
+  array_refuses : {deep : Error} (own w k : ℕ) (input : List ℕ) (e : Error) (at : ℕ) → ArrayFault deep own w k input e at → Refuses (IsArray w k) input e
+  array_refuses own w k input e at (array_content o v m b x h) = array_unbegun v m b x (content_refuses array v b x h)
+  array_refuses own w k input e at (array_elements o v m b x n y items after h f) =
       let t = taken (IsContent array v n items) b after h in
-      array_bad v m n t.len items b x t.spelled (elements_refused m n items x f)
+      array_bad v m n t.len items b x t.spelled (elements_refused m n items x y f)
 
-  elements_refused : {deep : Error} (k n : ℕ) (content : List ℕ) (e : Error) → ElementsFault deep k n content e → HasElements k n content → ⊥
-  elements_refused k n content e (elements_missing k' j b none some) r = elements_some k' j b none (λ z. omega arith) r
-  elements_refused k n content e (elements_constructor k' j b x some h) r =
-      elements_unbegun k' j b x (some_bytes b some) (constructor_refuses b x h) r
-  elements_refused k n content e (elements_over k' j b m c after h none some) r =
+  elements_refused : {deep : Error} (k n : ℕ) (content : List ℕ) (e : Error) (at : ℕ) → ElementsFault deep k n content e at → HasElements k n content → ⊥
+  elements_refused k n content e at (elements_missing k' j b none some) r = elements_some k' j b none (λ z. omega arith) r
+  elements_refused k n content e at (elements_constructor k' j b x y some h) r =
+      elements_unbegun k' j b x (some_bytes b some) (constructor_refuses b x y h) r
+  elements_refused k n content e at (elements_over k' j b m c after h none some) r =
       let t = taken (Constructs m c) b after h in
       let over : drop t.len b ≡ [] → ⊥ = λ z. some_bytes after some (sym t.behind ∙ z) in
       elements_surplus k' m c t.len b (some_content m c b after h) t.spelled over (subst (λ i. HasElements k' i b) none r)
-  elements_refused k n content e (elements_empty k' j b m c after h some wide) r =
+  elements_refused k n content e at (elements_empty k' j b m c after h some wide) r =
       let t = taken (Constructs m c) b after h in
       (elements_rows k' m c j t.len b (some_content m c b after h) t.spelled (λ z. omega arith) r).0 wide
-  elements_refused k n content e (elements_deep k' j b m c after h some deep) r =
+  elements_refused k n content e at (elements_deep k' j b m c after h some deep) r =
       let t = taken (Constructs m c) b after h in
       let few = (elements_rows k' m c j t.len b (some_content m c b after h) t.spelled (λ z. omega arith) r).1 in omega (arith, few, deep)
-  elements_refused k n content e (elements_data k' j b x m c left after h some is f) r =
+  elements_refused k n content e at (elements_data k' j b x m c left y after h some is f) r =
       let t = taken (Constructs m c) b after h in
       let rows = (elements_rows k' m c j t.len b (some_content m c b after h) t.spelled (λ z. omega arith) r).2 in
       let same : k' - levels_of m c ≡ left = omega (arith, is) in
       let there : Row (IsData c (k' - levels_of m c)) j after = subst (λ l. Row (IsData c (k' - levels_of m c)) j l) t.behind rows in
-      shared_refused c left j after x f (subst (λ i. Row (IsData c i) j after) same there)
+      shared_refused c left j after x y f (subst (λ i. Row (IsData c i) j after) same there)
 
-  shared_refused : {deep : Error} (c k n : ℕ) (content : List ℕ) (e : Error) → SharedFault deep c k n content e → Row (IsData c k) n content → ⊥
-  shared_refused c k n content e (shared_fault c' k' m b x done after less h f) r =
-      row_refused (IsData c' k') (data_once c' k') done m b after x less h (data_refuses c' k' after x f) r
-  shared_refused c k n content e (shared_over c' k' m b after h some) r = row_over (IsData c' k') (data_once c' k') m b after h some r
+  shared_refused : {deep : Error} (c k n : ℕ) (content : List ℕ) (e : Error) (at : ℕ) → SharedFault deep c k n content e at → Row (IsData c k) n content → ⊥
+  shared_refused c k n content e at (shared_fault c' k' m b x done y after less h f) r =
+      row_refused (IsData c' k') (data_once c' k') done m b after x less h (data_refuses 0 c' k' after x y f) r
+  shared_refused c k n content e at (shared_over c' k' m b after h some) r = row_over (IsData c' k') (data_once c' k') m b after h some r
 
 -- a fault that stands in the bytes refuses each term that could begin so
-pub fault_refuses : {deep : Error} (nesting : ℕ) (input : List ℕ) (e : Error) → TermFault deep nesting input e → Refuses (IsTerm nesting) input e
-fault_refuses nesting input e h = term_refuses nesting input e h
+pub fault_refuses : {deep : Error} (nesting : ℕ) (input : List ℕ) (e : Error) → HasFault deep nesting input e → Refuses (IsTerm nesting) input e
+fault_refuses nesting input e h = term_refuses nesting input e h.0 h.1

@@ -4,4 +4,5 @@ pub mod Announced
 pub mod Contents
 pub mod Lengths
 pub mod Faults
+pub mod Stands
 pub mod Measured

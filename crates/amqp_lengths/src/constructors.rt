@@ -1,8 +1,8 @@
 //! Constructors: descriptors, and the code that they end in (Part 1, section 1.2).
-ghost use Rattle.std.specs.Prelude.{◌≡◌, IfOk, IfErr};
+ghost use Rattle.std.specs.Prelude.{◌≡◌, IfOk, IfErr, OnOk};
 ghost use Rattle.amqp_lengths.specs.Fronts.{IsFront, Refuses};
 ghost use Rattle.amqp_lengths.specs.Pieces.{NamesAny};
-ghost use Rattle.amqp_lengths.specs.Lengths.{Constructs, HasConstructor};
+ghost use Rattle.amqp_lengths.specs.Lengths.{Constructs};
 ghost use Rattle.amqp_lengths.specs.Faults.{DescriptorFault, ConstructorFault};
 
 use crate::primitives::primitive_len;
@@ -37,18 +37,18 @@ pub(crate) fn descriptor_len(input: &[u8]) -> Result<usize, Error>
     }
 }
 
-/// Reads the constructor at the start of the input.
-pub(crate) fn read_constructor(input: &[u8]) -> Result<Constructor, Error>
+/// Reads the constructor at the start of the input. If it is faulty, `left` gets how many bytes there are from the place of the fault on.
+pub(crate) fn read_constructor(input: &[u8], left: &mut usize) -> Result<Constructor, Error>
     ensures found { IfOk result (λ c. IsFront (Constructs c.descriptors c.code) input.now c.len) }
-    ensures refused { IfErr result (λ e. Refuses HasConstructor input.now e) }
-    ensures fault { IfErr result (λ e. ConstructorFault input.now e) }
+    ensures fault { IfErr result (λ e. ConstructorFault input.now e left.new) }
+    ensures kept { OnOk result (left.new ≡ left.old) }
 {
     let mut len = 0;
     let mut descriptors = 0;
     while let Some((code, rest)) = input[len..].split_first() {
         if *code != format_code::DESCRIBED {
             return match unknown(*code) {
-                Some(error) => Err(error),
+                Some(error) => Err(refuse(error, rest.len() + 1, left)),
                 None => Ok(Constructor {
                     code: *code,
                     descriptors,
@@ -57,10 +57,23 @@ pub(crate) fn read_constructor(input: &[u8]) -> Result<Constructor, Error>
             };
         }
         if descriptors == NESTING {
-            return Err(Error::Depth);
+            return Err(refuse(Error::Depth, rest.len() + 1, left));
         }
-        len += 1 + descriptor_len(rest)?;
+        match descriptor_len(rest) {
+            Ok(descriptor_len) => len += 1 + descriptor_len,
+            Err(error) => return Err(refuse(error, rest.len(), left)),
+        }
         descriptors += 1;
     }
-    Err(Error::Cut)
+    Err(refuse(Error::Cut, 0, left))
+}
+
+/// Returns the error of a fault, from whose place on there are so many bytes.
+#[cold]
+pub(crate) fn refuse(error: Error, bytes: usize, left: &mut usize) -> Error
+    ensures error { result ≡ error }
+    ensures left { left.new ≡ bytes }
+{
+    *left = bytes;
+    error
 }

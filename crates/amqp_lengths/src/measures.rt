@@ -65,7 +65,7 @@ fn measure_term(input: &[u8]) -> Measured
     requires { Measurable (λ t b. IsSpelling b t) input.now }
     ensures { Begins (λ t b. IsSpelling b t) input.now result.len result.nodes result.nesting result.weight }
 {
-    let Ok(shared) = read_constructor(input) else {
+    let Ok(shared) = read_constructor(input, &mut 0) else {
         unreachable!()
     };
     let data = measure_data(shared.code, &input[shared.len..]);
@@ -233,7 +233,7 @@ fn measure_elements(content: &[u8], count: usize) -> Measures
             weight: 0,
         };
     }
-    let Ok(shared) = read_constructor(content) else {
+    let Ok(shared) = read_constructor(content, &mut 0) else {
         unreachable!()
     };
     let items = measure_shared(&content[shared.len..], shared.code, count);

@@ -90,7 +90,7 @@ fn mode(alloc: Global) -> Result<SupportedDistModes, Error> {
 }
 
 fn symbol(text: &str, alloc: Global) -> Result<Symbol, Error> {
-    Ok(Symbol::from(String::from_str(alloc, text)?))
+    Ok(Symbol::from_str_in(text, alloc)?)
 }
 
 // Whether the source that is built has this text.

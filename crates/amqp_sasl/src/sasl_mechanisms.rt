@@ -46,7 +46,7 @@ impl SaslMechanisms {
             ≡ codes "ANONYMOUS" ∷ []) }
         ensures refused { IfErr result (λ e. e ≡ Memory) }
     {
-        let anonymous = Symbol::from(String::from_str(alloc, ANONYMOUS)?);
+        let anonymous = Symbol::from_str_in(ANONYMOUS, alloc)?;
         let mut mechanisms = Array::from(Vec::new(alloc));
         mechanisms.push(anonymous)?;
         Ok(SaslMechanisms {

@@ -32,7 +32,7 @@ fn symbol_of(text: &str, alloc: Global) -> Result<Symbol, Error>
     ensures text { IfOk result (λ symbol. string_bytes symbol.0 ≡ text.now) }
     ensures refused { IfErr result (λ e. e ≡ Memory) }
 {
-    Ok(Symbol::from(String::from_str(alloc, text)?))
+    Ok(Symbol::from_str_in(text, alloc)?)
 }
 
 // The properties with this lifetime. The only error is `Memory`.

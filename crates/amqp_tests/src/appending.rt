@@ -58,7 +58,7 @@ fn is_never_written<T: Serialize>(value: &T, error: Error, alloc: Global) -> boo
 #[test]
 fn a_refusal_leaves_the_buffer(rt: HostRuntime) -> Result<(), Fail> {
     let alloc = rt.alloc();
-    let symbol = Symbol(String::from_str(alloc, "é")?);
+    let symbol = Symbol::from_str_in("é", alloc)?;
     check_buffer(&symbol, Err(Error::NonAscii), "aabb", alloc)?;
     assert!(rt; is_never_written(&symbol, Error::NonAscii, alloc));
     Ok(())

@@ -26,7 +26,7 @@ fn put(
     value: u32,
     alloc: Global,
 ) -> Result<(), Error> {
-    let key = Symbol(String::from_str(alloc, key)?);
+    let key = Symbol::from_str_in(key, alloc)?;
     map.insert(key, value)?;
     Ok(())
 }

@@ -74,7 +74,7 @@ fn accepted_and_released(alloc: Global) -> Result<Array<DeliveryState>, Error> {
 
 fn beyond_ascii(alloc: Global) -> Result<Array<Symbol>, Error> {
     let mut symbols = Array::from(Vec::new(alloc));
-    symbols.push(Symbol(String::from_str(alloc, "é")?))?;
+    symbols.push(Symbol::from_str_in("é", alloc)?)?;
     Ok(symbols)
 }
 

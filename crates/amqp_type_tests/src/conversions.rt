@@ -78,7 +78,7 @@ fn binaries(rt: HostRuntime) -> Result<(), Fail> {
 }
 
 fn symbol(text: &str, alloc: Global) -> Result<Symbol, Error> {
-    Ok(Symbol::from(String::from_str(alloc, text)?))
+    Ok(Symbol::from_str_in(text, alloc)?)
 }
 
 fn is_symbol(symbol: Symbol, text: &str) -> bool {

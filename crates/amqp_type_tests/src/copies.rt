@@ -27,7 +27,7 @@ fn binary(alloc: Global) -> Result<Binary, Error> {
 }
 
 fn symbol(text: &str, alloc: Global) -> Result<Symbol, Error> {
-    Ok(Symbol(String::from_str(alloc, text)?))
+    Ok(Symbol::from_str_in(text, alloc)?)
 }
 
 #[test]

@@ -9,7 +9,7 @@ use std::test::Fail;
 
 fn named(name: &str, value: u32, alloc: Global) -> Result<Described<u32>, Error> {
     Ok(Described {
-        descriptor: Descriptor::Name(Symbol(String::from_str(alloc, name)?)),
+        descriptor: Descriptor::Name(Symbol::from_str_in(name, alloc)?),
         value,
     })
 }

@@ -149,7 +149,7 @@ fn equal_maps_have_equal_hashes(rt: HostRuntime) -> Result<(), Fail> {
 fn keys_of(texts: &[&str], alloc: Global) -> Result<usize, Error> {
     let mut map = OrderedMap::new(alloc);
     for text in texts {
-        map.insert(Symbol(String::from_str(alloc, text)?), true)?;
+        map.insert(Symbol::from_str_in(text, alloc)?, true)?;
     }
     Ok(map.len())
 }

@@ -11,7 +11,7 @@ use std::test::Fail;
 fn symbols(count: usize, alloc: Global) -> Result<Array<Symbol>, Error> {
     let mut items = Array::from(Vec::new(alloc));
     for _ in 0..count {
-        items.push(Symbol(String::from_str(alloc, "X")?))?;
+        items.push(Symbol::from_str_in("X", alloc)?)?;
     }
     Ok(items)
 }

@@ -53,7 +53,7 @@ fn bytes_and_texts_both_ways(rt: HostRuntime) -> Result<(), Fail> {
     check_both_ways(uuid, "9804040404040404040404040404040404", alloc)?;
     check_both_ways(Binary(Vec::from_array(alloc, [5, 6])?), "a0020506", alloc)?;
     check_both_ways(String::from_str(alloc, "a")?, "a10161", alloc)?;
-    check_both_ways(Symbol(String::from_str(alloc, "a")?), "a30161", alloc)
+    check_both_ways(Symbol::from_str_in("a", alloc)?, "a30161", alloc)
 }
 
 #[test]

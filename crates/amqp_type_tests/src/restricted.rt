@@ -11,7 +11,7 @@ use std::alloc::Global;
 use std::test::Fail;
 
 fn symbol(text: &str, alloc: Global) -> Result<Symbol, Error> {
-    Ok(Symbol(String::from_str(alloc, text)?))
+    Ok(Symbol::from_str_in(text, alloc)?)
 }
 
 // The digits of a symbol's canonical spelling.

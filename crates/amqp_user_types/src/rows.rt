@@ -103,7 +103,7 @@ fn ports_are_keys(rt: HostRuntime) -> Result<(), Fail> {
 fn symbols(count: usize, alloc: Global) -> Result<Array<Symbol>, Fail> {
     let mut items = Array::from(Vec::new(alloc));
     for _ in 0..count {
-        items.push(Symbol(String::from_str(alloc, "X")?))?;
+        items.push(Symbol::from_str_in("X", alloc)?)?;
     }
     Ok(items)
 }

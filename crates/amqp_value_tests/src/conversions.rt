@@ -49,7 +49,7 @@ fn text(alloc: Global) -> Result<String, Error> {
 }
 
 fn symbol(alloc: Global) -> Result<Symbol, Error> {
-    Ok(Symbol(String::from_str(alloc, "s")?))
+    Ok(Symbol::from_str_in("s", alloc)?)
 }
 
 fn are_made_of_texts(alloc: Global) -> Result<bool, Error> {

@@ -164,7 +164,7 @@ fn text(alloc: Global) -> Result<String, Error> {
 }
 
 fn symbol(alloc: Global) -> Result<Symbol, Error> {
-    Ok(Symbol(String::from_str(alloc, "a")?))
+    Ok(Symbol::from_str_in("a", alloc)?)
 }
 
 fn binary(alloc: Global) -> Result<Binary, Error> {

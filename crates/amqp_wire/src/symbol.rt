@@ -1,5 +1,7 @@
 //! Symbols: values of a constrained domain, written in ASCII (Part 1, section 1.6.21).
-ghost use Rattle.std.specs.Prelude.{◌≡◌, string_bytes};
+ghost use Rattle.std.specs.Prelude.{◌≡◌, string_bytes, IfOk};
+
+use std::alloc::{AllocError, Global};
 
 /// A symbol. What is read is ASCII. A symbol can be made of any text, but one that isn't ASCII is refused in writing, with
 /// `Error::NonAscii`.
@@ -7,6 +9,13 @@ ghost use Rattle.std.specs.Prelude.{◌≡◌, string_bytes};
 pub struct Symbol(pub String);
 
 impl Symbol {
+    /// Returns a symbol with a copy of the text. The error is that an allocation failed.
+    pub fn from_str_in(text: &str, alloc: Global) -> Result<Symbol, AllocError>
+        ensures { IfOk result (λ symbol. string_bytes symbol.0 ≡ text.now) }
+    {
+        Ok(Symbol(String::from_str(alloc, text)?))
+    }
+
     /// Returns the text of the symbol.
     pub fn as_str(&self) -> &str
         ensures { result.now ≡ string_bytes self.now.0 }

@@ -1,4 +1,5 @@
 -- How long a term is (Part 1, section 1.2). It defines nothing.
 pub use Rattle.amqp_lengths.specs.Fronts.{IsFront, NoFront}
 pub use Rattle.amqp_lengths.specs.Lengths.{IsTerm, IsCutTerm}
-pub use Rattle.amqp_lengths.specs.Faults.{TermFault, AsksMore}
+pub use Rattle.amqp_lengths.specs.Faults.{HasFault, TermFault, AsksMore}
+pub use Rattle.amqp_lengths.specs.Stands.{StandsAt}

@@ -12,7 +12,7 @@ pub mod codec {
     pub use amqp_containers::Array;
     pub use amqp_described::Described;
     pub use amqp_lazy::LazyValue;
-    pub use amqp_lengths::term_len;
+    pub use amqp_lengths::{term_len, term_len_located};
     pub use amqp_maps::{
         IntoIter as OrderedMapIntoIter, Iter as OrderedMapIter, OrderedMap,
         Values as OrderedMapValues,
@@ -24,6 +24,7 @@ pub mod codec {
     };
     pub use amqp_simple_values::SimpleValue;
     pub use amqp_values::{IntoValue, Value, ValueMap, ValueMapIter, ValueMapValues};
+    pub use amqp_wire::Refusal;
 }
 
 /// The primitive types (Part 1, section 1.6), and the standard's names for types of std.
@@ -131,6 +132,7 @@ pub mod messaging {
     pub use amqp_message_headers::{Header, MESSAGE_FORMAT, MessageId, Priority, Properties};
     pub use amqp_messages::Message;
     pub use amqp_restricted_types::{DistributionMode, TerminusDurability, TerminusExpiryPolicy};
+    pub use amqp_section_slices::{Section, SectionKind, Sections, split_section};
     pub use amqp_sections::{AmqpSequence, AmqpValue, Data};
     pub use amqp_termini::{
         Address, DeleteOnClose, DeleteOnNoLinks, DeleteOnNoLinksOrMessages, DeleteOnNoMessages,

@@ -33,7 +33,7 @@ use Rattle.amqp_decoder.specs.Terms.{LacksAnnounced, NoTerm, wrong_size, wrong_t
 use Rattle.amqp_decoder.specs.Terms.{misspelled}
 use Rattle.amqp_lengths.specs.Faults.{inside}
 use Rattle.amqp_lengths.proofs.RefusedBytes.{fault_refuses}
-use Rattle.amqp_lengths.proofs.DeeperFaults.{fault_deeper}
+use Rattle.amqp_lengths.proofs.DeeperFaults.{has_deeper}
 use Rattle.amqp_decoder.specs.OtherSource.{Setting, freed, lifted, under, another, IsByDepth, KeepsError}
 
 -- that as many may begin as there are changes nothing else
@@ -457,13 +457,13 @@ module _ (c : Setting) where
   no_term_deeper nesting more b st e least keeps same (wrong_size none f s) =
       let own = depth_error st.nesting in
       let by : IsByDepth own = by_depth (nat_lt st.nesting 128) in
-      let g = fault_deeper own (depth_error (c.deepen st.nesting)) (inside_depth (nat_lt st.nesting 128)) nesting more b Size least
+      let g = has_deeper own (depth_error (c.deepen st.nesting)) (inside_depth (nat_lt st.nesting 128)) nesting more b Size least
       (λ d. absurd (subst IsByDepth (sym d) by)) f in
       wrong_size (fault_refuses more b Size g) g (size_error keeps s)
   no_term_deeper nesting more b st e least keeps same (wrong_term none f other) =
       let own = depth_error st.nesting in
       let by : IsByDepth own = by_depth (nat_lt st.nesting 128) in
-      let g = fault_deeper own (depth_error (c.deepen st.nesting)) (inside_depth (nat_lt st.nesting 128)) nesting more b e least
+      let g = has_deeper own (depth_error (c.deepen st.nesting)) (inside_depth (nat_lt st.nesting 128)) nesting more b e least
       (λ d. same (subst IsByDepth (sym d) by)) f in
       wrong_term (fault_refuses more b e g) g other
 

@@ -12,8 +12,8 @@ decreases-list_len l = 8 * length l.input.now + 1
 abbrev pub decreases-data_len : goal.decreases-data_len
 decreases-data_len l = 8 * length l.input.now + 2
 
-abbrev pub decreases-len_of_term : goal.decreases-len_of_term
-decreases-len_of_term l = 8 * length l.input.now + 4
+abbrev pub decreases-walk_term : goal.decreases-walk_term
+decreases-walk_term l = 8 * length l.input.now + 4
 
 abbrev pub decreases-check_items : goal.decreases-check_items
 decreases-check_items l = 8 * length l.content.now + 5

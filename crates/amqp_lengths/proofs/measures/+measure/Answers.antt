@@ -14,10 +14,11 @@ use Rattle.amqp_lengths.proofs.Measured.{greater, Whole, Data, Items, terms_join
 use Rattle.amqp_lengths.proofs.Measured.{left_more, left_none, term_there, term_data, term_measured, primitive_there, primitive_measured}
 use Rattle.amqp_lengths.proofs.Measured.{container_there, container_content, container_measured, elements_there, elements_shared}
 use Rattle.amqp_lengths.proofs.Measured.{elements_measured}
+use Rattle.amqp_lengths.proofs.RefusedBytes.{constructor_refuses}
 use Rattle.amqp_lengths.proofs.measures.+measure.Goals as goal
 
 pub measure_term-unreachable-requires : goal.measure_term-unreachable-requires
-measure_term-unreachable-requires t c = term_there c.args.input.now _ c.requires c.in_default.ensures.refused
+measure_term-unreachable-requires t c = term_there c.args.input.now _ c.requires (constructor_refuses _ _ _ c.in_default.ensures.fault)
 
 pub measure_term-measure_data-data-requires : goal.measure_term-measure_data-data-requires
 measure_term-measure_data-data-requires t c =
@@ -191,7 +192,7 @@ measure_shared-returns t c ts l s =
 
 pub measure_elements-unreachable-requires : goal.measure_elements-unreachable-requires
 measure_elements-unreachable-requires t c =
-    elements_there c.args.count c.args.content.now _ c.if-count-eq0.false c.requires c.in_default.ensures.refused
+    elements_there c.args.count c.args.content.now _ c.if-count-eq0.false c.requires (constructor_refuses _ _ _ c.in_default.ensures.fault)
 
 pub measure_elements-measure_shared-items-requires : goal.measure_elements-measure_shared-items-requires
 measure_elements-measure_shared-items-requires t c =
