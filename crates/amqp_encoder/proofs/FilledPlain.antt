@@ -20,7 +20,7 @@ use Rattle.amqp_encoder.specs.Filling.{emit, fill_value, fill_put, fill_null_at,
 use Rattle.amqp_encoder.specs.Gives.{Does}
 use Rattle.amqp_encoder.specs.Spelled.{IsFixed}
 use Rattle.amqp_encoder.specs.Writes.{IsPlain, Passes, fill, filling, step, steps}
-use Rattle.amqp_encoder.proofs.Filled.{filled as state, emits, begins, describes}
+use Rattle.amqp_encoder.proofs.Filled.{filled as filling_at, opened, emits, begins, describes}
 use Rattle.amqp_encoder.proofs.Settled.{filled}
 
 -- what was written, if there was room
@@ -98,76 +98,81 @@ unfolding steps
 filled_two f g s t (Ok u) h = record { answer = refl; state = inl (sym (then_step (fill s f) t ∙ ap filling h)) }
 filled_two f g s t (Err e) h = record { answer = refl; state = inl (sym (then_step (fill s f) t ∙ ap filling h)) }
 
-refused : (bs : List ℕ) (p : Place) (outer : List Place) (sizes : List Size) (out : List ℕ) (limit : ℕ) → limit < length out + length bs
-    → emit bs (state p outer sizes out limit) ≡ Err InvalidValue
-refused bs p outer sizes out limit h = rw (lt-ltb limit (length out + length bs) h) refl
+module _ (loan : ℕ) where
+  abbrev state : Place → List Place → List Size → List ℕ → ℕ → Filled
+  state = filling_at loan
 
-unopened : (bs : List ℕ) (q p : Place) (outer : List Place) (sizes : List Size) (out : List ℕ) (limit : ℕ) → length outer + 1 ≤ 129
-    → limit < length out + length bs → fill_open bs q (state p outer sizes out limit) ≡ Err InvalidValue
-unopened bs q p outer sizes out limit o h =
-    rw (le-ltb 128 (length outer) (omega arith))
-    (ap (λ r. r >>= λ g. Ok (state q (g.place ∷ g.outer) g.sizes g.out g.limit)) (refused bs p outer sizes out limit h))
+  refused : (bs : List ℕ) (p : Place) (outer : List Place) (sizes : List Size) (out : List ℕ) (limit : ℕ) → limit < length out + length bs
+      → emit bs (state p outer sizes out limit) ≡ Err InvalidValue
+  refused bs p outer sizes out limit h = rw (lt-ltb limit (length out + length bs) h) refl
 
--- A list that is described by a code begins by one write as by two calls.
+  unopened : (bs : List ℕ) (q p : Place) (outer : List Place) (sizes : List Size) (out : List ℕ) (limit : ℕ) → length outer + 1 ≤ 129
+      → limit < length out + length bs → fill_open bs q (state p outer sizes out limit) ≡ Err InvalidValue
+  unopened bs q p outer sizes out limit o h =
+      rw (le-ltb 128 (length outer) (omega arith))
+      (ap (λ r. r >>= λ g. Ok (opened q g)) (refused bs p outer sizes out limit h))
 
-abbrev inside : List Place → List Size → List ℕ → ℕ → Filled
-inside outer sizes out limit = state Alone (Alone ∷ Alone ∷ outer) sizes out limit
+  -- A list that is described by a code begins by one write as by two calls.
 
-abbrev then_list : Result Filled Error → Result Filled Error
-then_list r = r >>= λ f. fill_begin list f
+  abbrev inside : List Place → List Size → List ℕ → ℕ → Filled
+  inside outer sizes out limit = state Alone (Alone ∷ Alone ∷ outer) sizes out limit
 
-abbrev in_list : Result Filled Error → Result Filled Error
-in_list r = r >>= λ g. Ok (record g { place = Alone; outer = Alone ∷ g.place ∷ g.outer })
+  abbrev then_list : Result Filled Error → Result Filled Error
+  then_list r = r >>= λ f. fill_begin list f
 
-module _ (c : ℕ) (s : Size) (outer : List Place) (sizes : List Size) (low : length outer + 2 ≤ 129) (small : s.content + 4 < 2 ^ 32) where
-  abbrev D : List ℕ
-  D = descriptor_text Alone (code c)
+  abbrev in_list : Result Filled Error → Result Filled Error
+  in_list r = r >>= λ g. Ok (record g { place = Alone; outer = Alone ∷ g.place ∷ g.outer })
 
-  abbrev O : List ℕ
-  O = opening Alone list s.count s.content
+  module _ (c : ℕ) (s : Size) (outer : List Place) (sizes : List Size) (low : length outer + 2 ≤ 129) (small : s.content + 4 < 2 ^ 32) where
+    abbrev D : List ℕ
+    D = descriptor_text Alone (code c)
 
-  list_unopened : (out : List ℕ) (limit : ℕ) → limit < length out + length O
-      → fill_begin list (state Alone (Alone ∷ outer) (s ∷ sizes) out limit) ≡ Err InvalidValue
-  list_unopened out limit h =
-      rw (le-ltb 0xffff_fffb s.content (omega arith)) (unopened O Alone Alone (Alone ∷ outer) sizes out limit (omega arith) h)
+    abbrev O : List ℕ
+    O = opening Alone list s.count s.content
 
-  without_room : (out : List ℕ) (limit : ℕ) (t : Bool) → ltb limit (length out + length D) ≡ t → limit < length out + length (D ++ O)
-      → then_list (fill_begin_described (code c) (state Alone outer (s ∷ sizes) out limit)) ≡ Err InvalidValue
-  without_room out limit true e h =
-      ap then_list (unopened D Alone Alone outer (s ∷ sizes) out limit (omega arith) (ltb-true limit (length out + length D) e))
-  without_room out limit false e h =
-      ap then_list (describes (code c) Alone outer (s ∷ sizes) out limit refl (omega arith) (ltb-false limit (length out + length D) e))
-      ∙ list_unopened (out ++ D) limit (omega (arith, length-append D O, length-append out D))
+    list_unopened : (out : List ℕ) (limit : ℕ) → limit < length out + length O
+        → fill_begin list (state Alone (Alone ∷ outer) (s ∷ sizes) out limit) ≡ Err InvalidValue
+    list_unopened out limit h =
+        rw (le-ltb 0xffff_fffb s.content (omega arith)) (unopened O Alone Alone (Alone ∷ outer) sizes out limit (omega arith) h)
 
-  with_room : (out : List ℕ) (limit : ℕ) → length out + length (D ++ O) ≤ limit
-      → then_list (fill_begin_described (code c) (state Alone outer (s ∷ sizes) out limit)) ≡ Ok (inside outer sizes (out ++ (D ++ O)) limit)
-  with_room out limit h =
-      ap then_list (describes (code c) Alone outer (s ∷ sizes) out limit refl (omega arith) (omega (arith, length-append D O)))
-      ∙ (begins list s.content s.count Alone (Alone ∷ outer) sizes (out ++ D) limit small (omega arith)
-      (omega (arith, length-append D O, length-append out D))
-      ∙ ap (λ o. Ok (inside outer sizes o limit)) (append_assoc out D O))
+    without_room : (out : List ℕ) (limit : ℕ) (t : Bool) → ltb limit (length out + length D) ≡ t → limit < length out + length (D ++ O)
+        → then_list (fill_begin_described (code c) (state Alone outer (s ∷ sizes) out limit)) ≡ Err InvalidValue
+    without_room out limit true e h =
+        ap then_list (unopened D Alone Alone outer (s ∷ sizes) out limit (omega arith) (ltb-true limit (length out + length D) e))
+    without_room out limit false e h =
+        ap then_list (describes loan (code c) Alone outer (s ∷ sizes) out limit refl (omega arith) (ltb-false limit (length out + length D) e))
+        ∙ list_unopened (out ++ D) limit (omega (arith, length-append D O, length-append out D))
 
-  by_room : (out : List ℕ) (limit : ℕ) (t : Bool) → ltb limit (length out + length (D ++ O)) ≡ t
-      → then_list (fill_begin_described (code c) (state Alone outer (s ∷ sizes) out limit))
-      ≡ open_composite c s (state Alone outer sizes out limit)
-  by_room out limit true e =
-      let h = ltb-true limit (length out + length (D ++ O)) e in
-      without_room out limit _ refl h ∙ sym (ap in_list (refused (D ++ O) Alone outer sizes out limit h))
-  by_room out limit false e =
-      let h = ltb-false limit (length out + length (D ++ O)) e in
-      with_room out limit h ∙ sym (ap in_list (emits (D ++ O) Alone outer sizes out limit h))
+    with_room : (out : List ℕ) (limit : ℕ) → length out + length (D ++ O) ≤ limit
+        → then_list (fill_begin_described (code c) (state Alone outer (s ∷ sizes) out limit)) ≡ Ok (inside outer sizes (out ++ (D ++ O)) limit)
+    with_room out limit h =
+        ap then_list (describes loan (code c) Alone outer (s ∷ sizes) out limit refl (omega arith) (omega (arith, length-append D O)))
+        ∙ (begins loan list s.content s.count Alone (Alone ∷ outer) sizes (out ++ D) limit small (omega arith)
+        (omega (arith, length-append D O, length-append out D))
+        ∙ ap (λ o. Ok (inside outer sizes o limit)) (append_assoc out D O))
 
-  pub one_write : (out : List ℕ) (limit : ℕ) → then_list (fill_begin_described (code c) (state Alone outer (s ∷ sizes) out limit))
-      ≡ open_composite c s (state Alone outer sizes out limit)
-  one_write out limit = by_room out limit _ refl
+    by_room : (out : List ℕ) (limit : ℕ) (t : Bool) → ltb limit (length out + length (D ++ O)) ≡ t
+        → then_list (fill_begin_described (code c) (state Alone outer (s ∷ sizes) out limit))
+        ≡ open_composite c s (state Alone outer sizes out limit)
+    by_room out limit true e =
+        let h = ltb-true limit (length out + length (D ++ O)) e in
+        without_room out limit _ refl h ∙ sym (ap in_list (refused (D ++ O) Alone outer sizes out limit h))
+    by_room out limit false e =
+        let h = ltb-false limit (length out + length (D ++ O)) e in
+        with_room out limit h ∙ sym (ap in_list (emits loan (D ++ O) Alone outer sizes out limit h))
+
+    pub one_write : (out : List ℕ) (limit : ℕ) → then_list (fill_begin_described (code c) (state Alone outer (s ∷ sizes) out limit))
+        ≡ open_composite c s (state Alone outer sizes out limit)
+    one_write out limit = by_room out limit _ refl
 
 pub composite_opened : (old mid new : Filled) (s : Size) (c : ℕ) (r : Result (Unit {0}) Error) → old ≡ record mid { sizes = s ∷ mid.sizes }
     → mid.place ≡ Alone → length mid.outer < 128 → s.content < 255 → Does (open_composite c s mid) r new
     → Passes (Filling old) (begin_described (code c) ∷ begin list ∷ []) r (Filling new)
 composite_opened old mid new s c r i p o z d =
-    let m : mid ≡ state Alone mid.outer mid.sizes mid.out mid.limit = ap (λ q. state q mid.outer mid.sizes mid.out mid.limit) p in
-    let j : old ≡ state Alone mid.outer (s ∷ mid.sizes) mid.out mid.limit =
-    i ∙ ap (λ q. state q mid.outer (s ∷ mid.sizes) mid.out mid.limit) p in
+    let at : Place → List Size → Filled = λ q sizes. filling_at mid.loan q mid.outer sizes mid.out mid.limit in
+    let m : mid ≡ at Alone mid.sizes = ap (λ q. at q mid.sizes) p in
+    let j : old ≡ at Alone (s ∷ mid.sizes) =
+    i ∙ ap (λ q. at q (s ∷ mid.sizes)) p in
     filled_two old new (begin_described (code c)) (begin list) r
-    (rw (j, one_write c s mid.outer mid.sizes (omega arith) (omega arith) mid.out mid.limit)
+    (rw (j, one_write mid.loan c s mid.outer mid.sizes (omega arith) (omega arith) mid.out mid.limit)
     (subst (λ f. Does (open_composite c s f) r new) m d))

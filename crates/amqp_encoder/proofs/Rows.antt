@@ -16,7 +16,7 @@ use Rattle.amqp_encoder.specs.Tokens.{Token, tokens, all_tokens}
 use Rattle.amqp_encoder.specs.State.{Filled, at_start, to_fill}
 use Rattle.amqp_encoder.specs.Sound.{levels, all_levels}
 use Rattle.amqp_encoder.specs.Reasons.{HasReason, nest_by, nests_by, array_nest_by, RowRefused}
-use Rattle.amqp_encoder.specs.Writes.{steps, outcome, Runs, Writes, bytes_in, pass_of, bytes_of, Found}
+use Rattle.amqp_encoder.specs.Writes.{steps, outcome, Runs, Writes, Fills, bytes_in, loan_in, pass_of, bytes_of, loan_of, Found}
 use Rattle.amqp_encoder.specs.Passes.{row_text, row_tokens, AreValues, HoldOthers, AreRefused, as_size, IsMeasured, BeginsMeasuring}
 use Rattle.amqp_encoder.specs.Passes.{BeginsFilling}
 use Rattle.amqp_encoder.proofs.ContainerTerms.{holds}
@@ -39,6 +39,10 @@ steps_none s = refl
 -- the buffer of an encoder that fills
 pub filled_bytes : (e : Encoder) (f : Filled) → pass_of e ≡ Filling f → bytes_of e ≡ f.out
 filled_bytes e f h = ap (λ s. bytes_in s e.buffer) h
+
+-- it goes on filling the same memory
+abbrev pub IsSameLoan : Encoder → Encoder → Type 0
+IsSameLoan old new = Fills (pass_of new) × (loan_of new ≡ loan_of old)
 
 -- what holds somewhere for one reason holds for another
 mutual
@@ -156,40 +160,45 @@ module _ (deep : List ℕ → ℕ) where
       → Writes old (row_tokens deep ts) r new → HasFound ts (pass_of new) r
   measured ts old r new v i w = found ts r (pass_of new) v (rw i at w.runs)
 
-  filled_row : (ts : List Term) (out : List ℕ) (limit len : ℕ) (sizes : List Size) → IsMeasured deep ts len sizes
+  filled_row : (ts : List Term) (out : List ℕ) (limit loan len : ℕ) (sizes : List Size) → IsMeasured deep ts len sizes
       → length out + len ≤ limit →
-      steps (Filling (to_fill sizes out limit)) (row_tokens deep ts)
-      ≡ Filling (filled (last (terms_of ts) Alone) [] [] (out ++ row_text ts) limit)
-  filled_row ts out limit len sizes m h =
+      steps (Filling (to_fill sizes out limit loan)) (row_tokens deep ts)
+      ≡ Filling (filled loan (last (terms_of ts) Alone) [] [] (out ++ row_text ts) limit)
+  filled_row ts out limit loan len sizes m h =
       rw (m.kept, row_calls deep ts, ← append-nil (all_tokens deep (terms_of ts)), ← append-nil (map as_size (all_sizes (terms_of ts))))
-      (fill_terms deep (terms_of ts) Alone [] [] out limit [] m.fits (omega (arith, m.levels)) (omega (arith, m.exact)) ∙ steps_none _)
+      (fill_terms loan deep (terms_of ts) Alone [] [] out limit [] m.fits (omega (arith, m.levels)) (omega (arith, m.exact)) ∙ steps_none _)
+
+  -- the state that a filling pass ends in
+  ended : (ts : List Term) (out : List ℕ) (limit loan len : ℕ) (sizes : List Size) (r : Result (Unit {0}) Error) (new : Pass)
+      → IsMeasured deep ts len sizes → length out + len ≤ limit → Runs (Filling (to_fill sizes out limit loan)) (row_tokens deep ts) r new
+      → new ≡ Filling (filled loan (last (terms_of ts) Alone) [] [] (out ++ row_text ts) limit)
+  ended ts out limit loan len sizes r new m h w =
+      elim w.state [ inr o ↦ absurd (filling_never _ _ o.0) | inl q ↦ q ∙ filled_row ts out limit loan len sizes m h ]
 
   -- what a filling pass wrote
   abbrev pub HasFilled : List ℕ → Encoder → Result (Unit {0}) Error → Type 0
   HasFilled bytes new r = (r ≡ Ok tt) × (bytes_of new ≡ bytes)
 
-  wrote : (ts : List Term) (out : List ℕ) (limit len : ℕ) (sizes : List Size) (r : Result (Unit {0}) Error) (new : Encoder)
-      → IsMeasured deep ts len sizes → length out + len ≤ limit →
-      Runs (Filling (to_fill sizes out limit)) (row_tokens deep ts) r (pass_of new) → HasFilled (out ++ row_text ts) new r
-  wrote ts out limit len sizes r new m h w =
+  module _ (ts : List Term) (len : ℕ) (sizes : List Size) (out : List ℕ) (limit : ℕ) (old : Encoder) (r : Result (Unit {0}) Error)
+      (new : Encoder) (m : IsMeasured deep ts len sizes) (h : length out + len ≤ limit) (i : BeginsFilling old sizes out limit)
+      (w : Writes old (row_tokens deep ts) r new) where
+    ending : pass_of new ≡ Filling (filled (loan_of old) (last (terms_of ts) Alone) [] [] (out ++ row_text ts) limit)
+    ending = ended ts out limit (loan_of old) len sizes r (pass_of new) m h (rw i at w.runs)
+
+    pub written : HasFilled (out ++ row_text ts) new r
+    written = (w.runs.answer ∙ ap outcome ending, filled_bytes new _ ending)
+
+    pub same_loan : IsSameLoan old new
+    same_loan = (rw ending tt, ap loan_in ending)
+
+  going_on : (ts : List Term) (out : List ℕ) (limit loan len : ℕ) (sizes : List Size) (first rest : List Token)
+      (r : Result (Unit {0}) Error) (new : Pass) → IsMeasured deep ts len sizes → length out + len ≤ limit →
+      first ++ rest ≡ row_tokens deep ts → Runs (Filling (to_fill sizes out limit loan)) first r new → r ≡ Ok tt
+  going_on ts out limit loan len sizes first rest r new m h j w =
       elim w.state [
         | inr o ↦ absurd (filling_never _ _ o.0)
-        | inl q ↦ let e = q ∙ filled_row ts out limit len sizes m h in (w.answer ∙ ap outcome e, filled_bytes new _ e)
-      ]
-
-  pub written : (ts : List Term) (len : ℕ) (sizes : List Size) (out : List ℕ) (limit : ℕ) (old : Encoder) (r : Result (Unit {0}) Error)
-      (new : Encoder) → IsMeasured deep ts len sizes → length out + len ≤ limit → BeginsFilling old sizes out limit →
-      Writes old (row_tokens deep ts) r new → HasFilled (out ++ row_text ts) new r
-  written ts len sizes out limit old r new m h i w = wrote ts out limit len sizes r new m h (rw i at w.runs)
-
-  going_on : (ts : List Term) (out : List ℕ) (limit len : ℕ) (sizes : List Size) (first rest : List Token) (r : Result (Unit {0}) Error)
-      (new : Pass) → IsMeasured deep ts len sizes → length out + len ≤ limit →
-      first ++ rest ≡ row_tokens deep ts → Runs (Filling (to_fill sizes out limit)) first r new → r ≡ Ok tt
-  going_on ts out limit len sizes first rest r new m h j w =
-      elim w.state [
-        | inr o ↦ absurd (filling_never _ _ o.0)
-        | inl q ↦ (w.answer ∙ ap outcome q) ∙ going_before (steps (Filling (to_fill sizes out limit)) first) rest
-            (rw (← steps-append (Filling (to_fill sizes out limit)) first rest, j, filled_row ts out limit len sizes m h) refl)
+        | inl q ↦ (w.answer ∙ ap outcome q) ∙ going_before (steps (Filling (to_fill sizes out limit loan)) first) rest
+            (rw (← steps-append (Filling (to_fill sizes out limit loan)) first rest, j, filled_row ts out limit loan len sizes m h) refl)
       ]
 
   -- each of its calls is answered Ok
@@ -197,4 +206,4 @@ module _ (deep : List ℕ → ℕ) where
       (r : Result (Unit {0}) Error) (new : Encoder) → IsMeasured deep ts len sizes → length out + len ≤ limit
       → BeginsFilling old sizes out limit → first ++ rest ≡ row_tokens deep ts → Writes old first r new → r ≡ Ok tt
   answered ts len sizes out limit old first rest r new m h i j w =
-      going_on ts out limit len sizes first rest r (pass_of new) m h j (rw i at w.runs)
+      going_on ts out limit (loan_of old) len sizes first rest r (pass_of new) m h j (rw i at w.runs)

@@ -13,7 +13,7 @@ use Rattle.amqp_encoder.specs.Tokens.{Token, tokens}
 use Rattle.amqp_encoder.specs.State.{at_start, to_fill}
 use Rattle.amqp_encoder.specs.Sound.{AreSound, all_levels}
 use Rattle.amqp_encoder.specs.Reasons.{nests_by, RowRefused}
-use Rattle.amqp_encoder.specs.Writes.{outcome, pass_of, Found}
+use Rattle.amqp_encoder.specs.Writes.{outcome, pass_of, loan_of, Found}
 
 -- the bytes of the terms, one after another
 abbrev pub row_text : List Term → List ℕ
@@ -61,7 +61,7 @@ abbrev pub BeginsMeasuring : Encoder → Type 0
 BeginsMeasuring e = pass_of e ≡ Measuring at_start
 
 abbrev pub BeginsFilling : Encoder → List Size → List ℕ → ℕ → Type 0
-BeginsFilling e sizes out limit = pass_of e ≡ Filling (to_fill sizes out limit)
+BeginsFilling e sizes out limit = pass_of e ≡ Filling (to_fill sizes out limit (loan_of e))
 
 -- nothing is open, and this is the length, and these are the sizes
 abbrev pub Finds : Encoder → ℕ → List Size → Type 0

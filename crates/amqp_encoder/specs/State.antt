@@ -44,13 +44,14 @@ pub record Measured : Type 0 where
   pub sizes : List Size
   pub descriptors : List ℕ
 
--- The sizes are those of each container that is still to come.
+-- The sizes are those of each container that is still to come. The loan is the name of that of the caller's memory, or 0 of a buffer.
 pub record Filled : Type 0 where
   pub place : Place
   pub outer : List Place
   pub sizes : List Size
   pub out : List ℕ
   pub limit : ℕ
+  pub loan : ℕ
 
 -- What is seen of an encoder: it measures, or it fills, or it has refused for this reason.
 pub data Pass : Type 0 where
@@ -66,5 +67,5 @@ pub record Encoder : Type 0 where
 abbrev pub at_start : Measured
 at_start = record { frame = holding list 0 0; outer = []; sizes = []; descriptors = [] }
 
-abbrev pub to_fill : List Size → List ℕ → ℕ → Filled
-to_fill sizes out limit = record { place = first_place list; outer = []; sizes = sizes; out = out; limit = limit }
+abbrev pub to_fill : List Size → List ℕ → ℕ → ℕ → Filled
+to_fill sizes out limit loan = record { place = first_place list; outer = []; sizes = sizes; out = out; limit = limit; loan = loan }

@@ -105,6 +105,14 @@ bytes_in s buffer = buffer
 abbrev pub bytes_of : Encoder → List ℕ
 bytes_of e = bytes_in e.pass e.buffer
 
+-- the name of the loan of the caller's memory that a filling pass writes into
+abbrev pub loan_in : Pass → ℕ
+loan_in (Filling f) = f.loan
+loan_in _ = 0
+
+abbrev pub loan_of : Encoder → ℕ
+loan_of e = loan_in e.pass
+
 abbrev pub Follows : List ℕ → List ℕ → Type 0
 Follows a b = (rest : List ℕ) × (b ≡ a ++ rest)
 

@@ -1,13 +1,12 @@
 //! What values are written to.
 ghost use Rattle.std.specs.Prelude.{◌≡◌, ◌≤◌, true, ℕ, [], ◌∷◌, List, Ok, Err, IfOk, IfErr};
 ghost use Rattle.std.specs.Bool.{Decides, OnTrue, OnFalse};
-ghost use Rattle.std.specs.Vec.{vec_capacity};
 ghost use Rattle.amqp_model.specs.Term.{Primitive, null, symbol, list, map, array, code as code_descriptor};
 ghost use Rattle.amqp_wire.specs.Containers.{container_of};
 ghost use Rattle.amqp_encoder.specs.Values.{descriptor_of};
 ghost use Rattle.amqp_encoder.specs.Spelled.{IsFixed, IsVariable};
 ghost use Rattle.amqp_encoder.specs.Tokens.{Token, put, nulls, keep, begin, end, begin_described, end_described, refuse};
-ghost use Rattle.amqp_encoder.specs.Writes.{Writes, Fills, IsGoing, pass_of, bytes_of, settled};
+ghost use Rattle.amqp_encoder.specs.Writes.{Writes, Fills, IsGoing, pass_of, bytes_of, loan_of, settled};
 ghost use Rattle.amqp_encoder.specs.Standings.{encoder_of, StandsFor};
 ghost use Rattle.amqp_encoder.specs.Passes.{BeginsMeasuring, BeginsFilling, Finds, FindsNone, answer_of};
 
@@ -15,6 +14,7 @@ use crate::fill::Fill;
 use crate::measure::Measure;
 use crate::pass::Pass;
 use crate::places::Shortest;
+use crate::room::Room;
 use crate::size::Size;
 use amqp_wire::{Container, Descriptor, Error};
 use std::alloc::Global;
@@ -519,20 +519,21 @@ pub fn measured_len(encoder: &Encoder<Measure>) -> Result<usize, Error>
     }
 }
 
-/// Returns an encoder that fills the spare capacity of a buffer, up to `limit` bytes in all, with the sizes that were measured. Of an
-/// encoder that has refused, it returns one that has the same error.
+/// Returns an encoder that fills the room, up to `limit` bytes in all, with the sizes that were measured. Of an encoder that has refused,
+/// it returns one that has the same error.
 #[inline(always)]
-pub fn filling_encoder(
+pub fn filling_encoder<R: Room>(
     measured: &mut Encoder<Measure>,
     alloc: Global,
-    buffer: Vec<u8>,
+    room: R,
     limit: usize,
-) -> Encoder<Fill>
-    requires { limit ≤ vec_capacity buffer }
+) -> Encoder<Fill<R>>
+    requires { limit ≤ R.holds room }
     ensures begun { (len : ℕ) (sizes : List Size) → Finds measured.old len sizes
-        → BeginsFilling result sizes buffer.items limit }
+        → BeginsFilling result sizes (R.bytes room) limit }
+    ensures lent { (len : ℕ) (sizes : List Size) → Finds measured.old len sizes → loan_of result ≡ R.loan room }
     ensures stays { (e : Error) → answer_of measured.old ≡ Err e
-        → (answer_of result ≡ Err e) × (bytes_of result ≡ buffer.items) }
+        → (answer_of result ≡ Err e) × (bytes_of result ≡ R.bytes room) }
 {
     let standing = match measured.standing {
         Standing::Plain | Standing::Going => Standing::Plain,
@@ -541,19 +542,20 @@ pub fn filling_encoder(
     Encoder {
         standing,
         error: measured.error,
-        pass: Fill::new(measured.pass.take_sizes(alloc), buffer, limit),
+        pass: Fill::new(measured.pass.take_sizes(alloc), room, limit),
     }
 }
 
-/// Returns the buffer, also after an error.
+/// Returns the room, also after an error.
 #[inline(always)]
-pub fn buffer_of(encoder: Encoder<Fill>) -> Vec<u8>
-    ensures { result.items ≡ bytes_of encoder }
+pub fn buffer_of<R: Room>(encoder: Encoder<Fill<R>>) -> R
+    ensures bytes { R.bytes result ≡ bytes_of encoder }
+    ensures lent { Fills (pass_of encoder) → R.loan result ≡ loan_of encoder }
 {
     let Encoder {
         standing: _,
         error: _,
         pass,
     } = encoder;
-    pass.into_buffer()
+    pass.into_room()
 }

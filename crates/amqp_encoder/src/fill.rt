@@ -1,7 +1,6 @@
-//! The filling pass: it writes into a buffer whose size was measured before, and never grows it.
+//! The filling pass: it writes into room whose size was measured before, and never grows it.
 ghost use Rattle.std.specs.Prelude.{◌≡◌, ◌≤◌, ◌<◌, ◌+◌, ◌++◌, [], ◌∷◌, List, length, take, drop, replicate, Ok, OnErr};
 ghost use Rattle.std.specs.Bool.{OnTrue, OnFalse};
-ghost use Rattle.std.specs.Vec.{vec_capacity, vec_len};
 ghost use Rattle.amqp_model.specs.Term.{list, array};
 ghost use Rattle.amqp_model.specs.Term.{code as code_descriptor};
 ghost use Rattle.amqp_model.specs.Text.{Alone, head, first_place};
@@ -20,30 +19,29 @@ use crate::descriptors::{head_of, text_of};
 use crate::frame::is_filled_up;
 use crate::pass::Pass;
 use crate::places::{Place, Shortest, first_place, is_list, short_code, wide_code};
+use crate::room::Room;
 use crate::size::{MAX_CONTENT, Size, Sizes};
 use amqp_wire::nesting::{LEVELS, NESTING};
 use amqp_wire::{Container, Descriptor, Error, format_code};
 use std::marker::Model;
-use std::mem::{forget, replace};
 
 /// How many bytes are written without a call that copies them.
 const SHORT: usize = 8;
 
 /// The filling pass: it writes the canonical text of what was measured.
 #[derive(Drop)]
-pub struct Fill {
+pub struct Fill<R: Room> {
     place: Place,
     places: [Place; LEVELS],
     depth: usize,
     sizes: Sizes,
     next: usize,
     limit: usize,
-    out: Vec<u8>,
+    out: R,
 }
 
-impl Model for Fill {
+impl<R: Room> Model for Fill<R> {
     ghost use Rattle.std.specs.Prelude.{map, reverse, take, drop, ◌≤◌};
-    ghost use Rattle.std.specs.Vec.{vec_capacity};
     ghost use Rattle.amqp_encoder.specs.Values.{place_of};
     ghost use Rattle.amqp_encoder.specs.State.{Filled};
 
@@ -53,19 +51,20 @@ impl Model for Fill {
       place = place_of f.place;
       outer = map place_of (reverse (take f.depth f.places));
       sizes = drop f.next f.sizes;
-      out = f.out.items;
+      out = R.bytes f.out;
       limit = f.limit;
+      loan = R.loan f.out;
     } };
 
-    ghost invariant = { λ f. (f.limit ≤ vec_capacity f.out) × (f.depth ≤ 129) };
+    ghost invariant = { λ f. (f.limit ≤ R.holds f.out) × (f.depth ≤ 129) };
 }
 
-impl Fill {
-    /// Returns a pass that fills the spare capacity of a buffer.
+impl<R: Room> Fill<R> {
+    /// Returns a pass that fills room up to so many bytes.
     #[inline(always)]
-    pub(crate) fn new(sizes: Sizes, out: Vec<u8>, limit: usize) -> Fill
-        requires { limit ≤ vec_capacity out }
-        ensures { result ≡ to_fill sizes out.items limit }
+    pub(crate) fn new(sizes: Sizes, out: R, limit: usize) -> Fill<R>
+        requires { limit ≤ R.holds out }
+        ensures { result ≡ to_fill sizes (R.bytes out) limit (R.loan out) }
     {
         Fill {
             place: Place::Alone,
@@ -79,8 +78,9 @@ impl Fill {
     }
 
     #[inline(always)]
-    pub(crate) fn into_buffer(self) -> Vec<u8>
-        ensures { result.items ≡ self.out }
+    pub(crate) fn into_room(self) -> R
+        ensures bytes { R.bytes result ≡ self.out }
+        ensures loan { R.loan result ≡ self.loan }
     {
         let Fill {
             place: _,
@@ -108,15 +108,9 @@ impl Fill {
             return Err(Error::InvalidValue);
         }
         if body.len() <= SHORT {
-            let mut out = taken(&mut self.out);
-            push_each(&mut out, head);
-            push_each(&mut out, body);
-            put_back(&mut self.out, out);
-            return Ok(());
-        }
-        push_each(&mut self.out, head);
-        if self.out.extend_from_slice(body).is_err() {
-            unreachable!();
+            self.out.push_each(head, body);
+        } else {
+            self.out.push_copied(head, body);
         }
         Ok(())
     }
@@ -131,9 +125,7 @@ impl Fill {
         if self.out.len() + bytes.len() > self.limit {
             return Err(Error::InvalidValue);
         }
-        let mut out = taken(&mut self.out);
-        push_each(&mut out, bytes);
-        put_back(&mut self.out, out);
+        self.out.push_each(bytes, &[]);
         Ok(())
     }
 
@@ -230,9 +222,7 @@ impl Fill {
         if self.out.len() > self.limit || self.limit - self.out.len() < count {
             return false;
         }
-        let mut out = taken(&mut self.out);
-        push_nulls(&mut out, count);
-        put_back(&mut self.out, out);
+        self.out.push_nulls(count);
         true
     }
 
@@ -444,7 +434,7 @@ impl Fill {
     }
 }
 
-impl Pass for Fill {
+impl<R: Room> Pass for Fill<R> {
     ghost use Rattle.std.specs.Prelude.{refl};
     ghost use Rattle.amqp_encoder.specs.State.{Filling};
 
@@ -549,48 +539,4 @@ impl Pass for Fill {
     ghost going = { λ f. refl };
 
     ghost same_bytes = { λ f. refl };
-}
-
-// Takes the buffer out of its place for a few writes, so that no byte that is written can be a part of the encoder.
-#[inline(always)]
-fn taken(place: &mut Vec<u8>) -> Vec<u8>
-    ensures items { result.items ≡ place.old.items }
-    ensures capacity { vec_capacity result ≡ vec_capacity place.old }
-    ensures empty { place.new.items ≡ [] }
-{
-    let empty = Vec::new(*place.allocator());
-    replace(place, empty)
-}
-
-// Puts it back into its place, which is empty, so that nothing is freed there.
-#[inline(always)]
-fn put_back(place: &mut Vec<u8>, out: Vec<u8>)
-    ensures items { place.new.items ≡ out.items }
-    ensures capacity { vec_capacity place.new ≡ vec_capacity out }
-{
-    forget(replace(place, out));
-}
-
-// So many nulls, for which there is room.
-#[inline(always)]
-fn push_nulls(out: &mut Vec<u8>, count: usize)
-    requires { vec_len out.old + count ≤ vec_capacity out.old }
-    ensures items { out.new.items ≡ out.old.items ++ replicate count 0x40 }
-    ensures capacity { vec_capacity out.new ≡ vec_capacity out.old }
-{
-    for _ in 0..count {
-        out.push_reserved(format_code::NULL);
-    }
-}
-
-// Bytes for which there is room. One by one is faster than a call that copies a few.
-#[inline(always)]
-fn push_each(out: &mut Vec<u8>, bytes: &[u8])
-    requires { vec_len out.old + length bytes.now ≤ vec_capacity out.old }
-    ensures items { out.new.items ≡ out.old.items ++ bytes.now }
-    ensures capacity { vec_capacity out.new ≡ vec_capacity out.old }
-{
-    for byte in bytes {
-        out.push_reserved(*byte);
-    }
 }

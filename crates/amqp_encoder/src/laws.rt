@@ -13,7 +13,7 @@ ghost use Rattle.amqp_encoder.specs.declared.size.Size.{Size};
 ghost use Rattle.amqp_encoder.specs.Tokens.{Token, tokens};
 ghost use Rattle.amqp_encoder.specs.Measuring.{MAX};
 ghost use Rattle.amqp_encoder.specs.Refused.{AllRead, HasCause, IsNesting, KnowDepths, TermHasCause};
-ghost use Rattle.amqp_encoder.specs.Writes.{Writes, bytes_of};
+ghost use Rattle.amqp_encoder.specs.Writes.{Writes, Fills, pass_of, bytes_of, loan_of};
 ghost use Rattle.amqp_encoder.specs.Passes.{AreRefused, AreValues, BeginsFilling, BeginsMeasuring, Finds, HoldOthers, IsMeasured, as_size};
 ghost use Rattle.amqp_encoder.specs.Passes.{row_text, row_tokens};
 
@@ -31,7 +31,7 @@ pub fn measuring()
 {}
 
 /// If they are made on an encoder that fills, with what was measured and room for it, each of them returns `Ok`, and it has written their
-/// text. It doesn't allocate, so the error is never `Memory`.
+/// text, into the same memory as it began. It doesn't allocate, so the error is never `Memory`.
 pub fn filling()
     ensures answered { (deep : List ℕ → ℕ) (ts : List Term) (len : ℕ) (sizes : List Size) (out : List ℕ) (limit : ℕ) (old new : Encoder)
         (first rest : List Token) (answer : Result (Unit {0}) Error) → IsMeasured deep ts len sizes
@@ -40,6 +40,10 @@ pub fn filling()
     ensures written { (deep : List ℕ → ℕ) (ts : List Term) (len : ℕ) (sizes : List Size) (out : List ℕ) (limit : ℕ) (old new : Encoder)
         (answer : Result (Unit {0}) Error) → IsMeasured deep ts len sizes → length out + len ≤ limit
         → BeginsFilling old sizes out limit → Writes old (row_tokens deep ts) answer new → bytes_of new ≡ out ++ row_text ts }
+    ensures lent { (deep : List ℕ → ℕ) (ts : List Term) (len : ℕ) (sizes : List Size) (out : List ℕ) (limit : ℕ) (old new : Encoder)
+        (answer : Result (Unit {0}) Error) → IsMeasured deep ts len sizes → length out + len ≤ limit
+        → BeginsFilling old sizes out limit → Writes old (row_tokens deep ts) answer new
+        → Fills (pass_of new) × (loan_of new ≡ loan_of old) }
 {}
 
 /// Each reason for which the model refuses one of the terms is a reason for the encoder, by its error. For that, the encoder must be told

@@ -11,9 +11,11 @@ mod measure;
 mod pass;
 mod places;
 mod primitives;
+mod room;
 mod size;
 
 pub use encoder::{Encoder, buffer_of, filling_encoder, measured_len, measuring_encoder};
 pub use fill::Fill;
 pub use measure::Measure;
 pub use pass::Pass;
+pub use room::{Room, SliceRoom};

@@ -4,3 +4,4 @@ pub mod Reserved
 pub mod Rewrites
 pub mod Unwritten
 pub mod FromReader
+pub mod FilledMemory

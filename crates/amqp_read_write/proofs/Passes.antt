@@ -12,7 +12,7 @@ use Rattle.amqp_encoder.specs.State.{Encoder}
 use Rattle.amqp_encoder.specs.State.{Pass, Measuring, Filling, Stopped}
 use Rattle.amqp_encoder.specs.Writes.{Found, Follows, pass_of, bytes_of}
 use Rattle.amqp_encoder.specs.Passes.{row_text, as_size, BeginsMeasuring, BeginsFilling, Finds, FindsNone}
-use Rattle.amqp_encoder.proofs.Rows.{HasFound, HasFilled, filled_bytes}
+use Rattle.amqp_encoder.proofs.Rows.{HasFound, HasFilled, IsSameLoan, filled_bytes}
 use Rattle.amqp_encoder.proofs.Rows as rows
 use Rattle.amqp_encoder.specs.Refused.{KnowDepths}
 use Rattle.amqp_codec.specs.Written.{GivesUp, AreFreeIfFilled, WritesTerms, AreProper, AreUnwritable, AreWritable, AreMeasured}
@@ -112,6 +112,15 @@ module _ (ts : List Term) (proper : AreProper ts) where
     -- the filling pass wrote the text
     pub filled : r ≡ Ok tt → bytes_of new ≡ out ++ row_text ts
     filled i = elim filled_by [ inl f ↦ f.1 | inr g ↦ absurd (not_memory r i g.answer) ]
+
+    -- into the memory that it began with
+    pub same_loan : r ≡ Ok tt → IsSameLoan old new
+    same_loan i =
+        let d = depths ts proper in
+        elim (wrote.calls d.0 d.1 free) [
+          | inl c ↦ rows.same_loan d.0 ts len sizes out limit old r new (measured d.0 d.1) room begins c
+          | inr g ↦ absurd (not_memory r i g.answer)
+        ]
 
     -- only a type can run out of memory of its own
     pub filling_refused : (e : Error) → r ≡ Err e → e ≡ Memory

@@ -1,5 +1,5 @@
 //! Whole values from bytes and to bytes.
-ghost use Rattle.std.specs.Prelude.{◌≡◌, ◌≤◌, ◌⊎◌, ◌++◌, ℕ, List, true, length, IfOk, IfErr, OnOk, OnErr};
+ghost use Rattle.std.specs.Prelude.{◌≡◌, ◌<◌, ◌≤◌, ◌⊎◌, ◌++◌, ℕ, List, true, length, drop, IfOk, IfErr, OnOk, OnErr};
 ghost use Rattle.amqp_wire.specs.declared.error.Error.TheVariants.{Memory, Limit};
 ghost use Rattle.amqp_encoder.specs.declared.size.Size.{Size};
 ghost use Rattle.amqp_encoder.specs.Passes.{row_text, BeginsMeasuring, Finds};
@@ -11,7 +11,9 @@ ghost use Rattle.amqp_codec.specs.Written.{AreMeasured, AreUnwritable, AreWritab
 
 use amqp_codec::{Canonical, Deserialize, Serialize};
 use amqp_decoder::{decoder_within, unread};
-use amqp_encoder::{Encoder, Measure, buffer_of, filling_encoder, measured_len, measuring_encoder};
+use amqp_encoder::{
+    Encoder, Measure, SliceRoom, buffer_of, filling_encoder, measured_len, measuring_encoder,
+};
 use amqp_wire::{Error, Limits};
 use std::alloc::Global;
 
@@ -139,6 +141,33 @@ pub fn append_to_vec<T: Serialize>(
     }
 }
 
+/// Writes the value's canonical text (Part 1, section 1.6) to the start of `room`, and returns the text's length in bytes. If `room` is
+/// shorter than the text, nothing is written, and the length is returned all the same. What is behind the text stays as it was. Only
+/// measuring allocates.
+///
+/// # Errors
+///
+/// It returns the errors of `to_vec`, and then `room` is unchanged. But after `Memory`, a part of the text may stand there if the value's
+/// type allocates while it is written.
+pub fn write_into<T: Serialize>(value: &T, room: &mut [u8], alloc: Global) -> Result<usize, Error>
+    ensures is_value { T.writing.is_value value.now }
+    ensures text { IfOk result (λ len. len ≤ length room.old → room.new ≡ row_text (T.writing.canons value.now) ++ drop len room.old) }
+    ensures short { IfOk result (λ len. length room.old < len → room.new ≡ room.old) }
+    ensures len { IfOk result (λ len. len ≡ length (row_text (T.writing.canons value.now))) }
+    ensures writable { OnOk result (AreWritable (T.writing.canons value.now)) }
+    ensures refused { IfErr result (λ e. (e ≡ Memory) ⊎ AreUnwritable (T.writing.canons value.now) e) }
+    ensures kept { IfErr result (λ e. (e ≡ Memory) ⊎ (room.new ≡ room.old)) }
+    ensures behind { let len = length (row_text (T.writing.canons value.now)) in drop len room.new ≡ drop len room.old }
+{
+    let mut encoder = measuring_encoder(alloc);
+    let len = measure(value, &mut encoder)?;
+    if room.len() < len {
+        return Ok(len);
+    }
+    fill_memory(value, &mut encoder, &mut room[..len], alloc)?;
+    Ok(len)
+}
+
 /// Returns the canonical text of the value at the start of `input`, and the number of bytes that the value takes there.
 ///
 /// # Errors
@@ -209,4 +238,26 @@ fn measure<T: Serialize>(value: &T, encoder: &mut Encoder<Measure>) -> Result<us
     value.in_type();
     value.serialize(encoder)?;
     measured_len(encoder)
+}
+
+// Fills the memory with the canonical text of the value. It was measured, and has as many bytes as the memory.
+#[inline(always)]
+fn fill_memory<T: Serialize>(
+    value: &T,
+    measured: &mut Encoder<Measure>,
+    memory: &mut [u8],
+    alloc: Global,
+) -> Result<(), Error>
+    requires is_value { T.writing.is_value value.now }
+    requires measured { (sizes : List Size)
+        × AreMeasured (T.writing.canons value.now) (length memory.old) sizes × Finds measured.old (length memory.old) sizes }
+    ensures text { OnOk result (memory.new ≡ row_text (T.writing.canons value.now)) }
+    ensures refused { IfErr result (λ e. e ≡ Memory) }
+{
+    let len = memory.len();
+    let mut room = SliceRoom::new(memory);
+    let mut filling = filling_encoder(measured, alloc, room.take(), len);
+    let outcome = value.serialize(&mut filling);
+    room.put_back(buffer_of(filling));
+    outcome
 }

@@ -1,6 +1,6 @@
-//! Canonical text appended to a buffer, and its length.
+//! Canonical text appended to a buffer or written into memory, and its length.
 use amqp_test_helpers::is_refused;
-use fe2o3_amqp_types::codec::{Error, Serialize, append_to_vec, encoded_len, to_vec};
+use fe2o3_amqp_types::codec::{Error, Serialize, append_to_vec, encoded_len, to_vec, write_into};
 use fe2o3_amqp_types::messaging::{Accepted, DeliveryState, Received};
 use fe2o3_amqp_types::primitives::Symbol;
 use std::alloc::Global;
@@ -48,6 +48,29 @@ fn text_is_appended(rt: HostRuntime) -> Result<(), Fail> {
     check_appended(Some(true), 1, "aabb41", alloc)?;
     let none: Option<Box<u32>> = None;
     check_appended(&none, 1, "aabb40", alloc)
+}
+
+// The value, written into six bytes `aa`, is answered with this length, and makes these digits of them.
+fn check_memory<T: Serialize + Drop>(
+    value: T,
+    len: usize,
+    digits: &str,
+    alloc: Global,
+) -> Result<(), Fail> {
+    let mut memory = [0xaa; 6];
+    let outcome = write_into(&value, &mut memory, alloc);
+    let found = hex::encode(alloc, &memory)?;
+    if outcome != Ok(len) || found.as_str() != digits {
+        return Err(Fail::new(format_args!("{found} stands for {digits}")));
+    }
+    Ok(())
+}
+
+#[test]
+fn text_is_written_into_memory(rt: HostRuntime) -> Result<(), Fail> {
+    let alloc = rt.alloc();
+    check_memory(Accepted {}, 4, "00532445aaaa", alloc)?;
+    check_memory(DeliveryState::from(received()), 10, "aaaaaaaaaaaa", alloc)
 }
 
 // Whether each call that measures or writes the value refuses it.

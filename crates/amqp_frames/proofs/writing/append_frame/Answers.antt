@@ -31,7 +31,7 @@ returns-in-Ok-clause-text g c =
     let payload = c.args.payload.now in
     let room : c.replace-room.result.items ≡ c.append_header.new.buffer.items = ap (λ b. b.items) c.replace-room.ensures.value in
     framed front (frame_header_bytes c.in_ok-header.header) (row_text ts) payload _ _ (text ++ payload)
-    (c.buffer_of.ensures
+    (c.buffer_of.ensures.bytes
     ∙ (filled ts proper _ _ _ _ _ _ _ m.1 (omega (arith, ap length room)) (c.filling_encoder-filling.ensures.begun _ m.0 m.2)
     c.serialize-outcome.ensures c.in-Ok.ensures.written
     ∙ ap (λ bs. bs ++ row_text ts) (room ∙ c.in_ok-append_header.ensures.text)))
@@ -64,7 +64,7 @@ returns-clause-kept g c =
     let room : c.replace-room.result.items ≡ c.append_header.new.buffer.items = ap (λ b. b.items) c.replace-room.ensures.value in
     let b : c.replace-room.result.items ≡ front ++ head = room ∙ c.in_ok-append_header.ensures.text in
     c.truncate.ensures.items
-    ∙ (ap (take c.len-before.result) (c.in-Err.ensures.kept ∙ c.buffer_of.ensures)
+    ∙ (ap (take c.len-before.result) (c.in-Err.ensures.kept ∙ c.buffer_of.ensures.bytes)
     ∙ kept_front c.len-before.result front head _ (omega arith)
     (front_kept ts proper _ _ _ _ _ _ _ m.1 (omega (arith, ap length room)) (c.filling_encoder-filling.ensures.begun _ m.0 m.2)
     c.serialize-outcome.ensures _ (sym (ap length b))

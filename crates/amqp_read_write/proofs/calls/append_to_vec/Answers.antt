@@ -10,7 +10,7 @@ returns-in-Ok-clause-text g c =
     let proper = g.T.Serialize.writing.proper _ c.measure.ensures.is_value in
     let b : c.replace-room.result.items ≡ c.args.buffer.now.items =
     ap (λ v. v.items) c.replace-room.ensures.value ∙ c.reserve_exact.ensures.items in
-    c.buffer_of.ensures
+    c.buffer_of.ensures.bytes
     ∙ (filled ts proper _ _ _ _ _ _ _ m.1 (omega (arith, ap length b)) (c.filling_encoder-filling.ensures.begun _ m.0 m.2)
     c.serialize-outcome.ensures c.in-Ok.is
     ∙ ap (λ bs. bs ++ row_text ts) b)
@@ -33,7 +33,7 @@ returns-clause-kept g c =
     let b : c.replace-room.result.items ≡ c.args.buffer.now.items =
     ap (λ v. v.items) c.replace-room.ensures.value ∙ c.reserve_exact.ensures.items in
     c.truncate.ensures.items
-    ∙ (ap (take c.len-before.result) c.buffer_of.ensures
+    ∙ (ap (take c.len-before.result) c.buffer_of.ensures.bytes
     ∙ (front_kept ts proper _ _ _ _ _ _ _ m.1 (omega (arith, ap length b)) (c.filling_encoder-filling.ensures.begun _ m.0 m.2)
     c.serialize-outcome.ensures _ (omega (arith, ap length b))
     ∙ b))

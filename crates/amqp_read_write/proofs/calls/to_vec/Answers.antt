@@ -10,7 +10,7 @@ returns-clause-text g c =
     let ts = g.T.Serialize.writing.canons c.args.value.now in
     let proper = g.T.Serialize.writing.proper _ c.measure.ensures.is_value in
     let b : c.in_ok-buffer.buffer.items ≡ [] = c.in_ok-buffer.ensures.items in
-    c.buffer_of.ensures
+    c.buffer_of.ensures.bytes
     ∙ (filled ts proper _ _ _ _ _ _ _ m.1 (omega (arith, ap length b)) (c.filling_encoder-filling.ensures.begun _ m.0 m.2)
     c.serialize.ensures c.in_ok-serialize.was
     ∙ ap (λ bs. bs ++ row_text ts) b)

@@ -1,6 +1,6 @@
 use Rattle.std.proofs.Common.{◌≡◌, ◌++◌, take}
 use Rattle.std.specs.Vec.{vec_capacity}
-use Rattle.amqp_encoder.proofs.fill.push_each.Given as goal
+use Rattle.amqp_encoder.proofs.room.extend_each.Given as goal
 
 abbrev pub invariant-loop-byte : goal.invariant-loop-byte
 invariant-loop-byte l =
