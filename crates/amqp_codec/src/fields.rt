@@ -360,8 +360,8 @@ fn write_two<L: FieldList, P: Pass>(
     }
 }
 
-// Writes a field and the nulls before it, or counts one more null. That it is inlined is left to the compiler, which then sees each index.
-#[inline]
+// Writes a field and the nulls before it, or counts one more null.
+#[inline(always)]
 fn write_one<L: FieldList, P: Pass>(
     value: &L,
     index: usize,
