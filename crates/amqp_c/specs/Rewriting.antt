@@ -10,7 +10,7 @@ use Rattle.amqp_lines.specs.contracts.request.TypeName.{the_type}
 use Rattle.amqp_lines.specs.declared.request.TypeName.{TypeName}
 use Rattle.amqp_c.specs.Limits.{AreLimits}
 use Rattle.amqp_c.specs.Outcomes.{done, no_room, failure_outcome}
-use Rattle.amqp_c.specs.Room.{StandsIn, HasNoRoom}
+use Rattle.amqp_read_write.specs.Room.{StandsIn, HasNoRoom}
 use Rattle.amqp_c.specs.declared.limits.GivenLimits.{GivenLimits}
 use Rattle.amqp_c.specs.declared.outcome.Failure.{Failure}
 use Rattle.amqp_c.specs.declared.outcome.Failure.TheVariants.{NoType, NoLimits, Failed}

@@ -1,13 +1,6 @@
 -- Room of the caller.
-use Rattle.std.specs.Prelude.{◌≡◌, ◌⊎◌, ℕ, ◌<◌, ◌≤◌, Bool, true, false, List, ◌++◌, length, drop}
-
--- The text stands in the room's front, and what is behind it stays.
-abbrev pub StandsIn : List ℕ → List ℕ → List ℕ → Type 0
-StandsIn text old new = (length text ≤ length old) × (new ≡ text ++ drop (length text) old)
-
--- There is no room for the text, and the room stays as it is.
-abbrev pub HasNoRoom : List ℕ → List ℕ → List ℕ → Type 0
-HasNoRoom text old new = (length old < length text) × (new ≡ old)
+use Rattle.std.specs.Prelude.{◌⊎◌, ℕ, Bool, true, false, List}
+use Rattle.amqp_read_write.specs.Room.{StandsIn, HasNoRoom}
 
 -- The text is put into the room's front if there is room for all of it, as is said, and otherwise the room stays as it is.
 abbrev pub Puts : List ℕ → List ℕ → List ℕ → Bool → Type 0

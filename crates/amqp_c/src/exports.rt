@@ -14,7 +14,7 @@ use crate::fields::field_node;
 use crate::limits::GivenLimits;
 use crate::nodes::{Node, next_node};
 use crate::outcome::{DONE, FULL, Outcome};
-use crate::rewriting::{canonical_text, value_len};
+use crate::rewriting::{canonical_into, value_len};
 use crate::room::put;
 use amqp_lines::TypeName;
 use fe2o3_amqp_types::codec::term_len;
@@ -92,11 +92,11 @@ pub extern "C" fn amqp_c_canonical(
     ensures { Rewrites number limits.now input.now (record { room = out.old; written = written.old; taken = taken.old })
         (record { room = out.new; written = written.new; taken = taken.new }) result }
 {
-    match canonical_text(number, input, limits, alloc) {
-        Ok((text, len)) => {
-            *written = text.len();
-            *taken = len;
-            if put(&text, out) { DONE } else { FULL }
+    match canonical_into(number, input, out, limits, alloc) {
+        Ok((len, value_len)) => {
+            *written = len;
+            *taken = value_len;
+            if len <= out.len() { DONE } else { FULL }
         }
         Err(failure) => failure.outcome(),
     }

@@ -1,7 +1,8 @@
 //! Reading and rewriting as the type with a number.
-ghost use Rattle.std.specs.Prelude.{◌≡◌, ◌⊎◌, IfOk, IfErr};
+ghost use Rattle.std.specs.Prelude.{◌≡◌, ◌⊎◌, List, ℕ, IfOk, IfErr, OnErr};
 ghost use Rattle.amqp_wire.specs.declared.error.Error.TheVariants.{Memory};
 ghost use Rattle.amqp_codec.specs.Reading.{IsUnreadableWithin};
+ghost use Rattle.amqp_read_write.specs.Room.{IsPlaced};
 ghost use Rattle.amqp_c.specs.Rewriting.{IsLengthWithin, IsLengthOf, HasNoLength, IsOf, Fails, IsLength, FailsToRead, IsRewriting, FailsToRewrite};
 
 use crate::limits::GivenLimits;
@@ -10,7 +11,6 @@ use amqp_lines::types::*;
 use amqp_lines::{TypeName, types};
 use amqp_read_write::from_slice_within;
 use fe2o3_amqp_types::codec::{Deserialize, Error, Limits};
-use fe2o3_amqp_types::messaging::message::{Message, Strict};
 use std::alloc::Global;
 
 // How many bytes the value takes that the input begins with, within the limits.
@@ -20,25 +20,6 @@ fn len_within<T: Deserialize>(input: &[u8], limits: &Limits, alloc: Global) -> R
 {
     let (_value, len) = from_slice_within::<T>(input, limits, alloc)?;
     Ok(len)
-}
-
-// The same of a type of the list.
-macro_rules! len_of {
-    (term $type:ty, ($input:expr, $limits:expr, $alloc:expr)) => {
-        len_within::<$type>($input, $limits, $alloc)
-    };
-    (batch $section:ty, ($input:expr, $limits:expr, $alloc:expr)) => {
-        len_within::<Batch<$section>>($input, $limits, $alloc)
-    };
-    (body $value:ty, ($input:expr, $limits:expr, $alloc:expr)) => {
-        len_within::<Body<$value>>($input, $limits, $alloc)
-    };
-    (message $body:ty, ($input:expr, $limits:expr, $alloc:expr)) => {
-        len_within::<Message<$body>>($input, $limits, $alloc)
-    };
-    (strict $body:ty, ($input:expr, $limits:expr, $alloc:expr)) => {
-        len_within::<Strict<$body>>($input, $limits, $alloc)
-    };
 }
 
 // The same of the type that is named.
@@ -51,7 +32,7 @@ fn len_of_value(
     ensures found { IfOk result (λ n. IsLengthOf named limits.now input.now n) }
     ensures refused { IfErr result (λ e. (e ≡ Memory) ⊎ HasNoLength named limits.now input.now e) }
 {
-    types!(named, len_of(input, limits, alloc))
+    types!(named, len_within(input, limits, alloc))
 }
 
 // What is asked for: a type and limits.
@@ -94,20 +75,24 @@ pub(crate) fn value_len(
     }
 }
 
-/// Returns the canonical text of the value at the start of the input, of the numbered type and within the limits, and how many bytes the
-/// value takes.
-pub(crate) fn canonical_text(
+/// Writes the canonical text of the value at the start of the input, of the numbered type and within the limits, to the start of the room.
+/// It returns the text's length, and how many bytes the value takes. If there is no room for the text, or at a failure, the room stays as it
+/// is.
+pub(crate) fn canonical_into(
     number: u32,
     input: &[u8],
+    room: &mut [u8],
     limits: &GivenLimits,
     alloc: Global,
-) -> Result<(Vec<u8>, usize), Failure>
-    ensures text { IfOk result (λ r. IsRewriting number limits.now input.now r.0.items r.1) }
+) -> Result<(usize, usize), Failure>
+    ensures text { IfOk result (λ r. (text : List ℕ) × IsRewriting number limits.now input.now text r.1
+        × IsPlaced text room.old room.new r.0) }
     ensures refused { IfErr result (λ f. FailsToRewrite number limits.now input.now f) }
+    ensures kept { OnErr result (room.new ≡ room.old) }
 {
     let request = Request::new(number, limits)?;
-    match request.named.canonical_text(input, &request.within, alloc) {
-        Ok(rewritten) => Ok(rewritten),
+    match request.named.canonical_into(input, room, &request.within, alloc) {
+        Ok(lens) => Ok(lens),
         Err(error) => Err(Failure::Failed(error)),
     }
 }

@@ -11,9 +11,10 @@ use Rattle.amqp_wire.specs.declared.error.Error.TheVariants.{Memory}
 use Rattle.amqp_encoder.specs.State.{Encoder}
 use Rattle.amqp_encoder.specs.Tokens.{Token, tokens, all_tokens, put, nulls, begin, end, begin_described, end_described}
 use Rattle.amqp_encoder.specs.Passes.{row_tokens}
-use Rattle.amqp_encoder.specs.Writes.{Writes, Fills, outcome, pass_of, bytes_of}
+use Rattle.amqp_encoder.specs.State.{Pass, Measuring, Filling, Stopped, Filled}
+use Rattle.amqp_encoder.specs.Writes.{Writes, Fills, IsGoing, outcome, pass_of, bytes_of, step, steps, fill, filling}
 use Rattle.amqp_encoder.proofs.Rows.{row_calls}
-use Rattle.amqp_encoder.proofs.Joined.{nothing, join, cut, on, was_going, fills_from}
+use Rattle.amqp_encoder.proofs.Joined.{nothing, join, cut, on, was_going, going_before, fills_from}
 use Rattle.amqp_encoder.specs.Refused.{KnowDepths}
 use Rattle.amqp_codec.specs.Written.{GivesUp, AreFreeIfFilled, WritesTerms}
 
@@ -38,6 +39,29 @@ second_in_all P (t ∷ ts) us h = inr (second_in_all P ts us h)
 first_free : (a : Encoder) (ts us : List Term) → AreFreeIfFilled a (ts ++ us) → AreFreeIfFilled a ts
 first_free a ts us f fills r h = f fills r (first_in_all (IsRefused r) ts us h)
 
+-- A pass that fills and goes on fills then, too.
+fills_then : (s : Pass) (t : Token) → Fills s → IsGoing (step s t) → Fills (step s t)
+fills_then (Measuring m) t h g = absurd h
+fills_then (Filling f) t h g = filled (fill t f) g where
+  filled : (r : Result Filled Error) → IsGoing (filling r) → Fills (filling r)
+  filled (Ok f) g = tt
+  filled (Err e) g = cc
+fills_then (Stopped e) t h g = absurd h
+
+fills_on : (s : Pass) (ts : List Token) → Fills s → IsGoing (steps s ts) → Fills (steps s ts)
+unfolding steps
+fills_on s [] h g = h
+fills_on s (t ∷ ts) h g = fills_on (step s t) ts (fills_then s t h (going_before (step s t) ts g)) g
+
+fills_to : (a : Encoder) (ts : List Token) (r : Result (Unit {0}) Error) (b : Encoder) → r ≡ Ok tt → Writes a ts r b → Fills (pass_of a)
+    → Fills (pass_of b)
+fills_to a ts r b ok w h =
+    let going : IsGoing (pass_of b) = sym w.runs.answer ∙ ok in
+    elim w.runs.state [
+      | inl e ↦ rw e (fills_on (pass_of a) ts h (rw e at going))
+      | inr o ↦ let stopped : Err Memory ≡ Ok tt = rw o.1 at going in cc
+    ]
+
 -- The calls, or a type that ran out of memory of its own.
 abbrev Up : Encoder → List Token → Result (Unit {0}) Error → Encoder → Type 0
 Up a xs r b = Writes a xs r b ⊎ GivesUp a r b
@@ -48,6 +72,7 @@ join_up a xs q b ys r c o (inl w) (inl x) = inl (join a xs q b ys r c o w x)
 join_up a xs q b ys r c o (inl w) (inr g) =
     inr (record {
       was_going = was_going a xs q b o w;
+      not_filled = λ h. g.not_filled (fills_to a xs q b o w h);
       answer = g.answer;
       state = g.state;
       kept = on (bytes_of a) (bytes_of b) (bytes_of c) w.kept g.kept;
@@ -62,7 +87,13 @@ cut_up : (a : Encoder) (xs : List Token) (q : Result (Unit {0}) Error) (b : Enco
     (e y : Error) → q ≡ Err e → r ≡ Err y → y ≡ e → Up a xs q b → Up a (xs ++ ys) r b
 cut_up a xs q b ys r e y i j k (inl w) = inl (cut a xs q b ys r e y i j k w)
 cut_up a xs q b ys r e y i j k (inr g) =
-    inr (record { was_going = g.was_going; answer = j ∙ (ap Err k ∙ (sym i ∙ g.answer)); state = g.state; kept = g.kept })
+    inr (record {
+      was_going = g.was_going;
+      not_filled = g.not_filled;
+      answer = j ∙ (ap Err k ∙ (sym i ∙ g.answer));
+      state = g.state;
+      kept = g.kept;
+    })
 
 -- no term
 pub no_terms : (s : Encoder) (r : Result (Unit {0}) Error) → r ≡ outcome (pass_of s) → WritesTerms [] s r s

@@ -18,9 +18,11 @@ use Rattle.amqp_encoder.specs.Reasons.{HasReason}
 use Rattle.amqp_encoder.specs.Refused.{KnowDepths}
 use Rattle.amqp_encoder.specs.Writes.{Writes, Fills, Follows, pass_of, bytes_of}
 
--- The type of a value ran out of memory of its own, and refused the value for that.
+-- The type of a value ran out of memory of its own while it was measured, and refused the value for that. What was measured is filled in
+-- whole.
 pub record GivesUp (old : Encoder) (result : Result (Unit {0}) Error) (new : Encoder) : Type 0 where
   pub was_going : answer_of old ≡ Ok tt
+  pub not_filled : Fills (pass_of old) → ⊥
   pub answer : result ≡ Err Memory
   pub state : pass_of new ≡ Stopped Memory
   pub kept : Follows (bytes_of old) (bytes_of new)

@@ -284,8 +284,8 @@ fn write_others<L: FieldList, P: Pass>(
     Ok(())
 }
 
-// Writes the first sixteen fields, as far as there are so many, in a straight line.
-#[inline(always)]
+// Writes the first sixteen fields, as far as there are so many. They stand in a straight line, so that the compiler knows each number, and
+// each has the code of its own field alone.
 fn write_sixteen<L: FieldList, P: Pass>(
     value: &L,
     nulls: &mut usize,
@@ -296,68 +296,22 @@ fn write_sixteen<L: FieldList, P: Pass>(
         → WritesUpTo L.list.fields value.now 16 start result nulls.new encoder.new }
     ensures nulls { nulls.new ≤ 16 }
 {
-    match write_eight(value, 0, nulls, encoder) {
-        Ok(()) => write_eight(value, 8, nulls, encoder),
-        Err(error) => Err(error),
-    }
-}
-
-// Writes eight fields, as far as there are so many.
-#[inline(always)]
-fn write_eight<L: FieldList, P: Pass>(
-    value: &L,
-    index: usize,
-    nulls: &mut usize,
-    encoder: &mut Encoder<P>,
-) -> Result<(), Error>
-    requires index { index ≤ 8 }
-    requires nulls { nulls.old ≤ index }
-    ensures written { (start : EncoderState) → IsPending L.list.fields value.now index nulls.old start encoder.old
-        → WritesUpTo L.list.fields value.now (index + 8) start result nulls.new encoder.new }
-    ensures nulls { nulls.new ≤ index + 8 }
-{
-    match write_four(value, index, nulls, encoder) {
-        Ok(()) => write_four(value, index + 4, nulls, encoder),
-        Err(error) => Err(error),
-    }
-}
-
-#[inline(always)]
-fn write_four<L: FieldList, P: Pass>(
-    value: &L,
-    index: usize,
-    nulls: &mut usize,
-    encoder: &mut Encoder<P>,
-) -> Result<(), Error>
-    requires index { index ≤ 12 }
-    requires nulls { nulls.old ≤ index }
-    ensures written { (start : EncoderState) → IsPending L.list.fields value.now index nulls.old start encoder.old
-        → WritesUpTo L.list.fields value.now (index + 4) start result nulls.new encoder.new }
-    ensures nulls { nulls.new ≤ index + 4 }
-{
-    match write_two(value, index, nulls, encoder) {
-        Ok(()) => write_two(value, index + 2, nulls, encoder),
-        Err(error) => Err(error),
-    }
-}
-
-#[inline(always)]
-fn write_two<L: FieldList, P: Pass>(
-    value: &L,
-    index: usize,
-    nulls: &mut usize,
-    encoder: &mut Encoder<P>,
-) -> Result<(), Error>
-    requires index { index ≤ 14 }
-    requires nulls { nulls.old ≤ index }
-    ensures written { (start : EncoderState) → IsPending L.list.fields value.now index nulls.old start encoder.old
-        → WritesUpTo L.list.fields value.now (index + 2) start result nulls.new encoder.new }
-    ensures nulls { nulls.new ≤ index + 2 }
-{
-    match write_one(value, index, nulls, encoder) {
-        Ok(()) => write_one(value, index + 1, nulls, encoder),
-        Err(error) => Err(error),
-    }
+    write_one(value, 0, nulls, encoder)?;
+    write_one(value, 1, nulls, encoder)?;
+    write_one(value, 2, nulls, encoder)?;
+    write_one(value, 3, nulls, encoder)?;
+    write_one(value, 4, nulls, encoder)?;
+    write_one(value, 5, nulls, encoder)?;
+    write_one(value, 6, nulls, encoder)?;
+    write_one(value, 7, nulls, encoder)?;
+    write_one(value, 8, nulls, encoder)?;
+    write_one(value, 9, nulls, encoder)?;
+    write_one(value, 10, nulls, encoder)?;
+    write_one(value, 11, nulls, encoder)?;
+    write_one(value, 12, nulls, encoder)?;
+    write_one(value, 13, nulls, encoder)?;
+    write_one(value, 14, nulls, encoder)?;
+    write_one(value, 15, nulls, encoder)
 }
 
 // Writes a field and the nulls before it, or counts one more null.

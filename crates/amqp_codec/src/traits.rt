@@ -23,8 +23,8 @@ pub trait Serialize {
     // The canonical terms, one for each section, and what a value of the type is.
     ghost writing: { Writing Self };
 
-    /// Writes the value to an encoder that measures, and again to one that fills. A type that allocates here may fail, by
-    /// `Encoder::refuse`.
+    /// Writes the value to an encoder that measures, and again to one that fills. While it is measured, a type may allocate, and then it may
+    /// fail, by `Encoder::refuse`. What was measured is filled in without fail. `Encoder::fills` returns which pass it is.
     fn serialize<P: Pass>(&self, encoder: &mut Encoder<P>) -> Result<(), Error>
         ensures { WritesTerms (writing.canons self.now) encoder.old result encoder.new };
 

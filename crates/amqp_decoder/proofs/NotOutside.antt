@@ -198,10 +198,10 @@ term_not_outside out st (terms.too_many g full is) = subst IsOutside is out
 
 -- a call keeps the error that the bytes of a term have
 pub fails_by_length : (takes : Bool) (a b : State) (e d deep : Error) (n nesting : ℕ) (s : List ℕ) → deep ≡ depth_error n
-    → (deep ≡ Limit → a.failed.free ≡ false) → e ≡ d → b ≡ record a { error = Some d } → lengths.TermFault deep nesting s d → Fails takes a e b
+    → (deep ≡ Limit → a.failed.free ≡ false) → e ≡ d → b ≡ record a { error = Some d } → lengths.HasFault deep nesting s d → Fails takes a e b
 fails_by_length takes a b e d deep n nesting s named limited is h f =
     let plain = λ (out : IsOutside e). length_not_outside (subst IsOutside is out) n nesting s
-    (subst (λ x. lengths.TermFault x nesting s d) named f) in (
+    (subst (λ x. lengths.HasFault x nesting s d) named f) in (
       ap (λ (x : State). x.error) h ∙ ap Some (sym is),
       inl (ap (λ (x : State). x.failed) h),
       λ m. absurd (plain (subst IsOutside (sym m) tt)),

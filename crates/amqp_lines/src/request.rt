@@ -1,14 +1,13 @@
 //! What a line asks for: the canonical text of a value of a type.
-ghost use Rattle.std.specs.Prelude.{◌≡◌, ◌≤◌, ◌⊎◌, ℕ, List, length, IfOk, IfErr, MatchOption, position, true};
+ghost use Rattle.std.specs.Prelude.{◌≡◌, ◌≤◌, ◌⊎◌, ℕ, List, length, IfOk, IfErr, OnErr, MatchOption, position, true};
 ghost use Rattle.amqp_wire.specs.declared.error.Error.TheVariants.{Memory};
+ghost use Rattle.amqp_read_write.specs.Room.{IsPlaced};
 ghost use Rattle.amqp_lines.specs.Answers.{type_name, StandsFor, Asks, IsText, HasNoText};
 ghost use Rattle.amqp_lines.specs.Rows.{in_order, has_name, number_in};
 ghost use Rattle.amqp_lines.specs.contracts.request.TypeName.{the_type};
 ghost use Rattle.amqp_lines.specs.declared.request.TypeName.{TypeName};
 
-use crate::text::{
-    batch_text_within, body_text_within, message_text_within, strict_text_within, text_within,
-};
+use crate::text::{text_into, text_within};
 use crate::types;
 use crate::types::*;
 use amqp_codec::Error;
@@ -117,25 +116,6 @@ fn numbered(rows: &[(&str, TypeName)], number: u32) -> Option<TypeName>
     }
 }
 
-// The canonical text of a type of the list.
-macro_rules! text_of {
-    (term $type:ty, ($input:expr, $limits:expr, $alloc:expr)) => {
-        text_within::<$type>($input, $limits, $alloc)
-    };
-    (batch $section:ty, ($input:expr, $limits:expr, $alloc:expr)) => {
-        batch_text_within::<$section>($input, $limits, $alloc)
-    };
-    (body $value:ty, ($input:expr, $limits:expr, $alloc:expr)) => {
-        body_text_within($input, $limits, $alloc)
-    };
-    (message $body:ty, ($input:expr, $limits:expr, $alloc:expr)) => {
-        message_text_within::<$body>($input, $limits, $alloc)
-    };
-    (strict $body:ty, ($input:expr, $limits:expr, $alloc:expr)) => {
-        strict_text_within::<$body>($input, $limits, $alloc)
-    };
-}
-
 impl TypeName {
     /// Returns the type that has this name in a line.
     pub fn from_bytes(name: &[u8]) -> Option<TypeName>
@@ -171,7 +151,25 @@ impl TypeName {
         ensures within { IfOk result (λ r. r.1 ≤ length input.now) }
         ensures refused { IfErr result (λ e. (e ≡ Memory) ⊎ HasNoText limits.now self input.now e) }
     {
-        types!(self, text_of(input, limits, alloc))
+        types!(self, text_within(input, limits, alloc))
+    }
+
+    /// Writes the canonical text of the type's value at the start of the input to the start of the room, within the limits. It returns the
+    /// text's length in bytes, and the number of bytes that the value takes. If there is no room for the text, or at an error, the room
+    /// stays as it is.
+    pub fn canonical_into(
+        self,
+        input: &[u8],
+        room: &mut [u8],
+        limits: &Limits,
+        alloc: Global,
+    ) -> Result<(usize, usize), Error>
+        ensures text { IfOk result (λ r. (text : List ℕ) × IsText limits.now self input.now text r.1
+            × IsPlaced text room.old room.new r.0) }
+        ensures refused { IfErr result (λ e. (e ≡ Memory) ⊎ HasNoText limits.now self input.now e) }
+        ensures kept { OnErr result (room.new ≡ room.old) }
+    {
+        types!(self, text_into(input, room, limits, alloc))
     }
 }
 

@@ -5,3 +5,4 @@ pub mod Rewrites
 pub mod Unwritten
 pub mod FromReader
 pub mod FilledMemory
+pub mod Placed

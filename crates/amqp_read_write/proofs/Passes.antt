@@ -1,7 +1,6 @@
 -- What the two passes over a value's terms find and write.
-use Rattle.std.proofs.Common.{◌≡◌, ◌⊎◌, inl, inr, ℕ, ◌+◌, ◌≤◌, List, ◌++◌, length, map, take, sym, ◌∙◌}
+use Rattle.std.proofs.Common.{◌≡◌, ◌⊎◌, inl, inr, ℕ, ◌+◌, ◌≤◌, List, ◌++◌, length, map, sym, ◌∙◌}
 use Rattle.std.specs.Prelude.{Result, Ok, Err, MatchResult, IfOk, IfErr, OnOk}
-use Rattle.std.proofs.Math.Seq.{take-append_seam}
 use Rattle.amqp_model.specs.Term.{Term}
 use Rattle.amqp_model.specs.Items.{terms_of}
 use Rattle.amqp_model.specs.Text.{all_sizes}
@@ -10,12 +9,12 @@ use Rattle.amqp_wire.specs.declared.error.Error.TheVariants.{Memory}
 use Rattle.amqp_encoder.specs.declared.size.Size.{Size}
 use Rattle.amqp_encoder.specs.State.{Encoder}
 use Rattle.amqp_encoder.specs.State.{Pass, Measuring, Filling, Stopped}
-use Rattle.amqp_encoder.specs.Writes.{Found, Follows, pass_of, bytes_of}
+use Rattle.amqp_encoder.specs.Writes.{Found, Fills, pass_of, bytes_of}
 use Rattle.amqp_encoder.specs.Passes.{row_text, as_size, BeginsMeasuring, BeginsFilling, Finds, FindsNone}
-use Rattle.amqp_encoder.proofs.Rows.{HasFound, HasFilled, IsSameLoan, filled_bytes}
+use Rattle.amqp_encoder.proofs.Rows.{HasFound, HasFilled, IsSameLoan}
 use Rattle.amqp_encoder.proofs.Rows as rows
 use Rattle.amqp_encoder.specs.Refused.{KnowDepths}
-use Rattle.amqp_codec.specs.Written.{GivesUp, AreFreeIfFilled, WritesTerms, AreProper, AreUnwritable, AreWritable, AreMeasured}
+use Rattle.amqp_codec.specs.Written.{AreFreeIfFilled, WritesTerms, AreProper, AreUnwritable, AreWritable, AreMeasured}
 use Rattle.amqp_codec.specs.laws.Proper.{proper_values}
 use Rattle.amqp_read_write.proofs.Depths.{depths, unwritable}
 use Rattle.amqp_read_write.proofs.Depths as depth
@@ -102,34 +101,29 @@ module _ (ts : List Term) (proper : AreProper ts) where
     free : AreFreeIfFilled old ts
     free fills = let d = depths ts proper in (measured d.0 d.1).free
 
-    filled_by : HasFilled (depths ts proper).0 (out ++ row_text ts) new r ⊎ GivesUp old r new
+    fills : Fills (pass_of old)
+    fills = rw begins tt
+
+    filled_by : HasFilled (depths ts proper).0 (out ++ row_text ts) new r
     filled_by = let d = depths ts proper in
         elim (wrote.calls d.0 d.1 free) [
-          | inl c ↦ inl (rows.written d.0 ts len sizes out limit old r new (measured d.0 d.1) room begins c)
-          | inr g ↦ inr g
+          | inl c ↦ rows.written d.0 ts len sizes out limit old r new (measured d.0 d.1) room begins c
+          | inr g ↦ absurd (g.not_filled fills)
         ]
 
     -- the filling pass wrote the text
-    pub filled : r ≡ Ok tt → bytes_of new ≡ out ++ row_text ts
-    filled i = elim filled_by [ inl f ↦ f.1 | inr g ↦ absurd (not_memory r i g.answer) ]
+    pub filled : bytes_of new ≡ out ++ row_text ts
+    filled = filled_by.1
 
     -- into the memory that it began with
-    pub same_loan : r ≡ Ok tt → IsSameLoan old new
-    same_loan i =
+    pub same_loan : IsSameLoan old new
+    same_loan =
         let d = depths ts proper in
         elim (wrote.calls d.0 d.1 free) [
           | inl c ↦ rows.same_loan d.0 ts len sizes out limit old r new (measured d.0 d.1) room begins c
-          | inr g ↦ absurd (not_memory r i g.answer)
+          | inr g ↦ absurd (g.not_filled fills)
         ]
 
-    -- only a type can run out of memory of its own
-    pub filling_refused : (e : Error) → r ≡ Err e → e ≡ Memory
-    filling_refused e i = elim filled_by [ inl f ↦ absurd (not_refused r e i f.0) | inr g ↦ memory e r i g.answer ]
-
-    -- what was there before is kept
-    pub front_kept : (n : ℕ) → n ≡ length out → take n (bytes_of new) ≡ out
-    front_kept n i =
-        let d = depths ts proper in
-        let kept = filled_bytes old _ begins in
-        let k : Follows out (bytes_of new) = elim (wrote.calls d.0 d.1 free) [ inl c ↦ rw kept at c.kept | inr g ↦ rw kept at g.kept ] in
-        rw (i, k.1) (take-append_seam out k.0)
+    -- nothing that was measured is refused
+    pub never_filled_in_part : (e : Error) → r ≡ Err e → ⊥
+    never_filled_in_part e i = not_refused r e i filled_by.0

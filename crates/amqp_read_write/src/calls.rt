@@ -7,6 +7,7 @@ ghost use Rattle.amqp_decoder.specs.Steps.{IsReadError};
 ghost use Rattle.amqp_codec.specs.Reading.{IsGreatest, BeginsWith, IsUnreadable, BeginsWithin, IsUnreadableWithin};
 ghost use Rattle.amqp_read_write.specs.Rewritten.{IsRewritten, IsReadAgain, AreReadAgain, IsOneText, IsOfNoOther, IsUnchanged, IsShortest, AreShortest};
 ghost use Rattle.amqp_read_write.specs.Rewritten.{IsUnwritten, IsRewrittenWithin, IsUnwrittenWithin, ReadsNoMore};
+ghost use Rattle.amqp_read_write.specs.Room.{IsPlaced};
 ghost use Rattle.amqp_codec.specs.Written.{AreMeasured, AreUnwritable, AreWritable};
 
 use amqp_codec::{Canonical, Deserialize, Serialize};
@@ -126,19 +127,14 @@ pub fn append_to_vec<T: Serialize>(
 {
     let mut encoder = measuring_encoder(alloc);
     let len = measure(value, &mut encoder)?;
-    let before = buffer.len();
     buffer.reserve_exact(len)?;
+    let limit = buffer.len() + len;
     let room = std::mem::replace(buffer, Vec::new(alloc));
-    let mut filling = filling_encoder(&mut encoder, alloc, room, before + len);
-    let outcome = value.serialize(&mut filling);
+    let mut filling = filling_encoder(&mut encoder, alloc, room, limit);
+    // What was measured is never refused.
+    value.serialize(&mut filling)?;
     *buffer = buffer_of(filling);
-    match outcome {
-        Ok(()) => Ok(len),
-        Err(error) => {
-            buffer.truncate(before);
-            Err(error)
-        }
-    }
+    Ok(len)
 }
 
 /// Writes the value's canonical text (Part 1, section 1.6) to the start of `room`, and returns the text's length in bytes. If `room` is
@@ -147,8 +143,7 @@ pub fn append_to_vec<T: Serialize>(
 ///
 /// # Errors
 ///
-/// It returns the errors of `to_vec`, and then `room` is unchanged. But after `Memory`, a part of the text may stand there if the value's
-/// type allocates while it is written.
+/// It returns the errors of `to_vec`, and then `room` is unchanged.
 pub fn write_into<T: Serialize>(value: &T, room: &mut [u8], alloc: Global) -> Result<usize, Error>
     ensures is_value { T.writing.is_value value.now }
     ensures text { IfOk result (λ len. len ≤ length room.old → room.new ≡ row_text (T.writing.canons value.now) ++ drop len room.old) }
@@ -156,7 +151,7 @@ pub fn write_into<T: Serialize>(value: &T, room: &mut [u8], alloc: Global) -> Re
     ensures len { IfOk result (λ len. len ≡ length (row_text (T.writing.canons value.now))) }
     ensures writable { OnOk result (AreWritable (T.writing.canons value.now)) }
     ensures refused { IfErr result (λ e. (e ≡ Memory) ⊎ AreUnwritable (T.writing.canons value.now) e) }
-    ensures kept { IfErr result (λ e. (e ≡ Memory) ⊎ (room.new ≡ room.old)) }
+    ensures kept { OnErr result (room.new ≡ room.old) }
     ensures behind { let len = length (row_text (T.writing.canons value.now)) in drop len room.new ≡ drop len room.old }
 {
     let mut encoder = measuring_encoder(alloc);
@@ -224,6 +219,32 @@ pub fn canonical_text_within<T: Canonical>(
     Ok((written, len))
 }
 
+/// Writes the canonical text of the value at the start of `input` to the start of `room`, as `write_into` does. It returns the text's
+/// length in bytes, and the number of bytes that the value takes in `input`. What `canonical_text_within` says of its text holds of this
+/// one. Nothing of the text is allocated.
+///
+/// # Errors
+///
+/// It returns the errors of `canonical_text_within`, and then `room` is unchanged.
+pub fn canonical_into<T: Canonical>(
+    input: &[u8],
+    room: &mut [u8],
+    limits: &Limits,
+    alloc: Global,
+) -> Result<(usize, usize), Error>
+    ensures text { IfOk result (λ r. (text : List ℕ) × IsRewrittenWithin limits.now T.reading T.writing.canons input.now text r.1
+        × IsPlaced text room.old room.new r.0) }
+    ensures refused { ReadsNoMore limits.now T.reading → IfErr result (λ e. (e ≡ Memory)
+        ⊎ (IsUnreadableWithin limits.now T.reading input.now e ⊎ IsUnwrittenWithin limits.now T.reading T.writing.canons input.now e)) }
+    ensures unfailing { IfErr result (λ e. IsReadError e → ⊥) }
+    ensures limited { IfErr result (λ e. e ≡ Limit → IsGreatest limits.now → ⊥) }
+    ensures kept { OnErr result (room.new ≡ room.old) }
+{
+    let (value, len) = from_slice_within::<T>(input, limits, alloc)?;
+    let written = write_into(&value, room, alloc)?;
+    Ok((written, len))
+}
+
 // The length of the canonical text, whose sizes the encoder keeps; or why there is none.
 #[inline(always)]
 fn measure<T: Serialize>(value: &T, encoder: &mut Encoder<Measure>) -> Result<usize, Error>
@@ -251,8 +272,8 @@ fn fill_memory<T: Serialize>(
     requires is_value { T.writing.is_value value.now }
     requires measured { (sizes : List Size)
         × AreMeasured (T.writing.canons value.now) (length memory.old) sizes × Finds measured.old (length memory.old) sizes }
-    ensures text { OnOk result (memory.new ≡ row_text (T.writing.canons value.now)) }
-    ensures refused { IfErr result (λ e. e ≡ Memory) }
+    ensures text { memory.new ≡ row_text (T.writing.canons value.now) }
+    ensures never_refused { OnErr result ⊥ }
 {
     let len = memory.len();
     let mut room = SliceRoom::new(memory);

@@ -64,22 +64,22 @@ as_read (Name s) = refl
 as_read (Code n) = refl
 
 -- a type that ran out of memory of its own
-by_pass : (s t : Pass) (r : Result (Unit {0}) Error) (ts : List Token) → Runs s (refuse Memory ∷ []) r t
+by_pass : (s t : Pass) (r : Result (Unit {0}) Error) (ts : List Token) → (Fills s → ⊥) → Runs s (refuse Memory ∷ []) r t
     → Runs s ts r t ⊎ ((outcome s ≡ Ok tt) × (r ≡ Err Memory) × (t ≡ Stopped Memory))
 unfolding steps AnyMayRunOut
-by_pass (Measuring m) t r ts w =
+by_pass (Measuring m) t r ts n w =
     let stopped : t ≡ Stopped Memory = elim w.state [ inl e ↦ e | inr o ↦ o.1 ] in inr (refl, w.answer ∙ ap outcome stopped, stopped)
-by_pass (Filling f) t r ts w =
-    let stopped : t ≡ Stopped Memory = elim w.state [ inl e ↦ e | inr o ↦ o.1 ] in inr (refl, w.answer ∙ ap outcome stopped, stopped)
-by_pass (Stopped e) t r ts w =
+by_pass (Filling f) t r ts n w = absurd (n tt)
+by_pass (Stopped e) t r ts n w =
     let stopped : t ≡ Stopped e = elim w.state [ inl e ↦ e | inr o ↦ absurd (elim o.0 [ inl x ↦ x | inr x ↦ x ]) ] in
     inl (record { answer = w.answer; state = inl (stopped ∙ sym (steps_stopped e ts)) })
 
-pub gave_up : (ts : List Term) (a b : Encoder) (r : Result (Unit {0}) Error) → Writes a (refuse Memory ∷ []) r b → WritesTerms ts a r b
-gave_up ts a b r w = record {
+pub gave_up : (ts : List Term) (a b : Encoder) (r : Result (Unit {0}) Error) → (Fills (pass_of a) → ⊥) → Writes a (refuse Memory ∷ []) r b
+    → WritesTerms ts a r b
+gave_up ts a b r not_filled w = record {
   calls = λ deep k f.
-      elim (by_pass (pass_of a) (pass_of b) r (row_tokens deep ts) w.runs) [
+      elim (by_pass (pass_of a) (pass_of b) r (row_tokens deep ts) not_filled w.runs) [
         | inl runs ↦ inl (record { runs = runs; kept = w.kept })
-        | inr (going, answer, stopped) ↦ inr (record { was_going = going; answer = answer; state = stopped; kept = w.kept })
+        | inr (going, answer, stopped) ↦ inr (record { was_going = going; not_filled = not_filled; answer = answer; state = stopped; kept = w.kept })
       ];
 }

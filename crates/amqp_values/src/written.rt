@@ -1,5 +1,5 @@
 //! How values of any kind are written: as their kind is. A value that holds others is written with them.
-ghost use Rattle.std.specs.Prelude.{◌≡◌, ◌⊎◌, Ok, false, IfOk, refl};
+ghost use Rattle.std.specs.Prelude.{◌≡◌, ◌⊎◌, Ok, false, IfOk, IfErr, refl};
 ghost use Rattle.std.specs.List.{flat_map};
 ghost use Rattle.amqp_encoder.specs.Passes.{answer_of};
 ghost use Rattle.amqp_encoder.specs.Writes.{Fills, pass_of};
@@ -81,8 +81,9 @@ fn has_equal_keys_to_write<P: Pass>(
     map: &ValueMap,
     encoder: &Encoder<P>,
 ) -> Result<bool, AllocError>
-    ensures { IfOk result (λ found. (found ≡ has_equal_keys (turn_terms (pairs_of map.now)))
+    ensures found { IfOk result (λ found. (found ≡ has_equal_keys (turn_terms (pairs_of map.now)))
         ⊎ ((found ≡ false) × Fills (pass_of encoder.now))) }
+    ensures memory { IfErr result (λ _. Fills (pass_of encoder.now) → ⊥) }
 {
     if encoder.fills() {
         return Ok(false);

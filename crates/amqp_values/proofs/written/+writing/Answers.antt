@@ -136,21 +136,21 @@ write_pairs-returns g t c =
 
 pub write_map-returns-in-Ok-true : goal.write_map-returns-in-Ok-true
 write_map-returns-in-Ok-true g t c =
-    rw (shut_map c.args.map.now (found_equal c.args.map.now _ _ c.in-Ok-true.field-0-test c.in-Ok-true.ensures))
+    rw (shut_map c.args.map.now (found_equal c.args.map.now _ _ c.in-Ok-true.field-0-test c.in-Ok-true.ensures.found))
     (barred_written _ _ _ c.refuse.ensures)
 
 pub write_map-returns-in-Err : goal.write_map-returns-in-Err
-write_map-returns-in-Err g t c = gave_up _ _ _ _ c.refuse-in-Err.ensures
+write_map-returns-in-Err g t c = gave_up _ _ _ _ c.in-Err.ensures.memory c.refuse-in-Err.ensures
 
 pub write_map-returns-in_err-begin_map : goal.write_map-returns-in_err-begin_map
 write_map-returns-in_err-begin_map g t c =
-    map_written c.args.map.now _ _ _ (rw c.in-Ok-false.field-0-test at c.in-Ok-false.ensures)
+    map_written c.args.map.now _ _ _ (rw c.in-Ok-false.field-0-test at c.in-Ok-false.ensures.found)
     (open_refused (container_wraps map (flat_map pair_canon (pairs_of c.args.map.now))) _ _ _ _ _ c.in_err-begin_map.was
     (err_from_is_err_and c.from_residual.result c.from_residual.ensures.1) c.begin_map.ensures)
 
 pub write_map-returns-in_err-write_pairs : goal.write_map-returns-in_err-write_pairs
 write_map-returns-in_err-write_pairs g t c =
-    map_written c.args.map.now _ _ _ (rw c.in-Ok-false.field-0-test at c.in-Ok-false.ensures)
+    map_written c.args.map.now _ _ _ (rw c.in-Ok-false.field-0-test at c.in-Ok-false.ensures.found)
     (inner_refused (container_wraps map (flat_map pair_canon (pairs_of c.args.map.now))) _ _ _ _ _ _ _
     c.in_ok-begin_map.was c.in_err-write_pairs.was
     (err_from_is_err_and c.from_residual-in_err-write_pairs.result c.from_residual-in_err-write_pairs.ensures.1)
@@ -158,7 +158,7 @@ write_map-returns-in_err-write_pairs g t c =
 
 pub write_map-returns : goal.write_map-returns
 write_map-returns g t c =
-    map_written c.args.map.now _ _ _ (rw c.in-Ok-false.field-0-test at c.in-Ok-false.ensures)
+    map_written c.args.map.now _ _ _ (rw c.in-Ok-false.field-0-test at c.in-Ok-false.ensures.found)
     (all_written (container_wraps map (flat_map pair_canon (pairs_of c.args.map.now))) _ _ _ _ _ _ _
     c.in_ok-begin_map.was c.in_ok-write_pairs.was c.begin_map.ensures
     (rw c.as_slice.ensures.value at c.write_pairs.ensures) c.end_map.ensures)

@@ -1,0 +1,36 @@
+use Rattle.std.proofs.Common.{refl, sym, subst}
+use Rattle.std.proofs.lemmas.Result.{err_from_is_err_and}
+use Rattle.amqp_read_write.proofs.Unwritten.{IsOfReading, unwritten_apart, read_apart}
+use Rattle.amqp_read_write.proofs.Rewrites.{unwritten_within}
+use Rattle.amqp_read_write.proofs.Placed.{placed}
+use Rattle.amqp_read_write.proofs.calls.canonical_into.Goals as goal
+
+pub returns-clause-text : goal.returns-clause-text
+returns-clause-text g c = (
+  _,
+  record {
+    value = c.in_ok-value.value;
+    read = c.in_ok-value.ensures.found;
+    one = λ w m k. (c.in_ok-value.ensures.one _ w _ m c.in_ok-value.ensures.found k).0;
+    bounded = c.in_ok-value.ensures.bounded _ _ c.in_ok-value.ensures.found;
+    writable = c.in_ok-written.ensures.writable;
+    text_is = refl;
+  },
+  placed _ _ _ _ c.in_ok-written.ensures.len c.in_ok-written.ensures.text c.in_ok-written.ensures.short,
+)
+
+pub returns-in_err-written-clause-refused : goal.returns-in_err-written-clause-refused
+returns-in_err-written-clause-refused g c no_more =
+    let p = err_from_is_err_and c.from_residual-in_err-written.result c.from_residual-in_err-written.ensures.1 in
+    rw (p.1, p.2) (unwritten_within g.met.T.Canonical.rewrites c.args.limits.now no_more c.args.input.now _ _ _
+    c.in_ok-value.ensures.found c.in_err-written.ensures.refused)
+
+pub returns-in_err-written-clause-unfailing : goal.returns-in_err-written-clause-unfailing
+returns-in_err-written-clause-unfailing g c =
+    let p = err_from_is_err_and c.from_residual-in_err-written.result c.from_residual-in_err-written.ensures.1 in
+    rw (p.1, p.2) (λ read. unwritten_apart _ _ c.in_err-written.ensures.refused (read_apart _ read))
+
+pub returns-in_err-written-clause-limited : goal.returns-in_err-written-clause-limited
+returns-in_err-written-clause-limited g c =
+    let p = err_from_is_err_and c.from_residual-in_err-written.result c.from_residual-in_err-written.ensures.1 in
+    rw (p.1, p.2) (λ is greatest. unwritten_apart _ _ c.in_err-written.ensures.refused (subst IsOfReading (sym is) tt))
