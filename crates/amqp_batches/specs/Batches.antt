@@ -19,7 +19,7 @@ use Rattle.amqp_batches.specs.WalkReading.{walk_reading, reading_via}
 use Rattle.amqp_batches.specs.Runs.{run_walk}
 use Rattle.amqp_batches.specs.Sections.{IsSection}
 use Rattle.amqp_batches.specs.Bounds.{IsBoundByLimits}
-use Rattle.amqp_batches.specs.laws.Bound.{term_bound, run_bound}
+use Rattle.amqp_batches.specs.laws.Bound.{term_bound, run_bound, begins_without_limits}
 use Rattle.amqp_batches.specs.laws.Resuming.{IsRead}
 use Rattle.amqp_batches.specs.laws.Row.{each_proper}
 use Rattle.amqp_batches.specs.laws.RunRewriting.{run_again, run_was_read, all_same_canons, all_texts_again}
@@ -96,5 +96,6 @@ module _ {T : Type 0} (c : ℕ) {u : TermType T} {w : Writing T} (s : IsSection 
         subst (λ vs. AllZip r.same vs (sections_in v)) (sym (again_each u v))
         (all_own c r bound w s (rewrites a) (sections_in v) (was_read input v n h));
     large = λ input v n e h x. all_large c r bound w s (rewrites a) (sections_in v) e (was_read input v n h) x;
+    bounded = begins_without_limits (batch_reading c r) (batch_bound c r bound);
     least = λ l. absurd (cc);
   }

@@ -21,7 +21,7 @@ use Rattle.amqp_codec.specs.Rewriting.{Rewriting, rewrites}
 use Rattle.amqp_batches.specs.declared.transparent_vec.TransparentVec.{TransparentVec}
 use Rattle.amqp_batches.specs.laws.State.{any_taken}
 use Rattle.amqp_batches.specs.Bounds.{IsBoundByLimits}
-use Rattle.amqp_batches.specs.laws.Bound.{term_bound, takes_so}
+use Rattle.amqp_batches.specs.laws.Bound.{term_bound, takes_so, begins_without_limits}
 use Rattle.amqp_batches.specs.Walk.{Steps, Walked}
 use Rattle.amqp_batches.specs.laws.Walk.{no_term}
 use Rattle.amqp_batches.specs.Runs.{run_walk}
@@ -151,6 +151,7 @@ module _ {T : Type 0} (c : ℕ) {u : TermType T} {w : Writing T} (s : IsSection 
         lasting = λ input v n h. some_read _ (sections_in v) h.after h.read.0 h.read.1;
         own = λ input v n h. x.own input v n (as_batch input v n h);
         large = λ input v n e h. x.large input v n e (as_batch input v n h);
+        bounded = begins_without_limits group (group_bound c u);
         least = λ l. absurd (no_term l);
       }
 

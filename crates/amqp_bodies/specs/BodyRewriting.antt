@@ -12,6 +12,7 @@ use Rattle.amqp_sections.specs.declared.data.Data.{Data as DataSection}
 use Rattle.amqp_sections.specs.declared.amqp_sequence.AmqpSequence.{AmqpSequence}
 use Rattle.amqp_sections.specs.declared.amqp_value.AmqpValue.{AmqpValue}
 use Rattle.amqp_batches.specs.declared.transparent_vec.TransparentVec.{TransparentVec}
+use Rattle.amqp_batches.specs.laws.Bound.{begins_without_limits}
 use Rattle.amqp_batches.specs.laws.Walk.{no_term}
 use Rattle.amqp_batches.specs.Sections.{IsSectionCode, begins_as_section}
 use Rattle.amqp_batches.specs.GroupTexts.{GroupText}
@@ -172,6 +173,7 @@ module _ {T : Type 0} (rv : Reading (AmqpValue T)) (rd : Reading (TransparentVec
       lasting = lasting;
       own = own;
       large = large;
+      bounded = begins_without_limits r (body_bound rv rd rs tv.bound td.bound ts.bound);
       least = λ l. absurd (no_term l);
     }
 

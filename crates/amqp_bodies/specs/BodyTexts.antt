@@ -68,6 +68,7 @@ forget_least x = record {
   lasting = x.lasting;
   own = x.own;
   large = x.large;
+  bounded = x.bounded;
   least = λ l. absurd (no_term l);
 }
 

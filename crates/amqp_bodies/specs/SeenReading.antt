@@ -4,7 +4,8 @@ use Rattle.amqp_model.specs.Term.{Term}
 use Rattle.amqp_wire.specs.declared.error.Error.{Error}
 use Rattle.amqp_decoder.specs.State.{State}
 use Rattle.amqp_decoder.specs.OtherSource.{elsewhere}
-use Rattle.amqp_codec.specs.Reading.{Reading, Taken, looking, AreAlike, start, BeginsWith}
+use Rattle.amqp_codec.specs.Reading.{Reading, Taken, looking, AreAlike, greatest, start, start_within, BeginsWith, BeginsWithin}
+use Rattle.amqp_wire.specs.declared.limits.Limits.{Limits}
 use Rattle.amqp_codec.specs.Rewriting.{Rewriting}
 use Rattle.amqp_batches.specs.Bounds.{limited_to, IsBoundByLimits}
 use Rattle.amqp_batches.specs.laws.Bound.{still_fresh, takes_so}
@@ -109,11 +110,15 @@ module _ {V : Type 0} (r : Reading V) where
       (bound h.seen v b (still_fresh st h.seen fresh (alike_stays st h.seen h.alike)) h.read)
 
   -- of a whole input it makes no difference
-  unseen : (input : List ℕ) (v : V) (n : ℕ) → BeginsWith seen_reading input v n → BeginsWith r input v n
-  unseen input v n h =
+  unseen_within : (limits : Limits) (input : List ℕ) (v : V) (n : ℕ) → BeginsWithin limits seen_reading input v n
+      → BeginsWithin limits r input v n
+  unseen_within limits input v n h =
       let k = h.read in
-      let f = read_behind (start input) k.seen (start input) v h.after k.alike refl k.read in
+      let f = read_behind (start_within limits input) k.seen (start_within limits input) v h.after k.alike refl k.read in
       record { after = looking f.0 h.after; read = f.1; left = h.left }
+
+  unseen : (input : List ℕ) (v : V) (n : ℕ) → BeginsWith seen_reading input v n → BeginsWith r input v n
+  unseen = unseen_within greatest
 
   pub seen_rewrites : {canons : V → List Term} {is_value : V → Type 0} {follows : List ℕ → Type 0} {again : V → V}
       {kept lasts : V → Type 0} {is_least : Bool} → Rewriting r canons is_value follows again kept lasts is_least
@@ -129,6 +134,9 @@ module _ {V : Type 0} (r : Reading V) where
     lasting = λ input v n h. x.lasting input v n (unseen input v n h);
     own = λ input v n h. x.own input v n (unseen input v n h);
     large = λ input v n e h. x.large input v n e (unseen input v n h);
+    bounded = λ limits input v n h.
+        (let k = x.bounded limits input v n (unseen_within limits input v n h) in
+        record { after = k.after; read = record { seen = _; alike = refl; read = k.read }; left = k.left });
     least = λ l input v n bytes none h. x.least l input v n bytes none (unseen input v n h);
   }
 

@@ -119,6 +119,10 @@ pub record IsUnreadableWithin {T : Type 0} (limits : Limits) (r : Reading T) (in
 abbrev pub BeginsWith : {T : Type 0} → Reading T → List ℕ → T → ℕ → Type 0
 BeginsWith r input v n = BeginsWithin greatest r input v n
 
+-- Within the limits nothing is read that isn't read without.
+abbrev pub ReadsNoMore : {T : Type 0} → Limits → Reading T → Type 0
+ReadsNoMore {T} limits r = (input : List ℕ) (v : T) (n : ℕ) → BeginsWithin limits r input v n → BeginsWith r input v n
+
 -- The input begins with no value, and has the fault.
 pub record IsUnreadable {T : Type 0} (r : Reading T) (input : List ℕ) (e : Error) : Type 0 where
   pub fault : r.fault (start input) e

@@ -9,14 +9,15 @@ use Rattle.amqp_model.proofs.Least.{bytes_left}
 use Rattle.amqp_wire.specs.Refusals.{error_of}
 use Rattle.amqp_wire.specs.declared.error.Error.{Error}
 use Rattle.amqp_wire.specs.declared.error.Error.TheVariants.{TooLarge}
+use Rattle.amqp_wire.specs.declared.limits.Limits.{Limits}
 use Rattle.amqp_encoder.specs.Passes.{row_text}
 use Rattle.amqp_encoder.specs.Refused.{TermHasCause}
 use Rattle.amqp_codec.specs.TermType.{TermType}
-use Rattle.amqp_codec.specs.Reading.{Reading, BeginsWith}
+use Rattle.amqp_codec.specs.Reading.{Reading, BeginsWith, ReadsNoMore}
 use Rattle.amqp_codec.specs.TermReading.{reading_of}
 use Rattle.amqp_codec.specs.Written.{AreWritable, AreUnwritable, Writing}
 use Rattle.amqp_codec.specs.Spelled.{written}
-use Rattle.amqp_codec.specs.laws.Spelling.{read_spelled, spelled_read}
+use Rattle.amqp_codec.specs.laws.Spelling.{read_spelled, spelled_read, read_within}
 use Rattle.amqp_codec.specs.laws.Term.{spelled_again, spelled_value, spelled_own, spelled_writable, text_unchanged, text_least}
 use Rattle.amqp_codec.specs.laws.Reason.{agreed_text, agreed_writable, agreed_refused}
 use Rattle.amqp_codec.specs.Agreement.{Agreement}
@@ -36,11 +37,13 @@ pub record Rewriting {T : Type 0} (r : Reading T) (canons : T → List Term) (is
   pub reads_again : (v : T) (more : List ℕ) → is_value v → lasts v → AreWritable (canons v) → follows more
       → BeginsWith r (row_text (canons v) ++ more) (again v) (length (row_text (canons v)))
   pub text_again : (v : T) → is_value v → AreWritable (canons v) → row_text (canons (again v)) ≡ row_text (canons v)
-  -- what was read is a value, is read again, as itself, is written but for its size, and in no more bytes
+  -- what was read is a value, is read again, as itself, is written but for its size, was read without limits, too, and is written in no
+  -- more bytes
   pub value : (input : List ℕ) (v : T) (n : ℕ) → BeginsWith r input v n → is_value v
   pub lasting : (input : List ℕ) (v : T) (n : ℕ) → BeginsWith r input v n → lasts v
   pub own : (input : List ℕ) (v : T) (n : ℕ) → BeginsWith r input v n → kept v → r.same (again v) v
   pub large : (input : List ℕ) (v : T) (n : ℕ) (e : Error) → BeginsWith r input v n → AreUnwritable (canons v) e → e ≡ TooLarge
+  pub bounded : (limits : Limits) → ReadsNoMore limits r
   pub least : is_least ≡ true → (input : List ℕ) (v : T) (n : ℕ) → IsBytes input → HoldNoArray (canons v) → BeginsWith r input v n
       → length (row_text (canons v)) ≤ n
 
@@ -88,5 +91,6 @@ module _ {T : Type 0} {u : TermType T} {w : Writing T} (tie : Agreement u w) whe
     lasting = λ input v n _. tt;
     own = λ input v n h _. spelled_own u (take n input) v (read_spelled u input v n h).1;
     large = term_large;
+    bounded = λ limits input v n h. ((read_within u limits input v n).0 h).0;
     least = term_least;
   }

@@ -284,8 +284,7 @@ fn write_others<L: FieldList, P: Pass>(
     Ok(())
 }
 
-// Writes the first sixteen fields, as far as there are so many. They stand in a straight line, so that the compiler knows each number, and
-// each has the code of its own field alone.
+// Writes the first sixteen fields, as far as there are so many.
 fn write_sixteen<L: FieldList, P: Pass>(
     value: &L,
     nulls: &mut usize,
@@ -296,22 +295,29 @@ fn write_sixteen<L: FieldList, P: Pass>(
         → WritesUpTo L.list.fields value.now 16 start result nulls.new encoder.new }
     ensures nulls { nulls.new ≤ 16 }
 {
-    write_one(value, 0, nulls, encoder)?;
-    write_one(value, 1, nulls, encoder)?;
-    write_one(value, 2, nulls, encoder)?;
-    write_one(value, 3, nulls, encoder)?;
-    write_one(value, 4, nulls, encoder)?;
-    write_one(value, 5, nulls, encoder)?;
-    write_one(value, 6, nulls, encoder)?;
-    write_one(value, 7, nulls, encoder)?;
-    write_one(value, 8, nulls, encoder)?;
-    write_one(value, 9, nulls, encoder)?;
-    write_one(value, 10, nulls, encoder)?;
-    write_one(value, 11, nulls, encoder)?;
-    write_one(value, 12, nulls, encoder)?;
-    write_one(value, 13, nulls, encoder)?;
-    write_one(value, 14, nulls, encoder)?;
-    write_one(value, 15, nulls, encoder)
+    write_four::<L, P, 0>(value, nulls, encoder)?;
+    write_four::<L, P, 4>(value, nulls, encoder)?;
+    write_four::<L, P, 8>(value, nulls, encoder)?;
+    write_four::<L, P, 12>(value, nulls, encoder)
+}
+
+// Writes four fields, as far as there are so many, from this number on. The compiler knows the number of each, and leaves the code of that
+// field alone.
+fn write_four<L: FieldList, P: Pass, const FROM: usize>(
+    value: &L,
+    nulls: &mut usize,
+    encoder: &mut Encoder<P>,
+) -> Result<(), Error>
+    requires from { FROM ≤ 12 }
+    requires nulls { nulls.old ≤ FROM }
+    ensures written { (start : EncoderState) → IsPending L.list.fields value.now FROM nulls.old start encoder.old
+        → WritesUpTo L.list.fields value.now (FROM + 4) start result nulls.new encoder.new }
+    ensures nulls { nulls.new ≤ FROM + 4 }
+{
+    write_one(value, FROM, nulls, encoder)?;
+    write_one(value, FROM + 1, nulls, encoder)?;
+    write_one(value, FROM + 2, nulls, encoder)?;
+    write_one(value, FROM + 3, nulls, encoder)
 }
 
 // Writes a field and the nulls before it, or counts one more null.

@@ -12,7 +12,7 @@ use Rattle.amqp_codec.specs.Reading.{Reading, BeginsWith, BeginsWithin, IsUnread
 use Rattle.amqp_codec.specs.laws.Reading.{read_one}
 use Rattle.amqp_codec.specs.Rewriting.{Rewriting}
 use Rattle.amqp_read_write.specs.Rewritten.{IsRewritten, IsReadAgain, AreReadAgain, IsOneText, IsOfNoOther, IsUnchanged, IsShortest, AreShortest, IsUnwritten}
-use Rattle.amqp_read_write.specs.Rewritten.{IsRewrittenWithin, IsUnwrittenWithin, ReadsNoMore}
+use Rattle.amqp_read_write.specs.Rewritten.{IsRewrittenWithin, IsUnwrittenWithin}
 use Rattle.amqp_codec.specs.Written.{AreWritable, AreUnwritable}
 
 module _ {T : Type 0} {r : Reading T} {canons : T → List Term} {is_value : T → Type 0} {follows : List ℕ → Type 0} {again : T → T}
@@ -71,10 +71,10 @@ module _ {T : Type 0} {r : Reading T} {canons : T → List Term} {is_value : T �
     shortest l v w other m k j s bytes none = subst (λ b. length b ≤ m) (one_text v w other m k j s) (laws.least l other w m bytes none j)
 
   -- what is said of a text that was written after its value was read within limits
-  pub without_limits : (limits : Limits) → ReadsNoMore limits r → (input text : List ℕ) (n : ℕ)
+  pub without_limits : (limits : Limits) (input text : List ℕ) (n : ℕ)
       → IsRewrittenWithin limits r canons input text n → IsRewritten r canons input text n
-  without_limits limits more input text n h =
-      let read = more input h.value n h.read in
+  without_limits limits input text n h =
+      let read = laws.bounded limits input h.value n h.read in
       record {
         value = h.value;
         read = read;
@@ -85,12 +85,13 @@ module _ {T : Type 0} {r : Reading T} {canons : T → List Term} {is_value : T �
       }
 
   -- what was read within limits is refused for its size, as what is read without
-  pub unwritten_within : (limits : Limits) (more : ReadsNoMore limits r) (input : List ℕ) (v : T) (n : ℕ) (e : Error)
+  pub unwritten_within : (limits : Limits) (input : List ℕ) (v : T) (n : ℕ) (e : Error)
       → BeginsWithin limits r input v n → (e ≡ Memory) ⊎ AreUnwritable (canons v) e
       → (e ≡ Memory) ⊎ (IsUnreadableWithin limits r input e ⊎ IsUnwrittenWithin limits r canons input e)
-  unwritten_within limits more input v n e h (inl m) = inl m
-  unwritten_within limits more input v n e h (inr u) =
-      inr (inr (record { value = v; length = n; read = h; unwritable = u; large = laws.large input v n e (more input v n h) u }))
+  unwritten_within limits input v n e h (inl m) = inl m
+  unwritten_within limits input v n e h (inr u) =
+      let large = laws.large input v n e (laws.bounded limits input v n h) u in
+      inr (inr (record { value = v; length = n; read = h; unwritable = u; large = large }))
 
   -- what was read is refused for its size
   pub unwritten : (input : List ℕ) (v : T) (n : ℕ) (e : Error) → BeginsWith r input v n → (e ≡ Memory) ⊎ AreUnwritable (canons v) e

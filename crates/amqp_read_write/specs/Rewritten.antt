@@ -76,7 +76,3 @@ pub record IsUnwrittenWithin {T : Type 0} (limits : Limits) (r : Reading T) (can
 -- What the input is read as is too large to be written.
 abbrev pub IsUnwritten : {T : Type 0} → Reading T → (T → List Term) → List ℕ → Error → Type 0
 IsUnwritten r canons input e = IsUnwrittenWithin greatest r canons input e
-
--- Within the limits nothing is read that isn't read without.
-abbrev pub ReadsNoMore : {T : Type 0} → Limits → Reading T → Type 0
-ReadsNoMore {T} limits r = (input : List ℕ) (v : T) (n : ℕ) → BeginsWithin limits r input v n → BeginsWith r input v n

@@ -6,7 +6,7 @@ ghost use Rattle.amqp_encoder.specs.Passes.{row_text, BeginsMeasuring, Finds};
 ghost use Rattle.amqp_decoder.specs.Steps.{IsReadError};
 ghost use Rattle.amqp_codec.specs.Reading.{IsGreatest, BeginsWith, IsUnreadable, BeginsWithin, IsUnreadableWithin};
 ghost use Rattle.amqp_read_write.specs.Rewritten.{IsRewritten, IsReadAgain, AreReadAgain, IsOneText, IsOfNoOther, IsUnchanged, IsShortest, AreShortest};
-ghost use Rattle.amqp_read_write.specs.Rewritten.{IsUnwritten, IsRewrittenWithin, IsUnwrittenWithin, ReadsNoMore};
+ghost use Rattle.amqp_read_write.specs.Rewritten.{IsUnwritten, IsRewrittenWithin, IsUnwrittenWithin};
 ghost use Rattle.amqp_read_write.specs.Room.{IsPlaced};
 ghost use Rattle.amqp_codec.specs.Written.{AreMeasured, AreUnwritable, AreWritable};
 
@@ -188,28 +188,25 @@ pub fn canonical_text<T: Canonical>(input: &[u8], alloc: Global) -> Result<(Vec<
 }
 
 /// Returns the canonical text of the value at the start of `input`, within limits of the caller, and the number of bytes that the value
-/// takes there. The clauses of `canonical_text` about the text hold here, too, if nothing is read within the limits that isn't read without
-/// them. For every one-term type that is so (`laws::limits_bound_reading`).
+/// takes there. What is read within limits is read without them, too, so the clauses of `canonical_text` about the text hold here.
 ///
 /// # Errors
 ///
-/// An error is never `Read`, and it is `Limit` only if the caller has set a limit. If nothing is read within the limits that isn't read
-/// without them, it is `Memory`, a fault of an input that begins with no value within the limits, or `TooLarge`.
+/// An error is `Memory`, a fault of an input that begins with no value within the limits, or `TooLarge`. It is never `Read`, and it is
+/// `Limit` only if the caller has set a limit.
 pub fn canonical_text_within<T: Canonical>(
     input: &[u8],
     limits: &Limits,
     alloc: Global,
 ) -> Result<(Vec<u8>, usize), Error>
     ensures text { IfOk result (λ r. IsRewrittenWithin limits.now T.reading T.writing.canons input.now r.0.items r.1) }
-    ensures read_again { ReadsNoMore limits.now T.reading
-        → IfOk result (λ r. IsReadAgain T.reading T.follows T.again T.kept input.now r.0.items r.1) }
-    ensures one_text { ReadsNoMore limits.now T.reading → IfOk result (λ r. IsOneText T.reading T.writing.canons input.now r.0.items r.1) }
-    ensures no_other { ReadsNoMore limits.now T.reading
-        → IfOk result (λ r. IsOfNoOther T.reading T.writing.canons T.kept input.now r.0.items r.1) }
-    ensures unchanged { ReadsNoMore limits.now T.reading → IfOk result (λ r. IsUnchanged T.reading T.writing.canons r.0.items) }
-    ensures no_shorter { ReadsNoMore limits.now T.reading → T.is_least ≡ true
+    ensures read_again { IfOk result (λ r. IsReadAgain T.reading T.follows T.again T.kept input.now r.0.items r.1) }
+    ensures one_text { IfOk result (λ r. IsOneText T.reading T.writing.canons input.now r.0.items r.1) }
+    ensures no_other { IfOk result (λ r. IsOfNoOther T.reading T.writing.canons T.kept input.now r.0.items r.1) }
+    ensures unchanged { IfOk result (λ r. IsUnchanged T.reading T.writing.canons r.0.items) }
+    ensures no_shorter { T.is_least ≡ true
         → IfOk result (λ r. IsShortest T.reading T.writing.canons input.now r.0.items r.1) }
-    ensures refused { ReadsNoMore limits.now T.reading → IfErr result (λ e. (e ≡ Memory)
+    ensures refused { IfErr result (λ e. (e ≡ Memory)
         ⊎ (IsUnreadableWithin limits.now T.reading input.now e ⊎ IsUnwrittenWithin limits.now T.reading T.writing.canons input.now e)) }
     ensures unfailing { IfErr result (λ e. IsReadError e → ⊥) }
     ensures limited { IfErr result (λ e. e ≡ Limit → IsGreatest limits.now → ⊥) }
@@ -234,15 +231,15 @@ pub fn canonical_into<T: Canonical>(
 ) -> Result<(usize, usize), Error>
     ensures text { IfOk result (λ r. (text : List ℕ) × IsRewrittenWithin limits.now T.reading T.writing.canons input.now text r.1
         × IsPlaced text room.old room.new r.0) }
-    ensures refused { ReadsNoMore limits.now T.reading → IfErr result (λ e. (e ≡ Memory)
+    ensures refused { IfErr result (λ e. (e ≡ Memory)
         ⊎ (IsUnreadableWithin limits.now T.reading input.now e ⊎ IsUnwrittenWithin limits.now T.reading T.writing.canons input.now e)) }
     ensures unfailing { IfErr result (λ e. IsReadError e → ⊥) }
     ensures limited { IfErr result (λ e. e ≡ Limit → IsGreatest limits.now → ⊥) }
     ensures kept { OnErr result (room.new ≡ room.old) }
 {
-    let (value, len) = from_slice_within::<T>(input, limits, alloc)?;
-    let written = write_into(&value, room, alloc)?;
-    Ok((written, len))
+    let (value, taken) = from_slice_within::<T>(input, limits, alloc)?;
+    let len = write_into(&value, room, alloc)?;
+    Ok((len, taken))
 }
 
 // The length of the canonical text, whose sizes the encoder keeps; or why there is none.

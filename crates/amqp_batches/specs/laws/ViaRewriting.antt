@@ -29,5 +29,8 @@ module _ {A B : Type 0} (r : Reading A) (to : B → A) where
     lasting = λ input v n h. x.lasting input (to v) n (as_that input v n h);
     own = λ input v n h k. subst (λ z. r.same z (to v)) (sym (is v)) (x.own input (to v) n (as_that input v n h) k);
     large = λ input v n e h. x.large input (to v) n e (as_that input v n h);
+    bounded = λ limits input v n h.
+        (let k = x.bounded limits input (to v) n (record { after = h.after; read = h.read; left = h.left }) in
+        record { after = k.after; read = k.read; left = k.left });
     least = λ l input v n bytes none h. x.least l input (to v) n bytes none (as_that input v n h);
   }

@@ -18,14 +18,14 @@ use Rattle.amqp_batches.specs.WalkReading.{walk_reading}
 use Rattle.amqp_batches.specs.laws.Row.{row_text_none, row_text_joined, both_proper, front_writable, back_writable, front_or_back}
 use Rattle.amqp_batches.specs.laws.Row.{none_refused}
 use Rattle.amqp_batches.specs.Bounds.{IsFresh}
-use Rattle.amqp_batches.specs.laws.Bound.{still_fresh}
+use Rattle.amqp_batches.specs.laws.Bound.{still_fresh, begins_without_limits}
 use Rattle.amqp_batches.specs.laws.Resuming.{IsUnlimited, fresh_top, start_unlimited, IsRead, is_read_so, IsReadHere, read_here}
 use Rattle.amqp_messages.specs.declared.order.Order.{Order}
 use Rattle.amqp_messages.specs.declared.order.Order.TheVariants.{Any, Written}
 use Rattle.amqp_messages.specs.Orders.{behind, further}
 use Rattle.amqp_messages.specs.Groups.{Kind, Shape, Progress, GroupStep}
 use Rattle.amqp_messages.specs.MessageWalk.{message_walk}
-use Rattle.amqp_messages.specs.laws.MessageLimits.{AreBoundByLimits}
+use Rattle.amqp_messages.specs.laws.MessageLimits.{AreBoundByLimits, message_bound}
 use Rattle.amqp_batches.specs.GroupTexts.{IsSound}
 use Rattle.amqp_messages.specs.Entries.{Entry, Entries, no_more, entry, optional, size, row_of, AreValues, Last}
 use Rattle.amqp_messages.specs.Entries.{AreKept, AreSound, AreSame, AreAgain, after, IsClear, Fall}
@@ -336,5 +336,6 @@ module _ {M V : Type 0} (o : Order) (s : Shape M V) where
           y.from_same (again v) v (row_own y.entries (y.parts v) (y.parts (again v)) (y.agains v) (sound input v n h) (y.to_kept v k));
       large = λ input v n e h u.
           row_large y.entries (y.parts v) e (sound input v n h) (subst (λ t. AreUnwritable t e) (y.canons_are v) u);
+      bounded = begins_without_limits (walk_reading walk) (message_bound o s y.bound);
       least = λ l. absurd (cc);
     }

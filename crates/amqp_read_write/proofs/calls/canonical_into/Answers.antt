@@ -13,24 +13,24 @@ returns-clause-text g c = (
     read = c.in_ok-value.ensures.found;
     one = λ w m k. (c.in_ok-value.ensures.one _ w _ m c.in_ok-value.ensures.found k).0;
     bounded = c.in_ok-value.ensures.bounded _ _ c.in_ok-value.ensures.found;
-    writable = c.in_ok-written.ensures.writable;
+    writable = c.in_ok-len.ensures.writable;
     text_is = refl;
   },
-  placed _ _ _ _ c.in_ok-written.ensures.len c.in_ok-written.ensures.text c.in_ok-written.ensures.short,
+  placed _ _ _ _ c.in_ok-len.ensures.len c.in_ok-len.ensures.text c.in_ok-len.ensures.short,
 )
 
-pub returns-in_err-written-clause-refused : goal.returns-in_err-written-clause-refused
-returns-in_err-written-clause-refused g c no_more =
-    let p = err_from_is_err_and c.from_residual-in_err-written.result c.from_residual-in_err-written.ensures.1 in
-    rw (p.1, p.2) (unwritten_within g.met.T.Canonical.rewrites c.args.limits.now no_more c.args.input.now _ _ _
-    c.in_ok-value.ensures.found c.in_err-written.ensures.refused)
+pub returns-in_err-len-clause-refused : goal.returns-in_err-len-clause-refused
+returns-in_err-len-clause-refused g c =
+    let p = err_from_is_err_and c.from_residual-in_err-len.result c.from_residual-in_err-len.ensures.1 in
+    rw (p.1, p.2) (unwritten_within g.met.T.Canonical.rewrites c.args.limits.now c.args.input.now _ _ _
+    c.in_ok-value.ensures.found c.in_err-len.ensures.refused)
 
-pub returns-in_err-written-clause-unfailing : goal.returns-in_err-written-clause-unfailing
-returns-in_err-written-clause-unfailing g c =
-    let p = err_from_is_err_and c.from_residual-in_err-written.result c.from_residual-in_err-written.ensures.1 in
-    rw (p.1, p.2) (λ read. unwritten_apart _ _ c.in_err-written.ensures.refused (read_apart _ read))
+pub returns-in_err-len-clause-unfailing : goal.returns-in_err-len-clause-unfailing
+returns-in_err-len-clause-unfailing g c =
+    let p = err_from_is_err_and c.from_residual-in_err-len.result c.from_residual-in_err-len.ensures.1 in
+    rw (p.1, p.2) (λ read. unwritten_apart _ _ c.in_err-len.ensures.refused (read_apart _ read))
 
-pub returns-in_err-written-clause-limited : goal.returns-in_err-written-clause-limited
-returns-in_err-written-clause-limited g c =
-    let p = err_from_is_err_and c.from_residual-in_err-written.result c.from_residual-in_err-written.ensures.1 in
-    rw (p.1, p.2) (λ is greatest. unwritten_apart _ _ c.in_err-written.ensures.refused (subst IsOfReading (sym is) tt))
+pub returns-in_err-len-clause-limited : goal.returns-in_err-len-clause-limited
+returns-in_err-len-clause-limited g c =
+    let p = err_from_is_err_and c.from_residual-in_err-len.result c.from_residual-in_err-len.ensures.1 in
+    rw (p.1, p.2) (λ is greatest. unwritten_apart _ _ c.in_err-len.ensures.refused (subst IsOfReading (sym is) tt))

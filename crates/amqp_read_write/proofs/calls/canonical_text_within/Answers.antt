@@ -15,34 +15,34 @@ returns-clause-text g c = record {
 }
 
 pub returns-clause-read_again : goal.returns-clause-read_again
-returns-clause-read_again g c more =
+returns-clause-read_again g c =
     let laws = g.met.T.Canonical.rewrites in
-    read_again laws _ _ _ (without_limits laws c.args.limits.now more _ _ _ (returns-clause-text g c))
+    read_again laws _ _ _ (without_limits laws c.args.limits.now _ _ _ (returns-clause-text g c))
 
 pub returns-clause-one_text : goal.returns-clause-one_text
-returns-clause-one_text g c more =
+returns-clause-one_text g c =
     let laws = g.met.T.Canonical.rewrites in
-    one_text laws _ _ _ (without_limits laws c.args.limits.now more _ _ _ (returns-clause-text g c))
+    one_text laws _ _ _ (without_limits laws c.args.limits.now _ _ _ (returns-clause-text g c))
 
 pub returns-clause-no_other : goal.returns-clause-no_other
-returns-clause-no_other g c more =
+returns-clause-no_other g c =
     let laws = g.met.T.Canonical.rewrites in
-    no_other laws _ _ _ (without_limits laws c.args.limits.now more _ _ _ (returns-clause-text g c))
+    no_other laws _ _ _ (without_limits laws c.args.limits.now _ _ _ (returns-clause-text g c))
 
 pub returns-clause-unchanged : goal.returns-clause-unchanged
-returns-clause-unchanged g c more =
+returns-clause-unchanged g c =
     let laws = g.met.T.Canonical.rewrites in
-    unchanged laws _ _ _ (without_limits laws c.args.limits.now more _ _ _ (returns-clause-text g c))
+    unchanged laws _ _ _ (without_limits laws c.args.limits.now _ _ _ (returns-clause-text g c))
 
 pub returns-clause-no_shorter : goal.returns-clause-no_shorter
-returns-clause-no_shorter g c more =
+returns-clause-no_shorter g c =
     let laws = g.met.T.Canonical.rewrites in
-    shortest laws _ _ _ (without_limits laws c.args.limits.now more _ _ _ (returns-clause-text g c))
+    shortest laws _ _ _ (without_limits laws c.args.limits.now _ _ _ (returns-clause-text g c))
 
 pub returns-in_err-written-clause-refused : goal.returns-in_err-written-clause-refused
-returns-in_err-written-clause-refused g c no_more =
+returns-in_err-written-clause-refused g c =
     let p = err_from_is_err_and c.from_residual-in_err-written.result c.from_residual-in_err-written.ensures.1 in
-    rw (p.1, p.2) (unwritten_within g.met.T.Canonical.rewrites c.args.limits.now no_more c.args.input.now _ _ _
+    rw (p.1, p.2) (unwritten_within g.met.T.Canonical.rewrites c.args.limits.now c.args.input.now _ _ _
     c.in_ok-value.ensures.found c.in_err-written.ensures.refused)
 
 pub returns-in_err-written-clause-unfailing : goal.returns-in_err-written-clause-unfailing
