@@ -91,7 +91,10 @@ pub(crate) fn canonical_into(
     ensures kept { OnErr result (room.new ≡ room.old) }
 {
     let request = Request::new(number, limits)?;
-    match request.named.canonical_into(input, room, &request.within, alloc) {
+    match request
+        .named
+        .canonical_into(input, room, &request.within, alloc)
+    {
         Ok(lens) => Ok(lens),
         Err(error) => Err(Failure::Failed(error)),
     }

@@ -1,6 +1,9 @@
 //! Canonical text appended to a buffer or written into memory, and its length.
 use amqp_test_helpers::is_refused;
-use fe2o3_amqp_types::codec::{Error, Serialize, append_to_vec, encoded_len, to_vec, write_into};
+use fe2o3_amqp_types::codec::{
+    Canonical, Error, Limits, Serialize, append_to_vec, canonical_into, encoded_len, to_vec,
+    write_into,
+};
 use fe2o3_amqp_types::messaging::{Accepted, DeliveryState, Received};
 use fe2o3_amqp_types::primitives::Symbol;
 use std::alloc::Global;
@@ -71,6 +74,41 @@ fn text_is_written_into_memory(rt: HostRuntime) -> Result<(), Fail> {
     let alloc = rt.alloc();
     check_memory(Accepted {}, 4, "00532445aaaa", alloc)?;
     check_memory(DeliveryState::from(received()), 10, "aaaaaaaaaaaa", alloc)
+}
+
+// The type's value at the start of the bytes, rewritten into six bytes `aa`, is answered with these lengths, and makes these digits of them.
+fn check_rewritten<T: Canonical>(
+    input: &str,
+    wanted: Result<(usize, usize), Error>,
+    digits: &str,
+    alloc: Global,
+) -> Result<(), Fail> {
+    let mut memory = [0xaa; 6];
+    let input = hex::decode(alloc, input)?;
+    let outcome = canonical_into::<T>(&input, &mut memory, &Limits::greatest(), alloc);
+    let found = hex::encode(alloc, &memory)?;
+    if outcome != wanted || found.as_str() != digits {
+        return Err(Fail::new(format_args!("{found} stands for {digits}")));
+    }
+    Ok(())
+}
+
+#[test]
+fn text_is_rewritten_into_memory(rt: HostRuntime) -> Result<(), Fail> {
+    let alloc = rt.alloc();
+    check_rewritten::<Accepted>("005324c00000", Ok((4, 6)), "00532445aaaa", alloc)?;
+    check_rewritten::<Received>(
+        "005323c005025209530dff",
+        Ok((10, 10)),
+        "aaaaaaaaaaaa",
+        alloc,
+    )?;
+    check_rewritten::<Accepted>(
+        "005325c00000",
+        Err(Error::WrongDescriptor),
+        "aaaaaaaaaaaa",
+        alloc,
+    )
 }
 
 // Whether each call that measures or writes the value refuses it.

@@ -7,3 +7,4 @@ pub use Rattle.amqp_codec.specs.Spelled.{written, IsWritable}
 pub use Rattle.amqp_codec.specs.Rewriting.{Rewriting, HoldNoArray}
 pub use Rattle.amqp_read_write.specs.Rewritten.{IsRewritten, IsRewrittenWithin, IsReadAgain, AreReadAgain, IsOneText, IsOfNoOther}
 pub use Rattle.amqp_read_write.specs.Rewritten.{IsUnchanged, IsShortest, AreShortest, IsUnwritten, IsUnwrittenWithin}
+pub use Rattle.amqp_read_write.specs.Room.{IsPlaced, StandsIn, HasNoRoom}
