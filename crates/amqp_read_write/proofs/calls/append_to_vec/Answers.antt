@@ -15,8 +15,8 @@ returns-clause-text g c =
     c.serialize.ensures
     ∙ ap (λ bs. bs ++ row_text ts) b)
 
-never : goal.returns-in_err-serialize-clause-kept
-never g c =
+pub returns-in_err-serialize-clause-kept : goal.returns-in_err-serialize-clause-kept
+returns-in_err-serialize-clause-kept g c =
     let m = c.in_ok-len.ensures.measured in
     let ts = g.T.Serialize.writing.canons c.args.value.now in
     let proper = g.T.Serialize.writing.proper _ c.measure.ensures.is_value in
@@ -25,5 +25,12 @@ never g c =
     absurd (never_filled_in_part ts proper _ _ _ _ _ _ _ m.1 (omega (arith, ap length b))
     (c.filling_encoder-filling.ensures.begun _ m.0 m.2) c.serialize.ensures _ c.in_err-serialize.was)
 
-pub returns-in_err-serialize-clause-kept : goal.returns-in_err-serialize-clause-kept
-returns-in_err-serialize-clause-kept = never
+pub returns-in_err-serialize-clause-refused : goal.returns-in_err-serialize-clause-refused
+returns-in_err-serialize-clause-refused g c =
+    let m = c.in_ok-len.ensures.measured in
+    let ts = g.T.Serialize.writing.canons c.args.value.now in
+    let proper = g.T.Serialize.writing.proper _ c.measure.ensures.is_value in
+    let b : c.replace-room.result.items ≡ c.args.buffer.now.items =
+    ap (λ v. v.items) c.replace-room.ensures.value ∙ c.reserve_exact.ensures.items in
+    absurd (never_filled_in_part ts proper _ _ _ _ _ _ _ m.1 (omega (arith, ap length b))
+    (c.filling_encoder-filling.ensures.begun _ m.0 m.2) c.serialize.ensures _ c.in_err-serialize.was)

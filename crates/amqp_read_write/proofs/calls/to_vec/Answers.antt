@@ -1,7 +1,6 @@
-use Rattle.std.proofs.Common.{◌≡◌, [], ◌++◌, length, ap, ◌∙◌, arith, inl}
+use Rattle.std.proofs.Common.{◌≡◌, [], ◌++◌, length, ap, ◌∙◌, arith}
 use Rattle.amqp_encoder.specs.Passes.{row_text}
-use Rattle.std.proofs.lemmas.Result.{err_from_is_err_and}
-use Rattle.amqp_read_write.proofs.Passes.{filled, filling_refused}
+use Rattle.amqp_read_write.proofs.Passes.{filled, never_filled_in_part}
 use Rattle.amqp_read_write.proofs.calls.to_vec.Goals as goal
 
 pub returns-clause-text : goal.returns-clause-text
@@ -12,7 +11,7 @@ returns-clause-text g c =
     let b : c.in_ok-buffer.buffer.items ≡ [] = c.in_ok-buffer.ensures.items in
     c.buffer_of.ensures.bytes
     ∙ (filled ts proper _ _ _ _ _ _ _ m.1 (omega (arith, ap length b)) (c.filling_encoder-filling.ensures.begun _ m.0 m.2)
-    c.serialize.ensures c.in_ok-serialize.was
+    c.serialize.ensures
     ∙ ap (λ bs. bs ++ row_text ts) b)
 
 pub returns-in_err-serialize-clause-refused : goal.returns-in_err-serialize-clause-refused
@@ -21,7 +20,5 @@ returns-in_err-serialize-clause-refused g c =
     let ts = g.T.Serialize.writing.canons c.args.value.now in
     let proper = g.T.Serialize.writing.proper _ c.measure.ensures.is_value in
     let b : c.in_ok-buffer.buffer.items ≡ [] = c.in_ok-buffer.ensures.items in
-    let p = err_from_is_err_and c.from_residual-in_err-serialize.result c.from_residual-in_err-serialize.ensures.1 in
-    rw (p.1, p.2)
-    (inl (filling_refused ts proper _ _ _ _ _ _ _ m.1 (omega (arith, ap length b)) (c.filling_encoder-filling.ensures.begun _ m.0 m.2)
-    c.serialize.ensures _ c.in_err-serialize.was))
+    absurd (never_filled_in_part ts proper _ _ _ _ _ _ _ m.1 (omega (arith, ap length b))
+    (c.filling_encoder-filling.ensures.begun _ m.0 m.2) c.serialize.ensures _ c.in_err-serialize.was)

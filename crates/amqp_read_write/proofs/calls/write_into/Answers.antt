@@ -1,31 +1,17 @@
-use Rattle.std.proofs.Common.{◌++◌, drop, refl, ap, ◌∙◌, inl, inr, arith}
+use Rattle.std.proofs.Common.{◌++◌, drop, refl, ap, ◌∙◌, arith}
 use Rattle.std.proofs.lemmas.List.{length-take-le}
-use Rattle.std.proofs.lemmas.Result.{err_from_is_err_and}
-use Rattle.amqp_read_write.proofs.FilledMemory.{on_err, behind_front}
+use Rattle.amqp_read_write.proofs.FilledMemory.{behind_front}
 use Rattle.amqp_read_write.proofs.calls.write_into.Goals as goal
 
 pub fill_memory-requires-clause-measured : goal.fill_memory-requires-clause-measured
 fill_memory-requires-clause-measured g c =
     rw (length-take-le c.in_ok-len.len c.args.room.now c.if-room-len.false) c.in_ok-len.ensures.measured
 
-pub returns-in_err-len-clause-kept : goal.returns-in_err-len-clause-kept
-returns-in_err-len-clause-kept g c = on_err _ _ (λ e is. inr refl)
-
 pub returns-then-room-len-clause-text : goal.returns-then-room-len-clause-text
 returns-then-room-len-clause-text g c h = let no : ⊥ = omega (arith, h, c.if-room-len.true) in absurd no
 
 pub returns-then-room-len-clause-short : goal.returns-then-room-len-clause-short
 returns-then-room-len-clause-short g c h = refl
-
-pub returns-in_err-fill_memory-clause-refused : goal.returns-in_err-fill_memory-clause-refused
-returns-in_err-fill_memory-clause-refused g c =
-    let p = err_from_is_err_and c.from_residual-in_err-fill_memory.result c.from_residual-in_err-fill_memory.ensures.1 in
-    rw (p.1, p.2) (inl c.in_err-fill_memory.ensures.refused)
-
-pub returns-in_err-fill_memory-clause-kept : goal.returns-in_err-fill_memory-clause-kept
-returns-in_err-fill_memory-clause-kept g c =
-    let p = err_from_is_err_and c.from_residual-in_err-fill_memory.result c.from_residual-in_err-fill_memory.ensures.1 in
-    rw (p.1, p.2) (inl c.in_err-fill_memory.ensures.refused)
 
 pub returns-in_err-fill_memory-clause-behind : goal.returns-in_err-fill_memory-clause-behind
 returns-in_err-fill_memory-clause-behind g c =
