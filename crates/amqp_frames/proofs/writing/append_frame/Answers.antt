@@ -1,8 +1,9 @@
 use Rattle.std.proofs.Common.{◌≡◌, ◌++◌, length, take, ap, sym, inl, inr, ◌∙◌, arith, length-append}
+use Rattle.std.proofs.Math.Seq.{take-append_seam}
 use Rattle.std.proofs.lemmas.Result.{err_from_is_err_and}
 use Rattle.amqp_encoder.specs.Passes.{row_text}
 use Rattle.amqp_codec.specs.Spelled.{written}
-use Rattle.amqp_read_write.proofs.Passes.{filled, filling_refused, front_kept}
+use Rattle.amqp_read_write.proofs.Passes.{filled, never_filled_in_part}
 use Rattle.amqp_frames.specs.Frames.{frame_header_bytes}
 use Rattle.amqp_frames.proofs.WriteLemmas.{kept_front, greatest_below, sized, framed}
 use Rattle.amqp_frames.proofs.writing.append_frame.Goals as goal
@@ -33,7 +34,7 @@ returns-in-Ok-clause-text g c =
     framed front (frame_header_bytes c.in_ok-header.header) (row_text ts) payload _ _ (text ++ payload)
     (c.buffer_of.ensures.bytes
     ∙ (filled ts proper _ _ _ _ _ _ _ m.1 (omega (arith, ap length room)) (c.filling_encoder-filling.ensures.begun _ m.0 m.2)
-    c.serialize-outcome.ensures c.in-Ok.ensures.written
+    c.serialize-outcome.ensures
     ∙ ap (λ bs. bs ++ row_text ts) (room ∙ c.in_ok-append_header.ensures.text)))
     c.in-Ok.ensures.text
     (ap (λ bs. bs ++ payload) (c.one_term_is_written.ensures.text v))
@@ -50,8 +51,8 @@ returns-clause-refused g c =
     elim c.in-Err.ensures.refused [
       | inl memory ↦ inl memory
       | inr is ↦
-          inl (filling_refused ts proper _ _ _ _ _ _ _ m.1 (omega (arith, ap length room)) (c.filling_encoder-filling.ensures.begun _ m.0 m.2)
-          c.serialize-outcome.ensures _ is)
+          absurd (never_filled_in_part ts proper _ _ _ _ _ _ _ m.1 (omega (arith, ap length room))
+          (c.filling_encoder-filling.ensures.begun _ m.0 m.2) c.serialize-outcome.ensures _ is)
     ]
 
 pub returns-clause-kept : goal.returns-clause-kept
@@ -66,6 +67,8 @@ returns-clause-kept g c =
     c.truncate.ensures.items
     ∙ (ap (take c.len-before.result) (c.in-Err.ensures.kept ∙ c.buffer_of.ensures.bytes)
     ∙ kept_front c.len-before.result front head _ (omega arith)
-    (front_kept ts proper _ _ _ _ _ _ _ m.1 (omega (arith, ap length room)) (c.filling_encoder-filling.ensures.begun _ m.0 m.2)
-    c.serialize-outcome.ensures _ (sym (ap length b))
-    ∙ b))
+    (ap (take (length (front ++ head)))
+    (filled ts proper _ _ _ _ _ _ _ m.1 (omega (arith, ap length room)) (c.filling_encoder-filling.ensures.begun _ m.0 m.2)
+    c.serialize-outcome.ensures
+    ∙ ap (λ bs. bs ++ row_text ts) b)
+    ∙ take-append_seam (front ++ head) (row_text ts)))
