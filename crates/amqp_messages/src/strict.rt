@@ -17,7 +17,6 @@ ghost use Rattle.amqp_messages.specs.MessageTypes.{message_of, message_in, as_st
 ghost use Rattle.amqp_messages.specs.MessageWalk.{message_walk};
 ghost use Rattle.amqp_messages.specs.laws.StrictAgain.{strict_is_rewritten};
 
-use crate::laws::limits_bound_messages;
 use crate::message::Message;
 use crate::order::Order;
 use crate::read::read_message;
@@ -202,7 +201,6 @@ pub fn canonical_text_strict_within<B: CanonicalBody>(
         → BeginsWithin limits.now ⟦<Strict<B> as Deserialize>⟧.reading bytes strict n
         → BeginsWithin limits.now ⟦<Message<B> as Deserialize>⟧.reading bytes (message_in strict) n × (n ≡ length bytes) }
 {
-    limits_bound_messages::<B>();
     match canonical_text_within::<Strict<B>>(input, limits, alloc) {
         Ok((text, _len)) => Ok(text),
         Err(error) => Err(error),

@@ -7,28 +7,20 @@ returns-in-Ok-clause-text g c = text_of_all g.B.FromBody.made c.args.limits.now 
 pub returns-in-Ok-clause-read_again : goal.returns-in-Ok-clause-read_again
 returns-in-Ok-clause-read_again g c =
     again_of_all g.B.FromBody.made c.args.limits.now c.in-Ok.ensures.text
-    (c.in-Ok.ensures.read_again (λ input v n h. ((c.limits_bound_messages.ensures.strict c.args.limits.now input v n).0 h).0))
+    c.in-Ok.ensures.read_again
 
 pub returns-in-Ok-clause-one_text : goal.returns-in-Ok-clause-one_text
 returns-in-Ok-clause-one_text g c =
     one_of_all g.B.FromBody.made c.args.limits.now c.in-Ok.ensures.text
-    (c.in-Ok.ensures.one_text (λ input v n h. ((c.limits_bound_messages.ensures.strict c.args.limits.now input v n).0 h).0))
+    c.in-Ok.ensures.one_text
 
 pub returns-in-Ok-clause-no_other : goal.returns-in-Ok-clause-no_other
 returns-in-Ok-clause-no_other g c =
     other_of_all g.B.FromBody.made c.args.limits.now c.in-Ok.ensures.text
-    (c.in-Ok.ensures.no_other (λ input v n h. ((c.limits_bound_messages.ensures.strict c.args.limits.now input v n).0 h).0))
-
-pub returns-in-Ok-clause-unchanged : goal.returns-in-Ok-clause-unchanged
-returns-in-Ok-clause-unchanged g c =
-    c.in-Ok.ensures.unchanged (λ input v n h. ((c.limits_bound_messages.ensures.strict c.args.limits.now input v n).0 h).0)
+    c.in-Ok.ensures.no_other
 
 pub returns-in-Ok-clause-in_any_order : goal.returns-in-Ok-clause-in_any_order
 returns-in-Ok-clause-in_any_order g c = strict_message g.B.FromBody.made c.args.limits.now
-
-pub returns-in-Err-clause-refused : goal.returns-in-Err-clause-refused
-returns-in-Err-clause-refused g c =
-    c.in-Err.ensures.refused (λ input v n h. ((c.limits_bound_messages.ensures.strict c.args.limits.now input v n).0 h).0)
 
 pub returns-in-Err-clause-in_any_order : goal.returns-in-Err-clause-in_any_order
 returns-in-Err-clause-in_any_order g c = strict_message g.B.FromBody.made c.args.limits.now
