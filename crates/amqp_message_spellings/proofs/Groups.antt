@@ -1,0 +1,111 @@
+-- Groups of sections are read as they are spelled: batches, bodies, and what may be absent.
+use Rattle.std.proofs.Common.{ℕ, List, ◌++◌, length, Option, Some, None, refl, sym, subst}
+use Rattle.std.proofs.lemmas.List.{take-append-drop}
+use Rattle.amqp_lookahead.specs.Sections.{IsSectionAhead}
+use Rattle.amqp_decoder.specs.State.{State}
+use Rattle.amqp_codec.specs.TermType.{TermType}
+use Rattle.amqp_codec.specs.TermReading.{reading_of}
+use Rattle.amqp_codec.specs.Reading.{Reading, looking, start, BeginsWith}
+use Rattle.amqp_sections.specs.declared.data.Data.{Data as DataSection}
+use Rattle.amqp_sections.specs.declared.amqp_sequence.AmqpSequence.{AmqpSequence}
+use Rattle.amqp_sections.specs.declared.amqp_value.AmqpValue.{AmqpValue}
+use Rattle.amqp_batches.specs.declared.transparent_vec.TransparentVec.{TransparentVec}
+use Rattle.amqp_batches.specs.Batches.{sections_in, batch_reading, batch_bound}
+use Rattle.amqp_batches.specs.laws.Bound.{term_bound, takes_so}
+use Rattle.amqp_batches.specs.laws.Resuming.{start_unlimited, fresh_top}
+use Rattle.amqp_batches.specs.SectionGroups.{RunReads, run_reading}
+use Rattle.amqp_bodies.specs.declared.body.Body.{Body}
+use Rattle.amqp_bodies.specs.declared.body.Body.TheVariants.{Value, Data, Sequence, Empty}
+use Rattle.amqp_bodies.specs.BodyReading.{body_reading, body_bound}
+use Rattle.amqp_bodies.specs.SomeReading.{some_reading, some_bound}
+use Rattle.amqp_bodies.specs.SeenReading.{seen_reading, seen_bound, read_behind}
+use Rattle.amqp_message_spellings.specs.Spellings.{Spells, Begins, IsSection, IsTerm, IsBatch, IsThere}
+use Rattle.amqp_message_spellings.specs.Bodies.{IsBody}
+use Rattle.amqp_message_spellings.proofs.ReadAs.{IsReadAs, term_is_read}
+use Rattle.amqp_message_spellings.proofs.Runs.{run_is_read}
+
+pub batch_is_read : {T : Type 0} (c : ℕ) (u : TermType T) → IsReadAs (batch_reading c (reading_of u)) (IsBatch c (IsTerm u))
+batch_is_read c u =
+    let l = run_is_read c (term_is_read u) in
+    record {
+      bound = batch_bound c (reading_of u) (term_bound u);
+      spelled = λ input v n h. l.spelled input (sections_in v) n (record { after = h.after; read = h.read; left = h.left });
+      read = λ b more v s.
+          (let h = l.read b more (sections_in v) s in record { after = h.after; read = h.read; left = h.left });
+    }
+
+-- As a group, which begins with its section.
+pub section_is_read : {V : Type 0} (c : ℕ) {r : Reading V} {spells : Spells V} → IsReadAs r spells
+    → IsReadAs (run_reading c r) (IsSection c spells)
+section_is_read c {r} l = record {
+  bound = λ st v b fresh h.
+      takes_so (λ first last. r.reads first v last) (λ first last. RunReads c r first v last) st b st b refl refl
+      (λ free nesting left quota l q read. (h.0, read)) (l.bound st v b fresh h.1);
+  spelled = λ input v n h.
+      (let s = l.spelled input v n (record { after = h.after; read = h.read.1; left = h.left }) in
+      (s.0, (subst (λ z. IsSectionAhead z c) (sym (take-append-drop n input)) h.read.0, s.1)));
+  read = λ b more v s.
+      (let h = l.read b more v s.1 in record { after = h.after; read = (s.0, h.read); left = h.left });
+}
+
+-- Behind a look at what comes next.
+pub seen_is_read : {V : Type 0} {r : Reading V} {spells : Spells V} → IsReadAs r spells → IsReadAs (seen_reading r) spells
+seen_is_read {r = r} l = record {
+  bound = seen_bound r l.bound;
+  spelled = λ input v n h.
+      (let k = h.read in
+      let f = read_behind r (start input) k.seen (start input) v h.after k.alike refl k.read in
+      l.spelled input v n (record { after = looking f.0 h.after; read = f.1; left = h.left }));
+  read = λ b more v s.
+      (let h = l.read b more v s in
+      record { after = h.after; read = record { seen = start (b ++ more); alike = refl; read = h.read }; left = h.left });
+}
+
+module _ {V : Type 0} {r : Reading V} {spells : Spells V} (l : IsReadAs r spells) where
+  there_spelled : (input : List ℕ) (v : Option V) (n : ℕ) → BeginsWith (some_reading r) input v n → Begins (IsThere spells) input v n
+  there_spelled input None n h = absurd h.read
+  there_spelled input (Some v) n h = l.spelled input v n (record { after = h.after; read = h.read; left = h.left })
+
+  there_read : (b more : List ℕ) (v : Option V) → IsThere spells b v more → BeginsWith (some_reading r) (b ++ more) v (length b)
+  there_read b more None s = absurd s
+  there_read b more (Some v) s = let h = l.read b more v s in record { after = h.after; read = h.read; left = h.left }
+
+  pub there_is_read : IsReadAs (some_reading r) (IsThere spells)
+  there_is_read = record { bound = some_bound r l.bound; spelled = there_spelled; read = there_read }
+
+module _ {T : Type 0} {rv : Reading (AmqpValue T)} {rd : Reading (TransparentVec DataSection)}
+    {rs : Reading (TransparentVec (AmqpSequence T))} {sv : Spells (AmqpValue T)} {sd : Spells (TransparentVec DataSection)}
+    {ss : Spells (TransparentVec (AmqpSequence T))} (lv : IsReadAs rv sv) (ld : IsReadAs rd sd) (ls : IsReadAs rs ss) where
+  body_spelled : (input : List ℕ) (v : Body T) (n : ℕ) → BeginsWith (body_reading rv rd rs) input v n
+      → Begins (IsBody sv sd ss) input v n
+  body_spelled input (Value v) n h =
+      (section_is_read 0x77 lv).spelled input v n (record { after = h.after; read = (h.read.1.0, h.read.1.1); left = h.left })
+  body_spelled input (Data v) n h =
+      (section_is_read 0x75 ld).spelled input v n (record { after = h.after; read = (h.read.1.0, h.read.1.1); left = h.left })
+  body_spelled input (Sequence v) n h =
+      (section_is_read 0x76 ls).spelled input v n (record { after = h.after; read = (h.read.1.0, h.read.1.1); left = h.left })
+  body_spelled input Empty n h = absurd h.read
+
+  body_read : (b more : List ℕ) (v : Body T) → IsBody sv sd ss b v more → BeginsWith (body_reading rv rd rs) (b ++ more) v (length b)
+  body_read b more (Value v) s =
+      let h = lv.read b more v s.1 in
+      record { after = h.after; read = (fresh_top (start (b ++ more)) (start_unlimited (b ++ more)).0, (s.0, h.read)); left = h.left }
+  body_read b more (Data v) s =
+      let h = ld.read b more v s.1 in
+      record { after = h.after; read = (fresh_top (start (b ++ more)) (start_unlimited (b ++ more)).0, (s.0, h.read)); left = h.left }
+  body_read b more (Sequence v) s =
+      let h = ls.read b more v s.1 in
+      record { after = h.after; read = (fresh_top (start (b ++ more)) (start_unlimited (b ++ more)).0, (s.0, h.read)); left = h.left }
+  body_read b more Empty s = absurd s
+
+  body_is_read : IsReadAs (body_reading rv rd rs) (IsBody sv sd ss)
+  body_is_read = record {
+    bound = body_bound rv rd rs lv.bound (section_is_read 0x75 ld).bound (section_is_read 0x76 ls).bound;
+    spelled = body_spelled;
+    read = body_read;
+  }
+
+pub any_body_is_read : {T : Type 0} (uv : TermType (AmqpValue T)) (ud : TermType DataSection) (us : TermType (AmqpSequence T))
+    → IsReadAs (seen_reading (body_reading (reading_of uv) (batch_reading 0x75 (reading_of ud)) (batch_reading 0x76 (reading_of us))))
+    (IsBody (IsTerm uv) (IsBatch 0x75 (IsTerm ud)) (IsBatch 0x76 (IsTerm us)))
+any_body_is_read uv ud us = seen_is_read (body_is_read (term_is_read uv) (batch_is_read 0x75 ud) (batch_is_read 0x76 us))

@@ -1,0 +1,4 @@
+pub mod Spellings
+pub mod Bodies
+pub mod Kinds
+pub mod Messages
