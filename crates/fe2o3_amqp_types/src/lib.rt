@@ -91,6 +91,7 @@ pub mod laws {
     pub use amqp_map_sections::laws as map_sections;
     pub use amqp_maps::laws as maps;
     pub use amqp_message_headers::laws as message_headers;
+    pub use amqp_message_spellings as message_spellings;
     pub use amqp_messages::laws as messages;
     pub use amqp_performatives::laws as performatives;
     pub use amqp_primitives::laws as primitives;
