@@ -1,19 +1,19 @@
 use Rattle.amqp_c.proofs.rewriting.len_of_value.Goals as goal
 
 pub returns-in-Attach-types-clause-refused : goal.returns-in-Attach-types-clause-refused
-returns-in-Attach-types-clause-refused c = rw c.in-Attach-types.is c.len_within-6.ensures.refused
+returns-in-Attach-types-clause-refused c = rw c.in-Attach-types.is c.types-len_within-6.ensures.refused
 
 pub returns-in-Flow-types-clause-refused : goal.returns-in-Flow-types-clause-refused
-returns-in-Flow-types-clause-refused c = rw c.in-Flow-types.is c.len_within-29.ensures.refused
+returns-in-Flow-types-clause-refused c = rw c.in-Flow-types.is c.types-len_within-29.ensures.refused
 
 pub returns-in-Open-types-clause-refused : goal.returns-in-Open-types-clause-refused
-returns-in-Open-types-clause-refused c = rw c.in-Open-types.is c.len_within-40.ensures.refused
+returns-in-Open-types-clause-refused c = rw c.in-Open-types.is c.types-len_within-40.ensures.refused
 
 pub returns-in-Properties-types-clause-refused : goal.returns-in-Properties-types-clause-refused
-returns-in-Properties-types-clause-refused c = rw c.in-Properties-types.is c.len_within-43.ensures.refused
+returns-in-Properties-types-clause-refused c = rw c.in-Properties-types.is c.types-len_within-43.ensures.refused
 
 pub returns-in-Source-types-clause-refused : goal.returns-in-Source-types-clause-refused
-returns-in-Source-types-clause-refused c = rw c.in-Source-types.is c.len_within-53.ensures.refused
+returns-in-Source-types-clause-refused c = rw c.in-Source-types.is c.types-len_within-53.ensures.refused
 
 pub returns-in-Transfer-types-clause-refused : goal.returns-in-Transfer-types-clause-refused
-returns-in-Transfer-types-clause-refused c = rw c.in-Transfer-types.is c.len_within-61.ensures.refused
+returns-in-Transfer-types-clause-refused c = rw c.in-Transfer-types.is c.types-len_within-61.ensures.refused

@@ -1,6 +1,6 @@
 use Rattle.std.proofs.lemmas.Result.{err_from_is_err_and}
 use Rattle.amqp_c.proofs.Requests.{refused}
-use Rattle.amqp_c.proofs.rewriting.canonical_text.Goals as goal
+use Rattle.amqp_c.proofs.rewriting.canonical_into.Goals as goal
 
 pub returns-in_err-request-clause-refused : goal.returns-in_err-request-clause-refused
 returns-in_err-request-clause-refused c =
