@@ -4,3 +4,6 @@ pub mod Groups
 pub mod Codes
 pub mod Turned
 pub mod Messages
+pub mod NoTerms
+pub mod Faulty
+pub mod MessageFaults

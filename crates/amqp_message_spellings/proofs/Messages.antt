@@ -29,7 +29,7 @@ use Rattle.amqp_message_spellings.proofs.Turned.{ks, shape, fields, turned, read
 
 module _ {S B : Type 0} (made : Made S B) {body : Spells S} (l : IsReadAs made.group body) where
   -- How many groups there may still be behind one.
-  abbrev further : Order → ℕ → Group (ks made l) → ℕ
+  abbrev pub further : Order → ℕ → Group (ks made l) → ℕ
   further Any left g = left - 1
   further Written left g = behind (ks made l) g
 
@@ -38,31 +38,32 @@ module _ {S B : Type 0} (made : Made S B) {body : Spells S} (l : IsReadAs made.g
   as_by_code Any left c g e = refl
   as_by_code Written left c g e = e
 
-  abbrev left_by : Order → ℕ → List (Group (ks made l)) → ℕ
+  abbrev pub left_by : Order → ℕ → List (Group (ks made l)) → ℕ
   left_by o n [] = n
   left_by o n (g ∷ gs) = left_by o (further o n g) gs
 
-  abbrev AreInPlace : Order → ℕ → List (Group (ks made l)) → Type 0
+  abbrev pub AreInPlace : Order → ℕ → List (Group (ks made l)) → Type 0
   AreInPlace o n [] = Unit {0}
   AreInPlace o n (g ∷ gs) = (further o n g < n) × AreInPlace o (further o n g) gs
 
-  abbrev so : ℕ → Groups S → Progress (Groups S)
+  abbrev pub so : ℕ → Groups S → Progress (Groups S)
   so n m = record { left = n; part = m }
 
   module _ (o : Order) where
-    abbrev walk : walks.Walk (Progress (Groups S)) (Message B)
+    abbrev pub walk : walks.Walk (Progress (Groups S)) (Message B)
     walk = message_walk o (shape made l)
 
-    record TookGroups (st : State) (m x : Progress (Groups S)) (b : State) : Type 0 where
-      groups : List (Group (ks made l))
-      left : x.left ≡ left_by o m.left groups
-      part : fields made l x.part ≡ put_all (ks made l) groups (fields made l m.part)
-      placed : AreInPlace o m.left groups
-      bytes : List ℕ
-      split : st.rest ≡ bytes ++ b.rest
-      are : Are (IsGroup (ks made l)) bytes groups b.rest
+    pub record TookGroups (st : State) (m x : Progress (Groups S)) (b : State) : Type 0 where
+      pub groups : List (Group (ks made l))
+      pub left : x.left ≡ left_by o m.left groups
+      pub part : fields made l x.part ≡ put_all (ks made l) groups (fields made l m.part)
+      pub placed : AreInPlace o m.left groups
+      pub bytes : List ℕ
+      pub split : st.rest ≡ bytes ++ b.rest
+      pub are : Are (IsGroup (ks made l)) bytes groups b.rest
+      pub free : IsUnlimited b
 
-    took_groups : (n : ℕ) (st : State) (m x : Progress (Groups S)) (b : State) → IsUnlimited st → Steps walk n st m x b
+    pub took_groups : (n : ℕ) (st : State) (m x : Progress (Groups S)) (b : State) → IsUnlimited st → Steps walk n st m x b
         → TookGroups st m x b
     took_groups zero st m x b free (i, e) = record {
       groups = [];
@@ -72,6 +73,7 @@ module _ {S B : Type 0} (made : Made S B) {body : Spells S} (l : IsReadAs made.g
       bytes = [];
       split = ap (λ (z : State). z.rest) (sym e);
       are = refl;
+      free = subst IsUnlimited (sym e) free;
     }
     took_groups (suc n) st m x b free (y, mid, h, k) =
         let t = turned made l h.code st h.fills.group mid free h.ahead h.fills.read in
@@ -86,6 +88,7 @@ module _ {S B : Type 0} (made : Made S B) {body : Spells S} (l : IsReadAs made.g
           bytes = t.took.bytes ++ r.bytes;
           split = t.took.split ∙ ap (λ z. t.took.bytes ++ z) r.split ∙ sym (append_assoc t.took.bytes r.bytes b.rest);
           are = (t.took.bytes, r.bytes, refl, subst (IsGroup (ks made l) t.took.bytes t.group) r.split t.took.is, r.are);
+          free = r.free;
         }
 
     record ReadGroups (st : State) (left : ℕ) (m : Groups S) (gs : List (Group (ks made l))) (more : List ℕ) : Type 0 where
@@ -197,15 +200,15 @@ module _ {S B : Type 0} (made : Made S B) {body : Spells S} (l : IsReadAs made.g
   few_placed [] n few = tt
   few_placed (g ∷ gs) n few = (omega (arith, few), few_placed gs (n - 1) (omega (arith, few)))
 
-  placed_few : (gs : List (Group (ks made l))) (n : ℕ) → AreInPlace Any n gs → length gs ≤ n
+  pub placed_few : (gs : List (Group (ks made l))) (n : ℕ) → AreInPlace Any n gs → length gs ≤ n
   placed_few [] n p = omega arith
   placed_few (g ∷ gs) n p = let first = p.0 in omega (arith, first, placed_few gs (n - 1) p.1)
 
-  left_any : (gs : List (Group (ks made l))) (n : ℕ) → left_by Any n gs ≡ n - length gs
+  pub left_any : (gs : List (Group (ks made l))) (n : ℕ) → left_by Any n gs ≡ n - length gs
   left_any [] n = omega arith
   left_any (g ∷ gs) n = omega (arith, left_any gs (n - 1))
 
-  seven_left : (gs : List (Group (ks made l))) (more : List ℕ) → length gs ≤ 7 → (left_by Any 7 gs ≡ 0) ⊎ (more ≡ [])
+  pub seven_left : (gs : List (Group (ks made l))) (more : List ℕ) → length gs ≤ 7 → (left_by Any 7 gs ≡ 0) ⊎ (more ≡ [])
       → (length gs ≡ 7) ⊎ (more ≡ [])
   seven_left gs more few (inl e) = inl (omega (arith, e, few, left_any gs 7))
   seven_left gs more few (inr e) = inr e
@@ -246,7 +249,7 @@ module _ {S B : Type 0} (made : Made S B) {body : Spells S} (l : IsReadAs made.g
   fall_placed [] n h = tt
   fall_placed (g ∷ gs) n h = (h.0, fall_placed gs (behind (ks made l) g) h.1)
 
-  placed_fall : (gs : List (Group (ks made l))) (n : ℕ) → AreInPlace Written n gs → Fall (ks made l) n gs
+  pub placed_fall : (gs : List (Group (ks made l))) (n : ℕ) → AreInPlace Written n gs → Fall (ks made l) n gs
   placed_fall [] n p = tt
   placed_fall (g ∷ gs) n p = (p.0, placed_fall gs (behind (ks made l) g) p.1)
 

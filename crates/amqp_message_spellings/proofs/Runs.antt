@@ -15,20 +15,22 @@ use Rattle.amqp_message_spellings.specs.Spellings.{Spells, Begins, IsSection, Ar
 use Rattle.amqp_message_spellings.proofs.ReadAs.{IsReadAs, took, takes, still_free}
 
 module _ {T : Type 0} (c : ℕ) {r : Reading T} {spells : Spells T} (l : IsReadAs r spells) where
-  record TookSome (st : State) (xs ys : List T) (b : State) : Type 0 where
-    values : List T
-    grown : ys ≡ xs ++ values
-    bytes : List ℕ
-    split : st.rest ≡ bytes ++ b.rest
-    are : Are (IsSection c spells) bytes values b.rest
+  pub record TookSome (st : State) (xs ys : List T) (b : State) : Type 0 where
+    pub values : List T
+    pub grown : ys ≡ xs ++ values
+    pub bytes : List ℕ
+    pub split : st.rest ≡ bytes ++ b.rest
+    pub are : Are (IsSection c spells) bytes values b.rest
+    pub free : IsUnlimited b
 
-  took_some : (n : ℕ) (st : State) (xs ys : List T) (b : State) → IsUnlimited st → Steps (run_walk c r) n st xs ys b → TookSome st xs ys b
+  pub took_some : (n : ℕ) (st : State) (xs ys : List T) (b : State) → IsUnlimited st → Steps (run_walk c r) n st xs ys b → TookSome st xs ys b
   took_some zero st xs ys b free (i, e) = record {
     values = [];
     grown = i ∙ sym (append-nil xs);
     bytes = [];
     split = ap (λ (z : State). z.rest) (sym e);
     are = refl;
+    free = subst IsUnlimited (sym e) free;
   }
   took_some (suc n) st xs ys b free (zs, mid, s, h) =
       let t = took l st s.item mid free s.read in
@@ -46,6 +48,7 @@ module _ {T : Type 0} (c : ℕ) {r : Reading T} {spells : Spells T} (l : IsReadA
           (subst (λ z. IsSectionAhead z c) whole s.ahead, subst (spells t.bytes s.item) k.split t.is),
           k.are,
         );
+        free = k.free;
       }
 
   record ReadSome (st : State) (xs vs : List T) (more : List ℕ) : Type 0 where

@@ -2,3 +2,4 @@ pub mod Spellings
 pub mod Bodies
 pub mod Kinds
 pub mod Messages
+pub mod Faults

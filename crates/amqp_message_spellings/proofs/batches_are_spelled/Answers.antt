@@ -1,6 +1,10 @@
 use Rattle.amqp_message_spellings.proofs.ReadAs.{exactly}
 use Rattle.amqp_message_spellings.proofs.Groups.{batch_is_read}
+use Rattle.amqp_message_spellings.proofs.Faulty.{of_input, batch_named}
 use Rattle.amqp_message_spellings.proofs.batches_are_spelled.Goals as goal
 
-pub returns : goal.returns
-returns g c = exactly (batch_is_read g.T.BatchItem.code g.T.DeserializeTerm.term)
+pub returns-clause-exactly : goal.returns-clause-exactly
+returns-clause-exactly g c = exactly (batch_is_read g.T.BatchItem.code g.T.DeserializeTerm.term)
+
+pub returns-clause-refused : goal.returns-clause-refused
+returns-clause-refused g c = of_input (batch_named g.T.BatchItem.code g.T.DeserializeTerm.term)

@@ -1,0 +1,160 @@
+-- The faults of messages are those of their bytes.
+use Rattle.std.proofs.Common.{◌≡◌, ◌⊎◌, inl, inr, ℕ, zero, suc, ◌-◌, ◌<◌, ◌≤◌, true, false, List, [], ◌∷◌, ◌++◌, length, None, refl, sym, ap, ◌∙◌, subst, arith}
+use Rattle.amqp_wire.specs.declared.error.Error.{Error}
+use Rattle.amqp_wire.specs.declared.error.Error.TheVariants.{Misplaced}
+use Rattle.amqp_lookahead.specs.Sections.{IsSectionAhead}
+use Rattle.amqp_decoder.specs.State.{State}
+use Rattle.amqp_codec.specs.Composite.{composite}
+use Rattle.amqp_sections.specs.SectionType.{section_of}
+use Rattle.amqp_annotations.specs.AnnotationsType.{annotations_type}
+use Rattle.amqp_map_sections.specs.MapSections.{in_delivery_annotations, delivery_annotations_naming, in_message_annotations}
+use Rattle.amqp_map_sections.specs.MapSections.{message_annotations_naming, in_application_properties, application_properties_naming}
+use Rattle.amqp_map_sections.specs.MapSections.{in_footer, footer_naming}
+use Rattle.amqp_map_sections.specs.SimpleMaps.{simple_map_type}
+use Rattle.amqp_message_headers.specs.Tables.{header, properties}
+use Rattle.amqp_batches.specs.laws.Resuming.{IsUnlimited, fresh_top}
+use Rattle.amqp_batches.specs.laws.State.{alike_rest}
+use Rattle.amqp_batches.specs.Walk.{WalkFault, not_top, in_step, not_made}
+use Rattle.amqp_batches.specs.WalkReading.{walk_reading, reading_via}
+use Rattle.amqp_bodies.specs.Bodies.{Made}
+use Rattle.amqp_messages.specs.declared.message.Groups.{Groups}
+use Rattle.amqp_messages.specs.declared.order.Order.TheVariants.{Any, Written}
+use Rattle.amqp_messages.specs.Groups.{Progress, GroupFault, in_group, misplaced, not_section}
+use Rattle.amqp_messages.specs.MessageTypes.{message_in}
+use Rattle.amqp_messages.specs.MessageWalk.{message_walk}
+use Rattle.amqp_messages.specs.Orders as orders
+use Rattle.amqp_message_spellings.specs.Spellings.{Spells, Are}
+use Rattle.amqp_message_spellings.specs.Kinds.{Group, IsGroup, behind, put_all, nothing}
+use Rattle.amqp_message_spellings.specs.Messages.{body_in}
+use Rattle.amqp_message_spellings.specs.Faults.{Faults, IsNoTerm, IsGroupFault, IsNoSection, HasNoBody, IsMessageFault, IsStrictFault, left_behind}
+use Rattle.amqp_message_spellings.proofs.ReadAs.{IsReadAs}
+use Rattle.amqp_message_spellings.proofs.Codes.{IsCode, code_ahead}
+use Rattle.amqp_message_spellings.proofs.Turned.{ks, shape, fields}
+use Rattle.amqp_message_spellings.proofs.Messages.{so, walk, left_by, took_groups, placed_few, left_any, placed_fall, seven_left}
+use Rattle.amqp_message_spellings.proofs.NoTerms.{also_free, no_section_named}
+use Rattle.amqp_message_spellings.proofs.Faulty.{IsNamedAs, term_named}
+
+module _ {S B : Type 0} (made : Made S B) {group : Spells S} {body : Faults} (l : IsReadAs made.group group)
+    (b : IsNamedAs made.group body) where
+  -- The kind of this code has the fault that its bytes have.
+  abbrev Names : ℕ → Type 0
+  Names c = (st : State) (e : Error) → IsUnlimited st → ((shape made l).kind_of c).reading.fault st e → IsGroupFault body c st.rest e
+
+  by_code : (c : ℕ) → IsCode c → Names c
+  by_code c (inl e) = subst Names (sym e) (λ st x free f. inr (refl, (term_named (composite header)).named st x free f))
+  by_code c (inr (inl e)) =
+      subst Names (sym e) (λ st x free f.
+      inr (refl, (term_named (section_of in_delivery_annotations delivery_annotations_naming annotations_type)).named st x free f))
+  by_code c (inr (inr (inl e))) =
+      subst Names (sym e) (λ st x free f.
+      inr (refl, (term_named (section_of in_message_annotations message_annotations_naming annotations_type)).named st x free f))
+  by_code c (inr (inr (inr (inl e)))) = subst Names (sym e) (λ st x free f. inr (refl, (term_named (composite properties)).named st x free f))
+  by_code c (inr (inr (inr (inr (inl e))))) =
+      subst Names (sym e) (λ st x free f.
+      inr (refl, (term_named (section_of in_application_properties application_properties_naming simple_map_type)).named st x free f))
+  by_code c (inr (inr (inr (inr (inr (inl e)))))) = subst Names (sym e) (λ st x free f. inl (refl, b.named st x free f))
+  by_code c (inr (inr (inr (inr (inr (inr (inl e))))))) = subst Names (sym e) (λ st x free f. inl (refl, b.named st x free f))
+  by_code c (inr (inr (inr (inr (inr (inr (inr (inl e)))))))) = subst Names (sym e) (λ st x free f. inl (refl, b.named st x free f))
+  by_code c (inr (inr (inr (inr (inr (inr (inr (inr e)))))))) =
+      subst Names (sym e) (λ st x free f. inr (refl, (term_named (section_of in_footer footer_naming annotations_type)).named st x free f))
+
+  group_named : (c : ℕ) (st : State) (e : Error) → IsUnlimited st → IsSectionAhead st.rest c
+      → ((shape made l).kind_of c).reading.fault st e → IsGroupFault body c st.rest e
+  group_named c st e free a = by_code c (code_ahead st.rest c a) st e free
+
+  no_body : (m : Groups S) (e : Error) (gs : List (Group (ks made l)))
+      → fields made l m ≡ put_all (ks made l) gs (nothing (ks made l)) → (shape made l).unfinished m e → HasNoBody made group gs e
+  no_body m e gs is u = (ap (body_in made group) (sym is) ∙ u.0, u.1, u.2)
+
+  next_in_any : (st : State) (m : Progress (Groups S)) (e : Error) (gs : List (Group (ks made l))) → IsUnlimited st
+      → m.left ≡ left_by made l Any 7 gs → GroupFault Any (shape made l) st m e
+      → (length gs < 7) × (((c : ℕ) × IsSectionAhead st.rest c × IsGroupFault body c st.rest e) ⊎ IsNoSection st.rest e)
+  next_in_any st m e gs free left (in_group {c} a p f) =
+      (omega (arith, p, left, left_any made l gs 7), inl (c, a, group_named c st e free a f))
+  next_in_any st m e gs free left (misplaced full a p x) = let none : m.left ≡ 0 = omega (arith, p) in absurd (full none)
+  next_in_any st m e gs free left (not_section full rest a f) =
+      (below m.left full (left ∙ left_any made l gs 7), inr (rest, a, no_section_named st e free f))
+    where
+      below : (n : ℕ) → (n ≡ 0 → ⊥) → n ≡ 7 - length gs → length gs < 7
+      below zero none same = absurd (none refl)
+      below (suc n) none same = omega (arith, same)
+
+  any_fault : (st : State) (e : Error) → IsUnlimited st → WalkFault (walk made l Any) st e → IsMessageFault made group body st.rest e
+  any_fault st e free (not_top n) = (let t = fresh_top st free.0 in absurd (n.0 t.1 t.2 t.3))
+  any_fault st e free (in_step n part last mid steps a f) =
+      let k = took_groups made l Any n st (so made l 7 (shape made l).blank) part last free steps in
+      let same : mid.rest ≡ last.rest = alike_rest last mid a in
+      record {
+        bytes = k.bytes;
+        groups = k.groups;
+        at = mid.rest;
+        split = k.split ∙ ap (λ z. k.bytes ++ z) (sym same);
+        are = subst (Are (IsGroup (ks made l)) k.bytes k.groups) (sym same) k.are;
+        few = placed_few made l k.groups 7 k.placed;
+        why = inl (next_in_any mid part e k.groups (also_free last mid k.free a) k.left f);
+      }
+  any_fault st e free (not_made n part last steps done none) =
+      let k = took_groups made l Any n st (so made l 7 (shape made l).blank) part last free steps in
+      let few = placed_few made l k.groups 7 k.placed in
+      record {
+        bytes = k.bytes;
+        groups = k.groups;
+        at = last.rest;
+        split = k.split;
+        are = k.are;
+        few = few;
+        why = inr (
+          seven_left made l k.groups last.rest few (subst (λ x. (x ≡ 0) ⊎ (last.rest ≡ [])) k.left done),
+          no_body part.part e k.groups k.part none,
+        );
+      }
+
+  -- How many kinds may come behind the last group is the same by both words.
+  left_written : (gs : List (Group (ks made l))) (n : ℕ) → left_by made l Written n gs ≡ left_behind made group n gs
+  left_written [] n = refl
+  left_written (g ∷ gs) n = left_written gs (behind (ks made l) g)
+
+  next_in_order : (st : State) (m : Progress (Groups S)) (e : Error) (gs : List (Group (ks made l))) → IsUnlimited st
+      → m.left ≡ left_behind made group 7 gs → GroupFault Written (shape made l) st m e
+      → ((c : ℕ) × IsSectionAhead st.rest c × (((orders.behind c < left_behind made group 7 gs) × IsGroupFault body c st.rest e)
+      ⊎ ((left_behind made group 7 gs ≤ orders.behind c) × (e ≡ Misplaced)))) ⊎ IsNoSection st.rest e
+  next_in_order st m e gs free left (in_group {c} a p f) =
+      inl (c, a, inl (subst (λ n. orders.behind c < n) left p, group_named c st e free a f))
+  next_in_order st m e gs free left (misplaced {c} full a p x) = inl (c, a, inr (subst (λ n. n ≤ orders.behind c) left p, x))
+  next_in_order st m e gs free left (not_section full rest a f) = inr (rest, a, no_section_named st e free f)
+
+  at_end : (rest : List ℕ) → ⊥ ⊎ (rest ≡ []) → rest ≡ []
+  at_end rest (inl full) = absurd full
+  at_end rest (inr e) = e
+
+  strict_fault : (st : State) (e : Error) → IsUnlimited st → WalkFault (walk made l Written) st e → IsStrictFault made group body st.rest e
+  strict_fault st e free (not_top n) = (let t = fresh_top st free.0 in absurd (n.0 t.1 t.2 t.3))
+  strict_fault st e free (in_step n part last mid steps a f) =
+      let k = took_groups made l Written n st (so made l 7 (shape made l).blank) part last free steps in
+      let same : mid.rest ≡ last.rest = alike_rest last mid a in
+      record {
+        bytes = k.bytes;
+        groups = k.groups;
+        at = mid.rest;
+        split = k.split ∙ ap (λ z. k.bytes ++ z) (sym same);
+        are = subst (Are (IsGroup (ks made l)) k.bytes k.groups) (sym same) k.are;
+        fall = placed_fall made l k.groups 7 k.placed;
+        why = inl (next_in_order mid part e k.groups (also_free last mid k.free a) (k.left ∙ left_written k.groups 7) f);
+      }
+  strict_fault st e free (not_made n part last steps done none) =
+      let k = took_groups made l Written n st (so made l 7 (shape made l).blank) part last free steps in
+      record {
+        bytes = k.bytes;
+        groups = k.groups;
+        at = last.rest;
+        split = k.split;
+        are = k.are;
+        fall = placed_fall made l k.groups 7 k.placed;
+        why = inr (at_end last.rest done, no_body part.part e k.groups k.part none);
+      }
+
+  pub message_named : IsNamedAs (walk_reading (message_walk Any (shape made l))) (IsMessageFault made group body)
+  message_named = record { named = any_fault }
+
+  pub strict_named : IsNamedAs (reading_via (walk_reading (message_walk Written (shape made l))) message_in) (IsStrictFault made group body)
+  strict_named = record { named = strict_fault }

@@ -1,0 +1,130 @@
+-- Where an error says of bytes that they are no term, none of them begins with one.
+use Rattle.std.proofs.Common.{◌≡◌, ℕ, max, inl, Bool, true, false, List, Option, None, refl, sym, ap, ◌∙◌, subst, arith}
+use Rattle.amqp_model.specs.Measures.{nest}
+use Rattle.amqp_model.specs.laws.Item.{clash}
+use Rattle.amqp_wire.specs.declared.error.Error.{Error}
+use Rattle.amqp_wire.specs.declared.error.Error.TheVariants.{Depth, Limit}
+use Rattle.amqp_decoder.proofs.Misspelled.{begin_misspelled, described_misspelled}
+use Rattle.amqp_decoder.proofs.NotOutside.{begin_not_outside, open_described_not_outside}
+use Rattle.amqp_decoder.specs.Described.{OpenFault}
+use Rattle.amqp_decoder.specs.Misspelled.{IsMisspelling}
+use Rattle.amqp_decoder.specs.OtherSource.{elsewhere, Setting, under, IsByDepth}
+use Rattle.amqp_decoder.specs.Reading.{BeginFault}
+use Rattle.amqp_decoder.specs.State.{Course, Open, State}
+use Rattle.amqp_decoder.specs.laws.OtherSource.{begin_fault, open_described_fault}
+use Rattle.amqp_codec.specs.Faults.{Faults}
+use Rattle.amqp_codec.specs.Reading.{looking, AreAlike, start}
+use Rattle.amqp_batches.specs.Bounds.{IsFresh, without_limits}
+use Rattle.amqp_batches.specs.NoSections.{NoSection, no_code, other_value, no_descriptor, other_descriptor}
+use Rattle.amqp_batches.specs.laws.Resuming.{IsUnlimited}
+use Rattle.amqp_batches.specs.laws.State.{alike_rest}
+use Rattle.amqp_message_spellings.specs.Faults.{IsNoTerm}
+
+-- One without limits stands as one does that has read nothing of what is left.
+abbrev begun : State → State
+begun st = elsewhere st.source st.failed.broken (looking st.ahead (start st.rest))
+
+abbrev course : Bool → Bool → Course
+course broken alone = record { broken = broken; alone = alone; free = true }
+
+as_begun : (st : State) → IsUnlimited st → begun st ≡ st
+as_begun st (f, same) =
+    sym (ap (λ (x : Open). record (begun st) { top = record x { left = None }; saved = st.saved; error = st.error; failed = course st.failed.broken st.failed.alone }) f.top
+    ∙ ap (λ (x : List Open). record (begun st) { saved = x; error = st.error; failed = course st.failed.broken st.failed.alone }) f.saved
+    ∙ ap (λ (x : Option Error). record (begun st) { error = x; failed = course st.failed.broken st.failed.alone }) f.error
+    ∙ ap (λ x. record (begun st) { failed = course st.failed.broken x }) f.among)
+    ∙ sym same
+
+abbrev is_by_depth : Error → Bool
+is_by_depth Depth = true
+is_by_depth Limit = true
+is_by_depth _ = false
+
+by_depth_so : (e : Error) → is_by_depth e ≡ true → IsByDepth e
+by_depth_so Depth h = tt
+by_depth_so Limit h = tt
+by_depth_so _ h = absurd (clash h refl)
+
+so_by_depth : (e : Error) → IsByDepth e → is_by_depth e ≡ true
+so_by_depth Depth h = refl
+so_by_depth Limit h = refl
+so_by_depth _ h = absurd h
+
+module _ (fs : Faults) (ahead source : ℕ) (broken : Bool) (input : List ℕ) (e : Error) where
+  abbrev here : State
+  here = elsewhere source broken (looking ahead (start input))
+
+  no_term_here : fs.fault here e → IsNoTerm input e
+  no_term_here f i b more t is s bound = by (is_by_depth e) refl
+    where
+      deeper : Setting
+      deeper = record { source = 0; deepen = λ n. max n (nest t); grows = λ n. omega arith; free = true; lift = true; course = λ f. f }
+
+      by : (d : Bool) → is_by_depth e ≡ d → ⊥
+      by true d =
+          fs.misspelled here e (inl (omega arith)) i f b t
+          (record {
+            going = refl;
+            item = tt;
+            room = tt;
+            after = more;
+            rest = is;
+            spelled = s;
+            nested = (let k = bound (by_depth_so e d) in omega (arith, k));
+            few = tt;
+          })
+      by false d =
+          fs.misspelled (under deeper here) e (inl (omega arith)) i
+          (fs.fault_elsewhere deeper here e (λ h. absurd (clash (so_by_depth e h) d)) f) b t
+          (record {
+            going = refl;
+            item = tt;
+            room = tt;
+            after = more;
+            rest = is;
+            spelled = s;
+            nested = omega arith;
+            few = tt;
+          })
+
+pub faults_named : (fs : Faults) (st : State) (e : Error) → IsUnlimited st → fs.fault st e → IsNoTerm st.rest e
+faults_named fs st e free f =
+    no_term_here fs st.ahead st.source st.failed.broken st.rest e (subst (λ z. fs.fault z e) (sym (as_begun st free)) f)
+
+-- However far was looked.
+pub also_free : (a b : State) → IsUnlimited a → AreAlike a b → IsUnlimited b
+also_free a b free s =
+    subst IsUnlimited (sym s) (
+      record {
+        error = free.0.error;
+        limit = free.0.limit;
+        top = free.0.top;
+        saved = free.0.saved;
+        nesting = free.0.nesting;
+        among = free.0.among;
+      },
+      ap (looking b.ahead) free.1,
+    )
+
+abbrev begin_faults : Faults
+begin_faults = record {
+  fault = BeginFault;
+  not_outside = λ e o st f. begin_not_outside o st f;
+  fault_elsewhere = λ c st e k f. begin_fault c k f;
+  misspelled = λ st e room i f. begin_misspelled st e i f;
+}
+
+abbrev open_faults : Faults
+open_faults = record {
+  fault = OpenFault;
+  not_outside = λ e o st f. open_described_not_outside o st f;
+  fault_elsewhere = λ c st e k f. open_described_fault c k f;
+  misspelled = λ st e room i f. described_misspelled st e i f;
+}
+
+pub no_section_named : (st : State) (e : Error) → IsUnlimited st → NoSection st e → IsNoTerm st.rest e
+no_section_named st e free (no_code f) = faults_named begin_faults st e free f
+no_section_named st e free (other_value b n i) = λ m. absurd (subst IsMisspelling i m)
+no_section_named st e free (no_descriptor {seen} a f) =
+    subst (λ z. IsNoTerm z e) (alike_rest st seen a) (faults_named open_faults seen e (also_free st seen free a) f)
+no_section_named st e free (other_descriptor a d i) = λ m. absurd (subst IsMisspelling i m)
