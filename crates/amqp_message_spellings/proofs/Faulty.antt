@@ -21,6 +21,7 @@ use Rattle.amqp_bodies.specs.Bodies.{Made}
 use Rattle.amqp_bodies.specs.BodyReading.{BodyFault, in_value as value_there, in_data as data_there, in_sequence as sequence_there}
 use Rattle.amqp_bodies.specs.BodyReading.{other_section as another_there, not_section as none_there, body_reading}
 use Rattle.amqp_bodies.specs.BodyReading as bodies
+use Rattle.amqp_bodies.specs.SomeReading.{some_reading}
 use Rattle.amqp_bodies.specs.SeenReading.{seen_reading}
 use Rattle.amqp_message_spellings.specs.Spellings.{Spells, IsSection, IsTerm, IsBatch, Are}
 use Rattle.amqp_message_spellings.specs.Faults.{Faults, IsNoTerm, IsRunFault, IsSectionFault, begun, other, IsBodyFault, in_value, in_data}
@@ -75,6 +76,9 @@ seen_named {fault = fault} l = record {
   named = λ st e free h.
       subst (λ z. fault z e) (alike_rest st h.seen h.alike) (l.named h.seen e (also_free st h.seen free h.alike) h.fault);
 }
+
+pub there_named : {V : Type 0} {r : Reading V} {fault : Faults} → IsNamedAs r fault → IsNamedAs (some_reading r) fault
+there_named l = record { named = l.named }
 
 module _ {T : Type 0} {rv : Reading (AmqpValue T)} {rd : Reading (TransparentVec DataSection)}
     {rs : Reading (TransparentVec (AmqpSequence T))} {fv fd fs : Faults} (nv : IsNamedAs rv fv) (nd : IsNamedAs rd fd)

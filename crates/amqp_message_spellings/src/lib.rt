@@ -2,7 +2,7 @@
 //! contracts are proved.
 #![tactic(auto)]
 
-ghost use Rattle.std.specs.Prelude.{◌↔◌, ℕ, List};
+ghost use Rattle.std.specs.Prelude.{◌↔◌, ℕ, List, Option};
 ghost use Rattle.amqp_wire.specs.declared.error.Error.{Error};
 ghost use Rattle.amqp_codec.specs.Reading.{BeginsWith, IsUnreadable};
 ghost use Rattle.amqp_sections.specs.declared.data.Data.{Data as DataOf};
@@ -142,4 +142,18 @@ pub fn messages_of_batches_are_spelled<T: BatchItem + DeserializeTerm>()
         ↔ Begins (λ b strict more. IsStrictMessage ⟦<Batch<T> as FromBody>⟧.made (IsSection T.code (IsBatch T.code (IsTerm T.term))) b (message_in strict) more) input message n }
     ensures strictly_refused { (input : List ℕ) (e : Error) → IsUnreadable ⟦<Strict<Batch<T>> as Deserialize>⟧.reading input e
         → IsStrictFault ⟦<Batch<T> as FromBody>⟧.made (IsSection T.code (IsBatch T.code (IsTerm T.term))) (IsSectionFault T.code (IsRunFault T.code (IsTerm T.term) IsNoTerm)) input e }
+{}
+
+/// So is one whose body is such a value or absent: a null, or no body, is `None`.
+pub fn messages_of_optional_values_are_spelled<T: ValueFromBody>()
+    ensures any { (input : List ℕ) (message : MessageOf (Option T)) (n : ℕ)
+        → BeginsWith ⟦<Message<Option<T>> as Deserialize>⟧.reading input message n
+        ↔ Begins (IsMessage ⟦<Option<T> as FromBody>⟧.made (IsThere (IsTerm ⟦<AmqpValue<Option<T>> as DeserializeTerm>⟧.term))) input message n }
+    ensures refused { (input : List ℕ) (e : Error) → IsUnreadable ⟦<Message<Option<T>> as Deserialize>⟧.reading input e
+        → IsMessageFault ⟦<Option<T> as FromBody>⟧.made (IsThere (IsTerm ⟦<AmqpValue<Option<T>> as DeserializeTerm>⟧.term)) (IsNoTerm) input e }
+    ensures strict { (input : List ℕ) (message : StrictOf (Option T)) (n : ℕ)
+        → BeginsWith ⟦<Strict<Option<T>> as Deserialize>⟧.reading input message n
+        ↔ Begins (λ b strict more. IsStrictMessage ⟦<Option<T> as FromBody>⟧.made (IsThere (IsTerm ⟦<AmqpValue<Option<T>> as DeserializeTerm>⟧.term)) b (message_in strict) more) input message n }
+    ensures strictly_refused { (input : List ℕ) (e : Error) → IsUnreadable ⟦<Strict<Option<T>> as Deserialize>⟧.reading input e
+        → IsStrictFault ⟦<Option<T> as FromBody>⟧.made (IsThere (IsTerm ⟦<AmqpValue<Option<T>> as DeserializeTerm>⟧.term)) (IsNoTerm) input e }
 {}
