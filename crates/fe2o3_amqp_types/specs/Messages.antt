@@ -25,6 +25,7 @@ pub use Rattle.amqp_message_spellings.specs.Spellings.{Spells, Begins, IsTerm, A
 pub use Rattle.amqp_message_spellings.specs.Bodies.{IsBody}
 pub use Rattle.amqp_message_spellings.specs.Kinds.{Kind, Kinds, Group, IsGroup, Fields, put, behind, IsInAnyOrder, IsInOrder}
 pub use Rattle.amqp_message_spellings.specs.Messages.{seven, IsMadeOf, IsMessage, IsStrictMessage}
+pub use Rattle.amqp_message_spellings.specs.Faults.{IsNoTerm, IsRunFault, IsSectionFault, IsBodyFault, IsMessageFault, IsStrictFault}
 pub use Rattle.amqp_messages.specs.MessageTypes.{message_of, message_in, as_strict}
 pub use Rattle.amqp_messages.specs.MessageWalk.{message_walk}
 pub use Rattle.amqp_messages.specs.MessageAgain.{message_again}
