@@ -1,7 +1,6 @@
 -- The faults of batches, bodies and messages are those of their bytes.
-use Rattle.std.proofs.Common.{◌≡◌, ◌⊎◌, inl, inr, ℕ, ◌-◌, ◌<◌, ◌≤◌, Bool, true, false, List, [], ◌∷◌, ◌++◌, length, None, refl, sym, ap, ◌∙◌, subst, arith}
+use Rattle.std.proofs.Common.{◌≡◌, ℕ, List, [], ◌++◌, sym, ap, ◌∙◌, subst}
 use Rattle.amqp_wire.specs.declared.error.Error.{Error}
-use Rattle.amqp_lookahead.specs.Sections.{IsSectionAhead}
 use Rattle.amqp_decoder.specs.State.{State}
 use Rattle.amqp_codec.specs.TermType.{TermType}
 use Rattle.amqp_codec.specs.TermReading.{reading_of}
@@ -17,13 +16,12 @@ use Rattle.amqp_batches.specs.Runs.{run_walk}
 use Rattle.amqp_batches.specs.Walk.{WalkFault, not_top, in_step, not_made}
 use Rattle.amqp_batches.specs.SectionGroups.{RunFault, in_run, other_section, run_reading}
 use Rattle.amqp_batches.specs.SectionGroups as groups
-use Rattle.amqp_bodies.specs.Bodies.{Made}
 use Rattle.amqp_bodies.specs.BodyReading.{BodyFault, in_value as value_there, in_data as data_there, in_sequence as sequence_there}
 use Rattle.amqp_bodies.specs.BodyReading.{other_section as another_there, not_section as none_there, body_reading}
 use Rattle.amqp_bodies.specs.BodyReading as bodies
 use Rattle.amqp_bodies.specs.SomeReading.{some_reading}
 use Rattle.amqp_bodies.specs.SeenReading.{seen_reading}
-use Rattle.amqp_message_spellings.specs.Spellings.{Spells, IsSection, IsTerm, IsBatch, Are}
+use Rattle.amqp_message_spellings.specs.Spellings.{Spells, IsSection, IsTerm, Are}
 use Rattle.amqp_message_spellings.specs.Faults.{Faults, IsNoTerm, IsRunFault, IsSectionFault, begun, other, IsBodyFault, in_value, in_data}
 use Rattle.amqp_message_spellings.specs.Faults.{in_sequence, no_body, no_section}
 use Rattle.amqp_message_spellings.proofs.ReadAs.{IsReadAs, term_is_read}

@@ -2,7 +2,6 @@
 use Rattle.std.proofs.Common.{ℕ, List, ◌++◌, length, Option, Some, None, refl, sym, subst}
 use Rattle.std.proofs.lemmas.List.{take-append-drop}
 use Rattle.amqp_lookahead.specs.Sections.{IsSectionAhead}
-use Rattle.amqp_decoder.specs.State.{State}
 use Rattle.amqp_codec.specs.TermType.{TermType}
 use Rattle.amqp_codec.specs.TermReading.{reading_of}
 use Rattle.amqp_codec.specs.Reading.{Reading, looking, start, BeginsWith}

@@ -1,16 +1,10 @@
 -- The faults of messages are those of their bytes.
-use Rattle.std.proofs.Common.{◌≡◌, ◌⊎◌, inl, inr, ℕ, zero, suc, ◌-◌, ◌<◌, ◌≤◌, true, false, List, [], ◌∷◌, ◌++◌, length, None, refl, sym, ap, ◌∙◌, subst, arith}
+use Rattle.std.proofs.Common.{◌≡◌, ◌⊎◌, inl, inr, ℕ, zero, suc, ◌-◌, ◌<◌, ◌≤◌, List, [], ◌∷◌, ◌++◌, length, refl, sym, ap, ◌∙◌, subst, arith}
 use Rattle.amqp_wire.specs.declared.error.Error.{Error}
 use Rattle.amqp_wire.specs.declared.error.Error.TheVariants.{Misplaced}
 use Rattle.amqp_lookahead.specs.Sections.{IsSectionAhead}
 use Rattle.amqp_decoder.specs.State.{State}
 use Rattle.amqp_codec.specs.Composite.{composite}
-use Rattle.amqp_sections.specs.SectionType.{section_of}
-use Rattle.amqp_annotations.specs.AnnotationsType.{annotations_type}
-use Rattle.amqp_map_sections.specs.MapSections.{in_delivery_annotations, delivery_annotations_naming, in_message_annotations}
-use Rattle.amqp_map_sections.specs.MapSections.{message_annotations_naming, in_application_properties, application_properties_naming}
-use Rattle.amqp_map_sections.specs.MapSections.{in_footer, footer_naming}
-use Rattle.amqp_map_sections.specs.SimpleMaps.{simple_map_type}
 use Rattle.amqp_message_headers.specs.Tables.{header, properties}
 use Rattle.amqp_batches.specs.laws.Resuming.{IsUnlimited, fresh_top}
 use Rattle.amqp_batches.specs.laws.State.{alike_rest}
@@ -25,8 +19,8 @@ use Rattle.amqp_messages.specs.MessageWalk.{message_walk}
 use Rattle.amqp_messages.specs.Orders as orders
 use Rattle.amqp_message_spellings.specs.Spellings.{Spells, Are}
 use Rattle.amqp_message_spellings.specs.Kinds.{Group, IsGroup, behind, put_all, nothing}
-use Rattle.amqp_message_spellings.specs.Messages.{body_in}
-use Rattle.amqp_message_spellings.specs.Faults.{Faults, IsNoTerm, IsGroupFault, IsNoSection, HasNoBody, IsMessageFault, IsStrictFault, left_behind}
+use Rattle.amqp_message_spellings.specs.Messages.{delivery_annotations, message_annotations, application_properties, footer, body_in}
+use Rattle.amqp_message_spellings.specs.Faults.{Faults, IsGroupFault, IsNoSection, HasNoBody, IsMessageFault, IsStrictFault, left_behind}
 use Rattle.amqp_message_spellings.proofs.ReadAs.{IsReadAs}
 use Rattle.amqp_message_spellings.proofs.Codes.{IsCode, code_ahead}
 use Rattle.amqp_message_spellings.proofs.Turned.{ks, shape, fields}
@@ -43,20 +37,17 @@ module _ {S B : Type 0} (made : Made S B) {group : Spells S} {body : Faults} (l 
   by_code : (c : ℕ) → IsCode c → Names c
   by_code c (inl e) = subst Names (sym e) (λ st x free f. inr (refl, (term_named (composite header)).named st x free f))
   by_code c (inr (inl e)) =
-      subst Names (sym e) (λ st x free f.
-      inr (refl, (term_named (section_of in_delivery_annotations delivery_annotations_naming annotations_type)).named st x free f))
+      subst Names (sym e) (λ st x free f. inr (refl, (term_named delivery_annotations).named st x free f))
   by_code c (inr (inr (inl e))) =
-      subst Names (sym e) (λ st x free f.
-      inr (refl, (term_named (section_of in_message_annotations message_annotations_naming annotations_type)).named st x free f))
+      subst Names (sym e) (λ st x free f. inr (refl, (term_named message_annotations).named st x free f))
   by_code c (inr (inr (inr (inl e)))) = subst Names (sym e) (λ st x free f. inr (refl, (term_named (composite properties)).named st x free f))
   by_code c (inr (inr (inr (inr (inl e))))) =
-      subst Names (sym e) (λ st x free f.
-      inr (refl, (term_named (section_of in_application_properties application_properties_naming simple_map_type)).named st x free f))
+      subst Names (sym e) (λ st x free f. inr (refl, (term_named application_properties).named st x free f))
   by_code c (inr (inr (inr (inr (inr (inl e)))))) = subst Names (sym e) (λ st x free f. inl (refl, b.named st x free f))
   by_code c (inr (inr (inr (inr (inr (inr (inl e))))))) = subst Names (sym e) (λ st x free f. inl (refl, b.named st x free f))
   by_code c (inr (inr (inr (inr (inr (inr (inr (inl e)))))))) = subst Names (sym e) (λ st x free f. inl (refl, b.named st x free f))
   by_code c (inr (inr (inr (inr (inr (inr (inr (inr e)))))))) =
-      subst Names (sym e) (λ st x free f. inr (refl, (term_named (section_of in_footer footer_naming annotations_type)).named st x free f))
+      subst Names (sym e) (λ st x free f. inr (refl, (term_named footer).named st x free f))
 
   group_named : (c : ℕ) (st : State) (e : Error) → IsUnlimited st → IsSectionAhead st.rest c
       → ((shape made l).kind_of c).reading.fault st e → IsGroupFault body c st.rest e

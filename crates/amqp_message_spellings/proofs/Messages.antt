@@ -3,7 +3,7 @@ use Rattle.std.proofs.Common.{◌≡◌, ◌⊎◌, inl, inr, ℕ, zero, suc, �
 use Rattle.std.proofs.Common.{length-append, append_assoc}
 use Rattle.std.proofs.lemmas.List.{take_at, drop_at}
 use Rattle.amqp_decoder.specs.State.{State}
-use Rattle.amqp_codec.specs.Reading.{start, BeginsWith}
+use Rattle.amqp_codec.specs.Reading.{start}
 use Rattle.amqp_batches.specs.laws.Resuming.{IsUnlimited, start_unlimited, fresh_top}
 use Rattle.amqp_batches.specs.laws.State.{alike_rest}
 use Rattle.amqp_batches.specs.Walk as walks
@@ -22,7 +22,7 @@ use Rattle.amqp_messages.specs.Orders.{IsFull}
 use Rattle.amqp_messages.specs.laws.KindLimits.{shape_bound}
 use Rattle.amqp_messages.specs.laws.MessageLimits.{message_bound}
 use Rattle.amqp_message_spellings.specs.Spellings.{Spells, Are}
-use Rattle.amqp_message_spellings.specs.Kinds.{Fields, Group, IsGroup, behind, nothing, put, put_all, Fall}
+use Rattle.amqp_message_spellings.specs.Kinds.{Fields, Group, IsGroup, behind, nothing, put_all, Fall}
 use Rattle.amqp_message_spellings.specs.Messages.{IsMadeOf, IsMessage, IsStrictMessage}
 use Rattle.amqp_message_spellings.proofs.ReadAs.{IsReadAs}
 use Rattle.amqp_message_spellings.proofs.Turned.{ks, shape, fields, turned, reads}

@@ -14,7 +14,6 @@ use Rattle.amqp_decoder.specs.State.{Course, Open, State}
 use Rattle.amqp_decoder.specs.laws.OtherSource.{begin_fault, open_described_fault}
 use Rattle.amqp_codec.specs.Faults.{Faults}
 use Rattle.amqp_codec.specs.Reading.{looking, AreAlike, start}
-use Rattle.amqp_batches.specs.Bounds.{IsFresh, without_limits}
 use Rattle.amqp_batches.specs.NoSections.{NoSection, no_code, other_value, no_descriptor, other_descriptor}
 use Rattle.amqp_batches.specs.laws.Resuming.{IsUnlimited}
 use Rattle.amqp_batches.specs.laws.State.{alike_rest}

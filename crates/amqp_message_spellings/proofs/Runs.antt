@@ -4,14 +4,14 @@ use Rattle.std.proofs.Common.{length-append, append_assoc}
 use Rattle.std.proofs.lemmas.List.{take_at, drop_at, append-nil}
 use Rattle.amqp_lookahead.specs.Sections.{IsSectionAhead}
 use Rattle.amqp_decoder.specs.State.{State}
-use Rattle.amqp_codec.specs.Reading.{Reading, start, BeginsWith}
+use Rattle.amqp_codec.specs.Reading.{Reading, start}
 use Rattle.amqp_batches.specs.laws.Bound.{run_bound}
 use Rattle.amqp_batches.specs.laws.Resuming.{IsUnlimited, start_unlimited, fresh_top}
 use Rattle.amqp_batches.specs.laws.State.{alike_rest}
 use Rattle.amqp_batches.specs.Runs.{RunStep, run_walk}
 use Rattle.amqp_batches.specs.Walk.{Steps}
 use Rattle.amqp_batches.specs.WalkReading.{walk_reading}
-use Rattle.amqp_message_spellings.specs.Spellings.{Spells, Begins, IsSection, Are, IsRun}
+use Rattle.amqp_message_spellings.specs.Spellings.{Spells, IsSection, Are, IsRun}
 use Rattle.amqp_message_spellings.proofs.ReadAs.{IsReadAs, took, takes, still_free}
 
 module _ {T : Type 0} (c : ℕ) {r : Reading T} {spells : Spells T} (l : IsReadAs r spells) where

@@ -4,12 +4,6 @@ use Rattle.amqp_lookahead.specs.Sections.{IsSectionAhead}
 use Rattle.amqp_decoder.specs.State.{State}
 use Rattle.amqp_codec.specs.Composite.{composite}
 use Rattle.amqp_codec.specs.Reading.{Reading}
-use Rattle.amqp_sections.specs.SectionType.{section_of}
-use Rattle.amqp_annotations.specs.AnnotationsType.{annotations_type}
-use Rattle.amqp_map_sections.specs.MapSections.{in_delivery_annotations, delivery_annotations_naming, in_message_annotations}
-use Rattle.amqp_map_sections.specs.MapSections.{message_annotations_naming, in_application_properties, application_properties_naming}
-use Rattle.amqp_map_sections.specs.MapSections.{in_footer, footer_naming}
-use Rattle.amqp_map_sections.specs.SimpleMaps.{simple_map_type}
 use Rattle.amqp_message_headers.specs.Tables.{header, properties}
 use Rattle.amqp_batches.specs.laws.Resuming.{IsUnlimited, IsReadHere}
 use Rattle.amqp_bodies.specs.Bodies.{Made}
@@ -20,31 +14,11 @@ use Rattle.amqp_messages.specs.MessageTypes.{message_of}
 use Rattle.amqp_messages.specs.Orders as orders
 use Rattle.amqp_message_spellings.specs.Spellings.{Spells}
 use Rattle.amqp_message_spellings.specs.Kinds.{Kinds, Comes, is_in, Fields, Group, IsGroup, behind, put}
-use Rattle.amqp_message_spellings.specs.Messages.{kinds}
+use Rattle.amqp_message_spellings.specs.Messages.{delivery_annotations, message_annotations, application_properties, footer, kinds}
 use Rattle.amqp_message_spellings.proofs.ReadAs.{IsReadAs, Took, took, takes, still_free, term_is_read}
 use Rattle.amqp_message_spellings.proofs.Codes.{IsCode, code_ahead, sole, of_body}
 
--- What was read under one of these codes.
-record TookOne {V : Type 0} (codes : List ℕ) (spells : Spells V) (st : State) (v : V) (b : State) : Type 0 where
-  bytes : List ℕ
-  split : st.rest ≡ bytes ++ b.rest
-  comes : Comes codes (bytes ++ b.rest)
-  is : spells bytes v b.rest
-  free : IsUnlimited b
-
-took_one : {V : Type 0} (codes : List ℕ) (c : ℕ) → is_in codes c ≡ true → {r : Reading V} {spells : Spells V} → IsReadAs r spells
-    → (st : State) (v : V) (b : State) → IsUnlimited st → IsSectionAhead st.rest c → r.reads st v b → TookOne codes spells st v b
-took_one codes c among l st v b free a h =
-    let t = took l st v b free h in
-    record {
-      bytes = t.bytes;
-      split = t.split;
-      comes = record { code = c; among = among; ahead = subst (λ z. IsSectionAhead z c) t.split a };
-      is = t.is;
-      free = still_free l st v b free h;
-    }
-
--- And what is read under this one code.
+-- What is read under this one code.
 record TakesOne {V : Type 0} (c : ℕ) (r : Reading V) (st : State) (v : V) (more : List ℕ) : Type 0 where
   ahead : IsSectionAhead st.rest c
   here : IsReadHere r st v more
@@ -79,122 +53,61 @@ module _ {S B : Type 0} (made : Made S B) {body : Spells S} (l : IsReadAs made.g
   Turns c = (st : State) (v : (shape.kind_of c).Group) (b : State) → IsUnlimited st → IsSectionAhead st.rest c
       → (shape.kind_of c).reading.reads st v b → Turned c v st b
 
-  header_turned : Turns 0x70
-  header_turned st v b free a h =
-      let t = took_one (0x70 ∷ []) 0x70 refl (term_is_read (composite header)) st v b free a h in
+  -- It begins with one of the codes of its kind.
+  turned_by : (c : ℕ) (codes : List ℕ) {spells : Spells (shape.kind_of c).Group} → is_in codes c ≡ true
+      → IsReadAs (shape.kind_of c).reading spells → (to : (shape.kind_of c).Group → Group ks)
+      → ((v : (shape.kind_of c).Group) (b more : List ℕ) → Comes codes (b ++ more) → spells b v more → IsGroup ks b (to v) more)
+      → ((v : (shape.kind_of c).Group) (m : Groups S) → fields ((shape.kind_of c).put v m) ≡ put ks (to v) (fields m))
+      → ((v : (shape.kind_of c).Group) → orders.behind c ≡ behind ks (to v)) → Turns c
+  turned_by c codes among r to is puts stands st v b free a h =
+      let t = took r st v b free h in
+      let comes : Comes codes (t.bytes ++ b.rest) =
+      record { code = c; among = among; ahead = subst (λ z. IsSectionAhead z c) t.split a } in
       record {
-        group = inl v;
-        took = record { bytes = t.bytes; split = t.split; is = (t.comes, t.is) };
-        free = t.free;
-        puts = λ m. refl;
-        stands = refl;
-      }
-
-  delivery_annotations_turned : Turns 0x71
-  delivery_annotations_turned st v b free a h =
-      let t = took_one (0x71 ∷ []) 0x71 refl (term_is_read (section_of in_delivery_annotations delivery_annotations_naming annotations_type))
-      st v b free a h in
-      record {
-        group = inr (inl v);
-        took = record { bytes = t.bytes; split = t.split; is = (t.comes, t.is) };
-        free = t.free;
-        puts = λ m. refl;
-        stands = refl;
-      }
-
-  message_annotations_turned : Turns 0x72
-  message_annotations_turned st v b free a h =
-      let t = took_one (0x72 ∷ []) 0x72 refl (term_is_read (section_of in_message_annotations message_annotations_naming annotations_type))
-      st v b free a h in
-      record {
-        group = inr (inr (inl v));
-        took = record { bytes = t.bytes; split = t.split; is = (t.comes, t.is) };
-        free = t.free;
-        puts = λ m. refl;
-        stands = refl;
-      }
-
-  properties_turned : Turns 0x73
-  properties_turned st v b free a h =
-      let t = took_one (0x73 ∷ []) 0x73 refl (term_is_read (composite properties)) st v b free a h in
-      record {
-        group = inr (inr (inr (inl v)));
-        took = record { bytes = t.bytes; split = t.split; is = (t.comes, t.is) };
-        free = t.free;
-        puts = λ m. refl;
-        stands = refl;
-      }
-
-  application_properties_turned : Turns 0x74
-  application_properties_turned st v b free a h =
-      let t = took_one (0x74 ∷ []) 0x74 refl
-      (term_is_read (section_of in_application_properties application_properties_naming simple_map_type)) st v b free a h in
-      record {
-        group = inr (inr (inr (inr (inl v))));
-        took = record { bytes = t.bytes; split = t.split; is = (t.comes, t.is) };
-        free = t.free;
-        puts = λ m. refl;
-        stands = refl;
-      }
-
-  footer_turned : Turns 0x78
-  footer_turned st v b free a h =
-      let t = took_one (0x78 ∷ []) 0x78 refl (term_is_read (section_of in_footer footer_naming annotations_type)) st v b free a h in
-      record {
-        group = inr (inr (inr (inr (inr (inr (inl v))))));
-        took = record { bytes = t.bytes; split = t.split; is = (t.comes, t.is) };
-        free = t.free;
-        puts = λ m. refl;
-        stands = refl;
-      }
-
-  body_took : (c : ℕ) → is_in (0x75 ∷ 0x76 ∷ 0x77 ∷ []) c ≡ true → (st : State) (v : S) (b : State) → IsUnlimited st
-      → IsSectionAhead st.rest c → made.group.reads st v b → TookOne (0x75 ∷ 0x76 ∷ 0x77 ∷ []) body st v b
-  body_took c among st v b free a h = took_one (0x75 ∷ 0x76 ∷ 0x77 ∷ []) c among l st v b free a h
-
-  data_turned : Turns 0x75
-  data_turned st v b free a h =
-      let t = body_took 0x75 refl st v b free a h in
-      record {
-        group = inr (inr (inr (inr (inr (inl v)))));
-        took = record { bytes = t.bytes; split = t.split; is = (t.comes, t.is) };
-        free = t.free;
-        puts = λ m. refl;
-        stands = refl;
-      }
-
-  sequence_turned : Turns 0x76
-  sequence_turned st v b free a h =
-      let t = body_took 0x76 refl st v b free a h in
-      record {
-        group = inr (inr (inr (inr (inr (inl v)))));
-        took = record { bytes = t.bytes; split = t.split; is = (t.comes, t.is) };
-        free = t.free;
-        puts = λ m. refl;
-        stands = refl;
-      }
-
-  value_turned : Turns 0x77
-  value_turned st v b free a h =
-      let t = body_took 0x77 refl st v b free a h in
-      record {
-        group = inr (inr (inr (inr (inr (inl v)))));
-        took = record { bytes = t.bytes; split = t.split; is = (t.comes, t.is) };
-        free = t.free;
-        puts = λ m. refl;
-        stands = refl;
+        group = to v;
+        took = record { bytes = t.bytes; split = t.split; is = is v t.bytes b.rest comes t.is };
+        free = still_free r st v b free h;
+        puts = puts v;
+        stands = stands v;
       }
 
   by_code : (c : ℕ) → IsCode c → Turns c
-  by_code c (inl e) = subst Turns (sym e) header_turned
-  by_code c (inr (inl e)) = subst Turns (sym e) delivery_annotations_turned
-  by_code c (inr (inr (inl e))) = subst Turns (sym e) message_annotations_turned
-  by_code c (inr (inr (inr (inl e)))) = subst Turns (sym e) properties_turned
-  by_code c (inr (inr (inr (inr (inl e))))) = subst Turns (sym e) application_properties_turned
-  by_code c (inr (inr (inr (inr (inr (inl e)))))) = subst Turns (sym e) data_turned
-  by_code c (inr (inr (inr (inr (inr (inr (inl e))))))) = subst Turns (sym e) sequence_turned
-  by_code c (inr (inr (inr (inr (inr (inr (inr (inl e)))))))) = subst Turns (sym e) value_turned
-  by_code c (inr (inr (inr (inr (inr (inr (inr (inr e)))))))) = subst Turns (sym e) footer_turned
+  by_code c (inl e) =
+      subst Turns (sym e)
+      (turned_by 0x70 (0x70 ∷ []) refl (term_is_read (composite header)) (λ v. inl v)
+      (λ v b more k s. (k, s)) (λ v m. refl) (λ v. refl))
+  by_code c (inr (inl e)) =
+      subst Turns (sym e)
+      (turned_by 0x71 (0x71 ∷ []) refl (term_is_read delivery_annotations) (λ v. inr (inl v))
+      (λ v b more k s. (k, s)) (λ v m. refl) (λ v. refl))
+  by_code c (inr (inr (inl e))) =
+      subst Turns (sym e)
+      (turned_by 0x72 (0x72 ∷ []) refl (term_is_read message_annotations) (λ v. inr (inr (inl v)))
+      (λ v b more k s. (k, s)) (λ v m. refl) (λ v. refl))
+  by_code c (inr (inr (inr (inl e)))) =
+      subst Turns (sym e)
+      (turned_by 0x73 (0x73 ∷ []) refl (term_is_read (composite properties)) (λ v. inr (inr (inr (inl v))))
+      (λ v b more k s. (k, s)) (λ v m. refl) (λ v. refl))
+  by_code c (inr (inr (inr (inr (inl e))))) =
+      subst Turns (sym e)
+      (turned_by 0x74 (0x74 ∷ []) refl (term_is_read application_properties) (λ v. inr (inr (inr (inr (inl v)))))
+      (λ v b more k s. (k, s)) (λ v m. refl) (λ v. refl))
+  by_code c (inr (inr (inr (inr (inr (inl e)))))) =
+      subst Turns (sym e)
+      (turned_by 0x75 (0x75 ∷ 0x76 ∷ 0x77 ∷ []) refl l (λ v. inr (inr (inr (inr (inr (inl v))))))
+      (λ v b more k s. (k, s)) (λ v m. refl) (λ v. refl))
+  by_code c (inr (inr (inr (inr (inr (inr (inl e))))))) =
+      subst Turns (sym e)
+      (turned_by 0x76 (0x75 ∷ 0x76 ∷ 0x77 ∷ []) refl l (λ v. inr (inr (inr (inr (inr (inl v))))))
+      (λ v b more k s. (k, s)) (λ v m. refl) (λ v. refl))
+  by_code c (inr (inr (inr (inr (inr (inr (inr (inl e)))))))) =
+      subst Turns (sym e)
+      (turned_by 0x77 (0x75 ∷ 0x76 ∷ 0x77 ∷ []) refl l (λ v. inr (inr (inr (inr (inr (inl v))))))
+      (λ v b more k s. (k, s)) (λ v m. refl) (λ v. refl))
+  by_code c (inr (inr (inr (inr (inr (inr (inr (inr e)))))))) =
+      subst Turns (sym e)
+      (turned_by 0x78 (0x78 ∷ []) refl (term_is_read footer) (λ v. inr (inr (inr (inr (inr (inr (inl v)))))))
+      (λ v b more k s. (k, s)) (λ v m. refl) (λ v. refl))
 
   pub turned : (c : ℕ) → Turns c
   turned c st v b free a = by_code c (code_ahead st.rest c a) st v b free a
@@ -220,19 +133,16 @@ module _ {S B : Type 0} (made : Made S B) {body : Spells S} (l : IsReadAs made.g
       let t = takes_one 0x70 (term_is_read (composite header)) st v b more free here s.0 s.1 in
       record { code = 0x70; ahead = t.ahead; value = v; here = t.here; puts = λ m. refl; stands = refl }
   reads (inr (inl v)) st b more free here s =
-      let t = takes_one 0x71 (term_is_read (section_of in_delivery_annotations delivery_annotations_naming annotations_type))
-      st v b more free here s.0 s.1 in
+      let t = takes_one 0x71 (term_is_read delivery_annotations) st v b more free here s.0 s.1 in
       record { code = 0x71; ahead = t.ahead; value = v; here = t.here; puts = λ m. refl; stands = refl }
   reads (inr (inr (inl v))) st b more free here s =
-      let t = takes_one 0x72 (term_is_read (section_of in_message_annotations message_annotations_naming annotations_type))
-      st v b more free here s.0 s.1 in
+      let t = takes_one 0x72 (term_is_read message_annotations) st v b more free here s.0 s.1 in
       record { code = 0x72; ahead = t.ahead; value = v; here = t.here; puts = λ m. refl; stands = refl }
   reads (inr (inr (inr (inl v)))) st b more free here s =
       let t = takes_one 0x73 (term_is_read (composite properties)) st v b more free here s.0 s.1 in
       record { code = 0x73; ahead = t.ahead; value = v; here = t.here; puts = λ m. refl; stands = refl }
   reads (inr (inr (inr (inr (inl v))))) st b more free here s =
-      let t = takes_one 0x74 (term_is_read (section_of in_application_properties application_properties_naming simple_map_type))
-      st v b more free here s.0 s.1 in
+      let t = takes_one 0x74 (term_is_read application_properties) st v b more free here s.0 s.1 in
       record { code = 0x74; ahead = t.ahead; value = v; here = t.here; puts = λ m. refl; stands = refl }
   reads (inr (inr (inr (inr (inr (inl v)))))) st b more free here s =
       elim (of_body s.0.code s.0.among) [
@@ -247,6 +157,6 @@ module _ {S B : Type 0} (made : Made S B) {body : Spells S} (l : IsReadAs made.g
             record { code = 0x77; ahead = t.ahead; value = v; here = t.here; puts = λ m. refl; stands = refl }
       ]
   reads (inr (inr (inr (inr (inr (inr (inl v))))))) st b more free here s =
-      let t = takes_one 0x78 (term_is_read (section_of in_footer footer_naming annotations_type)) st v b more free here s.0 s.1 in
+      let t = takes_one 0x78 (term_is_read footer) st v b more free here s.0 s.1 in
       record { code = 0x78; ahead = t.ahead; value = v; here = t.here; puts = λ m. refl; stands = refl }
   reads (inr (inr (inr (inr (inr (inr (inr none))))))) st b more free here s = absurd none

@@ -1,5 +1,4 @@
 -- Which bytes are a body of any kind (Part 3, sections 3.2.6 to 3.2.8).
-use Rattle.std.specs.Prelude.{List}
 use Rattle.amqp_sections.specs.declared.data.Data.{Data as DataSection}
 use Rattle.amqp_sections.specs.declared.amqp_sequence.AmqpSequence.{AmqpSequence}
 use Rattle.amqp_sections.specs.declared.amqp_value.AmqpValue.{AmqpValue}

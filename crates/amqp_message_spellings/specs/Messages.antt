@@ -8,11 +8,28 @@ use Rattle.amqp_map_sections.specs.MapSections.{in_delivery_annotations, deliver
 use Rattle.amqp_map_sections.specs.MapSections.{message_annotations_naming, in_application_properties, application_properties_naming}
 use Rattle.amqp_map_sections.specs.MapSections.{in_footer, footer_naming}
 use Rattle.amqp_map_sections.specs.SimpleMaps.{simple_map_type}
+use Rattle.amqp_map_sections.specs.declared.application_properties.ApplicationProperties.{ApplicationProperties}
+use Rattle.amqp_map_sections.specs.declared.delivery_annotations.DeliveryAnnotations.{DeliveryAnnotations}
+use Rattle.amqp_map_sections.specs.declared.footer.Footer.{Footer}
+use Rattle.amqp_map_sections.specs.declared.message_annotations.MessageAnnotations.{MessageAnnotations}
 use Rattle.amqp_message_headers.specs.Tables.{header, properties}
 use Rattle.amqp_bodies.specs.Bodies.{Made}
 use Rattle.amqp_messages.specs.declared.message.Message.{Message}
 use Rattle.amqp_message_spellings.specs.Spellings.{Spells, IsTerm}
 use Rattle.amqp_message_spellings.specs.Kinds.{Kind, Kinds, none, kind, Fields, IsInAnyOrder, IsInOrder}
+
+-- The types of the sections that are maps.
+abbrev pub delivery_annotations : TermType DeliveryAnnotations
+delivery_annotations = section_of in_delivery_annotations delivery_annotations_naming annotations_type
+
+abbrev pub message_annotations : TermType MessageAnnotations
+message_annotations = section_of in_message_annotations message_annotations_naming annotations_type
+
+abbrev pub application_properties : TermType ApplicationProperties
+application_properties = section_of in_application_properties application_properties_naming simple_map_type
+
+abbrev pub footer : TermType Footer
+footer = section_of in_footer footer_naming annotations_type
 
 -- One section of this code, whose term is of this type.
 abbrev pub section : {T : Type 0} → ℕ → TermType T → Kind
@@ -25,12 +42,12 @@ body_kind {S} body = record { Value = S; codes = 0x75 ∷ 0x76 ∷ 0x77 ∷ []; 
 abbrev pub seven : Kind → Kinds
 seven body =
     kind (section 0x70 (composite header))
-    (kind (section 0x71 (section_of in_delivery_annotations delivery_annotations_naming annotations_type))
-    (kind (section 0x72 (section_of in_message_annotations message_annotations_naming annotations_type))
+    (kind (section 0x71 delivery_annotations)
+    (kind (section 0x72 message_annotations)
     (kind (section 0x73 (composite properties))
-    (kind (section 0x74 (section_of in_application_properties application_properties_naming simple_map_type))
+    (kind (section 0x74 application_properties)
     (kind body
-    (kind (section 0x78 (section_of in_footer footer_naming annotations_type)) none))))))
+    (kind (section 0x78 footer) none))))))
 
 module _ {S B : Type 0} (made : Made S B) (group : Spells S) where
   abbrev pub kinds : Kinds
