@@ -1,0 +1,51 @@
+//! How many bytes a format code and a size announce (Part 1, section 1.2).
+
+use crate::ContainerKind;
+use crate::descriptors::marks_within;
+use crate::heads::{head_of, number};
+use amqp_wire::format_code;
+
+// How many bytes the data of a code of a fixed width has: the high half of the code says it.
+fn fixed_width(code: u8) -> usize {
+    match code / 16 {
+        0x4 => 0,
+        0x5 => 1,
+        0x6 => 2,
+        0x7 => 4,
+        0x8 => 8,
+        _ => 16,
+    }
+}
+
+// How many bytes the size has that the data of a code begins with.
+fn size_width(code: u8) -> usize {
+    match code {
+        format_code::BINARY_8 | format_code::STRING_8 | format_code::SYMBOL_8 => 1,
+        format_code::BINARY_32 | format_code::STRING_32 | format_code::SYMBOL_32 => 4,
+        _ => 0,
+    }
+}
+
+/// Returns how many bytes the data under a code has that the input begins with, as its format and its size announce. They may not all be
+/// there.
+pub(crate) fn announced_len(code: u8, input: &[u8]) -> Option<usize> {
+    if let Some(head) = head_of(code) {
+        let size = number(head.width, input)?;
+        return Some(match head.kind {
+            ContainerKind::List if size == 0 => head.width + head.width,
+            _ => head.width + size,
+        });
+    }
+    if code < format_code::BINARY_8 {
+        return Some(fixed_width(code));
+    }
+    let width = size_width(code);
+    Some(width + number(width, input)?)
+}
+
+/// Returns how many bytes the value has that the input begins with, as its constructor and its size announce.
+pub(crate) fn announced_value(input: &[u8]) -> Option<usize> {
+    let marks = marks_within(input, input.len());
+    let (code, data) = input[marks.len..].split_first()?;
+    Some(marks.len + 1 + announced_len(*code, data)?)
+}

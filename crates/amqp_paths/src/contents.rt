@@ -1,0 +1,38 @@
+//! The content of containers, of which the end may be missing (Part 1, sections 1.2.3 and 1.2.4).
+
+use crate::ContainerKind;
+use crate::heads::{Head, number};
+
+/// What there is of a container's content.
+#[derive(Clone, Copy)]
+pub(crate) struct Content {
+    /// How many items the container announces.
+    pub(crate) count: usize,
+    /// Where their bytes begin in the data.
+    pub(crate) start: usize,
+    /// Where they end, or where the data does, if this is before.
+    pub(crate) end: usize,
+}
+
+/// Returns what there is of the content of the container whose data the input begins with, if there are its size and its count, and the size
+/// holds the count. A list without items may have the size 0.
+pub(crate) fn content_in(input: &[u8], head: Head) -> Option<Content> {
+    let width = head.width;
+    let size = number(width, input)?;
+    let count = number(width, &input[width..])?;
+    if size >= width {
+        return Some(Content {
+            count,
+            start: width + width,
+            end: input.len().min(width + size),
+        });
+    }
+    match head.kind {
+        ContainerKind::List if size == 0 && count == 0 => Some(Content {
+            count,
+            start: width + width,
+            end: width + width,
+        }),
+        _ => None,
+    }
+}

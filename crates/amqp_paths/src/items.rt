@@ -1,0 +1,48 @@
+//! The items of lists and maps before a place (Part 1, section 1.2.3).
+
+use crate::announced::announced_value;
+use crate::steps::Further;
+use crate::{ContainerKind, Piece};
+use amqp_lengths::term_len;
+
+// The length of the whole value at the start of the input, if it ends within `room` bytes.
+fn value_within(input: &[u8], room: usize) -> Option<usize> {
+    let announced = announced_value(input)?;
+    if announced > room {
+        return None;
+    }
+    term_len(input.get(..announced)?).ok()
+}
+
+/// Returns the item of a list or map that begins within `room` bytes of its content, behind the whole items before it: the first one that
+/// doesn't end there. If all items end there, it returns the end of the container.
+pub(crate) fn item_within(
+    container: ContainerKind,
+    count: usize,
+    content: &[u8],
+    room: usize,
+) -> Further {
+    let mut start = 0;
+    for index in 0..count {
+        match value_within(&content[start..], room - start) {
+            Some(len) => start += len,
+            None => {
+                let piece = Piece::Item {
+                    container,
+                    count,
+                    index,
+                };
+                return Further {
+                    piece,
+                    start,
+                    end: content.len(),
+                };
+            }
+        }
+    }
+    Further {
+        piece: Piece::End { container, count },
+        start,
+        end: content.len(),
+    }
+}

@@ -1,0 +1,123 @@
+//! From what begins at a place to what is next further in (Part 1, sections 1.2 and 1.6).
+
+use crate::contents::content_in;
+use crate::descriptors::descriptor_len;
+use crate::elements::part_within;
+use crate::heads::head_of;
+use crate::items::item_within;
+use crate::{ContainerKind, Piece};
+use amqp_wire::format_code;
+use amqp_wire::nesting::NESTING;
+
+/// What is next further in: what begins there, where it begins, and where what is around it ends, in the bytes of what is around both.
+#[derive(Clone, Copy)]
+pub(crate) struct Further {
+    pub(crate) piece: Piece,
+    pub(crate) start: usize,
+    pub(crate) end: usize,
+}
+
+impl Further {
+    /// Returns the same, where so many bytes come first.
+    pub(crate) fn behind(self, len: usize) -> Further {
+        Further {
+            piece: self.piece,
+            start: len + self.start,
+            end: len + self.end,
+        }
+    }
+}
+
+// In the data under a code: an item or the end of a list or map, or the content of an array.
+fn in_data(code: u8, data: &[u8], room: usize) -> Option<Further> {
+    let head = head_of(code)?;
+    let content = content_in(data, head)?;
+    let room = room.checked_sub(content.start)?;
+    let items = &data[content.start..content.end];
+    let inner = match head.kind {
+        ContainerKind::Array => Further {
+            piece: Piece::ArrayContent {
+                count: content.count,
+            },
+            start: 0,
+            end: items.len(),
+        },
+        kind => item_within(kind, content.count, items, room),
+    };
+    Some(inner.behind(content.start))
+}
+
+// Behind the 0 of a described value: its descriptor, or what is behind it.
+fn in_described(input: &[u8], room: usize) -> Further {
+    let (piece, start) = match descriptor_len(input) {
+        Some(len) if len <= room => (Piece::Value, len),
+        _ => (Piece::Descriptor, 0),
+    };
+    Further {
+        piece,
+        start,
+        end: input.len(),
+    }
+}
+
+// In a value with a constructor of its own.
+fn in_value(input: &[u8], room: usize) -> Option<Further> {
+    let (code, after) = input.split_first()?;
+    let room = room.checked_sub(1)?;
+    let inner = match *code {
+        format_code::DESCRIBED => in_described(after, room),
+        code => in_data(code, after, room)?,
+    };
+    Some(inner.behind(1))
+}
+
+// In a descriptor: in what is no descriptor, but a container.
+fn in_descriptor(input: &[u8], room: usize) -> Option<Further> {
+    let (code, after) = input.split_first()?;
+    let room = room.checked_sub(1)?;
+    Some(in_data(*code, after, room)?.behind(1))
+}
+
+// In the rest of a shared constructor: its next descriptor.
+fn in_constructor(descriptors: usize, input: &[u8], room: usize) -> Option<Further> {
+    let (code, after) = input.split_first()?;
+    if *code != format_code::DESCRIBED || descriptors >= NESTING || room == 0 {
+        return None;
+    }
+    Some(Further {
+        piece: Piece::Descriptor,
+        start: 1,
+        end: input.len(),
+    })
+}
+
+/// Returns what is next further in and begins within `room` bytes of those of a piece, if there is such a thing.
+pub(crate) fn step_within(piece: Piece, input: &[u8], room: usize) -> Option<Further> {
+    match piece {
+        Piece::Value | Piece::Item { .. } => in_value(input, room),
+        Piece::Descriptor => in_descriptor(input, room),
+        Piece::ArrayContent { count } => Some(part_within(count, input, room)),
+        Piece::ElementConstructor { descriptors } => in_constructor(descriptors, input, room),
+        Piece::Element {
+            descriptors: 0,
+            code,
+            ..
+        } => in_data(code, input, room),
+        Piece::Element {
+            descriptors,
+            code,
+            count,
+            index,
+        } => Some(Further {
+            piece: Piece::Element {
+                descriptors: descriptors - 1,
+                code,
+                count,
+                index,
+            },
+            start: 0,
+            end: input.len(),
+        }),
+        Piece::End { .. } => None,
+    }
+}
