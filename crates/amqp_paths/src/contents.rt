@@ -1,4 +1,8 @@
 //! The content of containers, of which the end may be missing (Part 1, sections 1.2.3 and 1.2.4).
+ghost use Rattle.std.specs.Prelude.{◌≡◌, ◌≤◌, ◌+◌, ◌⊎◌, ℕ, List, length, MatchOption, IfSome};
+ghost use Rattle.amqp_lengths.specs.Stands.{Around, Contains};
+ghost use Rattle.amqp_paths.specs.Pieces.{container_of};
+ghost use Rattle.amqp_paths.specs.Steps.{HasContent};
 
 use crate::ContainerKind;
 use crate::heads::{Head, number};
@@ -16,7 +20,13 @@ pub(crate) struct Content {
 
 /// Returns what there is of the content of the container whose data the input begins with, if there are its size and its count, and the size
 /// holds the count. A list without items may have the size 0.
-pub(crate) fn content_in(input: &[u8], head: Head) -> Option<Content> {
+pub(crate) fn content_in(input: &[u8], head: Head) -> Option<Content>
+    requires { (head.width ≡ 0) ⊎ ((head.width ≡ 1) ⊎ (head.width ≡ 4)) }
+    ensures content { MatchOption result
+        ((n behind : ℕ) (items : List ℕ) (around : Around) → Contains (container_of head.kind) head.width n items input.now around behind → ⊥)
+        (λ c. HasContent (container_of head.kind) head.width input.now c) }
+    ensures start { IfSome result (λ c. c.start ≡ head.width + head.width) }
+{
     let width = head.width;
     let size = number(width, input)?;
     let count = number(width, &input[width..])?;

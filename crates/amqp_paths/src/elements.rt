@@ -1,4 +1,10 @@
 //! The items of arrays before a place (Part 1, section 1.2.4).
+ghost use Rattle.std.specs.Prelude.{◌≡◌, ◌≤◌, ◌+◌, ◌-◌, ◌^◌, ◌<◌, length, drop, IsTrue, IfSome};
+ghost use Rattle.amqp_model.specs.Constructors.{format};
+ghost use Rattle.amqp_lengths.specs.Fronts.{IsFront};
+ghost use Rattle.amqp_lengths.specs.Announced.{IsAnnounced};
+ghost use Rattle.amqp_lengths.specs.Stands.{an_array, AnyData};
+ghost use Rattle.amqp_paths.specs.Steps.{IsElement, StepsTo};
 
 use crate::announced::announced_len;
 use crate::descriptors::marks_within;
@@ -24,7 +30,9 @@ fn is_primitive(code: u8, data: &[u8]) -> bool {
 }
 
 // The length of the whole data under the code at the start of the input, if it has bytes and ends within `room` of them.
-fn data_within(code: u8, input: &[u8], room: usize) -> Option<usize> {
+fn data_within(code: u8, input: &[u8], room: usize) -> Option<usize>
+    ensures { IfSome result (λ n. IsFront (AnyData code) input.now n × (n ≤ room)) }
+{
     let len = announced_len(code, input)?;
     if len == 0 || len > room {
         return None;
@@ -44,7 +52,11 @@ pub(crate) struct Shared {
 }
 
 // The element that begins within `room` bytes of the data of an array's items, behind the whole ones before it.
-fn element_within(shared: Shared, count: usize, data: &[u8], room: usize) -> Further {
+fn element_within(shared: Shared, count: usize, data: &[u8], room: usize) -> Further
+    ensures element { IsElement shared.descriptors shared.code count data.now result.piece result.start }
+    ensures ends { result.end ≡ length data.now }
+    ensures near { result.start ≤ room }
+{
     let mut start = 0;
     for index in 0..count {
         match data_within(shared.code, &data[start..], room - start) {
@@ -77,7 +89,9 @@ fn element_within(shared: Shared, count: usize, data: &[u8], room: usize) -> Fur
 
 /// Returns what begins within `room` bytes of the content of an array: the constructor that its items share, or a further part of it, or an
 /// item.
-pub(crate) fn part_within(count: usize, content: &[u8], room: usize) -> Further {
+pub(crate) fn part_within(count: usize, content: &[u8], room: usize) -> Further
+    ensures { StepsTo (λ P z. (P ≡ an_array count) × (z ≡ content.now)) content.now room result }
+{
     let marks = marks_within(content, room);
     let descriptors = marks.descriptors;
     if let Some((code, data)) = content[marks.len..].split_first()

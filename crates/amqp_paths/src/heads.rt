@@ -1,4 +1,10 @@
 //! The format codes of containers, and the numbers at the start of their data (Part 1, sections 1.2.3 and 1.2.4).
+ghost use Rattle.std.specs.Prelude.{◌≡◌, ◌<◌, ◌⊎◌, ◌^◌, ℕ, length, MatchOption, IfSome};
+ghost use Rattle.amqp_model.specs.Term.{Container};
+ghost use Rattle.amqp_model.specs.Constructors.{compound, format};
+ghost use Rattle.amqp_lengths.specs.Fronts.{IsFront};
+ghost use Rattle.amqp_lengths.specs.Pieces.{IsNumber};
+ghost use Rattle.amqp_paths.specs.Pieces.{container_of};
 
 use crate::ContainerKind;
 use amqp_wire::format_code;
@@ -11,7 +17,11 @@ pub(crate) struct Head {
 }
 
 /// Returns what the code says, or `None` if it is not that of a list, a map or an array.
-pub(crate) fn head_of(code: u8) -> Option<Head> {
+pub(crate) fn head_of(code: u8) -> Option<Head>
+    ensures head { MatchOption result ((kind : Container) (w : ℕ) → format code ≡ compound kind w → ⊥)
+        (λ h. format code ≡ compound (container_of h.kind) h.width) }
+    ensures width { IfSome result (λ h. (h.width ≡ 0) ⊎ ((h.width ≡ 1) ⊎ (h.width ≡ 4))) }
+{
     let (kind, width) = match code {
         format_code::LIST_0 => (ContainerKind::List, 0),
         format_code::LIST_8 => (ContainerKind::List, 1),
@@ -26,7 +36,11 @@ pub(crate) fn head_of(code: u8) -> Option<Head> {
 }
 
 /// Returns the number of so many bytes at the start of the input, if they are there.
-pub(crate) fn number(width: usize, input: &[u8]) -> Option<usize> {
+pub(crate) fn number(width: usize, input: &[u8]) -> Option<usize>
+    requires { (width ≡ 0) ⊎ ((width ≡ 1) ⊎ (width ≡ 4)) }
+    ensures number { MatchOption result (length input.now < width) (λ n. IsFront (IsNumber width n) input.now width) }
+    ensures most { IfSome result (λ n. n < 2 ^ 32) }
+{
     match (width, input) {
         (0, _) => Some(0),
         (1, [a, ..]) => Some(usize::from(*a)),

@@ -1,4 +1,8 @@
 //! The items of lists and maps before a place (Part 1, section 1.2.3).
+ghost use Rattle.std.specs.Prelude.{◌≡◌, ◌≤◌, ◌-◌, length, drop, MatchOption};
+ghost use Rattle.amqp_lengths.specs.Fronts.{IsFront};
+ghost use Rattle.amqp_lengths.specs.Lengths.{IsTerm};
+ghost use Rattle.amqp_paths.specs.Steps.{NoneWithin, IsItem, Reaches};
 
 use crate::announced::announced_value;
 use crate::steps::Further;
@@ -6,7 +10,9 @@ use crate::{ContainerKind, Piece};
 use amqp_lengths::term_len;
 
 // The length of the whole value at the start of the input, if it ends within `room` bytes.
-fn value_within(input: &[u8], room: usize) -> Option<usize> {
+fn value_within(input: &[u8], room: usize) -> Option<usize>
+    ensures { MatchOption result (NoneWithin (IsTerm 128) input.now room) (λ n. IsFront (IsTerm 128) input.now n × (n ≤ room)) }
+{
     let announced = announced_value(input)?;
     if announced > room {
         return None;
@@ -21,7 +27,12 @@ pub(crate) fn item_within(
     count: usize,
     content: &[u8],
     room: usize,
-) -> Further {
+) -> Further
+    ensures item { IsItem container count content.now result.piece result.start }
+    ensures ends { result.end ≡ length content.now }
+    ensures near { result.start ≤ room }
+    ensures reaches { Reaches result.piece (drop result.start content.now) (room - result.start) }
+{
     let mut start = 0;
     for index in 0..count {
         match value_within(&content[start..], room - start) {

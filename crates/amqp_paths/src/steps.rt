@@ -1,4 +1,8 @@
 //! From what begins at a place to what is next further in (Part 1, sections 1.2 and 1.6).
+ghost use Rattle.std.specs.Prelude.{◌≡◌, ◌≤◌, ◌<◌, ◌+◌, ◌^◌, ◌∷◌, length, MatchOption};
+ghost use Rattle.amqp_lengths.specs.Stands.{a_descriptor, a_code, IsOwn, IsUnder};
+ghost use Rattle.amqp_paths.specs.Pieces.{IsPiece};
+ghost use Rattle.amqp_paths.specs.Steps.{NoContentWithin, StepsTo, StepsBeyond};
 
 use crate::contents::content_in;
 use crate::descriptors::descriptor_len;
@@ -19,7 +23,13 @@ pub(crate) struct Further {
 
 impl Further {
     /// Returns the same, where so many bytes come first.
-    pub(crate) fn behind(self, len: usize) -> Further {
+    pub(crate) fn behind(self, len: usize) -> Further
+        requires order { self.start ≤ self.end }
+        requires room { len + self.end < 2 ^ 64 }
+        ensures piece { result.piece ≡ self.piece }
+        ensures start { result.start ≡ len + self.start }
+        ensures end { result.end ≡ len + self.end }
+    {
         Further {
             piece: self.piece,
             start: len + self.start,
@@ -29,7 +39,9 @@ impl Further {
 }
 
 // In the data under a code: an item or the end of a list or map, or the content of an array.
-fn in_data(code: u8, data: &[u8], room: usize) -> Option<Further> {
+fn in_data(code: u8, data: &[u8], room: usize) -> Option<Further>
+    ensures { MatchOption result (NoContentWithin code data.now room) (λ f. StepsTo (λ P z. IsUnder P z code data.now) data.now room f) }
+{
     let head = head_of(code)?;
     let content = content_in(data, head)?;
     let room = room.checked_sub(content.start)?;
@@ -48,7 +60,9 @@ fn in_data(code: u8, data: &[u8], room: usize) -> Option<Further> {
 }
 
 // Behind the 0 of a described value: its descriptor, or what is behind it.
-fn in_described(input: &[u8], room: usize) -> Further {
+fn in_described(input: &[u8], room: usize) -> Further
+    ensures { StepsTo (λ P z. IsOwn P × (z ≡ 0 ∷ input.now)) input.now room result }
+{
     let (piece, start) = match descriptor_len(input) {
         Some(len) if len <= room => (Piece::Value, len),
         _ => (Piece::Descriptor, 0),
@@ -61,7 +75,10 @@ fn in_described(input: &[u8], room: usize) -> Further {
 }
 
 // In a value with a constructor of its own.
-fn in_value(input: &[u8], room: usize) -> Option<Further> {
+fn in_value(input: &[u8], room: usize) -> Option<Further>
+    ensures { MatchOption result (StepsBeyond (λ P z. IsOwn P × (z ≡ input.now)) room)
+        (λ f. StepsTo (λ P z. IsOwn P × (z ≡ input.now)) input.now room f) }
+{
     let (code, after) = input.split_first()?;
     let room = room.checked_sub(1)?;
     let inner = match *code {
@@ -72,14 +89,20 @@ fn in_value(input: &[u8], room: usize) -> Option<Further> {
 }
 
 // In a descriptor: in what is no descriptor, but a container.
-fn in_descriptor(input: &[u8], room: usize) -> Option<Further> {
+fn in_descriptor(input: &[u8], room: usize) -> Option<Further>
+    ensures { MatchOption result (StepsBeyond (λ P z. (P ≡ a_descriptor) × (z ≡ input.now)) room)
+        (λ f. StepsTo (λ P z. (P ≡ a_descriptor) × (z ≡ input.now)) input.now room f) }
+{
     let (code, after) = input.split_first()?;
     let room = room.checked_sub(1)?;
     Some(in_data(*code, after, room)?.behind(1))
 }
 
 // In the rest of a shared constructor: its next descriptor.
-fn in_constructor(descriptors: usize, input: &[u8], room: usize) -> Option<Further> {
+fn in_constructor(descriptors: usize, input: &[u8], room: usize) -> Option<Further>
+    ensures { MatchOption result (StepsBeyond (λ P z. (P ≡ a_code descriptors) × (z ≡ input.now)) room)
+        (λ f. StepsTo (λ P z. (P ≡ a_code descriptors) × (z ≡ input.now)) input.now room f) }
+{
     let (code, after) = input.split_first()?;
     if *code != format_code::DESCRIBED || descriptors >= NESTING || room == 0 {
         return None;
@@ -92,7 +115,10 @@ fn in_constructor(descriptors: usize, input: &[u8], room: usize) -> Option<Furth
 }
 
 /// Returns what is next further in and begins within `room` bytes of those of a piece, if there is such a thing.
-pub(crate) fn step_within(piece: Piece, input: &[u8], room: usize) -> Option<Further> {
+pub(crate) fn step_within(piece: Piece, input: &[u8], room: usize) -> Option<Further>
+    ensures { MatchOption result (StepsBeyond (λ P z. IsPiece piece P × (z ≡ input.now)) room)
+        (λ f. StepsTo (λ P z. IsPiece piece P × (z ≡ input.now)) input.now room f) }
+{
     match piece {
         Piece::Value | Piece::Item { .. } => in_value(input, room),
         Piece::Descriptor => in_descriptor(input, room),
