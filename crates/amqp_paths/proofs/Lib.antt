@@ -1,1 +1,4 @@
 mod Containers
+mod Named
+mod Among
+mod Furthers

@@ -1,0 +1,188 @@
+-- Steps that lead further in.
+use Rattle.std.proofs.Common.{◌≡◌, ℕ, zero, suc, ◌+◌, ◌-◌, ◌<◌, ◌≤◌, List, [], ◌∷◌, ◌++◌, length, take, drop, refl, sym, ap, ap₂, ◌∙◌, subst, arith}
+use Rattle.amqp_model.specs.Term.{Container, array, Descriptor}
+use Rattle.amqp_model.specs.Constructors.{compound, format}
+use Rattle.amqp_model.specs.Spelling.{Constructor}
+use Rattle.amqp_lengths.specs.Fronts.{IsFront, Behind}
+use Rattle.amqp_lengths.specs.Pieces.{NamesAny}
+use Rattle.amqp_lengths.specs.Lengths.{HasMarks, Constructs, IsTerm, Row}
+use Rattle.amqp_lengths.specs.Stands as stands
+use Rattle.amqp_lengths.specs.Stands.{a_value, an_item, an_element, a_descriptor, an_array, a_code, an_end, Around, unbounded, IsOwn, IsUnder}
+use Rattle.amqp_lengths.specs.Stands.{AnyTerm, AnyData, Contains, level_of, Step, to_descriptor, to_described, to_item, to_end, to_array, to_code}
+use Rattle.amqp_lengths.specs.Stands.{to_its_descriptor, to_element, to_array_end, to_its_described}
+use Rattle.amqp_lengths.proofs.DeeperFaults.{row_part, behind_part}
+use Rattle.amqp_paths.specs.declared.contents.Content.{Content}
+use Rattle.amqp_paths.specs.declared.piece.ContainerKind.{ContainerKind}
+use Rattle.amqp_paths.specs.declared.piece.ContainerKind.TheVariants.{Array}
+use Rattle.amqp_paths.specs.declared.piece.Piece.{Piece}
+use Rattle.amqp_paths.specs.declared.piece.Piece.TheVariants.{Value, Descriptor as a_mark, Item, ArrayContent, ElementConstructor, Element, End}
+use Rattle.amqp_paths.specs.declared.steps.Further.{Further}
+use Rattle.amqp_paths.specs.Pieces.{container_of, IsPiece}
+use Rattle.amqp_paths.specs.Steps.{Among, NoneWithin, HasContent, IsItem, IsElement, Reaches, StepsTo}
+use Rattle.amqp_paths.proofs.Among.{among_length, among_all, among_tail, among_inner, among_after, front_behind}
+
+-- where one step leads
+abbrev Goes : (stands.Piece → List ℕ → Type 0) → Piece → List ℕ → ℕ → Type 0
+Goes Begins p y behind = (P : stands.Piece) (d : ℕ) (z : List ℕ) → Begins P z → (Q : stands.Piece) × (k : ℕ) × (around : Around) × IsPiece p Q
+    × Step P d z Q k y around behind
+
+terms_behind : (n len : ℕ) (items : List ℕ) → IsFront (Row (IsTerm 128) n) items len → Behind (Row AnyTerm n) items (drop len items)
+terms_behind n len items f =
+    behind_part (Row (IsTerm 128) n) (Row AnyTerm n) items (drop len items) (row_part (IsTerm 128) AnyTerm (λ b (t, s, deep). (t, s)) n)
+    (front_behind (Row (IsTerm 128) n) items len f)
+
+-- into a list or map
+item_goes : (c w n behind : ℕ) (kind : ContainerKind) (data_ items : List ℕ) (around : Around) (p : Piece) (start : ℕ)
+    → format c ≡ compound (container_of kind) w → (container_of kind ≡ array → ⊥) → Contains (container_of kind) w n items data_ around behind
+    → IsItem kind n items p start → Goes (λ P z. IsUnder P z c data_) p (drop start items) behind
+item_goes c w n behind kind data_ items around (Item k m i) start is other holds (e, s, less, f) = λ P d z u. (
+  an_item (container_of kind) n i,
+  suc d,
+  around,
+  ap₂ (λ x y. an_item (container_of x) y i) (sym e) (sym s),
+  to_item P d z data_ items (drop start items) c w n i behind (container_of kind) around u is other holds less (terms_behind i start items f),
+)
+item_goes c w n behind kind data_ items around (End k m) start is other holds (e, s, f) = λ P d z u. (
+  an_end (container_of kind) n,
+  suc d,
+  around,
+  ap₂ (λ x y. an_end (container_of x) y) (sym e) (sym s),
+  to_end P d z data_ items (drop start items) c w n behind (container_of kind) around u is other holds (terms_behind n start items f),
+)
+item_goes c w n behind kind data_ items around _ start is other holds h = absurd h
+
+item_front : (kind : ContainerKind) (n : ℕ) (items : List ℕ) (p : Piece) (start : ℕ) → IsItem kind n items p start → start ≤ length items
+item_front kind n items (Item k m i) start (e, s, less, f) = f.within
+item_front kind n items (End k m) start (e, s, f) = f.within
+item_front kind n items _ start h = absurd h
+
+-- in the data under a code, behind the size and the count
+content_steps : (c w : ℕ) (kind : ContainerKind) (data_ : List ℕ) (content : Content) (room : ℕ) (f g : Further)
+    (h : HasContent (container_of kind) w data_ content) → content.start ≤ room → f.start ≤ length h.items → f.start ≤ room - content.start
+    → f.end ≡ length h.items → Reaches f.piece (drop f.start h.items) ((room - content.start) - f.start)
+    → Goes (λ P z. IsUnder P z c data_) f.piece (drop f.start h.items) h.behind → g.piece ≡ f.piece → g.start ≡ content.start + f.start
+    → g.end ≡ content.start + f.end → StepsTo (λ P z. IsUnder P z c data_) data_ room g
+content_steps c w kind data_ content room f g h near within inner ends reaches goes piece start end =
+    let part = among_inner data_ h.items (drop f.start h.items) content.start h.behind f.start 0 h.part (among_tail f.start h.items within) in
+    let same : 0 + h.behind ≡ h.behind = omega arith in
+    let left : (room - content.start) - f.start ≡ room - g.start = omega (arith, start) in
+    record {
+      bytes = drop f.start h.items;
+      behind = h.behind;
+      part = subst (λ s. Among data_ (drop f.start h.items) s h.behind) (sym start)
+          (subst (λ b. Among data_ (drop f.start h.items) (content.start + f.start) b) same part);
+      ends = omega (arith, end, ends, among_length data_ h.items content.start h.behind h.part);
+      near = omega (arith, start, near, inner);
+      reaches = subst (λ p. Reaches p (drop f.start h.items) (room - g.start)) (sym piece)
+          (subst (Reaches f.piece (drop f.start h.items)) left reaches);
+      step = subst (λ p. Goes (λ P z. IsUnder P z c data_) p (drop f.start h.items) h.behind) (sym piece) goes;
+    }
+
+pub items_step : (c w : ℕ) (kind : ContainerKind) (data_ items : List ℕ) (content : Content) (room : ℕ) (f g : Further)
+    → format c ≡ compound (container_of kind) w → (container_of kind ≡ array → ⊥) → (h : HasContent (container_of kind) w data_ content)
+    → content.start ≤ room → items ≡ h.items → IsItem kind content.count items f.piece f.start → f.end ≡ length items
+    → f.start ≤ room - content.start → Reaches f.piece (drop f.start items) ((room - content.start) - f.start) → g.piece ≡ f.piece
+    → g.start ≡ content.start + f.start → g.end ≡ content.start + f.end → StepsTo (λ P z. IsUnder P z c data_) data_ room g
+items_step c w kind data_ items content room f g is other h near same item ends inner reaches piece start end =
+    let there = subst (λ l. IsItem kind content.count l f.piece f.start) same item in
+    content_steps c w kind data_ content room f g h near (item_front kind content.count h.items f.piece f.start there) inner
+    (ends ∙ ap length same) (subst (λ l. Reaches f.piece (drop f.start l) ((room - content.start) - f.start)) same reaches)
+    (item_goes c w content.count h.behind kind data_ h.items h.around f.piece f.start is other h.contains there) piece start end
+
+-- into an array
+pub array_step : (c w : ℕ) (data_ : List ℕ) (content : Content) (room : ℕ) (g : Further) → format c ≡ compound array w
+    → (h : HasContent array w data_ content) → content.start ≤ room → g.piece ≡ ArrayContent content.count → g.start ≡ content.start
+    → g.end ≡ content.end → StepsTo (λ P z. IsUnder P z c data_) data_ room g
+array_step c w data_ content room g is h near piece start end =
+    record {
+      bytes = h.items;
+      behind = h.behind;
+      part = subst (λ s. Among data_ h.items s h.behind) (sym start) h.part;
+      ends = omega (arith, end, h.ends);
+      near = omega (arith, start, near);
+      reaches = subst (λ p. Reaches p h.items (room - g.start)) (sym piece) tt;
+      step = subst (λ p. Goes (λ P z. IsUnder P z c data_) p h.items h.behind) (sym piece) (λ P d z u. (
+        an_array content.count,
+        d,
+        h.around,
+        refl,
+        to_array P d z data_ h.items c w content.count h.behind h.around u is h.contains,
+      ));
+    }
+
+-- behind one byte more
+pub steps_after : (A B : stands.Piece → List ℕ → Type 0) (c : ℕ) (input after : List ℕ) (room inner : ℕ) (f g : Further) → input ≡ c ∷ after
+    → room ≡ 1 + inner → ((P : stands.Piece) (z : List ℕ) → B P z → A P z) → StepsTo A after inner f → g.piece ≡ f.piece → g.start ≡ 1 + f.start
+    → g.end ≡ 1 + f.end → StepsTo B input room g
+steps_after A B c input after room inner f g is more part h piece start end =
+    let left : inner - f.start ≡ room - g.start = omega (arith, more, start) in
+    record {
+      bytes = h.bytes;
+      behind = h.behind;
+      part = subst (λ l. Among l h.bytes g.start h.behind) (sym is)
+          (subst (λ s. Among (c ∷ after) h.bytes s h.behind) (sym start) (among_after c after h.bytes f.start h.behind h.part));
+      ends = omega (arith, end, h.ends, ap length is);
+      near = omega (arith, start, more, h.near);
+      reaches = subst (λ p. Reaches p h.bytes (room - g.start)) (sym piece) (subst (Reaches f.piece h.bytes) left h.reaches);
+      step = subst (λ p. Goes B p h.bytes h.behind) (sym piece) (λ P d z b. h.step P d z (part P z b));
+    }
+
+-- from what is also such a piece
+pub steps_part : (A B : stands.Piece → List ℕ → Type 0) (input : List ℕ) (room : ℕ) (f : Further)
+    → ((P : stands.Piece) (z : List ℕ) → B P z → A P z) → StepsTo A input room f → StepsTo B input room f
+steps_part A B input room f part h = record {
+  bytes = h.bytes;
+  behind = h.behind;
+  part = h.part;
+  ends = h.ends;
+  near = h.near;
+  reaches = h.reaches;
+  step = λ P d z b. h.step P d z (part P z b);
+}
+
+pub own_under : (P : stands.Piece) (c : ℕ) (z after : List ℕ) → IsOwn P → z ≡ c ∷ after → IsUnder P z c after
+own_under a_value c z after h is = is
+own_under (an_item kind n i) c z after h is = is
+own_under _ c z after h is = absurd h
+
+-- what begins at the end of some bytes, up to the end of all
+pub tail_steps : (Begins : stands.Piece → List ℕ → Type 0) (input bytes : List ℕ) (room n : ℕ) (p : Piece) → n ≤ length input → n ≤ room → drop n input ≡ bytes
+    → Reaches p bytes (room - n)
+    → ((P : stands.Piece) (d : ℕ) (z : List ℕ) → Begins P z → (Q : stands.Piece) × (k : ℕ) × (around : Around) × IsPiece p Q
+    × Step P d z Q k bytes around 0)
+    → StepsTo Begins input room (record { piece = p; start = n; end = length input })
+tail_steps Begins input bytes room n p few near is reaches goes = record {
+  bytes = bytes;
+  behind = 0;
+  part = subst (λ l. Among input l n 0) is (among_tail n input few);
+  ends = omega arith;
+  near = near;
+  reaches = reaches;
+  step = goes;
+}
+
+-- behind the 0 of a described value
+pub described_steps : (input : List ℕ) (room n : ℕ) → IsFront NamesAny input n → n ≤ room
+    → StepsTo (λ P z. IsOwn P × (z ≡ 0 ∷ input)) input room (record { piece = Value; start = n; end = length input })
+described_steps input room n f near =
+    tail_steps (λ P z. IsOwn P × (z ≡ 0 ∷ input)) input (drop n input) room n Value f.within near refl tt (λ P d z (own, is). (
+      a_value,
+      suc d,
+      unbounded,
+      refl,
+      subst (λ l. Step P d l a_value (suc d) (drop n input) unbounded 0) (sym is)
+      (to_described P d input (drop n input) own (front_behind NamesAny input n f)),
+    ))
+
+pub mark_steps : (input : List ℕ) (room : ℕ) → NoneWithin NamesAny input room
+    → StepsTo (λ P z. IsOwn P × (z ≡ 0 ∷ input)) input room (record { piece = a_mark; start = 0; end = length input })
+mark_steps input room none =
+    let same : room ≡ room - 0 = omega arith in
+    tail_steps (λ P z. IsOwn P × (z ≡ 0 ∷ input)) input input room 0 a_mark (omega arith) (omega arith) refl
+    (subst (NoneWithin NamesAny input) same none) (λ P d z (own, is). (
+      a_descriptor,
+      d,
+      unbounded,
+      refl,
+      subst (λ l. Step P d l a_descriptor d input unbounded 0) (sym is) (to_descriptor P d input own),
+    ))
