@@ -1,5 +1,6 @@
 -- Steps that lead further in.
 use Rattle.std.proofs.Common.{◌≡◌, ℕ, zero, suc, ◌+◌, ◌-◌, ◌<◌, ◌≤◌, List, [], ◌∷◌, ◌++◌, length, take, drop, refl, sym, ap, ap₂, ◌∙◌, subst, arith}
+use Rattle.std.proofs.lemmas.List.{take-append-drop, length-drop}
 use Rattle.amqp_model.specs.Term.{Container, array, Descriptor}
 use Rattle.amqp_model.specs.Constructors.{compound, format}
 use Rattle.amqp_model.specs.Spelling.{Constructor}
@@ -18,7 +19,7 @@ use Rattle.amqp_paths.specs.declared.piece.Piece.{Piece}
 use Rattle.amqp_paths.specs.declared.piece.Piece.TheVariants.{Value, Descriptor as a_mark, Item, ArrayContent, ElementConstructor, Element, End}
 use Rattle.amqp_paths.specs.declared.steps.Further.{Further}
 use Rattle.amqp_paths.specs.Pieces.{container_of, IsPiece}
-use Rattle.amqp_paths.specs.Steps.{Among, NoneWithin, HasContent, IsItem, IsElement, Reaches, StepsTo}
+use Rattle.amqp_paths.specs.Steps.{Among, IsMark, NoneWithin, HasContent, IsItem, IsElement, Reaches, StepsTo}
 use Rattle.amqp_paths.proofs.Among.{among_length, among_all, among_tail, among_inner, among_after, front_behind}
 
 -- where one step leads
@@ -186,3 +187,93 @@ mark_steps input room none =
       refl,
       subst (λ l. Step P d l a_descriptor d input unbounded 0) (sym is) (to_descriptor P d input own),
     ))
+
+-- the next descriptor of a constructor that items share
+pub its_mark_steps : (k c room : ℕ) (input after : List ℕ) → k < 128 → input ≡ c ∷ after → c ≡ 0 → 0 < room → NoneWithin IsMark input room
+    → StepsTo (λ P z. (P ≡ a_code k) × (z ≡ input)) input room (record { piece = a_mark; start = 1; end = length input })
+its_mark_steps k c room input after few is nought some none =
+    let there : input ≡ 0 ∷ after = is ∙ ap (λ x. x ∷ after) nought in
+    tail_steps (λ P z. (P ≡ a_code k) × (z ≡ input)) input after room 1 a_mark (omega (arith, ap length there)) (omega arith) (ap (drop 1) there)
+    (λ name rest s names.
+    let far : room < length (0 ∷ name) = none (0 ∷ name) rest (there ∙ ap (λ l. 0 ∷ l) s) (name, refl, names) in
+    omega (arith, far, some))
+    (λ P d z (p, e). (
+      a_descriptor,
+      d,
+      unbounded,
+      refl,
+      subst (λ X. Step X d z a_descriptor d after unbounded 0) (sym p)
+      (subst (λ l. Step (a_code k) d l a_descriptor d after unbounded 0) (sym (e ∙ there)) (to_its_descriptor k d after few)),
+    ))
+
+-- some of a constructor that items share
+pub code_steps : (n k len room : ℕ) (content : List ℕ) → k ≤ 128 → IsFront (HasMarks k) content len → len ≤ room
+    → Reaches (ElementConstructor k) (drop len content) (room - len)
+    → StepsTo (λ P z. (P ≡ an_array n) × (z ≡ content)) content room (record { piece = ElementConstructor k; start = len; end = length content })
+code_steps n k len room content few marks near reaches =
+    tail_steps (λ P z. (P ≡ an_array n) × (z ≡ content)) content (drop len content) room len (ElementConstructor k) marks.within near refl reaches
+    (λ P d z (p, e). (
+      a_code k,
+      d,
+      unbounded,
+      refl,
+      subst (λ X. Step X d z (a_code k) d (drop len content) unbounded 0) (sym p)
+      (subst (λ l. Step (an_array n) d l (a_code k) d (drop len content) unbounded 0) (sym e)
+      (to_code n d content (drop len content) k few (front_behind (HasMarks k) content len marks))),
+    ))
+
+-- an item of an array
+element_goes : (n k c start len : ℕ) (content data_ : List ℕ) (p : Piece) → Constructs k c (take len content) → drop len content ≡ data_
+    → IsElement k c n data_ p start → Goes (λ P z. (P ≡ an_array n) × (z ≡ content)) p (drop start data_) 0
+element_goes n k c start len content data_ (Element l x m i) (ds, counted, few, q) at (e, s, t, less, f) = λ P d z (q', is). (
+  an_element ds c n i,
+  d + level_of (length ds) c,
+  unbounded,
+  (ds, counted ∙ sym e, ap₂ (λ a b. an_element ds a b i) (sym s) (sym t)),
+  subst (λ X. Step X d z (an_element ds c n i) (d + level_of (length ds) c) (drop start data_) unbounded 0) (sym q')
+  (subst (λ l. Step (an_array n) d l (an_element ds c n i) (d + level_of (length ds) c) (drop start data_) unbounded 0) (sym is)
+  (to_element n d content data_ (drop start data_) ds c i (omega (arith, counted, few))
+  (record { front = take len content; is = sym (take-append-drop len content) ∙ ap (λ x. take len content ++ x) at; spelled = q }) less
+  (front_behind (Row (AnyData c) i) data_ start f))),
+)
+element_goes n k c start len content data_ (End kind m) built at (e, s, f) = λ P d z (q', is). (
+  an_end array n,
+  d,
+  unbounded,
+  ap₂ (λ x y. an_end (container_of x) y) (sym e) (sym s),
+  subst (λ X. Step X d z (an_end array n) d (drop start data_) unbounded 0) (sym q')
+  (subst (λ l. Step (an_array n) d l (an_end array n) d (drop start data_) unbounded 0) (sym is)
+  (to_array_end n d content data_ (drop start data_) k c
+  (record { front = take len content; is = sym (take-append-drop len content) ∙ ap (λ x. take len content ++ x) at; spelled = built })
+  (front_behind (Row (AnyData c) n) data_ start f))),
+)
+element_goes n k c start len content data_ _ built at h = absurd h
+
+element_front : (k c n : ℕ) (data_ : List ℕ) (p : Piece) (start : ℕ) → IsElement k c n data_ p start → start ≤ length data_
+element_front k c n data_ (Element l x m i) start (e, s, t, less, f) = f.within
+element_front k c n data_ (End kind m) start (e, s, f) = f.within
+element_front k c n data_ _ start h = absurd h
+
+element_reaches : (k c n : ℕ) (data_ z : List ℕ) (p : Piece) (start room : ℕ) → IsElement k c n data_ p start → Reaches p z room
+element_reaches k c n data_ z (Element l x m i) start room h = tt
+element_reaches k c n data_ z (End kind m) start room h = tt
+element_reaches k c n data_ z _ start room h = absurd h
+
+pub element_steps : (n k c len room : ℕ) (content : List ℕ) (f g : Further) → len ≤ length content → Constructs k c (take len content)
+    → IsElement k c n (drop len content) f.piece f.start → f.end ≡ length (drop len content) → f.start ≤ room - len → len ≤ room
+    → g.piece ≡ f.piece → g.start ≡ len + f.start → g.end ≡ len + f.end → StepsTo (λ P z. (P ≡ an_array n) × (z ≡ content)) content room g
+element_steps n k c len room content f g within built h ends inner near piece start end =
+    let data_ = drop len content in
+    let few = element_front k c n data_ f.piece f.start h in
+    let bytes = drop f.start data_ in
+    record {
+      bytes = bytes;
+      behind = 0;
+      part = subst (λ s. Among content bytes s 0) (sym start)
+          (among_inner content data_ bytes len 0 f.start 0 (among_tail len content within) (among_tail f.start data_ few));
+      ends = omega (arith, end, ends, length-drop len content, within);
+      near = omega (arith, start, inner, near);
+      reaches = subst (λ p. Reaches p bytes (room - g.start)) (sym piece) (element_reaches k c n data_ bytes f.piece f.start (room - g.start) h);
+      step = subst (λ p. Goes (λ P z. (P ≡ an_array n) × (z ≡ content)) p bytes 0) (sym piece)
+          (element_goes n k c f.start len content data_ f.piece built refl h);
+    }

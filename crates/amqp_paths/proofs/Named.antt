@@ -1,9 +1,11 @@
 -- Descriptors and constructors before a place.
 use Rattle.std.proofs.Common.{◌≡◌, ℕ, zero, suc, ◌+◌, ◌-◌, ◌<◌, ◌≤◌, inl, inr, List, [], ◌∷◌, ◌++◌, length, take, drop, Result, Ok, Err, IfOk, IfErr}
-use Rattle.std.proofs.Common.{Option, Some, None, refl, sym, ap, ◌∙◌, subst, subst₂, arith, append_assoc, append-nil}
-use Rattle.std.specs.Prelude.{MatchOption, result_ok}
+use Rattle.std.proofs.Common.{Option, Some, None, unwrap_or, refl, sym, ap, ◌∙◌, subst, subst₂, arith, append_assoc, append-nil}
+use Rattle.std.specs.Prelude.{MatchOption}
+use Rattle.std.specs.Result.{result_ok}
 use Rattle.std.proofs.lemmas.List.{take-append-drop, length-append, length-drop, length-take-le}
-use Rattle.std.proofs.Math.Seq.{take-add}
+use Rattle.std.proofs.Math.Seq.{take-add, take-append_seam}
+use Rattle.amqp_model.proofs.Bytes.{front}
 use Rattle.amqp_wire.specs.declared.error.Error.{Error}
 use Rattle.amqp_model.specs.Term.{Primitive, Term, leaf, Descriptor}
 use Rattle.amqp_model.specs.Constructors.{Format, fixed, variable, compound, unknown, format}
@@ -167,3 +169,34 @@ value_unannounced k len input front after within marks none ends is (t, (ds, c',
     let split : input ≡ first ++ (second ++ after) = is ∙ ap (λ x. x ++ after) s ∙ append_assoc first second after in
     let (long, there) = all_marks k len input ds c' first (second ++ after) within marks none q few split in
     omega (arith, ap length there, length-drop len input)
+
+-- a front of the first bytes is one of all
+front_of_front : (P : List ℕ → Type 0) (input : List ℕ) (a n : ℕ) → a ≤ length input → IsFront P (take a input) n → IsFront P input n × (n ≤ a)
+front_of_front P input a n few f =
+    let b = take n (take a input) in
+    let l : length b ≡ n = length-take-le n (take a input) f.within in
+    let few' : n ≤ a = omega (arith, f.within, length-take-le a input few) in
+    let all : input ≡ b ++ (drop n (take a input) ++ drop a input) =
+    sym (take-append-drop a input) ∙ ap (λ x. x ++ drop a input) (sym (take-append-drop n (take a input)))
+    ∙ append_assoc b (drop n (take a input)) (drop a input) in
+    let same : take n input ≡ b =
+    ap (λ k. take k input) (sym l) ∙ ap (take (length b)) all ∙ take-append_seam b (drop n (take a input) ++ drop a input) in
+    (record { within = omega (arith, few, few'); spelled = subst P (sym same) f.spelled }, few')
+
+-- a value that is announced to end before the place
+pub value_answered : (input bytes : List ℕ) (room announced : ℕ) (made o : Option ℕ) (r : Result ℕ Error) → announced ≤ length input
+    → bytes ≡ take announced input → announced ≤ room
+    → ((b after : List ℕ) → input ≡ b ++ after → IsTerm 128 b → made ≡ Some (length b)) → made ≡ Some announced
+    → IfOk r (λ n. IsFront (IsTerm 128) bytes n) → IfErr r (λ e. NoFront (IsTerm 128) bytes) → o ≡ result_ok r
+    → MatchOption o (NoneWithin (IsTerm 128) input room) (λ n. IsFront (IsTerm 128) input n × (n ≤ room))
+value_answered input bytes room announced made o (Ok n) few is near long make found none e =
+    let (f, less) = front_of_front (IsTerm 128) input announced n few (subst (λ l. IsFront (IsTerm 128) l n) is found) in
+    subst (λ z. MatchOption z (NoneWithin (IsTerm 128) input room) (λ n. IsFront (IsTerm 128) input n × (n ≤ room))) (sym e)
+    (f, omega (arith, less, near))
+value_answered input bytes room announced made o (Err x) few is near long make found none e =
+    subst (λ z. MatchOption z (NoneWithin (IsTerm 128) input room) (λ n. IsFront (IsTerm 128) input n × (n ≤ room))) (sym e)
+    (λ b after s t.
+    let l : length b ≡ announced = ap (λ z. unwrap_or z 0) (sym (long b after s t) ∙ make) in
+    let same : take announced input ≡ b =
+    front (take announced input) b (drop announced input) after (length-take-le announced input few ∙ sym l) (take-append-drop announced input ∙ s) in
+    absurd (none b [] (is ∙ same ∙ sym (append-nil b)) t))

@@ -53,10 +53,13 @@ IsElement k c n data_ (Element l d m i) start = (l ≡ k) × (d ≡ c) × (m ≡
 IsElement k c n data_ (End kind m) start = (kind ≡ Array) × (m ≡ n) × IsFront (Row (AnyData c) n) data_ start
 IsElement k c n data_ _ start = ⊥
 
--- What begins there reaches over the place, which so many bytes are before: it is no whole item or descriptor that ends there.
+-- What begins there reaches over the place, which so many bytes are before: no whole item or descriptor ends there, and no code of a
+-- constructor.
 abbrev pub Reaches : Piece → List ℕ → ℕ → Type 0
 Reaches (Item kind n i) z room = NoneWithin (IsTerm 128) z room
 Reaches Descriptor z room = NoneWithin NamesAny z room
+Reaches (ElementConstructor k) z room =
+    (k < 128 → NoneWithin IsMark z room) × ((c : ℕ) (after : List ℕ) → z ≡ c ∷ after → IsKnown (format c) → room ≡ 0)
 Reaches _ z room = Unit {0}
 
 -- No content of a container begins within so many bytes of the data under a code.

@@ -1,6 +1,7 @@
 //! The items of arrays before a place (Part 1, section 1.2.4).
-ghost use Rattle.std.specs.Prelude.{◌≡◌, ◌≤◌, ◌+◌, ◌-◌, ◌^◌, ◌<◌, length, drop, IsTrue, IfSome};
+ghost use Rattle.std.specs.Prelude.{◌≡◌, ◌≤◌, ◌+◌, ◌-◌, ◌^◌, ◌<◌, ℕ, List, ◌∷◌, length, drop, IsTrue, IfSome, MatchOption};
 ghost use Rattle.amqp_model.specs.Constructors.{format};
+ghost use Rattle.amqp_model.specs.Spelling.{IsKnown};
 ghost use Rattle.amqp_lengths.specs.Fronts.{IsFront};
 ghost use Rattle.amqp_lengths.specs.Announced.{IsAnnounced};
 ghost use Rattle.amqp_lengths.specs.Stands.{an_array, AnyData};
@@ -87,6 +88,18 @@ fn element_within(shared: Shared, count: usize, data: &[u8], room: usize) -> Fur
     }
 }
 
+// The format code at the start of the input, if it is one, and it ends within `room` bytes.
+fn code_within(input: &[u8], room: usize) -> Option<u8>
+    ensures { MatchOption result ((c : ℕ) (after : List ℕ) → input.now ≡ c ∷ after → IsKnown (format c) → room ≡ 0)
+        (λ c. (0 < room) × IsKnown (format c) × ((after : List ℕ) × (input.now ≡ c ∷ after))) }
+{
+    let (code, _) = input.split_first()?;
+    if room == 0 || *code == format_code::DESCRIBED || format_code::unknown(*code).is_some() {
+        return None;
+    }
+    Some(*code)
+}
+
 /// Returns what begins within `room` bytes of the content of an array: the constructor that its items share, or a further part of it, or an
 /// item.
 pub(crate) fn part_within(count: usize, content: &[u8], room: usize) -> Further
@@ -94,21 +107,16 @@ pub(crate) fn part_within(count: usize, content: &[u8], room: usize) -> Further
 {
     let marks = marks_within(content, room);
     let descriptors = marks.descriptors;
-    if let Some((code, data)) = content[marks.len..].split_first()
-        && marks.len < room
-        && *code != format_code::DESCRIBED
-        && format_code::unknown(*code).is_none()
-    {
-        let shared = Shared {
-            descriptors,
-            code: *code,
-        };
-        let start = marks.len + 1;
-        return element_within(shared, count, data, room - start).behind(start);
-    }
-    Further {
-        piece: Piece::ElementConstructor { descriptors },
-        start: marks.len,
-        end: content.len(),
+    match code_within(&content[marks.len..], room - marks.len) {
+        Some(code) => {
+            let start = marks.len + 1;
+            let shared = Shared { descriptors, code };
+            element_within(shared, count, &content[start..], room - start).behind(start)
+        }
+        None => Further {
+            piece: Piece::ElementConstructor { descriptors },
+            start: marks.len,
+            end: content.len(),
+        },
     }
 }

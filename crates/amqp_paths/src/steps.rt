@@ -1,8 +1,9 @@
 //! From what begins at a place to what is next further in (Part 1, sections 1.2 and 1.6).
 ghost use Rattle.std.specs.Prelude.{◌≡◌, ◌≤◌, ◌<◌, ◌+◌, ◌^◌, ◌∷◌, length, MatchOption};
 ghost use Rattle.amqp_lengths.specs.Stands.{a_descriptor, a_code, IsOwn, IsUnder};
+ghost use Rattle.amqp_paths.specs.declared.piece.Piece.TheVariants.{ElementConstructor};
 ghost use Rattle.amqp_paths.specs.Pieces.{IsPiece};
-ghost use Rattle.amqp_paths.specs.Steps.{NoContentWithin, StepsTo, StepsBeyond};
+ghost use Rattle.amqp_paths.specs.Steps.{NoContentWithin, Reaches, StepsTo, StepsBeyond};
 
 use crate::contents::content_in;
 use crate::descriptors::descriptor_len;
@@ -100,6 +101,7 @@ fn in_descriptor(input: &[u8], room: usize) -> Option<Further>
 
 // In the rest of a shared constructor: its next descriptor.
 fn in_constructor(descriptors: usize, input: &[u8], room: usize) -> Option<Further>
+    requires { Reaches (ElementConstructor descriptors) input.now room }
     ensures { MatchOption result (StepsBeyond (λ P z. (P ≡ a_code descriptors) × (z ≡ input.now)) room)
         (λ f. StepsTo (λ P z. (P ≡ a_code descriptors) × (z ≡ input.now)) input.now room f) }
 {
@@ -116,6 +118,7 @@ fn in_constructor(descriptors: usize, input: &[u8], room: usize) -> Option<Furth
 
 /// Returns what is next further in and begins within `room` bytes of those of a piece, if there is such a thing.
 pub(crate) fn step_within(piece: Piece, input: &[u8], room: usize) -> Option<Further>
+    requires { Reaches piece input.now room }
     ensures { MatchOption result (StepsBeyond (λ P z. IsPiece piece P × (z ≡ input.now)) room)
         (λ f. StepsTo (λ P z. IsPiece piece P × (z ≡ input.now)) input.now room f) }
 {
