@@ -1,9 +1,11 @@
 -- Steps that lead further in.
-use Rattle.std.proofs.Common.{◌≡◌, ℕ, zero, suc, ◌+◌, ◌-◌, ◌<◌, ◌≤◌, List, [], ◌∷◌, ◌++◌, length, take, drop, refl, sym, ap, ap₂, ◌∙◌, subst, arith}
-use Rattle.std.proofs.lemmas.List.{take-append-drop, length-drop}
+use Rattle.std.proofs.Common.{◌≡◌, ℕ, zero, suc, ◌+◌, ◌-◌, ◌<◌, ◌≤◌, List, [], ◌∷◌, ◌++◌, length, take, drop, get_or, Option, None, refl, sym, ap, ap₂, ◌∙◌, subst, arith}
+use Rattle.std.specs.Option.{MatchOption}
+use Rattle.std.proofs.lemmas.List.{take-append-drop, length-append, length-drop}
 use Rattle.amqp_model.specs.Term.{Container, array, Descriptor}
 use Rattle.amqp_model.specs.Constructors.{compound, format}
-use Rattle.amqp_model.specs.Spelling.{Constructor}
+use Rattle.amqp_model.specs.Spelling.{IsKnown, Constructor}
+use Rattle.amqp_lengths.proofs.Fronts.{tail_all}
 use Rattle.amqp_lengths.specs.Fronts.{IsFront, Behind}
 use Rattle.amqp_lengths.specs.Pieces.{NamesAny}
 use Rattle.amqp_lengths.specs.Lengths.{HasMarks, Constructs, IsTerm, Row}
@@ -14,12 +16,13 @@ use Rattle.amqp_lengths.specs.Stands.{to_its_descriptor, to_element, to_array_en
 use Rattle.amqp_lengths.proofs.DeeperFaults.{row_part, behind_part}
 use Rattle.amqp_paths.specs.declared.contents.Content.{Content}
 use Rattle.amqp_paths.specs.declared.piece.ContainerKind.{ContainerKind}
-use Rattle.amqp_paths.specs.declared.piece.ContainerKind.TheVariants.{Array}
+use Rattle.amqp_paths.specs.declared.piece.ContainerKind.TheVariants.{List as a_list, Map as a_map, Array}
 use Rattle.amqp_paths.specs.declared.piece.Piece.{Piece}
 use Rattle.amqp_paths.specs.declared.piece.Piece.TheVariants.{Value, Descriptor as a_mark, Item, ArrayContent, ElementConstructor, Element, End}
 use Rattle.amqp_paths.specs.declared.steps.Further.{Further}
-use Rattle.amqp_paths.specs.Pieces.{container_of, IsPiece}
-use Rattle.amqp_paths.specs.Steps.{Among, IsMark, NoneWithin, HasContent, IsItem, IsElement, Reaches, StepsTo}
+use Rattle.amqp_paths.specs.Pieces.{container_of, IsPiece, rank}
+use Rattle.amqp_paths.specs.Steps.{Among, IsMark, NoneWithin, HasContent, IsItem, IsPart, IsElement, NoContentWithin, Reaches, StepsTo}
+use Rattle.amqp_paths.proofs.Containers.{content_place}
 use Rattle.amqp_paths.proofs.Among.{among_length, among_all, among_tail, among_inner, among_after, front_behind}
 
 -- where one step leads
@@ -277,3 +280,174 @@ element_steps n k c len room content f g within built h ends inner near piece st
       step = subst (λ p. Goes (λ P z. (P ≡ an_array n) × (z ≡ content)) p bytes 0) (sym piece)
           (element_goes n k c f.start len content data_ f.piece built refl h);
     }
+
+-- in the content of a container
+pub is_part : (kind : ContainerKind) (n : ℕ) (content : List ℕ) (p : Piece) (start : ℕ) → (kind ≡ Array → ⊥) → IsItem kind n content p start
+    → IsPart kind n content p start
+is_part Array n content p start other h = absurd (other refl)
+is_part a_list n content p start other h = h
+is_part a_map n content p start other h = h
+
+pub content_step : (c w : ℕ) (kind : ContainerKind) (data_ items : List ℕ) (content : Content) (room : ℕ) (f g : Further)
+    → format c ≡ compound (container_of kind) w → (h : HasContent (container_of kind) w data_ content)
+    → content.start ≤ room → items ≡ h.items → IsPart kind content.count items f.piece f.start → f.end ≡ length items
+    → f.start ≤ room - content.start → Reaches f.piece (drop f.start items) ((room - content.start) - f.start) → g.piece ≡ f.piece
+    → g.start ≡ content.start + f.start → g.end ≡ content.start + f.end → StepsTo (λ P z. IsUnder P z c data_) data_ room g
+content_step c w Array data_ items content room f g is h near same part ends inner reaches piece start end =
+    array_step c w data_ content room g is h near (piece ∙ part.0) (omega (arith, start, part.1))
+    (omega (arith, end, ends, ap length same, h.ends, among_length data_ h.items content.start h.behind h.part))
+content_step c w a_list data_ items content room f g is h near same part ends inner reaches piece start end =
+    items_step c w a_list data_ items content room f g is (λ e. cc) h near same part ends inner reaches piece start end
+content_step c w a_map data_ items content room f g is h near same part ends inner reaches piece start end =
+    items_step c w a_map data_ items content room f g is (λ e. cc) h near same part ends inner reaches piece start end
+
+-- a piece in content has a low rank, and where the content begins at once, none
+item_rank : (kind : ContainerKind) (n : ℕ) (content : List ℕ) (p : Piece) (start : ℕ) → IsItem kind n content p start → rank p ≡ 0
+item_rank kind n content (Item k m i) start h = refl
+item_rank kind n content (End k m) start h = refl
+item_rank kind n content _ start h = absurd h
+
+pub part_falls : (kind : ContainerKind) (n w s : ℕ) (content : List ℕ) (p q : Piece) (start : ℕ) → (kind ≡ Array → 1 ≤ w)
+    → IsPart kind n content p start → q ≡ p → s ≡ (w + w) + start → (s ≡ 0 → rank q ≡ 0) × (rank q ≤ 2)
+part_falls Array n w s content p q start some (is, at) e place =
+    let two : rank q ≡ 2 = ap rank (e ∙ is) in
+    let wide = some refl in ((λ z. absurd (omega (arith, z, place, wide))), omega (arith, two))
+part_falls a_list n w s content p q start some h e place =
+    let nought : rank q ≡ 0 = ap rank e ∙ item_rank a_list n content p start h in ((λ z. nought), omega (arith, nought))
+part_falls a_map n w s content p q start some h e place =
+    let nought : rank q ≡ 0 = ap rank e ∙ item_rank a_map n content p start h in ((λ z. nought), omega (arith, nought))
+
+element_rank : (k c n : ℕ) (data_ : List ℕ) (p : Piece) (start : ℕ) → IsElement k c n data_ p start → rank p ≤ suc k
+element_rank k c n data_ (Element l x m i) start (e, s, t, less, f) = omega (arith, e)
+element_rank k c n data_ (End kind m) start h = omega arith
+element_rank k c n data_ _ start h = absurd h
+
+pub element_falls : (k c n len s : ℕ) (data_ : List ℕ) (p q : Piece) (start : ℕ) → k ≤ 128 → IsElement k c n data_ p start → q ≡ p
+    → s ≡ (len + 1) + start → (s ≡ 0 → rank q ≤ 1) × (rank q ≤ 129)
+element_falls k c n len s data_ p q start few h e place =
+    let low = element_rank k c n data_ p start h in
+    let same : rank q ≡ rank p = ap rank e in
+    ((λ z. absurd (omega (arith, z, place))), omega (arith, low, same, few))
+
+-- no step leads from a piece to what begins within so many bytes, if no content does and no descriptor
+abbrev IsPlain : stands.Piece → Type 0
+IsPlain a_value = Unit {0}
+IsPlain (an_item kind n i) = Unit {0}
+IsPlain a_descriptor = Unit {0}
+IsPlain (an_element [] c n i) = Unit {0}
+IsPlain _ = ⊥
+
+abbrev ContentBeyond : stands.Piece → List ℕ → ℕ → Type 0
+ContentBeyond P z room = (c : ℕ) (data_ : List ℕ) → IsUnder P z c data_ → (kind : Container) (w n behind : ℕ) (items : List ℕ) (around : Around)
+    → format c ≡ compound kind w → Contains kind w n items data_ around behind → room + (length items + behind) < length z
+
+behind_less : (P : List ℕ → Type 0) (input after : List ℕ) → Behind P input after → length after ≤ length input
+behind_less P input after h = omega (arith, ap length h.is, length-append h.front after)
+
+beyond : (room : ℕ) (P Q : stands.Piece) (d k behind : ℕ) (z y : List ℕ) (around : Around) → IsPlain P → ContentBeyond P z room
+    → ((after : List ℕ) → IsOwn P → z ≡ 0 ∷ after → room ≡ 0) → Step P d z Q k y around behind → room + (length y + behind) < length z
+beyond room P Q d k behind z y around plain far none (to_descriptor X e x own) = let at = none x own refl in omega (arith, at)
+beyond room P Q d k behind z y around plain far none (to_described X e x after own b) =
+    let at = none x own refl in omega (arith, at, behind_less NamesAny x after b)
+beyond room P Q d k behind z y around plain far none (to_item X e x data_ items after c w n i more kind ar u is other holds less row) =
+    let l = far c data_ u kind w n more items ar is holds in omega (arith, l, behind_less (Row AnyTerm i) items after row)
+beyond room P Q d k behind z y around plain far none (to_end X e x data_ items after c w n more kind ar u is other holds row) =
+    let l = far c data_ u kind w n more items ar is holds in omega (arith, l, behind_less (Row AnyTerm n) items after row)
+beyond room P Q d k behind z y around plain far none (to_array X e x data_ items c w n more ar u is holds) =
+    far c data_ u array w n more items ar is holds
+beyond room P Q d k behind z y around plain far none (to_code n e x after m few b) = absurd plain
+beyond room P Q d k behind z y around plain far none (to_its_descriptor m e x few) = absurd plain
+beyond room P Q d k behind z y around plain far none (to_element n e x data_ after ds c i few b less row) = absurd plain
+beyond room P Q d k behind z y around plain far none (to_array_end n e x data_ after m c b row) = absurd plain
+beyond room P Q d k behind z y around plain far none (to_its_described x ds c n i e w) = absurd plain
+
+-- pieces that have a code of their own
+abbrev pub HasHead : stands.Piece → Type 0
+HasHead a_value = Unit {0}
+HasHead (an_item kind n i) = Unit {0}
+HasHead a_descriptor = Unit {0}
+HasHead _ = ⊥
+
+pub own_head : (P : stands.Piece) → IsOwn P → HasHead P
+own_head a_value h = tt
+own_head (an_item kind n i) h = tt
+own_head _ h = absurd h
+
+head_plain : (P : stands.Piece) → HasHead P → IsPlain P
+head_plain a_value h = tt
+head_plain (an_item kind n i) h = tt
+head_plain a_descriptor h = tt
+head_plain _ h = absurd h
+
+head_under : (P : stands.Piece) (c x : ℕ) (z after data_ : List ℕ) → HasHead P → z ≡ c ∷ after → IsUnder P z x data_ → (c ≡ x) × (after ≡ data_)
+head_under a_value c x z after data_ h is u = let e = sym is ∙ u in (ap (λ l. get_or l 0 0) e, ap (drop 1) e)
+head_under (an_item kind n i) c x z after data_ h is u = let e = sym is ∙ u in (ap (λ l. get_or l 0 0) e, ap (drop 1) e)
+head_under a_descriptor c x z after data_ h is u = let e = sym is ∙ u in (ap (λ l. get_or l 0 0) e, ap (drop 1) e)
+head_under _ c x z after data_ h is u = absurd h
+
+-- a code, and behind it no content that begins within the bytes
+pub head_beyond : (c room : ℕ) (after : List ℕ)
+    → ((kind : Container) (w n behind : ℕ) (items : List ℕ) (around : Around) → format c ≡ compound kind w → Contains kind w n items after around behind
+    → room < 1 + (w + w))
+    → (P Q : stands.Piece) (d k behind : ℕ) (z y : List ℕ) (around : Around) → HasHead P → (IsOwn P → c ≡ 0 → room ≡ 0) → z ≡ c ∷ after
+    → Step P d z Q k y around behind → room + (length y + behind) < length z
+head_beyond c room after far P Q d k behind z y around head none is s =
+    beyond room P Q d k behind z y around (head_plain P head)
+    (λ x data_ u kind w n more items ar fmt holds.
+    let (one, rest) = head_under P c x z after data_ head is u in
+    let holds' = subst (λ l. Contains kind w n items l ar more) (sym rest) holds in
+    let near = far kind w n more items ar (ap format one ∙ fmt) holds' in
+    omega (arith, near, content_place kind w n items after ar more holds', ap length is))
+    (λ x own e. none own (ap (λ l. get_or l 0 0) (sym is ∙ e))) s
+
+-- likewise at an item of an array
+pub element_beyond : (c n i room : ℕ) (data_ : List ℕ) → NoContentWithin c data_ room → (P Q : stands.Piece) (d k behind : ℕ) (z y : List ℕ)
+    (around : Around) → P ≡ an_element [] c n i → z ≡ data_ → Step P d z Q k y around behind → room + (length y + behind) < length z
+element_beyond c n i room data_ none P Q d k behind z y around is all s =
+    beyond room (an_element [] c n i) Q d k behind z y around tt
+    (λ x l (code, same) kind w m more items ar fmt holds.
+    let holds' = subst (λ v. Contains kind w m items v ar more) (same ∙ all) holds in
+    let near = none kind w m more items ar (ap format (sym code) ∙ fmt) holds' in
+    omega (arith, near, content_place kind w m items data_ ar more holds', ap length all))
+    (λ x own e. absurd own) (subst (λ X. Step X d z Q k y around behind) is s)
+
+pub none_answered : {A : Type 0} (o : Option A) (X : Type 0) (F : A → Type 0) → o ≡ None → X → MatchOption o X F
+none_answered o X F e x = subst (λ z. MatchOption z X F) (sym e) x
+
+-- an item of an array within its descriptors
+pub shared_steps : (k c n i room : ℕ) (input : List ℕ) → Reaches (Element k c n i) input room
+    → StepsTo (λ P z. IsPiece (Element (suc k) c n i) P × (z ≡ input)) input room
+    (record { piece = Element k c n i; start = 0; end = length input })
+shared_steps k c n i room input reaches =
+    tail_steps (λ P z. IsPiece (Element (suc k) c n i) P × (z ≡ input)) input input room 0 (Element k c n i) (omega arith) (omega arith) refl tt
+    (λ P d z ((ds, l, p), is). by_descriptors P d z ds l p is)
+  where
+    by_descriptors : (P : stands.Piece) (d : ℕ) (z : List ℕ) (ds : List Descriptor) → length ds ≡ suc k → P ≡ an_element ds c n i → z ≡ input
+        → (Q : stands.Piece) × (m : ℕ) × (around : Around) × IsPiece (Element k c n i) Q × Step P d z Q m input around 0
+    by_descriptors P d z [] l p is = absurd (omega (arith, l))
+    by_descriptors P d z (e ∷ ds) l p is = (
+      an_element ds c n i,
+      suc d,
+      unbounded,
+      (ds, omega (arith, l), refl),
+      subst (λ X. Step X d z (an_element ds c n i) (suc d) input unbounded 0) (sym p)
+      (subst (λ v. Step (an_element (e ∷ ds) c n i) d v (an_element ds c n i) (suc d) input unbounded 0) (sym is) (to_its_described e ds c n i d input)),
+    )
+
+-- the data of an item of an array
+pub bare_under : (c n i : ℕ) (input : List ℕ) (P : stands.Piece) (z : List ℕ) → IsPiece (Element 0 c n i) P → z ≡ input → IsUnder P z c input
+bare_under c n i input P z ([], l, p) is = subst (λ X. IsUnder X z c input) (sym p) (refl, sym is)
+bare_under c n i input P z (e ∷ ds, l, p) is = absurd (omega (arith, l))
+
+pub bare_beyond : (c n i room : ℕ) (data_ : List ℕ) → NoContentWithin c data_ room → (P Q : stands.Piece) (d k behind : ℕ) (z y : List ℕ)
+    (around : Around) → IsPiece (Element 0 c n i) P → z ≡ data_ → Step P d z Q k y around behind → room + (length y + behind) < length z
+bare_beyond c n i room data_ none P Q d k behind z y around ([], l, p) all s = element_beyond c n i room data_ none P Q d k behind z y around p all s
+bare_beyond c n i room data_ none P Q d k behind z y around (e ∷ ds, l, p) all s = absurd (omega (arith, l))
+
+pub known_some : (c : ℕ) → IsKnown (format c) → c ≡ 0 → ⊥
+known_some c known e = subst (λ x. IsKnown (format x)) e known
+
+pub code_reaches : (k len room : ℕ) (content : List ℕ) → (k < 128 → NoneWithin IsMark (drop len content) (room - len))
+    → ((c : ℕ) (after : List ℕ) → take (length content - len) (drop len content) ≡ c ∷ after → IsKnown (format c) → room - len ≡ 0)
+    → Reaches (ElementConstructor k) (drop len content) (room - len)
+code_reaches k len room content none code = (none, λ c after is known. code c after (tail_all len content ∙ is) known)

@@ -1,5 +1,5 @@
 -- The pieces of the specification by the code's own words (Part 1, sections 1.2 and 1.6).
-use Rattle.std.specs.Prelude.{◌≡◌, ℕ, List, length}
+use Rattle.std.specs.Prelude.{◌≡◌, ℕ, suc, List, length}
 use Rattle.amqp_model.specs.Term.{Container, list, map, array, Descriptor}
 use Rattle.amqp_lengths.specs.Stands as stands
 use Rattle.amqp_lengths.specs.Stands.{a_value, an_item, an_element, a_descriptor, an_array, a_code, an_end}
@@ -22,3 +22,10 @@ IsPiece (ArrayContent n) P = P ≡ an_array n
 IsPiece (ElementConstructor k) P = P ≡ a_code k
 IsPiece (Element k c n i) P = (ds : List Descriptor) × (length ds ≡ k) × (P ≡ an_element ds c n i)
 IsPiece (End kind n) P = P ≡ an_end (container_of kind) n
+
+-- Of pieces at one place, one that is further in has a lower rank.
+abbrev pub rank : Piece → ℕ
+rank (ArrayContent n) = 2
+rank (ElementConstructor k) = 1
+rank (Element k c n i) = suc k
+rank _ = 0

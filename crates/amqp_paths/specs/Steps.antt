@@ -12,7 +12,7 @@ use Rattle.amqp_paths.specs.declared.contents.Content.{Content}
 use Rattle.amqp_paths.specs.declared.piece.ContainerKind.{ContainerKind}
 use Rattle.amqp_paths.specs.declared.piece.ContainerKind.TheVariants.{Array}
 use Rattle.amqp_paths.specs.declared.piece.Piece.{Piece}
-use Rattle.amqp_paths.specs.declared.piece.Piece.TheVariants.{Descriptor, Item, ElementConstructor, Element, End}
+use Rattle.amqp_paths.specs.declared.piece.Piece.TheVariants.{Descriptor, Item, ArrayContent, ElementConstructor, Element, End}
 use Rattle.amqp_paths.specs.declared.steps.Further.{Further}
 use Rattle.amqp_paths.specs.Pieces.{container_of, IsPiece}
 
@@ -46,6 +46,11 @@ abbrev pub IsItem : ContainerKind → ℕ → List ℕ → Piece → ℕ → Typ
 IsItem kind n content (Item k m i) start = (k ≡ kind) × (m ≡ n) × (i < n) × IsFront (Row (IsTerm 128) i) content start
 IsItem kind n content (End k m) start = (k ≡ kind) × (m ≡ n) × IsFront (Row (IsTerm 128) n) content start
 IsItem kind n content _ start = ⊥
+
+-- What begins there in the content of a container: an item or the end of a list or map, or the content of an array.
+abbrev pub IsPart : ContainerKind → ℕ → List ℕ → Piece → ℕ → Type 0
+IsPart Array n content p start = (p ≡ ArrayContent n) × (start ≡ 0)
+IsPart kind n content p start = IsItem kind n content p start
 
 -- Likewise of the data of an array's items, under one code.
 abbrev pub IsElement : ℕ → ℕ → ℕ → List ℕ → Piece → ℕ → Type 0

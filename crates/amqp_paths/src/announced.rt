@@ -10,8 +10,8 @@ use crate::descriptors::marks_within;
 use crate::heads::{head_of, number};
 use amqp_wire::format_code;
 
-// How many bytes the data of a code of a fixed width has: the high half of the code says it.
-fn fixed_width(code: u8) -> usize
+/// Returns how many bytes the data of a code of a fixed width has: the high half of the code says it.
+pub(crate) fn fixed_width(code: u8) -> usize
     ensures { result ≡ fixed_width code }
 {
     match code / 16 {

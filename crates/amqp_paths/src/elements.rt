@@ -3,46 +3,65 @@ ghost use Rattle.std.specs.Prelude.{◌≡◌, ◌≤◌, ◌+◌, ◌-◌, ◌^
 ghost use Rattle.amqp_model.specs.Constructors.{format};
 ghost use Rattle.amqp_model.specs.Spelling.{IsKnown};
 ghost use Rattle.amqp_lengths.specs.Fronts.{IsFront};
-ghost use Rattle.amqp_lengths.specs.Announced.{IsAnnounced};
+ghost use Rattle.amqp_lengths.specs.Pieces.{IsPrimitive, HasWidth, IsValue};
 ghost use Rattle.amqp_lengths.specs.Stands.{an_array, AnyData};
+ghost use Rattle.amqp_paths.specs.Pieces.{rank};
 ghost use Rattle.amqp_paths.specs.Steps.{IsElement, StepsTo};
 
-use crate::announced::announced_len;
+use crate::announced::{announced_len, fixed_width};
 use crate::descriptors::marks_within;
-use crate::heads::head_of;
+use crate::heads::{head_of, number};
 use crate::steps::Further;
 use crate::{ContainerKind, Piece};
 use amqp_wire::format_code;
 use std::str;
 
-// Whether the bytes, which are as many as the code announces, are the data of a primitive.
-fn is_primitive(code: u8, data: &[u8]) -> bool {
-    match (code, data) {
-        (format_code::BOOLEAN, [byte]) => *byte <= 1,
-        (format_code::CHAR, [a, b, c, d]) => {
-            char::from_u32(u32::from_be_bytes([*a, *b, *c, *d])).is_some()
-        }
-        (format_code::STRING_8, [_, text @ ..])
-        | (format_code::STRING_32, [_, _, _, _, text @ ..]) => str::from_utf8(text).is_ok(),
-        (format_code::SYMBOL_8, [_, text @ ..])
-        | (format_code::SYMBOL_32, [_, _, _, _, text @ ..]) => text.is_ascii(),
-        _ => head_of(code).is_none(),
+// Whether the bytes are a value under the code of a primitive.
+fn is_value(code: u8, bytes: &[u8]) -> bool
+    requires primitive { IsPrimitive (format code) }
+    requires width { HasWidth (format code) bytes.now }
+    ensures { IsTrue result → IsValue (format code) bytes.now }
+{
+    match code {
+        format_code::BOOLEAN => matches!(bytes, [byte] if *byte <= 1),
+        format_code::CHAR => match bytes {
+            [a, b, c, d] => char::from_u32(u32::from_be_bytes([*a, *b, *c, *d])).is_some(),
+            _ => false,
+        },
+        format_code::STRING_8 | format_code::STRING_32 => str::from_utf8(bytes).is_ok(),
+        format_code::SYMBOL_8 | format_code::SYMBOL_32 => bytes.is_ascii(),
+        _ => true,
     }
 }
 
-// The length of the whole data under the code at the start of the input, if it has bytes and ends within `room` of them.
+// The length of the data of a primitive under its code at the start of the input, if it is there.
+fn primitive_len(code: u8, input: &[u8]) -> Option<usize>
+    requires { IsPrimitive (format code) }
+    ensures { IfSome result (λ n. IsFront (AnyData code) input.now n) }
+{
+    if code < format_code::BINARY_8 {
+        let width = fixed_width(code);
+        return is_value(code, input.get(..width)?).then_some(width);
+    }
+    let width = if code < format_code::BINARY_32 { 1 } else { 4 };
+    let len = width + number(width, input)?;
+    is_value(code, input.get(width..len)?).then_some(len)
+}
+
+// The length of the whole data under the code at the start of the input, if it has bytes and ends within `room` of them. The items of an array
+// that are lists, maps or arrays are not passed over.
 fn data_within(code: u8, input: &[u8], room: usize) -> Option<usize>
+    requires { IsKnown (format code) }
     ensures { IfSome result (λ n. IsFront (AnyData code) input.now n × (n ≤ room)) }
 {
-    let len = announced_len(code, input)?;
-    if len == 0 || len > room {
+    if format_code::has_width_zero(code) || head_of(code).is_some() {
         return None;
     }
-    if is_primitive(code, input.get(..len)?) {
-        Some(len)
-    } else {
-        None
+    let announced = announced_len(code, input)?;
+    if announced > room {
+        return None;
     }
+    primitive_len(code, input.get(..announced)?)
 }
 
 /// The constructor that the items of an array share.
@@ -54,6 +73,7 @@ pub(crate) struct Shared {
 
 // The element that begins within `room` bytes of the data of an array's items, behind the whole ones before it.
 fn element_within(shared: Shared, count: usize, data: &[u8], room: usize) -> Further
+    requires { IsKnown (format shared.code) }
     ensures element { IsElement shared.descriptors shared.code count data.now result.piece result.start }
     ensures ends { result.end ≡ length data.now }
     ensures near { result.start ≤ room }
@@ -103,7 +123,8 @@ fn code_within(input: &[u8], room: usize) -> Option<u8>
 /// Returns what begins within `room` bytes of the content of an array: the constructor that its items share, or a further part of it, or an
 /// item.
 pub(crate) fn part_within(count: usize, content: &[u8], room: usize) -> Further
-    ensures { StepsTo (λ P z. (P ≡ an_array count) × (z ≡ content.now)) content.now room result }
+    ensures falls { (result.start ≡ 0 → rank result.piece ≤ 1) × (rank result.piece ≤ 129) }
+    ensures step { StepsTo (λ P z. (P ≡ an_array count) × (z ≡ content.now)) content.now room result }
 {
     let marks = marks_within(content, room);
     let descriptors = marks.descriptors;

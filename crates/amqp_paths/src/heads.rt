@@ -1,9 +1,10 @@
 //! The format codes of containers, and the numbers at the start of their data (Part 1, sections 1.2.3 and 1.2.4).
-ghost use Rattle.std.specs.Prelude.{◌≡◌, ◌<◌, ◌⊎◌, ◌^◌, ℕ, length, MatchOption, IfSome};
+ghost use Rattle.std.specs.Prelude.{◌≡◌, ◌<◌, ◌≤◌, ◌⊎◌, ◌^◌, ℕ, length, MatchOption, IfSome};
 ghost use Rattle.amqp_model.specs.Term.{Container};
 ghost use Rattle.amqp_model.specs.Constructors.{compound, format};
 ghost use Rattle.amqp_lengths.specs.Fronts.{IsFront};
 ghost use Rattle.amqp_lengths.specs.Pieces.{IsNumber};
+ghost use Rattle.amqp_paths.specs.declared.piece.ContainerKind.TheVariants.{Array};
 ghost use Rattle.amqp_paths.specs.Pieces.{container_of};
 
 use crate::ContainerKind;
@@ -20,6 +21,7 @@ pub(crate) struct Head {
 pub(crate) fn head_of(code: u8) -> Option<Head>
     ensures head { MatchOption result ((kind : Container) (w : ℕ) → format code ≡ compound kind w → ⊥)
         (λ h. format code ≡ compound (container_of h.kind) h.width) }
+    ensures array { IfSome result (λ h. h.kind ≡ Array → 1 ≤ h.width) }
     ensures width { IfSome result (λ h. (h.width ≡ 0) ⊎ ((h.width ≡ 1) ⊎ (h.width ≡ 4))) }
 {
     let (kind, width) = match code {
