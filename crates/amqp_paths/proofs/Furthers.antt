@@ -1,5 +1,5 @@
 -- Steps that lead further in.
-use Rattle.std.proofs.Common.{◌≡◌, ℕ, zero, suc, ◌+◌, ◌-◌, ◌<◌, ◌≤◌, List, [], ◌∷◌, ◌++◌, length, take, drop, get_or, Option, None, refl, sym, ap, ap₂, ◌∙◌, subst, arith}
+use Rattle.std.proofs.Common.{◌≡◌, ℕ, zero, suc, ◌+◌, ◌-◌, ◌<◌, ◌≤◌, List, [], ◌∷◌, ◌++◌, length, take, drop, get_or, Option, Some, None, refl, sym, ap, ap₂, ◌∙◌, subst, arith}
 use Rattle.std.specs.Option.{MatchOption}
 use Rattle.std.proofs.lemmas.List.{take-append-drop, length-append, length-drop}
 use Rattle.amqp_model.specs.Term.{Container, array, Descriptor}
@@ -21,7 +21,7 @@ use Rattle.amqp_paths.specs.declared.piece.Piece.{Piece}
 use Rattle.amqp_paths.specs.declared.piece.Piece.TheVariants.{Value, Descriptor as a_mark, Item, ArrayContent, ElementConstructor, Element, End}
 use Rattle.amqp_paths.specs.declared.steps.Further.{Further}
 use Rattle.amqp_paths.specs.Pieces.{container_of, IsPiece, rank}
-use Rattle.amqp_paths.specs.Steps.{Among, IsMark, NoneWithin, HasContent, IsItem, IsPart, IsElement, NoContentWithin, Reaches, StepsTo}
+use Rattle.amqp_paths.specs.Steps.{Among, IsMark, NoneWithin, HasContent, IsItem, IsPart, IsElement, NoContentWithin, Reaches, StepsTo, StepsBeyond}
 use Rattle.amqp_paths.proofs.Containers.{content_place}
 use Rattle.amqp_paths.proofs.Among.{among_length, among_all, among_tail, among_inner, among_after, front_behind}
 
@@ -451,3 +451,26 @@ pub code_reaches : (k len room : ℕ) (content : List ℕ) → (k < 128 → None
     → ((c : ℕ) (after : List ℕ) → take (length content - len) (drop len content) ≡ c ∷ after → IsKnown (format c) → room - len ≡ 0)
     → Reaches (ElementConstructor k) (drop len content) (room - len)
 code_reaches k len room content none code = (none, λ c after is known. code c after (tail_all len content ∙ is) known)
+
+-- the answers at an item of an array
+pub bare_answered : (p : Piece) (k c n i room : ℕ) (input : List ℕ) (o : Option Further) → p ≡ Element k c n i → k ≡ 0
+    → MatchOption o (NoContentWithin c input room) (λ f. StepsTo (λ P z. IsUnder P z c input) input room f)
+    → MatchOption o (StepsBeyond (λ P z. IsPiece p P × (z ≡ input)) room) (λ f. StepsTo (λ P z. IsPiece p P × (z ≡ input)) input room f)
+bare_answered p k c n i room input o is nought h =
+    subst (λ q. MatchOption o (StepsBeyond (λ P z. IsPiece q P × (z ≡ input)) room) (λ f. StepsTo (λ P z. IsPiece q P × (z ≡ input)) input room f))
+    (sym (is ∙ ap (λ m. Element m c n i) nought)) (by_answer o h)
+  where
+    by_answer : (o : Option Further) → MatchOption o (NoContentWithin c input room) (λ f. StepsTo (λ P z. IsUnder P z c input) input room f)
+        → MatchOption o (StepsBeyond (λ P z. IsPiece (Element 0 c n i) P × (z ≡ input)) room)
+        (λ f. StepsTo (λ P z. IsPiece (Element 0 c n i) P × (z ≡ input)) input room f)
+    by_answer None none = λ P Q d k behind z y around (named, all) s. bare_beyond c n i room input none P Q d k behind z y around named all s
+    by_answer (Some f) h =
+        steps_part (λ P z. IsUnder P z c input) (λ P z. IsPiece (Element 0 c n i) P × (z ≡ input)) input room f
+        (λ P z (named, all). bare_under c n i input P z named all) h
+
+pub shared_answered : (p : Piece) (k m c n i room : ℕ) (input : List ℕ) → p ≡ Element k c n i → m + 1 ≡ k
+    → StepsTo (λ P z. IsPiece p P × (z ≡ input)) input room (record { piece = Element m c n i; start = 0; end = length input })
+shared_answered p k m c n i room input is more =
+    let one : k ≡ suc m = omega (arith, more) in
+    subst (λ q. StepsTo (λ P z. IsPiece q P × (z ≡ input)) input room (record { piece = Element m c n i; start = 0; end = length input }))
+    (sym (is ∙ ap (λ x. Element x c n i) one)) (shared_steps m c n i room input tt)

@@ -2,3 +2,5 @@ mod Containers
 mod Named
 mod Among
 mod Furthers
+mod Datas
+mod Walked

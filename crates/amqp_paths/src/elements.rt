@@ -1,6 +1,7 @@
 //! The items of arrays before a place (Part 1, section 1.2.4).
-ghost use Rattle.std.specs.Prelude.{◌≡◌, ◌≤◌, ◌+◌, ◌-◌, ◌^◌, ◌<◌, ℕ, List, ◌∷◌, length, drop, IsTrue, IfSome, MatchOption};
-ghost use Rattle.amqp_model.specs.Constructors.{format};
+ghost use Rattle.std.specs.Prelude.{◌≡◌, ◌≤◌, ◌+◌, ◌-◌, ◌^◌, ◌<◌, ◌⊎◌, ℕ, List, ◌∷◌, Option, length, drop, IsTrue, IfSome, MatchOption};
+ghost use Rattle.amqp_model.specs.Constructors.{variable, format};
+ghost use Rattle.amqp_model.specs.Term.{Primitive};
 ghost use Rattle.amqp_model.specs.Spelling.{IsKnown};
 ghost use Rattle.amqp_lengths.specs.Fronts.{IsFront};
 ghost use Rattle.amqp_lengths.specs.Pieces.{IsPrimitive, HasWidth, IsValue};
@@ -23,14 +24,48 @@ fn is_value(code: u8, bytes: &[u8]) -> bool
     ensures { IsTrue result → IsValue (format code) bytes.now }
 {
     match code {
-        format_code::BOOLEAN => matches!(bytes, [byte] if *byte <= 1),
+        format_code::BOOLEAN => match bytes {
+            [byte] if *byte <= 1 => true,
+            _ => false,
+        },
         format_code::CHAR => match bytes {
             [a, b, c, d] => char::from_u32(u32::from_be_bytes([*a, *b, *c, *d])).is_some(),
             _ => false,
         },
-        format_code::STRING_8 | format_code::STRING_32 => str::from_utf8(bytes).is_ok(),
+        format_code::STRING_8 | format_code::STRING_32 => match str::from_utf8(bytes) {
+            Ok(_) => true,
+            Err(_) => false,
+        },
         format_code::SYMBOL_8 | format_code::SYMBOL_32 => bytes.is_ascii(),
         _ => true,
+    }
+}
+
+// The length of data of a fixed width under its code at the start of the input, if it is there.
+fn fixed_len(code: u8, input: &[u8]) -> Option<usize>
+    requires primitive { IsPrimitive (format code) }
+    requires fixed { code < 0xa0 }
+    ensures { IfSome result (λ n. IsFront (AnyData code) input.now n) }
+{
+    let width = fixed_width(code);
+    if is_value(code, input.get(..width)?) {
+        Some(width)
+    } else {
+        None
+    }
+}
+
+// The length of data behind a size of so many bytes under its code at the start of the input, if it is there.
+fn sized_len(code: u8, width: usize, input: &[u8]) -> Option<usize>
+    requires width { (width ≡ 1) ⊎ (width ≡ 4) }
+    requires sized { (value : List ℕ → Option Primitive) × (format code ≡ variable width value) }
+    ensures { IfSome result (λ n. IsFront (AnyData code) input.now n) }
+{
+    let end = width + number(width, input)?;
+    if is_value(code, input.get(width..end)?) {
+        Some(end)
+    } else {
+        None
     }
 }
 
@@ -40,12 +75,12 @@ fn primitive_len(code: u8, input: &[u8]) -> Option<usize>
     ensures { IfSome result (λ n. IsFront (AnyData code) input.now n) }
 {
     if code < format_code::BINARY_8 {
-        let width = fixed_width(code);
-        return is_value(code, input.get(..width)?).then_some(width);
+        return fixed_len(code, input);
     }
-    let width = if code < format_code::BINARY_32 { 1 } else { 4 };
-    let len = width + number(width, input)?;
-    is_value(code, input.get(width..len)?).then_some(len)
+    if code < format_code::BINARY_32 {
+        return sized_len(code, 1, input);
+    }
+    sized_len(code, 4, input)
 }
 
 // The length of the whole data under the code at the start of the input, if it has bytes and ends within `room` of them. The items of an array

@@ -142,25 +142,23 @@ pub(crate) fn step_within(piece: Piece, input: &[u8], room: usize) -> Option<Fur
         Piece::ArrayContent { count } => Some(part_within(count, input, room)),
         Piece::ElementConstructor { descriptors } => in_constructor(descriptors, input, room),
         Piece::Element {
-            descriptors: 0,
-            code,
-            ..
-        } => in_data(code, input, room),
-        Piece::Element {
             descriptors,
             code,
             count,
             index,
-        } => Some(Further {
-            piece: Piece::Element {
-                descriptors: descriptors - 1,
-                code,
-                count,
-                index,
-            },
-            start: 0,
-            end: input.len(),
-        }),
+        } => match descriptors.checked_sub(1) {
+            None => in_data(code, input, room),
+            Some(descriptors) => Some(Further {
+                piece: Piece::Element {
+                    descriptors,
+                    code,
+                    count,
+                    index,
+                },
+                start: 0,
+                end: input.len(),
+            }),
+        },
         Piece::End { .. } => None,
     }
 }
