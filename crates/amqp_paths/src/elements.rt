@@ -61,9 +61,9 @@ fn sized_len(code: u8, width: usize, input: &[u8]) -> Option<usize>
     requires sized { (value : List ℕ → Option Primitive) × (format code ≡ variable width value) }
     ensures { IfSome result (λ n. IsFront (AnyData code) input.now n) }
 {
-    let end = width + number(width, input)?;
-    if is_value(code, input.get(width..end)?) {
-        Some(end)
+    let len = number(width, input)?;
+    if is_value(code, input[width..].get(..len)?) {
+        Some(width + len)
     } else {
         None
     }
