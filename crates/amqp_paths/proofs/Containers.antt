@@ -1,8 +1,8 @@
 -- The content of containers, found and missed.
-use Rattle.std.proofs.Common.{◌≡◌, ℕ, zero, suc, ◌+◌, ◌-◌, ◌^◌, ◌<◌, ◌≤◌, ◌⊎◌, inl, inr, List, [], ◌++◌, length, take, drop, min, refl, sym, ap}
+use Rattle.std.specs.Prelude.{Bool, not}
+use Rattle.std.proofs.Common.{◌≡◌, ℕ, true, false, zero, suc, ◌+◌, ◌-◌, ◌^◌, ◌<◌, ◌≤◌, ◌⊎◌, inl, inr, List, [], ◌++◌, length, take, drop, refl, sym, ap}
 use Rattle.std.proofs.Common.{◌∙◌, subst, arith, append_assoc, append-nil}
-use Rattle.std.proofs.lemmas.List.{take-append-drop, length-append, length-drop, length-take-le}
-use Rattle.std.proofs.lemmas.Bool.Decides.{leb_tells}
+use Rattle.std.proofs.lemmas.List.{take-append-drop, length-append, length-drop, length-take-le, take_all}
 use Rattle.std.specs.Int.{bytes_high_first}
 use Rattle.amqp_model.specs.Term.{Container, list, map, array}
 use Rattle.amqp_model.specs.Spelling.{IsSize}
@@ -12,7 +12,13 @@ use Rattle.amqp_lengths.specs.Pieces.{IsNumber}
 use Rattle.amqp_lengths.specs.Announced.{content_size}
 use Rattle.amqp_lengths.specs.Stands.{Around, whole_one, cut_one, Contains, all_there, cut_short}
 use Rattle.amqp_paths.specs.declared.contents.Content.{Content}
-use Rattle.amqp_paths.specs.Steps.{Among, HasContent}
+use Rattle.amqp_model.specs.Constructors.{compound, format}
+use Rattle.amqp_lengths.specs.Contents.{IsContent}
+use Rattle.amqp_lengths.specs.Lengths.{IsTerm, Row, HasPairs, IsContainer}
+use Rattle.amqp_lengths.specs.Stands.{AnyData}
+use Rattle.amqp_lengths.proofs.Containers.{container_found, list_data, map_data}
+use Rattle.amqp_lengths.proofs.Rows.{no_bytes}
+use Rattle.amqp_paths.specs.Steps.{Among, HasContent, IsRow}
 
 -- a number, and what follows it
 number_then : (w n : ℕ) (b : List ℕ) → IsFront (IsNumber w n) b w → b ≡ bytes_high_first w n ++ drop w b
@@ -41,7 +47,7 @@ content_size_small array w size h = omega arith
 -- what a size and a count announce, all there
 content_whole : (kind : Container) (w size n : ℕ) (items rest b : List ℕ) → size < 256 ^ w → n < 256 ^ w → IsSize kind w n items size
     → b ≡ bytes_high_first w size ++ (bytes_high_first w n ++ (items ++ rest))
-    → HasContent kind w b (record { count = n; start = w + w; end = w + w + length items })
+    → HasContent kind w b (record { count = n; start = w + w; end = w + w + length items; whole = true })
 content_whole kind w size n items rest b fits room is s =
     let a = bytes_high_first w size in
     let c = bytes_high_first w n in
@@ -57,12 +63,13 @@ content_whole kind w size n items rest b fits room is s =
         is = s ∙ ap (λ x. a ++ x) (sym (append_assoc c items rest)) ∙ sym (append_assoc a (c ++ items) rest);
         spelled = (refl, size, items, is, refl, fits, room, refl);
       });
+      whole = λ e. refl;
     }
 
 -- the same, cut
 content_cut : (kind : Container) (w size n : ℕ) (items b : List ℕ) → size < 256 ^ w → n < 256 ^ w → w ≤ size → w + length items < size
     → b ≡ bytes_high_first w size ++ (bytes_high_first w n ++ items)
-    → HasContent kind w b (record { count = n; start = w + w; end = length b })
+    → HasContent kind w b (record { count = n; start = w + w; end = length b; whole = false })
 content_cut kind w size n items b fits room much less s =
     let a = bytes_high_first w size in
     let c = bytes_high_first w n in
@@ -81,36 +88,36 @@ content_cut kind w size n items b fits room much less s =
       };
       ends = omega arith;
       contains = cut_short (size, c ++ items, fits, s, (few, (n, items, room, refl, (refl, refl))));
+      whole = λ e. absurd (cc);
     }
 
-pub content_found : (kind : Container) (w size n end : ℕ) (b : List ℕ) → IsFront (IsNumber w size) b w → IsFront (IsNumber w n) (drop w b) w
-    → w ≤ size → end ≡ min (length b) (w + size) → HasContent kind w b (record { count = n; start = w + w; end = end })
-content_found kind w size n end b h k much is = by_length (leb_tells (w + size) (length b))
-  where
-    s : b ≡ bytes_high_first w size ++ (bytes_high_first w n ++ drop w (drop w b))
-    s = numbers_then w size n b h k
-    long : w + w + length (drop w (drop w b)) ≡ length b
-    long = omega (arith, h.within, k.within, length-drop w (drop w b), length-drop w b)
-    by_length : {A B : Type 0} → (A × (w + size ≤ length b)) ⊎ (B × (length b < w + size))
-        → HasContent kind w b (record { count = n; start = w + w; end = end })
-    by_length (inl (_, all)) =
-        let items = take (size - w) (drop w (drop w b)) in
-        let l : length items ≡ size - w = length-take-le (size - w) (drop w (drop w b)) (omega (arith, long, all)) in
-        let e : w + w + length items ≡ end = omega (arith, l, is, all, much) in
-        subst (λ x. HasContent kind w b (record { count = n; start = w + w; end = x })) e
-        (content_whole kind w size n items (drop (size - w) (drop w (drop w b))) b h.spelled.0 k.spelled.0 (inl (omega (arith, l, much)))
-        (s ∙ ap (λ x. bytes_high_first w size ++ (bytes_high_first w n ++ x)) (sym (take-append-drop (size - w) (drop w (drop w b))))))
-    by_length (inr (_, cut)) =
-        let e : length b ≡ end = omega (arith, is, cut) in
-        subst (λ x. HasContent kind w b (record { count = n; start = w + w; end = x })) e
-        (content_cut kind w size n (drop w (drop w b)) b h.spelled.0 k.spelled.0 much (omega (arith, long, cut)) s)
+numbers_length : (w size n : ℕ) (b : List ℕ) → IsFront (IsNumber w size) b w → IsFront (IsNumber w n) (drop w b) w
+    → w + w + length (drop w (drop w b)) ≡ length b
+numbers_length w size n b h k = omega (arith, h.within, k.within, length-drop w (drop w b), length-drop w b)
+
+pub content_found : (kind : Container) (w size n : ℕ) (b : List ℕ) → IsFront (IsNumber w size) b w → IsFront (IsNumber w n) (drop w b) w
+    → w ≤ size → w + size ≤ length b → HasContent kind w b (record { count = n; start = w + w; end = w + size; whole = true })
+content_found kind w size n b h k much all =
+    let after = drop w (drop w b) in
+    let items = take (size - w) after in
+    let l : length items ≡ size - w = length-take-le (size - w) after (omega (arith, numbers_length w size n b h k, all)) in
+    let e : w + w + length items ≡ w + size = omega (arith, l, much) in
+    subst (λ x. HasContent kind w b (record { count = n; start = w + w; end = x; whole = true })) e
+    (content_whole kind w size n items (drop (size - w) after) b h.spelled.0 k.spelled.0 (inl (omega (arith, l, much)))
+    (numbers_then w size n b h k ∙ ap (λ x. bytes_high_first w size ++ (bytes_high_first w n ++ x)) (sym (take-append-drop (size - w) after))))
+
+pub content_ends : (kind : Container) (w size n : ℕ) (b : List ℕ) → IsFront (IsNumber w size) b w → IsFront (IsNumber w n) (drop w b) w
+    → w ≤ size → length b < w + size → HasContent kind w b (record { count = n; start = w + w; end = length b; whole = false })
+content_ends kind w size n b h k much cut =
+    content_cut kind w size n (drop w (drop w b)) b h.spelled.0 k.spelled.0 much (omega (arith, numbers_length w size n b h k, cut))
+    (numbers_then w size n b h k)
 
 -- a list of the size 0
 pub content_none : (kind : Container) (w size n : ℕ) (b : List ℕ) → IsFront (IsNumber w size) b w → IsFront (IsNumber w n) (drop w b) w
-    → kind ≡ list → size ≡ 0 → n ≡ 0 → HasContent kind w b (record { count = n; start = w + w; end = w + w })
+    → kind ≡ list → size ≡ 0 → n ≡ 0 → HasContent kind w b (record { count = n; start = w + w; end = w + w; whole = true })
 content_none kind w size n b h k is nought none =
     let e : w + w + length {A = ℕ} [] ≡ w + w = omega arith in
-    subst (λ x. HasContent kind w b (record { count = n; start = w + w; end = x })) e
+    subst (λ x. HasContent kind w b (record { count = n; start = w + w; end = x; whole = true })) e
     (content_whole kind w size n [] (drop w (drop w b)) b h.spelled.0 k.spelled.0 (inr (is, none, refl, nought)) (numbers_then w size n b h k))
 
 -- where the content begins and ends
@@ -118,11 +125,28 @@ pub content_place : (kind : Container) (w n : ℕ) (items b : List ℕ) (around 
     → w + w + length items + behind ≡ length b
 content_place kind w n items b around behind (all_there after h) =
     let (k, size, content, is, same, fits, room, s) = h.spelled in
-    omega (arith, ap length h.is, length-append h.front after, ap length s, length-append (bytes_high_first w size) (bytes_high_first w n ++ content),
-    length-append (bytes_high_first w n) content, length-bytes w size, length-bytes w n, ap length same)
+    omega (
+      arith,
+      ap length h.is,
+      length-append h.front after,
+      ap length s,
+      length-append (bytes_high_first w size) (bytes_high_first w n ++ content),
+      length-append (bytes_high_first w n) content,
+      length-bytes w size,
+      length-bytes w n,
+      ap length same,
+    )
 content_place kind w n items b around behind (cut_short (size, inner, fits, s, (less, (count, after, room, s', (same, all))))) =
-    omega (arith, ap length s, ap length s', length-append (bytes_high_first w size) inner, length-append (bytes_high_first w count) after,
-    length-bytes w size, length-bytes w count, ap length all)
+    omega (
+      arith,
+      ap length s,
+      ap length s',
+      length-append (bytes_high_first w size) inner,
+      length-append (bytes_high_first w count) after,
+      length-bytes w size,
+      length-bytes w count,
+      ap length all,
+    )
 
 -- a size that doesn't hold its count
 pub no_content : (kind : Container) (w size n m : ℕ) (items b : List ℕ) (around : Around) (behind : ℕ) → IsFront (IsNumber w size) b w
@@ -143,5 +167,46 @@ no_content kind w size n m items b around behind h k small other (all_there afte
         by_kind size' content one two (inr (l, none, _, nought)) = other (l, one ∙ nought, two ∙ none)
 no_content kind w size n m items b around behind h k small other (cut_short (size', inner, fits, s, (less, (count, after, room, s', _)))) =
     let (one, _) = field w size size' _ _ h.spelled.0 fits (sym (number_then w size b h) ∙ s) in
-    omega (arith, content_size_small kind w size' (omega (arith, one, small)), less, ap length s', length-append (bytes_high_first w count) after,
-    length-bytes w count)
+    omega (
+      arith,
+      content_size_small kind w size' (omega (arith, one, small)),
+      less,
+      ap length s',
+      length-append (bytes_high_first w count) after,
+      length-bytes w count,
+    )
+
+whole_content : (kind : Container) (w n behind : ℕ) (items b : List ℕ) (around : Around) → around ≡ whole_one → behind ≡ 0
+    → Contains kind w n items b around behind → IsContent kind w n items b
+whole_content kind w n behind items b around is none (all_there after h) =
+    let all : h.front ≡ b = sym (h.is ∙ ap (λ x. h.front ++ x) (no_bytes after none) ∙ append-nil h.front) in
+    subst (IsContent kind w n items) all h.spelled
+whole_content kind w n behind items b around is none (cut_short h) = absurd (cc)
+
+-- a list or map that is all there, up to the end of the bytes
+pub row_there : (kind : Container) (w : ℕ) (b : List ℕ) (content : Content) (h : HasContent kind w b content) → content.whole ≡ true
+    → length b ≤ content.end → HasPairs kind content.count → Row (IsTerm 128) content.count h.items → (kind ≡ array → ⊥) → IsRow kind w b
+row_there kind w b content h whole all pairs row other = (
+  content.count,
+  h.items,
+  whole_content kind w content.count h.behind h.items b h.around (h.whole whole) (omega (arith, h.ends, all)) h.contains,
+  pairs,
+  row,
+  other,
+)
+
+pub row_data : (c w : ℕ) (kind : Container) (b : List ℕ) → format c ≡ compound kind w → IsRow kind w b → AnyData c b
+row_data c w kind b is (n, items, h, pairs, row, other) =
+    let all : take (length b) b ≡ b = take_all (length b) b (omega arith) in
+    let f = container_found kind w 129 128 n (length b) items b (record { within = omega arith; spelled = subst (IsContent kind w n items) (sym all) h })
+    refl pairs row in
+    by_kind kind is other (subst (IsContainer kind w 129) all f.spelled)
+  where
+    by_kind : (kind : Container) → format c ≡ compound kind w → (kind ≡ array → ⊥) → IsContainer kind w 129 b → AnyData c b
+    by_kind list is other h = let (t, d, deep) = list_data c w 129 b is h in (t, d)
+    by_kind map is other h = let (t, d, deep) = map_data c w 129 b is h in (t, d)
+    by_kind array is other h = absurd (other refl)
+
+pub so : (t : Bool) → not t ≡ false → t ≡ true
+so true e = refl
+so false e = absurd (cc)

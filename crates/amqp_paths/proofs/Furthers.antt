@@ -175,7 +175,7 @@ described_steps input room n f near =
       unbounded,
       refl,
       subst (λ l. Step P d l a_value (suc d) (drop n input) unbounded 0) (sym is)
-      (to_described P d input (drop n input) own (front_behind NamesAny input n f)),
+          (to_described P d input (drop n input) own (front_behind NamesAny input n f)),
     ))
 
 pub mark_steps : (input : List ℕ) (room : ℕ) → NoneWithin NamesAny input room
@@ -206,7 +206,7 @@ its_mark_steps k c room input after few is nought some none =
       unbounded,
       refl,
       subst (λ X. Step X d z a_descriptor d after unbounded 0) (sym p)
-      (subst (λ l. Step (a_code k) d l a_descriptor d after unbounded 0) (sym (e ∙ there)) (to_its_descriptor k d after few)),
+          (subst (λ l. Step (a_code k) d l a_descriptor d after unbounded 0) (sym (e ∙ there)) (to_its_descriptor k d after few)),
     ))
 
 -- some of a constructor that items share
@@ -221,8 +221,8 @@ code_steps n k len room content few marks near reaches =
       unbounded,
       refl,
       subst (λ X. Step X d z (a_code k) d (drop len content) unbounded 0) (sym p)
-      (subst (λ l. Step (an_array n) d l (a_code k) d (drop len content) unbounded 0) (sym e)
-      (to_code n d content (drop len content) k few (front_behind (HasMarks k) content len marks))),
+          (subst (λ l. Step (an_array n) d l (a_code k) d (drop len content) unbounded 0) (sym e)
+          (to_code n d content (drop len content) k few (front_behind (HasMarks k) content len marks))),
     ))
 
 -- an item of an array
@@ -234,10 +234,10 @@ element_goes n k c start len content data_ (Element l x m i) (ds, counted, few, 
   unbounded,
   (ds, counted ∙ sym e, ap₂ (λ a b. an_element ds a b i) (sym s) (sym t)),
   subst (λ X. Step X d z (an_element ds c n i) (d + level_of (length ds) c) (drop start data_) unbounded 0) (sym q')
-  (subst (λ l. Step (an_array n) d l (an_element ds c n i) (d + level_of (length ds) c) (drop start data_) unbounded 0) (sym is)
-  (to_element n d content data_ (drop start data_) ds c i (omega (arith, counted, few))
-  (record { front = take len content; is = sym (take-append-drop len content) ∙ ap (λ x. take len content ++ x) at; spelled = q }) less
-  (front_behind (Row (AnyData c) i) data_ start f))),
+      (subst (λ l. Step (an_array n) d l (an_element ds c n i) (d + level_of (length ds) c) (drop start data_) unbounded 0) (sym is)
+      (to_element n d content data_ (drop start data_) ds c i (omega (arith, counted, few))
+      (record { front = take len content; is = sym (take-append-drop len content) ∙ ap (λ x. take len content ++ x) at; spelled = q }) less
+      (front_behind (Row (AnyData c) i) data_ start f))),
 )
 element_goes n k c start len content data_ (End kind m) built at (e, s, f) = λ P d z (q', is). (
   an_end array n,
@@ -245,10 +245,10 @@ element_goes n k c start len content data_ (End kind m) built at (e, s, f) = λ 
   unbounded,
   ap₂ (λ x y. an_end (container_of x) y) (sym e) (sym s),
   subst (λ X. Step X d z (an_end array n) d (drop start data_) unbounded 0) (sym q')
-  (subst (λ l. Step (an_array n) d l (an_end array n) d (drop start data_) unbounded 0) (sym is)
-  (to_array_end n d content data_ (drop start data_) k c
-  (record { front = take len content; is = sym (take-append-drop len content) ∙ ap (λ x. take len content ++ x) at; spelled = built })
-  (front_behind (Row (AnyData c) n) data_ start f))),
+      (subst (λ l. Step (an_array n) d l (an_end array n) d (drop start data_) unbounded 0) (sym is)
+      (to_array_end n d content data_ (drop start data_) k c
+      (record { front = take len content; is = sym (take-append-drop len content) ∙ ap (λ x. take len content ++ x) at; spelled = built })
+      (front_behind (Row (AnyData c) n) data_ start f))),
 )
 element_goes n k c start len content data_ _ built at h = absurd h
 
@@ -431,7 +431,7 @@ shared_steps k c n i room input reaches =
       unbounded,
       (ds, omega (arith, l), refl),
       subst (λ X. Step X d z (an_element ds c n i) (suc d) input unbounded 0) (sym p)
-      (subst (λ v. Step (an_element (e ∷ ds) c n i) d v (an_element ds c n i) (suc d) input unbounded 0) (sym is) (to_its_described e ds c n i d input)),
+          (subst (λ v. Step (an_element (e ∷ ds) c n i) d v (an_element ds c n i) (suc d) input unbounded 0) (sym is) (to_its_described e ds c n i d input)),
     )
 
 -- the data of an item of an array

@@ -124,7 +124,7 @@ mark_more n len m input (ds, l, h) f =
       ds ++ (d ∷ []),
       length-append ds (d ∷ []) ∙ (omega (arith, l)),
       subst (Marks (ds ++ (d ∷ []))) (sym (take-add len m input ∙ ap (λ x. take len input ++ x) e))
-      (marks_more ds d (take len input) name h names),
+          (marks_more ds d (take len input) name h names),
     )
 
 -- behind some of the descriptors of a constructor, as many as end within it, there is its code
@@ -157,9 +157,11 @@ value_announced k len input c data_ front after o within marks none at announced
     let split : input ≡ first ++ (second ++ after) = is ∙ ap (λ x. x ++ after) s ∙ append_assoc first second after in
     let (long, there) = all_marks k len input ds c' first (second ++ after) within marks none q few split in
     let r = heads c c' (second ++ after) data_ (drop len input) [] there (sym at ∙ sym (append-nil (drop len input))) in
-    let rest : data_ ≡ second ++ after = r.1 ∙ append-nil (second ++ after) in
-    (length second, announced second after rest (subst (λ x. IsAnnounced (format x) second) (sym r.0) (announced_data t ds c' second h)),
-    omega (arith, ap length s, length-append first second, long))
+    let rest : data_ ≡ second ++ after = r.1 ∙ append-nil (second ++ after) in (
+      length second,
+      announced second after rest (subst (λ x. IsAnnounced (format x) second) (sym r.0) (announced_data t ds c' second h)),
+      omega (arith, ap length s, length-append first second, long),
+    )
 
 -- there is no code
 pub value_unannounced : (k len : ℕ) (input front after : List ℕ) → len ≤ length input → HasMarks k (take len input)

@@ -1,13 +1,14 @@
 -- From what begins at a place to what is next further in.
-use Rattle.std.specs.Prelude.{◌≡◌, ℕ, ◌≤◌, ◌<◌, ◌+◌, ◌-◌, List, [], ◌∷◌, ◌++◌, length, drop}
+use Rattle.std.specs.Prelude.{◌≡◌, ℕ, true, ◌≤◌, ◌<◌, ◌+◌, ◌-◌, List, [], ◌∷◌, ◌++◌, length, drop}
 use Rattle.amqp_model.specs.Term.{Container, array}
 use Rattle.amqp_model.specs.Constructors.{compound, format}
 use Rattle.amqp_model.specs.Spelling.{IsKnown, HasWidthZero}
 use Rattle.amqp_lengths.specs.Fronts.{IsFront}
 use Rattle.amqp_lengths.specs.Pieces.{NamesAny}
-use Rattle.amqp_lengths.specs.Lengths.{HasMarks, Constructs, IsTerm, Row}
+use Rattle.amqp_lengths.specs.Lengths.{HasMarks, Constructs, IsTerm, Row, HasPairs}
+use Rattle.amqp_lengths.specs.Contents.{IsContent}
 use Rattle.amqp_lengths.specs.Stands as stands
-use Rattle.amqp_lengths.specs.Stands.{Around, IsUnder, AnyTerm, AnyData, Contains, Step}
+use Rattle.amqp_lengths.specs.Stands.{Around, whole_one, IsUnder, AnyTerm, AnyData, Contains, Step}
 use Rattle.amqp_paths.specs.declared.contents.Content.{Content}
 use Rattle.amqp_paths.specs.declared.piece.ContainerKind.{ContainerKind}
 use Rattle.amqp_paths.specs.declared.piece.ContainerKind.TheVariants.{Array}
@@ -40,6 +41,7 @@ pub record HasContent (kind : Container) (w : ℕ) (input : List ℕ) (content :
   pub part : Among input items content.start behind
   pub ends : content.end + behind ≡ length input
   pub contains : Contains kind w content.count items input around behind
+  pub whole : content.whole ≡ true → around ≡ whole_one
 
 -- Of the items of a list or map, the one that begins there, behind whole ones; or their end, behind all of them.
 abbrev pub IsItem : ContainerKind → ℕ → List ℕ → Piece → ℕ → Type 0
@@ -51,6 +53,10 @@ IsItem kind n content _ start = ⊥
 abbrev pub IsPart : ContainerKind → ℕ → List ℕ → Piece → ℕ → Type 0
 IsPart Array n content p start = (p ≡ ArrayContent n) × (start ≡ 0)
 IsPart kind n content p start = IsItem kind n content p start
+
+-- The data of a list or map of whole values.
+abbrev pub IsRow : Container → ℕ → List ℕ → Type 0
+IsRow kind w b = (n : ℕ) × (items : List ℕ) × IsContent kind w n items b × HasPairs kind n × Row (IsTerm 128) n items × (kind ≡ array → ⊥)
 
 -- Likewise of the data of an array's items, under one code.
 abbrev pub IsElement : ℕ → ℕ → ℕ → List ℕ → Piece → ℕ → Type 0

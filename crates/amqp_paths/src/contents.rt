@@ -16,6 +16,8 @@ pub(crate) struct Content {
     pub(crate) start: usize,
     /// Where they end, or where the data does, if this is before.
     pub(crate) end: usize,
+    /// Whether they are all there.
+    pub(crate) whole: bool,
 }
 
 /// Returns what there is of the content of the container whose data the input begins with, if there are its size and its count, and the size
@@ -30,19 +32,31 @@ pub(crate) fn content_in(input: &[u8], head: Head) -> Option<Content>
     let width = head.width;
     let size = number(width, input)?;
     let count = number(width, &input[width..])?;
-    if size >= width {
+    let start = width + width;
+    if size < width {
+        return match head.kind {
+            ContainerKind::List if size == 0 && count == 0 => Some(Content {
+                count,
+                start,
+                end: start,
+                whole: true,
+            }),
+            _ => None,
+        };
+    }
+    let end = width + size;
+    if end > input.len() {
         return Some(Content {
             count,
-            start: width + width,
-            end: input.len().min(width + size),
+            start,
+            end: input.len(),
+            whole: false,
         });
     }
-    match head.kind {
-        ContainerKind::List if size == 0 && count == 0 => Some(Content {
-            count,
-            start: width + width,
-            end: width + width,
-        }),
-        _ => None,
-    }
+    Some(Content {
+        count,
+        start,
+        end,
+        whole: true,
+    })
 }

@@ -1,17 +1,20 @@
 //! The items of arrays before a place (Part 1, section 1.2.4).
 ghost use Rattle.std.specs.Prelude.{◌≡◌, ◌≤◌, ◌+◌, ◌-◌, ◌^◌, ◌<◌, ◌⊎◌, ℕ, List, ◌∷◌, Option, length, drop, IsTrue, IfSome, MatchOption};
 ghost use Rattle.amqp_model.specs.Constructors.{variable, format};
-ghost use Rattle.amqp_model.specs.Term.{Primitive};
+ghost use Rattle.amqp_model.specs.Term.{Primitive, array};
 ghost use Rattle.amqp_model.specs.Spelling.{IsKnown};
 ghost use Rattle.amqp_lengths.specs.Fronts.{IsFront};
 ghost use Rattle.amqp_lengths.specs.Pieces.{IsPrimitive, HasWidth, IsValue};
 ghost use Rattle.amqp_lengths.specs.Stands.{an_array, AnyData};
-ghost use Rattle.amqp_paths.specs.Pieces.{rank};
-ghost use Rattle.amqp_paths.specs.Steps.{IsElement, StepsTo};
+ghost use Rattle.amqp_lengths.specs.Lengths.{HasPairs};
+ghost use Rattle.amqp_paths.specs.Pieces.{container_of, rank};
+ghost use Rattle.amqp_paths.specs.Steps.{IsRow, IsElement, StepsTo};
 
 use crate::announced::{announced_len, fixed_width};
+use crate::contents::content_in;
 use crate::descriptors::marks_within;
-use crate::heads::{head_of, number};
+use crate::heads::{Head, head_of, number};
+use crate::items::are_values;
 use crate::steps::Further;
 use crate::{ContainerKind, Piece};
 use amqp_wire::format_code;
@@ -83,20 +86,54 @@ fn primitive_len(code: u8, input: &[u8]) -> Option<usize>
     sized_len(code, 4, input)
 }
 
-// The length of the whole data under the code at the start of the input, if it has bytes and ends within `room` of them. The items of an array
-// that are lists, maps or arrays are not passed over.
+// Whether a list or map may have so many items. A map has a value for each key.
+fn has_pairs(kind: ContainerKind, count: usize) -> bool
+    ensures { IsTrue result → HasPairs (container_of kind) count × (container_of kind ≡ array → ⊥) }
+{
+    match kind {
+        ContainerKind::List => true,
+        ContainerKind::Map => count % 2 == 0,
+        ContainerKind::Array => false,
+    }
+}
+
+// Whether the bytes are the data of a list or map, which holds as many values as it counts.
+fn is_row(head: Head, data: &[u8]) -> bool
+    requires { (head.width ≡ 0) ⊎ ((head.width ≡ 1) ⊎ (head.width ≡ 4)) }
+    ensures { IsTrue result → IsRow (container_of head.kind) head.width data.now }
+{
+    let Some(content) = content_in(data, head) else {
+        return false;
+    };
+    if !content.whole || content.end < data.len() || !has_pairs(head.kind, content.count) {
+        return false;
+    }
+    let items = &data[content.start..content.end];
+    are_values(head.kind, content.count, items)
+}
+
+// The length of the whole data under the code at the start of the input, if it has bytes and ends within `room` of them. Items of an array that
+// are arrays themselves are not passed over.
 fn data_within(code: u8, input: &[u8], room: usize) -> Option<usize>
     requires { IsKnown (format code) }
     ensures { IfSome result (λ n. IsFront (AnyData code) input.now n × (n ≤ room)) }
 {
-    if format_code::has_width_zero(code) || head_of(code).is_some() {
+    if format_code::has_width_zero(code) {
         return None;
     }
     let announced = announced_len(code, input)?;
     if announced > room {
         return None;
     }
-    primitive_len(code, input.get(..announced)?)
+    let data = input.get(..announced)?;
+    let Some(head) = head_of(code) else {
+        return primitive_len(code, data);
+    };
+    if is_row(head, data) {
+        Some(announced)
+    } else {
+        None
+    }
 }
 
 /// The constructor that the items of an array share.

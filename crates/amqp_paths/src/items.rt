@@ -1,7 +1,7 @@
 //! The items of lists and maps before a place (Part 1, section 1.2.3).
-ghost use Rattle.std.specs.Prelude.{◌≡◌, ◌≤◌, ◌-◌, length, drop, MatchOption};
+ghost use Rattle.std.specs.Prelude.{◌≡◌, ◌≤◌, ◌-◌, length, drop, MatchOption, IsTrue};
 ghost use Rattle.amqp_lengths.specs.Fronts.{IsFront};
-ghost use Rattle.amqp_lengths.specs.Lengths.{IsTerm};
+ghost use Rattle.amqp_lengths.specs.Lengths.{IsTerm, Row};
 ghost use Rattle.amqp_paths.specs.Steps.{NoneWithin, IsItem, Reaches};
 
 use crate::announced::announced_value;
@@ -55,5 +55,16 @@ pub(crate) fn item_within(
         piece: Piece::End { container, count },
         start,
         end: content.len(),
+    }
+}
+
+/// Returns whether the content of a list or map is so many values.
+pub(crate) fn are_values(container: ContainerKind, count: usize, content: &[u8]) -> bool
+    ensures { IsTrue result → Row (IsTerm 128) count content.now }
+{
+    let last = item_within(container, count, content, content.len());
+    match last.piece {
+        Piece::End { .. } => last.start == content.len(),
+        _ => false,
     }
 }

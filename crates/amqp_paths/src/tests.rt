@@ -49,7 +49,13 @@ fn lists_and_maps(rt: HostRuntime) {
     // no input, a list without items, and bytes that are left in a list
     assert!(rt; leads(&[], 0, &[value]));
     assert!(rt; leads(&[0x45], 1, &[value, end(1, ContainerKind::List, 0)]));
-    assert!(rt; leads(&[0xc0, 4, 1, 0x40, 7, 7], 4, &[value, end(4, ContainerKind::List, 1)]));
+    assert!(rt;
+        leads(
+            &[0xc0, 4, 1, 0x40, 7, 7],
+            4,
+            &[value, end(4, ContainerKind::List, 1)]
+        )
+    );
 }
 
 #[test]
@@ -62,18 +68,32 @@ fn cut_and_described(rt: HostRuntime) {
     let input = [0xc0, 2, 2, 0x40];
     assert!(rt; leads(&input, 4, &[value, item(4, ContainerKind::List, 2, 1)]));
     // a list of the code 3, whose second item is the list of the code 0x24 and an unknown code
-    let input = [0, 0x53, 3, 0xc0, 9, 2, 0x41, 0, 0x53, 0x24, 0xc0, 2, 1, 0x3f];
+    let input = [
+        0, 0x53, 3, 0xc0, 9, 2, 0x41, 0, 0x53, 0x24, 0xc0, 2, 1, 0x3f,
+    ];
     let list = node(3, Piece::Value);
     let second = item(7, ContainerKind::List, 2, 1);
     let inner = node(10, Piece::Value);
     assert!(rt; leads(&input, 2, &[value, node(1, Piece::Descriptor)]));
-    assert!(rt; leads(&input, 8, &[value, list, second, node(8, Piece::Descriptor)]));
+    assert!(rt;
+        leads(
+            &input,
+            8,
+            &[value, list, second, node(8, Piece::Descriptor)]
+        )
+    );
     let unknown = item(13, ContainerKind::List, 1, 0);
     assert!(rt; leads(&input, 13, &[value, list, second, inner, unknown]));
     // a descriptor that is a list
     let input = [0, 0xc0, 2, 1, 0x40, 0x40];
     let in_descriptor = item(4, ContainerKind::List, 1, 0);
-    assert!(rt; leads(&input, 4, &[value, node(1, Piece::Descriptor), in_descriptor]));
+    assert!(rt;
+        leads(
+            &input,
+            4,
+            &[value, node(1, Piece::Descriptor), in_descriptor]
+        )
+    );
 }
 
 fn element(at: usize, descriptors: usize, code: u8, index: usize) -> Node {
@@ -98,16 +118,49 @@ fn arrays(rt: HostRuntime) {
     let code = node(6, Piece::ElementConstructor { descriptors: 1 });
     assert!(rt; leads(&input, 2, &[value]));
     assert!(rt; leads(&input, 3, &[value, array, constructor]));
-    assert!(rt; leads(&input, 5, &[value, array, constructor, node(4, Piece::Descriptor)]));
+    assert!(rt;
+        leads(
+            &input,
+            5,
+            &[value, array, constructor, node(4, Piece::Descriptor)]
+        )
+    );
     assert!(rt; leads(&input, 6, &[value, array, code]));
-    assert!(rt; leads(&input, 7, &[value, array, element(7, 1, 0xa3, 0), element(7, 0, 0xa3, 0)]));
-    assert!(rt; leads(&input, 13, &[value, array, element(12, 1, 0xa3, 2), element(12, 0, 0xa3, 2)]));
-    assert!(rt; leads(&input, 14, &[value, array, end(14, ContainerKind::Array, 3)]));
+    assert!(rt;
+        leads(
+            &input,
+            7,
+            &[value, array, element(7, 1, 0xa3, 0), element(7, 0, 0xa3, 0)]
+        )
+    );
+    assert!(rt;
+        leads(
+            &input,
+            13,
+            &[
+                value,
+                array,
+                element(12, 1, 0xa3, 2),
+                element(12, 0, 0xa3, 2)
+            ]
+        )
+    );
+    assert!(rt;
+        leads(
+            &input,
+            14,
+            &[value, array, end(14, ContainerKind::Array, 3)]
+        )
+    );
     // the array of three lists, of which the third has an unknown code
-    let input = [
-        0xe0, 0x0b, 3, 0xc0, 2, 1, 0x40, 1, 0, 2, 1, 0x3f,
-    ];
+    let input = [0xe0, 0x0b, 3, 0xc0, 2, 1, 0x40, 1, 0, 2, 1, 0x3f];
     let array = node(3, Piece::ArrayContent { count: 3 });
     let third = element(9, 0, 0xc0, 2);
-    assert!(rt; leads(&input, 11, &[value, array, third, item(11, ContainerKind::List, 1, 0)]));
+    assert!(rt;
+        leads(
+            &input,
+            11,
+            &[value, array, third, item(11, ContainerKind::List, 1, 0)]
+        )
+    );
 }

@@ -5,7 +5,7 @@ use Rattle.amqp_paths.proofs.descriptors.mark_within.Goals as goal
 pub returns-then-len-room : goal.returns-then-len-room
 returns-then-len-room c = (
   mark_there c.args.input.now c.in_ok-code.after.now c.in_ok-code.code.now c.in_ok-len.field-0 c.in_ok-code.ensures.cases.0
-  c.if-code-ne-DESCRIBED.false c.in_ok-len.ensures,
+      c.if-code-ne-DESCRIBED.false c.in_ok-len.ensures,
   c.if-len-room.true,
 )
 
