@@ -21,7 +21,7 @@ use Rattle.amqp_lengths.proofs.Rows.{no_bytes}
 use Rattle.amqp_paths.specs.Steps.{Among, HasContent, IsRow}
 
 -- a number, and what follows it
-number_then : (w n : ℕ) (b : List ℕ) → IsFront (IsNumber w n) b w → b ≡ bytes_high_first w n ++ drop w b
+pub number_then : (w n : ℕ) (b : List ℕ) → IsFront (IsNumber w n) b w → b ≡ bytes_high_first w n ++ drop w b
 number_then w n b h = sym (take-append-drop w b) ∙ ap (λ x. x ++ drop w b) h.spelled.1
 
 numbers_then : (w size n : ℕ) (b : List ℕ) → IsFront (IsNumber w size) b w → IsFront (IsNumber w n) (drop w b) w

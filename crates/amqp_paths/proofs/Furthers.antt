@@ -257,16 +257,12 @@ element_front k c n data_ (Element l x m i) start (e, s, t, less, f) = f.within
 element_front k c n data_ (End kind m) start (e, s, f) = f.within
 element_front k c n data_ _ start h = absurd h
 
-element_reaches : (k c n : ℕ) (data_ z : List ℕ) (p : Piece) (start room : ℕ) → IsElement k c n data_ p start → Reaches p z room
-element_reaches k c n data_ z (Element l x m i) start room h = tt
-element_reaches k c n data_ z (End kind m) start room h = tt
-element_reaches k c n data_ z _ start room h = absurd h
-
 pub element_steps : (n k c len room : ℕ) (content : List ℕ) (f g : Further) → len ≤ length content → Constructs k c (take len content)
     → IsElement k c n (drop len content) f.piece f.start → f.end ≡ length (drop len content) → f.start ≤ room - len → len ≤ room
-    → g.piece ≡ f.piece → g.start ≡ len + f.start → g.end ≡ len + f.end → StepsTo (λ P z. (P ≡ an_array n) × (z ≡ content)) content room g
-element_steps n k c len room content f g within built h ends inner near piece start end =
+    → Reaches f.piece (drop f.start (drop len content)) ((room - len) - f.start) → g.piece ≡ f.piece → g.start ≡ len + f.start → g.end ≡ len + f.end → StepsTo (λ P z. (P ≡ an_array n) × (z ≡ content)) content room g
+element_steps n k c len room content f g within built h ends inner near reaches piece start end =
     let data_ = drop len content in
+    let left : (room - len) - f.start ≡ room - g.start = omega (arith, start) in
     let few = element_front k c n data_ f.piece f.start h in
     let bytes = drop f.start data_ in
     record {
@@ -276,7 +272,7 @@ element_steps n k c len room content f g within built h ends inner near piece st
           (among_inner content data_ bytes len 0 f.start 0 (among_tail len content within) (among_tail f.start data_ few));
       ends = omega (arith, end, ends, length-drop len content, within);
       near = omega (arith, start, inner, near);
-      reaches = subst (λ p. Reaches p bytes (room - g.start)) (sym piece) (element_reaches k c n data_ bytes f.piece f.start (room - g.start) h);
+      reaches = subst (λ p. Reaches p bytes (room - g.start)) (sym piece) (subst (Reaches f.piece bytes) left reaches);
       step = subst (λ p. Goes (λ P z. (P ≡ an_array n) × (z ≡ content)) p bytes 0) (sym piece)
           (element_goes n k c f.start len content data_ f.piece built refl h);
     }
@@ -419,7 +415,9 @@ pub shared_steps : (k c n i room : ℕ) (input : List ℕ) → Reaches (Element 
     → StepsTo (λ P z. IsPiece (Element (suc k) c n i) P × (z ≡ input)) input room
     (record { piece = Element k c n i; start = 0; end = length input })
 shared_steps k c n i room input reaches =
-    tail_steps (λ P z. IsPiece (Element (suc k) c n i) P × (z ≡ input)) input input room 0 (Element k c n i) (omega arith) (omega arith) refl tt
+    let same : room ≡ room - 0 = omega arith in
+    tail_steps (λ P z. IsPiece (Element (suc k) c n i) P × (z ≡ input)) input input room 0 (Element k c n i) (omega arith) (omega arith) refl
+    (λ prim wide. subst (NoneWithin (AnyData c) input) same (reaches prim wide))
     (λ P d z ((ds, l, p), is). by_descriptors P d z ds l p is)
   where
     by_descriptors : (P : stands.Piece) (d : ℕ) (z : List ℕ) (ds : List Descriptor) → length ds ≡ suc k → P ≡ an_element ds c n i → z ≡ input
@@ -469,8 +467,8 @@ bare_answered p k c n i room input o is nought h =
         (λ P z (named, all). bare_under c n i input P z named all) h
 
 pub shared_answered : (p : Piece) (k m c n i room : ℕ) (input : List ℕ) → p ≡ Element k c n i → m + 1 ≡ k
-    → StepsTo (λ P z. IsPiece p P × (z ≡ input)) input room (record { piece = Element m c n i; start = 0; end = length input })
-shared_answered p k m c n i room input is more =
+    → Reaches p input room → StepsTo (λ P z. IsPiece p P × (z ≡ input)) input room (record { piece = Element m c n i; start = 0; end = length input })
+shared_answered p k m c n i room input is more reaches =
     let one : k ≡ suc m = omega (arith, more) in
     subst (λ q. StepsTo (λ P z. IsPiece q P × (z ≡ input)) input room (record { piece = Element m c n i; start = 0; end = length input }))
-    (sym (is ∙ ap (λ x. Element x c n i) one)) (shared_steps m c n i room input tt)
+    (sym (is ∙ ap (λ x. Element x c n i) one)) (shared_steps m c n i room input (subst (λ q. Reaches q input room) (is ∙ ap (λ x. Element x c n i) one) reaches))

@@ -173,7 +173,7 @@ value_unannounced k len input front after within marks none ends is (t, (ds, c',
     omega (arith, ap length there, length-drop len input)
 
 -- a front of the first bytes is one of all
-front_of_front : (P : List ℕ → Type 0) (input : List ℕ) (a n : ℕ) → a ≤ length input → IsFront P (take a input) n → IsFront P input n × (n ≤ a)
+pub front_of_front : (P : List ℕ → Type 0) (input : List ℕ) (a n : ℕ) → a ≤ length input → IsFront P (take a input) n → IsFront P input n × (n ≤ a)
 front_of_front P input a n few f =
     let b = take n (take a input) in
     let l : length b ≡ n = length-take-le n (take a input) f.within in

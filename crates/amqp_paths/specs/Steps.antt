@@ -4,7 +4,7 @@ use Rattle.amqp_model.specs.Term.{Container, array}
 use Rattle.amqp_model.specs.Constructors.{compound, format}
 use Rattle.amqp_model.specs.Spelling.{IsKnown, HasWidthZero}
 use Rattle.amqp_lengths.specs.Fronts.{IsFront}
-use Rattle.amqp_lengths.specs.Pieces.{NamesAny}
+use Rattle.amqp_lengths.specs.Pieces.{IsPrimitive, NamesAny}
 use Rattle.amqp_lengths.specs.Lengths.{HasMarks, Constructs, IsTerm, Row, HasPairs}
 use Rattle.amqp_lengths.specs.Contents.{IsContent}
 use Rattle.amqp_lengths.specs.Stands as stands
@@ -65,12 +65,13 @@ IsElement k c n data_ (End kind m) start = (kind ≡ Array) × (m ≡ n) × IsFr
 IsElement k c n data_ _ start = ⊥
 
 -- What begins there reaches over the place, which so many bytes are before: no whole item or descriptor ends there, and no code of a
--- constructor.
+-- constructor. Of the items of an array this is said of primitives that have bytes.
 abbrev pub Reaches : Piece → List ℕ → ℕ → Type 0
 Reaches (Item kind n i) z room = NoneWithin (IsTerm 128) z room
 Reaches Descriptor z room = NoneWithin NamesAny z room
 Reaches (ElementConstructor k) z room =
     (k < 128 → NoneWithin IsMark z room) × ((c : ℕ) (after : List ℕ) → z ≡ c ∷ after → IsKnown (format c) → room ≡ 0)
+Reaches (Element k c n i) z room = IsPrimitive (format c) → (HasWidthZero (format c) → ⊥) → NoneWithin (AnyData c) z room
 Reaches _ z room = Unit {0}
 
 -- No content of a container begins within so many bytes of the data under a code.

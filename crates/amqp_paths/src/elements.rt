@@ -2,13 +2,13 @@
 ghost use Rattle.std.specs.Prelude.{◌≡◌, ◌≤◌, ◌+◌, ◌-◌, ◌^◌, ◌<◌, ◌⊎◌, ℕ, List, ◌∷◌, Option, length, drop, IsTrue, IfSome, MatchOption};
 ghost use Rattle.amqp_model.specs.Constructors.{variable, format};
 ghost use Rattle.amqp_model.specs.Term.{Primitive, array};
-ghost use Rattle.amqp_model.specs.Spelling.{IsKnown};
-ghost use Rattle.amqp_lengths.specs.Fronts.{IsFront};
+ghost use Rattle.amqp_model.specs.Spelling.{IsKnown, HasWidthZero};
+ghost use Rattle.amqp_lengths.specs.Fronts.{IsFront, NoFront};
 ghost use Rattle.amqp_lengths.specs.Pieces.{IsPrimitive, HasWidth, IsValue};
 ghost use Rattle.amqp_lengths.specs.Stands.{an_array, AnyData};
 ghost use Rattle.amqp_lengths.specs.Lengths.{HasPairs};
 ghost use Rattle.amqp_paths.specs.Pieces.{container_of, rank};
-ghost use Rattle.amqp_paths.specs.Steps.{IsRow, IsElement, StepsTo};
+ghost use Rattle.amqp_paths.specs.Steps.{NoneWithin, IsRow, IsElement, Reaches, StepsTo};
 
 use crate::announced::{announced_len, fixed_width};
 use crate::contents::content_in;
@@ -24,7 +24,8 @@ use std::str;
 fn is_value(code: u8, bytes: &[u8]) -> bool
     requires primitive { IsPrimitive (format code) }
     requires width { HasWidth (format code) bytes.now }
-    ensures { IsTrue result → IsValue (format code) bytes.now }
+    ensures found { IsTrue result → IsValue (format code) bytes.now }
+    ensures all { IsValue (format code) bytes.now → IsTrue result }
 {
     match code {
         format_code::BOOLEAN => match bytes {
@@ -48,7 +49,7 @@ fn is_value(code: u8, bytes: &[u8]) -> bool
 fn fixed_len(code: u8, input: &[u8]) -> Option<usize>
     requires primitive { IsPrimitive (format code) }
     requires fixed { code < 0xa0 }
-    ensures { IfSome result (λ n. IsFront (AnyData code) input.now n) }
+    ensures { MatchOption result (NoFront (AnyData code) input.now) (λ n. IsFront (AnyData code) input.now n) }
 {
     let width = fixed_width(code);
     if is_value(code, input.get(..width)?) {
@@ -62,7 +63,7 @@ fn fixed_len(code: u8, input: &[u8]) -> Option<usize>
 fn sized_len(code: u8, width: usize, input: &[u8]) -> Option<usize>
     requires width { (width ≡ 1) ⊎ (width ≡ 4) }
     requires sized { (value : List ℕ → Option Primitive) × (format code ≡ variable width value) }
-    ensures { IfSome result (λ n. IsFront (AnyData code) input.now n) }
+    ensures { MatchOption result (NoFront (AnyData code) input.now) (λ n. IsFront (AnyData code) input.now n) }
 {
     let len = number(width, input)?;
     if is_value(code, input[width..].get(..len)?) {
@@ -75,7 +76,7 @@ fn sized_len(code: u8, width: usize, input: &[u8]) -> Option<usize>
 // The length of the data of a primitive under its code at the start of the input, if it is there.
 fn primitive_len(code: u8, input: &[u8]) -> Option<usize>
     requires { IsPrimitive (format code) }
-    ensures { IfSome result (λ n. IsFront (AnyData code) input.now n) }
+    ensures { MatchOption result (NoFront (AnyData code) input.now) (λ n. IsFront (AnyData code) input.now n) }
 {
     if code < format_code::BINARY_8 {
         return fixed_len(code, input);
@@ -116,7 +117,8 @@ fn is_row(head: Head, data: &[u8]) -> bool
 // are arrays themselves are not passed over.
 fn data_within(code: u8, input: &[u8], room: usize) -> Option<usize>
     requires { IsKnown (format code) }
-    ensures { IfSome result (λ n. IsFront (AnyData code) input.now n × (n ≤ room)) }
+    ensures { MatchOption result (IsPrimitive (format code) → (HasWidthZero (format code) → ⊥) → NoneWithin (AnyData code) input.now room)
+        (λ n. IsFront (AnyData code) input.now n × (n ≤ room)) }
 {
     if format_code::has_width_zero(code) {
         return None;
@@ -149,6 +151,7 @@ fn element_within(shared: Shared, count: usize, data: &[u8], room: usize) -> Fur
     ensures element { IsElement shared.descriptors shared.code count data.now result.piece result.start }
     ensures ends { result.end ≡ length data.now }
     ensures near { result.start ≤ room }
+    ensures reaches { Reaches result.piece (drop result.start data.now) (room - result.start) }
 {
     let mut start = 0;
     for index in 0..count {

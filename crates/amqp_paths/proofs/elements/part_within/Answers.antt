@@ -24,7 +24,9 @@ returns-in-Some-clause-step c =
     (subst (λ l. IsElement m.descriptors c.in-Some.code c.args.count l c.element_within.result.piece c.element_within.result.start) all
     c.element_within.ensures.element)
     (c.element_within.ensures.ends ∙ ap length all) c.element_within.ensures.near
-    (omega (arith, c.in-Some.ensures.0, c.marks_within-marks.ensures.near)) c.behind.ensures.piece c.behind.ensures.start c.behind.ensures.end
+    (omega (arith, c.in-Some.ensures.0, c.marks_within-marks.ensures.near))
+    (subst (λ l. Reaches c.element_within.result.piece (drop c.element_within.result.start l) ((c.args.room - (m.len + 1)) - c.element_within.result.start))
+    all c.element_within.ensures.reaches) c.behind.ensures.piece c.behind.ensures.start c.behind.ensures.end
 
 pub returns-in-Some-clause-falls : goal.returns-in-Some-clause-falls
 returns-in-Some-clause-falls c =

@@ -10,4 +10,4 @@ returns-in-None-clause-step c =
 pub returns-in-Some-clause-step : goal.returns-in-Some-clause-step
 returns-in-Some-clause-step c =
     shared_answered c.args.piece c.in-Element.descriptors c.in-Some.descriptors c.in-Element.code c.in-Element.count c.in-Element.index c.args.room
-    c.args.input.now c.in-Element.is (omega (arith, c.in-Some.ensures))
+    c.args.input.now c.in-Element.is (omega (arith, c.in-Some.ensures)) c.requires.reaches
