@@ -1,6 +1,6 @@
 -- The content of containers, found and missed.
 use Rattle.std.specs.Prelude.{Bool, not}
-use Rattle.std.proofs.Common.{◌≡◌, ℕ, true, false, zero, suc, ◌+◌, ◌-◌, ◌^◌, ◌<◌, ◌≤◌, ◌⊎◌, inl, inr, List, [], ◌++◌, length, take, drop, refl, sym, ap}
+use Rattle.std.proofs.Common.{◌≡◌, ℕ, true, false, zero, suc, ◌+◌, ◌-◌, ◌^◌, ◌<◌, ◌≤◌, inl, inr, List, [], ◌++◌, length, take, drop, refl, sym, ap}
 use Rattle.std.proofs.Common.{◌∙◌, subst, arith, append_assoc, append-nil}
 use Rattle.std.proofs.lemmas.List.{take-append-drop, length-append, length-drop, length-take-le, take_all}
 use Rattle.std.specs.Int.{bytes_high_first}
@@ -18,7 +18,7 @@ use Rattle.amqp_lengths.specs.Lengths.{IsTerm, Row, HasPairs, IsContainer}
 use Rattle.amqp_lengths.specs.Stands.{AnyData}
 use Rattle.amqp_lengths.proofs.Containers.{container_found, list_data, map_data}
 use Rattle.amqp_lengths.proofs.Rows.{no_bytes}
-use Rattle.amqp_paths.specs.Steps.{Among, HasContent, IsRow}
+use Rattle.amqp_paths.specs.Steps.{HasContent, IsRow}
 
 -- a number, and what follows it
 pub number_then : (w n : ℕ) (b : List ℕ) → IsFront (IsNumber w n) b w → b ≡ bytes_high_first w n ++ drop w b

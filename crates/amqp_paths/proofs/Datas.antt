@@ -1,5 +1,5 @@
 -- The data of primitives.
-use Rattle.std.proofs.Common.{◌≡◌, ℕ, suc, [], append_assoc, append-nil, unwrap_or, None, ◌-◌, ◌+◌, ◌^◌, ◌<◌, ◌≤◌, Bool, true, false, List, ◌++◌, length, take, drop, Option, Some, refl, sym, ap, ◌∙◌, subst}
+use Rattle.std.proofs.Common.{◌≡◌, ℕ, [], append_assoc, append-nil, unwrap_or, None, ◌+◌, ◌^◌, ◌<◌, ◌≤◌, Bool, true, false, List, ◌++◌, length, take, drop, Option, Some, refl, sym, ap, ◌∙◌, subst}
 use Rattle.std.proofs.Common.{arith}
 use Rattle.std.proofs.Math.Dec.{leb}
 use Rattle.std.proofs.Math.Seq.{take-add}
@@ -8,7 +8,7 @@ use Rattle.std.proofs.lemmas.List.{take-append-drop, length-append, length-drop,
 use Rattle.std.specs.Int.{bytes_high_first}
 use Rattle.amqp_model.specs.Term.{Primitive, leaf}
 use Rattle.amqp_model.specs.Constructors.{Format, fixed, variable, compound, unknown, format}
-use Rattle.amqp_model.specs.Spelling.{IsKnown, HasWidthZero, IsValid, PrimitiveData}
+use Rattle.amqp_model.specs.Spelling.{IsKnown, PrimitiveData}
 use Rattle.amqp_lengths.specs.Fronts.{IsFront, NoFront}
 use Rattle.amqp_lengths.specs.Pieces.{width_of, IsPrimitive, HasWidth, IsNumber, IsValue, value_of, fixed_width}
 use Rattle.amqp_lengths.specs.Stands.{AnyData}
@@ -131,8 +131,15 @@ pub sized_unbegun : (c w : ℕ) (value : List ℕ → Option Primitive) (input :
     → NoFront (AnyData c) input
 sized_unbegun c w value input at few = λ b after is d.
     let (content, fits, s, v) = sized_in c w value b at (value_in c b (sized_primitive c w value at) d) in
-    omega (arith, few, ap length is, length-append b after, ap length s, length-append (bytes_high_first w (length content)) content,
-    length-bytes w (length content))
+    omega (
+      arith,
+      few,
+      ap length is,
+      length-append b after,
+      ap length s,
+      length-append (bytes_high_first w (length content)) content,
+      length-bytes w (length content),
+    )
 
 pub sized_none : (c w n : ℕ) (value : List ℕ → Option Primitive) (input : List ℕ) → format c ≡ variable w value → IsFront (IsNumber w n) input w
     → length (drop w input) < n → NoFront (AnyData c) input

@@ -1,10 +1,10 @@
 -- Steps that lead further in.
-use Rattle.std.proofs.Common.{◌≡◌, ℕ, zero, suc, ◌+◌, ◌-◌, ◌<◌, ◌≤◌, List, [], ◌∷◌, ◌++◌, length, take, drop, get_or, Option, Some, None, refl, sym, ap, ap₂, ◌∙◌, subst, arith}
+use Rattle.std.proofs.Common.{◌≡◌, ℕ, suc, ◌+◌, ◌-◌, ◌<◌, ◌≤◌, List, [], ◌∷◌, ◌++◌, length, take, drop, get_or, Option, Some, None, refl, sym, ap, ap₂, ◌∙◌, subst, arith}
 use Rattle.std.specs.Option.{MatchOption}
 use Rattle.std.proofs.lemmas.List.{take-append-drop, length-append, length-drop}
 use Rattle.amqp_model.specs.Term.{Container, array, Descriptor}
 use Rattle.amqp_model.specs.Constructors.{compound, format}
-use Rattle.amqp_model.specs.Spelling.{IsKnown, Constructor}
+use Rattle.amqp_model.specs.Spelling.{IsKnown}
 use Rattle.amqp_lengths.proofs.Fronts.{tail_all}
 use Rattle.amqp_lengths.specs.Fronts.{IsFront, Behind}
 use Rattle.amqp_lengths.specs.Pieces.{NamesAny}
@@ -23,7 +23,7 @@ use Rattle.amqp_paths.specs.declared.steps.Further.{Further}
 use Rattle.amqp_paths.specs.Pieces.{container_of, IsPiece, rank}
 use Rattle.amqp_paths.specs.Steps.{Among, IsMark, NoneWithin, HasContent, IsItem, IsPart, IsElement, NoContentWithin, Reaches, StepsTo, StepsBeyond}
 use Rattle.amqp_paths.proofs.Containers.{content_place}
-use Rattle.amqp_paths.proofs.Among.{among_length, among_all, among_tail, among_inner, among_after, front_behind}
+use Rattle.amqp_paths.proofs.Among.{among_length, among_tail, among_inner, among_after, front_behind}
 
 -- where one step leads
 abbrev Goes : (stands.Piece → List ℕ → Type 0) → Piece → List ℕ → ℕ → Type 0

@@ -1,6 +1,6 @@
 -- Descriptors and constructors before a place.
 use Rattle.std.proofs.Common.{◌≡◌, ℕ, zero, suc, ◌+◌, ◌-◌, ◌<◌, ◌≤◌, inl, inr, List, [], ◌∷◌, ◌++◌, length, take, drop, Result, Ok, Err, IfOk, IfErr}
-use Rattle.std.proofs.Common.{Option, Some, None, unwrap_or, refl, sym, ap, ◌∙◌, subst, subst₂, arith, append_assoc, append-nil}
+use Rattle.std.proofs.Common.{Option, Some, unwrap_or, refl, sym, ap, ◌∙◌, subst, subst₂, arith, append_assoc, append-nil}
 use Rattle.std.specs.Prelude.{MatchOption}
 use Rattle.std.specs.Result.{result_ok}
 use Rattle.std.proofs.lemmas.List.{take-append-drop, length-append, length-drop, length-take-le}
@@ -9,11 +9,11 @@ use Rattle.amqp_model.proofs.Bytes.{front}
 use Rattle.amqp_wire.specs.declared.error.Error.{Error}
 use Rattle.amqp_model.specs.Term.{Primitive, Term, leaf, Descriptor}
 use Rattle.amqp_model.specs.Constructors.{Format, fixed, variable, compound, unknown, format}
-use Rattle.amqp_model.specs.Spelling.{IsKnown, PrimitiveData, descriptor_value, Names, Constructor, IsDataOf, IsSpelling}
+use Rattle.amqp_model.specs.Spelling.{IsKnown, PrimitiveData, descriptor_value, Constructor, IsDataOf, IsSpelling}
 use Rattle.amqp_model.specs.Measures.{nest}
 use Rattle.amqp_model.proofs.Same.{names_same}
 use Rattle.amqp_lengths.specs.Fronts.{IsFront, NoFront}
-use Rattle.amqp_lengths.specs.Pieces.{IsPrimitive, PrimitiveOf, NamesAny, IsDescriptorCode}
+use Rattle.amqp_lengths.specs.Pieces.{IsPrimitive, NamesAny, IsDescriptorCode}
 use Rattle.amqp_lengths.specs.Announced.{IsAnnounced}
 use Rattle.amqp_lengths.specs.Lengths.{Marks, HasMarks, IsTerm}
 use Rattle.amqp_lengths.proofs.Announced.{announced_data}

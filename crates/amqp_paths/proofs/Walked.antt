@@ -1,8 +1,7 @@
 -- Paths from the input as a value.
-use Rattle.std.proofs.Common.{◌≡◌, ℕ, suc, ◌+◌, ◌-◌, ◌≤◌, List, length, take, drop, refl, sym, ap, ◌∙◌, subst, arith}
+use Rattle.std.proofs.Common.{◌≡◌, ℕ, ◌+◌, ◌-◌, ◌≤◌, List, length, take, drop, refl, sym, ap, subst, arith}
 use Rattle.amqp_lengths.specs.Stands as stands
 use Rattle.amqp_lengths.specs.Stands.{a_value, Around, unbounded, outermost, Step, Leads, no_step, steps}
-use Rattle.amqp_paths.specs.declared.piece.Node.{Node}
 use Rattle.amqp_paths.specs.declared.piece.Piece.TheVariants.{Value}
 use Rattle.amqp_paths.specs.declared.path.Reached.{Reached}
 use Rattle.amqp_paths.specs.declared.steps.Further.{Further}

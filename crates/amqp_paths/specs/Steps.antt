@@ -1,11 +1,11 @@
 -- From what begins at a place to what is next further in.
-use Rattle.std.specs.Prelude.{◌≡◌, ℕ, true, ◌≤◌, ◌<◌, ◌+◌, ◌-◌, List, [], ◌∷◌, ◌++◌, length, drop}
+use Rattle.std.specs.Prelude.{◌≡◌, ℕ, true, ◌≤◌, ◌<◌, ◌+◌, ◌-◌, List, ◌∷◌, ◌++◌, length}
 use Rattle.amqp_model.specs.Term.{Container, array}
 use Rattle.amqp_model.specs.Constructors.{compound, format}
 use Rattle.amqp_model.specs.Spelling.{IsKnown, HasWidthZero}
 use Rattle.amqp_lengths.specs.Fronts.{IsFront}
 use Rattle.amqp_lengths.specs.Pieces.{IsPrimitive, NamesAny}
-use Rattle.amqp_lengths.specs.Lengths.{HasMarks, Constructs, IsTerm, Row, HasPairs}
+use Rattle.amqp_lengths.specs.Lengths.{IsTerm, Row, HasPairs}
 use Rattle.amqp_lengths.specs.Contents.{IsContent}
 use Rattle.amqp_lengths.specs.Stands as stands
 use Rattle.amqp_lengths.specs.Stands.{Around, whole_one, IsUnder, AnyTerm, AnyData, Contains, Step}
@@ -15,7 +15,7 @@ use Rattle.amqp_paths.specs.declared.piece.ContainerKind.TheVariants.{Array}
 use Rattle.amqp_paths.specs.declared.piece.Piece.{Piece}
 use Rattle.amqp_paths.specs.declared.piece.Piece.TheVariants.{Descriptor, Item, ArrayContent, ElementConstructor, Element, End}
 use Rattle.amqp_paths.specs.declared.steps.Further.{Further}
-use Rattle.amqp_paths.specs.Pieces.{container_of, IsPiece}
+use Rattle.amqp_paths.specs.Pieces.{IsPiece}
 
 -- Some bytes among others, of which so many are before them and so many behind them.
 pub record Among (all part : List ℕ) (before behind : ℕ) : Type 0 where

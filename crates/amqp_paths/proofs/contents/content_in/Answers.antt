@@ -3,7 +3,7 @@ use Rattle.amqp_lengths.specs.Fronts.{IsFront}
 use Rattle.amqp_lengths.specs.Pieces.{IsNumber}
 use Rattle.amqp_lengths.proofs.Fronts.{tail_all}
 use Rattle.amqp_paths.specs.Pieces.{container_of}
-use Rattle.amqp_paths.proofs.Containers.{content_found, content_ends, content_none, content_place, no_content}
+use Rattle.amqp_paths.proofs.Containers.{content_found, content_ends, content_none}
 use Rattle.amqp_paths.proofs.contents.content_in.Goals as goal
 
 pub returns-clause-content : goal.returns-clause-content

@@ -1,4 +1,4 @@
-use Rattle.std.proofs.Common.{◌-◌, length, take, drop, subst, arith}
+use Rattle.std.proofs.Common.{subst, arith}
 use Rattle.std.proofs.lemmas.List.{length-drop}
 use Rattle.amqp_lengths.specs.Fronts.{IsFront}
 use Rattle.amqp_lengths.proofs.Fronts.{tail_all}

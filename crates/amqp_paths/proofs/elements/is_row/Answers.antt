@@ -1,4 +1,4 @@
-use Rattle.std.proofs.Common.{◌-◌, take, drop, subst, arith}
+use Rattle.std.proofs.Common.{subst, arith}
 use Rattle.amqp_lengths.specs.Lengths.{IsTerm, Row}
 use Rattle.amqp_paths.specs.Pieces.{container_of}
 use Rattle.amqp_paths.proofs.Among.{among_slice}

@@ -4,7 +4,6 @@ use Rattle.amqp_lengths.specs.Lengths.{Constructs}
 use Rattle.amqp_lengths.proofs.Fronts.{tail_is, tail_all}
 use Rattle.amqp_lengths.proofs.Descriptors.{ended}
 use Rattle.amqp_paths.specs.Steps.{IsElement, Reaches}
-use Rattle.amqp_paths.specs.declared.piece.Piece.TheVariants.{ElementConstructor}
 use Rattle.amqp_paths.proofs.Furthers.{code_steps, element_steps, element_falls, known_some, code_reaches}
 use Rattle.amqp_paths.proofs.elements.part_within.Goals as goal
 

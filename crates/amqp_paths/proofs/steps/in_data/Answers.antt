@@ -1,5 +1,4 @@
-use Rattle.std.proofs.Common.{◌≡◌, ◌+◌, ◌-◌, take, drop, sym, subst, arith}
-use Rattle.amqp_paths.specs.Steps.{IsPart}
+use Rattle.std.proofs.Common.{◌≡◌, ◌-◌, take, drop, sym, arith}
 use Rattle.amqp_paths.proofs.Among.{among_slice}
 use Rattle.amqp_paths.proofs.Furthers.{content_step, part_falls}
 use Rattle.amqp_paths.proofs.steps.in_data.Goals as goal

@@ -1,4 +1,4 @@
-use Rattle.std.proofs.Common.{◌≡◌, ◌+◌, ◌∷◌, sym, ◌∙◌, subst, arith}
+use Rattle.std.proofs.Common.{◌≡◌, sym, ◌∙◌, subst, arith}
 use Rattle.amqp_lengths.specs.Stands.{a_descriptor, IsUnder, IsOwn}
 use Rattle.amqp_paths.specs.Steps.{StepsTo, StepsBeyond}
 use Rattle.amqp_paths.proofs.Furthers.{HasHead, head_beyond, steps_after, none_answered}

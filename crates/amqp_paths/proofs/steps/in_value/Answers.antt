@@ -1,4 +1,4 @@
-use Rattle.std.proofs.Common.{◌≡◌, ◌+◌, ◌∷◌, sym, ap, ◌∙◌, subst, arith}
+use Rattle.std.proofs.Common.{◌≡◌, ◌∷◌, ap, ◌∙◌, arith}
 use Rattle.amqp_lengths.specs.Stands.{IsOwn, IsUnder}
 use Rattle.amqp_paths.specs.Steps.{StepsTo, StepsBeyond}
 use Rattle.amqp_paths.proofs.Furthers.{own_head, own_under, head_beyond, steps_after, none_answered}
