@@ -1,6 +1,8 @@
 -- Paths from the input as a value.
 use Rattle.std.proofs.Common.{◌≡◌, ℕ, ◌+◌, ◌-◌, ◌≤◌, List, length, take, drop, refl, sym, ap, subst, arith}
+use Rattle.amqp_wire.specs.declared.error.Error.{Error}
 use Rattle.amqp_lengths.specs.Stands as stands
+use Rattle.amqp_lengths.specs.Stands.{IsWrong, StandsAt}
 use Rattle.amqp_lengths.specs.Stands.{a_value, Around, unbounded, outermost, Step, Leads, no_step, steps}
 use Rattle.amqp_paths.specs.declared.piece.Piece.TheVariants.{Value}
 use Rattle.amqp_paths.specs.declared.path.Reached.{Reached}
@@ -75,3 +77,21 @@ reached_on input slice at r f h same s low =
       inner = all;
       leads = leads;
     }
+
+-- an error that is right of what begins at a node
+pub node_stands : (input : List ℕ) (at : ℕ) (r : Reached) (e : Error) (h : IsReached input at r) → IsWrong e h.inner h.piece h.depth h.bytes
+    → StandsAt input e r.node.at
+node_stands input at r e h wrong = (
+  length h.bytes + h.behind,
+  omega (arith, among_length input h.bytes r.node.at h.behind h.part),
+  record {
+    piece = h.piece;
+    depth = h.depth;
+    bytes = h.bytes;
+    inner = h.inner;
+    behind = h.behind;
+    leads = h.leads;
+    place = refl;
+    wrong = wrong;
+  },
+)

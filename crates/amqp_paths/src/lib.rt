@@ -8,6 +8,7 @@ mod descriptors;
 mod elements;
 mod heads;
 mod items;
+pub mod laws;
 mod path;
 mod piece;
 mod steps;
