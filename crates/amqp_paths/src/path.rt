@@ -53,7 +53,12 @@ impl<'a> Model for Path<'a> {
 }
 
 /// Returns the path to the place `at` in the encoded value at the start of the input (Part 1, sections 1.2 and 1.6): the nodes around the
-/// place, from the outside in. It begins with the value itself. The bytes at the place and behind it need not be well formed.
+/// place, from the outside in. It begins with the value itself. The bytes at the place and behind it need not be well formed. The call
+/// doesn't allocate, and neither does the iterator.
+///
+/// Where a value ends, another may begin. The path leads past the values that are whole and end at the place or before it, so it leads to
+/// what begins there. If what is before the place isn't well formed, or nests more than 128 deep, the path leads into that, and may end
+/// before the place. So it does if an item of an array is behind items that are arrays themselves: the path leads into the first of them.
 pub fn path_of(input: &[u8], at: usize) -> Path<'_>
     ensures input { result.input ≡ input.now }
     ensures place { result.at ≡ at }
