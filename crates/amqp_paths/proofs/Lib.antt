@@ -1,0 +1,6 @@
+mod Containers
+mod Named
+mod Among
+mod Furthers
+mod Datas
+mod Walked

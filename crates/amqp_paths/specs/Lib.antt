@@ -1,0 +1,3 @@
+pub mod Pieces
+pub mod Steps
+pub mod Walks
