@@ -8,7 +8,7 @@ ghost use Rattle.amqp_model.specs.Term.{name as of_name};
 ghost use Rattle.amqp_wire.specs.Sources.{Tells};
 ghost use Rattle.amqp_wire.specs.Codes.{refusal_of};
 ghost use Rattle.amqp_lookahead.specs.Members.{place_of as place_in};
-ghost use Rattle.amqp_decoder.specs.State.{after_bytes, descriptor_of};
+ghost use Rattle.amqp_decoder.specs.State.{refused_at, after_bytes, descriptor_of};
 ghost use Rattle.amqp_decoder.specs.Steps.{Answers, Fails, Goes, Tries};
 ghost use Rattle.amqp_decoder.specs.Reading.{ReadsCode};
 ghost use Rattle.amqp_decoder.specs.Primitives.{AnswersFault};
@@ -49,7 +49,7 @@ impl<R: ByteSource> Decoder<R> {
     #[cold]
     pub(crate) fn refuse_descriptor(&mut self, code: u8) -> Error
         ensures answer { result ≡ other_kind (refusal_of code) }
-        ensures kept { self.new ≡ record self.old { error = Some result } }
+        ensures kept { self.new ≡ refused_at result self.new.source.fault self.old }
         ensures fails { Fails false self.old result self.new }
     {
         match format_code::refusal(code) {

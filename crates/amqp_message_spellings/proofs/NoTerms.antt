@@ -10,7 +10,7 @@ use Rattle.amqp_decoder.specs.Described.{OpenFault}
 use Rattle.amqp_decoder.specs.Misspelled.{IsMisspelling}
 use Rattle.amqp_decoder.specs.OtherSource.{elsewhere, Setting, under, IsByDepth}
 use Rattle.amqp_decoder.specs.Reading.{BeginFault}
-use Rattle.amqp_decoder.specs.State.{Course, Open, State}
+use Rattle.amqp_decoder.specs.State.{Source, Course, Open, State}
 use Rattle.amqp_decoder.specs.laws.OtherSource.{begin_fault, open_described_fault}
 use Rattle.amqp_codec.specs.Faults.{Faults}
 use Rattle.amqp_codec.specs.Reading.{looking, AreAlike, start}
@@ -49,7 +49,7 @@ so_by_depth Depth h = refl
 so_by_depth Limit h = refl
 so_by_depth _ h = absurd h
 
-module _ (fs : Faults) (ahead source : ℕ) (broken : Bool) (input : List ℕ) (e : Error) where
+module _ (fs : Faults) (ahead : ℕ) (source : Source) (broken : Bool) (input : List ℕ) (e : Error) where
   abbrev here : State
   here = elsewhere source broken (looking ahead (start input))
 
@@ -57,7 +57,7 @@ module _ (fs : Faults) (ahead source : ℕ) (broken : Bool) (input : List ℕ) (
   no_term_here f i b more t is s bound = by (is_by_depth e) refl
     where
       deeper : Setting
-      deeper = record { source = 0; deepen = λ n. max n (nest t); grows = λ n. omega arith; free = true; lift = true; course = λ f. f }
+      deeper = record { source = source; deepen = λ n. max n (nest t); grows = λ n. omega arith; free = true; lift = true; course = λ f. f }
 
       by : (d : Bool) → is_by_depth e ≡ d → ⊥
       by true d =

@@ -3,7 +3,7 @@ ghost use Rattle.std.specs.Prelude.{◌≡◌, ◌⊎◌, ℕ, List, [], true, f
 ghost use Rattle.amqp_wire.specs.declared.error.Error.TheVariants.{Memory, Limit};
 ghost use Rattle.amqp_wire.specs.Sources.{known, Tells};
 ghost use Rattle.amqp_wire.specs.Limits.{limit_of};
-ghost use Rattle.amqp_decoder.specs.State.{Has};
+ghost use Rattle.amqp_decoder.specs.State.{Has, fresh_source};
 ghost use Rattle.amqp_decoder.specs.Reserve.{Leaves};
 ghost use Rattle.amqp_decoder.specs.OtherSource.{elsewhere};
 ghost use Rattle.amqp_read_write.specs.Reserved.{reserved, IsRestOf};
@@ -150,7 +150,8 @@ fn decoder_for<T: Deserialize, R: ByteSource>(
     requires { Tells R.remaining → T.reading.one_term ≡ true
         → Leaves R.reserve (limit_of limits.now.bytes) (length (known (R.remaining source))) }
     ensures { result ≡ apart T.reading.one_term
-        (elsewhere (R.name source) (R.failed source) (start_within limits.now (known (R.remaining source)))) }
+        (elsewhere (fresh_source (R.name source) (known (R.remaining source))) (R.failed source)
+        (start_within limits.now (known (R.remaining source)))) }
 {
     if T::is_one_term() {
         decoder_of_term(source, limits, alloc)

@@ -4,7 +4,7 @@ ghost use Rattle.std.specs.Int.{bytes_high_first};
 ghost use Rattle.amqp_wire.specs.Codes.{refusal_of};
 ghost use Rattle.amqp_wire.specs.declared.error.Error.TheVariants.{Memory};
 ghost use Rattle.amqp_wire.specs.Sources.{Tells};
-ghost use Rattle.amqp_decoder.specs.State.{after_bytes, announced, bound_of, holding, Has, lower};
+ghost use Rattle.amqp_decoder.specs.State.{refused_at, after_bytes, announced, bound_of, holding, Has, lower};
 ghost use Rattle.amqp_decoder.specs.declared.frame.Place.TheVariants.{InList};
 ghost use Rattle.amqp_decoder.specs.Reserve.{Spares};
 ghost use Rattle.amqp_decoder.specs.Steps.{Answers, Pulls, Misses, Takes, FallsShort, RefusesSize, NoRoom, Stops, Fails, Goes, GoesOn};
@@ -227,7 +227,7 @@ impl<R: ByteSource> Decoder<R> {
     #[cold]
     pub(crate) fn refuse_code(&mut self, code: u8) -> Error
         ensures answer { result ≡ refusal_of code }
-        ensures kept { self.new ≡ record self.old { error = Some result } }
+        ensures kept { self.new ≡ refused_at result self.new.source.fault self.old }
         ensures fails { Fails false self.old result self.new }
     {
         self.stop(format_code::refusal(code))

@@ -5,7 +5,7 @@ ghost use Rattle.amqp_model.specs.Spelling.{IsSpelling};
 ghost use Rattle.amqp_model.specs.Measures.{nest, share, weight};
 ghost use Rattle.amqp_wire.specs.Limits.{unlimited};
 ghost use Rattle.amqp_wire.specs.declared.error.Error.TheVariants.{Limit};
-ghost use Rattle.amqp_decoder.specs.State.{Has, lower, counted, counted_in, descriptor_of};
+ghost use Rattle.amqp_decoder.specs.State.{refused_at, Has, lower, counted, counted_in, descriptor_of};
 ghost use Rattle.amqp_decoder.specs.Steps.{Goes, GoesOn};
 
 use super::Decoder;
@@ -82,7 +82,7 @@ impl<R: ByteSource> Decoder<R> {
     // What begins weighs so much, if it may begin.
     fn count_weight(&mut self, count: u64) -> Result<(), Error>
         ensures ok { IfOk result (λ _. Has self.old.quota count × (self.new ≡ record self.old { quota = lower self.old.quota count })) }
-        ensures err { IfErr result (λ e. (Has self.old.quota count → ⊥) × (e ≡ Limit) × (self.new ≡ record self.old { error = Some Limit })) }
+        ensures err { IfErr result (λ e. (Has self.old.quota count → ⊥) × (e ≡ Limit) × (self.new ≡ refused_at Limit self.new.source.fault self.old)) }
         ensures goes { Goes false self.old result self.new }
     {
         if self.passes_items(count) {
@@ -97,7 +97,7 @@ impl<R: ByteSource> Decoder<R> {
     pub(super) fn check_count(&mut self, code: u8) -> Result<u8, Error>
         ensures ok { IfOk result (λ c. (c ≡ code) × Has self.old.quota (counted_in self.old.top.shared code) × (self.new ≡ self.old)) }
         ensures err { IfErr result (λ e. (Has self.old.quota (counted_in self.old.top.shared code) → ⊥) × (e ≡ Limit)
-            × (self.new ≡ record self.old { error = Some Limit })) }
+            × (self.new ≡ refused_at Limit self.new.source.fault self.old)) }
         ensures goes { Goes false self.old result self.new }
     {
         if !self.is_unlimited() && self.passes_items(self.weight_begun(code)) {
@@ -112,7 +112,7 @@ impl<R: ByteSource> Decoder<R> {
         ensures ok { IfOk result (λ _. Has self.old.quota (counted_in self.old.top.shared code)
             × (self.new ≡ record self.old { quota = lower self.old.quota (counted_in self.old.top.shared code) })) }
         ensures err { IfErr result (λ e. (Has self.old.quota (counted_in self.old.top.shared code) → ⊥) × (e ≡ Limit)
-            × (self.new ≡ record self.old { error = Some Limit })) }
+            × (self.new ≡ refused_at Limit self.new.source.fault self.old)) }
         ensures goes { Goes false self.old result self.new }
     {
         if self.is_unlimited() {
@@ -140,7 +140,7 @@ impl<R: ByteSource> Decoder<R> {
             × (self.new ≡ record self.old { quota = lower self.old.quota (weight t false) })) }
         ensures err { (t : Term) → IsSpelling bytes.now t → nest t ≤ 128 → IfErr result (λ e. (Has self.old.quota (weight t false) → ⊥)
             × (e ≡ Limit)
-            × (self.new ≡ record self.old { error = Some Limit })) }
+            × (self.new ≡ refused_at Limit self.new.source.fault self.old)) }
         ensures goes { Goes false self.old result self.new }
     {
         if self.is_unlimited() {

@@ -3,7 +3,7 @@ ghost use Rattle.std.specs.Prelude.{◌≤◌, ◌≡◌, ◌<◌, ◌-◌, List
 ghost use Rattle.amqp_wire.specs.Sources.{Tells};
 ghost use Rattle.amqp_decoder.specs.Containers.{AtEnd, EndFault};
 ghost use Rattle.amqp_decoder.specs.Described.{in_described};
-ghost use Rattle.amqp_decoder.specs.State.{Open, bound_of, depth_error, holding, IsContainer};
+ghost use Rattle.amqp_decoder.specs.State.{refused_at, Open, bound_of, depth_error, holding, IsContainer};
 ghost use Rattle.amqp_wire.specs.declared.error.Error.TheVariants.{Limit};
 ghost use Rattle.amqp_decoder.specs.declared.frame.Place.TheVariants.{InDescribed};
 ghost use Rattle.amqp_decoder.specs.Reading.{AnswersRead};
@@ -60,7 +60,7 @@ impl<R: ByteSource> Decoder<R> {
     #[cold]
     pub(crate) fn refuse_depth(&mut self) -> Error
         ensures answer { result ≡ depth_error self.old.nesting }
-        ensures kept { self.new ≡ record self.old { error = Some (depth_error self.old.nesting) } }
+        ensures kept { self.new ≡ refused_at (depth_error self.old.nesting) self.new.source.fault self.old }
         ensures fails { Fails false self.old result self.new }
     {
         let error = self.depth_error();
@@ -76,7 +76,7 @@ impl<R: ByteSource> Decoder<R> {
         ensures ok { IfOk result (λ _. (length self.old.saved ≤ self.old.nesting)
             × (self.new ≡ record self.old { top = holding place items content; saved = self.old.top ∷ self.old.saved })) }
         ensures err { IfErr result (λ e. (e ≡ depth_error self.old.nesting) × (self.old.nesting < length self.old.saved)
-            × (self.new ≡ record self.old { error = Some (depth_error self.old.nesting) })) }
+            × (self.new ≡ refused_at (depth_error self.old.nesting) self.new.source.fault self.old)) }
         ensures goes { Goes false self.old result self.new }
     {
         if self.depth > self.nesting {
@@ -109,7 +109,7 @@ impl<R: ByteSource> Decoder<R> {
         ensures ok { IfOk result (λ _. (length self.old.saved < self.old.nesting)
             × (self.new ≡ record self.old { top = holding place items content; saved = self.old.top ∷ self.old.saved })) }
         ensures err { IfErr result (λ e. (e ≡ depth_error self.old.nesting) × (self.old.nesting ≤ length self.old.saved)
-            × (self.new ≡ record self.old { error = Some (depth_error self.old.nesting) })) }
+            × (self.new ≡ refused_at (depth_error self.old.nesting) self.new.source.fault self.old)) }
         ensures goes { Goes false self.old result self.new }
     {
         if self.depth >= self.nesting {
@@ -123,7 +123,7 @@ impl<R: ByteSource> Decoder<R> {
     pub(crate) fn check_items(&mut self, is_flat: bool) -> Result<(), Error>
         ensures ok { IfOk result (λ _. ((is_flat ≡ true) ⊎ (length self.old.saved ≤ self.old.nesting)) × (self.new ≡ self.old)) }
         ensures err { IfErr result (λ e. (is_flat ≡ false) × (e ≡ depth_error self.old.nesting) × (self.old.nesting < length self.old.saved)
-            × (self.new ≡ record self.old { error = Some (depth_error self.old.nesting) })) }
+            × (self.new ≡ refused_at (depth_error self.old.nesting) self.new.source.fault self.old)) }
         ensures goes { Goes false self.old result self.new }
     {
         if is_flat {
@@ -140,7 +140,7 @@ impl<R: ByteSource> Decoder<R> {
     pub(crate) fn enter_described(&mut self) -> Result<(), Error>
         ensures ok { IfOk result (λ _. (length self.old.saved < self.old.nesting) × (self.new ≡ in_described self.old)) }
         ensures err { IfErr result (λ e. (e ≡ depth_error self.old.nesting) × (self.old.nesting ≤ length self.old.saved)
-            × (self.new ≡ record self.old { error = Some (depth_error self.old.nesting) })) }
+            × (self.new ≡ refused_at (depth_error self.old.nesting) self.new.source.fault self.old)) }
         ensures nesting { self.old.nesting ≤ 128 }
         ensures goes { Goes false self.old result self.new }
     {
