@@ -11,7 +11,6 @@ use Rattle.amqp_wire.specs.declared.limits.Limits.{Limits}
 use Rattle.amqp_wire.specs.Limits.{unlimited, limit_of}
 use Rattle.amqp_wire.specs.declared.descriptor.Descriptor.{Descriptor as DescriptorValue}
 pub use Rattle.amqp_lookahead.specs.Members.{descriptor_of}
-
 use Rattle.amqp_decoder.specs.declared.frame.OpenContainer.{OpenContainer}
 use Rattle.amqp_decoder.specs.declared.frame.Place.{Place}
 use Rattle.amqp_decoder.specs.declared.frame.Place.TheVariants.{Top, InArray, InDescribed, InList, InMap}

@@ -65,8 +65,12 @@ impl<R: ByteSource> Model for Input<R> {
 impl<R: ByteSource> Input<R> {
     /// Returns the source's bytes, none of which was looked at.
     pub fn new(source: R) -> Self
-        ensures { result ≡ record { rest = known (R.remaining source); ahead = 0;
-            source = origin_of (R.name source) (known (R.remaining source)); failed = R.failed source } }
+        ensures { result ≡ record {
+          rest = known (R.remaining source);
+          ahead = 0;
+          source = origin_of (R.name source) (known (R.remaining source));
+          failed = R.failed source;
+        } }
     {
         let unseen = match source.at_hand() {
             Some(bytes) => bytes.len(),
