@@ -12,6 +12,7 @@ mod bytes;
 mod counts;
 mod items;
 mod nesting;
+mod places;
 mod quick;
 mod sections;
 mod shared;

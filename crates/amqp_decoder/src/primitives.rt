@@ -9,6 +9,7 @@ ghost use Rattle.amqp_decoder.specs.Primitives.{LacksDataOf};
 ghost use Rattle.amqp_lookahead.specs.Kinds.{kind_at, nulls, booleans, ubytes, ushorts, uints, ulongs, bytes, shorts, ints, longs, decimals32};
 ghost use Rattle.amqp_lookahead.specs.Kinds.{decimals64, decimals128, chars, timestamps, uuids};
 ghost use Rattle.amqp_decoder.specs.Steps.{Began, Goes, Tries};
+ghost use Rattle.amqp_decoder.specs.Places.{StandsHere};
 
 use crate::Decoder;
 use amqp_wire::{ByteSource, Error, format_code};
@@ -17,6 +18,20 @@ impl<R: ByteSource> Decoder<R> {
     // The data of a value that has one constructor.
     #[inline]
     fn fixed<const N: usize>(&mut self, code: u8) -> Result<[u8; N], Error>
+        requires { N < 256 }
+        ensures ok { Tells R.remaining → IfOk result (λ b. ReadsFixed code N self.old b self.new) }
+        ensures err { Tells R.remaining → IfErr result (λ e. AnswersFault false (FixedFault code N) self.old e self.new) }
+        ensures tries { Tries false self.old result self.new }
+        ensures place { IfErr result (λ _. StandsHere self.old self.new) }
+    {
+        let start = self.start();
+        let answer = self.fixed_data(code);
+        self.placed(start, answer)
+    }
+
+    // The same, wherever it refuses.
+    #[inline(always)]
+    fn fixed_data<const N: usize>(&mut self, code: u8) -> Result<[u8; N], Error>
         requires { N < 256 }
         ensures ok { Tells R.remaining → IfOk result (λ b. ReadsFixed code N self.old b self.new) }
         ensures err { Tells R.remaining → IfErr result (λ e. AnswersFault false (FixedFault code N) self.old e self.new) }

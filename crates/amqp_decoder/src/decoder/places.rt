@@ -1,0 +1,33 @@
+//! Where in the input a call refuses.
+ghost use Rattle.std.specs.Prelude.{◌≡◌};
+ghost use Rattle.amqp_decoder.specs.Places.{Starts, placed};
+
+use super::Decoder;
+use amqp_wire::{ByteSource, Error};
+
+impl<R: ByteSource> Decoder<R> {
+    // Where a call begins: how many bytes of the input are before it, as a number of 64 bits. Nowhere, if the decoder has refused.
+    #[inline(always)]
+    pub(crate) fn start(&self) -> Option<u64>
+        ensures { Starts result self.now }
+    {
+        match self.error {
+            Some(_) => None,
+            None => Some(self.input.place()),
+        }
+    }
+
+    // The answer of a call that began there: what it refuses stands there.
+    #[inline(always)]
+    pub(crate) fn placed<T>(&mut self, start: Option<u64>, answer: Result<T, Error>) -> Result<T, Error>
+        ensures same { result ≡ answer }
+        ensures kept { self.new ≡ placed start answer self.old }
+    {
+        if let Some(place) = start
+            && answer.is_err()
+        {
+            self.fault = place;
+        }
+        answer
+    }
+}
