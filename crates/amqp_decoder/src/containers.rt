@@ -3,6 +3,7 @@ ghost use Rattle.std.specs.Prelude.{◌≡◌, ◌<◌, ◌↔◌, IsTrue, cond,
 ghost use Rattle.amqp_model.specs.Term.{list, map};
 ghost use Rattle.amqp_wire.specs.Sources.{Tells};
 ghost use Rattle.amqp_decoder.specs.State.{Has, IsContainer, in_container};
+ghost use Rattle.amqp_decoder.specs.Places.{StandsHere};
 ghost use Rattle.amqp_decoder.specs.Steps.{Stops, Goes, Tries};
 ghost use Rattle.amqp_decoder.specs.declared.frame.Place.TheVariants.{InList, InMap};
 ghost use Rattle.amqp_decoder.specs.Reading.{AnswersRead};
@@ -97,6 +98,18 @@ impl<R: ByteSource> Decoder<R> {
     pub fn begin_list(&mut self) -> Result<u32, Error>
         ensures read { Tells R.remaining → AnswersRead false (Opens list) (OpenFault list) self.old result self.new }
         ensures tries { Tries false self.old result self.new }
+        ensures place { IfErr result (λ _. StandsHere self.old self.new) }
+    {
+        let start = self.start();
+        let answer = self.any_list();
+        self.placed(start, answer)
+    }
+
+    // The same, wherever it refuses.
+    #[inline]
+    fn any_list(&mut self) -> Result<u32, Error>
+        ensures read { Tells R.remaining → AnswersRead false (Opens list) (OpenFault list) self.old result self.new }
+        ensures tries { Tries false self.old result self.new }
     {
         match self.begin()? {
             format_code::LIST_0 => self.open(Place::InList, 0, 0),
@@ -110,6 +123,18 @@ impl<R: ByteSource> Decoder<R> {
     /// if the number is odd.
     #[inline]
     pub fn begin_map(&mut self) -> Result<u32, Error>
+        ensures read { Tells R.remaining → AnswersRead false (Opens map) (OpenFault map) self.old result self.new }
+        ensures tries { Tries false self.old result self.new }
+        ensures place { IfErr result (λ _. StandsHere self.old self.new) }
+    {
+        let start = self.start();
+        let answer = self.any_map();
+        self.placed(start, answer)
+    }
+
+    // The same, wherever it refuses.
+    #[inline]
+    fn any_map(&mut self) -> Result<u32, Error>
         ensures read { Tells R.remaining → AnswersRead false (Opens map) (OpenFault map) self.old result self.new }
         ensures tries { Tries false self.old result self.new }
     {

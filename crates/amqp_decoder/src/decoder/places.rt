@@ -19,7 +19,11 @@ impl<R: ByteSource> Decoder<R> {
 
     // The answer of a call that began there: what it refuses stands there.
     #[inline(always)]
-    pub(crate) fn placed<T>(&mut self, start: Option<u64>, answer: Result<T, Error>) -> Result<T, Error>
+    pub(crate) fn placed<T>(
+        &mut self,
+        start: Option<u64>,
+        answer: Result<T, Error>,
+    ) -> Result<T, Error>
         ensures same { result ≡ answer }
         ensures kept { self.new ≡ placed start answer self.old }
     {
