@@ -9,6 +9,7 @@ ghost use Rattle.amqp_wire.specs.declared.descriptor.Descriptor.{Descriptor as D
 ghost use Rattle.amqp_wire.specs.declared.error.Error.TheVariants.{Depth};
 ghost use Rattle.amqp_decoder.specs.declared.frame.Place.TheVariants.{InArray};
 ghost use Rattle.amqp_decoder.specs.State.{depth_error, Has, descriptor_of, in_container};
+ghost use Rattle.amqp_decoder.specs.Places.{StandsHere};
 ghost use Rattle.amqp_decoder.specs.Steps.{Answers, NoRoom, Stops, Goes, Tries};
 ghost use Rattle.amqp_decoder.specs.Reading.{AnswersRead};
 ghost use Rattle.amqp_decoder.specs.Containers.{Closes, CloseFault};
@@ -161,6 +162,7 @@ impl<R: ByteSource> Decoder<R> {
     pub fn end_array(&mut self) -> Result<(), Error>
         ensures read { Tells R.remaining → AnswersRead false (λ st _ st'. Closes InArray st st') (CloseFault InArray) self.old result self.new }
         ensures tries { Tries false self.old result self.new }
+        ensures place { IfErr result (λ _. StandsHere self.old self.new) }
     {
         self.check_end(Place::InArray)?;
         self.check_bytes()?;

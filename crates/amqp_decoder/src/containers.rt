@@ -150,6 +150,7 @@ impl<R: ByteSource> Decoder<R> {
     fn close(&mut self, place: Place) -> Result<(), Error>
         ensures read { Tells R.remaining → AnswersRead false (λ st _ st'. Closes place st st') (CloseFault place) self.old result self.new }
         ensures tries { Tries false self.old result self.new }
+        ensures place { IfErr result (λ _. StandsHere self.old self.new) }
     {
         self.check_end(place)?;
         self.check_bytes()?;
@@ -162,6 +163,7 @@ impl<R: ByteSource> Decoder<R> {
     pub fn end_list(&mut self) -> Result<(), Error>
         ensures read { Tells R.remaining → AnswersRead false (λ st _ st'. Closes InList st st') (CloseFault InList) self.old result self.new }
         ensures tries { Tries false self.old result self.new }
+        ensures place { IfErr result (λ _. StandsHere self.old self.new) }
     {
         self.close(Place::InList)
     }
@@ -171,6 +173,7 @@ impl<R: ByteSource> Decoder<R> {
     pub fn end_map(&mut self) -> Result<(), Error>
         ensures read { Tells R.remaining → AnswersRead false (λ st _ st'. Closes InMap st st') (CloseFault InMap) self.old result self.new }
         ensures tries { Tries false self.old result self.new }
+        ensures place { IfErr result (λ _. StandsHere self.old self.new) }
     {
         self.close(Place::InMap)
     }

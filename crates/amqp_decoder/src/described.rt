@@ -9,6 +9,7 @@ ghost use Rattle.amqp_wire.specs.Sources.{Tells};
 ghost use Rattle.amqp_wire.specs.Codes.{refusal_of};
 ghost use Rattle.amqp_lookahead.specs.Members.{place_of as place_in};
 ghost use Rattle.amqp_decoder.specs.State.{refused_at, after_bytes, descriptor_of};
+ghost use Rattle.amqp_decoder.specs.Places.{StandsHere};
 ghost use Rattle.amqp_decoder.specs.Steps.{Answers, Fails, Goes, Tries};
 ghost use Rattle.amqp_decoder.specs.Reading.{ReadsCode};
 ghost use Rattle.amqp_decoder.specs.Primitives.{AnswersFault};
@@ -199,6 +200,7 @@ impl<R: ByteSource> Decoder<R> {
     pub fn end_described(&mut self) -> Result<(), Error>
         ensures read { AnswersRead false (λ st _ st'. ClosesDescribed InDescribed st st') (EndFault InDescribed) self.old result self.new }
         ensures tries { Tries false self.old result self.new }
+        ensures place { IfErr result (λ _. StandsHere self.old self.new) }
     {
         self.check_end(Place::InDescribed)?;
         self.leave_described();

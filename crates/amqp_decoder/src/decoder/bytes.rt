@@ -4,7 +4,7 @@ ghost use Rattle.std.specs.Int.{bytes_high_first};
 ghost use Rattle.amqp_wire.specs.Codes.{refusal_of};
 ghost use Rattle.amqp_wire.specs.declared.error.Error.TheVariants.{Memory};
 ghost use Rattle.amqp_wire.specs.Sources.{Tells};
-ghost use Rattle.amqp_decoder.specs.State.{refused_at, after_bytes, announced, bound_of, holding, Has, lower};
+ghost use Rattle.amqp_decoder.specs.State.{refused_at, IsPlaceOf, after_bytes, announced, bound_of, holding, Has, lower};
 ghost use Rattle.amqp_decoder.specs.declared.frame.Place.TheVariants.{InList};
 ghost use Rattle.amqp_decoder.specs.Reserve.{Spares};
 ghost use Rattle.amqp_decoder.specs.Steps.{Answers, Pulls, Misses, Takes, FallsShort, RefusesSize, NoRoom, Stops, Fails, Goes, GoesOn};
@@ -206,6 +206,18 @@ impl<R: ByteSource> Decoder<R> {
     // value's own size, of which `own` bytes are left, and these must be within the limit.
     #[cold]
     pub(crate) fn refuse_size(&mut self, own: u32) -> Error
+        ensures refused { Tells R.remaining → RefusesSize own self.old result self.new }
+        ensures fails { Fails false self.old result self.new }
+        ensures place { IsPlaceOf self.new.source.fault self.old }
+    {
+        let place = self.place();
+        let error = self.refuse_behind(own);
+        self.set_fault(place);
+        error
+    }
+
+    // The same, at a place behind the bytes that it passes over.
+    fn refuse_behind(&mut self, own: u32) -> Error
         ensures refused { Tells R.remaining → RefusesSize own self.old result self.new }
         ensures fails { Fails false self.old result self.new }
     {

@@ -3,12 +3,13 @@ ghost use Rattle.std.specs.Prelude.{◌≤◌, ◌≡◌, ◌<◌, ◌-◌, List
 ghost use Rattle.amqp_wire.specs.Sources.{Tells};
 ghost use Rattle.amqp_decoder.specs.Containers.{AtEnd, EndFault};
 ghost use Rattle.amqp_decoder.specs.Described.{in_described};
-ghost use Rattle.amqp_decoder.specs.State.{refused_at, Open, bound_of, depth_error, holding, IsContainer};
+ghost use Rattle.amqp_decoder.specs.State.{IsPlaceOf, refused_at, Open, bound_of, depth_error, holding, IsContainer};
 ghost use Rattle.amqp_wire.specs.declared.error.Error.TheVariants.{Limit};
 ghost use Rattle.amqp_decoder.specs.declared.frame.Place.TheVariants.{InDescribed};
 ghost use Rattle.amqp_decoder.specs.Reading.{AnswersRead};
 ghost use Rattle.amqp_decoder.specs.Reserve.{Spares};
 ghost use Rattle.amqp_decoder.specs.Rooms.{HasRoom};
+ghost use Rattle.amqp_decoder.specs.Places.{StandsHere};
 ghost use Rattle.amqp_decoder.specs.Steps.{RefusesSize, Fails, Goes, GoesOn, Tries};
 
 use super::Decoder;
@@ -176,6 +177,7 @@ impl<R: ByteSource> Decoder<R> {
     pub(crate) fn check_end(&mut self, place: Place) -> Result<(), Error>
         ensures read { AnswersRead false (λ st _ st'. AtEnd place st st') (EndFault place) self.old result self.new }
         ensures tries { Tries false self.old result self.new }
+        ensures place { IfErr result (λ _. StandsHere self.old self.new) }
     {
         self.check()?;
         if !self.is_in(place) {
@@ -196,6 +198,7 @@ impl<R: ByteSource> Decoder<R> {
         ensures ok { IfOk result (λ _. (bound_of self.old.top ≡ Some 0) × (self.new ≡ self.old)) }
         ensures err { Tells R.remaining → IfErr result (λ e. (bound_of self.old.top ≡ Some 0 → ⊥) × RefusesSize 0 self.old e self.new) }
         ensures goes { Goes false self.old result self.new }
+        ensures place { IfErr result (λ _. IsPlaceOf self.new.source.fault self.old) }
     {
         if self.left() != Some(0) {
             return Err(self.refuse_size(0));

@@ -1,11 +1,28 @@
 //! Where in the input a call refuses.
 ghost use Rattle.std.specs.Prelude.{◌≡◌};
 ghost use Rattle.amqp_decoder.specs.Places.{Starts, placed};
+ghost use Rattle.amqp_decoder.specs.State.{IsPlaceOf};
 
 use super::Decoder;
 use amqp_wire::{ByteSource, Error};
 
 impl<R: ByteSource> Decoder<R> {
+    // How many bytes of the input were taken, as a number of 64 bits.
+    #[inline(always)]
+    pub(crate) fn place(&self) -> u64
+        ensures { IsPlaceOf result self.now }
+    {
+        self.input.place()
+    }
+
+    // What was refused stands there.
+    #[inline(always)]
+    pub(crate) fn set_fault(&mut self, place: u64)
+        ensures { self.new ≡ record self.old { source = record self.old.source { fault = place } } }
+    {
+        self.fault = place;
+    }
+
     // Where a call begins: how many bytes of the input are before it, as a number of 64 bits. Nowhere, if the decoder has refused.
     #[inline(always)]
     pub(crate) fn start(&self) -> Option<u64>
@@ -13,7 +30,7 @@ impl<R: ByteSource> Decoder<R> {
     {
         match self.error {
             Some(_) => None,
-            None => Some(self.input.place()),
+            None => Some(self.place()),
         }
     }
 
