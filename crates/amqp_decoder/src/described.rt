@@ -8,7 +8,7 @@ ghost use Rattle.amqp_model.specs.Term.{name as of_name};
 ghost use Rattle.amqp_wire.specs.Sources.{Tells};
 ghost use Rattle.amqp_wire.specs.Codes.{refusal_of};
 ghost use Rattle.amqp_lookahead.specs.Members.{place_of as place_in};
-ghost use Rattle.amqp_decoder.specs.State.{refused_at, after_bytes, descriptor_of};
+ghost use Rattle.amqp_decoder.specs.State.{IsPlaceOf, refused_at, after_bytes, descriptor_of};
 ghost use Rattle.amqp_decoder.specs.Places.{StandsHere};
 ghost use Rattle.amqp_decoder.specs.Steps.{Answers, Fails, Goes, Tries};
 ghost use Rattle.amqp_decoder.specs.Reading.{ReadsCode};
@@ -32,6 +32,19 @@ impl<R: ByteSource> Decoder<R> {
     // Takes the code of a described value.
     #[inline(always)]
     fn begin_descriptor(&mut self) -> Result<(), Error>
+        ensures ok { Tells R.remaining → IfOk result (λ _. ReadsCode self.old 0 self.new) }
+        ensures err { Tells R.remaining → IfErr result (λ e. AnswersFault false DescribedFault self.old e self.new) }
+        ensures tries { Tries false self.old result self.new }
+        ensures place { IfErr result (λ _. StandsHere self.old self.new) }
+    {
+        let start = self.start();
+        let answer = self.any_begun();
+        self.placed(start, answer)
+    }
+
+    // The same, wherever it refuses.
+    #[inline]
+    fn any_begun(&mut self) -> Result<(), Error>
         ensures ok { Tells R.remaining → IfOk result (λ _. ReadsCode self.old 0 self.new) }
         ensures err { Tells R.remaining → IfErr result (λ e. AnswersFault false DescribedFault self.old e self.new) }
         ensures tries { Tries false self.old result self.new }
@@ -76,6 +89,20 @@ impl<R: ByteSource> Decoder<R> {
 
     // A descriptor.
     pub(crate) fn descriptor(&mut self, alloc: Global) -> Result<Descriptor, Error>
+        ensures ok { Tells R.remaining → self.old.top.shared ≡ None
+            → IfOk result (λ d. TakesDescriptor self.old (descriptor_of d) self.new) }
+        ensures err { Tells R.remaining → self.old.top.shared ≡ None → IfErr result (λ e. MissesDescriptor true self.old e self.new) }
+        ensures goes { Goes true self.old result self.new }
+        ensures place { IfErr result (λ _. IsPlaceOf self.new.source.fault self.old) }
+    {
+        let place = self.place();
+        let answer = self.any_descriptor(alloc);
+        self.placed_at(place, answer)
+    }
+
+    // The same, wherever it refuses.
+    #[inline]
+    fn any_descriptor(&mut self, alloc: Global) -> Result<Descriptor, Error>
         ensures ok { Tells R.remaining → self.old.top.shared ≡ None
             → IfOk result (λ d. TakesDescriptor self.old (descriptor_of d) self.new) }
         ensures err { Tells R.remaining → self.old.top.shared ≡ None → IfErr result (λ e. MissesDescriptor true self.old e self.new) }
@@ -165,6 +192,21 @@ impl<R: ByteSource> Decoder<R> {
         ensures err { Tells R.remaining → IsDescribable self.old.top.shared
             → IfErr result (λ e. MissesDescriptor false self.old e self.new) }
         ensures goes { Goes false self.old result self.new }
+        ensures place { IfErr result (λ _. IsPlaceOf self.new.source.fault self.old) }
+    {
+        let place = self.place();
+        let answer = self.any_place(members);
+        self.placed_at(place, answer)
+    }
+
+    // The same, wherever it refuses.
+    #[inline]
+    fn any_place(&mut self, members: Members<'_>) -> Result<Option<usize>, Error>
+        ensures ok { Tells R.remaining → IsDescribable self.old.top.shared
+            → IfOk result (λ place. TakesPlace members.now self.old place self.new) }
+        ensures err { Tells R.remaining → IsDescribable self.old.top.shared
+            → IfErr result (λ e. MissesDescriptor false self.old e self.new) }
+        ensures goes { Goes false self.old result self.new }
     {
         if let Some(descriptor) = self.shared_descriptor() {
             return Ok(place_of(members, descriptor));
@@ -188,8 +230,11 @@ impl<R: ByteSource> Decoder<R> {
     {
         self.room();
         self.begin_descriptor()?;
+        let start = self.place();
         let Some(place) = self.place_of_next(members)? else {
-            return Err(self.stop(Error::WrongDescriptor));
+            let error = self.stop(Error::WrongDescriptor);
+            self.set_fault(start);
+            return Err(error);
         };
         self.enter_described()?;
         Ok(place)

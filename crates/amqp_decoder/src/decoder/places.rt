@@ -1,5 +1,5 @@
 //! Where in the input a call refuses.
-ghost use Rattle.std.specs.Prelude.{◌≡◌};
+ghost use Rattle.std.specs.Prelude.{◌≡◌, Some};
 ghost use Rattle.amqp_decoder.specs.Places.{Starts, placed};
 ghost use Rattle.amqp_decoder.specs.State.{IsPlaceOf};
 
@@ -50,5 +50,14 @@ impl<R: ByteSource> Decoder<R> {
             self.fault = place;
         }
         answer
+    }
+
+    // The answer of a call to a decoder that hadn't refused: what it refuses stands at this place.
+    #[inline(always)]
+    pub(crate) fn placed_at<T>(&mut self, place: u64, answer: Result<T, Error>) -> Result<T, Error>
+        ensures same { result ≡ answer }
+        ensures kept { self.new ≡ placed (Some place) answer self.old }
+    {
+        self.placed(Some(place), answer)
     }
 }
