@@ -121,7 +121,7 @@ limited takes limits st (Err e) b going free h = limited_refused takes limits st
 pub refused_whole : {T : Type 0} (limits : Limits) (r : Reading T) (input : List ℕ) (e : Error) (b : State) → b.failed.broken ≡ false
     → RefusesRead r.takes_memory r.reads r.fault (start_within limits input) e b
     → ((r.takes_memory ≡ true) × (e ≡ Memory)) ⊎ IsUnreadableWithin limits r input e
-refused_whole limits r input e b sound h = elim (refused_here limits r input 0 false e b h) [
+refused_whole limits r input e b sound h = elim (refused_here limits r input (fresh_source 0 input) false e b h) [
   | inl m ↦ inl m
   | inr x ↦ elim x [ inl (i, f) ↦ absurd (cc) | inr u ↦ inr u ]
 ]
