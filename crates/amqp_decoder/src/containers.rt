@@ -106,7 +106,7 @@ impl<R: ByteSource> Decoder<R> {
     }
 
     // The same, wherever it refuses.
-    #[inline]
+    #[inline(always)]
     fn any_list(&mut self) -> Result<u32, Error>
         ensures read { Tells R.remaining → AnswersRead false (Opens list) (OpenFault list) self.old result self.new }
         ensures tries { Tries false self.old result self.new }
@@ -133,7 +133,7 @@ impl<R: ByteSource> Decoder<R> {
     }
 
     // The same, wherever it refuses.
-    #[inline]
+    #[inline(always)]
     fn any_map(&mut self) -> Result<u32, Error>
         ensures read { Tells R.remaining → AnswersRead false (Opens map) (OpenFault map) self.old result self.new }
         ensures tries { Tries false self.old result self.new }

@@ -43,7 +43,7 @@ impl<R: ByteSource> Decoder<R> {
     }
 
     // The same, wherever it refuses.
-    #[inline]
+    #[inline(always)]
     fn any_begun(&mut self) -> Result<(), Error>
         ensures ok { Tells R.remaining → IfOk result (λ _. ReadsCode self.old 0 self.new) }
         ensures err { Tells R.remaining → IfErr result (λ e. AnswersFault false DescribedFault self.old e self.new) }
@@ -101,7 +101,7 @@ impl<R: ByteSource> Decoder<R> {
     }
 
     // The same, wherever it refuses.
-    #[inline]
+    #[inline(always)]
     fn any_descriptor(&mut self, alloc: Global) -> Result<Descriptor, Error>
         ensures ok { Tells R.remaining → self.old.top.shared ≡ None
             → IfOk result (λ d. TakesDescriptor self.old (descriptor_of d) self.new) }
@@ -200,7 +200,7 @@ impl<R: ByteSource> Decoder<R> {
     }
 
     // The same, wherever it refuses.
-    #[inline]
+    #[inline(always)]
     fn any_place(&mut self, members: Members<'_>) -> Result<Option<usize>, Error>
         ensures ok { Tells R.remaining → IsDescribable self.old.top.shared
             → IfOk result (λ place. TakesPlace members.now self.old place self.new) }

@@ -114,7 +114,7 @@ impl<R: ByteSource> Decoder<R> {
     }
 
     // The same, wherever it refuses.
-    #[inline]
+    #[inline(always)]
     fn any_bool(&mut self) -> Result<bool, Error>
         ensures read { Tells R.remaining → AnswersRead false (ReadsValue (Means boolean)) (PrimitiveFault booleans) self.old result self.new }
         ensures tries { Tries false self.old result self.new }
@@ -202,7 +202,7 @@ impl<R: ByteSource> Decoder<R> {
     }
 
     // The same, wherever it refuses.
-    #[inline]
+    #[inline(always)]
     fn any_uint(&mut self) -> Result<u32, Error>
         ensures read { Tells R.remaining → AnswersRead false (ReadsValue (Means uint)) (PrimitiveFault uints) self.old result self.new }
         ensures tries { Tries false self.old result self.new }
@@ -284,7 +284,7 @@ impl<R: ByteSource> Decoder<R> {
     }
 
     // The same, wherever it refuses.
-    #[inline]
+    #[inline(always)]
     fn any_ulong(&mut self) -> Result<u64, Error>
         ensures read { Tells R.remaining → AnswersRead false (ReadsValue (Means ulong)) (PrimitiveFault ulongs) self.old result self.new }
         ensures tries { Tries false self.old result self.new }
@@ -329,7 +329,7 @@ impl<R: ByteSource> Decoder<R> {
     }
 
     // The same, wherever it refuses.
-    #[inline]
+    #[inline(always)]
     fn any_int(&mut self) -> Result<i32, Error>
         ensures read { Tells R.remaining → AnswersRead false (ReadsValue (Means int)) (PrimitiveFault ints) self.old result self.new }
         ensures tries { Tries false self.old result self.new }
@@ -354,7 +354,7 @@ impl<R: ByteSource> Decoder<R> {
     }
 
     // The same, wherever it refuses.
-    #[inline]
+    #[inline(always)]
     fn any_long(&mut self) -> Result<i64, Error>
         ensures read { Tells R.remaining → AnswersRead false (ReadsValue (Means long)) (PrimitiveFault longs) self.old result self.new }
         ensures tries { Tries false self.old result self.new }
@@ -412,7 +412,7 @@ impl<R: ByteSource> Decoder<R> {
     }
 
     // The same, wherever it refuses.
-    #[inline]
+    #[inline(always)]
     fn any_char(&mut self) -> Result<char, Error>
         ensures read { Tells R.remaining → AnswersRead false (ReadsValue (Means char)) (PrimitiveFault chars) self.old result self.new }
         ensures tries { Tries false self.old result self.new }

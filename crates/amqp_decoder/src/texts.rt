@@ -118,7 +118,7 @@ impl<R: ByteSource> Decoder<R> {
     }
 
     // The same, wherever it refuses.
-    #[inline]
+    #[inline(always)]
     fn any_content(&mut self, narrow: u8, wide: u8, alloc: Global) -> Result<Vec<u8>, Error>
         ensures ok { Tells R.remaining → IfOk result (λ text. ReadsText narrow wide self.old text.items self.new) }
         ensures err { Tells R.remaining → IfErr result (λ e. AnswersFault true (TextFault narrow wide) self.old e self.new) }
@@ -174,7 +174,7 @@ impl<R: ByteSource> Decoder<R> {
     }
 
     // The same, wherever it refuses.
-    #[inline]
+    #[inline(always)]
     fn any_string(&mut self, alloc: Global) -> Result<String, Error>
         ensures read { Tells R.remaining → AnswersRead true (ReadsValue (Means (λ text. string (string_bytes text)))) (PrimitiveFault strings)
             self.old result self.new }
@@ -200,7 +200,7 @@ impl<R: ByteSource> Decoder<R> {
     }
 
     // The same, wherever it refuses.
-    #[inline]
+    #[inline(always)]
     fn any_symbol(&mut self, alloc: Global) -> Result<Symbol, Error>
         ensures read { Tells R.remaining → AnswersRead true (ReadsValue (Means (λ text. symbol (string_bytes text.0)))) (PrimitiveFault symbols)
             self.old result self.new }

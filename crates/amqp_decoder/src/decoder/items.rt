@@ -131,7 +131,7 @@ impl<R: ByteSource> Decoder<R> {
     }
 
     // The same, wherever it refuses.
-    #[inline]
+    #[inline(always)]
     fn peek_any(&mut self) -> Result<u8, Error>
         ensures read { Tells R.remaining → AnswersRead false PeeksCode BeginFault self.old result self.new }
         ensures tries { Tries false self.old result self.new }
