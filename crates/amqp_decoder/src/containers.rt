@@ -55,7 +55,7 @@ impl<R: ByteSource> Decoder<R> {
     }
 
     // Opens a list or a map of so many items in so many bytes.
-    #[inline]
+    #[inline(always)]
     fn open(&mut self, place: Place, count: u32, content: u32) -> Result<u32, Error>
         requires { IsContainer place }
         ensures ok { IfOk result (λ n. (n ≡ count) × Has self.old.top.left content × (length self.old.saved < self.old.nesting)

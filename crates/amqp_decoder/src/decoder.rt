@@ -4,6 +4,7 @@ ghost use Rattle.amqp_wire.specs.Sources.{known, Tells};
 ghost use Rattle.amqp_decoder.specs.State.{bound_of, started, greatest, refused_at, IsPlaceOf};
 ghost use Rattle.amqp_wire.specs.Limits.{limit_of};
 ghost use Rattle.amqp_decoder.specs.Reserve.{Leaves};
+ghost use Rattle.amqp_decoder.specs.Places.{StandsHere};
 ghost use Rattle.amqp_decoder.specs.Rooms.{HasRoom};
 ghost use Rattle.amqp_decoder.specs.Steps.{RefusesBy};
 ghost use Rattle.amqp_wire.specs.declared.error.Error.{Error};
@@ -88,10 +89,12 @@ impl<R: ByteSource> Model for Decoder<R> {
 }
 
 impl<R: ByteSource> Decoder<R> {
-    /// Keeps the error, which every later call returns. If the decoder has kept an error before, it keeps and returns that first one.
+    /// Keeps the error, which every later call returns, for what comes next. If the decoder has kept an error before, it keeps and returns
+    /// that first one.
     pub fn refuse(&mut self, error: Error) -> Error
         ensures first { RefusesBy error self.old result self.new }
         ensures again { (kept : Error) → self.old.error ≡ Some kept → (result ≡ kept) × (self.new ≡ self.old) }
+        ensures place { StandsHere self.old self.new }
     {
         match self.error {
             Some(kept) => kept,

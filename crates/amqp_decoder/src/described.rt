@@ -97,7 +97,7 @@ impl<R: ByteSource> Decoder<R> {
     {
         let place = self.place();
         let answer = self.any_descriptor(alloc);
-        self.placed_at(place, answer)
+        self.placed(place, answer)
     }
 
     // The same, wherever it refuses.
@@ -196,7 +196,7 @@ impl<R: ByteSource> Decoder<R> {
     {
         let place = self.place();
         let answer = self.any_place(members);
-        self.placed_at(place, answer)
+        self.placed(place, answer)
     }
 
     // The same, wherever it refuses.

@@ -104,22 +104,9 @@ impl<R: ByteSource> Decoder<R> {
         Ok(text)
     }
 
-    // The content of a value that has these two constructors.
+    // The content of a value that has these two constructors, wherever it refuses.
     #[inline(always)]
     fn content(&mut self, narrow: u8, wide: u8, alloc: Global) -> Result<Vec<u8>, Error>
-        ensures ok { Tells R.remaining → IfOk result (λ text. ReadsText narrow wide self.old text.items self.new) }
-        ensures err { Tells R.remaining → IfErr result (λ e. AnswersFault true (TextFault narrow wide) self.old e self.new) }
-        ensures tries { Tries true self.old result self.new }
-        ensures place { IfErr result (λ _. StandsHere self.old self.new) }
-    {
-        let start = self.start();
-        let answer = self.any_content(narrow, wide, alloc);
-        self.placed(start, answer)
-    }
-
-    // The same, wherever it refuses.
-    #[inline(always)]
-    fn any_content(&mut self, narrow: u8, wide: u8, alloc: Global) -> Result<Vec<u8>, Error>
         ensures ok { Tells R.remaining → IfOk result (λ text. ReadsText narrow wide self.old text.items self.new) }
         ensures err { Tells R.remaining → IfErr result (λ e. AnswersFault true (TextFault narrow wide) self.old e self.new) }
         ensures tries { Tries true self.old result self.new }
@@ -157,6 +144,18 @@ impl<R: ByteSource> Decoder<R> {
             self.old result self.new }
         ensures tries { Tries true self.old result self.new }
         ensures place { IfErr result (λ _. StandsHere self.old self.new) }
+    {
+        let start = self.start();
+        let answer = self.any_binary(alloc);
+        self.placed(start, answer)
+    }
+
+    // The same, wherever it refuses.
+    #[inline(always)]
+    fn any_binary(&mut self, alloc: Global) -> Result<Vec<u8>, Error>
+        ensures read { Tells R.remaining → AnswersRead true (ReadsValue (Means (λ bytes. binary bytes.items))) (PrimitiveFault binaries)
+            self.old result self.new }
+        ensures tries { Tries true self.old result self.new }
     {
         self.content(format_code::BINARY_8, format_code::BINARY_32, alloc)
     }

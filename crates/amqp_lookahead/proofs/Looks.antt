@@ -167,6 +167,18 @@ moved_is st r a m z f n hr ha hm hz hf =
     ∙ ap (λ x. record st { rest = drop n st.rest; ahead = st.ahead - n; source = record { name = st.source.name; size = x }; failed = f }) hz
     ∙ ap (λ x. record st { rest = drop n st.rest; ahead = st.ahead - n; failed = x }) hf
 
+-- the same where the bytes of a source that isn't whole are counted behind that
+pub counted_is : (whole : Bool) (st new : State) (r : List ℕ) (a m count : ℕ) (f : Bool) (n : ℕ)
+    → (whole ≡ true → new ≡ record { rest = r; ahead = a; source = record { name = m; size = size_of whole count r }; failed = f })
+    → (whole ≡ false → new ≡ record {
+        rest = r; ahead = a; source = record { name = m; size = (size_of whole count r + n) % 2 ^ 64 }; failed = f })
+    → st.source.size ≡ size_of whole count st.rest → n ≤ length st.rest → r ≡ drop n st.rest → a ≡ st.ahead - n → m ≡ st.source.name
+    → f ≡ st.failed → new ≡ after_bytes n st
+counted_is true st new r a m count f n w o z few hr ha hm hf = w refl ∙ moved_is st r a m count f n hr ha hm (sym z) hf
+counted_is false st new r a m count f n w o z few hr ha hm hf =
+    o refl ∙ moved_is st r a m (((count + length r) % 2 ^ 64 + n) % 2 ^ 64) f n hr ha hm
+    (omega (arith, z, few, ap length hr, length-drop n st.rest)) hf
+
 -- what was looked at is at the front of its buffer, and more behind it
 kept_front : (start end_ : ℕ) (l moved_ : List ℕ) → start ≤ end_ → end_ ≤ length l → moved_ ≡ copy_within l start end_ 0
     → take (end_ - start) moved_ ≡ pending start end_ l

@@ -194,27 +194,26 @@ impl<R: ByteSource> Input<R> {
         ensures left { (result ≡ Ok true → ⊥) → (self.new ≡ self.old) × (bytes.new.items ≡ bytes.old.items) }
         ensures sound { self.new.failed ≡ self.old.failed }
     {
-        match self.source.at_hand() {
-            Some(_) => self.source.append_ready(count, bytes),
-            None => self.append_ready_behind(count, bytes),
-        }
-    }
-
-    // The same for another source, if nothing that was looked at is left.
-    #[inline]
-    fn append_ready_behind(&mut self, count: usize, bytes: &mut Vec<u8>) -> Result<bool, AllocError>
-        requires { R.is_whole ≡ false }
-        ensures there { Tells R.remaining → result ≡ Ok true → count ≤ length self.old.rest }
-        ensures bytes { Tells R.remaining → result ≡ Ok true → bytes.new.items ≡ bytes.old.items ++ take count self.old.rest }
-        ensures new { Tells R.remaining → result ≡ Ok true → self.new ≡ after_bytes count self.old }
-        ensures left { (result ≡ Ok true → ⊥) → (self.new ≡ self.old) × (bytes.new.items ≡ bytes.old.items) }
-        ensures sound { self.new.failed ≡ self.old.failed }
-    {
-        if self.start < self.end || !self.source.append_ready(count, bytes)? {
+        if self.source.at_hand().is_none() && self.start < self.end {
             return Ok(false);
         }
-        self.count = self.count.wrapping_add(count as u64);
+        if !self.source.append_ready(count, bytes)? {
+            return Ok(false);
+        }
+        self.count_taken(count);
         Ok(true)
+    }
+
+    // So many bytes of the source were taken, which are counted if it isn't whole.
+    #[inline]
+    fn count_taken(&mut self, count: usize)
+        ensures whole { R.is_whole ≡ true → self.new ≡ self.old }
+        ensures other { R.is_whole ≡ false
+            → self.new ≡ record self.old { source = record self.old.source { size = (self.old.source.size + count) % 2 ^ 64 } } }
+    {
+        if self.source.at_hand().is_none() {
+            self.count = self.count.wrapping_add(count as u64);
+        }
     }
 
     /// Copies the next bytes, at most 64, to the buffer, and returns how many. They are fewer than it holds only at the end of the input.

@@ -1,18 +1,26 @@
-use Rattle.amqp_decoder.specs.Primitives.{ReadsText}
-use Rattle.amqp_decoder.proofs.Places.{placed_ok, placed_fault, placed_tries, placed_here}
+use Rattle.std.proofs.Common.{rules}
+use Rattle.std.proofs.lemmas.Result.{err_from_is_err_and}
+use Rattle.amqp_decoder.proofs.ReadPrimitives.{err_map}
+use Rattle.amqp_decoder.proofs.SizedTexts.{text_unbegun, text_other, text_narrow, text_wide}
+use Rattle.amqp_decoder.proofs.Steps.{answered_so}
 use Rattle.amqp_decoder.proofs.decoder.Decoder.content.Goals as goal
 
-pub returns-clause-ok : goal.returns-clause-ok
-returns-clause-ok g c = λ told. rw (c.placed.ensures.same, c.placed.ensures.kept)
-    (placed_ok (λ text. ReadsText _ _ _ text.items) _ _ _ (c.any_content-answer.ensures.ok told))
+pub returns-in_err-code-clause-err : goal.returns-in_err-code-clause-err
+returns-in_err-code-clause-err g c = λ told.
+    let p = err_from_is_err_and c.from_residual.result c.from_residual.ensures.1 in
+    rw (p.1, p.2) (text_unbegun _ _ _ _ _ (c.in_err-code.ensures.read told))
 
-pub returns-clause-err : goal.returns-clause-err
-returns-clause-err g c = λ told. rw (c.placed.ensures.same, c.placed.ensures.kept)
-    (placed_fault _ _ _ _ _ _ c.start-start.ensures (c.any_content-answer.ensures.err told))
+pub returns-then-code-narrow-clause-err : goal.returns-then-code-narrow-clause-err
+returns-then-code-narrow-clause-err g c =
+    λ told. err_map _ _ _ (λ e s. text_narrow _ _ _ _ _ _ (rw c.if-code-narrow.true at (c.in_ok-code.ensures.read told)) s)
+    (c.text_data.ensures.err told)
 
-pub returns-clause-tries : goal.returns-clause-tries
-returns-clause-tries g c = rw (c.placed.ensures.same, c.placed.ensures.kept)
-    (placed_tries _ _ _ _ _ c.start-start.ensures c.any_content-answer.ensures.tries)
+pub returns-then-code-wide-clause-err : goal.returns-then-code-wide-clause-err
+returns-then-code-wide-clause-err g c =
+    λ told. err_map _ _ _ (λ e s. text_wide _ _ _ _ _ _ (rw c.if-code-wide.true at (c.in_ok-code.ensures.read told)) s)
+    (c.text_data-then-code-wide.ensures.err told)
 
-pub returns-clause-place : goal.returns-clause-place
-returns-clause-place g c = rw (c.placed.ensures.same, c.placed.ensures.kept) (placed_here _ _ _ _ c.start-start.ensures)
+pub returns-else-code-wide-clause-err : goal.returns-else-code-wide-clause-err
+returns-else-code-wide-clause-err g c =
+    λ told. text_other _ _ _ _ _ _ _ (c.in_ok-code.ensures.read told) (search rules) (search rules) c.refuse_code.ensures.answer
+    (answered_so _ _ _ c.refuse_code.ensures.kept)
