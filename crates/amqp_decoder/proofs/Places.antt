@@ -1,8 +1,8 @@
 -- A call that is placed answers as it did, and refuses where it began.
 use Rattle.std.proofs.Common.{◌≡◌, sym, ap, subst, ℕ, Bool, Some, None, Result, Ok, Err, IfOk, IfErr}
 use Rattle.amqp_wire.specs.declared.error.Error.{Error}
-use Rattle.amqp_decoder.specs.State.{State, IsPlaceOf}
-use Rattle.amqp_decoder.specs.Steps.{Answers, Stops, Goes, Tries}
+use Rattle.amqp_decoder.specs.State.{State, IsPlaceOf, refused_at}
+use Rattle.amqp_decoder.specs.Steps.{Answers, RefusesSize, Stops, Goes, Tries}
 use Rattle.amqp_decoder.specs.Reading.{AnswersRead}
 use Rattle.amqp_decoder.specs.Primitives.{AnswersFault}
 use Rattle.amqp_decoder.specs.Described.{MissesDescriptor}
@@ -85,3 +85,15 @@ placed_there old mid place (Err e) h = h
 pub moved_answer : (old mid : State) (e : Error) (place : ℕ) → Answers old e mid
     → Answers old e (record mid { source = record mid.source { fault = place } })
 moved_answer old mid e place a = record { error = a.error; source = a.source }
+
+pub moved_size : (own : ℕ) (old mid : State) (e : Error) (place : ℕ) → RefusesSize own old e mid
+    → RefusesSize own old e (record mid { source = record mid.source { fault = place } })
+moved_size own old mid e place h = record { kept = moved_answer old mid e place h.kept; why = h.why }
+
+-- an error that a decoder keeps, wherever it stands
+pub placed_refusal : {A : Type 0} (why : Type 0) (named : Error → Type 0) (d : Error) (old mid : State) (place : ℕ) (r : Result A Error)
+    → IfErr r (λ e. why × named e × (mid ≡ refused_at d mid.source.fault old))
+    → IfErr r (λ e. why × named e × (placed place r mid ≡ refused_at d (placed place r mid).source.fault old))
+placed_refusal why named d old mid place (Ok v) h = tt
+placed_refusal why named d old mid place (Err e) h =
+    (h.0, h.1, ap (λ (z : State). record z { source = record z.source { fault = place } }) h.2)

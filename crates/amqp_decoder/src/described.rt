@@ -232,9 +232,7 @@ impl<R: ByteSource> Decoder<R> {
         self.begin_descriptor()?;
         let start = self.place();
         let Some(place) = self.place_of_next(members)? else {
-            let error = self.stop(Error::WrongDescriptor);
-            self.set_fault(start);
-            return Err(error);
+            return Err(self.stop_at(start, Error::WrongDescriptor));
         };
         self.enter_described()?;
         Ok(place)

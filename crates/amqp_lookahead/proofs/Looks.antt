@@ -171,7 +171,11 @@ moved_is st r a m z f n hr ha hm hz hf =
 pub counted_is : (whole : Bool) (st new : State) (r : List ℕ) (a m count : ℕ) (f : Bool) (n : ℕ)
     → (whole ≡ true → new ≡ record { rest = r; ahead = a; source = record { name = m; size = size_of whole count r }; failed = f })
     → (whole ≡ false → new ≡ record {
-        rest = r; ahead = a; source = record { name = m; size = (size_of whole count r + n) % 2 ^ 64 }; failed = f })
+      rest = r;
+      ahead = a;
+      source = record { name = m; size = (size_of whole count r + n) % 2 ^ 64 };
+      failed = f;
+    })
     → st.source.size ≡ size_of whole count st.rest → n ≤ length st.rest → r ≡ drop n st.rest → a ≡ st.ahead - n → m ≡ st.source.name
     → f ≡ st.failed → new ≡ after_bytes n st
 counted_is true st new r a m count f n w o z few hr ha hm hf = w refl ∙ moved_is st r a m count f n hr ha hm (sym z) hf

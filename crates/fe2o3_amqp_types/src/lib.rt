@@ -20,8 +20,8 @@ pub mod codec {
     pub use amqp_primitives::{Binary, ByteBuf, Dec32, Dec64, Dec128, SymbolRef, Timestamp, Uuid};
     pub use amqp_read_write::{
         Limits, ReadSource, append_to_vec, canonical_into, canonical_text, canonical_text_within,
-        encoded_len, from_reader, from_reader_within, from_slice, from_slice_counted,
-        from_slice_within, to_vec, write_into,
+        encoded_len, from_reader, from_reader_located, from_reader_within, from_slice,
+        from_slice_counted, from_slice_located, from_slice_within, to_vec, write_into,
     };
     pub use amqp_simple_values::SimpleValue;
     pub use amqp_values::{IntoValue, Value, ValueMap, ValueMapIter, ValueMapValues};

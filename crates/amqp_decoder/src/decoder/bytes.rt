@@ -216,6 +216,17 @@ impl<R: ByteSource> Decoder<R> {
         error
     }
 
+    // The bytes behind what was taken are wrong, at this place.
+    #[cold]
+    pub(crate) fn refuse_size_at(&mut self, place: u64) -> Error
+        ensures refused { Tells R.remaining → RefusesSize 0 self.old result self.new }
+        ensures fails { Fails false self.old result self.new }
+    {
+        let error = self.refuse_behind(0);
+        self.set_fault(place);
+        error
+    }
+
     // The same, at a place behind the bytes that it passes over.
     fn refuse_behind(&mut self, own: u32) -> Error
         ensures refused { Tells R.remaining → RefusesSize own self.old result self.new }

@@ -92,6 +92,16 @@ impl<R: ByteSource> Decoder<R> {
         Ok(())
     }
 
+    // The same of what begins there.
+    fn count_weight_from(&mut self, start: u64, count: u64) -> Result<(), Error>
+        ensures ok { IfOk result (λ _. Has self.old.quota count × (self.new ≡ record self.old { quota = lower self.old.quota count })) }
+        ensures err { IfErr result (λ e. (Has self.old.quota count → ⊥) × (e ≡ Limit) × (self.new ≡ refused_at Limit self.new.source.fault self.old)) }
+        ensures goes { Goes false self.old result self.new }
+    {
+        let counted = self.count_weight(count);
+        self.placed(start, counted)
+    }
+
     // The code, if a value may begin by it.
     #[inline(always)]
     pub(super) fn check_count(&mut self, code: u8) -> Result<u8, Error>
@@ -134,8 +144,8 @@ impl<R: ByteSource> Decoder<R> {
         }
     }
 
-    // A term of its own constructor begins.
-    pub(crate) fn count_term(&mut self, bytes: &[u8]) -> Result<(), Error>
+    // A term of its own constructor begins there.
+    pub(crate) fn count_term(&mut self, start: u64, bytes: &[u8]) -> Result<(), Error>
         ensures ok { (t : Term) → IsSpelling bytes.now t → nest t ≤ 128 → IfOk result (λ _. Has self.old.quota (weight t false)
             × (self.new ≡ record self.old { quota = lower self.old.quota (weight t false) })) }
         ensures err { (t : Term) → IsSpelling bytes.now t → nest t ≤ 128 → IfErr result (λ e. (Has self.old.quota (weight t false) → ⊥)
@@ -147,7 +157,7 @@ impl<R: ByteSource> Decoder<R> {
             return Ok(());
         }
         match measures_of(bytes) {
-            Some(measures) => self.count_weight(measures.weight),
+            Some(measures) => self.count_weight_from(start, measures.weight),
             None => Ok(()),
         }
     }

@@ -64,8 +64,19 @@ impl<R: ByteSource> Decoder<R> {
         ensures kept { self.new ≡ refused_at (depth_error self.old.nesting) self.new.source.fault self.old }
         ensures fails { Fails false self.old result self.new }
     {
+        let place = self.place();
+        self.refuse_depth_at(place)
+    }
+
+    // The same, if it begins there.
+    #[cold]
+    fn refuse_depth_at(&mut self, place: u64) -> Error
+        ensures answer { result ≡ depth_error self.old.nesting }
+        ensures kept { self.new ≡ refused_at (depth_error self.old.nesting) self.new.source.fault self.old }
+        ensures fails { Fails false self.old result self.new }
+    {
         let error = self.depth_error();
-        self.stop(error)
+        self.stop_at(place, error)
     }
 
     // Opens a container of so many items in so many bytes, which share nothing.
@@ -119,9 +130,9 @@ impl<R: ByteSource> Decoder<R> {
         self.enter(place, items, content)
     }
 
-    // An array's items that hold others, or are described, make it count in nesting.
+    // An array's items that hold others, or are described, make it count in nesting. Their constructor begins there.
     #[inline]
-    pub(crate) fn check_items(&mut self, is_flat: bool) -> Result<(), Error>
+    pub(crate) fn check_items(&mut self, is_flat: bool, place: u64) -> Result<(), Error>
         ensures ok { IfOk result (λ _. ((is_flat ≡ true) ⊎ (length self.old.saved ≤ self.old.nesting)) × (self.new ≡ self.old)) }
         ensures err { IfErr result (λ e. (is_flat ≡ false) × (e ≡ depth_error self.old.nesting) × (self.old.nesting < length self.old.saved)
             × (self.new ≡ refused_at (depth_error self.old.nesting) self.new.source.fault self.old)) }
@@ -131,7 +142,7 @@ impl<R: ByteSource> Decoder<R> {
             return Ok(());
         }
         if self.depth > self.nesting {
-            return Err(self.refuse_depth());
+            return Err(self.refuse_depth_at(place));
         }
         Ok(())
     }

@@ -1,12 +1,15 @@
 //! Where in the input a call refuses.
-ghost use Rattle.std.specs.Prelude.{◌≡◌, None, Some};
+ghost use Rattle.std.specs.Prelude.{◌≡◌, None, Some, IfErr, false};
+ghost use Rattle.amqp_wire.specs.Codes.{refusal_of};
+ghost use Rattle.amqp_wire.specs.Sources.{Tells};
 ghost use Rattle.amqp_wire.specs.declared.error.Error.{Error};
-ghost use Rattle.amqp_decoder.specs.Places.{Starts, placed};
-ghost use Rattle.amqp_decoder.specs.Steps.{RefusesBy};
-ghost use Rattle.amqp_decoder.specs.State.{IsPlaceOf};
+ghost use Rattle.amqp_decoder.specs.Places.{Starts, StandsHere, placed};
+ghost use Rattle.amqp_decoder.specs.Reading.{AnswersRead, ReadsCode, BeginFault};
+ghost use Rattle.amqp_decoder.specs.Steps.{RefusesBy, Fails, Tries};
+ghost use Rattle.amqp_decoder.specs.State.{IsPlaceOf, refused_at};
 
 use super::Decoder;
-use amqp_wire::{ByteSource, Error};
+use amqp_wire::{ByteSource, Error, format_code};
 
 impl<R: ByteSource> Decoder<R> {
     /// Returns how many bytes of the input are before what comes next, as a number of 64 bits. It is for `refuse_at`, which is called after
@@ -26,11 +29,7 @@ impl<R: ByteSource> Decoder<R> {
     {
         match self.error {
             Some(kept) => kept,
-            None => {
-                let error = self.stop(error);
-                self.set_fault(place);
-                error
-            }
+            None => self.stop_at(place, error),
         }
     }
 
@@ -40,6 +39,17 @@ impl<R: ByteSource> Decoder<R> {
         ensures { result ≡ self.now.source.fault }
     {
         self.fault
+    }
+
+    // Keeps the error of a decoder that hasn't refused. What is at fault stands there.
+    pub(crate) fn stop_at(&mut self, place: u64, error: Error) -> Error
+        ensures answer { result ≡ error }
+        ensures kept { self.new ≡ refused_at error self.new.source.fault self.old }
+        ensures place { self.new.source.fault ≡ place }
+    {
+        let error = self.stop(error);
+        self.set_fault(place);
+        error
     }
 
     // What was refused stands there.
@@ -71,5 +81,27 @@ impl<R: ByteSource> Decoder<R> {
             self.set_fault(start);
         }
         answer
+    }
+
+    // The next value's first code, which is taken, of a call that began there.
+    pub(crate) fn begin_from(&mut self, start: u64) -> Result<u8, Error>
+        requires { Starts start self.old }
+        ensures read { Tells R.remaining → AnswersRead false ReadsCode BeginFault self.old result self.new }
+        ensures tries { Tries false self.old result self.new }
+        ensures place { IfErr result (λ _. StandsHere self.old self.new) }
+    {
+        let begun = self.begin();
+        self.placed(start, begun)
+    }
+
+    // A code that isn't one of the kind that is read, by a call that began there.
+    #[cold]
+    pub(crate) fn refuse_code_from(&mut self, start: u64, code: u8) -> Error
+        ensures answer { result ≡ refusal_of code }
+        ensures kept { self.new ≡ refused_at result self.new.source.fault self.old }
+        ensures place { self.new.source.fault ≡ start }
+        ensures fails { Fails false self.old result self.new }
+    {
+        self.stop_at(start, format_code::refusal(code))
     }
 }

@@ -78,4 +78,4 @@ returns-in-Err-of_table-clause-read g c tells =
     let value = g.V.DeserializeTerm.term in
     let some : 0 < c.loop.counter = omega (arith, c.requires, c.loop-test.false) in
     no_memory key value c.args.count c.args.decoder.now c.loop.table.entries c.loop.decoder _ _ (c.loop.invariant.pairs.each tells)
-    (going_so_far key value c.loop.invariant.pairs some tells).1 c.refuse-in-Err.ensures.first
+    (going_so_far key value c.loop.invariant.pairs some tells).1 c.refuse-in-Err-of_table.ensures.first

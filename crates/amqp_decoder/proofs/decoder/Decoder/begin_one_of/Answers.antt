@@ -3,7 +3,6 @@ use Rattle.std.proofs.lemmas.Result.{err_from_is_err_and}
 use Rattle.amqp_decoder.specs.State.{State}
 use Rattle.amqp_decoder.proofs.Descriptors.{begun_describable, one_unbegun, one_missed, one_other, one_deep, one_entered}
 use Rattle.amqp_decoder.proofs.Steps.{answered}
-use Rattle.amqp_decoder.proofs.Places.{moved_answer}
 use Rattle.amqp_decoder.proofs.decoder.Decoder.begin_one_of.Goals as goal
 
 pub returns-in_err-begin_descriptor-clause-opened : goal.returns-in_err-begin_descriptor-clause-opened
@@ -21,8 +20,7 @@ pub returns-in_default-clause-opened : goal.returns-in_default-clause-opened
 returns-in_default-clause-opened g c = λ told.
     let begun = c.in_ok-begin_descriptor.ensures.ok told in
     let took = rw c.in_default.is at (c.in_ok-place.ensures.ok told (begun_describable _ _ begun)) in
-    rw c.set_fault.ensures (one_other _ _ _ _ _ _ begun took c.stop-error.ensures.answer
-    (moved_answer _ _ _ _ (answered _ _ _ _ c.stop-error.ensures.kept c.stop-error.ensures.answer)))
+    one_other _ _ _ _ _ _ begun took c.stop_at.ensures.answer (answered _ _ _ _ c.stop_at.ensures.kept c.stop_at.ensures.answer)
 
 pub returns-in_err-enter_described-clause-opened : goal.returns-in_err-enter_described-clause-opened
 returns-in_err-enter_described-clause-opened g c = λ told.
