@@ -103,14 +103,14 @@ pub fn from_slice_located<T: Deserialize>(
     ensures limited { IfErr result (λ r. r.error ≡ Limit → IsGreatest limits.now → ⊥) }
     ensures within { IfErr result (λ r. r.at ≤ length input.now) }
 {
-    let mut decoder = decoder_within(input, limits, alloc);
-    let read = T::deserialize(&mut decoder, alloc);
-    let left = unread(&decoder);
+    let mut cursor = decoder_within(input, limits, alloc);
+    let read = T::deserialize(&mut cursor, alloc);
+    let behind = unread(&cursor);
     match read {
-        Ok(value) => Ok((value, input.len().saturating_sub(left))),
+        Ok(value) => Ok((value, input.len().saturating_sub(behind))),
         Err(error) => Err(Refusal {
             error,
-            at: (decoder.fault() as usize).min(input.len()),
+            at: (cursor.fault() as usize).min(input.len()),
         }),
     }
 }

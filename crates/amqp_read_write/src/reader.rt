@@ -73,7 +73,7 @@ pub fn from_reader_within<T: Deserialize, R: ByteSource>(
     ensures taken { Tells R.remaining → T.reading.one_term ≡ true → R.failed reader.new ≡ false
         → (n : ℕ) × Has (limit_of limits.now.bytes) n × (known (R.remaining reader.new) ≡ drop n (known (R.remaining reader.old))) }
 {
-    let (read, _place, _reader) = read_named::<T, _, Brand>(reader, limits, alloc);
+    let (read, _place) = read_placed(reader, limits, alloc);
     read
 }
 
@@ -102,7 +102,7 @@ pub fn from_reader_located<T: Deserialize, R: ByteSource>(
     ensures taken { Tells R.remaining → T.reading.one_term ≡ true → R.failed reader.new ≡ false
         → (n : ℕ) × Has (limit_of limits.now.bytes) n × (known (R.remaining reader.new) ≡ drop n (known (R.remaining reader.old))) }
 {
-    let (read, place, _reader) = read_named::<T, _, Brand>(reader, limits, alloc);
+    let (read, place) = read_placed(reader, limits, alloc);
     match read {
         Ok(value) => Ok(value),
         Err(error) => Err(Refusal {
@@ -110,6 +110,34 @@ pub fn from_reader_located<T: Deserialize, R: ByteSource>(
             at: place as usize,
         }),
     }
+}
+
+// Within the limits, the value at the start of the reader's bytes, or an error, and where the fault stands.
+fn read_placed<T: Deserialize, R: ByteSource>(
+    reader: &mut R,
+    limits: &Limits,
+    alloc: Global,
+) -> (Result<T, Error>, u64)
+    ensures found { Tells R.remaining
+        → IfOk result.0 (λ v. (n : ℕ) × BeginsWithin limits.now T.reading (known (R.remaining reader.old)) v n) }
+    ensures one { Tells R.remaining → IfOk result.0 (λ v. (w : _) (m : ℕ)
+        → BeginsWithin limits.now T.reading (known (R.remaining reader.old)) w m → T.reading.same v w) }
+    ensures behind { Tells R.remaining → T.reading.looks_on ≡ false
+        → IfOk result.0 (λ v. (w : _) (n : ℕ) → BeginsWithin limits.now T.reading (known (R.remaining reader.old)) w n
+        → known (R.remaining reader.new) ≡ drop n (known (R.remaining reader.old))) }
+    ensures refused { Tells R.remaining → IfErr result.0 (λ e. ((T.reading.takes_memory ≡ true) × (e ≡ Memory))
+        ⊎ ((IsReadError e × (R.failed reader.new ≡ true))
+        ⊎ IsUnreadableWithin limits.now T.reading (known (R.remaining reader.old)) e)) }
+    ensures memory { IfErr result.0 (λ e. e ≡ Memory → T.reading.takes_memory ≡ true) }
+    ensures limited { IfErr result.0 (λ e. e ≡ Limit → IsGreatest limits.now → ⊥) }
+    ensures failed { IfErr result.0 (λ e. IsReadError e → R.failed reader.new ≡ true) }
+    ensures failing { MatchResult result.0 (λ _. R.failed reader.new ≡ R.failed reader.old)
+        (λ e. (R.failed reader.new ≡ R.failed reader.old) ⊎ IsReadError e) }
+    ensures taken { Tells R.remaining → T.reading.one_term ≡ true → R.failed reader.new ≡ false
+        → (n : ℕ) × Has (limit_of limits.now.bytes) n × (known (R.remaining reader.new) ≡ drop n (known (R.remaining reader.old))) }
+{
+    let (read, place, _reader) = read_named::<T, _, Brand>(reader, limits, alloc);
+    (read, place)
 }
 
 // The name of a source, which a call chooses.

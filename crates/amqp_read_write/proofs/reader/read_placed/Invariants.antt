@@ -2,7 +2,7 @@ use Rattle.std.proofs.Common.{length}
 use Rattle.amqp_wire.specs.Sources.{known}
 use Rattle.amqp_wire.specs.Limits.{limit_of}
 use Rattle.amqp_read_write.specs.Reserved.{reserved}
-use Rattle.amqp_read_write.proofs.reader.from_reader_within.Given as goal
+use Rattle.amqp_read_write.proofs.reader.read_placed.Given as goal
 
 abbrev pub ghosts-read_named : goal.ghosts-read_named
 ghosts-read_named g a = record {

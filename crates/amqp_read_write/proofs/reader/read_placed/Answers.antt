@@ -1,7 +1,7 @@
 use Rattle.std.proofs.Common.{◌≡◌, ℕ, List, drop, Result, Ok, Err, IfOk, arith, ◌∙◌}
 use Rattle.std.proofs.lemmas.Grind.{common_steps}
 use Rattle.amqp_wire.specs.declared.error.Error.{Error}
-use Rattle.amqp_read_write.proofs.reader.from_reader_within.Goals as goal
+use Rattle.amqp_read_write.proofs.reader.read_placed.Goals as goal
 
 -- what is left of one reader is what is left of another
 left_alike : {T : Type 0} (res : Result T Error) (reads : T → ℕ → Type 0) (input left there : List ℕ) → left ≡ there
