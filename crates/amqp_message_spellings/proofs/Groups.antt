@@ -100,8 +100,8 @@ module _ {T : Type 0} (uv : TermType (AmqpValue T)) (ud : TermType DataSection) 
 
   body_is_read : IsReadAs body_type (IsBody uv ud us)
   body_is_read = record {
-    bound = body_bound _ _ _ (term_is_read uv).bound (section_is_read 0x75 (batch_is_read 0x75 ud)).bound
-        (section_is_read 0x76 (batch_is_read 0x76 us)).bound;
+    bound = body_bound (reading_of uv) (batch_reading 0x75 (reading_of ud)) (batch_reading 0x76 (reading_of us)) (term_is_read uv).bound
+        (section_is_read 0x75 (batch_is_read 0x75 ud)).bound (section_is_read 0x76 (batch_is_read 0x76 us)).bound;
     spelled = body_spelled;
     read = body_read;
   }
