@@ -33,7 +33,7 @@ seen_alike st c mid p = subst (AreAlike st) (sym p.kept) (by_shared st.top.share
 kept_here : (st mid : State) (e : Error) (new : State) → st.error ≡ None → mid.error ≡ None → mid.failed ≡ st.failed
     → RefusesBy NotSection mid e new → (e ≡ NotSection → NoSection st e) → Refuses st e new
 kept_here st mid e new was going same refused named = record {
-  kept = answered_later same (first_kept going refused);
+  kept = answered_later same (first_kept {st = mid} going refused);
   again = λ d x. absurd (cc);
   named = λ _. inr (named (refused going).0);
   none = inr (λ v b h. h);

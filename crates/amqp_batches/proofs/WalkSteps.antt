@@ -158,7 +158,7 @@ module _ {M V : Type 0} (w : Walk M V) where
       let going = s.error ∙ u.0 in
       let is = (refused going).0 in
       record {
-        kept = answered_later s.sound (first_kept going refused);
+        kept = answered_later s.sound (first_kept {st = here} going refused);
         again = λ d x. (let g = u.0 in absurd (cc));
         named = λ _. inl (inl (takes, is));
         none = inl (inl (takes, is));
@@ -189,7 +189,7 @@ module _ {M V : Type 0} (w : Walk M V) where
       let is = (refused going).0 in
       let left = subst (w.done m) (alike_rest h.last here (alike_trans h.last mid here h.here a)) d in
       record {
-        kept = answered_later s.sound (first_kept going refused);
+        kept = answered_later s.sound (first_kept {st = here} going refused);
         again = λ d x. (let g = u.0 in absurd (cc));
         named = λ _. inr (not_made h.number m h.last h.steps left (subst (w.unfinished m) (sym is) f));
         none = inr (none_made st m mid here error h a d f);

@@ -3,7 +3,7 @@ use Rattle.std.proofs.Common.{◌≡◌, ℕ, Bool, ap, subst}
 use Rattle.amqp_model.specs.Term.{Descriptor}
 use Rattle.amqp_wire.specs.declared.error.Error.{Error}
 use Rattle.amqp_wire.specs.declared.error.Error.TheVariants.{NotSection}
-use Rattle.amqp_decoder.specs.State.{State}
+use Rattle.amqp_decoder.specs.State.{Source, State}
 use Rattle.amqp_decoder.specs.Steps.{IsOutside}
 use Rattle.amqp_decoder.specs.Reading.{ReadsCode, BeginFault}
 use Rattle.amqp_decoder.specs.Described.{OpensDescribed, OpenFault}
@@ -30,7 +30,7 @@ no_section_not_outside e o st (other_value b n i) = no_outside e o i
 no_section_not_outside e o st (no_descriptor {seen} a f) = open_described_not_outside o seen f
 no_section_not_outside e o st (other_descriptor a d i) = no_outside e o i
 
-pub no_section_elsewhere : (source : ℕ) (failed : Bool) (st : State) (e : Error) → NoSection st e
+pub no_section_elsewhere : (source : Source) (failed : Bool) (st : State) (e : Error) → NoSection st e
     → NoSection (elsewhere source failed st) e
 no_section_elsewhere source failed st e (no_code f) =
     no_code (subst (λ x. BeginFault x e) (another_is source failed st) (begin_fault (another source failed) (keeps_another source failed e) f))

@@ -8,7 +8,7 @@ use Rattle.amqp_wire.specs.declared.error.Error.{Error}
 use Rattle.amqp_wire.specs.declared.error.Error.TheVariants.{WrongDescriptor, InvalidValue}
 use Rattle.amqp_lookahead.specs.Sections.{IsSectionAhead}
 use Rattle.amqp_encoder.specs.Passes.{row_text}
-use Rattle.amqp_decoder.specs.State.{State}
+use Rattle.amqp_decoder.specs.State.{Source, State}
 use Rattle.amqp_decoder.specs.Steps.{IsOutside}
 use Rattle.amqp_decoder.specs.Sections.{NotTop}
 use Rattle.amqp_decoder.specs.OtherSource.{elsewhere}
@@ -60,7 +60,7 @@ module _ {V : Type 0} (c : ℕ) (r : Reading V) where
     in_run : IsSectionAhead st.rest c → r.fault st e → RunFault st e
     other_section : (IsSectionAhead st.rest c → ⊥) → e ≡ WrongDescriptor → RunFault st e
 
-  pub run_fault_elsewhere : (source : ℕ) (failed : Bool) (st : State) (e : Error) → RunFault st e → RunFault (elsewhere source failed st) e
+  pub run_fault_elsewhere : (source : Source) (failed : Bool) (st : State) (e : Error) → RunFault st e → RunFault (elsewhere source failed st) e
   run_fault_elsewhere source failed st e (not_top n) = not_top n
   run_fault_elsewhere source failed st e (in_run a f) = in_run a (r.fault_elsewhere source failed st e f)
   run_fault_elsewhere source failed st e (other_section n i) = other_section n i

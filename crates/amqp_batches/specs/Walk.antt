@@ -2,7 +2,7 @@
 use Rattle.std.specs.Prelude.{◌≡◌, ℕ, zero, suc, ◌+◌, ◌≤◌, Bool, true, false, List, [], length, None}
 use Rattle.amqp_wire.specs.declared.error.Error.{Error}
 use Rattle.amqp_decoder.specs.declared.frame.Place.TheVariants.{Top}
-use Rattle.amqp_decoder.specs.State.{State}
+use Rattle.amqp_decoder.specs.State.{Source, State}
 use Rattle.amqp_decoder.specs.Steps.{IsOutside}
 use Rattle.amqp_decoder.specs.Sections.{NotTop}
 use Rattle.amqp_decoder.specs.OtherSource.{elsewhere}
@@ -48,7 +48,7 @@ pub record Walk (M V : Type 0) : Type 1 where
   -- one step comes next at most, and it doesn't hang on how far was looked, nor on the source
   pub step_one : (st : State) (m n x y : M) (a b : State) → alike m n → step st m x a → step st n y b → alike x y × AreAlike a b
   pub step_looked : (k : ℕ) (st : State) (m x : M) (b : State) → step st m x b → (j : ℕ) × step (looking k st) m x (looking j b)
-  pub step_elsewhere : (source : ℕ) (failed : Bool) (st : State) (m x : M) (b : State) → step st m x b
+  pub step_elsewhere : (source : Source) (failed : Bool) (st : State) (m x : M) (b : State) → step st m x b
       → step (elsewhere source failed st) m x (elsewhere source failed b)
   pub step_leaves : (st : State) (m x : M) (b : State) → step st m x b → Leaves st (weight m) (weight x) b
   -- where none comes next, none is made
@@ -59,7 +59,7 @@ pub record Walk (M V : Type 0) : Type 1 where
   pub finish_counted : (m : M) (v : V) → finish m v → count v ≤ weight m
   pub finish_or : (m n : M) (v : V) (e : Error) → alike m n → finish m v → unfinished n e → ⊥
   -- of the faults
-  pub fault_elsewhere : (source : ℕ) (failed : Bool) (st : State) (m : M) (e : Error) → fault st m e
+  pub fault_elsewhere : (source : Source) (failed : Bool) (st : State) (m : M) (e : Error) → fault st m e
       → fault (elsewhere source failed st) m e
   pub not_outside : (e : Error) → IsOutside e → (st : State) (m : M) → fault st m e → ⊥
   pub unfinished_not_outside : (e : Error) → IsOutside e → (m : M) → unfinished m e → ⊥

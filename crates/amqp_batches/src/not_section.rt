@@ -16,9 +16,10 @@ pub fn no_section<R: ByteSource>(decoder: &mut Decoder<R>, alloc: Global) -> Err
     ensures read { Tells R.remaining → RefusesRead true (λ st (none : Unit {0}) b. ⊥) NoSection decoder.old result decoder.new }
     ensures tries { Refused true decoder.old result decoder.new }
 {
+    let place = decoder.place();
     match decoder.peek_code() {
         Ok(format_code::DESCRIBED) => match decoder.begin_described(alloc) {
-            Ok(_descriptor) => decoder.refuse(Error::NotSection),
+            Ok(_descriptor) => decoder.refuse_at(place, Error::NotSection),
             Err(error) => error,
         },
         Ok(_code) => decoder.refuse(Error::NotSection),

@@ -80,7 +80,7 @@ module _ {V : Type 0} (r : Reading V) where
       let s = alike_stays st here alike in
       let going = s.error ∙ k.going in
       record {
-        kept = answered_later s.sound (first_kept going refused);
+        kept = answered_later s.sound (first_kept {st = here} going refused);
         again = λ d x. (let g = k.going in absurd (cc));
         named = λ g. inr (record { seen = here; alike = alike; fault = subst (r.fault here) (sym (refused going).0) named });
         none = inr (λ v b h.

@@ -6,7 +6,7 @@ use Rattle.amqp_wire.specs.declared.error.Error.{Error}
 use Rattle.amqp_wire.specs.declared.error.Error.TheVariants.{WrongDescriptor, InvalidValue}
 use Rattle.amqp_lookahead.specs.Sections.{IsSectionAhead}
 use Rattle.amqp_lookahead.proofs.SectionsAhead.{one_ahead}
-use Rattle.amqp_decoder.specs.State.{State}
+use Rattle.amqp_decoder.specs.State.{Source, State}
 use Rattle.amqp_decoder.specs.Steps.{IsOutside}
 use Rattle.amqp_decoder.specs.Sections.{NotTop}
 use Rattle.amqp_decoder.specs.OtherSource.{elsewhere}
@@ -148,14 +148,14 @@ module _ {T : Type 0} (rv : Reading (AmqpValue T)) (rd : Reading (TransparentVec
   body_looked n st (Sequence v) b h = let f = rs.looked n st v b h.1.1 in (f.0, (h.0, (h.1.0, f.1)))
   body_looked n st Empty b h = absurd h
 
-  pub body_elsewhere : (source : ℕ) (failed : Bool) (st : State) (v : Body T) (b : State) → BodyReads st v b
+  pub body_elsewhere : (source : Source) (failed : Bool) (st : State) (v : Body T) (b : State) → BodyReads st v b
       → BodyReads (elsewhere source failed st) v (elsewhere source failed b)
   body_elsewhere source failed st (Value v) b h = (h.0, (h.1.0, rv.reads_elsewhere source failed st v b h.1.1))
   body_elsewhere source failed st (Data v) b h = (h.0, (h.1.0, rd.reads_elsewhere source failed st v b h.1.1))
   body_elsewhere source failed st (Sequence v) b h = (h.0, (h.1.0, rs.reads_elsewhere source failed st v b h.1.1))
   body_elsewhere source failed st Empty b h = absurd h
 
-  pub fault_elsewhere : (source : ℕ) (failed : Bool) (st : State) (e : Error) → BodyFault st e → BodyFault (elsewhere source failed st) e
+  pub fault_elsewhere : (source : Source) (failed : Bool) (st : State) (e : Error) → BodyFault st e → BodyFault (elsewhere source failed st) e
   fault_elsewhere source failed st e (not_top n) = not_top n
   fault_elsewhere source failed st e (in_value a f) = in_value a (rv.fault_elsewhere source failed st e f)
   fault_elsewhere source failed st e (in_data a f) = in_data a (rd.fault_elsewhere source failed st e f)

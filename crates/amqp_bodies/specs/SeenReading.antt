@@ -2,7 +2,7 @@
 use Rattle.std.proofs.Common.{◌≡◌, ℕ, ◌+◌, ◌≤◌, Bool, true, false, List, length, drop, None, refl, sym, ap, ◌∙◌, subst, arith}
 use Rattle.amqp_model.specs.Term.{Term}
 use Rattle.amqp_wire.specs.declared.error.Error.{Error}
-use Rattle.amqp_decoder.specs.State.{State}
+use Rattle.amqp_decoder.specs.State.{Source, State}
 use Rattle.amqp_decoder.specs.OtherSource.{elsewhere}
 use Rattle.amqp_codec.specs.Reading.{Reading, Taken, looking, AreAlike, greatest, start, start_within, BeginsWith, BeginsWithin}
 use Rattle.amqp_wire.specs.declared.limits.Limits.{Limits}
@@ -59,7 +59,7 @@ module _ {V : Type 0} (r : Reading V) where
         ahead = λ e. absurd (cc);
       }
 
-  pub seen_elsewhere : (source : ℕ) (failed : Bool) (st : State) (v : V) (b : State) → SeenReads st v b
+  pub seen_elsewhere : (source : Source) (failed : Bool) (st : State) (v : V) (b : State) → SeenReads st v b
       → SeenReads (elsewhere source failed st) v (elsewhere source failed b)
   seen_elsewhere source failed st v b h = record {
     seen = elsewhere source failed h.seen;
@@ -67,7 +67,7 @@ module _ {V : Type 0} (r : Reading V) where
     read = r.reads_elsewhere source failed h.seen v b h.read;
   }
 
-  pub seen_fault_elsewhere : (source : ℕ) (failed : Bool) (st : State) (e : Error) → SeenFault st e → SeenFault (elsewhere source failed st) e
+  pub seen_fault_elsewhere : (source : Source) (failed : Bool) (st : State) (e : Error) → SeenFault st e → SeenFault (elsewhere source failed st) e
   seen_fault_elsewhere source failed st e h = record {
     seen = elsewhere source failed h.seen;
     alike = ap (elsewhere source failed) h.alike;

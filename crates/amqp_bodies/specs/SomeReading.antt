@@ -2,7 +2,7 @@
 use Rattle.std.proofs.Common.{◌≡◌, ℕ, ◌+◌, ◌≤◌, Bool, true, length, Option, Some, None}
 use Rattle.amqp_model.specs.FieldRules.{SameOption}
 use Rattle.amqp_model.specs.laws.Option.{option_sym, option_trans}
-use Rattle.amqp_decoder.specs.State.{State}
+use Rattle.amqp_decoder.specs.State.{Source, State}
 use Rattle.amqp_decoder.specs.OtherSource.{elsewhere}
 use Rattle.amqp_codec.specs.Reading.{Reading, Taken, Stays, apart, looking, AreAlike}
 use Rattle.amqp_batches.specs.Bounds.{IsBoundByLimits}
@@ -42,7 +42,7 @@ module _ {T : Type 0} (r : Reading T) where
   some_looked n st None b h = absurd h
   some_looked n st (Some v) b h = r.looked n st v b h
 
-  pub some_elsewhere : (source : ℕ) (failed : Bool) (st : State) (v : Option T) (b : State) → SomeReads st v b
+  pub some_elsewhere : (source : Source) (failed : Bool) (st : State) (v : Option T) (b : State) → SomeReads st v b
       → SomeReads (elsewhere source failed st) v (elsewhere source failed b)
   some_elsewhere source failed st None b h = absurd h
   some_elsewhere source failed st (Some v) b h = r.reads_elsewhere source failed st v b h

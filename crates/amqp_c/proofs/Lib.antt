@@ -1,6 +1,1 @@
 mod Requests
-mod Announced
-mod Shared
-mod Told
-mod Walking
-mod FieldsMet

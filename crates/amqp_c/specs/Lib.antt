@@ -3,9 +3,7 @@ pub mod Outcomes
 pub mod Errors
 pub mod Room
 pub mod Terms
-pub mod Items
 pub mod Nodes
 pub mod Rewriting
-pub mod Walks
 pub mod Fields
 pub mod Descriptors

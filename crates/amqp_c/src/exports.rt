@@ -10,13 +10,12 @@ ghost use Rattle.amqp_c.specs.Rewriting.{IsNumberOf, Reads, Rewrites, Written};
 
 use crate::descriptors::{field_name, type_of_code};
 use crate::errors::name_of_number;
-use crate::fields::field_node;
 use crate::limits::GivenLimits;
-use crate::nodes::{Node, next_node};
 use crate::outcome::{DONE, FULL, Outcome};
 use crate::rewriting::{canonical_into, value_len};
 use crate::room::put;
 use amqp_lines::TypeName;
+use amqp_nodes::{Node, field_node, next_node};
 use fe2o3_amqp_types::codec::term_len;
 use std::alloc::Global;
 

@@ -6,21 +6,17 @@
 mod descriptors;
 mod errors;
 mod exports;
-mod fields;
-mod laws;
 mod limits;
-mod nodes;
 mod outcome;
 mod rewriting;
 mod room;
 #[cfg(test)]
 mod tests;
 
+pub use amqp_nodes::Node;
 pub use exports::{
     amqp_c_canonical, amqp_c_error_name, amqp_c_field, amqp_c_field_name, amqp_c_greatest,
     amqp_c_next, amqp_c_read, amqp_c_term_len, amqp_c_type, amqp_c_type_of_descriptor,
 };
-pub use laws::{composite_fields, walks};
 pub use limits::GivenLimits;
-pub use nodes::Node;
 pub use outcome::Outcome;

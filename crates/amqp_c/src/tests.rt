@@ -4,8 +4,8 @@ use crate::exports::{
     amqp_c_next, amqp_c_read, amqp_c_term_len, amqp_c_type, amqp_c_type_of_descriptor,
 };
 use crate::limits::GivenLimits;
-use crate::nodes::Node;
 use crate::outcome::Outcome;
+use amqp_nodes::Node;
 use std::test::Fail;
 
 // A `Received` of section 9 and offset 13, in wider codes than it needs, and a byte after it.

@@ -163,7 +163,7 @@ module _ {V : Type 0} (fs : Fields V) where
       let going = so_far_still st n i v mid h in
       let is = by ∙ ap Some (sym (refused going).0) in
       record {
-        kept = answered_later (so_far_failed st n i v mid h) (first_kept going refused);
+        kept = answered_later (so_far_failed st n i v mid h) (first_kept {st = mid} going refused);
         again = λ d x. absurd (let y = so_far_going st n i v mid h in cc);
         named = λ _. inr (left_out h l k is);
         none = inr (λ w b q.
@@ -240,7 +240,7 @@ module _ {V : Type 0} (fs : Fields V) (i : ℕ) where
   null_unfit st b e new by refused h =
       let is = by ∙ ap Some (sym (refused (value_going h)).0) in
       record {
-        kept = answered_later (ap (λ (x : State). x.failed) h.moved) (first_kept (value_going h) refused);
+        kept = answered_later (ap (λ (x : State). x.failed) h.moved) (first_kept {st = b} (value_going h) refused);
         again = λ d x. absurd (let going = h.stands.going in cc);
         named = λ _. inr (null_item h is);
         none = inr (λ w c k.

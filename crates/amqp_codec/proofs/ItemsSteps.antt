@@ -73,7 +73,7 @@ module _ {T V : Type 0} (n : ℕ) (means : Standing → Term → T → Type 0) (
       let still = each_still means st (vs ++ v ∷ []) mid h in
       let is = (refused (still.0 ∙ was)).0 in
       record {
-        kept = answered_later still.1 (first_kept (still.0 ∙ was) refused);
+        kept = answered_later still.1 (first_kept {st = mid} (still.0 ∙ was) refused);
         again = λ d x. absurd (cc);
         named = λ _. inl (inl (refl, is));
         none = inl (inl (refl, is));

@@ -94,7 +94,7 @@ module _ {K V : Type 0} (key : TermType K) (value : TermType V) where
         → RefusesBy DuplicateKey after e new → RefusesRead true row row_fault st e new
     key_twice st ps mid k after e new h o r same refused =
         twice_behind st ps mid k after e new h o r same (refused (value_going r)).0
-        (answered_later (ap (λ (x : State). x.failed) r.moved ∙ (pairs_still key value st ps mid h.each).1) (first_kept (value_going r) refused))
+        (answered_later (ap (λ (x : State). x.failed) r.moved ∙ (pairs_still key value st ps mid h.each).1) (first_kept {st = after} (value_going r) refused))
 
     -- or all pairs were read, and the key of one is that of a pair before it,
     pub row_twice : (st : State) (ps : List (K × V)) (b : State) (e : Error) (new : State) → length ps ≡ n → Pairs key value st ps b
@@ -109,7 +109,7 @@ module _ {K V : Type 0} (key : TermType K) (value : TermType V) where
           each = s.before;
         } in
         twice_behind st t.before s.mid t.pair.0 s.after e new h t.others s.at_key t.known (refused going).0
-        (answered_later still.1 (first_kept going refused))
+        (answered_later still.1 (first_kept {st = b} going refused))
 
     -- or its value wasn't read,
     pub value_refused : {takes : Bool} (st : State) (ps : List (K × V)) (mid : State) (k : K) (after : State) (e : Error) (new : State)
@@ -139,7 +139,7 @@ module _ {K V : Type 0} (key : TermType K) (value : TermType V) where
     pub no_memory : (st : State) (ps : List (K × V)) (b : State) (e : Error) (new : State) → Pairs key value st ps b → b.error ≡ None
         → RefusesBy Memory b e new → RefusesRead true row row_fault st e new
     no_memory st ps b e new each going refused = record {
-      kept = answered_later (pairs_still key value st ps b each).1 (first_kept going refused);
+      kept = answered_later (pairs_still key value st ps b each).1 (first_kept {st = b} going refused);
       again = λ d x. absurd (let before = was_going st ps b each going in cc);
       named = λ _. inl (inl (refl, (refused going).0));
       none = inl (inl (refl, (refused going).0));
@@ -150,7 +150,7 @@ module _ {K V : Type 0} (key : TermType K) (value : TermType V) where
         → Pairs key value st ps mid → ReadsValue key.means mid k after → RefusesBy Memory after e new
         → RefusesRead true row row_fault st e new
     no_place st ps mid k after e new h r refused =
-        no_place_behind st ps mid k after e new h r (refused (value_going r)).0 (first_kept (value_going r) refused)
+        no_place_behind st ps mid k after e new h r (refused (value_going r)).0 (first_kept {st = after} (value_going r) refused)
 
     -- or behind it
     pub no_room : (st : State) (ps : List (K × V)) (mid : State) (k : K) (after : State) (v : V) (last : State) (e : Error) (new : State)
@@ -158,7 +158,7 @@ module _ {K V : Type 0} (key : TermType K) (value : TermType V) where
         → RefusesBy Memory last e new → RefusesRead true row row_fault st e new
     no_room st ps mid k after v last e new h r q refused =
         no_place_behind st ps mid k after e new h r (refused (value_going q)).0
-        (answered_later (ap (λ (x : State). x.failed) q.moved) (first_kept (value_going q) refused))
+        (answered_later (ap (λ (x : State). x.failed) q.moved) (first_kept {st = last} (value_going q) refused))
 
   -- a whole map
   abbrev Meant : Standing → Term → List (K × V) → Type 0

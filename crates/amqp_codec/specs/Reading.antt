@@ -6,7 +6,7 @@ use Rattle.amqp_model.specs.Measures.{nest, weight}
 use Rattle.amqp_wire.specs.declared.error.Error.{Error}
 use Rattle.amqp_wire.specs.declared.limits.Limits.{Limits}
 use Rattle.amqp_wire.specs.Limits.{unlimited, limit_of}
-use Rattle.amqp_decoder.specs.State.{State, Has, top_level, started}
+use Rattle.amqp_decoder.specs.State.{Source, State, Has, top_level, started}
 pub use Rattle.amqp_decoder.specs.State.{greatest}
 use Rattle.amqp_decoder.specs.OtherSource.{elsewhere, IsByDepth}
 use Rattle.amqp_decoder.specs.Misspelled.{IsMisspelling}
@@ -95,9 +95,9 @@ pub record Reading (T : Type 0) : Type 1 where
   -- it doesn't hang on how far was looked
   pub looked : (n : ℕ) (st : State) (v : T) (b : State) → reads st v b → (m : ℕ) × reads (looking n st) v (looking m b)
   -- it doesn't hang on the source
-  pub reads_elsewhere : (source : ℕ) (failed : Bool) (st : State) (v : T) (b : State) → reads st v b
+  pub reads_elsewhere : (source : Source) (failed : Bool) (st : State) (v : T) (b : State) → reads st v b
       → reads (elsewhere source failed st) v (elsewhere source failed b)
-  pub fault_elsewhere : (source : ℕ) (failed : Bool) (st : State) (e : Error) → fault st e → fault (elsewhere source failed st) e
+  pub fault_elsewhere : (source : Source) (failed : Bool) (st : State) (e : Error) → fault st e → fault (elsewhere source failed st) e
   -- a type of terms looks at nothing behind one, so it is the same where one term is read alone
   pub reads_alone : one_term ≡ true → (alone : Bool) (st : State) (v : T) (b : State) → reads st v b → reads (apart alone st) v (apart alone b)
   pub fault_alone : one_term ≡ true → (alone : Bool) (st : State) (e : Error) → fault st e → fault (apart alone st) e

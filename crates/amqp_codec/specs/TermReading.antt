@@ -1,6 +1,6 @@
 -- The reading of a type of terms: one term that means the value.
 use Rattle.std.proofs.Common.{◌≡◌, ℕ, Bool, true, false, refl, sym, ap, ap₂, ◌∙◌, subst, arith}
-use Rattle.amqp_decoder.specs.State.{State}
+use Rattle.amqp_decoder.specs.State.{Source, State}
 use Rattle.amqp_decoder.specs.OtherSource.{Setting, another, under, elsewhere}
 use Rattle.amqp_decoder.specs.laws.OtherSource.{freed_kept, unlifted, keeps_another, value}
 use Rattle.amqp_decoder.specs.Primitives.{ReadsValue}
@@ -8,7 +8,7 @@ use Rattle.amqp_codec.specs.TermType.{TermType}
 use Rattle.amqp_codec.specs.Reading.{Reading, apart}
 use Rattle.amqp_codec.specs.laws.Reading.{value_counted, value_taken, value_stays, value_looked, value_alike, term_unspelled}
 
-pub another_is : (source : ℕ) (failed : Bool) (st : State) → under (another source failed) st ≡ elsewhere source failed st
+pub another_is : (source : Source) (failed : Bool) (st : State) → under (another source failed) st ≡ elsewhere source failed st
 another_is source failed st =
     ap₂ (λ q fs. record (elsewhere source failed st) { quota = q; saved = fs }) (freed_kept st.quota) (unlifted st.saved)
 

@@ -89,9 +89,10 @@ fn read_in_order<K: MapKey + Ord, V: DeserializeTerm, R: ByteSource>(
 {
     let mut map = BTreeMap::new(alloc);
     for _ in 0..count {
+        let place = decoder.place();
         let key = K::read_value(decoder, alloc)?;
         if is_known(&map, &key) {
-            return Err(decoder.refuse(Error::DuplicateKey));
+            return Err(decoder.refuse_at(place, Error::DuplicateKey));
         }
         let value = V::read_value(decoder, alloc)?;
         if map.insert(key, value).is_err() {

@@ -133,14 +133,17 @@ fn absence(rule: FieldRule) -> Option<Error>
     }
 }
 
-// A field may be null or omitted.
+// A field may be null, which was taken.
 #[inline(always)]
 fn check_absent<R: ByteSource>(rule: FieldRule, decoder: &mut Decoder<R>) -> Result<(), Error>
     ensures ok { IfOk result (λ _. (absence rule ≡ None) × (decoder.new ≡ decoder.old)) }
     ensures err { IfErr result (λ e. (error : _) × (absence rule ≡ Some error) × RefusesBy error decoder.old e decoder.new) }
 {
     match absence(rule) {
-        Some(error) => Err(decoder.refuse(error)),
+        Some(error) => {
+            let null = decoder.place().wrapping_sub(1);
+            Err(decoder.refuse_at(null, error))
+        }
         None => Ok(()),
     }
 }

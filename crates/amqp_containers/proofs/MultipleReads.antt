@@ -175,7 +175,7 @@ module _ {T : Type 0} (u : TermType T) where
     pub no_room : (x : T) (b : State) (e : Error) (new : State) → RefusesBy Memory b e new → ReadsValue u.means mid x b
         → RefusesRead true Several SeveralFault st e new
     no_room x b e new refused h = let is = (refused (value_going h)).0 in record {
-      kept = answered_later (ap (λ (z : State). z.failed) h.moved ∙ peeked_failed st c mid p) (first_kept (value_going h) refused);
+      kept = answered_later (ap (λ (z : State). z.failed) h.moved ∙ peeked_failed st c mid p) (first_kept {st = b} (value_going h) refused);
       again = λ d y. absurd (let z = (peeked_going st c mid p).0 in cc);
       named = λ _. inl (inl (refl, is));
       none = inl (inl (refl, is));
@@ -224,7 +224,7 @@ module _ {T : Type 0} (u : TermType T) where
       let h : Several st None mid = subst (λ x. Several st x mid) empty k in
       let is = (refused (value_going h)).0 in
       record {
-        kept = answered_later (ap (λ (z : State). z.failed) h.moved) (first_kept (value_going h) refused);
+        kept = answered_later (ap (λ (z : State). z.failed) h.moved) (first_kept {st = mid} (value_going h) refused);
         again = λ d y. absurd (let z = h.stands.going in cc);
         named = λ _. inr (no_items h is);
         none = inr (λ v b k. (let x = value_same (MeansMultiple u) st mid b None (Some v) h (as_several st v b k) in

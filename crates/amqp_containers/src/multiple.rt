@@ -77,12 +77,13 @@ pub fn read_mandatory_multiple<T: DeserializeTerm, R: ByteSource>(
         decoder.old place.new result decoder.new }
     ensures tries { Tries true decoder.old result decoder.new }
 {
+    let start = decoder.place();
     match read_several(decoder, alloc)? {
         Some(items) => {
             *place = items;
             Ok(())
         }
-        None => Err(decoder.refuse(Error::EmptyMultiple)),
+        None => Err(decoder.refuse_at(start, Error::EmptyMultiple)),
     }
 }
 

@@ -7,7 +7,7 @@ use Rattle.amqp_model.specs.Measures.{share, weight}
 use Rattle.amqp_wire.specs.declared.error.Error.{Error}
 use Rattle.amqp_wire.specs.declared.error.Error.TheVariants.{Limit}
 use Rattle.amqp_wire.specs.Limits.{unlimited}
-use Rattle.amqp_decoder.specs.State.{State, Has, lower, counted, counted_by, counted_in, is_shared}
+use Rattle.amqp_decoder.specs.State.{refused_at, State, Has, lower, counted, counted_by, counted_in, is_shared}
 use Rattle.amqp_decoder.specs.Reading.{IsFirst}
 use Rattle.amqp_decoder.specs.Primitives.{standing, SpellsAs}
 use Rattle.amqp_decoder.proofs.Steps.{has_less}
@@ -42,8 +42,8 @@ capped_ok (Ok v) st new most n m is less e (h, k) =
 capped_ok (Err x) st new most n m is less e h = h
 
 pub capped_err : {A : Type 0} (r : Result A Error) (st new : State) (n m : ℕ) → m ≡ min n unlimited
-    → IfErr r (λ e. (Has st.quota m → ⊥) × (e ≡ Limit) × (new ≡ record st { error = Some Limit }))
-    → IfErr r (λ e. (Has st.quota n → ⊥) × (e ≡ Limit) × (new ≡ record st { error = Some Limit }))
+    → IfErr r (λ e. (Has st.quota m → ⊥) × (e ≡ Limit) × (new ≡ refused_at Limit new.source.fault st))
+    → IfErr r (λ e. (Has st.quota n → ⊥) × (e ≡ Limit) × (new ≡ refused_at Limit new.source.fault st))
 capped_err (Ok v) st new n m e h = h
 capped_err (Err x) st new n m e (full, is, h) = (capped_passes st.quota n m e full, is, h)
 

@@ -11,7 +11,7 @@ use Rattle.amqp_wire.specs.declared.error.Error.{Error}
 use Rattle.amqp_wire.specs.declared.error.Error.TheVariants.{NonAscii, WrongDescriptor}
 use Rattle.amqp_wire.specs.Codes.{refusal_of}
 use Rattle.amqp_wire.specs.declared.descriptor.Descriptor.{Descriptor as DescriptorValue}
-use Rattle.amqp_decoder.specs.State.{State, depth_error, Has, after_bytes, after_data, descriptor_of}
+use Rattle.amqp_decoder.specs.State.{refused_at, State, depth_error, Has, after_bytes, after_data, descriptor_of}
 use Rattle.amqp_decoder.specs.Steps.{Answers, IsExcused, Pulls, Takes, FallsShort}
 use Rattle.amqp_decoder.specs.Reading.{RefusesRead, IsFirst, ReadsCode, BeginFault}
 use Rattle.amqp_lookahead.specs.Kinds.{kind_at}
@@ -277,7 +277,7 @@ begun_fails fault st c m e new g kept why = record {
 }
 
 pub deep_fails : (st : State) (m : State) (e : Error) (new : State) → ReadsCode st 0 m → e ≡ depth_error m.nesting
-    → m.nesting ≤ length m.saved → new ≡ record m { error = Some (depth_error m.nesting) } → AnswersFault false DescribedFault st e new
+    → m.nesting ≤ length m.saved → new ≡ refused_at (depth_error m.nesting) new.source.fault m → AnswersFault false DescribedFault st e new
 deep_fails st m e new g is deep kept =
     let deep_ : st.nesting ≤ length st.saved = subst (λ (z : State). z.nesting ≤ length z.saved) g.moved deep in
     begun_fails DescribedFault st 0 m e new g (answered m new e (depth_error m.nesting) kept is)
@@ -343,7 +343,7 @@ one_other members st m named e new g t is kept =
 
 pub one_deep : (members : List Member) (st : State) (m : State) (place : Option ℕ) (named : State) (e : Error) (new : State)
     → ReadsCode st 0 m → TakesPlace members m place named → e ≡ depth_error named.nesting
-    → named.nesting ≤ length named.saved → new ≡ record named { error = Some (depth_error named.nesting) }
+    → named.nesting ≤ length named.saved → new ≡ refused_at (depth_error named.nesting) new.source.fault named
     → RefusesRead false (OpensOneOf members) (OneOfFault members) st e new
 one_deep members st m place named e new g t is deep kept =
     let deep_ : m.nesting ≤ length m.saved = subst (λ (z : State). z.nesting ≤ length z.saved) t.took.took.moved deep in
@@ -392,7 +392,7 @@ any_missed st m e new g f =
 
 pub any_deep : (st : State) (m : State) (d : Descriptor) (named : State) (e : Error) (new : State) → ReadsCode st 0 m
     → TakesDescriptor m d named → (e ≡ depth_error named.nesting) × (named.nesting ≤ length named.saved)
-    × (new ≡ record named { error = Some (depth_error named.nesting) })
+    × (new ≡ refused_at (depth_error named.nesting) new.source.fault named)
     → RefusesRead true Any OpenFault st e new
 any_deep st m d named e new g t (is, deep, kept) =
     let deep_ : m.nesting ≤ length m.saved = subst (λ (z : State). z.nesting ≤ length z.saved) t.took.moved deep in

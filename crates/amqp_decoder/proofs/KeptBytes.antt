@@ -8,7 +8,7 @@ use Rattle.std.specs.Int.{bytes_high_first}
 use Rattle.amqp_wire.specs.declared.error.Error.{Error}
 use Rattle.amqp_wire.specs.declared.error.Error.TheVariants.{NonAscii}
 use Rattle.amqp_lengths.specs.Pieces.{IsSized}
-use Rattle.amqp_decoder.specs.State.{State, Has, lower, after_bytes}
+use Rattle.amqp_decoder.specs.State.{refused_at, State, Has, lower, after_bytes}
 use Rattle.amqp_decoder.specs.Steps.{Pulls, Takes, Lacks, Stops}
 use Rattle.amqp_decoder.specs.Terms.{Keeps, IsSymbol, SymbolFault, no_text, no_ascii}
 use Rattle.amqp_decoder.proofs.Steps.{answered, answered_took, stopped_as, stopped_later, took_pulled}
@@ -80,7 +80,7 @@ stopped_text w n a b st m e new fits h s =
 pub stopped_ascii : (w n : ℕ) (a b c : List ℕ) (st m m' : State) (e : Error) (new : State) → n < 256 ^ w
     → ((y : List ℕ) → c ≡ b ++ y → IsAscii y → ⊥)
     → Keeps (λ s. s ≡ bytes_high_first w n) a st b m → Keeps (λ s. length s ≡ n) b m c m' → e ≡ NonAscii
-    → new ≡ record m' { error = Some NonAscii } → Stops true (SymbolFault w st) st e new
+    → new ≡ refused_at NonAscii new.source.fault m' → Stops true (SymbolFault w st) st e new
 stopped_ascii w n a b c st m m' e new fits bad h k named kept =
     let sized = sized_own w n h.own k.own fits h.is k.is in
     let took : Takes st (h.own ++ k.own) m' = took_both st m m' h.own k.own h.took k.took in

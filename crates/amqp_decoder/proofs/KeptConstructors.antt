@@ -11,7 +11,7 @@ use Rattle.amqp_wire.specs.Codes.{refusal_of}
 use Rattle.amqp_lengths.specs.Pieces.{NamesAny}
 use Rattle.amqp_lengths.specs.Lengths.{Marks}
 use Rattle.amqp_lengths.proofs.Descriptors.{marks_more, marks_done}
-use Rattle.amqp_decoder.specs.State.{State}
+use Rattle.amqp_decoder.specs.State.{refused_at, State}
 use Rattle.amqp_decoder.specs.Steps.{Answers, Takes, Lacks, Stops}
 use Rattle.amqp_lookahead.specs.Kinds.{kind_at}
 use Rattle.amqp_decoder.specs.Primitives.{LacksData, IsWhole}
@@ -82,7 +82,7 @@ unnamed_symbol c k w a b st m e new is F kind h s =
 
 pub unnamed_other : (c : ℕ) (a b : List ℕ) (st m : State) (e : Error) (new : State) → (c ≡ 0x44 → ⊥) → (c ≡ 0x53 → ⊥) → (c ≡ 0x80 → ⊥)
     → (c ≡ 0xa3 → ⊥) → (c ≡ 0xb3 → ⊥) → Keeps (λ s. s ≡ c ∷ []) a st b m
-    → e ≡ other_kind (refusal_of c) → new ≡ record m { error = Some e } → Stops true (DescriptorFault st) st e new
+    → e ≡ other_kind (refusal_of c) → new ≡ refused_at e new.source.fault m → Stops true (DescriptorFault st) st e new
 unnamed_other c a b st m e new zero_ small long narrow wide h is kept =
     let t = code_took c a b st m h in
     record {
@@ -138,7 +138,7 @@ constructor_kept n c a b st m new few some h (known, same) =
 
 -- why no constructor is kept
 pub unmarked_deep : (n : ℕ) (a b : List ℕ) (st m : State) (e : Error) (new : State) → n ≡ 128 → Keeps (IsMarked n 0) a st b m → e ≡ Depth
-    → new ≡ record m { error = Some Depth } → Stops true (ConstructorFault st) st e new
+    → new ≡ refused_at Depth new.source.fault m → Stops true (ConstructorFault st) st e new
 unmarked_deep n a b st m e new many h is kept =
     stopped_mark st h.is.0 n m e new (sym h.is.1) (marked_took n 0 a b st m h)
     (record { kept = answered m new e Depth kept is; why = inr (inl (is, omega arith)) })

@@ -16,7 +16,7 @@ use Rattle.amqp_lengths.specs.Lengths.{IsTerm}
 use Rattle.amqp_lengths.specs.Announced.{SizeThen, content_size, IsAnnounced}
 use Rattle.amqp_lengths.proofs.Announced.{announced_data, announced_once}
 use Rattle.amqp_decoder.proofs.Counts.{unshared_weight}
-use Rattle.amqp_decoder.specs.State.{State, Has, lower, after_data, after_value, weight_at, uncounted}
+use Rattle.amqp_decoder.specs.State.{refused_at, State, Has, lower, after_data, after_value, weight_at, uncounted}
 use Rattle.amqp_decoder.specs.Steps.{Answers, IsExcused, Takes, Lacks, Stops}
 use Rattle.amqp_decoder.specs.Reading.{RefusesRead}
 use Rattle.amqp_decoder.specs.Primitives.{standing, SpellsAs, Stands}
@@ -275,7 +275,7 @@ term_misspelled items st e new going item none s =
 -- one value more than may begin
 pub term_full : {A : Type 0} (items : A → List ℕ) (st m : State) (b : List ℕ) (e : Error) (new : State) → st.error ≡ None
     → Has st.top.items 1 → st.top.shared ≡ None → Takes st b m → (h : IsTerm (st.nesting - length st.saved) b)
-    → (Has m.quota (weight h.0 false) → ⊥) → e ≡ Limit → new ≡ record m { error = Some Limit } → RefusesRead true (Any items) TermFault st e new
+    → (Has m.quota (weight h.0 false) → ⊥) → e ≡ Limit → new ≡ refused_at Limit new.source.fault m → RefusesRead true (Any items) TermFault st e new
 unfolding term_taken
 term_full items st m b e new going item none t h full is kept =
     let free : Takes (uncounted st) b (uncounted m) = record { room = t.room; rest = t.rest; moved = ap uncounted t.moved } in

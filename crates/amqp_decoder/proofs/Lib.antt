@@ -17,6 +17,7 @@ pub mod OneReading
 pub mod OpenedArrays
 pub mod Opening
 pub mod Peeks
+pub mod Places
 pub mod Quick
 pub mod ReadPrimitives
 pub mod Reserve

@@ -8,7 +8,7 @@ use Rattle.amqp_wire.specs.declared.error.Error.TheVariants.{InvalidValue, Read,
 use Rattle.amqp_wire.specs.declared.error.Error.{Error}
 use Rattle.amqp_decoder.specs.declared.frame.Place.{Place}
 use Rattle.amqp_decoder.specs.declared.frame.Place.TheVariants.{InArray}
-use Rattle.amqp_decoder.specs.State.{State, depth_error, in_container}
+use Rattle.amqp_decoder.specs.State.{refused_at, State, depth_error, in_container}
 use Rattle.amqp_decoder.specs.Steps.{Fails, IsOutside, IsReadError, Lacks, cut_open, past_limit, cut_inside, too_long, SizeError, cut, wrong, past}
 use Rattle.amqp_decoder.specs.Misspelled.{IsMisspelling}
 use Rattle.amqp_decoder.specs.Reading.{BeginFault, missing, no_code, one_too_many}
@@ -198,7 +198,7 @@ term_not_outside out st (terms.too_many g full is) = subst IsOutside is out
 
 -- a call keeps the error that the bytes of a term have
 pub fails_by_length : (takes : Bool) (a b : State) (e d deep : Error) (n nesting : ℕ) (s : List ℕ) → deep ≡ depth_error n
-    → (deep ≡ Limit → a.failed.free ≡ false) → e ≡ d → b ≡ record a { error = Some d } → lengths.HasFault deep nesting s d → Fails takes a e b
+    → (deep ≡ Limit → a.failed.free ≡ false) → e ≡ d → b ≡ refused_at d b.source.fault a → lengths.HasFault deep nesting s d → Fails takes a e b
 fails_by_length takes a b e d deep n nesting s named limited is h f =
     let plain = λ (out : IsOutside e). length_not_outside (subst IsOutside is out) n nesting s
     (subst (λ x. lengths.HasFault x nesting s d) named f) in (

@@ -9,7 +9,7 @@ use Rattle.amqp_wire.specs.declared.error.Error.TheVariants.{ZeroWidthItems}
 use Rattle.amqp_wire.specs.Codes.{refusal_of}
 use Rattle.amqp_decoder.specs.declared.frame.Place.{Place}
 use Rattle.amqp_decoder.specs.declared.frame.Place.TheVariants.{InArray}
-use Rattle.amqp_decoder.specs.State.{State, depth_error, Has, in_container}
+use Rattle.amqp_decoder.specs.State.{refused_at, State, depth_error, Has, in_container}
 use Rattle.amqp_decoder.specs.Steps.{Answers, IsExcused, NoRoom, Stops}
 use Rattle.amqp_decoder.specs.Reading.{RefusesRead, AnswersRead, ReadsCode, BeginFault}
 use Rattle.amqp_decoder.specs.Containers.{ReadsHeader, HeaderFault}
@@ -54,7 +54,7 @@ stopped_zero n st ds c m zero e new some t wide zero_is is kept =
 pub stopped_nested : (n : ℕ) (st : State) (ds : List Descriptor) (c : ℕ) (m : State) (flat : Bool) (e : Error) (new : State) → (n ≡ 0 → ⊥)
     → TakesConstructor st ds c m → (IsKnown (format c) → IsTrue flat ↔ IsFlat ds (format c))
     → (flat ≡ false) × (e ≡ depth_error m.nesting) × (m.nesting < length m.saved)
-    × (new ≡ record m { error = Some (depth_error m.nesting) })
+    × (new ≡ refused_at (depth_error m.nesting) new.source.fault m)
     → Stops true (SharesFault n st) st e new
 stopped_nested n st ds c m flat e new some t flat_is (not_flat, is, deep, kept) = record {
   kept = answered_took t.took (answered m new e (depth_error m.nesting) kept is);

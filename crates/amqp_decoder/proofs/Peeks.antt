@@ -6,7 +6,7 @@ use Rattle.amqp_model.specs.Spelling.{Constructor, IsSpelling}
 use Rattle.amqp_model.specs.Standing.{Standing}
 use Rattle.amqp_wire.specs.declared.error.Error.{Error}
 use Rattle.amqp_wire.specs.declared.error.Error.TheVariants.{Cut, Limit}
-use Rattle.amqp_decoder.specs.State.{State, Has, after_look, after_bytes, after_data, after_value, counted_in, weight_at, uncounted}
+use Rattle.amqp_decoder.specs.State.{refused_at, State, Has, after_look, after_bytes, after_data, after_value, counted_in, weight_at, uncounted}
 use Rattle.amqp_decoder.specs.Steps.{Answers, Takes, RefusesSize}
 use Rattle.amqp_decoder.specs.Reading.{RefusesRead, AnswersRead, IsFirst, IsFirstShared, ReadsCode, BeginFault, PeeksCode, after_peek}
 use Rattle.amqp_decoder.specs.Primitives.{standing, SpellsAs, Stands, ReadsValue}
@@ -55,11 +55,11 @@ peek_refused st e new r = record {
 -- the code that stands there, if a value may begin by it
 abbrev pub IsCounted : State → ℕ → Result ℕ Error → State → Type 0
 IsCounted seen c (Ok k) new = (k ≡ c) × Has seen.quota (counted_in seen.top.shared c) × (new ≡ seen)
-IsCounted seen c (Err e) new = (Has seen.quota (counted_in seen.top.shared c) → ⊥) × (e ≡ Limit) × (new ≡ record seen { error = Some Limit })
+IsCounted seen c (Err e) new = (Has seen.quota (counted_in seen.top.shared c) → ⊥) × (e ≡ Limit) × (new ≡ refused_at Limit new.source.fault seen)
 
 pub is_counted : (seen : State) (c : ℕ) (r : Result ℕ Error) (new : State)
     → IfOk r (λ k. (k ≡ c) × Has seen.quota (counted_in seen.top.shared c) × (new ≡ seen))
-    → IfErr r (λ e. (Has seen.quota (counted_in seen.top.shared c) → ⊥) × (e ≡ Limit) × (new ≡ record seen { error = Some Limit })) → IsCounted seen c r new
+    → IfErr r (λ e. (Has seen.quota (counted_in seen.top.shared c) → ⊥) × (e ≡ Limit) × (new ≡ refused_at Limit new.source.fault seen)) → IsCounted seen c r new
 is_counted seen c (Ok k) new ok err = ok
 is_counted seen c (Err e) new ok err = err
 

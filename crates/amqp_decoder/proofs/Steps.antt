@@ -6,7 +6,7 @@ use Rattle.std.proofs.Math.Nat.{lt_of_not-le}
 use Rattle.amqp_model.specs.Term.{Descriptor}
 use Rattle.amqp_wire.specs.declared.error.Error.{Error}
 use Rattle.amqp_wire.specs.declared.error.Error.TheVariants.{Cut, Limit}
-use Rattle.amqp_decoder.specs.State.{Open, State, Has, lower, bound_of, after_value, announced, counted_in, uncounted}
+use Rattle.amqp_decoder.specs.State.{refused_at, Open, State, Has, lower, bound_of, after_value, announced, counted_in, uncounted}
 use Rattle.amqp_decoder.specs.Steps.{Answers, RefusesBy, SourceFailed, IsExcused, Pulls, Misses, Takes, Lacks, cut_open, past_limit, cut_inside, too_long}
 use Rattle.amqp_decoder.specs.Steps.{Began, Fails, Goes, GoesOn, Refused, Tries, FallsShort, NoRoom, Stops, asked_in, SizeError, cut, wrong, past, RefusesSize}
 use Rattle.amqp_decoder.specs.Reading.{RefusesRead, IsFirst, IsFirstShared, ReadsCode, BeginFault, no_code, one_too_many}
@@ -20,11 +20,11 @@ pub excused_by_source : (takes : Bool) (e : Error) (st : State) → IsExcused fa
 excused_by_source takes e st x = inr (source_failed e st x)
 
 -- the error was kept
-pub answered : (st new : State) (e d : Error) → new ≡ record st { error = Some d } → e ≡ d → Answers st e new
+pub answered : (st new : State) (e d : Error) → new ≡ refused_at d new.source.fault st → e ≡ d → Answers st e new
 answered st new e d h is =
     record { error = ap (λ (x : State). x.error) h ∙ ap Some (sym is); source = inl (ap (λ (x : State). x.failed) h) }
 
-pub answered_so : (st new : State) (e : Error) → new ≡ record st { error = Some e } → Answers st e new
+pub answered_so : (st new : State) (e : Error) → new ≡ refused_at e new.source.fault st → Answers st e new
 answered_so st new e h = answered st new e e h refl
 
 -- a decoder that had kept none keeps it
@@ -221,7 +221,7 @@ begin_full st c m e new g full is kept = record {
 
 -- the code was taken, and counts
 pub full_own : (st : State) (c : ℕ) (m : State) (e : Error) (new : State) → st.error ≡ None → Has st.top.items 1 → st.top.shared ≡ None
-    → Takes st (c ∷ []) m → (Has m.quota (counted_in m.top.shared c) → ⊥) → e ≡ Limit → new ≡ record m { error = Some Limit }
+    → Takes st (c ∷ []) m → (Has m.quota (counted_in m.top.shared c) → ⊥) → e ≡ Limit → new ≡ refused_at Limit new.source.fault m
     → RefusesRead false ReadsCode BeginFault st e new
 full_own st c m e new going item none t full is kept =
     let u : Takes (uncounted st) (c ∷ []) (record m { quota = None }) = record {
@@ -234,7 +234,7 @@ full_own st c m e new going item none t full is kept =
 
 -- it is shared, and counts
 pub full_shared : (st : State) (c : ℕ) (e : Error) (new : State) → st.error ≡ None → Has st.top.items 1 → IsFirstShared st.top.shared c
-    → (Has st.quota (counted_in st.top.shared c) → ⊥) → e ≡ Limit → new ≡ record st { error = Some Limit } → RefusesRead false ReadsCode BeginFault st e new
+    → (Has st.quota (counted_in st.top.shared c) → ⊥) → e ≡ Limit → new ≡ refused_at Limit new.source.fault st → RefusesRead false ReadsCode BeginFault st e new
 full_shared st c e new going item h full is kept =
     begin_full st c _ e new (begun_shared (uncounted st) c going item h tt) full is (answered st new e Limit kept is)
 

@@ -60,6 +60,14 @@ pub data SharesFault (n : ℕ) (st : State) (e : Error) : Type 0 where
 abbrev pub Starts : ℕ → ℕ → State → State → Type 0
 Starts n content st st' = ((max n content ≡ 0) × (st' ≡ st)) ⊎ ((0 < max n content) × Shares n st st')
 
+-- The size and the count of an array of n items stood next, and it was entered with so many bytes.
+pub record OpensItems (width : ℕ) (st : State) (n content : ℕ) (st' : State) : Type 0 where
+  pub mid : State
+  pub header : ReadsHeader false width st n content mid
+  pub room : Has mid.top.left content
+  pub few : length mid.saved ≤ mid.nesting
+  pub entered : st' ≡ in_container InArray 0 content mid
+
 -- The data of an array of n items stood next, as far as its items, and it was entered; none of them is left before the
 -- constructor is known.
 pub record EntersArray (width : ℕ) (st : State) (n : ℕ) (st' : State) : Type 0 where

@@ -15,4 +15,5 @@ pub mod Misspelled
 pub mod Sections
 pub mod OtherSource
 pub mod Within
+pub mod Places
 pub mod laws

@@ -2,12 +2,12 @@
 use Rattle.std.proofs.Common.{◌≡◌, ◌≤◌, ℕ, Bool, false, cond, map, Option, Some, None, arith}
 use Rattle.amqp_wire.specs.declared.error.Error.{Error}
 use Rattle.amqp_wire.specs.declared.error.Error.TheVariants.{Depth, Limit}
-use Rattle.amqp_decoder.specs.State.{Course, Open, State, bound_of}
+use Rattle.amqp_decoder.specs.State.{Source, Course, Open, State, bound_of}
 
 -- Another source, which may have failed, a bound on nesting that is no lower, whether as many values may begin as there are, whether
 -- they may have as many bytes, and what else is said of how the reading goes.
 pub record Setting : Type 0 where
-  pub source : ℕ
+  pub source : Source
   pub deepen : ℕ → ℕ
   pub grows : (n : ℕ) → n ≤ deepen n
   pub free : Bool
@@ -35,7 +35,7 @@ under c st =
     }
 
 -- Another source alone.
-abbrev pub another : ℕ → Bool → Setting
+abbrev pub another : Source → Bool → Setting
 another source failed = record {
   source = source;
   deepen = λ n. n;
@@ -46,7 +46,7 @@ another source failed = record {
 }
 
 -- The same before a decoder of another source, which may have failed.
-abbrev pub elsewhere : ℕ → Bool → State → State
+abbrev pub elsewhere : Source → Bool → State → State
 elsewhere source failed st = record st { source = source; failed = record st.failed { broken = failed } }
 
 -- An error by depth isn't kept by a greater bound, and one by a limit not where more values may begin or more bytes are left.

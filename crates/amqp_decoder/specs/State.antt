@@ -1,5 +1,5 @@
 -- What a decoder has before it.
-use Rattle.std.specs.Prelude.{◌≡◌, ℕ, zero, suc, ◌+◌, ◌-◌, ◌≤◌, Bool, cond, eqb, nat_lt, true, false, List, [], ◌∷◌, take, drop, map, get_or, max, Option, Some}
+use Rattle.std.specs.Prelude.{◌≡◌, ℕ, zero, suc, length, ◌+◌, ◌-◌, ◌%◌, ◌^◌, ◌≤◌, Bool, cond, eqb, nat_lt, true, false, List, [], ◌∷◌, take, drop, map, get_or, max, Option, Some}
 use Rattle.std.specs.Prelude.{None, unwrap_or, option_map}
 use Rattle.std.proofs.Common.{arith}
 use Rattle.amqp_model.specs.Term.{Descriptor, Term}
@@ -26,6 +26,18 @@ pub record Open : Type 0 where
   pub sized : Bool
   pub shared : Option (List Descriptor × ℕ)
 
+-- name: the borrow that a source is
+-- size: how many bytes it had at first, as a number of 64 bits
+-- fault: where it was refused: how many of its bytes are before what is at fault; 0 unless it was
+pub record Source : Type 0 where
+  pub name : ℕ
+  pub size : ℕ
+  pub fault : ℕ
+
+-- A source with this name that has these bytes, and wasn't refused.
+abbrev pub fresh_source : ℕ → List ℕ → Source
+fresh_source name bytes = record { name = name; size = length bytes % 2 ^ 64; fault = 0 }
+
 -- broken: the source has failed
 -- alone: one term is read, and what stands behind it isn't looked at
 -- free: no limit of the caller bounds what is read
@@ -36,7 +48,7 @@ pub record Course : Type 0 where
 
 -- rest: the bytes to the end of the input
 -- ahead: how many of them were looked at
--- source: the borrow that the source is
+-- source: the source
 -- top: the open container that values are read from
 -- saved: the containers around it, the nearest first, as they will be once the inner one is closed
 -- nesting: how many containers and described values may be nested, at most 128
@@ -46,7 +58,7 @@ pub record Course : Type 0 where
 pub record State : Type 0 where
   pub rest : List ℕ
   pub ahead : ℕ
-  pub source : ℕ
+  pub source : Source
   pub top : Open
   pub saved : List Open
   pub nesting : ℕ
@@ -69,10 +81,10 @@ top_level limit = record { place = Top; items = None; left = limit; sized = fals
 -- A decoder at the start of a source, within limits: the source's bytes and what it is called, whether it has failed, and whether one term
 -- is read alone.
 abbrev pub started : List ℕ → ℕ → Bool → Bool → Limits → State
-started rest source broken alone limits = record {
+started rest name broken alone limits = record {
   rest = rest;
   ahead = 0;
-  source = source;
+  source = fresh_source name rest;
   top = top_level (limit_of limits.bytes);
   saved = [];
   nesting = limits.nesting;
@@ -243,3 +255,11 @@ in_container place n content st =
       top = holding place n content;
       saved = (record st.top { left = lower st.top.left content }) ∷ st.saved;
     }
+
+-- So many bytes of the source are before those that are left.
+abbrev pub IsPlaceOf : ℕ → State → Type 0
+IsPlaceOf place st = (place + length st.rest) % 2 ^ 64 ≡ st.source.size
+
+-- A decoder that has refused, by this error and at this place.
+abbrev pub refused_at : Error → ℕ → State → State
+refused_at error place st = record st { error = Some error; source = record st.source { fault = place } }

@@ -2,7 +2,7 @@
 use Rattle.std.specs.Prelude.{◌≡◌, ℕ, ◌<◌, ◌≤◌, ◌⊎◌, Bool, true, false, List, ◌++◌, length, drop, Option, Some, None, Result, Ok, Err}
 use Rattle.amqp_wire.specs.declared.error.Error.{Error}
 use Rattle.amqp_wire.specs.declared.error.Error.TheVariants.{Memory, Read, Cut, Size, Limit}
-use Rattle.amqp_decoder.specs.State.{State, Has, bound_of, after_data, after_bytes, announced}
+use Rattle.amqp_decoder.specs.State.{State, refused_at, Has, bound_of, after_data, after_bytes, announced}
 
 abbrev pub IsReadError : Error → Type 0
 IsReadError (Read k) = Unit {0}
@@ -21,7 +21,7 @@ pub record Answers (st : State) (e : Error) (st' : State) : Type 0 where
 
 -- An error is kept and answered by a decoder that has kept none.
 abbrev pub RefusesBy : Error → State → Error → State → Type 0
-RefusesBy error st e st' = st.error ≡ None → (e ≡ error) × (st' ≡ record st { error = Some error })
+RefusesBy error st e st' = st.error ≡ None → (e ≡ error) × (st' ≡ refused_at error st'.source.fault st)
 
 -- The source has failed.
 abbrev pub SourceFailed : Error → State → Type 0

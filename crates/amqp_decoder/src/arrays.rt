@@ -9,13 +9,14 @@ ghost use Rattle.amqp_wire.specs.declared.descriptor.Descriptor.{Descriptor as D
 ghost use Rattle.amqp_wire.specs.declared.error.Error.TheVariants.{Depth};
 ghost use Rattle.amqp_decoder.specs.declared.frame.Place.TheVariants.{InArray};
 ghost use Rattle.amqp_decoder.specs.State.{depth_error, Has, descriptor_of, in_container};
+ghost use Rattle.amqp_decoder.specs.Places.{StandsHere};
 ghost use Rattle.amqp_decoder.specs.Steps.{Answers, NoRoom, Stops, Goes, Tries};
 ghost use Rattle.amqp_decoder.specs.Reading.{AnswersRead};
 ghost use Rattle.amqp_decoder.specs.Containers.{Closes, CloseFault};
 ghost use Rattle.amqp_decoder.specs.Described.{TakesDescriptor, DescriptorFault};
 ghost use Rattle.amqp_decoder.specs.Rooms.{HasRoom};
 ghost use Rattle.amqp_decoder.specs.Arrays.{TakesConstructor, ConstructorFault, IsFlat, Shares, SharesFault, EntersArray, EnterArrayFault};
-ghost use Rattle.amqp_decoder.specs.Arrays.{OpensArray, ArrayFault};
+ghost use Rattle.amqp_decoder.specs.Arrays.{OpensItems, OpensArray, ArrayFault};
 
 use crate::Decoder;
 use crate::frame::Place;
@@ -56,7 +57,7 @@ impl<R: ByteSource> Decoder<R> {
         }
     }
 
-    // A code that ends a constructor is known.
+    // A code that ends a constructor, and was taken, is known.
     pub(crate) fn check_known(&mut self, code: u8) -> Result<(), Error>
         ensures ok { IfOk result (λ _. ((code ≡ 0) ⊎ IsKnown (format code)) × (self.new ≡ self.old)) }
         ensures err { IfErr result (λ e. (code ≡ 0 → ⊥) × (IsKnown (format code) → ⊥) × (e ≡ refusal_of code)
@@ -65,7 +66,10 @@ impl<R: ByteSource> Decoder<R> {
     {
         match format_code::unknown(code) {
             None => Ok(()),
-            Some(error) => Err(self.stop(error)),
+            Some(error) => {
+                let place = self.place().wrapping_sub(1);
+                Err(self.stop_at(place, error))
+            }
         }
     }
 
@@ -97,14 +101,15 @@ impl<R: ByteSource> Decoder<R> {
             → IfErr result (λ e. Stops true (SharesFault count self.old) self.old e self.new) }
         ensures goes { Goes true self.old result self.new }
     {
+        let start = self.place();
         let (descriptors, code) = self.constructor(alloc)?;
         if count == 0 {
             return Ok(());
         }
         if format_code::has_width_zero(code) {
-            return Err(self.stop(Error::ZeroWidthItems));
+            return Err(self.stop_at(start, Error::ZeroWidthItems));
         }
-        self.check_items(is_flat(&descriptors, code))?;
+        self.check_items(is_flat(&descriptors, code), start)?;
         self.share(descriptors, code, count)
     }
 
@@ -121,14 +126,34 @@ impl<R: ByteSource> Decoder<R> {
         self.enter(Place::InArray, 0, content)
     }
 
-    // Opens an array whose code was taken.
-    fn open_array(&mut self, wide: bool, alloc: Global) -> Result<u32, Error>
-        ensures ok { Tells R.remaining → IfOk result (λ n. EntersArray (cond wide 4 1) self.old n self.new) }
+    // Opens an array of so many bytes whose code was taken, and returns its count and these, wherever it refuses.
+    fn open_any(&mut self, wide: bool) -> Result<(u32, u32), Error>
+        ensures ok { Tells R.remaining → IfOk result (λ h. OpensItems (cond wide 4 1) self.old h.0 h.1 self.new) }
         ensures err { Tells R.remaining → IfErr result (λ e. Stops true (EnterArrayFault (cond wide 4 1) self.old) self.old e self.new) }
         ensures goes { Goes true self.old result self.new }
     {
         let (count, content) = self.header(wide, false)?;
         self.open_items(content)?;
+        Ok((count, content))
+    }
+
+    // The same for an array that begins there.
+    fn open_from(&mut self, start: u64, wide: bool) -> Result<(u32, u32), Error>
+        ensures ok { Tells R.remaining → IfOk result (λ h. OpensItems (cond wide 4 1) self.old h.0 h.1 self.new) }
+        ensures err { Tells R.remaining → IfErr result (λ e. Stops true (EnterArrayFault (cond wide 4 1) self.old) self.old e self.new) }
+        ensures goes { Goes true self.old result self.new }
+    {
+        let opened = self.open_any(wide);
+        self.placed(start, opened)
+    }
+
+    // Opens an array that begins there and whose code was taken.
+    fn open_array(&mut self, start: u64, wide: bool, alloc: Global) -> Result<u32, Error>
+        ensures ok { Tells R.remaining → IfOk result (λ n. EntersArray (cond wide 4 1) self.old n self.new) }
+        ensures err { Tells R.remaining → IfErr result (λ e. Stops true (EnterArrayFault (cond wide 4 1) self.old) self.old e self.new) }
+        ensures goes { Goes true self.old result self.new }
+    {
+        let (count, content) = self.open_from(start, wide)?;
         if count.max(content) == 0 {
             return Ok(count);
         }
@@ -150,10 +175,11 @@ impl<R: ByteSource> Decoder<R> {
         ensures tries { Tries true self.old result self.new }
     {
         self.room();
-        match self.begin()? {
-            format_code::ARRAY_8 => self.open_array(false, alloc),
-            format_code::ARRAY_32 => self.open_array(true, alloc),
-            code => Err(self.refuse_code(code)),
+        let start = self.start();
+        match self.begin_from(start)? {
+            format_code::ARRAY_8 => self.open_array(start, false, alloc),
+            format_code::ARRAY_32 => self.open_array(start, true, alloc),
+            code => Err(self.refuse_code_from(start, code)),
         }
     }
 
@@ -161,6 +187,7 @@ impl<R: ByteSource> Decoder<R> {
     pub fn end_array(&mut self) -> Result<(), Error>
         ensures read { Tells R.remaining → AnswersRead false (λ st _ st'. Closes InArray st st') (CloseFault InArray) self.old result self.new }
         ensures tries { Tries false self.old result self.new }
+        ensures place { IfErr result (λ _. StandsHere self.old self.new) }
     {
         self.check_end(Place::InArray)?;
         self.check_bytes()?;

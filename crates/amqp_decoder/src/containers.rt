@@ -3,6 +3,7 @@ ghost use Rattle.std.specs.Prelude.{◌≡◌, ◌<◌, ◌↔◌, IsTrue, cond,
 ghost use Rattle.amqp_model.specs.Term.{list, map};
 ghost use Rattle.amqp_wire.specs.Sources.{Tells};
 ghost use Rattle.amqp_decoder.specs.State.{Has, IsContainer, in_container};
+ghost use Rattle.amqp_decoder.specs.Places.{StandsHere};
 ghost use Rattle.amqp_decoder.specs.Steps.{Stops, Goes, Tries};
 ghost use Rattle.amqp_decoder.specs.declared.frame.Place.TheVariants.{InList, InMap};
 ghost use Rattle.amqp_decoder.specs.Reading.{AnswersRead};
@@ -54,7 +55,7 @@ impl<R: ByteSource> Decoder<R> {
     }
 
     // Opens a list or a map of so many items in so many bytes.
-    #[inline]
+    #[inline(always)]
     fn open(&mut self, place: Place, count: u32, content: u32) -> Result<u32, Error>
         requires { IsContainer place }
         ensures ok { IfOk result (λ n. (n ≡ count) × Has self.old.top.left content × (length self.old.saved < self.old.nesting)
@@ -97,6 +98,18 @@ impl<R: ByteSource> Decoder<R> {
     pub fn begin_list(&mut self) -> Result<u32, Error>
         ensures read { Tells R.remaining → AnswersRead false (Opens list) (OpenFault list) self.old result self.new }
         ensures tries { Tries false self.old result self.new }
+        ensures place { IfErr result (λ _. StandsHere self.old self.new) }
+    {
+        let start = self.start();
+        let answer = self.any_list();
+        self.placed(start, answer)
+    }
+
+    // The same, wherever it refuses.
+    #[inline(always)]
+    fn any_list(&mut self) -> Result<u32, Error>
+        ensures read { Tells R.remaining → AnswersRead false (Opens list) (OpenFault list) self.old result self.new }
+        ensures tries { Tries false self.old result self.new }
     {
         match self.begin()? {
             format_code::LIST_0 => self.open(Place::InList, 0, 0),
@@ -112,6 +125,18 @@ impl<R: ByteSource> Decoder<R> {
     pub fn begin_map(&mut self) -> Result<u32, Error>
         ensures read { Tells R.remaining → AnswersRead false (Opens map) (OpenFault map) self.old result self.new }
         ensures tries { Tries false self.old result self.new }
+        ensures place { IfErr result (λ _. StandsHere self.old self.new) }
+    {
+        let start = self.start();
+        let answer = self.any_map();
+        self.placed(start, answer)
+    }
+
+    // The same, wherever it refuses.
+    #[inline(always)]
+    fn any_map(&mut self) -> Result<u32, Error>
+        ensures read { Tells R.remaining → AnswersRead false (Opens map) (OpenFault map) self.old result self.new }
+        ensures tries { Tries false self.old result self.new }
     {
         match self.begin()? {
             format_code::MAP_8 => self.open_map(false),
@@ -125,6 +150,7 @@ impl<R: ByteSource> Decoder<R> {
     fn close(&mut self, place: Place) -> Result<(), Error>
         ensures read { Tells R.remaining → AnswersRead false (λ st _ st'. Closes place st st') (CloseFault place) self.old result self.new }
         ensures tries { Tries false self.old result self.new }
+        ensures place { IfErr result (λ _. StandsHere self.old self.new) }
     {
         self.check_end(place)?;
         self.check_bytes()?;
@@ -137,6 +163,7 @@ impl<R: ByteSource> Decoder<R> {
     pub fn end_list(&mut self) -> Result<(), Error>
         ensures read { Tells R.remaining → AnswersRead false (λ st _ st'. Closes InList st st') (CloseFault InList) self.old result self.new }
         ensures tries { Tries false self.old result self.new }
+        ensures place { IfErr result (λ _. StandsHere self.old self.new) }
     {
         self.close(Place::InList)
     }
@@ -146,6 +173,7 @@ impl<R: ByteSource> Decoder<R> {
     pub fn end_map(&mut self) -> Result<(), Error>
         ensures read { Tells R.remaining → AnswersRead false (λ st _ st'. Closes InMap st st') (CloseFault InMap) self.old result self.new }
         ensures tries { Tries false self.old result self.new }
+        ensures place { IfErr result (λ _. StandsHere self.old self.new) }
     {
         self.close(Place::InMap)
     }

@@ -1,9 +1,10 @@
 //! The state of a decoder.
 ghost use Rattle.std.specs.Prelude.{◌≡◌, ◌≤◌, ℕ, length, drop, false, true, Some, None, MatchResult};
 ghost use Rattle.amqp_wire.specs.Sources.{known, Tells};
-ghost use Rattle.amqp_decoder.specs.State.{bound_of, started, greatest};
+ghost use Rattle.amqp_decoder.specs.State.{bound_of, started, greatest, refused_at, IsPlaceOf};
 ghost use Rattle.amqp_wire.specs.Limits.{limit_of};
 ghost use Rattle.amqp_decoder.specs.Reserve.{Leaves};
+ghost use Rattle.amqp_decoder.specs.Places.{StandsHere};
 ghost use Rattle.amqp_decoder.specs.Rooms.{HasRoom};
 ghost use Rattle.amqp_decoder.specs.Steps.{RefusesBy};
 ghost use Rattle.amqp_wire.specs.declared.error.Error.{Error};
@@ -12,6 +13,7 @@ mod bytes;
 mod counts;
 mod items;
 mod nesting;
+mod places;
 mod quick;
 mod sections;
 mod shared;
@@ -41,6 +43,8 @@ pub struct Decoder<R: ByteSource> {
     input: Input<R>,
     top: OpenContainer,
     error: Option<Error>,
+    // How many bytes of the input are before what is at fault, as a number of 64 bits; 0 if nothing was refused.
+    fault: u64,
     depth: usize,
     nesting: usize,
     bytes: u64,
@@ -67,7 +71,7 @@ impl<R: ByteSource> Model for Decoder<R> {
     ghost view = { λ d. record {
       rest = d.input.rest;
       ahead = d.input.ahead;
-      source = d.input.source;
+      source = record { name = d.input.source.name; size = d.input.source.size; fault = d.fault };
       top = open_of d.descriptors.items (limit_of d.bytes) d.top;
       saved = stack d.descriptors.items (limit_around d.top.left (limit_of d.bytes)) d.depth d.frames;
       nesting = d.nesting;
@@ -85,10 +89,12 @@ impl<R: ByteSource> Model for Decoder<R> {
 }
 
 impl<R: ByteSource> Decoder<R> {
-    /// Keeps the error, which every later call returns. If the decoder has kept an error before, it keeps and returns that first one.
+    /// Keeps the error, which every later call returns, for what comes next. If the decoder has kept an error before, it keeps and returns
+    /// that first one.
     pub fn refuse(&mut self, error: Error) -> Error
         ensures first { RefusesBy error self.old result self.new }
         ensures again { (kept : Error) → self.old.error ≡ Some kept → (result ≡ kept) × (self.new ≡ self.old) }
+        ensures place { StandsHere self.old self.new }
     {
         match self.error {
             Some(kept) => kept,
@@ -121,8 +127,10 @@ impl<R: ByteSource> Decoder<R> {
     #[inline(always)]
     pub(crate) fn stop(&mut self, error: Error) -> Error
         ensures answer { result ≡ error }
-        ensures kept { self.new ≡ record self.old { error = Some error } }
+        ensures kept { self.new ≡ refused_at error self.new.source.fault self.old }
+        ensures place { IsPlaceOf self.new.source.fault self.old }
     {
+        self.fault = self.input.place();
         self.error = Some(error);
         error
     }
@@ -190,6 +198,7 @@ fn decoder_at_top<R: ByteSource>(
         input: Input::new(source),
         top: OpenContainer::TOP,
         error: None,
+        fault: 0,
         depth: 0,
         nesting: limits.nesting() as usize,
         bytes: limits.bytes(),
@@ -204,7 +213,7 @@ fn decoder_at_top<R: ByteSource>(
 
 /// Returns the source. Bytes that were looked at are gone from it.
 pub fn source_of<R: ByteSource>(decoder: Decoder<R>) -> R
-    ensures named { R.name result ≡ decoder.source }
+    ensures named { R.name result ≡ decoder.source.name }
     ensures rest { known (R.remaining result) ≡ drop decoder.ahead decoder.rest }
     ensures failed { R.failed result ≡ decoder.failed.broken }
     ensures kept { Tells R.remaining → decoder.failed.alone ≡ true → decoder.failed.broken ≡ false

@@ -8,7 +8,8 @@ ghost use Rattle.amqp_model.specs.Term.{name as of_name};
 ghost use Rattle.amqp_wire.specs.Sources.{Tells};
 ghost use Rattle.amqp_wire.specs.Codes.{refusal_of};
 ghost use Rattle.amqp_lookahead.specs.Members.{place_of as place_in};
-ghost use Rattle.amqp_decoder.specs.State.{after_bytes, descriptor_of};
+ghost use Rattle.amqp_decoder.specs.State.{IsPlaceOf, refused_at, after_bytes, descriptor_of};
+ghost use Rattle.amqp_decoder.specs.Places.{StandsHere};
 ghost use Rattle.amqp_decoder.specs.Steps.{Answers, Fails, Goes, Tries};
 ghost use Rattle.amqp_decoder.specs.Reading.{ReadsCode};
 ghost use Rattle.amqp_decoder.specs.Primitives.{AnswersFault};
@@ -34,6 +35,19 @@ impl<R: ByteSource> Decoder<R> {
         ensures ok { Tells R.remaining → IfOk result (λ _. ReadsCode self.old 0 self.new) }
         ensures err { Tells R.remaining → IfErr result (λ e. AnswersFault false DescribedFault self.old e self.new) }
         ensures tries { Tries false self.old result self.new }
+        ensures place { IfErr result (λ _. StandsHere self.old self.new) }
+    {
+        let start = self.start();
+        let answer = self.any_begun();
+        self.placed(start, answer)
+    }
+
+    // The same, wherever it refuses.
+    #[inline(always)]
+    fn any_begun(&mut self) -> Result<(), Error>
+        ensures ok { Tells R.remaining → IfOk result (λ _. ReadsCode self.old 0 self.new) }
+        ensures err { Tells R.remaining → IfErr result (λ e. AnswersFault false DescribedFault self.old e self.new) }
+        ensures tries { Tries false self.old result self.new }
     {
         let code = self.begin()?;
         if code != format_code::DESCRIBED {
@@ -49,7 +63,7 @@ impl<R: ByteSource> Decoder<R> {
     #[cold]
     pub(crate) fn refuse_descriptor(&mut self, code: u8) -> Error
         ensures answer { result ≡ other_kind (refusal_of code) }
-        ensures kept { self.new ≡ record self.old { error = Some result } }
+        ensures kept { self.new ≡ refused_at result self.new.source.fault self.old }
         ensures fails { Fails false self.old result self.new }
     {
         match format_code::refusal(code) {
@@ -75,6 +89,20 @@ impl<R: ByteSource> Decoder<R> {
 
     // A descriptor.
     pub(crate) fn descriptor(&mut self, alloc: Global) -> Result<Descriptor, Error>
+        ensures ok { Tells R.remaining → self.old.top.shared ≡ None
+            → IfOk result (λ d. TakesDescriptor self.old (descriptor_of d) self.new) }
+        ensures err { Tells R.remaining → self.old.top.shared ≡ None → IfErr result (λ e. MissesDescriptor true self.old e self.new) }
+        ensures goes { Goes true self.old result self.new }
+        ensures place { IfErr result (λ _. IsPlaceOf self.new.source.fault self.old) }
+    {
+        let place = self.place();
+        let answer = self.any_descriptor(alloc);
+        self.placed(place, answer)
+    }
+
+    // The same, wherever it refuses.
+    #[inline(always)]
+    fn any_descriptor(&mut self, alloc: Global) -> Result<Descriptor, Error>
         ensures ok { Tells R.remaining → self.old.top.shared ≡ None
             → IfOk result (λ d. TakesDescriptor self.old (descriptor_of d) self.new) }
         ensures err { Tells R.remaining → self.old.top.shared ≡ None → IfErr result (λ e. MissesDescriptor true self.old e self.new) }
@@ -164,6 +192,21 @@ impl<R: ByteSource> Decoder<R> {
         ensures err { Tells R.remaining → IsDescribable self.old.top.shared
             → IfErr result (λ e. MissesDescriptor false self.old e self.new) }
         ensures goes { Goes false self.old result self.new }
+        ensures place { IfErr result (λ _. IsPlaceOf self.new.source.fault self.old) }
+    {
+        let place = self.place();
+        let answer = self.any_place(members);
+        self.placed(place, answer)
+    }
+
+    // The same, wherever it refuses.
+    #[inline(always)]
+    fn any_place(&mut self, members: Members<'_>) -> Result<Option<usize>, Error>
+        ensures ok { Tells R.remaining → IsDescribable self.old.top.shared
+            → IfOk result (λ place. TakesPlace members.now self.old place self.new) }
+        ensures err { Tells R.remaining → IsDescribable self.old.top.shared
+            → IfErr result (λ e. MissesDescriptor false self.old e self.new) }
+        ensures goes { Goes false self.old result self.new }
     {
         if let Some(descriptor) = self.shared_descriptor() {
             return Ok(place_of(members, descriptor));
@@ -187,8 +230,9 @@ impl<R: ByteSource> Decoder<R> {
     {
         self.room();
         self.begin_descriptor()?;
+        let start = self.place();
         let Some(place) = self.place_of_next(members)? else {
-            return Err(self.stop(Error::WrongDescriptor));
+            return Err(self.stop_at(start, Error::WrongDescriptor));
         };
         self.enter_described()?;
         Ok(place)
@@ -199,6 +243,7 @@ impl<R: ByteSource> Decoder<R> {
     pub fn end_described(&mut self) -> Result<(), Error>
         ensures read { AnswersRead false (λ st _ st'. ClosesDescribed InDescribed st st') (EndFault InDescribed) self.old result self.new }
         ensures tries { Tries false self.old result self.new }
+        ensures place { IfErr result (λ _. StandsHere self.old self.new) }
     {
         self.check_end(Place::InDescribed)?;
         self.leave_described();

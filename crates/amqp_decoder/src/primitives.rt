@@ -9,6 +9,7 @@ ghost use Rattle.amqp_decoder.specs.Primitives.{LacksDataOf};
 ghost use Rattle.amqp_lookahead.specs.Kinds.{kind_at, nulls, booleans, ubytes, ushorts, uints, ulongs, bytes, shorts, ints, longs, decimals32};
 ghost use Rattle.amqp_lookahead.specs.Kinds.{decimals64, decimals128, chars, timestamps, uuids};
 ghost use Rattle.amqp_decoder.specs.Steps.{Began, Goes, Tries};
+ghost use Rattle.amqp_decoder.specs.Places.{StandsHere};
 
 use crate::Decoder;
 use amqp_wire::{ByteSource, Error, format_code};
@@ -17,6 +18,20 @@ impl<R: ByteSource> Decoder<R> {
     // The data of a value that has one constructor.
     #[inline]
     fn fixed<const N: usize>(&mut self, code: u8) -> Result<[u8; N], Error>
+        requires { N < 256 }
+        ensures ok { Tells R.remaining → IfOk result (λ b. ReadsFixed code N self.old b self.new) }
+        ensures err { Tells R.remaining → IfErr result (λ e. AnswersFault false (FixedFault code N) self.old e self.new) }
+        ensures tries { Tries false self.old result self.new }
+        ensures place { IfErr result (λ _. StandsHere self.old self.new) }
+    {
+        let start = self.start();
+        let answer = self.fixed_data(code);
+        self.placed(start, answer)
+    }
+
+    // The same, wherever it refuses.
+    #[inline(always)]
+    fn fixed_data<const N: usize>(&mut self, code: u8) -> Result<[u8; N], Error>
         requires { N < 256 }
         ensures ok { Tells R.remaining → IfOk result (λ b. ReadsFixed code N self.old b self.new) }
         ensures err { Tells R.remaining → IfErr result (λ e. AnswersFault false (FixedFault code N) self.old e self.new) }
@@ -34,6 +49,7 @@ impl<R: ByteSource> Decoder<R> {
     pub fn read_null(&mut self) -> Result<(), Error>
         ensures read { Tells R.remaining → AnswersRead false (ReadsValue (Means (λ _. null))) (PrimitiveFault nulls) self.old result self.new }
         ensures tries { Tries false self.old result self.new }
+        ensures place { IfErr result (λ _. StandsHere self.old self.new) }
     {
         if let Some(_) = self.quick::<1>(format_code::NULL) {
             return Ok(());
@@ -46,6 +62,7 @@ impl<R: ByteSource> Decoder<R> {
     fn read_any_null(&mut self) -> Result<(), Error>
         ensures read { Tells R.remaining → AnswersRead false (ReadsValue (Means (λ _. null))) (PrimitiveFault nulls) self.old result self.new }
         ensures tries { Tries false self.old result self.new }
+        ensures place { IfErr result (λ _. StandsHere self.old self.new) }
     {
         let _data = self.fixed::<0>(format_code::NULL)?;
         Ok(())
@@ -76,6 +93,7 @@ impl<R: ByteSource> Decoder<R> {
     pub fn read_bool(&mut self) -> Result<bool, Error>
         ensures read { Tells R.remaining → AnswersRead false (ReadsValue (Means boolean)) (PrimitiveFault booleans) self.old result self.new }
         ensures tries { Tries false self.old result self.new }
+        ensures place { IfErr result (λ _. StandsHere self.old self.new) }
     {
         match self.quick_bool() {
             Some(value) => Ok(value),
@@ -86,6 +104,18 @@ impl<R: ByteSource> Decoder<R> {
     // The same, however the source gives it.
     #[inline(never)]
     fn read_any_bool(&mut self) -> Result<bool, Error>
+        ensures read { Tells R.remaining → AnswersRead false (ReadsValue (Means boolean)) (PrimitiveFault booleans) self.old result self.new }
+        ensures tries { Tries false self.old result self.new }
+        ensures place { IfErr result (λ _. StandsHere self.old self.new) }
+    {
+        let start = self.start();
+        let answer = self.any_bool();
+        self.placed(start, answer)
+    }
+
+    // The same, wherever it refuses.
+    #[inline(always)]
+    fn any_bool(&mut self) -> Result<bool, Error>
         ensures read { Tells R.remaining → AnswersRead false (ReadsValue (Means boolean)) (PrimitiveFault booleans) self.old result self.new }
         ensures tries { Tries false self.old result self.new }
     {
@@ -106,6 +136,7 @@ impl<R: ByteSource> Decoder<R> {
     pub fn read_ubyte(&mut self) -> Result<u8, Error>
         ensures read { Tells R.remaining → AnswersRead false (ReadsValue (Means ubyte)) (PrimitiveFault ubytes) self.old result self.new }
         ensures tries { Tries false self.old result self.new }
+        ensures place { IfErr result (λ _. StandsHere self.old self.new) }
     {
         Ok(u8::from_be_bytes(self.fixed(format_code::UBYTE)?))
     }
@@ -115,6 +146,7 @@ impl<R: ByteSource> Decoder<R> {
     pub fn read_ushort(&mut self) -> Result<u16, Error>
         ensures read { Tells R.remaining → AnswersRead false (ReadsValue (Means ushort)) (PrimitiveFault ushorts) self.old result self.new }
         ensures tries { Tries false self.old result self.new }
+        ensures place { IfErr result (λ _. StandsHere self.old self.new) }
     {
         Ok(u16::from_be_bytes(self.fixed(format_code::USHORT)?))
     }
@@ -149,6 +181,7 @@ impl<R: ByteSource> Decoder<R> {
     pub fn read_uint(&mut self) -> Result<u32, Error>
         ensures read { Tells R.remaining → AnswersRead false (ReadsValue (Means uint)) (PrimitiveFault uints) self.old result self.new }
         ensures tries { Tries false self.old result self.new }
+        ensures place { IfErr result (λ _. StandsHere self.old self.new) }
     {
         match self.quick_uint() {
             Some(value) => Ok(value),
@@ -159,6 +192,18 @@ impl<R: ByteSource> Decoder<R> {
     // The same, however the source gives it.
     #[inline(never)]
     fn read_any_uint(&mut self) -> Result<u32, Error>
+        ensures read { Tells R.remaining → AnswersRead false (ReadsValue (Means uint)) (PrimitiveFault uints) self.old result self.new }
+        ensures tries { Tries false self.old result self.new }
+        ensures place { IfErr result (λ _. StandsHere self.old self.new) }
+    {
+        let start = self.start();
+        let answer = self.any_uint();
+        self.placed(start, answer)
+    }
+
+    // The same, wherever it refuses.
+    #[inline(always)]
+    fn any_uint(&mut self) -> Result<u32, Error>
         ensures read { Tells R.remaining → AnswersRead false (ReadsValue (Means uint)) (PrimitiveFault uints) self.old result self.new }
         ensures tries { Tries false self.old result self.new }
     {
@@ -218,6 +263,7 @@ impl<R: ByteSource> Decoder<R> {
     pub fn read_ulong(&mut self) -> Result<u64, Error>
         ensures read { Tells R.remaining → AnswersRead false (ReadsValue (Means ulong)) (PrimitiveFault ulongs) self.old result self.new }
         ensures tries { Tries false self.old result self.new }
+        ensures place { IfErr result (λ _. StandsHere self.old self.new) }
     {
         match self.quick_ulong() {
             Some(value) => Ok(value),
@@ -228,6 +274,18 @@ impl<R: ByteSource> Decoder<R> {
     // The same, however the source gives it.
     #[inline(never)]
     fn read_any_ulong(&mut self) -> Result<u64, Error>
+        ensures read { Tells R.remaining → AnswersRead false (ReadsValue (Means ulong)) (PrimitiveFault ulongs) self.old result self.new }
+        ensures tries { Tries false self.old result self.new }
+        ensures place { IfErr result (λ _. StandsHere self.old self.new) }
+    {
+        let start = self.start();
+        let answer = self.any_ulong();
+        self.placed(start, answer)
+    }
+
+    // The same, wherever it refuses.
+    #[inline(always)]
+    fn any_ulong(&mut self) -> Result<u64, Error>
         ensures read { Tells R.remaining → AnswersRead false (ReadsValue (Means ulong)) (PrimitiveFault ulongs) self.old result self.new }
         ensures tries { Tries false self.old result self.new }
     {
@@ -243,6 +301,7 @@ impl<R: ByteSource> Decoder<R> {
     pub fn read_byte(&mut self) -> Result<i8, Error>
         ensures read { Tells R.remaining → AnswersRead false (ReadsValue (Means byte)) (PrimitiveFault bytes) self.old result self.new }
         ensures tries { Tries false self.old result self.new }
+        ensures place { IfErr result (λ _. StandsHere self.old self.new) }
     {
         Ok(i8::from_be_bytes(self.fixed(format_code::BYTE)?))
     }
@@ -252,6 +311,7 @@ impl<R: ByteSource> Decoder<R> {
     pub fn read_short(&mut self) -> Result<i16, Error>
         ensures read { Tells R.remaining → AnswersRead false (ReadsValue (Means short)) (PrimitiveFault shorts) self.old result self.new }
         ensures tries { Tries false self.old result self.new }
+        ensures place { IfErr result (λ _. StandsHere self.old self.new) }
     {
         Ok(i16::from_be_bytes(self.fixed(format_code::SHORT)?))
     }
@@ -259,6 +319,18 @@ impl<R: ByteSource> Decoder<R> {
     /// Reads a signed integer of 32 bits (Part 1, section 1.6.9).
     #[inline]
     pub fn read_int(&mut self) -> Result<i32, Error>
+        ensures read { Tells R.remaining → AnswersRead false (ReadsValue (Means int)) (PrimitiveFault ints) self.old result self.new }
+        ensures tries { Tries false self.old result self.new }
+        ensures place { IfErr result (λ _. StandsHere self.old self.new) }
+    {
+        let start = self.start();
+        let answer = self.any_int();
+        self.placed(start, answer)
+    }
+
+    // The same, wherever it refuses.
+    #[inline(always)]
+    fn any_int(&mut self) -> Result<i32, Error>
         ensures read { Tells R.remaining → AnswersRead false (ReadsValue (Means int)) (PrimitiveFault ints) self.old result self.new }
         ensures tries { Tries false self.old result self.new }
     {
@@ -272,6 +344,18 @@ impl<R: ByteSource> Decoder<R> {
     /// Reads a signed integer of 64 bits (Part 1, section 1.6.10).
     #[inline]
     pub fn read_long(&mut self) -> Result<i64, Error>
+        ensures read { Tells R.remaining → AnswersRead false (ReadsValue (Means long)) (PrimitiveFault longs) self.old result self.new }
+        ensures tries { Tries false self.old result self.new }
+        ensures place { IfErr result (λ _. StandsHere self.old self.new) }
+    {
+        let start = self.start();
+        let answer = self.any_long();
+        self.placed(start, answer)
+    }
+
+    // The same, wherever it refuses.
+    #[inline(always)]
+    fn any_long(&mut self) -> Result<i64, Error>
         ensures read { Tells R.remaining → AnswersRead false (ReadsValue (Means long)) (PrimitiveFault longs) self.old result self.new }
         ensures tries { Tries false self.old result self.new }
     {
@@ -288,6 +372,7 @@ impl<R: ByteSource> Decoder<R> {
         ensures read { Tells R.remaining
             → AnswersRead false (ReadsValue (Means decimal32)) (PrimitiveFault decimals32) self.old result self.new }
         ensures tries { Tries false self.old result self.new }
+        ensures place { IfErr result (λ _. StandsHere self.old self.new) }
     {
         self.fixed(format_code::DECIMAL_32)
     }
@@ -298,6 +383,7 @@ impl<R: ByteSource> Decoder<R> {
         ensures read { Tells R.remaining
             → AnswersRead false (ReadsValue (Means decimal64)) (PrimitiveFault decimals64) self.old result self.new }
         ensures tries { Tries false self.old result self.new }
+        ensures place { IfErr result (λ _. StandsHere self.old self.new) }
     {
         self.fixed(format_code::DECIMAL_64)
     }
@@ -308,6 +394,7 @@ impl<R: ByteSource> Decoder<R> {
         ensures read { Tells R.remaining → AnswersRead false (ReadsValue (Means decimal128)) (PrimitiveFault decimals128)
             self.old result self.new }
         ensures tries { Tries false self.old result self.new }
+        ensures place { IfErr result (λ _. StandsHere self.old self.new) }
     {
         self.fixed(format_code::DECIMAL_128)
     }
@@ -315,6 +402,18 @@ impl<R: ByteSource> Decoder<R> {
     /// Reads a character (Part 1, section 1.6.16). It returns `BadChar` if the character isn't a Unicode scalar value.
     #[inline]
     pub fn read_char(&mut self) -> Result<char, Error>
+        ensures read { Tells R.remaining → AnswersRead false (ReadsValue (Means char)) (PrimitiveFault chars) self.old result self.new }
+        ensures tries { Tries false self.old result self.new }
+        ensures place { IfErr result (λ _. StandsHere self.old self.new) }
+    {
+        let start = self.start();
+        let answer = self.any_char();
+        self.placed(start, answer)
+    }
+
+    // The same, wherever it refuses.
+    #[inline(always)]
+    fn any_char(&mut self) -> Result<char, Error>
         ensures read { Tells R.remaining → AnswersRead false (ReadsValue (Means char)) (PrimitiveFault chars) self.old result self.new }
         ensures tries { Tries false self.old result self.new }
     {
@@ -331,6 +430,7 @@ impl<R: ByteSource> Decoder<R> {
         ensures read { Tells R.remaining
             → AnswersRead false (ReadsValue (Means timestamp)) (PrimitiveFault timestamps) self.old result self.new }
         ensures tries { Tries false self.old result self.new }
+        ensures place { IfErr result (λ _. StandsHere self.old self.new) }
     {
         Ok(i64::from_be_bytes(self.fixed(format_code::TIMESTAMP)?))
     }
@@ -340,6 +440,7 @@ impl<R: ByteSource> Decoder<R> {
     pub fn read_uuid(&mut self) -> Result<[u8; 16], Error>
         ensures read { Tells R.remaining → AnswersRead false (ReadsValue (Means uuid)) (PrimitiveFault uuids) self.old result self.new }
         ensures tries { Tries false self.old result self.new }
+        ensures place { IfErr result (λ _. StandsHere self.old self.new) }
     {
         self.fixed(format_code::UUID)
     }

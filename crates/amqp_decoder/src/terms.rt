@@ -19,9 +19,9 @@ ghost use Rattle.amqp_decoder.specs.Terms.{TakesTerm, TermFault};
 
 use crate::Decoder;
 use crate::containers::width;
-use amqp_lengths::len_of_term;
+use amqp_lengths::len_of_term_located;
 use amqp_wire::nesting::NESTING;
-use amqp_wire::{ByteSource, Error, format_code};
+use amqp_wire::{ByteSource, Error, Refusal, format_code};
 use std::alloc::Global;
 
 /// What a code announces: data of a known width, or a size of one byte or of four and as many bytes.
@@ -123,6 +123,17 @@ impl<R: ByteSource> Decoder<R> {
         ensures err { Tells R.remaining → IfErr result (λ e. Stops true (DescriptorFault self.old) self.old e self.new) }
         ensures goes { Goes true self.old result self.new }
     {
+        let place = self.place();
+        let kept = self.keep_any_descriptor(bytes);
+        self.placed(place, kept)
+    }
+
+    // The same, wherever it refuses.
+    fn keep_any_descriptor(&mut self, bytes: &mut Vec<u8>) -> Result<(), Error>
+        ensures ok { Tells R.remaining → IfOk result (λ _. Keeps NamesAny bytes.old.items self.old bytes.new.items self.new) }
+        ensures err { Tells R.remaining → IfErr result (λ e. Stops true (DescriptorFault self.old) self.old e self.new) }
+        ensures goes { Goes true self.old result self.new }
+    {
         let code = self.keep_code(bytes)?;
         match code {
             format_code::ULONG_0 => Ok(()),
@@ -155,8 +166,20 @@ impl<R: ByteSource> Decoder<R> {
         Ok(code)
     }
 
-    // Adds the data under a known code.
-    fn keep_data(&mut self, code: u8, bytes: &mut Vec<u8>) -> Result<(), Error>
+    // Adds the data under a known code, of a term that begins there.
+    fn keep_data(&mut self, start: u64, code: u8, bytes: &mut Vec<u8>) -> Result<(), Error>
+        ensures ok { Tells R.remaining → IsKnown (format code)
+            → IfOk result (λ _. Keeps (IsAnnounced (format code)) bytes.old.items self.old bytes.new.items self.new) }
+        ensures err { Tells R.remaining → IsKnown (format code)
+            → IfErr result (λ e. Stops true (LacksAnnounced (format code) self.old) self.old e self.new) }
+        ensures goes { Goes true self.old result self.new }
+    {
+        let kept = self.keep_any_data(code, bytes);
+        self.placed(start, kept)
+    }
+
+    // The same, wherever it refuses.
+    fn keep_any_data(&mut self, code: u8, bytes: &mut Vec<u8>) -> Result<(), Error>
         ensures ok { Tells R.remaining → IsKnown (format code)
             → IfOk result (λ _. Keeps (IsAnnounced (format code)) bytes.old.items self.old bytes.new.items self.new) }
         ensures err { Tells R.remaining → IsKnown (format code)
@@ -172,19 +195,24 @@ impl<R: ByteSource> Decoder<R> {
         }
     }
 
-    // Checks that a constructor and the data that its code announces are a term. A term that they begin with is all of
+    // Checks that a constructor and the data that its code announces are a term, which begins there. A term that they begin with is all of
     // them.
-    fn check_term(&mut self, bytes: &[u8]) -> Result<(), Error>
+    fn check_term(&mut self, start: u64, bytes: &[u8]) -> Result<(), Error>
         ensures ok { IfOk result (λ _. (n : ℕ) × IsFront (IsTerm (self.old.nesting - length self.old.saved)) bytes.now n
             × (self.new ≡ self.old)) }
         ensures err { Tells R.remaining → IfErr result
             (λ e. Stops false (NoTerm (self.old.nesting - length self.old.saved) bytes.now self.old) self.old e self.new) }
         ensures goes { Goes false self.old result self.new }
     {
-        match len_of_term(bytes, self.nesting_left(), self.depth_error()) {
+        match len_of_term_located(bytes, self.nesting_left(), self.depth_error()) {
             Ok(_) => Ok(()),
-            Err(Error::Size) => Err(self.refuse_size(0)),
-            Err(error) => Err(self.stop(error)),
+            Err(
+                Refusal {
+                    error: Error::Size,
+                    at,
+                },
+            ) => Err(self.refuse_size_at(start.wrapping_add(at as u64))),
+            Err(Refusal { error, at }) => Err(self.stop_at(start.wrapping_add(at as u64), error)),
         }
     }
 
@@ -195,10 +223,11 @@ impl<R: ByteSource> Decoder<R> {
         ensures err { Tells R.remaining → IfErr result (λ e. Stops true (SpellingFault self.old) self.old e self.new) }
         ensures goes { Goes true self.old result self.new }
     {
+        let start = self.place();
         let mut bytes = Vec::new(alloc);
         let code = self.keep_constructor(&mut bytes)?;
-        self.keep_data(code, &mut bytes)?;
-        self.check_term(bytes.as_slice())?;
+        self.keep_data(start, code, &mut bytes)?;
+        self.check_term(start, bytes.as_slice())?;
         Ok(bytes)
     }
 
@@ -219,9 +248,10 @@ impl<R: ByteSource> Decoder<R> {
         if self.shared_code().is_some() {
             return Err(self.stop(Error::LazyInArray));
         }
+        let start = self.place();
         let bytes = self.term_bytes(alloc)?;
         self.room();
-        self.count_term(bytes.as_slice())?;
+        self.count_term(start, bytes.as_slice())?;
         self.take_item();
         Ok(bytes)
     }

@@ -6,6 +6,7 @@ ghost use Rattle.amqp_wire.specs.Sources.{Tells};
 ghost use Rattle.amqp_lookahead.specs.Kinds.{binaries, strings, symbols};
 ghost use Rattle.amqp_decoder.specs.State.{after_bytes};
 ghost use Rattle.amqp_decoder.specs.Reserve.{Spares};
+ghost use Rattle.amqp_decoder.specs.Places.{StandsHere};
 ghost use Rattle.amqp_decoder.specs.Steps.{Answers, Misses, Goes, Tries};
 ghost use Rattle.amqp_decoder.specs.Reading.{AnswersRead};
 ghost use Rattle.amqp_decoder.specs.Primitives.{ReadsSize, SizedFault, ReadsSized, ReadsText, TextFault, AnswersFault, ReadsValue, Means};
@@ -103,7 +104,7 @@ impl<R: ByteSource> Decoder<R> {
         Ok(text)
     }
 
-    // The content of a value that has these two constructors.
+    // The content of a value that has these two constructors, wherever it refuses.
     #[inline(always)]
     fn content(&mut self, narrow: u8, wide: u8, alloc: Global) -> Result<Vec<u8>, Error>
         ensures ok { Tells R.remaining → IfOk result (λ text. ReadsText narrow wide self.old text.items self.new) }
@@ -142,12 +143,38 @@ impl<R: ByteSource> Decoder<R> {
         ensures read { Tells R.remaining → AnswersRead true (ReadsValue (Means (λ bytes. binary bytes.items))) (PrimitiveFault binaries)
             self.old result self.new }
         ensures tries { Tries true self.old result self.new }
+        ensures place { IfErr result (λ _. StandsHere self.old self.new) }
+    {
+        let start = self.start();
+        let answer = self.any_binary(alloc);
+        self.placed(start, answer)
+    }
+
+    // The same, wherever it refuses.
+    #[inline(always)]
+    fn any_binary(&mut self, alloc: Global) -> Result<Vec<u8>, Error>
+        ensures read { Tells R.remaining → AnswersRead true (ReadsValue (Means (λ bytes. binary bytes.items))) (PrimitiveFault binaries)
+            self.old result self.new }
+        ensures tries { Tries true self.old result self.new }
     {
         self.content(format_code::BINARY_8, format_code::BINARY_32, alloc)
     }
 
     /// Reads a text (Part 1, section 1.6.20). It returns `BadUtf8` if the text isn't UTF-8.
     pub fn read_string(&mut self, alloc: Global) -> Result<String, Error>
+        ensures read { Tells R.remaining → AnswersRead true (ReadsValue (Means (λ text. string (string_bytes text)))) (PrimitiveFault strings)
+            self.old result self.new }
+        ensures tries { Tries true self.old result self.new }
+        ensures place { IfErr result (λ _. StandsHere self.old self.new) }
+    {
+        let start = self.start();
+        let answer = self.any_string(alloc);
+        self.placed(start, answer)
+    }
+
+    // The same, wherever it refuses.
+    #[inline(always)]
+    fn any_string(&mut self, alloc: Global) -> Result<String, Error>
         ensures read { Tells R.remaining → AnswersRead true (ReadsValue (Means (λ text. string (string_bytes text)))) (PrimitiveFault strings)
             self.old result self.new }
         ensures tries { Tries true self.old result self.new }
@@ -161,6 +188,19 @@ impl<R: ByteSource> Decoder<R> {
 
     /// Reads a symbol (Part 1, section 1.6.21). It returns `NonAscii` if a byte is above 0x7f.
     pub fn read_symbol(&mut self, alloc: Global) -> Result<Symbol, Error>
+        ensures read { Tells R.remaining → AnswersRead true (ReadsValue (Means (λ text. symbol (string_bytes text.0)))) (PrimitiveFault symbols)
+            self.old result self.new }
+        ensures tries { Tries true self.old result self.new }
+        ensures place { IfErr result (λ _. StandsHere self.old self.new) }
+    {
+        let start = self.start();
+        let answer = self.any_symbol(alloc);
+        self.placed(start, answer)
+    }
+
+    // The same, wherever it refuses.
+    #[inline(always)]
+    fn any_symbol(&mut self, alloc: Global) -> Result<Symbol, Error>
         ensures read { Tells R.remaining → AnswersRead true (ReadsValue (Means (λ text. symbol (string_bytes text.0)))) (PrimitiveFault symbols)
             self.old result self.new }
         ensures tries { Tries true self.old result self.new }

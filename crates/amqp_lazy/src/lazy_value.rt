@@ -112,6 +112,7 @@ impl DeserializeTerm for LazyValue {
         alloc: Global,
     ) -> Result<LazyValue, Error> {
         decoder.room();
+        let place = decoder.place();
         let bytes = decoder.read_term(alloc)?;
         match measures_of(bytes.as_slice()) {
             Some(term) => Ok(LazyValue {
@@ -119,7 +120,7 @@ impl DeserializeTerm for LazyValue {
                 nesting: term.nesting,
                 nodes: term.nodes,
             }),
-            None => Err(decoder.refuse(Error::InvalidValue)),
+            None => Err(decoder.refuse_at(place, Error::InvalidValue)),
         }
     }
 

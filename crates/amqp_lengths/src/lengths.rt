@@ -77,13 +77,9 @@ pub fn term_len_located(input: &[u8]) -> Result<usize, Refusal>
     ensures within { IfErr result (λ r. r.at ≤ length input.now) }
     ensures stands { IfErr result (λ r. StandsAt input.now r.error r.at) }
 {
-    let mut left = 0;
-    match walk_term(input, NESTING, Error::Depth, &mut left) {
+    match len_of_term_located(input, NESTING, Error::Depth) {
         Ok(len) => Ok(len),
-        Err(error) => Err(Refusal {
-            error,
-            at: input.len().saturating_sub(left),
-        }),
+        Err(refusal) => Err(refusal),
     }
 }
 
@@ -311,4 +307,21 @@ pub fn len_of_term(input: &[u8], nesting: usize, deep: Error) -> Result<usize, E
 {
     let mut left = 0;
     walk_term(input, nesting, deep, &mut left)
+}
+
+/// Returns what `len_of_term` does, and beside its error the place of the fault, as `term_len_located` does.
+pub fn len_of_term_located(input: &[u8], nesting: usize, deep: Error) -> Result<usize, Refusal>
+    ensures found { IfOk result (λ n. IsFront (IsTerm nesting) input.now n) }
+    ensures refused { IfErr result (λ r. Refuses (IsTerm nesting) input.now r.error) }
+    ensures fault { IfErr result (λ r. TermFault deep nesting input.now r.error (length input.now - r.at)) }
+    ensures within { IfErr result (λ r. r.at ≤ length input.now) }
+{
+    let mut left = 0;
+    match walk_term(input, nesting, deep, &mut left) {
+        Ok(len) => Ok(len),
+        Err(error) => Err(Refusal {
+            error,
+            at: input.len().saturating_sub(left),
+        }),
+    }
 }

@@ -10,5 +10,5 @@ mod primitives;
 mod shares;
 mod sizes;
 
-pub use lengths::{len_of_term, term_len, term_len_located};
+pub use lengths::{len_of_term, len_of_term_located, term_len, term_len_located};
 pub use measures::{Measures, measures_of};

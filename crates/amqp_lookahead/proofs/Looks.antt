@@ -1,5 +1,5 @@
 -- Bytes that were looked at, and those of the source behind them.
-use Rattle.std.proofs.Common.{◌≡◌, ◌≤◌, ◌<◌, ℕ, ◌+◌, ◌-◌, List, [], ◌++◌, length, take, drop, max, inl, inr, Bool, Result, Ok, Err}
+use Rattle.std.proofs.Common.{◌≡◌, ◌≤◌, ◌<◌, ℕ, ◌+◌, ◌-◌, ◌%◌, ◌^◌, List, [], ◌++◌, length, take, drop, max, inl, inr, Bool, Result, Ok, Err}
 use Rattle.std.proofs.Common.{IfOk, IsOk, Option, Some, None, MatchOption, is_some, min, true, false, refl, sym, ap, ◌∙◌, subst, arith, append_assoc, length-append, drop-drop}
 use Rattle.std.proofs.lemmas.List.{drop_at, take_at, length-take-le, length-drop, take-append-le, take-append-drop}
 use Rattle.std.proofs.lemmas.List.Edits.{take-paste}
@@ -8,7 +8,7 @@ use Rattle.std.proofs.Math.Nat.{eq-or-lt_of_le}
 use Rattle.std.proofs.Math.Seq.{take-add, take-append-add, take-length}
 use borrow.Rule.Slice.PartMut.{put_mid, post_of}
 use Rattle.amqp_wire.proofs.Sources.{pulled}
-use Rattle.amqp_lookahead.specs.State.{State, after_look, after_bytes, pending, seen_of}
+use Rattle.amqp_lookahead.specs.State.{State, after_look, after_bytes, pending, seen_of, size_of}
 
 -- what stands in front of a list
 pub front_is : (s r x : List ℕ) (n : ℕ) → length s ≡ n → r ≡ s ++ x → r ≡ s ++ drop n r
@@ -36,6 +36,14 @@ pub looked_rest : (start end_ n : ℕ) (l K : List ℕ) → n ≤ end_ - start �
 looked_rest start end_ n l K h w =
     rest_is (take n (drop start l)) (pending start end_ l ++ K) (pending (start + n) end_ l ++ K) n (looked_length start end_ n l h w)
     (ap (λ x. x ++ K) (pending_split start end_ n l h) ∙ append_assoc (take n (drop start l)) (pending (start + n) end_ l) K)
+
+pub pending_fits : (start end_ : ℕ) (l K : List ℕ) → end_ ≤ length l → end_ - start ≤ length (pending start end_ l ++ K)
+pending_fits start end_ l K w =
+    omega (
+      arith,
+      length-append (pending start end_ l) K,
+      length-take-le (end_ - start) (drop start l) (omega (arith, length-drop start l, w)),
+    )
 
 -- bytes of the buffer that were copied
 pub copied_bytes : (n : ℕ) (p K x b : List ℕ) → n ≤ length p → x ≡ take n p ++ b → p ++ K ≡ take n x ++ drop n (p ++ K)
@@ -137,15 +145,43 @@ ready_rest start end_ l K L s n e long f =
     ap (λ x. x ++ L) (pending_none start end_ l e)
     ∙ rest_is s (pending start end_ l ++ K) L n long (ap (λ x. x ++ K) (pending_none start end_ l e) ∙ f)
 
+-- how many bytes a whole source had, whatever is left of it
+pub size_whole : (whole : Bool) (count : ℕ) (rest more : List ℕ) → whole ≡ true → size_of whole count rest ≡ size_of whole count more
+size_whole true count rest more is = refl
+size_whole false count rest more is = absurd (cc)
+
+-- how many another had, behind n bytes of it
+pub size_behind : (whole : Bool) (count n : ℕ) (r rest : List ℕ) → whole ≡ false → r ≡ drop n rest → n ≤ length rest
+    → size_of whole ((count + n) % 2 ^ 64) r ≡ size_of whole count rest
+size_behind true count n r rest is h few = absurd (cc)
+size_behind false count n r rest is h few = omega (arith, few, ap length h, length-drop n rest)
+
 -- a state behind n bytes, by its parts
-pub moved_is : (st : State) (r : List ℕ) (a s : ℕ) (f : Bool) (n : ℕ) → r ≡ drop n st.rest → a ≡ st.ahead - n
-    → s ≡ st.source → f ≡ st.failed
-    → record st { rest = r; ahead = a; source = s; failed = f } ≡ after_bytes n st
-moved_is st r a s f n hr ha hs hf =
-    ap (λ x. record st { rest = x; ahead = a; source = s; failed = f }) hr
-    ∙ ap (λ x. record st { rest = drop n st.rest; ahead = x; source = s; failed = f }) ha
-    ∙ ap (λ x. record st { rest = drop n st.rest; ahead = st.ahead - n; source = x; failed = f }) hs
+pub moved_is : (st : State) (r : List ℕ) (a m z : ℕ) (f : Bool) (n : ℕ) → r ≡ drop n st.rest → a ≡ st.ahead - n
+    → m ≡ st.source.name → z ≡ st.source.size → f ≡ st.failed
+    → record st { rest = r; ahead = a; source = record { name = m; size = z }; failed = f } ≡ after_bytes n st
+moved_is st r a m z f n hr ha hm hz hf =
+    ap (λ x. record st { rest = x; ahead = a; source = record { name = m; size = z }; failed = f }) hr
+    ∙ ap (λ x. record st { rest = drop n st.rest; ahead = x; source = record { name = m; size = z }; failed = f }) ha
+    ∙ ap (λ x. record st { rest = drop n st.rest; ahead = st.ahead - n; source = record { name = x; size = z }; failed = f }) hm
+    ∙ ap (λ x. record st { rest = drop n st.rest; ahead = st.ahead - n; source = record { name = st.source.name; size = x }; failed = f }) hz
     ∙ ap (λ x. record st { rest = drop n st.rest; ahead = st.ahead - n; failed = x }) hf
+
+-- the same where the bytes of a source that isn't whole are counted behind that
+pub counted_is : (whole : Bool) (st new : State) (r : List ℕ) (a m count : ℕ) (f : Bool) (n : ℕ)
+    → (whole ≡ true → new ≡ record { rest = r; ahead = a; source = record { name = m; size = size_of whole count r }; failed = f })
+    → (whole ≡ false → new ≡ record {
+      rest = r;
+      ahead = a;
+      source = record { name = m; size = (size_of whole count r + n) % 2 ^ 64 };
+      failed = f;
+    })
+    → st.source.size ≡ size_of whole count st.rest → n ≤ length st.rest → r ≡ drop n st.rest → a ≡ st.ahead - n → m ≡ st.source.name
+    → f ≡ st.failed → new ≡ after_bytes n st
+counted_is true st new r a m count f n w o z few hr ha hm hf = w refl ∙ moved_is st r a m count f n hr ha hm (sym z) hf
+counted_is false st new r a m count f n w o z few hr ha hm hf =
+    o refl ∙ moved_is st r a m (((count + length r) % 2 ^ 64 + n) % 2 ^ 64) f n hr ha hm
+    (omega (arith, z, few, ap length hr, length-drop n st.rest)) hf
 
 -- what was looked at is at the front of its buffer, and more behind it
 kept_front : (start end_ : ℕ) (l moved_ : List ℕ) → start ≤ end_ → end_ ≤ length l → moved_ ≡ copy_within l start end_ 0
@@ -192,10 +228,12 @@ moved_bytes start end_ a n k l moved_ b tail K L x y is h w e same few f less at
     subst (λ r. r ≡ take k x ++ drop k r) whole (copied_bytes k p L x y (omega (arith, less, long)) at_)
 
 -- a state after a look, by its parts
-pub looked_is : (st : State) (r : List ℕ) (a s : ℕ) (f : Bool) (n : ℕ) → r ≡ st.rest → a ≡ max st.ahead n → s ≡ st.source → f ≡ st.failed
-    → record st { rest = r; ahead = a; source = s; failed = f } ≡ after_look n st
-looked_is st r a s f n hr ha hs hf =
-    ap (λ x. record st { rest = x; ahead = a; source = s; failed = f }) hr
-    ∙ ap (λ x. record st { ahead = x; source = s; failed = f }) ha
-    ∙ ap (λ x. record st { ahead = max st.ahead n; source = x; failed = f }) hs
+pub looked_is : (st : State) (r : List ℕ) (a m z : ℕ) (f : Bool) (n : ℕ) → r ≡ st.rest → a ≡ max st.ahead n → m ≡ st.source.name
+    → z ≡ st.source.size → f ≡ st.failed
+    → record st { rest = r; ahead = a; source = record { name = m; size = z }; failed = f } ≡ after_look n st
+looked_is st r a m z f n hr ha hm hz hf =
+    ap (λ x. record st { rest = x; ahead = a; source = record { name = m; size = z }; failed = f }) hr
+    ∙ ap (λ x. record st { ahead = x; source = record { name = m; size = z }; failed = f }) ha
+    ∙ ap (λ x. record st { ahead = max st.ahead n; source = record { name = x; size = z }; failed = f }) hm
+    ∙ ap (λ x. record st { ahead = max st.ahead n; source = record { name = st.source.name; size = x }; failed = f }) hz
     ∙ ap (λ x. record st { ahead = max st.ahead n; failed = x }) hf

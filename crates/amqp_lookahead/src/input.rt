@@ -1,7 +1,7 @@
 //! The bytes of a source, which are looked at before they are taken.
-ghost use Rattle.std.specs.Prelude.{◌≤◌, ◌≡◌, ◌<◌, ◌∷◌, ◌++◌, length, take, drop, min, false, true, Ok, IfOk, IfSome, OnErr, MatchOption};
+ghost use Rattle.std.specs.Prelude.{◌≤◌, ◌≡◌, ◌<◌, ◌+◌, ◌%◌, ◌^◌, ◌∷◌, ◌++◌, length, take, drop, min, false, true, Ok, IfOk, IfSome, OnErr, MatchOption};
 ghost use Rattle.amqp_wire.specs.Sources.{known, Tells};
-ghost use Rattle.amqp_lookahead.specs.State.{after_look, after_bytes};
+ghost use Rattle.amqp_lookahead.specs.State.{after_look, after_bytes, origin_of};
 
 use amqp_wire::{ByteSource, pull_full};
 use std::alloc::AllocError;
@@ -32,6 +32,8 @@ fn copy_front(bytes: &[u8], buffer: &mut [u8]) -> usize
 #[derive(Drop)]
 pub struct Input<R: ByteSource> {
     source: R,
+    // How many bytes a whole source had; of another, how many were taken, as a number of 64 bits.
+    count: u64,
     // How many of the last bytes of a whole source weren't looked at.
     unseen: usize,
     start: usize,
@@ -42,14 +44,17 @@ pub struct Input<R: ByteSource> {
 impl<R: ByteSource> Model for Input<R> {
     ghost use Rattle.std.specs.Prelude.{◌≤◌, ◌≡◌, ◌++◌, ◌-◌, ◌+◌, length, true};
     ghost use Rattle.amqp_wire.specs.Sources.{known};
-    ghost use Rattle.amqp_lookahead.specs.State.{State, pending, seen_of};
+    ghost use Rattle.amqp_lookahead.specs.State.{State, pending, seen_of, size_of};
 
     ghost Value = { State };
 
     ghost view = { λ i. record {
       rest = pending i.start i.end i.looked ++ known (R.remaining i.source);
       ahead = i.end - i.start + seen_of R.is_whole (known (R.remaining i.source)) i.unseen;
-      source = R.name i.source;
+      source = record {
+        name = R.name i.source;
+        size = size_of R.is_whole i.count (pending i.start i.end i.looked ++ known (R.remaining i.source));
+      };
       failed = R.failed i.source;
     } };
 
@@ -60,7 +65,12 @@ impl<R: ByteSource> Model for Input<R> {
 impl<R: ByteSource> Input<R> {
     /// Returns the source's bytes, none of which was looked at.
     pub fn new(source: R) -> Self
-        ensures { result ≡ record { rest = known (R.remaining source); ahead = 0; source = R.name source; failed = R.failed source } }
+        ensures { result ≡ record {
+          rest = known (R.remaining source);
+          ahead = 0;
+          source = origin_of (R.name source) (known (R.remaining source));
+          failed = R.failed source;
+        } }
     {
         let unseen = match source.at_hand() {
             Some(bytes) => bytes.len(),
@@ -68,6 +78,7 @@ impl<R: ByteSource> Input<R> {
         };
         Input {
             source,
+            count: unseen as u64,
             unseen,
             start: 0,
             end: 0,
@@ -77,7 +88,7 @@ impl<R: ByteSource> Input<R> {
 
     /// Returns the source. Bytes that were looked at are gone from it.
     pub fn into_source(self) -> R
-        ensures named { R.name result ≡ self.source }
+        ensures named { R.name result ≡ self.source.name }
         ensures rest { known (R.remaining result) ≡ drop self.ahead self.rest }
         ensures failed { R.failed result ≡ self.failed }
     {
@@ -92,6 +103,17 @@ impl<R: ByteSource> Input<R> {
             let _ = pull_full(&mut source, &mut passed[..seen]);
         }
         source
+    }
+
+    /// Returns how many bytes of the input were taken, as a number of 64 bits.
+    #[inline]
+    pub fn place(&self) -> u64
+        ensures { (result + length self.now.rest) % 2 ^ 64 ≡ self.now.source.size }
+    {
+        match self.source.at_hand() {
+            Some(bytes) => self.count.wrapping_sub(bytes.len() as u64),
+            None => self.count,
+        }
     }
 
     /// Fills the buffer with the next bytes, which are taken, and returns how many. They are fewer than it holds only at the end of the
@@ -122,10 +144,12 @@ impl<R: ByteSource> Input<R> {
     {
         let count = copy_front(&self.looked[self.start..self.end], buffer);
         self.start += count;
+        self.count = self.count.wrapping_add(count as u64);
         if count == buffer.len() {
             return Ok(count);
         }
         let more = pull_full(&mut self.source, &mut buffer[count..])?;
+        self.count = self.count.wrapping_add(more as u64);
         Ok(count + more)
     }
 
@@ -138,10 +162,26 @@ impl<R: ByteSource> Input<R> {
         ensures left { result ≡ false → self.new ≡ self.old }
         ensures sound { self.new.failed ≡ self.old.failed }
     {
-        if self.source.at_hand().is_none() && self.start < self.end {
+        match self.source.at_hand() {
+            Some(_) => self.source.pull_ready(buffer),
+            None => self.pull_ready_behind(buffer),
+        }
+    }
+
+    // The same for another source, if nothing that was looked at is left.
+    #[inline]
+    fn pull_ready_behind(&mut self, buffer: &mut [u8]) -> bool
+        requires { R.is_whole ≡ false }
+        ensures bytes { Tells R.remaining → result ≡ true → self.old.rest ≡ buffer.new ++ drop (length buffer.old) self.old.rest }
+        ensures new { Tells R.remaining → result ≡ true → self.new ≡ after_bytes (length buffer.old) self.old }
+        ensures left { result ≡ false → self.new ≡ self.old }
+        ensures sound { self.new.failed ≡ self.old.failed }
+    {
+        if self.start < self.end || !self.source.pull_ready(buffer) {
             return false;
         }
-        self.source.pull_ready(buffer)
+        self.count = self.count.wrapping_add(buffer.len() as u64);
+        true
     }
 
     /// Appends the next `count` bytes, which are taken, if all of them are at hand in the source, and returns true. Otherwise it returns
@@ -157,7 +197,23 @@ impl<R: ByteSource> Input<R> {
         if self.source.at_hand().is_none() && self.start < self.end {
             return Ok(false);
         }
-        self.source.append_ready(count, bytes)
+        if !self.source.append_ready(count, bytes)? {
+            return Ok(false);
+        }
+        self.count_taken(count);
+        Ok(true)
+    }
+
+    // So many bytes of the source were taken, which are counted if it isn't whole.
+    #[inline]
+    fn count_taken(&mut self, count: usize)
+        ensures whole { R.is_whole ≡ true → self.new ≡ self.old }
+        ensures other { R.is_whole ≡ false
+            → self.new ≡ record self.old { source = record self.old.source { size = (self.old.source.size + count) % 2 ^ 64 } } }
+    {
+        if self.source.at_hand().is_none() {
+            self.count = self.count.wrapping_add(count as u64);
+        }
     }
 
     /// Copies the next bytes, at most 64, to the buffer, and returns how many. They are fewer than it holds only at the end of the input.

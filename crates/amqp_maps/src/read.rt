@@ -84,13 +84,14 @@ fn read_row<K: MapKey, V: DeserializeTerm, R: ByteSource>(
         return Err(decoder.refuse(Error::Memory));
     };
     for _ in 0..count {
+        let start = decoder.place();
         let key = K::read_value(decoder, alloc)?;
         match make_room(&mut row, &key) {
             Ok(()) => {
                 let value = V::read_value(decoder, alloc)?;
                 row.push_reserved((key, value));
             }
-            Err(error) => return Err(decoder.refuse(error)),
+            Err(error) => return Err(decoder.refuse_at(start, error)),
         }
     }
     Ok(OrderedMap::of_pairs(Pairs::Row(row, hashing)))
@@ -115,13 +116,14 @@ fn read_table<K: MapKey, V: DeserializeTerm, R: ByteSource>(
         return Err(decoder.refuse(Error::Memory));
     };
     for _ in 0..count {
+        let start = decoder.place();
         let key = K::read_value(decoder, alloc)?;
         match new_place(&mut table, key) {
             Ok(place) => {
                 let value = V::read_value(decoder, alloc)?;
                 place.insert(value);
             }
-            Err(error) => return Err(decoder.refuse(error)),
+            Err(error) => return Err(decoder.refuse_at(start, error)),
         }
     }
     match Pairs::of_table(table, alloc) {

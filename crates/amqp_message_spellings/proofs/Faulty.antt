@@ -4,7 +4,7 @@ use Rattle.amqp_wire.specs.declared.error.Error.{Error}
 use Rattle.amqp_decoder.specs.State.{State}
 use Rattle.amqp_codec.specs.TermType.{TermType}
 use Rattle.amqp_codec.specs.TermReading.{reading_of}
-use Rattle.amqp_codec.specs.Reading.{Reading, IsUnreadable, start}
+use Rattle.amqp_codec.specs.Reading.{Reading, start}
 use Rattle.amqp_sections.specs.declared.data.Data.{Data as DataSection}
 use Rattle.amqp_sections.specs.declared.amqp_sequence.AmqpSequence.{AmqpSequence}
 use Rattle.amqp_sections.specs.declared.amqp_value.AmqpValue.{AmqpValue}
@@ -21,10 +21,10 @@ use Rattle.amqp_bodies.specs.BodyReading.{other_section as another_there, not_se
 use Rattle.amqp_bodies.specs.BodyReading as bodies
 use Rattle.amqp_bodies.specs.SomeReading.{some_reading}
 use Rattle.amqp_bodies.specs.SeenReading.{seen_reading}
-use Rattle.amqp_message_spellings.specs.Spellings.{Spells, IsSection, IsTerm, Are}
-use Rattle.amqp_message_spellings.specs.Faults.{Faults, IsNoTerm, IsRunFault, IsSectionFault, begun, other, IsBodyFault, in_value, in_data}
+use Rattle.amqp_message_spellings.specs.Spellings.{IsSection, IsTerm, Are}
+use Rattle.amqp_message_spellings.specs.Faults.{Faults, IsNoTerm, IsRefusedFor, IsRunFault, IsSectionFault, begun, other, IsBodyFault, in_value, in_data}
 use Rattle.amqp_message_spellings.specs.Faults.{in_sequence, no_body, no_section}
-use Rattle.amqp_message_spellings.proofs.ReadAs.{IsReadAs, term_is_read}
+use Rattle.amqp_message_spellings.proofs.ReadAs.{term_is_read}
 use Rattle.amqp_message_spellings.proofs.Runs.{took_some}
 use Rattle.amqp_message_spellings.proofs.NoTerms.{faults_named, also_free, no_section_named}
 
@@ -33,32 +33,31 @@ pub record IsNamedAs {T : Type 0} (r : Reading T) (fault : Faults) : Type 0 wher
   pub named : (st : State) (e : Error) → IsUnlimited st → r.fault st e → fault st.rest e
 
 -- Of a whole input.
-pub of_input : {T : Type 0} {r : Reading T} {fault : Faults} → IsNamedAs r fault → (input : List ℕ) (e : Error) → IsUnreadable r input e
-    → fault input e
+pub of_input : {T : Type 0} {r : Reading T} {fault : Faults} → IsNamedAs r fault → IsRefusedFor r fault
 of_input l input e h = l.named (start input) e (start_unlimited input) h.fault
 
 pub term_named : {T : Type 0} (u : TermType T) → IsNamedAs (reading_of u) IsNoTerm
 term_named u = record { named = faults_named u.faults }
 
-module _ {T : Type 0} (c : ℕ) {r : Reading T} {spells : Spells T} {fault : Faults} (l : IsReadAs r spells) (f : IsNamedAs r fault) where
-  pub run_named : (st : State) (e : Error) → IsUnlimited st → WalkFault (run_walk c r) st e → IsRunFault c spells fault st.rest e
+module _ {T : Type 0} (c : ℕ) (u : TermType T) where
+  run_named : (st : State) (e : Error) → IsUnlimited st → WalkFault (run_walk c (reading_of u)) st e → IsRunFault c u st.rest e
   run_named st e free (not_top n) = (let t = fresh_top st free.0 in absurd (n.0 t.1 t.2 t.3))
   run_named st e free (in_step n part last mid steps a x) =
-      let k = took_some c l n st [] part last free steps in
+      let k = took_some c (term_is_read u) n st [] part last free steps in
       let same : mid.rest ≡ last.rest = alike_rest last mid a in
       record {
         bytes = k.bytes;
         values = k.values;
         at = mid.rest;
         split = k.split ∙ ap (λ z. k.bytes ++ z) (sym same);
-        are = subst (Are (IsSection c spells) k.bytes k.values) (sym same) k.are;
+        are = subst (Are (IsSection c (IsTerm u)) k.bytes k.values) (sym same) k.are;
         next = x.0;
-        has = f.named mid e (also_free last mid k.free a) x.1;
+        has = (term_named u).named mid e (also_free last mid k.free a) x.1;
       }
   run_named st e free (not_made n part last steps done none) = absurd none
 
-pub batch_named : {T : Type 0} (c : ℕ) (u : TermType T) → IsNamedAs (batch_reading c (reading_of u)) (IsRunFault c (IsTerm u) IsNoTerm)
-batch_named c u = record { named = run_named c (term_is_read u) (term_named u) }
+  pub batch_named : IsNamedAs (batch_reading c (reading_of u)) (IsRunFault c u)
+  batch_named = record { named = run_named }
 
 pub section_named : {V : Type 0} (c : ℕ) {r : Reading V} {fault : Faults} → IsNamedAs r fault
     → IsNamedAs (run_reading c r) (IsSectionFault c fault)
@@ -78,18 +77,20 @@ seen_named {fault = fault} l = record {
 pub there_named : {V : Type 0} {r : Reading V} {fault : Faults} → IsNamedAs r fault → IsNamedAs (some_reading r) fault
 there_named l = record { named = l.named }
 
-module _ {T : Type 0} {rv : Reading (AmqpValue T)} {rd : Reading (TransparentVec DataSection)}
-    {rs : Reading (TransparentVec (AmqpSequence T))} {fv fd fs : Faults} (nv : IsNamedAs rv fv) (nd : IsNamedAs rd fd)
-    (ns : IsNamedAs rs fs) where
-  body_named : (st : State) (e : Error) → IsUnlimited st → BodyFault rv rd rs st e → IsBodyFault fv fd fs st.rest e
+module _ {T : Type 0} (uv : TermType (AmqpValue T)) (ud : TermType DataSection) (us : TermType (AmqpSequence T)) where
+  abbrev rd : Reading (TransparentVec DataSection)
+  rd = batch_reading 0x75 (reading_of ud)
+
+  abbrev rs : Reading (TransparentVec (AmqpSequence T))
+  rs = batch_reading 0x76 (reading_of us)
+
+  body_named : (st : State) (e : Error) → IsUnlimited st → BodyFault (reading_of uv) rd rs st e → IsBodyFault ud us st.rest e
   body_named st e free (bodies.not_top n) = (let t = fresh_top st free.0 in absurd (n.0 t.1 t.2 t.3))
-  body_named st e free (value_there a f) = in_value a (nv.named st e free f)
-  body_named st e free (data_there a f) = in_data a (nd.named st e free f)
-  body_named st e free (sequence_there a f) = in_sequence a (ns.named st e free f)
+  body_named st e free (value_there a f) = in_value a ((term_named uv).named st e free f)
+  body_named st e free (data_there a f) = in_data a ((batch_named 0x75 ud).named st e free f)
+  body_named st e free (sequence_there a f) = in_sequence a ((batch_named 0x76 us).named st e free f)
   body_named st e free (another_there a f g h i) = no_body a f g h i
   body_named st e free (none_there a f) = no_section a (no_section_named st e free f)
 
-pub any_body_named : {T : Type 0} (uv : TermType (AmqpValue T)) (ud : TermType DataSection) (us : TermType (AmqpSequence T))
-    → IsNamedAs (seen_reading (body_reading (reading_of uv) (batch_reading 0x75 (reading_of ud)) (batch_reading 0x76 (reading_of us))))
-    (IsBodyFault IsNoTerm (IsRunFault 0x75 (IsTerm ud) IsNoTerm) (IsRunFault 0x76 (IsTerm us) IsNoTerm))
-any_body_named uv ud us = seen_named (record { named = body_named (term_named uv) (batch_named 0x75 ud) (batch_named 0x76 us) })
+  pub any_body_named : IsNamedAs (seen_reading (body_reading (reading_of uv) rd rs)) (IsBodyFault ud us)
+  any_body_named = seen_named (record { named = body_named })

@@ -8,7 +8,6 @@ use Rattle.amqp_codec.specs.Reading.{Reading, looking, start, BeginsWith}
 use Rattle.amqp_sections.specs.declared.data.Data.{Data as DataSection}
 use Rattle.amqp_sections.specs.declared.amqp_sequence.AmqpSequence.{AmqpSequence}
 use Rattle.amqp_sections.specs.declared.amqp_value.AmqpValue.{AmqpValue}
-use Rattle.amqp_batches.specs.declared.transparent_vec.TransparentVec.{TransparentVec}
 use Rattle.amqp_batches.specs.Batches.{sections_in, batch_reading, batch_bound}
 use Rattle.amqp_batches.specs.laws.Bound.{term_bound, takes_so}
 use Rattle.amqp_batches.specs.laws.Resuming.{start_unlimited, fresh_top}
@@ -72,39 +71,40 @@ module _ {V : Type 0} {r : Reading V} {spells : Spells V} (l : IsReadAs r spells
   pub there_is_read : IsReadAs (some_reading r) (IsThere spells)
   there_is_read = record { bound = some_bound r l.bound; spelled = there_spelled; read = there_read }
 
-module _ {T : Type 0} {rv : Reading (AmqpValue T)} {rd : Reading (TransparentVec DataSection)}
-    {rs : Reading (TransparentVec (AmqpSequence T))} {sv : Spells (AmqpValue T)} {sd : Spells (TransparentVec DataSection)}
-    {ss : Spells (TransparentVec (AmqpSequence T))} (lv : IsReadAs rv sv) (ld : IsReadAs rd sd) (ls : IsReadAs rs ss) where
-  body_spelled : (input : List ℕ) (v : Body T) (n : ℕ) → BeginsWith (body_reading rv rd rs) input v n
-      → Begins (IsBody sv sd ss) input v n
+module _ {T : Type 0} (uv : TermType (AmqpValue T)) (ud : TermType DataSection) (us : TermType (AmqpSequence T)) where
+  abbrev body_type : Reading (Body T)
+  body_type = body_reading (reading_of uv) (batch_reading 0x75 (reading_of ud)) (batch_reading 0x76 (reading_of us))
+
+  body_spelled : (input : List ℕ) (v : Body T) (n : ℕ) → BeginsWith body_type input v n → Begins (IsBody uv ud us) input v n
   body_spelled input (Value v) n h =
-      (section_is_read 0x77 lv).spelled input v n (record { after = h.after; read = (h.read.1.0, h.read.1.1); left = h.left })
+      (section_is_read 0x77 (term_is_read uv)).spelled input v n (record { after = h.after; read = (h.read.1.0, h.read.1.1); left = h.left })
   body_spelled input (Data v) n h =
-      (section_is_read 0x75 ld).spelled input v n (record { after = h.after; read = (h.read.1.0, h.read.1.1); left = h.left })
+      (section_is_read 0x75 (batch_is_read 0x75 ud)).spelled input v n
+      (record { after = h.after; read = (h.read.1.0, h.read.1.1); left = h.left })
   body_spelled input (Sequence v) n h =
-      (section_is_read 0x76 ls).spelled input v n (record { after = h.after; read = (h.read.1.0, h.read.1.1); left = h.left })
+      (section_is_read 0x76 (batch_is_read 0x76 us)).spelled input v n
+      (record { after = h.after; read = (h.read.1.0, h.read.1.1); left = h.left })
   body_spelled input Empty n h = absurd h.read
 
-  body_read : (b more : List ℕ) (v : Body T) → IsBody sv sd ss b v more → BeginsWith (body_reading rv rd rs) (b ++ more) v (length b)
+  body_read : (b more : List ℕ) (v : Body T) → IsBody uv ud us b v more → BeginsWith body_type (b ++ more) v (length b)
   body_read b more (Value v) s =
-      let h = lv.read b more v s.1 in
+      let h = (term_is_read uv).read b more v s.1 in
       record { after = h.after; read = (fresh_top (start (b ++ more)) (start_unlimited (b ++ more)).0, (s.0, h.read)); left = h.left }
   body_read b more (Data v) s =
-      let h = ld.read b more v s.1 in
+      let h = (batch_is_read 0x75 ud).read b more v s.1 in
       record { after = h.after; read = (fresh_top (start (b ++ more)) (start_unlimited (b ++ more)).0, (s.0, h.read)); left = h.left }
   body_read b more (Sequence v) s =
-      let h = ls.read b more v s.1 in
+      let h = (batch_is_read 0x76 us).read b more v s.1 in
       record { after = h.after; read = (fresh_top (start (b ++ more)) (start_unlimited (b ++ more)).0, (s.0, h.read)); left = h.left }
   body_read b more Empty s = absurd s
 
-  body_is_read : IsReadAs (body_reading rv rd rs) (IsBody sv sd ss)
+  body_is_read : IsReadAs body_type (IsBody uv ud us)
   body_is_read = record {
-    bound = body_bound rv rd rs lv.bound (section_is_read 0x75 ld).bound (section_is_read 0x76 ls).bound;
+    bound = body_bound (reading_of uv) (batch_reading 0x75 (reading_of ud)) (batch_reading 0x76 (reading_of us)) (term_is_read uv).bound
+        (section_is_read 0x75 (batch_is_read 0x75 ud)).bound (section_is_read 0x76 (batch_is_read 0x76 us)).bound;
     spelled = body_spelled;
     read = body_read;
   }
 
-pub any_body_is_read : {T : Type 0} (uv : TermType (AmqpValue T)) (ud : TermType DataSection) (us : TermType (AmqpSequence T))
-    → IsReadAs (seen_reading (body_reading (reading_of uv) (batch_reading 0x75 (reading_of ud)) (batch_reading 0x76 (reading_of us))))
-    (IsBody (IsTerm uv) (IsBatch 0x75 (IsTerm ud)) (IsBatch 0x76 (IsTerm us)))
-any_body_is_read uv ud us = seen_is_read (body_is_read (term_is_read uv) (batch_is_read 0x75 ud) (batch_is_read 0x76 us))
+  pub any_body_is_read : IsReadAs (seen_reading body_type) (IsBody uv ud us)
+  any_body_is_read = seen_is_read body_is_read

@@ -12,6 +12,7 @@ use Rattle.amqp_batches.specs.Walk.{WalkFault, not_top, in_step, not_made}
 use Rattle.amqp_batches.specs.WalkReading.{walk_reading, reading_via}
 use Rattle.amqp_bodies.specs.Bodies.{Made}
 use Rattle.amqp_messages.specs.declared.message.Groups.{Groups}
+use Rattle.amqp_messages.specs.declared.order.Order.{Order}
 use Rattle.amqp_messages.specs.declared.order.Order.TheVariants.{Any, Written}
 use Rattle.amqp_messages.specs.Groups.{Progress, GroupFault, in_group, misplaced, not_section}
 use Rattle.amqp_messages.specs.MessageTypes.{message_in}
@@ -20,11 +21,12 @@ use Rattle.amqp_messages.specs.Orders as orders
 use Rattle.amqp_message_spellings.specs.Spellings.{Spells, Are}
 use Rattle.amqp_message_spellings.specs.Kinds.{Group, IsGroup, behind, put_all, nothing}
 use Rattle.amqp_message_spellings.specs.Messages.{delivery_annotations, message_annotations, application_properties, footer, body_in}
-use Rattle.amqp_message_spellings.specs.Faults.{Faults, IsGroupFault, IsNoSection, HasNoBody, IsMessageFault, IsStrictFault, left_behind}
+use Rattle.amqp_message_spellings.specs.Faults.{Faults, IsGroupFault, IsNoSection, HasNoBody, IsBehindGroups, HasFault, HasStrictFault}
+use Rattle.amqp_message_spellings.specs.Faults.{IsMessageFault, IsStrictFault, left_behind}
 use Rattle.amqp_message_spellings.proofs.ReadAs.{IsReadAs}
 use Rattle.amqp_message_spellings.proofs.Codes.{IsCode, code_ahead}
 use Rattle.amqp_message_spellings.proofs.Turned.{ks, shape, fields}
-use Rattle.amqp_message_spellings.proofs.Messages.{so, walk, left_by, took_groups, placed_few, left_any, placed_fall, seven_left}
+use Rattle.amqp_message_spellings.proofs.Messages.{so, walk, left_by, TookGroups, took_groups, placed_few, left_any, placed_fall, seven_left, at_end}
 use Rattle.amqp_message_spellings.proofs.NoTerms.{also_free, no_section_named}
 use Rattle.amqp_message_spellings.proofs.Faulty.{IsNamedAs, term_named}
 
@@ -70,35 +72,33 @@ module _ {S B : Type 0} (made : Made S B) {group : Spells S} {body : Faults} (l 
       below zero none same = absurd (none refl)
       below (suc n) none same = omega (arith, same)
 
+  -- What stands behind the groups that were read.
+  stands_behind : (o : Order) {st : State} {part : Progress (Groups S)} {last : State} (rest : List ℕ)
+      (why : List (Group (ks made l)) → List ℕ → Type 0) (k : TookGroups made l o st (so made l 7 (shape made l).blank) part last)
+      → rest ≡ last.rest → why k.groups rest → IsBehindGroups made group why st.rest
+  stands_behind o rest why k same is = record {
+    bytes = k.bytes;
+    groups = k.groups;
+    at = rest;
+    split = k.split ∙ ap (λ z. k.bytes ++ z) (sym same);
+    are = subst (Are (IsGroup (ks made l)) k.bytes k.groups) (sym same) k.are;
+    is = is;
+  }
+
   any_fault : (st : State) (e : Error) → IsUnlimited st → WalkFault (walk made l Any) st e → IsMessageFault made group body st.rest e
   any_fault st e free (not_top n) = (let t = fresh_top st free.0 in absurd (n.0 t.1 t.2 t.3))
   any_fault st e free (in_step n part last mid steps a f) =
       let k = took_groups made l Any n st (so made l 7 (shape made l).blank) part last free steps in
-      let same : mid.rest ≡ last.rest = alike_rest last mid a in
-      record {
-        bytes = k.bytes;
-        groups = k.groups;
-        at = mid.rest;
-        split = k.split ∙ ap (λ z. k.bytes ++ z) (sym same);
-        are = subst (Are (IsGroup (ks made l)) k.bytes k.groups) (sym same) k.are;
-        few = placed_few made l k.groups 7 k.placed;
-        why = inl (next_in_any mid part e k.groups (also_free last mid k.free a) k.left f);
-      }
+      stands_behind Any mid.rest (HasFault made group body e) k (alike_rest last mid a)
+      (inl (next_in_any mid part e k.groups (also_free last mid k.free a) k.left f))
   any_fault st e free (not_made n part last steps done none) =
       let k = took_groups made l Any n st (so made l 7 (shape made l).blank) part last free steps in
       let few = placed_few made l k.groups 7 k.placed in
-      record {
-        bytes = k.bytes;
-        groups = k.groups;
-        at = last.rest;
-        split = k.split;
-        are = k.are;
-        few = few;
-        why = inr (
-          seven_left made l k.groups last.rest few (subst (λ x. (x ≡ 0) ⊎ (last.rest ≡ [])) k.left done),
-          no_body part.part e k.groups k.part none,
-        );
-      }
+      stands_behind Any last.rest (HasFault made group body e) k refl (inr (
+        few,
+        seven_left made l k.groups last.rest few (subst (λ x. (x ≡ 0) ⊎ (last.rest ≡ [])) k.left done),
+        no_body part.part e k.groups k.part none,
+      ))
 
   -- How many kinds may come behind the last group is the same by both words.
   left_written : (gs : List (Group (ks made l))) (n : ℕ) → left_by made l Written n gs ≡ left_behind made group n gs
@@ -114,35 +114,20 @@ module _ {S B : Type 0} (made : Made S B) {group : Spells S} {body : Faults} (l 
   next_in_order st m e gs free left (misplaced {c} full a p x) = inl (c, a, inr (subst (λ n. n ≤ orders.behind c) left p, x))
   next_in_order st m e gs free left (not_section full rest a f) = inr (rest, a, no_section_named st e free f)
 
-  at_end : (rest : List ℕ) → ⊥ ⊎ (rest ≡ []) → rest ≡ []
-  at_end rest (inl full) = absurd full
-  at_end rest (inr e) = e
-
   strict_fault : (st : State) (e : Error) → IsUnlimited st → WalkFault (walk made l Written) st e → IsStrictFault made group body st.rest e
   strict_fault st e free (not_top n) = (let t = fresh_top st free.0 in absurd (n.0 t.1 t.2 t.3))
   strict_fault st e free (in_step n part last mid steps a f) =
       let k = took_groups made l Written n st (so made l 7 (shape made l).blank) part last free steps in
-      let same : mid.rest ≡ last.rest = alike_rest last mid a in
-      record {
-        bytes = k.bytes;
-        groups = k.groups;
-        at = mid.rest;
-        split = k.split ∙ ap (λ z. k.bytes ++ z) (sym same);
-        are = subst (Are (IsGroup (ks made l)) k.bytes k.groups) (sym same) k.are;
-        fall = placed_fall made l k.groups 7 k.placed;
-        why = inl (next_in_order mid part e k.groups (also_free last mid k.free a) (k.left ∙ left_written k.groups 7) f);
-      }
+      stands_behind Written mid.rest (HasStrictFault made group body e) k (alike_rest last mid a) (
+        placed_fall made l k.groups 7 k.placed,
+        inl (next_in_order mid part e k.groups (also_free last mid k.free a) (k.left ∙ left_written k.groups 7) f),
+      )
   strict_fault st e free (not_made n part last steps done none) =
       let k = took_groups made l Written n st (so made l 7 (shape made l).blank) part last free steps in
-      record {
-        bytes = k.bytes;
-        groups = k.groups;
-        at = last.rest;
-        split = k.split;
-        are = k.are;
-        fall = placed_fall made l k.groups 7 k.placed;
-        why = inr (at_end last.rest done, no_body part.part e k.groups k.part none);
-      }
+      stands_behind Written last.rest (HasStrictFault made group body e) k refl (
+        placed_fall made l k.groups 7 k.placed,
+        inr (at_end made l last.rest done, no_body part.part e k.groups k.part none),
+      )
 
   pub message_named : IsNamedAs (walk_reading (message_walk Any (shape made l))) (IsMessageFault made group body)
   message_named = record { named = any_fault }

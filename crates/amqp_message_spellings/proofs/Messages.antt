@@ -253,12 +253,11 @@ module _ {S B : Type 0} (made : Made S B) {body : Spells S} (l : IsReadAs made.g
   placed_fall [] n p = tt
   placed_fall (g ∷ gs) n p = (p.0, placed_fall gs (behind (ks made l) g) p.1)
 
-  at_end : (more : List ℕ) → ⊥ ⊎ (more ≡ []) → more ≡ []
+  pub at_end : (more : List ℕ) → ⊥ ⊎ (more ≡ []) → more ≡ []
   at_end more (inl full) = absurd full
   at_end more (inr e) = e
 
-  pub strict_is_read : IsReadAs (reading_via (walk_reading (message_walk Written (shape made l))) message_in)
-      (λ b v more. IsStrictMessage made body b (message_in v) more)
+  pub strict_is_read : IsReadAs (reading_via (walk_reading (message_walk Written (shape made l))) message_in) (IsStrictMessage made body)
   strict_is_read =
       let written = groups_are_read Written in
       record {

@@ -1,7 +1,6 @@
 -- Where an error says of bytes that they are no term, none of them begins with one.
 use Rattle.std.proofs.Common.{◌≡◌, ℕ, max, inl, Bool, true, false, List, Option, None, refl, sym, ap, ◌∙◌, subst, arith}
 use Rattle.amqp_model.specs.Measures.{nest}
-use Rattle.amqp_model.specs.laws.Item.{clash}
 use Rattle.amqp_wire.specs.declared.error.Error.{Error}
 use Rattle.amqp_wire.specs.declared.error.Error.TheVariants.{Depth, Limit}
 use Rattle.amqp_decoder.proofs.Misspelled.{begin_misspelled, described_misspelled}
@@ -10,7 +9,7 @@ use Rattle.amqp_decoder.specs.Described.{OpenFault}
 use Rattle.amqp_decoder.specs.Misspelled.{IsMisspelling}
 use Rattle.amqp_decoder.specs.OtherSource.{elsewhere, Setting, under, IsByDepth}
 use Rattle.amqp_decoder.specs.Reading.{BeginFault}
-use Rattle.amqp_decoder.specs.State.{Course, Open, State}
+use Rattle.amqp_decoder.specs.State.{Source, Course, Open, State}
 use Rattle.amqp_decoder.specs.laws.OtherSource.{begin_fault, open_described_fault}
 use Rattle.amqp_codec.specs.Faults.{Faults}
 use Rattle.amqp_codec.specs.Reading.{looking, AreAlike, start}
@@ -34,57 +33,47 @@ as_begun st (f, same) =
     ∙ ap (λ x. record (begun st) { failed = course st.failed.broken x }) f.among)
     ∙ sym same
 
-abbrev is_by_depth : Error → Bool
-is_by_depth Depth = true
-is_by_depth Limit = true
-is_by_depth _ = false
-
-by_depth_so : (e : Error) → is_by_depth e ≡ true → IsByDepth e
-by_depth_so Depth h = tt
-by_depth_so Limit h = tt
-by_depth_so _ h = absurd (clash h refl)
-
-so_by_depth : (e : Error) → IsByDepth e → is_by_depth e ≡ true
-so_by_depth Depth h = refl
-so_by_depth Limit h = refl
-so_by_depth _ h = absurd h
-
-module _ (fs : Faults) (ahead source : ℕ) (broken : Bool) (input : List ℕ) (e : Error) where
+module _ (fs : Faults) (ahead : ℕ) (source : Source) (broken : Bool) (input : List ℕ) where
   abbrev here : State
   here = elsewhere source broken (looking ahead (start input))
 
-  no_term_here : fs.fault here e → IsNoTerm input e
-  no_term_here f i b more t is s bound = by (is_by_depth e) refl
+  at_a_bound : (e : Error) → IsByDepth e → fs.fault here e → IsNoTerm input e
+  at_a_bound e deep f i b more t is s bound =
+      fs.misspelled here e (inl (omega arith)) i f b t
+      (record {
+        going = refl;
+        item = tt;
+        room = tt;
+        after = more;
+        rest = is;
+        spelled = s;
+        nested = (let k = bound deep in omega (arith, k));
+        few = tt;
+      })
+
+  -- It is the same where values may nest as deep as any term does.
+  at_no_bound : (e : Error) → (IsByDepth e → ⊥) → fs.fault here e → IsNoTerm input e
+  at_no_bound e other f i b more t is s bound =
+      fs.misspelled (under deeper here) e (inl (omega arith)) i
+      (fs.fault_elsewhere deeper here e (λ h. absurd (other h)) f) b t
+      (record {
+        going = refl;
+        item = tt;
+        room = tt;
+        after = more;
+        rest = is;
+        spelled = s;
+        nested = omega arith;
+        few = tt;
+      })
     where
       deeper : Setting
-      deeper = record { source = 0; deepen = λ n. max n (nest t); grows = λ n. omega arith; free = true; lift = true; course = λ f. f }
+      deeper = record { source = source; deepen = λ n. max n (nest t); grows = λ n. omega arith; free = true; lift = true; course = λ f. f }
 
-      by : (d : Bool) → is_by_depth e ≡ d → ⊥
-      by true d =
-          fs.misspelled here e (inl (omega arith)) i f b t
-          (record {
-            going = refl;
-            item = tt;
-            room = tt;
-            after = more;
-            rest = is;
-            spelled = s;
-            nested = (let k = bound (by_depth_so e d) in omega (arith, k));
-            few = tt;
-          })
-      by false d =
-          fs.misspelled (under deeper here) e (inl (omega arith)) i
-          (fs.fault_elsewhere deeper here e (λ h. absurd (clash (so_by_depth e h) d)) f) b t
-          (record {
-            going = refl;
-            item = tt;
-            room = tt;
-            after = more;
-            rest = is;
-            spelled = s;
-            nested = omega arith;
-            few = tt;
-          })
+  no_term_here : (e : Error) → fs.fault here e → IsNoTerm input e
+  no_term_here Depth f = at_a_bound Depth tt f
+  no_term_here Limit f = at_a_bound Limit tt f
+  no_term_here e f = at_no_bound e (λ h. h) f
 
 pub faults_named : (fs : Faults) (st : State) (e : Error) → IsUnlimited st → fs.fault st e → IsNoTerm st.rest e
 faults_named fs st e free f =

@@ -1,5 +1,5 @@
 -- What is read is what the bytes spell.
-use Rattle.std.proofs.Common.{◌↔◌, ◌≡◌, ℕ, List, ◌++◌, length, take, drop, sym, ap, ◌∙◌, subst}
+use Rattle.std.proofs.Common.{◌≡◌, ℕ, List, ◌++◌, length, take, drop, sym, ap, ◌∙◌, subst}
 use Rattle.std.proofs.lemmas.List.{length-take-le, take-append-drop}
 use Rattle.amqp_decoder.specs.State.{State}
 use Rattle.amqp_codec.specs.TermType.{TermType}
@@ -10,7 +10,7 @@ use Rattle.amqp_batches.specs.Bounds.{IsBoundByLimits}
 use Rattle.amqp_batches.specs.laws.Bound.{term_bound, still_fresh, still_unlimited}
 use Rattle.amqp_batches.specs.laws.State.{alike_rest}
 use Rattle.amqp_batches.specs.laws.Resuming.{IsUnlimited, IsReadHere, was_read, read_here}
-use Rattle.amqp_message_spellings.specs.Spellings.{Spells, Begins, IsTerm}
+use Rattle.amqp_message_spellings.specs.Spellings.{Spells, Begins, IsReadExactly, IsTerm}
 
 pub record IsReadAs {T : Type 0} (r : Reading T) (spells : Spells T) : Type 0 where
   pub bound : IsBoundByLimits r
@@ -48,7 +48,7 @@ module _ {T : Type 0} {r : Reading T} {spells : Spells T} (l : IsReadAs r spells
   pub still_free : (st : State) (v : T) (b : State) → IsUnlimited st → r.reads st v b → IsUnlimited b
   still_free st v b free h = (still_fresh st b free.0 (r.stays st v b h), still_unlimited r l.bound st v b free.0 free.1 h)
 
-  pub exactly : (input : List ℕ) (v : T) (n : ℕ) → BeginsWith r input v n ↔ Begins spells input v n
+  pub exactly : IsReadExactly r spells
   exactly input v n = (
     l.spelled input v n,
     λ h.

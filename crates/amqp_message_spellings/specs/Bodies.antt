@@ -1,16 +1,15 @@
 -- Which bytes are a body of any kind (Part 3, sections 3.2.6 to 3.2.8).
+use Rattle.amqp_codec.specs.TermType.{TermType}
 use Rattle.amqp_sections.specs.declared.data.Data.{Data as DataSection}
 use Rattle.amqp_sections.specs.declared.amqp_sequence.AmqpSequence.{AmqpSequence}
 use Rattle.amqp_sections.specs.declared.amqp_value.AmqpValue.{AmqpValue}
-use Rattle.amqp_batches.specs.declared.transparent_vec.TransparentVec.{TransparentVec}
 use Rattle.amqp_bodies.specs.declared.body.Body.{Body}
 use Rattle.amqp_bodies.specs.declared.body.Body.TheVariants.{Value, Data, Sequence, Empty}
-use Rattle.amqp_message_spellings.specs.Spellings.{Spells, IsSection}
+use Rattle.amqp_message_spellings.specs.Spellings.{Spells, IsTerm, IsSection, IsBatch}
 
 -- One value, or as many sections with bytes or with lists as there are, and one at least. What is absent has no bytes that say so.
-abbrev pub IsBody : {T : Type 0} → Spells (AmqpValue T) → Spells (TransparentVec DataSection) → Spells (TransparentVec (AmqpSequence T))
-    → Spells (Body T)
-IsBody value data_ sequence b (Value v) more = IsSection 0x77 value b v more
-IsBody value data_ sequence b (Data v) more = IsSection 0x75 data_ b v more
-IsBody value data_ sequence b (Sequence v) more = IsSection 0x76 sequence b v more
+abbrev pub IsBody : {T : Type 0} → TermType (AmqpValue T) → TermType DataSection → TermType (AmqpSequence T) → Spells (Body T)
+IsBody value data_ sequence b (Value v) more = IsSection 0x77 (IsTerm value) b v more
+IsBody value data_ sequence b (Data v) more = IsSection 0x75 (IsBatch 0x75 (IsTerm data_)) b v more
+IsBody value data_ sequence b (Sequence v) more = IsSection 0x76 (IsBatch 0x76 (IsTerm sequence)) b v more
 IsBody value data_ sequence b Empty more = ⊥

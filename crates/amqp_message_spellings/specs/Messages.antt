@@ -15,6 +15,8 @@ use Rattle.amqp_map_sections.specs.declared.message_annotations.MessageAnnotatio
 use Rattle.amqp_message_headers.specs.Tables.{header, properties}
 use Rattle.amqp_bodies.specs.Bodies.{Made}
 use Rattle.amqp_messages.specs.declared.message.Message.{Message}
+use Rattle.amqp_messages.specs.declared.strict.Strict.{Strict}
+use Rattle.amqp_messages.specs.MessageTypes.{message_in}
 use Rattle.amqp_message_spellings.specs.Spellings.{Spells, IsTerm}
 use Rattle.amqp_message_spellings.specs.Kinds.{Kind, Kinds, none, kind, Fields, IsInAnyOrder, IsInOrder}
 
@@ -75,5 +77,5 @@ module _ {S B : Type 0} (made : Made S B) (group : Spells S) where
   abbrev pub IsMessage : Spells (Message B)
   IsMessage b v more = IsInAnyOrder kinds IsMadeOf b v more
 
-  abbrev pub IsStrictMessage : Spells (Message B)
-  IsStrictMessage b v more = IsInOrder kinds IsMadeOf b v more
+  abbrev pub IsStrictMessage : Spells (Strict B)
+  IsStrictMessage b v more = IsInOrder kinds IsMadeOf b (message_in v) more

@@ -1,7 +1,8 @@
 -- Which bytes spell a value, where others follow them (Part 3, section 3.2).
-use Rattle.std.specs.Prelude.{◌≡◌, ℕ, ◌≤◌, List, [], ◌∷◌, ◌++◌, length, take, drop, Option, Some, None}
+use Rattle.std.specs.Prelude.{◌↔◌, ◌≡◌, ℕ, ◌≤◌, List, [], ◌∷◌, ◌++◌, length, take, drop, Option, Some, None}
 use Rattle.amqp_lookahead.specs.Sections.{IsSectionAhead}
 use Rattle.amqp_codec.specs.TermType.{TermType}
+use Rattle.amqp_codec.specs.Reading.{Reading, BeginsWith}
 use Rattle.amqp_codec.specs.Spelled.{IsSpelled}
 use Rattle.amqp_batches.specs.declared.transparent_vec.TransparentVec.{TransparentVec}
 use Rattle.amqp_batches.specs.Batches.{sections_in}
@@ -13,6 +14,10 @@ Spells T = List ℕ → T → List ℕ → Type 0
 -- The first n bytes of the input spell the value.
 abbrev pub Begins : {T : Type 0} → Spells T → List ℕ → T → ℕ → Type 0
 Begins spells input v n = (n ≤ length input) × spells (take n input) v (drop n input)
+
+-- A value is read from the first bytes of an input exactly if they spell it.
+abbrev pub IsReadExactly : {T : Type 0} → Reading T → Spells T → Type 0
+IsReadExactly {T} r spells = (input : List ℕ) (v : T) (n : ℕ) → BeginsWith r input v n ↔ Begins spells input v n
 
 -- One term that means the value, whatever follows.
 abbrev pub IsTerm : {T : Type 0} → TermType T → Spells T

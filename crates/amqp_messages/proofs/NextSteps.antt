@@ -89,7 +89,7 @@ module _ (o : Order) (left : ℕ) where
       pub misplaced_refused : (c : ℕ) (e : Error) (new : State) → found ≡ Some c → left ≤ further o left c → RefusesBy Misplaced here e new
           → Refuses st e new
       misplaced_refused c e new i l refused = record {
-        kept = answered_later (alike_stays st here alike).sound (first_kept going refused);
+        kept = answered_later (alike_stays st here alike).sound (first_kept {st = here} going refused);
         again = λ d x. (let g = h.going in absurd (cc));
         named = λ _. inr (misplaced some (ahead c i) l (refused going).0);
         none = inr none;

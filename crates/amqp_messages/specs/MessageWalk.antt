@@ -3,7 +3,7 @@ use Rattle.std.proofs.Common.{◌≡◌, inl, inr, ℕ, ◌<◌, Bool, true, Lis
 use Rattle.amqp_wire.specs.declared.error.Error.{Error}
 use Rattle.amqp_wire.specs.declared.error.Error.TheVariants.{Misplaced}
 use Rattle.amqp_lookahead.proofs.SectionsAhead.{one_ahead}
-use Rattle.amqp_decoder.specs.State.{State}
+use Rattle.amqp_decoder.specs.State.{Source, State}
 use Rattle.amqp_decoder.specs.Steps.{IsOutside}
 use Rattle.amqp_decoder.specs.OtherSource.{elsewhere}
 use Rattle.amqp_codec.specs.Reading.{looking, AreAlike}
@@ -59,7 +59,7 @@ module _ {M V : Type 0} (o : Order) (s : Shape M V) where
         },
       )
 
-  pub group_elsewhere : (source : ℕ) (failed : Bool) (st : State) (m x : Progress M) (b : State) → GroupStep o s st m x b
+  pub group_elsewhere : (source : Source) (failed : Bool) (st : State) (m x : Progress M) (b : State) → GroupStep o s st m x b
       → GroupStep o s (elsewhere source failed st) m x (elsewhere source failed b)
   group_elsewhere source failed st m x b h = record {
     top = h.top;
@@ -95,7 +95,7 @@ module _ {M V : Type 0} (o : Order) (s : Shape M V) where
   read_alike m n rest l (inl f) = inl (full_same o m.left n.left l.0 f)
   read_alike m n rest l (inr e) = inr e
 
-  pub group_fault_elsewhere : (source : ℕ) (failed : Bool) (st : State) (m : Progress M) (e : Error) → GroupFault o s st m e
+  pub group_fault_elsewhere : (source : Source) (failed : Bool) (st : State) (m : Progress M) (e : Error) → GroupFault o s st m e
       → GroupFault o s (elsewhere source failed st) m e
   group_fault_elsewhere source failed st m e (in_group {c} a p f) =
       in_group {c = c} a p ((s.kind_of c).reading.fault_elsewhere source failed st e f)

@@ -5,19 +5,23 @@ use Rattle.std.proofs.lemmas.List.{length-drop}
 use Rattle.amqp_wire.specs.declared.error.Error.{Error}
 use Rattle.amqp_wire.specs.declared.error.Error.TheVariants.{Memory, Limit}
 use Rattle.amqp_wire.specs.declared.limits.Limits.{Limits}
-use Rattle.amqp_decoder.specs.State.{Course, State, is_free}
+use Rattle.amqp_decoder.specs.State.{Source, Course, State, is_free, fresh_source}
 use Rattle.amqp_decoder.specs.OtherSource.{elsewhere}
 use Rattle.amqp_decoder.specs.Steps.{IsExcused, IsReadError, Refused, Tries}
 use Rattle.amqp_decoder.specs.Reading.{RefusesRead, AnswersRead}
 use Rattle.amqp_codec.specs.Reading.{Reading, apart, start_within, IsGreatest, BeginsWithin, IsUnreadableWithin, BeginsWith, IsUnreadable}
 use Rattle.amqp_codec.specs.laws.Reading.{is_read, read_one, begins_greatest, greatest_begins, unreadable_greatest}
 
-module _ {T : Type 0} (limits : Limits) (r : Reading T) (input : List ℕ) (source : ℕ) (failed : Bool) where
+module _ {T : Type 0} (limits : Limits) (r : Reading T) (input : List ℕ) (source : Source) (failed : Bool) where
   abbrev begin : State
   begin = elsewhere source failed (start_within limits input)
 
+  -- the source that a slice of the same bytes is
+  abbrev plain : Source
+  plain = fresh_source 0 input
+
   read_here : (v : T) (b : State) → r.reads begin v b → BeginsWithin limits r input v (length input - length b.rest)
-  read_here v b h = is_read limits r input v (elsewhere 0 false b) (length input - length b.rest) (r.reads_elsewhere 0 false begin v b h) refl
+  read_here v b h = is_read limits r input v (elsewhere plain false b) (length input - length b.rest) (r.reads_elsewhere plain false begin v b h) refl
 
   behind_here : r.looks_on ≡ false → (v : T) (b : State) → r.reads begin v b → (w : T) (n : ℕ) → BeginsWithin limits r input w n
       → drop b.ahead b.rest ≡ drop n input
@@ -46,9 +50,9 @@ module _ {T : Type 0} (limits : Limits) (r : Reading T) (input : List ℕ) (sour
       go (inr f) (inl (inr x)) = inr (inl x)
       go (inr f) (inr n) =
           inr (inr (record {
-            fault = r.fault_elsewhere 0 false begin e f;
+            fault = r.fault_elsewhere plain false begin e f;
             none = λ v m k. n v (elsewhere source failed k.after) (r.reads_elsewhere source failed (start_within limits input) v k.after k.read);
-            unspelled = λ one i. r.misspelled one limits input e i (r.fault_elsewhere 0 false begin e f);
+            unspelled = λ one i. r.misspelled one limits input e i (r.fault_elsewhere plain false begin e f);
           }))
 
   pub found : (res : Result T Error) (b : State) → AnswersRead r.takes_memory r.reads r.fault begin res b
@@ -117,7 +121,7 @@ limited takes limits st (Err e) b going free h = limited_refused takes limits st
 pub refused_whole : {T : Type 0} (limits : Limits) (r : Reading T) (input : List ℕ) (e : Error) (b : State) → b.failed.broken ≡ false
     → RefusesRead r.takes_memory r.reads r.fault (start_within limits input) e b
     → ((r.takes_memory ≡ true) × (e ≡ Memory)) ⊎ IsUnreadableWithin limits r input e
-refused_whole limits r input e b sound h = elim (refused_here limits r input 0 false e b h) [
+refused_whole limits r input e b sound h = elim (refused_here limits r input (fresh_source 0 input) false e b h) [
   | inl m ↦ inl m
   | inr x ↦ elim x [ inl (i, f) ↦ absurd (cc) | inr u ↦ inr u ]
 ]

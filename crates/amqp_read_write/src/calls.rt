@@ -15,7 +15,7 @@ use amqp_decoder::{decoder_within, unread};
 use amqp_encoder::{
     Encoder, Measure, SliceRoom, buffer_of, filling_encoder, measured_len, measuring_encoder,
 };
-use amqp_wire::{Error, Limits};
+use amqp_wire::{Error, Limits, Refusal};
 use std::alloc::Global;
 
 /// Reads the value at the start of `input`. What follows it is ignored.
@@ -78,6 +78,40 @@ pub fn from_slice_within<T: Deserialize>(
     match read {
         Ok(value) => Ok((value, input.len().saturating_sub(left))),
         Err(error) => Err(error),
+    }
+}
+
+/// Reads as `from_slice_within` does, and returns beside the error the place of the fault: how many bytes of the input are before it.
+///
+/// That is where the value, the constructor or the descriptor begins that has the fault. A value that is cut is the one that was being read,
+/// and a code or a descriptor that is missing is at the input's end. An item of an array begins with its data. `Missing` is at the null, or
+/// behind the last item, `Surplus` at the first item that is too many, and `DuplicateKey` at the second key, or behind the last pair of a
+/// `Value`'s map. The place says nothing for `Memory`.
+pub fn from_slice_located<T: Deserialize>(
+    input: &[u8],
+    limits: &Limits,
+    alloc: Global,
+) -> Result<(T, usize), Refusal>
+    ensures found { IfOk result (λ r. BeginsWithin limits.now T.reading input.now r.0 r.1) }
+    ensures one { (v w : _) (n m : ℕ) → BeginsWithin limits.now T.reading input.now v n
+        → BeginsWithin limits.now T.reading input.now w m → T.reading.same v w × (n ≡ m) }
+    ensures bounded { (v : _) (n : ℕ) → BeginsWithin limits.now T.reading input.now v n → T.reading.count v ≤ n }
+    ensures refused { IfErr result (λ r.
+        ((T.reading.takes_memory ≡ true) × (r.error ≡ Memory)) ⊎ IsUnreadableWithin limits.now T.reading input.now r.error) }
+    ensures memory { IfErr result (λ r. r.error ≡ Memory → T.reading.takes_memory ≡ true) }
+    ensures unfailing { IfErr result (λ r. IsReadError r.error → ⊥) }
+    ensures limited { IfErr result (λ r. r.error ≡ Limit → IsGreatest limits.now → ⊥) }
+    ensures within { IfErr result (λ r. r.at ≤ length input.now) }
+{
+    let mut cursor = decoder_within(input, limits, alloc);
+    let read = T::deserialize(&mut cursor, alloc);
+    let behind = unread(&cursor);
+    match read {
+        Ok(value) => Ok((value, input.len().saturating_sub(behind))),
+        Err(error) => Err(Refusal {
+            error,
+            at: (cursor.fault() as usize).min(input.len()),
+        }),
     }
 }
 

@@ -9,6 +9,6 @@ pub use amqp_codec::{Canonical, Deserialize, DeserializeTerm, Serialize, Seriali
 pub use amqp_wire::{Limits, ReadSource};
 pub use calls::{
     append_to_vec, canonical_into, canonical_text, canonical_text_within, encoded_len, from_slice,
-    from_slice_counted, from_slice_within, to_vec, write_into,
+    from_slice_counted, from_slice_located, from_slice_within, to_vec, write_into,
 };
-pub use reader::{from_reader, from_reader_within};
+pub use reader::{from_reader, from_reader_located, from_reader_within};

@@ -3,7 +3,7 @@ ghost use Rattle.std.specs.Prelude.{◌≡◌, ◌⊎◌, ℕ, List, [], true, f
 ghost use Rattle.amqp_wire.specs.declared.error.Error.TheVariants.{Memory, Limit};
 ghost use Rattle.amqp_wire.specs.Sources.{known, Tells};
 ghost use Rattle.amqp_wire.specs.Limits.{limit_of};
-ghost use Rattle.amqp_decoder.specs.State.{Has};
+ghost use Rattle.amqp_decoder.specs.State.{Has, fresh_source};
 ghost use Rattle.amqp_decoder.specs.Reserve.{Leaves};
 ghost use Rattle.amqp_decoder.specs.OtherSource.{elsewhere};
 ghost use Rattle.amqp_read_write.specs.Reserved.{reserved, IsRestOf};
@@ -12,7 +12,7 @@ ghost use Rattle.amqp_codec.specs.Reading.{apart, start_within, IsGreatest, Begi
 
 use amqp_codec::Deserialize;
 use amqp_decoder::{Decoder, decoder_of_term, decoder_within, source_of};
-use amqp_wire::{ByteSource, Error, Limits};
+use amqp_wire::{ByteSource, Error, Limits, Refusal};
 use std::alloc::{AllocError, Global};
 use std::io::ErrorKind;
 use std::marker::{Brand, PhantomData};
@@ -73,8 +73,71 @@ pub fn from_reader_within<T: Deserialize, R: ByteSource>(
     ensures taken { Tells R.remaining → T.reading.one_term ≡ true → R.failed reader.new ≡ false
         → (n : ℕ) × Has (limit_of limits.now.bytes) n × (known (R.remaining reader.new) ≡ drop n (known (R.remaining reader.old))) }
 {
-    let (read, _reader) = read_named::<T, _, Brand>(reader, limits, alloc);
+    let (read, _place) = read_placed(reader, limits, alloc);
     read
+}
+
+/// Reads as `from_reader_within` does, and returns beside the error the place of the fault, as `from_slice_located` does: how many bytes
+/// are before it, from where the reader stood, as a number of 64 bits. The place says nothing for `Memory` and `Read`.
+pub fn from_reader_located<T: Deserialize, R: ByteSource>(
+    reader: &mut R,
+    limits: &Limits,
+    alloc: Global,
+) -> Result<T, Refusal>
+    ensures found { Tells R.remaining
+        → IfOk result (λ v. (n : ℕ) × BeginsWithin limits.now T.reading (known (R.remaining reader.old)) v n) }
+    ensures one { Tells R.remaining → IfOk result (λ v. (w : _) (m : ℕ)
+        → BeginsWithin limits.now T.reading (known (R.remaining reader.old)) w m → T.reading.same v w) }
+    ensures behind { Tells R.remaining → T.reading.looks_on ≡ false
+        → IfOk result (λ v. (w : _) (n : ℕ) → BeginsWithin limits.now T.reading (known (R.remaining reader.old)) w n
+        → known (R.remaining reader.new) ≡ drop n (known (R.remaining reader.old))) }
+    ensures refused { Tells R.remaining → IfErr result (λ r. ((T.reading.takes_memory ≡ true) × (r.error ≡ Memory))
+        ⊎ ((IsReadError r.error × (R.failed reader.new ≡ true))
+        ⊎ IsUnreadableWithin limits.now T.reading (known (R.remaining reader.old)) r.error)) }
+    ensures memory { IfErr result (λ r. r.error ≡ Memory → T.reading.takes_memory ≡ true) }
+    ensures limited { IfErr result (λ r. r.error ≡ Limit → IsGreatest limits.now → ⊥) }
+    ensures failed { IfErr result (λ r. IsReadError r.error → R.failed reader.new ≡ true) }
+    ensures failing { MatchResult result (λ _. R.failed reader.new ≡ R.failed reader.old)
+        (λ r. (R.failed reader.new ≡ R.failed reader.old) ⊎ IsReadError r.error) }
+    ensures taken { Tells R.remaining → T.reading.one_term ≡ true → R.failed reader.new ≡ false
+        → (n : ℕ) × Has (limit_of limits.now.bytes) n × (known (R.remaining reader.new) ≡ drop n (known (R.remaining reader.old))) }
+{
+    let (read, place) = read_placed(reader, limits, alloc);
+    match read {
+        Ok(value) => Ok(value),
+        Err(error) => Err(Refusal {
+            error,
+            at: place as usize,
+        }),
+    }
+}
+
+// Within the limits, the value at the start of the reader's bytes, or an error, and where the fault stands.
+fn read_placed<T: Deserialize, R: ByteSource>(
+    reader: &mut R,
+    limits: &Limits,
+    alloc: Global,
+) -> (Result<T, Error>, u64)
+    ensures found { Tells R.remaining
+        → IfOk result.0 (λ v. (n : ℕ) × BeginsWithin limits.now T.reading (known (R.remaining reader.old)) v n) }
+    ensures one { Tells R.remaining → IfOk result.0 (λ v. (w : _) (m : ℕ)
+        → BeginsWithin limits.now T.reading (known (R.remaining reader.old)) w m → T.reading.same v w) }
+    ensures behind { Tells R.remaining → T.reading.looks_on ≡ false
+        → IfOk result.0 (λ v. (w : _) (n : ℕ) → BeginsWithin limits.now T.reading (known (R.remaining reader.old)) w n
+        → known (R.remaining reader.new) ≡ drop n (known (R.remaining reader.old))) }
+    ensures refused { Tells R.remaining → IfErr result.0 (λ e. ((T.reading.takes_memory ≡ true) × (e ≡ Memory))
+        ⊎ ((IsReadError e × (R.failed reader.new ≡ true))
+        ⊎ IsUnreadableWithin limits.now T.reading (known (R.remaining reader.old)) e)) }
+    ensures memory { IfErr result.0 (λ e. e ≡ Memory → T.reading.takes_memory ≡ true) }
+    ensures limited { IfErr result.0 (λ e. e ≡ Limit → IsGreatest limits.now → ⊥) }
+    ensures failed { IfErr result.0 (λ e. IsReadError e → R.failed reader.new ≡ true) }
+    ensures failing { MatchResult result.0 (λ _. R.failed reader.new ≡ R.failed reader.old)
+        (λ e. (R.failed reader.new ≡ R.failed reader.old) ⊎ IsReadError e) }
+    ensures taken { Tells R.remaining → T.reading.one_term ≡ true → R.failed reader.new ≡ false
+        → (n : ℕ) × Has (limit_of limits.now.bytes) n × (known (R.remaining reader.new) ≡ drop n (known (R.remaining reader.old))) }
+{
+    let (read, place, _reader) = read_named::<T, _, Brand>(reader, limits, alloc);
+    (read, place)
 }
 
 // The name of a source, which a call chooses.
@@ -150,7 +213,8 @@ fn decoder_for<T: Deserialize, R: ByteSource>(
     requires { Tells R.remaining → T.reading.one_term ≡ true
         → Leaves R.reserve (limit_of limits.now.bytes) (length (known (R.remaining source))) }
     ensures { result ≡ apart T.reading.one_term
-        (elsewhere (R.name source) (R.failed source) (start_within limits.now (known (R.remaining source)))) }
+        (elsewhere (fresh_source (R.name source) (known (R.remaining source))) (R.failed source)
+        (start_within limits.now (known (R.remaining source)))) }
 {
     if T::is_one_term() {
         decoder_of_term(source, limits, alloc)
@@ -159,33 +223,34 @@ fn decoder_for<T: Deserialize, R: ByteSource>(
     }
 }
 
-// Within the limits, the value at the start of the source's bytes, and the source, whose next byte is the one after it.
+// Within the limits, the value at the start of the source's bytes, or an error and where the fault stands, and the source, whose next byte is
+// the one after the value.
 fn read_named<T: Deserialize, S: ByteSource, N: Name>(
     source: S,
     limits: &Limits,
     alloc: Global,
-) -> (Result<T, Error>, S)
+) -> (Result<T, Error>, u64, S)
     requires named { S.name source ≡ N.name }
     requires origin { known (S.remaining source) ≡ N.origin }
     requires reserve { N.reserve ≡ reserved T.reading.one_term (limit_of limits.now.bytes) (length N.origin) }
-    ensures named { S.name result.1 ≡ S.name source }
+    ensures named { S.name result.2 ≡ S.name source }
     ensures found { Tells S.remaining
         → IfOk result.0 (λ v. (n : ℕ) × BeginsWithin limits.now T.reading (known (S.remaining source)) v n) }
     ensures one { Tells S.remaining → IfOk result.0 (λ v. (w : _) (m : ℕ)
         → BeginsWithin limits.now T.reading (known (S.remaining source)) w m → T.reading.same v w) }
     ensures behind { Tells S.remaining → T.reading.looks_on ≡ false
         → IfOk result.0 (λ v. (w : _) (n : ℕ) → BeginsWithin limits.now T.reading (known (S.remaining source)) w n
-        → known (S.remaining result.1) ≡ drop n (known (S.remaining source))) }
+        → known (S.remaining result.2) ≡ drop n (known (S.remaining source))) }
     ensures refused { Tells S.remaining → IfErr result.0 (λ e. ((T.reading.takes_memory ≡ true) × (e ≡ Memory))
-        ⊎ ((IsReadError e × (S.failed result.1 ≡ true))
+        ⊎ ((IsReadError e × (S.failed result.2 ≡ true))
         ⊎ IsUnreadableWithin limits.now T.reading (known (S.remaining source)) e)) }
     ensures memory { IfErr result.0 (λ e. e ≡ Memory → T.reading.takes_memory ≡ true) }
     ensures limited { IfErr result.0 (λ e. e ≡ Limit → IsGreatest limits.now → ⊥) }
-    ensures failed { IfErr result.0 (λ e. IsReadError e → S.failed result.1 ≡ true) }
-    ensures failing { MatchResult result.0 (λ _. S.failed result.1 ≡ S.failed source)
-        (λ e. (S.failed result.1 ≡ S.failed source) ⊎ IsReadError e) }
-    ensures taken { Tells S.remaining → T.reading.one_term ≡ true → S.failed result.1 ≡ false
-        → (n : ℕ) × Has (limit_of limits.now.bytes) n × (known (S.remaining result.1) ≡ drop n (known (S.remaining source))) }
+    ensures failed { IfErr result.0 (λ e. IsReadError e → S.failed result.2 ≡ true) }
+    ensures failing { MatchResult result.0 (λ _. S.failed result.2 ≡ S.failed source)
+        (λ e. (S.failed result.2 ≡ S.failed source) ⊎ IsReadError e) }
+    ensures taken { Tells S.remaining → T.reading.one_term ≡ true → S.failed result.2 ≡ false
+        → (n : ℕ) × Has (limit_of limits.now.bytes) n × (known (S.remaining result.2) ≡ drop n (known (S.remaining source))) }
 {
     let named = Named::<S, N> {
         source,
@@ -193,6 +258,7 @@ fn read_named<T: Deserialize, S: ByteSource, N: Name>(
     };
     let mut decoder = decoder_for::<T, _>(named, limits, alloc);
     let read = T::deserialize(&mut decoder, alloc);
+    let place = decoder.fault();
     let Named { source, .. } = source_of(decoder);
-    (read, source)
+    (read, place, source)
 }

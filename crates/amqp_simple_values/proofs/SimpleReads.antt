@@ -79,7 +79,7 @@ module _ (st : State) (c : ℕ) (mid : State) (p : PeeksCode st c mid) where
       let going = peeked_going st c mid p in
       let invalid = (refused going.1).0 in
       record {
-        kept = answered_later (peeked_failed st c mid p) (first_kept going.1 refused);
+        kept = answered_later (peeked_failed st c mid p) (first_kept {st = mid} going.1 refused);
         again = λ d x. absurd (cc (going.0, x));
         named = λ _. inr (in_first p is invalid);
         none = inr (none_simple is);

@@ -29,10 +29,11 @@ impl DeserializeTerm for SimpleValue {
         if is_container(kind_of(code)) {
             return Err(decoder.refuse(Error::InvalidValue));
         }
+        let place = decoder.place();
         let value = Value::read_value(decoder, alloc)?;
         match SimpleValue::try_from(value) {
             Ok(simple) => Ok(simple),
-            Err(error) => Err(decoder.refuse(error)),
+            Err(error) => Err(decoder.refuse_at(place, error)),
         }
     }
 

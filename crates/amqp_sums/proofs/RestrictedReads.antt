@@ -50,7 +50,7 @@ module _ {A V : Type 0} (base : Base A) (unknown : Error) (table : V → A) wher
       let going = h.stands.going in
       let is = (refused (value_going h)).0 in
       record {
-        kept = answered_later (ap (λ (x : State). x.failed) h.moved) (first_kept (value_going h) refused);
+        kept = answered_later (ap (λ (x : State). x.failed) h.moved) (first_kept {st = b} (value_going h) refused);
         again = λ d x. absurd (cc);
         named = λ _. inr (of_no_value h none is);
         none = inr (λ v c x. none v (sym (one_read st a (table v) b c h (as_primitive st v c x))));

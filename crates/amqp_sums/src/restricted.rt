@@ -104,10 +104,11 @@ pub fn read_number<T: RestrictedNumber, R: ByteSource>(decoder: &mut Decoder<R>)
     ensures read { Tells R.remaining → ReadsRestricted T.Number.base UnknownNumber T.numbers false decoder.old result decoder.new }
     ensures tries { Tries false decoder.old result decoder.new }
 {
+    let place = decoder.place();
     let number = T::Number::read(decoder)?;
     match T::from_number(number) {
         Some(value) => Ok(value),
-        None => Err(decoder.refuse(Error::UnknownNumber)),
+        None => Err(decoder.refuse_at(place, Error::UnknownNumber)),
     }
 }
 
@@ -145,10 +146,11 @@ pub fn read_text<T: RestrictedText, R: ByteSource>(
     ensures read { Tells R.remaining → ReadsRestricted symbol_base UnknownText T.texts true decoder.old result decoder.new }
     ensures tries { Tries true decoder.old result decoder.new }
 {
+    let place = decoder.place();
     let symbol = decoder.read_symbol(alloc)?;
     match T::from_text(symbol.as_str()) {
         Some(value) => Ok(value),
-        None => Err(decoder.refuse(Error::UnknownText)),
+        None => Err(decoder.refuse_at(place, Error::UnknownText)),
     }
 }
 

@@ -6,6 +6,7 @@ pub mod Tables
 pub mod Values
 pub mod Messages
 pub mod Lengths
+pub mod Nodes
 pub mod Errors
 pub mod OtherSource
 pub mod Decoder

@@ -17,11 +17,13 @@ pub mod codec {
         IntoIter as OrderedMapIntoIter, Iter as OrderedMapIter, OrderedMap,
         Values as OrderedMapValues,
     };
+    pub use amqp_nodes::{Node, field_node, next_node};
+    pub use amqp_paths::{ContainerKind, Node as PathNode, Path, Piece, path_of};
     pub use amqp_primitives::{Binary, ByteBuf, Dec32, Dec64, Dec128, SymbolRef, Timestamp, Uuid};
     pub use amqp_read_write::{
         Limits, ReadSource, append_to_vec, canonical_into, canonical_text, canonical_text_within,
-        encoded_len, from_reader, from_reader_within, from_slice, from_slice_counted,
-        from_slice_within, to_vec, write_into,
+        encoded_len, from_reader, from_reader_located, from_reader_within, from_slice,
+        from_slice_counted, from_slice_located, from_slice_within, to_vec, write_into,
     };
     pub use amqp_simple_values::SimpleValue;
     pub use amqp_values::{IntoValue, Value, ValueMap, ValueMapIter, ValueMapValues};
@@ -93,6 +95,8 @@ pub mod laws {
     pub use amqp_message_headers::laws as message_headers;
     pub use amqp_message_spellings as message_spellings;
     pub use amqp_messages::laws as messages;
+    pub use amqp_nodes::laws as nodes;
+    pub use amqp_paths::laws as paths;
     pub use amqp_performatives::laws as performatives;
     pub use amqp_primitives::laws as primitives;
     pub use amqp_read_write::laws::{

@@ -3,7 +3,7 @@ use Rattle.std.proofs.Common.{◌≡◌, ℕ, ◌-◌, Bool, true, false, List, 
 use Rattle.std.proofs.Common.{length-append}
 use Rattle.std.proofs.lemmas.List.{length-drop, drop_at}
 use Rattle.amqp_wire.specs.declared.error.Error.{Error}
-use Rattle.amqp_decoder.specs.State.{Course, State, Open}
+use Rattle.amqp_decoder.specs.State.{Course, State, Open, fresh_source}
 use Rattle.amqp_decoder.specs.OtherSource.{elsewhere}
 use Rattle.amqp_codec.specs.Reading.{Reading, looking, start, greatest, BeginsWith}
 use Rattle.amqp_codec.specs.laws.Reading.{is_read}
@@ -25,7 +25,7 @@ abbrev course : Bool → Course
 course alone = record { broken = false; alone = alone; free = true }
 
 -- without limits it stands as one at the start of what is left
-restarted : (st : State) → IsFresh st → looking 0 (elsewhere 0 false (without_limits st)) ≡ start st.rest
+restarted : (st : State) → IsFresh st → looking 0 (elsewhere (fresh_source 0 st.rest) false (without_limits st)) ≡ start st.rest
 restarted st f =
     ap (λ (x : Open). record (start st.rest) { top = record x { left = None }; saved = st.saved; error = st.error; failed = course st.failed.alone }) f.top
     ∙ ap (λ (x : List Open). record (start st.rest) { saved = x; error = st.error; failed = course st.failed.alone }) f.saved
@@ -56,9 +56,10 @@ module _ {T : Type 0} (r : Reading T) (bound : IsBoundByLimits r) where
       → (n : ℕ) × BeginsWith r st.rest v n
   was_read st v b fresh h =
       let none : State = without_limits st in
-      let last : State = elsewhere 0 false (without_limits b) in
-      let f = r.reads_elsewhere 0 false none v (without_limits b) (free_of_limits r bound st v b fresh h) in
-      let q = r.looked 0 (elsewhere 0 false none) v last f in
+      let own = fresh_source 0 st.rest in
+      let last : State = elsewhere own false (without_limits b) in
+      let f = r.reads_elsewhere own false none v (without_limits b) (free_of_limits r bound st v b fresh h) in
+      let q = r.looked 0 (elsewhere own false none) v last f in
       let after : State = looking q.0 last in
       let read : r.reads (start st.rest) v after = subst (λ (z : State). r.reads z v after) (restarted st fresh) q.1 in
       (length st.rest - length b.rest, is_read greatest r st.rest v after (length st.rest - length b.rest) read refl)

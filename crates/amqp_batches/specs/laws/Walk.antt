@@ -2,7 +2,7 @@
 use Rattle.std.proofs.Common.{◌≡◌, ℕ, zero, suc, ◌+◌, ◌≤◌, Bool, true, false, length, None, refl, sym, ap, ◌∙◌, subst, arith}
 use Rattle.amqp_wire.specs.declared.error.Error.{Error}
 use Rattle.amqp_wire.specs.declared.error.Error.TheVariants.{InvalidValue}
-use Rattle.amqp_decoder.specs.State.{State}
+use Rattle.amqp_decoder.specs.State.{Source, State}
 use Rattle.amqp_decoder.specs.Steps.{IsOutside}
 use Rattle.amqp_decoder.specs.OtherSource.{elsewhere}
 use Rattle.amqp_codec.specs.Reading.{Taken, Stays, looking, AreAlike}
@@ -36,7 +36,7 @@ module _ {M V : Type 0} (w : Walk M V) where
       let g = steps_looked n f.0 mid y x b h in
       (g.0, (y, looking f.0 mid, f.1, g.1))
 
-  pub steps_elsewhere : (source : ℕ) (failed : Bool) (n : ℕ) (st : State) (m x : M) (b : State) → Steps w n st m x b
+  pub steps_elsewhere : (source : Source) (failed : Bool) (n : ℕ) (st : State) (m x : M) (b : State) → Steps w n st m x b
       → Steps w n (elsewhere source failed st) m x (elsewhere source failed b)
   steps_elsewhere source failed zero st m x b (i, e) = (i, ap (elsewhere source failed) e)
   steps_elsewhere source failed (suc n) st m x b (y, mid, s, h) =
@@ -157,7 +157,7 @@ module _ {M V : Type 0} (w : Walk M V) where
         },
       )
 
-  pub walked_elsewhere : (source : ℕ) (failed : Bool) (st : State) (v : V) (b : State) → Walked w st v b
+  pub walked_elsewhere : (source : Source) (failed : Bool) (st : State) (v : V) (b : State) → Walked w st v b
       → Walked w (elsewhere source failed st) v (elsewhere source failed b)
   walked_elsewhere source failed st v b h = record {
     top = h.top;
@@ -170,7 +170,7 @@ module _ {M V : Type 0} (w : Walk M V) where
     left = ap (elsewhere source failed) h.left;
   }
 
-  pub walk_fault_elsewhere : (source : ℕ) (failed : Bool) (st : State) (e : Error) → WalkFault w st e
+  pub walk_fault_elsewhere : (source : Source) (failed : Bool) (st : State) (e : Error) → WalkFault w st e
       → WalkFault w (elsewhere source failed st) e
   walk_fault_elsewhere source failed st e (not_top h) = not_top h
   walk_fault_elsewhere source failed st e (in_step n part last mid s a f) =

@@ -61,7 +61,7 @@ unreserved {A} reads fault st e new going refused again = by st.error refl
   where
     by : (o : Option Error) → st.error ≡ o → RefusesRead true reads fault st e new
     by None none = record {
-      kept = first_kept none refused;
+      kept = first_kept {st = st} none refused;
       again = λ d x. absurd (cc);
       named = λ _. inl (inl (refl, (refused none).0));
       none = inl (inl (refl, (refused none).0));

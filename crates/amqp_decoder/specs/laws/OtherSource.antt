@@ -11,7 +11,7 @@ use Rattle.amqp_wire.specs.declared.error.Error.TheVariants.{Size, Depth, Limit}
 use Rattle.amqp_lookahead.specs.Members.{Member}
 use Rattle.amqp_decoder.specs.declared.frame.Place.{Place}
 use Rattle.amqp_decoder.specs.declared.frame.Place.TheVariants.{InArray}
-use Rattle.amqp_decoder.specs.State.{Open, State, Has, lower, emptied, bound_of, bytes_left, announced, after_data, after_value, counted_in, weight_at}
+use Rattle.amqp_decoder.specs.State.{Source, Open, State, Has, lower, emptied, bound_of, bytes_left, announced, after_data, after_value, counted_in, weight_at}
 use Rattle.amqp_decoder.specs.State.{depth_error, holding, in_container}
 use Rattle.amqp_decoder.specs.Steps.{Takes, Lacks, cut_open, past_limit, cut_inside, too_long, asked_in, asked, IsWithinLimit}
 use Rattle.amqp_decoder.specs.Steps.{SizeError, cut, wrong, past, NoRoom}
@@ -94,7 +94,7 @@ inside_depth : (b : Bool) → inside (cond b Limit Depth) ≡ cond b Limit Depth
 inside_depth true = refl
 inside_depth false = refl
 
-pub keeps_another : (source : ℕ) (failed : Bool) (e : Error) → KeepsError (another source failed) e
+pub keeps_another : (source : Source) (failed : Bool) (e : Error) → KeepsError (another source failed) e
 keeps_another source failed e = λ deep. (λ n. refl, refl, refl)
 
 module _ (c : Setting) where

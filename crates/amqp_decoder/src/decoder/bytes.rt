@@ -4,7 +4,7 @@ ghost use Rattle.std.specs.Int.{bytes_high_first};
 ghost use Rattle.amqp_wire.specs.Codes.{refusal_of};
 ghost use Rattle.amqp_wire.specs.declared.error.Error.TheVariants.{Memory};
 ghost use Rattle.amqp_wire.specs.Sources.{Tells};
-ghost use Rattle.amqp_decoder.specs.State.{after_bytes, announced, bound_of, holding, Has, lower};
+ghost use Rattle.amqp_decoder.specs.State.{refused_at, IsPlaceOf, after_bytes, announced, bound_of, holding, Has, lower};
 ghost use Rattle.amqp_decoder.specs.declared.frame.Place.TheVariants.{InList};
 ghost use Rattle.amqp_decoder.specs.Reserve.{Spares};
 ghost use Rattle.amqp_decoder.specs.Steps.{Answers, Pulls, Misses, Takes, FallsShort, RefusesSize, NoRoom, Stops, Fails, Goes, GoesOn};
@@ -208,6 +208,29 @@ impl<R: ByteSource> Decoder<R> {
     pub(crate) fn refuse_size(&mut self, own: u32) -> Error
         ensures refused { Tells R.remaining → RefusesSize own self.old result self.new }
         ensures fails { Fails false self.old result self.new }
+        ensures place { IsPlaceOf self.new.source.fault self.old }
+    {
+        let place = self.place();
+        let error = self.refuse_behind(own);
+        self.set_fault(place);
+        error
+    }
+
+    // The bytes behind what was taken are wrong, at this place.
+    #[cold]
+    pub(crate) fn refuse_size_at(&mut self, place: u64) -> Error
+        ensures refused { Tells R.remaining → RefusesSize 0 self.old result self.new }
+        ensures fails { Fails false self.old result self.new }
+    {
+        let error = self.refuse_behind(0);
+        self.set_fault(place);
+        error
+    }
+
+    // The same, at a place behind the bytes that it passes over.
+    fn refuse_behind(&mut self, own: u32) -> Error
+        ensures refused { Tells R.remaining → RefusesSize own self.old result self.new }
+        ensures fails { Fails false self.old result self.new }
     {
         if self.passes_limit(own) {
             return self.stop(Error::Limit);
@@ -227,7 +250,7 @@ impl<R: ByteSource> Decoder<R> {
     #[cold]
     pub(crate) fn refuse_code(&mut self, code: u8) -> Error
         ensures answer { result ≡ refusal_of code }
-        ensures kept { self.new ≡ record self.old { error = Some result } }
+        ensures kept { self.new ≡ refused_at result self.new.source.fault self.old }
         ensures fails { Fails false self.old result self.new }
     {
         self.stop(format_code::refusal(code))

@@ -5,7 +5,7 @@ ghost use Rattle.amqp_model.specs.Spelling.{IsSpelling};
 ghost use Rattle.amqp_model.specs.Measures.{nest, share, weight};
 ghost use Rattle.amqp_wire.specs.Limits.{unlimited};
 ghost use Rattle.amqp_wire.specs.declared.error.Error.TheVariants.{Limit};
-ghost use Rattle.amqp_decoder.specs.State.{Has, lower, counted, counted_in, descriptor_of};
+ghost use Rattle.amqp_decoder.specs.State.{refused_at, Has, lower, counted, counted_in, descriptor_of};
 ghost use Rattle.amqp_decoder.specs.Steps.{Goes, GoesOn};
 
 use super::Decoder;
@@ -82,7 +82,7 @@ impl<R: ByteSource> Decoder<R> {
     // What begins weighs so much, if it may begin.
     fn count_weight(&mut self, count: u64) -> Result<(), Error>
         ensures ok { IfOk result (λ _. Has self.old.quota count × (self.new ≡ record self.old { quota = lower self.old.quota count })) }
-        ensures err { IfErr result (λ e. (Has self.old.quota count → ⊥) × (e ≡ Limit) × (self.new ≡ record self.old { error = Some Limit })) }
+        ensures err { IfErr result (λ e. (Has self.old.quota count → ⊥) × (e ≡ Limit) × (self.new ≡ refused_at Limit self.new.source.fault self.old)) }
         ensures goes { Goes false self.old result self.new }
     {
         if self.passes_items(count) {
@@ -92,12 +92,22 @@ impl<R: ByteSource> Decoder<R> {
         Ok(())
     }
 
+    // The same of what begins there.
+    fn count_weight_from(&mut self, start: u64, count: u64) -> Result<(), Error>
+        ensures ok { IfOk result (λ _. Has self.old.quota count × (self.new ≡ record self.old { quota = lower self.old.quota count })) }
+        ensures err { IfErr result (λ e. (Has self.old.quota count → ⊥) × (e ≡ Limit) × (self.new ≡ refused_at Limit self.new.source.fault self.old)) }
+        ensures goes { Goes false self.old result self.new }
+    {
+        let counted = self.count_weight(count);
+        self.placed(start, counted)
+    }
+
     // The code, if a value may begin by it.
     #[inline(always)]
     pub(super) fn check_count(&mut self, code: u8) -> Result<u8, Error>
         ensures ok { IfOk result (λ c. (c ≡ code) × Has self.old.quota (counted_in self.old.top.shared code) × (self.new ≡ self.old)) }
         ensures err { IfErr result (λ e. (Has self.old.quota (counted_in self.old.top.shared code) → ⊥) × (e ≡ Limit)
-            × (self.new ≡ record self.old { error = Some Limit })) }
+            × (self.new ≡ refused_at Limit self.new.source.fault self.old)) }
         ensures goes { Goes false self.old result self.new }
     {
         if !self.is_unlimited() && self.passes_items(self.weight_begun(code)) {
@@ -112,7 +122,7 @@ impl<R: ByteSource> Decoder<R> {
         ensures ok { IfOk result (λ _. Has self.old.quota (counted_in self.old.top.shared code)
             × (self.new ≡ record self.old { quota = lower self.old.quota (counted_in self.old.top.shared code) })) }
         ensures err { IfErr result (λ e. (Has self.old.quota (counted_in self.old.top.shared code) → ⊥) × (e ≡ Limit)
-            × (self.new ≡ record self.old { error = Some Limit })) }
+            × (self.new ≡ refused_at Limit self.new.source.fault self.old)) }
         ensures goes { Goes false self.old result self.new }
     {
         if self.is_unlimited() {
@@ -134,20 +144,20 @@ impl<R: ByteSource> Decoder<R> {
         }
     }
 
-    // A term of its own constructor begins.
-    pub(crate) fn count_term(&mut self, bytes: &[u8]) -> Result<(), Error>
+    // A term of its own constructor begins there.
+    pub(crate) fn count_term(&mut self, start: u64, bytes: &[u8]) -> Result<(), Error>
         ensures ok { (t : Term) → IsSpelling bytes.now t → nest t ≤ 128 → IfOk result (λ _. Has self.old.quota (weight t false)
             × (self.new ≡ record self.old { quota = lower self.old.quota (weight t false) })) }
         ensures err { (t : Term) → IsSpelling bytes.now t → nest t ≤ 128 → IfErr result (λ e. (Has self.old.quota (weight t false) → ⊥)
             × (e ≡ Limit)
-            × (self.new ≡ record self.old { error = Some Limit })) }
+            × (self.new ≡ refused_at Limit self.new.source.fault self.old)) }
         ensures goes { Goes false self.old result self.new }
     {
         if self.is_unlimited() {
             return Ok(());
         }
         match measures_of(bytes) {
-            Some(measures) => self.count_weight(measures.weight),
+            Some(measures) => self.count_weight_from(start, measures.weight),
             None => Ok(()),
         }
     }

@@ -4,6 +4,7 @@ ghost use Rattle.amqp_wire.specs.Sources.{Tells};
 ghost use Rattle.amqp_decoder.specs.State.{after_look, lower};
 ghost use Rattle.amqp_decoder.specs.Reserve.{Shows};
 ghost use Rattle.amqp_decoder.specs.Reading.{AnswersRead, ReadsCode, BeginFault, PeeksCode, IsLeft};
+ghost use Rattle.amqp_decoder.specs.Places.{StandsHere};
 ghost use Rattle.amqp_decoder.specs.Steps.{Answers, SourceFailed, Began, Goes, Tries};
 
 use super::Decoder;
@@ -23,6 +24,7 @@ impl<R: ByteSource> Decoder<R> {
     pub(crate) fn check_item(&mut self) -> Result<(), Error>
         ensures read { AnswersRead false IsLeft (λ st e. (st.top.items ≡ Some 0) × (e ≡ Error.Missing)) self.old result self.new }
         ensures tries { Tries false self.old result self.new }
+        ensures place { IfErr result (λ _. StandsHere self.old self.new) }
     {
         self.check()?;
         if self.is_done() {
@@ -108,6 +110,7 @@ impl<R: ByteSource> Decoder<R> {
     pub fn peek_code(&mut self) -> Result<u8, Error>
         ensures read { Tells R.remaining → AnswersRead false PeeksCode BeginFault self.old result self.new }
         ensures tries { Tries false self.old result self.new }
+        ensures place { IfErr result (λ _. StandsHere self.old self.new) }
     {
         match self.peek_value() {
             Some(code) => Ok(code),
@@ -118,6 +121,18 @@ impl<R: ByteSource> Decoder<R> {
     // The same, whatever comes next, however the source gives it.
     #[inline(never)]
     fn peek_slowly(&mut self) -> Result<u8, Error>
+        ensures read { Tells R.remaining → AnswersRead false PeeksCode BeginFault self.old result self.new }
+        ensures tries { Tries false self.old result self.new }
+        ensures place { IfErr result (λ _. StandsHere self.old self.new) }
+    {
+        let start = self.start();
+        let answer = self.peek_any();
+        self.placed(start, answer)
+    }
+
+    // The same, wherever it refuses.
+    #[inline(always)]
+    fn peek_any(&mut self) -> Result<u8, Error>
         ensures read { Tells R.remaining → AnswersRead false PeeksCode BeginFault self.old result self.new }
         ensures tries { Tries false self.old result self.new }
     {

@@ -3,12 +3,13 @@ ghost use Rattle.std.specs.Prelude.{◌≤◌, ◌≡◌, ◌<◌, ◌-◌, List
 ghost use Rattle.amqp_wire.specs.Sources.{Tells};
 ghost use Rattle.amqp_decoder.specs.Containers.{AtEnd, EndFault};
 ghost use Rattle.amqp_decoder.specs.Described.{in_described};
-ghost use Rattle.amqp_decoder.specs.State.{Open, bound_of, depth_error, holding, IsContainer};
+ghost use Rattle.amqp_decoder.specs.State.{IsPlaceOf, refused_at, Open, bound_of, depth_error, holding, IsContainer};
 ghost use Rattle.amqp_wire.specs.declared.error.Error.TheVariants.{Limit};
 ghost use Rattle.amqp_decoder.specs.declared.frame.Place.TheVariants.{InDescribed};
 ghost use Rattle.amqp_decoder.specs.Reading.{AnswersRead};
 ghost use Rattle.amqp_decoder.specs.Reserve.{Spares};
 ghost use Rattle.amqp_decoder.specs.Rooms.{HasRoom};
+ghost use Rattle.amqp_decoder.specs.Places.{StandsHere};
 ghost use Rattle.amqp_decoder.specs.Steps.{RefusesSize, Fails, Goes, GoesOn, Tries};
 
 use super::Decoder;
@@ -60,11 +61,22 @@ impl<R: ByteSource> Decoder<R> {
     #[cold]
     pub(crate) fn refuse_depth(&mut self) -> Error
         ensures answer { result ≡ depth_error self.old.nesting }
-        ensures kept { self.new ≡ record self.old { error = Some (depth_error self.old.nesting) } }
+        ensures kept { self.new ≡ refused_at (depth_error self.old.nesting) self.new.source.fault self.old }
+        ensures fails { Fails false self.old result self.new }
+    {
+        let place = self.place();
+        self.refuse_depth_at(place)
+    }
+
+    // The same, if it begins there.
+    #[cold]
+    fn refuse_depth_at(&mut self, place: u64) -> Error
+        ensures answer { result ≡ depth_error self.old.nesting }
+        ensures kept { self.new ≡ refused_at (depth_error self.old.nesting) self.new.source.fault self.old }
         ensures fails { Fails false self.old result self.new }
     {
         let error = self.depth_error();
-        self.stop(error)
+        self.stop_at(place, error)
     }
 
     // Opens a container of so many items in so many bytes, which share nothing.
@@ -76,7 +88,7 @@ impl<R: ByteSource> Decoder<R> {
         ensures ok { IfOk result (λ _. (length self.old.saved ≤ self.old.nesting)
             × (self.new ≡ record self.old { top = holding place items content; saved = self.old.top ∷ self.old.saved })) }
         ensures err { IfErr result (λ e. (e ≡ depth_error self.old.nesting) × (self.old.nesting < length self.old.saved)
-            × (self.new ≡ record self.old { error = Some (depth_error self.old.nesting) })) }
+            × (self.new ≡ refused_at (depth_error self.old.nesting) self.new.source.fault self.old)) }
         ensures goes { Goes false self.old result self.new }
     {
         if self.depth > self.nesting {
@@ -109,7 +121,7 @@ impl<R: ByteSource> Decoder<R> {
         ensures ok { IfOk result (λ _. (length self.old.saved < self.old.nesting)
             × (self.new ≡ record self.old { top = holding place items content; saved = self.old.top ∷ self.old.saved })) }
         ensures err { IfErr result (λ e. (e ≡ depth_error self.old.nesting) × (self.old.nesting ≤ length self.old.saved)
-            × (self.new ≡ record self.old { error = Some (depth_error self.old.nesting) })) }
+            × (self.new ≡ refused_at (depth_error self.old.nesting) self.new.source.fault self.old)) }
         ensures goes { Goes false self.old result self.new }
     {
         if self.depth >= self.nesting {
@@ -118,19 +130,19 @@ impl<R: ByteSource> Decoder<R> {
         self.enter(place, items, content)
     }
 
-    // An array's items that hold others, or are described, make it count in nesting.
+    // An array's items that hold others, or are described, make it count in nesting. Their constructor begins there.
     #[inline]
-    pub(crate) fn check_items(&mut self, is_flat: bool) -> Result<(), Error>
+    pub(crate) fn check_items(&mut self, is_flat: bool, place: u64) -> Result<(), Error>
         ensures ok { IfOk result (λ _. ((is_flat ≡ true) ⊎ (length self.old.saved ≤ self.old.nesting)) × (self.new ≡ self.old)) }
         ensures err { IfErr result (λ e. (is_flat ≡ false) × (e ≡ depth_error self.old.nesting) × (self.old.nesting < length self.old.saved)
-            × (self.new ≡ record self.old { error = Some (depth_error self.old.nesting) })) }
+            × (self.new ≡ refused_at (depth_error self.old.nesting) self.new.source.fault self.old)) }
         ensures goes { Goes false self.old result self.new }
     {
         if is_flat {
             return Ok(());
         }
         if self.depth > self.nesting {
-            return Err(self.refuse_depth());
+            return Err(self.refuse_depth_at(place));
         }
         Ok(())
     }
@@ -140,7 +152,7 @@ impl<R: ByteSource> Decoder<R> {
     pub(crate) fn enter_described(&mut self) -> Result<(), Error>
         ensures ok { IfOk result (λ _. (length self.old.saved < self.old.nesting) × (self.new ≡ in_described self.old)) }
         ensures err { IfErr result (λ e. (e ≡ depth_error self.old.nesting) × (self.old.nesting ≤ length self.old.saved)
-            × (self.new ≡ record self.old { error = Some (depth_error self.old.nesting) })) }
+            × (self.new ≡ refused_at (depth_error self.old.nesting) self.new.source.fault self.old)) }
         ensures nesting { self.old.nesting ≤ 128 }
         ensures goes { Goes false self.old result self.new }
     {
@@ -176,6 +188,7 @@ impl<R: ByteSource> Decoder<R> {
     pub(crate) fn check_end(&mut self, place: Place) -> Result<(), Error>
         ensures read { AnswersRead false (λ st _ st'. AtEnd place st st') (EndFault place) self.old result self.new }
         ensures tries { Tries false self.old result self.new }
+        ensures place { IfErr result (λ _. StandsHere self.old self.new) }
     {
         self.check()?;
         if !self.is_in(place) {
@@ -196,6 +209,7 @@ impl<R: ByteSource> Decoder<R> {
         ensures ok { IfOk result (λ _. (bound_of self.old.top ≡ Some 0) × (self.new ≡ self.old)) }
         ensures err { Tells R.remaining → IfErr result (λ e. (bound_of self.old.top ≡ Some 0 → ⊥) × RefusesSize 0 self.old e self.new) }
         ensures goes { Goes false self.old result self.new }
+        ensures place { IfErr result (λ _. IsPlaceOf self.new.source.fault self.old) }
     {
         if self.left() != Some(0) {
             return Err(self.refuse_size(0));

@@ -26,7 +26,7 @@ returns-then-is_known-clause-read g c tells =
     row_refused_in_order key value g.K.Ord.cmp c.args.count _ _ _
     (key_twice key value c.args.count _ _ _ c.in_ok-key.key _ _ _
     (fewer_so_far key value g.K.Ord.cmp c.loop.invariant.pairs c.args.count c.loop-test.true tells) c.loop.invariant.pairs.others
-    (c.in_ok-key.ensures.read tells) (known_to_pairs key value g.K.Ord.cmp c.loop.invariant.pairs c.in_ok-key.key known) c.refuse.ensures.first)
+    (c.in_ok-key.ensures.read tells) (known_to_pairs key value g.K.Ord.cmp c.loop.invariant.pairs c.in_ok-key.key known) c.refuse_at.ensures.first)
 
 pub returns-in_err-value-clause-read : goal.returns-in_err-value-clause-read
 returns-in_err-value-clause-read g c tells =
@@ -45,7 +45,7 @@ returns-then-is_err-clause-read g c tells =
     let value = g.V.DeserializeTerm.term in
     row_refused_in_order key value g.K.Ord.cmp c.args.count _ _ _
     (no_room key value c.args.count _ _ _ c.in_ok-key.key _ c.in_ok-value.value _ _ _ (c.loop.invariant.pairs.each tells)
-    (c.in_ok-key.ensures.read tells) (c.in_ok-value.ensures.read tells) c.refuse-then-is_err.ensures.first)
+    (c.in_ok-key.ensures.read tells) (c.in_ok-value.ensures.read tells) c.refuse.ensures.first)
 
 pub loop-preserved : goal.loop-preserved
 loop-preserved g c =

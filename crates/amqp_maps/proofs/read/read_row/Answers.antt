@@ -35,12 +35,12 @@ returns-in-Err-clause-read g c tells =
     let value = g.V.DeserializeTerm.term in
     elim c.in-Err.ensures.refused [
       | inl is ↦ no_place key value c.args.count _ _ _ c.in_ok-key.key _ _ _ (c.loop.invariant.pairs.each tells) (c.in_ok-key.ensures.read tells)
-          (rw is at c.refuse-in-Err.ensures.first)
+          (rw is at c.refuse_at.ensures.first)
       | inr (is, known) ↦ key_twice key value c.args.count _ _ _ c.in_ok-key.key _ _ _
           (fewer_so_far key value c.loop.invariant.pairs c.args.count c.loop-test.true tells) c.loop.invariant.pairs.others
           (c.in_ok-key.ensures.read tells)
           (present_known g.met.K.MapKey.is_key c.in_ok-key.key c.loop.row.items known)
-          (rw is at c.refuse-in-Err.ensures.first)
+          (rw is at c.refuse_at.ensures.first)
     ]
 
 pub returns-in_err-value-in-Ok-make_room-clause-read : goal.returns-in_err-value-in-Ok-make_room-clause-read

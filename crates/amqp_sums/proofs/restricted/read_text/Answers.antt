@@ -16,4 +16,4 @@ pub returns-clause-read : goal.returns-clause-read
 returns-clause-read g c tells =
     let unknown = subst (IsUnknown g.T.RestrictedText.texts) c.as_str.ensures c.in-None.ensures in
     restricted_unknown symbol_base UnknownText g.T.RestrictedText.texts _ _ _ _ _ (symbol_read _ _ _ (c.in_ok-symbol.ensures.read tells))
-    unknown c.refuse.ensures.first
+    unknown c.refuse_at.ensures.first

@@ -23,4 +23,4 @@ returns-in-240-clause-opened g c =
 pub returns-in_default-clause-opened : goal.returns-in_default-clause-opened
 returns-in_default-clause-opened g c = λ told.
     array_other _ _ _ _ _ (c.in_ok-code.ensures.read told) (not_array c.in_ok-code.code (search rules) (search rules))
-    c.refuse_code.ensures.answer (answered_so _ _ _ c.refuse_code.ensures.kept)
+    c.refuse_code_from.ensures.answer (answered_so _ _ _ c.refuse_code_from.ensures.kept)

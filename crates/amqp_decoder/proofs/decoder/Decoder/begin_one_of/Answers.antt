@@ -20,7 +20,7 @@ pub returns-in_default-clause-opened : goal.returns-in_default-clause-opened
 returns-in_default-clause-opened g c = λ told.
     let begun = c.in_ok-begin_descriptor.ensures.ok told in
     let took = rw c.in_default.is at (c.in_ok-place.ensures.ok told (begun_describable _ _ begun)) in
-    one_other _ _ _ _ _ _ begun took c.stop.ensures.answer (answered _ _ _ _ c.stop.ensures.kept c.stop.ensures.answer)
+    one_other _ _ _ _ _ _ begun took c.stop_at.ensures.answer (answered _ _ _ _ c.stop_at.ensures.kept c.stop_at.ensures.answer)
 
 pub returns-in_err-enter_described-clause-opened : goal.returns-in_err-enter_described-clause-opened
 returns-in_err-enter_described-clause-opened g c = λ told.

@@ -8,7 +8,7 @@ returns-then-is_flat-clause-ok g c = (inl c.if-is_flat.true, refl)
 pub returns-then-self-clause-err : goal.returns-then-self-clause-err
 returns-then-self-clause-err g c =
     let deep : c.args.self.now.nesting < length c.args.self.now.saved = rw (← c.self.view_is, length-stack) (omega arith) in
-    (c.if-is_flat.false, c.refuse_depth.ensures.answer, deep, c.refuse_depth.ensures.kept)
+    (c.if-is_flat.false, c.refuse_depth_at.ensures.answer, deep, c.refuse_depth_at.ensures.kept)
 
 pub returns-clause-ok : goal.returns-clause-ok
 returns-clause-ok g c =

@@ -1,11 +1,13 @@
-use Rattle.std.proofs.Common.{refl}
-use Rattle.amqp_model.specs.Term.{binary}
-use Rattle.std.proofs.Common.{Vec, Global, ℕ}
-use Rattle.amqp_decoder.proofs.SizedTexts.{text_reads}
+use Rattle.amqp_decoder.proofs.Places.{placed_read, placed_tries, placed_here}
 use Rattle.amqp_decoder.proofs.decoder.Decoder.read_binary.Goals as goal
 
 pub returns-clause-read : goal.returns-clause-read
-returns-clause-read g c =
-    λ told. text_reads (λ (v : Vec ℕ Global). v.items) 16 0xa0 0xb0 binary _ _ c.content.result
-    (record { short_code = refl; long_code = refl; kind = λ s. refl; codes = refl }) (λ s. tt) (c.content.ensures.ok told)
-    (c.content.ensures.err told)
+returns-clause-read g c = λ told. rw (c.placed.ensures.same, c.placed.ensures.kept)
+    (search (placed_read, c.start-start.ensures, c.any_binary-answer.ensures.read told))
+
+pub returns-clause-tries : goal.returns-clause-tries
+returns-clause-tries g c = rw (c.placed.ensures.same, c.placed.ensures.kept)
+    (placed_tries _ _ _ _ _ c.start-start.ensures c.any_binary-answer.ensures.tries)
+
+pub returns-clause-place : goal.returns-clause-place
+returns-clause-place g c = rw (c.placed.ensures.same, c.placed.ensures.kept) (placed_here _ _ _ _ c.start-start.ensures)

@@ -19,8 +19,8 @@ returns-then-count-eq0-clause-ok g c = λ told none here. no_items _ _ c.if-coun
 pub returns-then-has_width_zero-clause-err : goal.returns-then-has_width_zero-clause-err
 returns-then-has_width_zero-clause-err g c = λ told none.
     stopped_zero _ _ _ _ _ _ _ _ c.if-count-eq0.false (c.in_ok-descriptors.ensures.ok told none) c.if-has_width_zero.true
-    (known_zero c.in_ok-descriptors.code c.has_width_zero.result c.has_width_zero.ensures) c.stop.ensures.answer
-    (answered _ _ _ _ c.stop.ensures.kept c.stop.ensures.answer)
+    (known_zero c.in_ok-descriptors.code c.has_width_zero.result c.has_width_zero.ensures) c.stop_at.ensures.answer
+    (answered _ _ _ _ c.stop_at.ensures.kept c.stop_at.ensures.answer)
 
 pub returns-in_err-check_items-clause-err : goal.returns-in_err-check_items-clause-err
 returns-in_err-check_items-clause-err g c = λ told none.

@@ -1,7 +1,7 @@
-use Rattle.std.proofs.Common.{rules, arith, refl, ◌≡◌, ◌≤◌, ◌-◌, ◌+◌, length}
+use Rattle.std.proofs.Common.{rules, arith, refl, ap, ◌≡◌, ◌≤◌, ◌-◌, ◌+◌, length}
 use borrow.Rule.Slice.PartMut.{post_of}
 use Rattle.amqp_wire.specs.Sources.{known}
-use Rattle.amqp_lookahead.specs.State.{pending}
+use Rattle.amqp_lookahead.specs.State.{pending, size_of}
 use Rattle.amqp_lookahead.proofs.Looks.{copied_bytes, moved_length, moved_bytes, looked_more, looked_is, seen_none}
 use Rattle.amqp_lookahead.proofs.input.Input.peek_moved.Goals as goal
 
@@ -57,12 +57,12 @@ returns-clause-new g c =
       c.if-buffer-ahead.false,
     ) in
     rw (← c.self.view_is) (λ told.
-    looked_is _ _ _ _ _ _
-    (looked_more start end_ a more l c.copy_within.new.self c.pull_full.new.buffer _ _ _ refl (search rules) within
-    c.copy_within.ensures.after c.copy_within.ensures.len few (c.in_ok-more.ensures.bytes (told _)))
+    let same = looked_more start end_ a more l c.copy_within.new.self c.pull_full.new.buffer _ _ _ refl (search rules) within
+    c.copy_within.ensures.after c.copy_within.ensures.len few (c.in_ok-more.ensures.bytes (told _)) in
+    looked_is _ _ _ _ _ _ _ same
     (omega (
       arith,
       count,
       seen_none g.R.ByteSource.is_whole (known (g.R.ByteSource.remaining c.self.inside.source)) c.self.inside.unseen c.requires.moved,
       seen_none g.R.ByteSource.is_whole (known (g.R.ByteSource.remaining c.pull_full.new.source)) c.self.inside.unseen c.requires.moved,
-    )) c.pull_full.ensures.named c.in_ok-more.ensures.kept)
+    )) c.pull_full.ensures.named (ap (size_of g.R.ByteSource.is_whole c.self.inside.count) same) c.in_ok-more.ensures.kept)

@@ -22,7 +22,7 @@ returns-clause-whole g c =
       omega (arith, count),
       copied_whole _ _ n c.self.inside.looked K c.copy_front-count.new.buffer _ (c.self.invariant.2 is.0) few front,
       λ h. ap (λ x. length (x ++ K)) (pending_none _ _ c.self.inside.looked none) ∙ omega (arith, h, count, ap length bytes),
-      looked_is _ _ _ _ _ n refl
+      looked_is _ _ _ _ _ _ n refl
           (ap (λ u. a + seen_of g.R.ByteSource.is_whole K u) less ∙ seen_more g.R.ByteSource.is_whole K a c.self.inside.unseen n is.0 none few)
-          refl refl,
+          refl refl refl,
     )

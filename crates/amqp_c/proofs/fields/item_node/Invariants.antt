@@ -1,5 +1,0 @@
-use Rattle.amqp_c.specs.Fields.{Passes}
-use Rattle.amqp_c.proofs.fields.item_node.Given as goal
-
-abbrev pub invariant-items : goal.invariant-items
-invariant-items l = Passes l.input l.around l.around.next l.counter l.at

@@ -1,0 +1,99 @@
+-- A call that is placed answers as it did, and refuses where it began.
+use Rattle.std.proofs.Common.{◌≡◌, sym, ap, subst, ℕ, Bool, Some, None, Result, Ok, Err, IfOk, IfErr}
+use Rattle.amqp_wire.specs.declared.error.Error.{Error}
+use Rattle.amqp_decoder.specs.State.{State, IsPlaceOf, refused_at}
+use Rattle.amqp_decoder.specs.Steps.{Answers, RefusesSize, Stops, Goes, Tries}
+use Rattle.amqp_decoder.specs.Reading.{AnswersRead}
+use Rattle.amqp_decoder.specs.Primitives.{AnswersFault}
+use Rattle.amqp_decoder.specs.Described.{MissesDescriptor}
+use Rattle.amqp_decoder.specs.Places.{Starts, placed, StandsHere}
+
+-- a decoder that had refused stays as it was
+unmoved : (old mid : State) (place : ℕ) → old.source.fault ≡ place → mid ≡ old
+    → record mid { source = record mid.source { fault = place } } ≡ old
+unmoved old mid place kept same =
+    subst (λ z. record z { source = record z.source { fault = place } } ≡ old) (sym same)
+    (ap (λ p. record old { source = record old.source { fault = p } }) (sym kept))
+
+again_placed : (old mid : State) (place : ℕ) (e : Error) → Starts place old
+    → ((d : Error) → old.error ≡ Some d → (d ≡ e) × (mid ≡ old))
+    → (d : Error) → old.error ≡ Some d → (d ≡ e) × (placed {A = Error} place (Err e) mid ≡ old)
+again_placed old mid place e s h d x = ((h d x).0, unmoved old mid place (s.kept d x) (h d x).1)
+
+pub placed_read : {A : Type 0} (takes : Bool) (reads : State → A → State → Type 0) (fault : State → Error → Type 0) (old mid : State)
+    (place : ℕ) (r : Result A Error) → Starts place old → AnswersRead takes reads fault old r mid
+    → AnswersRead takes reads fault old r (placed place r mid)
+placed_read takes reads fault old mid place (Ok v) s h = h
+placed_read takes reads fault old mid place (Err e) s h = record {
+  kept = record { error = h.kept.error; source = h.kept.source };
+  again = again_placed old mid place e s h.again;
+  named = h.named;
+  none = h.none;
+}
+
+pub placed_tries : {A : Type 0} (takes : Bool) (old mid : State) (place : ℕ) (r : Result A Error) → Starts place old
+    → Tries takes old r mid → Tries takes old r (placed place r mid)
+placed_tries takes old mid place (Ok v) s h = h
+placed_tries takes old mid place (Err e) s h = (again_placed old mid place e s h.0, h.1)
+
+pub placed_here : {A : Type 0} (old mid : State) (place : ℕ) (r : Result A Error) → Starts place old
+    → IfErr r (λ _. StandsHere old (placed place r mid))
+placed_here old mid place (Ok v) s = tt
+placed_here old mid place (Err e) s = s.here
+
+pub placed_ok : {A : Type 0} (P : A → State → Type 0) (mid : State) (place : ℕ) (r : Result A Error) → IfOk r (λ v. P v mid)
+    → IfOk r (λ v. P v (placed place r mid))
+placed_ok P mid place (Ok v) h = h
+placed_ok P mid place (Err e) h = tt
+
+pub placed_fault : {A : Type 0} (takes : Bool) (fault : State → Error → Type 0) (old mid : State) (place : ℕ) (r : Result A Error)
+    → Starts place old → IfErr r (λ e. AnswersFault takes fault old e mid) → IfErr r (λ e. AnswersFault takes fault old e (placed place r mid))
+placed_fault takes fault old mid place (Ok v) s h = tt
+placed_fault takes fault old mid place (Err e) s h = record {
+  kept = record { error = h.kept.error; source = h.kept.source };
+  again = again_placed old mid place e s h.again;
+  named = h.named;
+}
+
+pub placed_goes : {A : Type 0} (takes : Bool) (old mid : State) (place : ℕ) (r : Result A Error) → Goes takes old r mid
+    → Goes takes old r (placed place r mid)
+placed_goes takes old mid place (Ok v) h = h
+placed_goes takes old mid place (Err e) h = h
+
+pub placed_stops : {A : Type 0} (takes : Bool) (fault : Error → Type 0) (old mid : State) (place : ℕ) (r : Result A Error)
+    → IfErr r (λ e. Stops takes fault old e mid) → IfErr r (λ e. Stops takes fault old e (placed place r mid))
+placed_stops takes fault old mid place (Ok v) h = tt
+placed_stops takes fault old mid place (Err e) h = record {
+  kept = record { error = h.kept.error; source = h.kept.source };
+  why = h.why;
+}
+
+pub placed_missed : {A : Type 0} (takes : Bool) (old mid : State) (place : ℕ) (r : Result A Error)
+    → IfErr r (λ e. MissesDescriptor takes old e mid) → IfErr r (λ e. MissesDescriptor takes old e (placed place r mid))
+placed_missed takes old mid place (Ok v) h = tt
+placed_missed takes old mid place (Err e) h = record {
+  kept = record { error = h.kept.error; source = h.kept.source };
+  why = h.why;
+}
+
+-- a call to a decoder that hadn't refused
+pub placed_there : {A : Type 0} (old mid : State) (place : ℕ) (r : Result A Error) → IsPlaceOf place old
+    → IfErr r (λ _. IsPlaceOf (placed place r mid).source.fault old)
+placed_there old mid place (Ok v) h = tt
+placed_there old mid place (Err e) h = h
+
+pub moved_answer : (old mid : State) (e : Error) (place : ℕ) → Answers old e mid
+    → Answers old e (record mid { source = record mid.source { fault = place } })
+moved_answer old mid e place a = record { error = a.error; source = a.source }
+
+pub moved_size : (own : ℕ) (old mid : State) (e : Error) (place : ℕ) → RefusesSize own old e mid
+    → RefusesSize own old e (record mid { source = record mid.source { fault = place } })
+moved_size own old mid e place h = record { kept = moved_answer old mid e place h.kept; why = h.why }
+
+-- an error that a decoder keeps, wherever it stands
+pub placed_refusal : {A : Type 0} (why : Type 0) (named : Error → Type 0) (d : Error) (old mid : State) (place : ℕ) (r : Result A Error)
+    → IfErr r (λ e. why × named e × (mid ≡ refused_at d mid.source.fault old))
+    → IfErr r (λ e. why × named e × (placed place r mid ≡ refused_at d (placed place r mid).source.fault old))
+placed_refusal why named d old mid place (Ok v) h = tt
+placed_refusal why named d old mid place (Err e) h =
+    (h.0, h.1, ap (λ (z : State). record z { source = record z.source { fault = place } }) h.2)

@@ -1,0 +1,5 @@
+mod Announced
+mod Shared
+mod Told
+mod Walking
+mod FieldsMet

@@ -1,0 +1,5 @@
+pub mod Terms
+pub mod Items
+pub mod Nodes
+pub mod Walks
+pub mod Fields
