@@ -1,0 +1,108 @@
+//! The program's arguments.
+use amqp_lines::TypeName;
+use anyhow::bail;
+
+/// How the program is called.
+pub(crate) const USAGE: &str = "usage: amqp-inspect [--frames | --message | --term | --type NAME] [--hex] [--json] [--max-frame N] < bytes
+
+It tells what the bytes of AMQP 1.0 are: frames, a message, or a term of any type. Without one of the first four options, their first bytes
+decide.
+
+  --frames       what one side of a connection sends: protocol headers and frames
+  --message      one message, as its sections
+  --term         one term of any type
+  --type NAME    one value of a type, as open, source or message-id
+  --hex          the input is hexadecimal digits, with any white space, and comments from # to the end of the line
+  --json         one line of JSON for each frame, section or term
+  --max-frame N  the most bytes of a frame; without it there is no limit
+  --help         this text
+
+The status is 0 if all is well, 1 if there is a fault, and 2 if the arguments are wrong.
+";
+
+/// What the input is.
+#[derive(Clone, Copy, Debug, PartialEq, Eq)]
+pub(crate) enum Form {
+    Frames,
+    Message,
+    Term,
+    Type(TypeName),
+}
+
+/// What the arguments ask for.
+#[derive(Clone, Copy, Debug, PartialEq, Eq)]
+pub(crate) struct Options {
+    pub(crate) form: Option<Form>,
+    pub(crate) hex: bool,
+    pub(crate) json: bool,
+    pub(crate) help: bool,
+    pub(crate) max_frame_size: u32,
+}
+
+impl Options {
+    /// What is asked for without arguments.
+    pub(crate) const DEFAULT: Options = Options {
+        form: None,
+        hex: false,
+        json: false,
+        help: false,
+        max_frame_size: u32::MAX,
+    };
+
+    /// Takes an argument, with the one after it if it has a value. It returns whether it has.
+    pub(crate) fn take(
+        &mut self,
+        argument: &str,
+        next: Option<&str>,
+    ) -> Result<bool, anyhow::Error> {
+        match argument {
+            "--hex" => self.hex = true,
+            "--json" => self.json = true,
+            "--help" => self.help = true,
+            "--frames" => self.set_form(Form::Frames)?,
+            "--message" => self.set_form(Form::Message)?,
+            "--term" => self.set_form(Form::Term)?,
+            "--type" => {
+                self.set_form(Form::Type(type_of(next)?))?;
+                return Ok(true);
+            }
+            "--max-frame" => {
+                self.max_frame_size = size_of(next)?;
+                return Ok(true);
+            }
+            _ => bail!("there is no option {argument}"),
+        }
+        Ok(false)
+    }
+
+    // Sets what the input is. It may be set once.
+    fn set_form(&mut self, form: Form) -> Result<(), anyhow::Error> {
+        if self.form.is_some() {
+            bail!("only one of --frames, --message, --term and --type can be given");
+        }
+        self.form = Some(form);
+        Ok(())
+    }
+}
+
+// The type that the argument names.
+fn type_of(argument: Option<&str>) -> Result<TypeName, anyhow::Error> {
+    let Some(name) = argument else {
+        bail!("--type needs the name of a type")
+    };
+    match TypeName::from_bytes(name.as_bytes()) {
+        Some(named) => Ok(named),
+        None => bail!("there is no type {name}"),
+    }
+}
+
+// The most bytes of a frame, which is at least 512 (Part 2, section 2.7.1).
+fn size_of(argument: Option<&str>) -> Result<u32, anyhow::Error> {
+    let Some(text) = argument else {
+        bail!("--max-frame needs a number")
+    };
+    match text.parse::<u32>() {
+        Ok(size) if size >= 512 => Ok(size),
+        _ => bail!("--max-frame needs a number from 512 to 4294967295, and not {text}"),
+    }
+}
