@@ -1,12 +1,13 @@
 //! The protocol headers and frames of one direction of a connection (Part 2, sections 2.2 and 2.3; Part 5, section 5.3.1).
 use crate::block::{Block, Subject, some_span};
 use crate::fault::{Cause, Fault};
+use crate::limits::limits_for;
 use crate::message::add_message;
 use crate::outline::outline_at;
 use amqp_frames::{
     Frame, FrameError, FrameKind, HeaderStep, SaslFrame, Step, next_frame, next_protocol_header,
 };
-use fe2o3_amqp_types::codec::{Error, Limits, from_slice_located};
+use fe2o3_amqp_types::codec::{Error, from_slice_located};
 use fe2o3_amqp_types::performatives::{Performative, Transfer};
 use std::alloc::Global;
 use std::collections::BTreeSet;
@@ -99,7 +100,7 @@ impl Frames {
         let end = add_value(block, bytes, at, alloc)?;
         block.payload = some_span(end, bytes.len());
         let body = bytes.get(at..).unwrap_or_default();
-        let limits = Limits::for_peers(body.len() as u64);
+        let limits = limits_for(body);
         match from_slice_located::<Performative>(body, &limits, alloc) {
             Ok((Performative::Transfer(transfer), _)) => {
                 let whole = self.is_whole_message(channel, &transfer)?;
@@ -136,11 +137,8 @@ impl Frames {
 // Adds the outline of the term at the place, and returns where it ends. If no term begins there, this is the end of the bytes; the fault is
 // found by reading the value.
 fn add_value(block: &mut Block, bytes: &[u8], at: usize, alloc: Global) -> Result<usize, Error> {
-    match outline_at(bytes, at, &mut block.value, alloc) {
-        Err(Error::Memory) => Err(Error::Memory),
-        Err(_) => Ok(bytes.len()),
-        Ok(end) => Ok(end),
-    }
+    let end = outline_at(bytes, at, &mut block.value, alloc)?;
+    Ok(end.unwrap_or(bytes.len()))
 }
 
 // Adds the value of a SASL frame, which is the whole body (Part 5, section 5.3.1).
@@ -153,7 +151,7 @@ fn add_sasl(block: &mut Block, bytes: &[u8], at: usize, alloc: Global) -> Result
         return Ok(());
     }
     add_value(block, bytes, at, alloc)?;
-    let limits = Limits::for_peers(body.len() as u64);
+    let limits = limits_for(body);
     match from_slice_located::<SaslFrame>(body, &limits, alloc) {
         Ok((value, len)) => {
             drop(value);

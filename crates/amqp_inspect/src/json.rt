@@ -192,6 +192,9 @@ fn write_shape(
     };
     write!(out, "{{\"type\":\"{name}\"")?;
     write_span(out, "span", span)?;
+    if !entry.is_whole {
+        out.push_str(",\"broken\":true")?;
+    }
     match entry.shape {
         Shape::Primitive(kind) => {
             out.push_str(",\"value\":")?;

@@ -7,12 +7,14 @@
 
 mod arguments;
 mod block;
+mod broken;
 mod digits;
 mod fault;
 mod frames;
 mod json;
 mod json_value;
 mod kinds;
+mod limits;
 mod message;
 mod names;
 mod numbers;

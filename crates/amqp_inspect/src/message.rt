@@ -1,8 +1,9 @@
 //! Messages, section by section (Part 3, section 3.2).
 use crate::block::{Block, Subject};
 use crate::fault::{Cause, Fault};
+use crate::limits::limits_for;
 use crate::outline::outline_at;
-use fe2o3_amqp_types::codec::{Error, Limits, Value, from_slice_located, term_len};
+use fe2o3_amqp_types::codec::{Error, Value, from_slice_located, term_len};
 use fe2o3_amqp_types::messaging::{Body, Message};
 use std::alloc::Global;
 
@@ -34,10 +35,8 @@ impl Sections {
             return self.end_block(from, alloc);
         }
         let mut block = Block::new(Subject::Section, (from, input.len()), alloc);
-        match outline_at(input, from, &mut block.value, alloc) {
-            Ok(end) => block.span = (from, end),
-            Err(Error::Memory) => return Err(Error::Memory),
-            Err(_) => {}
+        if let Some(end) = outline_at(input, from, &mut block.value, alloc)? {
+            block.span = (from, end);
         }
         self.at = block.span.1;
         match self.fault.take() {
@@ -72,10 +71,9 @@ pub(crate) fn add_message(
         if at >= bytes.len() {
             break;
         }
-        match outline_at(bytes, at, &mut block.message, alloc) {
-            Ok(end) => at = end,
-            Err(Error::Memory) => return Err(Error::Memory),
-            Err(_) => break,
+        match outline_at(bytes, at, &mut block.message, alloc)? {
+            Some(end) => at = end,
+            None => break,
         }
     }
     if let Some(fault) = message_fault(bytes, from, alloc)? {
@@ -87,7 +85,7 @@ pub(crate) fn add_message(
 // The fault of the message that begins at the place and goes on to the end of the bytes, if it has one.
 fn message_fault(bytes: &[u8], from: usize, alloc: Global) -> Result<Option<Fault>, Error> {
     let message = bytes.get(from..).unwrap_or_default();
-    let limits = Limits::for_peers(message.len() as u64);
+    let limits = limits_for(message);
     match from_slice_located::<Message<Body<Value>>>(message, &limits, alloc) {
         Ok((value, len)) => {
             drop(value);

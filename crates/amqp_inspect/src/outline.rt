@@ -1,8 +1,12 @@
 //! The values in a term, one after another, each with its place, its depth and its name: what is printed of the term.
+use crate::broken::broken_node;
 use crate::names::{Content, Named, of_descriptor};
 use amqp_kinds::{Kind, kind_of};
 use fe2o3_amqp_types::codec::{Error, Node, next_node};
 use std::alloc::Global;
+
+/// How deep values nest that the library reads; what is deeper is not printed.
+const MOST_DEPTH: usize = 128;
 
 /// What a value is in the one around it.
 #[derive(Clone, Copy)]
@@ -51,6 +55,8 @@ pub(crate) struct Entry {
     /// Where it begins: at its constructor, or at its data if it is an item of an array.
     pub(crate) from: usize,
     pub(crate) node: Node,
+    /// Whether it is a whole value. Otherwise a fault is in it.
+    pub(crate) is_whole: bool,
 }
 
 // What the values in an open one are.
@@ -67,6 +73,7 @@ enum Labels {
 #[derive(Clone, Copy)]
 struct Open {
     node: Node,
+    is_whole: bool,
     labels: Labels,
     depth: usize,
     // How many of the parts have come, and where the next one begins.
@@ -81,122 +88,168 @@ struct Growing<'a> {
     open: Vec<Open>,
 }
 
-/// Appends the entries of the term at the place to the others, and returns where the term ends. If no term begins there, nothing is appended.
+// A value that is met: its node, and whether it is whole.
+#[derive(Clone, Copy)]
+struct Met {
+    node: Node,
+    is_whole: bool,
+}
+
+// The value that begins at the place in the enclosing node: whole, or its begin.
+fn met_at(input: &[u8], at: usize, around: &Node) -> Option<Met> {
+    match next_node(input, at, around) {
+        Ok(node) => Some(Met {
+            node,
+            is_whole: true,
+        }),
+        Err(_) => Some(Met {
+            node: broken_node(input, at, around)?,
+            is_whole: false,
+        }),
+    }
+}
+
+/// Appends the entries of the term at the place to the others, and returns where the term ends. If no term begins there, it returns `None`,
+/// and the entries are those of what comes before the fault, each value around the fault with its begin.
 pub(crate) fn outline_at(
     input: &[u8],
     at: usize,
     entries: &mut Vec<Entry>,
     alloc: Global,
-) -> Result<usize, Error> {
-    let root = next_node(input, at, &Node::NOTHING)?;
+) -> Result<Option<usize>, Error> {
+    let Some(root) = met_at(input, at, &Node::NOTHING) else {
+        return Ok(None);
+    };
     let mut growing = Growing {
         input,
         open: Vec::new(alloc),
     };
     growing.enter(Label::Whole, at, root, 0, entries)?;
     // Each value has a byte of its own. One step meets it, and one step leaves it.
-    let steps = root.end.saturating_sub(at).saturating_mul(2);
+    let steps = root.node.end.saturating_sub(at).saturating_mul(2);
     for _ in 0..steps {
         if !growing.step(entries)? {
             break;
         }
     }
-    Ok(root.end)
+    Ok(if root.is_whole {
+        Some(root.node.end)
+    } else {
+        None
+    })
 }
 
 impl Growing<'_> {
-    // Meets the next value, or leaves one. It returns whether there is more.
+    // Meets the next value, or leaves one. It returns whether there is more: nothing is behind a value that isn't whole.
     fn step(&mut self, entries: &mut Vec<Entry>) -> Result<bool, Error> {
         let Some(mut around) = self.open.pop() else {
             return Ok(false);
         };
         if around.taken >= around.node.count {
-            return Ok(true);
+            return Ok(around.is_whole);
         }
         let at = around.next;
         let label = around.label();
-        let node = next_node(self.input, at, &around.node)?;
+        let Some(met) = met_at(self.input, at, &around.node) else {
+            return Ok(false);
+        };
         around.taken = around.taken.saturating_add(1);
-        around.next = node.end;
+        around.next = met.node.end;
         self.open.push(around)?;
-        self.enter(label, at, node, around.depth, entries)?;
-        Ok(true)
+        self.enter(label, at, met, around.depth, entries)
     }
 
-    // Appends the entry of a value. If there are values in it, they come next.
+    // Appends the entry of a value. If there are values in it, they come next. It returns whether there may be more.
     fn enter(
         &mut self,
         label: Label,
         at: usize,
-        node: Node,
+        met: Met,
         depth: usize,
         entries: &mut Vec<Entry>,
-    ) -> Result<(), Error> {
-        let inner = depth.saturating_add(1);
-        let kind = kind_of(node.code);
-        if let (Label::Field(_), Kind::Null) = (label, kind) {
+    ) -> Result<bool, Error> {
+        if let (Label::Field(_), Kind::Null) = (label, kind_of(met.node.code)) {
             // A field that is null is omitted (Part 1, section 1.4).
-            return Ok(());
+            return Ok(true);
         }
-        let (shape, opened) = match kind {
-            Kind::Described => self.described(&node, inner)?,
-            Kind::List => (Shape::List, Some(Open::new(node, Labels::Items, inner))),
-            Kind::Map => (Shape::Map, Some(Open::new(node, Labels::Pairs, inner))),
-            Kind::Array => {
-                let array = array_shape(self.input, &node);
-                (array, Some(Open::new(node, Labels::Items, inner)))
-            }
-            primitive => (Shape::Primitive(primitive), None),
-        };
+        let (shape, opened) = self.shape_of(&met, depth.saturating_add(1));
         entries.push(Entry {
             depth,
             label,
             shape,
             from: at,
-            node,
+            node: met.node,
+            is_whole: met.is_whole,
         })?;
-        if let Some(open) = opened {
-            self.open.push(open)?;
+        match opened {
+            Some(open) if met.is_whole || depth < MOST_DEPTH => {
+                self.open.push(open)?;
+                Ok(true)
+            }
+            _ => Ok(met.is_whole),
         }
-        Ok(())
+    }
+
+    // What a value is, and which values in it come next.
+    fn shape_of(&self, met: &Met, inner: usize) -> (Shape, Option<Open>) {
+        let node = met.node;
+        match kind_of(node.code) {
+            Kind::Described => self.described(met, inner),
+            Kind::List => (Shape::List, Some(Open::new(met, Labels::Items, inner))),
+            Kind::Map => (Shape::Map, Some(Open::new(met, Labels::Pairs, inner))),
+            Kind::Array => {
+                let shape = array_shape(self.input, &node);
+                (shape, Some(Open::new(met, Labels::Items, inner)))
+            }
+            primitive => (Shape::Primitive(primitive), None),
+        }
     }
 
     // What a described value is, and which values in it come next.
-    fn described(&self, node: &Node, inner: usize) -> Result<(Shape, Option<Open>), Error> {
-        let descriptor = next_node(self.input, node.next, node)?;
-        let value = next_node(self.input, descriptor.end, node)?;
+    fn described(&self, met: &Met, inner: usize) -> (Shape, Option<Open>) {
+        let Ok(descriptor) = next_node(self.input, met.node.next, &met.node) else {
+            return (Shape::Described, None);
+        };
         let Some(named) = of_descriptor(self.input, &descriptor) else {
-            let parts = Open::new(*node, Labels::DescriptorAndValue, inner);
-            return Ok((Shape::Described, Some(parts)));
+            let parts = Open::new(met, Labels::DescriptorAndValue, inner);
+            return (Shape::Described, Some(parts));
         };
-        let opened = match (named.content, kind_of(value.code)) {
-            (Content::Fields, Kind::List) => Open::new(value, Labels::Fields(named.fields), inner),
-            (Content::Items, Kind::List) => Open::new(value, Labels::Items, inner),
-            (Content::Pairs, Kind::Map) => Open::new(value, Labels::Pairs, inner),
-            _ => {
-                let behind = Open::behind(*node, &descriptor, inner);
-                return Ok((Shape::Named(named, Content::Any), Some(behind)));
-            }
+        let unlike = (Shape::Named(named, Content::Any), Some(Open::behind(met, &descriptor, inner)));
+        let Some(value) = met_at(self.input, descriptor.end, &met.node) else {
+            return unlike;
         };
-        Ok((Shape::Named(named, named.content), Some(opened)))
+        let labels = match (named.content, kind_of(value.node.code)) {
+            (Content::Fields, Kind::List) => Labels::Fields(named.fields),
+            (Content::Items, Kind::List) => Labels::Items,
+            (Content::Pairs, Kind::Map) => Labels::Pairs,
+            _ => return unlike,
+        };
+        let is_whole = met.is_whole && value.is_whole;
+        let listed = Met {
+            node: value.node,
+            is_whole,
+        };
+        (Shape::Named(named, named.content), Some(Open::new(&listed, labels, inner)))
     }
 }
 
 impl Open {
-    fn new(node: Node, labels: Labels, depth: usize) -> Open {
+    fn new(met: &Met, labels: Labels, depth: usize) -> Open {
         Open {
-            node,
+            node: met.node,
+            is_whole: met.is_whole,
             labels,
             depth,
             taken: 0,
-            next: node.next,
+            next: met.node.next,
         }
     }
 
     // A described value whose descriptor is passed over.
-    fn behind(node: Node, descriptor: &Node, depth: usize) -> Open {
+    fn behind(met: &Met, descriptor: &Node, depth: usize) -> Open {
         Open {
-            node,
+            node: met.node,
+            is_whole: met.is_whole,
             labels: Labels::Value,
             depth,
             taken: 1,

@@ -1,6 +1,7 @@
 //! One term, or one value of a type.
 use crate::block::{Block, Subject};
 use crate::fault::{Cause, Fault};
+use crate::limits::limits_for;
 use crate::outline::outline_at;
 use amqp_lines::types::*;
 use amqp_lines::{TypeName, types};
@@ -43,12 +44,10 @@ impl Term {
 // The term at the start of the input.
 fn term_block(input: &[u8], named: Option<TypeName>, alloc: Global) -> Result<Block, Error> {
     let mut block = Block::new(Subject::Term, (0, input.len()), alloc);
-    match outline_at(input, 0, &mut block.value, alloc) {
-        Ok(end) => block.span = (0, end),
-        Err(Error::Memory) => return Err(Error::Memory),
-        Err(_) => {}
+    if let Some(end) = outline_at(input, 0, &mut block.value, alloc)? {
+        block.span = (0, end);
     }
-    let limits = Limits::for_peers(input.len() as u64);
+    let limits = limits_for(input);
     let found = match named {
         Some(type_name) => len_of(type_name, input, &limits, alloc),
         None => term_len_located(input),

@@ -98,7 +98,7 @@ fn write_frame(
 // The name of what a frame has, the entries below it, and how much deeper they are printed than they are.
 fn headed(entries: &[Entry]) -> (&'static str, &[Entry], usize) {
     let Some((first, below)) = entries.split_first() else {
-        return ("no value", entries, 1);
+        return ("empty", entries, 1);
     };
     match first.shape {
         Shape::Named(named, _) => (named.name, below, 0),
@@ -165,19 +165,29 @@ fn write_shape(out: &mut String, input: &[u8], entry: &Entry) -> Result<(), Allo
             write_value(out, input, kind, &entry.node)?;
             write!(out, " ({}, ", type_name(kind))?;
         }
-        Shape::List => write!(out, "list of {count} (")?,
-        Shape::Map => write!(out, "map of {} (", count / 2)?,
-        Shape::Array(_, _) if count == 0 => out.push_str("array of 0 (")?,
-        Shape::Array(kind, described) => {
+        Shape::List => write_count(out, "list", count, "item")?,
+        Shape::Map => write_count(out, "map", count / 2, "pair")?,
+        Shape::Array(kind, is_described) if count > 0 => {
+            let prefix = if is_described { "described " } else { "" };
+            let plural = if count == 1 { "" } else { "s" };
             let name = type_name(kind);
-            let prefix = if described { "described " } else { "" };
-            write!(out, "array of {count}, each a {prefix}{name} (")?;
+            write!(out, "array of {count} {prefix}{name}{plural} (")?;
         }
+        Shape::Array(_, _) => write_count(out, "array", count, "item")?,
         Shape::Named(named, _) => write!(out, "{} (", named.name)?,
         Shape::Described => out.push_str("described value (")?,
     }
+    if !entry.is_whole {
+        out.push_str("broken, ")?;
+    }
     write_span(out, (entry.from, entry.node.end))?;
     out.push(')')
+}
+
+// A container, and how many items or pairs it has.
+fn write_count(out: &mut String, name: &str, count: usize, unit: &str) -> Result<(), AllocError> {
+    let plural = if count == 1 { "" } else { "s" };
+    write!(out, "{name} of {count} {unit}{plural} (")
 }
 
 // A fault: the sentence, the path, and the bytes around the place.

@@ -67,7 +67,7 @@ fn write_text(out: &mut String, bytes: &[u8]) -> Result<(), AllocError> {
 
 // A binary: as text if its bytes are ASCII that can be printed, else in digits.
 fn write_binary(out: &mut String, bytes: &[u8]) -> Result<(), AllocError> {
-    if bytes.is_empty() || !bytes.iter().all(|byte| matches!(*byte, 0x20..=0x7e)) {
+    if !bytes.iter().all(|byte| matches!(*byte, 0x20..=0x7e)) {
         return write_bytes(out, bytes);
     }
     let shown = bytes.get(..MOST_BYTES).unwrap_or(bytes);
