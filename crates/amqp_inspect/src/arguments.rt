@@ -3,13 +3,14 @@ use amqp_lines::TypeName;
 use anyhow::bail;
 
 /// How the program is called.
-pub(crate) const USAGE: &str = "usage: amqp-inspect [--frames | --message | --term | --type NAME] [--hex] [--json] [--max-frame N] < bytes
+pub(crate) const USAGE: &str = "usage: amqp-inspect [--frames | --message | --strict | --term | --type NAME] [--hex] [--json] [--max-frame N] < bytes
 
-It tells what the bytes of AMQP 1.0 are: frames, a message, or a term of any type. Without one of the first four options, their first bytes
+It tells what the bytes of AMQP 1.0 are: frames, a message, or a term of any type. Without one of the first five options, their first bytes
 decide.
 
   --frames       what one side of a connection sends: protocol headers and frames
   --message      one message, as its sections
+  --strict       one message whose sections are in the standard's order, each kind at most once but for those of the body
   --term         one term of any type
   --type NAME    one value of a type, as open, source or message-id
   --hex          the input is hexadecimal digits, with any white space, and comments from # to the end of the line
@@ -25,6 +26,7 @@ The status is 0 if all is well, 1 if there is a fault, and 2 if the arguments ar
 pub(crate) enum Form {
     Frames,
     Message,
+    Strict,
     Term,
     Type(TypeName),
 }
@@ -61,6 +63,7 @@ impl Options {
             "--help" => self.help = true,
             "--frames" => self.set_form(Form::Frames)?,
             "--message" => self.set_form(Form::Message)?,
+            "--strict" => self.set_form(Form::Strict)?,
             "--term" => self.set_form(Form::Term)?,
             "--type" => {
                 self.set_form(Form::Type(type_of(next)?))?;
@@ -78,7 +81,7 @@ impl Options {
     // Sets what the input is. It may be set once.
     fn set_form(&mut self, form: Form) -> Result<(), anyhow::Error> {
         if self.form.is_some() {
-            bail!("only one of --frames, --message, --term and --type can be given");
+            bail!("only one of --frames, --message, --strict, --term and --type can be given");
         }
         self.form = Some(form);
         Ok(())

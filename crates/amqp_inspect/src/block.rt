@@ -16,6 +16,8 @@ pub(crate) enum Subject {
     Frame(FrameKind),
     /// Bytes that are no frame.
     NoFrame,
+    /// The begin of a protocol header or of a frame.
+    CutFrame,
     /// A section of a message (Part 3, section 3.2).
     Section,
     /// A term (Part 1, section 1.2).

@@ -45,12 +45,12 @@ fn frame_error_name(error: &FrameError) -> &'static str {
     }
 }
 
-// The field of a frame's header at this place in it (Part 2, section 2.3.1).
+// The path to the field of a frame's header at this place in it (Part 2, section 2.3.1).
 fn frame_field(at: usize) -> &'static str {
     match at {
-        0 => "size",
-        4 => "doff",
-        _ => "type",
+        0 => "frame.size",
+        4 => "frame.doff",
+        _ => "frame.type",
     }
 }
 
@@ -100,7 +100,7 @@ impl Fault {
         Ok(Fault {
             cause: Cause::Value(refusal.error),
             at,
-            path: path_text(input, from, at, alloc)?,
+            path: path_text(input, from, at, refusal.error, alloc)?,
         })
     }
 }

@@ -61,7 +61,7 @@ impl Frames {
     ) -> Result<Block, Error> {
         match next_frame(rest, self.max_frame_size) {
             Ok(Step::Frame(frame)) => self.whole_frame(input, &frame, from, alloc),
-            Ok(Step::Needs(count)) => cut_block(rest, count, from, alloc),
+            Ok(Step::Needs(count)) => cut_frame(input, rest, count, from, alloc),
             Err(error) => broken_block(rest, error, from, alloc),
         }
     }
@@ -183,13 +183,29 @@ fn header_block(rest: &[u8], from: usize, alloc: Global) -> Result<Block, Error>
     }
 }
 
-// A header or a frame whose end is missing.
+// A protocol header or a frame whose end is missing.
 fn cut_block(rest: &[u8], count: usize, from: usize, alloc: Global) -> Result<Block, Error> {
     let to = from.saturating_add(rest.len());
-    let mut block = Block::new(Subject::NoFrame, (from, to), alloc);
+    let mut block = Block::new(Subject::CutFrame, (from, to), alloc);
     block
         .faults
         .push(Fault::at(Cause::Ended(count), to, alloc))?;
+    Ok(block)
+}
+
+// A frame whose end is missing, with what there is of its body.
+fn cut_frame(
+    input: &[u8],
+    rest: &[u8],
+    count: usize,
+    from: usize,
+    alloc: Global,
+) -> Result<Block, Error> {
+    let mut block = cut_block(rest, count, from, alloc)?;
+    if let Some(data_offset) = rest.get(4) {
+        let at = from.saturating_add(usize::from(*data_offset).saturating_mul(4));
+        add_value(&mut block, input, at, alloc)?;
+    }
     Ok(block)
 }
 

@@ -52,6 +52,7 @@ fn write_subject(out: &mut String, subject: &Subject) -> Result<(), AllocError> 
             out.push_str("{\"what\":\"frame\",\"type\":\"sasl\"")
         }
         Subject::NoFrame => out.push_str("{\"what\":\"no-frame\""),
+        Subject::CutFrame => out.push_str("{\"what\":\"cut-frame\""),
         Subject::Section => out.push_str("{\"what\":\"section\""),
         Subject::Term => out.push_str("{\"what\":\"term\""),
         Subject::Rest => out.push_str("{\"what\":\"rest\""),
@@ -102,6 +103,8 @@ struct Opened {
     ends_pair: bool,
     // Whether another entry has come in it.
     has_entry: bool,
+    // Whether the last one that has come in it is a key.
+    has_key: bool,
 }
 
 // Objects for entries, one after another, with those that are in them.
@@ -118,6 +121,7 @@ fn write_entries(
             Some(around) => {
                 let has_entry = around.has_entry;
                 around.has_entry = true;
+                around.has_key = matches!(entry.label, Label::Key(_));
                 has_entry
             }
             None => entry.from > first_place(entries),
@@ -132,6 +136,7 @@ fn write_entries(
             end,
             ends_pair,
             has_entry: false,
+            has_key: false,
         })?;
     }
     close_to(out, &mut opened, 0)
@@ -153,6 +158,10 @@ fn close_to(
 ) -> Result<(), AllocError> {
     for _ in depth..opened.len() {
         if let Some(last) = opened.pop() {
+            if last.has_key {
+                // The value of the last key isn't there.
+                out.push('}')?;
+            }
             out.push_str(last.end)?;
             if last.ends_pair {
                 out.push('}')?;

@@ -15,6 +15,7 @@ mod json;
 mod json_value;
 mod kinds;
 mod limits;
+mod meanings;
 mod message;
 mod names;
 mod numbers;

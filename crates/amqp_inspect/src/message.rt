@@ -3,7 +3,8 @@ use crate::block::{Block, Subject};
 use crate::fault::{Cause, Fault};
 use crate::limits::limits_for;
 use crate::outline::outline_at;
-use fe2o3_amqp_types::codec::{Error, Value, from_slice_located, term_len};
+use fe2o3_amqp_types::codec::{Deserialize, Error, Value, from_slice_located, term_len};
+use fe2o3_amqp_types::messaging::message::Strict;
 use fe2o3_amqp_types::messaging::{Body, Message};
 use std::alloc::Global;
 
@@ -17,11 +18,17 @@ pub(crate) struct Sections {
 }
 
 impl Sections {
-    pub(crate) fn new(input: &[u8], alloc: Global) -> Result<Sections, Error> {
-        Ok(Sections {
-            at: 0,
-            fault: message_fault(input, 0, alloc)?,
-        })
+    pub(crate) fn new(
+        input: &[u8],
+        is_strict: bool,
+        alloc: Global,
+    ) -> Result<Sections, Error> {
+        let fault = if is_strict {
+            fault_of::<Strict<Body<Value>>>(input, 0, alloc)?
+        } else {
+            fault_of::<Message<Body<Value>>>(input, 0, alloc)?
+        };
+        Ok(Sections { at: 0, fault })
     }
 
     /// Returns the block of the next section, or `None` behind the last one. A fault is told with the section that has it.
@@ -76,17 +83,21 @@ pub(crate) fn add_message(
             None => break,
         }
     }
-    if let Some(fault) = message_fault(bytes, from, alloc)? {
+    if let Some(fault) = fault_of::<Message<Body<Value>>>(bytes, from, alloc)? {
         block.faults.push(fault)?;
     }
     Ok(())
 }
 
-// The fault of the message that begins at the place and goes on to the end of the bytes, if it has one.
-fn message_fault(bytes: &[u8], from: usize, alloc: Global) -> Result<Option<Fault>, Error> {
+// The fault of the message of type T that begins at the place and goes on to the end of the bytes, if it has one.
+fn fault_of<T: Deserialize>(
+    bytes: &[u8],
+    from: usize,
+    alloc: Global,
+) -> Result<Option<Fault>, Error> {
     let message = bytes.get(from..).unwrap_or_default();
     let limits = limits_for(message);
-    match from_slice_located::<Message<Body<Value>>>(message, &limits, alloc) {
+    match from_slice_located::<T>(message, &limits, alloc) {
         Ok((value, len)) => {
             drop(value);
             if len < message.len() {

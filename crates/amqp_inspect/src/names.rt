@@ -181,6 +181,33 @@ pub(crate) fn of_symbol(symbol: &[u8]) -> Option<Named> {
     None
 }
 
+// The first and the last mandatory field of a type, by its name. Those between them are mandatory, too.
+fn mandatory_fields(name: &str) -> Option<(usize, usize)> {
+    match name {
+        "begin" | "flow" => Some((1, 3)),
+        "attach" => Some((0, 2)),
+        "disposition" | "received" => Some((0, 1)),
+        "open" | "transfer" | "detach" | "error" => Some((0, 0)),
+        "discharge" | "declared" | "transactional-state" => Some((0, 0)),
+        "sasl-mechanisms" | "sasl-init" | "sasl-challenge" | "sasl-response" | "sasl-outcome" => {
+            Some((0, 0))
+        }
+        _ => None,
+    }
+}
+
+impl Named {
+    /// Returns the name of the first mandatory field that a list of so many fields lacks.
+    pub(crate) fn missing_field(&self, count: usize) -> Option<&'static str> {
+        let (first, last) = mandatory_fields(self.name)?;
+        let index = count.max(first);
+        if index > last {
+            return None;
+        }
+        self.fields.get(index).copied()
+    }
+}
+
 /// Returns the type that a descriptor in the input names.
 pub(crate) fn of_descriptor(input: &[u8], descriptor: &Node) -> Option<Named> {
     let bytes = input.get(descriptor.start..descriptor.end)?;

@@ -2,7 +2,9 @@
 use crate::names::{Named, of_value_at};
 use crate::value_text::write_value;
 use amqp_kinds::{Kind, kind_of};
-use fe2o3_amqp_types::codec::{ContainerKind, Node, PathNode, Piece, next_node, path_of, term_len};
+use fe2o3_amqp_types::codec::{
+    ContainerKind, Error, Node, PathNode, Piece, next_node, path_of, term_len,
+};
 use std::alloc::{AllocError, Global};
 use std::fmt::Write;
 
@@ -16,15 +18,19 @@ struct Walk<'a> {
     named: Option<Named>,
     // Where that value begins.
     around: usize,
+    // Whether the fault is that a value is missing.
+    is_missing: bool,
     // Whether the last node was an item of an array: if a descriptor describes it, it comes twice.
     in_element: bool,
 }
 
-/// Returns the path to the place `at` of the input, from the term that begins at `from`. It is empty if it has nothing to tell.
+/// Returns the path to the place `at` of the input, where the error is, from the term that begins at `from`. It is empty if it has nothing to
+/// tell.
 pub(crate) fn path_text(
     input: &[u8],
     from: usize,
     at: usize,
+    error: Error,
     alloc: Global,
 ) -> Result<String, AllocError> {
     let mut walk = Walk {
@@ -32,6 +38,7 @@ pub(crate) fn path_text(
         text: String::new(alloc),
         named: None,
         around: 0,
+        is_missing: error == Error::Missing,
         in_element: false,
     };
     let bytes = walk.bytes;
@@ -64,7 +71,7 @@ impl Walk<'_> {
             }
             Piece::Descriptor => self.text.push_str("[descriptor]")?,
             Piece::ElementConstructor { .. } => self.text.push_str("[constructor]")?,
-            Piece::End { .. } => self.text.push_str("[end]")?,
+            Piece::End { count, .. } => self.write_end(count)?,
             Piece::ArrayContent { .. } => {}
         }
         self.around = node.at;
@@ -94,6 +101,22 @@ impl Walk<'_> {
             Some(name) => write!(self.text, ".{name}"),
             None => write!(self.text, "[{index}]"),
         }
+    }
+
+    // The place behind so many items. A mandatory field that is missing would be there.
+    fn write_end(&mut self, count: usize) -> Result<(), AllocError> {
+        match self.missing_field(count) {
+            Some(name) => write!(self.text, ".{name}"),
+            None => self.text.push_str("[end]"),
+        }
+    }
+
+    fn missing_field(&self, count: usize) -> Option<&'static str> {
+        if !self.is_missing {
+            return None;
+        }
+        let named = self.named?;
+        named.missing_field(count)
     }
 
     // The name of the field with this number.

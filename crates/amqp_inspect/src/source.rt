@@ -26,7 +26,8 @@ impl Source {
     ) -> Result<Source, Error> {
         Ok(match form.unwrap_or(form_of(input)) {
             Form::Frames => Source::Frames(Frames::new(max_frame_size, alloc)),
-            Form::Message => Source::Message(Sections::new(input, alloc)?),
+            Form::Message => Source::Message(Sections::new(input, false, alloc)?),
+            Form::Strict => Source::Message(Sections::new(input, true, alloc)?),
             Form::Term => Source::Term(Term::new(None)),
             Form::Type(named) => Source::Term(Term::new(Some(named))),
         })
@@ -62,10 +63,13 @@ fn form_of(input: &[u8]) -> Form {
     }
 }
 
-// Whether the input seems to begin with a frame (Part 2, section 2.3.1): its size is at least 8, its data offset at least 2 and not past the
-// size, and its type 0 or 1. A described value may look like that, too, as a frame of more than four million bytes. So it is a frame only if
-// the whole of it is there, or if what comes second is no descriptor's code.
+// Whether the input seems to begin with a frame (Part 2, section 2.3.1). No term begins with two zeros. Otherwise the size is at least 8, the
+// data offset at least 2 and not past the size, and the type 0 or 1. A described value may look like that, too, as a frame of more than four
+// million bytes. So it is a frame only if the whole of it is there, or if what comes second is no descriptor's code.
 fn begins_with_frame(input: &[u8]) -> bool {
+    if input.starts_with(&[0, 0]) {
+        return true;
+    }
     let [a, b, c, d, data_offset, kind, ..] = input else {
         return false;
     };

@@ -2,10 +2,13 @@
 use crate::block::{Block, Span, Subject};
 use crate::fault::Fault;
 use crate::kinds::type_name;
+use crate::meanings::meaning;
+use crate::numbers::{is_true, unsigned};
 use crate::outline::{Entry, Label, Shape};
 use crate::quoted::write_digits;
 use crate::value_text::write_value;
 use amqp_frames::{FrameKind, ProtocolHeader, ProtocolId};
+use amqp_kinds::Kind;
 use std::alloc::AllocError;
 use std::fmt::Write;
 
@@ -24,6 +27,10 @@ pub(crate) fn write_block(
         Subject::Frame(kind) => write_frame(out, input, block, kind)?,
         Subject::ProtocolHeader(header) => write_header(out, block.span, header)?,
         Subject::NoFrame => write_line(out, "no frame", block.span)?,
+        Subject::CutFrame => {
+            write_line(out, "cut frame", block.span)?;
+            write_entries(out, input, entries, 1)?;
+        }
         Subject::Rest => write_line(out, "rest", block.span)?,
     }
     for fault in block.faults.iter() {
@@ -83,7 +90,7 @@ fn write_frame(
         FrameKind::Amqp { channel } => write!(out, ", channel {channel}")?,
         FrameKind::Sasl => out.push_str(", SASL")?,
     }
-    let (name, entries, shift) = headed(block.value.as_slice());
+    let (name, entries, shift) = headed(block);
     writeln!(out, ", {name}")?;
     if let Some(extended) = block.extended {
         write_line(out, "  extended header", extended)?;
@@ -96,9 +103,15 @@ fn write_frame(
 }
 
 // The name of what a frame has, the entries below it, and how much deeper they are printed than they are.
-fn headed(entries: &[Entry]) -> (&'static str, &[Entry], usize) {
+fn headed(block: &Block) -> (&'static str, &[Entry], usize) {
+    let entries = block.value.as_slice();
     let Some((first, below)) = entries.split_first() else {
-        return ("empty", entries, 1);
+        let name = if block.faults.is_empty() {
+            "empty"
+        } else {
+            "no value"
+        };
+        return (name, entries, 1);
     };
     match first.shape {
         Shape::Named(named, _) => (named.name, below, 0),
@@ -124,6 +137,10 @@ fn write_entries(
         write_shape(out, input, entry)?;
         in_line = is_short_key(entry);
         out.push_str(if in_line { ": " } else { "\n" })?;
+    }
+    if in_line {
+        // The value of the last key isn't there.
+        out.push_str("..\n")?;
     }
     Ok(())
 }
@@ -163,6 +180,9 @@ fn write_shape(out: &mut String, input: &[u8], entry: &Entry) -> Result<(), Allo
     match entry.shape {
         Shape::Primitive(kind) => {
             write_value(out, input, kind, &entry.node)?;
+            if let Some(meaning) = meaning_of(input, kind, entry) {
+                write!(out, ", {meaning}")?;
+            }
             write!(out, " ({}, ", type_name(kind))?;
         }
         Shape::List => write_count(out, "list", count, "item")?,
@@ -182,6 +202,20 @@ fn write_shape(out: &mut String, input: &[u8], entry: &Entry) -> Result<(), Allo
     }
     write_span(out, (entry.from, entry.node.end))?;
     out.push(')')
+}
+
+// What the number in a field means, if its type gives it a name.
+fn meaning_of(input: &[u8], kind: Kind, entry: &Entry) -> Option<&'static str> {
+    let Label::Field(field) = entry.label else {
+        return None;
+    };
+    let node = entry.node;
+    let bytes = input.get(node.start..node.end)?;
+    let number = match kind {
+        Kind::Bool => u64::from(is_true(node.code, bytes)),
+        _ => unsigned(bytes),
+    };
+    meaning(field, kind, number)
 }
 
 // A container, and how many items or pairs it has.
