@@ -1,0 +1,214 @@
+//! The path to a place in an encoded value (Part 1, sections 1.2 and 1.6), with the types whose fields are on it (section 1.4).
+ghost use Rattle.std.specs.Prelude.{◌≡◌, ℕ, MatchOption, slice_set};
+ghost use Rattle.amqp_lengths.specs.Fronts.{IsFront, NoFront};
+ghost use Rattle.amqp_c.specs.Paths.{container_number, told_piece, told_node, IsMarkOf, IsTypeAt, IsTypeBetween, IsFieldType, TellsPath};
+
+use crate::descriptors::type_of_code;
+use amqp_paths::{ContainerKind, Node, Piece, path_of};
+use amqp_wire::format_code;
+
+/// A node of a path: what begins there, and where.
+#[repr(C)]
+#[derive(Clone, Copy, Debug, PartialEq, Eq)]
+pub struct PathNode {
+    /// How many bytes of the input are before it.
+    pub at: usize,
+    /// What begins there: 1 for a value by itself, 2 for a descriptor, 3 for an item of a list or a map, 4 for the content of an array, 5 for
+    /// the rest of the constructor that the items of an array share, 6 for an item of an array, 7 for the end of a container.
+    pub piece: u32,
+    /// The container that it is in, or the end of: 1 for a list, 2 for a map, 3 for an array; 0 for a value by itself or a descriptor.
+    pub container: u32,
+    /// How many items the container announces; 0 for the rest of a constructor.
+    pub count: usize,
+    /// The number of the item, from 0.
+    pub index: usize,
+    /// How many descriptors of the shared constructor are before the rest of it, or how many of them describe what begins here.
+    pub descriptors: usize,
+    /// The number of the type whose field the item is, or 0.
+    pub type_number: u32,
+    /// The format code that the items of an array share.
+    pub code: u8,
+}
+
+// A value by itself, at the start of the input.
+const VALUE: PathNode = PathNode {
+    at: 0,
+    piece: 1,
+    container: 0,
+    count: 0,
+    index: 0,
+    descriptors: 0,
+    type_number: 0,
+    code: 0,
+};
+
+impl PathNode {
+    // The node as it is passed, with the number of the type whose field it is.
+    fn new(node: Node, type_number: u32) -> PathNode
+        ensures { result ≡ told_node node type_number }
+    {
+        PathNode {
+            at: node.at,
+            type_number,
+            ..PathNode::of_piece(node.piece)
+        }
+    }
+
+    // What begins at a node, without its place and its type.
+    fn of_piece(piece: Piece) -> PathNode
+        ensures { result ≡ told_piece piece }
+    {
+        match piece {
+            Piece::Value => VALUE,
+            Piece::Descriptor => PathNode { piece: 2, ..VALUE },
+            Piece::Item {
+                container,
+                count,
+                index,
+            } => PathNode {
+                piece: 3,
+                container: container_number(container),
+                count,
+                index,
+                ..VALUE
+            },
+            Piece::ArrayContent { count } => PathNode {
+                piece: 4,
+                container: container_number(ContainerKind::Array),
+                count,
+                ..VALUE
+            },
+            Piece::ElementConstructor { descriptors } => PathNode {
+                piece: 5,
+                container: container_number(ContainerKind::Array),
+                descriptors,
+                ..VALUE
+            },
+            Piece::Element {
+                descriptors,
+                code,
+                count,
+                index,
+            } => PathNode {
+                piece: 6,
+                container: container_number(ContainerKind::Array),
+                count,
+                index,
+                descriptors,
+                code,
+                ..VALUE
+            },
+            Piece::End { container, count } => PathNode {
+                piece: 7,
+                container: container_number(container),
+                count,
+                ..VALUE
+            },
+        }
+    }
+}
+
+// The number of a kind of container.
+fn container_number(kind: ContainerKind) -> u32
+    ensures { result ≡ container_number kind }
+{
+    match kind {
+        ContainerKind::List => 1,
+        ContainerKind::Map => 2,
+        ContainerKind::Array => 3,
+    }
+}
+
+// The code of the descriptor of the described value at the start of the input, if it has one: a ulong behind a 0.
+fn descriptor_code(input: &[u8]) -> Option<u64>
+    ensures { MatchOption result ((c : ℕ) → NoFront (IsMarkOf c) input.now) (λ c. (len : ℕ) × IsFront (IsMarkOf c) input.now len) }
+{
+    match input {
+        [format_code::DESCRIBED, format_code::ULONG_0, ..] => Some(0),
+        [format_code::DESCRIBED, format_code::SMALL_ULONG, code, ..] => Some(u64::from(*code)),
+        [
+            format_code::DESCRIBED,
+            format_code::ULONG,
+            a,
+            b,
+            c,
+            d,
+            e,
+            f,
+            g,
+            h,
+            ..,
+        ] => Some(u64::from_be_bytes([*a, *b, *c, *d, *e, *f, *g, *h])),
+        _ => None,
+    }
+}
+
+// The number of the type of the described value at the place, by the code of its descriptor; or 0.
+fn type_at(input: &[u8], at: usize) -> u32
+    ensures { IsTypeAt input.now at result }
+{
+    let Some(described) = input.get(at..) else {
+        return 0;
+    };
+    let Some(code) = descriptor_code(described) else {
+        return 0;
+    };
+    match type_of_code(code) {
+        Some(named) => named.number(),
+        None => 0,
+    }
+}
+
+// The same, if the piece is an item of the list that the value at the place describes.
+fn type_between(input: &[u8], at: usize, around: Piece, piece: Piece) -> u32
+    ensures { IsTypeBetween input.now at around piece result }
+{
+    match (around, piece) {
+        (
+            Piece::Value,
+            Piece::Item {
+                container: ContainerKind::List,
+                ..
+            },
+        ) => type_at(input, at),
+        _ => 0,
+    }
+}
+
+// The number of the type whose field the piece is, by the last two nodes of the path before it; or 0.
+fn field_type(input: &[u8], outer: Option<Node>, around: Option<Node>, piece: Piece) -> u32
+    ensures { IsFieldType input.now outer around piece result }
+{
+    match (outer, around) {
+        (Some(outer), Some(around)) => type_between(input, outer.at, around.piece, piece),
+        _ => 0,
+    }
+}
+
+// Writes a node to the room, if there is room for it.
+fn put_node(node: PathNode, index: usize, room: &mut [PathNode])
+    ensures { room.new ≡ slice_set room.old index node }
+{
+    if index < room.len() {
+        room[index] = node;
+    }
+}
+
+/// Writes the nodes of the path to the place, from the outside in, to the room, as far as it reaches. Returns how many nodes there are.
+pub(crate) fn tell_path(input: &[u8], at: usize, room: &mut [PathNode]) -> usize
+    ensures { TellsPath input.now at room.old room.new result }
+{
+    let mut path = path_of(input, at);
+    let mut outer = None;
+    let mut around = None;
+    for count in 0..usize::MAX {
+        let Some(node) = path.next() else {
+            return count;
+        };
+        let type_number = field_type(input, outer, around, node.piece);
+        put_node(PathNode::new(node, type_number), count, room);
+        outer = around;
+        around = Some(node);
+    }
+    usize::MAX
+}
