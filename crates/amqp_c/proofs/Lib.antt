@@ -1,1 +1,4 @@
 mod Requests
+mod Codes
+mod Placed
+mod Paths

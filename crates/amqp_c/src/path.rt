@@ -1,5 +1,7 @@
 //! The path to a place in an encoded value (Part 1, sections 1.2 and 1.6), with the types whose fields are on it (section 1.4).
 ghost use Rattle.std.specs.Prelude.{◌≡◌, ℕ, MatchOption, slice_set};
+ghost use Rattle.amqp_model.specs.Term.{code};
+ghost use Rattle.amqp_model.specs.Spelling.{Names};
 ghost use Rattle.amqp_lengths.specs.Fronts.{IsFront, NoFront};
 ghost use Rattle.amqp_c.specs.Paths.{container_number, told_piece, told_node, IsMarkOf, IsTypeAt, IsTypeBetween, IsFieldType, TellsPath};
 
@@ -119,28 +121,36 @@ fn container_number(kind: ContainerKind) -> u32
     }
 }
 
+// The ulong at the start of the input, if there is one (Part 1, section 1.6.6).
+fn ulong(input: &[u8]) -> Option<u64>
+    ensures { MatchOption result ((c : ℕ) → NoFront (Names (code c)) input.now) (λ c. (len : ℕ) × IsFront (Names (code c)) input.now len) }
+{
+    let (code, data) = input.split_first()?;
+    match *code {
+        format_code::ULONG_0 => Some(0),
+        format_code::SMALL_ULONG => {
+            let (number, _) = data.split_first()?;
+            Some(u64::from(*number))
+        }
+        format_code::ULONG => match data {
+            [a, b, c, d, e, f, g, h, ..] => {
+                Some(u64::from_be_bytes([*a, *b, *c, *d, *e, *f, *g, *h]))
+            }
+            _ => None,
+        },
+        _ => None,
+    }
+}
+
 // The code of the descriptor of the described value at the start of the input, if it has one: a ulong behind a 0.
 fn descriptor_code(input: &[u8]) -> Option<u64>
     ensures { MatchOption result ((c : ℕ) → NoFront (IsMarkOf c) input.now) (λ c. (len : ℕ) × IsFront (IsMarkOf c) input.now len) }
 {
-    match input {
-        [format_code::DESCRIBED, format_code::ULONG_0, ..] => Some(0),
-        [format_code::DESCRIBED, format_code::SMALL_ULONG, code, ..] => Some(u64::from(*code)),
-        [
-            format_code::DESCRIBED,
-            format_code::ULONG,
-            a,
-            b,
-            c,
-            d,
-            e,
-            f,
-            g,
-            h,
-            ..,
-        ] => Some(u64::from_be_bytes([*a, *b, *c, *d, *e, *f, *g, *h])),
-        _ => None,
+    let (mark, descriptor) = input.split_first()?;
+    if *mark != format_code::DESCRIBED {
+        return None;
     }
+    ulong(descriptor)
 }
 
 // The number of the type of the described value at the place, by the code of its descriptor; or 0.

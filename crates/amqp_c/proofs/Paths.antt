@@ -1,0 +1,79 @@
+-- The nodes of a path, written one after another.
+use Rattle.std.proofs.Common.{◌≡◌, ℕ, zero, suc, ◌+◌, List, [], ◌∷◌, ◌++◌, length, take, drop, set, Option, Some, None, inl, inr, refl, sym, ap, subst, ◌∙◌, arith}
+use Rattle.std.proofs.lemmas.List.{length_push}
+use Rattle.std.proofs.Math.Seq.{take-nil}
+use Rattle.amqp_paths.specs.declared.piece.Node.{Node}
+use Rattle.amqp_paths.specs.declared.piece.Piece.TheVariants.{Value}
+use Rattle.amqp_paths.specs.declared.path.Reached.{Reached}
+use Rattle.amqp_paths.specs.Walks.{Walk, IsReached, GoesOn, Gives}
+use Rattle.amqp_c.specs.declared.path.PathNode.{PathNode}
+use Rattle.amqp_c.specs.Paths.{told_node, IsFieldType, Tells, starts, goes_on, TellsPath}
+
+-- What is told when so many nodes have come.
+pub record Told (input : List ℕ) (at : ℕ) (old now : List PathNode) (outer around : Option Node) (path : Walk) (count : ℕ) : Type 0 where
+  pub told : List PathNode
+  pub tells : Tells input at told outer around path.comes
+  pub same : path.input ≡ input
+  pub place : path.at ≡ at
+  pub counted : count ≡ length told
+  pub room : now ≡ take (length old) told ++ drop (length told) old
+
+pub begun : (input : List ℕ) (at : ℕ) (old : List PathNode) (path : Walk) → path.input ≡ input → path.at ≡ at
+    → path.comes ≡ Some (record { node = record { at = 0; piece = Value }; end = length input }) → Told input at old old None None path 0
+begun input at old path same place begins = record {
+  told = [];
+  tells = subst (Tells input at [] None None) (sym begins) starts;
+  same = same;
+  place = place;
+  counted = refl;
+  room = ap (λ l. l ++ old) (sym (take-nil (length old)));
+}
+
+-- a node is written behind those that are there, if there is room
+put_next : (told old : List PathNode) (x : PathNode) → set (take (length old) told ++ drop (length told) old) (length told) x
+    ≡ take (length old) (told ++ (x ∷ [])) ++ drop (length (told ++ (x ∷ []))) old
+put_next [] [] x = refl
+put_next [] (y ∷ ys) x = ap (λ l. set (l ++ (y ∷ ys)) 0 x) (take-nil (length (y ∷ ys))) ∙ ap (λ l. x ∷ (l ++ ys)) (sym (take-nil (length ys)))
+put_next (t ∷ ts) [] x = refl
+put_next (t ∷ ts) (y ∷ ys) x = ap (λ l. t ∷ l) (put_next ts ys x)
+
+put_at : (told old now : List PathNode) (x : PathNode) (count : ℕ) → now ≡ take (length old) told ++ drop (length told) old → count ≡ length told
+    → set now count x ≡ take (length old) (told ++ (x ∷ [])) ++ drop (length (told ++ (x ∷ []))) old
+put_at told old now x count is counted = ap (λ l. set l count x) is ∙ ap (λ n. set (take (length old) told ++ drop (length told) old) n x) counted
+    ∙ put_next told old x
+
+one_more : (input : List ℕ) (at : ℕ) (told : List PathNode) (outer around : Option Node) (comes next : Option Reached) (node : Node) (number : ℕ)
+    (r : Reached) → Tells input at told outer around comes → comes ≡ Some r → node ≡ r.node → IsReached input at r → GoesOn input at r next
+    → IsFieldType input outer around node.piece number → Tells input at (told ++ (told_node node number ∷ [])) around (Some node) next
+one_more input at told outer around comes next node number r tells here is reached on field =
+    subst (λ n. IsFieldType input outer around n.piece number → Tells input at (told ++ (told_node n number ∷ [])) around (Some n) next) (sym is)
+    (λ f. goes_on told outer around r next number (subst (Tells input at told outer around) here tells) reached on f) field
+
+pub goes : (input : List ℕ) (at : ℕ) (old now now' : List PathNode) (outer around : Option Node) (path path' : Walk) (count number : ℕ)
+    (node : Node) (x : PathNode) → Told input at old now outer around path count → Gives path (Some node) path'
+    → IsFieldType input outer around node.piece number → x ≡ told_node node number → now' ≡ set now count x
+    → Told input at old now' around (Some node) path' (count + 1)
+goes input at old now now' outer around path path' count number node x h (r, here, is, same, place, reached, on) field made put =
+    let reached' = subst (λ l. IsReached l at r) h.same (subst (λ p. IsReached path.input p r) h.place reached) in
+    let on' = subst (λ l. GoesOn l at r path'.comes) h.same (subst (λ p. GoesOn path.input p r path'.comes) h.place on) in
+    record {
+      told = h.told ++ (told_node node number ∷ []);
+      tells = one_more input at h.told outer around path.comes path'.comes node number r h.tells here is reached' on' field;
+      same = same ∙ h.same;
+      place = place ∙ h.place;
+      counted = ap (λ n. n + 1) h.counted ∙ sym (length_push h.told (told_node node number));
+      room = put ∙ ap (set now count) made ∙ put_at h.told old now (told_node node number) count h.room h.counted;
+    }
+
+pub ended : (input : List ℕ) (at : ℕ) (old now : List PathNode) (outer around : Option Node) (path path' : Walk) (count : ℕ)
+    → Told input at old now outer around path count → Gives path None path' → TellsPath input at old now count
+ended input at old now outer around path path' count h (none, after) = record {
+  told = h.told;
+  outer = outer;
+  around = around;
+  comes = path.comes;
+  tells = h.tells;
+  counted = h.counted;
+  all = inl none;
+  room = h.room;
+}
