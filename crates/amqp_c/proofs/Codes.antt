@@ -1,7 +1,7 @@
--- The descriptors that are ulongs (Part 1, section 1.5).
-use Rattle.std.proofs.Common.{◌≡◌, ℕ, suc, ◌+◌, ◌≤◌, List, [], ◌∷◌, ◌++◌, length, take, get_or, Option, Some, None, MatchOption, refl, sym, subst, ◌∙◌, ap, arith}
+-- Descriptors that are ulongs.
+use Rattle.std.proofs.Common.{◌≡◌, ℕ, suc, ◌+◌, ◌≤◌, List, [], ◌∷◌, length, take, get_or, Option, Some, None, MatchOption, refl, sym, subst, ◌∙◌, ap, arith}
 use Rattle.std.proofs.lemmas.List.{length-take-le}
-use Rattle.std.specs.Int.{from_be_bytes, w8, w64}
+use Rattle.std.specs.Int.{from_be_bytes, w64}
 use Rattle.amqp_model.specs.Term.{ulong, code}
 use Rattle.amqp_model.specs.Spelling.{Names}
 use Rattle.amqp_lengths.specs.Fronts.{IsFront, NoFront}
@@ -37,7 +37,7 @@ pub eight_bytes : (input x : List ℕ) (c r : ℕ) → input ≡ c ∷ x → c �
     → IsFront (Names (code r)) input 9
 eight_bytes input x c r is same long made =
     let value : Some (ulong (from_be_bytes w64 (take 8 x))) ≡ Some (ulong r) = ap (λ l. Some (ulong (from_be_bytes w64 l))) (sym (first_eight x long))
-        ∙ ap (λ n. Some (ulong n)) (sym made) in
+    ∙ ap (λ n. Some (ulong n)) (sym made) in
     subst (λ l. IsFront (Names (code r)) l 9) (sym (is ∙ ap (λ z. z ∷ x) same))
     (record { within = omega (arith, long); spelled = (0x80, take 8 x, refl, (length-take-le 8 x long, value, tt)) })
 

@@ -1,5 +1,5 @@
 -- The nodes of a path, written one after another.
-use Rattle.std.proofs.Common.{◌≡◌, ℕ, zero, suc, ◌+◌, List, [], ◌∷◌, ◌++◌, length, take, drop, set, Option, Some, None, inl, inr, refl, sym, ap, subst, ◌∙◌, arith}
+use Rattle.std.proofs.Common.{◌≡◌, ℕ, ◌+◌, List, [], ◌∷◌, ◌++◌, length, take, drop, set, Option, Some, None, inl, refl, sym, ap, subst, ◌∙◌}
 use Rattle.std.proofs.lemmas.List.{length_push}
 use Rattle.std.proofs.Math.Seq.{take-nil}
 use Rattle.amqp_paths.specs.declared.piece.Node.{Node}
@@ -7,7 +7,7 @@ use Rattle.amqp_paths.specs.declared.piece.Piece.TheVariants.{Value}
 use Rattle.amqp_paths.specs.declared.path.Reached.{Reached}
 use Rattle.amqp_paths.specs.Walks.{Walk, IsReached, GoesOn, Gives}
 use Rattle.amqp_c.specs.declared.path.PathNode.{PathNode}
-use Rattle.amqp_c.specs.Paths.{told_node, IsFieldType, Tells, starts, goes_on, TellsPath}
+use Rattle.amqp_c.specs.Paths.{told_node, IsTypeHere, Tells, starts, goes_on, TellsPath}
 
 -- What is told when so many nodes have come.
 pub record Told (input : List ℕ) (at : ℕ) (old now : List PathNode) (outer around : Option Node) (path : Walk) (count : ℕ) : Type 0 where
@@ -44,14 +44,14 @@ put_at told old now x count is counted = ap (λ l. set l count x) is ∙ ap (λ 
 
 one_more : (input : List ℕ) (at : ℕ) (told : List PathNode) (outer around : Option Node) (comes next : Option Reached) (node : Node) (number : ℕ)
     (r : Reached) → Tells input at told outer around comes → comes ≡ Some r → node ≡ r.node → IsReached input at r → GoesOn input at r next
-    → IsFieldType input outer around node.piece number → Tells input at (told ++ (told_node node number ∷ [])) around (Some node) next
+    → IsTypeHere input outer around node.piece number → Tells input at (told ++ (told_node node number ∷ [])) around (Some node) next
 one_more input at told outer around comes next node number r tells here is reached on field =
-    subst (λ n. IsFieldType input outer around n.piece number → Tells input at (told ++ (told_node n number ∷ [])) around (Some n) next) (sym is)
+    subst (λ n. IsTypeHere input outer around n.piece number → Tells input at (told ++ (told_node n number ∷ [])) around (Some n) next) (sym is)
     (λ f. goes_on told outer around r next number (subst (Tells input at told outer around) here tells) reached on f) field
 
 pub goes : (input : List ℕ) (at : ℕ) (old now now' : List PathNode) (outer around : Option Node) (path path' : Walk) (count number : ℕ)
     (node : Node) (x : PathNode) → Told input at old now outer around path count → Gives path (Some node) path'
-    → IsFieldType input outer around node.piece number → x ≡ told_node node number → now' ≡ set now count x
+    → IsTypeHere input outer around node.piece number → x ≡ told_node node number → now' ≡ set now count x
     → Told input at old now' around (Some node) path' (count + 1)
 goes input at old now now' outer around path path' count number node x h (r, here, is, same, place, reached, on) field made put =
     let reached' = subst (λ l. IsReached l at r) h.same (subst (λ p. IsReached path.input p r) h.place reached) in

@@ -49,16 +49,19 @@ abbrev pub IsTypeAt : List ℕ → ℕ → ℕ → Type 0
 IsTypeAt input at number = ((c len : ℕ) × IsFront (IsMarkOf c) (drop at input) len × IsTypeOfCode c number)
     ⊎ (((c : ℕ) → NoFront (IsMarkOf c) (drop at input)) × (number ≡ 0))
 
--- The number is that of the type of the described value at the place, if the one piece is its value, and the other an item of this list.
--- Otherwise it is 0.
-abbrev pub IsTypeBetween : List ℕ → ℕ → Piece → Piece → ℕ → Type 0
-IsTypeBetween input at Value (Item a_list n i) number = IsTypeAt input at number
-IsTypeBetween input at _ _ number = number ≡ 0
+-- The same of the outer node, if the piece around is the value that its descriptor describes. Otherwise it is 0.
+abbrev pub IsTypeAround : List ℕ → Option Node → Piece → ℕ → Type 0
+IsTypeAround input (Some outer) Value number = IsTypeAt input outer.at number
+IsTypeAround input _ _ number = number ≡ 0
 
--- The number is that of the type whose field the piece is, behind the last two nodes of a path; or 0 if it is no field.
-abbrev pub IsFieldType : List ℕ → Option Node → Option Node → Piece → ℕ → Type 0
-IsFieldType input (Some outer) (Some around) piece number = IsTypeBetween input outer.at around.piece piece number
-IsFieldType input _ _ piece number = number ≡ 0
+-- By the last two nodes of a path, the number is that of the type by whose descriptor the piece is described, or whose field it is as an item
+-- of a list that is described so; the end of the list counts as one. Otherwise it is 0.
+abbrev pub IsTypeHere : List ℕ → Option Node → Option Node → Piece → ℕ → Type 0
+IsTypeHere input outer None piece number = number ≡ 0
+IsTypeHere input outer (Some around) Value number = IsTypeAt input around.at number
+IsTypeHere input outer (Some around) (Item a_list n i) number = IsTypeAround input outer around.piece number
+IsTypeHere input outer (Some around) (End a_list n) number = IsTypeAround input outer around.piece number
+IsTypeHere input outer (Some around) _ number = number ≡ 0
 
 -- So many nodes of the path are told, from the outside in, these are the last two of them, and this is what comes next. The path begins with
 -- the input as a value, and goes on as `amqp_paths` has it.
@@ -66,7 +69,7 @@ pub data Tells (input : List ℕ) (at : ℕ) : List PathNode → Option Node →
   starts : Tells input at [] None None (Some (record { node = record { at = 0; piece = Value }; end = length input }))
   goes_on : (told : List PathNode) (outer around : Option Node) (r : Reached) (comes : Option Reached) (number : ℕ)
       → Tells input at told outer around (Some r) → IsReached input at r → GoesOn input at r comes
-      → IsFieldType input outer around r.node.piece number
+      → IsTypeHere input outer around r.node.piece number
       → Tells input at (told ++ (told_node r.node number ∷ [])) around (Some r.node) comes
 
 -- The room begins with the nodes of the path, as many as there is room for, and the rest of it stays. The count is that of the nodes: of all,

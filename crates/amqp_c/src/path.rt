@@ -3,7 +3,7 @@ ghost use Rattle.std.specs.Prelude.{◌≡◌, ℕ, MatchOption, slice_set};
 ghost use Rattle.amqp_model.specs.Term.{code};
 ghost use Rattle.amqp_model.specs.Spelling.{Names};
 ghost use Rattle.amqp_lengths.specs.Fronts.{IsFront, NoFront};
-ghost use Rattle.amqp_c.specs.Paths.{container_number, told_piece, told_node, IsMarkOf, IsTypeAt, IsTypeBetween, IsFieldType, TellsPath};
+ghost use Rattle.amqp_c.specs.Paths.{container_number, told_piece, told_node, IsMarkOf, IsTypeAt, IsTypeAround, IsTypeHere, TellsPath};
 
 use crate::descriptors::type_of_code;
 use amqp_paths::{ContainerKind, Node, Piece, path_of};
@@ -26,7 +26,8 @@ pub struct PathNode {
     pub index: usize,
     /// How many descriptors of the shared constructor are before the rest of it, or how many of them describe what begins here.
     pub descriptors: usize,
-    /// The number of the type whose field the item is, or 0.
+    /// Of a value behind a descriptor, the number of the type that has the descriptor's code. If this value is a list, each of its items has
+    /// this number, whose field it is, and so has its end. Otherwise it is 0.
     pub type_number: u32,
     /// The format code that the items of an array share.
     pub code: u8,
@@ -45,7 +46,7 @@ const VALUE: PathNode = PathNode {
 };
 
 impl PathNode {
-    // The node as it is passed, with the number of the type whose field it is.
+    // The node as it is passed, with the number of a type.
     fn new(node: Node, type_number: u32) -> PathNode
         ensures { result ≡ told_node node type_number }
     {
@@ -169,28 +170,33 @@ fn type_at(input: &[u8], at: usize) -> u32
     }
 }
 
-// The same, if the piece is an item of the list that the value at the place describes.
-fn type_between(input: &[u8], at: usize, around: Piece, piece: Piece) -> u32
-    ensures { IsTypeBetween input.now at around piece result }
+// The same of the outer node, if the piece around is the value that its descriptor describes.
+fn type_around(input: &[u8], outer: Option<Node>, around: Piece) -> u32
+    ensures { IsTypeAround input.now outer around result }
 {
-    match (around, piece) {
-        (
-            Piece::Value,
-            Piece::Item {
-                container: ContainerKind::List,
-                ..
-            },
-        ) => type_at(input, at),
+    match (outer, around) {
+        (Some(outer), Piece::Value) => type_at(input, outer.at),
         _ => 0,
     }
 }
 
-// The number of the type whose field the piece is, by the last two nodes of the path before it; or 0.
-fn field_type(input: &[u8], outer: Option<Node>, around: Option<Node>, piece: Piece) -> u32
-    ensures { IsFieldType input.now outer around piece result }
+// The number of the type that the piece is of, by the last two nodes of the path before it: as a described value, or as a field; or 0.
+fn type_here(input: &[u8], outer: Option<Node>, around: Option<Node>, piece: Piece) -> u32
+    ensures { IsTypeHere input.now outer around piece result }
 {
-    match (outer, around) {
-        (Some(outer), Some(around)) => type_between(input, outer.at, around.piece, piece),
+    let Some(around) = around else {
+        return 0;
+    };
+    match piece {
+        Piece::Value => type_at(input, around.at),
+        Piece::Item {
+            container: ContainerKind::List,
+            ..
+        }
+        | Piece::End {
+            container: ContainerKind::List,
+            ..
+        } => type_around(input, outer, around.piece),
         _ => 0,
     }
 }
@@ -215,7 +221,7 @@ pub(crate) fn tell_path(input: &[u8], at: usize, room: &mut [PathNode]) -> usize
         let Some(node) = path.next() else {
             return count;
         };
-        let type_number = field_type(input, outer, around, node.piece);
+        let type_number = type_here(input, outer, around, node.piece);
         put_node(PathNode::new(node, type_number), count, room);
         outer = around;
         around = Some(node);

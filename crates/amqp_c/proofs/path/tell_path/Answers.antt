@@ -6,4 +6,4 @@ loop-count-init c = begun _ _ _ _ c.path_of-path.ensures.input c.path_of-path.en
 
 pub loop-count-preserved : goal.loop-count-preserved
 loop-count-preserved c =
-    goes _ _ _ _ _ _ _ _ _ _ _ _ _ c.loop-count.invariant c.in-Some.ensures.steps c.field_type-type_number.ensures c.new.ensures c.put_node.ensures
+    goes _ _ _ _ _ _ _ _ _ _ _ _ _ c.loop-count.invariant c.in-Some.ensures.steps c.type_here-type_number.ensures c.new.ensures c.put_node.ensures
