@@ -19,22 +19,23 @@ container_number a_list = 1
 container_number a_map = 2
 container_number an_array = 3
 
+-- A value by itself, at the start of the input, as it is passed.
+abbrev pub whole : PathNode
+whole = record { at = 0; piece = 1; container = 0; count = 0; index = 0; descriptors = 0; type_number = 0; code = 0 }
+
+-- What begins in a container of so many items, or its end, as it is passed.
+abbrev pub told_within : ContainerKind → ℕ → ℕ → ℕ → PathNode
+told_within kind piece n i = record whole { piece = piece; container = container_number kind; count = n; index = i }
+
 -- What begins at a node, as it is passed.
 abbrev pub told_piece : Piece → PathNode
-told_piece Value =
-    record { at = 0; piece = 1; container = 0; count = 0; index = 0; descriptors = 0; type_number = 0; code = 0 }
-told_piece Descriptor =
-    record { at = 0; piece = 2; container = 0; count = 0; index = 0; descriptors = 0; type_number = 0; code = 0 }
-told_piece (Item kind n i) =
-    record { at = 0; piece = 3; container = container_number kind; count = n; index = i; descriptors = 0; type_number = 0; code = 0 }
-told_piece (ArrayContent n) =
-    record { at = 0; piece = 4; container = 3; count = n; index = 0; descriptors = 0; type_number = 0; code = 0 }
-told_piece (ElementConstructor k) =
-    record { at = 0; piece = 5; container = 3; count = 0; index = 0; descriptors = k; type_number = 0; code = 0 }
-told_piece (Element k c n i) =
-    record { at = 0; piece = 6; container = 3; count = n; index = i; descriptors = k; type_number = 0; code = c }
-told_piece (End kind n) =
-    record { at = 0; piece = 7; container = container_number kind; count = n; index = 0; descriptors = 0; type_number = 0; code = 0 }
+told_piece Value = whole
+told_piece Descriptor = record whole { piece = 2 }
+told_piece (Item kind n i) = told_within kind 3 n i
+told_piece (ArrayContent n) = told_within an_array 4 n 0
+told_piece (ElementConstructor k) = record (told_within an_array 5 0 0) { descriptors = k }
+told_piece (Element k c n i) = record (told_within an_array 6 n i) { descriptors = k; code = c }
+told_piece (End kind n) = told_within kind 7 n 0
 
 -- A node as it is passed, with the number of a type.
 abbrev pub told_node : Node → ℕ → PathNode

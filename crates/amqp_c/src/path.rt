@@ -3,7 +3,7 @@ ghost use Rattle.std.specs.Prelude.{◌≡◌, ℕ, MatchOption, slice_set};
 ghost use Rattle.amqp_model.specs.Term.{code};
 ghost use Rattle.amqp_model.specs.Spelling.{Names};
 ghost use Rattle.amqp_lengths.specs.Fronts.{IsFront, NoFront};
-ghost use Rattle.amqp_c.specs.Paths.{container_number, told_piece, told_node, IsMarkOf, IsTypeAt, IsTypeAround, IsTypeHere, TellsPath};
+ghost use Rattle.amqp_c.specs.Paths.{container_number, told_within, told_piece, told_node, IsMarkOf, IsTypeAt, IsTypeAround, IsTypeHere, TellsPath};
 
 use crate::descriptors::type_of_code;
 use amqp_paths::{ContainerKind, Node, Piece, path_of};
@@ -33,10 +33,25 @@ pub struct PathNode {
     pub code: u8,
 }
 
+// The numbers of what begins at a node.
+const VALUE: u32 = 1;
+
+const DESCRIPTOR: u32 = 2;
+
+const ITEM: u32 = 3;
+
+const ARRAY_CONTENT: u32 = 4;
+
+const ELEMENT_CONSTRUCTOR: u32 = 5;
+
+const ELEMENT: u32 = 6;
+
+const END: u32 = 7;
+
 // A value by itself, at the start of the input.
-const VALUE: PathNode = PathNode {
+const WHOLE: PathNode = PathNode {
     at: 0,
-    piece: 1,
+    piece: VALUE,
     container: 0,
     count: 0,
     index: 0,
@@ -62,30 +77,22 @@ impl PathNode {
         ensures { result ≡ told_piece piece }
     {
         match piece {
-            Piece::Value => VALUE,
-            Piece::Descriptor => PathNode { piece: 2, ..VALUE },
+            Piece::Value => WHOLE,
+            Piece::Descriptor => PathNode {
+                piece: DESCRIPTOR,
+                ..WHOLE
+            },
             Piece::Item {
                 container,
                 count,
                 index,
-            } => PathNode {
-                piece: 3,
-                container: container_number(container),
-                count,
-                index,
-                ..VALUE
-            },
-            Piece::ArrayContent { count } => PathNode {
-                piece: 4,
-                container: container_number(ContainerKind::Array),
-                count,
-                ..VALUE
-            },
+            } => PathNode::within(container, ITEM, count, index),
+            Piece::ArrayContent { count } => {
+                PathNode::within(ContainerKind::Array, ARRAY_CONTENT, count, 0)
+            }
             Piece::ElementConstructor { descriptors } => PathNode {
-                piece: 5,
-                container: container_number(ContainerKind::Array),
                 descriptors,
-                ..VALUE
+                ..PathNode::within(ContainerKind::Array, ELEMENT_CONSTRUCTOR, 0, 0)
             },
             Piece::Element {
                 descriptors,
@@ -93,20 +100,24 @@ impl PathNode {
                 count,
                 index,
             } => PathNode {
-                piece: 6,
-                container: container_number(ContainerKind::Array),
-                count,
-                index,
                 descriptors,
                 code,
-                ..VALUE
+                ..PathNode::within(ContainerKind::Array, ELEMENT, count, index)
             },
-            Piece::End { container, count } => PathNode {
-                piece: 7,
-                container: container_number(container),
-                count,
-                ..VALUE
-            },
+            Piece::End { container, count } => PathNode::within(container, END, count, 0),
+        }
+    }
+
+    // What begins in a container, or its end.
+    fn within(kind: ContainerKind, piece: u32, count: usize, index: usize) -> PathNode
+        ensures { result ≡ told_within kind piece count index }
+    {
+        PathNode {
+            piece,
+            container: container_number(kind),
+            count,
+            index,
+            ..WHOLE
         }
     }
 }
