@@ -17,6 +17,6 @@ returns-in-Ok-clause-text g c = (
   placed _ _ _ _ c.in-Ok.ensures.len c.in-Ok.ensures.text c.in-Ok.ensures.short,
 )
 
-pub returns-in-Err-clause-refused : goal.returns-in-Err-clause-refused
-returns-in-Err-clause-refused g c =
+pub returns-clause-refused : goal.returns-clause-refused
+returns-clause-refused g c =
     unwritten_within g.met.T.Canonical.rewrites c.args.limits.now c.args.input.now _ _ _ c.in_ok-value.ensures.found c.in-Err.ensures.refused
