@@ -224,7 +224,7 @@ struct amqp_path_node {
 
 /* Writes the path to an offset of the encoded value at the start of the input: the nodes around the offset, from the outside in, as many as
  * there is room for. The first node is the value itself. Each further one is one step further in, and none begins behind the offset. Returns
- * how many nodes the path has, which may be more than room; the rest of the room is unchanged. For an outcome of amqp_c_read,
+ * how many nodes the path has: at least 1 and at most at + 1, which may be more than room. The rest of the room is unchanged. For an outcome of amqp_c_read,
  * amqp_c_canonical or amqp_c_term_len, pass its at.
  * The bytes at the offset and behind it need not be well formed. If those before it aren't, or nest more than 128 deep, or if the offset is
  * in an item of an array behind items that are arrays themselves, the path may end before the offset. For a value of several sections, pass

@@ -191,8 +191,8 @@ class AmqpError(ValueError):
         """The path to the fault, as `attach.source.filter`, or None if the error has no place.
 
         It is the outermost type's name and a step for each node: `.NAME` for a field of a composite, `[N]` for an item of a list or of an
-        array, `{N}` for the key of the pair N of a map, and `[{N}]` for its value. `(descriptor)` is a descriptor, `(constructor)` that of an
-        array's items, and `(end)` the place behind the last item. All numbers count from 0. If the data has several sections, the path
+        array, `{N}` for the key of the pair N of a map, and `[{N}]` for its value. `(descriptor)` is a descriptor, `(constructor)` that of
+        an array's items, and `(end)` the place behind the last item. All numbers count from 0. If the data has several sections, the path
         begins with the section that has the fault.
         """
         if self.at is None or self._of is None:
@@ -205,7 +205,7 @@ class AmqpError(ValueError):
 
 
 def _is_of_bytes(number: int) -> bool:
-    """Whether the error with this number is a fault of bytes. Otherwise memory ran out, or a value can't be written, or what is asked for is none."""
+    """Whether the error with this number is a fault of bytes. The others say that memory ran out, or that a value can't be written."""
     return 1 <= number <= 20 or 25 <= number <= 31
 
 
@@ -488,8 +488,8 @@ class PathNode:
     """A node of a path.
 
     at: How many bytes of the data are before it.
-    piece: What begins there: a value by itself, a descriptor, an item of a list or a map, the content of an array, the rest of the constructor
-        that the array's items share, an item of the array, or nothing, behind all items of a container.
+    piece: What begins there: a value by itself, a descriptor, an item of a list or a map, the content of an array, the rest of the
+        constructor that the array's items share, an item of the array, or nothing, behind all items of a container.
     container: The container that it is in, or whose end it is; None for a value by itself and for a descriptor.
     count: How many items the container announces; 0 for the rest of a constructor.
     index: The number of an item, from 0. In a map, keys have even numbers, each before its value.

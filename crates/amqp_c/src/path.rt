@@ -225,17 +225,15 @@ fn put_node(node: PathNode, index: usize, room: &mut [PathNode])
 pub(crate) fn tell_path(input: &[u8], at: usize, room: &mut [PathNode]) -> usize
     ensures { TellsPath input.now at room.old room.new result }
 {
-    let mut path = path_of(input, at);
+    let mut count = 0;
     let mut outer = None;
     let mut around = None;
-    for count in 0..usize::MAX {
-        let Some(node) = path.next() else {
-            return count;
-        };
+    for node in path_of(input, at) {
         let type_number = type_here(input, outer, around, node.piece);
         put_node(PathNode::new(node, type_number), count, room);
         outer = around;
         around = Some(node);
+        count += 1;
     }
-    usize::MAX
+    count
 }

@@ -1,9 +1,15 @@
-use Rattle.amqp_c.proofs.Paths.{begun, goes}
+use Rattle.std.proofs.Common.{arith}
+use Rattle.amqp_c.proofs.Paths.{begun, fits, goes}
 use Rattle.amqp_c.proofs.path.tell_path.Goals as goal
 
-pub loop-count-init : goal.loop-count-init
-loop-count-init c = begun _ _ _ _ c.path_of-path.ensures.input c.path_of-path.ensures.place c.path_of-path.ensures.begins
+pub loop-node-init : goal.loop-node-init
+loop-node-init c =
+    rw c.into_iter-node-iterator.ensures.into_iter_gives
+    (begun _ _ _ _ c.path_of-node-items.ensures.input c.path_of-node-items.ensures.place c.path_of-node-items.ensures.begins)
 
-pub loop-count-preserved : goal.loop-count-preserved
-loop-count-preserved c =
-    goes _ _ _ _ _ _ _ _ _ _ _ _ _ c.loop-count.invariant c.in-Some.ensures.steps c.type_here-type_number.ensures c.new.ensures c.put_node.ensures
+pub overflow_add-count : goal.overflow_add-count
+overflow_add-count c = let few = fits _ _ _ _ _ _ _ _ _ _ c.loop-node.invariant c.in-Some.ensures.steps in omega (arith, few)
+
+pub loop-node-preserved : goal.loop-node-preserved
+loop-node-preserved c =
+    goes _ _ _ _ _ _ _ _ _ _ _ _ _ c.loop-node.invariant c.in-Some.ensures.steps c.type_here-type_number.ensures c.new.ensures c.put_node.ensures
