@@ -224,11 +224,11 @@ struct amqp_path_node {
 
 /* Writes the path to an offset of the encoded value at the start of the input: the nodes around the offset, from the outside in, as many as
  * there is room for. The first node is the value itself. Each further one is one step further in, and none begins behind the offset. Returns
- * how many nodes the path has: at least 1 and at most at + 1, which may be more than room. The rest of the room is unchanged. For an outcome of amqp_c_read,
- * amqp_c_canonical or amqp_c_term_len, pass its at.
+ * how many nodes the path has, which may be more than room: at least 1, and at most one more than the offset. The rest of the room is
+ * unchanged. For an outcome of amqp_c_read, amqp_c_canonical or amqp_c_term_len, pass its at.
  * The bytes at the offset and behind it need not be well formed. If those before it aren't, or nest more than 128 deep, or if the offset is
  * in an item of an array behind items that are arrays themselves, the path may end before the offset. For a value of several sections, pass
- * the bytes from the section on, and the offset in them. The call doesn't allocate. It takes time linear in the offset. */
+ * the bytes from the section on, and the offset in them. The call doesn't allocate. */
 size_t amqp_c_path(const uint8_t *in, size_t len, size_t at, struct amqp_path_node *nodes, size_t room);
 
 /* Writes the name of the error with this number, as "Cut", if there is room for it, without a 0 at the end. Returns the length of the name,

@@ -94,6 +94,7 @@ impl Request {
     fn new(number: u32, limits: &GivenLimits) -> Result<Request, Failure>
         ensures asked { IfOk result (λ request. IsOf number limits.now request.named request.within) }
         ensures refused { IfErr result (λ f. Fails number limits.now (λ _ _ _. ⊥) f) }
+        ensures within { (input : List ℕ) → IfErr result (λ f. IsPlacedIn input f) }
     {
         let Some(named) = TypeName::from_number(number) else {
             return Err(Failure::NoType);
