@@ -17,12 +17,16 @@ NAMES = {of.name.lower().replace("_", "-"): of for of in Type}
 ROW = re.compile(r"(\S+) (-|(?:[0-9a-f]{2})+) => (\w+) (\d+)")
 
 
-def rows() -> Iterator[Tuple[Type, bytes, str, int]]:
-    """Yields the type, the bytes, the error and the place of each row of a type that the library names."""
+def rows() -> Iterator[Tuple[Type, bytes, Limits, str, int]]:
+    """Yields the type, the bytes, the limits, the error and the place of each row of a type that the library names."""
+    limits = Limits()
     for line in ROWS.read_text(encoding="utf-8").splitlines():
+        word, _, rest = line.partition(" ")
+        if word == "limits":
+            limits = Limits() if rest == "none" else Limits(*map(int, rest.split()))
         row = ROW.fullmatch(line)
         if row and row[1] in NAMES:
-            yield NAMES[row[1]], bytes.fromhex(row[2].strip("-")), row[3], int(row[4])
+            yield NAMES[row[1]], bytes.fromhex(row[2].strip("-")), limits, row[3], int(row[4])
 
 
 def refused(of: Type, data: bytes, limits: Limits = Limits()) -> AmqpError:
@@ -33,8 +37,8 @@ def refused(of: Type, data: bytes, limits: Limits = Limits()) -> AmqpError:
 
 def test_rows() -> None:
     wrong: List[str] = []
-    for of, data, name, at in rows():
-        error = refused(of, data)
+    for of, data, limits, name, at in rows():
+        error = refused(of, data, limits)
         if (error.name, error.at) != (name, at) or not error.path:
             wrong.append(f"{of.name} {data.hex()} => {error.name} {error.at}")
     assert wrong == []
@@ -75,7 +79,7 @@ PATHS = [
     ("received", "005323c005025209", "Cut", 8, "received.section-offset"),
     ("accepted", "005323c003015209", "WrongDescriptor", 1, "accepted(descriptor)"),
     ("application-properties", "005374c10904a1016140a3016240", "WrongType", 10, "application-properties{1}"),
-    ("application-properties", "005374c10904a1016140a1016245", "WrongType", 13, "application-properties[{1}]"),
+    ("application-properties", "005374c10904a1016140a1016245", "InvalidValue", 13, "application-properties[{1}]"),
     ("message", "00537045005373c003015001", "WrongType", 10, "properties.message-id"),
     ("message-data", "00537045005374c10904a1016140a3016240", "WrongType", 14, "application-properties{1}"),
     ("value", "e0050356000102", "BadBool", 6, "value[2]"),

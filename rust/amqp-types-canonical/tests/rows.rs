@@ -211,7 +211,7 @@ fn places_and_paths() {
     assert_eq!(fault(Type::Accepted, "005323c003015209"), "WrongDescriptor 1 accepted(descriptor)");
     let properties = "005374c10904a1016140";
     assert_eq!(fault(Type::ApplicationProperties, &format!("{properties}a3016240")), "WrongType 10 application-properties{1}");
-    assert_eq!(fault(Type::ApplicationProperties, &format!("{properties}a1016245")), "WrongType 13 application-properties[{1}]");
+    assert_eq!(fault(Type::ApplicationProperties, &format!("{properties}a1016245")), "InvalidValue 13 application-properties[{1}]");
     assert_eq!(fault(Type::Value, "e0050356000102"), "BadBool 6 value[2]");
     assert_eq!(fault(Type::Value, "e0020241"), "ZeroWidthItems 3 value(constructor)");
 }
