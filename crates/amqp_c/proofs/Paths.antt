@@ -8,7 +8,7 @@ use Rattle.amqp_paths.specs.declared.path.Reached.{Reached}
 use Rattle.amqp_paths.specs.Walks.{Walk, IsReached, GoesOn, Gives}
 use Rattle.amqp_paths.specs.Pieces.{rank}
 use Rattle.amqp_c.specs.declared.path.PathNode.{PathNode}
-use Rattle.amqp_c.specs.Paths.{told_node, IsTypeHere, Tells, starts, goes_on, TellsPath}
+use Rattle.amqp_c.specs.Paths.{told_node, IsTypeHere, Tells, starts, goes_on}
 use Rattle.amqp_c.proofs.Steps.{further}
 
 -- So many nodes come before this one: no more than there are bytes before it.
@@ -88,15 +88,3 @@ goes input at old now now' outer around path path' count number node x h (r, her
       counted = ap (λ n. n + 1) h.counted ∙ sym (length_push h.told (told_node node number));
       room = put ∙ ap (set now count) made ∙ put_at h.told old now (told_node node number) count h.room h.counted;
     }
-
-pub ended : (input : List ℕ) (at : ℕ) (old now : List PathNode) (outer around : Option Node) (path path' : Walk) (count : ℕ)
-    → Told input at old now outer around path count → Gives path None path' → TellsPath input at old now count
-ended input at old now outer around path path' count h (none, after) = record {
-  told = h.told;
-  outer = outer;
-  around = around;
-  tells = subst (Tells input at h.told outer around) none h.tells;
-  counted = h.counted;
-  most = h.most;
-  room = h.room;
-}

@@ -1,5 +1,5 @@
 -- The call that tells the path to a place in an encoded value (Part 1, sections 1.2 and 1.6).
-use Rattle.std.specs.Prelude.{◌≡◌, ◌⊎◌, ◌≤◌, ◌+◌, ℕ, List, [], ◌∷◌, ◌++◌, length, take, drop, Option, Some, None}
+use Rattle.std.specs.Prelude.{◌≡◌, ◌⊎◌, ℕ, List, [], ◌∷◌, ◌++◌, length, take, drop, Option, Some, None}
 use Rattle.amqp_model.specs.Term.{code}
 use Rattle.amqp_model.specs.Spelling.{Names}
 use Rattle.amqp_lengths.specs.Fronts.{IsFront, NoFront}
@@ -73,13 +73,11 @@ pub data Tells (input : List ℕ) (at : ℕ) : List PathNode → Option Node →
       → IsTypeHere input outer around r.node.piece number
       → Tells input at (told ++ (told_node r.node number ∷ [])) around (Some r.node) comes
 
--- All nodes of the path are told, which are so many: at most one more than the bytes before the place. The room begins with them, as many as
--- there is room for, and the rest of it stays.
+-- All nodes of the path are told, which are so many. The room begins with them, as many as there is room for, and the rest of it stays.
 pub record TellsPath (input : List ℕ) (at : ℕ) (old new : List PathNode) (count : ℕ) : Type 0 where
   pub told : List PathNode
   pub outer : Option Node
   pub around : Option Node
   pub tells : Tells input at told outer around None
   pub counted : count ≡ length told
-  pub most : count ≤ at + 1
   pub room : new ≡ take (length old) told ++ drop (length told) old

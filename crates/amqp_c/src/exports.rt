@@ -1,5 +1,5 @@
 //! The calls.
-ghost use Rattle.std.specs.Prelude.{◌≡◌, ◌≤◌, length};
+ghost use Rattle.std.specs.Prelude.{◌≡◌, ◌≤◌, ◌+◌, length};
 ghost use Rattle.amqp_c.specs.Limits.{greatest_given, peers_given};
 ghost use Rattle.amqp_c.specs.Errors.{TellsName};
 ghost use Rattle.amqp_c.specs.Descriptors.{IsTypeOfCode, TellsFieldName};
@@ -132,7 +132,9 @@ pub extern "C" fn amqp_c_term_len(input: &[u8], taken: &mut usize) -> Outcome
 /// as there is room for (Part 1, sections 1.2 and 1.6). Returns how many nodes the path has.
 #[unsafe(no_mangle)]
 pub extern "C" fn amqp_c_path(input: &[u8], at: usize, nodes: &mut [PathNode]) -> usize
-    ensures { TellsPath input.now at nodes.old nodes.new result }
+    ensures told { TellsPath input.now at nodes.old nodes.new result }
+    ensures some { 1 ≤ result }
+    ensures most { result ≤ at + 1 }
 {
     tell_path(input, at, nodes)
 }

@@ -1,5 +1,5 @@
 //! The path to a place in an encoded value (Part 1, sections 1.2 and 1.6), with the types whose fields are on it (section 1.4).
-ghost use Rattle.std.specs.Prelude.{◌≡◌, ℕ, MatchOption, slice_set};
+ghost use Rattle.std.specs.Prelude.{◌≡◌, ◌≤◌, ◌+◌, ℕ, MatchOption, slice_set};
 ghost use Rattle.amqp_model.specs.Term.{code};
 ghost use Rattle.amqp_model.specs.Spelling.{Names};
 ghost use Rattle.amqp_lengths.specs.Fronts.{IsFront, NoFront};
@@ -223,7 +223,9 @@ fn put_node(node: PathNode, index: usize, room: &mut [PathNode])
 
 /// Writes the nodes of the path to the place, from the outside in, to the room, as far as it reaches. Returns how many nodes there are.
 pub(crate) fn tell_path(input: &[u8], at: usize, room: &mut [PathNode]) -> usize
-    ensures { TellsPath input.now at room.old room.new result }
+    ensures told { TellsPath input.now at room.old room.new result }
+    ensures some { 1 ≤ result }
+    ensures most { result ≤ at + 1 }
 {
     let mut count = 0;
     let mut outer = None;
