@@ -28,7 +28,7 @@ returns-in_err-count_term-clause-read g c = λ told.
     let deep = nests_at_most _ _ _ took.1.2 (subst (λ (z : State). z.nesting ≤ 128) took.0.moved c.room.ensures.limit) in
     let full = (rw c.as_slice.ensures.value at c.in_err-count_term.ensures.err) took.1.0 took.1.1 deep in
     rw (p.1, p.2) (term_full (λ (v : Vec ℕ Global). v.items) _ _ _ _ _ left.going left.item (rw left.kept at none) took.0 took.1 full.0 full.1
-    full.2)
+    full.2 c.place-start.result c.in_err-count_term.ensures.place (rw left.kept at c.place-start.ensures))
 
 pub returns-clause-read : goal.returns-clause-read
 returns-clause-read g c = λ told.
