@@ -17,7 +17,7 @@ use Rattle.amqp_lengths.proofs.Descriptors.{marks_more, marks_done}
 use Rattle.amqp_lengths.proofs.Codes.{zero_at, is_container, Divided, container_at}
 use Rattle.amqp_decoder.specs.State.{refused_at, IsPlaceOf, State, DescriptorValues, descriptor_of, Has, after_data}
 use Rattle.amqp_decoder.specs.Steps.{Answers, Takes, Lacks}
-use Rattle.amqp_decoder.specs.Places.{Fault, Here, At, StandsBefore, StopsAt}
+use Rattle.amqp_decoder.specs.Places.{Located, Here, At, StandsBefore, StopsAt}
 use Rattle.amqp_decoder.specs.Described.{IsDescriptor, TakesDescriptor, DescriptorFault, MissesDescriptor}
 use Rattle.amqp_decoder.specs.Arrays.{TakesMarks, TakesConstructor, ConstructorFault, no_code, no_mark, too_many, no_known_code, NoMarked, constructor_left, IsFlat}
 use Rattle.amqp_decoder.proofs.ReadPrimitives.{has_front, has_rest, took_none}
@@ -256,7 +256,7 @@ pub stopped_code : (st : State) (ds : List Descriptor) (m : State) (e : Error) (
 stopped_code st ds m e new t s =
     stops_later {st = st} {m} (took_failed st m t.own t.took) (λ f h. (no_code ds t.own m t.marks t.took h.0, h.1)) s
 
-marked_fault : (st : State) (ds : List Descriptor) (n : ℕ) (m : State) (f : Fault) → n ≡ length ds → TakesMarks st ds 0 m → NoMarked n m f
+marked_fault : (st : State) (ds : List Descriptor) (n : ℕ) (m : State) (f : Located) → n ≡ length ds → TakesMarks st ds 0 m → NoMarked n m f
     → At constructor_left st f
 marked_fault st ds n m f is t (inl z) = (too_many ds m t (omega (arith, is, z.1)) z.0, z.2)
 marked_fault st ds n m f is t (inr z) = (no_mark ds m t z.0, z.1)

@@ -18,7 +18,7 @@ use Rattle.amqp_lengths.proofs.Announced.{announced_data, announced_once}
 use Rattle.amqp_decoder.proofs.Counts.{unshared_weight}
 use Rattle.amqp_decoder.specs.State.{refused_at, IsPlaceOf, State, Has, lower, after_data, after_value, weight_at, uncounted}
 use Rattle.amqp_decoder.specs.Steps.{Answers, IsExcused, Takes, Lacks, Stops}
-use Rattle.amqp_decoder.specs.Places.{StandsHere, Fault, At, IsPlaced, StopsAt, RefusesAt}
+use Rattle.amqp_decoder.specs.Places.{StandsHere, Located, At, IsPlaced, StopsAt, RefusesAt}
 use Rattle.amqp_decoder.specs.Reading.{RefusesRead, IsLeft}
 use Rattle.amqp_decoder.specs.Primitives.{standing, SpellsAs, Stands}
 use Rattle.amqp_decoder.specs.Arrays.{TakesConstructor, constructor_left}
@@ -248,7 +248,7 @@ pub no_term_kept : (c : ℕ) (a b l : List ℕ) (st m m' : State) (e : Error) (n
     → StopsAt true (At spelling_left st) st e new
 no_term_kept c a b l st m m' e new empty h k s =
     let p = parts_of c a b l st m m' empty h k in
-    let moved = λ (f : Fault) (x : At (term_left (m'.nesting - length m'.saved) l) m' f).
+    let moved = λ (f : Located) (x : At (term_left (m'.nesting - length m'.saved) l) m' f).
     subst (λ j. At (term_left j (p.constructor.own ++ p.data_)) m' f) p.nesting
     (subst (λ z. At (term_left (m'.nesting - length m'.saved) z) m' f) p.is x) in
     let same : m'.failed ≡ st.failed = ap (λ (z : State). z.failed) k.took.moved ∙ ap (λ (z : State). z.failed) h.took.moved in

@@ -6,7 +6,7 @@ use Rattle.amqp_decoder.specs.Steps.{Answers, IsExcused, RefusesSize, Stops, Goe
 use Rattle.amqp_decoder.specs.Reading.{RefusesRead, AnswersRead}
 use Rattle.amqp_decoder.specs.Primitives.{AnswersFault}
 use Rattle.amqp_decoder.specs.Described.{MissesDescriptor}
-use Rattle.amqp_decoder.specs.Places.{Starts, placed, StandsHere, Fault, Here, StandsBefore, IsPlaced, StopsAt, RefusesAt, AnswersAt}
+use Rattle.amqp_decoder.specs.Places.{Starts, placed, StandsHere, Located, Here, StandsBefore, IsPlaced, StopsAt, RefusesAt, AnswersAt}
 use Rattle.amqp_decoder.proofs.Steps.{answered_later, excused_by_source}
 
 -- a decoder that had refused stays as it was
@@ -112,20 +112,20 @@ pub before_at : {st : State} {left place : ℕ} {new : State} → new.source.fau
     → StandsBefore left st new
 before_at {st} {left} is h = ap (λ p. (p + left) % 2 ^ 64) is ∙ h
 
-pub placed_later : {f g : Fault → Type 0} {st m : State} {e : Error} {new : State} → m.failed ≡ st.failed → ((x : Fault) → f x → g x)
+pub placed_later : {f g : Located → Type 0} {st m : State} {e : Error} {new : State} → m.failed ≡ st.failed → ((x : Located) → f x → g x)
     → IsPlaced f m e new → IsPlaced g st e new
 placed_later {st} {m} same as (left, h, p) = (left, as _ h, before_later {st} {m} {left} same p)
 
-pub either_placed : {f g : Fault → Type 0} {takes : Bool} {st m : State} {e : Error} {new : State} → m.failed ≡ st.failed
-    → ((x : Fault) → f x → g x) → IsExcused takes e new ⊎ IsPlaced f m e new → IsExcused takes e new ⊎ IsPlaced g st e new
+pub either_placed : {f g : Located → Type 0} {takes : Bool} {st m : State} {e : Error} {new : State} → m.failed ≡ st.failed
+    → ((x : Located) → f x → g x) → IsExcused takes e new ⊎ IsPlaced f m e new → IsExcused takes e new ⊎ IsPlaced g st e new
 either_placed same as (inl x) = inl x
 either_placed {st} {m} same as (inr x) = inr (placed_later {st = st} {m} same as x)
 
-pub stops_later : {f g : Fault → Type 0} {takes : Bool} {st m : State} {e : Error} {new : State} → m.failed ≡ st.failed
-    → ((x : Fault) → f x → g x) → StopsAt takes f m e new → StopsAt takes g st e new
+pub stops_later : {f g : Located → Type 0} {takes : Bool} {st m : State} {e : Error} {new : State} → m.failed ≡ st.failed
+    → ((x : Located) → f x → g x) → StopsAt takes f m e new → StopsAt takes g st e new
 stops_later {st} {m} same as s = record { kept = answered_later same s.kept; why = either_placed {st = st} {m} same as s.why }
 
-pub stops_as : {f g : Fault → Type 0} {takes : Bool} {st : State} {e : Error} {new : State} → ((x : Fault) → f x → g x)
+pub stops_as : {f g : Located → Type 0} {takes : Bool} {st : State} {e : Error} {new : State} → ((x : Located) → f x → g x)
     → StopsAt takes f st e new → StopsAt takes g st e new
 stops_as {st} as s = stops_later {st = st} {st} refl as s
 

@@ -10,7 +10,7 @@ use Rattle.amqp_lengths.specs.Lengths.{Marks}
 use Rattle.amqp_decoder.specs.declared.frame.Place.TheVariants.{InArray}
 use Rattle.amqp_decoder.specs.State.{State, depth_error, Has, in_container}
 use Rattle.amqp_decoder.specs.Steps.{Takes, Lacks, NoRoom}
-use Rattle.amqp_decoder.specs.Places.{Fault, Here}
+use Rattle.amqp_decoder.specs.Places.{Located, Here}
 use Rattle.amqp_decoder.specs.Reading.{ReadsCode, BeginFault}
 use Rattle.amqp_decoder.specs.Containers.{ReadsHeader, HeaderFault}
 use Rattle.amqp_decoder.specs.Described.{DescriptorFault}
@@ -29,7 +29,7 @@ pub record TakesConstructor (st : State) (ds : List Descriptor) (c : ℕ) (st' :
   pub took : Takes st own st'
 
 -- Behind a 0, and n descriptors before it, none more may stand, or none does.
-abbrev pub NoMarked : ℕ → State → Fault → Type 0
+abbrev pub NoMarked : ℕ → State → Located → Type 0
 NoMarked n st f = ((f.error ≡ Depth) × (128 ≤ n) × (f.left ≡ suc (length st.rest))) ⊎ Here DescriptorFault st f
 
 -- Why no constructor is taken.

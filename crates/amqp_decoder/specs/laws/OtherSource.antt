@@ -32,7 +32,7 @@ use Rattle.amqp_decoder.specs.Arrays.{constructor_left, shares_left, enter_left,
 use Rattle.amqp_decoder.specs.Terms as terms
 use Rattle.amqp_decoder.specs.Terms.{LacksAnnounced, NoTerm, wrong_size, wrong_term, SpellingFault, no_term, TakesTerm, TermFault, in_array}
 use Rattle.amqp_decoder.specs.Terms.{misspelled, term_left, spelling_left, term_fault_left}
-use Rattle.amqp_decoder.specs.Places.{Fault, At}
+use Rattle.amqp_decoder.specs.Places.{Located, At}
 use Rattle.amqp_lengths.specs.Faults.{inside}
 use Rattle.amqp_lengths.proofs.RefusedBytes.{fault_refuses}
 use Rattle.amqp_lengths.proofs.DeeperFaults.{fault_deeper}
@@ -369,13 +369,13 @@ module _ (c : Setting) where
   took_place : {members : List Member} {o : Option ℕ} {st st' : State} → TakesPlace members st o st' → TakesPlace members (at st) o (at st')
   took_place h = record { descriptor = h.descriptor; took = took_descriptor h.took; is = h.is }
 
-  pub one_of_placed : {members : List Member} {st : State} {f : Fault} → KeepsError c f.error → At (one_of_left members) st f
+  pub one_of_placed : {members : List Member} {st : State} {f : Located} → KeepsError c f.error → At (one_of_left members) st f
       → At (one_of_left members) (at st) f
   one_of_placed keeps (not_described h, is) = (not_described (described_fault keeps h), is)
   one_of_placed keeps (no_descriptor b s h, is) = (no_descriptor (begun b) s (descriptor_fault keeps h), is)
   one_of_placed keeps (no_member b t e, is) = (no_member (begun b) (took_place t) e, is)
 
-  pub open_described_placed : {st : State} {f : Fault} → KeepsError c f.error → At open_left st f → At open_left (at st) f
+  pub open_described_placed : {st : State} {f : Located} → KeepsError c f.error → At open_left st f → At open_left (at st) f
   open_described_placed keeps (not_open h, is) = (not_open (described_fault keeps h), is)
   open_described_placed keeps (nameless b s h, is) = (nameless (begun b) s (descriptor_fault keeps h), is)
 
@@ -424,13 +424,13 @@ module _ (c : Setting) where
         data_ = enters_array h.data_;
       }
 
-  constructor_placed : {st : State} {f : Fault} → KeepsError c f.error → At constructor_left st f → At constructor_left (at st) f
+  constructor_placed : {st : State} {f : Located} → KeepsError c f.error → At constructor_left st f → At constructor_left (at st) f
   constructor_placed keeps (arrays.no_code ds own m marks t l, is) = (arrays.no_code ds own (at m) marks (took t) (lacks keeps l), is)
   constructor_placed keeps (no_mark ds m t h, is) = (no_mark ds (at m) (took_marks t) (descriptor_fault keeps h), is)
   constructor_placed keeps (too_many ds m t l e, is) = (too_many ds (at m) (took_marks t) l e, is)
   constructor_placed keeps (no_known_code ds k m t some never e, is) = (no_known_code ds k (at m) (took_marks t) some never e, is)
 
-  shares_placed : {n : ℕ} {st : State} {f : Fault} → KeepsError c f.error → At (shares_left n) st f → At (shares_left n) (at st) f
+  shares_placed : {n : ℕ} {st : State} {f : Located} → KeepsError c f.error → At (shares_left n) st f → At (shares_left n) (at st) f
   shares_placed keeps (no_constructor h, is) = let x = constructor_placed keeps (h, is) in (no_constructor x.0, x.1)
   shares_placed keeps (zero_width ds k m some t wide e, is) = (zero_width ds k (at m) some (took_constructor t) wide e, is)
   shares_placed {st} keeps (too_nested ds k m some t uneven l e, is) =
@@ -442,13 +442,13 @@ module _ (c : Setting) where
   open_items_fault {st} keeps (arrays.too_deep n content m h l e) =
       arrays.too_deep n content (at m) (header h) (deeper keeps st l e) (by_bound keeps st.nesting e)
 
-  enter_placed : {own w : ℕ} {st : State} {f : Fault} → KeepsError c f.error → At (enter_left own w) st f → At (enter_left own w) (at st) f
+  enter_placed : {own w : ℕ} {st : State} {f : Located} → KeepsError c f.error → At (enter_left own w) st f → At (enter_left own w) (at st) f
   enter_placed keeps (no_items_opened h, is) = (no_items_opened (open_items_fault keeps h), is)
   enter_placed {f} keeps (no_start n content m h l g, is) =
       let x = subst (λ z. At (shares_left n) z f) (opened_in InArray 0 content m) (shares_placed keeps (g, is)) in
       (no_start n content (at m) (header h) l x.0, x.1)
 
-  pub array_placed : {st : State} {f : Fault} → KeepsError c f.error → At array_left st f → At array_left (at st) f
+  pub array_placed : {st : State} {f : Located} → KeepsError c f.error → At array_left st f → At array_left (at st) f
   array_placed keeps (arrays.not_begun h, is) = (arrays.not_begun (begin_fault keeps h), is)
   array_placed keeps (arrays.wrong_code k m b n e, is) = (arrays.wrong_code k (at m) (begun b) n e, is)
   array_placed keeps (arrays.no_data k w m b f h, is) =
@@ -464,7 +464,7 @@ module _ (c : Setting) where
   announced_fault (compound k w) st e keeps (inr (n, mid, l, t, h)) = inr (n, at mid, l, took t, lacks keeps h)
   announced_fault unknown st e keeps h = h
 
-  no_term_placed : (nesting more : ℕ) (b : List ℕ) (st : State) (f : Fault) → nesting ≤ more → KeepsError c f.error
+  no_term_placed : (nesting more : ℕ) (b : List ℕ) (st : State) (f : Located) → nesting ≤ more → KeepsError c f.error
       → (IsByDepth f.error → (nesting ≡ more) × (depth_error st.nesting ≡ depth_error (c.deepen st.nesting)))
       → At (term_left nesting b) st f → At (term_left more b) (at st) f
   no_term_placed nesting more b st f least keeps same (wrong_size none h s, is) =
@@ -480,7 +480,7 @@ module _ (c : Setting) where
       (λ d. same (subst IsByDepth (sym d) by)) h.1 in
       (wrong_term (fault_refuses more b f.error (h.0, g)) (h.0, g) other, is)
 
-  spelling_placed : {st : State} {f : Fault} → KeepsError c f.error → At spelling_left st f → At spelling_left (at st) f
+  spelling_placed : {st : State} {f : Located} → KeepsError c f.error → At spelling_left st f → At spelling_left (at st) f
   unfolding took_constructor
   spelling_placed keeps (terms.no_constructor h, is) = let x = constructor_placed keeps (h, is) in (terms.no_constructor x.0, x.1)
   spelling_placed {f} keeps (terms.no_data {c = k} {m} t l, is) =
@@ -503,7 +503,7 @@ module _ (c : Setting) where
     moved = ap at h.moved ∙ taken_past (length s) (weight_at st h.term) st;
   }
 
-  pub term_placed : {st : State} {f : Fault} → KeepsError c f.error → At term_fault_left st f → At term_fault_left (at st) f
+  pub term_placed : {st : State} {f : Located} → KeepsError c f.error → At term_fault_left st f → At term_fault_left (at st) f
   unfolding took_term
   term_placed keeps (terms.missing h is, place) = (terms.missing h is, place)
   term_placed keeps (in_array h shared is, place) = (in_array h shared is, place)

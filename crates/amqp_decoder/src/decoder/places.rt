@@ -33,6 +33,18 @@ impl<R: ByteSource> Decoder<R> {
         }
     }
 
+    /// Keeps the error as `refuse` does. What is at fault is the byte that was taken last, such as a null.
+    pub fn refuse_before(&mut self, error: Error) -> Error
+        ensures first { RefusesBy error self.old result self.new }
+        ensures again { (kept : Error) → self.old.error ≡ Some kept → (result ≡ kept) × (self.new ≡ self.old) }
+        ensures place { self.old.error ≡ None → StandsBefore (suc (length self.old.rest)) self.old self.new }
+    {
+        match self.error {
+            Some(kept) => kept,
+            None => self.stop_before(error),
+        }
+    }
+
     /// Returns how many bytes of the input are before what is at fault, as a number of 64 bits, and 0 if nothing was refused.
     #[inline]
     pub fn fault(&self) -> u64

@@ -3,6 +3,7 @@ use Rattle.amqp_model.specs.Term.{null}
 use Rattle.amqp_lookahead.specs.Kinds.{nulls}
 use Rattle.amqp_codec.proofs.PrimitiveReads.{kind_read}
 use Rattle.amqp_codec.proofs.primitives.UnitDeserializeTerm.read_value.Goals as goal
+use Rattle.amqp_decoder.proofs.Places.{answered_here}
 
 pub returns-clause-read : goal.returns-clause-read
-returns-clause-read g c tells = kind_read false (λ _. null) (λ _. Unit {0}) nulls _ _ _ (search rules) (c.read_null.ensures.read tells)
+returns-clause-read g c tells = kind_read false (λ _. null) (λ _. Unit {0}) nulls _ _ _ (search rules) (answered_here _ (c.read_null.ensures.read tells) c.read_null.ensures.place)
