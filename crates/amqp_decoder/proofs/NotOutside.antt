@@ -9,7 +9,7 @@ use Rattle.amqp_wire.specs.declared.error.Error.{Error}
 use Rattle.amqp_decoder.specs.declared.frame.Place.{Place}
 use Rattle.amqp_decoder.specs.declared.frame.Place.TheVariants.{InArray}
 use Rattle.amqp_decoder.specs.State.{refused_at, State, depth_error, in_container}
-use Rattle.amqp_decoder.specs.Steps.{Fails, IsOutside, IsReadError, Lacks, cut_open, past_limit, cut_inside, too_long, SizeError, cut, wrong, past}
+use Rattle.amqp_decoder.specs.Steps.{unsized, Fails, IsOutside, IsReadError, Lacks, cut_open, past_limit, cut_inside, too_long, SizeError, cut, wrong, past}
 use Rattle.amqp_decoder.specs.Misspelled.{IsMisspelling}
 use Rattle.amqp_decoder.specs.Reading.{BeginFault, missing, no_code, one_too_many}
 use Rattle.amqp_decoder.specs.Primitives.{LacksData, PrimitiveFault, not_begun, wrong_code, no_data, bad_data}
@@ -206,7 +206,7 @@ fails_by_length takes a b e d deep n nesting s named limited is h f =
     let plain = λ (out : IsOutside e). length_not_outside (subst IsOutside is out) n nesting s
     (subst (λ x. lengths.HasFault x nesting s d) named f) in (
       ap (λ (x : State). x.error) h ∙ ap Some (sym is),
-      inl (ap (λ (x : State). x.failed) h),
+      inl (ap (λ (x : State). unsized x.failed) h),
       λ m. absurd (plain (subst IsOutside (sym m) tt)),
       λ r. absurd (plain (read_is_outside e r)),
       λ l. ap (λ (x : State). x.failed.free) h ∙ limited (by_deep (sym is ∙ l)),
