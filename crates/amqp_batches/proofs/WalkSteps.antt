@@ -94,6 +94,17 @@ module _ {M V : Type 0} (w : Walk M V) where
   abbrev Refuses : State → Error → State → Type 0
   Refuses st e new = RefusesAt w.takes_memory (Walked w) (WalkFault w) st e new
 
+  -- where something is open from the beginning, nothing was read yet
+  pub top_fault : (st : State) (m : M) (mid : State) (x : Located) → SoFar w st m mid → Here NotTop mid x → WalkFault w st x
+  top_fault st m mid x h n = by_number h.number refl
+    where
+      by_number : (k : ℕ) → h.number ≡ k → WalkFault w st x
+      by_number zero i = not_top (subst (λ (q : State). Here NotTop q x) (h.first i) n)
+      by_number (suc k) i =
+          let s = so_far_stays st m mid h in
+          let t = steps_top w h.number st w.blank m h.last (λ z. (let q = sym i ∙ z in absurd (cc))) h.steps in
+          absurd (n.0.0 (s.place ∙ t.1) (s.saved ∙ t.2) (still_among s ∙ t.3))
+
   -- the look at what comes next was refused
   pub look_refused : {A : Type 0} (p : State → A → State → Type 0) (f : State → Located → Type 0) (st : State) (m : M) (mid : State)
       (e : Error) (new : State) → SoFar w st m mid → ((x : Located) → f mid x → Here NotTop mid x ⊎ w.fault mid m x)
@@ -103,7 +114,7 @@ module _ {M V : Type 0} (w : Walk M V) where
       record {
         kept = answered_later s.sound r.kept;
         again = again h.number refl;
-        named = λ g. or_else (excused_as e new no_memory) (placed_later {st = st} {mid} s.sound (λ x n. by_fault x (named x n) h.number refl))
+        named = λ g. or_else (excused_as e new no_memory) (placed_later {st = st} {mid} s.sound (λ x n. by_fault x (named x n)))
             (r.named (s.error ∙ g));
         none = by_error mid.error refl;
       }
@@ -116,13 +127,9 @@ module _ {M V : Type 0} (w : Walk M V) where
           let g = steps_top w h.number st w.blank m h.last (λ z. (let q = sym i ∙ z in absurd (cc))) h.steps in
           let going = g.0 in absurd (cc)
 
-      by_fault : (x : Located) → Here NotTop mid x ⊎ w.fault mid m x → (n : ℕ) → h.number ≡ n → WalkFault w st x
-      by_fault x (inl n) zero i = not_top (subst (λ (q : State). Here NotTop q x) (h.first i) n)
-      by_fault x (inl n) (suc k) i =
-          let s = so_far_stays st m mid h in
-          let t = steps_top w h.number st w.blank m h.last (λ z. (let q = sym i ∙ z in absurd (cc))) h.steps in
-          absurd (n.0.0 (s.place ∙ t.1) (s.saved ∙ t.2) (still_among s ∙ t.3))
-      by_fault x (inr f) k i = in_step h.number m h.last mid h.steps h.here f
+      by_fault : (x : Located) → Here NotTop mid x ⊎ w.fault mid m x → WalkFault w st x
+      by_fault x (inl n) = top_fault st m mid x h n
+      by_fault x (inr f) = in_step h.number m h.last mid h.steps h.here f
 
       by_error : (o : Option Error) → mid.error ≡ o → IsExcused w.takes_memory e new ⊎ NoneStands (Walked w) st
       by_error None i =

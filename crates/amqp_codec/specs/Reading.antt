@@ -1,5 +1,5 @@
 -- What it is to read a value of a type: from which state of a decoder, and what state is left.
-use Rattle.std.proofs.Common.{◌≡◌, ℕ, ◌+◌, ◌≤◌, Bool, true, false, List, ◌++◌, length, drop, Option, None, ◌-◌}
+use Rattle.std.proofs.Common.{◌≡◌, ℕ, ◌+◌, ◌%◌, ◌^◌, ◌≤◌, Bool, true, false, List, ◌++◌, length, drop, Option, None, ◌-◌}
 use Rattle.amqp_model.specs.Term.{Term}
 use Rattle.amqp_model.specs.Spelling.{IsSpelling}
 use Rattle.amqp_model.specs.Measures.{nest, weight}
@@ -117,6 +117,17 @@ pub record IsUnreadableWithin {T : Type 0} (limits : Limits) (r : Reading T) (in
   pub none : (v : T) (n : ℕ) → BeginsWithin limits r input v n → ⊥
   -- of a type of terms: the error says that no term stands there only where none does
   pub unspelled : r.one_term ≡ true → IsMisspelling e → IsUnspelledWithin limits e input
+
+-- Within the limits, the input has the fault, and so many of its bytes, as a number of 64 bits, are before the place of it.
+abbrev pub HasFaultAt : {T : Type 0} → Limits → Reading T → List ℕ → Error → ℕ → Type 0
+HasFaultAt limits r input e at =
+    (left : ℕ) × r.fault (start_within limits input) (record { error = e; left = left })
+    × ((at + left) % 2 ^ 64 ≡ length input % 2 ^ 64)
+
+-- Within the limits, the input has the fault, and so many of its bytes are before the place of it.
+abbrev pub IsFaultyAt : {T : Type 0} → Limits → Reading T → List ℕ → Error → ℕ → Type 0
+IsFaultyAt limits r input e at =
+    (left : ℕ) × r.fault (start_within limits input) (record { error = e; left = left }) × (left ≤ length input → at + left ≡ length input)
 
 -- The input begins with n bytes that are read as the value.
 abbrev pub BeginsWith : {T : Type 0} → Reading T → List ℕ → T → ℕ → Type 0

@@ -103,6 +103,10 @@ started rest name broken alone limits = record {
   failed = record { size = length rest % 2 ^ 64; broken = broken; alone = alone; free = is_free limits.nesting limits.bytes limits.items };
 }
 
+-- The source that a decoder reads.
+abbrev pub source_in : State → Source
+source_in st = record { name = st.source.name; size = st.failed.size; fault = st.source.fault }
+
 -- The limits under which all is read that nests at most 128 deep, without a seed for hashes.
 abbrev pub greatest : Limits
 greatest = record { nesting = 128; bytes = unlimited; items = unlimited; hash_seed = 0; nests = omega arith }
