@@ -375,6 +375,9 @@ module _ (c : Setting) where
   one_of_placed keeps (no_descriptor b s h, is) = (no_descriptor (begun b) s (descriptor_fault keeps h), is)
   one_of_placed keeps (no_member b t e, is) = (no_member (begun b) (took_place t) e, is)
 
+  pub one_of_fault : {members : List Member} {st : State} {e : Error} → KeepsError c e → OneOfFault members st e → OneOfFault members (at st) e
+  one_of_fault {members} {st} {e} keeps h = (one_of_placed {f = record { error = e; left = one_of_left members st e h }} keeps (h, refl)).0
+
   pub open_described_placed : {st : State} {f : Located} → KeepsError c f.error → At open_left st f → At open_left (at st) f
   open_described_placed keeps (not_open h, is) = (not_open (described_fault keeps h), is)
   open_described_placed keeps (nameless b s h, is) = (nameless (begun b) s (descriptor_fault keeps h), is)
