@@ -57,7 +57,7 @@ pub other : (st : State) (c : ℕ) (mid : State) (e : Error) (new : State) → P
 other st c mid e new p n refused here =
     let g = peeked_going st c mid p in
     kept_here st mid e new g.0 g.1 (peeked_failed st c mid p) refused (λ i. other_value {m = p.after} p.begun n i refl)
-    (before_later {st} {mid} {length st.rest} (peeked_failed st c mid p) (subst (λ k. StandsBefore k mid new) (seen_long st c mid p) (here g.1)))
+    (before_later st mid (length st.rest) new (peeked_failed st c mid p) (subst (λ k. StandsBefore k mid new) (seen_long st c mid p) (here g.1)))
 
 pub undescribed : {D : Type 0} (reads : State → D → State → Type 0) (st : State) (c : ℕ) (mid : State) (e : Error) (new : State)
     → PeeksCode st c mid → RefusesAt true reads (At open_left) mid e new → Refuses st e new
@@ -72,4 +72,4 @@ pub unknown : (st : State) (c : ℕ) (mid : State) (d : Descriptor) (inner : Sta
 unknown st c mid d inner e new p o refused place there at =
     let g = peeked_going st c mid p in
     kept_here st inner e new g.0 (described_going o) (described_sound o ∙ peeked_failed st c mid p) refused
-    (λ i. other_descriptor (seen_alike st c mid p) o i refl) (before_at {st} {length st.rest} (there (described_going o)) at)
+    (λ i. other_descriptor (seen_alike st c mid p) o i refl) (before_at st (length st.rest) _ new (there (described_going o)) at)

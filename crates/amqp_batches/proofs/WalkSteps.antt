@@ -114,7 +114,7 @@ module _ {M V : Type 0} (w : Walk M V) where
       record {
         kept = answered_later s.sound r.kept;
         again = again h.number refl;
-        named = λ g. or_else (excused_as e new no_memory) (placed_later {st = st} {mid} s.sound (λ x n. by_fault x (named x n)))
+        named = λ g. or_else (excused_as e new no_memory) (placed_later st mid new s.sound (λ x n. by_fault x (named x n)))
             (r.named (s.error ∙ g));
         none = by_error mid.error refl;
       }
@@ -159,7 +159,7 @@ module _ {M V : Type 0} (w : Walk M V) where
         again = λ d x. (let going = u.0 in absurd (cc));
         named = λ g.
             or_else (excused_as e new may)
-            (placed_later {st = st} {here} s.sound
+            (placed_later {g = WalkFault w st} st here new s.sound
             (λ x n. in_step h.number m h.last here h.steps (alike_trans h.last mid here h.here a) (named x n))) (r.named (s.error ∙ g));
         none = or_else (excused_as e new may) (λ n. none_walked st m mid here h a (none n) ends) r.none;
       }
@@ -209,6 +209,6 @@ module _ {M V : Type 0} (w : Walk M V) where
         again = λ d x. (let g = u.0 in absurd (cc));
         named = λ _. inr (length here.rest, not_made h.number m h.last h.steps left (subst (w.unfinished m) (sym is) f)
             (ap length (alike_rest h.last here (alike_trans h.last mid here h.here a))),
-            before_later {st} {here} {length here.rest} s.sound (at going));
+            before_later st here (length here.rest) new s.sound (at going));
         none = inr (none_made st m mid here error h a d f);
       }

@@ -46,7 +46,7 @@ module _ {V : Type 0} (r : Reading V) where
     again = q.again;
     named = λ g.
         or_else (excused_as e new no_memory)
-        (placed_later {st = st} {st} refl (λ x n. record { seen = st; alike = refl; fault = named x n })) (q.named g);
+        (placed_later {g = SeenFault r st} st st new refl (λ x n. record { seen = st; alike = refl; fault = named x n })) (q.named g);
     none = by_error st.error refl;
   }
     where
@@ -71,7 +71,7 @@ module _ {V : Type 0} (r : Reading V) where
         again = λ d x. (let g = k.going in absurd (cc));
         named = λ g.
             or_else (excused_as e new may)
-            (placed_later {st = st} {here} s.sound (λ x n. record { seen = here; alike = alike; fault = named x n }))
+            (placed_later {g = SeenFault r st} st here new s.sound (λ x n. record { seen = here; alike = alike; fault = named x n }))
             (q.named (s.error ∙ k.going));
         none = or_else (excused_as e new may)
             (λ n v b h.
@@ -96,7 +96,7 @@ module _ {V : Type 0} (r : Reading V) where
             alike = alike;
             fault = subst (λ x. r.fault here (record { error = x; left = length here.rest })) (sym (refused going).0) named;
           },
-          before_later {st} {here} {length here.rest} s.sound (at going),
+          before_later st here (length here.rest) new s.sound (at going),
         );
         none = inr (λ v b h.
             (let m = read_behind r st h.seen here v b h.alike alike h.read in none v (looking m.0 b) m.1));

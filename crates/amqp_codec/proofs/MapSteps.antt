@@ -99,7 +99,7 @@ module _ {K V : Type 0} (key : TermType K) (value : TermType V) where
         let still = (pairs_still key value st ps mid h.each).1 in
         twice_behind st ps mid k after e new h o r same
         (answered_later (ap (λ (x : State). x.failed) r.moved ∙ still) (first_kept {st = after} (value_going r) refused))
-        (length mid.rest, twice ps mid after k h o r same (refused (value_going r)).0 refl, before_later {st} {mid} {length mid.rest} still (before_at {mid} {length mid.rest} {place} {new} (there (value_going r)) at))
+        (length mid.rest, twice ps mid after k h o r same (refused (value_going r)).0 refl, before_later st mid (length mid.rest) new still (before_at mid (length mid.rest) place new (there (value_going r)) at))
 
     -- or all pairs were read, and the key of one is that of a pair before it,
     pub row_twice : (st : State) (ps : List (K × V)) (b : State) (e : Error) (new : State) → length ps ≡ n → Pairs key value st ps b
@@ -116,7 +116,7 @@ module _ {K V : Type 0} (key : TermType K) (value : TermType V) where
         twice_behind st t.before s.mid t.pair.0 s.after e new h t.others s.at_key t.known
         (answered_later still.1 (first_kept {st = b} going refused))
         (length b.rest, told_twice ps b t.before s.mid s.after t.pair.0 each h t.others s.at_key t.known (refused going).0 refl,
-            before_later {st} {b} {length b.rest} still.1 (here going))
+            before_later st b (length b.rest) new still.1 (here going))
 
     -- or its value wasn't read,
     pub value_refused : {takes : Bool} (st : State) (ps : List (K × V)) (mid : State) (k : K) (after : State) (e : Error) (new : State)

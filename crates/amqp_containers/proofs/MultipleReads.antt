@@ -229,7 +229,7 @@ module _ {T : Type 0} (u : TermType T) where
       record {
         kept = answered_later (ap (λ (z : State). z.failed) h.moved) (first_kept {st = mid} (value_going h) refused);
         again = λ d y. absurd (let z = h.stands.going in cc);
-        named = λ _. inr (length st.rest, no_items h is refl, before_at {st} {length st.rest} (there (value_going h)) at);
+        named = λ _. inr (length st.rest, no_items h is refl, before_at st (length st.rest) _ new (there (value_going h)) at);
         none = inr (λ v b k. (let x = value_same (MeansMultiple u) st mid b None (Some v) h (as_several st v b k) in
             x.3.1 (none_or_some x.0 x.1 v.0.items x.2 x.3.0)));
       }

@@ -254,7 +254,7 @@ took_failed st m s t = ap (λ (z : State). z.failed) t.moved
 pub stopped_code : (st : State) (ds : List Descriptor) (m : State) (e : Error) (new : State) → TookNamed st ds m
     → StopsAt true (Here (Lacks 1) m) m e new → StopsAt true (At constructor_left st) st e new
 stopped_code st ds m e new t s =
-    stops_later {st = st} {m} (took_failed st m t.own t.took) (λ f h. (no_code ds t.own m t.marks t.took h.0, h.1)) s
+    stops_later {st = st} {m = m} (took_failed st m t.own t.took) (λ f h. (no_code ds t.own m t.marks t.took h.0, h.1)) s
 
 marked_fault : (st : State) (ds : List Descriptor) (n : ℕ) (m : State) (f : Located) → n ≡ length ds → TakesMarks st ds 0 m → NoMarked n m f
     → At constructor_left st f
@@ -264,7 +264,7 @@ marked_fault st ds n m f is t (inr z) = (no_mark ds m t z.0, z.1)
 pub stopped_mark : (st : State) (ds : List Descriptor) (n : ℕ) (m : State) (e : Error) (new : State) → n ≡ length ds → TakesMarks st ds 0 m
     → StopsAt true (NoMarked n m) m e new → StopsAt true (At constructor_left st) st e new
 stopped_mark st ds n m e new is t s =
-    stops_later {st = st} {m} (took_failed st m (t.own ++ (0 ∷ [])) t.took) (λ f h. marked_fault st ds n m f is t h) s
+    stops_later {st = st} {m = m} (took_failed st m (t.own ++ (0 ∷ [])) t.took) (λ f h. marked_fault st ds n m f is t h) s
 
 pub stopped_unknown : (st : State) (ds : List Descriptor) (c : ℕ) (m : State) (e : Error) (new : State) → TakesMarks st ds c m
     → (c ≡ 0 → ⊥) × (IsKnown (format c) → ⊥) × (e ≡ refusal_of c) × Answers m e new → StandsBefore (suc (length m.rest)) m new
@@ -272,7 +272,7 @@ pub stopped_unknown : (st : State) (ds : List Descriptor) (c : ℕ) (m : State) 
 stopped_unknown st ds c m e new t (some, never, is, kept) p = record {
   kept = answered_took t.took kept;
   why = inr (suc (length m.rest), (no_known_code ds c m t some never is, refl),
-      before_later {st} {m} {suc (length m.rest)} (took_failed st m (t.own ++ (c ∷ [])) t.took) p);
+      before_later st m (suc (length m.rest)) new (took_failed st m (t.own ++ (c ∷ [])) t.took) p);
 }
 
 pub more_named : (st : State) (l l' : DescriptorValues) (m : State) (new : State) → st.top.shared ≡ None

@@ -350,7 +350,7 @@ one_missed members st m e new g f p =
     one_refused members st m e new g f.kept
     (elim f.why [
       | inl x ↦ inl x
-      | inr (none, x) ↦ inr (length m.rest, (no_descriptor g none x, refl), before_later {st} {m} {length m.rest} (begun_failed g) p)
+      | inr (none, x) ↦ inr (length m.rest, (no_descriptor g none x, refl), before_later st m (length m.rest) new (begun_failed g) p)
     ])
 
 pub one_other : (members : List Member) (st : State) (m : State) (named : State) (e : Error) (place : ℕ) (new : State) → ReadsCode st 0 m
@@ -359,7 +359,7 @@ pub one_other : (members : List Member) (st : State) (m : State) (named : State)
 one_other members st m named e place new g t is kept there at =
     one_refused members st m e new g (answered_took t.took.took kept)
     (inr (length m.rest, (no_member g t is, refl),
-        before_later {st} {m} {length m.rest} {new} (begun_failed g) (before_at {m} {length m.rest} there at)))
+        before_later st m (length m.rest) new (begun_failed g) (before_at m (length m.rest) _ new there at)))
 
 -- what was named nests as deep as what was begun
 pub no_deeper : (m named : State) (s : List ℕ) → Takes m s named → length m.saved < m.nesting → named.nesting ≤ length named.saved → ⊥
@@ -409,7 +409,7 @@ any_missed st m e new g f p = record {
     why : IsExcused true e new ⊎ IsPlaced (At open_left st) st e new
     why = elim f.why [
       | inl x ↦ inl x
-      | inr (none, x) ↦ inr (length m.rest, (nameless g none x, refl), before_later {st} {m} {length m.rest} (begun_failed g) p)
+      | inr (none, x) ↦ inr (length m.rest, (nameless g none x, refl), before_later st m (length m.rest) new (begun_failed g) p)
     ]
 
 pub any_entered : (st : State) (m : State) (d : Descriptor) (named : State) (new : State) → ReadsCode st 0 m → TakesDescriptor m d named

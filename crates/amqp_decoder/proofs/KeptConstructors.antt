@@ -54,7 +54,7 @@ symbol_32_means x (s, ascii, (fits, is)) = (name s, (s, fits, is, refl, ascii))
 pub unnamed_code : (st : State) (e : Error) (new : State) → StopsAt true (Here (Lacks 1) st) st e new
     → Stops true (DescriptorFault st) st e new
 unnamed_code st e new s =
-    stopped_as (Lacks 1 st) (DescriptorFault st) st e new (λ d x. no_code x) (stops_unplaced {fault = Lacks 1} {st} s)
+    stopped_as (Lacks 1 st) (DescriptorFault st) st e new (λ d x. no_code x) (stops_unplaced (Lacks 1) s)
 
 code_took : (c : ℕ) (a b : List ℕ) (st m : State) → Keeps (λ s. s ≡ c ∷ []) a st b m → Takes st (c ∷ []) m
 code_took c a b st m h = subst (λ l. Takes st l m) h.is h.took

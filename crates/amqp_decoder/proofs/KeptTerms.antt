@@ -11,14 +11,15 @@ use Rattle.amqp_model.proofs.Bytes.{rest, field, length-bytes}
 use Rattle.amqp_model.proofs.Same.{constructor_same}
 use Rattle.amqp_wire.specs.declared.error.Error.{Error}
 use Rattle.amqp_wire.specs.declared.error.Error.TheVariants.{Size, Missing, LazyInArray, Limit}
+use Rattle.amqp_lengths.specs.Faults.{TermFault as TermFaultIn}
 use Rattle.amqp_lengths.specs.Fronts.{IsFront, Refuses}
 use Rattle.amqp_lengths.specs.Lengths.{IsTerm}
 use Rattle.amqp_lengths.specs.Announced.{SizeThen, content_size, IsAnnounced}
 use Rattle.amqp_lengths.proofs.Announced.{announced_data, announced_once}
 use Rattle.amqp_decoder.proofs.Counts.{unshared_weight}
-use Rattle.amqp_decoder.specs.State.{refused_at, IsPlaceOf, State, Has, lower, after_data, after_value, weight_at, uncounted}
-use Rattle.amqp_decoder.specs.Steps.{Answers, IsExcused, Takes, Lacks, Stops}
-use Rattle.amqp_decoder.specs.Places.{StandsHere, Located, At, IsPlaced, StopsAt, RefusesAt}
+use Rattle.amqp_decoder.specs.State.{refused_at, depth_error, IsPlaceOf, State, Has, lower, after_data, after_value, weight_at, uncounted}
+use Rattle.amqp_decoder.specs.Steps.{Answers, IsExcused, Takes, Lacks, Stops, RefusesSize}
+use Rattle.amqp_decoder.specs.Places.{StandsHere, StandsBefore, Located, At, IsPlaced, StopsAt, RefusesAt}
 use Rattle.amqp_decoder.specs.Reading.{RefusesRead, IsLeft}
 use Rattle.amqp_decoder.specs.Primitives.{standing, SpellsAs, Stands}
 use Rattle.amqp_decoder.specs.Arrays.{TakesConstructor, constructor_left}
@@ -214,6 +215,38 @@ term_kept c n a b l st m m' new empty h k f same =
 pub known_code : (c : ℕ) (b : List ℕ) → IsConstructor c b → IsKnown (format c)
 known_code c b (ds, few, h) = code_known ds c b h
 
+-- at a place in these bytes, which were taken and began at the start
+behind_start : (start at long rest size : ℕ) → at ≤ long → (start + (long + rest)) % 2 ^ 64 ≡ size
+    → ((start + at) % 2 ^ 64 + (long - at + rest)) % 2 ^ 64 ≡ size
+behind_start start at long rest size within h = omega (arith, within, h)
+
+module _ (nesting : ℕ) (b : List ℕ) (st : State) (at start : ℕ) (new : State) (within : at ≤ length b)
+    (there : new.source.fault ≡ (start + at) % 2 ^ 64) (began : (start + (length b + length st.rest)) % 2 ^ 64 ≡ st.failed.size) where
+  stands_there : StandsBefore (length b - at + length st.rest) st new
+  stands_there =
+      before_at st (length b - at + length st.rest) ((start + at) % 2 ^ 64) new there
+      (behind_start start at (length b) (length st.rest) st.failed.size within began)
+
+  -- they have the wrong size
+  pub size_refused : (e : Error) → Refuses (IsTerm nesting) b Size → TermFaultIn (depth_error st.nesting) nesting b Size (length b - at)
+      → RefusesSize 0 st e new → StopsAt false (At (term_left nesting b) st) st e new
+  size_refused e none f s = record {
+    kept = s.kept;
+    why = elim s.why [
+      | inl x ↦ inl (inr x)
+      | inr x ↦ inr (length b - at + length st.rest, (wrong_size none (length b - at, f) x, refl), stands_there)
+    ];
+  }
+
+  -- or are otherwise no term
+  pub term_refused_at : (e d : Error) → Refuses (IsTerm nesting) b d → TermFaultIn (depth_error st.nesting) nesting b d (length b - at)
+      → (d ≡ Size → ⊥) → e ≡ d → new ≡ refused_at d new.source.fault st → StopsAt false (At (term_left nesting b) st) st e new
+  term_refused_at e d none f other is kept = record {
+    kept = answered st new e d kept is;
+    why = subst (λ x. IsExcused false x new ⊎ IsPlaced (At (term_left nesting b) st) st x new) (sym is)
+        (inr (length b - at + length st.rest, (wrong_term none (length b - at, f) other, refl), stands_there));
+  }
+
 pub no_constructor_kept : (st : State) (e : Error) (new : State) → StopsAt true (At constructor_left st) st e new
     → StopsAt true (At spelling_left st) st e new
 no_constructor_kept st e new s = stops_as {st = st} (λ f x. (no_constructor x.0, x.1)) s
@@ -228,7 +261,7 @@ no_data_kept c a b st m e place new h s there at =
       kept = answered_took h.took s.kept;
       why = elim s.why [
         | inl x ↦ inl x
-        | inr x ↦ inr (length st.rest, (no_data t x, refl), before_at {st} {length st.rest} there at)
+        | inr x ↦ inr (length st.rest, (no_data t x, refl), before_at st (length st.rest) _ new there at)
       ];
     }
 
@@ -256,7 +289,7 @@ no_term_kept c a b l st m m' e new empty h k s =
       kept = answered_took h.took (answered_took k.took s.kept);
       why = elim s.why [
         | inl x ↦ inl (excused_by_source true e new x)
-        | inr x ↦ inr (placed_later {st = st} {m'} same
+        | inr x ↦ inr (placed_later {g = At spelling_left st} st m' new same
             (λ f y. let z = moved f y in (no_term p.constructor p.took p.announced z.0, z.1)) x)
       ];
     }
@@ -321,7 +354,7 @@ term_in_array items st e new going item shared is kept p =
 pub term_misspelled : {A : Type 0} (items : A → List ℕ) (st : State) (e : Error) (new : State) → st.error ≡ None → Has st.top.items 1
     → st.top.shared ≡ None → StopsAt true (At spelling_left st) st e new → RefusesAt true (Any items) (At term_fault_left) st e new
 term_misspelled items st e new going item none s =
-    term_refused items st e new going s.kept (either_placed {st = st} {st} refl (λ f x. (misspelled item none x.0, x.1)) s.why)
+    term_refused items st e new going s.kept (either_placed {f = At spelling_left st} {g = At term_fault_left st} st st new refl (λ f x. (misspelled item none x.0, x.1)) s.why)
 
 -- one value more than may begin
 pub term_full : {A : Type 0} (items : A → List ℕ) (st m : State) (b : List ℕ) (e : Error) (new : State) → st.error ≡ None
@@ -336,7 +369,7 @@ term_full items st m b e new going item none t h full is kept place there at =
     too_many taken (λ x. subst (λ (z : State). Has z.quota (weight h.0 false) → ⊥) t.moved full
     (subst (Has st.quota) (unshared_weight st.top.shared h.0 none) x)) is in
     term_refused items st e new going (answered_took t (answered m new e Limit kept is))
-    (inr (length st.rest, (fault, refl), before_at {st} {length st.rest} there at))
+    (inr (length st.rest, (fault, refl), before_at st (length st.rest) _ new there at))
 
 pub nests_at_most : (k n saved : ℕ) → k ≤ n - saved → n ≤ 128 → k ≤ 128
 nests_at_most k n saved h most = omega arith

@@ -55,7 +55,7 @@ pub stopped_zero : (n : ℕ) (st : State) (ds : List Descriptor) (c : ℕ) (m : 
     → StopsAt true (At (shares_left n) st) st e new
 stopped_zero n st ds c m zero e place new some t wide zero_is is kept there at = record {
   kept = answered_took t.took kept;
-  why = inr (length st.rest, (zero_width ds c m some t ((zero_is (known st ds c m t)).0 wide) is, refl), before_at {st} {length st.rest} there at);
+  why = inr (length st.rest, (zero_width ds c m some t ((zero_is (known st ds c m t)).0 wide) is, refl), before_at st (length st.rest) _ new there at);
 }
 
 pub stopped_nested : (n : ℕ) (st : State) (ds : List Descriptor) (c : ℕ) (m : State) (flat : Bool) (e : Error) (place : ℕ) (new : State)
@@ -70,7 +70,7 @@ stopped_nested n st ds c m flat e place new some t flat_is (not_flat, is, deep, 
     (subst (λ (z : State). e ≡ depth_error z.nesting) t.took.moved is) in
     record {
       kept = answered_took t.took (answered m new e (depth_error m.nesting) kept is);
-      why = inr (length st.rest, (fault, refl), before_at {st} {length st.rest} there at);
+      why = inr (length st.rest, (fault, refl), before_at st (length st.rest) _ new there at);
     }
 
 shares_not : (n : ℕ) (st : State) (e : Error) (st' : State) → SharesFault n st e → Shares n st st' → ⊥
@@ -141,7 +141,7 @@ pub array_other : (st : State) (c : ℕ) (m : State) (e : Error) (place : ℕ) (
     → RefusesAt true OpensArray (At array_left) st e new
 array_other st c m e place new g never is kept there s =
     array_refused st e new g.going (answered_begun g kept)
-    (inr (length st.rest, (wrong_code c m g never is, refl), before_at {st} {length st.rest} there (s.here g.going)))
+    (inr (length st.rest, (wrong_code c m g never is, refl), before_at st (length st.rest) _ new there (s.here g.going)))
 
 pub reads_array : (c w : ℕ) (st m new : State) (place : ℕ) (r : Result ℕ Error) → ReadsCode st c m → format c ≡ compound array w
     → Starts place st → IfOk r (λ n. EntersArray w m n new)
@@ -151,7 +151,7 @@ reads_array c w st m new place (Ok n) g f s d h = record { code = c; width = w; 
 reads_array c w st m new place (Err e) g f s d h =
     let stopped = h (length st.rest) (began_at st m c place g s) in
     array_refused st e new g.going (answered_begun g stopped.kept)
-    (either_placed {st = st} {m} (ap (λ (z : State). z.failed) g.moved) (λ x y. (no_data c w m g f y.0, y.1)) stopped.why)
+    (either_placed {f = At (enter_left (length st.rest) w) m} {g = At array_left st} st m new (ap (λ (z : State). z.failed) g.moved) (λ x y. (no_data c w m g f y.0, y.1)) stopped.why)
 
 -- the steps behind the code
 pub stopped_header : (w : ℕ) (st : State) (e : Error) (new : State) → Stops false (HeaderFault false w st) st e new
@@ -177,7 +177,7 @@ pub stopped_start : (w n k : ℕ) (st m m' : State) (e : Error) (new : State) �
     → m' ≡ in_container InArray 0 k m → (own : ℕ) → StopsAt true (At (shares_left n) m') m' e new
     → StopsAt true (At (enter_left own w) st) st e new
 stopped_start w n k st m m' e new h some is own s =
-    stops_later {st = st} {m'} (ap (λ (z : State). z.failed) is ∙ ap (λ (z : State). z.failed) h.took.moved)
+    stops_later {st = st} {m = m'} (ap (λ (z : State). z.failed) is ∙ ap (λ (z : State). z.failed) h.took.moved)
     (λ f x. let y = subst (λ z. At (shares_left n) z f) is x in (no_start n k m h some y.0, y.1)) s
 
 -- as far as its items, of an array that begins at the place
@@ -185,7 +185,7 @@ pub stopped_items : (w : ℕ) (st : State) (e : Error) (place : ℕ) (new : Stat
     → new.source.fault ≡ place → (own : ℕ) → (place + own) % 2 ^ 64 ≡ st.failed.size → StopsAt true (At (enter_left own w) st) st e new
 stopped_items w st e place new s there own at = record {
   kept = s.kept;
-  why = elim s.why [ inl x ↦ inl x | inr x ↦ inr (own, (no_items_opened x, refl), before_at {st} {own} there at) ];
+  why = elim s.why [ inl x ↦ inl x | inr x ↦ inr (own, (no_items_opened x, refl), before_at st own _ new there at) ];
 }
 
 entered_few : (w n k : ℕ) (st m : State) → ReadsHeader false w st n k m → length m.saved ≤ m.nesting → length st.saved ≤ st.nesting

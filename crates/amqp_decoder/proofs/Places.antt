@@ -105,63 +105,64 @@ placed_at mid place (Ok v) = tt
 placed_at mid place (Err e) = refl
 
 -- it stands before as many bytes of the input of a call that came earlier
-pub before_later : {st m : State} {left : ℕ} {new : State} → m.failed ≡ st.failed → StandsBefore left m new → StandsBefore left st new
-before_later same h = h ∙ ap (λ (f : Course). f.size) same
+pub before_later : (st m : State) (left : ℕ) (new : State) → m.failed ≡ st.failed → StandsBefore left m new → StandsBefore left st new
+before_later st m left new same h = h ∙ ap (λ (f : Course). f.size) same
 
-pub before_at : {st : State} {left place : ℕ} {new : State} → new.source.fault ≡ place → (place + left) % 2 ^ 64 ≡ st.failed.size
+pub before_at : (st : State) (left place : ℕ) (new : State) → new.source.fault ≡ place → (place + left) % 2 ^ 64 ≡ st.failed.size
     → StandsBefore left st new
-before_at {st} {left} is h = ap (λ p. (p + left) % 2 ^ 64) is ∙ h
+before_at st left place new is h = ap (λ p. (p + left) % 2 ^ 64) is ∙ h
 
-pub placed_later : {f g : Located → Type 0} {st m : State} {e : Error} {new : State} → m.failed ≡ st.failed → ((x : Located) → f x → g x)
+pub placed_later : {f g : Located → Type 0} (st m : State) {e : Error} (new : State) → m.failed ≡ st.failed → ((x : Located) → f x → g x)
     → IsPlaced f m e new → IsPlaced g st e new
-placed_later {st} {m} same as (left, h, p) = (left, as _ h, before_later {st} {m} {left} same p)
+placed_later st m new same via (left, h, p) = (left, via _ h, before_later st m left new same p)
 
-pub either_placed : {f g : Located → Type 0} {takes : Bool} {st m : State} {e : Error} {new : State} → m.failed ≡ st.failed
+pub either_placed : {f g : Located → Type 0} {takes : Bool} (st m : State) {e : Error} (new : State) → m.failed ≡ st.failed
     → ((x : Located) → f x → g x) → IsExcused takes e new ⊎ IsPlaced f m e new → IsExcused takes e new ⊎ IsPlaced g st e new
-either_placed same as (inl x) = inl x
-either_placed {st} {m} same as (inr x) = inr (placed_later {st = st} {m} same as x)
+either_placed st m new same via (inl x) = inl x
+either_placed st m new same via (inr x) = inr (placed_later st m new same via x)
 
 pub stops_later : {f g : Located → Type 0} {takes : Bool} {st m : State} {e : Error} {new : State} → m.failed ≡ st.failed
     → ((x : Located) → f x → g x) → StopsAt takes f m e new → StopsAt takes g st e new
-stops_later {st} {m} same as s = record { kept = answered_later same s.kept; why = either_placed {st = st} {m} same as s.why }
+stops_later {st = st} {m = m} {new = new} same via s =
+    record { kept = answered_later same s.kept; why = either_placed st m new same via s.why }
 
 pub stops_as : {f g : Located → Type 0} {takes : Bool} {st : State} {e : Error} {new : State} → ((x : Located) → f x → g x)
     → StopsAt takes f st e new → StopsAt takes g st e new
-stops_as {st} as s = stops_later {st = st} {st} refl as s
+stops_as {st = st} via s = stops_later {st = st} {m = st} refl via s
 
 -- what stands here
-pub placed_fault_here : {takes : Bool} {fault : State → Error → Type 0} {st : State} {e : Error} {new : State}
+pub placed_fault_here : {takes : Bool} (fault : State → Error → Type 0) (st : State) {e : Error} (new : State)
     → IsPlaceOf new.source.fault st → IsExcused takes e new ⊎ fault st e → IsExcused takes e new ⊎ IsPlaced (Here fault st) st e new
-placed_fault_here p (inl x) = inl x
-placed_fault_here {st} p (inr x) = inr (length st.rest, (x, refl), p)
+placed_fault_here fault st new p (inl x) = inl x
+placed_fault_here fault st new p (inr x) = inr (length st.rest, (x, refl), p)
 
-pub stops_here : {takes : Bool} {fault : State → Error → Type 0} {st : State} {e : Error} {new : State} → Stops takes (fault st) st e new
+pub stops_here : {takes : Bool} (fault : State → Error → Type 0) {st : State} {e : Error} {new : State} → Stops takes (fault st) st e new
     → IsPlaceOf new.source.fault st → StopsAt takes (Here fault st) st e new
-stops_here {fault = fault} {st} s p = record { kept = s.kept; why = placed_fault_here {fault = fault} {st} p s.why }
+stops_here fault {st = st} {new = new} s p = record { kept = s.kept; why = placed_fault_here fault st new p s.why }
 
-pub stops_unplaced : {takes : Bool} {fault : State → Error → Type 0} {st : State} {e : Error} {new : State}
+pub stops_unplaced : {takes : Bool} (fault : State → Error → Type 0) {st : State} {e : Error} {new : State}
     → StopsAt takes (Here fault st) st e new → Stops takes (fault st) st e new
-stops_unplaced s = record { kept = s.kept; why = elim s.why [ inl x ↦ inl x | inr (left, (x, is), p) ↦ inr x ] }
+stops_unplaced fault s = record { kept = s.kept; why = elim s.why [ inl x ↦ inl x | inr (left, (x, is), p) ↦ inr x ] }
 
 -- what is read is answered as it was, and at its place
 pub refused_here : {A : Type 0} {takes : Bool} {reads : State → A → State → Type 0} {fault : State → Error → Type 0} {old : State}
     {e : Error} {new : State} → RefusesRead takes reads fault old e new → StandsHere old new → RefusesAt takes reads (Here fault) old e new
-refused_here {fault = fault} {old} r here = record {
+refused_here {fault = fault} {old = old} {new = new} r here = record {
   kept = r.kept;
   again = r.again;
-  named = λ going. placed_fault_here {fault = fault} {old} (here going) (r.named going);
+  named = λ going. placed_fault_here fault old new (here going) (r.named going);
   none = r.none;
 }
 
-pub answered_here : {A : Type 0} {takes : Bool} {reads : State → A → State → Type 0} {fault : State → Error → Type 0} {old : State}
-    (r : Result A Error) {new : State} → AnswersRead takes reads fault old r new → IfErr r (λ _. StandsHere old new)
+pub answered_here : {A : Type 0} (takes : Bool) (reads : State → A → State → Type 0) (fault : State → Error → Type 0) (old : State)
+    (r : Result A Error) (new : State) → AnswersRead takes reads fault old r new → IfErr r (λ _. StandsHere old new)
     → AnswersAt takes reads (Here fault) old r new
-answered_here (Ok v) h here = h
-answered_here {fault = fault} {old} (Err e) h here = refused_here {fault = fault} {old} h here
+answered_here takes reads fault old (Ok v) new h here = h
+answered_here takes reads fault old (Err e) new h here = refused_here h here
 
 pub placed_stops_here : {A : Type 0} (takes : Bool) (fault : State → Error → Type 0) (old mid : State) (place : ℕ) (r : Result A Error)
     → IfErr r (λ e. Stops takes (fault old) old e mid) → IsPlaceOf place old
     → IfErr r (λ e. StopsAt takes (Here fault old) old e (placed place r mid))
 placed_stops_here takes fault old mid place (Ok v) h at = tt
-placed_stops_here takes fault old mid place (Err e) h at =
-    stops_here {takes} {fault} {old} {e} {placed {A = Error} place (Err e) mid} (placed_stops takes (fault old) old mid place (Err {U = Error} e) h) at
+placed_stops_here {A = A} takes fault old mid place (Err e) h at =
+    stops_here fault (placed_stops {A = A} takes (fault old) old mid place (Err e) h) at

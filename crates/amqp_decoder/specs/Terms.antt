@@ -62,7 +62,7 @@ pub data NoTerm (nesting : ℕ) (b : List ℕ) (st : State) (e : Error) : Type 0
 
 -- It stands in these bytes, or behind them.
 abbrev pub term_left : (nesting : ℕ) (b : List ℕ) (st : State) (e : Error) → NoTerm nesting b st e → ℕ
-term_left nesting b st e (wrong_size refused fault wrong) = fault.0 + length st.rest
+term_left nesting b st e (wrong_size refused fault size) = fault.0 + length st.rest
 term_left nesting b st e (wrong_term refused fault other) = fault.0 + length st.rest
 
 -- Why no bytes of a term are taken.

@@ -65,7 +65,7 @@ module _ {M V : Type 0} (o : Order) (s : Shape M V) where
       record {
         kept = answered_later s.sound r.kept;
         again = again h.number refl;
-        named = λ g. or_else (λ x. x) (placed_later {st = st} {mid} s.sound (λ x. fault_here st m mid x h)) (r.named (s.error ∙ g));
+        named = λ g. or_else (λ x. x) (placed_later st mid new s.sound (λ x. fault_here st m mid x h)) (r.named (s.error ∙ g));
         none = by_error mid.error refl;
       }
     where

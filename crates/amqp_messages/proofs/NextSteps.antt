@@ -39,7 +39,7 @@ module _ (o : Order) (left : ℕ) where
   end_refused st e new some q = record {
     kept = q.kept;
     again = q.again;
-    named = λ g. or_else (excused_as e new no_memory) (placed_later {st = st} {st} refl (λ x n. not_top n)) (q.named g);
+    named = λ g. or_else (excused_as e new no_memory) (placed_later {g = NextFault o left st} st st new refl (λ x n. not_top n)) (q.named g);
     none = by_error st.error refl;
   }
     where
@@ -96,7 +96,7 @@ module _ (o : Order) (left : ℕ) where
         named = λ _. inr (
           length here.rest,
           misplaced some (ahead c i) l (refused going).0 (ap length (alike_rest st here alike)),
-          before_later {st} {here} {length here.rest} (alike_stays st here alike).sound (at going),
+          before_later st here (length here.rest) new (alike_stays st here alike).sound (at going),
         );
         none = inr none;
       }
@@ -114,7 +114,7 @@ module _ (o : Order) (left : ℕ) where
         kept = answered_later (alike_stays st here alike).sound q.kept;
         again = λ d x. (let g = h.going in absurd (cc));
         named = λ _. or_else (λ x. x)
-            (placed_later {st = st} {here} (alike_stays st here alike).sound (λ x n. not_section some not_ended (none_ahead i) alike n))
+            (placed_later {g = NextFault o left st} st here new (alike_stays st here alike).sound (λ x n. not_section some not_ended (none_ahead i) alike n))
             (q.named going);
         none = inr none;
       }

@@ -84,7 +84,7 @@ module _ (st : State) (c : ℕ) (mid : State) (p : PeeksCode st c mid) where
         kept = answered_later (peeked_failed st c mid p) (first_kept {st = mid} going.1 refused);
         again = λ d x. absurd (cc (going.0, x));
         named = λ _. inr (length mid.rest, in_first p is (invalid, refl),
-            before_later {st} {mid} {length mid.rest} (peeked_failed st c mid p) (here going.1));
+            before_later st mid (length mid.rest) new (peeked_failed st c mid p) (here going.1));
         none = inr (none_simple is);
       }
 

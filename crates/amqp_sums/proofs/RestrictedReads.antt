@@ -56,7 +56,7 @@ module _ {A V : Type 0} (base : Base A) (unknown : Error) (table : V → A) wher
       record {
         kept = answered_later (ap (λ (x : State). x.failed) h.moved) (first_kept {st = b} (value_going h) refused);
         again = λ d x. absurd (cc);
-        named = λ _. inr (length st.rest, of_no_value h none is refl, before_at {st} {length st.rest} (there (value_going h)) at);
+        named = λ _. inr (length st.rest, of_no_value h none is refl, before_at st (length st.rest) _ new (there (value_going h)) at);
         none = inr (λ v c x. none v (sym (one_read st a (table v) b c h (as_primitive st v c x))));
       }
 

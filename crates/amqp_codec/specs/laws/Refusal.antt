@@ -86,7 +86,7 @@ pub refused_first : {A B : Type 0} {a b : Bool} (p : State → A → State → T
 refused_first p f q g old e new may named none h = record {
   kept = h.kept;
   again = h.again;
-  named = λ going. or_else (excused_as e new may) (placed_later {st = old} {old} refl named) (h.named going);
+  named = λ going. or_else (excused_as e new may) (placed_later old old new refl named) (h.named going);
   none = or_else (excused_as e new may) none h.none;
 }
 
@@ -98,6 +98,6 @@ pub refused_later : {A B : Type 0} {a b : Bool} (p : State → A → State → T
 refused_later p f q g old mid e new may sound going still named none h = record {
   kept = answered_later sound h.kept;
   again = λ d x. absurd (cc);
-  named = λ _. or_else (excused_as e new may) (placed_later {st = old} {mid} sound named) (h.named still);
+  named = λ _. or_else (excused_as e new may) (placed_later old mid new sound named) (h.named still);
   none = or_else (excused_as e new may) none h.none;
 }

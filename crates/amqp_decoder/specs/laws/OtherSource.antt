@@ -512,7 +512,7 @@ module _ (c : Setting) where
   term_placed keeps (in_array h shared is, place) = (in_array h shared is, place)
   term_placed keeps (misspelled h none f, place) = let x = spelling_placed keeps (f, place) in (misspelled h none x.0, x.1)
   term_placed {st} keeps (terms.too_many h full is, place) =
-      (terms.too_many (took_term h) (counted_still keeps is st.quota (weight_at st h.term) full), place)
+      (terms.too_many (took_term h) (counted_still keeps is st.quota (weight_at st h.term) full) is, place)
 
   pub term_fault : {st : State} {e : Error} → KeepsError c e → TermFault st e → TermFault (at st) e
   term_fault {st} {e} keeps h = (term_placed {f = record { error = e; left = term_fault_left st e h }} keeps (h, refl)).0

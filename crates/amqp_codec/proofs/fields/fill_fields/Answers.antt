@@ -75,7 +75,7 @@ returns-clause-read g c blank tells =
     let all : c.loop-index.index ≡ length (rules_of (slots fs)) =
     omega (arith, ap length c.field_rules-rule-items.ensures, c.loop-index-test.false, c.loop-index.auto.index-end) in
     all_filled fs _ _ _ _ _ _ _ all (c.loop-index.invariant.fields blank tells)
-    (answered_here _ (c.end_list.ensures.read tells) c.end_list.ensures.place)
+    (answered_here _ _ _ _ _ _ (c.end_list.ensures.read tells) c.end_list.ensures.place)
 
 pub returns-in_err-read_item-clause-tries : goal.returns-in_err-read_item-clause-tries
 returns-in_err-read_item-clause-tries g c =

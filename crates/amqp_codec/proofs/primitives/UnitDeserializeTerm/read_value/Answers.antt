@@ -6,4 +6,4 @@ use Rattle.amqp_codec.proofs.primitives.UnitDeserializeTerm.read_value.Goals as 
 use Rattle.amqp_decoder.proofs.Places.{answered_here}
 
 pub returns-clause-read : goal.returns-clause-read
-returns-clause-read g c tells = kind_read false (λ _. null) (λ _. Unit {0}) nulls _ _ _ (search rules) (answered_here _ (c.read_null.ensures.read tells) c.read_null.ensures.place)
+returns-clause-read g c tells = kind_read false (λ _. null) (λ _. Unit {0}) nulls _ _ _ (search rules) (answered_here _ _ _ _ _ _ (c.read_null.ensures.read tells) c.read_null.ensures.place)

@@ -11,7 +11,7 @@ use Rattle.amqp_decoder.proofs.decoder.Decoder.constructor.Goals as goal
 pub returns-in_err-code-clause-err : goal.returns-in_err-code-clause-err
 returns-in_err-code-clause-err g c = λ told none.
     let p = err_from_is_err_and c.from_residual.result c.from_residual.ensures.1 in
-    rw (p.1, p.2) (stopped_first _ _ _ (stops_here {fault = Lacks 1} {c.args.self.now} (c.in_err-code.ensures.err told) c.in_err-code.ensures.place))
+    rw (p.1, p.2) (stopped_first _ _ _ (stops_here (Lacks 1) {st = c.args.self.now} (c.in_err-code.ensures.err told) c.in_err-code.ensures.place))
 
 pub returns-in_err-keep_descriptor-clause-err : goal.returns-in_err-keep_descriptor-clause-err
 returns-in_err-keep_descriptor-clause-err g c = λ told none.
@@ -26,7 +26,7 @@ returns-in_err-code-2-clause-err g c = λ told none.
     let marks = rw c.loop-code-test.true at (c.loop-code.invariant.marks told none) in
     let named = more_named _ _ _ _ _ none marks (c.in_ok-keep_descriptor.ensures.ok told (unshared_behind _ _ _ _ marks none)) in
     rw (p.1, p.2) (stopped_code _ _ _ _ _ named
-    (stops_here {fault = Lacks 1} {c.keep_descriptor.new.self} (c.in_err-code-2.ensures.err told) c.in_err-code-2.ensures.place))
+    (stops_here (Lacks 1) {st = c.keep_descriptor.new.self} (c.in_err-code-2.ensures.err told) c.in_err-code-2.ensures.place))
 
 pub loop-code-preserved : goal.loop-code-preserved
 loop-code-preserved g c = record {

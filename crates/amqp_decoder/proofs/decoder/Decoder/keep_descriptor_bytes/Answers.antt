@@ -1,3 +1,4 @@
+use Rattle.std.proofs.Common.{true}
 use Rattle.amqp_lengths.specs.Pieces.{NamesAny}
 use Rattle.amqp_decoder.specs.Described.{DescriptorFault}
 use Rattle.amqp_decoder.specs.Terms.{Keeps}
