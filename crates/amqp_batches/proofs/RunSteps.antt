@@ -7,7 +7,6 @@ use Rattle.amqp_wire.specs.declared.error.Error.TheVariants.{Memory}
 use Rattle.amqp_lookahead.specs.Sections.{IsSectionAhead}
 use Rattle.amqp_decoder.specs.State.{State}
 use Rattle.amqp_decoder.specs.Steps.{RefusesBy}
-use Rattle.amqp_decoder.specs.Reading.{RefusesAt}
 use Rattle.amqp_decoder.specs.Sections.{PeeksSection}
 use Rattle.amqp_decoder.specs.Places.{Located, RefusesAt}
 use Rattle.amqp_codec.specs.Reading.{Reading}

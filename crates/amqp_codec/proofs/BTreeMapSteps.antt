@@ -9,7 +9,6 @@ use Rattle.amqp_model.specs.Standing.{Standing}
 use Rattle.amqp_wire.specs.declared.error.Error.{Error}
 use Rattle.amqp_decoder.specs.declared.frame.Place.TheVariants.{InMap}
 use Rattle.amqp_decoder.specs.State.{State}
-use Rattle.amqp_decoder.specs.Reading.{RefusesAt}
 use Rattle.amqp_decoder.specs.Primitives.{ReadsValue}
 use Rattle.amqp_decoder.specs.Containers.{Opens, Closes}
 use Rattle.amqp_decoder.specs.Places.{RefusesAt}

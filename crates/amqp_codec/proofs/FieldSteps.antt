@@ -16,7 +16,7 @@ use Rattle.amqp_decoder.proofs.ContainerTerms.{Together, together, used_up, row_
 use Rattle.amqp_decoder.proofs.OneReading.{stands_same, row_front}
 use Rattle.amqp_decoder.proofs.Opening.{opens_same}
 use Rattle.amqp_decoder.proofs.Peeks.{value-peeked}
-use Rattle.amqp_decoder.specs.Reading.{RefusesAt, BeginFault, PeeksCode}
+use Rattle.amqp_decoder.specs.Reading.{BeginFault, PeeksCode}
 use Rattle.amqp_decoder.specs.Primitives.{standing, ReadsValue, Means}
 use Rattle.amqp_decoder.specs.Containers.{Opens, OpenFault, Closes, CloseFault}
 use Rattle.amqp_decoder.proofs.Steps.{answered_later, first_kept}

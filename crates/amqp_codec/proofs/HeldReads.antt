@@ -2,7 +2,6 @@
 use Rattle.std.proofs.Common.{Bool, true, refl}
 use Rattle.amqp_wire.specs.declared.error.Error.{Error}
 use Rattle.amqp_decoder.specs.State.{State}
-use Rattle.amqp_decoder.specs.Reading.{RefusesAt}
 use Rattle.amqp_decoder.specs.Primitives.{ReadsValue}
 use Rattle.amqp_decoder.specs.Places.{RefusesAt}
 use Rattle.amqp_codec.specs.TermType.{TermType}

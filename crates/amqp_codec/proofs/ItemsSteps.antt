@@ -9,7 +9,6 @@ use Rattle.amqp_wire.specs.declared.error.Error.{Error}
 use Rattle.amqp_wire.specs.declared.error.Error.TheVariants.{Memory}
 use Rattle.amqp_decoder.specs.State.{State}
 use Rattle.amqp_decoder.specs.Steps.{RefusesBy}
-use Rattle.amqp_decoder.specs.Reading.{RefusesAt}
 use Rattle.amqp_decoder.specs.Primitives.{ReadsValue}
 use Rattle.amqp_decoder.specs.Containers.{place_of, Closes, CloseFault}
 use Rattle.amqp_decoder.proofs.Steps.{answered_later, first_kept}

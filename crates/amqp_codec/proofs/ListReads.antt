@@ -3,7 +3,6 @@ use Rattle.std.proofs.Common.{Result, Ok, Err}
 use Rattle.amqp_model.specs.Composite.{MeansList}
 use Rattle.amqp_wire.specs.declared.error.Error.{Error}
 use Rattle.amqp_decoder.specs.State.{State}
-use Rattle.amqp_decoder.specs.Reading.{AnswersAt}
 use Rattle.amqp_decoder.specs.Primitives.{ReadsValue}
 use Rattle.amqp_decoder.specs.Places.{AnswersAt}
 use Rattle.amqp_codec.specs.Fields.{Fields, slots, take_memory}

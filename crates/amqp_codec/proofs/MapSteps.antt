@@ -7,7 +7,6 @@ use Rattle.amqp_wire.specs.declared.error.Error.TheVariants.{Memory, DuplicateKe
 use Rattle.amqp_decoder.specs.declared.frame.Place.TheVariants.{InMap}
 use Rattle.amqp_decoder.specs.State.{IsPlaceOf, State}
 use Rattle.amqp_decoder.specs.Steps.{RefusesBy, Answers}
-use Rattle.amqp_decoder.specs.Reading.{RefusesAt}
 use Rattle.amqp_decoder.specs.Primitives.{ReadsValue}
 use Rattle.amqp_decoder.specs.Containers.{Opens, OpenFault, Closes, CloseFault}
 use Rattle.amqp_decoder.proofs.Steps.{answered_later, first_kept}

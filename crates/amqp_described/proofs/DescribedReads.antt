@@ -11,7 +11,6 @@ use Rattle.amqp_encoder.specs.Values.{descriptor_of as written_descriptor}
 use Rattle.amqp_lookahead.specs.Members.{descriptor_of}
 use Rattle.amqp_decoder.specs.declared.frame.Place.TheVariants.{InDescribed}
 use Rattle.amqp_decoder.specs.State.{State, after_value, weight_at}
-use Rattle.amqp_decoder.specs.Reading.{RefusesAt}
 use Rattle.amqp_decoder.specs.Primitives.{standing, Stands, ReadsValue}
 use Rattle.amqp_decoder.specs.Containers.{ClosesDescribed, EndFault, other_place, nothing_open, items_left}
 use Rattle.amqp_decoder.specs.Described.{OpensDescribed, open_left}

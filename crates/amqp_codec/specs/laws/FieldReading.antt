@@ -111,11 +111,11 @@ pub unfilled_at : {V : Type 0} (fs : Fields V) (n : ℕ) (v w : V) (st : State) 
 unfilled_at none n v w st e b l h = absurd (omega arith)
 unfilled_at (field get f fs) zero v w st e b l h =
     refused_first (ReadsValue f.reads) f.faults.fault (ReadsValue (MeansAt (field get f fs) zero)) (FaultAt (field get f fs) zero) st e b
-    (either_first f.takes_memory (take_memory fs)) (λ x. x)
+    (either_first f.takes_memory (take_memory fs)) (λ _ x. x)
     (λ none x c r. none (get x) c (record { bytes = r.bytes; term = r.term; stands = r.stands; moved = r.moved; meant = r.meant })) h.0
 unfilled_at (field get f fs) (suc n) v w st e b l h =
     refused_first (ReadsValue (MeansAt fs n)) (FaultAt fs n) (ReadsValue (MeansAt (field get f fs) (suc n)))
-    (FaultAt (field get f fs) (suc n)) st e b (either_second f.takes_memory (take_memory fs)) (λ x. x)
+    (FaultAt (field get f fs) (suc n)) st e b (either_second f.takes_memory (take_memory fs)) (λ _ x. x)
     (λ none x c r. none x c (record { bytes = r.bytes; term = r.term; stands = r.stands; moved = r.moved; meant = r.meant }))
     (unfilled_at fs n v w st e b (omega arith) h.1)
 

@@ -2,6 +2,8 @@ use Rattle.std.proofs.Common.{false, arith, rules, add-one, ap, sym, ◌∙◌, 
 use Rattle.std.proofs.lemmas.Result.{err_from_is_err_and}
 use Rattle.amqp_model.specs.Fields.{rules_of}
 use Rattle.amqp_model.specs.declared.tables.FieldRule.TheVariants.{Mandatory}
+use Rattle.amqp_decoder.specs.declared.frame.Place.TheVariants.{InList}
+use Rattle.amqp_decoder.specs.Containers.{Closes, CloseFault}
 use Rattle.amqp_codec.specs.Fields.{slots}
 use Rattle.amqp_codec.specs.FieldReading.{absence, rule_at}
 use Rattle.amqp_codec.specs.laws.FieldReading.{not_absent}
@@ -75,7 +77,8 @@ returns-clause-read g c blank tells =
     let all : c.loop-index.index ≡ length (rules_of (slots fs)) =
     omega (arith, ap length c.field_rules-rule-items.ensures, c.loop-index-test.false, c.loop-index.auto.index-end) in
     all_filled fs _ _ _ _ _ _ _ all (c.loop-index.invariant.fields blank tells)
-    (answered_here _ _ _ _ _ _ (c.end_list.ensures.read tells) c.end_list.ensures.place)
+    (answered_here false (λ st (_ : Unit {0}) b. Closes InList st b) (CloseFault InList) c.loop-index.decoder c.end_list.result
+    c.end_list.new.self (c.end_list.ensures.read tells) c.end_list.ensures.place)
 
 pub returns-in_err-read_item-clause-tries : goal.returns-in_err-read_item-clause-tries
 returns-in_err-read_item-clause-tries g c =
