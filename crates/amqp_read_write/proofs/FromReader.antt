@@ -7,9 +7,8 @@ use Rattle.amqp_wire.specs.declared.error.Error.TheVariants.{Memory, Limit}
 use Rattle.amqp_wire.specs.declared.limits.Limits.{Limits}
 use Rattle.amqp_decoder.specs.State.{Source, Course, State, is_free, fresh_source}
 use Rattle.amqp_decoder.specs.OtherSource.{elsewhere}
-use Rattle.amqp_decoder.specs.Steps.{IsExcused, IsReadError, Refused, Tries}
+use Rattle.amqp_decoder.specs.Steps.{unsized, IsExcused, IsReadError, Refused, Tries}
 use Rattle.amqp_decoder.specs.Places.{RefusesAt, AnswersAt, IsPlaced}
-use Rattle.amqp_decoder.proofs.Places.{refused_here}
 use Rattle.amqp_codec.specs.Reading.{Reading, apart, start_within, IsGreatest, BeginsWithin, IsUnreadableWithin, BeginsWith, IsUnreadable, HasFaultAt, IsFaultyAt}
 use Rattle.amqp_codec.specs.laws.Reading.{is_read, read_one, begins_greatest, greatest_begins, unreadable_greatest}
 
@@ -130,7 +129,7 @@ pub limited_refused : (takes : Bool) (limits : Limits) (st : State) (e : Error) 
     → st.failed.free ≡ is_free limits.nesting limits.bytes limits.items → Refused takes st e b → e ≡ Limit → IsGreatest limits → ⊥
 limited_refused takes limits st e b going free h is (nesting, bytes, items) =
     let f = h.1 going in
-    let kept : b.failed ≡ st.failed = elim f.1 [ inl s ↦ s | inr i ↦ absurd (subst IsReadError is i) ] in
+    let kept : unsized b.failed ≡ unsized st.failed = elim f.1 [ inl s ↦ s | inr i ↦ absurd (subst IsReadError is i) ] in
     let bounded : is_free limits.nesting limits.bytes limits.items ≡ false =
     sym free ∙ ap (λ (x : Course). x.free) (sym kept) ∙ f.4 is in
     let free : is_free limits.nesting limits.bytes limits.items ≡ true = rw (nesting, bytes, items) refl in absurd (cc)
