@@ -60,10 +60,10 @@ array_opening = record {
       (record { count = h.count; mid = h.first; opened = h.opened; bytes = h.bytes; last = h.last; items = h.row; closed = h.closed });
   held = λ st ts st' fits n. (let c = array_parts st ts st' (room_for_array st ts n.bytes fits n.stands) n in
       record { count = c.count; first = c.mid; opened = c.opened; bytes = c.bytes; last = c.last; row = c.items; closed = c.closed });
-  not_outside = λ e out. array_not_outside out;
+  not_outside = λ e out st f. array_not_outside out st f.0;
   opens_elsewhere = λ c st n first o. opens_array c o;
   fault_elsewhere = λ c st e keeps h. array_placed c keeps h;
-  misspelled = array_misspelled;
+  misspelled = λ st e room i f. array_misspelled st e.error room i f.0;
   nothing_in = nothing_in_array;
   nothing_at_end = nothing_at_array_end InArray;
 }

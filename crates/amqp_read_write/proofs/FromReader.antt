@@ -8,7 +8,7 @@ use Rattle.amqp_wire.specs.declared.limits.Limits.{Limits}
 use Rattle.amqp_decoder.specs.State.{Source, Course, State, is_free, fresh_source}
 use Rattle.amqp_decoder.specs.OtherSource.{elsewhere}
 use Rattle.amqp_decoder.specs.Steps.{unsized, IsExcused, IsReadError, Refused, Tries}
-use Rattle.amqp_decoder.specs.Places.{RefusesAt, AnswersAt, IsPlaced}
+use Rattle.amqp_decoder.specs.Places.{Located, RefusesAt, AnswersAt, IsPlaced}
 use Rattle.amqp_codec.specs.Reading.{Reading, apart, start_within, IsGreatest, BeginsWithin, IsUnreadableWithin, BeginsWith, IsUnreadable, HasFaultAt, IsFaultyAt}
 use Rattle.amqp_codec.specs.laws.Reading.{is_read, read_one, begins_greatest, greatest_begins, unreadable_greatest}
 
@@ -49,7 +49,7 @@ module _ {T : Type 0} (limits : Limits) (r : Reading T) (input : List ℕ) (sour
       go (inr f) (inl (inl x)) = inl x
       go (inr f) (inl (inr x)) = inr (inl x)
       go (inr (left, f, p)) (inr n) =
-          let there = record { error = e; left = left } in
+          let there : Located = record { error = e; left = left } in
           inr (inr (record {
             left = left;
             fault = r.fault_elsewhere plain false begin there f;
