@@ -134,6 +134,8 @@ struct amqp_outcome {
     uint32_t number; /* an amqp_error, 0 if there is none */
     uint32_t detail; /* the format code of AMQP_ERROR_UNKNOWN_CODE, _FLOAT_CODE or _WRONG_TYPE; the reason of AMQP_ERROR_CUSTOM, which no
                       * call returns; otherwise 0 */
+    uint64_t at;     /* the place of the fault: how many bytes of the input are before what is at fault. It is 0 if no byte is at fault: at
+                      * AMQP_ERROR_NONE, _MEMORY and _TOO_LARGE, and from 1000 on. amqp_c_next and amqp_c_field always return 0. */
 };
 
 /* Limits on what is read. The greatest number of bytes or of items, UINT64_MAX, sets no limit. */
@@ -167,7 +169,8 @@ size_t amqp_c_field_name(uint32_t type, size_t index, uint8_t *out, size_t room)
 
 /* Reads the value of the type at the start of the input, within the limits. What follows it is ignored.
  * 0: *taken is how many bytes the value takes. The input begins with no value of the type that takes another number of bytes.
- * 1 to 31: the input begins with no such value, and the error reports a fault of it; or an allocation failed (AMQP_ERROR_MEMORY).
+ * 1 to 31: the input begins with no such value, and the error reports a fault of it and the fault's place, which is at most len; or an
+ * allocation failed (AMQP_ERROR_MEMORY).
  * AMQP_ERROR_NO_TYPE: no type has the number. AMQP_ERROR_NO_LIMITS: the limits let values nest more than 128 deep.
  * After any error *taken is unchanged. */
 struct amqp_outcome amqp_c_read(uint32_t type, const uint8_t *in, size_t len, const struct amqp_limits *limits, size_t *taken);
@@ -175,13 +178,58 @@ struct amqp_outcome amqp_c_read(uint32_t type, const uint8_t *in, size_t len, co
 /* Writes the canonical text of the value of the type at the start of the input, within the limits.
  * 0: the first *written bytes of the room are the text, and the others are unchanged. The value takes *taken bytes of the input.
  * AMQP_ERROR_NO_ROOM: *written is the text's length, which is greater than room. The room is unchanged, and *taken is as above.
- * Other errors: those of amqp_c_read, or AMQP_ERROR_TOO_LARGE if the value is too large to be written. Everything is unchanged. */
+ * Other errors: those of amqp_c_read, with their places, or AMQP_ERROR_TOO_LARGE if the value is too large to be written. Everything is
+ * unchanged. */
 struct amqp_outcome amqp_c_canonical(uint32_t type, const uint8_t *in, size_t len, const struct amqp_limits *limits,
                                      uint8_t *out, size_t room, size_t *written, size_t *taken);
 
 /* Measures the term at the start of the input: one encoded value, of any type. It doesn't allocate.
- * 0: the first *taken bytes are the term. 1 to 31: no prefix of the input is a term that nests at most 128 deep, and *taken is unchanged. */
+ * 0: the first *taken bytes are the term. 1 to 31: no prefix of the input is a term that nests at most 128 deep, the error has the place of
+ * the fault, and *taken is unchanged. */
 struct amqp_outcome amqp_c_term_len(const uint8_t *in, size_t len, size_t *taken);
+
+/* What begins at a node of a path. */
+enum amqp_piece {
+    AMQP_PIECE_VALUE = 1,               /* a value by itself: the whole value, or the one that a descriptor describes */
+    AMQP_PIECE_DESCRIPTOR = 2,          /* a descriptor */
+    AMQP_PIECE_ITEM = 3,                /* an item of a list or of a map, whose keys have even numbers, each before its value */
+    AMQP_PIECE_ARRAY_CONTENT = 4,       /* the content of an array: the constructor that its items share, and their data */
+    AMQP_PIECE_ELEMENT_CONSTRUCTOR = 5, /* the rest of that constructor: a further descriptor, or the format code */
+    AMQP_PIECE_ELEMENT = 6,             /* the data of an item of an array */
+    AMQP_PIECE_END = 7                  /* nothing: the place behind all items of a container */
+};
+
+/* The containers. */
+enum amqp_container {
+    AMQP_CONTAINER_NONE = 0,
+    AMQP_CONTAINER_LIST = 1,
+    AMQP_CONTAINER_MAP = 2,
+    AMQP_CONTAINER_ARRAY = 3
+};
+
+/* A node of the path to a place: what begins there, and where. */
+struct amqp_path_node {
+    size_t at;          /* how many bytes of the input are before it */
+    uint32_t piece;     /* an amqp_piece */
+    uint32_t container; /* an amqp_container: the one that it is in, or whose end it is; none for a value by itself and for a descriptor */
+    size_t count;       /* how many items the container announces; 0 for the rest of a constructor */
+    size_t index;       /* the number of an item, counted from 0 */
+    size_t descriptors; /* how many descriptors of a shared constructor are before its rest, or describe the data that begins here */
+    uint32_t type;      /* for a value that a descriptor with the code of a type describes, the number of this type, as
+                         * amqp_c_type_of_descriptor returns it. If this value is a list, its items have the number, too: they are the type's
+                         * fields, with the names amqp_c_field_name(type, index, ..); and so has its end. Otherwise 0, as under a descriptor
+                         * that is a symbol, or that the items of an array share */
+    uint8_t code;       /* the format code that the items of an array share */
+};
+
+/* Writes the path to an offset of the encoded value at the start of the input: the nodes around the offset, from the outside in, as many as
+ * there is room for. The first node is the value itself. Each further one is one step further in, and none begins behind the offset. Returns
+ * how many nodes the path has, which may be more than room: at least 1, and at most one more than the offset. The rest of the room is
+ * unchanged. For an outcome of amqp_c_read, amqp_c_canonical or amqp_c_term_len, pass its at.
+ * The bytes at the offset and behind it need not be well formed. If those before it aren't, or nest more than 128 deep, or if the offset is
+ * in an item of an array behind items that are arrays themselves, the path may end before the offset. For a value of several sections, pass
+ * the bytes from the section on, and the offset in them. The call doesn't allocate. */
+size_t amqp_c_path(const uint8_t *in, size_t len, size_t at, struct amqp_path_node *nodes, size_t room);
 
 /* Writes the name of the error with this number, as "Cut", if there is room for it, without a 0 at the end. Returns the length of the name,
  * or 0 if no error has the number. If the name is longer than the room, the room is unchanged. */
@@ -233,14 +281,14 @@ struct amqp_node {
  * node begins at the enclosing node's next, and each further one at the end of the one before it; walk.c shows how. The call doesn't allocate.
  * Each call reads the node to its end. So a walk reads a byte once for its own node and once for each node around it.
  * 0: *node is the node at the offset. Otherwise the enclosing node has no node there, and *node is unchanged. The error is AMQP_ERROR_CUT if
- * the offset isn't in the enclosing node; other errors are those of reading. */
+ * the offset isn't in the enclosing node; other errors are those of reading. Their at is 0. */
 struct amqp_outcome amqp_c_next(const uint8_t *in, size_t len, size_t at, struct amqp_node *node);
 
 /* Finds the field with this number, counted from 0, of the composite whose node this is. amqp_c_field_name has the names.
  * The call doesn't allocate. It reads the fields up to this one.
  * 0: *field is the field's node, or all zeros if the composite omits the field: the list is shorter, or the field is null.
  * AMQP_ERROR_WRONG_TYPE: the node isn't a described list; the detail is the format code of the node, or of what its descriptor describes.
- * Other errors are those of amqp_c_next. After any error *field is unchanged. */
+ * Other errors are those of amqp_c_next. After any error *field is unchanged, and at is 0. */
 struct amqp_outcome amqp_c_field(const uint8_t *in, size_t len, const struct amqp_node *composite, size_t index,
                                  struct amqp_node *field);
 

@@ -1,6 +1,6 @@
 /* Checks the calls of amqp_types.h as tools/try-bindings has them checked:
  *
- *     check edges                 what no row says: null pointers, rooms of every size, a room that is too small by one
+ *     check edges                 what no row says: null pointers, rooms of every size, a room that is too small by one, places and paths
  *     check random N              N inputs at random of each type, most of them changed from those of lines `<type> <hex>` of standard input
  *     check threads               every call from eight threads at once, each with its own input
  *
@@ -69,9 +69,28 @@ static bool is_untouched(const uint8_t *room, size_t len) {
     return room[-1] == CANARY;
 }
 
-/* An error of reading or writing that an input can have. */
-static bool is_error(struct amqp_outcome outcome) {
-    return outcome.number >= 1 && outcome.number <= 31 && outcome.number != AMQP_ERROR_MEMORY && outcome.number != AMQP_ERROR_READ;
+/* An error of reading or writing that an input of so many bytes can have, with its place. */
+static bool is_error(struct amqp_outcome outcome, size_t len) {
+    return outcome.number >= 1 && outcome.number <= 31 && outcome.number != AMQP_ERROR_MEMORY && outcome.number != AMQP_ERROR_READ
+           && outcome.at <= (outcome.number == AMQP_ERROR_TOO_LARGE ? 0 : len);
+}
+
+enum { NODES = 300 };
+
+/* The path to a fault begins with the whole value, and no node is behind the fault. One node less of room leaves its last node unwritten. */
+static void check_path(const uint8_t *in, size_t len, struct amqp_outcome fault) {
+    static const struct amqp_path_node unset = {.piece = 77};
+    struct amqp_path_node nodes[NODES], less[NODES];
+    size_t at = (size_t)fault.at, count = amqp_c_path(in, len, at, nodes, NODES);
+    bool is_right = count > 0 && nodes[0].at == 0 && nodes[0].piece == AMQP_PIECE_VALUE;
+    for (size_t i = 0; is_right && i < count && i < NODES; i++)
+        is_right = nodes[i].at <= at && nodes[i].piece >= AMQP_PIECE_VALUE && nodes[i].piece <= AMQP_PIECE_END && nodes[i].type <= TYPES;
+    if (is_right && count <= NODES) {
+        less[count - 1] = unset;
+        is_right = amqp_c_path(in, len, at, less, count - 1) == count && less[count - 1].piece == unset.piece;
+    }
+    if (!is_right)
+        report("the path to a fault", 0, in, len);
 }
 
 /* The text is rewritten as itself, and no byte of it is left. (It may pass limits that the input keeps: a message without a body is
@@ -95,10 +114,11 @@ static bool check_input(struct places *at, uint32_t type, const uint8_t *in, siz
     struct amqp_outcome outcome = amqp_c_read(type, copy, len, limits, &read);
     struct amqp_outcome sized = amqp_c_canonical(type, copy, len, limits, at->out, 0, &written, &taken);
     if (outcome.number != 0) {
-        if (!is_error(outcome) || read != 77 || written != 77 || taken != 77)
+        if (!is_error(outcome, len) || read != 77 || written != 77 || taken != 77)
             report("refused otherwise than documented", type, in, len);
-        if (sized.number != outcome.number || sized.detail != outcome.detail)
+        if (sized.number != outcome.number || sized.detail != outcome.detail || sized.at != outcome.at)
             report("read and rewritten with different errors", type, in, len);
+        check_path(copy, len, outcome);
         return false;
     }
     if (read > len || taken != read || sized.number != (written > 0 ? AMQP_ERROR_NO_ROOM : AMQP_ERROR_NONE))
@@ -131,8 +151,9 @@ static void check_term(struct places *at, const uint8_t *in, size_t len) {
     memmove(copy, in, len);
     struct amqp_outcome outcome = amqp_c_term_len(copy, len, &taken);
     if (outcome.number != 0) {
-        if (!is_error(outcome) || taken != 77)
+        if (!is_error(outcome, len) || taken != 77)
             report("a term refused otherwise", 0, in, len);
+        check_path(copy, len, outcome);
         return;
     }
     if (taken == 0 || taken > len)
@@ -140,7 +161,7 @@ static void check_term(struct places *at, const uint8_t *in, size_t len) {
     copy = front(at->in, taken - 1);
     memmove(copy, in, taken - 1);
     outcome = amqp_c_term_len(copy, taken - 1, &cut);
-    if (outcome.number != AMQP_ERROR_CUT || cut != 77)
+    if (outcome.number != AMQP_ERROR_CUT || outcome.at >= taken || cut != 77)
         report("the front of a term isn't cut", 0, in, len);
 }
 
@@ -337,6 +358,26 @@ static void check_fields(void) {
     require(amqp_c_field(NULL, 0, &link, 0, &field).number == AMQP_ERROR_CUT, "a field of no input");
 }
 
+/* The address of an attach's source is not UTF-8: the error, its place, and the path there. The path of no input is the value that is missing. */
+static void check_places(void) {
+    static const uint8_t attach[] = "\x00\x53\x12\xc0\x1a\x06\xa1\x06orders\x43\x41\x40\x40\x00\x53\x28\xc0\x08\x01\xa1\x05qu\xffue";
+    size_t len = sizeof attach - 1, taken = 77;
+    struct amqp_limits limits;
+    struct amqp_path_node nodes[8];
+    amqp_c_greatest(&limits);
+    struct amqp_outcome outcome = amqp_c_read(AMQP_TYPE_ATTACH, attach, len, &limits, &taken);
+    require(outcome.number == AMQP_ERROR_BAD_UTF8 && outcome.at == 24 && taken == 77, "a fault and its place");
+    require(amqp_c_term_len(attach, len, &taken).at == 24 && taken == 77, "the place in a term");
+    require(amqp_c_path(attach, len, 24, nodes, 8) == 5, "the length of a path");
+    require(nodes[0].piece == AMQP_PIECE_VALUE && nodes[0].type == 0 && nodes[1].piece == AMQP_PIECE_VALUE, "the values on a path");
+    require(nodes[1].type == AMQP_TYPE_ATTACH && nodes[3].type == AMQP_TYPE_SOURCE, "the types on a path");
+    require(nodes[2].piece == AMQP_PIECE_ITEM && nodes[2].index == 5 && nodes[2].count == 6 && nodes[2].at == 18, "the source on a path");
+    require(nodes[2].type == AMQP_TYPE_ATTACH && nodes[2].container == AMQP_CONTAINER_LIST, "the field on a path");
+    require(nodes[4].piece == AMQP_PIECE_ITEM && nodes[4].index == 0 && nodes[4].type == AMQP_TYPE_SOURCE && nodes[4].at == 24, "its address");
+    require(amqp_c_path(NULL, 0, 0, nodes, 8) == 1 && nodes[0].piece == AMQP_PIECE_VALUE && nodes[0].at == 0, "the path of no input");
+    require(amqp_c_path(attach, len, SIZE_MAX, NULL, 0) >= 1, "the path to a place behind the input");
+}
+
 /* One thread of eight: every call, over an input of its own. */
 static void *run_thread(void *given) {
     uint8_t own = *(uint8_t *)given, input[] = {0x00, 0x53, 0x23, 0xc0, 0x08, 0x02, 0x70, 0, 0, 0, own, 0x53, 0x0d, own};
@@ -347,12 +388,14 @@ static void *run_thread(void *given) {
         struct amqp_limits limits;
         size_t read = 0, taken = 0, written = 0, len = 0;
         uint8_t out[16], name[16];
+        struct amqp_path_node nodes[3];
         amqp_c_greatest(&limits);
         uint32_t type = amqp_c_type((const uint8_t *)"received", 8);
         holds &= amqp_c_read(type, input, sizeof input, &limits, &read).number == 0 && read == 13;
         holds &= amqp_c_canonical(type, input, sizeof input, &limits, out, sizeof out, &written, &taken).number == 0 && taken == 13;
         holds &= written == sizeof text && memcmp(out, text, sizeof text) == 0;
         holds &= amqp_c_term_len(input, sizeof input, &len).number == 0 && len == 13;
+        holds &= amqp_c_path(input, sizeof input, 12, nodes, 3) == 3 && nodes[2].index == 1 && nodes[2].type == type;
         holds &= amqp_c_error_name(own, name, sizeof name) >= 3;
         holds &= check_input(&at, AMQP_TYPE_VALUE, input, sizeof input, &limits);
     }
@@ -379,6 +422,7 @@ int main(int argc, char **argv) {
         check_edges();
         check_descriptors();
         check_fields();
+        check_places();
     } else if (argc == 3 && strcmp(argv[1], "random") == 0)
         check_random(atol(argv[2]));
     else if (argc == 2 && strcmp(argv[1], "threads") == 0)

@@ -182,16 +182,79 @@ static uint8_t *passed(const struct room *room) { return room->len == 0 && room-
 
 /* Errors. */
 
-static bool is_same(struct amqp_outcome one, struct amqp_outcome other) { return one.number == other.number && one.detail == other.detail; }
+static bool is_same_error(struct amqp_outcome one, struct amqp_outcome other) {
+    return one.number == other.number && one.detail == other.detail;
+}
 
-/* Whether an outcome is success, or an error that reading and writing an input may have; it is counted. */
+static bool is_same(struct amqp_outcome one, struct amqp_outcome other) { return is_same_error(one, other) && one.at == other.at; }
+
+/* Whether an error with this number is a fault of bytes. */
+static bool is_of_bytes(uint32_t number) {
+    return number >= 1 && number <= 31 && (number < AMQP_ERROR_MEMORY || number > AMQP_ERROR_TOO_LARGE);
+}
+
+/* Whether an outcome is success, or an error that reading and writing an input may have, without a place if no byte is at fault; it is
+ * counted. */
 static bool is_known(struct amqp_outcome outcome) {
     uint32_t number = outcome.number;
     done->errors |= number < 32 ? 1ull << number : number >= 1000 && number < 1003 ? 1ull << (number - 1000 + 32) : 0;
     bool has_code = number == AMQP_ERROR_UNKNOWN_CODE || number == AMQP_ERROR_FLOAT_CODE || number == AMQP_ERROR_WRONG_TYPE;
     bool is_listed = number <= 31 || (number >= 1000 && number <= 1002);
     bool is_of_input = number != AMQP_ERROR_READ && number != AMQP_ERROR_CUSTOM && number != AMQP_ERROR_MEMORY;
-    return is_listed && is_of_input && outcome.detail <= (has_code ? 0xff : 0);
+    bool is_placed = outcome.at == 0 || is_of_bytes(number);
+    return is_listed && is_of_input && is_placed && outcome.detail <= (has_code ? 0xff : 0);
+}
+
+/* Paths. */
+
+static bool is_path_node(const struct amqp_path_node *one, const struct amqp_path_node *other) {
+    return one->at == other->at && one->piece == other->piece && one->container == other->container && one->count == other->count
+           && one->index == other->index && one->descriptors == other->descriptors && one->type == other->type && one->code == other->code;
+}
+
+/* What holds of each node of a path to a place. */
+static bool is_on_path(const struct amqp_path_node *node, size_t at) {
+    bool is_item = node->piece == AMQP_PIECE_ITEM || node->piece == AMQP_PIECE_ELEMENT;
+    bool is_alone = node->piece == AMQP_PIECE_VALUE || node->piece == AMQP_PIECE_DESCRIPTOR;
+    bool is_typed = node->piece == AMQP_PIECE_VALUE || node->container == AMQP_CONTAINER_LIST;
+    return node->at <= at && node->piece >= AMQP_PIECE_VALUE && node->piece <= AMQP_PIECE_END && node->container <= AMQP_CONTAINER_ARRAY
+           && (is_item ? node->index < node->count : node->index == 0) && is_alone == (node->container == AMQP_CONTAINER_NONE)
+           && node->type <= TYPES && (is_typed || node->type == 0) && (node->code != 0) == (node->piece == AMQP_PIECE_ELEMENT);
+}
+
+/* The path to a place in room for so many nodes, with the nodes that are wanted, and nothing behind them. */
+static void check_room(const struct room *in, size_t at, const struct amqp_path_node *wanted, size_t count, size_t room) {
+    struct room out = open_room(1, in->place, (room + 1) * sizeof *wanted);
+    struct amqp_path_node *nodes = (struct amqp_path_node *)(void *)out.at;
+    require(amqp_c_path(passed(in), in->len, at, nodes, room) == count, "a path has another length in another room");
+    size_t written = count < room ? count : room;
+    for (size_t i = 0; i < written; i++)
+        require(is_path_node(&nodes[i], &wanted[i]), "a path has another node in another room");
+    require(is_untouched(&out, written * sizeof *wanted), "a path is written to behind its nodes");
+    close_room(&out);
+}
+
+/* The path to a place: it begins with the whole value, goes on to the place and no further, and is told as far as there is room. */
+static void check_path(const struct room *in, size_t at) {
+    size_t count = amqp_c_path(passed(in), in->len, at, NULL, 0);
+    require(count > 0, "a path has no node");
+    struct room out = open_room(2, in->place, count * sizeof(struct amqp_path_node));
+    struct amqp_path_node *nodes = (struct amqp_path_node *)(void *)out.at;
+    require(amqp_c_path(passed(in), in->len, at, nodes, count) == count, "a path has another length");
+    require(nodes[0].at == 0 && nodes[0].piece == AMQP_PIECE_VALUE && nodes[0].type == 0, "a path begins elsewhere");
+    for (size_t i = 0; i < count; i++)
+        require(is_on_path(&nodes[i], at) && (i == 0 || nodes[i - 1].at <= nodes[i].at), "what is no node of a path");
+    require(is_untouched(&out, out.len), "a path is written to around its room");
+    check_room(in, at, nodes, count, count);
+    check_room(in, at, nodes, count, count - 1);
+    close_room(&out);
+}
+
+/* A fault is in the input, and a path leads there. */
+static void check_fault(const struct room *in, struct amqp_outcome fault) {
+    require(fault.at <= in->len, "a fault is behind the input");
+    if (is_of_bytes(fault.number) && fault.at <= in->len)
+        check_path(in, (size_t)fault.at);
 }
 
 /* Values of a type. */
@@ -227,7 +290,7 @@ static void check_large(uint32_t type, const struct room *in, const struct amqp_
 
 /* Reads and rewrites a value in every way. The text's room is to be closed. */
 static struct value read_value(uint32_t type, const struct room *in, const struct amqp_limits *limits) {
-    struct value value = {{0, 0}, UNSET, UNSET, {NULL, 0, AT_END}};
+    struct value value = {{0, 0, 0}, UNSET, UNSET, {NULL, 0, AT_END}};
     size_t taken = UNSET, written = UNSET;
     value.outcome = amqp_c_read(type, passed(in), in->len, limits, &value.taken);
     require(is_known(value.outcome) && value.outcome.number != AMQP_ERROR_NO_ROOM, "an error that reading can't have");
@@ -235,6 +298,7 @@ static struct value read_value(uint32_t type, const struct room *in, const struc
     if (value.outcome.number != 0) {
         require(value.taken == UNSET && written == UNSET && taken == UNSET, "an error changes a size");
         require(is_same(value.outcome, sized), "read and rewritten with different errors");
+        check_fault(in, value.outcome);
         return value;
     }
     require(value.taken <= in->len, "a value passes the end of the input");
@@ -300,7 +364,7 @@ static void check_refused(uint32_t type, const struct room *in, const struct amq
         refused = which;
         struct amqp_outcome outcome = amqp_c_canonical(type, passed(in), in->len, limits, NULL, 0, &written, &taken);
         refused = 0;
-        require(outcome.number == AMQP_ERROR_MEMORY && outcome.detail == 0, "an allocation is refused, and the error is another one");
+        require(outcome.number == AMQP_ERROR_MEMORY && outcome.detail == 0 && outcome.at == 0, "an allocation is refused, and the error is another one");
         require(written == UNSET && taken == UNSET, "an allocation is refused, and a size is changed");
         done->refused++;
     }
@@ -430,6 +494,9 @@ static size_t walk(const struct room *in, size_t at, const struct amqp_node *aro
     return node.end;
 }
 
+/* A place in the input, or right behind it. */
+static size_t any_place(size_t len) { return tried[4] * 7919u % (len + 1); }
+
 /* The length of a term, that no front of it is one, and its nodes. */
 static void check_term(const uint8_t *bytes, size_t len, enum place place) {
     size_t taken = UNSET, cut = UNSET;
@@ -438,12 +505,16 @@ static void check_term(const uint8_t *bytes, size_t len, enum place place) {
     allocations = 0;
     struct amqp_outcome outcome = amqp_c_term_len(passed(&in), len, &taken), next = amqp_c_next(passed(&in), len, 0, &node);
     require(is_known(outcome) && outcome.number < 1000, "an error that measuring can't have");
-    require(len == 0 || is_same(outcome, next), "measured and walked with different outcomes");
+    require(len == 0 || is_same_error(outcome, next), "measured and walked with different outcomes");
+    require(next.at == 0, "a walk tells a place");
     if (outcome.number != 0) {
         require(taken == UNSET && next.number != 0 && is_node(&node, &no_node), "an error changes a size or a node");
+        check_fault(&in, outcome);
+        require(wrong || allocations == 0, "measuring or a path allocates");
         close_room(&in);
         return;
     }
+    check_path(&in, any_place(len));
     done->terms++;
     require(taken > 0 && taken <= len && node.end == taken, "a term has no or too many bytes");
     require(walk(&in, 0, &no_node) == taken, "a walk over a term ends elsewhere");
@@ -488,6 +559,7 @@ static void check_false_nodes(const uint8_t *bytes, size_t len, const uint8_t *h
         outcome = amqp_c_field(passed(&in), len, &around, any_size(&state, 4), &field);
         require(is_known(outcome) && outcome.number < 1000, "an error that a field can't have");
         require(outcome.number == 0 ? field.end <= len : is_node(&field, &no_node), "a false composite leads out of the input");
+        require(amqp_c_path(passed(&in), len, any_size(&state, len), NULL, 0) > 0, "a path to any place has no node");
     }
     close_room(&in);
 }

@@ -21,6 +21,8 @@ UNLIMITED = 2**64 - 1
 
 _NO_ROOM = 1000
 _NAMES_A_CODE = (2, 3, 27)
+# DuplicateKey, Missing and EmptyMultiple may be behind the last item of a container.
+_MAY_END = (6, 8, 18)
 
 # The bytes of a buffer that is kept for the next call.
 _KEPT_ROOM = 4096
@@ -167,20 +169,61 @@ class AmqpError(ValueError):
     number: The number of the error.
     name: Its name, as `Cut`.
     code: The format code that it reports, or None if it reports none.
+    at: The place of the fault: how many bytes of the data are before what is at fault, or None if the error or the call has no place.
+
+    >>> try:
+    ...     canonical(Type.VALUE, bytes.fromhex("005323c00401a101ff"))
+    ... except AmqpError as error:
+    ...     print(error.name, error.at, error.path)
+    BadUtf8 6 received.section-number
     """
 
-    def __init__(self, number: int, detail: int = 0) -> None:
+    def __init__(self, number: int, detail: int = 0, at: Optional[int] = None, of: Optional[Type] = None, data: bytes = b"") -> None:
         self.number = number
         self.name = error_name(number)
         self.code = detail if number in _NAMES_A_CODE else None
+        self.at = at if _is_of_bytes(number) else None
+        self._of, self._data = of, data
         super().__init__(self.name if self.code is None else f"{self.name}: 0x{self.code:02x}")
 
+    @functools.cached_property
+    def path(self) -> Optional[str]:
+        """The path to the fault, as `attach.source.filter`, or None if the error has no place.
+
+        It is the outermost type's name and a step for each node: `.NAME` for a field of a composite, `[N]` for an item of a list or of an
+        array, `{N}` for the key of the pair N of a map, and `[{N}]` for its value. `(descriptor)` is a descriptor, `(constructor)` that of
+        an array's items, and `(end)` the place behind the last item. All numbers count from 0. If the data has several sections, the path
+        begins with the section that has the fault.
+        """
+        if self.at is None or self._of is None:
+            return None
+        start = _section_of(self._data, self.at, self.number in _MAY_END)
+        return printed_path(path_of(self._data[start:], self.at - start), self._of)
+
     def __reduce__(self) -> Tuple[Any, ...]:
-        return AmqpError, (self.number, self.code or 0)
+        return AmqpError, (self.number, self.code or 0, self.at), {"path": self.path}
+
+
+def _is_of_bytes(number: int) -> bool:
+    """Whether the error with this number is a fault of bytes. The others say that memory ran out, or that a value can't be written."""
+    return 1 <= number <= 20 or 25 <= number <= 31
 
 
 class _Outcome(ctypes.Structure):
-    _fields_ = [("number", ctypes.c_uint32), ("detail", ctypes.c_uint32)]
+    _fields_ = [("number", ctypes.c_uint32), ("detail", ctypes.c_uint32), ("at", ctypes.c_uint64)]
+
+
+class _PathNode(ctypes.Structure):
+    _fields_ = [
+        ("at", ctypes.c_size_t),
+        ("piece", ctypes.c_uint32),
+        ("container", ctypes.c_uint32),
+        ("count", ctypes.c_size_t),
+        ("index", ctypes.c_size_t),
+        ("descriptors", ctypes.c_size_t),
+        ("type", ctypes.c_uint32),
+        ("code", ctypes.c_uint8),
+    ]
 
 
 class _Node(ctypes.Structure):
@@ -224,6 +267,7 @@ def _loaded() -> ctypes.CDLL:
         "amqp_c_read": ([number, data, size, limits, place], _Outcome),
         "amqp_c_canonical": ([number, data, size, limits, ctypes.c_void_p, size, place, place], _Outcome),
         "amqp_c_term_len": ([data, size, place], _Outcome),
+        "amqp_c_path": ([data, size, size, ctypes.POINTER(_PathNode), size], size),
         "amqp_c_next": ([data, size, size, ctypes.POINTER(_Node)], _Outcome),
         "amqp_c_field": ([data, size, ctypes.POINTER(_Node), size, ctypes.POINTER(_Node)], _Outcome),
         "amqp_c_type_of_descriptor": ([ctypes.c_uint64], number),
@@ -260,7 +304,8 @@ class _Room:
 
 # The same call for short data. Without declared types, ctypes passes what it is given as it is, in a third of the time. So it may only be
 # given a `Type`, bytes, and what `byref` and `from_param` return. Other threads of Python don't run meanwhile: to wait for the next turn
-# could take longer than the call. On x86-64 an outcome is returned in one register, with the error's number in the lower half.
+# could take longer than the call. On x86-64 an outcome is returned in two registers. This reads the first, with the error's number in the
+# lower half, and an error is asked for again.
 _quick_canonical = ctypes.PyDLL(_library._name, handle=_library._handle).amqp_c_canonical
 _quick_canonical.restype = ctypes.c_uint64
 
@@ -327,7 +372,14 @@ def field_name(of: Type, index: int) -> Optional[str]:
     return room.raw[:size].decode() if size else None
 
 
-def _check(outcome: Any) -> None:
+def _check(outcome: Any, of: Type, data: bytes) -> None:
+    """Raises the error of a call that tells places."""
+    if outcome.number:
+        raise AmqpError(outcome.number, outcome.detail, outcome.at, of, data)
+
+
+def _check_node(outcome: Any) -> None:
+    """Raises the error of a call that tells no place."""
     if outcome.number:
         raise AmqpError(outcome.number, outcome.detail)
 
@@ -343,7 +395,7 @@ def read(of: Type, data: bytes, limits: Limits = _DEFAULT) -> int:
     1
     """
     taken = ctypes.c_size_t()
-    _check(_library.amqp_c_read(of, data, len(data), limits._passed, ctypes.byref(taken)))
+    _check(_library.amqp_c_read(of, data, len(data), limits._passed, ctypes.byref(taken)), of, data)
     return taken.value
 
 
@@ -365,12 +417,9 @@ def canonical(of: Type, data: bytes, limits: Limits = _DEFAULT) -> Tuple[bytes, 
             outcome = _quick_canonical(of, data, _sizes[size], passed, out_at, _kept_size, written_at, taken_at)
             if outcome == 0:
                 return out[: written.value], taken.value
-            size = written.value
+            size = written.value if outcome == _NO_ROOM else 0
         finally:
             _rooms.append(room)
-        detail, number = divmod(outcome, 2**32)
-        if number != _NO_ROOM:
-            raise AmqpError(number, detail)
     return _canonical(of, data, limits, _Room(size))
 
 
@@ -399,8 +448,7 @@ def _is_written(of: Type, data: bytes, limits: Limits, room: _Room) -> bool:
     )
     if outcome.number == _NO_ROOM:
         return False
-    if outcome.number:
-        raise AmqpError(outcome.number, outcome.detail)
+    _check(outcome, of, data)
     return True
 
 
@@ -411,8 +459,114 @@ def term_len(data: bytes) -> int:
     4
     """
     taken = ctypes.c_size_t()
-    _check(_library.amqp_c_term_len(data, len(data), ctypes.byref(taken)))
+    _check(_library.amqp_c_term_len(data, len(data), ctypes.byref(taken)), Type.VALUE, data)
     return taken.value
+
+
+class Piece(enum.IntEnum):
+    """What begins at a node of a path."""
+
+    VALUE = 1
+    DESCRIPTOR = 2
+    ITEM = 3
+    ARRAY_CONTENT = 4
+    ELEMENT_CONSTRUCTOR = 5
+    ELEMENT = 6
+    END = 7
+
+
+class Container(enum.IntEnum):
+    """A kind of value that holds any number of other values."""
+
+    LIST = 1
+    MAP = 2
+    ARRAY = 3
+
+
+@dataclass(frozen=True)
+class PathNode:
+    """A node of a path.
+
+    at: How many bytes of the data are before it.
+    piece: What begins there: a value by itself, a descriptor, an item of a list or a map, the content of an array, the rest of the
+        constructor that the array's items share, an item of the array, or nothing, behind all items of a container.
+    container: The container that it is in, or whose end it is; None for a value by itself and for a descriptor.
+    count: How many items the container announces; 0 for the rest of a constructor.
+    index: The number of an item, from 0. In a map, keys have even numbers, each before its value.
+    descriptors: How many descriptors of a shared constructor are before its rest, or describe what begins here.
+    type: For a value behind a descriptor, the type that has the descriptor's code. If this is a list, its items have the type, too, whose
+        fields they are, and so has its end. Otherwise None.
+    code: The format code that the items of an array share, or 0.
+    """
+
+    at: int
+    piece: Piece
+    container: Optional[Container]
+    count: int
+    index: int
+    descriptors: int
+    type: Optional[Type]
+    code: int
+
+
+def path_of(data: bytes, at: int) -> List[PathNode]:
+    """Returns the path to an offset of the encoded value at the start of the data: the nodes around it, from the outside in.
+
+    The first node is the value itself, and none begins behind the offset. The bytes there and behind it need not be well formed.
+
+    >>> [(node.at, node.piece.name, node.index) for node in path_of(bytes.fromhex("005323c005025209530d"), 8)]
+    [(0, 'VALUE', 0), (3, 'VALUE', 0), (8, 'ITEM', 1)]
+    """
+    count = _library.amqp_c_path(data, len(data), at, None, 0)
+    nodes = (_PathNode * count)()
+    _library.amqp_c_path(data, len(data), at, nodes, count)
+    return [_told(node) for node in nodes]
+
+
+def _told(node: Any) -> PathNode:
+    container = Container(node.container) if node.container else None
+    of = Type(node.type) if node.type else None
+    return PathNode(node.at, Piece(node.piece), container, node.count, node.index, node.descriptors, of, node.code)
+
+
+def _section_of(data: bytes, at: int, may_end: bool) -> int:
+    """Returns where the section begins that has the place: behind the whole sections before it, of which the last may end there."""
+    start, taken = 0, ctypes.c_size_t()
+    while not _library.amqp_c_term_len(data[start:], len(data) - start, ctypes.byref(taken)).number:
+        end = start + taken.value
+        if end > at or (end == at and may_end):
+            break
+        start = end
+    return start
+
+
+def printed_path(path: List[PathNode], of: Type) -> str:
+    """Returns a path as `AmqpError.path` has it. The type is the one that was asked for, if the value doesn't say its own.
+
+    >>> printed_path(path_of(bytes.fromhex("005323c005025209530d"), 8), Type.VALUE)
+    'received.section-offset'
+    """
+    root = path[1].type if len(path) > 1 and path[1].piece == Piece.VALUE else None
+    return _name_of(root or Type(of)) + "".join(_step(node, before) for before, node in zip(path, path[1:]))
+
+
+def _name_of(of: Type) -> str:
+    return of.name.lower().replace("_", "-")
+
+
+_MARKS = {Piece.DESCRIPTOR: "(descriptor)", Piece.ELEMENT_CONSTRUCTOR: "(constructor)", Piece.END: "(end)"}
+
+
+def _step(node: PathNode, before: PathNode) -> str:
+    """Returns the step to a node of a path from the one before it."""
+    if node.piece == Piece.ITEM and node.container == Container.MAP:
+        return f"[{{{node.index // 2}}}]" if node.index % 2 else f"{{{node.index // 2}}}"
+    if node.piece == Piece.ITEM:
+        name = field_name(node.type, node.index) if node.type else None
+        return f".{name}" if name else f"[{node.index}]"
+    if node.piece == Piece.ELEMENT and before.piece != Piece.ELEMENT:
+        return f"[{node.index}]"
+    return _MARKS.get(node.piece, "")
 
 
 @dataclass(frozen=True)
@@ -440,7 +594,7 @@ def _returned(node: _Node) -> Node:
 def node_at(data: bytes, at: int = 0, around: Optional[Node] = None) -> Node:
     """Returns the node that begins at the offset, in the enclosing node. The items of an array have no constructor of their own."""
     node = _passed(around) if around else _Node()
-    _check(_library.amqp_c_next(data, len(data), at, ctypes.byref(node)))
+    _check_node(_library.amqp_c_next(data, len(data), at, ctypes.byref(node)))
     return _returned(node)
 
 
@@ -452,7 +606,7 @@ def field_at(data: bytes, composite: Node, index: int) -> Optional[Node]:
     10
     """
     field = _Node()
-    _check(_library.amqp_c_field(data, len(data), ctypes.byref(_passed(composite)), index, ctypes.byref(field)))
+    _check_node(_library.amqp_c_field(data, len(data), ctypes.byref(_passed(composite)), index, ctypes.byref(field)))
     return _returned(field) if field.kind else None
 
 

@@ -1,1 +1,5 @@
 mod Requests
+mod Codes
+mod Placed
+mod Steps
+mod Paths

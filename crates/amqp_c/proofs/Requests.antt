@@ -12,5 +12,5 @@ pub refused : (number : ℕ) (given : GivenLimits) (Has : TypeName → Limits �
     → Fails number given (λ _ _ _. ⊥) f → Fails number given Has f
 refused number given Has NoType h = h
 refused number given Has NoLimits h = h
-refused number given Has (Failed e) (named, within, is, inl memory) = (named, within, is, inl memory)
-refused number given Has (Failed e) (named, within, is, inr none) = absurd none
+refused number given Has (Failed r) (named, within, is, inl memory) = (named, within, is, inl memory)
+refused number given Has (Failed r) (named, within, is, inr none) = absurd none

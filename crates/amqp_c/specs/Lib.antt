@@ -7,3 +7,4 @@ pub mod Nodes
 pub mod Rewriting
 pub mod Fields
 pub mod Descriptors
+pub mod Paths

@@ -47,8 +47,8 @@ HasNoLength = of_type (λ T reading canons limits input e. IsUnreadableWithin li
 abbrev pub Fails : ℕ → GivenLimits → (TypeName → Limits → Error → Type 0) → Failure → Type 0
 Fails number given Has NoType = (named : TypeName) → HasNumber named number → ⊥
 Fails number given Has NoLimits = ((named : TypeName) × HasNumber named number) × (128 < given.nesting)
-Fails number given Has (Failed e) =
-    (named : TypeName) × (within : Limits) × IsOf number given named within × ((e ≡ Memory) ⊎ Has named within e)
+Fails number given Has (Failed r) =
+    (named : TypeName) × (within : Limits) × IsOf number given named within × ((r.error ≡ Memory) ⊎ Has named within r.error)
 
 -- Within the limits, so many bytes are taken by the value of the type that the input begins with.
 abbrev pub IsLength : ℕ → GivenLimits → List ℕ → ℕ → Type 0

@@ -1,9 +1,11 @@
 //! The calls.
-ghost use Rattle.std.specs.Prelude.{◌≡◌};
+ghost use Rattle.std.specs.Prelude.{◌≡◌, ◌≤◌, ◌+◌, length};
 ghost use Rattle.amqp_c.specs.Limits.{greatest_given, peers_given};
 ghost use Rattle.amqp_c.specs.Errors.{TellsName};
 ghost use Rattle.amqp_c.specs.Descriptors.{IsTypeOfCode, TellsFieldName};
-ghost use Rattle.amqp_c.specs.Terms.{TellsLength};
+ghost use Rattle.amqp_c.specs.Outcomes.{PlacesFault};
+ghost use Rattle.amqp_c.specs.Paths.{TellsPath};
+ghost use Rattle.amqp_c.specs.Terms.{TellsLength, TellsPlace};
 ghost use Rattle.amqp_c.specs.Nodes.{TellsNode};
 ghost use Rattle.amqp_c.specs.Fields.{TellsField};
 ghost use Rattle.amqp_c.specs.Rewriting.{IsNumberOf, Reads, Rewrites, Written};
@@ -12,11 +14,12 @@ use crate::descriptors::{field_name, type_of_code};
 use crate::errors::name_of_number;
 use crate::limits::GivenLimits;
 use crate::outcome::{DONE, FULL, Outcome};
+use crate::path::{PathNode, tell_path};
 use crate::rewriting::{canonical_into, value_len};
 use crate::room::put;
 use amqp_lines::TypeName;
 use amqp_nodes::{Node, field_node, next_node};
-use fe2o3_amqp_types::codec::term_len;
+use fe2o3_amqp_types::codec::term_len_located;
 use std::alloc::Global;
 
 /// Returns the number of the type with this name in the program `amqp_canon`, or 0 if none has it.
@@ -56,7 +59,8 @@ pub extern "C" fn amqp_c_field_name(number: u32, index: usize, out: &mut [u8]) -
     bytes.len()
 }
 
-/// Reads the value of the numbered type at the start of the input, within the limits, and writes its length to `taken`.
+/// Reads the value of the numbered type at the start of the input, within the limits, and writes its length to `taken`. An error has the
+/// place of the fault.
 #[unsafe(no_mangle)]
 pub extern "C" fn amqp_c_read(
     number: u32,
@@ -65,7 +69,9 @@ pub extern "C" fn amqp_c_read(
     taken: &mut usize,
     alloc: Global,
 ) -> Outcome
-    ensures { Reads number limits.now input.now taken.old taken.new result }
+    ensures told { Reads number limits.now input.now taken.old taken.new result }
+    ensures within { result.at ≤ length input.now }
+    ensures fault { PlacesFault result }
 {
     match value_len(number, input, limits, alloc) {
         Ok(len) => {
@@ -77,7 +83,8 @@ pub extern "C" fn amqp_c_read(
 }
 
 /// Writes the canonical text of the value of the numbered type at the start of the input, within the limits, and the value's length to
-/// `taken`. If there is no room for the text, its length is written to `written`, and `out` is unchanged.
+/// `taken`. If there is no room for the text, its length is written to `written`, and `out` is unchanged. An error of reading has the place
+/// of the fault.
 #[unsafe(no_mangle)]
 pub extern "C" fn amqp_c_canonical(
     number: u32,
@@ -88,8 +95,10 @@ pub extern "C" fn amqp_c_canonical(
     taken: &mut usize,
     alloc: Global,
 ) -> Outcome
-    ensures { Rewrites number limits.now input.now (record { room = out.old; written = written.old; taken = taken.old })
+    ensures told { Rewrites number limits.now input.now (record { room = out.old; written = written.old; taken = taken.old })
         (record { room = out.new; written = written.new; taken = taken.new }) result }
+    ensures within { result.at ≤ length input.now }
+    ensures fault { PlacesFault result }
 {
     match canonical_into(number, input, out, limits, alloc) {
         Ok((len, value_len)) => {
@@ -101,18 +110,33 @@ pub extern "C" fn amqp_c_canonical(
     }
 }
 
-/// Writes the length of the term at the start of the input, of any type, to `taken` (Part 1, section 1.2).
+/// Writes the length of the term at the start of the input, of any type, to `taken` (Part 1, section 1.2). An error has the place of the
+/// fault.
 #[unsafe(no_mangle)]
 pub extern "C" fn amqp_c_term_len(input: &[u8], taken: &mut usize) -> Outcome
-    ensures { TellsLength input.now taken.old taken.new result }
+    ensures told { TellsLength input.now taken.old taken.new result }
+    ensures within { result.at ≤ length input.now }
+    ensures fault { PlacesFault result }
+    ensures stands { TellsPlace input.now result }
 {
-    match term_len(input) {
+    match term_len_located(input) {
         Ok(len) => {
             *taken = len;
             DONE
         }
-        Err(error) => Outcome::of_error(error),
+        Err(refusal) => Outcome::of_refusal(refusal),
     }
+}
+
+/// Writes the nodes of the path to the offset `at` in the encoded value at the start of the input, from the outside in, to `nodes`, as many
+/// as there is room for (Part 1, sections 1.2 and 1.6). Returns how many nodes the path has.
+#[unsafe(no_mangle)]
+pub extern "C" fn amqp_c_path(input: &[u8], at: usize, nodes: &mut [PathNode]) -> usize
+    ensures told { TellsPath input.now at nodes.old nodes.new result }
+    ensures some { 1 ≤ result }
+    ensures most { result ≤ at + 1 }
+{
+    tell_path(input, at, nodes)
 }
 
 /// Replaces the enclosing node by the node of a term that begins at the offset. Around a whole term the enclosing node is all zeros.

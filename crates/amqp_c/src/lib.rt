@@ -8,6 +8,7 @@ mod errors;
 mod exports;
 mod limits;
 mod outcome;
+mod path;
 mod rewriting;
 mod room;
 #[cfg(test)]
@@ -16,7 +17,8 @@ mod tests;
 pub use amqp_nodes::Node;
 pub use exports::{
     amqp_c_canonical, amqp_c_error_name, amqp_c_field, amqp_c_field_name, amqp_c_greatest,
-    amqp_c_next, amqp_c_read, amqp_c_term_len, amqp_c_type, amqp_c_type_of_descriptor,
+    amqp_c_next, amqp_c_path, amqp_c_read, amqp_c_term_len, amqp_c_type, amqp_c_type_of_descriptor,
 };
 pub use limits::GivenLimits;
 pub use outcome::Outcome;
+pub use path::PathNode;

@@ -1,10 +1,11 @@
 //! Tests of each call, once without an error and once with one.
 use crate::exports::{
     amqp_c_canonical, amqp_c_error_name, amqp_c_field, amqp_c_field_name, amqp_c_greatest,
-    amqp_c_next, amqp_c_read, amqp_c_term_len, amqp_c_type, amqp_c_type_of_descriptor,
+    amqp_c_next, amqp_c_path, amqp_c_read, amqp_c_term_len, amqp_c_type, amqp_c_type_of_descriptor,
 };
 use crate::limits::GivenLimits;
 use crate::outcome::Outcome;
+use crate::path::PathNode;
 use amqp_nodes::Node;
 use std::test::Fail;
 
@@ -27,13 +28,15 @@ fn greatest() -> GivenLimits {
     limits
 }
 
-// An outcome that isn't this one fails the test.
+// An outcome that isn't this one, without a place, fails the test.
 fn check(outcome: Outcome, number: u32, detail: u32) -> Result<(), Fail> {
-    if outcome.number != number || outcome.detail != detail {
-        return Err(Fail::new(format_args!(
-            "{} {} stands for {number} {detail}",
-            outcome.number, outcome.detail
-        )));
+    check_place(outcome, number, detail, 0)
+}
+
+fn check_place(outcome: Outcome, number: u32, detail: u32, at: u64) -> Result<(), Fail> {
+    let wanted = Outcome { number, detail, at };
+    if outcome != wanted {
+        return Err(Fail::new(format_args!("{outcome:?} stands for {wanted:?}")));
     }
     Ok(())
 }
@@ -46,8 +49,18 @@ fn values_are_read(rt: HostRuntime) -> Result<(), Fail> {
     check(outcome, 0, 0)?;
     assert_eq!(rt; taken, 13);
     let accepted = amqp_c_type(b"accepted");
+    // The descriptor is that of another type.
     let outcome = amqp_c_read(accepted, &RECEIVED, &greatest(), &mut taken, rt.alloc());
-    check(outcome, 9, 0)?;
+    check_place(outcome, 9, 0, 1)?;
+    // The offset is cut.
+    let outcome = amqp_c_read(
+        received,
+        &RECEIVED[..12],
+        &greatest(),
+        &mut taken,
+        rt.alloc(),
+    );
+    check_place(outcome, 1, 0, 11)?;
     let outcome = amqp_c_read(received, &[0x99], &greatest(), &mut taken, rt.alloc());
     check(outcome, 2, 0x99)?;
     let none = amqp_c_type(b"receive");
@@ -97,8 +110,28 @@ fn values_are_rewritten(rt: HostRuntime) -> Result<(), Fail> {
     check(outcome, 0, 0)?;
     assert_eq!(rt; written, 10);
     assert_eq!(rt; taken, 13);
-    assert!(rt; &out[..10] == TEXT.as_slice());
+    assert!(rt; out.as_slice().starts_with(&TEXT));
     assert_eq!(rt; out[10], 0xaa);
+    Ok(())
+}
+
+#[test]
+fn what_is_cut_is_not_rewritten(rt: HostRuntime) -> Result<(), Fail> {
+    let received = amqp_c_type(b"received");
+    let mut out = [0xaa; 11];
+    let mut written = 0;
+    let mut taken = 0;
+    let outcome = amqp_c_canonical(
+        received,
+        &RECEIVED[..12],
+        &greatest(),
+        &mut out,
+        &mut written,
+        &mut taken,
+        rt.alloc(),
+    );
+    check_place(outcome, 1, 0, 11)?;
+    assert_eq!(rt; out, [0xaa; 11]);
     Ok(())
 }
 
@@ -110,6 +143,9 @@ fn lengths_of_terms(rt: HostRuntime) -> Result<(), Fail> {
     assert_eq!(rt; taken, 13);
     check(amqp_c_term_len(&[], &mut taken), 1, 0)?;
     check(amqp_c_term_len(&[0x72, 0], &mut taken), 3, 0x72)?;
+    // A list of a null and a string that is not UTF-8.
+    let outcome = amqp_c_term_len(&[0xc0, 0x05, 2, 0x40, 0xa1, 1, 0xff], &mut taken);
+    check_place(outcome, 14, 0, 4)?;
     assert_eq!(rt; taken, 13);
     Ok(())
 }
@@ -143,6 +179,108 @@ fn descriptors_and_names_of_fields(rt: HostRuntime) -> Result<(), Fail> {
     assert_eq!(rt; amqp_c_field_name(0, 0, &mut out), 0);
     assert_eq!(rt; out, *b"source");
     Ok(())
+}
+
+// A node of zeros.
+const UNSET: PathNode = PathNode {
+    at: 0,
+    piece: 0,
+    container: 0,
+    count: 0,
+    index: 0,
+    descriptors: 0,
+    type_number: 0,
+    code: 0,
+};
+
+// The nodes of a path, of which only as many are written as there is room for.
+fn check_path(input: &[u8], at: usize, wanted: &[PathNode]) -> Result<(), Fail> {
+    let mut nodes = [UNSET; 8];
+    for room in 0..8 {
+        nodes = [UNSET; 8];
+        let count = amqp_c_path(input, at, &mut nodes[..room]);
+        let written = if room < count { room } else { count };
+        let is_right = count == wanted.len()
+            && nodes[..written] == wanted[..written]
+            && nodes[written..].iter().all(|node| *node == UNSET);
+        if !is_right {
+            return Err(Fail::new(format_args!("{count} nodes: {nodes:?}")));
+        }
+    }
+    Ok(())
+}
+
+// (a field of a composite, Part 1, section 1.4, and its end; the codes of Part 3, sections 3.4.3 and 3.5.3)
+#[test]
+fn paths_to_fields(_rt: HostRuntime) -> Result<(), Fail> {
+    let value = PathNode { piece: 1, ..UNSET };
+    let list = PathNode {
+        at: 3,
+        piece: 1,
+        type_number: amqp_c_type(b"received"),
+        ..UNSET
+    };
+    let offset = PathNode {
+        at: 11,
+        piece: 3,
+        container: 1,
+        count: 2,
+        index: 1,
+        ..list
+    };
+    let end = PathNode {
+        at: 13,
+        piece: 7,
+        container: 1,
+        count: 2,
+        ..list
+    };
+    check_path(&RECEIVED, 0, &[value])?;
+    check_path(&RECEIVED, 12, &[value, list, offset])?;
+    check_path(&RECEIVED, 13, &[value, list, end])?;
+    let descriptor = PathNode {
+        at: 1,
+        piece: 2,
+        ..UNSET
+    };
+    check_path(&RECEIVED, 1, &[value, descriptor])
+}
+
+// (an array of two described strings, Part 1, section 1.2.4)
+#[test]
+fn paths_into_arrays(_rt: HostRuntime) -> Result<(), Fail> {
+    let bytes = [
+        0xe0, 0x09, 0x02, 0x00, 0x53, 0x01, 0xa1, 0x01, 0x61, 0x01, 0x62,
+    ];
+    let value = PathNode { piece: 1, ..UNSET };
+    let content = PathNode {
+        at: 3,
+        piece: 4,
+        container: 3,
+        count: 2,
+        ..UNSET
+    };
+    let described = PathNode {
+        at: 9,
+        piece: 6,
+        index: 1,
+        descriptors: 1,
+        code: 0xa1,
+        ..content
+    };
+    let item = PathNode {
+        descriptors: 0,
+        ..described
+    };
+    check_path(&bytes, 10, &[value, content, described, item])?;
+    let code = PathNode {
+        at: 6,
+        piece: 5,
+        container: 3,
+        descriptors: 1,
+        ..UNSET
+    };
+    check_path(&bytes, 6, &[value, content, code])
 }
 
 // What is around a whole term.

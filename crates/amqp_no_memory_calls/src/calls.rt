@@ -1,4 +1,8 @@
 //! How a program begins and ends, and how a call goes.
+ghost use Rattle.std.specs.Prelude.{◌≡◌, ◌==◌, true, false, Ok, Err, IfOk, MatchResult, string_bytes};
+ghost use Rattle.std.specs.Process.{exit_status};
+ghost use Rattle.amqp_encoder.specs.Passes.{row_text};
+
 use amqp_codec::{Error, Serialize, Symbol};
 use amqp_read_write::to_vec;
 use std::alloc::Global;
@@ -39,7 +43,10 @@ pub fn ask_for_growths(rt: &(impl Input + AllocGlobal)) -> Result<(), anyhow::Er
 }
 
 /// Returns the status of a program: whether every call went as it must.
-pub fn status(well: bool) -> ExitCode {
+pub fn status(well: bool) -> ExitCode
+    ensures well { well ≡ true → exit_status result ≡ 0 }
+    ensures otherwise { well ≡ false → exit_status result ≡ 1 }
+{
     if well {
         ExitCode::SUCCESS
     } else {
@@ -53,7 +60,10 @@ pub fn print_outcome(
     name: &str,
     call: &str,
     outcome: Outcome,
-) -> Result<bool, anyhow::Error> {
+) -> Result<bool, anyhow::Error>
+    ensures otherwise { outcome ≡ Outcome.Otherwise → IfOk result (λ well. well ≡ false) }
+    ensures well { (outcome ≡ Outcome.Otherwise → ⊥) → IfOk result (λ well. well ≡ true) }
+{
     println!(rt; "{name}, {call}: {}", outcome.words())?;
     Ok(outcome != Outcome::Otherwise)
 }
@@ -88,7 +98,10 @@ pub fn is_text<T: Serialize + Drop>(
     made: Result<T, Error>,
     text: &[u8],
     alloc: Global,
-) -> Result<bool, Error> {
+) -> Result<bool, Error>
+    ensures text { MatchResult made (λ value. IfOk result (λ well. well ≡ true → row_text (T.writing.canons value) ≡ text.now))
+        (λ e. result ≡ Err e) }
+{
     let value = made?;
     let written = to_vec(&value, alloc)?;
     Ok(written.as_slice() == text)

@@ -1,10 +1,10 @@
 //! The bodies of AMQP frames, written anew.
 use crate::counts::{Counts, count};
 use crate::fault::Cause;
+use crate::limits::limits_for;
 use crate::links::{Link, Links};
 use crate::message::canonical_message;
 use amqp_frames::{AmqpBody, Frame, FrameKind, Joined, write_empty_frame, write_frame};
-use fe2o3_amqp_types::codec::Limits;
 use fe2o3_amqp_types::performatives::{Performative, Transfer};
 use std::alloc::Global;
 
@@ -32,7 +32,7 @@ impl Bodies {
         alloc: Global,
     ) -> Result<(), Cause> {
         let channel = channel_of(frame);
-        let limits = Limits::for_peers(frame.body.len() as u64);
+        let limits = limits_for(frame.body);
         match frame.amqp(&limits, alloc)? {
             Some(body) => self.relay_body(body, channel, output, counts, alloc),
             None => {

@@ -2,10 +2,10 @@
 use crate::bodies::Bodies;
 use crate::counts::{Counts, count};
 use crate::fault::{Cause, Fault};
+use crate::limits::limits_for;
 use amqp_frames::{
     Frame, HeaderStep, ProtocolId, Step, next_frame, next_protocol_header, write_sasl_frame,
 };
-use fe2o3_amqp_types::codec::Limits;
 use std::alloc::Global;
 
 /// What comes next.
@@ -114,7 +114,7 @@ fn expected_after(id: ProtocolId) -> Expected {
 }
 
 fn relay_sasl(frame: &Frame<'_>, output: &mut Vec<u8>, alloc: Global) -> Result<(), Cause> {
-    let limits = Limits::for_peers(frame.body.len() as u64);
+    let limits = limits_for(frame.body);
     let value = frame.sasl(&limits, alloc)?;
     let written = write_sasl_frame(output, &value, alloc);
     drop(value);

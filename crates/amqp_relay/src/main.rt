@@ -15,6 +15,7 @@ mod counts;
 mod direction;
 mod fault;
 mod frames;
+mod limits;
 mod links;
 mod message;
 

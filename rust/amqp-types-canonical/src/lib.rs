@@ -1,4 +1,5 @@
-//! The data types of AMQP 1.0: values are checked, measured, rewritten as their canonical text, and walked.
+//! The data types of AMQP 1.0: values are checked, measured, rewritten as their canonical text, and walked. An error has the place of the
+//! fault, and the path there.
 //!
 //! Each call is made of calls of a static library, `libamqp_types.a`, which is proved; `docs/C.md` says what is proved about them. This
 //! crate decides nothing again.
@@ -15,6 +16,7 @@
 
 mod error;
 mod nodes;
+mod path;
 mod sys;
 mod types;
 
@@ -22,8 +24,9 @@ use std::collections::hash_map::RandomState;
 use std::hash::{BuildHasher, Hasher};
 use std::sync::OnceLock;
 
-pub use error::Error;
+pub use error::{Error, ErrorKind};
 pub use nodes::{Kind, Node, Nodes};
+pub use path::{path_of, Container, Path, PathNode, Piece};
 pub use types::Type;
 
 /// The version of this crate, which is independent of that of `fe2o3-amqp-types`.
@@ -90,17 +93,18 @@ impl Default for Limits {
 fn told<T>(outcome: sys::Outcome, value: T) -> Result<T, Error> {
     match outcome.number {
         0 => Ok(value),
-        number => Err(Error::from_outcome(number, outcome.detail)),
+        _ => Err(Error::from_outcome(outcome)),
     }
 }
 
 /// Returns how many bytes the value of the type at the start of the input takes, within the limits. What follows it is ignored.
 ///
 /// ```
-/// use amqp_types_canonical::{read, Error, Limits, Type};
+/// use amqp_types_canonical::{read, ErrorKind, Limits, Type};
 ///
 /// assert_eq!(read(Type::Boolean, &[0x41, 0x42], &Limits::greatest()), Ok(1));
-/// assert_eq!(read(Type::Boolean, &[0x99], &Limits::greatest()), Err(Error::UnknownCode(0x99)));
+/// let error = read(Type::Boolean, &[0x99], &Limits::greatest()).unwrap_err();
+/// assert_eq!((error.kind(), error.at()), (ErrorKind::UnknownCode(0x99), Some(0)));
 /// ```
 pub fn read(of: Type, input: &[u8], limits: &Limits) -> Result<usize, Error> {
     let mut taken = 0;
@@ -113,10 +117,11 @@ pub fn read(of: Type, input: &[u8], limits: &Limits) -> Result<usize, Error> {
 /// there.
 ///
 /// ```
-/// use amqp_types_canonical::{canonical, Error, Limits, Type};
+/// use amqp_types_canonical::{canonical, ErrorKind, Limits, Type};
 ///
 /// let within = Limits { bytes: 4, ..Limits::greatest() };
-/// assert_eq!(canonical(Type::Accepted, &[0x00, 0x53, 0x24, 0xc0, 0x00, 0x00], &within), Err(Error::Limit));
+/// let error = canonical(Type::Accepted, &[0x00, 0x53, 0x24, 0xc0, 0x00, 0x00], &within).unwrap_err();
+/// assert_eq!(error.kind(), ErrorKind::Limit);
 /// ```
 pub fn canonical(of: Type, input: &[u8], limits: &Limits) -> Result<(Vec<u8>, usize), Error> {
     let mut text = Vec::with_capacity(input.len());
@@ -184,10 +189,10 @@ pub fn canonical_into(of: Type, input: &[u8], limits: &Limits, room: &mut [u8]) 
 /// Returns the length of the term at the start of the input: one encoded value, of any type. It doesn't allocate.
 ///
 /// ```
-/// use amqp_types_canonical::{term_len, Error};
+/// use amqp_types_canonical::{term_len, ErrorKind};
 ///
 /// assert_eq!(term_len(&[0xa1, 0x02, 0x68, 0x69, 0x00]), Ok(4));
-/// assert_eq!(term_len(&[0xa1, 0x02, 0x68]), Err(Error::Cut));
+/// assert_eq!(term_len(&[0xa1, 0x02, 0x68]).unwrap_err().kind(), ErrorKind::Cut);
 /// ```
 pub fn term_len(input: &[u8]) -> Result<usize, Error> {
     let mut taken = 0;

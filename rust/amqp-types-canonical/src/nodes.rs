@@ -140,12 +140,12 @@ impl<'a> Nodes<'a> {
     /// # Ok::<(), Error>(())
     /// ```
     pub fn field(&self, index: usize) -> Result<Option<Nodes<'a>>, Error> {
-        let composite = self.clone().next_node().ok_or(Error::Cut)??;
+        let composite = self.clone().next_node().ok_or(Error::CUT)??;
         let mut field = sys::Node::default();
         // SAFETY: the pointer and the length are those of one slice, and the nodes are values of their own.
         let outcome = unsafe { sys::amqp_c_field(self.input.as_ptr(), self.input.len(), &composite, index, &mut field) };
         if outcome.number != 0 {
-            return Err(Error::from_outcome(outcome.number, outcome.detail));
+            return Err(Error::without_place(outcome));
         }
         if field.kind == 0 {
             return Ok(None);
@@ -168,7 +168,7 @@ impl<'a> Nodes<'a> {
                 let outcome = unsafe { sys::amqp_c_next(self.input.as_ptr(), self.input.len(), self.at, &mut node) };
                 if outcome.number != 0 {
                     self.open.clear();
-                    return Some(Err(Error::from_outcome(outcome.number, outcome.detail)));
+                    return Some(Err(Error::without_place(outcome)));
                 }
             }
         }

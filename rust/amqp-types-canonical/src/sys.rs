@@ -5,6 +5,7 @@
 pub(crate) struct Outcome {
     pub number: u32,
     pub detail: u32,
+    pub at: u64,
 }
 
 #[repr(C)]
@@ -29,6 +30,19 @@ pub(crate) struct Node {
     pub next: usize,
 }
 
+#[repr(C)]
+#[derive(Clone, Copy, Debug, Default)]
+pub(crate) struct PathNode {
+    pub at: usize,
+    pub piece: u32,
+    pub container: u32,
+    pub count: usize,
+    pub index: usize,
+    pub descriptors: usize,
+    pub type_number: u32,
+    pub code: u8,
+}
+
 extern "C" {
     pub(crate) fn amqp_c_type(name: *const u8, len: usize) -> u32;
     pub(crate) fn amqp_c_read(number: u32, input: *const u8, len: usize, limits: *const Limits, taken: *mut usize) -> Outcome;
@@ -43,6 +57,7 @@ extern "C" {
         taken: *mut usize,
     ) -> Outcome;
     pub(crate) fn amqp_c_term_len(input: *const u8, len: usize, taken: *mut usize) -> Outcome;
+    pub(crate) fn amqp_c_path(input: *const u8, len: usize, at: usize, nodes: *mut PathNode, room: usize) -> usize;
     pub(crate) fn amqp_c_next(input: *const u8, len: usize, at: usize, node: *mut Node) -> Outcome;
     pub(crate) fn amqp_c_field(input: *const u8, len: usize, composite: *const Node, index: usize, field: *mut Node) -> Outcome;
     pub(crate) fn amqp_c_type_of_descriptor(code: u64) -> u32;

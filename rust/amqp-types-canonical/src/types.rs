@@ -214,6 +214,11 @@ impl Type {
     pub fn from_name(name: &str) -> Option<Type> {
         // SAFETY: the pointer and the length are those of one slice.
         let number = unsafe { crate::sys::amqp_c_type(name.as_ptr(), name.len()) };
+        Type::of_number(number)
+    }
+
+    /// Returns the type with this number.
+    pub(crate) fn of_number(number: u32) -> Option<Type> {
         let place = usize::try_from(number).ok()?.checked_sub(1)?;
         NAMES.get(place).map(|row| row.1)
     }
@@ -234,7 +239,7 @@ impl Type {
     pub fn of_descriptor(code: u64) -> Option<Type> {
         // SAFETY: the call takes and returns numbers alone.
         let number = unsafe { crate::sys::amqp_c_type_of_descriptor(code) };
-        NAMES.get((number as usize).wrapping_sub(1)).map(|row| row.1)
+        Type::of_number(number)
     }
 
     /// Returns the standard's name of the field with this number, counted from 0, of a composite's type.

@@ -1,6 +1,6 @@
 //! The rows that `AMQP_ROWS` names, a file each, and what no row says.
 
-use amqp_types_canonical::{canonical, canonical_into, read, term_len, Error, Kind, Limits, Nodes, Text, Type};
+use amqp_types_canonical::{canonical, canonical_into, path_of, read, term_len, ErrorKind, Kind, Limits, Nodes, Text, Type};
 
 fn bytes_of(digits: &str) -> Option<Vec<u8>> {
     if digits == "-" {
@@ -46,6 +46,9 @@ fn answer(line: &str, limits: &Limits) -> String {
         Err(error) => {
             assert_eq!(lengths, Err(error), "{line}");
             assert!(!error.to_string().is_empty());
+            assert_eq!(error.at().is_none(), error.name() == "TooLarge", "{line}");
+            assert!(error.at() <= Some(input.len()), "{line}");
+            assert_eq!(error.path(of, &input).is_some(), error.at().is_some(), "{line}");
             format!("no {} {}", error.number(), error.name())
         }
     }
@@ -99,8 +102,9 @@ fn names() {
 #[test]
 fn limits_that_are_none() {
     let deep = Limits { nesting: 129, ..Limits::greatest() };
-    assert_eq!(read(Type::Boolean, &[0x41], &deep), Err(Error::NoLimits));
-    assert_eq!(Error::NoLimits.name(), "NoLimits");
+    let error = read(Type::Boolean, &[0x41], &deep).unwrap_err();
+    assert_eq!((error.kind(), error.at()), (ErrorKind::NoLimits, None));
+    assert_eq!(ErrorKind::NoLimits.name(), "NoLimits");
 }
 
 #[test]
@@ -108,7 +112,8 @@ fn limits_for_peers() {
     let limits = Limits::for_peers(5);
     assert_eq!((limits.nesting, limits.bytes, limits.items), (128, 5, 5));
     assert_ne!(limits.hash_seed, 0);
-    assert_eq!(canonical(Type::Accepted, &[0x00, 0x53, 0x24, 0xc0, 0x00, 0x00], &limits), Err(Error::Limit));
+    let error = canonical(Type::Accepted, &[0x00, 0x53, 0x24, 0xc0, 0x00, 0x00], &limits).unwrap_err();
+    assert_eq!(error.kind(), ErrorKind::Limit);
     let properties = [0x00, 0x53, 0x74, 0xc1, 0x0d, 0x04, 0xa1, 0x03, b'o', b'n', b'e', 0x43, 0xa1, 0x02, b'i', b't', 0x52, 0x00];
     for hash_seed in [0, 1, u64::MAX] {
         let seeded = Limits { hash_seed, ..Limits::greatest() };
@@ -136,7 +141,8 @@ fn eight_threads() {
                     })
                 );
                 assert_eq!(term_len(&input[2..]), Ok(2));
-                assert_eq!(read(Type::Boolean, &input[2..], &Limits::greatest()), Err(Error::WrongType(0x52)));
+                let error = read(Type::Boolean, &input[2..], &Limits::greatest()).unwrap_err();
+                assert_eq!((error.kind(), error.at()), (ErrorKind::WrongType(0x52), Some(0)));
             }
         })
     });
@@ -175,6 +181,53 @@ fn nodes() {
 
 #[test]
 fn refused_nodes() {
-    let found: Vec<_> = Nodes::new(&[0xc0, 0x02, 0x01, 0x72]).collect();
-    assert_eq!(found, [Err(Error::FloatCode(0x72))]);
+    let found: Vec<_> = Nodes::new(&[0xc0, 0x02, 0x01, 0x72]).map(|node| node.map_err(|error| (error.kind(), error.at()))).collect();
+    assert_eq!(found, [Err((ErrorKind::FloatCode(0x72), None))]);
+}
+
+// The fault, its place and the path there, as they are printed.
+fn fault(of: Type, digits: &str) -> String {
+    let input = bytes_of(digits).unwrap();
+    let error = read(of, &input, &Limits::greatest()).unwrap_err();
+    let path = error.path(of, &input).unwrap();
+    format!("{} {} {path}", error.name(), error.at().unwrap())
+}
+
+// (the fields of Part 2, section 2.7, Part 3, sections 3.2, 3.4 and 3.5.3, and Part 5, section 5.3.3.6, by the standard's tables)
+#[test]
+fn places_and_paths() {
+    let attach = "005312c01a06a1066f726465727343414040005328c00801a1057175ff7565";
+    assert_eq!(fault(Type::Attach, attach), "BadUtf8 24 attach.source.address");
+    assert_eq!(fault(Type::Performative, attach), "BadUtf8 24 attach.source.address");
+    let filter = "005312c01c06a1016143414040005328c00f0840404040404040c10502a3016699";
+    assert_eq!(fault(Type::Attach, filter), "UnknownCode 32 attach.source.filter[{0}]");
+    assert_eq!(fault(Type::Open, "005310c0020140"), "Missing 6 open.container-id");
+    assert_eq!(fault(Type::Begin, "005311c00d07404343434040e00401a301ff"), "NonAscii 16 begin.desired-capabilities[0]");
+    let disposition = "005315c0120541434040005325c0080100531dc0020141";
+    assert_eq!(fault(Type::Disposition, disposition), "WrongType 22 disposition.state.error.condition");
+    assert_eq!(fault(Type::SaslOutcome, "005344c003015005"), "UnknownNumber 6 sasl-outcome.code");
+    assert_eq!(fault(Type::Received, "005323c003015209"), "Missing 8 received(end)");
+    assert_eq!(fault(Type::Received, "005323c005025209"), "Cut 8 received.section-offset");
+    assert_eq!(fault(Type::Accepted, "005323c003015209"), "WrongDescriptor 1 accepted(descriptor)");
+    let properties = "005374c10904a1016140";
+    assert_eq!(fault(Type::ApplicationProperties, &format!("{properties}a3016240")), "WrongType 10 application-properties{1}");
+    assert_eq!(fault(Type::ApplicationProperties, &format!("{properties}a1016245")), "InvalidValue 13 application-properties[{1}]");
+    assert_eq!(fault(Type::Value, "e0050356000102"), "BadBool 6 value[2]");
+    assert_eq!(fault(Type::Value, "e0020241"), "ZeroWidthItems 3 value(constructor)");
+}
+
+// (a header without fields before the section with the fault, Part 3, section 3.2)
+#[test]
+fn paths_behind_a_section() {
+    assert_eq!(fault(Type::Message, "00537045005373c003015001"), "WrongType 10 properties.message-id");
+    assert_eq!(fault(Type::MessageData, "00537045005374c10904a1016140a3016240"), "WrongType 14 application-properties{1}");
+}
+
+#[test]
+fn paths_are_as_long_as_values_are_deep() {
+    let deep = [[0xc0, 0xff, 0x01].repeat(40), vec![0x40]].concat();
+    let path = path_of(&deep, 120);
+    assert_eq!(path.nodes().len(), 41);
+    assert_eq!(path.to_string(), format!("value{}", "[0]".repeat(40)));
+    assert_eq!(path_of(&[], 0).to_string(), "value");
 }

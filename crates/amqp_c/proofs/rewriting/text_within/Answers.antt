@@ -1,0 +1,22 @@
+use Rattle.std.proofs.Common.{refl}
+use Rattle.amqp_read_write.proofs.Rewrites.{unwritten_within}
+use Rattle.amqp_read_write.proofs.Placed.{placed}
+use Rattle.amqp_c.proofs.rewriting.text_within.Goals as goal
+
+pub returns-in-Ok-clause-text : goal.returns-in-Ok-clause-text
+returns-in-Ok-clause-text g c = (
+  _,
+  record {
+    value = c.in_ok-value.value;
+    read = c.in_ok-value.ensures.found;
+    one = λ w m k. (c.in_ok-value.ensures.one _ w _ m c.in_ok-value.ensures.found k).0;
+    bounded = c.in_ok-value.ensures.bounded _ _ c.in_ok-value.ensures.found;
+    writable = c.in-Ok.ensures.writable;
+    text_is = refl;
+  },
+  placed _ _ _ _ c.in-Ok.ensures.len c.in-Ok.ensures.text c.in-Ok.ensures.short,
+)
+
+pub returns-clause-refused : goal.returns-clause-refused
+returns-clause-refused g c =
+    unwritten_within g.met.T.Canonical.rewrites c.args.limits.now c.args.input.now _ _ _ c.in_ok-value.ensures.found c.in-Err.ensures.refused
