@@ -46,7 +46,7 @@ reading_of u = record {
       (subst (ReadsValue u.means (under (another source failed) st) v) (another_is source failed b)
       (value (another source failed) u.means h));
   fault_elsewhere = λ source failed st e h. subst (λ x. u.faults.fault x e) (another_is source failed st)
-      (u.faults.fault_elsewhere (another source failed) st e (keeps_another source failed e) h);
+      (u.faults.fault_elsewhere (another source failed) st e (keeps_another source failed e.error) h);
   reads_alone = λ _ alone st v b h. (let k = value_stays u.means st v b h in
       subst (λ x. ReadsValue u.means x v (apart alone b)) (lonely_is alone st st refl)
       (subst (ReadsValue u.means (under (lonely alone st) st) v) (lonely_is alone st b k.source)

@@ -15,10 +15,11 @@ use Rattle.amqp_model.specs.laws.Item.{clash}
 use Rattle.amqp_model.specs.FieldType.{unchanged}
 use Rattle.amqp_model.proofs.Unique.{one_term}
 use Rattle.amqp_lookahead.proofs.KindsOfCodes.{kind_data, one_code}
-use Rattle.amqp_decoder.specs.Terms.{TermFault}
+use Rattle.amqp_decoder.specs.Terms.{term_fault_left}
 use Rattle.amqp_decoder.proofs.NotOutside.{term_not_outside}
 use Rattle.amqp_decoder.proofs.Misspelled.{term_misspelled}
-use Rattle.amqp_decoder.specs.laws.OtherSource.{term_fault}
+use Rattle.amqp_decoder.specs.laws.OtherSource.{term_placed}
+use Rattle.amqp_decoder.specs.Places.{At}
 use Rattle.amqp_codec.specs.Faults.{Faults}
 use Rattle.amqp_codec.specs.laws.Null.{null_primitive}
 use Rattle.amqp_codec.specs.laws.OnlySize.{size_alone}
@@ -63,10 +64,10 @@ bytes_canon v = kept v.bytes
 -- Why no bytes of a term are read.
 abbrev pub lazy_faults : Faults
 lazy_faults = record {
-  fault = TermFault;
-  not_outside = λ e out. term_not_outside out;
-  fault_elsewhere = λ c st e. term_fault c;
-  misspelled = λ st e _ i. term_misspelled st e i;
+  fault = At term_fault_left;
+  not_outside = λ e out st h. term_not_outside out st h.0;
+  fault_elsewhere = λ c st e. term_placed c;
+  misspelled = λ st e _ i h. term_misspelled st e.error i h.0;
 }
 
 no_bytes : (z : List ℕ) → length z ≡ 0 → z ≡ []

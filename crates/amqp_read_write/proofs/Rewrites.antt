@@ -104,7 +104,8 @@ module _ {T : Type 0} {r : Reading T} {canons : T → List Term} {is_value : T �
 pub unfailing : {T : Type 0} {r : Reading T} {canons : T → List Term} {input : List ℕ} {e : Error}
     → (e ≡ Memory) ⊎ (IsUnreadable r input e ⊎ IsUnwritten r canons input e) → IsReadError e → ⊥
 unfailing (inl m) read = subst IsReadError m read
-unfailing {r = r} {input = input} {e = e} (inr (inl u)) read = r.not_outside e (read_is_outside e read) (start input) u.fault
+unfailing {r = r} {input = input} {e = e} (inr (inl u)) read =
+    r.not_outside (record { error = e; left = u.left }) (read_is_outside e read) (start input) u.fault
 unfailing (inr (inr w)) read = subst IsReadError w.large read
 
 -- nor that of a limit, where what is read may be refused for its size alone

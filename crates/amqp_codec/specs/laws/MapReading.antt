@@ -4,7 +4,6 @@ use Rattle.std.proofs.Common.{subst, arith, length-append}
 use Rattle.amqp_model.specs.Term.{map, Term, Terms, container, count}
 use Rattle.amqp_model.specs.Items.{items_of}
 use Rattle.amqp_model.specs.Standing.{Standing, Parts}
-use Rattle.amqp_wire.specs.declared.error.Error.{Error}
 use Rattle.amqp_decoder.specs.declared.frame.Place.TheVariants.{InMap}
 use Rattle.amqp_decoder.specs.State.{State, after_value, weight_at}
 use Rattle.amqp_decoder.specs.OtherSource.{Setting, under, KeepsError}
@@ -22,6 +21,7 @@ use Rattle.amqp_decoder.proofs.NothingInside.{nothing_in_container, nothing_at_e
 use Rattle.amqp_decoder.proofs.NotOutside.{open_not_outside, close_not_outside}
 use Rattle.amqp_decoder.proofs.Rooms.{room_inside, room_row}
 use Rattle.amqp_decoder.specs.Steps.{IsOutside}
+use Rattle.amqp_decoder.specs.Places.{Located}
 use Rattle.amqp_codec.specs.Faults.{Faults}
 use Rattle.amqp_codec.specs.TermType.{TermType}
 use Rattle.amqp_codec.specs.EitherMeaning.{IsEither}
@@ -32,7 +32,7 @@ use Rattle.amqp_codec.specs.laws.ItemsReading.{each_taken, taken_each, taken_lon
 use Rattle.amqp_codec.specs.Pairs.{in_turn, PairsMean, IsNew, HaveOtherKeys, MeansMap}
 use Rattle.amqp_codec.specs.MapType.{map_type}
 use Rattle.amqp_codec.specs.laws.MapType.{mean_as}
-use Rattle.amqp_codec.specs.MapReading.{Pairs, ReadsFewer, PairsFault, at_key, twice, at_value, MapRead, MapFault}
+use Rattle.amqp_codec.specs.MapReading.{Pairs, ReadsFewer, PairsFault, at_key, twice, told_twice, at_value, MapRead, MapFault}
 use Rattle.amqp_codec.specs.MapReading.{unopened, at_pair, unclosed}
 
 pub twice_as_many : {K V : Type 0} (ps : List (K × V)) → length (in_turn ps) ≡ 2 * length ps
@@ -82,41 +82,46 @@ module _ {K V : Type 0} (key : TermType K) (value : TermType V) where
       → ReadsFewer key value n (under c st) ps (under c mid)
   fewer_elsewhere c n st ps mid h = record { fewer = h.fewer; each = pairs_elsewhere c st ps mid h.each }
 
-  row_elsewhere : (c : Setting) (n : ℕ) (st : State) (e : Error) → KeepsError c e → PairsFault key value n st e
+  row_elsewhere : (c : Setting) (n : ℕ) (st : State) (e : Located) → KeepsError c e.error → PairsFault key value n st e
       → PairsFault key value n (under c st) e
   row_elsewhere c n st e keeps (at_key ps mid h f) =
       at_key ps (under c mid) (fewer_elsewhere c n st ps mid h) (key.faults.fault_elsewhere c mid e keeps f)
-  row_elsewhere c n st e keeps (twice ps mid after k h o r same is) =
-      twice ps (under c mid) (under c after) k (fewer_elsewhere c n st ps mid h) o (value_elsewhere c key.means r) same is
+  row_elsewhere c n st e keeps (twice ps mid after k h o r same is place) =
+      twice ps (under c mid) (under c after) k (fewer_elsewhere c n st ps mid h) o (value_elsewhere c key.means r) same is place
+  row_elsewhere c n st e keeps (told_twice all b ps mid after k each h o r same is place) =
+      told_twice all (under c b) ps (under c mid) (under c after) k (pairs_elsewhere c st all b each) (fewer_elsewhere c n st ps mid h) o
+      (value_elsewhere c key.means r) same is place
   row_elsewhere c n st e keeps (at_value ps mid after k h r f) =
       at_value ps (under c mid) (under c after) k (fewer_elsewhere c n st ps mid h) (value_elsewhere c key.means r)
       (value.faults.fault_elsewhere c after e keeps f)
 
-  pub map_elsewhere : (c : Setting) (st : State) (e : Error) → KeepsError c e → MapFault key value st e → MapFault key value (under c st) e
-  map_elsewhere c st e keeps (unopened h) = unopened (open_fault c keeps h)
+  pub map_elsewhere : (c : Setting) (st : State) (e : Located) → KeepsError c e.error → MapFault key value st e → MapFault key value (under c st) e
+  map_elsewhere c st e keeps (unopened h) = unopened (open_fault c keeps h.0, h.1)
   map_elsewhere c st e keeps (at_pair {n} {first} o f) = at_pair (opens c o) (row_elsewhere c n first e keeps f)
   map_elsewhere c st e keeps (unclosed {n} {first} {ps} {last} o r f) =
       unclosed (opens c o) (record { long = r.long; each = pairs_elsewhere c first ps last r.each; others = r.others })
-      (close_fault c keeps f)
+      (close_fault c keeps f.0, f.1)
 
-  row_not_outside : {e : Error} → IsOutside e → (n : ℕ) (st : State) → PairsFault key value n st e → ⊥
+  row_not_outside : {e : Located} → IsOutside e.error → (n : ℕ) (st : State) → PairsFault key value n st e → ⊥
   row_not_outside {e} out n st (at_key ps mid h f) = key.faults.not_outside e out mid f
-  row_not_outside out n st (twice ps mid after k h o r same is) = subst IsOutside is out
+  row_not_outside out n st (twice ps mid after k h o r same is place) = subst IsOutside is out
+  row_not_outside out n st (told_twice all b ps mid after k each h o r same is place) = subst IsOutside is out
   row_not_outside {e} out n st (at_value ps mid after k h r f) = value.faults.not_outside e out after f
 
-  pub map_not_outside : {e : Error} → IsOutside e → (st : State) → MapFault key value st e → ⊥
-  map_not_outside out st (unopened h) = open_not_outside out map st h
+  pub map_not_outside : {e : Located} → IsOutside e.error → (st : State) → MapFault key value st e → ⊥
+  map_not_outside out st (unopened h) = open_not_outside out map st h.0
   map_not_outside out st (at_pair {n} {first} o f) = row_not_outside out n first f
-  map_not_outside out st (unclosed {n} {first} {ps} {last} o r f) = close_not_outside out _ last f
+  map_not_outside out st (unclosed {n} {first} {ps} {last} o r f) = close_not_outside out _ last f.0
 
-  row_misspelled : (st : State) (n : ℕ) (first : State) (e : Error) → IsMisspelling e → Opens map st (2 * n) first
+  row_misspelled : (st : State) (n : ℕ) (first : State) (e : Located) → IsMisspelling e.error → Opens map st (2 * n) first
       → PairsFault key value n first e → NothingStands st
   row_misspelled st n first e is o (at_key ps mid h f) =
       let t = each_taken Turn first (in_turn ps) mid (pairs_in_turn first ps mid h.each) in
       nothing_in_container map tt st (2 * n) first mid (items_of t.terms) t.bytes o t.row
       (omega (arith, h.fewer, taken_long Turn first (in_turn ps) mid t, twice_as_many ps))
       (key.faults.misspelled mid e (room_row (items_of t.terms) first t.bytes mid t.row (room_inside map st (2 * n) first o)) is f)
-  row_misspelled st n first e is o (twice ps mid after k h u r same d) = absurd (subst IsMisspelling d is)
+  row_misspelled st n first e is o (twice ps mid after k h u r same d place) = absurd (subst IsMisspelling d is)
+  row_misspelled st n first e is o (told_twice all b ps mid after k each h u r same d place) = absurd (subst IsMisspelling d is)
   row_misspelled st n first e is o (at_value ps mid after k h r f) =
       let t = each_taken Turn first (in_turn ps ++ inl k ∷ []) after (key_in_turn first ps k mid after h.each r) in
       let one : length (in_turn ps ++ inl k ∷ []) ≡ length (in_turn ps) + 1 = length-append (in_turn ps) (inl k ∷ []) in
@@ -130,12 +135,12 @@ module _ {K V : Type 0} (key : TermType K) (value : TermType V) where
       ))
       (value.faults.misspelled after e (room_row (items_of t.terms) first t.bytes after t.row (room_inside map st (2 * n) first o)) is f)
 
-  pub map_misspelled : (st : State) (e : Error) → HasRoom st → IsMisspelling e → MapFault key value st e → NothingStands st
-  map_misspelled st e room is (unopened h) = open_misspelled map tt st e is h
+  pub map_misspelled : (st : State) (e : Located) → HasRoom st → IsMisspelling e.error → MapFault key value st e → NothingStands st
+  map_misspelled st e room is (unopened h) = open_misspelled map tt st e.error is h.0
   map_misspelled st e room is (at_pair {n} {first} o f) = row_misspelled st n first e is o f
   map_misspelled st e room is (unclosed {n} {first} {ps} {last} o r f) =
       let t = each_taken Turn first (in_turn ps) last (pairs_in_turn first ps last r.each) in
-      nothing_at_end map tt InMap st (2 * n) first last (items_of t.terms) t.bytes e o t.row is f
+      nothing_at_end map tt InMap st (2 * n) first last (items_of t.terms) t.bytes e.error o t.row is f.0
 
   abbrev pub map_faults : Faults
   map_faults = record {
