@@ -253,8 +253,7 @@ pub fn canonical_text_within<T: Canonical>(
 }
 
 /// Writes the canonical text of the value at the start of `input` to the start of `room`, as `write_into` does. It returns the text's
-/// length in bytes, and the number of bytes that the value takes in `input`. What `canonical_text_within` says of its text holds of this
-/// one. Nothing of the text is allocated.
+/// length in bytes, and the number of bytes that the value takes in `input`. Nothing of the text is allocated.
 ///
 /// # Errors
 ///
