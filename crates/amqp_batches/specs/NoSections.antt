@@ -1,5 +1,5 @@
 -- Why no section begins where bytes are left (Part 3, section 3.2).
-use Rattle.std.proofs.Common.{◌≡◌, ℕ, Bool, length, ap, subst}
+use Rattle.std.proofs.Common.{◌≡◌, ℕ, Bool, length, ap, subst, ◌≤◌, arith}
 use Rattle.amqp_model.specs.Term.{Descriptor}
 use Rattle.amqp_wire.specs.declared.error.Error.{Error}
 use Rattle.amqp_wire.specs.declared.error.Error.TheVariants.{NotSection}
@@ -13,6 +13,7 @@ use Rattle.amqp_decoder.proofs.NotOutside.{begin_not_outside, open_described_not
 use Rattle.amqp_decoder.specs.Places.{Located, Here, At}
 use Rattle.amqp_codec.specs.Reading.{AreAlike}
 use Rattle.amqp_codec.specs.TermReading.{another_is}
+use Rattle.amqp_codec.specs.laws.Within.{open_within}
 
 -- No value begins there; or one that isn't described; or its descriptor is cut or malformed; or it is whole, and no section's.
 pub data NoSection (st : State) (e : Located) : Type 0 where
@@ -30,6 +31,12 @@ no_section_not_outside e o st (no_code f) = begin_not_outside o st f.0
 no_section_not_outside e o st (other_value b n i place) = no_outside e.error o i
 no_section_not_outside e o st (no_descriptor {seen} a f) = open_described_not_outside o seen f.0
 no_section_not_outside e o st (other_descriptor a d i place) = no_outside e.error o i
+
+pub no_section_within : (st : State) (e : Located) → NoSection st e → e.left ≤ length st.rest
+no_section_within st e (no_code f) = omega (arith, f.1)
+no_section_within st e (other_value b n i place) = omega (arith, place)
+no_section_within st e (no_descriptor {seen} a f) = omega (arith, open_within seen e f, ap (λ (x : State). length x.rest) a)
+no_section_within st e (other_descriptor a d i place) = omega (arith, place)
 
 pub no_section_elsewhere : (source : Source) (failed : Bool) (st : State) (e : Located) → NoSection st e
     → NoSection (elsewhere source failed st) e

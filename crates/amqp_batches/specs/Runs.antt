@@ -88,4 +88,5 @@ module _ {T : Type 0} (c : ℕ) (r : Reading T) where
     fault_elsewhere = λ source failed st xs e h. (h.0, r.fault_elsewhere source failed st e h.1);
     not_outside = λ e o st xs h. r.not_outside e o st h.1;
     unfinished_not_outside = λ e o xs h. h;
+    within = λ st xs e h. r.within st e h.1;
   }

@@ -71,6 +71,11 @@ module _ {V : Type 0} (c : ℕ) (r : Reading V) where
   run_not_outside e o st (in_run a f) = r.not_outside e o st f
   run_not_outside e o st (other_section n i place) = outside_other e.error WrongDescriptor (λ x. x) o i
 
+  pub run_within : (st : State) (e : Located) → RunFault st e → e.left ≤ length st.rest
+  run_within st e (not_top n) = omega (arith, n.1)
+  run_within st e (in_run a f) = r.within st e f
+  run_within st e (other_section n i place) = omega (arith, place)
+
   -- How it is read as a group.
   abbrev pub run_reading : Reading V
   run_reading = record {
@@ -90,6 +95,7 @@ module _ {V : Type 0} (c : ℕ) (r : Reading V) where
     taken = λ st v b h. any_taken (r.taken st v b h.1);
     stays = λ st v b h. r.stays st v b h.1;
     misspelled = λ h. absurd (no_term h);
+    within = run_within;
     reads_alone = λ h. absurd (no_term h);
     fault_alone = λ h. absurd (no_term h);
     looked = λ n st v b h. (let f = r.looked n st v b h.1 in (f.0, (h.0, f.1)));

@@ -63,6 +63,7 @@ pub record Walk (M V : Type 0) : Type 1 where
   pub fault_elsewhere : (source : Source) (failed : Bool) (st : State) (m : M) (e : Located) → fault st m e
       → fault (elsewhere source failed st) m e
   pub not_outside : (e : Located) → IsOutside e.error → (st : State) (m : M) → fault st m e → ⊥
+  pub within : (st : State) (m : M) (e : Located) → fault st m e → e.left ≤ length st.rest
   pub unfinished_not_outside : (e : Error) → IsOutside e → (m : M) → unfinished m e → ⊥
 
 -- So many steps, one after another.

@@ -20,7 +20,7 @@ use Rattle.amqp_batches.specs.laws.State.{any_taken}
 use Rattle.amqp_batches.specs.Bounds.{IsBoundByLimits}
 use Rattle.amqp_batches.specs.laws.Bound.{takes_so}
 use Rattle.amqp_batches.specs.Walk.{IsAtTop}
-use Rattle.amqp_batches.specs.NoSections.{NoSection, no_section_elsewhere, no_section_not_outside}
+use Rattle.amqp_batches.specs.NoSections.{NoSection, no_section_elsewhere, no_section_not_outside, no_section_within}
 use Rattle.amqp_batches.specs.laws.Walk.{no_term}
 use Rattle.amqp_batches.specs.SectionGroups.{RunReads, run_reading}
 use Rattle.amqp_bodies.specs.declared.body.Body.{Body}
@@ -173,6 +173,14 @@ module _ {T : Type 0} (rv : Reading (AmqpValue T)) (rd : Reading (TransparentVec
   not_outside e o st (other_section a f g h i left) = outside_other e.error WrongDescriptor (λ x. x) o i
   not_outside e o st (not_section a f) = no_section_not_outside e o st f
 
+  pub body_within : (st : State) (e : Located) → BodyFault st e → e.left ≤ length st.rest
+  body_within st e (not_top n) = omega (arith, n.1)
+  body_within st e (in_value a f) = rv.within st e f
+  body_within st e (in_data a f) = rd.within st e f
+  body_within st e (in_sequence a f) = rs.within st e f
+  body_within st e (other_section a f g h i left) = omega (arith, left)
+  body_within st e (not_section a f) = no_section_within st e f
+
   -- How a body of any kind is read.
   abbrev pub body_reading : Reading (Body T)
   body_reading = record {
@@ -192,6 +200,7 @@ module _ {T : Type 0} (rv : Reading (AmqpValue T)) (rd : Reading (TransparentVec
     taken = body_taken;
     stays = body_stays;
     misspelled = λ h. absurd (no_term h);
+    within = body_within;
     reads_alone = λ h. absurd (no_term h);
     fault_alone = λ h. absurd (no_term h);
     looked = body_looked;

@@ -93,6 +93,7 @@ module _ {V : Type 0} (r : Reading V) where
     taken = seen_taken;
     stays = λ st v b h. stays_then (alike_stays st h.seen h.alike) (r.stays h.seen v b h.read);
     misspelled = λ h. absurd (no_term h);
+    within = λ st e h. omega (arith, r.within h.seen e h.fault, ap length (alike_rest st h.seen h.alike));
     reads_alone = λ h. absurd (no_term h);
     fault_alone = λ h. absurd (no_term h);
     looked = λ n st v b h. (b.ahead, record { seen = h.seen; alike = h.alike; read = h.read });

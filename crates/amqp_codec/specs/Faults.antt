@@ -1,4 +1,5 @@
 -- Which errors a read may answer of what stands before a decoder.
+use Rattle.std.specs.Prelude.{◌≤◌, length}
 use Rattle.amqp_decoder.specs.State.{State}
 use Rattle.amqp_decoder.specs.OtherSource.{Setting, under, KeepsError}
 use Rattle.amqp_decoder.specs.Rooms.{HasRoom}
@@ -15,6 +16,8 @@ pub record Faults : Type 1 where
   pub fault_elsewhere : (c : Setting) (st : State) (e : Located) → KeepsError c e.error → fault st e → fault (under c st) e
   -- where it says of bytes that they are no term, none stands there
   pub misspelled : (st : State) (e : Located) → HasRoom st → IsMisspelling e.error → fault st e → NothingStands st
+  -- it stands in what is before the decoder, or at the end of that
+  pub within : (st : State) (e : Located) → fault st e → e.left ≤ length st.rest
 
 -- Of what isn't asked for.
 abbrev pub no_faults : Faults
@@ -23,4 +26,5 @@ no_faults = record {
   not_outside = λ e out st h. h;
   fault_elsewhere = λ c st e k h. h;
   misspelled = λ st e room i h. absurd h;
+  within = λ st e h. absurd h;
 }

@@ -1,5 +1,5 @@
 -- How the items of a list or an array are read, one after another.
-use Rattle.std.specs.Prelude.{◌≡◌, ℕ, ◌<◌, List, [], ◌∷◌, length, Some, None}
+use Rattle.std.specs.Prelude.{◌≡◌, ℕ, ◌<◌, ◌≤◌, List, [], ◌∷◌, length, Some, None}
 use Rattle.amqp_model.specs.Term.{Container, Term, Terms, container}
 use Rattle.amqp_model.specs.Items.{items_of}
 use Rattle.amqp_model.specs.Standing.{Standing}
@@ -69,6 +69,8 @@ pub record Opening : Type 1 where
   pub opens_elsewhere : (c : Setting) (st : State) (n : ℕ) (first : State) → opens st n first → opens (under c st) n (under c first)
   pub fault_elsewhere : (c : Setting) (st : State) (e : Located) → KeepsError c e.error → fault st e → fault (under c st) e
   pub misspelled : (st : State) (e : Located) → HasRoom st → IsMisspelling e.error → fault st e → NothingStands st
+  pub within : (st : State) (e : Located) → fault st e → e.left ≤ length st.rest
+  pub shrinks : (st : State) (n : ℕ) (first : State) → opens st n first → length first.rest ≤ length st.rest
   pub nothing_in : (st : State) (n : ℕ) (first mid : State) (ts : List Term) (b : List ℕ) → HasRoom st → opens st n first
       → Row first ts b mid → length ts < n → NothingStands mid → NothingStands st
   pub nothing_at_end : (st : State) (n : ℕ) (first last : State) (ts : List Term) (b : List ℕ) (e : Error) → HasRoom st → opens st n first

@@ -1,5 +1,5 @@
 -- A value that is one of several composites is read by the descriptor that stands there (Part 1, section 1.4).
-use Rattle.std.proofs.Common.{◌≡◌, ℕ, Bool, true, List, map, Some}
+use Rattle.std.proofs.Common.{◌≡◌, ℕ, ◌≤◌, Bool, true, List, length, map, Some}
 use Rattle.amqp_model.specs.Term.{Descriptor, Term, described}
 use Rattle.amqp_model.specs.Standing.{Standing}
 use Rattle.amqp_decoder.specs.declared.frame.Place.TheVariants.{InDescribed}
@@ -21,6 +21,8 @@ pub record Members (V : Type 0) : Type 1 where
   pub takes_at : ℕ → Bool
   pub takes_memory : Bool
   pub takes : (i : ℕ) → takes_at i ≡ true → takes_memory ≡ true
+  -- reading leaves no more than stood there
+  pub shrinks : (i : ℕ) (st : State) (v : V) (b : State) → reads i st v b → length b.rest ≤ length st.rest
   -- what is read hangs neither on the source nor on how deep values may nest
   pub reads_elsewhere : (c : Setting) (i : ℕ) (st : State) (v : V) (b : State) → reads i st v b → reads i (under c st) v (under c b)
 

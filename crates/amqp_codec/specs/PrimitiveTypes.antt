@@ -15,6 +15,7 @@ use Rattle.amqp_codec.specs.ExactType.{MeansExactly, IsExact, exact}
 use Rattle.amqp_codec.specs.Faults.{Faults}
 use Rattle.amqp_codec.specs.laws.PrimitiveTerm.{leaf_injective, leaf_writable}
 use Rattle.amqp_codec.specs.TermType.{TermType, view_of, equality}
+use Rattle.amqp_codec.specs.laws.Within.{here_within}
 
 -- The values of A in the range are the primitives of one kind, which are null or not.
 pub record IsKind {A : Type 0} (make : A → Primitive) (range : A → Type 0) (is_never_null : Bool) : Type 0 where
@@ -29,6 +30,7 @@ primitive_faults k = record {
   not_outside = λ e out st h. primitive_not_outside out k st h.0;
   fault_elsewhere = λ c st e keeps h. (primitive_fault c keeps h.0, h.1);
   misspelled = λ st e _ i h. primitive_misspelled k st e.error i h.0;
+  within = here_within (PrimitiveFault k);
 }
 
 module _ {A : Type 0} (make : A → Primitive) (range : A → Type 0) {is_never_null : Bool} (laws : IsKind make range is_never_null) where

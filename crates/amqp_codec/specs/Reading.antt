@@ -93,6 +93,8 @@ pub record Reading (T : Type 0) : Type 1 where
   -- an error that says of bytes that they are no term is named only of such
   pub misspelled : one_term ≡ true → (limits : Limits) (input : List ℕ) (e : Located) → IsMisspelling e.error
       → fault (start_within limits input) e → IsUnspelledWithin limits e.error input
+  -- it stands in what is before the decoder, or at the end of that
+  pub within : (st : State) (e : Located) → fault st e → e.left ≤ length st.rest
   -- it doesn't hang on how far was looked
   pub looked : (n : ℕ) (st : State) (v : T) (b : State) → reads st v b → (m : ℕ) × reads (looking n st) v (looking m b)
   -- it doesn't hang on the source
@@ -127,7 +129,7 @@ HasFaultAt limits r input e at =
 -- Within the limits, the input has the fault, and so many of its bytes are before the place of it.
 abbrev pub IsFaultyAt : {T : Type 0} → Limits → Reading T → List ℕ → Error → ℕ → Type 0
 IsFaultyAt limits r input e at =
-    (left : ℕ) × r.fault (start_within limits input) (record { error = e; left = left }) × (left ≤ length input → at + left ≡ length input)
+    (left : ℕ) × r.fault (start_within limits input) (record { error = e; left = left }) × (at + left ≡ length input)
 
 -- The input begins with n bytes that are read as the value.
 abbrev pub BeginsWith : {T : Type 0} → Reading T → List ℕ → T → ℕ → Type 0

@@ -39,6 +39,7 @@ reading_of u = record {
   looks_on = false;
   one_term = true;
   misspelled = λ _. term_unspelled u;
+  within = u.faults.within;
   taken = value_taken u.means;
   stays = value_stays u.means;
   looked = value_looked u.means;

@@ -23,6 +23,7 @@ use Rattle.amqp_codec.specs.ItemsWriting.{items_writing, items_agreement}
 use Rattle.amqp_codec.specs.Wrappers.{via}
 use Rattle.amqp_codec.specs.Written.{Writing}
 use Rattle.amqp_codec.specs.Agreement.{Agreement, via_writing, via_agreement}
+use Rattle.amqp_codec.specs.laws.Within.{here_within, opens_shrinks}
 
 -- How a list is opened.
 abbrev pub list_opening : Opening
@@ -46,6 +47,8 @@ list_opening = record {
   opens_elsewhere = λ c st n first o. opens c o;
   fault_elsewhere = λ c st e keeps h. (open_fault c keeps h.0, h.1);
   misspelled = λ st e room is h. open_misspelled list tt st e.error is h.0;
+  within = here_within (OpenFault list);
+  shrinks = opens_shrinks list;
   nothing_in = λ st n first mid ts b room. nothing_in_container list tt st n first mid ts b;
   nothing_at_end = λ st n first last ts b e room. nothing_at_end list tt InList st n first last ts b e;
 }

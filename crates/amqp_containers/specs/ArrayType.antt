@@ -23,6 +23,7 @@ use Rattle.amqp_codec.specs.Wrappers.{via}
 use Rattle.amqp_codec.specs.Written.{Writing}
 use Rattle.amqp_codec.specs.Agreement.{Agreement, via_writing, via_agreement}
 use Rattle.amqp_containers.specs.declared.array.Array.{Array}
+use Rattle.amqp_codec.specs.laws.Within.{array_within, array_shrinks}
 
 -- what taking the constructor of an array leaves as it was
 starts_still : (n content : ℕ) (st first : State) → Starts n content st first → (first.error ≡ st.error) × (first.failed ≡ st.failed)
@@ -64,6 +65,8 @@ array_opening = record {
   opens_elsewhere = λ c st n first o. opens_array c o;
   fault_elsewhere = λ c st e keeps h. array_placed c keeps h;
   misspelled = λ st e room i f. array_misspelled st e.error room i f.0;
+  within = array_within;
+  shrinks = array_shrinks;
   nothing_in = nothing_in_array;
   nothing_at_end = nothing_at_array_end InArray;
 }

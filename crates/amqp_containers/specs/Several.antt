@@ -1,5 +1,5 @@
 -- What stands in a field of several values (Part 1, section 1.4): the items of an array, or one value by itself.
-use Rattle.std.proofs.Common.{◌≡◌, ◌⊎◌, ℕ, Bool, ◌||◌, eqb, List, [], ◌∷◌, length, map, Option, Some, None, subst}
+use Rattle.std.proofs.Common.{◌≡◌, ◌⊎◌, ℕ, Bool, ◌||◌, eqb, List, [], ◌∷◌, length, map, Option, Some, None, subst, ◌≤◌, arith}
 use Rattle.amqp_model.specs.Term.{null, empty_multiple, array, Term, leaf, barred}
 use Rattle.amqp_model.specs.FieldRules.{option_canon, array_or}
 use Rattle.amqp_model.specs.Standing.{Standing}
@@ -82,10 +82,15 @@ module _ {T : Type 0} (u : TermType T) where
   mandatory_misspelled st e room i (not_read h) = (multiple_faults u).misspelled st e room i h
   mandatory_misspelled st e room i (no_items h is place) = absurd (subst IsMisspelling is i)
 
+  pub mandatory_within : (st : State) (e : Located) → MandatoryFault u st e → e.left ≤ length st.rest
+  mandatory_within st e (not_read h) = (multiple_faults u).within st e h
+  mandatory_within st e (no_items h is place) = omega (arith, place)
+
   abbrev pub mandatory_faults : Faults
   mandatory_faults = record {
     fault = MandatoryFault u;
     not_outside = λ e out. mandatory_not_outside out;
     fault_elsewhere = mandatory_elsewhere;
     misspelled = mandatory_misspelled;
+    within = mandatory_within;
   }

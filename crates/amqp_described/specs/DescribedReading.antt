@@ -13,6 +13,8 @@ use Rattle.amqp_decoder.proofs.Rooms.{room_in_described}
 use Rattle.amqp_decoder.specs.Steps.{IsOutside}
 use Rattle.amqp_decoder.specs.Places.{Located, At}
 use Rattle.amqp_codec.specs.Faults.{Faults}
+use Rattle.amqp_codec.specs.laws.Within.{open_within, described_shrinks}
+use Rattle.std.proofs.Common.{◌≤◌, length, arith}
 
 -- Why no described value is read: none is opened, or one is, and what it describes isn't read.
 pub data DescribedValueFault (fault : State → Located → Type 0) (st : State) (e : Located) : Type 0 where
@@ -35,6 +37,10 @@ module _ (f : Faults) where
   described_misspelled_in st e room i (in_value {d} {inner} o h) =
       nothing_described st d inner o (f.misspelled inner e (room_in_described st d inner o) i h)
 
+  pub described_within : (st : State) (e : Located) → DescribedValueFault f.fault st e → e.left ≤ length st.rest
+  described_within st e (unopened h) = open_within st e h
+  described_within st e (in_value {d} {inner} o h) = omega (arith, f.within inner e h, described_shrinks st d inner o)
+
   -- Why no value is read behind a descriptor of its own, by why what it describes isn't.
   abbrev pub described_faults : Faults
   described_faults = record {
@@ -42,4 +48,5 @@ module _ (f : Faults) where
     not_outside = λ e out. described_not_outside out;
     fault_elsewhere = described_elsewhere;
     misspelled = described_misspelled_in;
+    within = described_within;
   }

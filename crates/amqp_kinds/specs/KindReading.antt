@@ -1,5 +1,5 @@
 -- How a value is read whose kind its first code tells.
-use Rattle.std.proofs.Common.{◌≡◌, ℕ, Bool, true, Result, Ok, Err, ap, ◌∙◌, subst, refl}
+use Rattle.std.proofs.Common.{◌≡◌, ℕ, Bool, true, Result, Ok, Err, ap, ◌∙◌, subst, refl, ◌≤◌, length, arith}
 use Rattle.amqp_model.specs.Term.{Term}
 use Rattle.amqp_model.specs.Standing.{Standing}
 use Rattle.amqp_wire.specs.declared.error.Error.{Error}
@@ -25,6 +25,7 @@ use Rattle.amqp_codec.specs.laws.Peek.{peeked_going, peeked_failed}
 use Rattle.amqp_kinds.specs.declared.kind.Kind.{Kind}
 use Rattle.amqp_kinds.specs.Kinds.{term_kind, kind_at}
 use Rattle.amqp_kinds.specs.laws.Kind.{kind_there}
+use Rattle.amqp_codec.specs.laws.Within.{peek_keeps}
 
 -- Why none is read: none begins, or what begins by a code has a fault of the kind that the code tells.
 pub data KindFault (faults : Kind → Faults) (st : State) (e : Located) : Type 0 where
@@ -45,12 +46,17 @@ module _ (faults : Kind → Faults) where
   kind_misspelled st e room i (of_kind {c} {mid} p h) =
       nothing_peeked st c mid p ((faults (kind_at c)).misspelled mid e (room_peeked st c mid p room) i h)
 
+  pub kind_within : (st : State) (e : Located) → KindFault faults st e → e.left ≤ length st.rest
+  kind_within st e (no_value h) = omega (arith, h.1)
+  kind_within st e (of_kind {c} {mid} p h) = omega (arith, (faults (kind_at c)).within mid e h, peek_keeps st c mid p)
+
   abbrev pub kind_faults : Faults
   kind_faults = record {
     fault = KindFault faults;
     not_outside = λ e out. kind_not_outside out;
     fault_elsewhere = kind_elsewhere;
     misspelled = kind_misspelled;
+    within = kind_within;
   }
 
 -- Why none is read that holds others of its own type: a fault of one that holds so many levels of them.
@@ -64,6 +70,7 @@ level_faults faults = record {
   not_outside = λ e out st h. (faults h.levels).not_outside e out st h.named;
   fault_elsewhere = λ s st e k h. record { levels = h.levels; named = (faults h.levels).fault_elsewhere s st e k h.named };
   misspelled = λ st e room i h. (faults h.levels).misspelled st e room i h.named;
+  within = λ st e h. (faults h.levels).within st e h.named;
 }
 
 -- The values of one kind are made of those of another type.

@@ -18,6 +18,7 @@ use Rattle.amqp_batches.specs.NoSections.{NoSection, no_code, other_value, no_de
 use Rattle.amqp_batches.specs.laws.Resuming.{IsUnlimited}
 use Rattle.amqp_batches.specs.laws.State.{alike_rest}
 use Rattle.amqp_message_spellings.specs.Faults.{IsNoTerm}
+use Rattle.amqp_codec.specs.laws.Within.{here_within, open_within}
 
 -- One without limits stands as one does that has read nothing of what is left.
 abbrev begun : State → State
@@ -101,6 +102,7 @@ begin_faults = record {
   not_outside = λ e o st f. begin_not_outside o st f.0;
   fault_elsewhere = λ c st e k f. (begin_fault c k f.0, f.1);
   misspelled = λ st e room i f. begin_misspelled st e.error i f.0;
+  within = here_within BeginFault;
 }
 
 abbrev open_faults : Faults
@@ -109,6 +111,7 @@ open_faults = record {
   not_outside = λ e o st f. open_described_not_outside o st f.0;
   fault_elsewhere = λ c st e k f. open_described_placed c k f;
   misspelled = λ st e room i f. described_misspelled st e.error i f.0;
+  within = open_within;
 }
 
 pub no_section_named : (st : State) (e : Located) → IsUnlimited st → NoSection st e → IsNoTerm st.rest e.error

@@ -1,5 +1,5 @@
 -- How a message is read, group by group.
-use Rattle.std.proofs.Common.{◌≡◌, inl, inr, ℕ, ◌<◌, Bool, true, List, length, refl, sym, ap, ◌∙◌, subst, arith}
+use Rattle.std.proofs.Common.{◌≡◌, inl, inr, ℕ, ◌<◌, Bool, true, List, length, refl, sym, ap, ◌∙◌, subst, arith, ◌≤◌}
 use Rattle.amqp_wire.specs.declared.error.Error.{Error}
 use Rattle.amqp_wire.specs.declared.error.Error.TheVariants.{Misplaced}
 use Rattle.amqp_lookahead.proofs.SectionsAhead.{one_ahead}
@@ -10,7 +10,7 @@ use Rattle.amqp_decoder.specs.Places.{Located}
 use Rattle.amqp_codec.specs.Reading.{looking, AreAlike}
 use Rattle.amqp_batches.specs.laws.State.{any_taken}
 use Rattle.amqp_batches.specs.Walk.{Leaves, Walk}
-use Rattle.amqp_batches.specs.NoSections.{no_section_not_outside, no_section_elsewhere}
+use Rattle.amqp_batches.specs.NoSections.{no_section_not_outside, no_section_elsewhere, no_section_within}
 use Rattle.amqp_messages.specs.declared.order.Order.{Order}
 use Rattle.amqp_messages.specs.declared.order.Order.TheVariants.{Any, Written}
 use Rattle.amqp_messages.specs.Orders.{further, IsFull}
@@ -108,6 +108,11 @@ module _ {M V : Type 0} (o : Order) (s : Shape M V) where
   group_not_outside e out st m (misplaced f a p i left) = outside_placed e.error out i
   group_not_outside e out st m (not_section f r a i) = no_section_not_outside e out st i
 
+  pub group_within : (st : State) (m : Progress M) (e : Located) → GroupFault o s st m e → e.left ≤ length st.rest
+  group_within st m e (in_group {c} a p f) = (s.kind_of c).reading.within st e f
+  group_within st m e (misplaced f a p i left) = omega (arith, left)
+  group_within st m e (not_section f r a i) = no_section_within st e i
+
   abbrev pub message_walk : Walk (Progress M) V
   message_walk = record {
     step = GroupStep o s;
@@ -138,4 +143,5 @@ module _ {M V : Type 0} (o : Order) (s : Shape M V) where
     fault_elsewhere = group_fault_elsewhere;
     not_outside = group_not_outside;
     unfinished_not_outside = λ e o m. s.unfinished_not_outside e o m.part;
+    within = group_within;
   }

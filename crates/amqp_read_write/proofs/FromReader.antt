@@ -166,7 +166,8 @@ placed_whole limits r input e b sound h at is small short =
           | inr f ↦ inr (
               f.0,
               f.1,
-              λ few. let z = placed_within b.source.fault f.0 (length input) small short f.2 few in omega (arith, z, is),
+              (let few = r.within (start_within limits input) (record { error = e; left = f.0 }) f.1 in
+                  let z = placed_within b.source.fault f.0 (length input) small short f.2 few in omega (arith, z, is)),
             )
         ]
     ]

@@ -1,5 +1,5 @@
 -- The type of simple values (Part 3, section 3.2.5).
-use Rattle.std.proofs.Common.{◌≡◌, ℕ, Bool, length, refl, subst}
+use Rattle.std.proofs.Common.{◌≡◌, ℕ, Bool, length, refl, subst, arith}
 use Rattle.amqp_model.specs.FieldType.{unchanged}
 use Rattle.amqp_wire.specs.declared.error.Error.TheVariants.{InvalidValue}
 use Rattle.amqp_decoder.specs.Misspelled.{IsMisspelling}
@@ -27,6 +27,7 @@ never_simple = record {
   not_outside = λ e out st h. subst IsOutside h.0 out;
   fault_elsewhere = λ c st e keeps h. h;
   misspelled = λ st e room i h. absurd (subst IsMisspelling h.0 i);
+  within = λ st e h. omega (arith, h.1);
 }
 
 -- Why none is read: what begins by a code of a list, a map or an array is none; or what begins by another code is no value.

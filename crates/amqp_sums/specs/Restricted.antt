@@ -1,5 +1,5 @@
 -- Restricted types: each value is one of a primitive type's, a number or a text, and the table of a type says which.
-use Rattle.std.proofs.Common.{length, ◌≡◌, ℕ, Bool, true, false, List, Result, Ok, Err, sym, subst}
+use Rattle.std.proofs.Common.{length, ◌≡◌, ℕ, Bool, true, false, List, Result, Ok, Err, sym, subst, ◌≤◌, arith}
 use Rattle.amqp_model.specs.Term.{Term, leaf}
 use Rattle.amqp_model.specs.Standing.{Standing}
 use Rattle.amqp_wire.specs.declared.error.Error.{Error}
@@ -72,12 +72,17 @@ module _ {A V : Type 0} (base : Base A) (unknown : Error) (table : V → A) wher
     restricted_misspelled st e i (no_primitive h) = primitive_misspelled base.kind st e.error i h.0
     restricted_misspelled st e i (of_no_value h none j place) = absurd (unknown_not_misspelled e.error (subst IsUnknownError (sym j) is) i)
 
+    pub restricted_within : (st : State) (e : Located) → RestrictedFault st e → e.left ≤ length st.rest
+    restricted_within st e (no_primitive h) = omega (arith, h.1)
+    restricted_within st e (of_no_value h none i place) = omega (arith, place)
+
     abbrev pub restricted_faults : Faults
     restricted_faults = record {
       fault = RestrictedFault;
       not_outside = λ e out. restricted_not_outside out;
       fault_elsewhere = restricted_elsewhere;
       misspelled = λ st e _. restricted_misspelled st e;
+      within = restricted_within;
     }
 
 -- No two values have one number or text.

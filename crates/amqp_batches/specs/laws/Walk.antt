@@ -9,6 +9,7 @@ use Rattle.amqp_decoder.specs.Places.{Located}
 use Rattle.amqp_codec.specs.Reading.{Taken, Stays, looking, AreAlike}
 use Rattle.amqp_batches.specs.laws.State.{stays_self, stays_then, taken_self, taken_then, alike_stays, alike_rest, alike_sym, alike_trans}
 use Rattle.amqp_batches.specs.Walk.{IsAtTop, Walk, Steps, Walked, WalkFault, not_top, in_step, not_made}
+use Rattle.std.proofs.lemmas.List.{length-drop}
 
 -- What some steps leave, of which there may be none.
 pub record LeavesAll (st : State) (before after : ℕ) (b : State) : Type 0 where
@@ -179,6 +180,15 @@ module _ {M V : Type 0} (w : Walk M V) where
       (ap (elsewhere source failed) a) (w.fault_elsewhere source failed mid part e f)
   walk_fault_elsewhere source failed st e (not_made n part last s d f place) =
       not_made n part (elsewhere source failed last) (steps_elsewhere source failed n st w.blank part last s) d f place
+
+  pub walk_within : (st : State) (e : Located) → WalkFault w st e → e.left ≤ length st.rest
+  walk_within st e (not_top h) = omega (arith, h.1)
+  walk_within st e (in_step n part last mid s a f) =
+      let t = (steps_leave n st w.blank part last s).taken in
+      omega (arith, w.within mid part e f, ap length (alike_rest last mid a), ap length t.rest, length-drop t.count st.rest)
+  walk_within st e (not_made n part last s d f place) =
+      let t = (steps_leave n st w.blank part last s).taken in
+      omega (arith, place, ap length t.rest, length-drop t.count st.rest)
 
   pub walk_not_outside : (e : Located) → IsOutside e.error → (st : State) → WalkFault w st e → ⊥
   walk_not_outside e o st (not_top h) = outside_not_top e.error o h.0.1

@@ -1,5 +1,5 @@
 -- Lemmas of values of one type or of another, whose terms have other forms.
-use Rattle.std.proofs.Common.{◌≡◌, ◌⊎◌, inl, inr, ℕ, Bool, true, false, ◌&&◌, List, refl, sym, ap, ◌∙◌, subst}
+use Rattle.std.proofs.Common.{◌≡◌, ◌⊎◌, inl, inr, ℕ, Bool, true, false, ◌&&◌, List, refl, sym, ap, ◌∙◌, subst, ◌≤◌, length, arith}
 use Rattle.std.specs.Cmp.{first_so, second_so}
 use Rattle.amqp_model.specs.Term.{Term}
 use Rattle.amqp_model.specs.Standing.{Standing, whole}
@@ -24,6 +24,7 @@ use Rattle.amqp_codec.specs.Faults.{Faults}
 use Rattle.amqp_codec.specs.TermType.{TermType, View, view_of, Agrees, Rewrites, IgnoresStanding, Meant, IsNoShorter}
 use Rattle.amqp_codec.specs.EitherMeaning.{either, IsEither, SameEither, each_normal, norm_either, FormsApart, EitherFault, no_value}
 use Rattle.amqp_codec.specs.EitherMeaning.{in_first, in_second}
+use Rattle.amqp_codec.specs.laws.Within.{peek_keeps}
 
 either_normal : {A B : Type 0} (m : Norm A) (n : Norm B) (v : A ⊎ B) → normal (norm_either m n) v ≡ each_normal m n v
 either_normal unchanged unchanged (inl a) = refl
@@ -145,6 +146,11 @@ module _ (is_first : ℕ → Bool) (f g : Faults) where
       nothing_peeked st c mid p (f.misspelled mid e (room_peeked st c mid p room) i h)
   either_misspelled st e room i (in_second {c} {mid} p is h) =
       nothing_peeked st c mid p (g.misspelled mid e (room_peeked st c mid p room) i h)
+
+  pub either_within : (st : State) (e : Located) → EitherFault is_first f g st e → e.left ≤ length st.rest
+  either_within st e (no_value h) = omega (arith, h.1)
+  either_within st e (in_first {c} {mid} p is h) = omega (arith, f.within mid e h, peek_keeps st c mid p)
+  either_within st e (in_second {c} {mid} p is h) = omega (arith, g.within mid e h, peek_keeps st c mid p)
 
   -- where a code was looked at, a fault is of the type that it tells, and of no other
   pub first_fault : (st mid : State) (c : ℕ) (e : Located) → PeeksCode st c mid → is_first c ≡ true → EitherFault is_first f g st e

@@ -1,5 +1,5 @@
 -- The items of a list or an array that are read are those of the term that stands there, and their faults those of that.
-use Rattle.std.proofs.Common.{◌≡◌, ℕ, ◌<◌, suc, false, List, [], ◌∷◌, ◌++◌, length, refl, sym, ap, ◌∙◌, subst, arith}
+use Rattle.std.proofs.Common.{◌≡◌, ℕ, ◌<◌, suc, false, List, [], ◌∷◌, ◌++◌, length, refl, sym, ap, ◌∙◌, subst, arith, ◌≤◌}
 use Rattle.amqp_model.specs.Term.{Term, Terms, container, none, more, count}
 use Rattle.amqp_model.specs.Items.{items_of}
 use Rattle.amqp_model.specs.Standing.{Standing, Parts}
@@ -22,6 +22,7 @@ use Rattle.amqp_codec.specs.Each.{EachMeans, MeansItems}
 use Rattle.amqp_codec.specs.laws.Each.{values_many}
 use Rattle.amqp_codec.specs.laws.ItemsType.{items_cases, mean_as}
 use Rattle.amqp_codec.specs.ItemsReading.{ReadsEach, ReadsRow, Held, Opening, ItemsRead, ItemsFault, unopened, at_item, unclosed}
+use Rattle.amqp_codec.specs.laws.Within.{each_shrinks}
 
 count_items : (ts : Terms) → length (items_of ts) ≡ count ts
 count_items none = refl
@@ -146,6 +147,13 @@ module _ {T : Type 0} (o : Opening) (means : Standing → Term → T → Type 0)
   items_misspelled st e room is (unclosed {n} {first} {vs} {last} k h c) =
       let t = each_taken means first vs last h.each in
       o.nothing_at_end st n first last (items_of t.terms) t.bytes e.error room k t.row is c.0
+
+  pub items_within : (st : State) (e : Located) → Fault st e → e.left ≤ length st.rest
+  items_within st e (unopened h) = o.within st e h
+  items_within st e (at_item {n} {first} k h) =
+      omega (arith, f.within h.mid e h.named, each_shrinks means first h.before h.mid h.each, o.shrinks st n first k)
+  items_within st e (unclosed {n} {first} {vs} {last} k h c) =
+      omega (arith, c.1, each_shrinks means first vs last h.each, o.shrinks st n first k)
 
 module _ {T : Type 0} (o : Opening) (u : TermType T) where
   abbrev Meant : Standing → Term → List T → Type 0

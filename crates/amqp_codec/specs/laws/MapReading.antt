@@ -1,5 +1,5 @@
 -- The pairs that are read are those of the map that stands there, and the faults of reading are its.
-use Rattle.std.proofs.Common.{◌≡◌, inl, inr, ◌⊎◌, ℕ, ◌+◌, ◌*◌, ◌<◌, false, ◌&&◌, List, [], ◌∷◌, ◌++◌, length, refl, sym, ap, ◌∙◌}
+use Rattle.std.proofs.Common.{◌≡◌, inl, inr, ◌⊎◌, ℕ, ◌+◌, ◌*◌, ◌<◌, false, ◌&&◌, List, [], ◌∷◌, ◌++◌, length, refl, sym, ap, ◌∙◌, ◌≤◌}
 use Rattle.std.proofs.Common.{subst, arith, length-append}
 use Rattle.amqp_model.specs.Term.{map, Term, Terms, container, count}
 use Rattle.amqp_model.specs.Items.{items_of}
@@ -34,6 +34,7 @@ use Rattle.amqp_codec.specs.MapType.{map_type}
 use Rattle.amqp_codec.specs.laws.MapType.{mean_as}
 use Rattle.amqp_codec.specs.MapReading.{Pairs, ReadsFewer, PairsFault, at_key, twice, told_twice, at_value, MapRead, MapFault}
 use Rattle.amqp_codec.specs.MapReading.{unopened, at_pair, unclosed}
+use Rattle.amqp_codec.specs.laws.Within.{value_shrinks, opens_shrinks}
 
 pub twice_as_many : {K V : Type 0} (ps : List (K × V)) → length (in_turn ps) ≡ 2 * length ps
 twice_as_many [] = refl
@@ -142,12 +143,31 @@ module _ {K V : Type 0} (key : TermType K) (value : TermType V) where
       let t = each_taken Turn first (in_turn ps) last (pairs_in_turn first ps last r.each) in
       nothing_at_end map tt InMap st (2 * n) first last (items_of t.terms) t.bytes e.error o t.row is f.0
 
+  pairs_shrink : (st : State) (ps : List (K × V)) (b : State) → Pairs key value st ps b → length b.rest ≤ length st.rest
+  pairs_shrink st [] b h = omega (arith, ap (λ (x : State). length x.rest) h)
+  pairs_shrink st (p ∷ ps) b (m, n, h, k, more) =
+      omega (arith, value_shrinks key.means st p.0 m h, value_shrinks value.means m p.1 n k, pairs_shrink n ps b more)
+
+  row_within : (n : ℕ) (st : State) (e : Located) → PairsFault key value n st e → e.left ≤ length st.rest
+  row_within n st e (at_key ps mid h f) = omega (arith, key.faults.within mid e f, pairs_shrink st ps mid h.each)
+  row_within n st e (twice ps mid after k h u r same d place) = omega (arith, place, pairs_shrink st ps mid h.each)
+  row_within n st e (told_twice all b ps mid after k each h u r same d place) = omega (arith, place, pairs_shrink st all b each)
+  row_within n st e (at_value ps mid after k h r f) =
+      omega (arith, value.faults.within after e f, value_shrinks key.means mid k after r, pairs_shrink st ps mid h.each)
+
+  pub map_within : (st : State) (e : Located) → MapFault key value st e → e.left ≤ length st.rest
+  map_within st e (unopened h) = omega (arith, h.1)
+  map_within st e (at_pair {n} {first} o f) = omega (arith, row_within n first e f, opens_shrinks map st (2 * n) first o)
+  map_within st e (unclosed {n} {first} {ps} {last} o r f) =
+      omega (arith, f.1, pairs_shrink first ps last r.each, opens_shrinks map st (2 * n) first o)
+
   abbrev pub map_faults : Faults
   map_faults = record {
     fault = MapFault key value;
     not_outside = λ e out. map_not_outside out;
     fault_elsewhere = map_elsewhere;
     misspelled = map_misspelled;
+    within = map_within;
   }
 
   -- The type of maps of these keys and values.

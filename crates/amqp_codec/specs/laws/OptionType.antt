@@ -1,5 +1,5 @@
 -- Lemmas of optional values.
-use Rattle.std.proofs.Common.{inl, inr, ◌≡◌, ℕ, Bool, true, false, List, Option, Some, None, IfSome, refl, sym, ap, ◌∙◌, subst}
+use Rattle.std.proofs.Common.{inl, inr, ◌≡◌, ℕ, Bool, true, false, List, Option, Some, None, IfSome, refl, sym, ap, ◌∙◌, subst, ◌≤◌, length, arith}
 use Rattle.amqp_model.specs.Term.{null, Term, leaf}
 use Rattle.amqp_model.specs.Standing.{Standing, whole}
 use Rattle.amqp_model.specs.Text.{form}
@@ -24,6 +24,7 @@ use Rattle.amqp_codec.specs.TermType.{TermType, View, view_of, view_in, Agrees, 
 use Rattle.amqp_codec.specs.laws.PrimitiveTerm.{reads_leaf}
 use Rattle.amqp_codec.specs.laws.Null.{nulls_alike-null, is_null-nulls_alike, null_form, null_meant, null_least}
 use Rattle.amqp_codec.specs.OptionMeaning.{MeansOption, OptionFault, keep, norm_option, count_option}
+use Rattle.amqp_codec.specs.laws.Within.{peek_keeps}
 
 pub option_not_outside : (e : Located) → IsOutside e.error → (f : Faults) (st : State) → OptionFault f.fault st e → ⊥
 option_not_outside e out f st (inl h) = begin_not_outside out st h.0
@@ -37,6 +38,10 @@ option_elsewhere f s st e k (inr (c, mid, p, n, h)) = inr (c, under s mid, peeke
 pub option_misspelled : (f : Faults) (st : State) (e : Located) → HasRoom st → IsMisspelling e.error → OptionFault f.fault st e → NothingStands st
 option_misspelled f st e room i (inl h) = begin_misspelled st e.error i h.0
 option_misspelled f st e room i (inr (c, mid, p, n, h)) = nothing_peeked st c mid p (f.misspelled mid e (room_peeked st c mid p room) i h)
+
+pub option_within : (f : Faults) (st : State) (e : Located) → OptionFault f.fault st e → e.left ≤ length st.rest
+option_within f st e (inl h) = omega (arith, h.1)
+option_within f st e (inr (c, mid, p, n, h)) = omega (arith, f.within mid e h, peek_keeps st c mid p)
 
 none_at : {T : Type 0} (n : Norm T) (b : Bool) (canon : T → Term) → normal (norm_option n b canon) None ≡ None
 none_at unchanged true canon = refl
