@@ -32,6 +32,7 @@ use Rattle.std.proofs.Common.{◌≤◌, ◌+◌, ◌-◌, length-append}
 use Rattle.amqp_decoder.specs.State.{State}
 use Rattle.amqp_decoder.specs.Terms.{NoTerm, wrong_size, wrong_term, term_left, SpellingFault, no_constructor, no_data, no_term, spelling_left, missing, in_array, misspelled, too_many}
 use Rattle.amqp_lengths.proofs.Places.{term_within as fault_within}
+use Rattle.amqp_wire.specs.declared.error.Error.{Error}
 
 -- Bytes that spell a term, and how many values are in it: a described value is one with its descriptor.
 pub record Counted : Type 0 where
@@ -68,7 +69,7 @@ bytes_canon v = kept v.bytes
 
 no_term_within : (nesting : ℕ) (b : List ℕ) (st : State) (e : Error) (f : NoTerm nesting b st e)
     → term_left nesting b st e f ≤ length b + length st.rest
-no_term_within nesting b st e (wrong_size refused fault size) = omega (arith, fault_within nesting b Size fault.0 fault.1)
+no_term_within nesting b st e (wrong_size refused fault size) = omega (arith, fault_within nesting b _ fault.0 fault.1)
 no_term_within nesting b st e (wrong_term refused fault other) = omega (arith, fault_within nesting b e fault.0 fault.1)
 
 spelling_within : (st : State) (e : Error) (f : SpellingFault st e) → spelling_left st e f ≤ length st.rest
