@@ -4,12 +4,11 @@ use Rattle.amqp_wire.specs.declared.error.Error.{Error}
 use Rattle.amqp_wire.specs.declared.error.Error.TheVariants.{Memory}
 use Rattle.amqp_decoder.specs.State.{State}
 use Rattle.amqp_decoder.specs.Steps.{IsExcused, RefusesBy}
-use Rattle.amqp_decoder.specs.Reading.{RefusesRead}
 use Rattle.amqp_decoder.specs.Sections.{NotTop, PeeksSection}
 use Rattle.amqp_decoder.proofs.Steps.{answered_later, first_kept}
 use Rattle.amqp_decoder.proofs.Places.{before_later}
 use Rattle.amqp_decoder.specs.Places.{Located, Here, RefusesAt, StandsHere}
-use Rattle.amqp_decoder.proofs.Places.{refused_here, placed_later}
+use Rattle.amqp_decoder.proofs.Places.{placed_later}
 use Rattle.amqp_codec.specs.Reading.{Stays, looking, AreAlike}
 use Rattle.amqp_codec.specs.laws.Refusal.{NoneStands, excused_as, no_memory, or_else}
 use Rattle.amqp_batches.specs.laws.State.{still_among, stays_then, alike_stays, alike_rest, alike_sym, alike_trans}

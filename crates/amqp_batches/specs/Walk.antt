@@ -6,7 +6,7 @@ use Rattle.amqp_decoder.specs.State.{Source, State}
 use Rattle.amqp_decoder.specs.Steps.{IsOutside}
 use Rattle.amqp_decoder.specs.Sections.{NotTop}
 use Rattle.amqp_decoder.specs.OtherSource.{elsewhere}
-use Rattle.amqp_decoder.specs.Places.{Located, Here, At}
+use Rattle.amqp_decoder.specs.Places.{Located, Here}
 use Rattle.amqp_codec.specs.Reading.{Taken, Stays, looking, AreAlike}
 
 -- No error was kept, nothing is open, and what stands next may be looked at.

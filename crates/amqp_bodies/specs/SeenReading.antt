@@ -4,7 +4,7 @@ use Rattle.amqp_model.specs.Term.{Term}
 use Rattle.amqp_decoder.specs.State.{Source, State}
 use Rattle.amqp_decoder.specs.OtherSource.{elsewhere}
 use Rattle.amqp_decoder.specs.Places.{Located}
-use Rattle.amqp_codec.specs.Reading.{Reading, Taken, looking, AreAlike, greatest, start, start_within, BeginsWith, BeginsWithin}
+use Rattle.amqp_codec.specs.Reading.{Reading, Taken, looking, AreAlike, greatest, start_within, BeginsWith, BeginsWithin}
 use Rattle.amqp_wire.specs.declared.limits.Limits.{Limits}
 use Rattle.amqp_codec.specs.Rewriting.{Rewriting}
 use Rattle.amqp_batches.specs.Bounds.{limited_to, IsBoundByLimits}

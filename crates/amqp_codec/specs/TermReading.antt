@@ -1,5 +1,5 @@
 -- The reading of a type of terms: one term that means the value.
-use Rattle.std.proofs.Common.{◌≡◌, ℕ, Bool, true, false, refl, sym, ap, ap₂, ◌∙◌, subst, arith}
+use Rattle.std.proofs.Common.{◌≡◌, Bool, true, false, refl, sym, ap, ap₂, ◌∙◌, subst, arith}
 use Rattle.amqp_decoder.specs.State.{Source, State}
 use Rattle.amqp_decoder.specs.OtherSource.{Setting, another, under, elsewhere}
 use Rattle.amqp_decoder.specs.laws.OtherSource.{freed_kept, unlifted, keeps_another, value}

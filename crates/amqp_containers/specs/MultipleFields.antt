@@ -21,7 +21,6 @@ use Rattle.amqp_containers.specs.ArrayType.{norm_array, array_normal}
 use Rattle.amqp_containers.specs.Several.{AreLeaves, MeansAtLeastOne, MeansMultiple, multiple_canon, multiple_faults, mandatory_faults}
 use Rattle.amqp_containers.specs.laws.Several.{several_meant, several_valued, several_plain, several_least, several_fits}
 use Rattle.amqp_containers.specs.laws.Several.{none_fits, several_read, none_read}
-use Rattle.amqp_decoder.specs.Places.{At}
 
 -- an array holds its items
 abbrev pub array_items : {T : Type 0} (u : TermType T) (ignores_standing : u.ignores_standing ≡ true)

@@ -12,7 +12,7 @@ use Rattle.amqp_decoder.specs.Rooms.{HasRoom}
 use Rattle.amqp_decoder.specs.Misspelled.{IsMisspelling, NothingStands}
 use Rattle.amqp_decoder.specs.Primitives.{ReadsValue}
 use Rattle.amqp_decoder.specs.Steps.{IsOutside}
-use Rattle.amqp_decoder.specs.Places.{Located, At}
+use Rattle.amqp_decoder.specs.Places.{Located}
 use Rattle.amqp_codec.specs.Faults.{Faults}
 use Rattle.amqp_codec.specs.TermType.{TermType, IsLeaf}
 use Rattle.amqp_codec.specs.EitherType.{either_faults}

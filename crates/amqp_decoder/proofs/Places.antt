@@ -1,5 +1,5 @@
 -- A call that is placed answers as it did, and refuses where it began.
-use Rattle.std.proofs.Common.{◌≡◌, ◌⊎◌, inl, inr, refl, sym, ap, ◌∙◌, subst, ℕ, ◌+◌, ◌%◌, ◌^◌, Bool, length, Some, None, Result, Ok, Err, IfOk, IfErr}
+use Rattle.std.proofs.Common.{◌≡◌, ◌⊎◌, inl, inr, refl, sym, ap, ◌∙◌, subst, ℕ, ◌+◌, ◌%◌, ◌^◌, Bool, length, Some, Result, Ok, Err, IfOk, IfErr}
 use Rattle.amqp_wire.specs.declared.error.Error.{Error}
 use Rattle.amqp_decoder.specs.State.{Course, State, IsPlaceOf, refused_at}
 use Rattle.amqp_decoder.specs.Steps.{Answers, IsExcused, RefusesSize, Stops, Goes, Tries}
@@ -7,7 +7,7 @@ use Rattle.amqp_decoder.specs.Reading.{RefusesRead, AnswersRead}
 use Rattle.amqp_decoder.specs.Primitives.{AnswersFault}
 use Rattle.amqp_decoder.specs.Described.{MissesDescriptor}
 use Rattle.amqp_decoder.specs.Places.{Starts, placed, StandsHere, Located, Here, StandsBefore, IsPlaced, StopsAt, RefusesAt, AnswersAt}
-use Rattle.amqp_decoder.proofs.Steps.{answered_later, excused_by_source}
+use Rattle.amqp_decoder.proofs.Steps.{answered_later}
 
 -- a decoder that had refused stays as it was
 unmoved : (old mid : State) (place : ℕ) → old.source.fault ≡ place → mid ≡ old

@@ -1,5 +1,5 @@
 -- Where an error says of bytes that they are no term, none of them begins with one.
-use Rattle.std.proofs.Common.{◌≡◌, ℕ, max, inl, Bool, true, false, List, Option, None, refl, sym, ap, ◌∙◌, subst, arith}
+use Rattle.std.proofs.Common.{◌≡◌, ℕ, max, inl, Bool, true, List, Option, None, refl, sym, ap, ◌∙◌, subst, arith}
 use Rattle.amqp_model.specs.Measures.{nest}
 use Rattle.amqp_wire.specs.declared.error.Error.{Error}
 use Rattle.amqp_wire.specs.declared.error.Error.TheVariants.{Depth, Limit}

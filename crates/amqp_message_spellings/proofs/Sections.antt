@@ -1,5 +1,5 @@
 -- The bytes of a message are sections, one after another, and those are what an iterator over its sections returns.
-use Rattle.std.proofs.Common.{◌≡◌, inl, inr, ℕ, List, [], ◌∷◌, ◌++◌, map, Option, Some, None, refl, sym, ap, ◌∙◌, subst, append_assoc}
+use Rattle.std.proofs.Common.{◌≡◌, inl, inr, ℕ, List, [], ◌∷◌, ◌++◌, map, Some, None, refl, sym, ap, ◌∙◌, subst, append_assoc}
 use Rattle.std.proofs.lemmas.List.{append-nil, append_cancel_left}
 use Rattle.amqp_model.proofs.Unique.{one_front}
 use Rattle.amqp_lookahead.specs.Sections.{IsSectionAhead}

@@ -4,7 +4,7 @@ use Rattle.amqp_wire.specs.declared.error.Error.TheVariants.{Misplaced}
 use Rattle.amqp_lookahead.specs.Sections.{IsSectionAhead}
 use Rattle.amqp_decoder.specs.State.{State}
 use Rattle.amqp_decoder.specs.Sections.{NotTop}
-use Rattle.amqp_decoder.specs.Places.{Located, Here, At}
+use Rattle.amqp_decoder.specs.Places.{Located, Here}
 use Rattle.amqp_codec.specs.Reading.{AreAlike}
 use Rattle.amqp_batches.specs.Walk.{IsAtTop}
 use Rattle.amqp_batches.specs.NoSections.{NoSection}

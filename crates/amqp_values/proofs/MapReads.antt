@@ -77,7 +77,7 @@ module _ (levels : ℕ) (n : ℕ) where
       → RefusesAt true (ReadsPairsRow value_type value_type n) (PairsFault value_type value_type n) st e new
   row_refused_any st e new =
       refused_first (ReadsPairsRow (value_in levels) (value_in levels) n) (PairsFault (value_in levels) (value_in levels) n)
-      (ReadsPairsRow value_type value_type n) (PairsFault value_type value_type n) st e new (λ x. x) (fault_any st e)
+      (ReadsPairsRow value_type value_type n) (PairsFault value_type value_type n) st e new (λ x. x) (fault_any st)
       (λ none ps b h. none ps b (row_of st ps b h))
 
 -- in a map that was opened a level less is left

@@ -1,5 +1,5 @@
 -- Lemmas of what it is to read a value: of the terms of a type, and of a whole input.
-use Rattle.std.proofs.Common.{[], sym, ◌≡◌, inl, inr, ℕ, ◌+◌, ◌≤◌, Bool, true, false, List, length, max, Option, Some, None, ◌⊎◌, refl, ap, ◌∙◌, subst, arith, ◌-◌}
+use Rattle.std.proofs.Common.{sym, ◌≡◌, inl, inr, ℕ, ◌+◌, ◌≤◌, Bool, true, false, List, length, max, Option, Some, None, ◌⊎◌, refl, ap, ◌∙◌, subst, arith, ◌-◌}
 use Rattle.std.proofs.Common.{length-append}
 use Rattle.std.proofs.lemmas.List.{length-drop}
 use Rattle.amqp_model.specs.Term.{Term}
@@ -11,7 +11,7 @@ use Rattle.amqp_wire.specs.declared.error.Error.{Error}
 use Rattle.amqp_wire.specs.declared.error.Error.TheVariants.{Memory, Depth, Limit}
 use Rattle.amqp_wire.specs.declared.limits.Limits.{Limits}
 use Rattle.amqp_wire.specs.Limits.{limit_of}
-use Rattle.amqp_decoder.specs.State.{Open, State, Has, top_level, lower, fresh_source}
+use Rattle.amqp_decoder.specs.State.{Open, State, Has, top_level, lower}
 use Rattle.amqp_decoder.specs.OtherSource.{Setting, under, freed, IsByDepth}
 use Rattle.amqp_decoder.specs.Misspelled.{IsMisspelling}
 use Rattle.amqp_decoder.specs.Primitives.{standing, SpellsAs, ReadsValue}

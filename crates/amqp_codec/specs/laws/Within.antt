@@ -1,25 +1,24 @@
 -- What is taken leaves no more bytes than stood before the decoder, so a fault has no more of them behind its place.
-use Rattle.std.proofs.Common.{◌≡◌, inl, inr, ℕ, zero, suc, ◌+◌, ◌≤◌, List, [], ◌∷◌, ◌++◌, length, drop, Option, None, Some, refl}
+use Rattle.std.proofs.Common.{◌≡◌, inl, inr, ℕ, suc, ◌+◌, ◌≤◌, List, [], ◌∷◌, ◌++◌, length, drop, Option, None, Some, refl}
 use Rattle.std.proofs.Common.{ap, ◌∙◌, subst, arith, length-append}
 use Rattle.std.proofs.lemmas.List.{length-drop}
-use Rattle.amqp_model.specs.Term.{null, Primitive, Term, leaf, Container, Descriptor}
+use Rattle.amqp_model.specs.Term.{Term, Container, Descriptor}
 use Rattle.amqp_model.specs.Standing.{Standing}
-use Rattle.amqp_model.specs.Spelling.{IsSpelling}
 use Rattle.amqp_model.proofs.Lengths.{spelling_length}
 use Rattle.amqp_lookahead.specs.Members.{Member}
 use Rattle.amqp_decoder.specs.declared.frame.Place.TheVariants.{InArray}
 use Rattle.amqp_decoder.specs.State.{State, after_value, weight_at, in_container}
 use Rattle.amqp_decoder.specs.Steps.{Takes}
 use Rattle.amqp_decoder.specs.Reading.{ReadsCode, PeeksCode, after_peek}
-use Rattle.amqp_decoder.specs.Primitives.{standing, SpellsAs, ReadsValue, Means}
+use Rattle.amqp_decoder.specs.Primitives.{standing, SpellsAs, ReadsValue}
 use Rattle.amqp_decoder.specs.Items.{Row, Contains}
 use Rattle.amqp_decoder.specs.Containers.{Opens}
 use Rattle.amqp_decoder.specs.Described as described
-use Rattle.amqp_decoder.specs.Described.{OpensDescribed, OneOfFault, not_described, no_descriptor, no_member, one_of_left}
+use Rattle.amqp_decoder.specs.Described.{OpensDescribed, not_described, no_descriptor, no_member, one_of_left}
 use Rattle.amqp_decoder.specs.Arrays.{TakesMarks, ConstructorFault, no_code, no_mark, too_many, no_known_code, constructor_left}
 use Rattle.amqp_decoder.specs.Arrays.{SharesFault, no_constructor, zero_width, too_nested, shares_left}
 use Rattle.amqp_decoder.specs.Arrays.{EnterArrayFault, no_items_opened, no_start, enter_left}
-use Rattle.amqp_decoder.specs.Arrays.{ArrayFault, not_begun, wrong_code, no_data, array_left}
+use Rattle.amqp_decoder.specs.Arrays.{not_begun, wrong_code, no_data, array_left}
 use Rattle.amqp_decoder.specs.Arrays.{TakesConstructor, Shares, no_items, shared_by, Starts, OpensArray}
 use Rattle.amqp_decoder.specs.Places.{Located, Here, At}
 use Rattle.amqp_codec.specs.ItemsReading.{ReadsEach}

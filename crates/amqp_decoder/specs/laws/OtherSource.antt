@@ -25,12 +25,12 @@ use Rattle.amqp_decoder.specs.Described as described
 use Rattle.amqp_decoder.specs.Described.{in_described, TakesDescriptor, OpensDescribed, TakesPlace, DescribedFault, other_code, DescriptorFault, no_kind}
 use Rattle.amqp_decoder.specs.Described.{non_ascii, not_open, nameless, OneOfFault, not_described, no_descriptor, no_member, open_left, one_of_left}
 use Rattle.amqp_decoder.specs.Arrays as arrays
-use Rattle.amqp_decoder.specs.Arrays.{TakesMarks, TakesConstructor, ConstructorFault, no_mark, too_many, no_known_code, Shares}
-use Rattle.amqp_decoder.specs.Arrays.{no_items, shared_by, SharesFault, no_constructor, zero_width, too_nested, Starts, EntersArray}
-use Rattle.amqp_decoder.specs.Arrays.{OpenItemsFault, EnterArrayFault, no_items_opened, no_start, OpensArray, ArrayFault}
+use Rattle.amqp_decoder.specs.Arrays.{TakesMarks, TakesConstructor, no_mark, too_many, no_known_code, Shares}
+use Rattle.amqp_decoder.specs.Arrays.{no_items, shared_by, no_constructor, zero_width, too_nested, Starts, EntersArray}
+use Rattle.amqp_decoder.specs.Arrays.{OpenItemsFault, no_items_opened, no_start, OpensArray, ArrayFault}
 use Rattle.amqp_decoder.specs.Arrays.{constructor_left, shares_left, enter_left, array_left}
 use Rattle.amqp_decoder.specs.Terms as terms
-use Rattle.amqp_decoder.specs.Terms.{LacksAnnounced, NoTerm, wrong_size, wrong_term, SpellingFault, no_term, TakesTerm, TermFault, in_array}
+use Rattle.amqp_decoder.specs.Terms.{LacksAnnounced, wrong_size, wrong_term, no_term, TakesTerm, TermFault, in_array}
 use Rattle.amqp_decoder.specs.Terms.{misspelled, term_left, spelling_left, term_fault_left}
 use Rattle.amqp_decoder.specs.Places.{Located, At}
 use Rattle.amqp_lengths.specs.Faults.{inside}

@@ -2,7 +2,7 @@ use Rattle.std.proofs.Common.{false, [], ◌∷◌, ap₂}
 use Rattle.std.proofs.lemmas.Result.{err_from_is_err_and}
 use Rattle.amqp_decoder.proofs.Places.{refused_here}
 use Rattle.amqp_sections.proofs.SectionReads.{begin_refused, value_refused, end_refused, whole_read}
-use Rattle.amqp_codec.proofs.Tries.{taking_none, taking_so, began_then, refused_more, refused_behind}
+use Rattle.amqp_codec.proofs.Tries.{taking_none, taking_so, refused_more, refused_behind}
 use Rattle.amqp_sections.proofs.section.read_section.Goals as goal
 
 pub returns-in_err-begin_one_of-clause-read : goal.returns-in_err-begin_one_of-clause-read

@@ -1,5 +1,5 @@
 use Rattle.amqp_wire.specs.declared.error.Error.TheVariants.{Size}
-use Rattle.std.proofs.Common.{◌≡◌, false, ◌-◌, length, ◌∙◌, rules}
+use Rattle.std.proofs.Common.{◌≡◌, false, ◌-◌, length, rules}
 use Rattle.amqp_decoder.proofs.KeptTerms.{size_refused, term_refused_at}
 use Rattle.amqp_decoder.proofs.NotOutside.{fails_by_length}
 use Rattle.amqp_decoder.proofs.decoder.Decoder.check_term.Goals as goal
