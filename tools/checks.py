@@ -20,6 +20,34 @@ RUST_EXAMPLES = (
     ("walk", (), "Described, 2 inside\n  Ulong, 0 inside\n  List, 2 inside\n    Uint, 0 inside\n    Ulong, 0 inside\n"),
     ("address", (), "queue\n"),
 )
+# The examples that are there in C, Rust and Python, with their arguments, and what each of the three prints.
+MESSAGE = (
+    "005370c00903415004700000ea60005371c10d02a3057472616365a103616263005372c10d02a308782d6f70742d69645307005373c0420a98000102030405060708090a"
+    "0b0c0d0e0fa0056775657374a10771756575652f61a10568656c6c6f4040a30a746578742f706c61696e4040830000013167adb8a1005374c11404a1016e54ffa1036269"
+    "6781ffffff0000000000005377a10d48656c6c6f2c20576f726c6421005378c10b02a303637263700001e240"
+)
+CONNECTION = (
+    "414d5150000100000000001a02000000005310c00d04a101634070000100006000ff00000008020000000000000c020000000053244500000014020000000053"
+)
+SHARED_EXAMPLES = (
+    (
+        "router",
+        (MESSAGE,),
+        "header: 14 bytes at 0\ndelivery-annotations: 18 bytes at 14\nmessage-annotations: 18 bytes at 32\nproperties: 71 bytes at 50\n"
+        "  to: queue/a\napplication-properties: 25 bytes at 121\namqp-value: 18 bytes at 146\nfooter: 16 bytes at 164\n"
+        "bare message: 114 bytes at 50\n",
+    ),
+    (
+        "archive",
+        ("00537741", "008000000000000000775601", "00537742"),
+        "1: new, 4 bytes, 4 in canonical text\n1: known, 12 bytes, 4 in canonical text\n2: new, 4 bytes, 4 in canonical text\n",
+    ),
+    (
+        "filter",
+        (CONNECTION,),
+        "0: protocol header\n8: open\n34: empty\n42: WrongDescriptor at byte 51\n54: no whole frame\n",
+    ),
+)
 
 
 class Checks:

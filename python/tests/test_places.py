@@ -5,7 +5,7 @@ from __future__ import annotations
 import pickle
 import re
 from pathlib import Path
-from typing import Iterator, List, Tuple
+from typing import Callable, Iterator, List, Tuple
 
 import pytest
 
@@ -50,7 +50,12 @@ def test_there_are_rows() -> None:
 
 def test_each_call_tells_the_place() -> None:
     data = bytes.fromhex("c0050240a101ff")
-    for call in (lambda: amqp.read(Type.VALUE, data), lambda: amqp.decode(Type.VALUE, data), lambda: amqp.decode_term(data)):
+    calls: List[Callable[[], object]] = [
+        lambda: amqp.read(Type.VALUE, data),
+        lambda: amqp.decode(Type.VALUE, data),
+        lambda: amqp.decode_term(data),
+    ]
+    for call in calls:
         with pytest.raises(AmqpError) as caught:
             call()
         assert (caught.value.name, caught.value.at, caught.value.path) == ("BadUtf8", 4, "value[1]")
